@@ -1,0 +1,153 @@
+//! Checked slices: a dictionary where it lies, its look-ups and its pairs. They take no memory.
+ghost use Rattle.std.specs.Prelude.{◌≡◌, IfOk, IfErr, IfSome, option_map, option_and_then, is_some};
+ghost use Rattle.bt_bencode.specs.Trees.{dictionary};
+ghost use Rattle.bt_bencode.specs.Bencoding.{BeginsWith, Fits, Spells, IsSpelling};
+ghost use Rattle.bt_bencode.specs.Keys.{value_at, unsorted};
+ghost use Rattle.bt_bencode.specs.LookUps.{integer_of, string_of, dictionary_of};
+ghost use Rattle.bt_bencode.specs.Payloads.{Refuses};
+ghost use Rattle.bt_bencode.specs.Readable.{FindsValue, HasValue, ArePairs};
+ghost use Rattle.bt_bencode.specs.OneSpelling.{IsSpelling-prop, ArePairs-prop};
+
+use crate::read::{behind, read_value, split_string};
+use crate::scan::{Bad, scan};
+use crate::skip::{find, int_in, skip_value, text_in};
+use crate::sorted::first_unsorted;
+use crate::tree::Value;
+use std::alloc::{AllocError, Global};
+use std::marker::Model;
+
+/// A slice that was checked: it spells one fitting dictionary, whose pairs are its `tree`.
+// It has no `impl Model`: a value inside a view that borrows from a `&mut self` must have none.
+#[derive(Debug, Drop)]
+pub struct DictRef<'a> {
+    bytes: &'a [u8],
+    pub ghost tree: { IsSpelling bytes.now } by { IsSpelling-prop bytes.now },
+}
+
+impl<'a> DictRef<'a> {
+    /// The dictionary's spelling.
+    pub fn spelled(&self) -> &'a [u8]
+        ensures { Spells self.now.tree.0 result.now }
+    {
+        self.bytes
+    }
+
+    /// The dictionary as a value.
+    pub fn to_value(&self, alloc: Global) -> Result<Value, AllocError>
+        ensures { IfOk result (λ v. v ≡ Value.Dict self.now.tree.0) }
+    {
+        let (value, _) = read_value(alloc, self.spelled())?;
+        Ok(value)
+    }
+
+    /// Whether a pair has the key.
+    pub fn has(&self, key: &[u8]) -> bool
+        ensures { result ≡ is_some (value_at key.now self.now.tree.0) }
+    {
+        self.value_behind(key).is_some()
+    }
+
+    /// The integer of the first pair with the key; `None` where its value is of another kind.
+    pub fn lookup_int(&self, key: &[u8]) -> Option<i64>
+        ensures { result ≡ option_and_then integer_of (value_at key.now self.now.tree.0) }
+    {
+        match self.value_behind(key) {
+            None => None,
+            Some(value) => int_in(value),
+        }
+    }
+
+    /// The bytes of the first pair with the key; `None` where its value is of another kind.
+    pub fn lookup_bytes(&self, key: &[u8]) -> Option<&'a [u8]>
+        ensures { option_map (λ s. s.now) result ≡ option_and_then string_of (value_at key.now self.now.tree.0) }
+    {
+        match self.value_behind(key) {
+            None => None,
+            Some(value) => text_in(value),
+        }
+    }
+
+    /// The dictionary of the first pair with the key; `None` where its value is of another kind.
+    pub fn lookup_dict(&self, key: &[u8]) -> Option<DictRef<'a>>
+        ensures { option_map (λ d. d.tree.0) result ≡ option_and_then dictionary_of (value_at key.now self.now.tree.0) }
+    {
+        let value = self.value_behind(key)?;
+        match check(value) {
+            Ok((found, _)) => Some(found),
+            Err(_) => None,
+        }
+    }
+
+    /// The pairs in order: the key, and the value where it is an integer.
+    pub fn int_pairs(&self) -> IntPairs<'a>
+        ensures { result ≡ self.now.tree.0 }
+    {
+        IntPairs {
+            rest: behind(self.spelled()),
+        }
+    }
+
+    /// The bytes from the value of the first pair with the key on.
+    fn value_behind(&self, key: &[u8]) -> Option<&'a [u8]>
+        ensures value { FindsValue result (value_at key.now self.now.tree.0) }
+        ensures fits { Fits (dictionary self.now.tree.0) }
+        ensures whole { IfSome result (λ bytes. HasValue bytes.now) }
+    {
+        let bytes = self.spelled();
+        find(behind(bytes), key)
+    }
+}
+
+/// The dictionary that the payload begins with, and its length in bytes. It takes no memory.
+pub fn check(payload: &[u8]) -> Result<(DictRef<'_>, usize), Bad>
+    ensures ok { IfOk result (λ x. BeginsWith payload.now x.0.tree.0 x.1) }
+    ensures err { IfErr result (Refuses payload.now) }
+{
+    let n = scan(payload)?;
+    Ok((
+        DictRef {
+            bytes: &payload[..n],
+        },
+        n,
+    ))
+}
+
+/// The pairs that are left. A clause sees their trees.
+#[derive(Debug, Drop)]
+pub struct IntPairs<'a> {
+    rest: &'a [u8],
+    ghost pairs: { ArePairs rest.now } by { ArePairs-prop rest.now },
+}
+
+impl<'a> Model for IntPairs<'a> {
+    ghost use Rattle.bt_bencode.specs.Trees.{Pairs};
+    ghost use Rattle.bt_bencode.specs.Codes.{pairs_code};
+
+    ghost Value = { Pairs };
+
+    ghost coded = { pairs_code };
+
+    ghost view = { λ p. p.pairs.0 };
+}
+
+impl<'a> Iterator for IntPairs<'a> {
+    type Item = (&'a [u8], Option<i64>);
+
+    ghost use Rattle.std.specs.Iterator.{at_most};
+    ghost use Rattle.bt_bencode.specs.LookUps.{GivesPair};
+    ghost use Rattle.bt_bencode.specs.LookUps.{pairs_count};
+
+    ghost next_gives = { GivesPair };
+
+    ghost remaining = { λ s. at_most (pairs_count s) };
+
+    fn next(&mut self) -> Option<(&'a [u8], Option<i64>)> {
+        if self.rest[0] == b'e' {
+            return None;
+        }
+        let (key, value) = split_string(self.rest);
+        let number = int_in(value);
+        self.rest = skip_value(value);
+        Some((key, number))
+    }
+}

@@ -1,0 +1,93 @@
+//! What follows a value in a checked spelling, and what stands at a key. It takes no memory. Skipping a value recurses
+//! by its nesting, which is at most 32 in what the public calls hand in.
+ghost use Rattle.std.specs.Prelude.{◌≡◌, ℕ, ◌<◌, ◌∷◌, ◌++◌, List, length, option_map};
+ghost use Rattle.bt_bencode.specs.Trees.{Tree, Trees, Pairs};
+ghost use Rattle.bt_bencode.specs.Bencoding.{ben, ben_all, ben_pairs, InRange, AllInRange, PairsInRange};
+ghost use Rattle.bt_bencode.specs.Keys.{value_at};
+ghost use Rattle.bt_bencode.specs.LookUps.{integer_of, string_of};
+ghost use Rattle.bt_bencode.specs.Readable.{FindsValue, HasValue, HasItems, HasPairs};
+
+use crate::read::{behind, read_int, split_string};
+
+/// What follows the value in front.
+#[cycle(skip)]
+pub fn skip_value(bytes: &[u8]) -> &[u8]
+    requires { HasValue bytes.now }
+    ensures behind { (t : Tree) (more : List ℕ) → InRange t → bytes.now ≡ ben t ++ more → result.now ≡ more }
+    ensures shorter { length result.now < length bytes.now }
+{
+    match bytes[0] {
+        b'i' => read_int(behind(bytes)).1,
+        b'l' => skip_items(behind(bytes)),
+        b'd' => skip_pairs(behind(bytes)),
+        _ => split_string(bytes).1,
+    }
+}
+
+#[cycle(skip)]
+fn skip_items(bytes: &[u8]) -> &[u8]
+    requires { HasItems bytes.now }
+    ensures behind { (ts : Trees) (more : List ℕ) → AllInRange ts → bytes.now ≡ ben_all ts ++ 101 ∷ more → result.now ≡ more }
+    ensures shorter { length result.now < length bytes.now }
+{
+    let mut rest = bytes;
+    while rest[0] != b'e' {
+        rest = skip_value(rest);
+    }
+    behind(rest)
+}
+
+#[cycle(skip)]
+fn skip_pairs(bytes: &[u8]) -> &[u8]
+    requires { HasPairs bytes.now }
+    ensures behind { (ps : Pairs) (more : List ℕ) → PairsInRange ps → bytes.now ≡ ben_pairs ps ++ 101 ∷ more → result.now ≡ more }
+    ensures shorter { length result.now < length bytes.now }
+{
+    let mut rest = bytes;
+    while rest[0] != b'e' {
+        let (_, value) = split_string(rest);
+        rest = skip_value(value);
+    }
+    behind(rest)
+}
+
+/// The bytes from the value of the first pair with the key on.
+pub fn find<'a>(pairs: &'a [u8], key: &[u8]) -> Option<&'a [u8]>
+    requires { HasPairs pairs.now }
+    ensures { (ps : Pairs) (more : List ℕ) → PairsInRange ps → pairs.now ≡ ben_pairs ps ++ 101 ∷ more → FindsValue result (value_at key.now ps) }
+{
+    let mut rest = pairs;
+    while rest[0] != b'e' {
+        let (name, value) = split_string(rest);
+        if name == key {
+            return Some(value);
+        }
+        rest = skip_value(value);
+    }
+    None
+}
+
+/// The value in front, if it is an integer.
+pub fn int_in(value: &[u8]) -> Option<i64>
+    requires { HasValue value.now }
+    ensures { (t : Tree) (more : List ℕ) → InRange t → value.now ≡ ben t ++ more → result ≡ integer_of t }
+{
+    if value[0] == b'i' {
+        Some(read_int(behind(value)).0)
+    } else {
+        None
+    }
+}
+
+/// The value in front, if it is a byte string.
+pub fn text_in(value: &[u8]) -> Option<&[u8]>
+    requires { HasValue value.now }
+    ensures { (t : Tree) (more : List ℕ) → InRange t → value.now ≡ ben t ++ more → option_map (λ s. s.now) result ≡ string_of t }
+{
+    match value[0] {
+        b'i' => None,
+        b'l' => None,
+        b'd' => None,
+        _ => Some(split_string(value).0),
+    }
+}

@@ -1,0 +1,118 @@
+//! Values into bytes.
+ghost use Rattle.std.specs.Prelude.{◌≡◌, ◌↔◌, ◌++◌, Err, OnOk, IfOk};
+ghost use Rattle.std.specs.Fmt.{decimal, signed_decimal};
+ghost use Rattle.bt_bencode.specs.Bencoding.{ben, ben_all, ben_pairs, ben_string, Fits};
+ghost use Rattle.bt_bencode.specs.Views.{tree_of};
+
+use crate::fitting::fits;
+use crate::tree::{ByteString, Pairs, Value, Values};
+use std::alloc::{AllocError, Global};
+
+/// Why a value isn't written.
+#[derive(Clone, Copy, Debug, PartialEq, Eq)]
+pub enum SpellError {
+    /// A number, a length or the nesting is beyond its limit.
+    OutOfRange,
+    Memory,
+}
+
+impl From<AllocError> for SpellError {
+    ghost use Rattle.bt_bencode.specs.declared.spelling.SpellError.TheVariants.{Memory};
+    ghost use Rattle.std.specs.Prelude.{◌≡◌};
+
+    ghost from_gives = { λ _ e. e ≡ Memory };
+
+    fn from(_: AllocError) -> SpellError {
+        SpellError::Memory
+    }
+}
+
+fn push_decimal(out: &mut Vec<u8>, n: u64) -> Result<(), AllocError>
+    ensures { OnOk result (out.new.items ≡ out.old.items ++ decimal n) }
+{
+    if n >= 10 {
+        push_decimal(out, n / 10)?;
+    }
+    out.push(b'0' + (n % 10) as u8)?;
+    Ok(())
+}
+
+fn push_int(out: &mut Vec<u8>, n: i64) -> Result<(), AllocError>
+    ensures { OnOk result (out.new.items ≡ out.old.items ++ signed_decimal n) }
+{
+    if n < 0 {
+        out.push(b'-')?;
+    }
+    push_decimal(out, n.unsigned_abs())
+}
+
+fn push_string(out: &mut Vec<u8>, s: &ByteString) -> Result<(), AllocError>
+    ensures { OnOk result (out.new.items ≡ out.old.items ++ ben_string s.now) }
+{
+    push_decimal(out, s.len() as u64)?;
+    out.push(b':')?;
+    out.extend_from_slice(s.as_slice())?;
+    Ok(())
+}
+
+#[cycle(push_value)]
+fn push_value(out: &mut Vec<u8>, value: &Value) -> Result<(), AllocError>
+    ensures { OnOk result (out.new.items ≡ out.old.items ++ ben (tree_of value.now)) }
+{
+    match value {
+        Value::Int(n) => {
+            out.push(b'i')?;
+            push_int(out, *n)?;
+            out.push(b'e')?;
+            Ok(())
+        }
+        Value::Bytes(s) => push_string(out, s),
+        Value::List(values) => {
+            out.push(b'l')?;
+            push_all(out, values)?;
+            out.push(b'e')?;
+            Ok(())
+        }
+        Value::Dict(pairs) => {
+            out.push(b'd')?;
+            push_pairs(out, pairs)?;
+            out.push(b'e')?;
+            Ok(())
+        }
+    }
+}
+
+#[cycle(push_value)]
+fn push_all(out: &mut Vec<u8>, values: &Values) -> Result<(), AllocError>
+    ensures { OnOk result (out.new.items ≡ out.old.items ++ ben_all values.now) }
+{
+    for value in &values.items {
+        push_value(out, value)?;
+    }
+    Ok(())
+}
+
+#[cycle(push_value)]
+fn push_pairs(out: &mut Vec<u8>, pairs: &Pairs) -> Result<(), AllocError>
+    ensures { OnOk result (out.new.items ≡ out.old.items ++ ben_pairs pairs.now) }
+{
+    for (key, value) in &pairs.items {
+        push_string(out, key)?;
+        push_value(out, value)?;
+    }
+    Ok(())
+}
+
+/// The one spelling of a value.
+pub fn spell(alloc: Global, value: &Value) -> Result<Vec<u8>, SpellError>
+    ensures ok { IfOk result (λ bytes. Fits (tree_of value.now) × (bytes.items ≡ ben (tree_of value.now))) }
+    ensures out_of_range { (result ≡ Err SpellError.OutOfRange) ↔ ¬ Fits (tree_of value.now) }
+    ensures memory { result ≡ Err SpellError.Memory → Fits (tree_of value.now) }
+{
+    if !fits(value) {
+        return Err(SpellError::OutOfRange);
+    }
+    let mut out = Vec::new(alloc);
+    push_value(&mut out, value)?;
+    Ok(out)
+}

@@ -1,0 +1,186 @@
+//! Bencoded data: integers, byte strings, lists and dictionaries.
+ghost use Rattle.std.specs.Prelude.{◌≡◌, ◌==◌, length, option_map};
+ghost use Rattle.bt_bencode.specs.Keys.{lookup_of, value_at};
+ghost use Rattle.bt_bencode.specs.Views.{tree_of, trees_of, pairs_of};
+
+use std::marker::Model;
+
+/// A byte string, seen as the list of its bytes.
+#[derive(Debug, Drop)]
+pub struct ByteString {
+    bytes: Vec<u8>,
+}
+
+impl Model for ByteString {
+    ghost use Rattle.std.specs.Prelude.{List, ℕ};
+
+    ghost Value = { List ℕ };
+
+    ghost view = { λ b. b.bytes.items };
+}
+
+/// Bencoded data (BEP 3, "bencoding").
+#[cycle(value)]
+#[derive(Debug, Drop)]
+pub enum Value {
+    Int(i64),
+    Bytes(ByteString),
+    List(Values),
+    Dict(Pairs),
+}
+
+/// The values of a list, seen as trees.
+#[cycle(value)]
+#[derive(Debug, Drop)]
+pub struct Values {
+    pub(crate) items: Vec<Value>,
+}
+
+impl Model for Values {
+    ghost use Rattle.bt_bencode.specs.Trees.{Trees, trees_nesting};
+    ghost use Rattle.bt_bencode.specs.Codes.{trees_code};
+
+    ghost Value = { Trees };
+
+    ghost coded = { trees_code };
+
+    ghost use Rattle.bt_bencode.specs.Views.{trees_of};
+
+    ghost view = { λ a. trees_of a.items.items };
+
+    ghost size = { trees_nesting };
+
+    ghost use Rattle.bt_bencode.specs.Falls.{trees_fall};
+
+    ghost size_decreases = { λ a h. trees_fall a.items.items };
+}
+
+/// The pairs of a dictionary in the order in which they are written, seen as pairs of a key and a tree.
+#[cycle(value)]
+#[derive(Debug, Drop)]
+pub struct Pairs {
+    pub(crate) items: Vec<(ByteString, Value)>,
+}
+
+impl Model for Pairs {
+    ghost use Rattle.bt_bencode.specs.Trees.{Pairs as PairsOfTrees, pairs_nesting};
+    ghost use Rattle.bt_bencode.specs.Codes.{pairs_code};
+
+    ghost Value = { PairsOfTrees };
+
+    ghost coded = { pairs_code };
+
+    ghost use Rattle.bt_bencode.specs.Views.{pairs_of};
+
+    ghost view = { λ a. pairs_of a.items.items };
+
+    ghost size = { pairs_nesting };
+
+    ghost use Rattle.bt_bencode.specs.Falls.{pairs_fall};
+
+    ghost size_decreases = { λ a h. pairs_fall a.items.items };
+}
+
+impl ByteString {
+    /// The byte string of these bytes. It takes no memory.
+    pub fn from_vec(bytes: Vec<u8>) -> ByteString
+        ensures { result ≡ bytes.items }
+    {
+        ByteString { bytes }
+    }
+
+    /// The bytes, given back without taking memory.
+    pub fn into_vec(self) -> Vec<u8>
+        ensures { result.items ≡ self }
+    {
+        self.bytes
+    }
+
+    /// The bytes.
+    pub fn as_slice(&self) -> &[u8]
+        ensures { result.now ≡ self.now }
+    {
+        &self.bytes
+    }
+
+    /// How many bytes it has.
+    pub fn len(&self) -> usize
+        ensures { result ≡ length self.now }
+    {
+        self.bytes.len()
+    }
+
+    /// Whether it has no byte.
+    pub fn is_empty(&self) -> bool
+        ensures { result ≡ (length self.now == 0) }
+    {
+        self.bytes.len() == 0
+    }
+}
+
+impl Values {
+    /// The list of these values. It takes no memory.
+    pub fn from_vec(items: Vec<Value>) -> Values
+        ensures { result ≡ trees_of items.items }
+    {
+        Values { items }
+    }
+
+    /// The values, given back without taking memory.
+    pub fn into_vec(self) -> Vec<Value>
+        ensures { trees_of result.items ≡ self }
+    {
+        self.items
+    }
+
+    /// The values in order.
+    pub fn as_slice(&self) -> &[Value]
+        ensures { trees_of result.now ≡ self.now }
+    {
+        &self.items
+    }
+}
+
+impl Pairs {
+    /// The dictionary of these pairs. It takes no memory.
+    pub fn from_vec(items: Vec<(ByteString, Value)>) -> Pairs
+        ensures { result ≡ pairs_of items.items }
+    {
+        Pairs { items }
+    }
+
+    /// The pairs, given back without taking memory.
+    pub fn into_vec(self) -> Vec<(ByteString, Value)>
+        ensures { pairs_of result.items ≡ self }
+    {
+        self.items
+    }
+
+    /// The pairs in order.
+    pub fn as_slice(&self) -> &[(ByteString, Value)]
+        ensures { pairs_of result.now ≡ self.now }
+    {
+        &self.items
+    }
+}
+
+/// What the first pair with the key has; `None` for what is no dictionary. It takes no memory.
+pub fn lookup<'a>(value: &'a Value, key: &[u8]) -> Option<&'a Value>
+    ensures { option_map (λ v. tree_of v.now) result ≡ lookup_of key.now (tree_of value.now) }
+{
+    match value {
+        Value::Dict(pairs) => value_at(pairs, key),
+        _ => None,
+    }
+}
+
+fn value_at<'a>(pairs: &'a Pairs, key: &[u8]) -> Option<&'a Value>
+    ensures { option_map (λ v. tree_of v.now) result ≡ value_at key.now pairs.now }
+{
+    for (k, value) in &pairs.items {
+        if k.as_slice() == key {
+            return Some(value);
+        }
+    }
+    None
+}
