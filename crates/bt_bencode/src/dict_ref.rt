@@ -10,7 +10,7 @@ ghost use Rattle.bt_bencode.specs.OneSpelling.{IsSpelling-prop, ArePairs-prop};
 
 use crate::read::{behind, read_value, split_string};
 use crate::scan::{Bad, scan};
-use crate::skip::{find, int_in, skip_value, text_in};
+use crate::skip::{find, int_in, split_int, text_in};
 use crate::sorted::first_unsorted;
 use crate::tree::Value;
 use std::alloc::{AllocError, Global};
@@ -38,6 +38,14 @@ impl<'a> DictRef<'a> {
     {
         let (value, _) = read_value(alloc, self.spelled())?;
         Ok(value)
+    }
+
+    /// The least offset at which the spelling of a key starts that isn't above the key before it in its dictionary, at
+    /// any depth.
+    pub fn first_unsorted(&self) -> Option<usize>
+        ensures { result ≡ unsorted (dictionary self.now.tree.0) }
+    {
+        first_unsorted(self.spelled())
     }
 
     /// Whether a pair has the key.
@@ -146,8 +154,8 @@ impl<'a> Iterator for IntPairs<'a> {
             return None;
         }
         let (key, value) = split_string(self.rest);
-        let number = int_in(value);
-        self.rest = skip_value(value);
+        let (number, rest) = split_int(value);
+        self.rest = rest;
         Some((key, number))
     }
 }

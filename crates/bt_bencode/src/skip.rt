@@ -67,6 +67,20 @@ pub fn find<'a>(pairs: &'a [u8], key: &[u8]) -> Option<&'a [u8]>
     None
 }
 
+/// The value in front, if it is an integer, and what follows it.
+pub fn split_int(value: &[u8]) -> (Option<i64>, &[u8])
+    requires { HasValue value.now }
+    ensures number { (t : Tree) (more : List ℕ) → InRange t → value.now ≡ ben t ++ more → result.0 ≡ integer_of t }
+    ensures behind { (t : Tree) (more : List ℕ) → InRange t → value.now ≡ ben t ++ more → result.1.now ≡ more }
+{
+    if value[0] == b'i' {
+        let (number, rest) = read_int(behind(value));
+        (Some(number), rest)
+    } else {
+        (None, skip_value(value))
+    }
+}
+
 /// The value in front, if it is an integer.
 pub fn int_in(value: &[u8]) -> Option<i64>
     requires { HasValue value.now }

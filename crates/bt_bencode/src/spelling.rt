@@ -5,6 +5,7 @@ ghost use Rattle.bt_bencode.specs.Bencoding.{ben, ben_all, ben_pairs, ben_string
 ghost use Rattle.bt_bencode.specs.Views.{tree_of};
 
 use crate::fitting::fits;
+use crate::length::ben_len;
 use crate::tree::{ByteString, Pairs, Value, Values};
 use std::alloc::{AllocError, Global};
 
@@ -112,7 +113,8 @@ pub fn spell(alloc: Global, value: &Value) -> Result<Vec<u8>, SpellError>
     if !fits(value) {
         return Err(SpellError::OutOfRange);
     }
-    let mut out = Vec::new(alloc);
+    // Room for all of it is asked for once, so that no byte is copied twice.
+    let mut out = Vec::with_capacity(alloc, ben_len(value) as usize)?;
     push_value(&mut out, value)?;
     Ok(out)
 }

@@ -9,20 +9,17 @@ returns-then-self-eq101-clause-steps c = none_given c.self.inside.rest.now c.sel
 pub split_string-requires : goal.split_string-requires
 split_string-requires c = key_there c.self.inside.rest.now (has_pairs c.self.inside.rest.now c.self.inside.pairs.0 c.self.inside.pairs.1) c.if-self-eq101.false
 
-pub int_in-number-requires : goal.int_in-number-requires
-int_in-number-requires c = value_behind c.self.inside.rest.now c.split_string.result.0.now c.split_string.result.1.now (has_pairs c.self.inside.rest.now c.self.inside.pairs.0 c.self.inside.pairs.1) c.if-self-eq101.false c.split_string.ensures.short c.split_string.ensures.split
-
-pub skip_value-self-inside-requires : goal.skip_value-self-inside-requires
-skip_value-self-inside-requires c = value_behind c.self.inside.rest.now c.split_string.result.0.now c.split_string.result.1.now (has_pairs c.self.inside.rest.now c.self.inside.pairs.0 c.self.inside.pairs.1) c.if-self-eq101.false c.split_string.ensures.short c.split_string.ensures.split
+pub split_int-number-requires : goal.split_int-number-requires
+split_int-number-requires c = value_behind c.self.inside.rest.now c.split_string.result.0.now c.split_string.result.1.now (has_pairs c.self.inside.rest.now c.self.inside.pairs.0 c.self.inside.pairs.1) c.if-self-eq101.false c.split_string.ensures.short c.split_string.ensures.split
 
 pub invariant_of-self-inside : goal.invariant_of-self-inside
-invariant_of-self-inside c = (left_after c.self.inside.rest.now c.split_string.result.1.now c.skip_value-self-inside.result.now c.split_string.result.0.now c.self.inside.pairs.0 c.self.inside.pairs.1 c.if-self-eq101.false c.split_string.ensures.short c.split_string.ensures.split c.skip_value-self-inside.ensures.behind, tt)
+invariant_of-self-inside c = (left_after c.self.inside.rest.now c.split_string.result.1.now c.split_int-number.result.1.now c.split_string.result.0.now c.self.inside.pairs.0 c.self.inside.pairs.1 c.if-self-eq101.false c.split_string.ensures.short c.split_string.ensures.split c.split_int-number.ensures.behind, tt)
 
 pub returns-clause-steps : goal.returns-clause-steps
-returns-clause-steps c = pair_given c.self.inside.rest.now c.self.inside.pairs.0 c.args.self.now c.self-1.given.0.0 c.split_string.result.0 c.split_string.result.1 c.int_in-number.result c.skip_value-self-inside.result.now c.self.inside.pairs.1 c.self.view_is c.if-self-eq101.false c.split_string.ensures.short c.split_string.ensures.split c.int_in-number.ensures c.skip_value-self-inside.ensures.behind c.self-1.given.0.1
+returns-clause-steps c = pair_given c.self.inside.rest.now c.self.inside.pairs.0 c.args.self.now c.rest-2-1.given.0.0 c.split_string.result.0 c.split_string.result.1 c.split_int-number.result.0 c.split_int-number.result.1.now c.self.inside.pairs.1 c.self.view_is c.if-self-eq101.false c.split_string.ensures.short c.split_string.ensures.split c.split_int-number.ensures.number c.split_int-number.ensures.behind c.rest-2-1.given.0.1
 
 pub returns-clause-goes : goal.returns-clause-goes
 returns-clause-goes c =
-    let steps = pair_given c.self.inside.rest.now c.self.inside.pairs.0 c.args.self.now c.self-1.given.0.0 c.split_string.result.0 c.split_string.result.1 c.int_in-number.result c.skip_value-self-inside.result.now c.self.inside.pairs.1 c.self.view_is c.if-self-eq101.false c.split_string.ensures.short c.split_string.ensures.split c.int_in-number.ensures c.skip_value-self-inside.ensures.behind c.self-1.given.0.1 in
-    let less = fewer c.args.self.now c.self-1.given.0.0 (c.split_string.result.0, c.int_in-number.result) steps in
+    let steps = pair_given c.self.inside.rest.now c.self.inside.pairs.0 c.args.self.now c.rest-2-1.given.0.0 c.split_string.result.0 c.split_string.result.1 c.split_int-number.result.0 c.split_int-number.result.1.now c.self.inside.pairs.1 c.self.view_is c.if-self-eq101.false c.split_string.ensures.short c.split_string.ensures.split c.split_int-number.ensures.number c.split_int-number.ensures.behind c.rest-2-1.given.0.1 in
+    let less = fewer c.args.self.now c.rest-2-1.given.0.0 (c.split_string.result.0, c.split_int-number.result.0) steps in
     omega arith
