@@ -8,12 +8,16 @@ use crate::fitting::fits;
 use crate::length::ben_len;
 use crate::tree::{ByteString, Pairs, Value, Values};
 use std::alloc::{AllocError, Global};
+use thiserror::Error;
 
 /// Why a value isn't written.
-#[derive(Clone, Copy, Debug, PartialEq, Eq)]
+#[derive(Clone, Copy, Debug, PartialEq, Eq, Error)]
 pub enum SpellError {
-    /// A number, a length or the nesting is beyond its limit.
+    /// The value doesn't fit: a string or a key is too long, or it nests too deep.
+    #[error("the value is beyond the limits of bencoding")]
     OutOfRange,
+    /// The room for the spelling was refused.
+    #[error("out of memory")]
     Memory,
 }
 
