@@ -35,7 +35,7 @@ fn fits_in(room: usize, value: &Value) -> bool
 fn all_fit_in(room: usize, values: &Values) -> bool
     ensures { IsTrue result ↔ AllFitIn room values.now }
 {
-    for value in &values.items {
+    for value in &values.values {
         if !fits_in(room, value) {
             return false;
         }
@@ -47,7 +47,7 @@ fn all_fit_in(room: usize, values: &Values) -> bool
 fn pairs_fit_in(room: usize, pairs: &Pairs) -> bool
     ensures { IsTrue result ↔ PairsFitIn room pairs.now }
 {
-    for (key, value) in &pairs.items {
+    for (key, value) in &pairs.pairs {
         if key.len() > MAX_STRING || !fits_in(room, value) {
             return false;
         }

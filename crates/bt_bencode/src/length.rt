@@ -52,7 +52,7 @@ fn all_ben_len(values: &Values) -> u64
     ensures { result ≡ min (length (ben_all values.now)) (2 ^ 64 - 1) }
 {
     let mut sum: u64 = 0;
-    for value in &values.items {
+    for value in &values.values {
         sum = sum.saturating_add(ben_len(value));
     }
     sum
@@ -63,7 +63,7 @@ fn pairs_ben_len(pairs: &Pairs) -> u64
     ensures { result ≡ min (length (ben_pairs pairs.now)) (2 ^ 64 - 1) }
 {
     let mut sum: u64 = 0;
-    for (key, value) in &pairs.items {
+    for (key, value) in &pairs.pairs {
         sum = sum
             .saturating_add(string_len(key.len()))
             .saturating_add(ben_len(value));

@@ -28,7 +28,7 @@ pub fn is_sorted(value: &Value) -> bool
 fn all_are_sorted(values: &Values) -> bool
     ensures { IsTrue result ↔ AllAreSorted values.now }
 {
-    for value in &values.items {
+    for value in &values.values {
         if !is_sorted(value) {
             return false;
         }
@@ -41,7 +41,7 @@ fn pairs_are_sorted(pairs: &Pairs) -> bool
     ensures { IsTrue result ↔ PairsAreSorted None pairs.now }
 {
     let mut last: Option<&[u8]> = None;
-    for (key, value) in &pairs.items {
+    for (key, value) in &pairs.pairs {
         let key = key.as_slice();
         if !is_above(last, key) || !is_sorted(value) {
             return false;

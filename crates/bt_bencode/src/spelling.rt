@@ -91,7 +91,7 @@ fn push_value(out: &mut Vec<u8>, value: &Value) -> Result<(), AllocError>
 fn push_all(out: &mut Vec<u8>, values: &Values) -> Result<(), AllocError>
     ensures { OnOk result (out.new.items ≡ out.old.items ++ ben_all values.now) }
 {
-    for value in &values.items {
+    for value in &values.values {
         push_value(out, value)?;
     }
     Ok(())
@@ -101,7 +101,7 @@ fn push_all(out: &mut Vec<u8>, values: &Values) -> Result<(), AllocError>
 fn push_pairs(out: &mut Vec<u8>, pairs: &Pairs) -> Result<(), AllocError>
     ensures { OnOk result (out.new.items ≡ out.old.items ++ ben_pairs pairs.now) }
 {
-    for (key, value) in &pairs.items {
+    for (key, value) in &pairs.pairs {
         push_string(out, key)?;
         push_value(out, value)?;
     }

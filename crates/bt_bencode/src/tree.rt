@@ -33,7 +33,7 @@ pub enum Value {
 #[cycle(value)]
 #[derive(Debug, Drop)]
 pub struct Values {
-    pub(crate) items: Vec<Value>,
+    pub(crate) values: Vec<Value>,
 }
 
 impl Model for Values {
@@ -46,20 +46,20 @@ impl Model for Values {
 
     ghost use Rattle.bt_bencode.specs.Views.{trees_of};
 
-    ghost view = { λ a. trees_of a.items.items };
+    ghost view = { λ a. trees_of a.values.items };
 
     ghost size = { trees_nesting };
 
     ghost use Rattle.bt_bencode.specs.Falls.{trees_fall};
 
-    ghost size_decreases = { λ a h. trees_fall a.items.items };
+    ghost size_decreases = { λ a h. trees_fall a.values.items };
 }
 
 /// The pairs of a dictionary in the order in which they are written, seen as pairs of a key and a tree.
 #[cycle(value)]
 #[derive(Debug, Drop)]
 pub struct Pairs {
-    pub(crate) items: Vec<(ByteString, Value)>,
+    pub(crate) pairs: Vec<(ByteString, Value)>,
 }
 
 impl Model for Pairs {
@@ -72,13 +72,13 @@ impl Model for Pairs {
 
     ghost use Rattle.bt_bencode.specs.Views.{pairs_of};
 
-    ghost view = { λ a. pairs_of a.items.items };
+    ghost view = { λ a. pairs_of a.pairs.items };
 
     ghost size = { pairs_nesting };
 
     ghost use Rattle.bt_bencode.specs.Falls.{pairs_fall};
 
-    ghost size_decreases = { λ a h. pairs_fall a.items.items };
+    ghost size_decreases = { λ a h. pairs_fall a.pairs.items };
 }
 
 impl ByteString {
@@ -107,60 +107,60 @@ impl ByteString {
     pub fn len(&self) -> usize
         ensures { result ≡ length self.now }
     {
-        self.bytes.len()
+        self.as_slice().len()
     }
 
     /// Whether it has no byte.
     pub fn is_empty(&self) -> bool
         ensures { result ≡ (length self.now == 0) }
     {
-        self.bytes.len() == 0
+        self.len() == 0
     }
 }
 
 impl Values {
     /// The list of these values. It takes no memory.
-    pub fn from_vec(items: Vec<Value>) -> Values
-        ensures { result ≡ trees_of items.items }
+    pub fn from_vec(values: Vec<Value>) -> Values
+        ensures { result ≡ trees_of values.items }
     {
-        Values { items }
+        Values { values }
     }
 
     /// The values, given back without taking memory.
     pub fn into_vec(self) -> Vec<Value>
         ensures { trees_of result.items ≡ self }
     {
-        self.items
+        self.values
     }
 
     /// The values in order.
     pub fn as_slice(&self) -> &[Value]
         ensures { trees_of result.now ≡ self.now }
     {
-        &self.items
+        &self.values
     }
 }
 
 impl Pairs {
     /// The dictionary of these pairs. It takes no memory.
-    pub fn from_vec(items: Vec<(ByteString, Value)>) -> Pairs
-        ensures { result ≡ pairs_of items.items }
+    pub fn from_vec(pairs: Vec<(ByteString, Value)>) -> Pairs
+        ensures { result ≡ pairs_of pairs.items }
     {
-        Pairs { items }
+        Pairs { pairs }
     }
 
     /// The pairs, given back without taking memory.
     pub fn into_vec(self) -> Vec<(ByteString, Value)>
         ensures { pairs_of result.items ≡ self }
     {
-        self.items
+        self.pairs
     }
 
     /// The pairs in order.
     pub fn as_slice(&self) -> &[(ByteString, Value)]
         ensures { pairs_of result.now ≡ self.now }
     {
-        &self.items
+        &self.pairs
     }
 }
 
@@ -177,7 +177,7 @@ pub fn lookup<'a>(value: &'a Value, key: &[u8]) -> Option<&'a Value>
 fn value_at<'a>(pairs: &'a Pairs, key: &[u8]) -> Option<&'a Value>
     ensures { option_map (λ v. tree_of v.now) result ≡ value_at key.now pairs.now }
 {
-    for (k, value) in &pairs.items {
+    for (k, value) in &pairs.pairs {
         if k.as_slice() == key {
             return Some(value);
         }
