@@ -1,0 +1,5 @@
+use Rattle.bt_ext.proofs.OneFault.{one_fault}
+use Rattle.bt_ext.proofs.laws.one_fault.Goals as goal
+
+pub returns : goal.returns
+returns c = one_fault

@@ -1,0 +1,10 @@
+use Rattle.bt_ext.specs.Payloads.{seen}
+use Rattle.bt_ext.proofs.Allowed.{allowed}
+use Rattle.bt_ext.proofs.view.view_ext.Goals as goal
+use Rattle.std.proofs.Common.{sym, ◌∙◌}
+
+pub returns-in-None-clause-ok : goal.returns-in-None-clause-ok
+returns-in-None-clause-ok c = record {
+  is = c.in-Ok.ensures.ok;
+  allowed = allowed c.args.rules (seen c.in-Ok.view) (sym c.fault_in.ensures ∙ c.in-None.is);
+}

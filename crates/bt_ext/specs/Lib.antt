@@ -1,0 +1,9 @@
+-- Extended payloads.
+pub mod Ids
+pub mod Payloads
+pub mod Fields
+pub mod Metadata
+pub mod Faults
+pub mod Tables
+pub mod Made
+pub mod Laws

@@ -1,0 +1,36 @@
+-- The dictionaries that an end writes, with sorted keys (BEP 9, BEP 10).
+use Rattle.std.specs.Prelude.{ℕ, pos, ◌<◌, ◌^◌, Option, Some, None, codes}
+use Rattle.bt_bencode.specs.Trees.{Tree, integer, dictionary, Pairs, no_pairs, pair}
+use Rattle.bt_ext.specs.declared.metadata.Kind.{Kind}
+use Rattle.bt_ext.specs.declared.metadata.Kind.TheVariants as kind
+
+-- a request, a data message whose total size is an integer of at least 1, or a reject
+abbrev pub IsMade : Kind → Type 0
+IsMade (kind.Request piece) = piece < 2 ^ 32
+IsMade (kind.Data piece total) = (piece < 2 ^ 32) × (0 < total) × (total < 2 ^ 63)
+IsMade (kind.Reject piece) = piece < 2 ^ 32
+IsMade kind.Other = ⊥
+IsMade kind.Malformed = ⊥
+
+abbrev pub typed : ℕ → ℕ → Pairs → Pairs
+typed msg_type piece ps = pair (codes "msg_type") (integer (pos msg_type)) (pair (codes "piece") (integer (pos piece)) ps)
+
+abbrev pub message_tree : Kind → Tree
+message_tree (kind.Request piece) = dictionary (typed 0 piece no_pairs)
+message_tree (kind.Data piece total) = dictionary (typed 1 piece (pair (codes "total_size") (integer (pos total)) no_pairs))
+message_tree (kind.Reject piece) = dictionary (typed 2 piece no_pairs)
+message_tree kind.Other = dictionary no_pairs
+message_tree kind.Malformed = dictionary no_pairs
+
+-- `m` with the end's own id of `ut_metadata`, if it has one
+abbrev pub m_pairs : Option ℕ → Pairs
+m_pairs None = no_pairs
+m_pairs (Some id) = pair (codes "ut_metadata") (integer (pos id)) no_pairs
+
+abbrev pub size_pairs : Option ℕ → Pairs
+size_pairs None = no_pairs
+size_pairs (Some size) = pair (codes "metadata_size") (integer (pos size)) no_pairs
+
+-- the dictionary of an end's extended handshake: its id, and the size of the metadata that it serves
+abbrev pub handshake_tree : Option ℕ → Option ℕ → Tree
+handshake_tree id size = dictionary (pair (codes "m") (dictionary (m_pairs id)) (size_pairs size))

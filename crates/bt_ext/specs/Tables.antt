@@ -1,0 +1,99 @@
+-- The names and ids that a peer told (BEP 10, "m"): a finite map, and what an extended handshake makes of it.
+use Rattle.std.specs.Prelude.{◌≡◌, ℕ, ◌<◌, ◌≤◌, ◌==◌, List, [], ◌∷◌, ◌++◌, length, map, Bool, true, Option, Some, None, is_some, nat_lt, if◌then◌else◌, ◌||◌, codes, ⊤, take, slice_index_or}
+use Rattle.std.specs.Borrow.{Bor}
+use Rattle.std.specs.BTreeSet.{BTreeSet}
+use Rattle.std.specs.List.{list_any}
+use Rattle.std.specs.Str.{bytes_eq}
+use Rattle.bt_bencode.specs.Trees.{Tree, integer, string, list, dictionary, Pairs, no_pairs, pair}
+use Rattle.bt_bencode.specs.Keys.{lookup_of}
+use Rattle.bt_ext.specs.Fields.{id_value}
+
+-- the ids of names, each name once
+abbrev pub Entries : Type 0
+Entries = List (List ℕ × ℕ)
+
+-- the id that a name has
+abbrev pub id_of_name : List ℕ → Entries → Option ℕ
+id_of_name name [] = None
+id_of_name name (e ∷ es) = if bytes_eq e.0 name then Some e.1 else id_of_name name es
+
+-- each name stands once and has at most 255 bytes, and no id is 0
+abbrev pub AreEntries : Entries → Type 0
+AreEntries [] = ⊤
+AreEntries (e ∷ es) = (length e.0 ≤ 255) × (0 < e.1) × (id_of_name e.0 es ≡ None) × AreEntries es
+
+-- a table: at most 256 names with their ids
+pub record IsTable (es : Entries) : Type 0 where
+  pub entries : AreEntries es
+  pub few : length es ≤ 256
+
+-- without the name
+abbrev pub removed : List ℕ → Entries → Entries
+removed name [] = []
+removed name (e ∷ es) = if bytes_eq e.0 name then es else e ∷ removed name es
+
+-- with another id for the name
+abbrev pub replaced : List ℕ → ℕ → Entries → Entries
+replaced name id [] = []
+replaced name id (e ∷ es) = if bytes_eq e.0 name then (e.0, id) ∷ es else e ∷ replaced name id es
+
+-- with the new name, if there is room for it
+abbrev pub added : List ℕ → ℕ → Entries → Entries
+added name id es = if nat_lt (length es) 256 then es ++ (name, id) ∷ [] else es
+
+-- Nothing for a name of more than 255 bytes. Else the id 0 removes the name, and another replaces the name's id or adds
+-- the name.
+abbrev pub entered : List ℕ → ℕ → Entries → Entries
+entered name id es =
+    if nat_lt 255 (length name) then es else
+    (if id == 0 then removed name es else
+    (if is_some (id_of_name name es) then replaced name id es else added name id es))
+
+-- one after another
+abbrev pub entered_all : Entries → Entries → Entries
+entered_all [] es = es
+entered_all (x ∷ xs) es = entered_all xs (entered x.0 x.1 es)
+
+-- what a pair of `m` tells, if its value is an id of one byte
+abbrev pub told : List ℕ → Option ℕ → Entries
+told name None = []
+told name (Some id) = (name, id) ∷ []
+
+-- what the pairs tell behind pairs with these names: of pairs with one name the first counts
+abbrev pub told_by : List (List ℕ) → Pairs → Entries
+told_by earlier no_pairs = []
+told_by earlier (pair k t ps) = (if list_any (bytes_eq k) earlier then [] else told k (id_value t)) ++ told_by (k ∷ earlier) ps
+
+-- what `m` tells, if it is a dictionary
+abbrev pub told_in : Option Tree → Entries
+told_in None = []
+told_in (Some (integer z)) = []
+told_in (Some (string s)) = []
+told_in (Some (list ts)) = []
+told_in (Some (dictionary ps)) = told_by [] ps
+
+-- what an extended handshake's dictionary tells
+abbrev pub told_of : Tree → Entries
+told_of t = told_in (lookup_of (codes "m") t)
+
+-- what it makes of a table
+abbrev pub applied : Tree → Entries → Entries
+applied t es = entered_all (told_of t) es
+
+-- the names in a set, by their bytes
+abbrev pub names_of : BTreeSet (Bor (List ℕ)) → List (List ℕ)
+names_of s = map (λ k. k.now) s.keys
+
+-- one more name is there
+abbrev pub AddsName : List ℕ → List (List ℕ) → List (List ℕ) → Type 0
+AddsName name old new = (other : List ℕ) → list_any (bytes_eq other) new ≡ (bytes_eq other name || list_any (bytes_eq other) old)
+
+-- pairs of a name and an id, by the names' bytes
+abbrev pub entries_of : List (Bor (List ℕ) × ℕ) → Entries
+entries_of xs = map (λ x. (x.0.now, x.1)) xs
+
+-- the place of the first entry with the name, if there is one
+abbrev pub HoldsAt : List ℕ → Entries → Option ℕ → Type 0
+HoldsAt name es None = id_of_name name es ≡ None
+HoldsAt name es (Some i) =
+    (i < length es) × ((e : List ℕ × ℕ) → e ≡ slice_index_or es i e → bytes_eq e.0 name ≡ true) × (id_of_name name (take i es) ≡ None)

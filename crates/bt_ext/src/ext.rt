@@ -1,0 +1,103 @@
+//! The values that extended payloads are, as trees or as parts of the payload, and why one is refused.
+ghost use Rattle.std.specs.Prelude.{◌≡◌};
+
+use bt_bencode::{ByteString, DictRef, Value};
+use std::alloc::AllocError;
+use thiserror::Error;
+
+/// An extended payload.
+#[derive(Debug, Drop)]
+pub enum Ext {
+    /// The extended handshake (BEP 10): a dictionary, and bytes behind it.
+    Handshake { dict: Value, rest: ByteString },
+    /// A metadata message (BEP 9): a dictionary, and the block behind it.
+    Metadata { dict: Value, rest: ByteString },
+    /// A message under an id that the receiver didn't register.
+    Raw { id: u8, payload: ByteString },
+}
+
+/// An extended payload as parts of the slice that it was read from.
+#[derive(Debug, Drop)]
+pub enum ExtView<'a> {
+    /// The extended handshake (BEP 10): a dictionary, and bytes behind it.
+    Handshake { dict: DictRef<'a>, rest: &'a [u8] },
+    /// A metadata message (BEP 9): a dictionary, and the block behind it.
+    Metadata { dict: DictRef<'a>, rest: &'a [u8] },
+    /// A message under an id that the receiver didn't register.
+    Raw { id: u8, payload: &'a [u8] },
+}
+
+/// Why a payload is refused. Places are counted from its start.
+#[derive(Clone, Copy, Debug, PartialEq, Eq, Error)]
+pub enum ViewError {
+    /// It has to begin with a dictionary: its first `at` bytes begin a fitting one, and no more of them do.
+    #[error("no dictionary goes on at byte {at}")]
+    BadBencode { at: usize },
+    /// At `at` a key starts that isn't above the key before it.
+    #[error("the key at byte {at} is out of order")]
+    Unsorted { at: usize },
+    /// A field of the wrong kind.
+    #[error("a field is of the wrong kind")]
+    BadField,
+    /// The dictionary ends at `at`, and what follows has the wrong length.
+    #[error("the block at byte {at} has the wrong length")]
+    BadBlock { at: usize },
+}
+
+/// Why no value is read. Places are counted from the payload's start.
+#[derive(Clone, Copy, Debug, PartialEq, Eq, Error)]
+pub enum ExtError {
+    /// It has to begin with a dictionary: its first `at` bytes begin a fitting one, and no more of them do.
+    #[error("no dictionary goes on at byte {at}")]
+    BadBencode { at: usize },
+    /// At `at` a key starts that isn't above the key before it.
+    #[error("the key at byte {at} is out of order")]
+    Unsorted { at: usize },
+    /// A field of the wrong kind.
+    #[error("a field is of the wrong kind")]
+    BadField,
+    /// The dictionary ends at `at`, and what follows has the wrong length.
+    #[error("the block at byte {at} has the wrong length")]
+    BadBlock { at: usize },
+    /// A request for memory was refused.
+    #[error("out of memory")]
+    Memory,
+}
+
+impl From<ViewError> for ExtError {
+    ghost use Rattle.bt_ext.specs.Faults.{read_error_of};
+    ghost use Rattle.std.specs.Prelude.{◌≡◌};
+
+    ghost from_gives = { λ fault e. e ≡ read_error_of fault };
+
+    fn from(fault: ViewError) -> ExtError {
+        match fault {
+            ViewError::BadBencode { at } => ExtError::BadBencode { at },
+            ViewError::Unsorted { at } => ExtError::Unsorted { at },
+            ViewError::BadField => ExtError::BadField,
+            ViewError::BadBlock { at } => ExtError::BadBlock { at },
+        }
+    }
+}
+
+impl From<AllocError> for ExtError {
+    ghost use Rattle.bt_ext.specs.declared.ext.ExtError.TheVariants.{Memory};
+    ghost use Rattle.std.specs.Prelude.{◌≡◌};
+
+    ghost from_gives = { λ _ e. e ≡ Memory };
+
+    fn from(_: AllocError) -> ExtError {
+        ExtError::Memory
+    }
+}
+
+/// The first reason for which rules refuse a value that has a spelling.
+#[derive(Clone, Copy, Debug, PartialEq, Eq)]
+pub enum ExtReason {
+    /// A key isn't above the key before it.
+    Unsorted,
+    /// A field is of the wrong kind.
+    BadField,
+    /// The block behind the dictionary has the wrong length.
+    BadBlock,
+}

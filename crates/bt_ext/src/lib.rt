@@ -1,0 +1,26 @@
+//! Extended payloads (BEP 10, BEP 9): their values, the fields of their dictionaries, and the peer's names and ids.
+#![tactic(auto)]
+
+mod ext;
+mod fields;
+mod ids;
+mod kinds;
+pub mod laws;
+mod made;
+mod metadata;
+mod spelling;
+mod table;
+#[cfg(test)]
+mod tests;
+mod told;
+mod view;
+
+pub use ext::{Ext, ExtError, ExtReason, ExtView, ViewError};
+pub use fields::{metadata_size, metadata_size_ref};
+pub use ids::{ExtId, Registered, Rules};
+pub use kinds::{kind, kind_ref};
+pub use made::{dict_of, handshake_dict};
+pub use metadata::{Kind, block_ok};
+pub use spelling::{ext_len, ext_reason, spell_ext};
+pub use table::Table;
+pub use view::{copy_ext, read_ext, view_ext};

@@ -1,0 +1,52 @@
+//! Metadata messages (BEP 9).
+ghost use Rattle.std.specs.Prelude.{◌≡◌};
+ghost use Rattle.bt_ext.specs.Metadata.{is_malformed, is_block_ok};
+
+/// What a metadata message is.
+#[derive(Clone, Copy, Debug, PartialEq, Eq)]
+pub enum Kind {
+    /// Asks for a piece.
+    Request(u32),
+    /// Has a piece, and tells the size of the whole metadata, which is at least 1.
+    Data { piece: u32, total: u64 },
+    /// Refuses a piece.
+    Reject(u32),
+    /// Of a type that BEP 9 doesn't have.
+    Other,
+    /// A key that its type needs is missing or has no fitting integer.
+    Malformed,
+}
+
+/// How long a block is, but for the last one.
+const BLOCK: u64 = 16_384;
+
+/// Whether a message is of the kind `Malformed`.
+pub fn is_malformed(kind: Kind) -> bool
+    ensures { result ≡ is_malformed kind }
+{
+    matches!(kind, Kind::Malformed)
+}
+
+/// Whether so many bytes may follow the dictionary of a message of this kind. A data message's piece is one of the
+/// metadata's blocks and has its length, 16,384 bytes or in the last block what is left; a request and a reject have
+/// nothing behind their dictionary.
+pub fn block_ok(kind: Kind, rest_len: usize) -> bool
+    ensures { result ≡ is_block_ok kind rest_len }
+{
+    match kind {
+        Kind::Request(_) | Kind::Reject(_) => rest_len == 0,
+        Kind::Data { piece, total } => {
+            let whole = total / BLOCK;
+            let left = total % BLOCK;
+            let piece = piece as u64;
+            if piece < whole {
+                rest_len as u64 == BLOCK
+            } else if piece == whole && left > 0 {
+                rest_len as u64 == left
+            } else {
+                false
+            }
+        }
+        Kind::Other | Kind::Malformed => true,
+    }
+}

@@ -1,0 +1,171 @@
+//! What a value is written as, and why rules refuse it.
+ghost use Rattle.std.specs.Prelude.{◌≡◌, ◌++◌, ◌^◌, ◌-◌, length, min, ◌≤◌, Some, Err, IfOk, IfErr, IsTrue, ◌↔◌, is_some, MatchOption};
+ghost use Rattle.bt_bencode.specs.Keys.{unsorted};
+ghost use Rattle.bt_bencode.specs.Bencoding.{ben};
+ghost use Rattle.bt_bencode.specs.Views.{tree_of};
+ghost use Rattle.bt_ext.specs.Payloads.{IsExt, IsDict, HasNoSpelling, HasSpelling, HasDict, ext_id, payload_of};
+ghost use Rattle.bt_ext.specs.Faults.{reason_of};
+
+use crate::ext::{Ext, ExtReason};
+use crate::fields::bad_field;
+use crate::ids::{Registered, Rules};
+use crate::kinds::kind;
+use crate::metadata::{block_ok, is_malformed};
+use bt_bencode::{ByteString, SpellError, Value, ben_len, fits, is_sorted, spell};
+use std::alloc::Global;
+
+fn is_dict(dict: &Value) -> bool
+    ensures { IsTrue result ↔ IsDict dict.now }
+{
+    match dict {
+        Value::Dict(_) => fits(dict),
+        _ => false,
+    }
+}
+
+/// The extended id of a value.
+fn id_of(reg: Registered, value: &Ext) -> Option<u8>
+    ensures { result ≡ ext_id reg value.now }
+{
+    match value {
+        Ext::Handshake { .. } => Some(0),
+        Ext::Metadata { .. } => match reg.metadata() {
+            Some(id) => Some(id.get()),
+            None => None,
+        },
+        Ext::Raw { id, .. } => {
+            let id = *id;
+            if reg.needs_dict(id) { None } else { Some(id) }
+        }
+    }
+}
+
+/// Whether its dictionary, if its kind has one, is one that fits.
+fn has_dict(value: &Ext) -> bool
+    ensures { IsTrue result ↔ HasDict value.now }
+{
+    match value {
+        Ext::Handshake { dict, .. } => is_dict(dict),
+        Ext::Metadata { dict, .. } => is_dict(dict),
+        Ext::Raw { .. } => true,
+    }
+}
+
+/// The extended id of a value that has a spelling of its own.
+fn own_id(reg: Registered, value: &Ext) -> Option<u8>
+    ensures { MatchOption result (HasNoSpelling reg value.now) (λ id. HasDict value.now × (ext_id reg value.now ≡ Some id)) }
+{
+    if has_dict(value) {
+        id_of(reg, value)
+    } else {
+        None
+    }
+}
+
+fn payload_len(value: &Ext) -> u64
+    ensures { result ≡ min (length (payload_of value.now)) (2 ^ 64 - 1) }
+{
+    match value {
+        Ext::Handshake { dict, rest } => ben_len(dict).saturating_add(rest.len() as u64),
+        Ext::Metadata { dict, rest } => ben_len(dict).saturating_add(rest.len() as u64),
+        Ext::Raw { payload, .. } => payload.len() as u64,
+    }
+}
+
+/// The length of the payload of a value that has a spelling of its own, at most 2^64 - 1. It takes no memory.
+pub fn ext_len(reg: Registered, value: &Ext) -> Option<u64>
+    ensures { MatchOption result (HasNoSpelling reg value.now)
+        (λ n. HasSpelling reg value.now × (n ≡ min (length (payload_of value.now)) (2 ^ 64 - 1))) }
+{
+    match own_id(reg, value) {
+        Some(_) => Some(payload_len(value)),
+        None => None,
+    }
+}
+
+fn spell_dict(alloc: Global, dict: &Value, rest: &ByteString) -> Result<Vec<u8>, SpellError>
+    requires { IsDict dict.now }
+    ensures ok { IfOk result (λ bytes. bytes.items ≡ ben (tree_of dict.now) ++ rest.now) }
+    ensures memory { IfErr result (λ e. e ≡ SpellError.Memory) }
+{
+    match spell(alloc, dict) {
+        Ok(bytes) => {
+            let mut bytes = bytes;
+            match bytes.extend_from_slice(rest.as_slice()) {
+                Ok(()) => Ok(bytes),
+                Err(_) => Err(SpellError::Memory),
+            }
+        }
+        Err(_) => Err(SpellError::Memory),
+    }
+}
+
+fn spell_payload(alloc: Global, value: &Ext) -> Result<Vec<u8>, SpellError>
+    requires { HasDict value.now }
+    ensures ok { IfOk result (λ bytes. bytes.items ≡ payload_of value.now) }
+    ensures memory { IfErr result (λ e. e ≡ SpellError.Memory) }
+{
+    match value {
+        Ext::Handshake { dict, rest } => spell_dict(alloc, dict, rest),
+        Ext::Metadata { dict, rest } => spell_dict(alloc, dict, rest),
+        Ext::Raw { payload, .. } => match payload.as_slice().to_vec(alloc) {
+            Ok(bytes) => Ok(bytes),
+            Err(_) => Err(SpellError::Memory),
+        },
+    }
+}
+
+/// The extended id and the payload of a value; `OutOfRange` where it has none of its own: its dictionary is none or
+/// doesn't fit, it is raw under an id whose payloads begin with a dictionary, or no id is registered for it.
+pub fn spell_ext(alloc: Global, reg: Registered, value: &Ext) -> Result<(u8, Vec<u8>), SpellError>
+    ensures ok { IfOk result (λ x. IsExt reg value.now x.0 x.1.items) }
+    ensures out_of_range { (result ≡ Err SpellError.OutOfRange) ↔ HasNoSpelling reg value.now }
+    ensures memory { result ≡ Err SpellError.Memory → HasSpelling reg value.now }
+{
+    match own_id(reg, value) {
+        None => Err(SpellError::OutOfRange),
+        Some(id) => match spell_payload(alloc, value) {
+            Ok(payload) => Ok((id, payload)),
+            Err(_) => Err(SpellError::Memory),
+        },
+    }
+}
+
+fn is_unsorted(dict: &Value) -> bool
+    ensures { result ≡ is_some (unsorted (tree_of dict.now)) }
+{
+    !is_sorted(dict)
+}
+
+/// The first reason for which the rules refuse a value that has a spelling of its own. It takes no memory.
+pub fn ext_reason(rules: Rules, value: &Ext) -> Option<ExtReason>
+    ensures { result ≡ reason_of rules value.now }
+{
+    match rules {
+        Rules::Free => None,
+        Rules::Bep => match value {
+            Ext::Handshake { dict, .. } => {
+                if is_unsorted(dict) {
+                    Some(ExtReason::Unsorted)
+                } else if bad_field(dict) {
+                    Some(ExtReason::BadField)
+                } else {
+                    None
+                }
+            }
+            Ext::Metadata { dict, rest } => {
+                let kind = kind(dict);
+                if is_unsorted(dict) {
+                    Some(ExtReason::Unsorted)
+                } else if is_malformed(kind) {
+                    Some(ExtReason::BadField)
+                } else if block_ok(kind, rest.len()) {
+                    None
+                } else {
+                    Some(ExtReason::BadBlock)
+                }
+            }
+            Ext::Raw { .. } => None,
+        },
+    }
+}

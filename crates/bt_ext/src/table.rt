@@ -1,0 +1,157 @@
+//! The names and ids that a peer told (BEP 10).
+ghost use Rattle.std.specs.Prelude.{◌≡◌, ◌<◌, ◌≤◌, [], length, OnOk, OnErr, IfOk, IfSome};
+ghost use Rattle.std.specs.Bool.{OnFalse};
+ghost use Rattle.bt_bencode.specs.Trees.{dictionary};
+ghost use Rattle.bt_bencode.specs.Views.{tree_of};
+ghost use Rattle.bt_ext.specs.Tables.{id_of_name, entered, entered_all, entries_of, applied, HoldsAt};
+
+use crate::told::{told_of, told_of_ref};
+use bt_bencode::{ByteString, DictRef, Value};
+use std::alloc::{AllocError, Global};
+use std::marker::Model;
+
+/// The most names that a table keeps.
+const MAX_NAMES: usize = 256;
+
+/// The longest name that a table keeps.
+const MAX_NAME: usize = 255;
+
+/// The peer's names of extensions and the ids under which it wants them. A clause sees the names with their ids: a
+/// finite map of at most 256 names, each once and of at most 255 bytes, and ids from 1 to 255.
+#[derive(Debug, Drop)]
+pub struct Table {
+    entries: Vec<(ByteString, u8)>,
+}
+
+impl Model for Table {
+    ghost use Rattle.std.specs.Prelude.{List, ℕ};
+    ghost use Rattle.bt_ext.specs.Tables.{IsTable};
+
+    ghost Value = { List (List ℕ × ℕ) };
+
+    ghost view = { λ t. t.entries.items };
+
+    ghost invariant = { λ t. IsTable t.entries.items };
+}
+
+/// The place of a name.
+fn place_of(entries: &[(ByteString, u8)], name: &[u8]) -> Option<usize>
+    ensures { HoldsAt name.now entries.now result }
+{
+    for (i, (known, _)) in entries.iter().enumerate() {
+        if known.as_slice() == name {
+            return Some(i);
+        }
+    }
+    None
+}
+
+/// Takes an id for a name, as the table's rules are.
+fn enter(entries: &mut Vec<(ByteString, u8)>, name: &[u8], id: u8) -> Result<(), AllocError>
+    ensures ok { OnOk result (entries.new.items ≡ entered name.now id entries.old.items) }
+    ensures memory { OnErr result (entries.new.items ≡ entries.old.items) }
+{
+    if name.len() > MAX_NAME {
+        return Ok(());
+    }
+    match place_of(entries, name) {
+        Some(i) if id == 0 => {
+            let _ = entries.remove(i);
+        }
+        Some(i) => entries[i].1 = id,
+        None if id != 0 && entries.len() < MAX_NAMES => {
+            let name = ByteString::from_vec(name.to_vec(*entries.allocator())?);
+            entries.push((name, id))?;
+        }
+        None => {}
+    }
+    Ok(())
+}
+
+impl Table {
+    /// A table without a name.
+    pub fn new(alloc: Global) -> Table
+        ensures { result ≡ [] }
+    {
+        Table {
+            entries: Vec::new(alloc),
+        }
+    }
+
+    /// The id of a name, 1 to 255.
+    pub fn id_of(&self, name: &[u8]) -> Option<u8>
+        ensures value { result ≡ id_of_name name.now self.now }
+        ensures above { IfSome result (λ id. 0 < id) }
+    {
+        let i = place_of(&self.entries, name)?;
+        Some(self.entries[i].1)
+    }
+
+    /// A table with the same names and ids.
+    pub fn copy(&self) -> Result<Table, AllocError>
+        ensures { IfOk result (λ t. t ≡ self.now) }
+    {
+        let alloc = *self.entries.allocator();
+        let mut entries = Vec::new(alloc);
+        for (name, id) in &self.entries {
+            let name = ByteString::from_vec(name.as_slice().to_vec(alloc)?);
+            entries.push((name, *id))?;
+        }
+        Ok(Table { entries })
+    }
+
+    /// Takes an id for a name.
+    fn enter(&mut self, name: &[u8], id: u8) -> Result<(), AllocError>
+        ensures ok { OnOk result (self.new ≡ entered name.now id self.old) }
+    {
+        enter(&mut self.entries, name, id)
+    }
+
+    /// Whether an entry differs from what the table has.
+    fn is_changed_by(&self, told: &[(&[u8], u8)]) -> bool
+        ensures { OnFalse result (entered_all (entries_of told.now) self.now ≡ self.now) }
+    {
+        for (name, id) in told {
+            if self.id_of(name).unwrap_or(0) != *id {
+                return true;
+            }
+        }
+        false
+    }
+
+    fn enter_all(&mut self, told: &[(&[u8], u8)]) -> Result<(), AllocError>
+        ensures ok { OnOk result (self.new ≡ entered_all (entries_of told.now) self.old) }
+        ensures memory { OnErr result (self.new ≡ self.old) }
+    {
+        if !self.is_changed_by(told) {
+            return Ok(());
+        }
+        let mut next = self.copy()?;
+        for (name, id) in told {
+            next.enter(name, *id)?;
+        }
+        *self = next;
+        Ok(())
+    }
+
+    /// Applies an extended handshake's dictionary: the pairs of its `m`, in order, if that is a dictionary. Of pairs with
+    /// one name the first counts. A pair with a name of more than 255 bytes, or with a value that is no integer from 0 to
+    /// 255, does nothing. The value 0 removes the name, another replaces the name's id or adds the name, and a new name
+    /// does nothing where 256 names are there. For want of memory the table stays as it was.
+    pub fn apply(&mut self, dict: &Value) -> Result<(), AllocError>
+        ensures ok { OnOk result (self.new ≡ applied (tree_of dict.now) self.old) }
+        ensures memory { OnErr result (self.new ≡ self.old) }
+    {
+        let told = told_of(*self.entries.allocator(), dict)?;
+        self.enter_all(&told)
+    }
+
+    /// The same of a checked slice.
+    pub fn apply_ref(&mut self, dict: &DictRef) -> Result<(), AllocError>
+        ensures ok { OnOk result (self.new ≡ applied (dictionary dict.now.tree.0) self.old) }
+        ensures memory { OnErr result (self.new ≡ self.old) }
+    {
+        let told = told_of_ref(*self.entries.allocator(), dict)?;
+        self.enter_all(&told)
+    }
+}

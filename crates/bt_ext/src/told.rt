@@ -1,0 +1,96 @@
+//! What the `m` of an extended handshake tells (BEP 10).
+ghost use Rattle.std.specs.Prelude.{◌≡◌, ℕ, List, [], ◌++◌, IfOk, OnOk, not, if◌then◌else◌};
+ghost use Rattle.std.specs.List.{list_any};
+ghost use Rattle.std.specs.Str.{bytes_eq};
+ghost use Rattle.bt_bencode.specs.Trees.{dictionary};
+ghost use Rattle.bt_bencode.specs.Views.{tree_of};
+ghost use Rattle.bt_ext.specs.Tables.{told, told_by, told_of, entries_of, names_of, AddsName};
+
+use crate::fields::{byte_of, id_value};
+use bt_bencode::{DictRef, Pairs, Value, lookup};
+use std::alloc::{AllocError, Global};
+use std::collections::BTreeSet;
+
+/// What the pairs so far told, and their names. The names are in a tree, so that many pairs stay cheap.
+#[derive(Drop)]
+struct Told<'a> {
+    names: BTreeSet<&'a [u8]>,
+    entries: Vec<(&'a [u8], u8)>,
+}
+
+/// Adds a name, and says whether it is new.
+fn add_name<'a>(names: &mut BTreeSet<&'a [u8]>, name: &'a [u8]) -> Result<bool, AllocError>
+    ensures new { IfOk result (λ new. new ≡ not (list_any (bytes_eq name.now) (names_of names.old))) }
+    ensures adds { OnOk result (AddsName name.now (names_of names.old) (names_of names.new)) }
+{
+    let new = names.insert(name)?;
+    Ok(new)
+}
+
+impl<'a> Told<'a> {
+    fn new(alloc: Global) -> Told<'a>
+        ensures names { names_of result.names ≡ [] }
+        ensures entries { entries_of result.entries.items ≡ [] }
+    {
+        Told {
+            names: BTreeSet::new(alloc),
+            entries: Vec::new(alloc),
+        }
+    }
+
+    /// Takes a pair: its name, and its value's id, if it is one.
+    fn tell(&mut self, name: &'a [u8], id: Option<u8>) -> Result<(), AllocError>
+        ensures names { OnOk result (AddsName name.now (names_of self.old.names) (names_of self.new.names)) }
+        ensures entries { OnOk result (entries_of self.new.entries.items ≡ entries_of self.old.entries.items
+            ++ (if list_any (bytes_eq name.now) (names_of self.old.names) then [] else told name.now id)) }
+    {
+        let new = add_name(&mut self.names, name)?;
+        match id {
+            Some(id) if new => self.entries.push((name, id))?,
+            _ => {}
+        }
+        Ok(())
+    }
+}
+
+fn told_by<'a>(alloc: Global, m: &'a Pairs) -> Result<Vec<(&'a [u8], u8)>, AllocError>
+    ensures { IfOk result (λ v. entries_of v.items ≡ told_by [] m.now) }
+{
+    let mut told = Told::new(alloc);
+    for (name, value) in m.as_slice() {
+        told.tell(name.as_slice(), id_value(value))?;
+    }
+    let Told { names: _, entries } = told;
+    Ok(entries)
+}
+
+fn told_by_ref<'a>(alloc: Global, m: &DictRef<'a>) -> Result<Vec<(&'a [u8], u8)>, AllocError>
+    ensures { IfOk result (λ v. entries_of v.items ≡ told_by [] m.now.tree.0) }
+{
+    let mut told = Told::new(alloc);
+    for (name, value) in m.int_pairs() {
+        told.tell(name, byte_of(value))?;
+    }
+    let Told { names: _, entries } = told;
+    Ok(entries)
+}
+
+/// The names and ids that an extended handshake's dictionary tells.
+pub fn told_of<'a>(alloc: Global, dict: &'a Value) -> Result<Vec<(&'a [u8], u8)>, AllocError>
+    ensures { IfOk result (λ v. entries_of v.items ≡ told_of (tree_of dict.now)) }
+{
+    match lookup(dict, b"m") {
+        Some(Value::Dict(m)) => told_by(alloc, m),
+        _ => Ok(Vec::new(alloc)),
+    }
+}
+
+/// The same of a checked slice.
+pub fn told_of_ref<'a>(alloc: Global, dict: &DictRef<'a>) -> Result<Vec<(&'a [u8], u8)>, AllocError>
+    ensures { IfOk result (λ v. entries_of v.items ≡ told_of (dictionary dict.now.tree.0)) }
+{
+    match dict.lookup_dict(b"m") {
+        Some(m) => told_by_ref(alloc, &m),
+        None => Ok(Vec::new(alloc)),
+    }
+}

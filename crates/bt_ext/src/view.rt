@@ -1,0 +1,149 @@
+//! From an extended id and a payload to the value that they are.
+ghost use Rattle.std.specs.Prelude.{◌≡◌, ◌++◌, IfOk, IfErr};
+ghost use Rattle.bt_bencode.specs.Trees.{dictionary};
+ghost use Rattle.bt_bencode.specs.Bencoding.{ben, Fits, IsPlace};
+ghost use Rattle.bt_bencode.specs.Payloads.{BeginsWithNone};
+ghost use Rattle.bt_ext.specs.Payloads.{IsExt, seen};
+ghost use Rattle.bt_ext.specs.Faults.{HasNoDict, Reads, Refuses, RefusesToRead, fault_of, handshake_fault_of, metadata_fault_of};
+
+use crate::ext::{Ext, ExtError, ExtView, ViewError};
+use crate::fields::bad_field_ref;
+use crate::ids::{Registered, Rules};
+use crate::kinds::kind_ref;
+use crate::metadata::{block_ok, is_malformed};
+use bt_bencode::{Bad, ByteString, DictRef, check};
+use std::alloc::{AllocError, Global};
+
+/// The dictionary in front and what follows it, or the place where none goes on.
+fn split_dict(payload: &[u8]) -> Result<(DictRef<'_>, &[u8]), usize>
+    ensures ok { IfOk result (λ x. Fits (dictionary x.0.tree.0) × (payload.now ≡ ben (dictionary x.0.tree.0) ++ x.1.now)) }
+    ensures err { IfErr result (λ at. BeginsWithNone payload.now × IsPlace payload.now at) }
+{
+    match check(payload) {
+        Ok((dict, n)) => Ok((dict, &payload[n..])),
+        Err(Bad::Impossible { at }) => Err(at),
+        Err(Bad::Cut) => Err(payload.len()),
+    }
+}
+
+/// The value that the id and the payload are, or the place where no dictionary goes on.
+fn shape<'a>(reg: Registered, id: u8, payload: &'a [u8]) -> Result<ExtView<'a>, usize>
+    ensures ok { IfOk result (λ v. IsExt reg (seen v) id payload.now) }
+    ensures err { IfErr result (HasNoDict reg id payload.now) }
+{
+    if id == 0 {
+        let (dict, rest) = split_dict(payload)?;
+        Ok(ExtView::Handshake { dict, rest })
+    } else if reg.is_metadata(id) {
+        let (dict, rest) = split_dict(payload)?;
+        Ok(ExtView::Metadata { dict, rest })
+    } else {
+        Ok(ExtView::Raw { id, payload })
+    }
+}
+
+fn handshake_fault(dict: &DictRef) -> Option<ViewError>
+    ensures { result ≡ handshake_fault_of (dictionary dict.now.tree.0) }
+{
+    if let Some(at) = dict.first_unsorted() {
+        Some(ViewError::Unsorted { at })
+    } else if bad_field_ref(dict) {
+        Some(ViewError::BadField)
+    } else {
+        None
+    }
+}
+
+fn metadata_fault(dict: &DictRef, rest_len: usize) -> Option<ViewError>
+    ensures { result ≡ metadata_fault_of (dictionary dict.now.tree.0) rest_len }
+{
+    if let Some(at) = dict.first_unsorted() {
+        return Some(ViewError::Unsorted { at });
+    }
+    let kind = kind_ref(dict);
+    if is_malformed(kind) {
+        Some(ViewError::BadField)
+    } else if block_ok(kind, rest_len) {
+        None
+    } else {
+        let at = dict.spelled().len();
+        Some(ViewError::BadBlock { at })
+    }
+}
+
+/// The first fault that the rules judge.
+fn fault_in(rules: Rules, view: &ExtView) -> Option<ViewError>
+    ensures { result ≡ fault_of rules (seen view.now) }
+{
+    match rules {
+        Rules::Free => None,
+        Rules::Bep => match view {
+            ExtView::Handshake { dict, .. } => handshake_fault(dict),
+            ExtView::Metadata { dict, rest } => metadata_fault(dict, rest.len()),
+            ExtView::Raw { .. } => None,
+        },
+    }
+}
+
+/// Reads an extended payload as parts of it, under the ids and the rules of the receiver. It takes no memory.
+pub fn view_ext<'a>(
+    reg: Registered,
+    rules: Rules,
+    id: u8,
+    payload: &'a [u8],
+) -> Result<ExtView<'a>, ViewError>
+    ensures ok { IfOk result (λ v. Reads reg rules id payload.now (seen v)) }
+    ensures err { IfErr result (Refuses reg rules id payload.now) }
+{
+    match shape(reg, id, payload) {
+        Err(at) => Err(ViewError::BadBencode { at }),
+        Ok(view) => match fault_in(rules, &view) {
+            None => Ok(view),
+            Some(fault) => Err(fault),
+        },
+    }
+}
+
+fn copy_bytes(alloc: Global, bytes: &[u8]) -> Result<ByteString, AllocError>
+    ensures { IfOk result (λ s. s ≡ bytes.now) }
+{
+    Ok(ByteString::from_vec(bytes.to_vec(alloc)?))
+}
+
+/// The value that a view is.
+pub fn copy_ext(alloc: Global, view: &ExtView) -> Result<Ext, AllocError>
+    ensures { IfOk result (λ e. e ≡ seen view.now) }
+{
+    match view {
+        ExtView::Handshake { dict, rest } => {
+            let dict = dict.to_value(alloc)?;
+            let rest = copy_bytes(alloc, rest)?;
+            Ok(Ext::Handshake { dict, rest })
+        }
+        ExtView::Metadata { dict, rest } => {
+            let dict = dict.to_value(alloc)?;
+            let rest = copy_bytes(alloc, rest)?;
+            Ok(Ext::Metadata { dict, rest })
+        }
+        ExtView::Raw { id, payload } => {
+            let payload = copy_bytes(alloc, payload)?;
+            Ok(Ext::Raw { id: *id, payload })
+        }
+    }
+}
+
+/// Reads an extended payload, under the ids and the rules of the receiver.
+pub fn read_ext(
+    alloc: Global,
+    reg: Registered,
+    rules: Rules,
+    id: u8,
+    payload: &[u8],
+) -> Result<Ext, ExtError>
+    ensures ok { IfOk result (Reads reg rules id payload.now) }
+    ensures err { IfErr result (RefusesToRead reg rules id payload.now) }
+{
+    let view = view_ext(reg, rules, id, payload)?;
+    let value = copy_ext(alloc, &view)?;
+    Ok(value)
+}
