@@ -1,0 +1,13 @@
+pub mod NumberLaws
+pub mod RowLaws
+pub mod HeaderLaws
+pub mod PartLaws
+pub mod SpellLaws
+pub mod WindowLaws
+pub mod FrontLaws
+pub mod Differing
+pub mod StreamLaws
+pub mod HandLaws
+pub mod VerdictLaws
+pub mod WalkLaws
+pub mod Parts

@@ -1,0 +1,42 @@
+-- When a message may be sent, and what its value is refused for.
+use Rattle.std.specs.Prelude.{◌≡◌, ℕ, ◌≤◌, ◌<◌, ◌^◌, length, Some, Result, Ok, Err, ◌⊎◌}
+use Rattle.std.specs.Global.{Vec}
+use Rattle.bt_wire.specs.declared.context.Context.{Context}
+use Rattle.bt_wire.specs.declared.context.Order.{Order}
+use Rattle.bt_wire.specs.declared.message.Message.{Message}
+use Rattle.bt_wire.specs.declared.fault.Fault.{Fault}
+use Rattle.bt_wire.specs.declared.fault.Fault.TheVariants as fault
+use Rattle.bt_wire.specs.declared.fault.Reason.{Reason}
+use Rattle.bt_wire.specs.declared.fault.Reason.TheVariants.{TooLong}
+use Rattle.bt_wire.specs.declared.fault.EncodeError.{EncodeError}
+use Rattle.bt_wire.specs.declared.fault.EncodeError.TheVariants as encode
+use Rattle.bt_wire.specs.Messages.{body, spell, IsShaped, IsInRange}
+use Rattle.bt_wire.specs.Faults.{IsFault}
+
+-- it has a spelling of its own, and that isn't above the limit
+pub record IsLegal (c : Context) (o : Order) (m : Message) : Type 0 where
+  pub shaped : IsShaped c m
+  pub short : length (body c m) ≤ c.limit
+
+-- m may be sent from the offset s on
+pub record IsSaid (c : Context) (o : Order) (s : ℕ) (m : Message) : Type 0 where
+  pub in_range : IsInRange c m
+  pub legal : IsLegal c o m
+  pub start : s < 2 ^ 62
+
+-- the spelling has a fault for this reason, or is too long for a length of four bytes
+abbrev pub IsRefusedFor : Context → Order → Message → Reason → Type 0
+IsRefusedFor c o m reason =
+    ((2 ^ 32 ≤ length (body c m)) × (reason ≡ TooLong))
+    ⊎ ((length (body c m) < 2 ^ 32) × ((at : ℕ) × IsFault c o 0 (spell c m) (Some (record { at = at; reason = reason }))))
+
+-- why a value may not be sent: it has no spelling of its own, or that is refused
+abbrev pub Refuses : Context → Order → Message → Fault → Type 0
+Refuses c o m fault.Shape = ¬ IsShaped c m
+Refuses c o m (fault.Reason reason) = IsShaped c m × IsRefusedFor c o m reason
+
+-- what encoding answers
+abbrev pub IsEncoded : Context → Order → Message → Result (Vec ℕ) EncodeError → Type 0
+IsEncoded c o m (Ok bytes) = IsLegal c o m × (bytes.items ≡ spell c m)
+IsEncoded c o m (Err (encode.Illegal f)) = Refuses c o m f
+IsEncoded c o m (Err encode.Memory) = IsLegal c o m

@@ -1,0 +1,12 @@
+pub mod Numbers
+pub mod Ids
+pub mod Messages
+pub mod Handshakes
+pub mod Tables
+pub mod Faults
+pub mod Legal
+pub mod Headers
+pub mod Parts
+pub mod Streams
+pub mod Fronts
+pub mod Laws

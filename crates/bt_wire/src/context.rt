@@ -1,0 +1,33 @@
+ghost use Rattle.std.specs.Prelude.{◌≡◌};
+ghost use Rattle.bt_wire.specs.Handshakes.{negotiated};
+
+use crate::reserved::Reserved;
+
+/// The receiver. Without an info hash every info hash is accepted.
+#[derive(Clone, Copy, PartialEq, Eq, Debug)]
+pub struct Own {
+    pub reserved: Reserved,
+    pub info_hash: Option<[u8; 20]>,
+    /// The greatest length that a message may have, its four bytes of length not counted.
+    pub limit: u32,
+}
+
+/// What both ends have agreed on, as the receiver judges by it.
+#[derive(Clone, Copy, PartialEq, Eq, Debug)]
+pub struct Context {
+    pub limit: u32,
+}
+
+/// Whether a message has come that counts.
+#[derive(Clone, Copy, PartialEq, Eq, Debug)]
+pub enum Order {
+    Fresh,
+    Past,
+}
+
+/// The context that the receiver has with a peer of these reserved bits.
+pub fn negotiate(own: &Own, _peer: Reserved) -> Context
+    ensures { result ≡ negotiated own.now _peer }
+{
+    Context { limit: own.limit }
+}

@@ -1,0 +1,46 @@
+//! The message at the front of a stream.
+ghost use Rattle.std.specs.Prelude.{◌≡◌, ◌<◌, ◌^◌};
+ghost use Rattle.bt_wire.specs.Fronts.{IsFront};
+
+use crate::context::{Context, Order};
+use crate::decode::view_window;
+use crate::fault::{Header, Reason, Refused};
+use crate::header::judge_header;
+use crate::message::MessageView;
+
+/// What the bytes at the front of a stream come to: a fault, less than a message, or a message and its length.
+#[derive(Clone, Copy, Debug)]
+pub enum Front<'a> {
+    Refused(Refused),
+    Partial,
+    Whole(MessageView<'a>, usize),
+}
+
+/// A message starts below this offset.
+pub const END: u64 = 1 << 62;
+
+/// Reads the message at the front of the bytes, which starts at this offset of its stream. It takes no memory.
+pub fn read_front<'a>(context: &Context, order: Order, start: u64, bytes: &'a [u8]) -> Front<'a>
+    ensures { IsFront context.now order start bytes.now result }
+{
+    if start >= END {
+        return Front::Refused(Refused {
+            at: 0,
+            reason: Reason::StreamFull,
+        });
+    }
+    match judge_header(context, order, bytes) {
+        Header::Need(_) => Front::Partial,
+        Header::Refused { at, reason } => Front::Refused(Refused { at, reason }),
+        Header::Window(length) => {
+            if length > bytes.len() as u64 {
+                return Front::Partial;
+            }
+            let length = length as usize;
+            match view_window(context, order, &bytes[..length]) {
+                Ok(view) => Front::Whole(view, length),
+                Err(refused) => Front::Refused(refused),
+            }
+        }
+    }
+}

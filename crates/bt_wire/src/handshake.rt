@@ -1,0 +1,114 @@
+ghost use Rattle.std.specs.Prelude.{◌≡◌, length};
+ghost use Rattle.bt_wire.specs.Numbers.{be64};
+ghost use Rattle.bt_wire.specs.Fronts.{IsOpening};
+ghost use Rattle.bt_wire.specs.Handshakes.{hand, hand_fault, first_difference as first_of, is_other_hash};
+
+use crate::context::Own;
+use crate::fault::{Reason, Refused};
+use crate::reserved::Reserved;
+
+/// What a peer sends first.
+#[derive(Clone, Copy, PartialEq, Eq, Debug)]
+pub struct Handshake {
+    pub reserved: Reserved,
+    pub info_hash: [u8; 20],
+    pub peer_id: [u8; 20],
+}
+
+/// The text that a handshake begins with, behind its length.
+pub const PROTOCOL: &[u8; 20] = b"\x13BitTorrent protocol";
+
+/// The 68 bytes of a handshake.
+pub fn spell_handshake(handshake: &Handshake) -> [u8; 68]
+    ensures { result ≡ hand handshake.now }
+{
+    let mut bytes = [0u8; 68];
+    bytes[..20].copy_from_slice(PROTOCOL);
+    bytes[20..28].copy_from_slice(&handshake.reserved.0.to_be_bytes());
+    bytes[28..48].copy_from_slice(&handshake.info_hash);
+    bytes[48..].copy_from_slice(&handshake.peer_id);
+    bytes
+}
+
+/// The fault of the bytes of a handshake, as many as are there, and its place: the least byte that differs from the
+/// fixed ones, or the info hash, once 48 bytes are there, where it isn't the wanted one.
+#[tactic(auto, unfolding(crate::specs::Handshakes::hand_fault))]
+pub fn judge_handshake(own: &Own, bytes: &[u8]) -> Option<Refused>
+    ensures { result ≡ hand_fault own.now bytes.now }
+{
+    if let Some(place) = first_difference(PROTOCOL, bytes) {
+        return Some(Refused {
+            at: place as u64,
+            reason: Reason::BadProtocol,
+        });
+    }
+    if bytes.len() >= 48 && has_other_hash(own, &bytes[28..48]) {
+        return Some(Refused {
+            at: 28,
+            reason: Reason::WrongInfoHash,
+        });
+    }
+    None
+}
+
+/// The first place at which the bytes differ from fixed ones.
+fn first_difference(fixed: &[u8], bytes: &[u8]) -> Option<usize>
+    ensures { result ≡ first_of fixed.now bytes.now }
+{
+    let count = fixed.len().min(bytes.len());
+    for i in 0..count {
+        if fixed[i] != bytes[i] {
+            return Some(i);
+        }
+    }
+    None
+}
+
+/// Whether another info hash is wanted.
+fn has_other_hash(own: &Own, hash: &[u8]) -> bool
+    ensures { result ≡ is_other_hash own.now.info_hash hash.now }
+{
+    match &own.info_hash {
+        Some(wanted) => wanted.as_slice() != hash,
+        None => false,
+    }
+}
+
+/// What the bytes at the front of a stream come to: a fault, less than a handshake, or a handshake.
+#[derive(Clone, Copy, Debug)]
+pub enum Opening {
+    Refused(Refused),
+    Partial,
+    Whole(Handshake),
+}
+
+/// Reads the handshake at the front of a stream.
+pub fn read_opening(own: &Own, bytes: &[u8]) -> Opening
+    ensures { IsOpening own.now bytes.now result }
+{
+    if let Some(refused) = judge_handshake(own, bytes) {
+        return Opening::Refused(refused);
+    }
+    if bytes.len() < 68 {
+        return Opening::Partial;
+    }
+    let mut info_hash = [0u8; 20];
+    info_hash.copy_from_slice(&bytes[28..48]);
+    let mut peer_id = [0u8; 20];
+    peer_id.copy_from_slice(&bytes[48..68]);
+    Opening::Whole(Handshake {
+        reserved: Reserved(reserved_of(&bytes[20..28])),
+        info_hash,
+        peer_id,
+    })
+}
+
+/// The number that eight bytes say, the highest byte first.
+fn reserved_of(bytes: &[u8]) -> u64
+    requires { length bytes.now ≡ 8 }
+    ensures { be64 result ≡ bytes.now }
+{
+    u64::from_be_bytes([
+        bytes[0], bytes[1], bytes[2], bytes[3], bytes[4], bytes[5], bytes[6], bytes[7],
+    ])
+}

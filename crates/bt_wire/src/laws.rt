@@ -1,0 +1,65 @@
+//! Laws on the definitions, each the contract of a function that does nothing, but for the walk over a stream.
+ghost use Rattle.bt_wire.specs.Laws.{LegalHasNoFault, FaultlessIsLegal, FaultIsOne, FaultStays, FaultIsFinal, NoneBeginsAnother, VerdictIsOne, RefusalStays, ItemsStay};
+ghost use Rattle.bt_wire.specs.Streams.{Outcome, IsOutcome, IsVerdict};
+
+use crate::context::{Context, Order, Own, negotiate};
+use crate::front::{Front, read_front};
+use crate::handshake::{Opening, read_opening};
+use crate::order::next_of_view as next;
+use crate::slices::behind;
+
+/// What may be sent has no fault, and a whole window with no fault is what may be sent: never both, and one of the two.
+pub fn legal_or_fault()
+    ensures legal { LegalHasNoFault }
+    ensures faultless { FaultlessIsLegal }
+    ensures one { FaultIsOne }
+{}
+
+/// A fault stays, whatever follows, and no spelling begins another.
+pub fn prefixes()
+    ensures fault { FaultStays }
+    ensures last { FaultIsFinal }
+    ensures spelling { NoneBeginsAnother }
+{}
+
+/// Each stream has a verdict. The walk that finds it keeps nothing.
+pub fn each_has_a_verdict(own: &Own, stream: &[u8])
+    ensures { (v : Outcome) × IsVerdict own.now stream.now v }
+{
+    match read_opening(own, stream) {
+        Opening::Refused(_) => {}
+        Opening::Partial => {}
+        Opening::Whole(handshake) => {
+            walk(&negotiate(own, handshake.reserved), behind(stream, 68));
+        }
+    }
+}
+
+/// The messages behind a handshake come to an outcome.
+fn walk(context: &Context, messages: &[u8])
+    ensures { (v : Outcome) × IsOutcome context.now Order.Fresh 68 1 messages.now v }
+{
+    let _limit = context.limit;
+    let mut order = Order::Fresh;
+    let mut at: usize = 0;
+    let mut number: u64 = 1;
+    'messages: loop {
+        let front = read_front(context, order, 68 + at as u64, behind(messages, at));
+        match front {
+            Front::Whole(message, length) => {
+                order = next(order, &message);
+                at += length;
+                number += 1;
+            }
+            Front::Refused(_) => return,
+            Front::Partial => return,
+        }
+    }
+}
+
+/// A stream has one verdict, and keeps its items and its refusal whatever follows.
+pub fn one_verdict()
+    ensures one { VerdictIsOne }
+    ensures refused { RefusalStays }
+    ensures items { ItemsStay }
+{}
