@@ -68,6 +68,7 @@ pub fn find<'a>(pairs: &'a [u8], key: &[u8]) -> Option<&'a [u8]>
 }
 
 /// The value in front, if it is an integer, and what follows it.
+#[inline(always)]
 pub fn split_int(value: &[u8]) -> (Option<i64>, &[u8])
     requires { HasValue value.now }
     ensures number { (t : Tree) (more : List ℕ) → InRange t → value.now ≡ ben t ++ more → result.0 ≡ integer_of t }
@@ -82,6 +83,7 @@ pub fn split_int(value: &[u8]) -> (Option<i64>, &[u8])
 }
 
 /// The value in front, if it is an integer.
+#[inline(always)]
 pub fn int_in(value: &[u8]) -> Option<i64>
     requires { HasValue value.now }
     ensures { (t : Tree) (more : List ℕ) → InRange t → value.now ≡ ben t ++ more → result ≡ integer_of t }
@@ -94,6 +96,7 @@ pub fn int_in(value: &[u8]) -> Option<i64>
 }
 
 /// The value in front, if it is a byte string.
+#[inline(always)]
 pub fn text_in(value: &[u8]) -> Option<&[u8]>
     requires { HasValue value.now }
     ensures { (t : Tree) (more : List ℕ) → InRange t → value.now ≡ ben t ++ more → option_map (λ s. s.now) result ≡ string_of t }

@@ -1,12 +1,12 @@
 //! Values into bytes.
 ghost use Rattle.std.specs.Prelude.{◌≡◌, ◌↔◌, ◌++◌, Err, OnOk, IfOk};
-ghost use Rattle.std.specs.Fmt.{decimal, signed_decimal};
 ghost use Rattle.bt_bencode.specs.Bencoding.{ben, ben_all, ben_pairs, ben_string, Fits};
 ghost use Rattle.bt_bencode.specs.Views.{tree_of};
 
 use crate::fitting::fits;
 use crate::length::ben_len;
 use crate::tree::{ByteString, Pairs, Value, Values};
+use itoa::Buffer;
 use std::alloc::{AllocError, Global};
 use thiserror::Error;
 
@@ -32,29 +32,10 @@ impl From<AllocError> for SpellError {
     }
 }
 
-fn push_decimal(out: &mut Vec<u8>, n: u64) -> Result<(), AllocError>
-    ensures { OnOk result (out.new.items ≡ out.old.items ++ decimal n) }
-{
-    if n >= 10 {
-        push_decimal(out, n / 10)?;
-    }
-    out.push(b'0' + (n % 10) as u8)?;
-    Ok(())
-}
-
-fn push_int(out: &mut Vec<u8>, n: i64) -> Result<(), AllocError>
-    ensures { OnOk result (out.new.items ≡ out.old.items ++ signed_decimal n) }
-{
-    if n < 0 {
-        out.push(b'-')?;
-    }
-    push_decimal(out, n.unsigned_abs())
-}
-
 fn push_string(out: &mut Vec<u8>, s: &ByteString) -> Result<(), AllocError>
     ensures { OnOk result (out.new.items ≡ out.old.items ++ ben_string s.now) }
 {
-    push_decimal(out, s.len() as u64)?;
+    out.extend_from_slice(Buffer::new().format(s.len()).as_bytes())?;
     out.push(b':')?;
     out.extend_from_slice(s.as_slice())?;
     Ok(())
@@ -67,7 +48,7 @@ fn push_value(out: &mut Vec<u8>, value: &Value) -> Result<(), AllocError>
     match value {
         Value::Int(n) => {
             out.push(b'i')?;
-            push_int(out, *n)?;
+            out.extend_from_slice(Buffer::new().format(*n).as_bytes())?;
             out.push(b'e')?;
             Ok(())
         }
