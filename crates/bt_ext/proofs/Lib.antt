@@ -1,4 +1,5 @@
 pub mod Allowed
+pub mod ByName
 pub mod Entries
 pub mod MadeKinds
 pub mod Names

@@ -1,5 +1,10 @@
 -- Laws of extended payloads and of the table.
-use Rattle.std.specs.Prelude.{◌≡◌, ◌↔◌, ℕ, List, [], Option, Some, None}
+use Rattle.std.specs.Prelude.{◌≡◌, ◌↔◌, ℕ, List, [], Option, None, MatchOption, option_and_then, if◌then◌else◌}
+use Rattle.std.specs.Str.{bytes_eq}
+use Rattle.bt_bencode.specs.Trees.{Tree, Pairs}
+use Rattle.bt_bencode.specs.Keys.{value_at}
+use Rattle.bt_ext.specs.Fields.{id_value}
+use Rattle.bt_ext.specs.Tables.{Entries, IsTable, id_of_name, entered, entered_all, told_by, told_of, applied, id_after, before}
 use Rattle.bt_ext.specs.Payloads.{IsExt}
 use Rattle.bt_ext.specs.Faults.{Allows, IsFault, fault_of}
 use Rattle.bt_ext.specs.Metadata.{kind_of}
@@ -25,3 +30,24 @@ OneFault = (reg : Registered) (r : Rules) (id : ℕ) (payload : List ℕ) (a b :
 -- the dictionary that is written for a kind is of that kind
 abbrev pub KindOfMade : Type 0
 KindOfMade = (k : Kind) → IsMade k → kind_of (message_tree k) ≡ k
+
+-- entering an id changes what its name has, and no other name's id
+abbrev pub EnteredByName : Type 0
+EnteredByName = (name other : List ℕ) (id : ℕ) (es : Entries) → IsTable es
+    → id_of_name other (entered name id es) ≡ (if bytes_eq name other then id_after name id es else id_of_name other es)
+
+-- `m` tells of a name what its first pair with the name says
+abbrev pub FirstPairTells : Type 0
+FirstPairTells = (name : List ℕ) (ps : Pairs) → id_of_name name (told_by [] ps) ≡ option_and_then id_value (value_at name ps)
+
+-- An extended handshake leaves each name's id that it doesn't tell. Of one that it tells it makes what entering it makes,
+-- behind the entries that were told before; and until then the name has the id that it had.
+abbrev pub AppliedByName : Type 0
+AppliedByName = (t : Tree) (es : Entries) (name : List ℕ) → IsTable es
+    → MatchOption (id_of_name name (told_of t)) (id_of_name name (applied t es) ≡ id_of_name name es)
+    (λ id. (id_of_name name (entered_all (before name (told_of t)) es) ≡ id_of_name name es)
+    × (id_of_name name (applied t es) ≡ id_after name id (entered_all (before name (told_of t)) es)))
+
+-- a table stays one: at most 256 names, each once and of at most 255 bytes, with ids above 0
+abbrev pub TableStays : Type 0
+TableStays = (t : Tree) (es : Entries) → IsTable es → IsTable (applied t es)

@@ -88,6 +88,18 @@ names_of s = map (λ k. k.now) s.keys
 abbrev pub AddsName : List ℕ → List (List ℕ) → List (List ℕ) → Type 0
 AddsName name old new = (other : List ℕ) → list_any (bytes_eq other) new ≡ (bytes_eq other name || list_any (bytes_eq other) old)
 
+-- what entering an id makes of its name's: a name that is too long or finds no room keeps what it has
+abbrev pub id_after : List ℕ → ℕ → Entries → Option ℕ
+id_after name id es =
+    if nat_lt 255 (length name) then id_of_name name es else
+    (if id == 0 then None else
+    (if is_some (id_of_name name es) || nat_lt (length es) 256 then Some id else None))
+
+-- the entries before a name's first one
+abbrev pub before : List ℕ → Entries → Entries
+before name [] = []
+before name (x ∷ xs) = if bytes_eq x.0 name then [] else x ∷ before name xs
+
 -- pairs of a name and an id, by the names' bytes
 abbrev pub entries_of : List (Bor (List ℕ) × ℕ) → Entries
 entries_of xs = map (λ x. (x.0.now, x.1)) xs

@@ -1,5 +1,5 @@
 //! Laws over the definitions alone.
-ghost use Rattle.bt_ext.specs.Laws.{OneExt, AllowedHasNoFault, OneFault, KindOfMade};
+ghost use Rattle.bt_ext.specs.Laws.{OneExt, AllowedHasNoFault, OneFault, KindOfMade, EnteredByName, FirstPairTells, AppliedByName, TableStays};
 
 /// An extended id and its payload are those of one value.
 pub fn one_ext()
@@ -19,4 +19,24 @@ pub fn one_fault()
 /// The dictionary that is written for a kind is of that kind.
 pub fn kind_of_made()
     ensures { KindOfMade }
+{}
+
+/// Entering an id changes what its name has, and no other name's id.
+pub fn entered_by_name()
+    ensures { EnteredByName }
+{}
+
+/// `m` tells of a name what its first pair with the name says.
+pub fn first_pair_tells()
+    ensures { FirstPairTells }
+{}
+
+/// What an extended handshake makes of each name's id.
+pub fn applied_by_name()
+    ensures { AppliedByName }
+{}
+
+/// A table stays one.
+pub fn table_stays()
+    ensures { TableStays }
 {}

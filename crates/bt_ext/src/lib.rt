@@ -11,6 +11,8 @@ mod metadata;
 mod spelling;
 mod table;
 #[cfg(test)]
+mod table_tests;
+#[cfg(test)]
 mod tests;
 mod told;
 mod view;
