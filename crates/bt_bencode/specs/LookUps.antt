@@ -2,7 +2,6 @@
 use Rattle.std.specs.Prelude.{◌≡◌, ℕ, ◌+◌, ℤ, List, Option, Some, None}
 use Rattle.std.specs.Borrow.{Bor}
 use Rattle.bt_bencode.specs.Trees.{Tree, integer, string, list, dictionary, Pairs, no_pairs, pair}
-use Rattle.bt_bencode.specs.Bencoding.{ben, InRange}
 
 -- the value as an integer, if it is one
 abbrev pub integer_of : Tree → Option ℤ

@@ -1,5 +1,5 @@
 -- A checked slice has one tree.
-use Rattle.std.specs.Prelude.{◌≡◌, ℕ, zero, suc, ◌+◌, List, [], ◌∷◌, ◌++◌, length, refl}
+use Rattle.std.specs.Prelude.{◌≡◌, ℕ, zero, suc, List, [], ◌∷◌, ◌++◌}
 use Rattle.std.specs.Coded.{×_prop, Unit-prop, le_prop, Coded-set, coded_list, coded_ℕ}
 use Rattle.std.proofs.Common.{ap, subst, sym, ◌∙◌}
 use Rattle.std.proofs.Props.{props}

@@ -1,9 +1,9 @@
 -- What the readers of a checked spelling meet. (For the contracts of functions that are not public.)
-use Rattle.std.specs.Prelude.{◌≡◌, ℕ, ℤ, ◌≤◌, ◌^◌, List, ◌∷◌, ◌++◌, length, FitsSigned, ⊤, Option, Some, None, Result, Ok, Err, []}
+use Rattle.std.specs.Prelude.{◌≡◌, ℕ, ℤ, ◌≤◌, ◌^◌, List, ◌∷◌, ◌++◌, length, FitsSigned, Option, Some, None, Result, Ok, Err, []}
 use Rattle.std.specs.Borrow.{Bor}
 use Rattle.std.specs.Int.{w64}
 use Rattle.std.specs.Fmt.{decimal, signed_decimal}
-use Rattle.bt_bencode.specs.Trees.{Tree, integer, string, list, dictionary, Trees, no_trees, tree, Pairs, no_pairs, pair}
+use Rattle.bt_bencode.specs.Trees.{Tree, Trees, Pairs}
 use Rattle.bt_bencode.specs.Bencoding.{ben, ben_all, ben_pairs, ben_string, longest_string, InRange, AllInRange, PairsInRange}
 use Rattle.bt_bencode.specs.Scanner.{NumberThen}
 

@@ -18,7 +18,7 @@ use std::marker::Model;
 
 /// A slice that was checked: it spells one fitting dictionary, whose pairs are its `tree`.
 // It has no `impl Model`: a value inside a view that borrows from a `&mut self` must have none.
-#[derive(Debug, Drop)]
+#[derive(Clone, Copy, Debug)]
 pub struct DictRef<'a> {
     bytes: &'a [u8],
     pub ghost tree: { IsSpelling bytes.now } by { IsSpelling-prop bytes.now },
@@ -32,7 +32,7 @@ impl<'a> DictRef<'a> {
         self.bytes
     }
 
-    /// The dictionary as a value.
+    /// The dictionary as a value: one allocation for each string, and for each list and dictionary as a vector grows.
     pub fn to_value(&self, alloc: Global) -> Result<Value, AllocError>
         ensures { IfOk result (λ v. v ≡ Value.Dict self.now.tree.0) }
     {
@@ -106,7 +106,12 @@ impl<'a> DictRef<'a> {
     }
 }
 
-/// The dictionary that the payload begins with, and its length in bytes. It takes no memory.
+/// The dictionary that the payload begins with (BEP 3, "bencoding"), and its length in bytes. What follows isn't looked
+/// at, and each byte is passed once.
+///
+/// # Errors
+/// `Impossible` with the place of the first byte with which no fitting dictionary goes on, `Cut` where the whole payload
+/// begins one and holds none.
 pub fn check(payload: &[u8]) -> Result<(DictRef<'_>, usize), Bad>
     ensures ok { IfOk result (λ x. BeginsWith payload.now x.0.tree.0 x.1) }
     ensures err { IfErr result (Refuses payload.now) }
@@ -120,7 +125,7 @@ pub fn check(payload: &[u8]) -> Result<(DictRef<'_>, usize), Bad>
     ))
 }
 
-/// The pairs that are left. A clause sees their trees.
+/// The pairs that are left, seen as pairs of a key and a tree. It gives each key, and its value where that is an integer.
 #[derive(Debug, Drop)]
 pub struct IntPairs<'a> {
     rest: &'a [u8],

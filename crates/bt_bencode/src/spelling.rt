@@ -1,4 +1,4 @@
-//! Values into bytes.
+//! Values into bytes. Only a value that fits is written, so writing recurses by no more than 32 levels.
 ghost use Rattle.std.specs.Prelude.{◌≡◌, ◌↔◌, ◌++◌, Err, OnOk, IfOk};
 ghost use Rattle.bt_bencode.specs.Bencoding.{ben, ben_all, ben_pairs, ben_string, Fits};
 ghost use Rattle.bt_bencode.specs.Views.{tree_of};
@@ -89,7 +89,10 @@ fn push_pairs(out: &mut Vec<u8>, pairs: &Pairs) -> Result<(), AllocError>
     Ok(())
 }
 
-/// The one spelling of a value.
+/// The one spelling of a value (BEP 3, "bencoding"), in one allocation of its length.
+///
+/// # Errors
+/// `OutOfRange` exactly where the value doesn't fit, `Memory` where the room was refused.
 pub fn spell(alloc: Global, value: &Value) -> Result<Vec<u8>, SpellError>
     ensures ok { IfOk result (λ bytes. Fits (tree_of value.now) × (bytes.items ≡ ben (tree_of value.now))) }
     ensures out_of_range { (result ≡ Err SpellError.OutOfRange) ↔ ¬ Fits (tree_of value.now) }

@@ -23,9 +23,13 @@ impl Model for ByteString {
 #[cycle(value)]
 #[derive(Debug, Drop)]
 pub enum Value {
+    /// An integer, from -2^63 to 2^63 - 1.
     Int(i64),
+    /// A byte string of any length; one of more than `MAX_STRING` bytes doesn't fit.
     Bytes(ByteString),
+    /// A list.
     List(Values),
+    /// A dictionary.
     Dict(Pairs),
 }
 
