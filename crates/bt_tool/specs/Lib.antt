@@ -1,0 +1,6 @@
+pub mod Counts
+pub mod Devices
+pub mod Lines
+pub mod Shown
+pub mod Walked
+pub mod Commands

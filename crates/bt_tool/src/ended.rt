@@ -1,0 +1,26 @@
+use bt_wire::Refusal;
+use thiserror::Error;
+
+/// How a stream ended: accepted, with its messages (the handshake not counted) and its bytes, or refused.
+#[derive(Clone, Copy, PartialEq, Eq, Debug)]
+pub enum Ended {
+    Accepted { messages: u64, bytes: u64 },
+    Refused(Refusal),
+}
+
+/// What kept a command from its work.
+#[derive(Clone, Copy, PartialEq, Eq, Debug, Error)]
+pub enum ToolFault {
+    /// A read failed.
+    #[error("read")]
+    Read,
+    /// A write failed, or took nothing.
+    #[error("write")]
+    Write,
+    /// A growth was refused.
+    #[error("memory")]
+    Memory,
+    /// 4,294,967,296 reads didn't reach the end.
+    #[error("turns")]
+    Turns,
+}
