@@ -11,6 +11,8 @@ mod memory;
 mod show;
 mod source;
 mod target;
+#[cfg(test)]
+mod tests;
 mod transfer;
 
 use crate::commands::{Command, asked, default_own, status};
@@ -30,11 +32,15 @@ fn words<R: Env + AllocGlobal>(rt: &R) -> io::Result<Vec<String>> {
 }
 
 fn main(rt: HostRuntime) -> ExitCode {
-    let Ok(words) = words(&rt) else {
-        let _ = eprintln!(rt; "fault: memory");
-        return ExitCode::from(3);
+    let command = match words(&rt) {
+        Ok(words) => asked(&words),
+        Err(error) if error.kind() == io::ErrorKind::OutOfMemory => {
+            let _ = eprintln!(rt; "fault: memory");
+            return ExitCode::from(3);
+        }
+        Err(_) => Command::Usage,
     };
-    if asked(&words) == Command::Usage {
+    if command == Command::Usage {
         let _ = eprintln!(rt; "usage: bt_tool [show]");
         return ExitCode::from(2);
     }
