@@ -2,6 +2,7 @@ pub mod Allowed
 pub mod ByName
 pub mod Entries
 pub mod MadeKinds
+pub mod MadeRight
 pub mod Names
 pub mod OneExt
 pub mod OneFault

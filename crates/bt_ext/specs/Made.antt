@@ -1,6 +1,9 @@
 -- The dictionaries that an end writes, with sorted keys (BEP 9, BEP 10).
-use Rattle.std.specs.Prelude.{ℕ, pos, ◌<◌, ◌^◌, Option, Some, None, codes}
+use Rattle.std.specs.Prelude.{ℕ, List, [], pos, ◌<◌, ◌^◌, Option, Some, None, codes}
 use Rattle.bt_bencode.specs.Trees.{Tree, integer, dictionary, Pairs, no_pairs, pair}
+use Rattle.bt_bencode.specs.declared.tree.Value.TheVariants as value
+use Rattle.bt_ext.specs.declared.ext.Ext.{Ext}
+use Rattle.bt_ext.specs.declared.ext.Ext.TheVariants as ext
 use Rattle.bt_ext.specs.declared.metadata.Kind.{Kind}
 use Rattle.bt_ext.specs.declared.metadata.Kind.TheVariants as kind
 
@@ -15,12 +18,20 @@ IsMade kind.Malformed = ⊥
 abbrev pub typed : ℕ → ℕ → Pairs → Pairs
 typed msg_type piece ps = pair (codes "msg_type") (integer (pos msg_type)) (pair (codes "piece") (integer (pos piece)) ps)
 
+abbrev pub message_pairs : Kind → Pairs
+message_pairs (kind.Request piece) = typed 0 piece no_pairs
+message_pairs (kind.Data piece total) = typed 1 piece (pair (codes "total_size") (integer (pos total)) no_pairs)
+message_pairs (kind.Reject piece) = typed 2 piece no_pairs
+message_pairs kind.Other = no_pairs
+message_pairs kind.Malformed = no_pairs
+
+-- the dictionary of a metadata message of the kind
 abbrev pub message_tree : Kind → Tree
-message_tree (kind.Request piece) = dictionary (typed 0 piece no_pairs)
-message_tree (kind.Data piece total) = dictionary (typed 1 piece (pair (codes "total_size") (integer (pos total)) no_pairs))
-message_tree (kind.Reject piece) = dictionary (typed 2 piece no_pairs)
-message_tree kind.Other = dictionary no_pairs
-message_tree kind.Malformed = dictionary no_pairs
+message_tree k = dictionary (message_pairs k)
+
+-- the message, with these bytes behind the dictionary
+abbrev pub message_of : Kind → List ℕ → Ext
+message_of k rest = ext.Metadata (value.Dict (message_pairs k)) rest
 
 -- `m` with the end's own id of `ut_metadata`, if it has one
 abbrev pub m_pairs : Option ℕ → Pairs
@@ -32,5 +43,11 @@ size_pairs None = no_pairs
 size_pairs (Some size) = pair (codes "metadata_size") (integer (pos size)) no_pairs
 
 -- the dictionary of an end's extended handshake: its id, and the size of the metadata that it serves
+abbrev pub handshake_pairs : Option ℕ → Option ℕ → Pairs
+handshake_pairs id size = pair (codes "m") (dictionary (m_pairs id)) (size_pairs size)
+
 abbrev pub handshake_tree : Option ℕ → Option ℕ → Tree
-handshake_tree id size = dictionary (pair (codes "m") (dictionary (m_pairs id)) (size_pairs size))
+handshake_tree id size = dictionary (handshake_pairs id size)
+
+abbrev pub handshake_of : Option ℕ → Option ℕ → Ext
+handshake_of id size = ext.Handshake (value.Dict (handshake_pairs id size)) []

@@ -58,8 +58,12 @@ pub struct Registered {
 impl Registered {
     /// Registers the id of `ut_metadata` (BEP 9), or none.
     pub fn new(metadata: Option<ExtId>) -> Registered
-        ensures { result.metadata ≡ metadata }
+        ensures { metadata_id result ≡ metadata }
     {
+        if let Some(id) = metadata {
+            let number = id.get();
+            prove!(number > 0);
+        }
         Registered { metadata }
     }
 

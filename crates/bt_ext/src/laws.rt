@@ -1,5 +1,5 @@
 //! Laws over the definitions alone.
-ghost use Rattle.bt_ext.specs.Laws.{OneExt, AllowedHasNoFault, OneFault, KindOfMade, EnteredByName, FirstPairTells, AppliedByName, TableStays};
+ghost use Rattle.bt_ext.specs.Laws.{OneExt, AllowedHasNoFault, OneFault, KindOfMade, MadeMessageIsRight, MadeHandshakeIsRight, MadeHandshakeTells, EnteredByName, FirstPairTells, AppliedByName, TableStays};
 
 /// An extended id and its payload are those of one value.
 pub fn one_ext()
@@ -19,6 +19,21 @@ pub fn one_fault()
 /// The dictionary that is written for a kind is of that kind.
 pub fn kind_of_made()
     ensures { KindOfMade }
+{}
+
+/// A metadata message that an end writes has a spelling, and the rules allow it if its block is right.
+pub fn made_message_is_right()
+    ensures { MadeMessageIsRight }
+{}
+
+/// An extended handshake that an end writes has a spelling, and the rules allow it.
+pub fn made_handshake_is_right()
+    ensures { MadeHandshakeIsRight }
+{}
+
+/// An extended handshake that an end writes tells the id and the size that it was made of.
+pub fn made_handshake_tells()
+    ensures { MadeHandshakeTells }
 {}
 
 /// Entering an id changes what its name has, and no other name's id.

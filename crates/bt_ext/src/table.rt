@@ -3,7 +3,7 @@ ghost use Rattle.std.specs.Prelude.{◌≡◌, ◌<◌, ◌≤◌, [], length, O
 ghost use Rattle.std.specs.Bool.{OnFalse};
 ghost use Rattle.bt_bencode.specs.Trees.{dictionary};
 ghost use Rattle.bt_bencode.specs.Views.{tree_of};
-ghost use Rattle.bt_ext.specs.Tables.{id_of_name, entered, entered_all, entries_of, applied, HoldsAt};
+ghost use Rattle.bt_ext.specs.Tables.{id_of_name, entered, entered_all, entries_of, applied, HoldsAt, IsTable};
 
 use crate::told::{told_of, told_of_ref};
 use bt_bencode::{ByteString, DictRef, Value};
@@ -140,6 +140,7 @@ impl Table {
     /// does nothing where 256 names are there. For want of memory the table stays as it was.
     pub fn apply(&mut self, dict: &Value) -> Result<(), AllocError>
         ensures ok { OnOk result (self.new ≡ applied (tree_of dict.now) self.old) }
+        ensures table { IsTable self.new }
         ensures memory { OnErr result (self.new ≡ self.old) }
     {
         let told = told_of(*self.entries.allocator(), dict)?;
@@ -149,6 +150,7 @@ impl Table {
     /// The same of a checked slice.
     pub fn apply_ref(&mut self, dict: &DictRef) -> Result<(), AllocError>
         ensures ok { OnOk result (self.new ≡ applied (dictionary dict.now.tree.0) self.old) }
+        ensures table { IsTable self.new }
         ensures memory { OnErr result (self.new ≡ self.old) }
     {
         let told = told_of_ref(*self.entries.allocator(), dict)?;
