@@ -1,15 +1,15 @@
 -- The laws, for the functions of `laws` and for crates above.
 use Rattle.std.proofs.Common.{List, ℕ, [], ◌++◌, ap, arith}
-use Rattle.bt_bencode.specs.Laws.{OneValue, NoneBegins, OneDictionary, OnePlace, SortedHasNone, UnsortedIsFirst, NoneIsMisplaced, BytesGoOn, FitsByNesting}
-use Rattle.bt_bencode.specs.Unique.{same_tree, in_range}
+use Rattle.bt_bencode.specs.Laws.{OneValue, NoneBegins, OneDictionary, OnePlace, SortedHasNone, UnsortedIsFirst, NoneIsMisplaced, BytesGoOn, ValuesFit}
+use Rattle.bt_bencode.specs.Unique.{same_tree}
 use Rattle.bt_bencode.proofs.Payloads as payloads
 use Rattle.bt_bencode.proofs.Rising.{sorted_of, none_of}
 use Rattle.bt_bencode.proofs.Least.{first_there, none_there}
 use Rattle.bt_bencode.proofs.Bytes as bytes
-use Rattle.bt_bencode.proofs.Nesting as nesting
+use Rattle.bt_bencode.proofs.Lookups as lookups
 
 pub none_begins : NoneBegins
-none_begins t u x y ht hu e = same_tree t u x y (in_range 32 t ht) (in_range 32 u hu) e
+none_begins t u x y ht hu e = same_tree t u x y ht.in_range hu.in_range e
 
 pub one_value : OneValue
 one_value t u ht hu e = (none_begins t u [] [] ht hu (ap (λ (x : List ℕ). x ++ []) e)).0
@@ -32,5 +32,5 @@ none_is_misplaced t n e h = none_there t e n h
 pub bytes_go_on : BytesGoOn
 bytes_go_on = bytes.bytes_go_on
 
-pub fits_by_nesting : FitsByNesting
-fits_by_nesting = nesting.fits_by_nesting
+pub values_fit : ValuesFit
+values_fit = lookups.values_fit

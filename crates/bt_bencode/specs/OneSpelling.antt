@@ -1,46 +1,13 @@
 -- A checked slice has one tree.
-use Rattle.std.specs.Prelude.{◌≡◌, ℕ, zero, suc, List, [], ◌∷◌, ◌++◌}
+use Rattle.std.specs.Prelude.{◌≡◌, ℕ, zero, suc, List, [], ◌∷◌, ◌++◌, ◌≤◌}
 use Rattle.std.specs.Coded.{×_prop, Unit-prop, le_prop, Coded-set, coded_list, coded_ℕ}
 use Rattle.std.proofs.Common.{ap, subst, sym, ◌∙◌}
 use Rattle.std.proofs.Props.{props}
-use Rattle.bt_bencode.specs.Trees.{Tree, integer, string, list, dictionary, Trees, no_trees, tree, Pairs, no_pairs, pair}
-use Rattle.bt_bencode.specs.Bencoding.{ben, ben_pairs, Fits, FitsIn, AllFitIn, PairsFitIn, Spells, InRange, AllInRange, PairsInRange, IsSpelling}
-use Rattle.bt_bencode.specs.Unique.{same_tree, same_pairs, in_range}
+use Rattle.bt_bencode.specs.Trees.{Tree, integer, string, list, dictionary, Trees, no_trees, tree, Pairs, no_pairs, pair, nesting}
+use Rattle.bt_bencode.specs.Bencoding.{ben, ben_pairs, Fits, Spells, InRange, AllInRange, PairsInRange, IsSpelling, deepest_nesting}
+use Rattle.bt_bencode.specs.Room.{FitsIn, AllFitIn, PairsFitIn}
+use Rattle.bt_bencode.specs.Unique.{same_tree, same_pairs}
 use Rattle.bt_bencode.specs.Readable.{SpellsPairs, ArePairs}
-
-mutual
-  pub FitsIn-prop : (room : ℕ) (t : Tree) → IsProp (FitsIn room t)
-  FitsIn-prop room (integer z) = hlevel props
-  FitsIn-prop room (string s) = le_prop
-  FitsIn-prop zero (list ts) = λ a b. absurd a
-  FitsIn-prop (suc room) (list ts) = AllFitIn-prop room ts
-  FitsIn-prop zero (dictionary ps) = λ a b. absurd a
-  FitsIn-prop (suc room) (dictionary ps) = PairsFitIn-prop room ps
-
-  pub AllFitIn-prop : (room : ℕ) (ts : Trees) → IsProp (AllFitIn room ts)
-  AllFitIn-prop room no_trees = Unit-prop
-  AllFitIn-prop room (tree t ts) = ×_prop (FitsIn-prop room t) (AllFitIn-prop room ts)
-
-  pub PairsFitIn-prop : (room : ℕ) (ps : Pairs) → IsProp (PairsFitIn room ps)
-  PairsFitIn-prop room no_pairs = Unit-prop
-  PairsFitIn-prop room (pair k t ps) = let here = FitsIn-prop room t in let there = PairsFitIn-prop room ps in hlevel (props, here, there)
-
-pub Spells-prop : (ps : Pairs) (bytes : List ℕ) → IsProp (Spells ps bytes)
-Spells-prop ps bytes = λ s t.
-    ap (λ (f : Fits (dictionary ps)). let r : Spells ps bytes = record { fits = f; spelled = s.spelled } in r) (FitsIn-prop 32 (dictionary ps) s.fits t.fits)
-    ∙ ap (λ (e : bytes ≡ ben (dictionary ps)). let r : Spells ps bytes = record { fits = t.fits; spelled = e } in r) (Coded-set (coded_list coded_ℕ) bytes (ben (dictionary ps)) s.spelled t.spelled)
-
-dictionary-inj : (ps qs : Pairs) → dictionary ps ≡ dictionary qs → ps ≡ qs
-dictionary-inj ps qs e = cc
-
-pub one_spelled : (bytes : List ℕ) (ps qs : Pairs) → Spells ps bytes → Spells qs bytes → ps ≡ qs
-one_spelled bytes ps qs s t =
-    dictionary-inj ps qs (same_tree (dictionary ps) (dictionary qs) [] [] (in_range 32 (dictionary ps) s.fits) (in_range 32 (dictionary qs) t.fits) (ap (λ (b : List ℕ). b ++ []) (sym s.spelled ∙ t.spelled))).0
-
-pub IsSpelling-prop : (bytes : List ℕ) → IsProp (IsSpelling bytes)
-IsSpelling-prop bytes = λ a b.
-    let P : Pairs → Type 0 = λ qs. (t : Spells qs bytes) → ◌≡◌ {A = IsSpelling bytes} a (qs, t) in
-    subst P (one_spelled bytes a.0 b.0 a.1 b.1) (λ t. ap (λ (s : Spells a.0 bytes). let r : IsSpelling bytes = (a.0, s) in r) (Spells-prop a.0 bytes a.1 t)) b.1
 
 mutual
   InRange-prop : (t : Tree) → IsProp (InRange t)
@@ -56,6 +23,28 @@ mutual
   PairsInRange-prop : (ps : Pairs) → IsProp (PairsInRange ps)
   PairsInRange-prop no_pairs = Unit-prop
   PairsInRange-prop (pair k t ps) = let here = InRange-prop t in let there = PairsInRange-prop ps in hlevel (props, here, there)
+
+Fits-prop : (t : Tree) → IsProp (Fits t)
+Fits-prop t = λ a b.
+    ap (λ (h : InRange t). let r : Fits t = record { in_range = h; nested = a.nested } in r) (InRange-prop t a.in_range b.in_range)
+    ∙ ap (λ (n : nesting t ≤ deepest_nesting). let r : Fits t = record { in_range = b.in_range; nested = n } in r) (le_prop a.nested b.nested)
+
+pub Spells-prop : (ps : Pairs) (bytes : List ℕ) → IsProp (Spells ps bytes)
+Spells-prop ps bytes = λ s t.
+    ap (λ (f : Fits (dictionary ps)). let r : Spells ps bytes = record { fits = f; spelled = s.spelled } in r) (Fits-prop (dictionary ps) s.fits t.fits)
+    ∙ ap (λ (e : bytes ≡ ben (dictionary ps)). let r : Spells ps bytes = record { fits = t.fits; spelled = e } in r) (Coded-set (coded_list coded_ℕ) bytes (ben (dictionary ps)) s.spelled t.spelled)
+
+dictionary-inj : (ps qs : Pairs) → dictionary ps ≡ dictionary qs → ps ≡ qs
+dictionary-inj ps qs e = cc
+
+pub one_spelled : (bytes : List ℕ) (ps qs : Pairs) → Spells ps bytes → Spells qs bytes → ps ≡ qs
+one_spelled bytes ps qs s t =
+    dictionary-inj ps qs (same_tree (dictionary ps) (dictionary qs) [] [] s.fits.in_range t.fits.in_range (ap (λ (b : List ℕ). b ++ []) (sym s.spelled ∙ t.spelled))).0
+
+pub IsSpelling-prop : (bytes : List ℕ) → IsProp (IsSpelling bytes)
+IsSpelling-prop bytes = λ a b.
+    let P : Pairs → Type 0 = λ qs. (t : Spells qs bytes) → ◌≡◌ {A = IsSpelling bytes} a (qs, t) in
+    subst P (one_spelled bytes a.0 b.0 a.1 b.1) (λ t. ap (λ (s : Spells a.0 bytes). let r : IsSpelling bytes = (a.0, s) in r) (Spells-prop a.0 bytes a.1 t)) b.1
 
 SpellsPairs-prop : (ps : Pairs) (bytes : List ℕ) → IsProp (SpellsPairs ps bytes)
 SpellsPairs-prop ps bytes = λ s t.

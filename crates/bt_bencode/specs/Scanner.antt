@@ -2,7 +2,8 @@
 -- (For the contracts of functions that are not public.)
 use Rattle.std.specs.Prelude.{◌≡◌, ◌⊎◌, ℕ, ◌+◌, ◌-◌, ◌*◌, ◌<◌, ◌≤◌, ◌^◌, List, [], ◌∷◌, ◌++◌, length, drop, Option, Some, None, ⊤}
 use Rattle.bt_bencode.specs.Trees.{Tree, Trees, Pairs}
-use Rattle.bt_bencode.specs.Bencoding.{ben, ben_all, ben_pairs, FitsIn, AllFitIn, PairsFitIn, longest_string, deepest_nesting}
+use Rattle.bt_bencode.specs.Bencoding.{ben, ben_all, ben_pairs, longest_string, deepest_nesting}
+use Rattle.bt_bencode.specs.Room.{FitsIn, AllFitIn, PairsFitIn}
 use Rattle.bt_bencode.specs.declared.scan.Container.{Container}
 use Rattle.bt_bencode.specs.declared.scan.Container.TheVariants as container
 use Rattle.bt_bencode.specs.declared.scan.Role.{Role}

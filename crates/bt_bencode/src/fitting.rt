@@ -1,6 +1,7 @@
 //! Which values fit. The functions here recurse by the value's nesting, and by no more than 33 levels.
 ghost use Rattle.std.specs.Prelude.{◌↔◌, IsTrue};
-ghost use Rattle.bt_bencode.specs.Bencoding.{Fits, FitsIn, AllFitIn, PairsFitIn};
+ghost use Rattle.bt_bencode.specs.Bencoding.{Fits};
+ghost use Rattle.bt_bencode.specs.Room.{FitsIn, AllFitIn, PairsFitIn};
 ghost use Rattle.bt_bencode.specs.Views.{tree_of};
 
 use crate::tree::{Pairs, Value, Values};

@@ -1,6 +1,6 @@
 -- What is left fits exactly if the whole does.
 use Rattle.std.proofs.Common.{◌↔◌, drop}
-use Rattle.bt_bencode.specs.Bencoding.{AllFitIn, PairsFitIn}
+use Rattle.bt_bencode.specs.Room.{AllFitIn, PairsFitIn}
 use Rattle.bt_bencode.specs.Views.{trees_of, pairs_of}
 use Rattle.bt_bencode.proofs.fitting.+fits.Given as goal
 
