@@ -3,7 +3,10 @@ pub mod RowLaws
 pub mod HeaderLaws
 pub mod PartLaws
 pub mod SpellLaws
+pub mod RuleLaws
+pub mod SpareLaws
 pub mod WindowLaws
+pub mod ValueLaws
 pub mod FrontLaws
 pub mod Differing
 pub mod StreamLaws

@@ -2,8 +2,8 @@
 use Rattle.std.proofs.Common.{◌≡◌, ℕ, ◌+◌, ◌^◌, ◌≤◌, ◌<◌, List, ◌∷◌, ◌++◌, length, take, drop, get_or, refl, sym, ap, ◌∙◌, arith, inl, inr}
 use Rattle.std.proofs.lemmas.Bool.{cases_lt}
 use Rattle.std.proofs.lemmas.List.{get_or_append_left, get_or-take, get_or-drop, get_or_past, length-take, take-append-drop, drop_more}
-use Rattle.std.proofs.lemmas.Nat.{be_bytes_4, from_be_bytes-to_be_bytes_4}
-use Rattle.bt_wire.specs.Numbers.{be32, number32, AreBytes}
+use Rattle.std.proofs.lemmas.Nat.{be_bytes_2, from_be_bytes-to_be_bytes_2, be_bytes_4, from_be_bytes-to_be_bytes_4}
+use Rattle.bt_wire.specs.Numbers.{be16, be32, number16, number32, AreBytes}
 
 pub AreBytes-drop : (n : ℕ) (bytes : List ℕ) → AreBytes bytes → AreBytes (drop n bytes)
 AreBytes-drop n bytes h i = rw get_or-drop (h (n + i))
@@ -42,3 +42,15 @@ header_parts w le fits =
 pub number32-append : (b r : List ℕ) → 4 ≤ length b → number32 (b ++ r) ≡ number32 b
 unfolding number32
 number32-append b r le = rw (get_or_append_left b r 0 0 (omega arith), get_or_append_left b r 0 1 (omega arith), get_or_append_left b r 0 2 (omega arith), get_or_append_left b r 0 3 (omega arith)) refl
+
+pub be16-number16 : (b : List ℕ) → length b ≡ 2 → AreBytes b → be16 (number16 b) ≡ b
+unfolding number16
+be16-number16 b len fits = be_bytes_2 b _ len fits refl
+
+pub number16-lt : (b : List ℕ) → AreBytes b → number16 b < 2 ^ 16
+unfolding number16
+number16-lt b fits = omega (arith, fits 0, fits 1)
+
+pub number16-be16 : (n : ℕ) → n < 2 ^ 16 → number16 (be16 n) ≡ n
+unfolding number16
+number16-be16 n lt = from_be_bytes-to_be_bytes_2 n lt

@@ -1,29 +1,85 @@
 -- The message that an id and the bytes behind it are has this id and these bytes.
-use Rattle.std.proofs.Common.{◌≡◌, ℕ, suc, ◌^◌, ◌<◌, true, eqb, List, [], ◌∷◌, length, Option, Some, None, refl, sym, ap, subst, ◌∙◌, arith, inl, inr}
+use Rattle.std.proofs.Common.{◌≡◌, ◌≢◌, ℕ, suc, ◌+◌, ◌^◌, ◌≤◌, ◌<◌, Bool, true, false, eqb, leb, List, [], ◌∷◌, ◌++◌, length, take, drop, Option, Some, None, refl, sym, ap, subst, ◌∙◌, arith, inl, inr, lit<}
 use Rattle.std.specs.List.{AllByRecursion}
-use Rattle.std.proofs.lemmas.Bool.{cases_eq, eqb-true, eq-eqb, ne_eqb}
+use Rattle.std.proofs.lemmas.Bool.{cases_eq, eqb-true, leb-true, eq-eqb, ne_eqb}
+use Rattle.std.proofs.lemmas.List.{nil_from_length, length-drop, drop-drop, take-append-drop, length-take}
+use Rattle.std.proofs.lemmas.Nat.{be_bytes_2, from_be_bytes-to_be_bytes_2}
 use Rattle.bt_wire.specs.declared.context.Context.{Context}
 use Rattle.bt_wire.specs.declared.ids.Kind.{Kind}
-use Rattle.bt_wire.specs.declared.message.Message.TheVariants as m
-use Rattle.bt_wire.specs.Numbers.{number32, AreBytes}
+use Rattle.bt_wire.specs.declared.ids.Shape.{Shape}
+use Rattle.bt_wire.specs.declared.ids.Shape.TheVariants.{Nothing, Index, Part, Block, Port, Field}
+use Rattle.bt_wire.specs.declared.message.Message.{Message}
+use Rattle.bt_wire.specs.Numbers.{be16, be32, number16, number32, AreBytes}
 use Rattle.bt_wire.specs.Ids.{Id, ids, row_in, kind_of}
+use Rattle.bt_wire.specs.Messages.{Fields, IsIdInRange, id_of, fields_of, spell_fields, AreInRange, IsShaped}
 use Rattle.bt_wire.specs.Faults.{allows, shape_size, size_of}
-use Rattle.bt_wire.specs.Parts.{known, named, made, IsPart}
-use Rattle.bt_wire.proofs.NumberLaws.{be32-number32, number32-lt}
+use Rattle.bt_wire.specs.Parts.{reading, known, named, made, IsPart}
+use Rattle.bt_wire.proofs.NumberLaws.{AreBytes-drop, AreBytes-take, be32-number32, number32-take, number32-lt, be16-number16, number16-lt}
 
--- bytes of a length that the row's shape allows are the fields of a message with this id
+-- ---- the fields that bytes are
+
+record IsReading (bytes : List ℕ) (f : Fields) : Type 0 where
+  pub spelled : spell_fields f ≡ bytes
+  pub in_range : AreInRange f
+
+-- four bytes, and the rest
+number_first : (b : List ℕ) → 4 ≤ length b → AreBytes b → be32 (number32 b) ++ drop 4 b ≡ b
+number_first b le fits =
+    let front : be32 (number32 b) ≡ take 4 b =
+    ap be32 (sym (number32-take 4 b (omega arith))) ∙ be32-number32 (take 4 b) (omega (arith, length-take 4 b)) (AreBytes-take 4 b fits) in
+    ap (λ (x : List ℕ). x ++ drop 4 b) front ∙ take-append-drop 4 b
+
+two_numbers : (b : List ℕ) → 8 ≤ length b → AreBytes b → be32 (number32 b) ++ (be32 (number32 (drop 4 b)) ++ drop 8 b) ≡ b
+two_numbers b le fits =
+    let second = number_first (drop 4 b) (omega (arith, length-drop 4 b)) (AreBytes-drop 4 b fits) in
+    ap (λ (x : List ℕ). be32 (number32 b) ++ (be32 (number32 (drop 4 b)) ++ x)) (sym (drop-drop 4 4 b)) ∙ ap (λ (x : List ℕ). be32 (number32 b) ++ x) second ∙ number_first b (omega arith) fits
+
+read_shape : (c : Context) (s : Shape) (bytes : List ℕ) → AreBytes bytes → allows (shape_size c s) (suc (length bytes)) ≡ true → IsReading bytes (reading s bytes)
+read_shape c Nothing bytes fits size = record { spelled = sym (nil_from_length bytes (omega (arith, eqb-true _ 1 size))); in_range = tt }
+read_shape c Index bytes fits size = record { spelled = be32-number32 bytes (omega (arith, eqb-true _ 5 size)) fits; in_range = number32-lt bytes fits }
+read_shape c Part bytes fits size =
+    let len : length bytes ≡ 12 = omega (arith, eqb-true _ 13 size) in
+    let last : be32 (number32 (drop 8 bytes)) ≡ drop 8 bytes = be32-number32 (drop 8 bytes) (omega (arith, length-drop 8 bytes)) (AreBytes-drop 8 bytes fits) in
+    record {
+      spelled = ap (λ (x : List ℕ). be32 (number32 bytes) ++ (be32 (number32 (drop 4 bytes)) ++ x)) last ∙ two_numbers bytes (omega arith) fits;
+      in_range = (number32-lt bytes fits, number32-lt (drop 4 bytes) (AreBytes-drop 4 bytes fits), number32-lt (drop 8 bytes) (AreBytes-drop 8 bytes fits));
+    }
+read_shape c Block bytes fits size =
+    record {
+      spelled = two_numbers bytes (omega (arith, leb-true 9 _ size)) fits;
+      in_range = (number32-lt bytes fits, number32-lt (drop 4 bytes) (AreBytes-drop 4 bytes fits), AreBytes-drop 8 bytes fits);
+    }
+read_shape c Port bytes fits size = record { spelled = be16-number16 bytes (omega (arith, eqb-true _ 3 size)) fits; in_range = number16-lt bytes fits }
+read_shape c Field bytes fits size = record { spelled = refl; in_range = fits }
+
+-- ---- the message of a row
+
+record IsNamed (c : Context) (n : ℕ) (f : Fields) (msg : Message) : Type 0 where
+  pub id : id_of msg ≡ Some n
+  pub fields : fields_of c msg ≡ f
+  pub shaped : IsShaped c msg
+
+-- the message with the row's number and fields of its shape has these
 abbrev IsGood : Id → Type 0
-IsGood i = (c : Context) (bytes : List ℕ) → AreBytes bytes → allows (shape_size c i.kind.shape) (suc (length bytes)) ≡ true → IsPart c i.number bytes (known i.number bytes)
-
-have_good : (c : Context) (bytes : List ℕ) → AreBytes bytes → eqb (suc (length bytes)) 5 ≡ true → IsPart c 4 bytes (m.Have (number32 bytes))
-have_good c bytes fits size = record {
-  spelled = ap (λ (x : List ℕ). 4 ∷ x) (be32-number32 bytes (omega (arith, eqb-true _ 5 size)) fits);
-  shaped = tt;
-  in_range = record { id = omega arith; fields = number32-lt bytes fits };
-}
+IsGood i = (c : Context) (bytes : List ℕ) → IsNamed c i.number (reading i.kind.shape bytes) (known i.number (reading i.kind.shape bytes)) × (i.number < 256)
 
 all_good : AllByRecursion IsGood ids
-all_good = (have_good, tt)
+all_good = (
+  (λ c bytes. (record { id = refl; fields = refl; shaped = tt }, lit< tt)), (
+  (λ c bytes. (record { id = refl; fields = refl; shaped = tt }, lit< tt)), (
+  (λ c bytes. (record { id = refl; fields = refl; shaped = tt }, lit< tt)), (
+  (λ c bytes. (record { id = refl; fields = refl; shaped = tt }, lit< tt)), (
+  (λ c bytes. (record { id = refl; fields = refl; shaped = tt }, lit< tt)), (
+  (λ c bytes. (record { id = refl; fields = refl; shaped = tt }, lit< tt)), (
+  (λ c bytes. (record { id = refl; fields = refl; shaped = tt }, lit< tt)), (
+  (λ c bytes. (record { id = refl; fields = refl; shaped = tt }, lit< tt)), (
+  (λ c bytes. (record { id = refl; fields = refl; shaped = tt }, lit< tt)), (
+  (λ c bytes. (record { id = refl; fields = refl; shaped = tt }, lit< tt)), (
+  (λ c bytes. (record { id = refl; fields = refl; shaped = tt }, lit< tt)), (
+  (λ c bytes. (record { id = refl; fields = refl; shaped = tt }, lit< tt)), (
+  (λ c bytes. (record { id = refl; fields = refl; shaped = tt }, lit< tt)), (
+  (λ c bytes. (record { id = refl; fields = refl; shaped = tt }, lit< tt)), (
+  (λ c bytes. (record { id = refl; fields = refl; shaped = tt }, lit< tt)), tt)))))))))))))))
 
 -- what holds of each row holds of the one that is found
 record IsFound (P : Id → Type 0) (n : ℕ) (i : Id) : Type 0 where
@@ -41,17 +97,33 @@ found_in P (j ∷ is) n i all e =
       | inr other ↦ found_in P is n i all.1 (rw (ne_eqb n j.number other) at e)
     ]
 
+part_of_row : (c : Context) (i : Id) (bytes : List ℕ) → IsGood i → AreBytes bytes → allows (shape_size c i.kind.shape) (suc (length bytes)) ≡ true → IsPart c i.number bytes (known i.number (reading i.kind.shape bytes))
+part_of_row c i bytes good fits size =
+    let f = reading i.kind.shape bytes in
+    let msg = known i.number f in
+    let named = (good c bytes).0 in
+    let read = read_shape c i.kind.shape bytes fits size in
+    let P : Option ℕ → Type 0 = λ o. IsIdInRange o in
+    let Q : Fields → Type 0 = λ x. AreInRange x in
+    record {
+      id = named.id;
+      fields = ap spell_fields named.fields ∙ read.spelled;
+      shaped = named.shaped;
+      in_range = record { id = subst P (sym named.id) (good c bytes).1; fields = subst Q (sym named.fields) read.in_range };
+    }
+
 part_in : (c : Context) (n : ℕ) (bytes : List ℕ) (o : Option Id) → row_in n ids ≡ o → n < 2 ^ 8 → AreBytes bytes → allows (size_of c n) (suc (length bytes)) ≡ true → IsPart c n bytes (made n bytes)
+unfolding made
 part_in c n bytes None e small fits size =
     let none : kind_of n ≡ None = rw e refl in
     let P : Option Kind → Type 0 = λ k. IsPart c n bytes (named k n bytes) in
-    subst P (sym none) (record { spelled = refl; shaped = rw e refl; in_range = record { id = small; fields = fits } })
+    subst P (sym none) (record { id = refl; fields = refl; shaped = rw e refl; in_range = record { id = small; fields = fits } })
 part_in c n bytes (Some i) e small fits size =
     let found = found_in IsGood ids n i all_good e in
     let some : kind_of n ≡ Some i.kind = rw e refl in
     let P : Option Kind → Type 0 = λ k. IsPart c n bytes (named k n bytes) in
-    let Q : ℕ → Type 0 = λ k. IsPart c k bytes (known k bytes) in
-    subst P (sym some) (subst Q (sym found.number) (found.holds c bytes fits (sym (rw e refl) ∙ size)))
+    let Q : ℕ → Type 0 = λ k. IsPart c k bytes (known k (reading i.kind.shape bytes)) in
+    subst P (sym some) (subst Q (sym found.number) (part_of_row c i bytes found.holds fits (sym (rw e refl) ∙ size)))
 
 pub part : (c : Context) (n : ℕ) (bytes : List ℕ) → n < 2 ^ 8 → AreBytes bytes → allows (size_of c n) (suc (length bytes)) ≡ true → IsPart c n bytes (made n bytes)
 part c n bytes small fits size = part_in c n bytes (row_in n ids) refl small fits size

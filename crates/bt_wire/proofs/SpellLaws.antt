@@ -1,20 +1,22 @@
 -- A spelling is read as the message that it is of, whatever follows, and none begins another.
-use Rattle.std.proofs.Common.{◌≡◌, ℕ, suc, ◌+◌, ◌^◌, ◌<◌, true, false, List, [], ◌++◌, length, take, drop, Option, Some, None, refl, sym, ap, ◌∙◌, arith}
+use Rattle.std.proofs.Common.{◌≡◌, ℕ, suc, ◌+◌, ◌^◌, ◌<◌, true, false, List, [], ◌++◌, length, take, drop, Option, Some, None, refl, sym, ap, subst, ◌∙◌, arith}
 use Rattle.std.specs.Prelude.{MatchOption, is_some}
 use Rattle.std.proofs.lemmas.Bool.{le-leb}
 use Rattle.std.proofs.lemmas.List.{append_assoc, length-append, take_at, drop_at}
 use Rattle.bt_wire.specs.declared.context.Context.{Context}
 use Rattle.bt_wire.specs.declared.context.Order.{Order}
 use Rattle.bt_wire.specs.declared.ids.Kind.{Kind}
+use Rattle.bt_wire.specs.declared.ids.Shape.{Shape}
+use Rattle.bt_wire.specs.declared.ids.Shape.TheVariants.{Nothing, Index, Part, Block, Port, Field}
 use Rattle.bt_wire.specs.declared.message.Message.{Message}
 use Rattle.bt_wire.specs.declared.message.Message.TheVariants as m
-use Rattle.bt_wire.specs.Numbers.{be32, number32}
-use Rattle.bt_wire.specs.Ids.{kind_of}
-use Rattle.bt_wire.specs.Messages.{id_of, fields_of, spell_fields, framed, body, spell, IsShaped, IsInRange}
-use Rattle.bt_wire.specs.Faults.{said_length, said_id, is_whole, window, window_length, allows, kind_size, size_of}
+use Rattle.bt_wire.specs.Numbers.{be16, be32, number16, number32, AreBytes}
+use Rattle.bt_wire.specs.Ids.{kind_of, shape_by}
+use Rattle.bt_wire.specs.Messages.{Fields, none, index, part, block, port, field, payload, kind_in, id_of, fields_of, spell_fields, framed, body, spell, IsShaped, IsInRange}
+use Rattle.bt_wire.specs.Faults.{said_length, said_id, is_whole, window, window_length}
 use Rattle.bt_wire.specs.Legal.{IsSaid}
-use Rattle.bt_wire.specs.Parts.{named, made}
-use Rattle.bt_wire.proofs.NumberLaws.{number32-be32}
+use Rattle.bt_wire.specs.Parts.{reading, known, named, made}
+use Rattle.bt_wire.proofs.NumberLaws.{number32-be32, number16-be16}
 use Rattle.bt_wire.proofs.HeaderLaws.{whole_there}
 
 pub length-spell : (c : Context) (m : Message) → length (spell c m) ≡ 4 + length (body c m)
@@ -57,11 +59,27 @@ body_made : Option ℕ → List ℕ → Message
 body_made None bytes = m.KeepAlive
 body_made (Some n) bytes = made n bytes
 
+read_part : (i b l : ℕ) → (i < 2 ^ 32) × (b < 2 ^ 32) × (l < 2 ^ 32) → reading Part (spell_fields (part i b l)) ≡ part i b l
+read_part i b l h = rw (number32-be32 i (be32 b ++ be32 l) h.0, number32-be32 b (be32 l) h.1, number32-be32 l [] h.2) refl
+
+read_block : (i b : ℕ) (bytes : List ℕ) → (i < 2 ^ 32) × (b < 2 ^ 32) × AreBytes bytes → reading Block (spell_fields (block i b bytes)) ≡ block i b bytes
+read_block i b bytes h = rw (number32-be32 i (be32 b ++ bytes) h.0, number32-be32 b bytes h.1) refl
+
+read_index : (i : ℕ) → i < 2 ^ 32 → reading Index (be32 i) ≡ index i
+read_index i h = ap index (number32-be32 i [] h)
+
 made-fields : (c : Context) (msg : Message) → IsShaped c msg → IsInRange c msg → body_made (id_of msg) (spell_fields (fields_of c msg)) ≡ msg
-unfolding body_made
-made-fields c m.KeepAlive shaped range = refl
-made-fields c (m.Have i) shaped range = ap m.Have (number32-be32 i [] range.fields)
+unfolding body_made made
+made-fields c (m.Have i) shaped range = ap (known 4) (read_index i range.fields)
+made-fields c (m.Request i b l) shaped range = ap (known 6) (read_part i b l range.fields)
+made-fields c (m.Piece i b bytes) shaped range = ap (known 7) (read_block i b bytes range.fields)
+made-fields c (m.Cancel i b l) shaped range = ap (known 8) (read_part i b l range.fields)
+made-fields c (m.Port p) shaped range = ap m.Port (number16-be16 p range.fields)
+made-fields c (m.Suggest i) shaped range = ap (known 13) (read_index i range.fields)
+made-fields c (m.Reject i b l) shaped range = ap (known 16) (read_part i b l range.fields)
+made-fields c (m.AllowedFast i) shaped range = ap (known 17) (read_index i range.fields)
 made-fields c (m.Unknown n bytes) shaped range = ap (λ (o : Option Kind). named o n bytes) (no_kind (kind_of n) shaped)
+made-fields c msg shaped range = refl
 
 -- the id and the fields of a body
 record HasParts (o p : Option ℕ) (x y : List ℕ) : Type 0 where
@@ -76,8 +94,7 @@ same_parts (Some n) (Some k) x y e f g = record { id = cc; fields = cc }
 
 no_fields : (c : Context) (msg : Message) → id_of msg ≡ None → spell_fields (fields_of c msg) ≡ []
 no_fields c m.KeepAlive e = refl
-no_fields c (m.Have i) e = absurd cc
-no_fields c (m.Unknown n bytes) e = absurd cc
+no_fields c msg e = absurd cc
 
 one_body : (c : Context) (k n : Message) → IsShaped c k → IsInRange c k → IsShaped c n → IsInRange c n → body c k ≡ body c n → k ≡ n
 one_body c k n ks kr ns nr e =
@@ -98,13 +115,25 @@ one_spelling c o p s t m n x y lt q r e =
       sym first.rest ∙ ap (λ (w : List ℕ). drop (window_length w) w) e ∙ second.rest,
     )
 
--- ---- each message has a length that its id allows
+-- ---- what the table of ids says of a message is what its value says
 
-unknown_size : (c : Context) (o : Option Kind) (n : ℕ) → is_some o ≡ false → allows (kind_size c o) (suc n) ≡ true
-unknown_size c None n e = le-leb 1 (suc n) (omega arith)
-unknown_size c (Some k) n e = absurd cc
+abbrev pub shape_in : Fields → Option Shape
+shape_in none = Some Nothing
+shape_in (index i) = Some Index
+shape_in (part i b l) = Some Part
+shape_in (block i b bytes) = Some Block
+shape_in (port p) = Some Port
+shape_in (field bits) = Some Field
+shape_in (payload bytes) = None
 
-pub right_size : (c : Context) (msg : Message) → IsShaped c msg → MatchOption (id_of msg) (Unit {0}) (λ n. allows (size_of c n) (length (body c msg)) ≡ true)
-right_size c m.KeepAlive shaped = tt
-right_size c (m.Have i) shaped = refl
-right_size c (m.Unknown n bytes) shaped = unknown_size c (kind_of n) (length bytes) shaped
+pub record IsRow (c : Context) (msg : Message) (n : ℕ) : Type 0 where
+  pub kind : kind_of n ≡ kind_in msg
+  pub shape : shape_by (kind_in msg) ≡ shape_in (fields_of c msg)
+
+row_of : (c : Context) (msg : Message) → IsShaped c msg → MatchOption (id_of msg) (Unit {0}) (IsRow c msg)
+row_of c m.KeepAlive shaped = tt
+row_of c (m.Unknown n bytes) shaped = record { kind = no_kind (kind_of n) shaped; shape = refl }
+row_of c msg shaped = record { kind = refl; shape = refl }
+
+pub right_row : (c : Context) (msg : Message) (n : ℕ) → IsShaped c msg → id_of msg ≡ Some n → IsRow c msg n
+right_row c msg n shaped e = let P : Option ℕ → Type 0 = λ o. MatchOption o (Unit {0}) (IsRow c msg) in subst P e (row_of c msg shaped)

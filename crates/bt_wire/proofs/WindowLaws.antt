@@ -1,8 +1,7 @@
 -- A window with no fault is the spelling of a message that may be sent, and such a spelling has no fault.
-use Rattle.std.proofs.Common.{◌≡◌, ℕ, suc, ◌^◌, ◌≤◌, ◌<◌, Bool, true, false, ltb, not, ◌&&◌, List, [], ◌∷◌, ◌++◌, map, length, drop, Option, Some, None, refl, sym, ap, subst, ◌∙◌, arith, inl, inr}
-use Rattle.std.specs.Prelude.{MatchOption}
-use Rattle.std.proofs.lemmas.Bool.{cases_lt, and_cases, and_right, cases_eq, ltb-false, leb-false, not-false, not_from_true, le-leb, lt-leb, le-ltb, lt-ltb}
-use Rattle.std.proofs.lemmas.List.{append-nil, length-drop, length-take-le, take_all}
+use Rattle.std.proofs.Common.{◌≡◌, ◌≢◌, ℕ, suc, ◌+◌, ◌^◌, ◌≤◌, ◌<◌, Bool, true, false, ltb, ◌&&◌, List, [], ◌∷◌, ◌++◌, map, length, drop, Option, Some, None, refl, sym, ap, subst, ◌∙◌, arith, inl, inr}
+use Rattle.std.proofs.lemmas.Bool.{cases_lt, and_cases, and_right, cases_eq, ltb-false, leb-false, le-leb, lt-leb, le-ltb, lt-ltb}
+use Rattle.std.proofs.lemmas.List.{append-nil, length-append, length-drop, length-take-le, take_all}
 use Rattle.bt_wire.specs.declared.context.Context.{Context}
 use Rattle.bt_wire.specs.declared.context.Order.{Order}
 use Rattle.bt_wire.specs.declared.fault.Fault.TheVariants as fault
@@ -11,16 +10,21 @@ use Rattle.bt_wire.specs.declared.fault.Refused.{Refused}
 use Rattle.bt_wire.specs.declared.message.Message.{Message}
 use Rattle.bt_wire.specs.declared.message.Message.TheVariants as m
 use Rattle.bt_wire.specs.Numbers.{be32, AreBytes}
-use Rattle.bt_wire.specs.Messages.{id_of, fields_of, framed, spell_fields, body, spell, IsShaped}
-use Rattle.bt_wire.specs.Faults.{said_length, said_id, has_length, has_id, is_whole, window, window_length, allows, size_of, id_rules, id_row, header_rows, header_fault, early_fault, IsWindowFault, in_fields, IsFault, early, unfinished, whole}
+use Rattle.bt_wire.specs.declared.ids.Kind.{Kind}
+use Rattle.bt_wire.specs.Ids.{kind_of, shape_by}
+use Rattle.bt_wire.specs.Messages.{Fields, id_of, fields_of, framed, spell_fields, body, spell, IsShaped, IsInRange}
+use Rattle.bt_wire.specs.Tables.{first_fault}
+use Rattle.bt_wire.specs.Faults.{said_length, said_id, has_length, has_id, is_whole, window, window_length, allows, size_of, is_strict, id_rules, id_row, header_rows, header_fault, early_fault, field_rows, IsWindowFault, in_fields, IsFault, early, unfinished, whole}
 use Rattle.bt_wire.specs.Legal.{IsLegal, IsSaid, Refuses}
 use Rattle.bt_wire.specs.Headers.{IsWindow, IsRead}
-use Rattle.bt_wire.specs.Parts.{made}
+use Rattle.bt_wire.specs.Rules.{broken_by}
+use Rattle.bt_wire.specs.Parts.{IsPart, made, broken_field}
 use Rattle.bt_wire.proofs.PartLaws.{part}
 use Rattle.bt_wire.proofs.NumberLaws.{AreBytes-drop, be32-number32, header_parts, number32-take}
 use Rattle.bt_wire.proofs.RowLaws.{NoneCounts, NoneCounts-from, first_fault-none}
 use Rattle.bt_wire.proofs.HeaderLaws.{none_by_id, id_empty, id_there, length_there, whole_there, whole_length, window-append, whole-append, header_stays, header_keeps, header-window}
-use Rattle.bt_wire.proofs.SpellLaws.{length-spell, said_length-spell, said_id-spell, spelled_first, right_size, fits}
+use Rattle.bt_wire.proofs.SpellLaws.{length-spell, said_length-spell, said_id-spell, spelled_first, fits, IsRow, right_row}
+use Rattle.bt_wire.proofs.RuleLaws.{rows_broken, IsUnbroken, unbroken, none_broken, legal_unbroken, AreKept, unbroken_kept, fields_rows, no_field_rows, fields_sound, sound_fields}
 
 -- ---- the start
 
@@ -50,13 +54,16 @@ within_limit c o w h =
       | inr e ↦ ltb-false _ _ e
     ]
 
-unless : (b x : Bool) → b ≡ true → (b && x) ≡ false → x ≡ false
-unless true x e h = h
-unless false x e h = absurd cc
+pub window_id : (c : Context) (o : Order) (w : List ℕ) → IsWindow c o w → 5 ≤ length w → has_id w ≡ true
+window_id c o w h long = id_there w long (λ e. absurd (omega (arith, e, h.exact, long)))
+
+-- the rules on the id are kept
+pub window_unbroken : (c : Context) (o : Order) (w : List ℕ) → IsWindow c o w → 5 ≤ length w → IsUnbroken c o (kind_of (said_id w)) (said_length w)
+window_unbroken c o w h long =
+    unbroken c o (kind_of (said_id w)) (said_length w) (sym (rows_broken c o w (window_id c o w h long)) ∙ first_fault-none (map (id_row c o w) id_rules) (none_in_header c o w h.header).1)
 
 pub sized : (c : Context) (o : Order) (w : List ℕ) → IsWindow c o w → 5 ≤ length w → allows (size_of c (said_id w)) (said_length w) ≡ true
-sized c o w h long =
-    not-false _ (unless (has_id w) (not (allows (size_of c (said_id w)) (said_length w))) (id_there w long (λ e. absurd (omega (arith, e, h.exact, long)))) (none_in_header c o w h.header).1.0)
+sized c o w h long = (window_unbroken c o w h long).sized
 
 -- the bytes of a message are those of the window
 spelled_is : (c : Context) (o : Order) (w : List ℕ) (m : Message) → AreBytes w → IsWindow c o w → 5 ≤ length w → body c m ≡ said_id w ∷ drop 5 w → spell c m ≡ w
@@ -64,69 +71,167 @@ spelled_is c o w m bytes h long e =
     let size : length (body c m) ≡ said_length w = ap length e ∙ omega (arith, h.exact, length-drop 5 w, long) in
     ap (λ (n : ℕ). be32 n ++ body c m) size ∙ ap (λ (x : List ℕ). be32 (said_length w) ++ x) e ∙ sym (header_parts w long bytes)
 
--- the message of the window's id and fields may be sent
-pub fields_read : (c : Context) (o : Order) (w : List ℕ) → AreBytes w → IsWindow c o w → 5 ≤ length w → IsRead c o w (made (said_id w) (drop 5 w))
-fields_read c o w bytes h long =
+-- what is known of the message of the window's id and fields
+pub record IsFound (c : Context) (o : Order) (w : List ℕ) (m : Message) : Type 0 where
+  pub its_part : IsPart c (said_id w) (drop 5 w) m
+  pub whole_body : body c m ≡ said_id w ∷ drop 5 w
+  pub row : IsRow c m (said_id w)
+  pub kept : AreKept c o m
+  pub short : length (body c m) ≤ c.limit
+  pub spelled : spell c m ≡ w
+
+pub fields_found : (c : Context) (o : Order) (w : List ℕ) → AreBytes w → IsWindow c o w → 5 ≤ length w → IsFound c o w (made (said_id w) (drop 5 w))
+fields_found c o w bytes h long =
+    let m = made (said_id w) (drop 5 w) in
     let size : suc (length (drop 5 w)) ≡ said_length w = omega (arith, length-drop 5 w, h.exact) in
     let p = part c (said_id w) (drop 5 w) (bytes 4) (AreBytes-drop 5 w bytes) (ap (allows (size_of c (said_id w))) size ∙ sized c o w h long) in
+    let all : body c m ≡ said_id w ∷ drop 5 w = ap (λ (i : Option ℕ). framed i (spell_fields (fields_of c m))) p.id ∙ ap (λ (x : List ℕ). said_id w ∷ x) p.fields in
+    let row = right_row c m (said_id w) p.shaped p.id in
+    let len : said_length w ≡ length (body c m) = sym (ap length all ∙ size) in
+    let P : ℕ → Type 0 = λ n. IsUnbroken c o (kind_of (said_id w)) n in
+    record {
+      its_part = p;
+      whole_body = all;
+      row = row;
+      kept = unbroken_kept c o m (said_id w) row p.id (subst P len (window_unbroken c o w h long));
+      short = omega (arith, within_limit c o w h, len);
+      spelled = spelled_is c o w m bytes h long all;
+    }
+
+-- the rows on the window's fields are the rules on the message's
+pub found_rows : (c : Context) (o : Order) (w : List ℕ) (m : Message) → IsWindow c o w → 5 ≤ length w → IsFound c o w m → first_fault (field_rows c w) ≡ broken_field c.pieces (said_length w) (fields_of c m)
+found_rows c o w m h long f =
+    fields_rows c w (fields_of c m) (window_id c o w h long) (ap shape_by f.row.kind ∙ f.row.shape) (sym f.its_part.fields) f.its_part.in_range.fields
+
+-- without a fault there it may be sent
+pub fields_read : (c : Context) (o : Order) (w : List ℕ) (m : Message) → IsWindow c o w → 5 ≤ length w → IsFound c o w m → broken_field c.pieces (said_length w) (fields_of c m) ≡ None → IsRead c o w m
+fields_read c o w m h long f none =
+    let sound = fields_sound c.pieces (said_length w) (fields_of c m) none in
     record {
       said = record {
-        in_range = p.in_range;
-        legal = record { shaped = p.shaped; short = omega (arith, within_limit c o w h, h.exact, length-drop 5 w, ap length p.spelled, long) };
+        in_range = f.its_part.in_range;
+        legal = record {
+          shaped = f.its_part.shaped;
+          short = f.short;
+          agreed = f.kept.agreed;
+          indexed = sound.indexed;
+          sized = f.kept.sized;
+          spare = sound.spare;
+          known = f.kept.known;
+          in_time = f.kept.in_time;
+          opened = f.kept.opened;
+        };
         start = omega arith;
       };
-      spelled = spelled_is c o w (made (said_id w) (drop 5 w)) bytes h long p.spelled;
+      spelled = f.spelled;
     }
+
+-- with one that is the window's fault
+pub window_fault : (c : Context) (o : Order) (w : List ℕ) (m : Message) (f : Refused) → IsWindow c o w → 5 ≤ length w → IsFound c o w m → broken_field c.pieces (said_length w) (fields_of c m) ≡ Some f → IsFault c o 0 w (Some f)
+window_fault c o w m f h long p broken =
+    let same : window w ≡ w = take_all (window_length w) w (omega (arith, h.exact)) in
+    whole (early_header c o 0 w (omega arith) ∙ h.header) (whole_there w (omega (arith, h.exact)))
+        (in_fields (sym (ap (λ (x : List ℕ). first_fault (field_rows c x)) same ∙ found_rows c o w m h long p ∙ broken)))
+
+-- the fault of the fields that a call gave
+pub same_fields : (c : Context) (k n : ℕ) (f : Fields) (a b : Message) (r : Option Refused) → k ≡ n → f ≡ fields_of c a → a ≡ b → r ≡ broken_field c.pieces k f → broken_field c.pieces n (fields_of c b) ≡ r
+same_fields c k n f a b r size fields same e =
+    ap (λ (i : ℕ). broken_field c.pieces i (fields_of c b)) (sym size) ∙ ap (λ (x : Message). broken_field c.pieces k (fields_of c x)) (sym same) ∙ ap (broken_field c.pieces k) (sym fields) ∙ sym e
+
+pub never : (b : Bool) → (b && false) ≡ false
+never true = refl
+never false = refl
 
 pub keep_alive_read : (c : Context) (o : Order) (w : List ℕ) → AreBytes w → IsWindow c o w → said_length w ≡ 0 → IsRead c o w m.KeepAlive
 keep_alive_read c o w bytes h e =
     record {
-      said = record { in_range = record { id = tt; fields = tt }; legal = record { shaped = tt; short = omega arith }; start = omega arith };
+      said = record {
+        in_range = record { id = tt; fields = tt };
+        legal = record { shaped = tt; short = omega arith; agreed = refl; indexed = tt; sized = tt; spare = tt; known = never (is_strict c); in_time = never (is_strict c); opened = never (is_strict c) };
+        start = omega arith;
+      };
       spelled = ap be32 (sym e) ∙ be32-number32 w (omega (arith, h.exact, e)) bytes;
     }
 
--- a whole window with no fault is the spelling of a message that may be sent
+-- ---- a whole window with no fault is the spelling of a message that may be sent
+
+none_in_fields : (c : Context) (o : Order) (w : List ℕ) → IsWindow c o w → is_whole w ≡ true → window w ≡ w → IsFault c o 0 w None → first_fault (field_rows c w) ≡ None
+none_in_fields c o w h all same (early g e p) = absurd cc
+none_in_fields c o w h all same (unfinished e part p) = absurd cc
+none_in_fields c o w h all same (whole e there (in_fields p)) = ap (λ (x : List ℕ). first_fault (field_rows c x)) (sym same) ∙ sym p
+
 pub window_read : (c : Context) (o : Order) (w : List ℕ) → AreBytes w → IsWindow c o w → IsFault c o 0 w None → (m : Message) × IsRead c o w m
 window_read c o w bytes h none =
     elim (cases_eq (said_length w) 0) [
       | inl empty ↦ (m.KeepAlive, keep_alive_read c o w bytes h empty)
-      | inr some ↦ (made (said_id w) (drop 5 w), fields_read c o w bytes h (omega (arith, some, h.exact)))
+      | inr some ↦
+          let long : 5 ≤ length w = omega (arith, some, h.exact) in
+          let all = whole_there w (omega (arith, h.exact)) in
+          let same : window w ≡ w = take_all (window_length w) w (omega (arith, h.exact)) in
+          let f = fields_found c o w bytes h long in
+          (made (said_id w) (drop 5 w), fields_read c o w (made (said_id w) (drop 5 w)) h long f (sym (found_rows c o w (made (said_id w) (drop 5 w)) h long f) ∙ none_in_fields c o w h all same none))
     ]
 
 -- ---- what may be sent has no fault
 
-id_rows_quiet : (c : Context) (o : Order) (m : Message) (r : List ℕ) (n : ℕ) → IsLegal c o m → length (body c m) < 2 ^ 32 → id_of m ≡ Some n → NoneCounts (map (id_row c o (spell c m ++ r)) id_rules)
-id_rows_quiet c o m r n legal lt e =
+pub no_body : (c : Context) (m : Message) → id_of m ≡ None → length (body c m) ≡ 0
+no_body c m e = ap (λ (o : Option ℕ). length (framed o (spell_fields (fields_of c m)))) e
+
+id_spell : (c : Context) (m : Message) (r : List ℕ) (n : ℕ) → length (body c m) < 2 ^ 32 → id_of m ≡ Some n → has_id (spell c m ++ r) ≡ true
+id_spell c m r n lt e =
+    let some : length (body c m) ≡ suc (length (spell_fields (fields_of c m))) = ap (λ (o : Option ℕ). length (framed o (spell_fields (fields_of c m)))) e in
+    id_there (spell c m ++ r) (omega (arith, length-append (spell c m) r, length-spell c m, some)) (λ z. absurd (omega (arith, said_length-spell c m r lt, some, z)))
+
+-- the rules on the id of a spelling are those on the value's
+pub broken-spell : (c : Context) (o : Order) (m : Message) (r : List ℕ) (n : ℕ) → length (body c m) < 2 ^ 32 → id_of m ≡ Some n → first_fault (map (id_row c o (spell c m ++ r)) id_rules) ≡ broken_by c o (kind_of n) (length (body c m))
+broken-spell c o m r n lt e =
+    rows_broken c o (spell c m ++ r) (id_spell c m r n lt e) ∙ ap (λ (i : ℕ). broken_by c o (kind_of i) (said_length (spell c m ++ r))) (said_id-spell c m r n e) ∙ ap (broken_by c o (kind_of n)) (said_length-spell c m r lt)
+
+id_part : (c : Context) (o : Order) (m : Message) (r : List ℕ) (i : Option ℕ) → IsLegal c o m → length (body c m) < 2 ^ 32 → id_of m ≡ i → first_fault (map (id_row c o (spell c m ++ r)) id_rules) ≡ None
+id_part c o m r None legal lt e = first_fault-none (map (id_row c o (spell c m ++ r)) id_rules) (none_by_id c o (spell c m ++ r) id_rules (id_empty (spell c m ++ r) (said_length-spell c m r lt ∙ no_body c m e)))
+id_part c o m r (Some n) legal lt e =
+    broken-spell c o m r n lt e ∙ none_broken c o (kind_of n) (length (body c m)) (legal_unbroken c o m n (right_row c m n legal.shaped e) e legal)
+
+short_header : (c : Context) (o : Order) (b : List ℕ) → (has_length b && ltb c.limit (said_length b)) ≡ false → header_fault c o b ≡ first_fault (map (id_row c o b) id_rules)
+unfolding header_fault
+short_header c o b e = rw e refl
+
+pub limited-spell : (c : Context) (o : Order) (m : Message) (r : List ℕ) → length (body c m) < 2 ^ 32 → length (body c m) ≤ c.limit → header_fault c o (spell c m ++ r) ≡ first_fault (map (id_row c o (spell c m ++ r)) id_rules)
+limited-spell c o m r lt short =
     let w = spell c m ++ r in
-    let id = said_id-spell c m r n e in
-    let said = said_length-spell c m r lt in
-    let P : Option ℕ → Type 0 = λ i. MatchOption i (Unit {0}) (λ k. allows (size_of c k) (length (body c m)) ≡ true) in
-    let right : allows (size_of c n) (length (body c m)) ≡ true = subst P e (right_size c m legal.shaped) in (
-      and_right (has_id w) (not (allows (size_of c (said_id w)) (said_length w))) (not_from_true (allows (size_of c (said_id w)) (said_length w)) (ap (λ (k : ℕ). allows (size_of c k) (said_length w)) id ∙ ap (allows (size_of c n)) said ∙ right)),
-      tt,
-    )
-
-no_body : (c : Context) (m : Message) (r : List ℕ) → id_of m ≡ None → length (body c m) ≡ 0
-no_body c m r e = ap (λ (o : Option ℕ). length (framed o (spell_fields (fields_of c m)))) e
-
-id_part : (c : Context) (o : Order) (m : Message) (r : List ℕ) (i : Option ℕ) → IsLegal c o m → length (body c m) < 2 ^ 32 → id_of m ≡ i → NoneCounts (map (id_row c o (spell c m ++ r)) id_rules)
-id_part c o m r None legal lt e = none_by_id c o (spell c m ++ r) id_rules (id_empty (spell c m ++ r) (said_length-spell c m r lt ∙ no_body c m r e))
-id_part c o m r (Some n) legal lt e = id_rows_quiet c o m r n legal lt e
+    short_header c o w (and_right (has_length w) (ltb c.limit (said_length w)) (le-ltb c.limit (said_length w) (omega (arith, said_length-spell c m r lt, short))))
 
 pub header-spell : (c : Context) (o : Order) (m : Message) (r : List ℕ) → c.limit < 2 ^ 32 → IsLegal c o m → header_fault c o (spell c m ++ r) ≡ None
-unfolding header_fault
-header-spell c o m r lt legal =
-    let w = spell c m ++ r in
-    let says : said_length w ≡ length (body c m) = said_length-spell c m r (omega (arith, legal.short)) in
-    first_fault-none (header_rows c o w) (
-      and_right (has_length w) (ltb c.limit (said_length w)) (le-ltb c.limit (said_length w) (omega (arith, says, legal.short))),
-      id_part c o m r (id_of m) legal (omega (arith, legal.short)) refl,
-    )
+header-spell c o m r lt legal = limited-spell c o m r (omega (arith, legal.short)) legal.short ∙ id_part c o m r (id_of m) legal (omega (arith, legal.short)) refl
+
+-- the rules on the fields of a spelling are those on the value's
+empty_sound : (c : Context) (m : Message) → id_of m ≡ None → broken_field c.pieces (length (body c m)) (fields_of c m) ≡ None
+empty_sound c m.KeepAlive e = refl
+empty_sound c msg e = absurd cc
+
+rows_by : (c : Context) (m : Message) (i : Option ℕ) → IsShaped c m → IsInRange c m → length (body c m) < 2 ^ 32 → id_of m ≡ i → first_fault (field_rows c (spell c m)) ≡ broken_field c.pieces (length (body c m)) (fields_of c m)
+rows_by c m None shaped range lt e =
+    let w = spell c m in
+    let says : said_length w ≡ length (body c m) = ap said_length (sym (append-nil w)) ∙ said_length-spell c m [] lt in
+    no_field_rows c w (id_empty w (says ∙ no_body c m e)) ∙ sym (empty_sound c m e)
+rows_by c m (Some n) shaped range lt e =
+    let w = spell c m in
+    let row = right_row c m n shaped e in
+    let says : said_length w ≡ length (body c m) = ap said_length (sym (append-nil w)) ∙ said_length-spell c m [] lt in
+    let there : has_id w ≡ true = ap has_id (sym (append-nil w)) ∙ id_spell c m [] n lt e in
+    let id : said_id w ≡ n = ap said_id (sym (append-nil w)) ∙ said_id-spell c m [] n e in
+    let bytes : drop 5 w ≡ spell_fields (fields_of c m) = ap (λ (o : Option ℕ). drop 5 (be32 (length (body c m)) ++ framed o (spell_fields (fields_of c m)))) e in
+    fields_rows c w (fields_of c m) there (ap (λ (k : ℕ). shape_by (kind_of k)) id ∙ ap shape_by row.kind ∙ row.shape) bytes range.fields ∙ ap (λ (k : ℕ). broken_field c.pieces k (fields_of c m)) says
+
+pub rows-spell : (c : Context) (m : Message) → IsShaped c m → IsInRange c m → length (body c m) < 2 ^ 32 → first_fault (field_rows c (spell c m)) ≡ broken_field c.pieces (length (body c m)) (fields_of c m)
+rows-spell c m shaped range lt = rows_by c m (id_of m) shaped range lt refl
 
 pub fault-spell : (c : Context) (o : Order) (s : ℕ) (m : Message) (r : List ℕ) → c.limit < 2 ^ 32 → IsSaid c o s m → IsFault c o s (spell c m ++ r) None
 fault-spell c o s m r lt said =
     let first = spelled_first c m r (fits c o s m lt said) in
-    whole (early_header c o s (spell c m ++ r) said.start ∙ header-spell c o m r lt said.legal) first.whole (in_fields refl)
+    let sound = sound_fields c.pieces (length (body c m)) (fields_of c m) said.legal.indexed said.legal.spare in
+    whole (early_header c o s (spell c m ++ r) said.start ∙ header-spell c o m r lt said.legal) first.whole
+        (in_fields (sym (ap (λ (x : List ℕ). first_fault (field_rows c x)) first.window ∙ rows-spell c m said.legal.shaped said.in_range (fits c o s m lt said) ∙ sound)))
 
 -- ---- bytes have one fault, which stays
 

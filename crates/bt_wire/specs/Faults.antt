@@ -1,15 +1,22 @@
 -- The faults of the message that begins a byte list, as a table over the bytes.
-use Rattle.std.specs.Prelude.{◌≡◌, ◌==◌, ℕ, ◌+◌, ◌^◌, Bool, true, false, not, ◌&&◌, List, [], ◌∷◌, map, length, take, slice_index, nat_lt, nat_le, Option, Some, None, if◌then◌else◌}
+use Rattle.std.specs.Prelude.{◌≡◌, ◌==◌, ℕ, ◌+◌, ◌^◌, Bool, true, false, not, ◌&&◌, List, [], ◌∷◌, map, length, take, drop, slice_index, nat_lt, nat_le, Option, Some, None, if◌then◌else◌}
 use Rattle.bt_wire.specs.declared.context.Context.{Context}
 use Rattle.bt_wire.specs.declared.context.Order.{Order}
 use Rattle.bt_wire.specs.declared.fault.Reason.{Reason}
-use Rattle.bt_wire.specs.declared.fault.Reason.TheVariants.{TooLong, WrongLength, StreamFull}
+use Rattle.bt_wire.specs.declared.fault.Reason.TheVariants.{TooLong, UnknownId, NotNegotiated, WrongLength, BadIndex, SpareBits, Late, Missing, StreamFull}
 use Rattle.bt_wire.specs.declared.fault.Refused.{Refused}
 use Rattle.bt_wire.specs.declared.ids.Kind.{Kind}
 use Rattle.bt_wire.specs.declared.ids.Shape.{Shape}
-use Rattle.bt_wire.specs.declared.ids.Shape.TheVariants.{Index}
+use Rattle.bt_wire.specs.declared.ids.Shape.TheVariants.{Nothing, Index, Part, Block, Port, Field}
+use Rattle.bt_wire.specs.declared.ids.Needs.{Needs}
+use Rattle.bt_wire.specs.declared.ids.Needs.TheVariants.{Neither, Fast}
+use Rattle.bt_wire.specs.declared.ids.Turn.{Turn}
+use Rattle.bt_wire.specs.declared.ids.Turn.TheVariants.{Apart, Counted, Opening}
+use Rattle.bt_ext.specs.declared.ids.Rules.TheVariants.{Free, Bep}
+use Rattle.bt_wire.specs.declared.context.Order.TheVariants.{Fresh, Past}
+use Rattle.bt_wire.specs.Bitfields.{field_bytes, has_spare}
 use Rattle.bt_wire.specs.Numbers.{number32}
-use Rattle.bt_wire.specs.Ids.{kind_of}
+use Rattle.bt_wire.specs.Ids.{kind_of, has_meaning, shape_by}
 use Rattle.bt_wire.specs.Tables.{Row, row, first_fault}
 
 -- ---- what the bytes of a message say
@@ -38,7 +45,7 @@ window_length b = 4 + said_length b
 abbrev pub window : List ℕ → List ℕ
 window b = take (window_length b) b
 
--- ---- how long a message may be, its id counted
+-- ---- what the rules ask of an id
 
 pub data Size : Type 0 where
   Exactly : ℕ → Size
@@ -48,15 +55,77 @@ abbrev pub allows : Size → ℕ → Bool
 allows (Exactly n) length = length == n
 allows (AtLeast n) length = nat_le n length
 
-abbrev pub shape_size : Context → Shape → Size
-shape_size c Index = Exactly 5
+-- a bitfield has a bit for each piece, where their count is known
+abbrev pub field_size : Option ℕ → Size
+field_size None = AtLeast 1
+field_size (Some pieces) = Exactly (1 + field_bytes pieces)
 
-abbrev pub kind_size : Context → Option Kind → Size
-kind_size c None = AtLeast 1
-kind_size c (Some k) = shape_size c k.shape
+-- how long a message may be, its id counted
+abbrev pub shape_size : Context → Shape → Size
+shape_size c Nothing = Exactly 1
+shape_size c Index = Exactly 5
+shape_size c Part = Exactly 13
+shape_size c Block = AtLeast 9
+shape_size c Port = Exactly 3
+shape_size c Field = field_size c.pieces
+
+abbrev pub size_by : Context → Option Shape → Size
+size_by c None = AtLeast 1
+size_by c (Some shape) = shape_size c shape
 
 abbrev pub size_of : Context → ℕ → Size
-size_of c n = kind_size c (kind_of n)
+size_of c n = size_by c (shape_by (kind_of n))
+
+abbrev pub is_strict : Context → Bool
+is_strict c = elim c.rules [ Free ↦ false | Bep ↦ true ]
+
+-- whether both ends have agreed on the extension that a message of this kind needs
+abbrev pub has_needs : Context → Needs → Bool
+has_needs c Neither = true
+has_needs c Fast = c.fast
+
+abbrev pub is_agreed : Context → Option Kind → Bool
+is_agreed c None = true
+is_agreed c (Some k) = has_needs c k.needs
+
+abbrev pub is_fresh : Order → Bool
+is_fresh Fresh = true
+is_fresh Past = false
+
+-- BEP 3: "The bitfield message may only be sent immediately after the handshaking sequence is completed, and before any
+-- other messages are sent." BEP 6: one of bitfield, have all and have none must be sent then. By this profile port and
+-- extended messages and keep-alives don't count.
+abbrev pub is_late : Order → Option Kind → Bool
+is_late o None = false
+is_late o (Some k) = elim k.turn [ Apart ↦ false | Counted ↦ false | Opening ↦ not (is_fresh o) ]
+
+abbrev pub is_missing : Context → Order → Option Kind → Bool
+is_missing c o None = false
+is_missing c o (Some k) = elim k.turn [ Apart ↦ false | Counted ↦ c.fast && is_fresh o | Opening ↦ false ]
+
+-- whether the piece count is known and the index isn't below it
+abbrev pub is_beyond : Option ℕ → ℕ → Bool
+is_beyond None index = false
+is_beyond (Some pieces) index = nat_le pieces index
+
+-- the shapes whose fields begin with a piece index
+abbrev pub has_index : Option Shape → Bool
+has_index None = false
+has_index (Some Nothing) = false
+has_index (Some Index) = true
+has_index (Some Part) = true
+has_index (Some Block) = true
+has_index (Some Port) = false
+has_index (Some Field) = false
+
+abbrev pub is_field : Option Shape → Bool
+is_field None = false
+is_field (Some Nothing) = false
+is_field (Some Index) = false
+is_field (Some Part) = false
+is_field (Some Block) = false
+is_field (Some Port) = false
+is_field (Some Field) = true
 
 -- ---- the table, in the order in which faults count
 
@@ -72,7 +141,11 @@ id_rule reason at condition = record { reason = reason; at = at; condition = con
 
 abbrev pub id_rules : List IdRule
 id_rules =
-    id_rule WrongLength 0 (λ c o id length. not (allows (size_of c id) length))
+    id_rule UnknownId 4 (λ c o id length. is_strict c && not (has_meaning id))
+    ∷ id_rule NotNegotiated 4 (λ c o id length. not (is_agreed c (kind_of id)))
+    ∷ id_rule WrongLength 0 (λ c o id length. not (allows (size_of c id) length))
+    ∷ id_rule Late 4 (λ c o id length. is_strict c && is_late o (kind_of id))
+    ∷ id_rule Missing 4 (λ c o id length. is_strict c && is_missing c o (kind_of id))
     ∷ []
 
 abbrev pub id_row : Context → Order → List ℕ → IdRule → Row
@@ -84,7 +157,10 @@ header_rows c o b = row TooLong 0 (has_length b) (nat_lt c.limit (said_length b)
 
 -- what is judged by the fields of the whole message w
 abbrev pub field_rows : Context → List ℕ → List Row
-field_rows c w = []
+field_rows c w =
+    row BadIndex 5 (has_id w) (has_index (shape_by (kind_of (said_id w))) && is_beyond c.pieces (number32 (drop 5 w)))
+    ∷ row SpareBits (3 + said_length w) (has_id w) (is_field (shape_by (kind_of (said_id w))) && has_spare c.pieces (drop 5 w))
+    ∷ []
 
 unfoldable pub header_fault : Context → Order → List ℕ → Option Refused
 header_fault c o b = first_fault (header_rows c o b)

@@ -1,5 +1,6 @@
 -- The handshake (BEP 3, "peer protocol"), and what two ends agree on by it.
-use Rattle.std.specs.Prelude.{◌≡◌, ◌==◌, ℕ, ◌+◌, ◌<◌, ◌^◌, Bool, true, false, not, List, [], ◌∷◌, ◌++◌, length, take, drop, nat_le, Option, Some, None, is_some, unwrap_or, option_map, codes, if◌then◌else◌}
+use Rattle.std.specs.Prelude.{◌≡◌, ◌==◌, ℕ, ◌+◌, ◌<◌, ◌^◌, Bool, true, false, not, ◌&&◌, List, [], ◌∷◌, ◌++◌, length, take, drop, nat_le, Option, Some, None, is_some, unwrap_or, option_map, codes, if◌then◌else◌}
+use Rattle.std.specs.Int.RustNames.{bit_and}
 use Rattle.std.specs.Str.{bytes_eq}
 use Rattle.bt_wire.specs.declared.context.Context.{Context}
 use Rattle.bt_wire.specs.declared.context.Own.{Own}
@@ -50,6 +51,15 @@ hand_rows own b =
 unfoldable pub hand_fault : Own → List ℕ → Option Refused
 hand_fault own b = first_fault (hand_rows own b)
 
+-- BEP 6: "reserved_byte[7] & 0x04" says that an end knows the Fast Extension
+abbrev pub sets_fast : Reserved → Bool
+sets_fast r = bit_and r.0 4 == 4
+
 -- what both ends have agreed on, as the receiver judges by it
 abbrev pub negotiated : Own → Reserved → Context
-negotiated own peer = record { limit = own.limit }
+negotiated own peer = record {
+  fast = sets_fast own.reserved && sets_fast peer;
+  pieces = own.pieces;
+  rules = own.rules;
+  limit = own.limit
+}

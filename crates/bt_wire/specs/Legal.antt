@@ -1,5 +1,5 @@
 -- When a message may be sent, and what its value is refused for.
-use Rattle.std.specs.Prelude.{◌≡◌, ℕ, ◌≤◌, ◌<◌, ◌^◌, length, Some, Result, Ok, Err, ◌⊎◌}
+use Rattle.std.specs.Prelude.{◌≡◌, ℕ, suc, ◌≤◌, ◌<◌, ◌^◌, true, false, ◌&&◌, IfSome, length, Some, Result, Ok, Err, ◌⊎◌}
 use Rattle.std.specs.Global.{Vec}
 use Rattle.bt_wire.specs.declared.context.Context.{Context}
 use Rattle.bt_wire.specs.declared.context.Order.{Order}
@@ -10,13 +10,24 @@ use Rattle.bt_wire.specs.declared.fault.Reason.{Reason}
 use Rattle.bt_wire.specs.declared.fault.Reason.TheVariants.{TooLong}
 use Rattle.bt_wire.specs.declared.fault.EncodeError.{EncodeError}
 use Rattle.bt_wire.specs.declared.fault.EncodeError.TheVariants as encode
-use Rattle.bt_wire.specs.Messages.{body, spell, IsShaped, IsInRange}
-use Rattle.bt_wire.specs.Faults.{IsFault}
+use Rattle.bt_wire.specs.Bitfields.{has_spare}
+use Rattle.bt_wire.specs.Messages.{body, spell, fields_of, kind_in, index_in, field_in, is_payload, IsShaped, IsInRange}
+use Rattle.bt_wire.specs.Faults.{IsFault, allows, field_size, is_agreed, is_beyond, is_strict, is_late, is_missing}
 
--- it has a spelling of its own, and that isn't above the limit
+-- it has a spelling of its own, that isn't above the limit; both ends have agreed on the extension that it needs; where the
+-- piece count is known, its piece index is below it, and a bitfield has a bit for each piece and no other that is 1; and
+-- under the strict rules its id has a meaning, and bitfield, have all and have none come first, as they do where the Fast
+-- Extension is on
 pub record IsLegal (c : Context) (o : Order) (m : Message) : Type 0 where
   pub shaped : IsShaped c m
   pub short : length (body c m) ≤ c.limit
+  pub agreed : is_agreed c (kind_in m) ≡ true
+  pub indexed : IfSome (index_in (fields_of c m)) (λ index. is_beyond c.pieces index ≡ false)
+  pub sized : IfSome (field_in (fields_of c m)) (λ bits. allows (field_size c.pieces) (suc (length bits)) ≡ true)
+  pub spare : IfSome (field_in (fields_of c m)) (λ bits. has_spare c.pieces bits ≡ false)
+  pub known : (is_strict c && is_payload (fields_of c m)) ≡ false
+  pub in_time : (is_strict c && is_late o (kind_in m)) ≡ false
+  pub opened : (is_strict c && is_missing c o (kind_in m)) ≡ false
 
 -- m may be sent from the offset s on
 pub record IsSaid (c : Context) (o : Order) (s : ℕ) (m : Message) : Type 0 where

@@ -1,11 +1,13 @@
 pub mod Numbers
 pub mod Ids
+pub mod Bitfields
 pub mod Messages
 pub mod Handshakes
 pub mod Tables
 pub mod Faults
 pub mod Legal
 pub mod Headers
+pub mod Rules
 pub mod Parts
 pub mod Streams
 pub mod Fronts

@@ -1,38 +1,84 @@
--- What messages are as bytes (BEP 3, "peer protocol").
-use Rattle.std.specs.Prelude.{◌≡◌, ℕ, ◌<◌, ◌^◌, Bool, true, false, List, [], ◌∷◌, ◌++◌, length, Option, Some, None, if◌then◌else◌, ⊤}
+-- What messages are as bytes (BEP 3, "peer messages"; BEP 5; BEP 6).
+use Rattle.std.specs.Prelude.{◌≡◌, ℕ, ◌<◌, ◌^◌, Bool, true, false, List, [], ◌∷◌, ◌++◌, length, Option, Some, None, option_and_then, if◌then◌else◌, ⊤}
 use Rattle.bt_wire.specs.declared.context.Context.{Context}
 use Rattle.bt_wire.specs.declared.context.Order.{Order}
 use Rattle.bt_wire.specs.declared.context.Order.TheVariants.{Past}
+use Rattle.bt_wire.specs.declared.fields.Fields.{Fields as FieldsView}
+use Rattle.bt_wire.specs.declared.fields.Fields.TheVariants as f
 use Rattle.bt_wire.specs.declared.ids.Kind.{Kind}
+use Rattle.bt_wire.specs.declared.ids.Turn.{Turn}
+use Rattle.bt_wire.specs.declared.ids.Turn.TheVariants.{Apart, Counted, Opening}
 use Rattle.bt_wire.specs.declared.message.Message.{Message}
 use Rattle.bt_wire.specs.declared.message.Message.TheVariants as m
 use Rattle.bt_wire.specs.declared.message.MessageView.{MessageView}
 use Rattle.bt_wire.specs.declared.message.MessageView.TheVariants as v
-use Rattle.bt_wire.specs.Numbers.{be32, AreBytes}
+use Rattle.bt_wire.specs.Numbers.{be16, be32, AreBytes}
 use Rattle.bt_wire.specs.Ids.{kind_of, has_meaning}
 
--- what follows the id: a piece index, or bytes that no meaning is known of
+-- what follows the id, by its shape: nothing; a piece index; an index with begin and length; an index with begin and a
+-- block; a port; a bitfield; or the bytes behind an id that has no meaning
 pub data Fields : Type 0 where
-  index : ℕ → Fields
-  payload : List ℕ → Fields
   none : Fields
+  index : ℕ → Fields
+  part : ℕ → ℕ → ℕ → Fields
+  block : ℕ → ℕ → List ℕ → Fields
+  port : ℕ → Fields
+  field : List ℕ → Fields
+  payload : List ℕ → Fields
+
+-- the fields that a view of them is
+abbrev pub seen : FieldsView → Fields
+seen f.Nothing = none
+seen (f.Index i) = index i
+seen (f.Part i b l) = part i b l
+seen (f.Block i b bytes) = block i b bytes.now
+seen (f.Port p) = port p
+seen (f.Field bits) = field bits.now
+seen (f.Payload bytes) = payload bytes.now
 
 -- ---- a message is a keep-alive, or an id and fields
 
--- the id of a message of a known kind
+-- the id of a message with a meaning
 abbrev pub known_id : Message → Option ℕ
 known_id m.KeepAlive = None
+known_id m.Choke = Some 0
+known_id m.Unchoke = Some 1
+known_id m.Interested = Some 2
+known_id m.NotInterested = Some 3
 known_id (m.Have i) = Some 4
+known_id (m.Bitfield bits) = Some 5
+known_id (m.Request i b l) = Some 6
+known_id (m.Piece i b bytes) = Some 7
+known_id (m.Cancel i b l) = Some 8
+known_id (m.Port p) = Some 9
+known_id (m.Suggest i) = Some 13
+known_id m.HaveAll = Some 14
+known_id m.HaveNone = Some 15
+known_id (m.Reject i b l) = Some 16
+known_id (m.AllowedFast i) = Some 17
 known_id (m.Unknown n bytes) = None
 
 abbrev pub id_of : Message → Option ℕ
-id_of m.KeepAlive = None
-id_of (m.Have i) = Some 4
 id_of (m.Unknown n bytes) = Some n
+id_of msg = known_id msg
 
 abbrev pub fields_of : Context → Message → Fields
 fields_of c m.KeepAlive = none
+fields_of c m.Choke = none
+fields_of c m.Unchoke = none
+fields_of c m.Interested = none
+fields_of c m.NotInterested = none
 fields_of c (m.Have i) = index i
+fields_of c (m.Bitfield bits) = field bits
+fields_of c (m.Request i b l) = part i b l
+fields_of c (m.Piece i b bytes) = block i b bytes
+fields_of c (m.Cancel i b l) = part i b l
+fields_of c (m.Port p) = port p
+fields_of c (m.Suggest i) = index i
+fields_of c m.HaveAll = none
+fields_of c m.HaveNone = none
+fields_of c (m.Reject i b l) = part i b l
+fields_of c (m.AllowedFast i) = index i
 fields_of c (m.Unknown n bytes) = payload bytes
 
 -- ---- their bytes
@@ -40,6 +86,10 @@ fields_of c (m.Unknown n bytes) = payload bytes
 abbrev pub spell_fields : Fields → List ℕ
 spell_fields none = []
 spell_fields (index i) = be32 i
+spell_fields (part i b l) = be32 i ++ (be32 b ++ be32 l)
+spell_fields (block i b bytes) = be32 i ++ (be32 b ++ bytes)
+spell_fields (port p) = be16 p
+spell_fields (field bits) = bits
 spell_fields (payload bytes) = bytes
 
 abbrev pub framed : Option ℕ → List ℕ → List ℕ
@@ -59,6 +109,10 @@ spell c m = be32 (length (body c m)) ++ body c m
 abbrev pub AreInRange : Fields → Type 0
 AreInRange none = ⊤
 AreInRange (index i) = i < 2 ^ 32
+AreInRange (part i b l) = (i < 2 ^ 32) × (b < 2 ^ 32) × (l < 2 ^ 32)
+AreInRange (block i b bytes) = (i < 2 ^ 32) × (b < 2 ^ 32) × AreBytes bytes
+AreInRange (port p) = p < 2 ^ 16
+AreInRange (field bits) = AreBytes bits
 AreInRange (payload bytes) = AreBytes bytes
 
 abbrev pub IsIdInRange : Option ℕ → Type 0
@@ -72,40 +126,69 @@ pub record IsInRange (c : Context) (m : Message) : Type 0 where
 -- a value has a spelling of its own: an unknown message has no id with a meaning
 abbrev pub IsShaped : Context → Message → Type 0
 IsShaped c (m.Unknown n bytes) = has_meaning n ≡ false
-IsShaped c m.KeepAlive = ⊤
-IsShaped c (m.Have i) = ⊤
+IsShaped c msg = ⊤
 
 -- ---- the order of messages
 
--- whether a message counts: an unknown one and a keep-alive do not
+-- what is known of a message: nothing of an unknown one and of a keep-alive
+abbrev pub kind_in : Message → Option Kind
+kind_in m = option_and_then kind_of (known_id m)
+
+abbrev pub counts : Turn → Bool
+counts Apart = false
+counts Counted = true
+counts Opening = true
+
 abbrev pub counts_by : Option Kind → Bool
 counts_by None = false
-counts_by (Some k) = k.counts
-
-abbrev pub counts_in : Option ℕ → Bool
-counts_in None = false
-counts_in (Some n) = counts_by (kind_of n)
+counts_by (Some k) = counts k.turn
 
 -- the order that a message leaves
 abbrev pub order_after : Order → Message → Order
-order_after o m = if counts_in (known_id m) then Past else o
+order_after o m = if counts_by (kind_in m) then Past else o
 
 -- ---- parts
 
 -- the piece index that fields begin with
 abbrev pub index_in : Fields → Option ℕ
-index_in none = None
 index_in (index i) = Some i
-index_in (payload bytes) = None
+index_in (part i b l) = Some i
+index_in (block i b bytes) = Some i
+index_in other = None
+
+-- the bitfield
+abbrev pub field_in : Fields → Option (List ℕ)
+field_in (field bits) = Some bits
+field_in other = None
+
+-- whether they are the bytes behind an id without a meaning
+abbrev pub is_payload : Fields → Bool
+is_payload (payload bytes) = true
+is_payload other = false
 
 -- whether fields keep bytes, for which an owned message takes memory
 abbrev pub keeps_bytes : Fields → Bool
-keeps_bytes none = false
-keeps_bytes (index i) = false
+keeps_bytes (block i b bytes) = true
+keeps_bytes (field bits) = true
 keeps_bytes (payload bytes) = true
+keeps_bytes other = false
 
 -- the message that a view is
 abbrev pub message_of : MessageView → Message
 message_of v.KeepAlive = m.KeepAlive
+message_of v.Choke = m.Choke
+message_of v.Unchoke = m.Unchoke
+message_of v.Interested = m.Interested
+message_of v.NotInterested = m.NotInterested
 message_of (v.Have i) = m.Have i
+message_of (v.Bitfield bits) = m.Bitfield bits.now
+message_of (v.Request i b l) = m.Request i b l
+message_of (v.Piece i b bytes) = m.Piece i b bytes.now
+message_of (v.Cancel i b l) = m.Cancel i b l
+message_of (v.Port p) = m.Port p
+message_of (v.Suggest i) = m.Suggest i
+message_of v.HaveAll = m.HaveAll
+message_of v.HaveNone = m.HaveNone
+message_of (v.Reject i b l) = m.Reject i b l
+message_of (v.AllowedFast i) = m.AllowedFast i
 message_of (v.Unknown n bytes) = m.Unknown n bytes.now

@@ -1,25 +1,112 @@
 -- For proofs and private contracts alone: the message that an id and the bytes behind it are, read from left to right.
-use Rattle.std.specs.Prelude.{◌≡◌, ◌==◌, List, ℕ, ◌∷◌, Option, Some, None, if◌then◌else◌}
+use Rattle.std.specs.Prelude.{◌≡◌, ◌==◌, List, ℕ, suc, ◌+◌, [], ◌∷◌, length, drop, Bool, true, false, IfSome, Option, Some, None, if◌then◌else◌}
 use Rattle.bt_wire.specs.declared.context.Context.{Context}
 use Rattle.bt_wire.specs.declared.ids.Kind.{Kind}
+use Rattle.bt_wire.specs.declared.ids.Shape.{Shape}
+use Rattle.bt_wire.specs.declared.ids.Shape.TheVariants.{Nothing, Index, Part, Block, Port, Field}
 use Rattle.bt_wire.specs.declared.message.Message.{Message}
 use Rattle.bt_wire.specs.declared.message.Message.TheVariants as m
-use Rattle.bt_wire.specs.Numbers.{number32}
+use Rattle.bt_wire.specs.declared.fault.Reason.TheVariants.{BadIndex, SpareBits}
+use Rattle.bt_wire.specs.declared.fault.Refused.{Refused}
+use Rattle.bt_wire.specs.Bitfields.{has_spare}
+use Rattle.bt_wire.specs.Numbers.{number16, number32}
 use Rattle.bt_wire.specs.Ids.{kind_of}
-use Rattle.bt_wire.specs.Messages.{body, IsShaped, IsInRange}
+use Rattle.bt_wire.specs.Messages.{Fields, none, index, part, block, port, field, payload, id_of, fields_of, spell_fields, index_in, field_in, IsShaped, IsInRange}
+use Rattle.bt_wire.specs.Faults.{allows, field_size, is_beyond}
 
-abbrev pub known : ℕ → List ℕ → Message
-known n bytes = if n == 4 then m.Have (number32 bytes) else m.KeepAlive
+-- the fields of a shape that bytes are
+abbrev pub reading : Shape → List ℕ → Fields
+reading Nothing bytes = none
+reading Index bytes = index (number32 bytes)
+reading Part bytes = part (number32 bytes) (number32 (drop 4 bytes)) (number32 (drop 8 bytes))
+reading Block bytes = block (number32 bytes) (number32 (drop 4 bytes)) (drop 8 bytes)
+reading Port bytes = port (number16 bytes)
+reading Field bytes = field bytes
+
+-- the parts of fields
+abbrev pub first_in : Fields → ℕ
+first_in (index i) = i
+first_in (part i b l) = i
+first_in (block i b bytes) = i
+first_in (port p) = p
+first_in other = 0
+
+abbrev pub second_in : Fields → ℕ
+second_in (part i b l) = b
+second_in (block i b bytes) = b
+second_in other = 0
+
+abbrev pub third_in : Fields → ℕ
+third_in (part i b l) = l
+third_in other = 0
+
+abbrev pub bytes_in : Fields → List ℕ
+bytes_in (block i b bytes) = bytes
+bytes_in (field bits) = bits
+bytes_in other = []
+
+-- the message of an id with a meaning
+abbrev pub known : ℕ → Fields → Message
+known n f =
+    if n == 0 then m.Choke
+    else if n == 1 then m.Unchoke
+    else if n == 2 then m.Interested
+    else if n == 3 then m.NotInterested
+    else if n == 4 then m.Have (first_in f)
+    else if n == 5 then m.Bitfield (bytes_in f)
+    else if n == 6 then m.Request (first_in f) (second_in f) (third_in f)
+    else if n == 7 then m.Piece (first_in f) (second_in f) (bytes_in f)
+    else if n == 8 then m.Cancel (first_in f) (second_in f) (third_in f)
+    else if n == 9 then m.Port (first_in f)
+    else if n == 13 then m.Suggest (first_in f)
+    else if n == 14 then m.HaveAll
+    else if n == 15 then m.HaveNone
+    else if n == 16 then m.Reject (first_in f) (second_in f) (third_in f)
+    else if n == 17 then m.AllowedFast (first_in f)
+    else m.KeepAlive
 
 abbrev pub named : Option Kind → ℕ → List ℕ → Message
 named None n bytes = m.Unknown n bytes
-named (Some k) n bytes = known n bytes
+named (Some k) n bytes = known n (reading k.shape bytes)
 
-abbrev pub made : ℕ → List ℕ → Message
+unfoldable pub made : ℕ → List ℕ → Message
 made n bytes = named (kind_of n) n bytes
 
 -- the message has this id and these bytes behind it, and a spelling of its own
 pub record IsPart (c : Context) (n : ℕ) (bytes : List ℕ) (m : Message) : Type 0 where
-  pub spelled : body c m ≡ n ∷ bytes
+  pub id : id_of m ≡ Some n
+  pub fields : spell_fields (fields_of c m) ≡ bytes
   pub shaped : IsShaped c m
   pub in_range : IsInRange c m
+
+-- ---- the fault of fields, where the message has this length
+
+abbrev pub is_index_beyond : Option ℕ → Option ℕ → Bool
+is_index_beyond pieces None = false
+is_index_beyond pieces (Some i) = is_beyond pieces i
+
+abbrev pub is_field_spare : Option ℕ → Option (List ℕ) → Bool
+is_field_spare pieces None = false
+is_field_spare pieces (Some bits) = has_spare pieces bits
+
+abbrev pub broken_field : Option ℕ → ℕ → Fields → Option Refused
+broken_field pieces length f =
+    if is_index_beyond pieces (index_in f) then Some (record { at = 5; reason = BadIndex })
+    else if is_field_spare pieces (field_in f) then Some (record { at = 3 + length; reason = SpareBits })
+    else None
+
+-- a bitfield has a bit for each piece
+abbrev pub IsSized : Option ℕ → Fields → Type 0
+IsSized pieces f = IfSome (field_in f) (λ bits. allows (field_size pieces) (suc (length bits)) ≡ true)
+
+-- 2 to the number of bits that are left of eight, where some are used
+abbrev pub bound_of : ℕ → ℕ
+bound_of used =
+    if used == 1 then 128
+    else if used == 2 then 64
+    else if used == 3 then 32
+    else if used == 4 then 16
+    else if used == 5 then 8
+    else if used == 6 then 4
+    else if used == 7 then 2
+    else 1

@@ -2,12 +2,17 @@ ghost use Rattle.std.specs.Prelude.{◌≡◌};
 ghost use Rattle.bt_wire.specs.Handshakes.{negotiated};
 
 use crate::reserved::Reserved;
+use bitflags::Flags;
+use bt_ext::Rules;
 
 /// The receiver. Without an info hash every info hash is accepted.
 #[derive(Clone, Copy, PartialEq, Eq, Debug)]
 pub struct Own {
     pub reserved: Reserved,
     pub info_hash: Option<[u8; 20]>,
+    /// How many pieces the torrent has, where that is known.
+    pub pieces: Option<u32>,
+    pub rules: Rules,
     /// The greatest length that a message may have, its four bytes of length not counted.
     pub limit: u32,
 }
@@ -15,6 +20,10 @@ pub struct Own {
 /// What both ends have agreed on, as the receiver judges by it.
 #[derive(Clone, Copy, PartialEq, Eq, Debug)]
 pub struct Context {
+    /// Both ends know the Fast Extension (BEP 6).
+    pub fast: bool,
+    pub pieces: Option<u32>,
+    pub rules: Rules,
     pub limit: u32,
 }
 
@@ -26,8 +35,13 @@ pub enum Order {
 }
 
 /// The context that the receiver has with a peer of these reserved bits.
-pub fn negotiate(own: &Own, _peer: Reserved) -> Context
-    ensures { result ≡ negotiated own.now _peer }
+pub fn negotiate(own: &Own, peer: Reserved) -> Context
+    ensures { result ≡ negotiated own.now peer }
 {
-    Context { limit: own.limit }
+    Context {
+        fast: own.reserved.contains(Reserved::FAST) && peer.contains(Reserved::FAST),
+        pieces: own.pieces,
+        rules: own.rules,
+        limit: own.limit,
+    }
 }

@@ -4,12 +4,14 @@ ghost use Rattle.bt_wire.specs.Headers.{header_of, IsWindow, IsRead, RefusesWind
 ghost use Rattle.bt_wire.specs.declared.context.Context.{Context};
 ghost use Rattle.bt_wire.specs.declared.fault.Header.TheVariants as headers;
 ghost use Rattle.bt_wire.specs.Messages.{message_of, fields_of, keeps_bytes};
+ghost use Rattle.bt_wire.specs.Numbers.{number32};
 ghost use Rattle.bt_wire.specs.Parts.{made};
 
 use crate::context::{Context, Order};
 use crate::fault::{DecodeError, Refused};
-use crate::message::{HAVE, Message, MessageView};
-use crate::numbers::number_at_front;
+use crate::fields::judge_fields;
+use crate::message::{Message, MessageView};
+use crate::numbers::{number_at_front, port_at_front};
 use crate::slices::behind;
 use bt_bencode::ByteString;
 use std::alloc::{AllocError, Global};
@@ -24,13 +26,19 @@ pub fn view_window<'a>(
     ensures ok { IfOk result (λ v. IsRead context.now order window.now (message_of v)) }
     ensures err { IfErr result (λ f. IsFault context.now order 0 window.now (Some f)) }
 {
-    if number_at_front(window) == 0 {
+    let length = number_at_front(window);
+    if length == 0 {
         return Ok(MessageView::KeepAlive);
     }
-    Ok(read_fields(context, window))
+    let view = read_fields(context, window);
+    match judge_fields(context.pieces, length, &view.fields()) {
+        Some(refused) => Err(refused),
+        None => Ok(view),
+    }
 }
 
 /// The message of a window, by its id.
+#[tactic(auto, unfolding(crate::specs::Parts::made))]
 fn read_fields<'a>(_context: &Context, window: &'a [u8]) -> MessageView<'a>
     requires some { 5 ≤ length window.now }
     requires sized { allows (size_of _context.now (said_id window.now)) (length window.now - 4) ≡ true }
@@ -38,12 +46,53 @@ fn read_fields<'a>(_context: &Context, window: &'a [u8]) -> MessageView<'a>
 {
     let fields = behind(window, 5);
     match window[4] {
-        HAVE => MessageView::Have(number_at_front(fields)),
+        0 => MessageView::Choke,
+        1 => MessageView::Unchoke,
+        2 => MessageView::Interested,
+        3 => MessageView::NotInterested,
+        4 => MessageView::Have(number_at_front(fields)),
+        5 => MessageView::Bitfield(fields),
+        6 => {
+            let (index, begin, length) = part_of(fields);
+            MessageView::Request { index, begin, length }
+        }
+        7 => MessageView::Piece {
+            index: number_at_front(fields),
+            begin: number_at_front(behind(fields, 4)),
+            block: behind(fields, 8),
+        },
+        8 => {
+            let (index, begin, length) = part_of(fields);
+            MessageView::Cancel { index, begin, length }
+        }
+        9 => MessageView::Port(port_at_front(fields)),
+        13 => MessageView::Suggest(number_at_front(fields)),
+        14 => MessageView::HaveAll,
+        15 => MessageView::HaveNone,
+        16 => {
+            let (index, begin, length) = part_of(fields);
+            MessageView::Reject { index, begin, length }
+        }
+        17 => MessageView::AllowedFast(number_at_front(fields)),
         id => MessageView::Unknown {
             id,
             payload: fields,
         },
     }
+}
+
+/// A piece index, and begin and length of a part of the piece.
+fn part_of(fields: &[u8]) -> (u32, u32, u32)
+    requires { 12 ≤ length fields.now }
+    ensures index { result.0 ≡ number32 fields.now }
+    ensures begin { result.1 ≡ number32 (drop 4 fields.now) }
+    ensures length { result.2 ≡ number32 (drop 8 fields.now) }
+{
+    (
+        number_at_front(fields),
+        number_at_front(behind(fields, 4)),
+        number_at_front(behind(fields, 8)),
+    )
 }
 
 /// The message that a view is, with memory of its own.
@@ -53,12 +102,48 @@ pub fn copy_message(alloc: Global, view: &MessageView) -> Result<Message, AllocE
 {
     match view {
         MessageView::KeepAlive => Ok(Message::KeepAlive),
+        MessageView::Choke => Ok(Message::Choke),
+        MessageView::Unchoke => Ok(Message::Unchoke),
+        MessageView::Interested => Ok(Message::Interested),
+        MessageView::NotInterested => Ok(Message::NotInterested),
         MessageView::Have(index) => Ok(Message::Have(*index)),
-        MessageView::Unknown { id, payload } => {
-            let payload = ByteString::from_vec(payload.to_vec(alloc)?);
-            Ok(Message::Unknown { id: *id, payload })
-        }
+        MessageView::Bitfield(bits) => Ok(Message::Bitfield(copy_bytes(alloc, bits)?)),
+        MessageView::Request { index, begin, length } => Ok(Message::Request {
+            index: *index,
+            begin: *begin,
+            length: *length,
+        }),
+        MessageView::Piece { index, begin, block } => Ok(Message::Piece {
+            index: *index,
+            begin: *begin,
+            block: copy_bytes(alloc, block)?,
+        }),
+        MessageView::Cancel { index, begin, length } => Ok(Message::Cancel {
+            index: *index,
+            begin: *begin,
+            length: *length,
+        }),
+        MessageView::Port(port) => Ok(Message::Port(*port)),
+        MessageView::Suggest(index) => Ok(Message::Suggest(*index)),
+        MessageView::HaveAll => Ok(Message::HaveAll),
+        MessageView::HaveNone => Ok(Message::HaveNone),
+        MessageView::Reject { index, begin, length } => Ok(Message::Reject {
+            index: *index,
+            begin: *begin,
+            length: *length,
+        }),
+        MessageView::AllowedFast(index) => Ok(Message::AllowedFast(*index)),
+        MessageView::Unknown { id, payload } => Ok(Message::Unknown {
+            id: *id,
+            payload: copy_bytes(alloc, payload)?,
+        }),
     }
+}
+
+fn copy_bytes(alloc: Global, bytes: &[u8]) -> Result<ByteString, AllocError>
+    ensures { IfOk result (λ s. s ≡ bytes.now) }
+{
+    Ok(ByteString::from_vec(bytes.to_vec(alloc)?))
 }
 
 /// Reads the bytes of one message, where `judge_header` lets them be a window.

@@ -1,11 +1,14 @@
-ghost use Rattle.std.specs.Prelude.{◌≡◌, ◌↔◌, ◌<◌, ◌^◌, ◌++◌, IsTrue, IsOk, IfErr, IfOk, length};
-ghost use Rattle.bt_wire.specs.Legal.{IsLegal, Refuses, IsEncoded};
-ghost use Rattle.bt_wire.specs.Messages.{spell, body, IsShaped};
+ghost use Rattle.std.specs.Prelude.{◌≡◌, ◌↔◌, ◌+◌, ◌<◌, ◌≤◌, ◌^◌, ◌++◌, IsTrue, IsOk, IfErr, IfOk, OnOk, MatchOption, length as list_length};
+ghost use Rattle.bt_wire.specs.Numbers.{be32};
+ghost use Rattle.bt_wire.specs.Legal.{IsLegal, IsRefusedFor, Refuses, IsEncoded};
+ghost use Rattle.bt_wire.specs.Messages.{spell, body, seen, spell_fields, IsShaped};
 
 use crate::context::{Context, Order};
-use crate::fault::{EncodeError, Fault, Reason};
+use crate::fault::{EncodeError, Fault, Reason, Refused};
+use crate::fields::{Fields, judge_fields};
+use crate::header::judge_any_id;
 use crate::ids::kind_of;
-use crate::message::{HAVE, Message};
+use crate::message::Message;
 use std::alloc::{AllocError, Global};
 
 /// Whether the value has a spelling of its own.
@@ -14,18 +17,34 @@ fn is_shaped(_context: &Context, message: &Message) -> bool
 {
     match message {
         Message::Unknown { id, .. } => kind_of(*id).is_none(),
-        Message::KeepAlive | Message::Have(_) => true,
+        _ => true,
+    }
+}
+
+/// How many bytes the fields have.
+fn fields_length(fields: &Fields) -> usize
+    ensures value { result ≡ list_length (spell_fields (seen fields.now)) }
+    ensures small { result < 2 ^ 63 + 8 }
+{
+    match fields {
+        Fields::Nothing => 0,
+        Fields::Index(_) => 4,
+        Fields::Part { .. } => 12,
+        Fields::Block { block, .. } => 8 + block.len(),
+        Fields::Port(_) => 2,
+        Fields::Field(bits) => bits.len(),
+        Fields::Payload(bytes) => bytes.len(),
     }
 }
 
 /// How many bytes follow the length.
 fn body_length(_context: &Context, message: &Message) -> usize
-    ensures { result ≡ length (body _context.now message.now) }
+    ensures value { result ≡ list_length (body _context.now message.now) }
+    ensures small { result < 2 ^ 63 + 9 }
 {
-    match message {
-        Message::KeepAlive => 0,
-        Message::Have(_) => 5,
-        Message::Unknown { payload, .. } => 1 + payload.len(),
+    match message.id() {
+        None => 0,
+        Some(_) => 1 + fields_length(&message.fields()),
     }
 }
 
@@ -37,10 +56,31 @@ pub fn legal(context: &Context, order: Order, message: &Message) -> Result<(), F
     if !is_shaped(context, message) {
         return Err(Fault::Shape);
     }
-    if body_length(context, message) as u64 > u64::from(context.limit) {
+    let length = body_length(context, message);
+    if length as u64 > u64::from(context.limit) {
         return Err(Fault::Reason(Reason::TooLong));
     }
-    Ok(())
+    match judge_value(context, order, message, length as u32) {
+        Some(reason) => Err(Fault::Reason(reason)),
+        None => Ok(()),
+    }
+}
+
+/// Why a message of this length may not be sent.
+fn judge_value(context: &Context, order: Order, message: &Message, length: u32) -> Option<Reason>
+    requires shaped { IsShaped context.now message.now }
+    requires size { length ≡ list_length (body context.now message.now) }
+    requires short { length ≤ context.now.limit }
+    ensures { MatchOption result (IsLegal context.now order message.now)
+        (λ reason. ¬ IsLegal context.now order message.now × IsRefusedFor context.now order message.now reason) }
+{
+    if let Some(Refused { reason, .. }) = judge_any_id(context, order, message.id(), length) {
+        return Some(reason);
+    }
+    match judge_fields(context.pieces, length, &message.fields()) {
+        Some(Refused { reason, .. }) => Some(reason),
+        None => None,
+    }
 }
 
 /// The bytes of a message that may be sent.
@@ -62,24 +102,48 @@ pub fn encode(
     }
 }
 
-/// The bytes of a message, whose length fits four bytes.
+/// The bytes of a message, whose length fits four bytes, in one allocation.
 fn spelled(alloc: Global, context: &Context, message: &Message) -> Result<Vec<u8>, AllocError>
-    requires { length (body context.now message.now) < 2 ^ 32 }
+    requires { list_length (body context.now message.now) < 2 ^ 32 }
     ensures { IfOk result (λ bytes. bytes.items ≡ spell context.now message.now) }
 {
     let length = body_length(context, message);
     let mut bytes = Vec::with_capacity(alloc, 4 + length)?;
     bytes.extend_from_slice(&(length as u32).to_be_bytes())?;
-    match message {
-        Message::KeepAlive => {}
-        Message::Have(index) => {
-            bytes.push(HAVE)?;
-            bytes.extend_from_slice(&index.to_be_bytes())?;
-        }
-        Message::Unknown { id, payload } => {
-            bytes.push(*id)?;
-            bytes.extend_from_slice(payload.as_slice())?;
+    match message.id() {
+        None => Ok(bytes),
+        Some(id) => {
+            bytes.push(id)?;
+            push_fields(&mut bytes, &message.fields())?;
+            Ok(bytes)
         }
     }
-    Ok(bytes)
+}
+
+/// Appends the bytes of the fields.
+fn push_fields(bytes: &mut Vec<u8>, fields: &Fields) -> Result<(), AllocError>
+    ensures { OnOk result (bytes.new.items ≡ bytes.old.items ++ spell_fields (seen fields.now)) }
+{
+    match fields {
+        Fields::Nothing => Ok(()),
+        Fields::Index(index) => bytes.extend_from_slice(&index.to_be_bytes()),
+        Fields::Part { index, begin, length } => {
+            push_two(bytes, *index, *begin, &length.to_be_bytes())
+        }
+        Fields::Block { index, begin, block } => push_two(bytes, *index, *begin, block),
+        Fields::Port(port) => bytes.extend_from_slice(&port.to_be_bytes()),
+        Fields::Field(bits) => bytes.extend_from_slice(bits),
+        Fields::Payload(payload) => bytes.extend_from_slice(payload),
+    }
+}
+
+/// Appends two numbers and what follows them.
+#[tactic(auto, using(std::proofs::lemmas::List::append_assoc))]
+fn push_two(bytes: &mut Vec<u8>, index: u32, begin: u32, rest: &[u8]) -> Result<(), AllocError>
+    ensures { OnOk result (bytes.new.items ≡ bytes.old.items ++ (be32 index ++ (be32 begin ++ rest.now))) }
+{
+    bytes.extend_from_slice(&index.to_be_bytes())?;
+    bytes.extend_from_slice(&begin.to_be_bytes())?;
+    bytes.extend_from_slice(rest)?;
+    Ok(())
 }

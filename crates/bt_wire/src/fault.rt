@@ -14,8 +14,20 @@ pub enum Reason {
     WrongInfoHash,
     #[error("TooLong")]
     TooLong,
+    #[error("UnknownId")]
+    UnknownId,
+    #[error("NotNegotiated")]
+    NotNegotiated,
     #[error("WrongLength")]
     WrongLength,
+    #[error("BadIndex")]
+    BadIndex,
+    #[error("SpareBits")]
+    SpareBits,
+    #[error("Late")]
+    Late,
+    #[error("Missing")]
+    Missing,
     #[error("StreamFull")]
     StreamFull,
     #[error("EndInside")]

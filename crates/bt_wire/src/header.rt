@@ -1,22 +1,136 @@
-ghost use Rattle.std.specs.Prelude.{◌≡◌, not};
-ghost use Rattle.bt_wire.specs.Faults.{allows, size_of};
+ghost use Rattle.std.specs.Prelude.{◌≡◌, Some};
+ghost use Rattle.bt_wire.specs.Ids.{shape_by, kind_of as kind_at};
+ghost use Rattle.bt_wire.specs.Faults.{allows, size_by, field_size, is_agreed as agrees, is_strict as judges_strictly, is_late as comes_late, is_missing as lacks_opening};
+ghost use Rattle.bt_wire.specs.Rules.{broken_by, broken_any};
 ghost use Rattle.bt_wire.specs.Headers.{header_of};
 
 use crate::context::{Context, Order};
-use crate::fault::{Header, Reason};
-use crate::ids::{Shape, kind_of};
+use crate::fault::{Header, Reason, Refused};
+use crate::ids::{Kind, Needs, Shape, Turn, kind_of};
 use crate::numbers::number_at_front;
+use bt_ext::Rules;
 
-/// Whether a message with this id may have this length.
-fn is_allowed(_context: &Context, id: u8, length: u32) -> bool
-    ensures { result ≡ allows (size_of _context.now id) length }
+/// Whether a message of this kind may have this length, its id counted.
+fn is_allowed(context: &Context, kind: Option<Kind>, length: u32) -> bool
+    ensures { result ≡ allows (size_by context.now (shape_by kind)) length }
 {
-    match kind_of(id) {
+    match kind {
         None => length >= 1,
         Some(kind) => match kind.shape {
+            Shape::Nothing => length == 1,
             Shape::Index => length == 5,
+            Shape::Part => length == 13,
+            Shape::Block => length >= 9,
+            Shape::Port => length == 3,
+            Shape::Field => is_field_length(context.pieces, length),
         },
     }
+}
+
+/// Whether a bitfield may have this length, its id counted.
+fn is_field_length(pieces: Option<u32>, length: u32) -> bool
+    ensures { result ≡ allows (field_size pieces) length }
+{
+    match pieces {
+        None => length >= 1,
+        Some(pieces) => u64::from(length) == 1 + (u64::from(pieces) + 7) / 8,
+    }
+}
+
+/// Whether both ends have agreed on the extension that the message needs.
+fn is_agreed(context: &Context, kind: Option<Kind>) -> bool
+    ensures { result ≡ agrees context.now kind }
+{
+    match kind {
+        None => true,
+        Some(kind) => match kind.needs {
+            Needs::Neither => true,
+            Needs::Fast => context.fast,
+        },
+    }
+}
+
+fn is_strict(context: &Context) -> bool
+    ensures { result ≡ judges_strictly context.now }
+{
+    match context.rules {
+        Rules::Free => false,
+        Rules::Bep => true,
+    }
+}
+
+/// Whether a message that comes first comes later.
+fn is_late(order: Order, kind: Option<Kind>) -> bool
+    ensures { result ≡ comes_late order kind }
+{
+    match kind {
+        None => false,
+        Some(kind) => match kind.turn {
+            Turn::Apart => false,
+            Turn::Counted => false,
+            Turn::Opening => match order {
+                Order::Fresh => false,
+                Order::Past => true,
+            },
+        },
+    }
+}
+
+/// Whether one that comes first is missing before it.
+fn is_missing(context: &Context, order: Order, kind: Option<Kind>) -> bool
+    ensures { result ≡ lacks_opening context.now order kind }
+{
+    match kind {
+        None => false,
+        Some(kind) => match kind.turn {
+            Turn::Apart => false,
+            Turn::Counted => match order {
+                Order::Fresh => context.fast,
+                Order::Past => false,
+            },
+            Turn::Opening => false,
+        },
+    }
+}
+
+/// The first rule on the id and the length that is broken.
+pub fn judge_id(context: &Context, order: Order, id: u8, length: u32) -> Option<Refused>
+    ensures { result ≡ broken_by context.now order (kind_at id) length }
+{
+    let kind = kind_of(id);
+    let strict = is_strict(context);
+    if strict && kind.is_none() {
+        return refused(4, Reason::UnknownId);
+    }
+    if !is_agreed(context, kind) {
+        return refused(4, Reason::NotNegotiated);
+    }
+    if !is_allowed(context, kind, length) {
+        return refused(0, Reason::WrongLength);
+    }
+    if strict && is_late(order, kind) {
+        return refused(4, Reason::Late);
+    }
+    if strict && is_missing(context, order, kind) {
+        return refused(4, Reason::Missing);
+    }
+    None
+}
+
+/// The same of a message with this id, or of a keep-alive, which has none.
+pub fn judge_any_id(context: &Context, order: Order, id: Option<u8>, length: u32) -> Option<Refused>
+    ensures { result ≡ broken_any context.now order id length }
+{
+    match id {
+        None => None,
+        Some(id) => judge_id(context, order, id, length),
+    }
+}
+
+fn refused(at: u64, reason: Reason) -> Option<Refused>
+    ensures { result ≡ Some (record { at = at; reason = reason }) }
+{
+    Some(Refused { at, reason })
 }
 
 /// Judges a message by its first five bytes, or by fewer where fewer are there (BEP 3, "peer protocol").
@@ -40,11 +154,8 @@ pub fn judge_header(context: &Context, order: Order, head: &[u8]) -> Header
     if head.len() < 5 {
         return Header::Need(5);
     }
-    if !is_allowed(context, head[4], length) {
-        return Header::Refused {
-            at: 0,
-            reason: Reason::WrongLength,
-        };
+    match judge_id(context, order, head[4], length) {
+        Some(Refused { at, reason }) => Header::Refused { at, reason },
+        None => Header::Window(4 + u64::from(length)),
     }
-    Header::Window(4 + u64::from(length))
 }

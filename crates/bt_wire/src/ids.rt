@@ -1,19 +1,52 @@
-//! The ids of messages.
+//! The ids of messages (BEP 3, BEP 5, BEP 6).
 ghost use Rattle.std.specs.Prelude.{◌≡◌};
 ghost use Rattle.bt_wire.specs.Ids.{kind_of as kind_at};
 
 /// What follows a message's id.
 #[derive(Clone, Copy, PartialEq, Eq, Debug)]
 pub enum Shape {
+    Nothing,
     /// A piece index.
     Index,
+    /// A piece index, and begin and length of a part of the piece.
+    Part,
+    /// A piece index, begin, and the bytes of the block.
+    Block,
+    Port,
+    /// A bit for each piece.
+    Field,
+}
+
+/// The extension that both ends must have agreed on.
+#[derive(Clone, Copy, PartialEq, Eq, Debug)]
+pub enum Needs {
+    Neither,
+    /// The Fast Extension (BEP 6).
+    Fast,
+}
+
+/// A message's part in the order of messages.
+#[derive(Clone, Copy, PartialEq, Eq, Debug)]
+pub enum Turn {
+    /// It may stand anywhere, and doesn't count.
+    Apart,
+    Counted,
+    /// It says which pieces are there, and comes first.
+    Opening,
 }
 
 /// What is known of a message by its id.
 #[derive(Clone, Copy, PartialEq, Eq, Debug)]
 pub struct Kind {
     pub shape: Shape,
-    pub counts: bool,
+    pub needs: Needs,
+    pub turn: Turn,
+}
+
+const fn row(shape: Shape, needs: Needs, turn: Turn) -> Kind
+    ensures { result ≡ record { shape = shape; needs = needs; turn = turn } }
+{
+    Kind { shape, needs, turn }
 }
 
 /// The row of an id.
@@ -21,10 +54,15 @@ pub fn kind_of(id: u8) -> Option<Kind>
     ensures { result ≡ kind_at id }
 {
     match id {
-        4 => Some(Kind {
-            shape: Shape::Index,
-            counts: true,
-        }),
+        0 | 1 | 2 | 3 => Some(row(Shape::Nothing, Needs::Neither, Turn::Counted)),
+        4 => Some(row(Shape::Index, Needs::Neither, Turn::Counted)),
+        5 => Some(row(Shape::Field, Needs::Neither, Turn::Opening)),
+        6 | 8 => Some(row(Shape::Part, Needs::Neither, Turn::Counted)),
+        7 => Some(row(Shape::Block, Needs::Neither, Turn::Counted)),
+        9 => Some(row(Shape::Port, Needs::Neither, Turn::Apart)),
+        13 | 17 => Some(row(Shape::Index, Needs::Fast, Turn::Counted)),
+        14 | 15 => Some(row(Shape::Nothing, Needs::Fast, Turn::Opening)),
+        16 => Some(row(Shape::Part, Needs::Fast, Turn::Counted)),
         _ => None,
     }
 }

@@ -1,20 +1,194 @@
+ghost use Rattle.std.specs.Prelude.{◌≡◌};
+ghost use Rattle.bt_wire.specs.declared.context.Context.{Context};
+ghost use Rattle.bt_wire.specs.Messages.{id_of as id_in, fields_of, seen, message_of, AreInRange, IsIdInRange};
+
+use crate::fields::Fields;
 use bt_bencode::ByteString;
 
-/// What follows the handshake. A message whose id isn't known is kept with its payload.
+/// What follows the handshake (BEP 3, "peer messages"; BEP 5; BEP 6). `index` is a piece's, `begin` and `length` are
+/// bytes within it. A message whose id isn't known is kept with its payload.
 #[derive(Debug, Drop)]
 pub enum Message {
     KeepAlive,
-    /// The piece of this index is there now.
+    Choke,
+    Unchoke,
+    Interested,
+    NotInterested,
     Have(u32),
-    Unknown { id: u8, payload: ByteString },
+    /// A bit for each piece, that of piece 0 the high bit of the first byte.
+    Bitfield(ByteString),
+    Request {
+        index: u32,
+        begin: u32,
+        length: u32,
+    },
+    Piece {
+        index: u32,
+        begin: u32,
+        block: ByteString,
+    },
+    Cancel {
+        index: u32,
+        begin: u32,
+        length: u32,
+    },
+    /// The UDP port of the sender's node of the distributed hash table.
+    Port(u16),
+    Suggest(u32),
+    HaveAll,
+    HaveNone,
+    Reject {
+        index: u32,
+        begin: u32,
+        length: u32,
+    },
+    AllowedFast(u32),
+    Unknown {
+        id: u8,
+        payload: ByteString,
+    },
 }
 
 /// The same over the bytes that it was read from.
 #[derive(Clone, Copy, Debug)]
 pub enum MessageView<'a> {
     KeepAlive,
+    Choke,
+    Unchoke,
+    Interested,
+    NotInterested,
     Have(u32),
+    Bitfield(&'a [u8]),
+    Request { index: u32, begin: u32, length: u32 },
+    Piece { index: u32, begin: u32, block: &'a [u8] },
+    Cancel { index: u32, begin: u32, length: u32 },
+    Port(u16),
+    Suggest(u32),
+    HaveAll,
+    HaveNone,
+    Reject { index: u32, begin: u32, length: u32 },
+    AllowedFast(u32),
     Unknown { id: u8, payload: &'a [u8] },
 }
 
-pub const HAVE: u8 = 4;
+impl Message {
+    /// The id, but for a keep-alive.
+    pub fn id(&self) -> Option<u8>
+        ensures value { result ≡ id_in self.now }
+        ensures in_range { IsIdInRange result }
+    {
+        match self {
+            Message::KeepAlive => None,
+            Message::Choke => Some(0),
+            Message::Unchoke => Some(1),
+            Message::Interested => Some(2),
+            Message::NotInterested => Some(3),
+            Message::Have(_) => Some(4),
+            Message::Bitfield(_) => Some(5),
+            Message::Request { .. } => Some(6),
+            Message::Piece { .. } => Some(7),
+            Message::Cancel { .. } => Some(8),
+            Message::Port(_) => Some(9),
+            Message::Suggest(_) => Some(13),
+            Message::HaveAll => Some(14),
+            Message::HaveNone => Some(15),
+            Message::Reject { .. } => Some(16),
+            Message::AllowedFast(_) => Some(17),
+            Message::Unknown { id, .. } => Some(*id),
+        }
+    }
+
+    /// What follows the id.
+    pub fn fields(&self) -> Fields<'_>
+        ensures value { (c : Context) → seen result ≡ fields_of c self.now }
+        ensures in_range { AreInRange (seen result) }
+    {
+        match self {
+            Message::KeepAlive
+            | Message::Choke
+            | Message::Unchoke
+            | Message::Interested
+            | Message::NotInterested
+            | Message::HaveAll
+            | Message::HaveNone => Fields::Nothing,
+            Message::Have(index) | Message::Suggest(index) | Message::AllowedFast(index) => {
+                Fields::Index(*index)
+            }
+            Message::Request { index, begin, length }
+            | Message::Cancel { index, begin, length }
+            | Message::Reject { index, begin, length } => Fields::Part {
+                index: *index,
+                begin: *begin,
+                length: *length,
+            },
+            Message::Bitfield(bits) => Fields::Field(bits.as_slice()),
+            Message::Piece { index, begin, block } => Fields::Block {
+                index: *index,
+                begin: *begin,
+                block: block.as_slice(),
+            },
+            Message::Port(port) => Fields::Port(*port),
+            Message::Unknown { payload, .. } => Fields::Payload(payload.as_slice()),
+        }
+    }
+}
+
+impl<'a> MessageView<'a> {
+    /// The id, but for a keep-alive.
+    pub fn id(&self) -> Option<u8>
+        ensures { result ≡ id_in (message_of self.now) }
+    {
+        match self {
+            MessageView::KeepAlive => None,
+            MessageView::Choke => Some(0),
+            MessageView::Unchoke => Some(1),
+            MessageView::Interested => Some(2),
+            MessageView::NotInterested => Some(3),
+            MessageView::Have(_) => Some(4),
+            MessageView::Bitfield(_) => Some(5),
+            MessageView::Request { .. } => Some(6),
+            MessageView::Piece { .. } => Some(7),
+            MessageView::Cancel { .. } => Some(8),
+            MessageView::Port(_) => Some(9),
+            MessageView::Suggest(_) => Some(13),
+            MessageView::HaveAll => Some(14),
+            MessageView::HaveNone => Some(15),
+            MessageView::Reject { .. } => Some(16),
+            MessageView::AllowedFast(_) => Some(17),
+            MessageView::Unknown { id, .. } => Some(*id),
+        }
+    }
+
+    /// What follows the id.
+    pub fn fields(&self) -> Fields<'a>
+        ensures { (c : Context) → seen result ≡ fields_of c (message_of self.now) }
+    {
+        match self {
+            MessageView::KeepAlive
+            | MessageView::Choke
+            | MessageView::Unchoke
+            | MessageView::Interested
+            | MessageView::NotInterested
+            | MessageView::HaveAll
+            | MessageView::HaveNone => Fields::Nothing,
+            MessageView::Have(index) | MessageView::Suggest(index) | MessageView::AllowedFast(index) => {
+                Fields::Index(*index)
+            }
+            MessageView::Request { index, begin, length }
+            | MessageView::Cancel { index, begin, length }
+            | MessageView::Reject { index, begin, length } => Fields::Part {
+                index: *index,
+                begin: *begin,
+                length: *length,
+            },
+            MessageView::Bitfield(bits) => Fields::Field(bits),
+            MessageView::Piece { index, begin, block } => Fields::Block {
+                index: *index,
+                begin: *begin,
+                block: block,
+            },
+            MessageView::Port(port) => Fields::Port(*port),
+            MessageView::Unknown { payload, .. } => Fields::Payload(payload),
+        }
+    }
+}

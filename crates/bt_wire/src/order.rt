@@ -9,8 +9,8 @@ pub fn next(order: Order, message: &Message) -> Order
     ensures { result ≡ order_after order message.now }
 {
     match message {
-        Message::KeepAlive | Message::Unknown { .. } => order,
-        Message::Have(_) => Order::Past,
+        Message::KeepAlive | Message::Port(_) | Message::Unknown { .. } => order,
+        _ => Order::Past,
     }
 }
 
@@ -19,7 +19,7 @@ pub fn next_of_view(order: Order, view: &MessageView) -> Order
     ensures { result ≡ order_after order (message_of view.now) }
 {
     match view {
-        MessageView::KeepAlive | MessageView::Unknown { .. } => order,
-        MessageView::Have(_) => Order::Past,
+        MessageView::KeepAlive | MessageView::Port(_) | MessageView::Unknown { .. } => order,
+        _ => Order::Past,
     }
 }

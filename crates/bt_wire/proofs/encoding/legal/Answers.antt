@@ -2,5 +2,5 @@ use Rattle.std.proofs.Common.{refl, arith}
 use Rattle.bt_wire.proofs.WindowLaws.{too_long}
 use Rattle.bt_wire.proofs.encoding.legal.Goals as goal
 
-pub returns-then-body_length-from-clause-fault : goal.returns-then-body_length-from-clause-fault
-returns-then-body_length-from-clause-fault c = too_long _ _ _ (c.if-not-is_shaped.ensures.0 refl) (omega arith)
+pub returns-then-length-from-clause-fault : goal.returns-then-length-from-clause-fault
+returns-then-length-from-clause-fault c = too_long _ _ _ (c.if-not-is_shaped.ensures.0 refl) (omega arith)

@@ -1,0 +1,105 @@
+-- Why a value may not be sent.
+use Rattle.std.proofs.Common.{◌≡◌, ℕ, ◌+◌, ◌^◌, ◌≤◌, ◌<◌, List, [], ◌∷◌, ◌++◌, map, length, Option, Some, None, refl, sym, ap, subst, ◌∙◌, arith}
+use Rattle.std.proofs.lemmas.List.{append-nil, append_assoc}
+use Rattle.bt_wire.specs.declared.context.Context.{Context}
+use Rattle.bt_wire.specs.declared.context.Order.{Order}
+use Rattle.bt_wire.specs.declared.fault.Refused.{Refused}
+use Rattle.bt_wire.specs.declared.message.Message.{Message}
+use Rattle.bt_wire.specs.declared.message.Message.TheVariants as m
+use Rattle.bt_wire.specs.Ids.{kind_of}
+use Rattle.bt_wire.specs.Messages.{Fields, id_of, fields_of, spell_fields, framed, body, spell, IsShaped, AreInRange, IsIdInRange, IsInRange}
+use Rattle.bt_wire.specs.Numbers.{be32}
+use Rattle.bt_wire.specs.Tables.{first_fault}
+use Rattle.bt_wire.specs.Faults.{is_strict, is_whole, window, id_rules, id_row, header_fault, field_rows, IsFault, early, whole, in_fields}
+use Rattle.bt_wire.specs.Legal.{IsLegal}
+use Rattle.bt_wire.specs.Rules.{broken_by, broken_any}
+use Rattle.bt_wire.specs.Parts.{broken_field}
+use Rattle.bt_wire.proofs.RuleLaws.{AreKept, unbroken, unbroken_kept, none_broken, legal_unbroken, fields_sound, sound_fields}
+use Rattle.bt_wire.proofs.RowLaws.{first_fault-none}
+use Rattle.bt_wire.proofs.HeaderLaws.{none_by_id, id_empty}
+use Rattle.bt_wire.proofs.SpellLaws.{said_length-spell, spelled_first, right_row}
+use Rattle.bt_wire.proofs.WindowLaws.{early_header, never, no_body, broken-spell, limited-spell, rows-spell}
+
+-- ---- what the rules on the id say
+
+keep_alive_kept : (c : Context) (o : Order) (msg : Message) → id_of msg ≡ None → AreKept c o msg
+keep_alive_kept c o m.KeepAlive e = record { agreed = refl; sized = tt; known = never (is_strict c); in_time = never (is_strict c); opened = never (is_strict c) }
+keep_alive_kept c o msg e = absurd cc
+
+kept_in : (c : Context) (o : Order) (m : Message) (i : Option ℕ) → IsShaped c m → id_of m ≡ i → broken_any c o i (length (body c m)) ≡ None → AreKept c o m
+kept_in c o m None shaped e none = keep_alive_kept c o m e
+kept_in c o m (Some n) shaped e none = unbroken_kept c o m n (right_row c m n shaped e) e (unbroken c o (kind_of n) (length (body c m)) none)
+
+pub kept_by : (c : Context) (o : Order) (m : Message) → IsShaped c m → broken_any c o (id_of m) (length (body c m)) ≡ None → AreKept c o m
+kept_by c o m shaped none = kept_in c o m (id_of m) shaped refl none
+
+-- a value whose rules are kept may be sent
+pub legal_by : (c : Context) (o : Order) (m : Message) → IsShaped c m → length (body c m) ≤ c.limit → AreKept c o m → broken_field c.pieces (length (body c m)) (fields_of c m) ≡ None → IsLegal c o m
+legal_by c o m shaped short kept none =
+    let sound = fields_sound c.pieces (length (body c m)) (fields_of c m) none in
+    record {
+      shaped = shaped;
+      short = short;
+      agreed = kept.agreed;
+      indexed = sound.indexed;
+      sized = kept.sized;
+      spare = sound.spare;
+      known = kept.known;
+      in_time = kept.in_time;
+      opened = kept.opened;
+    }
+
+-- ---- one that breaks a rule may not
+
+illegal_in : (c : Context) (o : Order) (m : Message) (i : Option ℕ) (f : Refused) → id_of m ≡ i → broken_any c o i (length (body c m)) ≡ Some f → IsLegal c o m → ⊥
+illegal_in c o m None f e broken legal = absurd cc
+illegal_in c o m (Some n) f e broken legal =
+    let none = none_broken c o (kind_of n) (length (body c m)) (legal_unbroken c o m n (right_row c m n legal.shaped e) e legal) in
+    absurd (let bad = sym none ∙ broken in cc)
+
+pub illegal_id : (c : Context) (o : Order) (m : Message) (f : Refused) → broken_any c o (id_of m) (length (body c m)) ≡ Some f → IsLegal c o m → ⊥
+illegal_id c o m f broken legal = illegal_in c o m (id_of m) f refl broken legal
+
+pub illegal_fields : (c : Context) (o : Order) (m : Message) (n : ℕ) (f : Refused) → broken_field c.pieces n (fields_of c m) ≡ Some f → IsLegal c o m → ⊥
+illegal_fields c o m n f broken legal = absurd (let bad = sym (sound_fields c.pieces n (fields_of c m) legal.indexed legal.spare) ∙ broken in cc)
+
+-- ---- and its spelling has that fault
+
+rows_in : (c : Context) (o : Order) (m : Message) (i : Option ℕ) (f : Option Refused) → length (body c m) < 2 ^ 32 → id_of m ≡ i → broken_any c o i (length (body c m)) ≡ f → first_fault (map (id_row c o (spell c m ++ [])) id_rules) ≡ f
+rows_in c o m None f lt e broken = first_fault-none (map (id_row c o (spell c m ++ [])) id_rules) (none_by_id c o (spell c m ++ []) id_rules (id_empty (spell c m ++ []) (said_length-spell c m [] lt ∙ no_body c m e))) ∙ broken
+rows_in c o m (Some n) f lt e broken = broken-spell c o m [] n lt e ∙ broken
+
+header_of_value : (c : Context) (o : Order) (m : Message) (f : Option Refused) → length (body c m) < 2 ^ 32 → length (body c m) ≤ c.limit → broken_any c o (id_of m) (length (body c m)) ≡ f → header_fault c o (spell c m) ≡ f
+header_of_value c o m f lt short broken = ap (header_fault c o) (sym (append-nil (spell c m))) ∙ limited-spell c o m [] lt short ∙ rows_in c o m (id_of m) f lt refl broken
+
+pub refused_id : (c : Context) (o : Order) (m : Message) (f : Refused) → length (body c m) < 2 ^ 32 → length (body c m) ≤ c.limit → broken_any c o (id_of m) (length (body c m)) ≡ Some f → IsFault c o 0 (spell c m) (Some f)
+refused_id c o m f lt short broken = early f (early_header c o 0 (spell c m) (omega arith) ∙ header_of_value c o m (Some f) lt short broken) refl
+
+pub refused_fields : (c : Context) (o : Order) (m : Message) (f : Refused) → IsShaped c m → IsInRange c m → length (body c m) < 2 ^ 32 → length (body c m) ≤ c.limit → broken_any c o (id_of m) (length (body c m)) ≡ None
+    → broken_field c.pieces (length (body c m)) (fields_of c m) ≡ Some f → IsFault c o 0 (spell c m) (Some f)
+refused_fields c o m f shaped range lt short none broken =
+    let first = spelled_first c m [] lt in
+    let here = append-nil (spell c m) in
+    whole (early_header c o 0 (spell c m) (omega arith) ∙ header_of_value c o m None lt short none) (ap is_whole (sym here) ∙ first.whole)
+        (in_fields (sym (ap (λ (x : List ℕ). first_fault (field_rows c x)) (ap window (sym here) ∙ first.window) ∙ rows-spell c m shaped range lt ∙ broken)))
+
+-- ---- a spelling, one part after another
+
+pub spelled_parts : (c : Context) (m : Message) (n : ℕ) (x y z : List ℕ) (f : Fields) → id_of m ≡ Some n → f ≡ fields_of c m → x ≡ be32 (length (body c m)) → y ≡ x ++ (n ∷ []) → z ≡ y ++ spell_fields f → z ≡ spell c m
+spelled_parts c m n x y z f id fields first second third =
+    third ∙ ap (λ (k : List ℕ). k ++ spell_fields f) (second ∙ ap (λ (k : List ℕ). k ++ (n ∷ [])) first) ∙ append_assoc (be32 (length (body c m))) (n ∷ []) (spell_fields f)
+    ∙ ap (λ (g : Fields). be32 (length (body c m)) ++ (n ∷ spell_fields g)) fields ∙ ap (λ (o : Option ℕ). be32 (length (body c m)) ++ framed o (spell_fields (fields_of c m))) (sym id)
+
+-- ---- what calls gave
+
+pub same_id : (c : Context) (o : Order) (m : Message) (n : ℕ) (i : Option ℕ) (r : Option Refused) → n ≡ length (body c m) → i ≡ id_of m → r ≡ broken_any c o i n → broken_any c o (id_of m) (length (body c m)) ≡ r
+same_id c o m n i r size id e = ap (broken_any c o (id_of m)) (sym size) ∙ ap (λ (k : Option ℕ). broken_any c o k n) (sym id) ∙ sym e
+
+pub same_field : (c : Context) (m : Message) (n : ℕ) (f : Fields) (r : Option Refused) → n ≡ length (body c m) → f ≡ fields_of c m → r ≡ broken_field c.pieces n f → broken_field c.pieces (length (body c m)) (fields_of c m) ≡ r
+same_field c m n f r size fields e = ap (λ (k : ℕ). broken_field c.pieces k (fields_of c m)) (sym size) ∙ ap (broken_field c.pieces n) (sym fields) ∙ sym e
+
+pub in_range : (c : Context) (m : Message) (i : Option ℕ) (f : Fields) → i ≡ id_of m → IsIdInRange i → f ≡ fields_of c m → AreInRange f → IsInRange c m
+in_range c m i f id small fields range =
+    let P : Option ℕ → Type 0 = λ k. IsIdInRange k in
+    let Q : Fields → Type 0 = λ g. AreInRange g in
+    record { id = subst P id small; fields = subst Q fields range }

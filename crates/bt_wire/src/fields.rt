@@ -1,0 +1,99 @@
+//! What follows a message's id, by its shape.
+ghost use Rattle.std.specs.Prelude.{◌≡◌, nat_le, Some, None, length, if◌then◌else◌};
+ghost use Rattle.bt_wire.specs.Bitfields.{field_bytes, has_spare};
+ghost use Rattle.bt_wire.specs.Messages.{seen};
+ghost use Rattle.bt_wire.specs.Parts.{broken_field, bound_of, IsSized};
+
+use crate::fault::{Reason, Refused};
+
+/// The fields of a message, by their shape.
+#[derive(Clone, Copy, Debug)]
+pub enum Fields<'a> {
+    Nothing,
+    /// A piece index.
+    Index(u32),
+    /// A part of a piece.
+    Part {
+        index: u32,
+        begin: u32,
+        length: u32,
+    },
+    /// The bytes of a part of a piece.
+    Block {
+        index: u32,
+        begin: u32,
+        block: &'a [u8],
+    },
+    Port(u16),
+    /// A bit for each piece.
+    Field(&'a [u8]),
+    /// The bytes behind an id without a meaning.
+    Payload(&'a [u8]),
+}
+
+/// The fault of the fields of a message of this length: an index that isn't below the known piece count, or a bit past
+/// the last piece.
+pub fn judge_fields(pieces: Option<u32>, length: u32, fields: &Fields) -> Option<Refused>
+    requires { IsSized pieces (seen fields.now) }
+    ensures { result ≡ broken_field pieces length (seen fields.now) }
+{
+    let Some(pieces) = pieces else {
+        return None;
+    };
+    match fields {
+        Fields::Nothing => None,
+        Fields::Index(index) => judge_index(pieces, *index),
+        Fields::Part { index, .. } => judge_index(pieces, *index),
+        Fields::Block { index, .. } => judge_index(pieces, *index),
+        Fields::Port(_) => None,
+        Fields::Field(bits) => {
+            if has_spare_bits(pieces, bits) {
+                return Some(Refused {
+                    at: 3 + u64::from(length),
+                    reason: Reason::SpareBits,
+                });
+            }
+            None
+        }
+        Fields::Payload(_) => None,
+    }
+}
+
+fn judge_index(pieces: u32, index: u32) -> Option<Refused>
+    ensures { result ≡ (if nat_le pieces index then Some (record { at = 5; reason = Reason.BadIndex }) else None) }
+{
+    if index >= pieces {
+        return Some(Refused {
+            at: 5,
+            reason: Reason::BadIndex,
+        });
+    }
+    None
+}
+
+/// Whether a bit past the last piece is 1 (BEP 3: "Spare bits at the end are set to zero").
+fn has_spare_bits(pieces: u32, field: &[u8]) -> bool
+    requires { length field.now ≡ field_bytes pieces }
+    ensures { result ≡ has_spare (Some pieces) field.now }
+{
+    match field.last() {
+        None => false,
+        Some(last) => last % spare_bound((pieces % 8) as u8) != 0,
+    }
+}
+
+/// 2 to the number of spare bits of the last byte, where so many of its bits are used (0 for all).
+fn spare_bound(used: u8) -> u8
+    ensures { result ≡ bound_of used }
+{
+    match used {
+        1 => 128,
+        2 => 64,
+        3 => 32,
+        4 => 16,
+        5 => 8,
+        6 => 4,
+        7 => 2,
+        _ => 1,
+    }
+}
