@@ -1,11 +1,10 @@
 -- A checked slice has one tree.
-use Rattle.std.specs.Prelude.{◌≡◌, ℕ, zero, suc, List, [], ◌∷◌, ◌++◌, ◌≤◌}
+use Rattle.std.specs.Prelude.{◌≡◌, ℕ, List, [], ◌∷◌, ◌++◌, ◌≤◌}
 use Rattle.std.specs.Coded.{×_prop, Unit-prop, le_prop, Coded-set, coded_list, coded_ℕ}
 use Rattle.std.proofs.Common.{ap, subst, sym, ◌∙◌}
 use Rattle.std.proofs.Props.{props}
 use Rattle.bt_bencode.specs.Trees.{Tree, integer, string, list, dictionary, Trees, no_trees, tree, Pairs, no_pairs, pair, nesting}
 use Rattle.bt_bencode.specs.Bencoding.{ben, ben_pairs, Fits, Spells, InRange, AllInRange, PairsInRange, IsSpelling, deepest_nesting}
-use Rattle.bt_bencode.specs.Room.{FitsIn, AllFitIn, PairsFitIn}
 use Rattle.bt_bencode.specs.Unique.{same_tree, same_pairs}
 use Rattle.bt_bencode.specs.Readable.{SpellsPairs, ArePairs}
 

@@ -1,5 +1,5 @@
 -- Fitting by how deep a part may still nest. (For the contracts of functions that are not public.)
-use Rattle.std.specs.Prelude.{ℕ, zero, suc, ◌≤◌, List, length, FitsSigned, ⊤}
+use Rattle.std.specs.Prelude.{ℕ, zero, suc, ◌≤◌, length, FitsSigned, ⊤}
 use Rattle.std.specs.Int.{w64}
 use Rattle.bt_bencode.specs.Trees.{Tree, integer, string, list, dictionary, Trees, no_trees, tree, Pairs, no_pairs, pair}
 use Rattle.bt_bencode.specs.Bencoding.{longest_string}
