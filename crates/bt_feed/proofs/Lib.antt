@@ -1,0 +1,5 @@
+pub mod Closed
+pub mod Windows
+pub mod Hands
+pub mod Goals
+pub mod Filled

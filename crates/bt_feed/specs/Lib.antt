@@ -1,0 +1,5 @@
+pub mod Stages
+pub mod Feeds
+pub mod Views
+pub mod Answers
+pub mod Progress

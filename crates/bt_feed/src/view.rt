@@ -1,0 +1,30 @@
+ghost use Rattle.std.specs.Prelude.{◌≡◌, IfOk};
+ghost use Rattle.bt_feed.specs.Views.{item_of};
+
+use bt_wire::{Handshake, Item, MessageView, Refusal, copy_message};
+use std::alloc::{AllocError, Global};
+use thiserror::Error;
+
+/// An item whose bytes are those of the feed's buffer.
+#[derive(Clone, Copy, Debug)]
+pub enum View<'a> {
+    Handshake(Handshake),
+    Message(MessageView<'a>),
+}
+
+/// Why a feed gives no item.
+#[derive(Clone, Copy, PartialEq, Eq, Debug, Error)]
+pub enum TakeError {
+    #[error("message {} at {}: {}", .0.message, .0.at, .0.reason)]
+    Refused(Refusal),
+}
+
+/// The item that a view is, with memory of its own.
+pub fn to_item(alloc: Global, view: &View) -> Result<Item, AllocError>
+    ensures { IfOk result (λ item. item ≡ item_of view.now) }
+{
+    match view {
+        View::Handshake(handshake) => Ok(Item::Handshake(*handshake)),
+        View::Message(message) => Ok(Item::Message(copy_message(alloc, message)?)),
+    }
+}
