@@ -3,3 +3,4 @@ pub mod Windows
 pub mod Hands
 pub mod Goals
 pub mod Filled
+pub mod Found

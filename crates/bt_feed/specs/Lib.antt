@@ -3,3 +3,4 @@ pub mod Feeds
 pub mod Views
 pub mod Answers
 pub mod Progress
+pub mod Sound

@@ -1,8 +1,10 @@
 //! A feed: the items of a stream whose bytes come in any pieces, over one buffer that is reserved once.
 #![tactic(auto)]
 
+mod feed;
 mod progress;
 mod view;
 
+pub use feed::{Feed, FeedError};
 pub use progress::Stage;
-pub use view::{TakeError, View, to_item};
+pub use view::{Finish, TakeError, View, to_item};

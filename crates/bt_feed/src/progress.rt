@@ -1,14 +1,14 @@
 //! How far a feed is with the item that it awaits.
-ghost use Rattle.std.specs.Prelude.{◌≡◌, ◌+◌, ◌<◌, ◌≤◌, ◌^◌, ◌⊎◌, ◌++◌, ℕ, List, [], true, false, length, take, drop, vec_capacity, min, ◌-◌};
+ghost use Rattle.std.specs.Prelude.{◌≡◌, ◌+◌, ◌<◌, ◌≤◌, ◌^◌, ◌⊎◌, ◌++◌, ℕ, List, [], true, false, length, take, drop, vec_capacity, min, ◌-◌, IfSome, None, Err};
 ghost use Rattle.bt_feed.specs.Stages.{start_of, number_of, limit_of, capacity_of, refusal_of, is_closed, IsItem, HasFault, stage_after};
 ghost use Rattle.bt_feed.specs.Feeds.{held_of, state_of};
 ghost use Rattle.bt_feed.specs.Views.{item_of, shown};
-ghost use Rattle.bt_feed.specs.Answers.{IsAnswer, IsFound, after};
+ghost use Rattle.bt_feed.specs.Answers.{IsAnswer, IsFound, IsEarly, after, finish_of};
 ghost use Rattle.bt_feed.specs.Progress.{IsProgress, IsPartial, HasWindow, IsGoal, IsProgress, IsSameItem, Fills};
 
-use crate::view::{TakeError, View};
+use crate::view::{Finish, TakeError, View};
 use bt_wire::{
-    Context, Front, Header, Opening, Order, Own, Refusal, Refused, judge_handshake, judge_header,
+    Context, Front, Header, Opening, Order, Own, Reason, Refusal, Refused, judge_handshake, judge_header,
     negotiate, next_of_view, read_front, read_opening, view_window,
 };
 use std::alloc::Allocator;
@@ -149,6 +149,38 @@ impl Stage {
         }
     }
 
+    /// The fault that is judged before all of the item is there, or whether all of it is there.
+    #[cold]
+    #[inline(never)]
+    fn early(&self, held: &[u8]) -> Result<bool, Refused>
+        ensures { IsEarly self.now held.now result }
+    {
+        match self {
+            Stage::Handshake(own) => match judge_handshake(own, held) {
+                Some(fault) => Err(fault),
+                None => Ok(held.len() >= 68),
+            },
+            Stage::Message {
+                context,
+                order,
+                start,
+                ..
+            } => {
+                if *start >= END {
+                    return Err(Refused {
+                        at: 0,
+                        reason: Reason::StreamFull,
+                    });
+                }
+                match judge_header(context, *order, held) {
+                    Header::Need(_) => Ok(false),
+                    Header::Window(length) => Ok(held.len() as u64 >= length),
+                    Header::Refused { at, reason } => Err(Refused { at, reason }),
+                }
+            }
+        }
+    }
+
     /// How many bytes of the item are judged together, where these are there.
     #[cold]
     #[inline(never)]
@@ -225,6 +257,18 @@ fn append_up_to<A: Allocator>(buffer: &mut Vec<u8, A>, goal: usize, bytes: &[u8]
 }
 
 impl Progress {
+    /// Nothing has come.
+    pub fn new(stage: Stage) -> Progress
+        ensures { result ≡ record { stage = stage; spent = false; wanted = 0; refused = None } }
+    {
+        Progress {
+            stage,
+            spent: false,
+            wanted: 0,
+            refused: None,
+        }
+    }
+
     /// The bytes of the present item.
     #[inline(always)]
     pub fn held<'a>(&self, buffer: &'a [u8]) -> &'a [u8]
@@ -328,6 +372,90 @@ impl Progress {
         }
         self.wanted = length;
         append_up_to(buffer, length, piece)
+    }
+
+    /// The item that the bytes are, or their fault.
+    #[inline(always)]
+    fn find<'a>(&self, held: &'a [u8]) -> Result<Option<View<'a>>, Refused>
+        requires limit { limit_of self.now.stage ≤ 1048576 }
+        requires partial { IsPartial self.now.stage held.now }
+        requires wanted { 0 < self.now.wanted → HasWindow self.now.stage held.now self.now.wanted × (length held.now ≤ self.now.wanted) }
+        ensures { IsFound self.now.stage held.now result }
+    {
+        if self.wanted > 0 && held.len() == self.wanted {
+            if let Stage::Message { context, order, .. } = &self.stage {
+                return match view_window(context, *order, held) {
+                    Ok(view) => Ok(Some(View::Message(view))),
+                    Err(fault) => Err(fault),
+                };
+            }
+        }
+        self.stage.judge(held)
+    }
+
+    /// What the feed answers.
+    #[inline(always)]
+    pub fn answer<'a>(&self, buffer: &'a [u8]) -> Result<Option<View<'a>>, TakeError>
+        requires { IsProgress self.now buffer.now }
+        ensures { IsAnswer (state_of self.now buffer.now) (shown result) }
+    {
+        match self.find(self.held(buffer)) {
+            Ok(found) => Ok(found),
+            Err(fault) => Err(TakeError::Refused(self.stage.refusal(fault))),
+        }
+    }
+
+    /// What the feed answers, and moves on behind it.
+    #[inline(always)]
+    pub fn give<'a>(&mut self, buffer: &'a [u8]) -> Result<Option<View<'a>>, TakeError>
+        requires { IsProgress self.old buffer.now }
+        ensures value { IsAnswer (state_of self.old buffer.now) (shown result) }
+        ensures again { IfSome self.old.refused (λ r. result ≡ Err (TakeError.Refused r)) }
+        ensures after { state_of self.new buffer.now ≡ after (state_of self.old buffer.now) (shown result) }
+        ensures sound { IsProgress self.new buffer.now }
+        ensures limit { limit_of self.new.stage ≡ limit_of self.old.stage }
+    {
+        if let Some(refusal) = self.refused {
+            return Err(TakeError::Refused(refusal));
+        }
+        match self.answer(buffer) {
+            Ok(Some(view)) => {
+                let size = self.held(buffer).len();
+                self.stage.advance(&view, size);
+                self.spent = true;
+                self.wanted = 0;
+                Ok(Some(view))
+            }
+            Ok(None) => Ok(None),
+            Err(TakeError::Refused(refusal)) => {
+                self.refused = Some(refusal);
+                Err(TakeError::Refused(refusal))
+            }
+        }
+    }
+
+    /// What the feed says at the stream's end.
+    #[cold]
+    #[inline(never)]
+    pub fn finish(&self, buffer: &[u8]) -> Result<u64, Finish>
+        requires { IsProgress self.now buffer.now }
+        ensures { result ≡ finish_of (state_of self.now buffer.now) }
+    {
+        if let Some(refusal) = self.refused {
+            return Err(Finish::Refused(refusal));
+        }
+        let held = self.held(buffer);
+        match self.stage.early(held) {
+            Err(fault) => Err(Finish::Refused(self.stage.refusal(fault))),
+            Ok(true) => Err(Finish::Untaken),
+            Ok(false) => match self.stage {
+                Stage::Message { start, .. } if held.is_empty() => Ok(start),
+                _ => Err(Finish::Refused(self.stage.refusal(Refused {
+                    at: held.len() as u64,
+                    reason: Reason::EndInside,
+                }))),
+            },
+        }
     }
 }
 

@@ -19,6 +19,16 @@ pub enum TakeError {
     Refused(Refusal),
 }
 
+/// Why a stream isn't accepted that ends here.
+#[derive(Clone, Copy, PartialEq, Eq, Debug, Error)]
+pub enum Finish {
+    #[error("message {} at {}: {}", .0.message, .0.at, .0.reason)]
+    Refused(Refusal),
+    /// A whole item is held that wasn't taken.
+    #[error("an item is held that wasn't taken")]
+    Untaken,
+}
+
 /// The item that a view is, with memory of its own.
 pub fn to_item(alloc: Global, view: &View) -> Result<Item, AllocError>
     ensures { IfOk result (λ item. item ≡ item_of view.now) }

@@ -1,0 +1,8 @@
+use Rattle.std.proofs.Common.{◌≡◌, ◌≤◌, ℕ, List, length, ap, subst, arith}
+use Rattle.bt_feed.specs.Stages.{HasFault}
+use Rattle.bt_feed.proofs.Found.{fault_at, place_fits}
+use Rattle.bt_feed.proofs.progress.Progress.answer.Goals as goal
+
+pub refusal-requires : goal.refusal-requires
+refusal-requires c =
+    place_fits c.args.self.now c.args.buffer.now _ c.requires (omega (arith, fault_at _ _ _ c.in-Err.ensures, ap (length {A = ℕ}) c.held.ensures))

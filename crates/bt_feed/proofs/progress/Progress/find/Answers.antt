@@ -1,0 +1,15 @@
+use Rattle.std.proofs.Common.{◌∙◌, ap, subst, sym}
+use Rattle.bt_wire.specs.declared.fault.Header.TheVariants as headers
+use Rattle.bt_feed.specs.declared.progress.Stage.{Stage}
+use Rattle.bt_feed.specs.Stages.{HasFault}
+use Rattle.bt_feed.specs.Progress.{HasWindow}
+use Rattle.bt_feed.proofs.Found.{window_fault}
+use Rattle.bt_feed.proofs.progress.Progress.find.Goals as goal
+
+pub returns-in-Err : goal.returns-in-Err
+returns-in-Err c =
+    let held = c.args.held.now in
+    let P : Stage → Type 0 = λ t. HasWindow t held c.args.self.now.wanted in
+    let window = subst P c.in-Message.is (c.requires.wanted c.if-self-gt0.true).0 in
+    let Q : Stage → Type 0 = λ t. HasFault t held c.in-Err.fault in
+    subst Q (sym c.in-Message.is) (window_fault _ _ _ held _ window.0 (window.1 ∙ ap headers.Window (sym c.if-held-self.true)) c.in-Err.ensures.err)

@@ -1,0 +1,22 @@
+use Rattle.std.proofs.Common.{◌≡◌, ℕ, Some, None, false, leb, length, subst, sym}
+use Rattle.bt_wire.specs.declared.fault.Refused.{Refused}
+use Rattle.bt_feed.specs.declared.progress.Stage.{Stage}
+use Rattle.bt_feed.specs.Stages.{early, is_all}
+use Rattle.bt_feed.proofs.Found.{early_need, early_window, early_refused}
+use Rattle.bt_feed.proofs.progress.Stage.early.Goals as goal
+
+pub returns-in-Need : goal.returns-in-Need
+returns-in-Need c =
+    let P : Stage → Type 0 = λ t. (early t c.args.held.now ≡ None) × (is_all t c.args.held.now ≡ false) in
+    subst P (sym c.in-Message.is) (early_need _ _ _ c.in-Message.number _ _ c.if-start-ge-END.false (sym c.in-Need.ensures))
+
+pub returns-in-Window : goal.returns-in-Window
+returns-in-Window c =
+    let P : Stage → Type 0 = λ t. (early t c.args.held.now ≡ None) × (is_all t c.args.held.now ≡ leb c.in-Window.length (length c.args.held.now)) in
+    subst P (sym c.in-Message.is) (early_window _ _ _ c.in-Message.number _ _ c.if-start-ge-END.false (sym c.in-Window.ensures))
+
+pub returns-in-Refused : goal.returns-in-Refused
+returns-in-Refused c =
+    let fault : Refused = record { at = c.in-Refused.at; reason = c.in-Refused.reason } in
+    let P : Stage → Type 0 = λ t. early t c.args.held.now ≡ Some fault in
+    subst P (sym c.in-Message.is) (early_refused _ _ _ c.in-Message.number _ fault c.if-start-ge-END.false (sym c.in-Refused.ensures))

@@ -1,0 +1,8 @@
+use Rattle.std.specs.Prelude.{ℕ, ◌≤◌, vec_capacity}
+use Rattle.bt_feed.specs.declared.feed.Feed.TheInside.{Inside}
+use Rattle.bt_feed.specs.Stages.{capacity_of}
+use Rattle.bt_feed.specs.Progress.{IsProgress}
+
+pub record IsSound {A : Type 0} (a : Inside A) : Type 0 where
+  pub room : capacity_of a.progress.stage ≤ vec_capacity a.buffer
+  pub progress : IsProgress a.progress a.buffer.items

@@ -1,0 +1,164 @@
+ghost use Rattle.std.specs.Prelude.{◌≡◌, ◌+◌, ◌<◌, ◌≤◌, ◌^◌, ◌⊎◌, ◌↔◌, [], length, None, Err, IfOk, IfSome, IsErrOf};
+
+use crate::progress::{Progress, Stage};
+use crate::view::{Finish, TakeError, View};
+use bt_wire::{Context, Order, Own};
+use std::alloc::{AllocError, Allocator, Global};
+use std::marker::Model;
+use thiserror::Error;
+
+/// The greatest limit that a receiver may have.
+const MAX_LIMIT: u32 = 1_048_576;
+
+/// No message starts behind this offset.
+const END: u64 = 1 << 62;
+
+/// Why a feed can't be made.
+#[derive(Clone, Copy, PartialEq, Eq, Debug, Error)]
+pub enum FeedError {
+    /// The limit isn't 1 to 1,048,576.
+    #[error("the limit isn't 1 to 1,048,576")]
+    BadLimit,
+    /// The stream starts behind offset 2^62.
+    #[error("the stream starts behind offset 2^62")]
+    BadBase,
+    #[error("out of memory")]
+    Memory,
+}
+
+impl From<AllocError> for FeedError {
+    ghost use Rattle.bt_feed.specs.declared.feed.FeedError.TheVariants.{Memory};
+
+    ghost from_gives = { λ _ e. e ≡ Memory };
+
+    fn from(_: AllocError) -> FeedError {
+        FeedError::Memory
+    }
+}
+
+/// A stream that comes in any pieces: what it awaits, and the bytes of that which have come. The buffer is reserved once.
+#[derive(Drop)]
+pub struct Feed<A: Allocator = Global> {
+    progress: Progress,
+    buffer: Vec<u8, A>,
+}
+
+impl<A: Allocator> Model for Feed<A> {
+    ghost use Rattle.bt_feed.specs.Feeds.{FeedState, state_of};
+
+    ghost Value = { FeedState };
+
+    ghost view = { λ a. state_of a.progress a.buffer.items };
+
+    ghost use Rattle.bt_feed.specs.Sound.{IsSound};
+
+    ghost invariant = { IsSound };
+}
+
+ghost use Rattle.bt_feed.specs.Stages.{limit_of, start_of, capacity_of, is_closed};
+ghost use Rattle.bt_feed.specs.Feeds.{taken, pushed};
+ghost use Rattle.bt_feed.specs.Views.{shown};
+ghost use Rattle.bt_feed.specs.Progress.{IsPartial};
+ghost use Rattle.bt_feed.specs.Answers.{IsAnswer, after, finish_of};
+ghost use Rattle.std.specs.Io.BufRead.{Rests};
+ghost use types.Logic.{sem};
+ghost use Rattle.bt_feed.specs.contracts.feed.Feed.{the_row};
+
+impl<A: Allocator> Feed<A> {
+    /// A feed for a whole stream, from its handshake on.
+    pub fn new(alloc: A, own: Own) -> Result<Feed<A>, FeedError>
+        ensures ok { IfOk result (λ feed. feed ≡ record { stage = Stage.Handshake own; held = []; refused = None }) }
+        ensures limit { IsErrOf result FeedError.BadLimit ↔ ((own.limit ≡ 0) ⊎ (1048576 < own.limit)) }
+        ensures base { IsErrOf result FeedError.BadBase → ⊥ }
+    {
+        if own.limit == 0 || own.limit > MAX_LIMIT {
+            return Err(FeedError::BadLimit);
+        }
+        Ok(Feed {
+            progress: Progress::new(Stage::Handshake(own)),
+            buffer: Vec::with_capacity(alloc, (own.limit as usize + 4).max(68))?,
+        })
+    }
+
+    /// A feed for the messages behind a handshake, from this offset of the stream on.
+    pub fn new_at(
+        alloc: A,
+        context: Context,
+        order: Order,
+        base: u64,
+    ) -> Result<Feed<A>, FeedError>
+        ensures ok { IfOk result (λ feed. feed ≡ record { stage = Stage.Message context order base 1; held = []; refused = None }) }
+        ensures limit { IsErrOf result FeedError.BadLimit ↔ ((context.limit ≡ 0) ⊎ (1048576 < context.limit)) }
+        ensures base { IsErrOf result FeedError.BadBase ↔ ((0 < context.limit) × (context.limit ≤ 1048576) × (2 ^ 62 < base)) }
+    {
+        if context.limit == 0 || context.limit > MAX_LIMIT {
+            return Err(FeedError::BadLimit);
+        }
+        if base > END {
+            return Err(FeedError::BadBase);
+        }
+        Ok(Feed {
+            progress: Progress::new(Stage::Message {
+                context,
+                order,
+                start: base,
+                number: 1,
+            }),
+            buffer: Vec::with_capacity(alloc, (context.limit as usize + 4).max(68))?,
+        })
+    }
+
+    /// Where the present item starts on the stream.
+    #[inline(always)]
+    pub fn start(&self) -> u64
+        ensures { result ≡ start_of self.now.stage }
+    {
+        self.progress.stage.start()
+    }
+
+    /// How many bytes of the present item are held.
+    pub fn held(&self) -> usize
+        ensures { result ≡ length self.now.held }
+    {
+        self.progress.held(self.buffer.as_slice()).len()
+    }
+
+    /// Takes bytes up to the end of the present item, or up to the byte with which it is refused, and says how many: none
+    /// while a whole item is held, and none after a refusal. It takes no memory.
+    #[inline(always)]
+    pub fn push(&mut self, piece: &[u8]) -> usize
+        ensures taken { result ≡ taken self.old piece.now }
+        ensures held { self.new ≡ pushed self.old piece.now }
+        ensures in_range { result ≤ length piece.now }
+        ensures bound { length self.new.held ≤ capacity_of self.new.stage }
+        ensures partial { IsPartial self.new.stage self.new.held }
+    {
+        self.progress.fill(&mut self.buffer, piece)
+    }
+
+    /// The next item, where it is whole: its bytes are held no more from then on. A refusal is given again for ever after.
+    /// It takes no memory.
+    #[inline(always)]
+    pub fn take(&mut self) -> Result<Option<View<'_>>, TakeError>
+        ensures value { IsAnswer self.old (shown result) }
+        ensures again { IfSome self.old.refused (λ r. result ≡ Err (TakeError.Refused r)) }
+        ensures* after { sem 𝓛 (Rests (the_row A.row A.Allocator) self.entry (λ new. new ≡ after self.old (shown result))) }
+    {
+        self.progress.give(self.buffer.as_slice())
+    }
+
+    /// What `take` would answer.
+    pub fn look(&self) -> Result<Option<View<'_>>, TakeError>
+        ensures { IsAnswer self.now (shown result) }
+    {
+        self.progress.answer(self.buffer.as_slice())
+    }
+
+    /// What the stream comes to that ends here: the offset, or a refusal, or `Untaken` where a whole item is held that `take`
+    /// hasn't judged.
+    pub fn finish(&self) -> Result<u64, Finish>
+        ensures { result ≡ finish_of self.now }
+    {
+        self.progress.finish(self.buffer.as_slice())
+    }
+}
