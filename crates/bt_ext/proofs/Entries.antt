@@ -1,5 +1,5 @@
 -- Entries of a table: look-ups, and what keeps them a table.
-use Rattle.std.proofs.Common.{◌≡◌, ◌≢◌, ℕ, zero, suc, ◌+◌, ◌<◌, ◌≤◌, ◌==◌, List, [], ◌∷◌, ◌++◌, length, take, drop, get_or, Bool, true, false, Option, Some, None, is_some, unwrap_or, IfSome, nat_lt, if◌then◌else◌, Result, Ok, Err, OnOk, OnErr, Bor, refl, sym, ap, subst, ◌∙◌, arith, add-one, drop-cons, length-append}
+use Rattle.std.proofs.Common.{◌≡◌, ℕ, zero, suc, ◌+◌, ◌<◌, ◌≤◌, ◌==◌, List, [], ◌∷◌, ◌++◌, length, take, drop, get_or, Bool, true, false, Option, Some, None, is_some, unwrap_or, IfSome, nat_lt, if◌then◌else◌, Result, Ok, Err, OnOk, OnErr, Bor, refl, sym, ap, subst, ◌∙◌, arith, add-one, drop-cons, length-append}
 use Rattle.std.specs.declared.alloc.AllocError.{AllocError}
 use Rattle.std.specs.List.{remove, slice_set}
 use Rattle.std.specs.Bool.{Decides}

@@ -1,6 +1,7 @@
 pub mod Allowed
 pub mod ByName
 pub mod Entries
+pub mod LawProofs
 pub mod MadeKinds
 pub mod MadeRight
 pub mod Names

@@ -1,10 +1,9 @@
 -- The dictionary that is written for a kind is of that kind.
-use Rattle.std.proofs.Common.{◌≡◌, ℕ, ◌<◌, ◌≤◌, ◌^◌, refl, true, arith, nat_le, nat_lt}
+use Rattle.std.proofs.Common.{◌≡◌, ℕ, ◌<◌, ◌^◌, refl, true, arith, nat_le, nat_lt}
 use Rattle.bt_ext.specs.Metadata.{kind_of}
 use Rattle.bt_ext.specs.Made.{IsMade, message_tree}
 use Rattle.bt_ext.specs.declared.metadata.Kind.{Kind}
 use Rattle.bt_ext.specs.declared.metadata.Kind.TheVariants as kind
-use Rattle.std.proofs.Common.{cond, ap}
 use Rattle.std.proofs.lemmas.Grind.{common_steps}
 
 within : (n : ℕ) → n < 2 ^ 32 → nat_le n 4294967295 ≡ true

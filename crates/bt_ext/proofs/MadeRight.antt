@@ -1,5 +1,5 @@
 -- What an end writes fits, is allowed, and tells what it was made of.
-use Rattle.std.proofs.Common.{◌≡◌, ℕ, ℤ, pos, ◌<◌, ◌≤◌, ◌^◌, List, length, Bool, true, false, Option, Some, None, nat_le, codes, refl, arith}
+use Rattle.std.proofs.Common.{◌≡◌, ℕ, pos, ◌<◌, ◌^◌, List, length, true, Option, Some, None, nat_le, codes, refl, arith}
 use Rattle.std.specs.Prelude.{FitsSigned}
 use Rattle.std.specs.Option.{ForSome}
 use Rattle.std.specs.Int.{w64}
@@ -7,13 +7,12 @@ use Rattle.std.proofs.lemmas.Int.{fits_signed_from_abs}
 use Rattle.std.proofs.lemmas.Grind.{common_steps}
 use Rattle.bt_bencode.specs.Trees.{dictionary}
 use Rattle.bt_bencode.specs.Bencoding.{Fits}
-use Rattle.bt_bencode.specs.Keys.{IsSorted}
-use Rattle.bt_ext.specs.Fields.{has_bad_field, size_of}
+use Rattle.bt_ext.specs.Fields.{size_of}
 use Rattle.bt_ext.specs.Metadata.{is_block_ok}
 use Rattle.bt_ext.specs.Payloads.{HasDict}
 use Rattle.bt_ext.specs.Faults.{Allows}
 use Rattle.bt_ext.specs.Tables.{told_of, told}
-use Rattle.bt_ext.specs.Made.{IsMade, message_pairs, message_of, m_pairs, handshake_pairs, handshake_of, handshake_tree}
+use Rattle.bt_ext.specs.Made.{IsMade, message_pairs, message_of, handshake_pairs, handshake_of, handshake_tree}
 use Rattle.bt_ext.specs.declared.metadata.Kind.{Kind}
 use Rattle.bt_ext.specs.declared.metadata.Kind.TheVariants as kind
 use Rattle.bt_ext.specs.declared.ids.Rules.TheVariants as rules
@@ -24,9 +23,9 @@ number n h = fits_signed_from_abs w64 (pos n) h
 
 -- ---- metadata messages
 message-fits : (k : Kind) → IsMade k → Fits (dictionary (message_pairs k))
-message-fits (kind.Request piece) h = (omega arith, number 0 (omega arith), (omega arith, number piece (omega arith), tt))
-message-fits (kind.Data piece total) h = (omega arith, number 1 (omega arith), (omega arith, number piece (omega (arith, h.0)), (omega arith, number total h.2, tt)))
-message-fits (kind.Reject piece) h = (omega arith, number 2 (omega arith), (omega arith, number piece (omega arith), tt))
+message-fits (kind.Request piece) h = record { in_range = (omega arith, number 0 (omega arith), (omega arith, number piece (omega arith), tt)); nested = omega arith }
+message-fits (kind.Data piece total) h = record { in_range = (omega arith, number 1 (omega arith), (omega arith, number piece (omega (arith, h.0)), (omega arith, number total h.2, tt))); nested = omega arith }
+message-fits (kind.Reject piece) h = record { in_range = (omega arith, number 2 (omega arith), (omega arith, number piece (omega arith), tt)); nested = omega arith }
 message-fits kind.Other h = absurd h
 message-fits kind.Malformed h = absurd h
 
@@ -45,10 +44,10 @@ byte : (n : ℕ) → n < 256 → nat_le n 255 ≡ true
 byte n h = grind (arith, common_steps)
 
 handshake-fits : (id size : Option ℕ) → ForSome id (λ n. n < 256) → ForSome size (λ n. n < 2 ^ 63) → Fits (dictionary (handshake_pairs id size))
-handshake-fits None None h k = (omega arith, tt, tt)
-handshake-fits None (Some n) h k = (omega arith, tt, (omega arith, number n (k n refl), tt))
-handshake-fits (Some i) None h k = let b = h i refl in (omega arith, (omega arith, number i (omega arith), tt), tt)
-handshake-fits (Some i) (Some n) h k = let b = h i refl in (omega arith, (omega arith, number i (omega arith), tt), (omega arith, number n (k n refl), tt))
+handshake-fits None None h k = record { in_range = (omega arith, tt, tt); nested = omega arith }
+handshake-fits None (Some n) h k = record { in_range = (omega arith, tt, (omega arith, number n (k n refl), tt)); nested = omega arith }
+handshake-fits (Some i) None h k = let b = h i refl in record { in_range = (omega arith, (omega arith, number i (omega arith), tt), tt); nested = omega arith }
+handshake-fits (Some i) (Some n) h k = let b = h i refl in record { in_range = (omega arith, (omega arith, number i (omega arith), tt), (omega arith, number n (k n refl), tt)); nested = omega arith }
 
 handshake-allowed : (id size : Option ℕ) → ForSome id (λ n. n < 256) → Allows rules.Bep (handshake_of id size)
 handshake-allowed None None h = ((refl, tt, tt), refl)

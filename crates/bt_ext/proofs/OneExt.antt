@@ -1,15 +1,15 @@
 -- An extended id and its payload are those of one value.
-use Rattle.std.proofs.Common.{◌≡◌, ◌≢◌, ℕ, zero, suc, Option, Some, None, option_and_then, Bool, true, false, List, ◌++◌, refl, ap, sym, ◌∙◌, subst, length, length-append, take, arith, ◌≤◌, ◌||◌, ◌==◌, if◌then◌else◌}
+use Rattle.std.proofs.Common.{◌≡◌, ℕ, Option, Some, None, option_and_then, Bool, true, false, List, ◌++◌, refl, ap, sym, ◌∙◌, subst, length, length-append, take, arith, ◌==◌, if◌then◌else◌}
 use Rattle.std.proofs.Math.Seq.{take-append_seam}
 use Rattle.std.proofs.lemmas.Grind.{common_steps}
 use Rattle.bt_bencode.specs.Payloads.{BeginsWithNone}
 use Rattle.bt_bencode.specs.Trees.{dictionary}
 use Rattle.bt_bencode.specs.Bencoding.{ben}
-use Rattle.bt_bencode.specs.Unique.{same_tree, in_range}
+use Rattle.bt_bencode.proofs.LawProofs.{none_begins}
 use Rattle.bt_bencode.specs.Views.{tree_of}
 use Rattle.bt_bencode.specs.declared.tree.Value.{Value}
-use Rattle.bt_ext.specs.Ids.{metadata_id, is_id, needs_dict, extension_id}
-use Rattle.bt_ext.specs.Payloads.{IsExt, IsDict, ext_id}
+use Rattle.bt_ext.specs.Ids.{metadata_id, needs_dict, extension_id}
+use Rattle.bt_ext.specs.Payloads.{IsExt, IsDict}
 use Rattle.bt_ext.specs.declared.ids.Registered.{Registered}
 use Rattle.bt_ext.specs.declared.ext.Ext.{Ext}
 use Rattle.bt_ext.specs.declared.ext.Ext.TheVariants as ext
@@ -19,7 +19,7 @@ same_parts : (v w : Value) (x y payload : List ℕ) → IsDict v → IsDict w �
 same_parts v w x y payload dv dw ev ew =
     let left = ev ∙ ap (λ (u : Value). ben (tree_of u) ++ x) dv.1 in
     let right = ew ∙ ap (λ (u : Value). ben (tree_of u) ++ y) dw.1 in
-    let s = same_tree (dictionary dv.0) (dictionary dw.0) x y (in_range 32 (dictionary dv.0) dv.2) (in_range 32 (dictionary dw.0) dw.2) (sym left ∙ right) in
+    let s = none_begins (dictionary dv.0) (dictionary dw.0) x y dv.2 dw.2 (sym left ∙ right) in
     let tree = s.0 in
     let first = dv.1 in
     let second = dw.1 in

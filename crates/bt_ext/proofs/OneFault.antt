@@ -1,5 +1,6 @@
 -- A payload under an id has one fault or none.
-use Rattle.std.proofs.Common.{◌≡◌, ◌⊎◌, inl, inr, ℕ, Option, Some, None, Bool, true, IsTrue, List, refl, ap, sym, ◌∙◌, arith}
+use Rattle.std.proofs.Common.{◌≡◌, ◌⊎◌, inl, inr, ℕ, Option, Some, None, List, refl, ap, sym, ◌∙◌}
+use Rattle.bt_bencode.proofs.LawProofs.{one_place}
 use Rattle.bt_ext.specs.Payloads.{IsExt}
 use Rattle.bt_ext.specs.Faults.{IsFault, HasNoDict, fault_of}
 use Rattle.bt_ext.specs.declared.ids.Registered.{Registered}
@@ -25,18 +26,12 @@ split reg r id p (Some (error.Unsorted at)) h = inl (h.value, h.is, h.faulty)
 split reg r id p (Some error.BadField) h = inl (h.value, h.is, h.faulty)
 split reg r id p (Some (error.BadBlock at)) h = inl (h.value, h.is, h.faulty)
 
-same_place : (reg : Registered) (id : ℕ) (p : List ℕ) (m n : ℕ) → HasNoDict reg id p m → HasNoDict reg id p n → m ≡ n
-same_place reg id p m n a b =
-    let first = a.place.greatest n b.place.within b.place.viable in
-    let second = b.place.greatest m a.place.within a.place.viable in
-    omega arith
-
 join : (reg : Registered) (r : Rules) (id : ℕ) (p : List ℕ) (a b : Option ViewError) → OfValue reg r id p a ⊎ OfNone reg id p a → OfValue reg r id p b ⊎ OfNone reg id p b → a ≡ b
 unfolding OfValue OfNone
 join reg r id p a b (inl x) (inl y) = let e = same_ext reg x.0 y.0 id p x.1 y.1 in sym x.2 ∙ ap (fault_of r) e ∙ y.2
 join reg r id p a b (inl x) (inr y) = absurd (no_value reg x.0 id p y.1.needed y.1.none x.1)
 join reg r id p a b (inr x) (inl y) = absurd (no_value reg y.0 id p x.1.needed x.1.none y.1)
-join reg r id p a b (inr x) (inr y) = x.2 ∙ ap (λ (n : ℕ). Some (error.BadBencode n)) (same_place reg id p x.0 y.0 x.1 y.1) ∙ sym y.2
+join reg r id p a b (inr x) (inr y) = x.2 ∙ ap (λ (n : ℕ). Some (error.BadBencode n)) (one_place p x.0 y.0 x.1.place y.1.place) ∙ sym y.2
 
 pub one_fault : (reg : Registered) (r : Rules) (id : ℕ) (p : List ℕ) (a b : Option ViewError) → IsFault reg r id p a → IsFault reg r id p b → a ≡ b
 one_fault reg r id p a b h k = join reg r id p a b (split reg r id p a h) (split reg r id p b k)

@@ -1,5 +1,5 @@
 -- What the rules ask of an extended payload, and the first of its faults.
-use Rattle.std.specs.Prelude.{◌≡◌, ℕ, List, length, Bool, true, false, not, Option, Some, None, option_map, option_and_then, IsTrue, if◌then◌else◌, ⊤}
+use Rattle.std.specs.Prelude.{◌≡◌, ℕ, List, length, Bool, true, false, not, Option, Some, None, option_and_then, IsTrue, ⊤}
 use Rattle.bt_bencode.specs.Bencoding.{ben, IsPlace}
 use Rattle.bt_bencode.specs.Payloads.{BeginsWithNone}
 use Rattle.bt_bencode.specs.Keys.{unsorted, IsSorted}

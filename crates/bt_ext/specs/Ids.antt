@@ -1,5 +1,5 @@
 -- Extended ids (BEP 10): 0 is the extended handshake's, and a receiver tells the others.
-use Rattle.std.specs.Prelude.{ℕ, Bool, true, false, ◌==◌, ◌||◌, Option, Some, None, option_and_then, if◌then◌else◌}
+use Rattle.std.specs.Prelude.{ℕ, Bool, false, ◌==◌, ◌||◌, Option, Some, None, option_and_then, if◌then◌else◌}
 use Rattle.bt_ext.specs.declared.ids.Registered.{Registered}
 
 -- a number that names an extension, which 0 doesn't

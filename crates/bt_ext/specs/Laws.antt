@@ -7,7 +7,7 @@ use Rattle.std.specs.Option.{ForSome}
 use Rattle.bt_ext.specs.Fields.{id_value, size_of}
 use Rattle.bt_ext.specs.Tables.{Entries, IsTable, id_of_name, entered, entered_all, told, told_by, told_of, applied, id_after, before}
 use Rattle.bt_ext.specs.Payloads.{IsExt, HasDict}
-use Rattle.bt_ext.specs.Faults.{Allows, IsFault, fault_of}
+use Rattle.bt_ext.specs.Faults.{Allows, IsFault, fault_of, reason_of}
 use Rattle.bt_ext.specs.Metadata.{kind_of, is_block_ok}
 use Rattle.bt_ext.specs.Made.{IsMade, message_tree, message_of, handshake_tree, handshake_of}
 use Rattle.bt_ext.specs.declared.metadata.Kind.{Kind}
@@ -24,6 +24,10 @@ OneExt = (reg : Registered) (e f : Ext) (id : ℕ) (payload : List ℕ) → IsEx
 -- the rules allow a value exactly if it has no fault
 abbrev pub AllowedHasNoFault : Type 0
 AllowedHasNoFault = (r : Rules) (e : Ext) → Allows r e ↔ (fault_of r e ≡ None)
+
+-- and exactly if there is no reason to refuse it
+abbrev pub AllowedHasNoReason : Type 0
+AllowedHasNoReason = (r : Rules) (e : Ext) → Allows r e ↔ (reason_of r e ≡ None)
 
 -- a payload under an id has one fault or none: it is read or refused, and never both
 abbrev pub OneFault : Type 0

@@ -1,5 +1,5 @@
 -- The names and ids that a peer told (BEP 10, "m"): a finite map, and what an extended handshake makes of it.
-use Rattle.std.specs.Prelude.{◌≡◌, ℕ, ◌<◌, ◌≤◌, ◌==◌, List, [], ◌∷◌, ◌++◌, length, map, Bool, true, Option, Some, None, is_some, nat_lt, if◌then◌else◌, ◌||◌, codes, ⊤, take, slice_index_or}
+use Rattle.std.specs.Prelude.{◌≡◌, ℕ, ◌<◌, ◌≤◌, ◌==◌, List, [], ◌∷◌, ◌++◌, length, map, true, Option, Some, None, is_some, nat_lt, if◌then◌else◌, ◌||◌, codes, ⊤, take, slice_index_or}
 use Rattle.std.specs.Borrow.{Bor}
 use Rattle.std.specs.BTreeSet.{BTreeSet}
 use Rattle.std.specs.List.{list_any}

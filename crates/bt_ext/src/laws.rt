@@ -1,5 +1,5 @@
 //! Laws over the definitions alone.
-ghost use Rattle.bt_ext.specs.Laws.{OneExt, AllowedHasNoFault, OneFault, KindOfMade, MadeMessageIsRight, MadeHandshakeIsRight, MadeHandshakeTells, EnteredByName, FirstPairTells, AppliedByName, TableStays};
+ghost use Rattle.bt_ext.specs.Laws.{OneExt, AllowedHasNoFault, AllowedHasNoReason, OneFault, KindOfMade, MadeMessageIsRight, MadeHandshakeIsRight, MadeHandshakeTells, EnteredByName, FirstPairTells, AppliedByName, TableStays};
 
 /// An extended id and its payload are those of one value.
 pub fn one_ext()
@@ -9,6 +9,11 @@ pub fn one_ext()
 /// The rules allow a value exactly if it has no fault.
 pub fn allowed_has_no_fault()
     ensures { AllowedHasNoFault }
+{}
+
+/// The rules allow a value exactly if there is no reason to refuse it.
+pub fn allowed_has_no_reason()
+    ensures { AllowedHasNoReason }
 {}
 
 /// A payload under an id is read or has one fault, and never both.

@@ -1,4 +1,4 @@
-use Rattle.bt_ext.proofs.OneFault.{one_fault}
+use Rattle.bt_ext.proofs.LawProofs.{one_fault}
 use Rattle.bt_ext.proofs.laws.one_fault.Goals as goal
 
 pub returns : goal.returns

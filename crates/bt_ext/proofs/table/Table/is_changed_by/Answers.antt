@@ -1,4 +1,4 @@
-use Rattle.std.proofs.Common.{◌≡◌, ◌∙◌, ◌<◌, ℕ, Option, IfSome, unwrap_or, ap, sym, subst, []}
+use Rattle.std.proofs.Common.{◌∙◌, ◌<◌, ℕ, Option, IfSome, unwrap_or, ap, sym, subst, []}
 use Rattle.bt_ext.proofs.Entries.{unchanged_step}
 use Rattle.bt_ext.proofs.table.Table.is_changed_by.Goals as goal
 
