@@ -12,7 +12,7 @@ use Rattle.bt_feed.specs.declared.progress.Stage.{Stage}
 use Rattle.bt_feed.specs.declared.progress.Stage.TheVariants as stage
 use Rattle.bt_feed.specs.declared.progress.Progress.{Progress}
 use Rattle.bt_feed.specs.Stages.{start_of, number_of, limit_of, capacity_of, is_closed, HasFault, refusal_of}
-use Rattle.bt_feed.specs.Feeds.{taken_by, held_of, state_of}
+use Rattle.bt_feed.specs.Feeds.{taken_by, taken, pushed, held_of, state_of}
 use Rattle.bt_feed.specs.Answers.{IsAnswer}
 use Rattle.bt_feed.specs.Progress.{IsPartial, HasWindow, Fills, IsProgress, IsSameItem}
 use Rattle.bt_feed.proofs.Closed.{closed_all, fault_more, no_longer}
@@ -217,3 +217,16 @@ wanted_more p buffer piece h fresh some =
     let P : List ℕ → Type 0 = λ x. HasWindow p.stage x p.wanted × (length x ≤ p.wanted) in
     let here = subst P (held_fresh p buffer fresh) (h.wanted some) in
     (window_more p.stage buffer piece p.wanted here.0, here.1)
+
+-- ---- the feed afterwards
+
+pub taken_is : (p : Progress) (old piece new : List ℕ) (n : ℕ) → Fills p.stage (held_of p old) piece new n → (n < length piece → is_closed p.stage new ≡ true) → n ≡ taken (state_of p old) piece
+taken_is p old piece new n f stops = taken_filled p.stage (held_of p old) piece new n f stops
+
+pub pushed_is : (p q : Progress) (old piece new : List ℕ) (n : ℕ) → Fills p.stage (held_of p old) piece new n → (n < length piece → is_closed p.stage new ≡ true) → IsSameItem p q → state_of q new ≡ pushed (state_of p old) piece
+pushed_is p q old piece new n f stops same =
+    let bytes : held_of q new ≡ held_of p old ++ take (taken (state_of p old) piece) piece =
+    held_fresh q new same.fresh ∙ f.held ∙ ap (λ (k : ℕ). held_of p old ++ take k piece) (taken_is p old piece new n f stops) in
+    ap (λ (t : Stage). record { stage = t; held = held_of q new; refused = q.refused }) same.stage
+    ∙ ap (λ (b : List ℕ). record { stage = p.stage; held = b; refused = q.refused }) bytes
+    ∙ ap (λ (o : Option Refusal). record { stage = p.stage; held = held_of p old ++ take (taken (state_of p old) piece) piece; refused = o }) same.refused
