@@ -1,4 +1,7 @@
-ghost use Rattle.std.specs.Prelude.{◌≡◌, ◌≤◌, ◌<◌, Some, vec_len};
+ghost use Rattle.std.specs.Prelude.{◌≡◌, ◌≤◌, ◌<◌, ◌↔◌, Some, vec_len, length, min, is_err, IfOk, IsErr};
+ghost use Rattle.std.specs.Io.{ReadsAtMost, WritesAtMost};
+ghost use Rattle.std.specs.Io.KnownBytes.{ReadConsumes, WriteAppends};
+ghost use Rattle.bt_tool.specs.Counts.{one_more, counted as raised, is_end, is_stuck};
 
 use crate::counts::counted;
 use crate::failed::Failed;
@@ -44,7 +47,7 @@ impl MemSource {
 }
 
 impl Source for MemSource {
-    ghost use Rattle.bt_tool.specs.Devices.{source_left, source_counts};
+    ghost use Rattle.bt_tool.specs.Devices.{source_left, source_most, source_fails_at, source_counts};
 
     ghost left = { λ s. Some (source_left s) };
 
@@ -54,7 +57,15 @@ impl Source for MemSource {
 
     ghost ends = { λ s. (source_counts s).ends };
 
-    fn read(&mut self, into: &mut [u8]) -> Result<usize, Failed> {
+    fn read(&mut self, into: &mut [u8]) -> Result<usize, Failed>
+        ensures bound { ReadsAtMost result into.new }
+        ensures bytes { ReadConsumes (Some (source_left self.old)) (Some (source_left self.new)) result into.new }
+        ensures reads { (source_counts self.new).calls ≡ one_more (source_counts self.old).calls }
+        ensures failed { (source_counts self.new).failed ≡ raised (is_err result) (source_counts self.old).failed }
+        ensures ends { (source_counts self.new).ends ≡ raised (is_end result (length into.old)) (source_counts self.old).ends }
+        ensures moved { IfOk result (λ n. n ≡ min (min (length into.old) (source_most self.old)) (length (source_left self.old))) }
+        ensures fails { IsErr result ↔ (source_fails_at self.old ≡ Some (source_counts self.new).calls) }
+    {
         self.calls = self.calls.saturating_add(1);
         if self.fails_at == Some(self.calls) {
             self.failed = self.failed.saturating_add(1);
@@ -107,7 +118,7 @@ impl MemTarget {
 }
 
 impl Target for MemTarget {
-    ghost use Rattle.bt_tool.specs.Devices.{target_held, target_counts};
+    ghost use Rattle.bt_tool.specs.Devices.{target_held, target_most, target_fails_at, target_counts};
 
     ghost held = { λ t. Some (target_held t) };
 
@@ -115,7 +126,15 @@ impl Target for MemTarget {
 
     ghost failed_writes = { λ t. (target_counts t).failed };
 
-    fn write(&mut self, from: &[u8]) -> Result<usize, Failed> {
+    fn write(&mut self, from: &[u8]) -> Result<usize, Failed>
+        ensures bound { WritesAtMost result from.now }
+        ensures bytes { WriteAppends (Some (target_held self.old)) (Some (target_held self.new)) result from.now }
+        ensures writes { (target_counts self.new).calls ≡ one_more (target_counts self.old).calls }
+        ensures failed { (target_counts self.new).failed
+            ≡ raised (is_stuck result (length from.now)) (target_counts self.old).failed }
+        ensures moved { IfOk result (λ n. n ≡ min (length from.now) (target_most self.old)) }
+        ensures fails { target_fails_at self.old ≡ Some (target_counts self.new).calls → IsErr result }
+    {
         self.calls = self.calls.saturating_add(1);
         let count = from.len().min(self.most);
         if self.fails_at == Some(self.calls)

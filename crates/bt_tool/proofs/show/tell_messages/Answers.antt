@@ -1,13 +1,11 @@
 use Rattle.std.proofs.Common.{◌≡◌, ◌≢◌, ℕ, ◌+◌, ◌-◌, List, ◌++◌, length, drop, None, Some, refl, sym, ap, subst, ◌∙◌, arith}
 use Rattle.std.proofs.lemmas.List.{length-drop}
 use Rattle.bt_wire.specs.declared.fault.Reason.TheVariants.{EndInside}
-use Rattle.bt_wire.specs.declared.item.Item.TheVariants as items
 use Rattle.bt_wire.specs.Messages.{message_of}
 use Rattle.bt_wire.specs.Streams.{IsOutcome}
 use Rattle.bt_wire.proofs.StreamLaws.{at_rest}
 use Rattle.bt_wire.proofs.WalkLaws.{refused_here, partial_here, message_size, message_more}
 use Rattle.bt_tool.specs.declared.ended.Ended.TheVariants.{Accepted, Refused}
-use Rattle.bt_tool.specs.Lines.{line}
 use Rattle.bt_tool.proofs.Walking.{continues_first, continues_more, continues_end, ends_inside, ends_complete, fault_near}
 use Rattle.bt_tool.proofs.show.tell_messages.Goals as goal
 
