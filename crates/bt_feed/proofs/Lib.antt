@@ -4,3 +4,5 @@ pub mod Hands
 pub mod Goals
 pub mod Filled
 pub mod Found
+pub mod Coming
+pub mod Reading

@@ -4,3 +4,4 @@ pub mod Views
 pub mod Answers
 pub mod Progress
 pub mod Sound
+pub mod Transcripts

@@ -1,5 +1,6 @@
 -- What the bytes of one item show: the handshake, or a message of a given order, start and number.
-use Rattle.std.specs.Prelude.{◌≡◌, ℕ, ◌+◌, ◌≤◌, ◌<◌, ◌^◌, Bool, ◌||◌, List, length, take, Option, Some, None, is_some, nat_le, max}
+use Rattle.std.specs.Prelude.{◌≡◌, ℕ, ◌+◌, ◌≤◌, ◌<◌, ◌^◌, Bool, ◌||◌, List, [], length, take, Option, Some, None, is_some, nat_le, max}
+use Rattle.bt_wire.specs.declared.context.Order.{Order}
 use Rattle.bt_wire.specs.declared.context.Order.TheVariants.{Fresh}
 use Rattle.bt_wire.specs.declared.fault.Refused.{Refused}
 use Rattle.bt_wire.specs.declared.fault.Header.TheVariants as headers
@@ -21,6 +22,11 @@ start_of (stage.Message c o s n) = s
 abbrev pub number_of : Stage → ℕ
 number_of (stage.Handshake own) = 0
 number_of (stage.Message c o s n) = n
+
+-- the order that the item is judged in
+abbrev pub order_of : Stage → Order
+order_of (stage.Handshake own) = Fresh
+order_of (stage.Message c o s n) = o
 
 abbrev pub limit_of : Stage → ℕ
 limit_of (stage.Handshake own) = own.limit
@@ -71,3 +77,7 @@ stage_after (stage.Message c o s n) size (items.Handshake h) = stage.Message c o
 abbrev pub Comes : Stage → List ℕ → Outcome → Type 0
 Comes (stage.Handshake own) b v = IsVerdict own b v
 Comes (stage.Message c o s n) b v = IsOutcome c o s n b v
+
+-- nothing more is read: the bytes are left, with their refusal or none
+abbrev pub stopped : Stage → List ℕ → Option Refusal → Outcome
+stopped t b refusal = record { items = []; refusal = refusal; number = number_of t; order = order_of t; start = start_of t; tail = b }

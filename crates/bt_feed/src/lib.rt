@@ -3,8 +3,11 @@
 
 mod feed;
 mod progress;
+mod slices;
+mod transcript;
 mod view;
 
 pub use feed::{Feed, FeedError};
 pub use progress::Stage;
+pub use transcript::{Transcript, read_all};
 pub use view::{Finish, TakeError, View, to_item};

@@ -1,11 +1,12 @@
 //! How far a feed is with the item that it awaits.
-ghost use Rattle.std.specs.Prelude.{◌≡◌, ◌+◌, ◌<◌, ◌≤◌, ◌^◌, ◌⊎◌, ◌++◌, ℕ, List, [], true, false, length, take, drop, vec_capacity, min, ◌-◌, IfSome, None, Err};
+ghost use Rattle.std.specs.Prelude.{◌≡◌, ◌+◌, ◌<◌, ◌≤◌, ◌^◌, ◌⊎◌, ◌++◌, ℕ, List, [], true, false, length, take, vec_capacity, min, ◌-◌, IfSome, None, Err};
 ghost use Rattle.bt_feed.specs.Stages.{start_of, number_of, limit_of, capacity_of, refusal_of, is_closed, IsItem, HasFault, stage_after};
 ghost use Rattle.bt_feed.specs.Feeds.{held_of, state_of};
 ghost use Rattle.bt_feed.specs.Views.{item_of, shown};
 ghost use Rattle.bt_feed.specs.Answers.{IsAnswer, IsFound, IsEarly, after, finish_of};
 ghost use Rattle.bt_feed.specs.Progress.{IsProgress, IsPartial, HasWindow, IsGoal, IsProgress, IsSameItem, Fills};
 
+use crate::slices::behind;
 use crate::view::{Finish, TakeError, View};
 use bt_wire::{
     Context, Front, Header, Opening, Order, Own, Reason, Refusal, Refused, judge_handshake, judge_header,
@@ -457,13 +458,4 @@ impl Progress {
             },
         }
     }
-}
-
-/// The bytes from the n-th on.
-#[inline(always)]
-fn behind(bytes: &[u8], n: usize) -> &[u8]
-    requires { n ≤ length bytes.now }
-    ensures { result.now ≡ drop n bytes.now }
-{
-    &bytes[n..]
 }

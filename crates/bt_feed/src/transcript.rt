@@ -1,0 +1,93 @@
+ghost use Rattle.std.specs.Prelude.{◌≡◌, ◌+◌, ◌<◌, ◌≤◌, ◌^◌, ◌⊎◌, ◌↔◌, ◌++◌, ℕ, List, [], Option, false, Err, IfOk, IsErrOf, MatchOption, flat_map};
+ghost use Rattle.bt_wire.specs.declared.context.Own.{Own};
+ghost use Rattle.bt_wire.specs.declared.item.Item.{Item};
+ghost use Rattle.bt_wire.specs.declared.item.Refusal.{Refusal};
+ghost use Rattle.bt_feed.specs.Stages.{is_closed};
+ghost use Rattle.bt_feed.specs.Answers.{IsAnswer};
+ghost use Rattle.bt_feed.specs.Transcripts.{IsTranscript, Reads, IsReadTo};
+ghost use Rattle.bt_feed.specs.Views.{item_of};
+
+use crate::feed::{Feed, FeedError};
+use crate::slices::behind;
+use crate::view::{TakeError, to_item};
+use bt_wire::{Item, Own, Refusal};
+use std::alloc::{AllocError, Global};
+
+/// What is read of a stream: its items with their offsets, the refusal of what follows them, and how many bytes of an
+/// unfinished or a refused item are held.
+#[derive(Debug, Drop)]
+pub struct Transcript {
+    pub items: Vec<(u64, Item)>,
+    pub refused: Option<Refusal>,
+    pub rest: u64,
+}
+
+fn refusal_in(error: TakeError) -> Refusal
+    ensures { error ≡ TakeError.Refused result }
+{
+    match error {
+        TakeError::Refused(refusal) => refusal,
+    }
+}
+
+/// Reads a piece, up to its end or a refusal.
+fn read_piece(
+    alloc: Global,
+    feed: &mut Feed,
+    items: &mut Vec<(u64, Item)>,
+    piece: &[u8],
+) -> Result<Option<Refusal>, AllocError>
+    ensures { IfOk result (λ refused. (own : Own) (all later : List ℕ) → Reads own all items.old.items feed.old (piece.now ++ later)
+        → IsReadTo own all items.new.items feed.new later refused) }
+{
+    let mut at = 0;
+    'items: loop {
+        at += feed.push(behind(piece, at));
+        let start = feed.start();
+        match feed.take() {
+            Ok(Some(view)) => {
+                let item = to_item(alloc, &view)?;
+                items.push((start, item))?;
+            }
+            Ok(None) => return Ok(None),
+            Err(error) => return Ok(Some(refusal_in(error))),
+        }
+    }
+}
+
+/// Reads the pieces that follow, up to their end or a refusal.
+fn read_pieces(alloc: Global, mut feed: Feed, pieces: &[Vec<u8>]) -> Result<Transcript, AllocError>
+    ensures { IfOk result (λ t. (own : Own) (all : List ℕ) → Reads own all [] feed (flat_map (λ piece. piece.items) pieces.now) → is_closed feed.stage feed.held ≡ false
+        → IsTranscript own all t.items.items t.refused t.rest) }
+{
+    let mut items = Vec::new(alloc);
+    for piece in pieces {
+        if let Some(refusal) = read_piece(alloc, &mut feed, &mut items, piece)? {
+            return Ok(Transcript {
+                items,
+                refused: Some(refusal),
+                rest: feed.held() as u64,
+            });
+        }
+    }
+    Ok(Transcript {
+        items,
+        refused: None,
+        rest: feed.held() as u64,
+    })
+}
+
+/// Reads a stream that comes in these pieces: the answer is that for the joined bytes.
+pub fn read_all(alloc: Global, own: Own, pieces: &[Vec<u8>]) -> Result<Transcript, FeedError>
+    // It is what the joined bytes come to,
+    ensures verdict { IfOk result (λ t. IsTranscript own (flat_map (λ piece. piece.items) pieces.now) t.items.items t.refused t.rest) }
+    // and they come to nothing else.
+    ensures only { IfOk result (λ t. (items : List (ℕ × Item)) (refused : Option Refusal) (rest : ℕ)
+        → IsTranscript own (flat_map (λ piece. piece.items) pieces.now) items refused rest
+        → (t.items.items ≡ items) × (t.refused ≡ refused) × (t.rest ≡ rest)) }
+
+    ensures limit { IsErrOf result FeedError.BadLimit ↔ ((own.limit ≡ 0) ⊎ (1048576 < own.limit)) }
+    ensures base { IsErrOf result FeedError.BadBase → ⊥ }
+{
+    Ok(read_pieces(alloc, Feed::new(alloc, own)?, pieces)?)
+}
