@@ -6,3 +6,4 @@ pub mod Filled
 pub mod Found
 pub mod Coming
 pub mod Reading
+pub mod FeedLaws

@@ -27,9 +27,13 @@ after f (Err r) = record f { refused = Some r }
 
 -- ---- at the stream's end
 
+abbrev pub or_else : Option Refusal → Option Refusal → Option Refusal
+or_else (Some r) o = Some r
+or_else None o = o
+
 -- the refusal that was given, or that of a fault that is judged before all of the item is there
 abbrev pub standing : FeedState → Option Refusal
-standing f = elim (f.refused) [ Some r ↦ Some r | None ↦ option_map (refusal_of f.stage) (early f.stage f.held) ]
+standing f = or_else f.refused (option_map (refusal_of f.stage) (early f.stage f.held))
 
 -- no handshake is awaited, and nothing is held
 abbrev pub is_between : Stage → List ℕ → Bool
@@ -43,8 +47,12 @@ end_inside t b = refusal_of t (record { at = length b; reason = EndInside })
 abbrev pub end_of : Stage → List ℕ → Result ℕ Finish
 end_of t b = if is_all t b then Err Untaken else if is_between t b then Ok (start_of t) else Err (Refused (end_inside t b))
 
+abbrev pub unless_refused : Option Refusal → Result ℕ Finish → Result ℕ Finish
+unless_refused (Some r) end = Err (Refused r)
+unless_refused None end = end
+
 abbrev pub finish_of : FeedState → Result ℕ Finish
-finish_of f = elim (standing f) [ Some r ↦ Err (Refused r) | None ↦ end_of f.stage f.held ]
+finish_of f = unless_refused (standing f) (end_of f.stage f.held)
 
 -- ---- for private contracts
 

@@ -5,3 +5,4 @@ pub mod Answers
 pub mod Progress
 pub mod Sound
 pub mod Transcripts
+pub mod Laws

@@ -2,6 +2,7 @@
 #![tactic(auto)]
 
 mod feed;
+pub mod laws;
 mod progress;
 mod slices;
 mod transcript;

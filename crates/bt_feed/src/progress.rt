@@ -126,7 +126,7 @@ impl Stage {
     /// The item that the bytes are, or their fault.
     #[cold]
     #[inline(never)]
-    fn judge<'a>(&self, held: &'a [u8]) -> Result<Option<View<'a>>, Refused>
+    pub fn judge<'a>(&self, held: &'a [u8]) -> Result<Option<View<'a>>, Refused>
         requires limit { limit_of self.now ≤ 1048576 }
         requires partial { IsPartial self.now held.now }
         ensures { IsFound self.now held.now result }
