@@ -7,9 +7,6 @@ ghost use Rattle.bt_ext.specs.Fields.{int_at, byte_of, id_value, has_bad_id, is_
 
 use bt_bencode::{DictRef, Pairs, Value, lookup};
 
-/// The greatest id of one byte.
-const MAX_ID: i64 = 255;
-
 /// The integer at a key.
 pub fn int_at(dict: &Value, key: &[u8]) -> Option<i64>
     ensures { result ≡ int_at key.now (tree_of dict.now) }
@@ -24,16 +21,8 @@ pub fn int_at(dict: &Value, key: &[u8]) -> Option<i64>
 pub fn byte_of(value: Option<i64>) -> Option<u8>
     ensures { result ≡ byte_of value }
 {
-    match value {
-        Some(n) => {
-            if n >= 0 && n <= MAX_ID {
-                Some(n as u8)
-            } else {
-                None
-            }
-        }
-        None => None,
-    }
+    let n = value?;
+    u8::try_from(n).ok()
 }
 
 /// The id that a value of `m` is.
@@ -50,10 +39,8 @@ pub fn id_value(value: &Value) -> Option<u8>
 fn natural(value: Option<i64>) -> Option<u64>
     ensures { result ≡ option_and_then natural value }
 {
-    match value {
-        Some(n) => { if n >= 0 { Some(n as u64) } else { None } }
-        None => None,
-    }
+    let n = value?;
+    u64::try_from(n).ok()
 }
 
 /// The size of the metadata that an extended handshake tells (BEP 9): the first pair `metadata_size`, where it is an

@@ -8,60 +8,35 @@ use crate::fields::int_at;
 use crate::metadata::Kind;
 use bt_bencode::{DictRef, Value};
 
-const MAX_PIECE: i64 = 4_294_967_295;
-
 fn piece_of(value: Option<i64>) -> Option<u32>
     ensures { result ≡ piece_of value }
 {
-    match value {
-        Some(n) => {
-            if n >= 0 && n <= MAX_PIECE {
-                Some(n as u32)
-            } else {
-                None
-            }
-        }
-        None => None,
-    }
+    let n = value?;
+    u32::try_from(n).ok()
 }
 
 fn total_of(value: Option<i64>) -> Option<u64>
     ensures { result ≡ total_of value }
 {
-    match value {
-        Some(n) => { if n > 0 { Some(n as u64) } else { None } }
-        None => None,
-    }
+    let n = value?;
+    if n > 0 { Some(n as u64) } else { None }
 }
 
 fn kind_by(msg_type: Option<i64>, piece: Option<i64>, total: Option<i64>) -> Kind
     ensures { result ≡ kind_by msg_type piece total }
 {
-    match msg_type {
-        None => Kind::Malformed,
-        Some(n) => {
-            if n == 0 {
-                match piece_of(piece) {
-                    Some(piece) => Kind::Request(piece),
-                    None => Kind::Malformed,
-                }
-            } else if n == 1 {
-                match piece_of(piece) {
-                    Some(piece) => match total_of(total) {
-                        Some(total) => Kind::Data { piece, total },
-                        None => Kind::Malformed,
-                    },
-                    None => Kind::Malformed,
-                }
-            } else if n == 2 {
-                match piece_of(piece) {
-                    Some(piece) => Kind::Reject(piece),
-                    None => Kind::Malformed,
-                }
-            } else {
-                Kind::Other
-            }
-        }
+    let Some(msg_type) = msg_type else {
+        return Kind::Malformed;
+    };
+    match (msg_type, piece_of(piece)) {
+        (0, Some(piece)) => Kind::Request(piece),
+        (1, Some(piece)) => match total_of(total) {
+            Some(total) => Kind::Data { piece, total },
+            None => Kind::Malformed,
+        },
+        (2, Some(piece)) => Kind::Reject(piece),
+        (0..=2, None) => Kind::Malformed,
+        _ => Kind::Other,
     }
 }
 

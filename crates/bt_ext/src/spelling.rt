@@ -88,16 +88,9 @@ fn spell_dict(alloc: Global, dict: &Value, rest: &ByteString) -> Result<Vec<u8>,
     ensures ok { IfOk result (λ bytes. bytes.items ≡ ben (tree_of dict.now) ++ rest.now) }
     ensures memory { IfErr result (λ e. e ≡ SpellError.Memory) }
 {
-    match spell(alloc, dict) {
-        Ok(bytes) => {
-            let mut bytes = bytes;
-            match bytes.extend_from_slice(rest.as_slice()) {
-                Ok(()) => Ok(bytes),
-                Err(_) => Err(SpellError::Memory),
-            }
-        }
-        Err(_) => Err(SpellError::Memory),
-    }
+    let mut bytes = spell(alloc, dict)?;
+    bytes.extend_from_slice(rest.as_slice())?;
+    Ok(bytes)
 }
 
 fn spell_payload(alloc: Global, value: &Ext) -> Result<Vec<u8>, SpellError>
@@ -108,10 +101,7 @@ fn spell_payload(alloc: Global, value: &Ext) -> Result<Vec<u8>, SpellError>
     match value {
         Ext::Handshake { dict, rest } => spell_dict(alloc, dict, rest),
         Ext::Metadata { dict, rest } => spell_dict(alloc, dict, rest),
-        Ext::Raw { payload, .. } => match payload.as_slice().to_vec(alloc) {
-            Ok(bytes) => Ok(bytes),
-            Err(_) => Err(SpellError::Memory),
-        },
+        Ext::Raw { payload, .. } => Ok(payload.as_slice().to_vec(alloc)?),
     }
 }
 
@@ -122,13 +112,11 @@ pub fn spell_ext(alloc: Global, reg: Registered, value: &Ext) -> Result<(u8, Vec
     ensures out_of_range { (result ≡ Err SpellError.OutOfRange) ↔ HasNoSpelling reg value.now }
     ensures memory { result ≡ Err SpellError.Memory → HasSpelling reg value.now }
 {
-    match own_id(reg, value) {
-        None => Err(SpellError::OutOfRange),
-        Some(id) => match spell_payload(alloc, value) {
-            Ok(payload) => Ok((id, payload)),
-            Err(_) => Err(SpellError::Memory),
-        },
-    }
+    let Some(id) = own_id(reg, value) else {
+        return Err(SpellError::OutOfRange);
+    };
+    let payload = spell_payload(alloc, value)?;
+    Ok((id, payload))
 }
 
 fn is_unsorted(dict: &Value) -> bool

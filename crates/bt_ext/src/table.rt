@@ -92,7 +92,7 @@ impl Table {
         ensures { IfOk result (λ t. t ≡ self.now) }
     {
         let alloc = *self.entries.allocator();
-        let mut entries = Vec::new(alloc);
+        let mut entries = Vec::with_capacity(alloc, self.entries.len())?;
         for (name, id) in &self.entries {
             let name = ByteString::from_vec(name.as_slice().to_vec(alloc)?);
             entries.push((name, *id))?;
