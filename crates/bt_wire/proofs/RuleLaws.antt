@@ -13,7 +13,7 @@ use Rattle.bt_wire.specs.declared.message.Message.{Message}
 use Rattle.bt_wire.specs.declared.message.Message.TheVariants as m
 use Rattle.bt_wire.specs.Bitfields.{has_spare}
 use Rattle.bt_wire.specs.Ids.{kind_of, shape_by}
-use Rattle.bt_wire.specs.Messages.{Fields, none, index, part, block, port, field, payload, kind_in, id_of, fields_of, index_in, field_in, is_payload, spell_fields, body, framed, AreInRange}
+use Rattle.bt_wire.specs.Messages.{Fields, none, index, part, block, port, field, extended, payload, kind_in, id_of, fields_of, index_in, field_in, is_payload, spell_fields, body, framed, AreInRange}
 use Rattle.bt_wire.specs.Tables.{row, first_fault}
 use Rattle.bt_wire.specs.Numbers.{be32, number32}
 use Rattle.bt_wire.specs.Faults.{said_length, said_id, has_id, allows, size_by, field_size, is_strict, is_agreed, is_late, is_missing, is_beyond, has_index, is_field, id_rules, id_row, field_rows}
@@ -71,6 +71,7 @@ fields_size c (part i b l) h = refl
 fields_size c (block i b bytes) h = le-leb 9 (suc (length (be32 i ++ (be32 b ++ bytes)))) (omega (arith, length-append (be32 i) (be32 b ++ bytes), length-append (be32 b) bytes))
 fields_size c (port p) h = refl
 fields_size c (field bits) h = h
+fields_size c (extended n bytes) h = le-leb 2 (suc (suc (length bytes))) (omega arith)
 fields_size c (payload bytes) h = le-leb 1 (suc (length bytes)) (omega arith)
 
 sized_by : (c : Context) (f : Fields) → allows (size_by c (shape_in f)) (suc (length (spell_fields f))) ≡ true → IsSized c.pieces f
@@ -80,6 +81,7 @@ sized_by c (index i) h = tt
 sized_by c (part i b l) h = tt
 sized_by c (block i b bytes) h = tt
 sized_by c (port p) h = tt
+sized_by c (extended n bytes) h = tt
 sized_by c (payload bytes) h = tt
 
 pub body_length : (c : Context) (m : Message) (n : ℕ) → id_of m ≡ Some n → length (body c m) ≡ suc (length (spell_fields (fields_of c m)))
@@ -130,6 +132,7 @@ shape_rows c n (part i b l) r = rw (number32-be32 i (be32 b ++ be32 l) r.0) refl
 shape_rows c n (block i b bytes) r = rw (number32-be32 i (be32 b ++ bytes) r.0) refl
 shape_rows c n (port p) r = refl
 shape_rows c n (field bits) r = refl
+shape_rows c n (extended k bytes) r = refl
 shape_rows c n (payload bytes) r = refl
 
 pub fields_rows : (c : Context) (w : List ℕ) (f : Fields) → has_id w ≡ true → shape_by (kind_of (said_id w)) ≡ shape_in f → drop 5 w ≡ spell_fields f → AreInRange f → first_fault (field_rows c w) ≡ broken_field c.pieces (said_length w) f

@@ -1,18 +1,22 @@
 -- A spelling is read as the message that it is of, whatever follows, and none begins another.
 use Rattle.std.proofs.Common.{◌≡◌, ℕ, suc, ◌+◌, ◌^◌, ◌<◌, true, false, List, [], ◌++◌, length, take, drop, Option, Some, None, refl, sym, ap, subst, ◌∙◌, arith}
-use Rattle.std.specs.Prelude.{MatchOption, is_some}
+use Rattle.std.specs.Prelude.{MatchOption, is_some, unwrap_or, IsSome}
 use Rattle.std.proofs.lemmas.Bool.{le-leb}
 use Rattle.std.proofs.lemmas.List.{append_assoc, length-append, take_at, drop_at}
+use Rattle.bt_ext.specs.declared.ext.Ext.{Ext}
+use Rattle.bt_ext.specs.declared.ids.Registered.{Registered}
+use Rattle.bt_ext.specs.Payloads.{IsExt, HasSpelling, ext_id, payload_of}
+use Rattle.bt_ext.proofs.OneExt.{same_ext}
 use Rattle.bt_wire.specs.declared.context.Context.{Context}
 use Rattle.bt_wire.specs.declared.context.Order.{Order}
 use Rattle.bt_wire.specs.declared.ids.Kind.{Kind}
 use Rattle.bt_wire.specs.declared.ids.Shape.{Shape}
-use Rattle.bt_wire.specs.declared.ids.Shape.TheVariants.{Nothing, Index, Part, Block, Port, Field}
+use Rattle.bt_wire.specs.declared.ids.Shape.TheVariants.{Nothing, Index, Part, Block, Port, Field, Extended}
 use Rattle.bt_wire.specs.declared.message.Message.{Message}
 use Rattle.bt_wire.specs.declared.message.Message.TheVariants as m
 use Rattle.bt_wire.specs.Numbers.{be16, be32, number16, number32, AreBytes}
 use Rattle.bt_wire.specs.Ids.{kind_of, shape_by}
-use Rattle.bt_wire.specs.Messages.{Fields, none, index, part, block, port, field, payload, kind_in, id_of, fields_of, spell_fields, framed, body, spell, IsShaped, IsInRange}
+use Rattle.bt_wire.specs.Messages.{Fields, none, index, part, block, port, field, extended, payload, kind_in, id_of, fields_of, spell_fields, framed, body, spell, IsShaped, IsInRange}
 use Rattle.bt_wire.specs.Faults.{said_length, said_id, is_whole, window, window_length}
 use Rattle.bt_wire.specs.Legal.{IsSaid}
 use Rattle.bt_wire.specs.Parts.{reading, known, named, made}
@@ -62,24 +66,49 @@ body_made (Some n) bytes = made n bytes
 read_part : (i b l : ℕ) → (i < 2 ^ 32) × (b < 2 ^ 32) × (l < 2 ^ 32) → reading Part (spell_fields (part i b l)) ≡ part i b l
 read_part i b l h = rw (number32-be32 i (be32 b ++ be32 l) h.0, number32-be32 b (be32 l) h.1, number32-be32 l [] h.2) refl
 
-read_block : (i b : ℕ) (bytes : List ℕ) → (i < 2 ^ 32) × (b < 2 ^ 32) × AreBytes bytes → reading Block (spell_fields (block i b bytes)) ≡ block i b bytes
+read_block : (i b : ℕ) (bytes : List ℕ) → (i < 2 ^ 32) × (b < 2 ^ 32) → reading Block (spell_fields (block i b bytes)) ≡ block i b bytes
 read_block i b bytes h = rw (number32-be32 i (be32 b ++ bytes) h.0, number32-be32 b bytes h.1) refl
 
 read_index : (i : ℕ) → i < 2 ^ 32 → reading Index (be32 i) ≡ index i
 read_index i h = ap index (number32-be32 i [] h)
 
-made-fields : (c : Context) (msg : Message) → IsShaped c msg → IsInRange c msg → body_made (id_of msg) (spell_fields (fields_of c msg)) ≡ msg
-unfolding body_made made
-made-fields c (m.Have i) shaped range = ap (known 4) (read_index i range.fields)
-made-fields c (m.Request i b l) shaped range = ap (known 6) (read_part i b l range.fields)
-made-fields c (m.Piece i b bytes) shaped range = ap (known 7) (read_block i b bytes range.fields)
-made-fields c (m.Cancel i b l) shaped range = ap (known 8) (read_part i b l range.fields)
-made-fields c (m.Port p) shaped range = ap m.Port (number16-be16 p range.fields)
-made-fields c (m.Suggest i) shaped range = ap (known 13) (read_index i range.fields)
-made-fields c (m.Reject i b l) shaped range = ap (known 16) (read_part i b l range.fields)
-made-fields c (m.AllowedFast i) shaped range = ap (known 17) (read_index i range.fields)
-made-fields c (m.Unknown n bytes) shaped range = ap (λ (o : Option Kind). named o n bytes) (no_kind (kind_of n) shaped)
-made-fields c msg shaped range = refl
+-- the value of an extended message
+pub ext_of : Message → Option Ext
+ext_of (m.Extended e) = Some e
+ext_of msg = None
+
+pub ext_is : (msg : Message) (e : Ext) → ext_of msg ≡ Some e → msg ≡ m.Extended e
+unfolding ext_of
+ext_is (m.Extended f) e h = ap m.Extended cc
+ext_is msg e h = absurd cc
+
+pub ext_is_of : (msg : Message) (e : Ext) → msg ≡ m.Extended e → ext_of msg ≡ Some e
+unfolding ext_of
+ext_is_of msg e h = ap ext_of h
+
+-- it is the message with the id of extended messages
+pub not_twenty : (n k : ℕ) → Some n ≡ Some k → n ≡ k
+not_twenty n k e = cc
+
+pub ext_twenty : (c : Context) (msg : Message) → IsShaped c msg → id_of msg ≡ Some 20 → (e : Ext) × (msg ≡ m.Extended e)
+ext_twenty c (m.Extended e) shaped h = (e, refl)
+ext_twenty c (m.Unknown n bytes) shaped h = absurd (let known = rw (not_twenty n 20 h) at shaped in cc)
+ext_twenty c m.KeepAlive shaped h = absurd cc
+ext_twenty c msg shaped h = absurd (omega (arith, not_twenty _ 20 h))
+
+made-fields : (c : Context) (msg : Message) → ext_of msg ≡ None → IsShaped c msg → IsInRange c msg → body_made (id_of msg) (spell_fields (fields_of c msg)) ≡ msg
+unfolding body_made made ext_of
+made-fields c (m.Extended e) plain shaped range = absurd cc
+made-fields c (m.Have i) plain shaped range = ap (known 4) (read_index i range.fields)
+made-fields c (m.Request i b l) plain shaped range = ap (known 6) (read_part i b l range.fields)
+made-fields c (m.Piece i b bytes) plain shaped range = ap (known 7) (read_block i b bytes range.fields)
+made-fields c (m.Cancel i b l) plain shaped range = ap (known 8) (read_part i b l range.fields)
+made-fields c (m.Port p) plain shaped range = ap m.Port (number16-be16 p range.fields)
+made-fields c (m.Suggest i) plain shaped range = ap (known 13) (read_index i range.fields)
+made-fields c (m.Reject i b l) plain shaped range = ap (known 16) (read_part i b l range.fields)
+made-fields c (m.AllowedFast i) plain shaped range = ap (known 17) (read_index i range.fields)
+made-fields c (m.Unknown n bytes) plain shaped range = ap (λ (o : Option Kind). named o n bytes) (no_kind (kind_of n) shaped)
+made-fields c msg plain shaped range = refl
 
 -- the id and the fields of a body
 record HasParts (o p : Option ℕ) (x y : List ℕ) : Type 0 where
@@ -96,10 +125,41 @@ no_fields : (c : Context) (msg : Message) → id_of msg ≡ None → spell_field
 no_fields c m.KeepAlive e = refl
 no_fields c msg e = absurd cc
 
+-- two extended values with one extended id and one payload are one
+some_id : (o : Option ℕ) → IsSome o → o ≡ Some (unwrap_or o 0)
+some_id None h = absurd cc
+some_id (Some n) h = refl
+
+pub spelled_ext : (reg : Registered) (e : Ext) → HasSpelling reg e → IsExt reg e (unwrap_or (ext_id reg e) 0) (payload_of e)
+spelled_ext reg e h = record { named = some_id (ext_id reg e) h.0; fits = h.1; spelled = refl }
+
+both_ext : (c : Context) (e f : Ext) → HasSpelling c.reg e → HasSpelling c.reg f → body c (m.Extended e) ≡ body c (m.Extended f) → m.Extended e ≡ m.Extended f
+both_ext c e f he hf h =
+    let id : unwrap_or (ext_id c.reg e) 0 ≡ unwrap_or (ext_id c.reg f) 0 = cc in
+    let bytes : payload_of e ≡ payload_of f = cc in
+    let P : ℕ → Type 0 = λ n. IsExt c.reg e n (payload_of f) in
+    let Q : List ℕ → Type 0 = λ p. IsExt c.reg e (unwrap_or (ext_id c.reg e) 0) p in
+    ap m.Extended (same_ext c.reg e f (unwrap_or (ext_id c.reg f) 0) (payload_of f) (subst P id (subst Q bytes (spelled_ext c.reg e he))) (spelled_ext c.reg f hf))
+
+-- of two messages with one body of which one is extended
+ext_body : (c : Context) (e : Ext) (k n : Message) → k ≡ m.Extended e → IsShaped c k → IsShaped c n → body c k ≡ body c n → k ≡ n
+ext_body c e k n is ks ns h =
+    let P : Message → Type 0 = λ x. IsShaped c x in
+    let he : HasSpelling c.reg e = subst P is ks in
+    let same = same_parts (id_of k) (id_of n) (spell_fields (fields_of c k)) (spell_fields (fields_of c n)) h (no_fields c k) (no_fields c n) in
+    let other = ext_twenty c n ns (sym same.id ∙ ap id_of is) in
+    let hf : HasSpelling c.reg other.0 = subst P other.1 ns in
+    is ∙ both_ext c e other.0 he hf (ap (body c) (sym is) ∙ h ∙ ap (body c) other.1) ∙ sym other.1
+
+bodies : (c : Context) (k n : Message) (o p : Option Ext) → ext_of k ≡ o → ext_of n ≡ p → IsShaped c k → IsInRange c k → IsShaped c n → IsInRange c n → body c k ≡ body c n → k ≡ n
+bodies c k n (Some e) p hk hn ks kr ns nr h = ext_body c e k n (ext_is k e hk) ks ns h
+bodies c k n None (Some f) hk hn ks kr ns nr h = sym (ext_body c f n k (ext_is n f hn) ns ks (sym h))
+bodies c k n None None hk hn ks kr ns nr h =
+    let parts = same_parts (id_of k) (id_of n) (spell_fields (fields_of c k)) (spell_fields (fields_of c n)) h (no_fields c k) (no_fields c n) in
+    sym (made-fields c k hk ks kr) ∙ ap (λ (o : Option ℕ). body_made o (spell_fields (fields_of c k))) parts.id ∙ ap (body_made (id_of n)) parts.fields ∙ made-fields c n hn ns nr
+
 one_body : (c : Context) (k n : Message) → IsShaped c k → IsInRange c k → IsShaped c n → IsInRange c n → body c k ≡ body c n → k ≡ n
-one_body c k n ks kr ns nr e =
-    let parts = same_parts (id_of k) (id_of n) (spell_fields (fields_of c k)) (spell_fields (fields_of c n)) e (no_fields c k) (no_fields c n) in
-    sym (made-fields c k ks kr) ∙ ap (λ (o : Option ℕ). body_made o (spell_fields (fields_of c k))) parts.id ∙ ap (body_made (id_of n)) parts.fields ∙ made-fields c n ns nr
+one_body c k n ks kr ns nr h = bodies c k n (ext_of k) (ext_of n) refl refl ks kr ns nr h
 
 -- what may be sent has a length that fits four bytes
 pub fits : (c : Context) (o : Order) (s : ℕ) (m : Message) → c.limit < 2 ^ 32 → IsSaid c o s m → length (body c m) < 2 ^ 32
@@ -124,6 +184,7 @@ shape_in (part i b l) = Some Part
 shape_in (block i b bytes) = Some Block
 shape_in (port p) = Some Port
 shape_in (field bits) = Some Field
+shape_in (extended n bytes) = Some Extended
 shape_in (payload bytes) = None
 
 pub record IsRow (c : Context) (msg : Message) (n : ℕ) : Type 0 where

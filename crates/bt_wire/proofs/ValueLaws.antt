@@ -1,6 +1,17 @@
 -- Why a value may not be sent.
-use Rattle.std.proofs.Common.{◌≡◌, ℕ, ◌+◌, ◌^◌, ◌≤◌, ◌<◌, List, [], ◌∷◌, ◌++◌, map, length, Option, Some, None, refl, sym, ap, subst, ◌∙◌, arith}
+use Rattle.std.proofs.Common.{◌≡◌, ℕ, ◌+◌, ◌^◌, ◌≤◌, ◌<◌, List, [], ◌∷◌, ◌++◌, map, length, Option, Some, None, refl, sym, ap, subst, ◌∙◌, arith, inr, true}
 use Rattle.std.proofs.lemmas.List.{append-nil, append_assoc}
+use Rattle.std.specs.Prelude.{MatchOption, option_and_then}
+use Rattle.bt_ext.specs.declared.ext.Ext.{Ext}
+use Rattle.bt_ext.specs.declared.ext.ViewError.{ViewError}
+use Rattle.bt_ext.specs.declared.ext.ViewError.TheVariants as error
+use Rattle.bt_ext.specs.declared.ids.Registered.{Registered}
+use Rattle.bt_ext.specs.declared.ids.Rules.{Rules}
+use Rattle.bt_ext.specs.Payloads.{IsExt, HasSpelling}
+use Rattle.bt_ext.specs.Faults.{Allows, fault_of, reason_by, reason_of}
+use Rattle.bt_ext.specs.Faults as ext
+use Rattle.bt_ext.proofs.Allowed.{allowed, faultless}
+use Rattle.bt_wire.specs.declared.fault.Reason.{Reason}
 use Rattle.bt_wire.specs.declared.context.Context.{Context}
 use Rattle.bt_wire.specs.declared.context.Order.{Order}
 use Rattle.bt_wire.specs.declared.fault.Refused.{Refused}
@@ -10,15 +21,16 @@ use Rattle.bt_wire.specs.Ids.{kind_of}
 use Rattle.bt_wire.specs.Messages.{Fields, id_of, fields_of, spell_fields, framed, body, spell, IsShaped, AreInRange, IsIdInRange, IsInRange}
 use Rattle.bt_wire.specs.Numbers.{be32}
 use Rattle.bt_wire.specs.Tables.{first_fault}
-use Rattle.bt_wire.specs.Faults.{is_strict, is_whole, window, id_rules, id_row, header_fault, field_rows, IsFault, early, whole, in_fields}
-use Rattle.bt_wire.specs.Legal.{IsLegal}
+use Rattle.bt_wire.specs.Faults.{is_strict, is_whole, has_id, window, id_rules, id_row, header_fault, field_rows, said_ext_id, said_payload, placed_by, IsWindowFault, in_fields, in_payload, IsFault, early, whole}
+use Rattle.bt_wire.specs.Legal.{IsLegal, IsAllowed, IsRefusedFor}
 use Rattle.bt_wire.specs.Rules.{broken_by, broken_any}
-use Rattle.bt_wire.specs.Parts.{broken_field}
+use Rattle.bt_wire.specs.Parts.{broken_field, IsJudged}
 use Rattle.bt_wire.proofs.RuleLaws.{AreKept, unbroken, unbroken_kept, none_broken, legal_unbroken, fields_sound, sound_fields}
 use Rattle.bt_wire.proofs.RowLaws.{first_fault-none}
 use Rattle.bt_wire.proofs.HeaderLaws.{none_by_id, id_empty}
-use Rattle.bt_wire.proofs.SpellLaws.{said_length-spell, spelled_first, right_row}
-use Rattle.bt_wire.proofs.WindowLaws.{early_header, never, no_body, broken-spell, limited-spell, rows-spell}
+use Rattle.bt_wire.proofs.SpellLaws.{said_length-spell, spelled_first, right_row, spelled_ext}
+use Rattle.bt_wire.proofs.ExtLaws.{IsOfValue, fault_of_value}
+use Rattle.bt_wire.proofs.WindowLaws.{early_header, never, no_body, broken-spell, limited-spell, rows-spell, id_spell, extended_rows}
 
 -- ---- what the rules on the id say
 
@@ -34,8 +46,8 @@ pub kept_by : (c : Context) (o : Order) (m : Message) → IsShaped c m → broke
 kept_by c o m shaped none = kept_in c o m (id_of m) shaped refl none
 
 -- a value whose rules are kept may be sent
-pub legal_by : (c : Context) (o : Order) (m : Message) → IsShaped c m → length (body c m) ≤ c.limit → AreKept c o m → broken_field c.pieces (length (body c m)) (fields_of c m) ≡ None → IsLegal c o m
-legal_by c o m shaped short kept none =
+pub legal_by : (c : Context) (o : Order) (m : Message) → IsShaped c m → length (body c m) ≤ c.limit → AreKept c o m → broken_field c.pieces (length (body c m)) (fields_of c m) ≡ None → IsAllowed c m → IsLegal c o m
+legal_by c o m shaped short kept none allowed =
     let sound = fields_sound c.pieces (length (body c m)) (fields_of c m) none in
     record {
       shaped = shaped;
@@ -47,6 +59,7 @@ legal_by c o m shaped short kept none =
       known = kept.known;
       in_time = kept.in_time;
       opened = kept.opened;
+      allowed = allowed;
     }
 
 -- ---- one that breaks a rule may not
@@ -75,13 +88,67 @@ header_of_value c o m f lt short broken = ap (header_fault c o) (sym (append-nil
 pub refused_id : (c : Context) (o : Order) (m : Message) (f : Refused) → length (body c m) < 2 ^ 32 → length (body c m) ≤ c.limit → broken_any c o (id_of m) (length (body c m)) ≡ Some f → IsFault c o 0 (spell c m) (Some f)
 refused_id c o m f lt short broken = early f (early_header c o 0 (spell c m) (omega arith) ∙ header_of_value c o m (Some f) lt short broken) refl
 
-pub refused_fields : (c : Context) (o : Order) (m : Message) (f : Refused) → IsShaped c m → IsInRange c m → length (body c m) < 2 ^ 32 → length (body c m) ≤ c.limit → broken_any c o (id_of m) (length (body c m)) ≡ None
-    → broken_field c.pieces (length (body c m)) (fields_of c m) ≡ Some f → IsFault c o 0 (spell c m) (Some f)
-refused_fields c o m f shaped range lt short none broken =
+whole_value : (c : Context) (o : Order) (m : Message) (f : Option Refused) → length (body c m) < 2 ^ 32 → length (body c m) ≤ c.limit → broken_any c o (id_of m) (length (body c m)) ≡ None → IsWindowFault c (spell c m) f → IsFault c o 0 (spell c m) f
+whole_value c o m f lt short none p =
     let first = spelled_first c m [] lt in
     let here = append-nil (spell c m) in
-    whole (early_header c o 0 (spell c m) (omega arith) ∙ header_of_value c o m None lt short none) (ap is_whole (sym here) ∙ first.whole)
-        (in_fields (sym (ap (λ (x : List ℕ). first_fault (field_rows c x)) (ap window (sym here) ∙ first.window) ∙ rows-spell c m shaped range lt ∙ broken)))
+    let P : List ℕ → Type 0 = λ x. IsWindowFault c x f in
+    whole (early_header c o 0 (spell c m) (omega arith) ∙ header_of_value c o m None lt short none) (ap is_whole (sym here) ∙ first.whole) (subst P (sym (ap window (sym here) ∙ first.window)) p)
+
+pub refused_fields : (c : Context) (o : Order) (m : Message) (f : Refused) → IsShaped c m → IsInRange c m → length (body c m) < 2 ^ 32 → length (body c m) ≤ c.limit → broken_any c o (id_of m) (length (body c m)) ≡ None
+    → broken_field c.pieces (length (body c m)) (fields_of c m) ≡ Some f → IsFault c o 0 (spell c m) (Some f)
+refused_fields c o m f shaped range lt short none broken = whole_value c o m (Some f) lt short none (in_fields f (rows-spell c m shaped range lt ∙ broken) refl)
+
+-- ---- what the rules say of an extended value
+
+value_refused : (reg : Registered) (r : Rules) (e : Ext) (id : ℕ) (p : List ℕ) (f : ViewError) → IsExt reg e id p → fault_of r e ≡ Some f → ext.Refuses reg r id p f
+value_refused reg r e id p (error.BadBencode at) x h = let P : Option ViewError → Type 0 = λ o. IsOfValue o in absurd (subst P h (fault_of_value r e))
+value_refused reg r e id p (error.Unsorted at) x h = record { value = e; is = x; faulty = h }
+value_refused reg r e id p error.BadField x h = record { value = e; is = x; faulty = h }
+value_refused reg r e id p (error.BadBlock at) x h = record { value = e; is = x; faulty = h }
+
+ext_refused : (c : Context) (o : Order) (e : Ext) (f : ViewError) → HasSpelling c.reg e → length (body c (m.Extended e)) < 2 ^ 32 → length (body c (m.Extended e)) ≤ c.limit → broken_any c o (Some 20) (length (body c (m.Extended e))) ≡ None
+    → fault_of c.rules e ≡ Some f → IsFault c o 0 (spell c (m.Extended e)) (Some (placed_by f))
+ext_refused c o e f shaped lt short none h =
+    let w = spell c (m.Extended e) in
+    let there : has_id w ≡ true = ap has_id (sym (append-nil w)) ∙ id_spell c (m.Extended e) [] 20 lt refl in
+    whole_value c o (m.Extended e) (Some (placed_by f)) lt short none
+        (in_payload (extended_rows c w refl) (rw there refl) (Some f) (value_refused c.reg c.rules e (said_ext_id w) (said_payload w) f (spelled_ext c.reg e shaped) h) refl)
+
+-- the rules' answer on a value of which nothing else is wrong
+record IsAnswered (c : Context) (o : Order) (msg : Message) (r : Reason) : Type 0 where
+  pub illegal : IsLegal c o msg → ⊥
+  pub refused : (at : ℕ) × IsFault c o 0 (spell c msg) (Some (record { at = at; reason = r }))
+
+answered : (c : Context) (o : Order) (msg : Message) (r : Reason) → IsShaped c msg → length (body c msg) < 2 ^ 32 → length (body c msg) ≤ c.limit → broken_any c o (id_of msg) (length (body c msg)) ≡ None → IsJudged c msg (Some r) → IsAnswered c o msg r
+answered c o (m.Extended e) r shaped lt short none j =
+    let f = j.0 in
+    let P : Reason → Type 0 = λ x. IsFault c o 0 (spell c (m.Extended e)) (Some (record { at = (placed_by f).at; reason = x })) in
+    record {
+      illegal = λ legal. absurd (let clean = faultless c.rules e legal.allowed in let bad = sym clean ∙ j.1 in cc);
+      refused = ((placed_by f).at, subst P j.2 (ext_refused c o e f shaped lt short none j.1));
+    }
+answered c o msg r shaped lt short none j = absurd cc
+
+allowed_by : (c : Context) (msg : Message) → IsJudged c msg None → IsAllowed c msg
+allowed_by c (m.Extended e) j = j
+allowed_by c msg j = tt
+
+pub judged : (c : Context) (o : Order) (msg : Message) (r : Option Reason) → IsShaped c msg → length (body c msg) < 2 ^ 32 → length (body c msg) ≤ c.limit → broken_any c o (id_of msg) (length (body c msg)) ≡ None → broken_field c.pieces (length (body c msg)) (fields_of c msg) ≡ None
+    → IsJudged c msg r → MatchOption r (IsLegal c o msg) (λ reason. (IsLegal c o msg → ⊥) × IsRefusedFor c o msg reason)
+judged c o msg None shaped lt short none fields j = legal_by c o msg shaped short (kept_by c o msg shaped none) fields (allowed_by c msg j)
+judged c o msg (Some r) shaped lt short none fields j = let a = answered c o msg r shaped lt short none j in (a.illegal, inr (lt, a.refused))
+
+-- no reason is given where the rules allow the value
+no_reason : (f : Option ViewError) → IsOfValue f → None ≡ option_and_then reason_by f → f ≡ None
+no_reason None v h = refl
+no_reason (Some (error.BadBencode at)) v h = absurd v
+no_reason (Some (error.Unsorted at)) v h = absurd cc
+no_reason (Some error.BadField) v h = absurd cc
+no_reason (Some (error.BadBlock at)) v h = absurd cc
+
+pub unrefused : (r : Rules) (e : Ext) → None ≡ reason_of r e → Allows r e
+unrefused r e h = allowed r e (no_reason (fault_of r e) (fault_of_value r e) h)
 
 -- ---- a spelling, one part after another
 

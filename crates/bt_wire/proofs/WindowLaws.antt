@@ -1,7 +1,14 @@
 -- A window with no fault is the spelling of a message that may be sent, and such a spelling has no fault.
-use Rattle.std.proofs.Common.{◌≡◌, ◌≢◌, ℕ, suc, ◌+◌, ◌^◌, ◌≤◌, ◌<◌, Bool, true, false, ltb, ◌&&◌, List, [], ◌∷◌, ◌++◌, map, length, drop, Option, Some, None, refl, sym, ap, subst, ◌∙◌, arith, inl, inr}
-use Rattle.std.proofs.lemmas.Bool.{cases_lt, and_cases, and_right, cases_eq, ltb-false, leb-false, le-leb, lt-leb, le-ltb, lt-ltb}
-use Rattle.std.proofs.lemmas.List.{append-nil, length-append, length-drop, length-take-le, take_all}
+use Rattle.std.proofs.Common.{◌≡◌, ◌≢◌, ℕ, suc, ◌+◌, ◌^◌, ◌≤◌, ◌<◌, Bool, true, false, cond, eqb, ltb, ◌&&◌, List, [], ◌∷◌, ◌++◌, map, length, drop, Option, Some, None, refl, sym, ap, subst, ◌∙◌, arith, inl, inr}
+use Rattle.std.proofs.lemmas.Bool.{cases_lt, and_cases, and_left, and_right, and_parts, cases_eq, eqb-true, eq-eqb, ne_eqb, leb-true, ltb-false, leb-false, le-leb, lt-leb, le-ltb, lt-ltb}
+use Rattle.std.proofs.lemmas.List.{append-nil, length-append, length-drop, length-take-le, take_all, drop_more}
+use Rattle.std.specs.Prelude.{option_map, unwrap_or, IsSome}
+use Rattle.bt_ext.specs.declared.ext.Ext.{Ext}
+use Rattle.bt_ext.specs.declared.ext.ViewError.{ViewError}
+use Rattle.bt_ext.specs.Payloads.{IsExt, HasSpelling, ext_id, payload_of}
+use Rattle.bt_ext.specs.Faults.{Allows}
+use Rattle.bt_ext.specs.Faults as ext
+use Rattle.bt_ext.proofs.OneFault.{one_fault as ext_fault_once}
 use Rattle.bt_wire.specs.declared.context.Context.{Context}
 use Rattle.bt_wire.specs.declared.context.Order.{Order}
 use Rattle.bt_wire.specs.declared.fault.Fault.TheVariants as fault
@@ -14,8 +21,8 @@ use Rattle.bt_wire.specs.declared.ids.Kind.{Kind}
 use Rattle.bt_wire.specs.Ids.{kind_of, shape_by}
 use Rattle.bt_wire.specs.Messages.{Fields, id_of, fields_of, framed, spell_fields, body, spell, IsShaped, IsInRange}
 use Rattle.bt_wire.specs.Tables.{first_fault}
-use Rattle.bt_wire.specs.Faults.{said_length, said_id, has_length, has_id, is_whole, window, window_length, allows, size_of, is_strict, id_rules, id_row, header_rows, header_fault, early_fault, field_rows, IsWindowFault, in_fields, IsFault, early, unfinished, whole}
-use Rattle.bt_wire.specs.Legal.{IsLegal, IsSaid, Refuses}
+use Rattle.bt_wire.specs.Faults.{said_length, said_id, has_length, has_id, is_whole, window, window_length, allows, size_of, is_strict, id_rules, id_row, header_rows, header_fault, early_fault, field_rows, is_extended, said_ext_id, said_payload, placed_by, IsWindowFault, in_fields, in_none, in_payload, IsFault, early, unfinished, whole}
+use Rattle.bt_wire.specs.Legal.{IsLegal, IsAllowed, IsSaid, Refuses}
 use Rattle.bt_wire.specs.Headers.{IsWindow, IsRead}
 use Rattle.bt_wire.specs.Rules.{broken_by}
 use Rattle.bt_wire.specs.Parts.{IsPart, made, broken_field}
@@ -23,7 +30,7 @@ use Rattle.bt_wire.proofs.PartLaws.{part}
 use Rattle.bt_wire.proofs.NumberLaws.{AreBytes-drop, be32-number32, header_parts, number32-take}
 use Rattle.bt_wire.proofs.RowLaws.{NoneCounts, NoneCounts-from, first_fault-none}
 use Rattle.bt_wire.proofs.HeaderLaws.{none_by_id, id_empty, id_there, length_there, whole_there, whole_length, window-append, whole-append, header_stays, header_keeps, header-window}
-use Rattle.bt_wire.proofs.SpellLaws.{length-spell, said_length-spell, said_id-spell, spelled_first, fits, IsRow, right_row}
+use Rattle.bt_wire.proofs.SpellLaws.{length-spell, said_length-spell, said_id-spell, spelled_first, fits, IsRow, right_row, ext_of, ext_is, ext_twenty, not_twenty, ext_is_of, spelled_ext}
 use Rattle.bt_wire.proofs.RuleLaws.{rows_broken, IsUnbroken, unbroken, none_broken, legal_unbroken, AreKept, unbroken_kept, fields_rows, no_field_rows, fields_sound, sound_fields}
 
 -- ---- the start
@@ -80,11 +87,9 @@ pub record IsFound (c : Context) (o : Order) (w : List ℕ) (m : Message) : Type
   pub short : length (body c m) ≤ c.limit
   pub spelled : spell c m ≡ w
 
-pub fields_found : (c : Context) (o : Order) (w : List ℕ) → AreBytes w → IsWindow c o w → 5 ≤ length w → IsFound c o w (made (said_id w) (drop 5 w))
-fields_found c o w bytes h long =
-    let m = made (said_id w) (drop 5 w) in
+found_of : (c : Context) (o : Order) (w : List ℕ) (m : Message) → AreBytes w → IsWindow c o w → 5 ≤ length w → IsPart c (said_id w) (drop 5 w) m → IsFound c o w m
+found_of c o w m bytes h long p =
     let size : suc (length (drop 5 w)) ≡ said_length w = omega (arith, length-drop 5 w, h.exact) in
-    let p = part c (said_id w) (drop 5 w) (bytes 4) (AreBytes-drop 5 w bytes) (ap (allows (size_of c (said_id w))) size ∙ sized c o w h long) in
     let all : body c m ≡ said_id w ∷ drop 5 w = ap (λ (i : Option ℕ). framed i (spell_fields (fields_of c m))) p.id ∙ ap (λ (x : List ℕ). said_id w ∷ x) p.fields in
     let row = right_row c m (said_id w) p.shaped p.id in
     let len : said_length w ≡ length (body c m) = sym (ap length all ∙ size) in
@@ -98,14 +103,44 @@ fields_found c o w bytes h long =
       spelled = spelled_is c o w m bytes h long all;
     }
 
+pub fields_found : (c : Context) (o : Order) (w : List ℕ) → AreBytes w → IsWindow c o w → 5 ≤ length w → (said_id w ≡ 20 → ⊥) → IsFound c o w (made (said_id w) (drop 5 w))
+fields_found c o w bytes h long plain =
+    let size : suc (length (drop 5 w)) ≡ said_length w = omega (arith, length-drop 5 w, h.exact) in
+    found_of c o w (made (said_id w) (drop 5 w)) bytes h long (part c (said_id w) (drop 5 w) plain (bytes 4) (AreBytes-drop 5 w bytes) (ap (allows (size_of c (said_id w))) size ∙ sized c o w h long))
+
+-- an extended message has at least an extended id
+extended_size : (c : Context) (n k : ℕ) → n ≡ 20 → allows (size_of c n) k ≡ true → 2 ≤ k
+extended_size c n k e h = leb-true 2 k (rw e at h)
+
+pub extended_long : (c : Context) (o : Order) (w : List ℕ) → IsWindow c o w → 5 ≤ length w → said_id w ≡ 20 → 6 ≤ length w
+extended_long c o w h long e = omega (arith, extended_size c (said_id w) (said_length w) e (sized c o w h long), h.exact)
+
+-- the message of an extended value with the window's extended id and payload
+pub extended_found : (c : Context) (o : Order) (w : List ℕ) (v : Ext) → AreBytes w → IsWindow c o w → 6 ≤ length w → said_id w ≡ 20 → IsExt c.reg v (said_ext_id w) (said_payload w) → IsFound c o w (m.Extended v)
+extended_found c o w v bytes h long e x =
+    let some : ext_id c.reg v ≡ Some (said_ext_id w) = x.named in
+    let id : unwrap_or (ext_id c.reg v) 0 ≡ said_ext_id w = ap (λ (i : Option ℕ). unwrap_or i 0) some in
+    let P : Option ℕ → Type 0 = λ i. IsSome i in
+    found_of c o w (m.Extended v) bytes h (omega arith) (record {
+      id = ap Some (sym e);
+      fields = ap (λ (i : ℕ). i ∷ payload_of v) id ∙ ap (λ (p : List ℕ). said_ext_id w ∷ p) (sym x.spelled) ∙ sym (drop_more w 5 0 (omega arith));
+      shaped = (subst P (sym some) refl, x.fits);
+      in_range = record { id = omega arith; fields = omega (arith, bytes 5, id) };
+    })
+
 -- the rows on the window's fields are the rules on the message's
 pub found_rows : (c : Context) (o : Order) (w : List ℕ) (m : Message) → IsWindow c o w → 5 ≤ length w → IsFound c o w m → first_fault (field_rows c w) ≡ broken_field c.pieces (said_length w) (fields_of c m)
 found_rows c o w m h long f =
     fields_rows c w (fields_of c m) (window_id c o w h long) (ap shape_by f.row.kind ∙ f.row.shape) (sym f.its_part.fields) f.its_part.in_range.fields
 
+-- nothing is asked of any other message
+pub plain_allowed : (c : Context) (m : Message) (n : ℕ) → id_of m ≡ Some n → (n ≡ 20 → ⊥) → IsAllowed c m
+plain_allowed c (m.Extended e) n h plain = absurd (plain (sym (not_twenty 20 n h)))
+plain_allowed c msg n h plain = tt
+
 -- without a fault there it may be sent
-pub fields_read : (c : Context) (o : Order) (w : List ℕ) (m : Message) → IsWindow c o w → 5 ≤ length w → IsFound c o w m → broken_field c.pieces (said_length w) (fields_of c m) ≡ None → IsRead c o w m
-fields_read c o w m h long f none =
+pub fields_read : (c : Context) (o : Order) (w : List ℕ) (m : Message) → IsWindow c o w → 5 ≤ length w → IsFound c o w m → IsAllowed c m → broken_field c.pieces (said_length w) (fields_of c m) ≡ None → IsRead c o w m
+fields_read c o w m h long f allowed none =
     let sound = fields_sound c.pieces (said_length w) (fields_of c m) none in
     record {
       said = record {
@@ -120,6 +155,7 @@ fields_read c o w m h long f none =
           known = f.kept.known;
           in_time = f.kept.in_time;
           opened = f.kept.opened;
+          allowed = allowed;
         };
         start = omega arith;
       };
@@ -127,11 +163,33 @@ fields_read c o w m h long f none =
     }
 
 -- with one that is the window's fault
+window_same : (c : Context) (o : Order) (w : List ℕ) → IsWindow c o w → window w ≡ w
+window_same c o w h = take_all (window_length w) w (omega (arith, h.exact))
+
+pub in_window : (c : Context) (o : Order) (w : List ℕ) (f : Option Refused) → IsWindow c o w → IsWindowFault c w f → IsFault c o 0 w f
+in_window c o w f h p =
+    let P : List ℕ → Type 0 = λ x. IsWindowFault c x f in
+    whole (early_header c o 0 w (omega arith) ∙ h.header) (whole_there w (omega (arith, h.exact))) (subst P (sym (window_same c o w h)) p)
+
 pub window_fault : (c : Context) (o : Order) (w : List ℕ) (m : Message) (f : Refused) → IsWindow c o w → 5 ≤ length w → IsFound c o w m → broken_field c.pieces (said_length w) (fields_of c m) ≡ Some f → IsFault c o 0 w (Some f)
-window_fault c o w m f h long p broken =
-    let same : window w ≡ w = take_all (window_length w) w (omega (arith, h.exact)) in
-    whole (early_header c o 0 w (omega arith) ∙ h.header) (whole_there w (omega (arith, h.exact)))
-        (in_fields (sym (ap (λ (x : List ℕ). first_fault (field_rows c x)) same ∙ found_rows c o w m h long p ∙ broken)))
+window_fault c o w m f h long p broken = in_window c o w (Some f) h (in_fields f (found_rows c o w m h long p ∙ broken) refl)
+
+-- an extended message has no such fault, but may have one of its payload
+none_by_two : (b : Bool) (f g : Refused) → first_fault (record { found = f; judged = b; condition = false } ∷ record { found = g; judged = b; condition = false } ∷ []) ≡ None
+none_by_two true f g = refl
+none_by_two false f g = refl
+
+pub extended_rows : (c : Context) (w : List ℕ) → said_id w ≡ 20 → first_fault (field_rows c w) ≡ None
+extended_rows c w e = rw e (none_by_two (has_id w) _ _)
+
+pub extended_there : (c : Context) (o : Order) (w : List ℕ) → IsWindow c o w → 5 ≤ length w → said_id w ≡ 20 → is_extended w ≡ true
+extended_there c o w h long e = rw (window_id c o w h long, eq-eqb (said_id w) 20 e) refl
+
+pub payload_fault : (c : Context) (o : Order) (w : List ℕ) (f : ViewError) → IsWindow c o w → 5 ≤ length w → said_id w ≡ 20 → ext.Refuses c.reg c.rules (said_ext_id w) (said_payload w) f → IsFault c o 0 w (Some (placed_by f))
+payload_fault c o w f h long e p = in_window c o w (Some (placed_by f)) h (in_payload (extended_rows c w e) (extended_there c o w h long e) (Some f) p refl)
+
+pub extended_read : (c : Context) (o : Order) (w : List ℕ) (v : Ext) → AreBytes w → IsWindow c o w → 6 ≤ length w → said_id w ≡ 20 → ext.Reads c.reg c.rules (said_ext_id w) (said_payload w) v → IsRead c o w (m.Extended v)
+extended_read c o w v bytes h long e r = fields_read c o w (m.Extended v) h (omega arith) (extended_found c o w v bytes h long e r.is) r.allowed refl
 
 -- the fault of the fields that a call gave
 pub same_fields : (c : Context) (k n : ℕ) (f : Fields) (a b : Message) (r : Option Refused) → k ≡ n → f ≡ fields_of c a → a ≡ b → r ≡ broken_field c.pieces k f → broken_field c.pieces n (fields_of c b) ≡ r
@@ -147,7 +205,7 @@ keep_alive_read c o w bytes h e =
     record {
       said = record {
         in_range = record { id = tt; fields = tt };
-        legal = record { shaped = tt; short = omega arith; agreed = refl; indexed = tt; sized = tt; spare = tt; known = never (is_strict c); in_time = never (is_strict c); opened = never (is_strict c) };
+        legal = record { shaped = tt; short = omega arith; agreed = refl; indexed = tt; sized = tt; spare = tt; known = never (is_strict c); in_time = never (is_strict c); opened = never (is_strict c); allowed = tt };
         start = omega arith;
       };
       spelled = ap be32 (sym e) ∙ be32-number32 w (omega (arith, h.exact, e)) bytes;
@@ -155,21 +213,33 @@ keep_alive_read c o w bytes h e =
 
 -- ---- a whole window with no fault is the spelling of a message that may be sent
 
-none_in_fields : (c : Context) (o : Order) (w : List ℕ) → IsWindow c o w → is_whole w ≡ true → window w ≡ w → IsFault c o 0 w None → first_fault (field_rows c w) ≡ None
-none_in_fields c o w h all same (early g e p) = absurd cc
-none_in_fields c o w h all same (unfinished e part p) = absurd cc
-none_in_fields c o w h all same (whole e there (in_fields p)) = ap (λ (x : List ℕ). first_fault (field_rows c x)) (sym same) ∙ sym p
+no_fault_there : (c : Context) (o : Order) (w : List ℕ) → IsWindow c o w → IsFault c o 0 w None → IsWindowFault c w None
+no_fault_there c o w h (early g e p) = absurd cc
+no_fault_there c o w h (unfinished e part p) = absurd (let all = whole_there w (omega (arith, h.exact)) in cc)
+no_fault_there c o w h (whole e there p) = let P : List ℕ → Type 0 = λ x. IsWindowFault c x None in subst P (window_same c o w h) p
+
+none_placed : (e : Option ViewError) → None ≡ option_map placed_by e → e ≡ None
+none_placed None h = refl
+none_placed (Some f) h = absurd cc
+
+read_there : (c : Context) (o : Order) (w : List ℕ) → AreBytes w → IsWindow c o w → 5 ≤ length w → IsWindowFault c w None → (m : Message) × IsRead c o w m
+read_there c o w bytes h long (in_fields g e p) = absurd cc
+read_there c o w bytes h long (in_none none not p) =
+    let plain : said_id w ≡ 20 → ⊥ = λ e. absurd (let there = extended_there c o w h long e in cc) in
+    let msg = made (said_id w) (drop 5 w) in
+    let f = fields_found c o w bytes h long plain in
+    (msg, fields_read c o w msg h long f (plain_allowed c msg (said_id w) f.its_part.id plain) (sym (found_rows c o w msg h long f) ∙ none))
+read_there c o w bytes h long (in_payload none there e p is) =
+    let twenty : said_id w ≡ 20 = eqb-true (said_id w) 20 (and_parts (has_id w) (eqb (said_id w) 20) there).1 in
+    let P : Option ViewError → Type 0 = λ x. ext.IsFault c.reg c.rules (said_ext_id w) (said_payload w) x in
+    let read = subst P (none_placed e is) p in
+    (m.Extended read.0, extended_read c o w read.0 bytes h (extended_long c o w h long twenty) twenty read.1)
 
 pub window_read : (c : Context) (o : Order) (w : List ℕ) → AreBytes w → IsWindow c o w → IsFault c o 0 w None → (m : Message) × IsRead c o w m
 window_read c o w bytes h none =
     elim (cases_eq (said_length w) 0) [
       | inl empty ↦ (m.KeepAlive, keep_alive_read c o w bytes h empty)
-      | inr some ↦
-          let long : 5 ≤ length w = omega (arith, some, h.exact) in
-          let all = whole_there w (omega (arith, h.exact)) in
-          let same : window w ≡ w = take_all (window_length w) w (omega (arith, h.exact)) in
-          let f = fields_found c o w bytes h long in
-          (made (said_id w) (drop 5 w), fields_read c o w (made (said_id w) (drop 5 w)) h long f (sym (found_rows c o w (made (said_id w) (drop 5 w)) h long f) ∙ none_in_fields c o w h all same none))
+      | inr some ↦ read_there c o w bytes h (omega (arith, some, h.exact)) (no_fault_there c o w h none)
     ]
 
 -- ---- what may be sent has no fault
@@ -177,7 +247,7 @@ window_read c o w bytes h none =
 pub no_body : (c : Context) (m : Message) → id_of m ≡ None → length (body c m) ≡ 0
 no_body c m e = ap (λ (o : Option ℕ). length (framed o (spell_fields (fields_of c m)))) e
 
-id_spell : (c : Context) (m : Message) (r : List ℕ) (n : ℕ) → length (body c m) < 2 ^ 32 → id_of m ≡ Some n → has_id (spell c m ++ r) ≡ true
+pub id_spell : (c : Context) (m : Message) (r : List ℕ) (n : ℕ) → length (body c m) < 2 ^ 32 → id_of m ≡ Some n → has_id (spell c m ++ r) ≡ true
 id_spell c m r n lt e =
     let some : length (body c m) ≡ suc (length (spell_fields (fields_of c m))) = ap (λ (o : Option ℕ). length (framed o (spell_fields (fields_of c m)))) e in
     id_there (spell c m ++ r) (omega (arith, length-append (spell c m) r, length-spell c m, some)) (λ z. absurd (omega (arith, said_length-spell c m r lt, some, z)))
@@ -226,17 +296,58 @@ rows_by c m (Some n) shaped range lt e =
 pub rows-spell : (c : Context) (m : Message) → IsShaped c m → IsInRange c m → length (body c m) < 2 ^ 32 → first_fault (field_rows c (spell c m)) ≡ broken_field c.pieces (length (body c m)) (fields_of c m)
 rows-spell c m shaped range lt = rows_by c m (id_of m) shaped range lt refl
 
+-- no other spelling is that of an extended message
+pub plain_spell : (c : Context) (m : Message) (i : Option ℕ) → IsShaped c m → length (body c m) < 2 ^ 32 → ext_of m ≡ None → id_of m ≡ i → is_extended (spell c m) ≡ false
+plain_spell c m None shaped lt plain e =
+    let w = spell c m in
+    let says : said_length w ≡ length (body c m) = ap said_length (sym (append-nil w)) ∙ said_length-spell c m [] lt in
+    and_left (has_id w) (eqb (said_id w) 20) (id_empty w (says ∙ no_body c m e))
+plain_spell c m (Some n) shaped lt plain e =
+    let w = spell c m in
+    let id : said_id w ≡ n = ap said_id (sym (append-nil w)) ∙ said_id-spell c m [] n e in
+    let other : said_id w ≡ 20 → ⊥ = λ h.
+        let twenty = ext_twenty c m shaped (e ∙ ap Some (sym id ∙ h)) in
+        let bad : ext_of m ≡ Some twenty.0 = ext_is_of m twenty.0 twenty.1 in
+        absurd (let none = sym plain ∙ bad in cc) in
+    and_right (has_id w) (eqb (said_id w) 20) (ne_eqb (said_id w) 20 other)
+
+ext_spell : (c : Context) (e : Ext) → HasSpelling c.reg e → Allows c.rules e → length (body c (m.Extended e)) < 2 ^ 32 → first_fault (field_rows c (spell c (m.Extended e))) ≡ None → IsWindowFault c (spell c (m.Extended e)) None
+ext_spell c e shaped allowed lt none =
+    let w = spell c (m.Extended e) in
+    let there : has_id w ≡ true = ap has_id (sym (append-nil w)) ∙ id_spell c (m.Extended e) [] 20 lt refl in
+    in_payload none (rw there refl) None (e, record { is = spelled_ext c.reg e shaped; allowed = allowed }) refl
+
+quiet_by : (c : Context) (m : Message) (x : Option Ext) → IsShaped c m → IsAllowed c m → length (body c m) < 2 ^ 32 → first_fault (field_rows c (spell c m)) ≡ None → ext_of m ≡ x → IsWindowFault c (spell c m) None
+quiet_by c m None shaped allowed lt none h = in_none none (plain_spell c m (id_of m) shaped lt h refl) refl
+quiet_by c m (Some e) shaped allowed lt none h =
+    let is = ext_is m e h in
+    let P : Message → Type 0 = λ x. IsShaped c x in
+    let Q : Message → Type 0 = λ x. IsAllowed c x in
+    let R : Message → Type 0 = λ x. IsWindowFault c (spell c x) None in
+    subst R (sym is) (ext_spell c e (subst P is shaped) (subst Q is allowed) (omega (arith, ap (λ (x : Message). length (body c x)) is)) (ap (λ (x : Message). first_fault (field_rows c (spell c x))) (sym is) ∙ none))
+
 pub fault-spell : (c : Context) (o : Order) (s : ℕ) (m : Message) (r : List ℕ) → c.limit < 2 ^ 32 → IsSaid c o s m → IsFault c o s (spell c m ++ r) None
 fault-spell c o s m r lt said =
-    let first = spelled_first c m r (fits c o s m lt said) in
+    let short = fits c o s m lt said in
+    let first = spelled_first c m r short in
     let sound = sound_fields c.pieces (length (body c m)) (fields_of c m) said.legal.indexed said.legal.spare in
+    let P : List ℕ → Type 0 = λ x. IsWindowFault c x None in
     whole (early_header c o s (spell c m ++ r) said.start ∙ header-spell c o m r lt said.legal) first.whole
-        (in_fields (sym (ap (λ (x : List ℕ). first_fault (field_rows c x)) first.window ∙ rows-spell c m said.legal.shaped said.in_range (fits c o s m lt said) ∙ sound)))
+        (subst P (sym first.window) (quiet_by c m (ext_of m) said.legal.shaped said.legal.allowed short (rows-spell c m said.legal.shaped said.in_range short ∙ sound) refl))
 
 -- ---- bytes have one fault, which stays
 
 one_window_fault : (c : Context) (w : List ℕ) (f g : Option Refused) → IsWindowFault c w f → IsWindowFault c w g → f ≡ g
-one_window_fault c w f g (in_fields p) (in_fields q) = p ∙ sym q
+one_window_fault c w f g (in_fields x e p) (in_fields y d q) = cc
+one_window_fault c w f g (in_fields x e p) (in_none d not q) = absurd cc
+one_window_fault c w f g (in_fields x e p) (in_payload d there b k q) = absurd cc
+one_window_fault c w f g (in_none e not p) (in_fields y d q) = absurd cc
+one_window_fault c w f g (in_none e not p) (in_none d not' q) = p ∙ sym q
+one_window_fault c w f g (in_none e not p) (in_payload d there b k q) = absurd cc
+one_window_fault c w f g (in_payload e there a h p) (in_fields y d q) = absurd cc
+one_window_fault c w f g (in_payload e there a h p) (in_none d not q) = absurd cc
+one_window_fault c w f g (in_payload e there a h p) (in_payload d there' b k q) =
+    p ∙ ap (option_map placed_by) (ext_fault_once c.reg c.rules (said_ext_id w) (said_payload w) a b h k) ∙ sym q
 
 pub one_fault : (c : Context) (o : Order) (s : ℕ) (b : List ℕ) (f g : Option Refused) → IsFault c o s b f → IsFault c o s b g → f ≡ g
 one_fault c o s b f g (early x e p) (early y d q) = cc

@@ -1,18 +1,21 @@
 -- The faults of the message that begins a byte list, as a table over the bytes.
-use Rattle.std.specs.Prelude.{◌≡◌, ◌==◌, ℕ, ◌+◌, ◌^◌, Bool, true, false, not, ◌&&◌, List, [], ◌∷◌, map, length, take, drop, slice_index, nat_lt, nat_le, Option, Some, None, if◌then◌else◌}
+use Rattle.std.specs.Prelude.{◌≡◌, ◌==◌, ℕ, ◌+◌, ◌^◌, Bool, true, false, not, ◌&&◌, List, [], ◌∷◌, map, length, take, drop, slice_index, nat_lt, nat_le, Option, Some, None, option_map, if◌then◌else◌}
 use Rattle.bt_wire.specs.declared.context.Context.{Context}
 use Rattle.bt_wire.specs.declared.context.Order.{Order}
 use Rattle.bt_wire.specs.declared.fault.Reason.{Reason}
-use Rattle.bt_wire.specs.declared.fault.Reason.TheVariants.{TooLong, UnknownId, NotNegotiated, WrongLength, BadIndex, SpareBits, Late, Missing, StreamFull}
+use Rattle.bt_wire.specs.declared.fault.Reason.TheVariants.{TooLong, UnknownId, NotNegotiated, WrongLength, BadIndex, SpareBits, Late, Missing, BadBencode, Unsorted, BadField, BadBlock, StreamFull}
 use Rattle.bt_wire.specs.declared.fault.Refused.{Refused}
 use Rattle.bt_wire.specs.declared.ids.Kind.{Kind}
 use Rattle.bt_wire.specs.declared.ids.Shape.{Shape}
-use Rattle.bt_wire.specs.declared.ids.Shape.TheVariants.{Nothing, Index, Part, Block, Port, Field}
+use Rattle.bt_wire.specs.declared.ids.Shape.TheVariants.{Nothing, Index, Part, Block, Port, Field, Extended}
 use Rattle.bt_wire.specs.declared.ids.Needs.{Needs}
-use Rattle.bt_wire.specs.declared.ids.Needs.TheVariants.{Neither, Fast}
+use Rattle.bt_wire.specs.declared.ids.Needs.TheVariants.{Neither, Fast, Extension}
 use Rattle.bt_wire.specs.declared.ids.Turn.{Turn}
 use Rattle.bt_wire.specs.declared.ids.Turn.TheVariants.{Apart, Counted, Opening}
 use Rattle.bt_ext.specs.declared.ids.Rules.TheVariants.{Free, Bep}
+use Rattle.bt_ext.specs.declared.ext.ViewError.{ViewError}
+use Rattle.bt_ext.specs.declared.ext.ViewError.TheVariants as error
+use Rattle.bt_ext.specs.Faults as ext
 use Rattle.bt_wire.specs.declared.context.Order.TheVariants.{Fresh, Past}
 use Rattle.bt_wire.specs.Bitfields.{field_bytes, has_spare}
 use Rattle.bt_wire.specs.Numbers.{number32}
@@ -68,6 +71,7 @@ shape_size c Part = Exactly 13
 shape_size c Block = AtLeast 9
 shape_size c Port = Exactly 3
 shape_size c Field = field_size c.pieces
+shape_size c Extended = AtLeast 2
 
 abbrev pub size_by : Context → Option Shape → Size
 size_by c None = AtLeast 1
@@ -83,6 +87,7 @@ is_strict c = elim c.rules [ Free ↦ false | Bep ↦ true ]
 abbrev pub has_needs : Context → Needs → Bool
 has_needs c Neither = true
 has_needs c Fast = c.fast
+has_needs c Extension = c.ext
 
 abbrev pub is_agreed : Context → Option Kind → Bool
 is_agreed c None = true
@@ -117,6 +122,7 @@ has_index (Some Part) = true
 has_index (Some Block) = true
 has_index (Some Port) = false
 has_index (Some Field) = false
+has_index (Some Extended) = false
 
 abbrev pub is_field : Option Shape → Bool
 is_field None = false
@@ -126,6 +132,7 @@ is_field (Some Part) = false
 is_field (Some Block) = false
 is_field (Some Port) = false
 is_field (Some Field) = true
+is_field (Some Extended) = false
 
 -- ---- the table, in the order in which faults count
 
@@ -169,9 +176,29 @@ header_fault c o b = first_fault (header_rows c o b)
 abbrev pub early_fault : Context → Order → ℕ → List ℕ → Option Refused
 early_fault c o s b = if nat_le (2 ^ 62) s then Some (record { at = 0; reason = StreamFull }) else header_fault c o b
 
--- the fault, if any, of the whole message w that has no early one
+-- an extended message (BEP 10), its extended id and its payload
+abbrev pub is_extended : List ℕ → Bool
+is_extended w = has_id w && (said_id w == 20)
+
+abbrev pub said_ext_id : List ℕ → ℕ
+said_ext_id w = slice_index w 5
+
+abbrev pub said_payload : List ℕ → List ℕ
+said_payload w = drop 6 w
+
+-- the fault of a payload, by its place in the message
+abbrev pub placed_by : ViewError → Refused
+placed_by (error.BadBencode at) = record { at = 6 + at; reason = BadBencode }
+placed_by (error.Unsorted at) = record { at = 6 + at; reason = Unsorted }
+placed_by error.BadField = record { at = 6; reason = BadField }
+placed_by (error.BadBlock at) = record { at = 6 + at; reason = BadBlock }
+
+-- the fault, if any, of the whole message w that has no early one: one of its fields, or else of its extended payload
 pub data IsWindowFault (c : Context) (w : List ℕ) (f : Option Refused) : Type 0 where
-  in_fields : f ≡ first_fault (field_rows c w) → IsWindowFault c w f
+  in_fields : (g : Refused) → first_fault (field_rows c w) ≡ Some g → f ≡ Some g → IsWindowFault c w f
+  in_none : first_fault (field_rows c w) ≡ None → is_extended w ≡ false → f ≡ None → IsWindowFault c w f
+  in_payload : first_fault (field_rows c w) ≡ None → is_extended w ≡ true → (e : Option ViewError) → ext.IsFault c.reg c.rules (said_ext_id w) (said_payload w) e
+      → f ≡ option_map placed_by e → IsWindowFault c w f
 
 -- the fault, if any, of the message that begins b and starts at s: an early one, or else that of the whole message, once
 -- it is there

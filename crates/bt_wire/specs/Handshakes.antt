@@ -55,11 +55,17 @@ hand_fault own b = first_fault (hand_rows own b)
 abbrev pub sets_fast : Reserved → Bool
 sets_fast r = bit_and r.0 4 == 4
 
+-- BEP 10: "reserved_byte[5] & 0x10" says that an end knows the Extension Protocol
+abbrev pub sets_extension : Reserved → Bool
+sets_extension r = bit_and r.0 1048576 == 1048576
+
 -- what both ends have agreed on, as the receiver judges by it
 abbrev pub negotiated : Own → Reserved → Context
 negotiated own peer = record {
   fast = sets_fast own.reserved && sets_fast peer;
+  ext = sets_extension own.reserved && sets_extension peer;
   pieces = own.pieces;
+  reg = own.reg;
   rules = own.rules;
   limit = own.limit
 }

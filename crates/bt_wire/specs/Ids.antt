@@ -1,10 +1,10 @@
--- The ids of messages (BEP 3, "peer messages"; BEP 5, "BitTorrent protocol extension"; BEP 6).
+-- The ids of messages (BEP 3, "peer messages"; BEP 5, "BitTorrent protocol extension"; BEP 6; BEP 10).
 use Rattle.std.specs.Prelude.{ℕ, ◌==◌, Bool, true, false, List, [], ◌∷◌, Option, Some, None, is_some, option_map, codes, if◌then◌else◌}
 use Rattle.bt_wire.specs.declared.ids.Kind.{Kind}
 use Rattle.bt_wire.specs.declared.ids.Needs.{Needs}
-use Rattle.bt_wire.specs.declared.ids.Needs.TheVariants.{Neither, Fast}
+use Rattle.bt_wire.specs.declared.ids.Needs.TheVariants.{Neither, Fast, Extension}
 use Rattle.bt_wire.specs.declared.ids.Shape.{Shape}
-use Rattle.bt_wire.specs.declared.ids.Shape.TheVariants.{Nothing, Index, Part, Block, Port, Field}
+use Rattle.bt_wire.specs.declared.ids.Shape.TheVariants.{Nothing, Index, Part, Block, Port, Field, Extended}
 use Rattle.bt_wire.specs.declared.ids.Turn.{Turn}
 use Rattle.bt_wire.specs.declared.ids.Turn.TheVariants.{Apart, Counted, Opening}
 
@@ -36,6 +36,7 @@ ids =
     ∷ id 15 (codes "have-none") Nothing Fast Opening
     ∷ id 16 (codes "reject") Part Fast Counted
     ∷ id 17 (codes "allowed-fast") Index Fast Counted
+    ∷ id 20 (codes "extended") Extended Extension Apart
     ∷ []
 
 abbrev pub row_in : ℕ → List Id → Option Id

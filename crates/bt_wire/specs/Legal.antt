@@ -1,9 +1,11 @@
 -- When a message may be sent, and what its value is refused for.
-use Rattle.std.specs.Prelude.{◌≡◌, ℕ, suc, ◌≤◌, ◌<◌, ◌^◌, true, false, ◌&&◌, IfSome, length, Some, Result, Ok, Err, ◌⊎◌}
+use Rattle.std.specs.Prelude.{◌≡◌, ℕ, suc, ◌≤◌, ◌<◌, ◌^◌, true, false, ◌&&◌, IfSome, length, Some, Result, Ok, Err, ⊤, ◌⊎◌}
 use Rattle.std.specs.Global.{Vec}
 use Rattle.bt_wire.specs.declared.context.Context.{Context}
 use Rattle.bt_wire.specs.declared.context.Order.{Order}
+use Rattle.bt_ext.specs.Faults.{Allows}
 use Rattle.bt_wire.specs.declared.message.Message.{Message}
+use Rattle.bt_wire.specs.declared.message.Message.TheVariants as m
 use Rattle.bt_wire.specs.declared.fault.Fault.{Fault}
 use Rattle.bt_wire.specs.declared.fault.Fault.TheVariants as fault
 use Rattle.bt_wire.specs.declared.fault.Reason.{Reason}
@@ -14,10 +16,15 @@ use Rattle.bt_wire.specs.Bitfields.{has_spare}
 use Rattle.bt_wire.specs.Messages.{body, spell, fields_of, kind_in, index_in, field_in, is_payload, IsShaped, IsInRange}
 use Rattle.bt_wire.specs.Faults.{IsFault, allows, field_size, is_agreed, is_beyond, is_strict, is_late, is_missing}
 
+-- the rules allow an extended value (BEP 3, BEP 9, BEP 10)
+abbrev pub IsAllowed : Context → Message → Type 0
+IsAllowed c (m.Extended e) = Allows c.rules e
+IsAllowed c msg = ⊤
+
 -- it has a spelling of its own, that isn't above the limit; both ends have agreed on the extension that it needs; where the
 -- piece count is known, its piece index is below it, and a bitfield has a bit for each piece and no other that is 1; and
--- under the strict rules its id has a meaning, and bitfield, have all and have none come first, as they do where the Fast
--- Extension is on
+-- under the strict rules its id has a meaning, bitfield, have all and have none come first, as they do where the Fast
+-- Extension is on, and an extended value's dictionary, fields and block are as the rules want them
 pub record IsLegal (c : Context) (o : Order) (m : Message) : Type 0 where
   pub shaped : IsShaped c m
   pub short : length (body c m) ≤ c.limit
@@ -28,6 +35,7 @@ pub record IsLegal (c : Context) (o : Order) (m : Message) : Type 0 where
   pub known : (is_strict c && is_payload (fields_of c m)) ≡ false
   pub in_time : (is_strict c && is_late o (kind_in m)) ≡ false
   pub opened : (is_strict c && is_missing c o (kind_in m)) ≡ false
+  pub allowed : IsAllowed c m
 
 -- m may be sent from the offset s on
 pub record IsSaid (c : Context) (o : Order) (s : ℕ) (m : Message) : Type 0 where

@@ -1,5 +1,6 @@
--- What messages are as bytes (BEP 3, "peer messages"; BEP 5; BEP 6).
-use Rattle.std.specs.Prelude.{◌≡◌, ℕ, ◌<◌, ◌^◌, Bool, true, false, List, [], ◌∷◌, ◌++◌, length, Option, Some, None, option_and_then, if◌then◌else◌, ⊤}
+-- What messages are as bytes (BEP 3, "peer messages"; BEP 5; BEP 6; BEP 10).
+use Rattle.std.specs.Prelude.{◌≡◌, ℕ, ◌<◌, ◌^◌, Bool, true, false, List, [], ◌∷◌, ◌++◌, length, Option, Some, None, unwrap_or, option_and_then, if◌then◌else◌, ⊤}
+use Rattle.bt_ext.specs.Payloads.{ext_id, payload_of, HasSpelling, seen as ext_of_view}
 use Rattle.bt_wire.specs.declared.context.Context.{Context}
 use Rattle.bt_wire.specs.declared.context.Order.{Order}
 use Rattle.bt_wire.specs.declared.context.Order.TheVariants.{Past}
@@ -12,11 +13,11 @@ use Rattle.bt_wire.specs.declared.message.Message.{Message}
 use Rattle.bt_wire.specs.declared.message.Message.TheVariants as m
 use Rattle.bt_wire.specs.declared.message.MessageView.{MessageView}
 use Rattle.bt_wire.specs.declared.message.MessageView.TheVariants as v
-use Rattle.bt_wire.specs.Numbers.{be16, be32, AreBytes}
+use Rattle.bt_wire.specs.Numbers.{be16, be32}
 use Rattle.bt_wire.specs.Ids.{kind_of, has_meaning}
 
 -- what follows the id, by its shape: nothing; a piece index; an index with begin and length; an index with begin and a
--- block; a port; a bitfield; or the bytes behind an id that has no meaning
+-- block; a port; a bitfield; an extended id and its payload; or the bytes behind an id that has no meaning
 pub data Fields : Type 0 where
   none : Fields
   index : ℕ → Fields
@@ -24,6 +25,7 @@ pub data Fields : Type 0 where
   block : ℕ → ℕ → List ℕ → Fields
   port : ℕ → Fields
   field : List ℕ → Fields
+  extended : ℕ → List ℕ → Fields
   payload : List ℕ → Fields
 
 -- the fields that a view of them is
@@ -35,6 +37,11 @@ seen (f.Block i b bytes) = block i b bytes.now
 seen (f.Port p) = port p
 seen (f.Field bits) = field bits.now
 seen (f.Payload bytes) = payload bytes.now
+
+-- an extended message, whose payload's bytes a value doesn't hold
+abbrev pub IsExtended : Message → Type 0
+IsExtended (m.Extended e) = ⊤
+IsExtended msg = ⊥
 
 -- ---- a message is a keep-alive, or an id and fields
 
@@ -56,6 +63,7 @@ known_id m.HaveAll = Some 14
 known_id m.HaveNone = Some 15
 known_id (m.Reject i b l) = Some 16
 known_id (m.AllowedFast i) = Some 17
+known_id (m.Extended e) = Some 20
 known_id (m.Unknown n bytes) = None
 
 abbrev pub id_of : Message → Option ℕ
@@ -79,6 +87,7 @@ fields_of c m.HaveAll = none
 fields_of c m.HaveNone = none
 fields_of c (m.Reject i b l) = part i b l
 fields_of c (m.AllowedFast i) = index i
+fields_of c (m.Extended e) = extended (unwrap_or (ext_id c.reg e) 0) (payload_of e)
 fields_of c (m.Unknown n bytes) = payload bytes
 
 -- ---- their bytes
@@ -90,6 +99,7 @@ spell_fields (part i b l) = be32 i ++ (be32 b ++ be32 l)
 spell_fields (block i b bytes) = be32 i ++ (be32 b ++ bytes)
 spell_fields (port p) = be16 p
 spell_fields (field bits) = bits
+spell_fields (extended n bytes) = n ∷ bytes
 spell_fields (payload bytes) = bytes
 
 abbrev pub framed : Option ℕ → List ℕ → List ℕ
@@ -110,10 +120,11 @@ abbrev pub AreInRange : Fields → Type 0
 AreInRange none = ⊤
 AreInRange (index i) = i < 2 ^ 32
 AreInRange (part i b l) = (i < 2 ^ 32) × (b < 2 ^ 32) × (l < 2 ^ 32)
-AreInRange (block i b bytes) = (i < 2 ^ 32) × (b < 2 ^ 32) × AreBytes bytes
+AreInRange (block i b bytes) = (i < 2 ^ 32) × (b < 2 ^ 32)
 AreInRange (port p) = p < 2 ^ 16
-AreInRange (field bits) = AreBytes bits
-AreInRange (payload bytes) = AreBytes bytes
+AreInRange (field bits) = ⊤
+AreInRange (extended n bytes) = n < 2 ^ 8
+AreInRange (payload bytes) = ⊤
 
 abbrev pub IsIdInRange : Option ℕ → Type 0
 IsIdInRange None = ⊤
@@ -123,8 +134,10 @@ pub record IsInRange (c : Context) (m : Message) : Type 0 where
   pub id : IsIdInRange (id_of m)
   pub fields : AreInRange (fields_of c m)
 
--- a value has a spelling of its own: an unknown message has no id with a meaning
+-- a value has a spelling of its own: an unknown message has no id with a meaning, and an extended value has an extended id
+-- and a dictionary that fits
 abbrev pub IsShaped : Context → Message → Type 0
+IsShaped c (m.Extended e) = HasSpelling c.reg e
 IsShaped c (m.Unknown n bytes) = has_meaning n ≡ false
 IsShaped c msg = ⊤
 
@@ -170,6 +183,7 @@ is_payload other = false
 abbrev pub keeps_bytes : Fields → Bool
 keeps_bytes (block i b bytes) = true
 keeps_bytes (field bits) = true
+keeps_bytes (extended n bytes) = true
 keeps_bytes (payload bytes) = true
 keeps_bytes other = false
 
@@ -191,4 +205,5 @@ message_of v.HaveAll = m.HaveAll
 message_of v.HaveNone = m.HaveNone
 message_of (v.Reject i b l) = m.Reject i b l
 message_of (v.AllowedFast i) = m.AllowedFast i
+message_of (v.Extended e) = m.Extended (ext_of_view e)
 message_of (v.Unknown n bytes) = m.Unknown n bytes.now

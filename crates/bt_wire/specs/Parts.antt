@@ -1,20 +1,25 @@
 -- For proofs and private contracts alone: the message that an id and the bytes behind it are, read from left to right.
 use Rattle.std.specs.Prelude.{◌≡◌, ◌==◌, List, ℕ, suc, ◌+◌, [], ◌∷◌, length, drop, Bool, true, false, IfSome, Option, Some, None, if◌then◌else◌}
+use Rattle.bt_ext.specs.declared.ext.ViewError.{ViewError}
+use Rattle.bt_ext.specs.declared.ext.ViewError.TheVariants as error
 use Rattle.bt_wire.specs.declared.context.Context.{Context}
 use Rattle.bt_wire.specs.declared.ids.Kind.{Kind}
 use Rattle.bt_wire.specs.declared.ids.Shape.{Shape}
-use Rattle.bt_wire.specs.declared.ids.Shape.TheVariants.{Nothing, Index, Part, Block, Port, Field}
+use Rattle.bt_wire.specs.declared.ids.Shape.TheVariants.{Nothing, Index, Part, Block, Port, Field, Extended}
 use Rattle.bt_wire.specs.declared.message.Message.{Message}
 use Rattle.bt_wire.specs.declared.message.Message.TheVariants as m
+use Rattle.bt_ext.specs.Faults.{Allows, fault_of}
+use Rattle.bt_ext.specs.declared.ext.Ext.{Ext}
+use Rattle.bt_wire.specs.declared.fault.Reason.{Reason}
 use Rattle.bt_wire.specs.declared.fault.Reason.TheVariants.{BadIndex, SpareBits}
 use Rattle.bt_wire.specs.declared.fault.Refused.{Refused}
 use Rattle.bt_wire.specs.Bitfields.{has_spare}
 use Rattle.bt_wire.specs.Numbers.{number16, number32}
 use Rattle.bt_wire.specs.Ids.{kind_of}
-use Rattle.bt_wire.specs.Messages.{Fields, none, index, part, block, port, field, payload, id_of, fields_of, spell_fields, index_in, field_in, IsShaped, IsInRange}
-use Rattle.bt_wire.specs.Faults.{allows, field_size, is_beyond}
+use Rattle.bt_wire.specs.Messages.{Fields, none, index, part, block, port, field, extended, payload, id_of, fields_of, spell_fields, index_in, field_in, IsShaped, IsInRange}
+use Rattle.bt_wire.specs.Faults.{allows, field_size, is_beyond, placed_by}
 
--- the fields of a shape that bytes are
+-- the fields of a shape that bytes are; of an extended message bytes are read apart
 abbrev pub reading : Shape → List ℕ → Fields
 reading Nothing bytes = none
 reading Index bytes = index (number32 bytes)
@@ -22,6 +27,7 @@ reading Part bytes = part (number32 bytes) (number32 (drop 4 bytes)) (number32 (
 reading Block bytes = block (number32 bytes) (number32 (drop 4 bytes)) (drop 8 bytes)
 reading Port bytes = port (number16 bytes)
 reading Field bytes = field bytes
+reading Extended bytes = none
 
 -- the parts of fields
 abbrev pub first_in : Fields → ℕ
@@ -45,7 +51,7 @@ bytes_in (block i b bytes) = bytes
 bytes_in (field bits) = bits
 bytes_in other = []
 
--- the message of an id with a meaning
+-- the message of an id with a meaning, but for an extended one
 abbrev pub known : ℕ → Fields → Message
 known n f =
     if n == 0 then m.Choke
@@ -99,6 +105,13 @@ broken_field pieces length f =
 abbrev pub IsSized : Option ℕ → Fields → Type 0
 IsSized pieces f = IfSome (field_in f) (λ bits. allows (field_size pieces) (suc (length bits)) ≡ true)
 
+-- the place of a payload's fault
+abbrev pub place_in : ViewError → ℕ
+place_in (error.BadBencode at) = at
+place_in (error.Unsorted at) = at
+place_in error.BadField = 0
+place_in (error.BadBlock at) = at
+
 -- 2 to the number of bits that are left of eight, where some are used
 abbrev pub bound_of : ℕ → ℕ
 bound_of used =
@@ -110,3 +123,12 @@ bound_of used =
     else if used == 6 then 4
     else if used == 7 then 2
     else 1
+
+-- the rules allow an extended value, or it has a fault for this reason
+abbrev pub IsJudgedExt : Context → Ext → Option Reason → Type 0
+IsJudgedExt c e None = Allows c.rules e
+IsJudgedExt c e (Some reason) = (fault : ViewError) × (fault_of c.rules e ≡ Some fault) × ((placed_by fault).reason ≡ reason)
+
+abbrev pub IsJudged : Context → Message → Option Reason → Type 0
+IsJudged c (m.Extended e) r = IsJudgedExt c e r
+IsJudged c msg r = r ≡ None

@@ -3,7 +3,7 @@ ghost use Rattle.bt_wire.specs.Handshakes.{negotiated};
 
 use crate::reserved::Reserved;
 use bitflags::Flags;
-use bt_ext::Rules;
+use bt_ext::{Registered, Rules};
 
 /// The receiver. Without an info hash every info hash is accepted.
 #[derive(Clone, Copy, PartialEq, Eq, Debug)]
@@ -12,6 +12,8 @@ pub struct Own {
     pub info_hash: Option<[u8; 20]>,
     /// How many pieces the torrent has, where that is known.
     pub pieces: Option<u32>,
+    /// The ids under which the receiver wants extensions.
+    pub reg: Registered,
     pub rules: Rules,
     /// The greatest length that a message may have, its four bytes of length not counted.
     pub limit: u32,
@@ -22,7 +24,10 @@ pub struct Own {
 pub struct Context {
     /// Both ends know the Fast Extension (BEP 6).
     pub fast: bool,
+    /// Both ends know the Extension Protocol (BEP 10).
+    pub ext: bool,
     pub pieces: Option<u32>,
+    pub reg: Registered,
     pub rules: Rules,
     pub limit: u32,
 }
@@ -40,7 +45,9 @@ pub fn negotiate(own: &Own, peer: Reserved) -> Context
 {
     Context {
         fast: own.reserved.contains(Reserved::FAST) && peer.contains(Reserved::FAST),
+        ext: own.reserved.contains(Reserved::EXT) && peer.contains(Reserved::EXT),
         pieces: own.pieces,
+        reg: own.reg,
         rules: own.rules,
         limit: own.limit,
     }

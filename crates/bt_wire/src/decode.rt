@@ -1,19 +1,20 @@
-ghost use Rattle.std.specs.Prelude.{◌≡◌, ◌∷◌, ◌≤◌, ◌-◌, length, drop, IfOk, IfErr, true, Some};
-ghost use Rattle.bt_wire.specs.Faults.{IsFault, said_id, allows, size_of};
+ghost use Rattle.std.specs.Prelude.{◌≡◌, ◌≢◌, ◌<◌, ◌^◌, ◌+◌, ◌∷◌, ◌≤◌, ◌-◌, length, drop, IfOk, IfErr, true, Some};
+ghost use Rattle.bt_wire.specs.Faults.{IsFault, said_id, allows, size_of, placed_by};
 ghost use Rattle.bt_wire.specs.Headers.{header_of, IsWindow, IsRead, RefusesWindow};
 ghost use Rattle.bt_wire.specs.declared.context.Context.{Context};
 ghost use Rattle.bt_wire.specs.declared.fault.Header.TheVariants as headers;
 ghost use Rattle.bt_wire.specs.Messages.{message_of, fields_of, keeps_bytes};
 ghost use Rattle.bt_wire.specs.Numbers.{number32};
-ghost use Rattle.bt_wire.specs.Parts.{made};
+ghost use Rattle.bt_wire.specs.Parts.{made, place_in};
 
 use crate::context::{Context, Order};
-use crate::fault::{DecodeError, Refused};
-use crate::fields::judge_fields;
+use crate::fault::{DecodeError, Reason, Refused};
+use crate::fields::judge_view;
 use crate::message::{Message, MessageView};
 use crate::numbers::{number_at_front, port_at_front};
 use crate::slices::behind;
 use bt_bencode::ByteString;
+use bt_ext::{ViewError, copy_ext, view_ext};
 use std::alloc::{AllocError, Global};
 
 /// Reads the bytes of one message as parts of them, where `judge_header` lets them be a window. It takes no memory.
@@ -30,18 +31,76 @@ pub fn view_window<'a>(
     if length == 0 {
         return Ok(MessageView::KeepAlive);
     }
+    if id_at(window) == EXTENDED {
+        return view_extended(context, order, window);
+    }
     let view = read_fields(context, window);
-    match judge_fields(context.pieces, length, &view.fields()) {
+    match judge_view(context, length, &view) {
         Some(refused) => Err(refused),
         None => Ok(view),
     }
 }
 
-/// The message of a window, by its id.
+/// The id behind the length.
+fn id_at(window: &[u8]) -> u8
+    requires { 5 ≤ length window.now }
+    ensures { result ≡ said_id window.now }
+{
+    window[4]
+}
+
+/// The id of extended messages (BEP 10).
+const EXTENDED: u8 = 20;
+
+/// The extended message of a window.
+fn view_extended<'a>(
+    context: &Context,
+    _order: Order,
+    window: &'a [u8],
+) -> Result<MessageView<'a>, Refused>
+    requires whole { IsWindow context.now _order window.now }
+    requires long { 6 ≤ length window.now }
+    requires id { said_id window.now ≡ 20 }
+    ensures ok { IfOk result (λ v. IsRead context.now _order window.now (message_of v)) }
+    ensures err { IfErr result (λ f. IsFault context.now _order 0 window.now (Some f)) }
+{
+    match view_ext(context.reg, context.rules, window[5], behind(window, 6)) {
+        Ok(view) => Ok(MessageView::Extended(view)),
+        Err(fault) => Err(placed(fault, window.len())),
+    }
+}
+
+/// The fault of a payload, by its place in the message, which has so many bytes.
+fn placed(fault: ViewError, _length: usize) -> Refused
+    requires { place_in fault + 6 ≤ _length }
+    ensures { result ≡ placed_by fault }
+{
+    match fault {
+        ViewError::BadBencode { at } => Refused {
+            at: 6 + at as u64,
+            reason: Reason::BadBencode,
+        },
+        ViewError::Unsorted { at } => Refused {
+            at: 6 + at as u64,
+            reason: Reason::Unsorted,
+        },
+        ViewError::BadField => Refused {
+            at: 6,
+            reason: Reason::BadField,
+        },
+        ViewError::BadBlock { at } => Refused {
+            at: 6 + at as u64,
+            reason: Reason::BadBlock,
+        },
+    }
+}
+
+/// The message of a window, by its id, but for an extended one.
 #[tactic(auto, unfolding(crate::specs::Parts::made))]
 fn read_fields<'a>(_context: &Context, window: &'a [u8]) -> MessageView<'a>
     requires some { 5 ≤ length window.now }
     requires sized { allows (size_of _context.now (said_id window.now)) (length window.now - 4) ≡ true }
+    requires plain { said_id window.now ≢ 20 }
     ensures { message_of result ≡ made (said_id window.now) (drop 5 window.now) }
 {
     let fields = behind(window, 5);
@@ -133,6 +192,7 @@ pub fn copy_message(alloc: Global, view: &MessageView) -> Result<Message, AllocE
             length: *length,
         }),
         MessageView::AllowedFast(index) => Ok(Message::AllowedFast(*index)),
+        MessageView::Extended(view) => Ok(Message::Extended(copy_ext(alloc, view)?)),
         MessageView::Unknown { id, payload } => Ok(Message::Unknown {
             id: *id,
             payload: copy_bytes(alloc, payload)?,

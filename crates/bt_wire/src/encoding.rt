@@ -1,23 +1,36 @@
-ghost use Rattle.std.specs.Prelude.{◌≡◌, ◌↔◌, ◌+◌, ◌<◌, ◌≤◌, ◌^◌, ◌++◌, IsTrue, IsOk, IfErr, IfOk, OnOk, MatchOption, length as list_length};
+ghost use Rattle.std.specs.Prelude.{◌≡◌, ◌↔◌, ◌+◌, ◌-◌, ◌<◌, ◌≤◌, ◌^◌, ◌∷◌, ◌++◌, min, unwrap_or, IsTrue, IsOk, IfErr, IfOk, OnOk, MatchOption, length as list_length};
 ghost use Rattle.bt_wire.specs.Numbers.{be32};
 ghost use Rattle.bt_wire.specs.Legal.{IsLegal, IsRefusedFor, Refuses, IsEncoded};
-ghost use Rattle.bt_wire.specs.Messages.{spell, body, seen, spell_fields, IsShaped};
+ghost use Rattle.bt_ext.specs.Payloads.{ext_id, payload_of, HasSpelling};
+ghost use Rattle.bt_wire.specs.Messages.{spell, body, framed, seen, spell_fields, IsShaped};
+ghost use Rattle.bt_wire.specs.Parts.{IsJudged};
 
 use crate::context::{Context, Order};
 use crate::fault::{EncodeError, Fault, Reason, Refused};
-use crate::fields::{Fields, judge_fields};
+use crate::fields::{Fields, judge_message};
 use crate::header::judge_any_id;
 use crate::ids::kind_of;
 use crate::message::Message;
+use bt_ext::{Ext, ExtReason, Registered, ext_len, ext_reason, spell_ext};
 use std::alloc::{AllocError, Global};
 
 /// Whether the value has a spelling of its own.
-fn is_shaped(_context: &Context, message: &Message) -> bool
-    ensures { IsTrue result ↔ IsShaped _context.now message.now }
+fn is_shaped(context: &Context, message: &Message) -> bool
+    ensures { IsTrue result ↔ IsShaped context.now message.now }
 {
     match message {
         Message::Unknown { id, .. } => kind_of(*id).is_none(),
+        Message::Extended(value) => has_spelling(context.reg, value),
         _ => true,
+    }
+}
+
+fn has_spelling(reg: Registered, value: &Ext) -> bool
+    ensures { IsTrue result ↔ HasSpelling reg value.now }
+{
+    match ext_len(reg, value) {
+        Some(_) => true,
+        None => false,
     }
 }
 
@@ -37,14 +50,31 @@ fn fields_length(fields: &Fields) -> usize
     }
 }
 
-/// How many bytes follow the length.
-fn body_length(_context: &Context, message: &Message) -> usize
-    ensures value { result ≡ list_length (body _context.now message.now) }
-    ensures small { result < 2 ^ 63 + 9 }
+/// How many bytes follow the length, at most 2^64 - 1.
+fn body_length(context: &Context, message: &Message) -> u64
+    requires { IsShaped context.now message.now }
+    ensures { result ≡ min (list_length (body context.now message.now)) (2 ^ 64 - 1) }
 {
-    match message.id() {
+    match message.fields() {
+        Some(fields) => match message.id() {
+            None => 0,
+            Some(_) => (fields_length(&fields) as u64).saturating_add(1),
+        },
+        None => match message {
+            Message::Extended(value) => extended_length(context.reg, value),
+            _ => 0,
+        },
+    }
+}
+
+/// The same of an extended message.
+fn extended_length(reg: Registered, value: &Ext) -> u64
+    requires { HasSpelling reg value.now }
+    ensures { result ≡ min (2 + list_length (payload_of value.now)) (2 ^ 64 - 1) }
+{
+    match ext_len(reg, value) {
+        Some(length) => length.saturating_add(2),
         None => 0,
-        Some(_) => 1 + fields_length(&message.fields()),
     }
 }
 
@@ -57,7 +87,7 @@ pub fn legal(context: &Context, order: Order, message: &Message) -> Result<(), F
         return Err(Fault::Shape);
     }
     let length = body_length(context, message);
-    if length as u64 > u64::from(context.limit) {
+    if length > u64::from(context.limit) {
         return Err(Fault::Reason(Reason::TooLong));
     }
     match judge_value(context, order, message, length as u32) {
@@ -77,9 +107,24 @@ fn judge_value(context: &Context, order: Order, message: &Message, length: u32) 
     if let Some(Refused { reason, .. }) = judge_any_id(context, order, message.id(), length) {
         return Some(reason);
     }
-    match judge_fields(context.pieces, length, &message.fields()) {
-        Some(Refused { reason, .. }) => Some(reason),
-        None => None,
+    if let Some(Refused { reason, .. }) = judge_message(context, length, message) {
+        return Some(reason);
+    }
+    judge_extended(context, message)
+}
+
+/// Why the rules don't allow an extended message.
+fn judge_extended(context: &Context, message: &Message) -> Option<Reason>
+    ensures { IsJudged context.now message.now result }
+{
+    match message {
+        Message::Extended(value) => match ext_reason(context.rules, value) {
+            Some(ExtReason::Unsorted) => Some(Reason::Unsorted),
+            Some(ExtReason::BadField) => Some(Reason::BadField),
+            Some(ExtReason::BadBlock) => Some(Reason::BadBlock),
+            None => None,
+        },
+        _ => None,
     }
 }
 
@@ -102,21 +147,69 @@ pub fn encode(
     }
 }
 
-/// The bytes of a message, whose length fits four bytes, in one allocation.
+/// The bytes of a message, whose length fits four bytes.
 fn spelled(alloc: Global, context: &Context, message: &Message) -> Result<Vec<u8>, AllocError>
-    requires { list_length (body context.now message.now) < 2 ^ 32 }
+    requires shaped { IsShaped context.now message.now }
+    requires fits { list_length (body context.now message.now) < 2 ^ 32 }
     ensures { IfOk result (λ bytes. bytes.items ≡ spell context.now message.now) }
 {
-    let length = body_length(context, message);
-    let mut bytes = Vec::with_capacity(alloc, 4 + length)?;
-    bytes.extend_from_slice(&(length as u32).to_be_bytes())?;
-    match message.id() {
-        None => Ok(bytes),
+    let length = body_length(context, message) as u32;
+    let mut bytes = Vec::with_capacity(alloc, 4 + length as usize)?;
+    bytes.extend_from_slice(&length.to_be_bytes())?;
+    push_body(alloc, &mut bytes, context, message)?;
+    Ok(bytes)
+}
+
+/// Appends the id and the fields.
+fn push_body(
+    alloc: Global,
+    bytes: &mut Vec<u8>,
+    context: &Context,
+    message: &Message,
+) -> Result<(), AllocError>
+    requires { IsShaped context.now message.now }
+    ensures { OnOk result (bytes.new.items ≡ bytes.old.items ++ body context.now message.now) }
+{
+    match message.fields() {
+        Some(fields) => push_plain(bytes, message.id(), &fields),
+        None => match message {
+            Message::Extended(value) => push_extended(alloc, bytes, context.reg, value),
+            _ => Ok(()),
+        },
+    }
+}
+
+/// Appends an id, if there is one, and fields.
+fn push_plain(bytes: &mut Vec<u8>, id: Option<u8>, fields: &Fields) -> Result<(), AllocError>
+    ensures { OnOk result (bytes.new.items ≡ bytes.old.items ++ framed id (spell_fields (seen fields.now))) }
+{
+    match id {
+        None => Ok(()),
         Some(id) => {
             bytes.push(id)?;
-            push_fields(&mut bytes, &message.fields())?;
-            Ok(bytes)
+            push_fields(bytes, fields)
         }
+    }
+}
+
+/// Appends the ids and the payload of an extended message.
+fn push_extended(
+    alloc: Global,
+    bytes: &mut Vec<u8>,
+    reg: Registered,
+    value: &Ext,
+) -> Result<(), AllocError>
+    requires { HasSpelling reg value.now }
+    ensures { OnOk result (bytes.new.items ≡ bytes.old.items ++ (20 ∷ (unwrap_or (ext_id reg value.now) 0 ∷ payload_of value.now))) }
+{
+    match spell_ext(alloc, reg, value) {
+        Ok((id, payload)) => {
+            bytes.push(20)?;
+            bytes.push(id)?;
+            bytes.extend_from_slice(&payload)?;
+            Ok(())
+        }
+        Err(_) => Err(AllocError),
     }
 }
 

@@ -28,6 +28,14 @@ pub enum Reason {
     Late,
     #[error("Missing")]
     Missing,
+    #[error("BadBencode")]
+    BadBencode,
+    #[error("Unsorted")]
+    Unsorted,
+    #[error("BadField")]
+    BadField,
+    #[error("BadBlock")]
+    BadBlock,
     #[error("StreamFull")]
     StreamFull,
     #[error("EndInside")]

@@ -1,10 +1,12 @@
 //! What follows a message's id, by its shape.
-ghost use Rattle.std.specs.Prelude.{◌≡◌, nat_le, Some, None, length, if◌then◌else◌};
+ghost use Rattle.std.specs.Prelude.{◌≡◌, nat_le, IfSome, Some, None, length, if◌then◌else◌};
 ghost use Rattle.bt_wire.specs.Bitfields.{field_bytes, has_spare};
-ghost use Rattle.bt_wire.specs.Messages.{seen};
+ghost use Rattle.bt_wire.specs.Messages.{seen, fields_of, message_of, AreInRange};
 ghost use Rattle.bt_wire.specs.Parts.{broken_field, bound_of, IsSized};
 
+use crate::context::Context;
 use crate::fault::{Reason, Refused};
+use crate::message::{Message, MessageView};
 
 /// The fields of a message, by their shape.
 #[derive(Clone, Copy, Debug)]
@@ -33,7 +35,7 @@ pub enum Fields<'a> {
 
 /// The fault of the fields of a message of this length: an index that isn't below the known piece count, or a bit past
 /// the last piece.
-pub fn judge_fields(pieces: Option<u32>, length: u32, fields: &Fields) -> Option<Refused>
+fn judge_fields(pieces: Option<u32>, length: u32, fields: &Fields) -> Option<Refused>
     requires { IsSized pieces (seen fields.now) }
     ensures { result ≡ broken_field pieces length (seen fields.now) }
 {
@@ -56,6 +58,29 @@ pub fn judge_fields(pieces: Option<u32>, length: u32, fields: &Fields) -> Option
             None
         }
         Fields::Payload(_) => None,
+    }
+}
+
+/// The same of a message; an extended one has no such fields.
+pub fn judge_message(context: &Context, length: u32, message: &Message) -> Option<Refused>
+    requires { IsSized context.now.pieces (fields_of context.now message.now) }
+    ensures value { result ≡ broken_field context.now.pieces length (fields_of context.now message.now) }
+    ensures in_range { IfSome result (λ _. AreInRange (fields_of context.now message.now)) }
+{
+    match message.fields() {
+        Some(fields) => judge_fields(context.pieces, length, &fields),
+        None => None,
+    }
+}
+
+/// The same of a view.
+pub fn judge_view(context: &Context, length: u32, view: &MessageView) -> Option<Refused>
+    requires { IsSized context.now.pieces (fields_of context.now (message_of view.now)) }
+    ensures { result ≡ broken_field context.now.pieces length (fields_of context.now (message_of view.now)) }
+{
+    match view.fields() {
+        Some(fields) => judge_fields(context.pieces, length, &fields),
+        None => None,
     }
 }
 

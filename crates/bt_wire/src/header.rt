@@ -23,6 +23,7 @@ fn is_allowed(context: &Context, kind: Option<Kind>, length: u32) -> bool
             Shape::Block => length >= 9,
             Shape::Port => length == 3,
             Shape::Field => is_field_length(context.pieces, length),
+            Shape::Extended => length >= 2,
         },
     }
 }
@@ -46,6 +47,7 @@ fn is_agreed(context: &Context, kind: Option<Kind>) -> bool
         Some(kind) => match kind.needs {
             Needs::Neither => true,
             Needs::Fast => context.fast,
+            Needs::Extension => context.ext,
         },
     }
 }

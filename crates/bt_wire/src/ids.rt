@@ -1,4 +1,4 @@
-//! The ids of messages (BEP 3, BEP 5, BEP 6).
+//! The ids of messages (BEP 3, BEP 5, BEP 6, BEP 10).
 ghost use Rattle.std.specs.Prelude.{◌≡◌};
 ghost use Rattle.bt_wire.specs.Ids.{kind_of as kind_at};
 
@@ -15,6 +15,8 @@ pub enum Shape {
     Port,
     /// A bit for each piece.
     Field,
+    /// An extended id and its payload.
+    Extended,
 }
 
 /// The extension that both ends must have agreed on.
@@ -23,6 +25,8 @@ pub enum Needs {
     Neither,
     /// The Fast Extension (BEP 6).
     Fast,
+    /// The Extension Protocol (BEP 10).
+    Extension,
 }
 
 /// A message's part in the order of messages.
@@ -63,6 +67,7 @@ pub fn kind_of(id: u8) -> Option<Kind>
         13 | 17 => Some(row(Shape::Index, Needs::Fast, Turn::Counted)),
         14 | 15 => Some(row(Shape::Nothing, Needs::Fast, Turn::Opening)),
         16 => Some(row(Shape::Part, Needs::Fast, Turn::Counted)),
+        20 => Some(row(Shape::Extended, Needs::Extension, Turn::Apart)),
         _ => None,
     }
 }

@@ -1,11 +1,12 @@
-ghost use Rattle.std.specs.Prelude.{◌≡◌};
+ghost use Rattle.std.specs.Prelude.{◌≡◌, MatchOption, IfSome};
 ghost use Rattle.bt_wire.specs.declared.context.Context.{Context};
-ghost use Rattle.bt_wire.specs.Messages.{id_of as id_in, fields_of, seen, message_of, AreInRange, IsIdInRange};
+ghost use Rattle.bt_wire.specs.Messages.{id_of as id_in, IsExtended, fields_of, seen, message_of, AreInRange, IsIdInRange};
 
 use crate::fields::Fields;
 use bt_bencode::ByteString;
+use bt_ext::{Ext, ExtView};
 
-/// What follows the handshake (BEP 3, "peer messages"; BEP 5; BEP 6). `index` is a piece's, `begin` and `length` are
+/// What follows the handshake (BEP 3, "peer messages"; BEP 5; BEP 6; BEP 10). `index` is a piece's, `begin` and `length` are
 /// bytes within it. A message whose id isn't known is kept with its payload.
 #[derive(Debug, Drop)]
 pub enum Message {
@@ -43,6 +44,8 @@ pub enum Message {
         length: u32,
     },
     AllowedFast(u32),
+    /// A message of the Extension Protocol (BEP 10).
+    Extended(Ext),
     Unknown {
         id: u8,
         payload: ByteString,
@@ -50,7 +53,7 @@ pub enum Message {
 }
 
 /// The same over the bytes that it was read from.
-#[derive(Clone, Copy, Debug)]
+#[derive(Debug, Drop)]
 pub enum MessageView<'a> {
     KeepAlive,
     Choke,
@@ -68,6 +71,7 @@ pub enum MessageView<'a> {
     HaveNone,
     Reject { index: u32, begin: u32, length: u32 },
     AllowedFast(u32),
+    Extended(ExtView<'a>),
     Unknown { id: u8, payload: &'a [u8] },
 }
 
@@ -94,14 +98,15 @@ impl Message {
             Message::HaveNone => Some(15),
             Message::Reject { .. } => Some(16),
             Message::AllowedFast(_) => Some(17),
+            Message::Extended(_) => Some(20),
             Message::Unknown { id, .. } => Some(*id),
         }
     }
 
-    /// What follows the id.
-    pub fn fields(&self) -> Fields<'_>
-        ensures value { (c : Context) → seen result ≡ fields_of c self.now }
-        ensures in_range { AreInRange (seen result) }
+    /// What follows the id, but of an extended message, whose payload is read and written apart.
+    pub fn fields(&self) -> Option<Fields<'_>>
+        ensures value { MatchOption result (IsExtended self.now) (λ f. (c : Context) → seen f ≡ fields_of c self.now) }
+        ensures in_range { IfSome result (λ f. AreInRange (seen f)) }
     {
         match self {
             Message::KeepAlive
@@ -110,25 +115,24 @@ impl Message {
             | Message::Interested
             | Message::NotInterested
             | Message::HaveAll
-            | Message::HaveNone => Fields::Nothing,
-            Message::Have(index) | Message::Suggest(index) | Message::AllowedFast(index) => {
-                Fields::Index(*index)
-            }
+            | Message::HaveNone => Some(Fields::Nothing),
+            Message::Have(index) | Message::Suggest(index) | Message::AllowedFast(index) => Some(Fields::Index(*index)),
             Message::Request { index, begin, length }
             | Message::Cancel { index, begin, length }
-            | Message::Reject { index, begin, length } => Fields::Part {
+            | Message::Reject { index, begin, length } => Some(Fields::Part {
                 index: *index,
                 begin: *begin,
                 length: *length,
-            },
-            Message::Bitfield(bits) => Fields::Field(bits.as_slice()),
-            Message::Piece { index, begin, block } => Fields::Block {
+            }),
+            Message::Bitfield(bits) => Some(Fields::Field(bits.as_slice())),
+            Message::Piece { index, begin, block } => Some(Fields::Block {
                 index: *index,
                 begin: *begin,
                 block: block.as_slice(),
-            },
-            Message::Port(port) => Fields::Port(*port),
-            Message::Unknown { payload, .. } => Fields::Payload(payload.as_slice()),
+            }),
+            Message::Port(port) => Some(Fields::Port(*port)),
+            Message::Unknown { payload, .. } => Some(Fields::Payload(payload.as_slice())),
+            Message::Extended(_) => None,
         }
     }
 }
@@ -155,13 +159,14 @@ impl<'a> MessageView<'a> {
             MessageView::HaveNone => Some(15),
             MessageView::Reject { .. } => Some(16),
             MessageView::AllowedFast(_) => Some(17),
+            MessageView::Extended(_) => Some(20),
             MessageView::Unknown { id, .. } => Some(*id),
         }
     }
 
-    /// What follows the id.
-    pub fn fields(&self) -> Fields<'a>
-        ensures { (c : Context) → seen result ≡ fields_of c (message_of self.now) }
+    /// What follows the id, but of an extended message, whose payload is read and written apart.
+    pub fn fields(&self) -> Option<Fields<'a>>
+        ensures value { MatchOption result (IsExtended (message_of self.now)) (λ f. (c : Context) → seen f ≡ fields_of c (message_of self.now)) }
     {
         match self {
             MessageView::KeepAlive
@@ -170,25 +175,24 @@ impl<'a> MessageView<'a> {
             | MessageView::Interested
             | MessageView::NotInterested
             | MessageView::HaveAll
-            | MessageView::HaveNone => Fields::Nothing,
-            MessageView::Have(index) | MessageView::Suggest(index) | MessageView::AllowedFast(index) => {
-                Fields::Index(*index)
-            }
+            | MessageView::HaveNone => Some(Fields::Nothing),
+            MessageView::Have(index) | MessageView::Suggest(index) | MessageView::AllowedFast(index) => Some(Fields::Index(*index)),
             MessageView::Request { index, begin, length }
             | MessageView::Cancel { index, begin, length }
-            | MessageView::Reject { index, begin, length } => Fields::Part {
+            | MessageView::Reject { index, begin, length } => Some(Fields::Part {
                 index: *index,
                 begin: *begin,
                 length: *length,
-            },
-            MessageView::Bitfield(bits) => Fields::Field(bits),
-            MessageView::Piece { index, begin, block } => Fields::Block {
+            }),
+            MessageView::Bitfield(bits) => Some(Fields::Field(bits)),
+            MessageView::Piece { index, begin, block } => Some(Fields::Block {
                 index: *index,
                 begin: *begin,
                 block: block,
-            },
-            MessageView::Port(port) => Fields::Port(*port),
-            MessageView::Unknown { payload, .. } => Fields::Payload(payload),
+            }),
+            MessageView::Port(port) => Some(Fields::Port(*port)),
+            MessageView::Unknown { payload, .. } => Some(Fields::Payload(payload)),
+            MessageView::Extended(_) => None,
         }
     }
 }

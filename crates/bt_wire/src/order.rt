@@ -9,7 +9,10 @@ pub fn next(order: Order, message: &Message) -> Order
     ensures { result ≡ order_after order message.now }
 {
     match message {
-        Message::KeepAlive | Message::Port(_) | Message::Unknown { .. } => order,
+        Message::KeepAlive
+        | Message::Port(_)
+        | Message::Extended(_)
+        | Message::Unknown { .. } => order,
         _ => Order::Past,
     }
 }
@@ -19,7 +22,10 @@ pub fn next_of_view(order: Order, view: &MessageView) -> Order
     ensures { result ≡ order_after order (message_of view.now) }
 {
     match view {
-        MessageView::KeepAlive | MessageView::Port(_) | MessageView::Unknown { .. } => order,
+        MessageView::KeepAlive
+        | MessageView::Port(_)
+        | MessageView::Extended(_)
+        | MessageView::Unknown { .. } => order,
         _ => Order::Past,
     }
 }

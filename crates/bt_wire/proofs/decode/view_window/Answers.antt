@@ -1,19 +1,39 @@
-use Rattle.std.proofs.Common.{◌≡◌, ◌-◌, ◌≤◌, ℕ, Option, length, sym, subst, ap, ◌∙◌, arith}
+use Rattle.std.proofs.Common.{◌≡◌, ◌-◌, ◌≤◌, ℕ, Option, length, refl, sym, subst, ap, ◌∙◌, arith}
 use Rattle.bt_wire.specs.declared.message.Message.{Message}
 use Rattle.bt_wire.specs.declared.fault.Refused.{Refused}
 use Rattle.bt_wire.specs.Faults.{said_length, said_id, allows, size_of}
 use Rattle.bt_wire.specs.Headers.{IsRead}
-use Rattle.bt_wire.specs.Messages.{Fields, fields_of}
+use Rattle.bt_wire.specs.Messages.{fields_of}
 use Rattle.bt_wire.specs.Parts.{IsSized}
 use Rattle.bt_wire.proofs.HeaderLaws.{IsWindow-from_header}
-use Rattle.bt_wire.proofs.WindowLaws.{keep_alive_read, fields_found, fields_read, window_fault, same_fields, sized}
+use Rattle.bt_wire.proofs.WindowLaws.{keep_alive_read, fields_found, fields_read, window_fault, extended_long, plain_allowed, same_fields, sized}
 use Rattle.bt_wire.proofs.decode.view_window.Goals as goal
+
+-- the id that a call gave
+plain : (n k : ℕ) → n ≡ k → (n ≡ 20 → ⊥) → k ≡ 20 → ⊥
+plain n k e other h = other (e ∙ h)
 
 pub number_at_front-length-requires : goal.number_at_front-length-requires
 number_at_front-length-requires c = (IsWindow-from_header _ _ _ c.requires).long
 
 pub returns-then-length-eq0-clause-ok : goal.returns-then-length-eq0-clause-ok
 returns-then-length-eq0-clause-ok c = keep_alive_read _ _ _ (λ i. omega (arith, c.type_inv.window i)) (IsWindow-from_header _ _ _ c.requires) (cc)
+
+pub id_at-requires : goal.id_at-requires
+id_at-requires c =
+    let window = IsWindow-from_header _ _ _ c.requires in
+    omega (arith, window.exact, c.number_at_front-length.ensures, c.if-length-eq0.false)
+
+pub view_extended-requires-clause-id : goal.view_extended-requires-clause-id
+view_extended-requires-clause-id c = sym c.id_at.ensures ∙ c.if-id_at-eq-EXTENDED.true
+
+pub view_extended-requires-clause-whole : goal.view_extended-requires-clause-whole
+view_extended-requires-clause-whole c = IsWindow-from_header _ _ _ c.requires
+
+pub view_extended-requires-clause-long : goal.view_extended-requires-clause-long
+view_extended-requires-clause-long c =
+    let window = IsWindow-from_header _ _ _ c.requires in
+    extended_long _ _ _ window (omega (arith, window.exact, c.number_at_front-length.ensures, c.if-length-eq0.false)) (sym c.id_at.ensures ∙ c.if-id_at-eq-EXTENDED.true)
 
 pub read_fields-view-requires-clause-some : goal.read_fields-view-requires-clause-some
 read_fields-view-requires-clause-some c =
@@ -27,27 +47,30 @@ read_fields-view-requires-clause-sized c =
     let size : length c.args.window.now - 4 ≡ said_length c.args.window.now = omega (arith, window.exact) in
     ap (allows (size_of c.args.context.now (said_id c.args.window.now))) size ∙ right
 
-pub judge_fields-requires : goal.judge_fields-requires
-judge_fields-requires c =
+pub read_fields-view-requires-clause-plain : goal.read_fields-view-requires-clause-plain
+read_fields-view-requires-clause-plain c = plain _ _ c.id_at.ensures c.if-id_at-eq-EXTENDED.false
+
+pub judge_view-requires : goal.judge_view-requires
+judge_view-requires c =
     let window = IsWindow-from_header _ _ _ c.requires in
-    let found = fields_found _ _ _ (λ i. omega (arith, c.type_inv.window i)) window (omega (arith, window.exact, c.number_at_front-length.ensures, c.if-length-eq0.false)) in
-    let P : Fields → Type 0 = λ f. IsSized c.args.context.now.pieces f in
+    let found = fields_found _ _ _ (λ i. omega (arith, c.type_inv.window i)) window (omega (arith, window.exact, c.number_at_front-length.ensures, c.if-length-eq0.false)) (plain _ _ c.id_at.ensures c.if-id_at-eq-EXTENDED.false) in
     let Q : Message → Type 0 = λ m. IsSized c.args.context.now.pieces (fields_of c.args.context.now m) in
-    subst P (sym (c.fields.ensures c.args.context.now)) (subst Q (sym c.read_fields-view.ensures) found.kept.sized)
+    subst Q (sym c.read_fields-view.ensures) found.kept.sized
 
 pub returns-in-Some-clause-err : goal.returns-in-Some-clause-err
 returns-in-Some-clause-err c =
     let window = IsWindow-from_header _ _ _ c.requires in
     let long : 5 ≤ length c.args.window.now = omega (arith, window.exact, c.number_at_front-length.ensures, c.if-length-eq0.false) in
-    let found = fields_found _ _ _ (λ i. omega (arith, c.type_inv.window i)) window long in
+    let found = fields_found _ _ _ (λ i. omega (arith, c.type_inv.window i)) window long (plain _ _ c.id_at.ensures c.if-id_at-eq-EXTENDED.false) in
     window_fault c.args.context.now c.args.order c.args.window.now _ c.in-Some.refused window long found
-        (same_fields c.args.context.now c.number_at_front-length.result (said_length c.args.window.now) _ _ _ _ c.number_at_front-length.ensures (c.fields.ensures c.args.context.now) c.read_fields-view.ensures c.in-Some.ensures)
+        (same_fields c.args.context.now c.number_at_front-length.result (said_length c.args.window.now) _ _ _ _ c.number_at_front-length.ensures refl c.read_fields-view.ensures c.in-Some.ensures)
 
 pub returns-in-None-clause-ok : goal.returns-in-None-clause-ok
 returns-in-None-clause-ok c =
     let window = IsWindow-from_header _ _ _ c.requires in
     let long : 5 ≤ length c.args.window.now = omega (arith, window.exact, c.number_at_front-length.ensures, c.if-length-eq0.false) in
-    let found = fields_found _ _ _ (λ i. omega (arith, c.type_inv.window i)) window long in
+    let other = plain _ _ c.id_at.ensures c.if-id_at-eq-EXTENDED.false in
+    let found = fields_found _ _ _ (λ i. omega (arith, c.type_inv.window i)) window long other in
     let P : Message → Type 0 = λ m. IsRead c.args.context.now c.args.order c.args.window.now m in
-    subst P (sym c.read_fields-view.ensures) (fields_read c.args.context.now c.args.order c.args.window.now _ window long found
-        (same_fields c.args.context.now c.number_at_front-length.result (said_length c.args.window.now) _ _ _ _ c.number_at_front-length.ensures (c.fields.ensures c.args.context.now) c.read_fields-view.ensures c.in-None.ensures))
+    subst P (sym c.read_fields-view.ensures) (fields_read c.args.context.now c.args.order c.args.window.now _ window long found (plain_allowed c.args.context.now _ _ found.its_part.id other)
+        (same_fields c.args.context.now c.number_at_front-length.result (said_length c.args.window.now) _ _ _ _ c.number_at_front-length.ensures refl c.read_fields-view.ensures c.in-None.ensures))
