@@ -1,6 +1,6 @@
 ghost use Rattle.std.specs.Prelude.{◌≡◌, ◌+◌, ◌<◌, ◌≤◌, ◌^◌, ◌⊎◌, ◌↔◌, [], length, None, Err, IfOk, IfSome, IsErrOf};
 
-use crate::progress::{Progress, Stage};
+use crate::progress::{END, Progress, Stage};
 use crate::view::{Finish, TakeError, View};
 use bt_wire::{Context, Order, Own};
 use std::alloc::{AllocError, Allocator, Global};
@@ -9,9 +9,6 @@ use thiserror::Error;
 
 /// The greatest limit that a receiver may have.
 const MAX_LIMIT: u32 = 1_048_576;
-
-/// No message starts behind this offset.
-const END: u64 = 1 << 62;
 
 /// Why a feed can't be made.
 #[derive(Clone, Copy, PartialEq, Eq, Debug, Error)]

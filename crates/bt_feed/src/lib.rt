@@ -5,6 +5,8 @@ mod feed;
 pub mod laws;
 mod progress;
 mod slices;
+#[cfg(test)]
+mod tests;
 mod transcript;
 mod view;
 

@@ -15,7 +15,7 @@ use bt_wire::{
 use std::alloc::Allocator;
 
 /// A message starts below this offset.
-const END: u64 = 1 << 62;
+pub const END: u64 = 1 << 62;
 
 /// What a feed awaits: the handshake, or a message of this number from this offset of the stream on.
 #[derive(Clone, Copy, PartialEq, Eq, Debug)]

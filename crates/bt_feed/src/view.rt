@@ -1,5 +1,5 @@
-ghost use Rattle.std.specs.Prelude.{◌≡◌, IfOk};
-ghost use Rattle.bt_feed.specs.Views.{item_of};
+ghost use Rattle.std.specs.Prelude.{◌≡◌, IfOk, IfErr};
+ghost use Rattle.bt_feed.specs.Views.{item_of, KeepsBytes};
 
 use bt_wire::{Handshake, Item, MessageView, Refusal, copy_message};
 use std::alloc::{AllocError, Global};
@@ -29,9 +29,10 @@ pub enum Finish {
     Untaken,
 }
 
-/// The item that a view is, with memory of its own.
+/// The item that a view is, with memory of its own. It takes memory only for bytes that a message keeps.
 pub fn to_item(alloc: Global, view: &View) -> Result<Item, AllocError>
-    ensures { IfOk result (λ item. item ≡ item_of view.now) }
+    ensures ok { IfOk result (λ item. item ≡ item_of view.now) }
+    ensures err { IfErr result (λ _. KeepsBytes view.now) }
 {
     match view {
         View::Handshake(handshake) => Ok(Item::Handshake(*handshake)),
