@@ -6,7 +6,8 @@ use Rattle.std.specs.Bool.{Decides}
 use Rattle.std.specs.Str.{bytes_eq}
 use Rattle.std.proofs.lemmas.Slice.Eq.{bytes_eq-Decides}
 use Rattle.std.proofs.lemmas.Grind.{common_steps}
-use Rattle.bt_ext.specs.Tables.{Entries, id_of_name, AreEntries, IsTable, removed, replaced, added, entered, entered_all, entries_of, HoldsAt}
+use Rattle.bt_ext.specs.Tables.{Entries, id_of_name, AreEntries, IsTable, removed, replaced, added, entered, entered_all}
+use Rattle.bt_ext.specs.Holding.{entries_of, HoldsAt}
 
 -- names that differ, either way round
 pub flip : (x y : List ℕ) → bytes_eq x y ≡ bytes_eq y x

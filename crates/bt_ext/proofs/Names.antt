@@ -10,7 +10,7 @@ use Rattle.std.specs.BTreeMap.{is_at}
 use Rattle.std.specs.BTreeSet.{insert_key}
 use Rattle.std.proofs.lemmas.Map.Text.{is_eq-slice_cmp}
 use Rattle.std.proofs.lemmas.Map.Lookups.{exact_bytes}
-use Rattle.bt_ext.specs.Tables.{AddsName}
+use Rattle.bt_ext.specs.Holding.{AddsName}
 
 abbrev cmp : Bor (List ℕ) → Bor (List ℕ) → Ordering
 cmp x y = slice_cmp nat_cmp x.now y.now

@@ -7,7 +7,8 @@ use Rattle.bt_bencode.specs.LookUps.{GivesPair}
 use Rattle.bt_bencode.specs.Views.{tree_of, pairs_of}
 use Rattle.bt_bencode.specs.declared.tree.Value.{Value}
 use Rattle.bt_ext.specs.Fields.{id_value, byte_of}
-use Rattle.bt_ext.specs.Tables.{Entries, AddsName, told, told_by}
+use Rattle.bt_ext.specs.Tables.{Entries, told, told_by}
+use Rattle.bt_ext.specs.Holding.{AddsName}
 
 -- names with the same members
 told_by-same : (a b : List (List ℕ)) (ps : Pairs) → ((n : List ℕ) → list_any (bytes_eq n) a ≡ list_any (bytes_eq n) b) → told_by a ps ≡ told_by b ps

@@ -1,4 +1,4 @@
--- Extended payloads.
+-- what is promised
 pub mod Ids
 pub mod Payloads
 pub mod Fields
@@ -7,3 +7,5 @@ pub mod Faults
 pub mod Tables
 pub mod Made
 pub mod Laws
+-- what only the contracts of functions that are not public cite
+pub mod Holding

@@ -1,7 +1,5 @@
 -- The names and ids that a peer told (BEP 10, "m"): a finite map, and what an extended handshake makes of it.
-use Rattle.std.specs.Prelude.{◌≡◌, ℕ, ◌<◌, ◌≤◌, ◌==◌, List, [], ◌∷◌, ◌++◌, length, map, true, Option, Some, None, is_some, nat_lt, if◌then◌else◌, ◌||◌, codes, ⊤, take, slice_index_or}
-use Rattle.std.specs.Borrow.{Bor}
-use Rattle.std.specs.BTreeSet.{BTreeSet}
+use Rattle.std.specs.Prelude.{◌≡◌, ℕ, ◌<◌, ◌≤◌, ◌==◌, List, [], ◌∷◌, ◌++◌, length, Option, Some, None, is_some, nat_lt, if◌then◌else◌, ◌||◌, codes, ⊤}
 use Rattle.std.specs.List.{list_any}
 use Rattle.std.specs.Str.{bytes_eq}
 use Rattle.bt_bencode.specs.Trees.{Tree, integer, string, list, dictionary, Pairs, no_pairs, pair}
@@ -80,14 +78,6 @@ told_of t = told_in (lookup_of (codes "m") t)
 abbrev pub applied : Tree → Entries → Entries
 applied t es = entered_all (told_of t) es
 
--- the names in a set, by their bytes
-abbrev pub names_of : BTreeSet (Bor (List ℕ)) → List (List ℕ)
-names_of s = map (λ k. k.now) s.keys
-
--- one more name is there
-abbrev pub AddsName : List ℕ → List (List ℕ) → List (List ℕ) → Type 0
-AddsName name old new = (other : List ℕ) → list_any (bytes_eq other) new ≡ (bytes_eq other name || list_any (bytes_eq other) old)
-
 -- what entering an id makes of its name's: a name that is too long or finds no room keeps what it has
 abbrev pub id_after : List ℕ → ℕ → Entries → Option ℕ
 id_after name id es =
@@ -99,13 +89,3 @@ id_after name id es =
 abbrev pub before : List ℕ → Entries → Entries
 before name [] = []
 before name (x ∷ xs) = if bytes_eq x.0 name then [] else x ∷ before name xs
-
--- pairs of a name and an id, by the names' bytes
-abbrev pub entries_of : List (Bor (List ℕ) × ℕ) → Entries
-entries_of xs = map (λ x. (x.0.now, x.1)) xs
-
--- the place of the first entry with the name, if there is one
-abbrev pub HoldsAt : List ℕ → Entries → Option ℕ → Type 0
-HoldsAt name es None = id_of_name name es ≡ None
-HoldsAt name es (Some i) =
-    (i < length es) × ((e : List ℕ × ℕ) → e ≡ slice_index_or es i e → bytes_eq e.0 name ≡ true) × (id_of_name name (take i es) ≡ None)

@@ -3,7 +3,8 @@ ghost use Rattle.std.specs.Prelude.{◌≡◌, ◌<◌, ◌≤◌, [], length, O
 ghost use Rattle.std.specs.Bool.{OnFalse};
 ghost use Rattle.bt_bencode.specs.Trees.{dictionary};
 ghost use Rattle.bt_bencode.specs.Views.{tree_of};
-ghost use Rattle.bt_ext.specs.Tables.{id_of_name, entered, entered_all, entries_of, applied, HoldsAt, IsTable};
+ghost use Rattle.bt_ext.specs.Tables.{id_of_name, entered, entered_all, applied, IsTable};
+ghost use Rattle.bt_ext.specs.Holding.{entries_of, HoldsAt};
 
 use crate::told::{told_of, told_of_ref};
 use bt_bencode::{ByteString, DictRef, Value};

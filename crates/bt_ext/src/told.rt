@@ -4,7 +4,8 @@ ghost use Rattle.std.specs.List.{list_any};
 ghost use Rattle.std.specs.Str.{bytes_eq};
 ghost use Rattle.bt_bencode.specs.Trees.{dictionary};
 ghost use Rattle.bt_bencode.specs.Views.{tree_of};
-ghost use Rattle.bt_ext.specs.Tables.{told, told_by, told_of, entries_of, names_of, AddsName};
+ghost use Rattle.bt_ext.specs.Tables.{told, told_by, told_of};
+ghost use Rattle.bt_ext.specs.Holding.{entries_of, names_of, AddsName};
 
 use crate::fields::{byte_of, id_value};
 use bt_bencode::{DictRef, Pairs, Value, lookup};

@@ -1,5 +1,6 @@
 use Rattle.std.proofs.Common.{◌∙◌, Some, None, subst, arith}
-use Rattle.bt_ext.specs.Tables.{Entries, HoldsAt}
+use Rattle.bt_ext.specs.Tables.{Entries}
+use Rattle.bt_ext.specs.Holding.{HoldsAt}
 use Rattle.bt_ext.proofs.Entries.{remove-at, replace-at, keep-absent}
 use Rattle.bt_ext.proofs.table.enter.Goals as goal
 

@@ -1,5 +1,5 @@
 use Rattle.std.proofs.Common.{◌∙◌, subst, List, ℕ}
-use Rattle.bt_ext.specs.Tables.{entries_of, names_of, AddsName}
+use Rattle.bt_ext.specs.Holding.{entries_of, names_of, AddsName}
 use Rattle.bt_ext.proofs.Telling.{pairs_step}
 use Rattle.bt_ext.proofs.told.told_by.Goals as goal
 

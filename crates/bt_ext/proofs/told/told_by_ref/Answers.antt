@@ -1,5 +1,5 @@
 use Rattle.std.proofs.Common.{◌∙◌}
-use Rattle.bt_ext.specs.Tables.{entries_of, names_of}
+use Rattle.bt_ext.specs.Holding.{entries_of, names_of}
 use Rattle.bt_ext.proofs.Telling.{ref_step}
 use Rattle.bt_ext.proofs.told.told_by_ref.Goals as goal
 

@@ -1,6 +1,7 @@
 -- The pairs that are left lead from what was told so far to the whole.
 use Rattle.std.proofs.Common.{◌≡◌, ◌++◌, []}
-use Rattle.bt_ext.specs.Tables.{told_by, entries_of, names_of}
+use Rattle.bt_ext.specs.Tables.{told_by}
+use Rattle.bt_ext.specs.Holding.{entries_of, names_of}
 use Rattle.bt_ext.proofs.told.told_by_ref.Given as goal
 
 abbrev pub invariant-loop-name : goal.invariant-loop-name

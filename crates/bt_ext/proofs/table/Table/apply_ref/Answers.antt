@@ -1,4 +1,4 @@
-use Rattle.bt_ext.specs.Tables.{entries_of}
+use Rattle.bt_ext.specs.Holding.{entries_of}
 use Rattle.bt_ext.proofs.ByName.{table-all-after}
 use Rattle.bt_ext.proofs.table.Table.apply_ref.Goals as goal
 

@@ -1,5 +1,6 @@
 use Rattle.std.proofs.Common.{Some, ap, subst, sym, ◌∙◌}
-use Rattle.bt_ext.specs.Tables.{Entries, id_of_name, HoldsAt}
+use Rattle.bt_ext.specs.Tables.{Entries, id_of_name}
+use Rattle.bt_ext.specs.Holding.{HoldsAt}
 use Rattle.bt_ext.proofs.Entries.{id_at, above}
 use Rattle.bt_ext.proofs.table.Table.id_of.Goals as goal
 

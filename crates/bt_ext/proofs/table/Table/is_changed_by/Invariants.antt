@@ -1,6 +1,7 @@
 -- The entries before this one change nothing.
 use Rattle.std.proofs.Common.{◌≡◌, drop}
-use Rattle.bt_ext.specs.Tables.{entered_all, entries_of}
+use Rattle.bt_ext.specs.Tables.{entered_all}
+use Rattle.bt_ext.specs.Holding.{entries_of}
 use Rattle.bt_ext.proofs.table.Table.is_changed_by.Given as goal
 
 abbrev pub invariant-loop-name : goal.invariant-loop-name
