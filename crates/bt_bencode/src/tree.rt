@@ -1,5 +1,5 @@
 //! Bencoded data: integers, byte strings, lists and dictionaries.
-ghost use Rattle.std.specs.Prelude.{◌≡◌, ◌==◌, length, option_map};
+ghost use Rattle.std.specs.Prelude.{◌≡◌, ◌==◌, ◌<◌, ◌^◌, length, option_map};
 ghost use Rattle.bt_bencode.specs.Keys.{lookup_of, value_at};
 ghost use Rattle.bt_bencode.specs.Views.{tree_of, trees_of, pairs_of};
 
@@ -109,9 +109,10 @@ impl ByteString {
 
     /// How many bytes it has.
     pub fn len(&self) -> usize
-        ensures { result ≡ length self.now }
+        ensures value { result ≡ length self.now }
+        ensures small { result < 2 ^ 63 }
     {
-        self.as_slice().len()
+        self.bytes.len()
     }
 
     /// Whether it has no byte.
