@@ -20,8 +20,8 @@ use Rattle.bt_wire.proofs.HeaderLaws.{header_stays, whole-append}
 use Rattle.bt_wire.proofs.SpellLaws.{fits, spelled_first}
 use Rattle.bt_wire.proofs.WalkLaws.{message_size}
 use Rattle.bt_wire.proofs.WindowLaws.{early_full, early_header, fault_stays}
-use Rattle.bt_feed.specs.declared.progress.Stage.{Stage}
-use Rattle.bt_feed.specs.declared.progress.Stage.TheVariants as stage
+use Rattle.bt_feed.specs.declared.stage.Stage.{Stage}
+use Rattle.bt_feed.specs.declared.stage.Stage.TheVariants as stage
 use Rattle.bt_feed.specs.Stages.{limit_of, early, is_all, is_closed, HasFault, IsItem}
 use Rattle.bt_feed.specs.Progress.{IsPartial}
 

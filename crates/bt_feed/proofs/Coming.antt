@@ -15,8 +15,8 @@ use Rattle.bt_wire.proofs.HandLaws.{hand-length, hand_same}
 use Rattle.bt_wire.proofs.SpellLaws.{length-spell}
 use Rattle.bt_wire.proofs.StreamLaws.{nothing_said, one_more}
 use Rattle.bt_wire.proofs.WalkLaws.{refused_opening, partial_opening, opening_more}
-use Rattle.bt_feed.specs.declared.progress.Stage.{Stage}
-use Rattle.bt_feed.specs.declared.progress.Stage.TheVariants as stage
+use Rattle.bt_feed.specs.declared.stage.Stage.{Stage}
+use Rattle.bt_feed.specs.declared.stage.Stage.TheVariants as stage
 use Rattle.bt_feed.specs.Stages.{start_of, limit_of, is_closed, HasFault, refusal_of, IsItem, stage_after, Comes, stopped}
 use Rattle.bt_feed.proofs.Closed.{open_parts}
 

@@ -17,8 +17,8 @@ use Rattle.bt_wire.proofs.SpellLaws.{one_spelling}
 use Rattle.bt_wire.proofs.StreamLaws.{outcome_only}
 use Rattle.bt_wire.proofs.VerdictLaws.{verdict_only}
 use Rattle.bt_wire.proofs.WindowLaws.{one_fault, fault-spell}
-use Rattle.bt_feed.specs.declared.progress.Stage.{Stage}
-use Rattle.bt_feed.specs.declared.progress.Stage.TheVariants as stage
+use Rattle.bt_feed.specs.declared.stage.Stage.{Stage}
+use Rattle.bt_feed.specs.declared.stage.Stage.TheVariants as stage
 use Rattle.bt_feed.specs.declared.view.Finish.{Finish}
 use Rattle.bt_feed.specs.declared.view.Finish.TheVariants.{Refused, Untaken}
 use Rattle.bt_feed.specs.Stages.{start_of, number_of, limit_of, early, is_all, is_closed, HasFault, refusal_of, IsItem, Comes, stopped}

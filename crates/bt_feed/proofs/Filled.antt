@@ -8,8 +8,8 @@ use Rattle.bt_wire.specs.declared.fault.Header.TheVariants as headers
 use Rattle.bt_wire.specs.declared.fault.Refused.{Refused}
 use Rattle.bt_wire.specs.declared.item.Refusal.{Refusal}
 use Rattle.bt_wire.specs.Headers.{header_of}
-use Rattle.bt_feed.specs.declared.progress.Stage.{Stage}
-use Rattle.bt_feed.specs.declared.progress.Stage.TheVariants as stage
+use Rattle.bt_feed.specs.declared.stage.Stage.{Stage}
+use Rattle.bt_feed.specs.declared.stage.Stage.TheVariants as stage
 use Rattle.bt_feed.specs.declared.progress.Progress.{Progress}
 use Rattle.bt_feed.specs.Stages.{start_of, number_of, limit_of, capacity_of, is_closed, HasFault, refusal_of}
 use Rattle.bt_feed.specs.Feeds.{taken_by, taken, pushed, held_of, state_of}

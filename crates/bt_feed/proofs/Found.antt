@@ -13,8 +13,8 @@ use Rattle.bt_wire.proofs.FrontLaws.{front_whole, front_fault}
 use Rattle.bt_wire.proofs.HeaderLaws.{IsHeader, judged_at, whole_there, not_whole}
 use Rattle.bt_wire.proofs.PlaceLaws.{fault_within, hand_within}
 use Rattle.bt_wire.proofs.WindowLaws.{early_header}
-use Rattle.bt_feed.specs.declared.progress.Stage.{Stage}
-use Rattle.bt_feed.specs.declared.progress.Stage.TheVariants as stage
+use Rattle.bt_feed.specs.declared.stage.Stage.{Stage}
+use Rattle.bt_feed.specs.declared.stage.Stage.TheVariants as stage
 use Rattle.bt_feed.specs.declared.progress.Progress.{Progress}
 use Rattle.bt_feed.specs.Stages.{start_of, early, is_all, HasFault}
 use Rattle.bt_feed.specs.Feeds.{held_of}

@@ -11,8 +11,8 @@ use Rattle.bt_wire.specs.Handshakes.{hand_fault}
 use Rattle.bt_wire.specs.Headers.{header_of}
 use Rattle.bt_wire.proofs.HeaderLaws.{judged_at}
 use Rattle.bt_wire.proofs.WindowLaws.{early_header}
-use Rattle.bt_feed.specs.declared.progress.Goal.TheVariants as goal
-use Rattle.bt_feed.specs.declared.progress.Stage.TheVariants as stage
+use Rattle.bt_feed.specs.declared.stage.Goal.TheVariants as goal
+use Rattle.bt_feed.specs.declared.stage.Stage.TheVariants as stage
 use Rattle.bt_feed.specs.Progress.{IsGoal}
 use Rattle.bt_feed.proofs.Closed.{closed_early}
 use Rattle.bt_feed.proofs.Hands.{to_hash, to_end}

@@ -5,7 +5,7 @@ use Rattle.std.proofs.lemmas.List.{append-nil, length-append, nil_from_length}
 use Rattle.bt_wire.specs.declared.context.Own.{Own}
 use Rattle.bt_wire.specs.Handshakes.{protocol, hand_fault, first_difference}
 use Rattle.bt_wire.proofs.HandLaws.{hand_same}
-use Rattle.bt_feed.specs.declared.progress.Stage.TheVariants as stage
+use Rattle.bt_feed.specs.declared.stage.Stage.TheVariants as stage
 use Rattle.bt_feed.specs.Stages.{is_closed}
 use Rattle.bt_feed.proofs.Closed.{open_by}
 

@@ -12,8 +12,8 @@ use Rattle.bt_wire.specs.declared.item.Refusal.{Refusal}
 use Rattle.bt_wire.specs.Handshakes.{hand_fault, negotiated}
 use Rattle.bt_wire.specs.Streams.{Outcome, IsVerdict, with_item}
 use Rattle.bt_wire.proofs.VerdictLaws.{verdict_only}
-use Rattle.bt_feed.specs.declared.progress.Stage.{Stage}
-use Rattle.bt_feed.specs.declared.progress.Stage.TheVariants as stage
+use Rattle.bt_feed.specs.declared.stage.Stage.{Stage}
+use Rattle.bt_feed.specs.declared.stage.Stage.TheVariants as stage
 use Rattle.bt_feed.specs.Stages.{start_of, number_of, order_of, limit_of, is_closed, HasFault, refusal_of, IsItem, stage_after, Comes, stopped}
 use Rattle.bt_feed.specs.Feeds.{FeedState, taken_by, taken, with_bytes, pushed}
 use Rattle.bt_feed.specs.Answers.{IsAnswer, after}
@@ -63,18 +63,18 @@ taken_all f piece e =
       | inr le ↦ omega (arith, h.within)
     ]
 
-pub reads_pushed : (own : Own) (all : List ℕ) (xs : List (ℕ × Item)) (f g : FeedState) (rest later : List ℕ) (n : ℕ) → g ≡ with_bytes f (take n rest) → IsPartial g.stage g.held → Reads own all xs f (rest ++ later) → Reads own all xs g (drop n rest ++ later)
-reads_pushed own all xs f g rest later n e p r =
+pub reads_pushed : (t : Stage) (all : List ℕ) (xs : List (ℕ × Item)) (f g : FeedState) (rest later : List ℕ) (n : ℕ) → g ≡ with_bytes f (take n rest) → IsPartial g.stage g.held → Reads t all xs f (rest ++ later) → Reads t all xs g (drop n rest ++ later)
+reads_pushed t all xs f g rest later n e p r =
     let stage : g.stage ≡ f.stage = ap (λ (s : FeedState). s.stage) e in
     let held : g.held ≡ f.held ++ take n rest = ap (λ (s : FeedState). s.held) e in
     let bytes : g.held ++ (drop n rest ++ later) ≡ f.held ++ (rest ++ later) =
     ap (λ (b : List ℕ). b ++ (drop n rest ++ later)) held ∙ append_assoc f.held (take n rest) (drop n rest ++ later)
         ∙ ap (λ (b : List ℕ). f.held ++ b) (sym (append_assoc (take n rest) (drop n rest) later) ∙ ap (λ (b : List ℕ). b ++ later) (take-append-drop n rest)) in
-    let Q : Stage → Type 0 = λ t. IsBehind own xs t in
+    let Q : Stage → Type 0 = λ u. IsBehind t xs u in
     record {
       told = λ v k.
           let P : List ℕ → Type 0 = λ b. Comes f.stage b v in
-          let R : Stage → Type 0 = λ t. Comes t (g.held ++ (drop n rest ++ later)) v in
+          let R : Stage → Type 0 = λ u. Comes u (g.held ++ (drop n rest ++ later)) v in
           r.told v (subst P bytes (subst R stage k));
       behind = subst Q (sym stage) r.behind;
       limit = omega (arith, ap limit_of stage, r.limit);
@@ -83,24 +83,25 @@ reads_pushed own all xs f g rest later n e p r =
 
 -- ---- what a take does
 
-same_context : (c d : Context) (o p : Order) (s t m n : ℕ) → stage.Message c o s m ≡ stage.Message d p t n → c ≡ d
-same_context c d o p s t m n e = cc
+opened_by : (t : Stage) (b : List ℕ) (item : Item) (size : ℕ) → IsItem t b item → IsOpenedBy t item (stage_after t size item)
+opened_by (stage.Handshake own) b (items.Handshake h) size p = refl
+opened_by (stage.Message c o s n) b (items.Message m) size p = refl
+opened_by (stage.Handshake own) b (items.Message m) size p = absurd p
+opened_by (stage.Message c o s n) b (items.Handshake h) size p = absurd p
 
-behind_first : (own : Own) (t : Stage) (b : List ℕ) (item : Item) (at size : ℕ) → IsItem t b item → t ≡ stage.Handshake own → IsBehind own ((at, item) ∷ []) (stage_after t size item)
-behind_first own (stage.Handshake own') b (items.Handshake h) at size p e = let same : own' ≡ own = cc in ap (λ (x : Own). negotiated x h.reserved) same
-behind_first own (stage.Message c o s n) b (items.Message m) at size p e = absurd cc
-behind_first own (stage.Handshake own') b (items.Message m) at size p e = absurd p
-behind_first own (stage.Message c o s n) b (items.Handshake h) at size p e = absurd p
+opened_still : (t : Stage) (first : Item) (u : Stage) (b : List ℕ) (item : Item) (size : ℕ) → IsItem u b item → IsOpenedBy t first u → IsOpenedBy t first (stage_after u size item)
+opened_still (stage.Handshake own) (items.Handshake h) (stage.Message c o s n) b (items.Message m) size p e = e
+opened_still (stage.Message d q r k) (items.Message i) (stage.Message c o s n) b (items.Message m) size p e = e
+opened_still (stage.Handshake own) (items.Handshake h) (stage.Message c o s n) b (items.Handshake g) size p e = absurd p
+opened_still (stage.Message d q r k) (items.Message i) (stage.Message c o s n) b (items.Handshake g) size p e = absurd p
+opened_still (stage.Handshake own) (items.Handshake h) (stage.Handshake own') b item size p e = absurd e
+opened_still (stage.Message d q r k) (items.Message i) (stage.Handshake own') b item size p e = absurd e
+opened_still (stage.Handshake own) (items.Message m) u b item size p e = absurd e
+opened_still (stage.Message d q r k) (items.Handshake h) u b item size p e = absurd e
 
-behind_next : (own : Own) (first : Item) (t : Stage) (b : List ℕ) (item : Item) (size : ℕ) → IsItem t b item → IsOpenedBy own first t → IsOpenedBy own first (stage_after t size item)
-behind_next own (items.Handshake h) (stage.Message c o s n) b (items.Message m) size p e = e
-behind_next own (items.Handshake h) (stage.Message c o s n) b (items.Handshake g) size p e = absurd p
-behind_next own (items.Handshake h) (stage.Handshake own') b item size p e = absurd e
-behind_next own (items.Message m) t b item size p e = absurd e
-
-behind_more : (own : Own) (xs : List (ℕ × Item)) (t : Stage) (b : List ℕ) (item : Item) (at size : ℕ) → IsItem t b item → IsBehind own xs t → IsBehind own (xs ++ (at, item) ∷ []) (stage_after t size item)
-behind_more own [] t b item at size p e = behind_first own t b item at size p e
-behind_more own (x ∷ xs) t b item at size p e = behind_next own x.1 t b item size p e
+behind_more : (t : Stage) (xs : List (ℕ × Item)) (u : Stage) (b : List ℕ) (item : Item) (at size : ℕ) → IsItem u b item → IsBehind t xs u → IsBehind t (xs ++ (at, item) ∷ []) (stage_after u size item)
+behind_more t [] u b item at size p e = let P : Stage → Type 0 = λ w. IsOpenedBy w item (stage_after u size item) in subst P e (opened_by u b item size p)
+behind_more t (x ∷ xs) u b item at size p e = opened_still t x.1 u b item size p e
 
 limit_after : (t : Stage) (size : ℕ) (item : Item) → limit_of (stage_after t size item) ≡ limit_of t
 limit_after (stage.Handshake own) size (items.Handshake h) = refl
@@ -111,29 +112,28 @@ limit_after (stage.Message c o s n) size (items.Handshake h) = refl
 nothing_held : (t : Stage) → IsPartial t []
 nothing_held t = record { opens = λ k lt. absurd (omega arith) }
 
-pub reads_taken : (own : Own) (all : List ℕ) (xs : List (ℕ × Item)) (f g : FeedState) (item : Item) (unread : List ℕ) → g ≡ after f (Ok (Some item)) → IsItem f.stage f.held item → Reads own all xs f unread
-    → Reads own all (xs ++ (start_of f.stage, item) ∷ []) g unread
-reads_taken own all xs f g item unread e p r =
-    let t = stage_after f.stage (length f.held) item in
-    let P : FeedState → Type 0 = λ s. Reads own all (xs ++ (start_of f.stage, item) ∷ []) s unread in
+pub reads_taken : (t : Stage) (all : List ℕ) (xs : List (ℕ × Item)) (f g : FeedState) (item : Item) (unread : List ℕ) → g ≡ after f (Ok (Some item)) → IsItem f.stage f.held item → Reads t all xs f unread
+    → Reads t all (xs ++ (start_of f.stage, item) ∷ []) g unread
+reads_taken t all xs f g item unread e p r =
+    let P : FeedState → Type 0 = λ s. Reads t all (xs ++ (start_of f.stage, item) ∷ []) s unread in
     subst P (sym e) (record {
       told = λ v k.
-          let Q : List (ℕ × Item) → Type 0 = λ ys. IsVerdict own all (record v { items = ys }) in
+          let Q : List (ℕ × Item) → Type 0 = λ ys. Comes t all (record v { items = ys }) in
           subst Q (sym (append_assoc xs ((start_of f.stage, item) ∷ []) v.items)) (r.told (with_item (start_of f.stage) item v) (item_comes f.stage f.held unread item v (omega (arith, r.limit)) p k));
-      behind = behind_more own xs f.stage f.held item (start_of f.stage) (length f.held) p r.behind;
+      behind = behind_more t xs f.stage f.held item (start_of f.stage) (length f.held) p r.behind;
       limit = omega (arith, limit_after f.stage (length f.held) item, r.limit);
-      partial = nothing_held t;
+      partial = nothing_held (stage_after f.stage (length f.held) item);
     })
 
 -- a refusal, or no item, leaves what was read
-pub reads_same : (own : Own) (all : List ℕ) (xs : List (ℕ × Item)) (f g : FeedState) (unread : List ℕ) → g.stage ≡ f.stage → g.held ≡ f.held → Reads own all xs f unread → Reads own all xs g unread
-reads_same own all xs f g unread stage held r =
-    let P : Stage → Type 0 = λ t. IsBehind own xs t in
-    let Q : Stage → Type 0 = λ t. IsPartial t g.held in
+pub reads_same : (t : Stage) (all : List ℕ) (xs : List (ℕ × Item)) (f g : FeedState) (unread : List ℕ) → g.stage ≡ f.stage → g.held ≡ f.held → Reads t all xs f unread → Reads t all xs g unread
+reads_same t all xs f g unread stage held r =
+    let P : Stage → Type 0 = λ u. IsBehind t xs u in
+    let Q : Stage → Type 0 = λ u. IsPartial u g.held in
     let R : List ℕ → Type 0 = λ b. IsPartial f.stage b in
     record {
       told = λ v k.
-          let S : Stage → Type 0 = λ t. Comes t (g.held ++ unread) v in
+          let S : Stage → Type 0 = λ u. Comes u (g.held ++ unread) v in
           let T : List ℕ → Type 0 = λ b. Comes f.stage (b ++ unread) v in
           r.told v (subst T held (subst S stage k));
       behind = subst P (sym stage) r.behind;
@@ -153,41 +153,41 @@ pub record IsPushed (f p : FeedState) (piece rest : List ℕ) (at n : ℕ) : Typ
   pub held_is : p ≡ pushed f rest
   pub partial : IsPartial p.stage p.held
 
-pub reads_push : (own : Own) (all : List ℕ) (xs : List (ℕ × Item)) (f p : FeedState) (piece rest later : List ℕ) (at n : ℕ) → IsPushed f p piece rest at n → Reads own all xs f (drop at piece ++ later) → Reads own all xs p (drop (at + n) piece ++ later)
-reads_push own all xs f p piece rest later at n h r =
-    let P : List ℕ → Type 0 = λ b. Reads own all xs f (b ++ later) in
-    let Q : List ℕ → Type 0 = λ b. Reads own all xs p b in
+pub reads_push : (t : Stage) (all : List ℕ) (xs : List (ℕ × Item)) (f p : FeedState) (piece rest later : List ℕ) (at n : ℕ) → IsPushed f p piece rest at n → Reads t all xs f (drop at piece ++ later) → Reads t all xs p (drop (at + n) piece ++ later)
+reads_push t all xs f p piece rest later at n h r =
+    let P : List ℕ → Type 0 = λ b. Reads t all xs f (b ++ later) in
+    let Q : List ℕ → Type 0 = λ b. Reads t all xs p b in
     let bytes : p ≡ with_bytes f (take n rest) = h.held_is ∙ ap (λ (k : ℕ). with_bytes f (take k rest)) (sym h.taken_is) in
-    subst Q (unread_at at n piece rest later h.rest_is) (reads_pushed own all xs f p rest later n bytes h.partial (subst P (sym h.rest_is) r))
+    subst Q (unread_at at n piece rest later h.rest_is) (reads_pushed t all xs f p rest later n bytes h.partial (subst P (sym h.rest_is) r))
 
-pub step_item : (own : Own) (all : List ℕ) (xs : List (ℕ × Item)) (f p g : FeedState) (piece rest later : List ℕ) (at n : ℕ) (answer : Result (Option Item) Refusal) (item : Item) → IsPushed f p piece rest at n
-    → answer ≡ Ok (Some item) → IsAnswer p answer → g ≡ after p answer → Reads own all xs f (drop at piece ++ later) → Reads own all (xs ++ (start_of p.stage, item) ∷ []) g (drop (at + n) piece ++ later)
-step_item own all xs f p g piece rest later at n answer item h e a after_is r =
+pub step_item : (t : Stage) (all : List ℕ) (xs : List (ℕ × Item)) (f p g : FeedState) (piece rest later : List ℕ) (at n : ℕ) (answer : Result (Option Item) Refusal) (item : Item) → IsPushed f p piece rest at n
+    → answer ≡ Ok (Some item) → IsAnswer p answer → g ≡ after p answer → Reads t all xs f (drop at piece ++ later) → Reads t all (xs ++ (start_of p.stage, item) ∷ []) g (drop (at + n) piece ++ later)
+step_item t all xs f p g piece rest later at n answer item h e a after_is r =
     let P : Result (Option Item) Refusal → Type 0 = λ x. IsAnswer p x in
-    reads_taken own all xs p g item (drop (at + n) piece ++ later) (after_is ∙ ap (after p) e) (subst P e a) (reads_push own all xs f p piece rest later at n h r)
+    reads_taken t all xs p g item (drop (at + n) piece ++ later) (after_is ∙ ap (after p) e) (subst P e a) (reads_push t all xs f p piece rest later at n h r)
 
-pub step_none : (own : Own) (all : List ℕ) (xs : List (ℕ × Item)) (f p g : FeedState) (piece rest later : List ℕ) (at n : ℕ) (answer : Result (Option Item) Refusal) → IsPushed f p piece rest at n
-    → answer ≡ Ok None → IsAnswer p answer → g ≡ after p answer → Reads own all xs f (drop at piece ++ later) → Reads own all xs g later × (is_closed g.stage g.held ≡ false)
-step_none own all xs f p g piece rest later at n answer h e a after_is r =
+pub step_none : (t : Stage) (all : List ℕ) (xs : List (ℕ × Item)) (f p g : FeedState) (piece rest later : List ℕ) (at n : ℕ) (answer : Result (Option Item) Refusal) → IsPushed f p piece rest at n
+    → answer ≡ Ok None → IsAnswer p answer → g ≡ after p answer → Reads t all xs f (drop at piece ++ later) → Reads t all xs g later × (is_closed g.stage g.held ≡ false)
+step_none t all xs f p g piece rest later at n answer h e a after_is r =
     let P : Result (Option Item) Refusal → Type 0 = λ x. IsAnswer p x in
     let opens : is_closed p.stage p.held ≡ false = subst P e a in
     let Q : FeedState → Type 0 = λ s. is_closed s.stage s.held ≡ false in
     let opens' : is_closed f.stage (pushed f rest).held ≡ false = subst Q h.held_is opens in
     let full : n ≡ length rest = h.taken_is ∙ taken_all f rest opens' in
     let none : drop (at + n) piece ≡ [] = sym (drop-drop n at piece) ∙ ap (drop n) (sym h.rest_is) ∙ drop_all n rest (omega arith) in
-    let R : List ℕ → Type 0 = λ b. Reads own all xs p (b ++ later) in
-    let S : FeedState → Type 0 = λ s. Reads own all xs s later × (is_closed s.stage s.held ≡ false) in
+    let R : List ℕ → Type 0 = λ b. Reads t all xs p (b ++ later) in
+    let S : FeedState → Type 0 = λ s. Reads t all xs s later × (is_closed s.stage s.held ≡ false) in
     let same : g ≡ p = after_is ∙ ap (after p) e in
-    subst S (sym same) (subst R none (reads_push own all xs f p piece rest later at n h r), opens)
+    subst S (sym same) (subst R none (reads_push t all xs f p piece rest later at n h r), opens)
 
-pub step_refused : (own : Own) (all : List ℕ) (xs : List (ℕ × Item)) (f p g : FeedState) (piece rest later : List ℕ) (at n : ℕ) (answer : Result (Option Item) Refusal) (refusal : Refusal) → IsPushed f p piece rest at n
-    → answer ≡ Err refusal → IsAnswer p answer → g ≡ after p answer → Reads own all xs f (drop at piece ++ later) → IsReadTo own all xs g later (Some refusal)
-step_refused own all xs f p g piece rest later at n answer refusal h e a after_is r =
+pub step_refused : (t : Stage) (all : List ℕ) (xs : List (ℕ × Item)) (f p g : FeedState) (piece rest later : List ℕ) (at n : ℕ) (answer : Result (Option Item) Refusal) (refusal : Refusal) → IsPushed f p piece rest at n
+    → answer ≡ Err refusal → IsAnswer p answer → g ≡ after p answer → Reads t all xs f (drop at piece ++ later) → IsReadTo t all xs g later (Some refusal)
+step_refused t all xs f p g piece rest later at n answer refusal h e a after_is r =
     let P : Result (Option Item) Refusal → Type 0 = λ x. IsAnswer p x in
     let unread = drop (at + n) piece ++ later in
-    let S : FeedState → Type 0 = λ s. Reads own all xs s unread × IsAnswer s (Err refusal) in
+    let S : FeedState → Type 0 = λ s. Reads t all xs s unread × IsAnswer s (Err refusal) in
     let same : g ≡ after p (Err refusal) = after_is ∙ ap (after p) e in
-    let both = subst S (sym same) (reads_same own all xs p (after p (Err refusal)) unread refl refl (reads_push own all xs f p piece rest later at n h r), subst P e a) in
+    let both = subst S (sym same) (reads_same t all xs p (after p (Err refusal)) unread refl refl (reads_push t all xs f p piece rest later at n h r), subst P e a) in
     (unread, both.0, both.1)
 
 -- ---- the end
@@ -199,51 +199,55 @@ held_taken t held unread p stops =
     (λ k lt. ap (is_closed t) (take-append-le k held unread (omega arith)) ∙ p.opens k lt)
     (λ lt. ap (is_closed t) (take_at held unread (length held) refl) ∙ stops (omega (arith, length-append held unread)))
 
-assembled : (own : Own) (all : List ℕ) (xs : List (ℕ × Item)) (f : FeedState) (unread : List ℕ) (refusal : Option Refusal) → Reads own all xs f unread → Comes f.stage (f.held ++ unread) (stopped f.stage (f.held ++ unread) refusal)
+assembled : (own : Own) (all : List ℕ) (xs : List (ℕ × Item)) (f : FeedState) (unread : List ℕ) (refusal : Option Refusal) → Reads (stage.Handshake own) all xs f unread → Comes f.stage (f.held ++ unread) (stopped f.stage (f.held ++ unread) refusal)
     → (0 < length unread → is_closed f.stage f.held ≡ true) → IsTranscript own all xs refusal (length f.held)
 assembled own all xs f unread refusal r comes stops =
     let last = stopped f.stage (f.held ++ unread) refusal in
-    let P : List (ℕ × Item) → Type 0 = λ ys. IsBehind own ys f.stage in
+    let P : List (ℕ × Item) → Type 0 = λ ys. IsBehind (stage.Handshake own) ys f.stage in
     record {
       verdict = with_items xs last;
       is_verdict = r.told last comes;
       same_items = sym (append-nil xs);
       same_refusal = refl;
-      stage = f.stage;
+      next = f.stage;
       is_next = record { behind = subst P (sym (append-nil xs)) r.behind; order = refl; start = refl; number = refl };
       held = held_taken f.stage f.held unread r.partial stops;
     }
 
-pub transcript_open : (own : Own) (all : List ℕ) (xs : List (ℕ × Item)) (f : FeedState) → Reads own all xs f [] → is_closed f.stage f.held ≡ false → IsTranscript own all xs None (length f.held)
+pub transcript_open : (own : Own) (all : List ℕ) (xs : List (ℕ × Item)) (f : FeedState) → Reads (stage.Handshake own) all xs f [] → is_closed f.stage f.held ≡ false → IsTranscript own all xs None (length f.held)
 transcript_open own all xs f r e =
     assembled own all xs f [] None r (open_comes f.stage (f.held ++ []) (omega (arith, r.limit)) (ap (is_closed f.stage) (append-nil f.held) ∙ e)) (λ lt. absurd (omega arith))
 
-pub transcript_refused : (own : Own) (all : List ℕ) (xs : List (ℕ × Item)) (f : FeedState) (unread : List ℕ) (refusal : Refusal) → Reads own all xs f unread → IsAnswer f (Err refusal) → IsTranscript own all xs (Some refusal) (length f.held)
+pub transcript_refused : (own : Own) (all : List ℕ) (xs : List (ℕ × Item)) (f : FeedState) (unread : List ℕ) (refusal : Refusal) → Reads (stage.Handshake own) all xs f unread → IsAnswer f (Err refusal) → IsTranscript own all xs (Some refusal) (length f.held)
 transcript_refused own all xs f unread refusal r a =
     let P : Refusal → Type 0 = λ x. Comes f.stage (f.held ++ unread) (stopped f.stage (f.held ++ unread) (Some x)) in
     assembled own all xs f unread (Some refusal) r (subst P (sym a.2) (fault_comes f.stage (f.held ++ unread) a.0 (omega (arith, r.limit)) (fault_more f.stage f.held unread a.0 a.1))) (λ _. fault_closed f.stage f.held a.0 a.1)
 
 -- ---- one transcript
 
-one_opened : (own : Own) (first : Item) (t u : Stage) → IsOpenedBy own first t → IsOpenedBy own first u → order_of t ≡ order_of u → start_of t ≡ start_of u → number_of t ≡ number_of u → t ≡ u
-one_opened own (items.Handshake h) (stage.Message c o s n) (stage.Message d p t m) e f same start number = rw (e ∙ sym f, same, start, number) refl
-one_opened own (items.Handshake h) (stage.Handshake own') u e f same start number = absurd e
-one_opened own (items.Handshake h) (stage.Message c o s n) (stage.Handshake own') e f same start number = absurd f
-one_opened own (items.Message m) t u e f same start number = absurd e
+one_opened : (t : Stage) (first : Item) (u w : Stage) → IsOpenedBy t first u → IsOpenedBy t first w → order_of u ≡ order_of w → start_of u ≡ start_of w → number_of u ≡ number_of w → u ≡ w
+one_opened (stage.Handshake own) (items.Handshake h) (stage.Message c o s n) (stage.Message d p r m) e f same start number = rw (e ∙ sym f, same, start, number) refl
+one_opened (stage.Message a q k i) (items.Message x) (stage.Message c o s n) (stage.Message d p r m) e f same start number = rw (e ∙ sym f, same, start, number) refl
+one_opened (stage.Handshake own) (items.Handshake h) (stage.Handshake own') w e f same start number = absurd e
+one_opened (stage.Message a q k i) (items.Message x) (stage.Handshake own') w e f same start number = absurd e
+one_opened (stage.Handshake own) (items.Handshake h) (stage.Message c o s n) (stage.Handshake own') e f same start number = absurd f
+one_opened (stage.Message a q k i) (items.Message x) (stage.Message c o s n) (stage.Handshake own') e f same start number = absurd f
+one_opened (stage.Handshake own) (items.Message m) u w e f same start number = absurd e
+one_opened (stage.Message a q k i) (items.Handshake h) u w e f same start number = absurd e
 
-one_stage : (own : Own) (xs : List (ℕ × Item)) (t u : Stage) → IsBehind own xs t → IsBehind own xs u → order_of t ≡ order_of u → start_of t ≡ start_of u → number_of t ≡ number_of u → t ≡ u
-one_stage own [] t u p q o s n = p ∙ sym q
-one_stage own (x ∷ xs) t u p q o s n = one_opened own x.1 t u p q o s n
+one_next : (t : Stage) (xs : List (ℕ × Item)) (u w : Stage) → IsBehind t xs u → IsBehind t xs w → order_of u ≡ order_of w → start_of u ≡ start_of w → number_of u ≡ number_of w → u ≡ w
+one_next t [] u w p q o s n = p ∙ sym q
+one_next t (x ∷ xs) u w p q o s n = one_opened t x.1 u w p q o s n
 
 pub one_transcript : (own : Own) (b : List ℕ) (xs ys : List (ℕ × Item)) (r q : Option Refusal) (m n : ℕ) → own.limit < 2 ^ 32 → IsTranscript own b xs r m → IsTranscript own b ys q n → (xs ≡ ys) × (r ≡ q) × (m ≡ n)
 one_transcript own b xs ys r q m n lt a c =
     let same = verdict_only own b a.verdict c.verdict lt a.is_verdict c.is_verdict in
-    let P : Outcome → Type 0 = λ v. IsNext own v a.stage in
+    let P : Outcome → Type 0 = λ v. IsNext (stage.Handshake own) v a.next in
     let next = subst P same a.is_next in
-    let stage = one_stage own c.verdict.items a.stage c.stage next.behind c.is_next.behind (next.order ∙ sym c.is_next.order) (next.start ∙ sym c.is_next.start) (next.number ∙ sym c.is_next.number) in
+    let stage = one_next (stage.Handshake own) c.verdict.items a.next c.next next.behind c.is_next.behind (next.order ∙ sym c.is_next.order) (next.start ∙ sym c.is_next.start) (next.number ∙ sym c.is_next.number) in
     (a.same_items ∙ ap (λ (v : Outcome). v.items) same ∙ sym c.same_items,
      a.same_refusal ∙ ap (λ (v : Outcome). v.refusal) same ∙ sym c.same_refusal,
-     a.held ∙ ap (λ (v : Outcome). taken_by (is_closed a.stage) [] v.tail) same ∙ ap (λ (t : Stage). taken_by (is_closed t) [] c.verdict.tail) stage ∙ sym c.held)
+     a.held ∙ ap (λ (v : Outcome). taken_by (is_closed a.next) [] v.tail) same ∙ ap (λ (t : Stage). taken_by (is_closed t) [] c.verdict.tail) stage ∙ sym c.held)
 
 -- ---- the beginning
 
@@ -251,10 +255,10 @@ pub hand_open : (own : Own) → is_closed (stage.Handshake own) [] ≡ false
 unfolding hand_fault
 hand_open own = refl
 
-pub reads_new : (own : Own) (all : List ℕ) (f : FeedState) → own.limit ≤ 1048576 → f ≡ record { stage = stage.Handshake own; held = []; refused = None } → Reads own all [] f all
-reads_new own all f le e =
-    let P : FeedState → Type 0 = λ s. Reads own all [] s all in
-    subst P (sym e) (record { told = λ v k. k; behind = refl; limit = le; partial = nothing_held (stage.Handshake own) })
+pub reads_new : (t : Stage) (all : List ℕ) (f : FeedState) → limit_of t ≤ 1048576 → f ≡ record { stage = t; held = []; refused = None } → Reads t all [] f all
+reads_new t all f le e =
+    let P : FeedState → Type 0 = λ s. Reads t all [] s all in
+    subst P (sym e) (record { told = λ v k. k; behind = refl; limit = le; partial = nothing_held t })
 
 pub open_new : (own : Own) (f : FeedState) → f ≡ record { stage = stage.Handshake own; held = []; refused = None } → is_closed f.stage f.held ≡ false
 open_new own f e = let P : FeedState → Type 0 = λ s. is_closed s.stage s.held ≡ false in subst P (sym e) (hand_open own)

@@ -16,8 +16,8 @@ use Rattle.bt_wire.proofs.HeaderLaws.{IsHeader, IsJudged, judged_at, not_whole, 
 use Rattle.bt_wire.proofs.NumberLaws.{number32-append}
 use Rattle.bt_wire.proofs.RowLaws.{NoneCounts-from}
 use Rattle.bt_wire.proofs.WindowLaws.{early_header}
-use Rattle.bt_feed.specs.declared.progress.Stage.{Stage}
-use Rattle.bt_feed.specs.declared.progress.Stage.TheVariants as stage
+use Rattle.bt_feed.specs.declared.stage.Stage.{Stage}
+use Rattle.bt_feed.specs.declared.stage.Stage.TheVariants as stage
 use Rattle.bt_feed.specs.Stages.{limit_of, is_closed}
 use Rattle.bt_feed.specs.Progress.{HasWindow, IsPartial}
 use Rattle.bt_feed.proofs.Closed.{open_by, open_parts, closed_all, open_front}

@@ -2,10 +2,10 @@
 use Rattle.std.specs.Prelude.{◌≡◌, ℕ, ◌+◌, ◌^◌, ◌≤◌, ◌<◌, true, false, List, [], ◌++◌, length, take, Option, Some, None, IfSome, Err}
 use Rattle.bt_wire.specs.declared.fault.Header.TheVariants as headers
 use Rattle.bt_wire.specs.Headers.{header_of}
-use Rattle.bt_feed.specs.declared.progress.Stage.{Stage}
-use Rattle.bt_feed.specs.declared.progress.Stage.TheVariants as stage
-use Rattle.bt_feed.specs.declared.progress.Goal.{Goal}
-use Rattle.bt_feed.specs.declared.progress.Goal.TheVariants as goal
+use Rattle.bt_feed.specs.declared.stage.Stage.{Stage}
+use Rattle.bt_feed.specs.declared.stage.Stage.TheVariants as stage
+use Rattle.bt_feed.specs.declared.stage.Goal.{Goal}
+use Rattle.bt_feed.specs.declared.stage.Goal.TheVariants as goal
 use Rattle.bt_feed.specs.declared.progress.Progress.{Progress}
 use Rattle.bt_feed.specs.Stages.{start_of, number_of, limit_of, capacity_of, is_closed}
 use Rattle.bt_feed.specs.Feeds.{held_of, state_of}

@@ -12,8 +12,8 @@ use Rattle.bt_wire.specs.Messages.{spell, order_after}
 use Rattle.bt_wire.specs.Faults.{early_fault, is_whole, IsFault}
 use Rattle.bt_wire.specs.Legal.{IsSaid}
 use Rattle.bt_wire.specs.Streams.{Outcome, IsOutcome, IsVerdict}
-use Rattle.bt_feed.specs.declared.progress.Stage.{Stage}
-use Rattle.bt_feed.specs.declared.progress.Stage.TheVariants as stage
+use Rattle.bt_feed.specs.declared.stage.Stage.{Stage}
+use Rattle.bt_feed.specs.declared.stage.Stage.TheVariants as stage
 
 abbrev pub start_of : Stage → ℕ
 start_of (stage.Handshake own) = 0

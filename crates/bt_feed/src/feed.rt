@@ -1,6 +1,7 @@
 ghost use Rattle.std.specs.Prelude.{◌≡◌, ◌+◌, ◌<◌, ◌≤◌, ◌^◌, ◌⊎◌, ◌↔◌, [], length, None, Err, IfOk, IfSome, IsErrOf};
 
-use crate::progress::{END, Progress, Stage};
+use crate::progress::Progress;
+use crate::stage::{END, Stage};
 use crate::view::{Finish, TakeError, View};
 use bt_wire::{Context, Order, Own};
 use std::alloc::{AllocError, Allocator, Global};

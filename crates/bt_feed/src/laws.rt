@@ -4,7 +4,7 @@ ghost use Rattle.bt_feed.specs.Stages.{limit_of, is_closed};
 ghost use Rattle.bt_feed.specs.Progress.{IsPartial};
 ghost use Rattle.bt_feed.specs.Laws.{IsEnded, EndedIsClosed, ClosedStays, TakenIsLeast, PushesJoin, AnswerIsOne, ItemComes, FaultComes, OpenComes, OutcomeIsOne, FinishIsVerdict};
 
-use crate::progress::Stage;
+use crate::stage::Stage;
 
 /// What has ended is closed, and stays so.
 pub fn ended_is_closed()

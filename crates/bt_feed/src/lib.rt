@@ -5,12 +5,13 @@ mod feed;
 pub mod laws;
 mod progress;
 mod slices;
+mod stage;
 #[cfg(test)]
 mod tests;
 mod transcript;
 mod view;
 
 pub use feed::{Feed, FeedError};
-pub use progress::Stage;
+pub use stage::Stage;
 pub use transcript::{Transcript, read_all};
 pub use view::{Finish, TakeError, View, to_item};

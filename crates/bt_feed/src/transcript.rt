@@ -2,6 +2,7 @@ ghost use Rattle.std.specs.Prelude.{◌≡◌, ◌+◌, ◌<◌, ◌≤◌, ◌^
 ghost use Rattle.bt_wire.specs.declared.context.Own.{Own};
 ghost use Rattle.bt_wire.specs.declared.item.Item.{Item};
 ghost use Rattle.bt_wire.specs.declared.item.Refusal.{Refusal};
+ghost use Rattle.bt_feed.specs.declared.stage.Stage.{Stage};
 ghost use Rattle.bt_feed.specs.Stages.{is_closed};
 ghost use Rattle.bt_feed.specs.Answers.{IsAnswer};
 ghost use Rattle.bt_feed.specs.Transcripts.{IsTranscript, Reads, IsReadTo};
@@ -37,8 +38,8 @@ fn read_piece(
     items: &mut Vec<(u64, Item)>,
     piece: &[u8],
 ) -> Result<Option<Refusal>, AllocError>
-    ensures { IfOk result (λ refused. (own : Own) (all later : List ℕ) → Reads own all items.old.items feed.old (piece.now ++ later)
-        → IsReadTo own all items.new.items feed.new later refused) }
+    ensures { IfOk result (λ refused. (t : Stage) (all later : List ℕ) → Reads t all items.old.items feed.old (piece.now ++ later)
+        → IsReadTo t all items.new.items feed.new later refused) }
 {
     let mut at = 0;
     'items: loop {
@@ -57,7 +58,7 @@ fn read_piece(
 
 /// Reads the pieces that follow, up to their end or a refusal.
 fn read_pieces(alloc: Global, mut feed: Feed, pieces: &[Vec<u8>]) -> Result<Transcript, AllocError>
-    ensures { IfOk result (λ t. (own : Own) (all : List ℕ) → Reads own all [] feed (flat_map (λ piece. piece.items) pieces.now) → is_closed feed.stage feed.held ≡ false
+    ensures { IfOk result (λ t. (own : Own) (all : List ℕ) → Reads (Stage.Handshake own) all [] feed (flat_map (λ piece. piece.items) pieces.now) → is_closed feed.stage feed.held ≡ false
         → IsTranscript own all t.items.items t.refused t.rest) }
 {
     let mut items = Vec::new(alloc);

@@ -1,5 +1,5 @@
 use Rattle.std.proofs.Common.{◌≡◌, ◌≤◌, ◌<◌, ◌++◌, ℕ, List, true, length, take, refl, sym, subst, ap, ◌∙◌, arith}
-use Rattle.bt_feed.specs.declared.progress.Stage.{Stage}
+use Rattle.bt_feed.specs.declared.stage.Stage.{Stage}
 use Rattle.bt_feed.specs.Stages.{capacity_of, is_closed}
 use Rattle.bt_feed.specs.Feeds.{held_of}
 use Rattle.bt_feed.specs.Progress.{HasWindow, IsProgress, IsSameItem, Fills}

@@ -1,6 +1,6 @@
 use Rattle.std.proofs.Common.{◌∙◌, ap, subst, sym}
 use Rattle.bt_wire.specs.declared.fault.Header.TheVariants as headers
-use Rattle.bt_feed.specs.declared.progress.Stage.{Stage}
+use Rattle.bt_feed.specs.declared.stage.Stage.{Stage}
 use Rattle.bt_feed.specs.Stages.{HasFault}
 use Rattle.bt_feed.specs.Progress.{HasWindow}
 use Rattle.bt_feed.proofs.Found.{window_fault}

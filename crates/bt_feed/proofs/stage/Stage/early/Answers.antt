@@ -1,9 +1,9 @@
 use Rattle.std.proofs.Common.{◌≡◌, ℕ, Some, None, false, leb, length, subst, sym}
 use Rattle.bt_wire.specs.declared.fault.Refused.{Refused}
-use Rattle.bt_feed.specs.declared.progress.Stage.{Stage}
+use Rattle.bt_feed.specs.declared.stage.Stage.{Stage}
 use Rattle.bt_feed.specs.Stages.{early, is_all}
 use Rattle.bt_feed.proofs.Found.{early_need, early_window, early_refused}
-use Rattle.bt_feed.proofs.progress.Stage.early.Goals as goal
+use Rattle.bt_feed.proofs.stage.Stage.early.Goals as goal
 
 pub returns-in-Need : goal.returns-in-Need
 returns-in-Need c =

@@ -1,10 +1,10 @@
 use Rattle.std.proofs.Common.{ℕ, ◌≡◌, ◌∙◌, None, subst, sym}
 use Rattle.bt_wire.specs.Handshakes.{hand_fault}
-use Rattle.bt_feed.specs.declared.progress.Goal.TheVariants as goals
-use Rattle.bt_feed.specs.declared.progress.Stage.{Stage}
+use Rattle.bt_feed.specs.declared.stage.Goal.TheVariants as goals
+use Rattle.bt_feed.specs.declared.stage.Stage.{Stage}
 use Rattle.bt_feed.specs.Progress.{IsGoal}
 use Rattle.bt_feed.proofs.Goals.{none_from, hash_goal, end_goal, need_goal, refused_goal}
-use Rattle.bt_feed.proofs.progress.Stage.next_goal.Goals as goal
+use Rattle.bt_feed.proofs.stage.Stage.next_goal.Goals as goal
 
 pub returns-then-held-lt48 : goal.returns-then-held-lt48
 returns-then-held-lt48 c =

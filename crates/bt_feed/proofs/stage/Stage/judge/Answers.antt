@@ -1,11 +1,11 @@
 use Rattle.std.proofs.Common.{ℕ, ◌≤◌, arith, subst, sym}
 use Rattle.bt_wire.specs.declared.item.Item.TheVariants as items
 use Rattle.bt_wire.specs.Messages.{message_of}
-use Rattle.bt_feed.specs.declared.progress.Stage.{Stage}
+use Rattle.bt_feed.specs.declared.stage.Stage.{Stage}
 use Rattle.bt_feed.specs.Stages.{IsItem, limit_of}
 use Rattle.bt_feed.specs.Progress.{IsPartial}
 use Rattle.bt_feed.proofs.Closed.{message_here}
-use Rattle.bt_feed.proofs.progress.Stage.judge.Goals as goal
+use Rattle.bt_feed.proofs.stage.Stage.judge.Goals as goal
 
 pub returns-in-Whole-read_front : goal.returns-in-Whole-read_front
 returns-in-Whole-read_front c =

@@ -1,0 +1,226 @@
+//! The item that a feed awaits, and what its bytes show.
+ghost use Rattle.std.specs.Prelude.{◌≡◌, ◌+◌, ◌<◌, ◌≤◌, ◌^◌, length};
+ghost use Rattle.bt_feed.specs.Stages.{start_of, number_of, limit_of, refusal_of, stage_after};
+ghost use Rattle.bt_feed.specs.Views.{item_of};
+ghost use Rattle.bt_feed.specs.Answers.{IsFound, IsEarly};
+ghost use Rattle.bt_feed.specs.Progress.{IsPartial, HasWindow, IsGoal};
+
+use crate::view::View;
+use bt_wire::{
+    Context, Front, Header, Opening, Order, Own, Reason, Refusal, Refused, judge_handshake,
+    judge_header, negotiate, next_of_view, read_front, read_opening,
+};
+
+/// A message starts below this offset.
+pub(crate) const END: u64 = 1 << 62;
+
+/// What a feed awaits: the handshake, or a message of this number from this offset of the stream on.
+#[derive(Clone, Copy, PartialEq, Eq, Debug)]
+pub enum Stage {
+    Handshake(Own),
+    Message {
+        context: Context,
+        order: Order,
+        start: u64,
+        number: u64,
+    },
+}
+
+/// How many bytes of an item are judged together.
+#[derive(Clone, Copy)]
+pub(crate) enum Goal {
+    /// Nothing may be added.
+    Closed,
+    /// So many, with which it may be closed.
+    Until(usize),
+    /// All of the message.
+    Window(usize),
+}
+
+impl Stage {
+    /// The number of the item.
+    #[inline(always)]
+    fn number(&self) -> u64
+        ensures { result ≡ number_of self.now }
+    {
+        match self {
+            Stage::Handshake(_) => 0,
+            Stage::Message { number, .. } => *number,
+        }
+    }
+
+    /// Where the item starts on the stream.
+    #[inline(always)]
+    pub(crate) fn start(&self) -> u64
+        ensures { result ≡ start_of self.now }
+    {
+        match self {
+            Stage::Handshake(_) => 0,
+            Stage::Message { start, .. } => *start,
+        }
+    }
+
+    /// The refusal for a fault of the item.
+    #[cold]
+    #[inline(never)]
+    pub(crate) fn refusal(&self, fault: Refused) -> Refusal
+        requires { start_of self.now + fault.at < 2 ^ 64 }
+        ensures { result ≡ refusal_of self.now fault }
+    {
+        Refusal {
+            message: self.number(),
+            at: self.start() + fault.at,
+            reason: fault.reason,
+        }
+    }
+
+    /// Moves on behind an item of so many bytes.
+    #[inline(always)]
+    pub(crate) fn advance(&mut self, view: &View, size: usize)
+        requires start { start_of self.old + size < 2 ^ 64 }
+        requires number { number_of self.old + 1 < 2 ^ 64 }
+        ensures { self.new ≡ stage_after self.old size (item_of view.now) }
+    {
+        match view {
+            View::Handshake(handshake) => {
+                if let Stage::Handshake(own) = self {
+                    *self = Stage::Message {
+                        context: negotiate(own, handshake.reserved),
+                        order: Order::Fresh,
+                        start: size as u64,
+                        number: 1,
+                    };
+                }
+            }
+            View::Message(message) => {
+                if let Stage::Message {
+                    order,
+                    start,
+                    number,
+                    ..
+                } = self
+                {
+                    *order = next_of_view(*order, message);
+                    *start += size as u64;
+                    *number += 1;
+                }
+            }
+        }
+    }
+
+    /// The item that the bytes are, or their fault.
+    #[cold]
+    #[inline(never)]
+    pub(crate) fn judge<'a>(&self, held: &'a [u8]) -> Result<Option<View<'a>>, Refused>
+        requires limit { limit_of self.now ≤ 1048576 }
+        requires partial { IsPartial self.now held.now }
+        ensures { IsFound self.now held.now result }
+    {
+        match self {
+            Stage::Handshake(own) => match read_opening(own, held) {
+                Opening::Refused(fault) => Err(fault),
+                Opening::Partial => Ok(None),
+                Opening::Whole(handshake) => Ok(Some(View::Handshake(handshake))),
+            },
+            Stage::Message {
+                context,
+                order,
+                start,
+                ..
+            } => match read_front(context, *order, *start, held) {
+                Front::Refused(fault) => Err(fault),
+                Front::Partial => Ok(None),
+                Front::Whole(message, _) => Ok(Some(View::Message(message))),
+            },
+        }
+    }
+
+    /// The fault that is judged before all of the item is there, or whether all of it is there.
+    #[cold]
+    #[inline(never)]
+    pub(crate) fn early(&self, held: &[u8]) -> Result<bool, Refused>
+        ensures { IsEarly self.now held.now result }
+    {
+        match self {
+            Stage::Handshake(own) => match judge_handshake(own, held) {
+                Some(fault) => Err(fault),
+                None => Ok(held.len() >= 68),
+            },
+            Stage::Message {
+                context,
+                order,
+                start,
+                ..
+            } => {
+                if *start >= END {
+                    return Err(Refused {
+                        at: 0,
+                        reason: Reason::StreamFull,
+                    });
+                }
+                match judge_header(context, *order, held) {
+                    Header::Need(_) => Ok(false),
+                    Header::Window(length) => Ok(held.len() as u64 >= length),
+                    Header::Refused { at, reason } => Err(Refused { at, reason }),
+                }
+            }
+        }
+    }
+
+    /// How many bytes of the item are judged together, where these are there.
+    #[cold]
+    #[inline(never)]
+    pub(crate) fn next_goal(&self, held: &[u8]) -> Goal
+        requires limit { limit_of self.now ≤ 1048576 }
+        requires partial { IsPartial self.now held.now }
+        ensures { IsGoal self.now held.now result }
+    {
+        match self {
+            Stage::Handshake(own) => {
+                if judge_handshake(own, held).is_some() || held.len() >= 68 {
+                    Goal::Closed
+                } else if held.len() < 20 {
+                    Goal::Until(held.len() + 1)
+                } else if held.len() < 48 {
+                    Goal::Until(48)
+                } else {
+                    Goal::Until(68)
+                }
+            }
+            Stage::Message {
+                context,
+                order,
+                start,
+                ..
+            } => {
+                if *start >= END {
+                    return Goal::Closed;
+                }
+                match judge_header(context, *order, held) {
+                    Header::Need(count) => Goal::Until(count as usize),
+                    Header::Window(length) => Goal::Window(length as usize),
+                    Header::Refused { .. } => Goal::Closed,
+                }
+            }
+        }
+    }
+
+    /// How many bytes the message has whose first ones these are, or 0 where that isn't judged yet.
+    #[inline(always)]
+    pub(crate) fn window_of(&self, bytes: &[u8]) -> usize
+        ensures { 0 < result → HasWindow self.now bytes.now result }
+    {
+        match self {
+            Stage::Message {
+                context,
+                order,
+                start,
+                ..
+            } if *start < END => match judge_header(context, *order, bytes) {
+                Header::Window(length) => length as usize,
+                _ => 0,
+            },
+            _ => 0,
+        }
+    }
+}
