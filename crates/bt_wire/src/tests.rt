@@ -1,0 +1,308 @@
+//! Worked rows, the limits, the order of the reasons, and each public call.
+use crate::*;
+use bt_ext::{Registered, Rules};
+use std::alloc::Global;
+use std::process::Abort;
+use std::test::Fail;
+
+pub const LIMIT: u32 = 262_144;
+
+/// What two ends have agreed on that know the Extension Protocol, with the usual limit and no id registered.
+pub fn agreed(rules: Rules, fast: bool, pieces: Option<u32>) -> Context {
+    Context {
+        fast,
+        ext: true,
+        pieces,
+        reg: Registered::new(None),
+        rules,
+        limit: LIMIT,
+    }
+}
+
+/// The first five bytes of a message.
+fn head(length: u32, id: u8) -> [u8; 5] {
+    let [a, b, c, d] = length.to_be_bytes();
+    [a, b, c, d, id]
+}
+
+#[test]
+fn allowed_lengths(rt: HostRuntime) {
+    let free = agreed(Rules::Free, true, None);
+    let wrong = Header::Refused {
+        at: 0,
+        reason: Reason::WrongLength,
+    };
+    let long = Header::Refused {
+        at: 0,
+        reason: Reason::TooLong,
+    };
+    for (id, least, greatest) in [
+        (0, 1, 1),
+        (1, 1, 1),
+        (2, 1, 1),
+        (3, 1, 1),
+        (4, 5, 5),
+        (5, 1, LIMIT),
+        (6, 13, 13),
+        (7, 9, LIMIT),
+        (8, 13, 13),
+        (9, 3, 3),
+        (10, 1, LIMIT),
+        (12, 1, LIMIT),
+        (13, 5, 5),
+        (14, 1, 1),
+        (15, 1, 1),
+        (16, 13, 13),
+        (17, 5, 5),
+        (18, 1, LIMIT),
+        (20, 2, LIMIT),
+        (99, 1, LIMIT),
+        (255, 1, LIMIT),
+    ] {
+        let below = if least == 1 { Header::Window(4) } else { wrong };
+        let above = if greatest == LIMIT { long } else { wrong };
+        for (length, answer) in [
+            (least, Header::Window(4 + u64::from(least))),
+            (greatest, Header::Window(4 + u64::from(greatest))),
+            (least.saturating_sub(1), below),
+            (greatest.saturating_add(1), above),
+        ] {
+            let header = judge_header(&free, Order::Fresh, &head(length, id));
+            assert_eq!(rt; header, answer, "id {id}, length {length}");
+        }
+    }
+}
+
+#[test]
+fn bitfield_lengths(rt: HostRuntime) {
+    for (pieces, length) in [
+        (0, 1),
+        (1, 2),
+        (7, 2),
+        (8, 2),
+        (9, 3),
+        (10, 3),
+        (16, 3),
+        (17, 4),
+    ] {
+        let context = agreed(Rules::Free, false, Some(pieces));
+        for said in 1..6 {
+            let answer = if said == length {
+                Header::Window(4 + u64::from(said))
+            } else {
+                Header::Refused {
+                    at: 0,
+                    reason: Reason::WrongLength,
+                }
+            };
+            let header = judge_header(&context, Order::Fresh, &head(said, 5));
+            assert_eq!(rt; header, answer, "{pieces} pieces, length {said}");
+        }
+    }
+}
+
+#[test]
+fn headers(rt: HostRuntime) {
+    let long = Header::Refused {
+        at: 0,
+        reason: Reason::TooLong,
+    };
+    for (limit, head, answer) in [
+        (LIMIT, b"".as_slice(), Header::Need(4)),
+        (LIMIT, b"\xff\xff\xff", Header::Need(4)),
+        (LIMIT, b"\xff\xff\xff\xff", long),
+        (LIMIT, b"\0\0\0\0", Header::Window(4)),
+        (LIMIT, b"\0\0\0\0\x63", Header::Window(4)),
+        (LIMIT, b"\0\0\0\x01", Header::Need(5)),
+        (LIMIT, b"\0\x04\0\x01", long),
+        (LIMIT, b"\0\x04\0\0", Header::Need(5)),
+        (LIMIT, b"\0\x04\0\0\x07", Header::Window(262_148)),
+        (4_294_967_295, b"\xff\xff\xff\xff", Header::Need(5)),
+        (
+            4_294_967_295,
+            b"\xff\xff\xff\xff\x63",
+            Header::Window(4_294_967_299),
+        ),
+    ] {
+        let context = Context {
+            limit,
+            ..agreed(Rules::Free, false, None)
+        };
+        assert_eq!(rt;
+            judge_header(&context, Order::Fresh, head),
+            answer,
+            "{head:?}"
+        );
+    }
+}
+
+/// How the bytes are refused, if they are.
+fn refused_for(context: &Context, order: Order, start: u64, bytes: &[u8]) -> Option<Refused> {
+    match read_front(context, order, start, bytes) {
+        Front::Refused(refused) => Some(refused),
+        _ => None,
+    }
+}
+
+/// From how many bytes of a message on a reason is judged, and its place from the message's start.
+fn place_of(reason: Reason, whole: usize) -> (usize, u64) {
+    match reason {
+        Reason::TooLong => (4, 0),
+        Reason::WrongLength => (5, 0),
+        Reason::BadIndex => (whole, 5),
+        Reason::SpareBits => (whole, whole.saturating_sub(1) as u64),
+        _ => (5, 4),
+    }
+}
+
+/// Where the bytes are a message at all, its value is refused for the reason.
+fn refuses_value(
+    rt: &impl Abort,
+    alloc: Global,
+    context: &Context,
+    order: Order,
+    bytes: &[u8],
+    reason: Reason,
+) -> Result<(), Fail> {
+    let lax = agreed(Rules::Free, true, None);
+    if let Front::Whole(view, _) = read_front(&lax, Order::Fresh, 0, bytes) {
+        let message = copy_message(alloc, &view)?;
+        let fault = Fault::Reason(reason);
+        assert_eq!(rt; legal(context, order, &message), Err(fault), "{bytes:?}");
+        let encoded = encode(alloc, context, order, &message);
+        assert!(rt; matches!(encoded, Err(EncodeError::Illegal(f)) if f == fault));
+    }
+    Ok(())
+}
+
+/// Each reason alone, and then each two that can hold together: the first counts, from the byte on with which it is judged.
+#[test]
+fn reasons(rt: HostRuntime) -> Result<(), Fail> {
+    let free = (Rules::Free, true, true, None, LIMIT);
+    let ten = (Rules::Free, true, true, Some(10), LIMIT);
+    let none = (Rules::Free, true, true, Some(0), LIMIT);
+    let slow = (Rules::Free, false, true, Some(10), LIMIT);
+    let bep = (Rules::Bep, true, true, Some(10), LIMIT);
+    let slow_bep = (Rules::Bep, false, true, None, LIMIT);
+    let plain = (Rules::Free, true, false, Some(10), LIMIT);
+    let narrow = (Rules::Free, true, true, Some(10), 2);
+    let (fresh, past) = (Order::Fresh, Order::Past);
+    for ((rules, fast, ext, pieces, limit), order, bytes, reason) in [
+        (free, fresh, b"\0\x04\0\x01".as_slice(), Reason::TooLong),
+        (bep, fresh, b"\0\0\0\x01\x63", Reason::UnknownId),
+        (slow, fresh, b"\0\0\0\x01\x0e", Reason::NotNegotiated),
+        (slow, fresh, b"\0\0\0\x01\x0f", Reason::NotNegotiated),
+        (
+            slow,
+            past,
+            b"\0\0\0\x05\x0d\0\0\0\x09",
+            Reason::NotNegotiated,
+        ),
+        (
+            slow,
+            past,
+            b"\0\0\0\x0d\x10\0\0\0\x09",
+            Reason::NotNegotiated,
+        ),
+        (
+            slow,
+            past,
+            b"\0\0\0\x05\x11\0\0\0\x09",
+            Reason::NotNegotiated,
+        ),
+        (plain, fresh, b"\0\0\0\x02\x14\x04", Reason::NotNegotiated),
+        (plain, fresh, b"\0\0\0\x01\x14", Reason::NotNegotiated),
+        (free, fresh, b"\0\0\0\x04\x04", Reason::WrongLength),
+        (free, fresh, b"\0\0\0\x08\x07", Reason::WrongLength),
+        (ten, fresh, b"\0\0\0\x04\x05", Reason::WrongLength),
+        (bep, past, b"\0\0\0\x03\x05\xff\xc0", Reason::Late),
+        (bep, past, b"\0\0\0\x01\x0e", Reason::Late),
+        (bep, past, b"\0\0\0\x01\x0f", Reason::Late),
+        (slow_bep, past, b"\0\0\0\x03\x05\xff\xc0", Reason::Late),
+        (bep, fresh, b"\0\0\0\x01\x01", Reason::Missing),
+        (ten, fresh, b"\0\0\0\x05\x04\0\0\0\x0a", Reason::BadIndex),
+        (
+            ten,
+            fresh,
+            b"\0\0\0\x0d\x06\0\0\0\x0a\0\0\0\0\0\0\0\0",
+            Reason::BadIndex,
+        ),
+        (
+            ten,
+            fresh,
+            b"\0\0\0\x0a\x07\0\0\0\x0a\0\0\0\0a",
+            Reason::BadIndex,
+        ),
+        (
+            ten,
+            fresh,
+            b"\0\0\0\x0d\x08\0\0\0\x0a\0\0\0\0\0\0\0\0",
+            Reason::BadIndex,
+        ),
+        (ten, fresh, b"\0\0\0\x05\x0d\0\0\0\x0a", Reason::BadIndex),
+        (
+            ten,
+            fresh,
+            b"\0\0\0\x0d\x10\xff\xff\xff\xff\0\0\0\0\0\0\0\0",
+            Reason::BadIndex,
+        ),
+        (ten, fresh, b"\0\0\0\x05\x11\0\0\0\x0a", Reason::BadIndex),
+        (none, fresh, b"\0\0\0\x05\x04\0\0\0\0", Reason::BadIndex),
+        (ten, fresh, b"\0\0\0\x03\x05\xff\xe0", Reason::SpareBits),
+        (ten, fresh, b"\0\0\0\x03\x05\0\x01", Reason::SpareBits),
+        (narrow, fresh, b"\0\0\0\x03\x05\xff\xe0", Reason::TooLong),
+        (narrow, fresh, b"\0\0\0\x05\x04\0\0\0\x0a", Reason::TooLong),
+        (bep, fresh, b"\0\x04\0\x01\x63", Reason::TooLong),
+        (slow, fresh, b"\0\x04\0\x01\x0e", Reason::TooLong),
+        (free, fresh, b"\0\x04\0\x01\0", Reason::TooLong),
+        (slow_bep, past, b"\0\x04\0\x01\x05", Reason::TooLong),
+        (bep, fresh, b"\0\x04\0\x01\x07", Reason::TooLong),
+        (slow, fresh, b"\0\0\0\x02\x0e\0", Reason::NotNegotiated),
+        (slow_bep, past, b"\0\0\0\x01\x0f", Reason::NotNegotiated),
+        (
+            slow,
+            fresh,
+            b"\0\0\0\x05\x0d\0\0\0\x0a",
+            Reason::NotNegotiated,
+        ),
+        (bep, past, b"\0\0\0\x02\x0f\0", Reason::WrongLength),
+        (bep, fresh, b"\0\0\0\x02\x01\0", Reason::WrongLength),
+        (
+            ten,
+            fresh,
+            b"\0\0\0\x06\x04\0\0\0\x0a\0",
+            Reason::WrongLength,
+        ),
+        (
+            ten,
+            fresh,
+            b"\0\0\0\x04\x05\xff\xc0\x01",
+            Reason::WrongLength,
+        ),
+        (bep, past, b"\0\0\0\x03\x05\xff\xe0", Reason::Late),
+        (bep, fresh, b"\0\0\0\x05\x04\0\0\0\x0a", Reason::Missing),
+    ] {
+        let context = Context {
+            ext,
+            limit,
+            ..agreed(rules, fast, pieces)
+        };
+        let (judged, at) = place_of(reason, bytes.len());
+        for (n, _) in bytes.iter().enumerate() {
+            let part = refused_for(&context, order, 0, &bytes[..n]);
+            assert_eq!(rt; part.is_some(), n >= judged, "{n} of {bytes:?}");
+        }
+        let full = Refused {
+            at: 0,
+            reason: Reason::StreamFull,
+        };
+        let refused = Refused { at, reason };
+        let end = 1 << 62;
+        for (start, answer) in [(0, refused), (end - 1, refused), (end, full)] {
+            let front = refused_for(&context, order, start, bytes);
+            assert_eq!(rt; front, Some(answer), "{bytes:?} at {start}");
+        }
+        refuses_value(&rt, rt.alloc(), &context, order, bytes, reason)?;
+    }
+    Ok(())
+}
