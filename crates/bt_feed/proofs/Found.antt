@@ -11,7 +11,7 @@ use Rattle.bt_wire.specs.Faults.{header_fault, is_whole, IsFault}
 use Rattle.bt_wire.specs.Headers.{header_of}
 use Rattle.bt_wire.proofs.FrontLaws.{front_whole, front_fault}
 use Rattle.bt_wire.proofs.HeaderLaws.{IsHeader, judged_at, whole_there, not_whole}
-use Rattle.bt_wire.proofs.PlaceLaws.{fault_within, hand_within}
+use Rattle.bt_feed.proofs.Places.{fault_within, hand_within}
 use Rattle.bt_wire.proofs.WindowLaws.{early_header}
 use Rattle.bt_feed.specs.declared.stage.Stage.{Stage}
 use Rattle.bt_feed.specs.declared.stage.Stage.TheVariants as stage
@@ -50,11 +50,13 @@ early_need c o s i b n lt e =
 
 pub early_window : (c : Context) (o : Order) (s i : ℕ) (b : List ℕ) (n : ℕ) → s < 2 ^ 62 → header_of c o b ≡ headers.Window n → (early (stage.Message c o s i) b ≡ None) × (is_all (stage.Message c o s i) b ≡ leb n (length b))
 early_window c o s i b n lt e =
-    let j : IsHeader c o b n = judged_at c o b (headers.Window n) e in
-    (early_header c o s b lt ∙ j.none, elim (cases_lt (length b) n) [
-      | inl short ↦ not_whole b (omega (arith, j.size)) ∙ sym (lt-leb n (length b) short)
-      | inr there ↦ whole_there b (omega (arith, j.size)) ∙ sym (le-leb n (length b) there)
-    ])
+    let j : IsHeader c o b n = judged_at c o b (headers.Window n) e in (
+      early_header c o s b lt ∙ j.none,
+      elim (cases_lt (length b) n) [
+        | inl short ↦ not_whole b (omega (arith, j.size)) ∙ sym (lt-leb n (length b) short)
+        | inr there ↦ whole_there b (omega (arith, j.size)) ∙ sym (le-leb n (length b) there)
+      ],
+    )
 
 pub early_refused : (c : Context) (o : Order) (s i : ℕ) (b : List ℕ) (f : Refused) → s < 2 ^ 62 → header_of c o b ≡ headers.Refused f.at f.reason → early (stage.Message c o s i) b ≡ Some f
 early_refused c o s i b f lt e =

@@ -7,3 +7,4 @@ pub mod Found
 pub mod Coming
 pub mod Reading
 pub mod FeedLaws
+pub mod Places

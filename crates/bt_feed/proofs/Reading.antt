@@ -69,7 +69,7 @@ reads_pushed t all xs f g rest later n e p r =
     let held : g.held ≡ f.held ++ take n rest = ap (λ (s : FeedState). s.held) e in
     let bytes : g.held ++ (drop n rest ++ later) ≡ f.held ++ (rest ++ later) =
     ap (λ (b : List ℕ). b ++ (drop n rest ++ later)) held ∙ append_assoc f.held (take n rest) (drop n rest ++ later)
-        ∙ ap (λ (b : List ℕ). f.held ++ b) (sym (append_assoc (take n rest) (drop n rest) later) ∙ ap (λ (b : List ℕ). b ++ later) (take-append-drop n rest)) in
+    ∙ ap (λ (b : List ℕ). f.held ++ b) (sym (append_assoc (take n rest) (drop n rest) later) ∙ ap (λ (b : List ℕ). b ++ later) (take-append-drop n rest)) in
     let Q : Stage → Type 0 = λ u. IsBehind t xs u in
     record {
       told = λ v k.
@@ -244,10 +244,11 @@ one_transcript own b xs ys r q m n lt a c =
     let same = verdict_only own b a.verdict c.verdict lt a.is_verdict c.is_verdict in
     let P : Outcome → Type 0 = λ v. IsNext (stage.Handshake own) v a.next in
     let next = subst P same a.is_next in
-    let stage = one_next (stage.Handshake own) c.verdict.items a.next c.next next.behind c.is_next.behind (next.order ∙ sym c.is_next.order) (next.start ∙ sym c.is_next.start) (next.number ∙ sym c.is_next.number) in
-    (a.same_items ∙ ap (λ (v : Outcome). v.items) same ∙ sym c.same_items,
-     a.same_refusal ∙ ap (λ (v : Outcome). v.refusal) same ∙ sym c.same_refusal,
-     a.held ∙ ap (λ (v : Outcome). taken_by (is_closed a.next) [] v.tail) same ∙ ap (λ (t : Stage). taken_by (is_closed t) [] c.verdict.tail) stage ∙ sym c.held)
+    let stage = one_next (stage.Handshake own) c.verdict.items a.next c.next next.behind c.is_next.behind (next.order ∙ sym c.is_next.order) (next.start ∙ sym c.is_next.start) (next.number ∙ sym c.is_next.number) in (
+      a.same_items ∙ ap (λ (v : Outcome). v.items) same ∙ sym c.same_items,
+      a.same_refusal ∙ ap (λ (v : Outcome). v.refusal) same ∙ sym c.same_refusal,
+      a.held ∙ ap (λ (v : Outcome). taken_by (is_closed a.next) [] v.tail) same ∙ ap (λ (t : Stage). taken_by (is_closed t) [] c.verdict.tail) stage ∙ sym c.held,
+    )
 
 -- ---- the beginning
 

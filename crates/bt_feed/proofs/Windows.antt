@@ -65,11 +65,13 @@ window_stays c o b x n e =
 pub window_size : (c : Context) (o : Order) (b : List ℕ) (n : ℕ) → header_of c o b ≡ headers.Window n → (4 ≤ n) × (n ≤ c.limit + 4)
 unfolding header_fault
 window_size c o b n e =
-    let j : IsHeader c o b n = judged_at c o b (headers.Window n) e in
-    (omega (arith, j.size), elim (and_cases (has_length b) (ltb c.limit (said_length b)) (NoneCounts-from (header_rows c o b) j.none).0) [
-      | inl short ↦ absurd (omega (arith, leb-false 4 (length b) short, j.long))
-      | inr within ↦ omega (arith, j.size, ltb-false c.limit (said_length b) within)
-    ])
+    let j : IsHeader c o b n = judged_at c o b (headers.Window n) e in (
+      omega (arith, j.size),
+      elim (and_cases (has_length b) (ltb c.limit (said_length b)) (NoneCounts-from (header_rows c o b) j.none).0) [
+        | inl short ↦ absurd (omega (arith, leb-false 4 (length b) short, j.long))
+        | inr within ↦ omega (arith, j.size, ltb-false c.limit (said_length b) within)
+      ],
+    )
 
 -- ---- fewer than n bytes are open
 

@@ -79,12 +79,7 @@ impl<A: Allocator> Feed<A> {
     }
 
     /// A feed for the messages behind a handshake, from this offset of the stream on.
-    pub fn new_at(
-        alloc: A,
-        context: Context,
-        order: Order,
-        base: u64,
-    ) -> Result<Feed<A>, FeedError>
+    pub fn new_at(alloc: A, context: Context, order: Order, base: u64) -> Result<Feed<A>, FeedError>
         ensures ok { IfOk result (λ feed. feed ≡ record { stage = Stage.Message context order base 1; held = []; refused = None }) }
         ensures limit { IsErrOf result FeedError.BadLimit ↔ ((context.limit ≡ 0) ⊎ (1048576 < context.limit)) }
         ensures base { IsErrOf result FeedError.BadBase ↔ ((0 < context.limit) × (context.limit ≤ 1048576) × (2 ^ 62 < base)) }

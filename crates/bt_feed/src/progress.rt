@@ -235,10 +235,12 @@ impl Progress {
             Ok(true) => Err(Finish::Untaken),
             Ok(false) => match self.stage {
                 Stage::Message { start, .. } if held.is_empty() => Ok(start),
-                _ => Err(Finish::Refused(self.stage.refusal(Refused {
-                    at: held.len() as u64,
-                    reason: Reason::EndInside,
-                }))),
+                _ => Err(Finish::Refused(
+                    self.stage.refusal(Refused {
+                        at: held.len() as u64,
+                        reason: Reason::EndInside,
+                    }),
+                )),
             },
         }
     }

@@ -1,5 +1,6 @@
 //! The worked rows, in any pieces.
 use crate::*;
+use bt_ext::{ExtId, Registered, Rules};
 use bt_wire::{
     Context, Handshake, Item, Message, MessageView, Order, Own, Reason, Refusal, Reserved,
     spell_handshake,
@@ -33,11 +34,28 @@ const INFO_HASH: [u8; 20] = [
     0x9c, 0xd0, 0xd8, 0x9d,
 ];
 
-const OWN: Own = Own {
-    reserved: Reserved(RESERVED),
-    info_hash: None,
-    limit: 262_144,
-};
+/// The receiver of the rows, which knows both extensions and judges syntax alone.
+fn own(pieces: Option<u32>, limit: u32) -> Own {
+    Own {
+        reserved: Reserved(RESERVED),
+        info_hash: None,
+        pieces,
+        reg: Registered::new(ExtId::new(3)),
+        rules: Rules::Free,
+        limit,
+    }
+}
+
+fn context(limit: u32) -> Context {
+    Context {
+        fast: true,
+        ext: true,
+        pieces: None,
+        reg: Registered::new(ExtId::new(3)),
+        rules: Rules::Free,
+        limit,
+    }
+}
 
 fn hand() -> [u8; 68] {
     spell_handshake(&Handshake {
@@ -56,20 +74,23 @@ fn stream(alloc: Global, messages: &[u8]) -> Result<Vec<u8>, AllocError> {
 
 /// A stream, and what is to be read of it.
 struct Row {
+    pieces: Option<u32>,
     messages: &'static [u8],
     items: &'static [(u64, Told)],
     refused: Option<Refusal>,
     rest: u64,
 }
 
-const ROWS: [Row; 9] = [
+const ROWS: [Row; 13] = [
     Row {
+        pieces: None,
         messages: b"",
         items: &[(0, Told::Handshake(RESERVED))],
         refused: None,
         rest: 0,
     },
     Row {
+        pieces: None,
         messages: b"\x00\x00\x00\x00\x00\x00\x00\x05\x04\x00\x00\x00\x09",
         items: &[
             (0, Told::Handshake(RESERVED)),
@@ -80,6 +101,7 @@ const ROWS: [Row; 9] = [
         rest: 0,
     },
     Row {
+        pieces: None,
         messages: b"\x00\x04\x00\x01\x00",
         items: &[(0, Told::Handshake(RESERVED))],
         refused: Some(Refusal {
@@ -90,12 +112,14 @@ const ROWS: [Row; 9] = [
         rest: 4,
     },
     Row {
+        pieces: None,
         messages: b"\x00\x04\x00\x00",
         items: &[(0, Told::Handshake(RESERVED))],
         refused: None,
         rest: 4,
     },
     Row {
+        pieces: None,
         messages: b"\xff\xff\xff\xff",
         items: &[(0, Told::Handshake(RESERVED))],
         refused: Some(Refusal {
@@ -106,6 +130,7 @@ const ROWS: [Row; 9] = [
         rest: 4,
     },
     Row {
+        pieces: None,
         messages: b"\x00\x00\x00\x00\x00\x00\x00\x04\x04\x00\x00\x00",
         items: &[(0, Told::Handshake(RESERVED)), (68, Told::KeepAlive)],
         refused: Some(Refusal {
@@ -116,6 +141,7 @@ const ROWS: [Row; 9] = [
         rest: 5,
     },
     Row {
+        pieces: None,
         messages: b"\x00\x00\x00\x01\x63\x00\x00\x00\x00",
         items: &[
             (0, Told::Handshake(RESERVED)),
@@ -126,22 +152,60 @@ const ROWS: [Row; 9] = [
         rest: 0,
     },
     Row {
+        pieces: None,
         messages: b"\x00\x00\x00",
         items: &[(0, Told::Handshake(RESERVED))],
         refused: None,
         rest: 3,
     },
     Row {
+        pieces: None,
         messages: b"\x00\x00\x00\x05\x04\x00\x00",
         items: &[(0, Told::Handshake(RESERVED))],
         refused: None,
         rest: 7,
     },
+    Row {
+        pieces: Some(10),
+        messages: b"\x00\x00\x00\x05\x04\x00\x00\x00\x0a\x00",
+        items: &[(0, Told::Handshake(RESERVED))],
+        refused: Some(Refusal {
+            message: 1,
+            at: 73,
+            reason: Reason::BadIndex,
+        }),
+        rest: 9,
+    },
+    Row {
+        pieces: Some(10),
+        messages: b"\x00\x00\x00\x03\x05\xff\xc0",
+        items: &[(0, Told::Handshake(RESERVED)), (68, Told::Other)],
+        refused: None,
+        rest: 0,
+    },
+    Row {
+        pieces: None,
+        messages: b"\x00\x00\x00\x0d\x06\x00\x00\x00\x01\x00\x00\x40\x00\x00\x00\x40\x00",
+        items: &[(0, Told::Handshake(RESERVED)), (68, Told::Other)],
+        refused: None,
+        rest: 0,
+    },
+    Row {
+        pieces: None,
+        messages: b"\x00\x00\x00\x0b\x14\x00d1:pi-0ee",
+        items: &[(0, Told::Handshake(RESERVED))],
+        refused: Some(Refusal {
+            message: 1,
+            at: 80,
+            reason: Reason::BadBencode,
+        }),
+        rest: 15,
+    },
 ];
 
 /// Whether these pieces are read as the row says.
 fn reads_as(alloc: Global, row: &Row, pieces: &[Vec<u8>]) -> Result<bool, FeedError> {
-    let transcript = read_all(alloc, OWN, pieces)?;
+    let transcript = read_all(alloc, own(row.pieces, 262_144), pieces)?;
     let mut same = transcript.items.len() == row.items.len();
     for ((at, item), (place, wanted)) in transcript.items.iter().zip(row.items) {
         same = same && at == place && shown(item) == *wanted;
@@ -190,7 +254,7 @@ fn refused(message: u64, at: u64, reason: Reason) -> TakeError {
 fn bad_handshakes(rt: HostRuntime) -> Result<(), Fail> {
     let mut bytes = hand();
     bytes[5] = b'_';
-    let mut feed = Feed::new(rt.alloc(), OWN)?;
+    let mut feed = Feed::new(rt.alloc(), own(None, 262_144))?;
     assert_eq!(rt; feed.push(&bytes[..10]), 6);
     for _ in 0..2 {
         assert_eq!(rt; feed.look().err(), Some(refused(0, 5, Reason::BadProtocol)));
@@ -210,11 +274,14 @@ fn bad_handshakes(rt: HostRuntime) -> Result<(), Fail> {
         rt.alloc(),
         Own {
             info_hash: Some([7; 20]),
-            ..OWN
+            ..own(None, 262_144)
         },
     )?;
     assert_eq!(rt; feed.push(&hand()), 48);
-    assert_eq!(rt; feed.take().err(), Some(refused(0, 28, Reason::WrongInfoHash)));
+    assert_eq!(rt;
+        feed.take().err(),
+        Some(refused(0, 28, Reason::WrongInfoHash))
+    );
     Ok(())
 }
 
@@ -222,29 +289,31 @@ fn bad_handshakes(rt: HostRuntime) -> Result<(), Fail> {
 #[test]
 fn full_stream(rt: HostRuntime) -> Result<(), Fail> {
     let alloc = rt.alloc();
-    let context = Context { limit: 262_144 };
     let end: u64 = 4_611_686_018_427_387_904;
     let zeros = [0; 8];
-    let mut feed = Feed::new_at(alloc, context, Order::Fresh, end - 4)?;
+    let mut feed = Feed::new_at(alloc, context(262_144), Order::Fresh, end - 4)?;
     assert_eq!(rt; feed.push(&zeros), 4);
     assert!(rt; matches!(feed.take(), Ok(Some(View::Message(MessageView::KeepAlive)))));
     assert_eq!(rt; feed.start(), end);
     assert_eq!(rt; feed.push(&zeros[4..]), 0);
-    assert_eq!(rt; feed.take().err(), Some(refused(2, end, Reason::StreamFull)));
+    assert_eq!(rt;
+        feed.take().err(),
+        Some(refused(2, end, Reason::StreamFull))
+    );
     assert!(rt;
         matches!(
-            Feed::new_at(alloc, context, Order::Fresh, end + 1),
+            Feed::new_at(alloc, context(262_144), Order::Fresh, end + 1),
             Err(FeedError::BadBase)
         )
     );
     for limit in [0, 1_048_577] {
         assert!(rt;
             matches!(
-                Feed::new_at(alloc, Context { limit }, Order::Fresh, 0),
+                Feed::new_at(alloc, context(limit), Order::Fresh, 0),
                 Err(FeedError::BadLimit)
             )
         );
-        assert!(rt; matches!(Feed::new(alloc, Own { limit, ..OWN }), Err(FeedError::BadLimit)));
+        assert!(rt; matches!(Feed::new(alloc, own(None, limit)), Err(FeedError::BadLimit)));
     }
     Ok(())
 }
@@ -252,7 +321,7 @@ fn full_stream(rt: HostRuntime) -> Result<(), Fail> {
 /// Each end of a stream.
 #[test]
 fn ends(rt: HostRuntime) -> Result<(), Fail> {
-    let mut feed = Feed::new(rt.alloc(), OWN)?;
+    let mut feed = Feed::new(rt.alloc(), own(None, 262_144))?;
     assert_eq!(rt; feed.finish(), Err(Finish::Refused(end_inside(0, 0))));
     assert_eq!(rt; feed.push(&hand()), 68);
     assert_eq!(rt; feed.finish(), Err(Finish::Untaken));
@@ -273,11 +342,14 @@ fn end_inside(message: u64, at: u64) -> Refusal {
     }
 }
 
-/// The buffer is the one request for memory: a heap that it fills serves a whole stream.
+/// The buffer is the one request for memory: a heap that it fills serves a stream with a block of metadata.
 #[test]
 fn one_buffer(rt: HostRuntime) -> Result<(), Fail> {
-    let own = Own { limit: 64, ..OWN };
-    let bytes = stream(rt.alloc(), b"\x00\x00\x00\x05\x04\x00\x00\x00\x09\x00\x00\x00\x00")?;
+    let own = own(None, 64);
+    let bytes = stream(
+        rt.alloc(),
+        b"\x00\x00\x00\x2e\x14\x03d8:msg_typei1e5:piecei0e10:total_sizei3eeabc\x00\x00\x00\x00",
+    )?;
     let small = LocalHeap::new(rt.alloc(), 48)?;
     assert!(rt; matches!(Feed::new(&small, own), Err(FeedError::Memory)));
     let heap = LocalHeap::new(rt.alloc(), 96)?;
@@ -288,12 +360,12 @@ fn one_buffer(rt: HostRuntime) -> Result<(), Fail> {
     for _ in 0..=bytes.len() {
         let Some(rest) = bytes.get(at..) else { break };
         at = at.wrapping_add(feed.push(rest));
-        if feed.take().is_ok_and(|item| item.is_some()) {
+        if matches!(feed.take(), Ok(Some(_))) {
             items = items.wrapping_add(1);
         }
     }
     assert_eq!(rt; items, 3);
-    assert_eq!(rt; feed.finish(), Ok(81));
+    assert_eq!(rt; feed.finish(), Ok(122));
     assert_eq!(rt; heap.used(), used);
     Ok(())
 }

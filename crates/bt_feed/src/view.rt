@@ -6,7 +6,7 @@ use std::alloc::{AllocError, Global};
 use thiserror::Error;
 
 /// An item whose bytes are those of the feed's buffer.
-#[derive(Clone, Copy, Debug)]
+#[derive(Debug, Drop)]
 pub enum View<'a> {
     Handshake(Handshake),
     Message(MessageView<'a>),
