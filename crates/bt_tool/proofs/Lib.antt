@@ -1,3 +1,5 @@
 mod Moved
 mod Walking
 mod Fronts
+mod Places
+mod Numbers

@@ -1,14 +1,11 @@
 -- A walk that adds a line for each message: what the rest comes to is, behind the lines so far, what all comes to.
-use Rattle.std.proofs.Common.{◌≡◌, ◌≢◌, ℕ, cond, ◌+◌, ◌-◌, ◌≤◌, eqb, Bool, true, false, not, ◌&&◌, List, [], ◌∷◌, ◌++◌, length, drop, Option, Some, None, refl, sym, ap, subst, ◌∙◌, append_assoc, append-nil, arith}
+use Rattle.std.proofs.Common.{◌≡◌, ◌≢◌, ℕ, ◌+◌, ◌-◌, eqb, true, false, not, ◌&&◌, List, [], ◌++◌, length, drop, None, refl, sym, ap, subst, ◌∙◌, append_assoc, append-nil, arith}
 use Rattle.std.specs.List.{flat_map}
-use Rattle.std.specs.Prelude.{⊤}
 use Rattle.std.proofs.lemmas.Bool.{eq-eqb, ne_eqb}
 use Rattle.std.proofs.lemmas.List.{length-append}
 use Rattle.bt_wire.specs.declared.context.Context.{Context}
-use Rattle.bt_wire.specs.declared.context.Order.{Order}
 use Rattle.bt_wire.specs.declared.context.Order.TheVariants.{Fresh}
 use Rattle.bt_wire.specs.declared.context.Own.{Own}
-use Rattle.bt_wire.specs.declared.fault.Refused.{Refused}
 use Rattle.bt_wire.specs.declared.item.Item.TheVariants as items
 use Rattle.bt_wire.specs.declared.handshake.Handshake.{Handshake}
 use Rattle.bt_wire.specs.declared.message.Message.{Message}
@@ -16,8 +13,6 @@ use Rattle.bt_wire.specs.declared.reserved.Reserved.{Reserved}
 use Rattle.bt_wire.specs.Handshakes.{hand, hand_fault, IsHandshakeOf, negotiated}
 use Rattle.bt_wire.proofs.HandLaws.{hand-length}
 use Rattle.bt_wire.proofs.WalkLaws.{opening_more}
-use Rattle.bt_wire.specs.Faults.{IsFault, early, unfinished, whole, in_fields, header_rows, header_fault}
-use Rattle.bt_wire.specs.Tables.{Row, counts, first_fault}
 use Rattle.bt_wire.specs.Streams.{Outcome, IsOutcome, with_item, end_inside}
 use Rattle.bt_tool.specs.declared.ended.Ended.{Ended}
 use Rattle.bt_tool.specs.declared.ended.Ended.TheVariants.{Accepted, Refused as refused}
@@ -80,28 +75,3 @@ ends_inside v n none some = rw (none, ne_eqb (length v.tail) 0 some) (let e = el
 
 pub ends_complete : (v : Outcome) (n : ℕ) → v.refusal ≡ None → v.number ≢ 0 → length v.tail ≡ 0 → ended_as v n ≡ Accepted (v.number - 1) n
 ends_complete v n none opened done = rw (none, ne_eqb v.number 0 opened, eq-eqb (length v.tail) 0 done) refl
-
--- ---- the place of a fault is near the message's start
-
-one_of : (t : Bool) (x g : Refused) (others : Option Refused) → x.at ≤ 4 → (others ≡ Some g → g.at ≤ 4) → cond t (Some x) others ≡ Some g → g.at ≤ 4
-one_of true x g others le more e = let same : x ≡ g = cc in subst (λ (r : Refused). r.at ≤ 4) same le
-one_of false x g others le more e = more e
-
-abbrev AreNear : List Row → Type 0
-AreNear [] = ⊤
-AreNear (r ∷ rows) = (r.found.at ≤ 4) × AreNear rows
-
-first_near : (rows : List Row) (g : Refused) → AreNear rows → first_fault rows ≡ Some g → g.at ≤ 4
-first_near [] g near e = absurd cc
-first_near (r ∷ rows) g near e = one_of (counts r) r.found g (first_fault rows) near.0 (first_near rows g near.1) e
-
-header_near : (c : Context) (o : Order) (b : List ℕ) (g : Refused) → header_fault c o b ≡ Some g → g.at ≤ 4
-unfolding header_fault
-header_near c o b g e = first_near (header_rows c o b) g (omega arith, (omega arith, tt)) e
-
-pub fault_near : (c : Context) (o : Order) (s : ℕ) (b : List ℕ) (f : Refused) → IsFault c o s b (Some f) → f.at ≤ 4
-fault_near c o s b f (early g e same) =
-    let is : f ≡ g = cc in
-    subst (λ (r : Refused). r.at ≤ 4) (sym is) (one_of _ _ g _ (omega arith) (header_near c o b g) e)
-fault_near c o s b f (unfinished e part same) = absurd cc
-fault_near c o s b f (whole e all (in_fields same)) = absurd cc

@@ -1,17 +1,41 @@
--- The command line and the exit status.
-use Rattle.std.specs.Prelude.{ℕ, List, [], ◌∷◌, codes, Result, Ok, Err, if◌then◌else◌}
-use Rattle.std.specs.Str.{bytes_eq}
-use Rattle.bt_tool.specs.declared.commands.Command.{Command}
-use Rattle.bt_tool.specs.declared.commands.Command.TheVariants.{Show, Usage}
+-- What the command line asks for, and the exit status.
+use Rattle.std.specs.Prelude.{◌≡◌, ℕ, ◌≤◌, Some, None, Result, Ok, Err}
+use Rattle.bt_ext.specs.declared.ids.Rules.TheVariants.{Free}
+use Rattle.bt_ext.specs.Ids.{metadata_id}
+use Rattle.bt_wire.specs.declared.context.Own.{Own}
+use Rattle.bt_tool.specs.declared.commands.Asked.{Asked}
+use Rattle.bt_tool.specs.declared.commands.Asked.TheVariants.{Show, Told}
+use Rattle.bt_tool.specs.declared.commands.Notice.{Notice}
+use Rattle.bt_tool.specs.declared.commands.Notice.TheVariants.{Help, Version, Usage}
 use Rattle.bt_tool.specs.declared.ended.Ended.{Ended}
 use Rattle.bt_tool.specs.declared.ended.Ended.TheVariants.{Accepted, Refused}
 use Rattle.bt_tool.specs.declared.ended.ToolFault.{ToolFault}
 
--- no word, or the one word `show`
-abbrev pub asked_by : List (List ℕ) → Command
-asked_by [] = Show
-asked_by (w ∷ []) = if bytes_eq w (codes "show") then Show else Usage
-asked_by (w ∷ x ∷ ws) = Usage
+-- the receiver where no option is given
+abbrev pub IsDefault : Own → Type 0
+IsDefault own =
+    (own ≡ record { reserved = record { 0 = 0x100005 }; info_hash = None; pieces = None; reg = own.reg; rules = Free; limit = 262144 })
+    × (metadata_id own.reg ≡ Some 3)
+
+-- a limit that a receiver may have
+abbrev pub HasLimit : Own → Type 0
+HasLimit own = (1 ≤ own.limit) × (own.limit ≤ 1048576)
+
+-- a receiver that is asked for has such a limit
+abbrev pub IsLimited : Asked → Type 0
+IsLimited (Show own) = HasLimit own
+IsLimited (Told notice text) = Unit {0}
+
+-- the stream is asked for, with the default receiver
+abbrev pub IsShowByDefault : Asked → Type 0
+IsShowByDefault (Show own) = IsDefault own
+IsShowByDefault (Told notice text) = ⊥
+
+-- 0 with help and with the version, 2 with words that are no command line
+abbrev pub notice_status : Notice → ℕ
+notice_status Help = 0
+notice_status Version = 0
+notice_status Usage = 2
 
 -- 0 for an accepted stream, 1 for a refused one, 3 for a fault
 abbrev pub status_of : Result Ended ToolFault → ℕ

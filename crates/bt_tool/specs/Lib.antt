@@ -4,3 +4,4 @@ pub mod Lines
 pub mod Shown
 pub mod Walked
 pub mod Commands
+pub mod Options

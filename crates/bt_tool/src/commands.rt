@@ -1,32 +1,44 @@
-//! The command line and the exit status.
-ghost use Rattle.std.specs.Prelude.{◌≡◌, ℕ, List, None, map, string_bytes};
-ghost use Rattle.bt_tool.specs.Commands.{asked_by, status_of};
+//! What the command line can ask for, and the exit status.
+ghost use Rattle.std.specs.Prelude.{◌≡◌};
+ghost use Rattle.bt_tool.specs.Commands.{IsDefault, notice_status, status_of as status_by};
 
 use crate::ended::{Ended, ToolFault};
+use bt_ext::{ExtId, Registered, Rules};
 use bt_wire::{Own, Reserved};
 
-/// What the command line asks for.
+/// What a text tells its reader.
 #[derive(Clone, Copy, PartialEq, Eq, Debug)]
-pub enum Command {
-    Show,
-    /// The words are none that are known.
+pub enum Notice {
+    /// What the program does and how it is called.
+    Help,
+    /// The program's name and version.
+    Version,
+    /// The words are no command line: what is wrong with them.
     Usage,
 }
 
-/// What the words behind the program's name ask for.
-pub fn asked(words: &[String]) -> Command
-    ensures { result ≡ asked_by (map string_bytes words.now) }
+/// What the words ask for.
+#[derive(Debug, Drop)]
+pub enum Asked {
+    /// To show a stream that this receiver gets.
+    Show(Own),
+    /// A text and no work.
+    Told(Notice, String),
+}
+
+/// The exit status behind a notice: 0, or 2 where the words are no command line.
+pub fn status_of(notice: Notice) -> u8
+    ensures { result ≡ notice_status notice }
 {
-    match words {
-        [] => Command::Show,
-        [word] if word.as_str() == "show" => Command::Show,
-        _ => Command::Usage,
+    match notice {
+        Notice::Help | Notice::Version => 0,
+        Notice::Usage => 2,
     }
 }
 
 /// The exit status of a command.
 pub fn status(end: &Result<Ended, ToolFault>) -> u8
-    ensures { result ≡ status_of end.now }
+    ensures { result ≡ status_by end.now }
 {
     match end {
         Ok(Ended::Accepted { .. }) => 0,
@@ -35,14 +47,18 @@ pub fn status(end: &Result<Ended, ToolFault>) -> u8
     }
 }
 
-/// The receiver, where nothing else is asked: the bits of the Fast Extension, of the DHT and of the Extension Protocol,
-/// any info hash, messages of at most 262,144 bytes.
+/// The receiver where no option is given: the bits of the Fast Extension, of the DHT and of the Extension Protocol,
+/// any info hash, an unknown count of pieces, `ut_metadata` under id 3, the free rules, messages of at most
+/// 262,144 bytes.
 pub fn default_own() -> Own
-    ensures { result ≡ record { reserved = record { 0 = 0x100005 }; info_hash = None; limit = 262144 } }
+    ensures { IsDefault result }
 {
     Own {
         reserved: Reserved(0x10_0005),
         info_hash: None,
+        pieces: None,
+        reg: Registered::new(ExtId::new(3)),
+        rules: Rules::Free,
         limit: 262_144,
     }
 }

@@ -1,12 +1,19 @@
 //! The lines of `show`. Each is written into an array from its end to its front.
-ghost use Rattle.std.specs.Prelude.{◌≡◌, ◌≤◌, ◌+◌, ◌*◌, ◌++◌, ◌∷◌, length, drop, decimal, codes, OnOk};
+ghost use Rattle.std.specs.Prelude.{◌≡◌, ◌≤◌, ◌+◌, ◌*◌, ℕ, List, ◌++◌, length, drop, decimal, OnOk};
 ghost use Rattle.hex.specs.Hex.{encode_lower};
-ghost use Rattle.bt_wire.specs.Messages.{message_of, index, payload};
+ghost use Rattle.bt_bencode.specs.Bencoding.{ben};
+ghost use Rattle.bt_bencode.specs.Trees.{dictionary};
+ghost use Rattle.bt_bencode.specs.declared.tree.Value.TheVariants as value;
+ghost use Rattle.bt_ext.specs.Payloads.{seen as seen_ext};
+ghost use Rattle.bt_ext.specs.declared.ext.Ext.TheVariants as ext;
+ghost use Rattle.bt_wire.specs.Messages.{message_of};
 ghost use Rattle.bt_wire.specs.declared.context.Own.{Own};
 ghost use Rattle.bt_wire.specs.declared.item.Item.TheVariants as items;
-ghost use Rattle.bt_tool.specs.Lines.{field_words, message_words, handshake_words, reason_name, line as line_of, verdict_line as verdict_words};
+ghost use Rattle.bt_tool.specs.Lines.{spaced, or_dash, told_id, ext_words, message_words, reason_name, line as line_of, verdict_line as verdict_words};
 
 use crate::ended::Ended;
+use bt_bencode::DictRef;
+use bt_ext::{ExtView, Kind, kind_ref, metadata_size_ref};
 use bt_wire::{Handshake, MessageView, Reason};
 use itoa::write_digits;
 use std::alloc::AllocError;
@@ -47,41 +54,207 @@ fn hex_word(bytes: &[u8], line: &mut Line, at: usize) -> usize
     front
 }
 
-/// Puts a name and a piece index in front of the place.
+/// Puts a number behind a space in front of the place.
 #[inline(always)]
-fn index_words(name: &[u8], n: u32, line: &mut Line, at: usize) -> usize
+fn number_word(n: u64, line: &mut Line, at: usize) -> usize
+    requires { (21 ≤ at) × (at ≤ 160) }
+    ensures room { (result ≤ at) × (at ≤ result + 21) }
+    ensures text { drop result line.new ≡ spaced n ++ drop at line.old }
+{
+    let place = number(n, line, at);
+    word(b" ", line, place)
+}
+
+/// Puts a number in front of the place, or `-`.
+fn number_or_dash(n: Option<u64>, line: &mut Line, at: usize) -> usize
+    requires { (20 ≤ at) × (at ≤ 160) }
+    ensures room { (result ≤ at) × (at ≤ result + 20) }
+    ensures text { drop result line.new ≡ or_dash n ++ drop at line.old }
+{
+    match n {
+        Some(n) => number(n, line, at),
+        None => word(b"-", line, at),
+    }
+}
+
+/// Puts a name and a number in front of the place.
+#[inline(always)]
+fn name_and_one(name: &[u8], n: u64, line: &mut Line, at: usize) -> usize
     requires { (21 + length name.now ≤ at) × (at ≤ 160) }
     ensures room { (result ≤ at) × (at ≤ result + 21 + length name.now) }
-    ensures text { drop result line.new ≡ name.now ++ field_words (index n) ++ drop at line.old }
+    ensures text { drop result line.new ≡ name.now ++ (spaced n ++ drop at line.old) }
 {
-    let place = number(u64::from(n), line, at);
-    let place = word(b" ", line, place);
+    let place = number_word(n, line, at);
     word(name, line, place)
 }
 
-/// Puts the words of an unknown message in front of the place.
-fn unknown_words(id: u8, count: usize, line: &mut Line, at: usize) -> usize
-    requires { (49 ≤ at) × (at ≤ 160) }
-    ensures room { (result ≤ at) × (at ≤ result + 49) }
-    ensures text { drop result line.new ≡ codes "unknown " ++ (decimal id ++ (codes " " ++ (decimal count ++ drop at line.old))) }
+/// Puts a name and two numbers in front of the place.
+fn name_and_two(name: &[u8], n: u64, m: u64, line: &mut Line, at: usize) -> usize
+    requires { (42 + length name.now ≤ at) × (at ≤ 160) }
+    ensures room { (result ≤ at) × (at ≤ result + 42 + length name.now) }
+    ensures text { drop result line.new ≡ name.now ++ (spaced n ++ (spaced m ++ drop at line.old)) }
 {
-    let place = number(count as u64, line, at);
-    let place = word(b" ", line, place);
-    let place = number(u64::from(id), line, place);
-    word(b"unknown ", line, place)
+    let place = number_word(m, line, at);
+    name_and_one(name, n, line, place)
+}
+
+/// Puts a name and three numbers in front of the place.
+#[inline(always)]
+fn name_and_three(name: &[u8], n: u64, m: u64, k: u64, line: &mut Line, at: usize) -> usize
+    requires { (63 + length name.now ≤ at) × (at ≤ 160) }
+    ensures room { (result ≤ at) × (at ≤ result + 63 + length name.now) }
+    ensures text { drop result line.new ≡ name.now ++ (spaced n ++ (spaced m ++ (spaced k ++ drop at line.old))) }
+{
+    let place = number_word(k, line, at);
+    let place = number_word(m, line, place);
+    name_and_one(name, n, line, place)
+}
+
+/// The id of `ut_metadata` that an extended handshake tells.
+fn told_metadata(dict: &DictRef) -> Option<u64>
+    ensures { result ≡ told_id (dictionary dict.now.tree.0) }
+{
+    let m = dict.lookup_dict(b"m")?;
+    let id = m.lookup_int(b"ut_metadata")?;
+    let id = u8::try_from(id).ok()?;
+    Some(u64::from(id))
+}
+
+/// How many bytes the dictionary's spelling has.
+fn dict_length(dict: &DictRef) -> u64
+    ensures { result ≡ length (ben (dictionary dict.now.tree.0)) }
+{
+    dict.spelled().len() as u64
+}
+
+/// Puts the words of an extended handshake in front of the place.
+fn handshake_words(dict: &DictRef, rest: usize, line: &mut Line, at: usize) -> usize
+    requires { (120 ≤ at) × (at ≤ 160) }
+    ensures room { (result ≤ at) × (at ≤ result + 114) }
+    ensures text { (bytes : List ℕ) → length bytes ≡ rest → drop result line.new ≡ ext_words (ext.Handshake (value.Dict dict.now.tree.0) bytes) ++ drop at line.old }
+{
+    let place = number_or_dash(told_metadata(dict), line, at);
+    let place = word(b" ut_metadata=", line, place);
+    let place = number_or_dash(metadata_size_ref(dict), line, place);
+    let place = word(b" size=", line, place);
+    name_and_two(
+        b"ext-handshake",
+        dict_length(dict),
+        rest as u64,
+        line,
+        place,
+    )
+}
+
+/// Puts the words of a metadata message in front of the place.
+fn metadata_words(dict: &DictRef, rest: usize, line: &mut Line, at: usize) -> usize
+    requires { (120 ≤ at) × (at ≤ 160) }
+    ensures room { (result ≤ at) × (at ≤ result + 114) }
+    ensures text { (bytes : List ℕ) → length bytes ≡ rest → drop result line.new ≡ ext_words (ext.Metadata (value.Dict dict.now.tree.0) bytes) ++ drop at line.old }
+{
+    let rest = rest as u64;
+    match kind_ref(dict) {
+        Kind::Request(piece) => name_and_one(b"metadata-request", u64::from(piece), line, at),
+        Kind::Data { piece, total } => {
+            name_and_three(b"metadata-data", u64::from(piece), total, rest, line, at)
+        }
+        Kind::Reject(piece) => name_and_one(b"metadata-reject", u64::from(piece), line, at),
+        Kind::Other => name_and_two(b"metadata-other", dict_length(dict), rest, line, at),
+        Kind::Malformed => name_and_two(b"metadata-malformed", dict_length(dict), rest, line, at),
+    }
+}
+
+/// Puts the words of an extended payload in front of the place.
+fn payload_words(payload: &ExtView, line: &mut Line, at: usize) -> usize
+    requires { (120 ≤ at) × (at ≤ 160) }
+    ensures room { (result ≤ at) × (at ≤ result + 114) }
+    ensures text { drop result line.new ≡ ext_words (seen_ext payload.now) ++ drop at line.old }
+{
+    match payload {
+        ExtView::Handshake { dict, rest } => handshake_words(dict, rest.len(), line, at),
+        ExtView::Metadata { dict, rest } => metadata_words(dict, rest.len(), line, at),
+        ExtView::Raw { id, payload } => {
+            name_and_two(b"extended", u64::from(*id), payload.len() as u64, line, at)
+        }
+    }
 }
 
 /// Puts the words of a message in front of the place.
 #[inline(always)]
 fn view_words(view: &MessageView, line: &mut Line, at: usize) -> usize
-    requires { (100 ≤ at) × (at ≤ 160) }
-    ensures room { (result ≤ at) × (at ≤ result + 60) }
+    requires { (120 ≤ at) × (at ≤ 160) }
+    ensures room { (result ≤ at) × (at ≤ result + 114) }
     ensures text { (own : Own) → drop result line.new ≡ message_words own (message_of view.now) ++ drop at line.old }
 {
     match view {
         MessageView::KeepAlive => word(b"keep-alive", line, at),
-        MessageView::Have(n) => index_words(b"have", *n, line, at),
-        MessageView::Unknown { id, payload } => unknown_words(*id, payload.len(), line, at),
+        MessageView::Choke => word(b"choke", line, at),
+        MessageView::Unchoke => word(b"unchoke", line, at),
+        MessageView::Interested => word(b"interested", line, at),
+        MessageView::NotInterested => word(b"not-interested", line, at),
+        MessageView::Have(i) => name_and_one(b"have", u64::from(*i), line, at),
+        MessageView::Bitfield(bits) => name_and_one(b"bitfield", bits.len() as u64, line, at),
+        MessageView::Request {
+            index,
+            begin,
+            length,
+        } => name_and_three(
+            b"request",
+            u64::from(*index),
+            u64::from(*begin),
+            u64::from(*length),
+            line,
+            at,
+        ),
+        MessageView::Piece {
+            index,
+            begin,
+            block,
+        } => name_and_three(
+            b"piece",
+            u64::from(*index),
+            u64::from(*begin),
+            block.len() as u64,
+            line,
+            at,
+        ),
+        MessageView::Cancel {
+            index,
+            begin,
+            length,
+        } => name_and_three(
+            b"cancel",
+            u64::from(*index),
+            u64::from(*begin),
+            u64::from(*length),
+            line,
+            at,
+        ),
+        MessageView::Port(port) => name_and_one(b"port", u64::from(*port), line, at),
+        MessageView::Suggest(i) => name_and_one(b"suggest", u64::from(*i), line, at),
+        MessageView::HaveAll => word(b"have-all", line, at),
+        MessageView::HaveNone => word(b"have-none", line, at),
+        MessageView::Reject {
+            index,
+            begin,
+            length,
+        } => name_and_three(
+            b"reject",
+            u64::from(*index),
+            u64::from(*begin),
+            u64::from(*length),
+            line,
+            at,
+        ),
+        MessageView::AllowedFast(i) => name_and_one(b"allowed-fast", u64::from(*i), line, at),
+        MessageView::Extended(payload) => payload_words(payload, line, at),
+        MessageView::Unknown { id, payload } => name_and_two(
+            b"unknown",
+            u64::from(*id),
+            payload.len() as u64,
+            line,
+            at,
+        ),
     }
 }
 
@@ -121,7 +294,17 @@ fn name_of(reason: Reason) -> &'static [u8]
         Reason::BadProtocol => b"BadProtocol",
         Reason::WrongInfoHash => b"WrongInfoHash",
         Reason::TooLong => b"TooLong",
+        Reason::UnknownId => b"UnknownId",
+        Reason::NotNegotiated => b"NotNegotiated",
         Reason::WrongLength => b"WrongLength",
+        Reason::BadIndex => b"BadIndex",
+        Reason::SpareBits => b"SpareBits",
+        Reason::Late => b"Late",
+        Reason::Missing => b"Missing",
+        Reason::BadBencode => b"BadBencode",
+        Reason::Unsorted => b"Unsorted",
+        Reason::BadField => b"BadField",
+        Reason::BadBlock => b"BadBlock",
         Reason::StreamFull => b"StreamFull",
         Reason::EndInside => b"EndInside",
     }

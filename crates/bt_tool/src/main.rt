@@ -8,15 +8,20 @@ mod failed;
 mod host;
 mod lines;
 mod memory;
+mod options;
 mod show;
 mod source;
 mod target;
 #[cfg(test)]
 mod tests;
+#[cfg(test)]
+mod tests_options;
 mod transfer;
+mod values;
 
-use crate::commands::{Command, asked, default_own, status};
+use crate::commands::{Asked, Notice, status, status_of};
 use crate::host::Host;
+use crate::options::asked;
 use crate::show::run_show;
 use std::process::ExitCode;
 use std::rt::Env;
@@ -32,21 +37,38 @@ fn words<R: Env + AllocGlobal>(rt: &R) -> io::Result<Vec<String>> {
 }
 
 fn main(rt: HostRuntime) -> ExitCode {
-    let command = match words(&rt) {
-        Ok(words) => asked(&words),
+    let words = match words(&rt) {
+        Ok(words) => words,
         Err(error) if error.kind() == io::ErrorKind::OutOfMemory => {
             let _ = eprintln!(rt; "fault: memory");
             return ExitCode::from(3);
         }
-        Err(_) => Command::Usage,
+        Err(_) => {
+            let _ = eprintln!(rt; "error: the words are no text");
+            return ExitCode::from(2);
+        }
     };
-    if command == Command::Usage {
-        let _ = eprintln!(rt; "usage: bt_tool [show]");
-        return ExitCode::from(2);
-    }
+    let own = match asked(rt.alloc(), &words) {
+        Ok(Asked::Show(own)) => own,
+        Ok(Asked::Told(Notice::Usage, text)) => {
+            let _ = eprint!(rt; "{text}");
+            return ExitCode::from(status_of(Notice::Usage));
+        }
+        Ok(Asked::Told(notice, text)) => {
+            if print!(rt; "{text}").is_err() {
+                let _ = eprintln!(rt; "fault: write");
+                return ExitCode::from(3);
+            }
+            return ExitCode::from(status_of(notice));
+        }
+        Err(_) => {
+            let _ = eprintln!(rt; "fault: memory");
+            return ExitCode::from(3);
+        }
+    };
     let mut reader = Host::new(rt.reader());
     let mut writer = Host::new(io::writer(&rt));
-    let result = run_show(rt.alloc(), &mut reader, &mut writer, &default_own());
+    let result = run_show(rt.alloc(), &mut reader, &mut writer, &own);
     if let Err(fault) = &result {
         let _ = eprintln!(rt; "fault: {fault}");
     }

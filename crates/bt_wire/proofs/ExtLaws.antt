@@ -1,7 +1,6 @@
 -- Extended payloads: the places of their faults are within them, and what the rules' first reason says.
-use Rattle.std.proofs.Common.{◌≡◌, ℕ, ◌+◌, ◌≤◌, Bool, true, false, cond, not, List, [], ◌∷◌, ◌++◌, length, Option, Some, None, refl, sym, ap, subst, ◌∙◌, arith, inl, inr}
+use Rattle.std.proofs.Common.{◌≡◌, ℕ, ◌+◌, ◌≤◌, Bool, true, false, cond, not, List, [], ◌∷◌, ◌++◌, length, Option, Some, None, ap, subst, arith}
 use Rattle.std.specs.Prelude.{IfSome, ⊤}
-use Rattle.std.proofs.lemmas.Bool.{cases_Bool}
 use Rattle.std.proofs.lemmas.List.{length-append}
 use Rattle.bt_bencode.specs.Trees.{Tree, integer, string, list, dictionary, Trees, no_trees, tree, Pairs, no_pairs, pair}
 use Rattle.bt_bencode.specs.Bencoding.{ben, ben_all, ben_pairs, ben_string}
@@ -17,7 +16,7 @@ use Rattle.bt_ext.specs.declared.ext.ViewError.TheVariants as error
 use Rattle.bt_ext.specs.Metadata.{kind_of, is_block_ok, is_malformed}
 use Rattle.bt_ext.specs.Fields.{has_bad_field}
 use Rattle.bt_ext.specs.Payloads.{payload_of}
-use Rattle.bt_ext.specs.Faults.{first_of, fault_if, unsorted_fault, handshake_fault_of, metadata_fault_of, fault_of, reason_by, reason_of, Refuses, HasFault, HasNoDict}
+use Rattle.bt_ext.specs.Faults.{first_of, fault_if, unsorted_fault, fault_of, Refuses, HasFault}
 use Rattle.bt_wire.specs.Parts.{place_in}
 
 -- ---- a key out of order stands within the tree's spelling
@@ -51,8 +50,8 @@ mutual
       let key : ℕ = length (ben_string k) in
       let all : length (ben_pairs (pair k t ps)) ≡ key + (length (ben t) + length (ben_pairs ps)) = omega (arith, length-append (ben_string k) (ben t ++ ben_pairs ps), length-append (ben t) (ben_pairs ps)) in
       pair_within (is_above last k) _ _ (two_within None (first_of_two (unsorted t) (length (ben t)) (unsorted_pairs (Some k) ps)) key 0 (length (ben t) + length (ben_pairs ps)) (length (ben_pairs (pair k t ps))) tt
-          (two_within (unsorted t) (unsorted_pairs (Some k) ps) (length (ben t)) (length (ben t)) (length (ben_pairs ps)) (length (ben t) + length (ben_pairs ps)) (within t) (within_pairs (Some k) ps) (omega arith) (omega arith))
-          (omega arith) (omega (arith, all)))
+      (two_within (unsorted t) (unsorted_pairs (Some k) ps) (length (ben t)) (length (ben t)) (length (ben_pairs ps)) (length (ben t) + length (ben_pairs ps)) (within t) (within_pairs (Some k) ps) (omega arith) (omega arith))
+      (omega arith) (omega (arith, all)))
 
 more : (o : Option ℕ) (a n : ℕ) → Within o a → a ≤ n → Within o n
 more None a n h le = tt
@@ -88,7 +87,7 @@ fault_placed rules.Bep (ext.Metadata dict rest) =
     let t = tree_of dict in
     let le : length (ben t) ≤ length (ben t ++ rest) = omega (arith, length-append (ben t) rest) in
     first_placed _ (unsorted_fault (unsorted t)) _ (unsorted_placed _ (unsorted t) (more (unsorted t) (length (ben t)) _ (within t) le))
-        (first_placed _ (fault_if (is_malformed (kind_of t)) error.BadField) _ (if_placed _ (is_malformed (kind_of t)) error.BadField (omega arith)) (if_placed _ (not (is_block_ok (kind_of t) (length rest))) (error.BadBlock (length (ben t))) le))
+    (first_placed _ (fault_if (is_malformed (kind_of t)) error.BadField) _ (if_placed _ (is_malformed (kind_of t)) error.BadField (omega arith)) (if_placed _ (not (is_block_ok (kind_of t) (length rest))) (error.BadBlock (length (ben t))) le))
 
 has_placed : (reg : Registered) (r : Rules) (id : ℕ) (p : List ℕ) (f : ViewError) → HasFault reg r id p f → place_in f ≤ length p
 has_placed reg r id p f h =
@@ -133,4 +132,4 @@ fault_of_value rules.Bep (ext.Handshake dict rest) =
 fault_of_value rules.Bep (ext.Metadata dict rest) =
     let t = tree_of dict in
     first_value (unsorted_fault (unsorted t)) _ (unsorted_value (unsorted t))
-        (first_value (fault_if (is_malformed (kind_of t)) error.BadField) _ (if_value (is_malformed (kind_of t)) error.BadField tt) (if_value (not (is_block_ok (kind_of t) (length rest))) (error.BadBlock (length (ben t))) tt))
+    (first_value (fault_if (is_malformed (kind_of t)) error.BadField) _ (if_value (is_malformed (kind_of t)) error.BadField tt) (if_value (not (is_block_ok (kind_of t) (length rest))) (error.BadBlock (length (ben t))) tt))

@@ -1,15 +1,14 @@
 -- The message that an id and the bytes behind it are has this id and these bytes.
-use Rattle.std.proofs.Common.{◌≡◌, ◌≢◌, ℕ, suc, ◌+◌, ◌^◌, ◌≤◌, ◌<◌, Bool, true, false, eqb, leb, List, [], ◌∷◌, ◌++◌, length, take, drop, Option, Some, None, refl, sym, ap, subst, ◌∙◌, arith, inl, inr, lit<}
+use Rattle.std.proofs.Common.{◌≡◌, ℕ, suc, ◌^◌, ◌≤◌, ◌<◌, true, List, [], ◌∷◌, ◌++◌, length, take, drop, Option, Some, None, refl, sym, ap, subst, ◌∙◌, arith, inl, inr, lit<}
 use Rattle.std.specs.List.{AllByRecursion}
 use Rattle.std.proofs.lemmas.Bool.{cases_eq, eqb-true, leb-true, eq-eqb, ne_eqb}
 use Rattle.std.proofs.lemmas.List.{nil_from_length, length-drop, drop-drop, take-append-drop, length-take}
-use Rattle.std.proofs.lemmas.Nat.{be_bytes_2, from_be_bytes-to_be_bytes_2}
 use Rattle.bt_wire.specs.declared.context.Context.{Context}
 use Rattle.bt_wire.specs.declared.ids.Kind.{Kind}
 use Rattle.bt_wire.specs.declared.ids.Shape.{Shape}
 use Rattle.bt_wire.specs.declared.ids.Shape.TheVariants.{Nothing, Index, Part, Block, Port, Field, Extended}
 use Rattle.bt_wire.specs.declared.message.Message.{Message}
-use Rattle.bt_wire.specs.Numbers.{be16, be32, number16, number32, AreBytes}
+use Rattle.bt_wire.specs.Numbers.{be32, number32, AreBytes}
 use Rattle.bt_wire.specs.Ids.{Id, ids, row_in, kind_of}
 use Rattle.bt_wire.specs.Messages.{Fields, IsIdInRange, id_of, fields_of, spell_fields, AreInRange, IsShaped}
 use Rattle.bt_wire.specs.Faults.{allows, shape_size, size_of}
@@ -66,22 +65,54 @@ IsGood i = (i.kind.shape ≡ Extended → ⊥) → (c : Context) (bytes : List �
 
 all_good : AllByRecursion IsGood ids
 all_good = (
-  (λ ne c bytes. (record { id = refl; fields = refl; shaped = tt }, lit< tt)), (
-  (λ ne c bytes. (record { id = refl; fields = refl; shaped = tt }, lit< tt)), (
-  (λ ne c bytes. (record { id = refl; fields = refl; shaped = tt }, lit< tt)), (
-  (λ ne c bytes. (record { id = refl; fields = refl; shaped = tt }, lit< tt)), (
-  (λ ne c bytes. (record { id = refl; fields = refl; shaped = tt }, lit< tt)), (
-  (λ ne c bytes. (record { id = refl; fields = refl; shaped = tt }, lit< tt)), (
-  (λ ne c bytes. (record { id = refl; fields = refl; shaped = tt }, lit< tt)), (
-  (λ ne c bytes. (record { id = refl; fields = refl; shaped = tt }, lit< tt)), (
-  (λ ne c bytes. (record { id = refl; fields = refl; shaped = tt }, lit< tt)), (
-  (λ ne c bytes. (record { id = refl; fields = refl; shaped = tt }, lit< tt)), (
-  (λ ne c bytes. (record { id = refl; fields = refl; shaped = tt }, lit< tt)), (
-  (λ ne c bytes. (record { id = refl; fields = refl; shaped = tt }, lit< tt)), (
-  (λ ne c bytes. (record { id = refl; fields = refl; shaped = tt }, lit< tt)), (
-  (λ ne c bytes. (record { id = refl; fields = refl; shaped = tt }, lit< tt)), (
-  (λ ne c bytes. (record { id = refl; fields = refl; shaped = tt }, lit< tt)), (
-  (λ ne c bytes. absurd (ne refl)), tt))))))))))))))))
+  (λ ne c bytes. (record { id = refl; fields = refl; shaped = tt }, lit< tt)),
+  (
+    (λ ne c bytes. (record { id = refl; fields = refl; shaped = tt }, lit< tt)),
+    (
+      (λ ne c bytes. (record { id = refl; fields = refl; shaped = tt }, lit< tt)),
+      (
+        (λ ne c bytes. (record { id = refl; fields = refl; shaped = tt }, lit< tt)),
+        (
+          (λ ne c bytes. (record { id = refl; fields = refl; shaped = tt }, lit< tt)),
+          (
+            (λ ne c bytes. (record { id = refl; fields = refl; shaped = tt }, lit< tt)),
+            (
+              (λ ne c bytes. (record { id = refl; fields = refl; shaped = tt }, lit< tt)),
+              (
+                (λ ne c bytes. (record { id = refl; fields = refl; shaped = tt }, lit< tt)),
+                (
+                  (λ ne c bytes. (record { id = refl; fields = refl; shaped = tt }, lit< tt)),
+                  (
+                    (λ ne c bytes. (record { id = refl; fields = refl; shaped = tt }, lit< tt)),
+                    (
+                      (λ ne c bytes. (record { id = refl; fields = refl; shaped = tt }, lit< tt)),
+                      (
+                        (λ ne c bytes. (record { id = refl; fields = refl; shaped = tt }, lit< tt)),
+                        (
+                          (λ ne c bytes. (record { id = refl; fields = refl; shaped = tt }, lit< tt)),
+                          (
+                            (λ ne c bytes. (record { id = refl; fields = refl; shaped = tt }, lit< tt)),
+                            (
+                              (λ ne c bytes. (record { id = refl; fields = refl; shaped = tt }, lit< tt)),
+                              (
+                                (λ ne c bytes. absurd (ne refl)),
+                                tt,
+                              ),
+                            ),
+                          ),
+                        ),
+                      ),
+                    ),
+                  ),
+                ),
+              ),
+            ),
+          ),
+        ),
+      ),
+    ),
+  ),
+)
 
 -- the shape of extended messages is that of one row
 abbrev IsOnly : Id → Type 0

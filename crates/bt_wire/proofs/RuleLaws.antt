@@ -1,27 +1,25 @@
 -- The rules on a message's id and fields, read from its bytes and from its value.
-use Rattle.std.proofs.Common.{◌≡◌, ℕ, suc, ◌+◌, ◌^◌, ◌≤◌, ◌<◌, Bool, true, false, cond, leb, not, ◌&&◌, List, [], ◌∷◌, ◌++◌, map, length, drop, Option, Some, None, refl, sym, ap, subst, ◌∙◌, arith, inl, inr}
+use Rattle.std.proofs.Common.{◌≡◌, ℕ, suc, ◌+◌, Bool, true, false, cond, not, ◌&&◌, List, [], ◌∷◌, ◌++◌, map, length, drop, Option, Some, None, refl, sym, ap, subst, ◌∙◌, arith}
 use Rattle.std.specs.Prelude.{is_some, IfSome}
-use Rattle.std.proofs.lemmas.Bool.{cases_Bool, le-leb, not-false, and_left, and_right}
+use Rattle.std.proofs.lemmas.Bool.{le-leb, not-false}
 use Rattle.std.proofs.lemmas.List.{length-append}
 use Rattle.bt_wire.specs.declared.context.Context.{Context}
 use Rattle.bt_wire.specs.declared.context.Order.{Order}
-use Rattle.bt_wire.specs.declared.fault.Reason.TheVariants.{UnknownId, NotNegotiated, WrongLength, BadIndex, SpareBits, Late, Missing}
+use Rattle.bt_wire.specs.declared.fault.Reason.TheVariants.{BadIndex, SpareBits}
 use Rattle.bt_wire.specs.declared.fault.Refused.{Refused}
 use Rattle.bt_wire.specs.declared.ids.Kind.{Kind}
 use Rattle.bt_wire.specs.declared.ids.Shape.{Shape}
 use Rattle.bt_wire.specs.declared.message.Message.{Message}
-use Rattle.bt_wire.specs.declared.message.Message.TheVariants as m
 use Rattle.bt_wire.specs.Bitfields.{has_spare}
 use Rattle.bt_wire.specs.Ids.{kind_of, shape_by}
 use Rattle.bt_wire.specs.Messages.{Fields, none, index, part, block, port, field, extended, payload, kind_in, id_of, fields_of, index_in, field_in, is_payload, spell_fields, body, framed, AreInRange}
 use Rattle.bt_wire.specs.Tables.{row, first_fault}
 use Rattle.bt_wire.specs.Numbers.{be32, number32}
-use Rattle.bt_wire.specs.Faults.{said_length, said_id, has_id, allows, size_by, field_size, is_strict, is_agreed, is_late, is_missing, is_beyond, has_index, is_field, id_rules, id_row, field_rows}
+use Rattle.bt_wire.specs.Faults.{said_length, said_id, has_id, allows, size_by, is_strict, is_agreed, is_late, is_missing, is_beyond, has_index, is_field, id_rules, id_row, field_rows}
 use Rattle.bt_wire.specs.Legal.{IsLegal}
-use Rattle.bt_wire.specs.Rules.{found, broken_by}
+use Rattle.bt_wire.specs.Rules.{broken_by}
 use Rattle.bt_wire.specs.Parts.{broken_field, is_index_beyond, is_field_spare, IsSized}
 use Rattle.bt_wire.proofs.NumberLaws.{number32-be32}
-use Rattle.bt_wire.proofs.RowLaws.{first_fault-none}
 use Rattle.bt_wire.proofs.SpellLaws.{shape_in, IsRow}
 
 -- ---- rules on the id
@@ -91,7 +89,7 @@ pub legal_unbroken : (c : Context) (o : Order) (m : Message) (n : ℕ) → IsRow
 legal_unbroken c o m n r e legal =
     let P : Option Kind → Type 0 = λ k. IsUnbroken c o k (length (body c m)) in
     let size : allows (size_by c (shape_by (kind_in m))) (length (body c m)) ≡ true =
-        ap (λ (s : Option Shape). allows (size_by c s) (length (body c m))) r.shape ∙ ap (allows (size_by c (shape_in (fields_of c m)))) (body_length c m n e) ∙ fields_size c (fields_of c m) legal.sized in
+    ap (λ (s : Option Shape). allows (size_by c s) (length (body c m))) r.shape ∙ ap (allows (size_by c (shape_in (fields_of c m)))) (body_length c m n e) ∙ fields_size c (fields_of c m) legal.sized in
     subst P (sym r.kind) (record {
       known = ap (λ (b : Bool). is_strict c && b) (unknown_by (kind_in m) (fields_of c m) r.shape) ∙ legal.known;
       agreed = legal.agreed;

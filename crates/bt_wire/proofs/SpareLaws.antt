@@ -1,6 +1,6 @@
 -- The bits past the last piece are those of the last byte that are left, and one of them is 1 where the byte's remainder
 -- isn't 0.
-use Rattle.std.proofs.Common.{◌≡◌, ℕ, ◌+◌, ◌-◌, ◌*◌, ◌/◌, ◌%◌, ◌≤◌, ◌<◌, Bool, true, false, eqb, not, ◌||◌, List, [], ◌∷◌, ◌++◌, length, take, drop, get_or, refl, sym, ap, subst, ◌∙◌, arith, inl, inr, ◌⊎◌}
+use Rattle.std.proofs.Common.{◌≡◌, ℕ, ◌+◌, ◌-◌, ◌*◌, ◌/◌, ◌%◌, ◌≤◌, ◌<◌, Bool, false, eqb, not, ◌||◌, List, [], ◌∷◌, ◌++◌, length, take, drop, get_or, refl, sym, ap, ◌∙◌, arith, inl, inr}
 use Rattle.std.specs.List.{flat_map, list_any}
 use Rattle.std.proofs.lemmas.Bool.{cases_eq, eq-eqb, ne_eqb}
 use Rattle.std.proofs.lemmas.Grind.{flat_map-append}
@@ -48,14 +48,35 @@ none_left b = rw (eq-eqb (b % 1) 0 (omega arith)) refl
 -- of the last byte, from the bit after the first r on
 left : (b r : ℕ) → 0 < r → r ≤ 8 → list_any is_one (drop r (bits_of b)) ≡ not (eqb (b % bound_of (r % 8)) 0)
 left b r some le =
-    elim (cases_eq r 1) [ inl e ↦ rw e (any7 b) | inr n1 ↦
-    elim (cases_eq r 2) [ inl e ↦ rw e (any6 b) | inr n2 ↦
-    elim (cases_eq r 3) [ inl e ↦ rw e (any5 b) | inr n3 ↦
-    elim (cases_eq r 4) [ inl e ↦ rw e (any4 b) | inr n4 ↦
-    elim (cases_eq r 5) [ inl e ↦ rw e (any3 b) | inr n5 ↦
-    elim (cases_eq r 6) [ inl e ↦ rw e (any2 b) | inr n6 ↦
-    elim (cases_eq r 7) [ inl e ↦ rw e (any1 b) | inr n7 ↦
-    let e : r ≡ 8 = omega arith in rw e (sym (none_left b)) ] ] ] ] ] ] ]
+    elim (cases_eq r 1) [
+      | inl e ↦ rw e (any7 b)
+      | inr n1 ↦
+          elim (cases_eq r 2) [
+            | inl e ↦ rw e (any6 b)
+            | inr n2 ↦
+                elim (cases_eq r 3) [
+                  | inl e ↦ rw e (any5 b)
+                  | inr n3 ↦
+                      elim (cases_eq r 4) [
+                        | inl e ↦ rw e (any4 b)
+                        | inr n4 ↦
+                            elim (cases_eq r 5) [
+                              | inl e ↦ rw e (any3 b)
+                              | inr n5 ↦
+                                  elim (cases_eq r 6) [
+                                    | inl e ↦ rw e (any2 b)
+                                    | inr n6 ↦
+                                        elim (cases_eq r 7) [
+                                          | inl e ↦ rw e (any1 b)
+                                          | inr n7 ↦
+                                              let e : r ≡ 8 = omega arith in rw e (sym (none_left b))
+                                        ]
+                                  ]
+                            ]
+                      ]
+                ]
+          ]
+    ]
 
 length-bits : (bytes : List ℕ) → length (flat_map bits_of bytes) ≡ 8 * length bytes
 length-bits [] = refl
@@ -75,6 +96,6 @@ spare_left pieces field last len some e =
     let count : length (flat_map bits_of front) ≡ 8 * k = length-bits front ∙ ap (λ (n : ℕ). 8 * n) size in
     let at : pieces ≡ length (flat_map bits_of front) + r = omega (arith, count, len) in
     let here : drop pieces (flat_map bits_of field) ≡ drop r (bits_of last) =
-        ap (drop pieces) bits ∙ ap (λ (n : ℕ). drop n (flat_map bits_of front ++ bits_of last)) at ∙ drop-append-add (flat_map bits_of front) (bits_of last) r in
+    ap (drop pieces) bits ∙ ap (λ (n : ℕ). drop n (flat_map bits_of front ++ bits_of last)) at ∙ drop-append-add (flat_map bits_of front) (bits_of last) r in
     let same : r % 8 ≡ pieces % 8 = omega (arith, len) in
     sym (ap (list_any is_one) here ∙ left last r (omega (arith, len)) (omega (arith, len)) ∙ ap (λ (n : ℕ). not (eqb (last % bound_of n) 0)) same)

@@ -1,5 +1,5 @@
 -- Why a value may not be sent.
-use Rattle.std.proofs.Common.{◌≡◌, ℕ, ◌+◌, ◌^◌, ◌≤◌, ◌<◌, List, [], ◌∷◌, ◌++◌, map, length, Option, Some, None, refl, sym, ap, subst, ◌∙◌, arith, inr, true}
+use Rattle.std.proofs.Common.{◌≡◌, ℕ, ◌^◌, ◌≤◌, ◌<◌, List, [], ◌∷◌, ◌++◌, map, length, Option, Some, None, refl, sym, ap, subst, ◌∙◌, arith, inr, true}
 use Rattle.std.proofs.lemmas.List.{append-nil, append_assoc}
 use Rattle.std.specs.Prelude.{MatchOption, option_and_then}
 use Rattle.bt_ext.specs.declared.ext.Ext.{Ext}
@@ -21,9 +21,9 @@ use Rattle.bt_wire.specs.Ids.{kind_of}
 use Rattle.bt_wire.specs.Messages.{Fields, id_of, fields_of, spell_fields, framed, body, spell, IsShaped, AreInRange, IsIdInRange, IsInRange}
 use Rattle.bt_wire.specs.Numbers.{be32}
 use Rattle.bt_wire.specs.Tables.{first_fault}
-use Rattle.bt_wire.specs.Faults.{is_strict, is_whole, has_id, window, id_rules, id_row, header_fault, field_rows, said_ext_id, said_payload, placed_by, IsWindowFault, in_fields, in_payload, IsFault, early, whole}
+use Rattle.bt_wire.specs.Faults.{is_strict, is_whole, has_id, window, id_rules, id_row, header_fault, said_ext_id, said_payload, placed_by, IsWindowFault, in_fields, in_payload, IsFault, early, whole}
 use Rattle.bt_wire.specs.Legal.{IsLegal, IsAllowed, IsRefusedFor}
-use Rattle.bt_wire.specs.Rules.{broken_by, broken_any}
+use Rattle.bt_wire.specs.Rules.{broken_any}
 use Rattle.bt_wire.specs.Parts.{broken_field, IsJudged}
 use Rattle.bt_wire.proofs.RuleLaws.{AreKept, unbroken, unbroken_kept, none_broken, legal_unbroken, fields_sound, sound_fields}
 use Rattle.bt_wire.proofs.RowLaws.{first_fault-none}
@@ -113,7 +113,7 @@ ext_refused c o e f shaped lt short none h =
     let w = spell c (m.Extended e) in
     let there : has_id w ≡ true = ap has_id (sym (append-nil w)) ∙ id_spell c (m.Extended e) [] 20 lt refl in
     whole_value c o (m.Extended e) (Some (placed_by f)) lt short none
-        (in_payload (extended_rows c w refl) (rw there refl) (Some f) (value_refused c.reg c.rules e (said_ext_id w) (said_payload w) f (spelled_ext c.reg e shaped) h) refl)
+    (in_payload (extended_rows c w refl) (rw there refl) (Some f) (value_refused c.reg c.rules e (said_ext_id w) (said_payload w) f (spelled_ext c.reg e shaped) h) refl)
 
 -- the rules' answer on a value of which nothing else is wrong
 record IsAnswered (c : Context) (o : Order) (msg : Message) (r : Reason) : Type 0 where

@@ -1,5 +1,5 @@
 -- A window with no fault is the spelling of a message that may be sent, and such a spelling has no fault.
-use Rattle.std.proofs.Common.{◌≡◌, ◌≢◌, ℕ, suc, ◌+◌, ◌^◌, ◌≤◌, ◌<◌, Bool, true, false, cond, eqb, ltb, ◌&&◌, List, [], ◌∷◌, ◌++◌, map, length, drop, Option, Some, None, refl, sym, ap, subst, ◌∙◌, arith, inl, inr}
+use Rattle.std.proofs.Common.{◌≡◌, ℕ, suc, ◌^◌, ◌≤◌, ◌<◌, Bool, true, false, eqb, ltb, ◌&&◌, List, [], ◌∷◌, ◌++◌, map, length, drop, Option, Some, None, refl, sym, ap, subst, ◌∙◌, arith, inl, inr}
 use Rattle.std.proofs.lemmas.Bool.{cases_lt, and_cases, and_left, and_right, and_parts, cases_eq, eqb-true, eq-eqb, ne_eqb, leb-true, ltb-false, leb-false, le-leb, lt-leb, le-ltb, lt-ltb}
 use Rattle.std.proofs.lemmas.List.{append-nil, length-append, length-drop, length-take-le, take_all, drop_more}
 use Rattle.std.specs.Prelude.{option_map, unwrap_or, IsSome}
@@ -17,7 +17,6 @@ use Rattle.bt_wire.specs.declared.fault.Refused.{Refused}
 use Rattle.bt_wire.specs.declared.message.Message.{Message}
 use Rattle.bt_wire.specs.declared.message.Message.TheVariants as m
 use Rattle.bt_wire.specs.Numbers.{be32, AreBytes}
-use Rattle.bt_wire.specs.declared.ids.Kind.{Kind}
 use Rattle.bt_wire.specs.Ids.{kind_of, shape_by}
 use Rattle.bt_wire.specs.Messages.{Fields, id_of, fields_of, framed, spell_fields, body, spell, IsShaped, IsInRange}
 use Rattle.bt_wire.specs.Tables.{first_fault}
@@ -306,9 +305,9 @@ plain_spell c m (Some n) shaped lt plain e =
     let w = spell c m in
     let id : said_id w ≡ n = ap said_id (sym (append-nil w)) ∙ said_id-spell c m [] n e in
     let other : said_id w ≡ 20 → ⊥ = λ h.
-        let twenty = ext_twenty c m shaped (e ∙ ap Some (sym id ∙ h)) in
-        let bad : ext_of m ≡ Some twenty.0 = ext_is_of m twenty.0 twenty.1 in
-        absurd (let none = sym plain ∙ bad in cc) in
+    let twenty = ext_twenty c m shaped (e ∙ ap Some (sym id ∙ h)) in
+    let bad : ext_of m ≡ Some twenty.0 = ext_is_of m twenty.0 twenty.1 in
+    absurd (let none = sym plain ∙ bad in cc) in
     and_right (has_id w) (eqb (said_id w) 20) (ne_eqb (said_id w) 20 other)
 
 ext_spell : (c : Context) (e : Ext) → HasSpelling c.reg e → Allows c.rules e → length (body c (m.Extended e)) < 2 ^ 32 → first_fault (field_rows c (spell c (m.Extended e))) ≡ None → IsWindowFault c (spell c (m.Extended e)) None
@@ -333,7 +332,7 @@ fault-spell c o s m r lt said =
     let sound = sound_fields c.pieces (length (body c m)) (fields_of c m) said.legal.indexed said.legal.spare in
     let P : List ℕ → Type 0 = λ x. IsWindowFault c x None in
     whole (early_header c o s (spell c m ++ r) said.start ∙ header-spell c o m r lt said.legal) first.whole
-        (subst P (sym first.window) (quiet_by c m (ext_of m) said.legal.shaped said.legal.allowed short (rows-spell c m said.legal.shaped said.in_range short ∙ sound) refl))
+    (subst P (sym first.window) (quiet_by c m (ext_of m) said.legal.shaped said.legal.allowed short (rows-spell c m said.legal.shaped said.in_range short ∙ sound) refl))
 
 -- ---- bytes have one fault, which stays
 

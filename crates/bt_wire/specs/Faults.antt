@@ -10,7 +10,6 @@ use Rattle.bt_wire.specs.declared.ids.Shape.{Shape}
 use Rattle.bt_wire.specs.declared.ids.Shape.TheVariants.{Nothing, Index, Part, Block, Port, Field, Extended}
 use Rattle.bt_wire.specs.declared.ids.Needs.{Needs}
 use Rattle.bt_wire.specs.declared.ids.Needs.TheVariants.{Neither, Fast, Extension}
-use Rattle.bt_wire.specs.declared.ids.Turn.{Turn}
 use Rattle.bt_wire.specs.declared.ids.Turn.TheVariants.{Apart, Counted, Opening}
 use Rattle.bt_ext.specs.declared.ids.Rules.TheVariants.{Free, Bep}
 use Rattle.bt_ext.specs.declared.ext.ViewError.{ViewError}
@@ -98,8 +97,8 @@ is_fresh Fresh = true
 is_fresh Past = false
 
 -- BEP 3: "The bitfield message may only be sent immediately after the handshaking sequence is completed, and before any
--- other messages are sent." BEP 6: one of bitfield, have all and have none must be sent then. By this profile port and
--- extended messages and keep-alives don't count.
+-- other messages are sent." BEP 6: one of bitfield, have all and have none must be sent then. Here keep-alives, port,
+-- extended and unknown messages don't count.
 abbrev pub is_late : Order → Option Kind → Bool
 is_late o None = false
 is_late o (Some k) = elim k.turn [ Apart ↦ false | Counted ↦ false | Opening ↦ not (is_fresh o) ]
@@ -172,7 +171,7 @@ field_rows c w =
 unfoldable pub header_fault : Context → Order → List ℕ → Option Refused
 header_fault c o b = first_fault (header_rows c o b)
 
--- what the start, which is below 2 ^ 62, and the first five bytes show
+-- what the start and the first five bytes show: a message starts below 2 ^ 62
 abbrev pub early_fault : Context → Order → ℕ → List ℕ → Option Refused
 early_fault c o s b = if nat_le (2 ^ 62) s then Some (record { at = 0; reason = StreamFull }) else header_fault c o b
 

@@ -67,5 +67,5 @@ negotiated own peer = record {
   pieces = own.pieces;
   reg = own.reg;
   rules = own.rules;
-  limit = own.limit
+  limit = own.limit;
 }

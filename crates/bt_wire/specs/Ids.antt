@@ -1,5 +1,5 @@
 -- The ids of messages (BEP 3, "peer messages"; BEP 5, "BitTorrent protocol extension"; BEP 6; BEP 10).
-use Rattle.std.specs.Prelude.{ℕ, ◌==◌, Bool, true, false, List, [], ◌∷◌, Option, Some, None, is_some, option_map, codes, if◌then◌else◌}
+use Rattle.std.specs.Prelude.{ℕ, ◌==◌, Bool, List, [], ◌∷◌, Option, Some, None, is_some, option_map, codes, if◌then◌else◌}
 use Rattle.bt_wire.specs.declared.ids.Kind.{Kind}
 use Rattle.bt_wire.specs.declared.ids.Needs.{Needs}
 use Rattle.bt_wire.specs.declared.ids.Needs.TheVariants.{Neither, Fast, Extension}

@@ -1,5 +1,5 @@
 -- For proofs and private contracts alone: the message that an id and the bytes behind it are, read from left to right.
-use Rattle.std.specs.Prelude.{◌≡◌, ◌==◌, List, ℕ, suc, ◌+◌, [], ◌∷◌, length, drop, Bool, true, false, IfSome, Option, Some, None, if◌then◌else◌}
+use Rattle.std.specs.Prelude.{◌≡◌, ◌==◌, List, ℕ, suc, ◌+◌, [], length, drop, Bool, true, false, IfSome, Option, Some, None, if◌then◌else◌}
 use Rattle.bt_ext.specs.declared.ext.ViewError.{ViewError}
 use Rattle.bt_ext.specs.declared.ext.ViewError.TheVariants as error
 use Rattle.bt_wire.specs.declared.context.Context.{Context}
@@ -16,7 +16,7 @@ use Rattle.bt_wire.specs.declared.fault.Refused.{Refused}
 use Rattle.bt_wire.specs.Bitfields.{has_spare}
 use Rattle.bt_wire.specs.Numbers.{number16, number32}
 use Rattle.bt_wire.specs.Ids.{kind_of}
-use Rattle.bt_wire.specs.Messages.{Fields, none, index, part, block, port, field, extended, payload, id_of, fields_of, spell_fields, index_in, field_in, IsShaped, IsInRange}
+use Rattle.bt_wire.specs.Messages.{Fields, none, index, part, block, port, field, id_of, fields_of, spell_fields, index_in, field_in, IsShaped, IsInRange}
 use Rattle.bt_wire.specs.Faults.{allows, field_size, is_beyond, placed_by}
 
 -- the fields of a shape that bytes are; of an extended message bytes are read apart

@@ -1,5 +1,5 @@
 -- For proofs and private contracts alone: the rules on an id, read from its kind.
-use Rattle.std.specs.Prelude.{ℕ, Bool, not, ◌&&◌, Option, Some, None, is_some, if◌then◌else◌}
+use Rattle.std.specs.Prelude.{ℕ, not, ◌&&◌, Option, Some, None, is_some, if◌then◌else◌}
 use Rattle.bt_wire.specs.declared.context.Context.{Context}
 use Rattle.bt_wire.specs.declared.context.Order.{Order}
 use Rattle.bt_wire.specs.declared.fault.Reason.{Reason}

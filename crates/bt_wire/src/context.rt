@@ -8,12 +8,15 @@ use bt_ext::{Registered, Rules};
 /// The receiver. Without an info hash every info hash is accepted.
 #[derive(Clone, Copy, PartialEq, Eq, Debug)]
 pub struct Own {
+    /// The extensions that the receiver has.
     pub reserved: Reserved,
+    /// The one info hash that it accepts.
     pub info_hash: Option<[u8; 20]>,
     /// How many pieces the torrent has, where that is known.
     pub pieces: Option<u32>,
     /// The ids under which the receiver wants extensions.
     pub reg: Registered,
+    /// Whether syntax alone is judged.
     pub rules: Rules,
     /// The greatest length that a message may have, its four bytes of length not counted.
     pub limit: u32,
@@ -26,16 +29,22 @@ pub struct Context {
     pub fast: bool,
     /// Both ends know the Extension Protocol (BEP 10).
     pub ext: bool,
+    /// How many pieces the torrent has, where that is known.
     pub pieces: Option<u32>,
+    /// The receiver's ids of extensions.
     pub reg: Registered,
+    /// Whether syntax alone is judged.
     pub rules: Rules,
+    /// The greatest length that a message may have, its four bytes of length not counted.
     pub limit: u32,
 }
 
 /// Whether a message has come that counts.
 #[derive(Clone, Copy, PartialEq, Eq, Debug)]
 pub enum Order {
+    /// None has come: there were keep-alives, port, extended and unknown messages alone.
     Fresh,
+    /// One has come.
     Past,
 }
 

@@ -18,6 +18,7 @@ use bt_ext::{ViewError, copy_ext, view_ext};
 use std::alloc::{AllocError, Global};
 
 /// Reads the bytes of one message as parts of them, where `judge_header` lets them be a window. It takes no memory.
+#[inline(always)]
 pub fn view_window<'a>(
     context: &Context,
     order: Order,
@@ -42,6 +43,7 @@ pub fn view_window<'a>(
 }
 
 /// The id behind the length.
+#[inline(always)]
 fn id_at(window: &[u8]) -> u8
     requires { 5 ≤ length window.now }
     ensures { result ≡ said_id window.now }
@@ -97,6 +99,7 @@ fn placed(fault: ViewError, _length: usize) -> Refused
 
 /// The message of a window, by its id, but for an extended one.
 #[tactic(auto, unfolding(crate::specs::Parts::made))]
+#[inline(always)]
 fn read_fields<'a>(_context: &Context, window: &'a [u8]) -> MessageView<'a>
     requires some { 5 ≤ length window.now }
     requires sized { allows (size_of _context.now (said_id window.now)) (length window.now - 4) ≡ true }
@@ -113,7 +116,11 @@ fn read_fields<'a>(_context: &Context, window: &'a [u8]) -> MessageView<'a>
         5 => MessageView::Bitfield(fields),
         6 => {
             let (index, begin, length) = part_of(fields);
-            MessageView::Request { index, begin, length }
+            MessageView::Request {
+                index,
+                begin,
+                length,
+            }
         }
         7 => MessageView::Piece {
             index: number_at_front(fields),
@@ -122,7 +129,11 @@ fn read_fields<'a>(_context: &Context, window: &'a [u8]) -> MessageView<'a>
         },
         8 => {
             let (index, begin, length) = part_of(fields);
-            MessageView::Cancel { index, begin, length }
+            MessageView::Cancel {
+                index,
+                begin,
+                length,
+            }
         }
         9 => MessageView::Port(port_at_front(fields)),
         13 => MessageView::Suggest(number_at_front(fields)),
@@ -130,7 +141,11 @@ fn read_fields<'a>(_context: &Context, window: &'a [u8]) -> MessageView<'a>
         15 => MessageView::HaveNone,
         16 => {
             let (index, begin, length) = part_of(fields);
-            MessageView::Reject { index, begin, length }
+            MessageView::Reject {
+                index,
+                begin,
+                length,
+            }
         }
         17 => MessageView::AllowedFast(number_at_front(fields)),
         id => MessageView::Unknown {
@@ -141,6 +156,7 @@ fn read_fields<'a>(_context: &Context, window: &'a [u8]) -> MessageView<'a>
 }
 
 /// A piece index, and begin and length of a part of the piece.
+#[inline(always)]
 fn part_of(fields: &[u8]) -> (u32, u32, u32)
     requires { 12 ≤ length fields.now }
     ensures index { result.0 ≡ number32 fields.now }
@@ -167,17 +183,29 @@ pub fn copy_message(alloc: Global, view: &MessageView) -> Result<Message, AllocE
         MessageView::NotInterested => Ok(Message::NotInterested),
         MessageView::Have(index) => Ok(Message::Have(*index)),
         MessageView::Bitfield(bits) => Ok(Message::Bitfield(copy_bytes(alloc, bits)?)),
-        MessageView::Request { index, begin, length } => Ok(Message::Request {
+        MessageView::Request {
+            index,
+            begin,
+            length,
+        } => Ok(Message::Request {
             index: *index,
             begin: *begin,
             length: *length,
         }),
-        MessageView::Piece { index, begin, block } => Ok(Message::Piece {
+        MessageView::Piece {
+            index,
+            begin,
+            block,
+        } => Ok(Message::Piece {
             index: *index,
             begin: *begin,
             block: copy_bytes(alloc, block)?,
         }),
-        MessageView::Cancel { index, begin, length } => Ok(Message::Cancel {
+        MessageView::Cancel {
+            index,
+            begin,
+            length,
+        } => Ok(Message::Cancel {
             index: *index,
             begin: *begin,
             length: *length,
@@ -186,7 +214,11 @@ pub fn copy_message(alloc: Global, view: &MessageView) -> Result<Message, AllocE
         MessageView::Suggest(index) => Ok(Message::Suggest(*index)),
         MessageView::HaveAll => Ok(Message::HaveAll),
         MessageView::HaveNone => Ok(Message::HaveNone),
-        MessageView::Reject { index, begin, length } => Ok(Message::Reject {
+        MessageView::Reject {
+            index,
+            begin,
+            length,
+        } => Ok(Message::Reject {
             index: *index,
             begin: *begin,
             length: *length,

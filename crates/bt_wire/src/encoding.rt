@@ -220,10 +220,16 @@ fn push_fields(bytes: &mut Vec<u8>, fields: &Fields) -> Result<(), AllocError>
     match fields {
         Fields::Nothing => Ok(()),
         Fields::Index(index) => bytes.extend_from_slice(&index.to_be_bytes()),
-        Fields::Part { index, begin, length } => {
-            push_two(bytes, *index, *begin, &length.to_be_bytes())
-        }
-        Fields::Block { index, begin, block } => push_two(bytes, *index, *begin, block),
+        Fields::Part {
+            index,
+            begin,
+            length,
+        } => { push_two(bytes, *index, *begin, &length.to_be_bytes()) }
+        Fields::Block {
+            index,
+            begin,
+            block,
+        } => push_two(bytes, *index, *begin, block),
         Fields::Port(port) => bytes.extend_from_slice(&port.to_be_bytes()),
         Fields::Field(bits) => bytes.extend_from_slice(bits),
         Fields::Payload(payload) => bytes.extend_from_slice(payload),

@@ -5,39 +5,55 @@ ghost use Rattle.bt_wire.specs.declared.fault.EncodeError.TheVariants as encode;
 use std::alloc::{AllocError, AllocFailed};
 use thiserror::Error;
 
-/// Why a stream is refused.
+/// Why a stream is refused. Strict rules are `Rules::Bep`.
 #[derive(Clone, Copy, PartialEq, Eq, Debug, Error)]
 pub enum Reason {
+    /// The stream doesn't begin with the protocol's length and name (BEP 3).
     #[error("BadProtocol")]
     BadProtocol,
+    /// The handshake names another torrent.
     #[error("WrongInfoHash")]
     WrongInfoHash,
+    /// The length is above the receiver's limit.
     #[error("TooLong")]
     TooLong,
+    /// Strict rules alone: an id without a meaning.
     #[error("UnknownId")]
     UnknownId,
+    /// The id belongs to an extension that not both ends have.
     #[error("NotNegotiated")]
     NotNegotiated,
+    /// The length isn't one that the id has.
     #[error("WrongLength")]
     WrongLength,
+    /// The piece index isn't below the known piece count.
     #[error("BadIndex")]
     BadIndex,
+    /// A bit of the bitfield past the last piece is 1 (BEP 3).
     #[error("SpareBits")]
     SpareBits,
+    /// Strict rules alone: a bitfield, have all or have none that isn't the first message that counts (BEP 3, BEP 6).
     #[error("Late")]
     Late,
+    /// Strict rules alone: another message stands where the Fast Extension asks for one of them (BEP 6).
     #[error("Missing")]
     Missing,
+    /// The extended payload begins with no dictionary (BEP 10).
     #[error("BadBencode")]
     BadBencode,
+    /// Strict rules alone: a key of the dictionary isn't above the one before it (BEP 3).
     #[error("Unsorted")]
     Unsorted,
+    /// Strict rules alone: a field of the dictionary has the wrong kind (BEP 9, BEP 10).
     #[error("BadField")]
     BadField,
+    /// Strict rules alone: the block behind the dictionary has the wrong length (BEP 9).
     #[error("BadBlock")]
     BadBlock,
+    /// The message would start at 2^62 or later.
     #[error("StreamFull")]
     StreamFull,
+    /// The stream ends inside its handshake or a message.
     #[error("EndInside")]
     EndInside,
 }
@@ -46,6 +62,7 @@ pub enum Reason {
 #[derive(Clone, Copy, PartialEq, Eq, Debug, Error)]
 #[error("{reason} at {at}")]
 pub struct Refused {
+    /// The offset, counted from the start of the message or of the handshake.
     pub at: u64,
     pub reason: Reason,
 }
@@ -59,6 +76,7 @@ pub enum Fault {
     Reason(Reason),
 }
 
+/// Why a message isn't encoded.
 #[derive(Clone, Copy, PartialEq, Eq, Debug, Error)]
 pub enum EncodeError {
     #[error("{0}")]
@@ -67,6 +85,7 @@ pub enum EncodeError {
     Memory,
 }
 
+/// Why a window isn't decoded: its fault, at this place of the window, or want of memory.
 #[derive(Clone, Copy, PartialEq, Eq, Debug, Error)]
 pub enum DecodeError {
     #[error("{reason} at {at}")]

@@ -35,6 +35,7 @@ pub enum Fields<'a> {
 
 /// The fault of the fields of a message of this length: an index that isn't below the known piece count, or a bit past
 /// the last piece.
+#[inline(always)]
 fn judge_fields(pieces: Option<u32>, length: u32, fields: &Fields) -> Option<Refused>
     requires { IsSized pieces (seen fields.now) }
     ensures { result ≡ broken_field pieces length (seen fields.now) }
@@ -74,6 +75,7 @@ pub fn judge_message(context: &Context, length: u32, message: &Message) -> Optio
 }
 
 /// The same of a view.
+#[inline(always)]
 pub fn judge_view(context: &Context, length: u32, view: &MessageView) -> Option<Refused>
     requires { IsSized context.now.pieces (fields_of context.now (message_of view.now)) }
     ensures { result ≡ broken_field context.now.pieces length (fields_of context.now (message_of view.now)) }
@@ -84,6 +86,7 @@ pub fn judge_view(context: &Context, length: u32, view: &MessageView) -> Option<
     }
 }
 
+#[inline(always)]
 fn judge_index(pieces: u32, index: u32) -> Option<Refused>
     ensures { result ≡ (if nat_le pieces index then Some (record { at = 5; reason = Reason.BadIndex }) else None) }
 {

@@ -15,7 +15,7 @@ pub struct Handshake {
     pub peer_id: [u8; 20],
 }
 
-/// The text that a handshake begins with, behind its length.
+/// What a handshake begins with: the length of the protocol's name, and the name.
 pub const PROTOCOL: &[u8; 20] = b"\x13BitTorrent protocol";
 
 /// The 68 bytes of a handshake.

@@ -11,6 +11,7 @@ use crate::numbers::number_at_front;
 use bt_ext::Rules;
 
 /// Whether a message of this kind may have this length, its id counted.
+#[inline(always)]
 fn is_allowed(context: &Context, kind: Option<Kind>, length: u32) -> bool
     ensures { result ≡ allows (size_by context.now (shape_by kind)) length }
 {
@@ -29,6 +30,7 @@ fn is_allowed(context: &Context, kind: Option<Kind>, length: u32) -> bool
 }
 
 /// Whether a bitfield may have this length, its id counted.
+#[inline(always)]
 fn is_field_length(pieces: Option<u32>, length: u32) -> bool
     ensures { result ≡ allows (field_size pieces) length }
 {
@@ -39,6 +41,7 @@ fn is_field_length(pieces: Option<u32>, length: u32) -> bool
 }
 
 /// Whether both ends have agreed on the extension that the message needs.
+#[inline(always)]
 fn is_agreed(context: &Context, kind: Option<Kind>) -> bool
     ensures { result ≡ agrees context.now kind }
 {
@@ -52,6 +55,7 @@ fn is_agreed(context: &Context, kind: Option<Kind>) -> bool
     }
 }
 
+#[inline(always)]
 fn is_strict(context: &Context) -> bool
     ensures { result ≡ judges_strictly context.now }
 {
@@ -62,6 +66,7 @@ fn is_strict(context: &Context) -> bool
 }
 
 /// Whether a message that comes first comes later.
+#[inline(always)]
 fn is_late(order: Order, kind: Option<Kind>) -> bool
     ensures { result ≡ comes_late order kind }
 {
@@ -79,6 +84,7 @@ fn is_late(order: Order, kind: Option<Kind>) -> bool
 }
 
 /// Whether one that comes first is missing before it.
+#[inline(always)]
 fn is_missing(context: &Context, order: Order, kind: Option<Kind>) -> bool
     ensures { result ≡ lacks_opening context.now order kind }
 {
@@ -96,6 +102,7 @@ fn is_missing(context: &Context, order: Order, kind: Option<Kind>) -> bool
 }
 
 /// The first rule on the id and the length that is broken.
+#[inline(always)]
 pub fn judge_id(context: &Context, order: Order, id: u8, length: u32) -> Option<Refused>
     ensures { result ≡ broken_by context.now order (kind_at id) length }
 {
@@ -129,6 +136,7 @@ pub fn judge_any_id(context: &Context, order: Order, id: Option<u8>, length: u32
     }
 }
 
+#[inline(always)]
 fn refused(at: u64, reason: Reason) -> Option<Refused>
     ensures { result ≡ Some (record { at = at; reason = reason }) }
 {
@@ -137,6 +145,7 @@ fn refused(at: u64, reason: Reason) -> Option<Refused>
 
 /// Judges a message by its first five bytes, or by fewer where fewer are there (BEP 3, "peer protocol").
 #[tactic(auto, unfolding(crate::specs::Headers::header_of, crate::specs::Faults::header_fault))]
+#[inline(always)]
 pub fn judge_header(context: &Context, order: Order, head: &[u8]) -> Header
     ensures { result ≡ header_of context.now order head.now }
 {

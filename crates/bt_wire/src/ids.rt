@@ -47,6 +47,7 @@ pub struct Kind {
     pub turn: Turn,
 }
 
+#[inline(always)]
 const fn row(shape: Shape, needs: Needs, turn: Turn) -> Kind
     ensures { result ≡ record { shape = shape; needs = needs; turn = turn } }
 {
@@ -54,6 +55,7 @@ const fn row(shape: Shape, needs: Needs, turn: Turn) -> Kind
 }
 
 /// The row of an id.
+#[inline(always)]
 pub fn kind_of(id: u8) -> Option<Kind>
     ensures { result ≡ kind_at id }
 {

@@ -9,10 +9,12 @@ pub enum Item {
     Message(Message),
 }
 
-/// Where a stream is refused: the number of the message, 0 for the handshake, the offset and why.
+/// Where a stream is refused and why.
 #[derive(Clone, Copy, PartialEq, Eq, Debug)]
 pub struct Refusal {
+    /// The number of the message; 0 for the handshake.
     pub message: u64,
+    /// The offset, counted from the start of the stream.
     pub at: u64,
     pub reason: Reason,
 }

@@ -1,4 +1,5 @@
-//! The messages that one BitTorrent peer sends to another (BEP 3), as values and as bytes.
+//! The messages that one BitTorrent peer sends to another, as values and as bytes: the handshake and the peer messages
+//! (BEP 3), with the port message (BEP 5), the Fast Extension (BEP 6) and the Extension Protocol (BEP 10).
 #![tactic(auto)]
 
 mod context;
@@ -17,6 +18,10 @@ mod numbers;
 mod order;
 mod reserved;
 mod slices;
+#[cfg(test)]
+mod tests;
+#[cfg(test)]
+mod tests_messages;
 
 pub use context::{Context, Order, Own, negotiate};
 pub use decode::{copy_message, decode_window, view_window};

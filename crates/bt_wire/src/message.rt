@@ -62,17 +62,36 @@ pub enum MessageView<'a> {
     NotInterested,
     Have(u32),
     Bitfield(&'a [u8]),
-    Request { index: u32, begin: u32, length: u32 },
-    Piece { index: u32, begin: u32, block: &'a [u8] },
-    Cancel { index: u32, begin: u32, length: u32 },
+    Request {
+        index: u32,
+        begin: u32,
+        length: u32,
+    },
+    Piece {
+        index: u32,
+        begin: u32,
+        block: &'a [u8],
+    },
+    Cancel {
+        index: u32,
+        begin: u32,
+        length: u32,
+    },
     Port(u16),
     Suggest(u32),
     HaveAll,
     HaveNone,
-    Reject { index: u32, begin: u32, length: u32 },
+    Reject {
+        index: u32,
+        begin: u32,
+        length: u32,
+    },
     AllowedFast(u32),
     Extended(ExtView<'a>),
-    Unknown { id: u8, payload: &'a [u8] },
+    Unknown {
+        id: u8,
+        payload: &'a [u8],
+    },
 }
 
 impl Message {
@@ -116,16 +135,34 @@ impl Message {
             | Message::NotInterested
             | Message::HaveAll
             | Message::HaveNone => Some(Fields::Nothing),
-            Message::Have(index) | Message::Suggest(index) | Message::AllowedFast(index) => Some(Fields::Index(*index)),
-            Message::Request { index, begin, length }
-            | Message::Cancel { index, begin, length }
-            | Message::Reject { index, begin, length } => Some(Fields::Part {
+            Message::Have(index) | Message::Suggest(index) | Message::AllowedFast(index) => Some(
+                Fields::Index(*index),
+            ),
+            Message::Request {
+                index,
+                begin,
+                length,
+            }
+            | Message::Cancel {
+                index,
+                begin,
+                length,
+            }
+            | Message::Reject {
+                index,
+                begin,
+                length,
+            } => Some(Fields::Part {
                 index: *index,
                 begin: *begin,
                 length: *length,
             }),
             Message::Bitfield(bits) => Some(Fields::Field(bits.as_slice())),
-            Message::Piece { index, begin, block } => Some(Fields::Block {
+            Message::Piece {
+                index,
+                begin,
+                block,
+            } => Some(Fields::Block {
                 index: *index,
                 begin: *begin,
                 block: block.as_slice(),
@@ -176,16 +213,34 @@ impl<'a> MessageView<'a> {
             | MessageView::NotInterested
             | MessageView::HaveAll
             | MessageView::HaveNone => Some(Fields::Nothing),
-            MessageView::Have(index) | MessageView::Suggest(index) | MessageView::AllowedFast(index) => Some(Fields::Index(*index)),
-            MessageView::Request { index, begin, length }
-            | MessageView::Cancel { index, begin, length }
-            | MessageView::Reject { index, begin, length } => Some(Fields::Part {
+            MessageView::Have(index)
+            | MessageView::Suggest(index)
+            | MessageView::AllowedFast(index) => Some(Fields::Index(*index)),
+            MessageView::Request {
+                index,
+                begin,
+                length,
+            }
+            | MessageView::Cancel {
+                index,
+                begin,
+                length,
+            }
+            | MessageView::Reject {
+                index,
+                begin,
+                length,
+            } => Some(Fields::Part {
                 index: *index,
                 begin: *begin,
                 length: *length,
             }),
             MessageView::Bitfield(bits) => Some(Fields::Field(bits)),
-            MessageView::Piece { index, begin, block } => Some(Fields::Block {
+            MessageView::Piece {
+                index,
+                begin,
+                block,
+            } => Some(Fields::Block {
                 index: *index,
                 begin: *begin,
                 block: block,

@@ -9,15 +9,14 @@ pub fn next(order: Order, message: &Message) -> Order
     ensures { result ≡ order_after order message.now }
 {
     match message {
-        Message::KeepAlive
-        | Message::Port(_)
-        | Message::Extended(_)
-        | Message::Unknown { .. } => order,
+        Message::KeepAlive | Message::Port(_) | Message::Extended(_) | Message::Unknown { .. } =>
+            order,
         _ => Order::Past,
     }
 }
 
 /// The order that the message of a view leaves.
+#[inline(always)]
 pub fn next_of_view(order: Order, view: &MessageView) -> Order
     ensures { result ≡ order_after order (message_of view.now) }
 {

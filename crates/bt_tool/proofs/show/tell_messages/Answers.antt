@@ -6,7 +6,8 @@ use Rattle.bt_wire.specs.Streams.{IsOutcome}
 use Rattle.bt_wire.proofs.StreamLaws.{at_rest}
 use Rattle.bt_wire.proofs.WalkLaws.{refused_here, partial_here, message_size, message_more}
 use Rattle.bt_tool.specs.declared.ended.Ended.TheVariants.{Accepted, Refused}
-use Rattle.bt_tool.proofs.Walking.{continues_first, continues_more, continues_end, ends_inside, ends_complete, fault_near}
+use Rattle.bt_tool.proofs.Walking.{continues_first, continues_more, continues_end, ends_inside, ends_complete}
+use Rattle.bt_tool.proofs.Places.{fault_within}
 use Rattle.bt_tool.proofs.show.tell_messages.Goals as goal
 
 pub messages-init : goal.messages-init
@@ -33,7 +34,8 @@ messages-preserved c =
     }
 
 pub overflow_add-result : goal.overflow_add-result
-overflow_add-result c = omega (arith, fault_near _ _ _ _ _ c.in-Refused.ensures)
+overflow_add-result c =
+    omega (arith, fault_within _ _ _ _ _ c.in-Refused.ensures, ap length c.behind.ensures, length-drop c.messages.at c.args.messages.now)
 
 pub returns-in-Refused : goal.returns-in-Refused
 returns-in-Refused c =

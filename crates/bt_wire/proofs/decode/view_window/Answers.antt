@@ -1,6 +1,5 @@
-use Rattle.std.proofs.Common.{◌≡◌, ◌-◌, ◌≤◌, ℕ, Option, length, refl, sym, subst, ap, ◌∙◌, arith}
+use Rattle.std.proofs.Common.{◌≡◌, ◌-◌, ◌≤◌, ℕ, length, refl, sym, subst, ap, ◌∙◌, arith}
 use Rattle.bt_wire.specs.declared.message.Message.{Message}
-use Rattle.bt_wire.specs.declared.fault.Refused.{Refused}
 use Rattle.bt_wire.specs.Faults.{said_length, said_id, allows, size_of}
 use Rattle.bt_wire.specs.Headers.{IsRead}
 use Rattle.bt_wire.specs.Messages.{fields_of}
@@ -63,7 +62,7 @@ returns-in-Some-clause-err c =
     let long : 5 ≤ length c.args.window.now = omega (arith, window.exact, c.number_at_front-length.ensures, c.if-length-eq0.false) in
     let found = fields_found _ _ _ (λ i. omega (arith, c.type_inv.window i)) window long (plain _ _ c.id_at.ensures c.if-id_at-eq-EXTENDED.false) in
     window_fault c.args.context.now c.args.order c.args.window.now _ c.in-Some.refused window long found
-        (same_fields c.args.context.now c.number_at_front-length.result (said_length c.args.window.now) _ _ _ _ c.number_at_front-length.ensures refl c.read_fields-view.ensures c.in-Some.ensures)
+    (same_fields c.args.context.now c.number_at_front-length.result (said_length c.args.window.now) _ _ _ _ c.number_at_front-length.ensures refl c.read_fields-view.ensures c.in-Some.ensures)
 
 pub returns-in-None-clause-ok : goal.returns-in-None-clause-ok
 returns-in-None-clause-ok c =
@@ -73,4 +72,4 @@ returns-in-None-clause-ok c =
     let found = fields_found _ _ _ (λ i. omega (arith, c.type_inv.window i)) window long other in
     let P : Message → Type 0 = λ m. IsRead c.args.context.now c.args.order c.args.window.now m in
     subst P (sym c.read_fields-view.ensures) (fields_read c.args.context.now c.args.order c.args.window.now _ window long found (plain_allowed c.args.context.now _ _ found.its_part.id other)
-        (same_fields c.args.context.now c.number_at_front-length.result (said_length c.args.window.now) _ _ _ _ c.number_at_front-length.ensures refl c.read_fields-view.ensures c.in-None.ensures))
+    (same_fields c.args.context.now c.number_at_front-length.result (said_length c.args.window.now) _ _ _ _ c.number_at_front-length.ensures refl c.read_fields-view.ensures c.in-None.ensures))

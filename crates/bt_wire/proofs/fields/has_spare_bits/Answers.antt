@@ -1,4 +1,4 @@
-use Rattle.std.proofs.Common.{◌≡◌, ◌%◌, ℕ, eqb, not, ap, ◌∙◌, arith}
+use Rattle.std.proofs.Common.{◌%◌, ℕ, eqb, not, ap, ◌∙◌}
 use Rattle.bt_wire.proofs.SpareLaws.{spare_left}
 use Rattle.bt_wire.proofs.fields.has_spare_bits.Goals as goal
 

@@ -1,0 +1,134 @@
+//! The command line, read by `clap`.
+ghost use Rattle.std.specs.Prelude.{◌≡◌, [], IfOk};
+ghost use Rattle.bt_tool.specs.Commands.{IsLimited, IsShowByDefault};
+
+use crate::commands::{Asked, Notice, default_own};
+use crate::values::{Setting, Written, own_of};
+use clap::error::ErrorKind;
+use clap::{Arg, ArgAction, ArgMatches, Command, Error};
+use std::alloc::{AllocError, Global};
+
+/// The text of `--help`.
+const HELP: &str = "\
+Judges the bytes that a BitTorrent peer sends (BEP 3, 5, 6, 9 and 10).
+
+Usage: bt_tool [COMMAND] [OPTIONS]
+
+Commands read a stream, from its handshake on, from standard input. No words at all mean 'show'.
+
+Commands:
+  show  Prints a line for each item of the stream, and then the verdict
+  help  Prints this text
+
+Options of 'show', which stand after the command and describe the receiver:
+      --reserved <HEX>    Its reserved bits: 16 hex digits [default: 0000000000100005]
+      --pieces <N>        The torrent's pieces: 0 to 4294967295 [default: unknown]
+      --metadata-id <N>   Its id for ut_metadata: 0 to 255, 0 is none [default: 3]
+      --info-hash <HEX>   The one info hash that it accepts: 40 hex digits [default: any]
+      --rules <RULES>     'free' judges syntax alone, 'bep' judges what the BEPs ask beyond it [default: free]
+      --limit <N>         The greatest length of a message in bytes: 1 to 1048576 [default: 262144]
+  -h, --help              Prints this text
+  -V, --version           Prints the name and version (without a command)
+
+Example:
+  bt_tool show --pieces 10 --rules bep < stream.bin
+
+Exit status:
+  0  the stream is accepted, or a text was asked for
+  1  the stream is refused
+  2  the words are no command line
+  3  a read or write failed, or there was no memory
+";
+
+fn option<'a>(alloc: Global, name: &'a str, value: &'a str) -> Arg<'a> {
+    Arg::new(alloc, name)
+        .long(name)
+        .value_name(value)
+        .action(ArgAction::Set)
+}
+
+fn show_command<'a>(alloc: Global) -> Result<Command<'a>, AllocError> {
+    Ok(
+        Command::new(alloc, "show")
+            .override_help(HELP)
+            .arg(option(alloc, "reserved", "HEX"))?
+            .arg(option(alloc, "pieces", "N"))?
+            .arg(option(alloc, "metadata-id", "N"))?
+            .arg(option(alloc, "info-hash", "HEX"))?
+            .arg(option(alloc, "rules", "RULES"))?
+            .arg(option(alloc, "limit", "N"))?,
+    )
+}
+
+fn command_line<'a>(alloc: Global) -> Result<Command<'a>, AllocError> {
+    Ok(
+        Command::new(alloc, "bt_tool")
+            .version("0.1.0")
+            .no_binary_name(true)
+            .subcommand_required(true)
+            .override_help(HELP)
+            .subcommand(show_command(alloc)?)?,
+    )
+}
+
+fn written<'a>(options: &ArgMatches<'a>) -> Written<'a> {
+    Written {
+        reserved: options.get_str("reserved"),
+        pieces: options.get_str("pieces"),
+        metadata_id: options.get_str("metadata-id"),
+        info_hash: options.get_str("info-hash"),
+        rules: options.get_str("rules"),
+        limit: options.get_str("limit"),
+    }
+}
+
+fn told(alloc: Global, error: &Error) -> Result<Asked, AllocError>
+    ensures { IfOk result IsLimited }
+{
+    let notice = match error.kind() {
+        ErrorKind::OutOfMemory => return Err(AllocError),
+        ErrorKind::DisplayHelp => Notice::Help,
+        ErrorKind::DisplayVersion => Notice::Version,
+        _ => Notice::Usage,
+    };
+    Ok(Asked::Told(notice, format!(in alloc; "{error}")?))
+}
+
+/// What an option's value has to be.
+fn expected(setting: Setting) -> &'static str {
+    match setting {
+        Setting::Reserved => "'--reserved' takes 16 hex digits",
+        Setting::Pieces => "'--pieces' takes a number from 0 to 4294967295",
+        Setting::MetadataId => "'--metadata-id' takes a number from 0 to 255",
+        Setting::InfoHash => "'--info-hash' takes 40 hex digits",
+        Setting::Rules => "'--rules' takes 'free' or 'bep'",
+        Setting::Limit => "'--limit' takes a number from 1 to 1048576",
+    }
+}
+
+/// What the words behind the program's name ask for.
+///
+/// An error is for want of memory alone.
+pub fn asked(alloc: Global, words: &[String]) -> Result<Asked, AllocError>
+    ensures limited { IfOk result IsLimited }
+    ensures default { words.now ≡ [] → IfOk result IsShowByDefault }
+{
+    if words.is_empty() {
+        return Ok(Asked::Show(default_own()));
+    }
+    let mut command = command_line(alloc)?;
+    let matches = match command.try_get_matches_from_mut(words) {
+        Ok(matches) => matches,
+        Err(error) => return told(alloc, &error),
+    };
+    let Some((_, options)) = matches.subcommand() else {
+        return Ok(Asked::Show(default_own()));
+    };
+    match own_of(&written(options)) {
+        Ok(own) => Ok(Asked::Show(own)),
+        Err(setting) => {
+            let error = command.error(ErrorKind::ValueValidation, expected(setting))?;
+            told(alloc, &error)
+        }
+    }
+}

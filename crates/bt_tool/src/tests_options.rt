@@ -1,0 +1,286 @@
+use crate::commands::{Asked, Notice, default_own};
+use crate::options::asked;
+use bt_ext::{ExtId, Registered, Rules};
+use bt_wire::{Own, Reserved};
+use std::alloc::{AllocError, Global};
+use std::process::Abort;
+use std::test::Fail;
+
+fn asked_by(alloc: Global, words: &[&str]) -> Result<Asked, AllocError> {
+    let mut texts = Vec::new(alloc);
+    for word in words {
+        texts.push(String::from_str(alloc, word)?)?;
+    }
+    asked(alloc, &texts)
+}
+
+/// The words ask for the stream, with this receiver.
+fn show(rt: &impl Abort, alloc: Global, words: &[&str], own: Own) -> Result<(), Fail> {
+    match asked_by(alloc, words)? {
+        Asked::Show(found) => assert_eq!(rt; found, own, "{words:?}"),
+        Asked::Told(_, text) => assert!(rt; false, "{words:?}: {text}"),
+    }
+    Ok(())
+}
+
+/// The words get a text of this kind, which has the part.
+fn tell(
+    rt: &impl Abort,
+    alloc: Global,
+    words: &[&str],
+    notice: Notice,
+    part: &str,
+) -> Result<(), Fail> {
+    match asked_by(alloc, words)? {
+        Asked::Show(found) => assert!(rt; false, "{words:?}: {found:?}"),
+        Asked::Told(found, text) => {
+            assert_eq!(rt; found, notice, "{words:?}");
+            assert!(rt; text.as_str().contains(part), "{words:?}: {text}");
+        }
+    }
+    Ok(())
+}
+
+const HASH: [u8; 20] = [
+    0xa9, 0x99, 0x3e, 0x36, 0x47, 0x06, 0x81, 0x6a, 0xba, 0x3e, 0x25, 0x71, 0x78, 0x50, 0xc2, 0x6c,
+    0x9c, 0xd0, 0xd8, 0x9d,
+];
+
+#[test]
+fn receivers(rt: HostRuntime) -> Result<(), Fail> {
+    let own = default_own();
+    let id = |id: u8| Registered::new(ExtId::new(id));
+    let hash = Some(HASH);
+    let table: [(&[&str], Own); 23] = [
+        (&[], own),
+        (&["show"], own),
+        (
+            &["show", "--reserved", "0000000000000000"],
+            Own {
+                reserved: Reserved(0),
+                ..own
+            },
+        ),
+        (
+            &["show", "--reserved", "80000000001000aF"],
+            Own {
+                reserved: Reserved(0x8000_0000_0010_00af),
+                ..own
+            },
+        ),
+        (
+            &["show", "--pieces", "0"],
+            Own {
+                pieces: Some(0),
+                ..own
+            },
+        ),
+        (
+            &["show", "--pieces", "10"],
+            Own {
+                pieces: Some(10),
+                ..own
+            },
+        ),
+        (
+            &["show", "--pieces=10"],
+            Own {
+                pieces: Some(10),
+                ..own
+            },
+        ),
+        (
+            &["show", "--pieces", "0000000000010"],
+            Own {
+                pieces: Some(10),
+                ..own
+            },
+        ),
+        (
+            &["show", "--pieces", "4294967295"],
+            Own {
+                pieces: Some(4_294_967_295),
+                ..own
+            },
+        ),
+        (
+            &["show", "--metadata-id", "0"],
+            Own {
+                reg: Registered::new(None),
+                ..own
+            },
+        ),
+        (&["show", "--metadata-id", "3"], own),
+        (
+            &["show", "--metadata-id", "255"],
+            Own {
+                reg: id(255),
+                ..own
+            },
+        ),
+        (
+            &[
+                "show",
+                "--info-hash",
+                "a9993e364706816aba3e25717850c26c9cd0d89d",
+            ],
+            Own {
+                info_hash: hash,
+                ..own
+            },
+        ),
+        (
+            &[
+                "show",
+                "--info-hash",
+                "A9993E364706816ABA3E25717850C26C9CD0D89D",
+            ],
+            Own {
+                info_hash: hash,
+                ..own
+            },
+        ),
+        (&["show", "--rules", "free"], own),
+        (
+            &["show", "--rules", "bep"],
+            Own {
+                rules: Rules::Bep,
+                ..own
+            },
+        ),
+        (&["show", "--limit", "1"], Own { limit: 1, ..own }),
+        (
+            &["show", "--limit", "1048576"],
+            Own {
+                limit: 1_048_576,
+                ..own
+            },
+        ),
+        (&["show", "--limit=262144"], own),
+        (
+            &["show", "--limit", "262145"],
+            Own {
+                limit: 262_145,
+                ..own
+            },
+        ),
+        (
+            &["show", "--rules", "bep", "--pieces", "7", "--limit", "9"],
+            Own {
+                rules: Rules::Bep,
+                pieces: Some(7),
+                limit: 9,
+                ..own
+            },
+        ),
+        (
+            &["show", "--limit", "9", "--pieces=7", "--rules=bep"],
+            Own {
+                rules: Rules::Bep,
+                pieces: Some(7),
+                limit: 9,
+                ..own
+            },
+        ),
+        (
+            &[
+                "show",
+                "--metadata-id",
+                "9",
+                "--reserved",
+                "0000000000000004",
+            ],
+            Own {
+                reg: id(9),
+                reserved: Reserved(4),
+                ..own
+            },
+        ),
+    ];
+    for (words, own) in table {
+        show(&rt, rt.alloc(), words, own)?;
+    }
+    Ok(())
+}
+
+#[test]
+fn texts(rt: HostRuntime) -> Result<(), Fail> {
+    let table: [(&[&str], Notice, &str); 6] = [
+        (&["--help"], Notice::Help, "--metadata-id"),
+        (&["-h"], Notice::Help, "Exit status"),
+        (&["help"], Notice::Help, "Example"),
+        (&["show", "--help"], Notice::Help, "--info-hash"),
+        (&["--version"], Notice::Version, "bt_tool "),
+        (&["-V"], Notice::Version, "bt_tool "),
+    ];
+    for (words, notice, part) in table {
+        tell(&rt, rt.alloc(), words, notice, part)?;
+    }
+    Ok(())
+}
+
+#[test]
+fn mistakes(rt: HostRuntime) -> Result<(), Fail> {
+    let table: [&[&str]; 44] = [
+        &[""],
+        &["SHOW"],
+        &["sho"],
+        &["check"],
+        &["show", "show"],
+        &["show", "stream.bin"],
+        &["--pieces", "10"],
+        &["--pieces", "10", "show"],
+        &["--limit=1"],
+        &["show", "--piece", "10"],
+        &["show", "-p", "10"],
+        &["show", "--unknown"],
+        &["show", "--pieces"],
+        &["show", "--pieces="],
+        &["show", "--pieces", ""],
+        &["show", "--pieces", "+1"],
+        &["show", "--pieces", "-1"],
+        &["show", "--pieces", "1 "],
+        &["show", "--pieces", "0x10"],
+        &["show", "--pieces", "4294967296"],
+        &["show", "--pieces", "18446744073709551617"],
+        &["show", "--pieces", "10", "--pieces", "10"],
+        &["show", "--pieces=10", "--pieces=10"],
+        &["show", "--reserved", "000000000010000"],
+        &["show", "--reserved", "00000000001000050"],
+        &["show", "--reserved", "000000000010000g"],
+        &["show", "--reserved", ""],
+        &["show", "--metadata-id", "256"],
+        &["show", "--metadata-id", "x"],
+        &["show", "--metadata-id", "3", "--metadata-id", "4"],
+        &[
+            "show",
+            "--info-hash",
+            "a9993e364706816aba3e25717850c26c9cd0d8",
+        ],
+        &[
+            "show",
+            "--info-hash",
+            "a9993e364706816aba3e25717850c26c9cd0d89d00",
+        ],
+        &[
+            "show",
+            "--info-hash",
+            "g9993e364706816aba3e25717850c26c9cd0d89d",
+        ],
+        &["show", "--rules", "Free"],
+        &["show", "--rules", "BEP"],
+        &["show", "--rules", ""],
+        &["show", "--rules"],
+        &["show", "--rules", "bep", "--rules", "bep"],
+        &["show", "--limit", "0"],
+        &["show", "--limit", "1048577"],
+        &["show", "--limit", "4294967297"],
+        &["show", "--limit", "1e3"],
+        &["show", "--rules", "bep", "--limit", "0"],
+        &["show", "--donthave-id", "3"],
+    ];
+    for words in table {
+        tell(&rt, rt.alloc(), words, Notice::Usage, "error: ")?;
+    }
+    Ok(())
+}
