@@ -1,5 +1,5 @@
 -- Bytes that are closed stay so whatever follows; those of an item, and those with a fault, are closed.
-use Rattle.std.proofs.Common.{◌≡◌, ℕ, ◌+◌, ◌^◌, ◌≤◌, ◌<◌, Bool, true, false, leb, ◌||◌, List, [], ◌++◌, length, take, drop, Option, Some, None, refl, sym, ap, subst, ◌∙◌, arith, inl, inr}
+use Rattle.std.proofs.Common.{◌≡◌, ℕ, ◌^◌, ◌≤◌, ◌<◌, Bool, true, false, ◌||◌, List, [], ◌++◌, length, take, drop, Option, Some, None, refl, sym, ap, ◌∙◌, arith, inl, inr}
 use Rattle.std.specs.Prelude.{is_some}
 use Rattle.std.proofs.lemmas.Bool.{cases_Bool, cases_lt, le-leb, leb-true}
 use Rattle.std.proofs.lemmas.List.{append-nil, length-append, take-append-drop, take_at, drop_all}
@@ -12,13 +12,11 @@ use Rattle.bt_wire.specs.declared.message.Message.{Message}
 use Rattle.bt_wire.specs.Messages.{spell}
 use Rattle.bt_wire.specs.Faults as faults
 use Rattle.bt_wire.specs.Faults.{early_fault, is_whole, IsFault}
-use Rattle.bt_wire.specs.Fronts.{BeginsBy, IsPartial as IsPartialFront}
-use Rattle.bt_wire.specs.Handshakes.{hand}
+use Rattle.bt_wire.specs.Fronts.{BeginsBy}
 use Rattle.bt_wire.specs.Legal.{IsSaid}
 use Rattle.bt_wire.proofs.HandLaws.{hand_stays, hand-length}
 use Rattle.bt_wire.proofs.HeaderLaws.{header_stays, whole-append}
 use Rattle.bt_wire.proofs.SpellLaws.{fits, spelled_first}
-use Rattle.bt_wire.proofs.WalkLaws.{message_size}
 use Rattle.bt_wire.proofs.WindowLaws.{early_full, early_header, fault_stays}
 use Rattle.bt_feed.specs.declared.stage.Stage.{Stage}
 use Rattle.bt_feed.specs.declared.stage.Stage.TheVariants as stage

@@ -1,15 +1,14 @@
 -- What bytes come to, by what is at their front.
-use Rattle.std.proofs.Common.{◌≡◌, ℕ, ◌+◌, ◌^◌, ◌≤◌, ◌<◌, true, false, List, [], ◌∷◌, ◌++◌, length, take, drop, Option, Some, None, refl, sym, ap, subst, ◌∙◌, arith}
+use Rattle.std.proofs.Common.{◌≡◌, ℕ, ◌+◌, ◌^◌, ◌≤◌, ◌<◌, false, List, ◌++◌, length, drop, Some, None, refl, sym, ap, subst, ◌∙◌, arith}
 use Rattle.std.proofs.lemmas.Bool.{leb-false}
-use Rattle.std.proofs.lemmas.List.{append_assoc, length-append, drop_at}
-use Rattle.bt_wire.specs.declared.context.Order.{Order}
+use Rattle.std.proofs.lemmas.List.{drop_at}
 use Rattle.bt_wire.specs.declared.context.Order.TheVariants.{Fresh}
 use Rattle.bt_wire.specs.declared.fault.Refused.{Refused}
 use Rattle.bt_wire.specs.declared.item.Item.{Item}
 use Rattle.bt_wire.specs.declared.item.Item.TheVariants as items
 use Rattle.bt_wire.specs.Faults as faults
 use Rattle.bt_wire.specs.Handshakes.{hand, negotiated}
-use Rattle.bt_wire.specs.Messages.{spell, order_after}
+use Rattle.bt_wire.specs.Messages.{order_after}
 use Rattle.bt_wire.specs.Streams.{Outcome, IsOutcome, with_item}
 use Rattle.bt_wire.proofs.HandLaws.{hand-length, hand_same}
 use Rattle.bt_wire.proofs.SpellLaws.{length-spell}

@@ -1,5 +1,5 @@
 -- Laws on feeds.
-use Rattle.std.proofs.Common.{◌≡◌, ℕ, zero, suc, ◌+◌, ◌^◌, ◌≤◌, ◌<◌, ◌⊎◌, Bool, true, false, cond, eqb, not, ◌&&◌, List, [], ◌∷◌, ◌++◌, length, take, drop, Option, Some, None, Result, Ok, Err, refl, sym, ap, subst, ◌∙◌, arith, inl, inr}
+use Rattle.std.proofs.Common.{◌≡◌, ℕ, suc, ◌+◌, ◌^◌, ◌≤◌, ◌<◌, ◌⊎◌, Bool, true, false, cond, eqb, not, ◌&&◌, List, [], ◌∷◌, ◌++◌, length, take, Option, Some, None, Result, Ok, Err, refl, sym, ap, subst, ◌∙◌, arith, inl, inr}
 use Rattle.std.proofs.lemmas.Bool.{cases_Bool, cases_eq, eq-eqb, ne_eqb}
 use Rattle.std.proofs.lemmas.List.{append-nil, append_assoc}
 use Rattle.std.specs.Prelude.{option_map}
@@ -11,7 +11,7 @@ use Rattle.bt_wire.specs.declared.item.Refusal.{Refusal}
 use Rattle.bt_wire.specs.Faults.{IsFault}
 use Rattle.bt_wire.specs.Handshakes.{hand, hand_fault}
 use Rattle.bt_wire.specs.Messages.{spell}
-use Rattle.bt_wire.specs.Streams.{Outcome, refusal_at_end}
+use Rattle.bt_wire.specs.Streams.{Outcome}
 use Rattle.bt_wire.proofs.HandLaws.{one_handshake}
 use Rattle.bt_wire.proofs.SpellLaws.{one_spelling}
 use Rattle.bt_wire.proofs.StreamLaws.{outcome_only}
@@ -21,8 +21,8 @@ use Rattle.bt_feed.specs.declared.stage.Stage.{Stage}
 use Rattle.bt_feed.specs.declared.stage.Stage.TheVariants as stage
 use Rattle.bt_feed.specs.declared.view.Finish.{Finish}
 use Rattle.bt_feed.specs.declared.view.Finish.TheVariants.{Refused, Untaken}
-use Rattle.bt_feed.specs.Stages.{start_of, number_of, limit_of, early, is_all, is_closed, HasFault, refusal_of, IsItem, Comes, stopped}
-use Rattle.bt_feed.specs.Feeds.{FeedState, taken_by, taken, with_bytes, pushed}
+use Rattle.bt_feed.specs.Stages.{limit_of, early, is_all, is_closed, HasFault, refusal_of, IsItem, Comes, stopped}
+use Rattle.bt_feed.specs.Feeds.{FeedState, taken_by, taken, pushed}
 use Rattle.bt_feed.specs.Answers.{IsAnswer, or_else, end_inside, end_of, unless_refused, finish_of}
 use Rattle.bt_feed.specs.Laws.{IsEnded, IsNumbered, verdict_at_end}
 use Rattle.bt_feed.proofs.Closed.{item_closed, fault_closed, open_by}

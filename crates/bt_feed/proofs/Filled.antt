@@ -1,19 +1,16 @@
 -- Bytes that are appended up to the place where an item is closed.
-use Rattle.std.proofs.Common.{◌≡◌, ℕ, zero, suc, ◌+◌, ◌-◌, ◌^◌, ◌≤◌, ◌<◌, ◌⊎◌, Bool, true, false, cond, min, List, [], ◌∷◌, ◌++◌, length, take, drop, Option, Some, None, Err, refl, sym, ap, subst, ◌∙◌, arith, inl, inr}
+use Rattle.std.proofs.Common.{◌≡◌, ℕ, zero, suc, ◌+◌, ◌-◌, ◌≤◌, ◌<◌, ◌⊎◌, Bool, true, false, cond, min, List, [], ◌∷◌, ◌++◌, length, take, drop, Option, Some, None, refl, sym, ap, subst, ◌∙◌, arith, inl, inr}
 use Rattle.std.specs.Prelude.{IfSome}
 use Rattle.std.proofs.Math.Seq.{take-append-add}
 use Rattle.std.proofs.lemmas.Bool.{cases_lt}
 use Rattle.std.proofs.lemmas.List.{append-nil, append_assoc, length-append, length-drop, length-take, length-take-le, take-append-le, take-take, take_all}
-use Rattle.bt_wire.specs.declared.fault.Header.TheVariants as headers
 use Rattle.bt_wire.specs.declared.fault.Refused.{Refused}
 use Rattle.bt_wire.specs.declared.item.Refusal.{Refusal}
-use Rattle.bt_wire.specs.Headers.{header_of}
 use Rattle.bt_feed.specs.declared.stage.Stage.{Stage}
 use Rattle.bt_feed.specs.declared.stage.Stage.TheVariants as stage
 use Rattle.bt_feed.specs.declared.progress.Progress.{Progress}
 use Rattle.bt_feed.specs.Stages.{start_of, number_of, limit_of, capacity_of, is_closed, HasFault, refusal_of}
 use Rattle.bt_feed.specs.Feeds.{taken_by, taken, pushed, held_of, state_of}
-use Rattle.bt_feed.specs.Answers.{IsAnswer}
 use Rattle.bt_feed.specs.Progress.{IsPartial, HasWindow, Fills, IsProgress, IsSameItem}
 use Rattle.bt_feed.proofs.Closed.{closed_all, fault_more, no_longer}
 use Rattle.bt_feed.proofs.Windows.{window_stays, window_size, window_open, window_all, window_taken}

@@ -1,5 +1,5 @@
 -- What the bytes of an item are found to be.
-use Rattle.std.proofs.Common.{◌≡◌, ℕ, ◌+◌, ◌^◌, ◌≤◌, ◌<◌, Bool, true, false, leb, List, [], length, take, Option, Some, None, refl, sym, ap, subst, ◌∙◌, arith, inl, inr}
+use Rattle.std.proofs.Common.{◌≡◌, ℕ, ◌+◌, ◌^◌, ◌≤◌, ◌<◌, false, leb, List, length, Some, None, refl, sym, subst, ◌∙◌, arith, inl, inr}
 use Rattle.std.proofs.lemmas.Bool.{cases_lt, le-leb, lt-leb}
 use Rattle.std.proofs.lemmas.List.{take_all}
 use Rattle.bt_wire.specs.declared.context.Context.{Context}
@@ -18,8 +18,7 @@ use Rattle.bt_feed.specs.declared.stage.Stage.TheVariants as stage
 use Rattle.bt_feed.specs.declared.progress.Progress.{Progress}
 use Rattle.bt_feed.specs.Stages.{start_of, early, is_all, HasFault}
 use Rattle.bt_feed.specs.Feeds.{held_of}
-use Rattle.bt_feed.specs.Answers.{IsEarly}
-use Rattle.bt_feed.specs.Progress.{HasWindow, IsProgress}
+use Rattle.bt_feed.specs.Progress.{IsProgress}
 
 -- ---- the place of a refusal
 

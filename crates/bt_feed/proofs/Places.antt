@@ -1,5 +1,5 @@
 -- A fault lies within the bytes, or right behind them.
-use Rattle.std.proofs.Common.{◌≡◌, ℕ, suc, ◌+◌, ◌^◌, ◌≤◌, ◌<◌, ◌⊎◌, inl, inr, Bool, true, false, cond, eqb, leb, ltb, ◌&&◌, List, [], ◌∷◌, map, length, take, drop, Option, Some, None, refl, sym, ap, subst, ◌∙◌, arith}
+use Rattle.std.proofs.Common.{◌≡◌, ℕ, suc, ◌+◌, ◌^◌, ◌≤◌, ◌⊎◌, inl, inr, Bool, true, false, cond, eqb, leb, ltb, ◌&&◌, List, [], ◌∷◌, map, length, take, drop, Option, Some, None, refl, sym, ap, subst, ◌∙◌, arith}
 use Rattle.std.specs.Prelude.{is_some, option_map, unwrap_or}
 use Rattle.std.proofs.lemmas.Bool.{and_parts, cases_lt, leb-true, eqb-true}
 use Rattle.std.proofs.lemmas.List.{length-take-le, length-drop}
@@ -15,7 +15,7 @@ use Rattle.bt_ext.specs.declared.ext.ViewError.{ViewError}
 use Rattle.bt_ext.specs.declared.ext.ViewError.TheVariants as error
 use Rattle.bt_ext.specs.Faults as ext
 use Rattle.bt_wire.specs.Tables.{first_fault}
-use Rattle.bt_wire.specs.Faults.{said_length, said_id, has_length, has_id, is_whole, window, window_length, IdRule, id_rules, id_row, allows, size_of, header_fault, is_extended, said_ext_id, said_payload, placed_by, IsWindowFault, in_fields, in_none, in_payload, IsFault, early, unfinished, whole}
+use Rattle.bt_wire.specs.Faults.{said_length, said_id, has_length, has_id, window, window_length, IdRule, id_rules, id_row, allows, size_of, header_fault, is_extended, said_ext_id, said_payload, placed_by, IsWindowFault, in_fields, in_none, in_payload, IsFault, early, unfinished, whole}
 use Rattle.bt_wire.proofs.HeaderLaws.{five_bytes, whole_length, header-window}
 use Rattle.bt_wire.proofs.ExtLaws.{refused_within}
 use Rattle.bt_wire.proofs.WindowLaws.{early_full, early_header, no_early, sized, window_says}

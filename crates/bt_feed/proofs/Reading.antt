@@ -1,25 +1,22 @@
 -- How far a stream is read, step by step.
 use Rattle.std.proofs.Common.{◌≡◌, ℕ, zero, suc, ◌+◌, ◌^◌, ◌≤◌, ◌<◌, Bool, true, false, cond, List, [], ◌∷◌, ◌++◌, length, take, drop, flat_map, get_or, Option, Some, None, Result, Ok, Err, refl, sym, ap, subst, ◌∙◌, arith, inl, inr}
-use Rattle.std.proofs.lemmas.Bool.{cases_Bool, cases_lt}
+use Rattle.std.proofs.lemmas.Bool.{cases_lt}
 use Rattle.std.proofs.lemmas.List.{append-nil, append_assoc, length-append, take-append-drop, take-append-le, take_at, drop-drop, drop_all, drop_more}
-use Rattle.bt_wire.specs.declared.context.Context.{Context}
-use Rattle.bt_wire.specs.declared.context.Order.{Order}
 use Rattle.bt_wire.specs.declared.context.Own.{Own}
-use Rattle.bt_wire.specs.declared.fault.Refused.{Refused}
 use Rattle.bt_wire.specs.declared.item.Item.{Item}
 use Rattle.bt_wire.specs.declared.item.Item.TheVariants as items
 use Rattle.bt_wire.specs.declared.item.Refusal.{Refusal}
-use Rattle.bt_wire.specs.Handshakes.{hand_fault, negotiated}
-use Rattle.bt_wire.specs.Streams.{Outcome, IsVerdict, with_item}
+use Rattle.bt_wire.specs.Handshakes.{hand_fault}
+use Rattle.bt_wire.specs.Streams.{Outcome, with_item}
 use Rattle.bt_wire.proofs.VerdictLaws.{verdict_only}
 use Rattle.bt_feed.specs.declared.stage.Stage.{Stage}
 use Rattle.bt_feed.specs.declared.stage.Stage.TheVariants as stage
-use Rattle.bt_feed.specs.Stages.{start_of, number_of, order_of, limit_of, is_closed, HasFault, refusal_of, IsItem, stage_after, Comes, stopped}
+use Rattle.bt_feed.specs.Stages.{start_of, number_of, order_of, limit_of, is_closed, IsItem, stage_after, Comes, stopped}
 use Rattle.bt_feed.specs.Feeds.{FeedState, taken_by, taken, with_bytes, pushed}
 use Rattle.bt_feed.specs.Answers.{IsAnswer, after}
 use Rattle.bt_feed.specs.Progress.{IsPartial}
 use Rattle.bt_feed.specs.Transcripts.{IsOpenedBy, IsBehind, IsNext, IsTranscript, with_items, Reads, IsReadTo}
-use Rattle.bt_feed.proofs.Closed.{open_by, fault_more, fault_closed}
+use Rattle.bt_feed.proofs.Closed.{fault_more, fault_closed}
 use Rattle.bt_feed.proofs.Coming.{item_comes, fault_comes, open_comes}
 use Rattle.bt_feed.proofs.Filled.{least}
 

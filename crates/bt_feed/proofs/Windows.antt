@@ -1,6 +1,6 @@
 -- A header, once judged, says how many bytes the message has, whatever follows.
-use Rattle.std.proofs.Common.{◌≡◌, ℕ, ◌+◌, ◌^◌, ◌≤◌, ◌<◌, Bool, true, false, cond, eqb, leb, ltb, ◌&&◌, List, [], ◌∷◌, ◌++◌, map, length, take, drop, Option, Some, None, refl, sym, ap, subst, ◌∙◌, arith, inl, inr}
-use Rattle.std.proofs.lemmas.Bool.{cases_Bool, cases_lt, cases_eq, eq-eqb, ne_eqb, le-leb, lt-leb, le-ltb, lt-ltb, ltb-true, ltb-false, and_cases, leb-false}
+use Rattle.std.proofs.Common.{◌≡◌, ℕ, ◌+◌, ◌^◌, ◌≤◌, ◌<◌, Bool, true, false, cond, eqb, leb, ltb, List, [], ◌∷◌, ◌++◌, map, length, take, drop, Option, Some, None, refl, sym, ap, ◌∙◌, arith, inl, inr}
+use Rattle.std.proofs.lemmas.Bool.{cases_Bool, cases_lt, cases_eq, eq-eqb, ne_eqb, le-leb, le-ltb, lt-ltb, ltb-true, ltb-false, and_cases, leb-false}
 use Rattle.std.proofs.lemmas.List.{append-nil, length-append, take-append-drop, get_or_append_left, nil_from_length, length-take, length-take-le}
 use Rattle.bt_wire.specs.declared.context.Context.{Context}
 use Rattle.bt_wire.specs.declared.context.Order.{Order}
@@ -9,18 +9,16 @@ use Rattle.bt_wire.specs.declared.fault.Header.TheVariants as headers
 use Rattle.bt_wire.specs.declared.fault.Refused.{Refused}
 use Rattle.bt_wire.specs.declared.fault.Reason.TheVariants.{TooLong}
 use Rattle.bt_wire.specs.Tables.{Row, row, first_fault}
-use Rattle.bt_wire.specs.Faults.{said_length, said_id, has_length, has_id, is_whole, window_length, id_rules, id_row, header_rows, header_fault}
-use Rattle.bt_wire.specs.Headers.{header_of, header_by}
-use Rattle.bt_wire.proofs.FrontLaws.{IsWhole, front_whole}
-use Rattle.bt_wire.proofs.HeaderLaws.{IsHeader, IsJudged, judged_at, not_whole, whole_there, whole_length, whole-append, header_stays, same_id_rows}
+use Rattle.bt_wire.specs.Faults.{said_length, said_id, has_length, has_id, is_whole, id_rules, id_row, header_rows, header_fault}
+use Rattle.bt_wire.specs.Headers.{header_of}
+use Rattle.bt_wire.proofs.FrontLaws.{front_whole}
+use Rattle.bt_wire.proofs.HeaderLaws.{IsHeader, judged_at, whole_there, whole_length, header_stays, same_id_rows}
 use Rattle.bt_wire.proofs.NumberLaws.{number32-append}
 use Rattle.bt_wire.proofs.RowLaws.{NoneCounts-from}
 use Rattle.bt_wire.proofs.WindowLaws.{early_header}
-use Rattle.bt_feed.specs.declared.stage.Stage.{Stage}
 use Rattle.bt_feed.specs.declared.stage.Stage.TheVariants as stage
-use Rattle.bt_feed.specs.Stages.{limit_of, is_closed}
-use Rattle.bt_feed.specs.Progress.{HasWindow, IsPartial}
-use Rattle.bt_feed.proofs.Closed.{open_by, open_parts, closed_all, open_front}
+use Rattle.bt_feed.specs.Stages.{is_closed}
+use Rattle.bt_feed.proofs.Closed.{open_by}
 
 -- ---- five bytes
 

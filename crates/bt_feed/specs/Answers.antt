@@ -1,12 +1,12 @@
 -- What a feed answers.
-use Rattle.std.specs.Prelude.{◌≡◌, ◌==◌, ℕ, ◌+◌, Bool, false, ◌&&◌, if◌then◌else◌, List, [], length, Option, Some, None, option_map, Result, Ok, Err}
+use Rattle.std.specs.Prelude.{◌≡◌, ◌==◌, ℕ, Bool, false, if◌then◌else◌, List, [], length, Option, Some, None, option_map, Result, Ok, Err}
 use Rattle.bt_wire.specs.declared.fault.Refused.{Refused as Fault}
 use Rattle.bt_wire.specs.declared.fault.Reason.TheVariants.{EndInside}
 use Rattle.bt_wire.specs.declared.item.Item.{Item}
 use Rattle.bt_wire.specs.declared.item.Refusal.{Refusal}
 use Rattle.bt_feed.specs.declared.stage.Stage.{Stage}
 use Rattle.bt_feed.specs.declared.stage.Stage.TheVariants as stage
-use Rattle.bt_feed.specs.Stages.{start_of, number_of, early, is_all, is_closed, HasFault, refusal_of, IsItem, stage_after}
+use Rattle.bt_feed.specs.Stages.{start_of, early, is_all, is_closed, HasFault, refusal_of, IsItem, stage_after}
 use Rattle.bt_feed.specs.Feeds.{FeedState}
 use Rattle.bt_feed.specs.declared.view.Finish.{Finish}
 use Rattle.bt_feed.specs.declared.view.Finish.TheVariants.{Refused, Untaken}

@@ -1,5 +1,5 @@
 -- For private contracts and the invariant of a feed alone: what is known of the bytes in the buffer.
-use Rattle.std.specs.Prelude.{◌≡◌, ℕ, ◌+◌, ◌^◌, ◌≤◌, ◌<◌, true, false, List, [], ◌++◌, length, take, Option, Some, None, IfSome, Err}
+use Rattle.std.specs.Prelude.{◌≡◌, ℕ, ◌+◌, ◌^◌, ◌≤◌, ◌<◌, true, false, List, ◌++◌, length, take, IfSome, Err}
 use Rattle.bt_wire.specs.declared.fault.Header.TheVariants as headers
 use Rattle.bt_wire.specs.Headers.{header_of}
 use Rattle.bt_feed.specs.declared.stage.Stage.{Stage}

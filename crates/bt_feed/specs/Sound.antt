@@ -1,4 +1,4 @@
-use Rattle.std.specs.Prelude.{ℕ, ◌≤◌, vec_capacity}
+use Rattle.std.specs.Prelude.{◌≤◌, vec_capacity}
 use Rattle.bt_feed.specs.declared.feed.Feed.TheInside.{Inside}
 use Rattle.bt_feed.specs.Stages.{capacity_of}
 use Rattle.bt_feed.specs.Progress.{IsProgress}

@@ -1,9 +1,8 @@
 -- What the bytes of one item show: the handshake, or a message of a given order, start and number.
-use Rattle.std.specs.Prelude.{◌≡◌, ℕ, ◌+◌, ◌≤◌, ◌<◌, ◌^◌, Bool, ◌||◌, List, [], length, take, Option, Some, None, is_some, nat_le, max}
+use Rattle.std.specs.Prelude.{◌≡◌, ℕ, ◌+◌, Bool, ◌||◌, List, [], length, Option, Some, None, is_some, nat_le, max}
 use Rattle.bt_wire.specs.declared.context.Order.{Order}
 use Rattle.bt_wire.specs.declared.context.Order.TheVariants.{Fresh}
 use Rattle.bt_wire.specs.declared.fault.Refused.{Refused}
-use Rattle.bt_wire.specs.declared.fault.Header.TheVariants as headers
 use Rattle.bt_wire.specs.declared.item.Item.{Item}
 use Rattle.bt_wire.specs.declared.item.Item.TheVariants as items
 use Rattle.bt_wire.specs.declared.item.Refusal.{Refusal}

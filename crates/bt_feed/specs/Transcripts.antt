@@ -1,7 +1,5 @@
 -- What is read of a stream.
-use Rattle.std.specs.Prelude.{◌≡◌, ℕ, ◌≤◌, false, List, [], ◌∷◌, ◌++◌, length, Option, Some, None, Err, MatchOption}
-use Rattle.bt_wire.specs.declared.context.Order.{Order}
-use Rattle.bt_wire.specs.declared.context.Order.TheVariants.{Fresh}
+use Rattle.std.specs.Prelude.{◌≡◌, ℕ, ◌≤◌, false, List, [], ◌∷◌, ◌++◌, Option, Some, None, Err}
 use Rattle.bt_wire.specs.declared.context.Own.{Own}
 use Rattle.bt_wire.specs.declared.item.Item.{Item}
 use Rattle.bt_wire.specs.declared.item.Item.TheVariants as items

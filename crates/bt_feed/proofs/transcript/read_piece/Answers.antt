@@ -1,11 +1,9 @@
-use Rattle.std.proofs.Common.{◌≡◌, ◌∙◌, ◌+◌, ◌++◌, length, drop, length-drop, ◌∷◌, [], ℕ, List, Some, None, Ok, Err, Result, Option, sym, subst, ap, arith}
+use Rattle.std.proofs.Common.{◌≡◌, ◌∙◌, ◌+◌, ◌++◌, length, drop, length-drop, ◌∷◌, [], ℕ, List, Ok, Err, sym, subst, ap, arith}
 use Rattle.bt_wire.specs.declared.item.Item.{Item}
-use Rattle.bt_wire.specs.declared.item.Refusal.{Refusal}
 use Rattle.bt_feed.specs.Stages.{start_of}
 use Rattle.bt_feed.specs.Views.{item_of, shown}
 use Rattle.bt_feed.specs.Transcripts.{Reads}
-use Rattle.bt_feed.proofs.Coming.{item_long}
-use Rattle.bt_feed.proofs.Reading.{IsPushed, step_item, step_none, step_refused}
+use Rattle.bt_feed.proofs.Reading.{step_item, step_none, step_refused}
 use Rattle.bt_feed.proofs.transcript.read_piece.Goals as goal
 
 pub items-preserved : goal.items-preserved

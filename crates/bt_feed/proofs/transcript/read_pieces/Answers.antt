@@ -1,6 +1,5 @@
-use Rattle.std.proofs.Common.{◌≡◌, ◌∙◌, ◌+◌, ◌++◌, ℕ, List, [], Vec, Global, Option, length, drop, flat_map, Some, None, sym, subst, ap, arith}
+use Rattle.std.proofs.Common.{◌≡◌, ◌+◌, ◌++◌, ℕ, List, [], Vec, Global, Option, drop, flat_map, Some, None, sym, subst, ap}
 use Rattle.std.proofs.lemmas.List.{drop_all}
-use Rattle.bt_wire.specs.declared.context.Own.{Own}
 use Rattle.bt_wire.specs.declared.item.Refusal.{Refusal}
 use Rattle.bt_feed.specs.declared.stage.Stage.TheVariants as stage
 use Rattle.bt_feed.specs.Transcripts.{Reads, IsReadTo, IsTranscript}

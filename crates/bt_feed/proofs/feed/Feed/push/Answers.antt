@@ -1,4 +1,4 @@
-use Rattle.std.proofs.Common.{◌≡◌, ◌∙◌, ap}
+use Rattle.std.proofs.Common.{◌∙◌, ap}
 use Rattle.bt_feed.specs.Feeds.{FeedState, taken, pushed}
 use Rattle.bt_feed.proofs.Filled.{taken_is, pushed_is}
 use Rattle.bt_feed.proofs.feed.Feed.push.Goals as goal

@@ -1,5 +1,4 @@
-use Rattle.std.proofs.Common.{◌≡◌, ◌≤◌, ℕ, List, length, ap, subst, arith}
-use Rattle.bt_feed.specs.Stages.{HasFault}
+use Rattle.std.proofs.Common.{ℕ, length, ap, arith}
 use Rattle.bt_feed.proofs.Found.{fault_at, place_fits}
 use Rattle.bt_feed.proofs.progress.Progress.answer.Goals as goal
 

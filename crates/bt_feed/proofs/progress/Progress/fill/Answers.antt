@@ -1,8 +1,8 @@
-use Rattle.std.proofs.Common.{◌≡◌, ◌≤◌, ◌<◌, ◌++◌, ℕ, List, true, length, take, refl, sym, subst, ap, ◌∙◌, arith}
+use Rattle.std.proofs.Common.{◌≤◌, ◌++◌, ℕ, List, length, refl, sym, subst, ap, ◌∙◌, arith}
 use Rattle.bt_feed.specs.declared.stage.Stage.{Stage}
 use Rattle.bt_feed.specs.Stages.{capacity_of, is_closed}
 use Rattle.bt_feed.specs.Feeds.{held_of}
-use Rattle.bt_feed.specs.Progress.{HasWindow, IsProgress, IsSameItem, Fills}
+use Rattle.bt_feed.specs.Progress.{HasWindow, IsProgress, Fills}
 use Rattle.bt_feed.proofs.Filled.{window_bound, window_fills, window_stops, progress_window}
 use Rattle.bt_feed.proofs.progress.Progress.fill.Goals as goal
 

@@ -1,4 +1,4 @@
-use Rattle.std.proofs.Common.{◌≡◌, ◌≤◌, ℕ, List, length, ap, subst, arith}
+use Rattle.std.proofs.Common.{ℕ, length, ap, arith}
 use Rattle.bt_feed.proofs.Found.{fault_at, early_has, place_fits}
 use Rattle.bt_feed.proofs.progress.Progress.finish.Goals as goal
 

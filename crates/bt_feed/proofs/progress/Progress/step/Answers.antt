@@ -1,8 +1,8 @@
-use Rattle.std.proofs.Common.{◌≡◌, ◌≤◌, ◌++◌, ℕ, List, length, refl, sym, subst, ap, ◌∙◌, arith}
-use Rattle.bt_feed.specs.Progress.{HasWindow, IsPartial, IsProgress, IsSameItem, Fills, IsGoal}
+use Rattle.std.proofs.Common.{ℕ, List, refl, sym, subst, ap, ◌∙◌, arith}
+use Rattle.bt_feed.specs.Progress.{HasWindow, IsProgress, Fills, IsGoal}
 use Rattle.bt_feed.specs.declared.stage.Goal.TheVariants as goals
 use Rattle.bt_feed.specs.Stages.{is_closed}
-use Rattle.bt_feed.proofs.Filled.{partial_fresh, window_short, window_bound, window_more, window_fills, window_stops, until_fills, progress_until, progress_window}
+use Rattle.bt_feed.proofs.Filled.{partial_fresh, window_short, window_bound, window_more, window_fills, window_stops, progress_until, progress_window}
 use Rattle.bt_feed.proofs.progress.Progress.step.Goals as goal
 
 pub append_up_to-requires-in-Window-clause-held : goal.append_up_to-requires-in-Window-clause-held

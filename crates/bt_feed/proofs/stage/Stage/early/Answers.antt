@@ -1,4 +1,4 @@
-use Rattle.std.proofs.Common.{◌≡◌, ℕ, Some, None, false, leb, length, subst, sym}
+use Rattle.std.proofs.Common.{◌≡◌, Some, None, false, leb, length, subst, sym}
 use Rattle.bt_wire.specs.declared.fault.Refused.{Refused}
 use Rattle.bt_feed.specs.declared.stage.Stage.{Stage}
 use Rattle.bt_feed.specs.Stages.{early, is_all}

@@ -1,4 +1,4 @@
-use Rattle.std.proofs.Common.{ℕ, ◌≡◌, ◌∙◌, None, subst, sym}
+use Rattle.std.proofs.Common.{◌≡◌, ◌∙◌, None, subst, sym}
 use Rattle.bt_wire.specs.Handshakes.{hand_fault}
 use Rattle.bt_feed.specs.declared.stage.Goal.TheVariants as goals
 use Rattle.bt_feed.specs.declared.stage.Stage.{Stage}
