@@ -21,10 +21,10 @@ use Rattle.bt_feed.specs.declared.stage.Stage.{Stage}
 use Rattle.bt_feed.specs.declared.stage.Stage.TheVariants as stage
 use Rattle.bt_feed.specs.declared.view.Finish.{Finish}
 use Rattle.bt_feed.specs.declared.view.Finish.TheVariants.{Refused, Untaken}
-use Rattle.bt_feed.specs.Stages.{limit_of, early, is_all, is_closed, HasFault, refusal_of, IsItem, Comes, stopped}
+use Rattle.bt_feed.specs.Stages.{IsNumbered, limit_of, early, is_all, is_closed, HasFault, refusal_of, IsItem, Comes, stopped}
 use Rattle.bt_feed.specs.Feeds.{FeedState, taken_by, taken, pushed}
 use Rattle.bt_feed.specs.Answers.{IsAnswer, or_else, end_inside, end_of, unless_refused, finish_of}
-use Rattle.bt_feed.specs.Laws.{IsEnded, IsNumbered, verdict_at_end}
+use Rattle.bt_feed.specs.Laws.{IsEnded, verdict_at_end}
 use Rattle.bt_feed.proofs.Closed.{item_closed, fault_closed, open_by}
 use Rattle.bt_feed.proofs.Coming.{fault_comes, open_comes}
 use Rattle.bt_feed.proofs.Found.{early_has}

@@ -9,7 +9,7 @@ use Rattle.bt_wire.specs.declared.item.Refusal.{Refusal}
 use Rattle.bt_feed.specs.declared.stage.Stage.{Stage}
 use Rattle.bt_feed.specs.declared.stage.Stage.TheVariants as stage
 use Rattle.bt_feed.specs.declared.progress.Progress.{Progress}
-use Rattle.bt_feed.specs.Stages.{start_of, number_of, limit_of, capacity_of, is_closed, HasFault, refusal_of}
+use Rattle.bt_feed.specs.Stages.{IsNumbered, start_of, number_of, limit_of, capacity_of, is_closed, HasFault, refusal_of}
 use Rattle.bt_feed.specs.Feeds.{taken_by, taken, pushed, held_of, state_of}
 use Rattle.bt_feed.specs.Progress.{IsPartial, HasWindow, Fills, IsProgress, IsSameItem}
 use Rattle.bt_feed.proofs.Closed.{closed_all, fault_more, no_longer}
@@ -182,6 +182,7 @@ progress_filled p q buffer piece new n h same f bound wanted =
       limit = omega (arith, ap limit_of stage, h.limit);
       start = omega (arith, ap start_of stage, h.start);
       number = omega (arith, ap start_of stage, ap number_of stage, h.number);
+      numbered = subst IsNumbered (sym stage) h.numbered;
       bound = omega (arith, ap capacity_of stage, ap length here, bound);
       partial = subst R (sym stage) (subst S (sym here) (partial_filled p.stage (held_of p buffer) piece new n h.partial f));
       wanted = subst P (sym stage) (subst Q (sym here) wanted);

@@ -7,7 +7,7 @@ use Rattle.bt_wire.specs.Streams.{Outcome, with_item, refusal_at_end}
 use Rattle.bt_feed.specs.declared.stage.Stage.{Stage}
 use Rattle.bt_feed.specs.declared.stage.Stage.TheVariants as stage
 use Rattle.bt_feed.specs.declared.view.Finish.{Finish}
-use Rattle.bt_feed.specs.Stages.{start_of, limit_of, is_all, is_closed, HasFault, refusal_of, IsItem, stage_after, Comes, stopped}
+use Rattle.bt_feed.specs.Stages.{IsNumbered, start_of, limit_of, is_all, is_closed, HasFault, refusal_of, IsItem, stage_after, Comes, stopped}
 use Rattle.bt_feed.specs.Feeds.{FeedState, taken, pushed}
 use Rattle.bt_feed.specs.Answers.{IsAnswer, unless_refused, finish_of}
 
@@ -61,11 +61,6 @@ OpenComes = (t : Stage) (b : List ℕ) → limit_of t < 2 ^ 32 → is_closed t b
 -- bytes come to one outcome
 abbrev pub OutcomeIsOne : Type 0
 OutcomeIsOne = (t : Stage) (b : List ℕ) (v w : Outcome) → limit_of t < 2 ^ 32 → Comes t b v → Comes t b w → v ≡ w
-
--- messages are numbered from 1 on
-abbrev pub IsNumbered : Stage → Type 0
-IsNumbered (stage.Handshake own) = 0 ≤ 1
-IsNumbered (stage.Message c o s n) = 1 ≤ n
 
 -- the verdict at the stream's end: the offset there, or the refusal
 abbrev pub verdict_at_end : Outcome → Result ℕ Finish

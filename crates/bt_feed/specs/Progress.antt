@@ -1,4 +1,4 @@
--- For private contracts and the invariant of a feed alone: what is known of the bytes in the buffer.
+-- What is so of every feed; and for private contracts and the invariant alone, what is known of the bytes in the buffer.
 use Rattle.std.specs.Prelude.{◌≡◌, ℕ, ◌+◌, ◌^◌, ◌≤◌, ◌<◌, true, false, List, ◌++◌, length, take, IfSome, Err}
 use Rattle.bt_wire.specs.declared.fault.Header.TheVariants as headers
 use Rattle.bt_wire.specs.Headers.{header_of}
@@ -7,8 +7,8 @@ use Rattle.bt_feed.specs.declared.stage.Stage.TheVariants as stage
 use Rattle.bt_feed.specs.declared.stage.Goal.{Goal}
 use Rattle.bt_feed.specs.declared.stage.Goal.TheVariants as goal
 use Rattle.bt_feed.specs.declared.progress.Progress.{Progress}
-use Rattle.bt_feed.specs.Stages.{start_of, number_of, limit_of, capacity_of, is_closed}
-use Rattle.bt_feed.specs.Feeds.{held_of, state_of}
+use Rattle.bt_feed.specs.Stages.{IsNumbered, start_of, number_of, limit_of, capacity_of, is_closed}
+use Rattle.bt_feed.specs.Feeds.{FeedState, held_of, state_of}
 use Rattle.bt_feed.specs.Answers.{IsAnswer}
 
 -- they go on no further than where they are closed
@@ -19,6 +19,16 @@ pub record IsPartial (t : Stage) (b : List ℕ) : Type 0 where
 abbrev pub HasWindow : Stage → List ℕ → ℕ → Type 0
 HasWindow (stage.Handshake own) b n = 2 ≤ 1
 HasWindow (stage.Message c o s k) b n = (s < 2 ^ 62) × (header_of c o b ≡ headers.Window n)
+
+-- what is so of every feed
+pub record IsFeed (f : FeedState) : Type 0 where
+  pub limit : limit_of f.stage ≤ 1048576
+  pub start : start_of f.stage ≤ 2 ^ 62 + 1048580
+  pub number : number_of f.stage ≤ start_of f.stage + 1
+  pub numbered : IsNumbered f.stage
+  pub bound : length f.held ≤ capacity_of f.stage
+  pub partial : IsPartial f.stage f.held
+  pub refused : IfSome f.refused (λ r. IsAnswer f (Err r))
 
 -- how far the bytes are judged together with what follows them
 abbrev pub IsGoal : Stage → List ℕ → Goal → Type 0
@@ -36,6 +46,7 @@ pub record IsProgress (p : Progress) (buffer : List ℕ) : Type 0 where
   pub limit : limit_of p.stage ≤ 1048576
   pub start : start_of p.stage ≤ 2 ^ 62 + 1048580
   pub number : number_of p.stage ≤ start_of p.stage + 1
+  pub numbered : IsNumbered p.stage
   pub bound : length (held_of p buffer) ≤ capacity_of p.stage
   pub partial : IsPartial p.stage (held_of p buffer)
   pub wanted : 0 < p.wanted → HasWindow p.stage (held_of p buffer) p.wanted × (length (held_of p buffer) ≤ p.wanted)

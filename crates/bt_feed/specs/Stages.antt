@@ -1,5 +1,5 @@
 -- What the bytes of one item show: the handshake, or a message of a given order, start and number.
-use Rattle.std.specs.Prelude.{◌≡◌, ℕ, ◌+◌, Bool, ◌||◌, List, [], length, Option, Some, None, is_some, nat_le, max}
+use Rattle.std.specs.Prelude.{◌≡◌, ℕ, ◌+◌, ◌≤◌, Bool, ◌||◌, List, [], length, Option, Some, None, is_some, nat_le, max}
 use Rattle.bt_wire.specs.declared.context.Order.{Order}
 use Rattle.bt_wire.specs.declared.context.Order.TheVariants.{Fresh}
 use Rattle.bt_wire.specs.declared.fault.Refused.{Refused}
@@ -21,6 +21,11 @@ start_of (stage.Message c o s n) = s
 abbrev pub number_of : Stage → ℕ
 number_of (stage.Handshake own) = 0
 number_of (stage.Message c o s n) = n
+
+-- messages are numbered from 1 on
+abbrev pub IsNumbered : Stage → Type 0
+IsNumbered (stage.Handshake own) = 0 ≤ 1
+IsNumbered (stage.Message c o s n) = 1 ≤ n
 
 -- the order that the item is judged in
 abbrev pub order_of : Stage → Order

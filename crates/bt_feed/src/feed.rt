@@ -56,7 +56,7 @@ impl<A: Allocator> Model for Feed<A> {
 ghost use Rattle.bt_feed.specs.Stages.{limit_of, start_of, capacity_of, is_closed};
 ghost use Rattle.bt_feed.specs.Feeds.{taken, pushed};
 ghost use Rattle.bt_feed.specs.Views.{shown};
-ghost use Rattle.bt_feed.specs.Progress.{IsPartial};
+ghost use Rattle.bt_feed.specs.Progress.{IsPartial, IsFeed};
 ghost use Rattle.bt_feed.specs.Answers.{IsAnswer, after, finish_of};
 ghost use Rattle.std.specs.Io.BufRead.{Rests};
 ghost use types.Logic.{sem};
@@ -104,7 +104,8 @@ impl<A: Allocator> Feed<A> {
     /// Where the present item starts on the stream.
     #[inline(always)]
     pub fn start(&self) -> u64
-        ensures { result ≡ start_of self.now.stage }
+        ensures value { result ≡ start_of self.now.stage }
+        ensures feed { IsFeed self.now }
     {
         self.progress.stage.start()
     }
