@@ -1,4 +1,4 @@
-use crate::commands::{Asked, Notice, default_own};
+use crate::commands::{Asked, Notice};
 use crate::options::asked;
 use bt_ext::{ExtId, Registered, Rules};
 use bt_wire::{Own, Reserved};
@@ -46,77 +46,111 @@ const HASH: [u8; 20] = [
     0x9c, 0xd0, 0xd8, 0x9d,
 ];
 
+/// The words, and the receiver's reserved bits, pieces, id of `ut_metadata`, info hash, rules and limit.
+type Row<'a> = (
+    &'a [&'a str],
+    u64,
+    Option<u32>,
+    u8,
+    Option<[u8; 20]>,
+    Rules,
+    u32,
+);
+
 #[test]
 fn receivers(rt: HostRuntime) -> Result<(), Fail> {
-    let own = default_own();
-    let id = |id: u8| Registered::new(ExtId::new(id));
-    let hash = Some(HASH);
-    let table: [(&[&str], Own); 23] = [
-        (&[], own),
-        (&["show"], own),
+    let table: [Row<'_>; 22] = [
+        (&[], 0x10_0005, None, 3, None, Rules::Free, 262_144),
+        (&["show"], 0x10_0005, None, 3, None, Rules::Free, 262_144),
         (
             &["show", "--reserved", "0000000000000000"],
-            Own {
-                reserved: Reserved(0),
-                ..own
-            },
+            0,
+            None,
+            3,
+            None,
+            Rules::Free,
+            262_144,
         ),
         (
             &["show", "--reserved", "80000000001000aF"],
-            Own {
-                reserved: Reserved(0x8000_0000_0010_00af),
-                ..own
-            },
+            0x8000_0000_0010_00af,
+            None,
+            3,
+            None,
+            Rules::Free,
+            262_144,
         ),
         (
             &["show", "--pieces", "0"],
-            Own {
-                pieces: Some(0),
-                ..own
-            },
+            0x10_0005,
+            Some(0),
+            3,
+            None,
+            Rules::Free,
+            262_144,
         ),
         (
             &["show", "--pieces", "10"],
-            Own {
-                pieces: Some(10),
-                ..own
-            },
+            0x10_0005,
+            Some(10),
+            3,
+            None,
+            Rules::Free,
+            262_144,
         ),
         (
             &["show", "--pieces=10"],
-            Own {
-                pieces: Some(10),
-                ..own
-            },
+            0x10_0005,
+            Some(10),
+            3,
+            None,
+            Rules::Free,
+            262_144,
         ),
         (
             &["show", "--pieces", "0000000000010"],
-            Own {
-                pieces: Some(10),
-                ..own
-            },
+            0x10_0005,
+            Some(10),
+            3,
+            None,
+            Rules::Free,
+            262_144,
         ),
         (
             &["show", "--pieces", "4294967295"],
-            Own {
-                pieces: Some(4_294_967_295),
-                ..own
-            },
+            0x10_0005,
+            Some(4_294_967_295),
+            3,
+            None,
+            Rules::Free,
+            262_144,
         ),
         (
             &["show", "--metadata-id", "0"],
-            Own {
-                reg: Registered::new(None),
-                ..own
-            },
+            0x10_0005,
+            None,
+            0,
+            None,
+            Rules::Free,
+            262_144,
         ),
-        (&["show", "--metadata-id", "3"], own),
+        (
+            &["show", "--metadata-id", "3"],
+            0x10_0005,
+            None,
+            3,
+            None,
+            Rules::Free,
+            262_144,
+        ),
         (
             &["show", "--metadata-id", "255"],
-            Own {
-                reg: id(255),
-                ..own
-            },
+            0x10_0005,
+            None,
+            255,
+            None,
+            Rules::Free,
+            262_144,
         ),
         (
             &[
@@ -124,10 +158,12 @@ fn receivers(rt: HostRuntime) -> Result<(), Fail> {
                 "--info-hash",
                 "a9993e364706816aba3e25717850c26c9cd0d89d",
             ],
-            Own {
-                info_hash: hash,
-                ..own
-            },
+            0x10_0005,
+            None,
+            3,
+            Some(HASH),
+            Rules::Free,
+            262_144,
         ),
         (
             &[
@@ -135,52 +171,75 @@ fn receivers(rt: HostRuntime) -> Result<(), Fail> {
                 "--info-hash",
                 "A9993E364706816ABA3E25717850C26C9CD0D89D",
             ],
-            Own {
-                info_hash: hash,
-                ..own
-            },
+            0x10_0005,
+            None,
+            3,
+            Some(HASH),
+            Rules::Free,
+            262_144,
         ),
-        (&["show", "--rules", "free"], own),
+        (
+            &["show", "--rules", "free"],
+            0x10_0005,
+            None,
+            3,
+            None,
+            Rules::Free,
+            262_144,
+        ),
         (
             &["show", "--rules", "bep"],
-            Own {
-                rules: Rules::Bep,
-                ..own
-            },
+            0x10_0005,
+            None,
+            3,
+            None,
+            Rules::Bep,
+            262_144,
         ),
-        (&["show", "--limit", "1"], Own { limit: 1, ..own }),
+        (
+            &["show", "--limit", "1"],
+            0x10_0005,
+            None,
+            3,
+            None,
+            Rules::Free,
+            1,
+        ),
         (
             &["show", "--limit", "1048576"],
-            Own {
-                limit: 1_048_576,
-                ..own
-            },
+            0x10_0005,
+            None,
+            3,
+            None,
+            Rules::Free,
+            1_048_576,
         ),
-        (&["show", "--limit=262144"], own),
+        (
+            &["show", "--limit=262144"],
+            0x10_0005,
+            None,
+            3,
+            None,
+            Rules::Free,
+            262_144,
+        ),
         (
             &["show", "--limit", "262145"],
-            Own {
-                limit: 262_145,
-                ..own
-            },
-        ),
-        (
-            &["show", "--rules", "bep", "--pieces", "7", "--limit", "9"],
-            Own {
-                rules: Rules::Bep,
-                pieces: Some(7),
-                limit: 9,
-                ..own
-            },
+            0x10_0005,
+            None,
+            3,
+            None,
+            Rules::Free,
+            262_145,
         ),
         (
             &["show", "--limit", "9", "--pieces=7", "--rules=bep"],
-            Own {
-                rules: Rules::Bep,
-                pieces: Some(7),
-                limit: 9,
-                ..own
-            },
+            0x10_0005,
+            Some(7),
+            3,
+            None,
+            Rules::Bep,
+            9,
         ),
         (
             &[
@@ -190,15 +249,30 @@ fn receivers(rt: HostRuntime) -> Result<(), Fail> {
                 "--reserved",
                 "0000000000000004",
             ],
-            Own {
-                reg: id(9),
-                reserved: Reserved(4),
-                ..own
-            },
+            4,
+            None,
+            9,
+            None,
+            Rules::Free,
+            262_144,
         ),
     ];
-    for (words, own) in table {
-        show(&rt, rt.alloc(), words, own)?;
+    for (words, reserved, pieces, id, info_hash, rules, limit) in table {
+        let reg = Registered::new(ExtId::new(id));
+        let reserved = Reserved(reserved);
+        show(
+            &rt,
+            rt.alloc(),
+            words,
+            Own {
+                reserved,
+                info_hash,
+                pieces,
+                reg,
+                rules,
+                limit,
+            },
+        )?;
     }
     Ok(())
 }
