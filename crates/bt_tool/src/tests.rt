@@ -99,7 +99,7 @@ fn streams_are_shown(rt: HostRuntime) -> Result<(), Fail> {
         ),
         accepted(
             b"\x00\x00\x00\x03\x05\xff\xc0",
-            "68 unknown 5 2\nok messages=1 bytes=75\n",
+            "68 bitfield 2\nok messages=1 bytes=75\n",
             1,
             75,
         ),
