@@ -112,7 +112,8 @@ impl ByteString {
         ensures value { result ≡ length self.now }
         ensures small { result < 2 ^ 63 }
     {
-        self.bytes.len()
+        let bytes = &self.bytes;
+        bytes.len()
     }
 
     /// Whether it has no byte.
