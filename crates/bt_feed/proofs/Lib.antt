@@ -8,3 +8,4 @@ pub mod Coming
 pub mod Reading
 pub mod FeedLaws
 pub mod Places
+pub mod Moved

@@ -1,17 +1,28 @@
 //! A feed: the items of a stream whose bytes come in any pieces, over one buffer that is reserved once.
 #![tactic(auto)]
 
+mod counts;
+mod failed;
 mod feed;
+mod host;
 pub mod laws;
+mod memory;
 mod progress;
 mod slices;
+mod source;
 mod stage;
+mod target;
 #[cfg(test)]
 mod tests;
 mod transcript;
 mod view;
 
+pub use failed::Failed;
 pub use feed::{Feed, FeedError};
+pub use host::Host;
+pub use memory::{MemSource, MemTarget};
+pub use source::Source;
 pub use stage::Stage;
+pub use target::Target;
 pub use transcript::{Transcript, read_all};
 pub use view::{Finish, TakeError, View, to_item};

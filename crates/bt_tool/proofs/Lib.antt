@@ -1,4 +1,3 @@
-mod Moved
 mod Walking
 mod Fronts
 mod Places

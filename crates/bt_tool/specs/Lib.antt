@@ -1,5 +1,3 @@
-pub mod Counts
-pub mod Devices
 pub mod Lines
 pub mod Shown
 pub mod Walked

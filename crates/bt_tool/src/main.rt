@@ -2,16 +2,10 @@
 #![tactic(auto)]
 
 mod commands;
-mod counts;
 mod ended;
-mod failed;
-mod host;
 mod lines;
-mod memory;
 mod options;
 mod show;
-mod source;
-mod target;
 #[cfg(test)]
 mod tests;
 #[cfg(test)]
@@ -20,7 +14,7 @@ mod transfer;
 mod values;
 
 use crate::commands::{Asked, Notice, status, status_of};
-use crate::host::Host;
+use bt_feed::Host;
 use crate::options::asked;
 use crate::show::run_show;
 use std::process::ExitCode;

@@ -2,15 +2,15 @@
 ghost use Rattle.std.specs.Prelude.{◌≡◌, ◌+◌, ◌-◌, ◌≤◌, ◌^◌, ◌≢◌, min, length, drop, IfOk, Err, OnErr};
 ghost use Rattle.std.specs.Io.KnownBytes.{Keeps};
 ghost use Rattle.bt_wire.specs.Streams.{Outcome, IsVerdict};
-ghost use Rattle.bt_tool.specs.Counts.{Grew};
+ghost use Rattle.bt_feed.specs.Counts.{Grew};
 ghost use Rattle.bt_tool.specs.Lines.{lines_of, ended_as};
 ghost use Rattle.bt_tool.specs.Shown.{IsShown, WantsEnd};
 ghost use Rattle.bt_tool.specs.Walked.{AreTold, IsStreamTold};
 
 use crate::ended::{Ended, ToolFault};
 use crate::lines::{Line, handshake_line, message_line, push_line, verdict_line};
-use crate::source::Source;
-use crate::target::Target;
+use bt_feed::Source;
+use bt_feed::Target;
 use crate::transfer::{read_to_end, write_all};
 use bt_wire::{
     Front, Opening, Order, Own, Reason, Refusal, Refused, Reserved, laws, negotiate, next_of_view,

@@ -1,7 +1,7 @@
 //! Streams, the text that showing them writes and how they end, over devices in memory that move few bytes a call.
 use crate::commands::default_own;
 use crate::ended::{Ended, ToolFault};
-use crate::memory::{MemSource, MemTarget};
+use bt_feed::{MemSource, MemTarget};
 use crate::show::run_show;
 use bt_wire::{Own, Reason, Refusal};
 use std::alloc::{AllocError, Global};

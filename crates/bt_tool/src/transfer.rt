@@ -1,11 +1,11 @@
 ghost use Rattle.std.specs.Prelude.{◌≡◌, ℕ, ◌+◌, ◌-◌, ◌^◌, ◌≢◌, ◌≤◌, min, OnOk, OnErr, IfOk, IfErr, Err};
 ghost use Rattle.std.specs.Io.KnownBytes.{Consumes, Appends};
-ghost use Rattle.bt_tool.specs.Counts.{Grew};
+ghost use Rattle.bt_feed.specs.Counts.{Grew};
 ghost use Rattle.bt_tool.specs.Shown.{AppendsFront, Reads};
 
 use crate::ended::ToolFault;
-use crate::source::Source;
-use crate::target::Target;
+use bt_feed::Source;
+use bt_feed::Target;
 use std::alloc::Global;
 
 /// How many reads a command makes.

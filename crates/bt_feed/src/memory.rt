@@ -1,7 +1,7 @@
 ghost use Rattle.std.specs.Prelude.{◌≡◌, ◌≤◌, ◌<◌, ◌↔◌, Some, vec_len, length, min, is_err, IfOk, IsErr};
 ghost use Rattle.std.specs.Io.{ReadsAtMost, WritesAtMost};
 ghost use Rattle.std.specs.Io.KnownBytes.{ReadConsumes, WriteAppends};
-ghost use Rattle.bt_tool.specs.Counts.{one_more, counted as raised, is_end, is_stuck};
+ghost use Rattle.bt_feed.specs.Counts.{one_more, counted as raised, is_end, is_stuck};
 
 use crate::counts::counted;
 use crate::failed::Failed;
@@ -24,7 +24,7 @@ pub struct MemSource {
 }
 
 impl MemSource {
-    ghost use Rattle.bt_tool.specs.Devices.{source_left, source_most, source_fails_at, source_counts, no_calls};
+    ghost use Rattle.bt_feed.specs.Devices.{source_left, source_most, source_fails_at, source_counts, no_calls};
 
     /// The source, with no call made.
     pub fn new(bytes: Vec<u8>, most: usize, fails_at: Option<u64>) -> MemSource
@@ -47,7 +47,7 @@ impl MemSource {
 }
 
 impl Source for MemSource {
-    ghost use Rattle.bt_tool.specs.Devices.{source_left, source_most, source_fails_at, source_counts};
+    ghost use Rattle.bt_feed.specs.Devices.{source_left, source_most, source_fails_at, source_counts};
 
     ghost left = { λ s. Some (source_left s) };
 
@@ -91,7 +91,7 @@ pub struct MemTarget {
 }
 
 impl MemTarget {
-    ghost use Rattle.bt_tool.specs.Devices.{target_held, target_most, target_fails_at, target_counts, no_calls};
+    ghost use Rattle.bt_feed.specs.Devices.{target_held, target_most, target_fails_at, target_counts, no_calls};
 
     /// The target, which holds these bytes, with no call made.
     pub fn new(bytes: Vec<u8>, most: usize, fails_at: Option<u64>) -> MemTarget
@@ -118,7 +118,7 @@ impl MemTarget {
 }
 
 impl Target for MemTarget {
-    ghost use Rattle.bt_tool.specs.Devices.{target_held, target_most, target_fails_at, target_counts};
+    ghost use Rattle.bt_feed.specs.Devices.{target_held, target_most, target_fails_at, target_counts};
 
     ghost held = { λ t. Some (target_held t) };
 

@@ -1,7 +1,7 @@
 ghost use Rattle.std.specs.Prelude.{◌≡◌, ℕ, List, Option, length, is_err};
 ghost use Rattle.std.specs.Io.{ReadsAtMost};
 ghost use Rattle.std.specs.Io.KnownBytes.{ReadConsumes};
-ghost use Rattle.bt_tool.specs.Counts.{one_more, counted, is_end};
+ghost use Rattle.bt_feed.specs.Counts.{one_more, counted, is_end};
 
 use crate::failed::Failed;
 

@@ -1,7 +1,7 @@
 ghost use Rattle.std.specs.Prelude.{◌≡◌, ℕ, List, Option, length};
 ghost use Rattle.std.specs.Io.{WritesAtMost};
 ghost use Rattle.std.specs.Io.KnownBytes.{WriteAppends};
-ghost use Rattle.bt_tool.specs.Counts.{one_more, counted, is_stuck};
+ghost use Rattle.bt_feed.specs.Counts.{one_more, counted, is_stuck};
 
 use crate::failed::Failed;
 

@@ -1,8 +1,8 @@
 -- What the devices of std and of memory tell: their bytes and their counts.
 use Rattle.std.specs.Prelude.{ℕ, List, drop, Option}
-use Rattle.bt_tool.specs.declared.host.Host.{Host}
-use Rattle.bt_tool.specs.declared.memory.MemSource.{MemSource}
-use Rattle.bt_tool.specs.declared.memory.MemTarget.{MemTarget}
+use Rattle.bt_feed.specs.declared.host.Host.{Host}
+use Rattle.bt_feed.specs.declared.memory.MemSource.{MemSource}
+use Rattle.bt_feed.specs.declared.memory.MemTarget.{MemTarget}
 
 -- how many calls were made, how many failed, and how many reads gave the end
 pub record Counts : Type 0 where

@@ -1,5 +1,5 @@
 ghost use Rattle.std.specs.Prelude.{◌≡◌};
-ghost use Rattle.bt_tool.specs.Devices.{host_device, host_counts, no_calls};
+ghost use Rattle.bt_feed.specs.Devices.{host_device, host_counts, no_calls};
 
 use crate::counts::counted;
 use crate::failed::Failed;

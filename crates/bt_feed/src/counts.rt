@@ -1,5 +1,5 @@
 ghost use Rattle.std.specs.Prelude.{◌≡◌};
-ghost use Rattle.bt_tool.specs.Counts.{counted as raised};
+ghost use Rattle.bt_feed.specs.Counts.{counted as raised};
 
 /// The count after a call that is counted or isn't. It stays at 2^64 - 1 once there.
 pub fn counted(is_counted: bool, count: u64) -> u64
