@@ -9,3 +9,5 @@ pub mod Reading
 pub mod FeedLaws
 pub mod Places
 pub mod Moved
+pub mod Moving
+mod Reasons

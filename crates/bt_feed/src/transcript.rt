@@ -10,7 +10,7 @@ ghost use Rattle.bt_feed.specs.Views.{item_of};
 
 use crate::feed::{Feed, FeedError};
 use crate::slices::behind;
-use crate::view::{TakeError, to_item};
+use crate::view::{refusal_in, to_item};
 use bt_wire::{Item, Own, Refusal};
 use std::alloc::{AllocError, Global};
 
@@ -21,14 +21,6 @@ pub struct Transcript {
     pub items: Vec<(u64, Item)>,
     pub refused: Option<Refusal>,
     pub rest: u64,
-}
-
-fn refusal_in(error: TakeError) -> Refusal
-    ensures { error ≡ TakeError.Refused result }
-{
-    match error {
-        TakeError::Refused(refusal) => refusal,
-    }
 }
 
 /// Reads a piece, up to its end or a refusal.

@@ -29,6 +29,15 @@ pub enum Finish {
     Untaken,
 }
 
+/// The refusal that the error is.
+pub fn refusal_in(error: TakeError) -> Refusal
+    ensures { error ≡ TakeError.Refused result }
+{
+    match error {
+        TakeError::Refused(refusal) => refusal,
+    }
+}
+
 /// The item that a view is, with memory of its own. It takes memory only for bytes that a message keeps.
 pub fn to_item(alloc: Global, view: &View) -> Result<Item, AllocError>
     ensures ok { IfOk result (λ item. item ≡ item_of view.now) }

@@ -1,0 +1,18 @@
+use Rattle.std.proofs.Common.{◌≡◌, ◌+◌, ◌-◌, ◌^◌, ◌≤◌, ℕ, List, min, false}
+use Rattle.std.specs.Io.KnownBytes.{Consumes}
+use Rattle.bt_wire.specs.declared.item.Item.{Item}
+use Rattle.bt_feed.specs.Stages.{limit_of, is_closed}
+use Rattle.bt_feed.specs.Pumps.{Gets, IsFed}
+use Rattle.bt_feed.proofs.pumping.pump.Given as goal
+
+-- what was read so far went into the feed, which waits
+abbrev pub invariant-loop-turn : goal.invariant-loop-turn
+invariant-loop-turn g l = record {
+  failed : g.R.Source.failed_reads l.reader ≡ g.R.Source.failed_reads l.fn.reader;
+  ends : g.R.Source.ends l.reader ≡ g.R.Source.ends l.fn.reader;
+  calm : g.S.Sink.failed l.sink ≡ g.S.Sink.failed l.fn.sink;
+  reads : min (g.R.Source.reads l.fn.reader + l._turn) (2 ^ 64 - 1) ≤ g.R.Source.reads l.reader;
+  limit : limit_of l.feed.stage ≤ 1048576;
+  waits : is_closed l.feed.stage l.feed.held ≡ false;
+  moved : (bytes : List ℕ) × (xs : List (ℕ × Item)) × Consumes (g.R.Source.left l.fn.reader) (g.R.Source.left l.reader) bytes × Gets (g.S.Sink.taken l.fn.sink) (g.S.Sink.taken l.sink) xs × IsFed l.fn.feed bytes xs l.feed;
+}

@@ -1,0 +1,108 @@
+//! From a source through a feed into a sink.
+ghost use Rattle.std.specs.Prelude.{◌≡◌, ◌+◌, ◌-◌, ◌^◌, ◌≤◌, ◌≢◌, ℕ, List, min, false, Err, OnOk};
+ghost use Rattle.bt_wire.specs.declared.fault.Reason.TheVariants as reasons;
+ghost use Rattle.bt_wire.specs.declared.item.Item.{Item};
+ghost use Rattle.bt_feed.specs.Counts.{Grew};
+ghost use Rattle.bt_feed.specs.Pumps.{Gets, IsEnd, IsEndOf, IsPump, IsPieceEnd, IsSinkFault};
+ghost use Rattle.bt_feed.specs.Stages.{limit_of, is_closed};
+
+use crate::feed::Feed;
+use crate::sink::{Sink, SinkFault};
+use crate::slices::behind;
+use crate::source::Source;
+use crate::view::{Finish, refusal_in};
+use bt_wire::Refusal;
+use std::alloc::Allocator;
+use thiserror::Error;
+
+/// Why a pump stopped before the end of an accepted stream.
+#[derive(Clone, Copy, PartialEq, Eq, Debug, Error)]
+pub enum PumpError {
+    /// A read failed.
+    #[error("read")]
+    ReadFault,
+    /// That many reads were made without the end.
+    #[error("turns")]
+    Turns,
+    /// The stream is refused.
+    #[error("message {} at {}: {}", .0.message, .0.at, .0.reason)]
+    Refused(Refusal),
+    /// The sink didn't take an item.
+    #[error("{0}")]
+    Sink(SinkFault),
+}
+
+/// Gives the sink the items that a piece completes.
+fn pump_piece<S: Sink, A: Allocator>(
+    feed: &mut Feed<A>,
+    sink: &mut S,
+    piece: &[u8],
+) -> Result<(), PumpError>
+    ensures items { (xs : List (ℕ × Item)) × Gets (S.taken sink.old) (S.taken sink.new) xs × IsPieceEnd feed.old piece.now xs feed.new result }
+    ensures calm { OnOk result (S.failed sink.new ≡ S.failed sink.old) }
+    ensures sink { IsSinkFault result → Grew (S.failed sink.old) (S.failed sink.new) }
+    ensures limit { limit_of feed.new.stage ≤ 1048576 }
+{
+    let mut at = 0;
+    'items: loop {
+        at += feed.push(behind(piece, at));
+        let start = feed.start();
+        match feed.take() {
+            Ok(Some(view)) => match sink.item(start, &view) {
+                Ok(()) => {}
+                Err(fault) => return Err(PumpError::Sink(fault)),
+            },
+            Ok(None) => return Ok(()),
+            Err(error) => return Err(PumpError::Refused(refusal_in(error))),
+        }
+    }
+}
+
+/// What a stream comes to that ends here, where no whole item is held.
+fn end<A: Allocator>(feed: &Feed<A>) -> Result<u64, PumpError>
+    requires { is_closed feed.now.stage feed.now.held ≡ false }
+    ensures end { IsEndOf feed.now result }
+{
+    let _ = feed.start();
+    match feed.finish() {
+        Ok(bytes) => Ok(bytes),
+        Err(Finish::Refused(refusal)) => Err(PumpError::Refused(refusal)),
+        Err(Finish::Untaken) => unreachable!(),
+    }
+}
+
+/// Reads to the end, at most 4,096 bytes a read and `max_turns` reads, and gives the sink each item with its offset. It answers
+/// what the stream comes to there: how many bytes it has, or its refusal. It takes no memory.
+///
+/// Behind a refusal or a sink's fault up to 4,096 bytes may have been read that are lost. Behind `Turns` or `ReadFault` nothing
+/// is lost, and another call goes on.
+pub fn pump<R: Source, S: Sink, A: Allocator>(
+    reader: &mut R,
+    feed: &mut Feed<A>,
+    sink: &mut S,
+    max_turns: u64,
+) -> Result<u64, PumpError>
+    ensures moved { IsPump feed.old (R.left reader.old) (R.left reader.new) (S.taken sink.old) (S.taken sink.new) feed.new result }
+    ensures end { IsEnd result → Grew (R.ends reader.old) (R.ends reader.new) }
+    ensures read { result ≡ Err PumpError.ReadFault → Grew (R.failed_reads reader.old) (R.failed_reads reader.new) }
+    ensures sink { IsSinkFault result → Grew (S.failed sink.old) (S.failed sink.new) }
+    ensures turns { result ≡ Err PumpError.Turns
+        → (min (R.reads reader.old + max_turns) (2 ^ 64 - 1) ≤ R.reads reader.new) × (R.ends reader.new ≡ R.ends reader.old) }
+{
+    if let Err(error) = pump_piece(feed, sink, &[]) {
+        return Err(error);
+    }
+    let mut buffer = [0; 4096];
+    for _turn in 0..max_turns {
+        match reader.read(&mut buffer) {
+            Ok(0) => return end(feed),
+            Ok(count) => {
+                if let Err(error) = pump_piece(feed, sink, &buffer[..count]) {
+                    return Err(error);
+                }
+            }
+            Err(_) => return Err(PumpError::ReadFault),
+        }
+    }
+    Err(PumpError::Turns)
+}
