@@ -4,11 +4,11 @@ use Rattle.std.proofs.lemmas.List.{append-nil, append_assoc, length-drop, take_a
 use Rattle.std.proofs.Math.Seq.{take-add}
 use Rattle.bt_wire.specs.declared.item.Item.{Item}
 use Rattle.bt_wire.specs.declared.item.Refusal.{Refusal}
-use Rattle.bt_feed.specs.Stages.{start_of, limit_of, is_closed, IsItem, stage_after, Comes, stopped}
+use Rattle.bt_feed.specs.Stages.{start_of, number_of, limit_of, is_closed, IsItem, stage_after, Comes, stopped}
 use Rattle.bt_feed.specs.Feeds.{FeedState, taken, pushed}
 use Rattle.bt_feed.specs.Answers.{IsAnswer, after, finish_of}
 use Rattle.bt_feed.specs.Transcripts.{with_items}
-use Rattle.bt_feed.specs.Pumps.{Gets, IsFed, IsPumped, IsPumpEnd, IsEnd, IsPieceEnd, IsVerdictAtEnd, IsEndOf}
+use Rattle.bt_feed.specs.Pumps.{Took, IsGiven, IsFed, IsPumped, IsPumpEnd, IsEnd, IsPieceEnd, IsVerdictAtEnd, IsEndOf}
 use Rattle.bt_feed.specs.Laws.{verdict_at_end}
 use Rattle.bt_feed.specs.Progress.{IsFeed}
 use Rattle.bt_feed.specs.declared.pumping.PumpError.{PumpError}
@@ -26,18 +26,26 @@ use Rattle.bt_feed.proofs.Reading.{IsPushed, taken_all}
 
 -- ---- items
 
-pub gets_none : (a : Option (List (ℕ × Item))) → Gets a a []
-gets_none None = tt
-gets_none (Some xs) = sym (append-nil xs)
+pub took_both : {S : Type 0} (R : S → ℕ × Item → S → Type 0) (a b c : S) (xs ys : List (ℕ × Item)) → Took R a xs b → Took R b ys c → Took R a (xs ++ ys) c
+took_both R a b c [] ys p q = subst (λ s. Took R s ys c) p q
+took_both R a b c (x ∷ xs) ys p q = (p.0, p.1, took_both R p.0 b c xs ys p.2 q)
 
-pub gets_both : (a b c : Option (List (ℕ × Item))) (xs ys : List (ℕ × Item)) → Gets a b xs → Gets b c ys → Gets a c (xs ++ ys)
-gets_both None b c xs ys p q = tt
-gets_both (Some x) None c xs ys p q = absurd p
-gets_both (Some x) (Some y) None xs ys p q = absurd q
-gets_both (Some x) (Some y) (Some z) xs ys p q = q ∙ ap (λ (l : List (ℕ × Item)). l ++ ys) p ∙ append_assoc x xs ys
+pub took_more : {S : Type 0} (R : S → ℕ × Item → S → Type 0) (a b c : S) (xs : List (ℕ × Item)) (x : ℕ × Item) → Took R a xs b → R b x c → Took R a (xs ++ x ∷ []) c
+took_more R a b c xs x p q = took_both R a b c xs (x ∷ []) p (c, q, refl)
 
-pub gets_no_more : (a b c : Option (List (ℕ × Item))) (xs : List (ℕ × Item)) → Gets a b xs → Gets b c [] → Gets a c xs
-gets_no_more a b c xs p q = subst (Gets a c) (append-nil xs) (gets_both a b c xs [] p q)
+pub given_more : {S : Type 0} (A : Type 0) (takes misses : S → ℕ × Item → S → Type 0) (a b c : S) (xs ys : List (ℕ × Item)) (e : PumpError) → Took takes a xs b → IsGiven {A = A} takes misses b ys c (Err e) → IsGiven {A = ℕ} takes misses a (xs ++ ys) c (Err e)
+given_more A takes misses a b c xs ys (error.Refused r) p q = took_both takes a b c xs ys p q
+given_more A takes misses a b c xs ys error.ReadFault p q = took_both takes a b c xs ys p q
+given_more A takes misses a b c xs ys error.Turns p q = took_both takes a b c xs ys p q
+given_more A takes misses a b c xs ys (error.Sink e) p q =
+    (xs ++ q.0, q.1, q.2, ap (λ (l : List (ℕ × Item)). xs ++ l) q.3 ∙ sym (append_assoc xs q.0 (q.1 ∷ [])), took_both takes a b q.2 xs q.0 p q.4, q.5)
+
+pub given_end : {S : Type 0} (takes misses : S → ℕ × Item → S → Type 0) (a b : S) (xs : List (ℕ × Item)) (f : FeedState) (r : Result ℕ PumpError) → IsEndOf f r → Took takes a xs b → IsGiven takes misses a xs b r
+given_end takes misses a b xs f (Ok n) h p = p
+given_end takes misses a b xs f (Err (error.Refused r)) h p = p
+given_end takes misses a b xs f (Err (error.Sink e)) h p = absurd h.verdict
+given_end takes misses a b xs f (Err error.ReadFault) h p = p
+given_end takes misses a b xs f (Err error.Turns) h p = p
 
 -- ---- bytes through a feed
 
@@ -127,11 +135,12 @@ limit_kept p g answer e le = omega (arith, ap (λ (x : FeedState). limit_of x.st
 
 -- ---- to the verdict
 
-pumped : (f g : FeedState) (bytes lost : List ℕ) (xs : List (ℕ × Item)) (last : Outcome) → IsFed f bytes xs g → Comes g.stage (g.held ++ lost) last → last.items ≡ [] → IsPumped f bytes lost xs g (with_items xs last)
-pumped f g bytes lost xs last m k none = record {
+pumped : (f g : FeedState) (bytes lost : List ℕ) (xs : List (ℕ × Item)) (last : Outcome) → IsFed f bytes xs g → Comes g.stage (g.held ++ lost) last → last.items ≡ [] → last.number ≡ number_of g.stage → IsPumped f bytes lost xs g (with_items xs last)
+pumped f g bytes lost xs last m k none same = record {
   fed = m;
   comes = m.comes lost last k;
   items = ap (λ (l : List (ℕ × Item)). xs ++ l) none ∙ append-nil xs;
+  number = same;
 }
 
 pub ended_refused : (f g : FeedState) (bytes lost : List ℕ) (xs : List (ℕ × Item)) (r : Refusal) → IsFed f bytes xs g → limit_of g.stage ≤ 1048576 → IsAnswer g (Err r) → IsPumpEnd f bytes lost xs g (Err (error.Refused r))
@@ -139,13 +148,13 @@ ended_refused f g bytes lost xs r m le a =
     let last = stopped g.stage (g.held ++ lost) (Some r) in
     let P : Refusal → Type 0 = λ x. Comes g.stage (g.held ++ lost) (stopped g.stage (g.held ++ lost) (Some x)) in
     let comes = subst P (sym a.2) (fault_comes g.stage (g.held ++ lost) a.0 (omega (arith, le)) (fault_more g.stage g.held lost a.0 a.1)) in
-    (with_items xs last, pumped f g bytes lost xs last m comes refl, (λ e. absurd (no_fault_ends g.stage g.held a.0 a.1 (sym (ap (λ (x : Refusal). x.reason) a.2) ∙ e))), refl)
+    (with_items xs last, pumped f g bytes lost xs last m comes refl refl, (λ e. absurd (no_fault_ends g.stage g.held a.0 a.1 (sym (ap (λ (x : Refusal). x.reason) a.2) ∙ e))), refl)
 
 pub ended_open : (f g : FeedState) (bytes : List ℕ) (xs : List (ℕ × Item)) → IsFed f bytes xs g → limit_of g.stage ≤ 1048576 → is_closed g.stage g.held ≡ false → (v : Outcome) × IsPumped f bytes [] xs g v × (v.refusal ≡ None)
 ended_open f g bytes xs m le e =
     let held = append-nil g.held in
     let last = stopped g.stage (g.held ++ []) None in
-    (with_items xs last, pumped f g bytes [] xs last m (open_comes g.stage (g.held ++ []) (omega (arith, le)) (ap (is_closed g.stage) held ∙ e)) refl, refl)
+    (with_items xs last, pumped f g bytes [] xs last m (open_comes g.stage (g.held ++ []) (omega (arith, le)) (ap (is_closed g.stage) held ∙ e)) refl refl, refl)
 
 ended_as : (f g : FeedState) (bytes : List ℕ) (xs : List (ℕ × Item)) (r : Result ℕ PumpError) (last : Outcome) → IsPumped f bytes [] xs g (with_items xs last) → IsVerdictAtEnd last r → IsPumpEnd f bytes [] xs g r
 ended_as f g bytes xs (Ok n) last p v = (with_items xs last, p, refl, v)
@@ -157,7 +166,7 @@ ended_as f g bytes xs (Err error.Turns) last p v = absurd v
 pub ended_last : (f g : FeedState) (bytes : List ℕ) (xs : List (ℕ × Item)) (r : Result ℕ PumpError) → IsFed f bytes xs g → IsEndOf g r → IsPumpEnd f bytes [] xs g r
 ended_last f g bytes xs r m h =
     let P : List ℕ → Type 0 = λ b. Comes g.stage b h.last in
-    ended_as f g bytes xs r h.last (pumped f g bytes [] xs h.last m (subst P (sym (append-nil g.held)) h.comes) h.no_items) h.verdict
+    ended_as f g bytes xs r h.last (pumped f g bytes [] xs h.last m (subst P (sym (append-nil g.held)) h.comes) h.no_items h.number) h.verdict
 
 -- where a piece stops: what went into the feed, what is lost, and how it ended
 pub record IsStop (f : FeedState) (all : List ℕ) (xs : List (ℕ × Item)) (g : FeedState) (e : PumpError) : Type 0 where
@@ -180,7 +189,7 @@ stopped_by f s g before piece xs ys (error.Sink e) m le h = record {
   bytes = before ++ take h.0 piece;
   lost = drop h.0 piece;
   parts = cut before piece h.0;
-  end = (h.1, (let P : List (ℕ × Item) → Type 0 = λ zs. IsFed f (before ++ take h.0 piece) zs g in subst P (sym (append_assoc xs ys (h.1 ∷ []))) (fed_both f s g before (take h.0 piece) xs (ys ++ h.1 ∷ []) m h.2)));
+  end = fed_both f s g before (take h.0 piece) xs ys m h.1;
 }
 stopped_by f s g before piece xs ys error.ReadFault m le h = absurd h
 stopped_by f s g before piece xs ys error.Turns m le h = absurd h
@@ -206,5 +215,6 @@ end_of_open f r h e verdict =
       last = last;
       comes = comes;
       no_items = refl;
+      number = refl;
       verdict = verdict last (finish_verdict f last (omega (arith, h.limit)) h.numbered (not_refused f f.refused refl h.refused e) (open_parts f.stage f.held e).1 comes);
     }

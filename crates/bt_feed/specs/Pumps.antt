@@ -1,5 +1,5 @@
 -- What a pump moves: the bytes of a source through a feed, and its items into a sink.
-use Rattle.std.specs.Prelude.{◌≡◌, ℕ, ⊤, false, List, [], ◌∷◌, ◌++◌, take, Option, Some, None, Result, Ok, Err, MatchResult}
+use Rattle.std.specs.Prelude.{◌≡◌, ℕ, ⊤, false, List, [], ◌∷◌, ◌++◌, take, Option, Some, None, Result, Ok, Err}
 use Rattle.std.specs.Io.KnownBytes.{Consumes}
 use Rattle.bt_wire.specs.declared.fault.Reason.TheVariants.{EndInside}
 use Rattle.bt_wire.specs.declared.item.Item.{Item}
@@ -8,7 +8,7 @@ use Rattle.bt_wire.specs.Streams.{Outcome}
 use Rattle.bt_feed.specs.declared.pumping.PumpError.{PumpError}
 use Rattle.bt_feed.specs.declared.pumping.PumpError.TheVariants as error
 use Rattle.bt_feed.specs.declared.view.Finish.TheVariants as finish
-use Rattle.bt_feed.specs.Stages.{is_closed, Comes}
+use Rattle.bt_feed.specs.Stages.{number_of, is_closed, Comes}
 use Rattle.bt_feed.specs.Feeds.{FeedState}
 use Rattle.bt_feed.specs.Laws.{verdict_at_end}
 use Rattle.bt_feed.specs.Answers.{IsAnswer}
@@ -16,15 +16,18 @@ use Rattle.bt_feed.specs.Transcripts.{with_items}
 
 -- ---- sinks
 
--- known items grow by these
-abbrev pub Gets : Option (List (ℕ × Item)) → Option (List (ℕ × Item)) → List (ℕ × Item) → Type 0
-Gets None new xs = ⊤
-Gets (Some old) None xs = ⊥
-Gets (Some old) (Some new) xs = new ≡ old ++ xs
+-- the items are taken one after the other
+abbrev pub Took : {S : Type 0} → (S → ℕ × Item → S → Type 0) → S → List (ℕ × Item) → S → Type 0
+Took takes old [] new = new ≡ old
+Took takes old (x ∷ xs) new = (next : _) × takes old x next × Took takes next xs new
 
--- the item is taken, or at a fault none
-abbrev pub Takes : {E : Type 0} → Option (List (ℕ × Item)) → Option (List (ℕ × Item)) → Result (Unit {0}) E → ℕ → Item → Type 0
-Takes old new r at item = MatchResult r (λ _. Gets old new ((at, item) ∷ [])) (λ _. Gets old new [])
+-- these items were given: all of them are taken, or at the sink's fault all but the last
+abbrev pub IsGiven : {S A : Type 0} → (S → ℕ × Item → S → Type 0) → (S → ℕ × Item → S → Type 0) → S → List (ℕ × Item) → S → Result A PumpError → Type 0
+IsGiven takes misses old given new (Ok n) = Took takes old given new
+IsGiven takes misses old given new (Err (error.Refused r)) = Took takes old given new
+IsGiven takes misses old given new (Err error.ReadFault) = Took takes old given new
+IsGiven takes misses old given new (Err error.Turns) = Took takes old given new
+IsGiven takes misses old given new (Err (error.Sink e)) = (xs : List (ℕ × Item)) × (x : ℕ × Item) × (last : _) × (given ≡ xs ++ x ∷ []) × Took takes old xs last × misses last x new
 
 -- ---- bytes through a feed
 
@@ -37,20 +40,21 @@ pub record IsPumped (f : FeedState) (bytes lost : List ℕ) (xs : List (ℕ × I
   pub fed : IsFed f bytes xs g
   pub comes : Comes f.stage (f.held ++ (bytes ++ lost)) v
   pub items : v.items ≡ xs
+  pub number : v.number ≡ number_of g.stage
 
--- The bytes went into the feed and the sink has the items; the others are lost. At the end the answer is the verdict there, and
--- nothing is lost; a refusal is that of the verdict; a sink's fault is at one item more. Otherwise nothing is refused or lost.
+-- Behind a sink's fault only what went into the feed is known. Otherwise what was read comes to v: at its end the answer is the
+-- verdict there, and nothing is lost; a refusal is that of the verdict; else nothing is refused or lost.
 abbrev pub IsPumpEnd : FeedState → List ℕ → List ℕ → List (ℕ × Item) → FeedState → Result ℕ PumpError → Type 0
 IsPumpEnd f bytes lost xs g (Ok n) = (v : Outcome) × IsPumped f bytes lost xs g v × (lost ≡ []) × (verdict_at_end v ≡ Ok n)
 IsPumpEnd f bytes lost xs g (Err (error.Refused r)) = (v : Outcome) × IsPumped f bytes lost xs g v × (r.reason ≡ EndInside → lost ≡ []) × (verdict_at_end v ≡ Err (finish.Refused r))
-IsPumpEnd f bytes lost xs g (Err (error.Sink e)) = (x : ℕ × Item) × IsFed f bytes (xs ++ x ∷ []) g
+IsPumpEnd f bytes lost xs g (Err (error.Sink e)) = IsFed f bytes xs g
 IsPumpEnd f bytes lost xs g (Err error.ReadFault) = (v : Outcome) × IsPumped f bytes lost xs g v × (lost ≡ []) × (v.refusal ≡ None)
 IsPumpEnd f bytes lost xs g (Err error.Turns) = (v : Outcome) × IsPumped f bytes lost xs g v × (lost ≡ []) × (v.refusal ≡ None)
 
--- what the source gave, and what the sink got
-abbrev pub IsPump : FeedState → Option (List ℕ) → Option (List ℕ) → Option (List (ℕ × Item)) → Option (List (ℕ × Item)) → FeedState → Result ℕ PumpError → Type 0
-IsPump f left left' got got' g r =
-    (bytes : List ℕ) × (lost : List ℕ) × (xs : List (ℕ × Item)) × Consumes left left' (bytes ++ lost) × Gets got got' xs × IsPumpEnd f bytes lost xs g r
+-- the source gave some bytes, and others that are lost; these items came of them
+abbrev pub IsPump : {S : Type 0} → (S → ℕ × Item → S → Type 0) → (S → ℕ × Item → S → Type 0) → FeedState → Option (List ℕ) → Option (List ℕ) → S → S → FeedState → Result ℕ PumpError → Type 0
+IsPump takes misses f left left' sink sink' g r =
+    (bytes : List ℕ) × (lost : List ℕ) × (xs : List (ℕ × Item)) × Consumes left left' (bytes ++ lost) × IsGiven takes misses sink xs sink' r × IsPumpEnd f bytes lost xs g r
 
 -- the answer is the verdict at the stream's end
 abbrev pub IsVerdictAtEnd : Outcome → Result ℕ PumpError → Type 0
@@ -70,11 +74,11 @@ IsEnd (Err error.Turns) = ⊥
 
 -- ---- for private contracts
 
--- a piece is read; or its front, and what follows is refused; or its front, and the last item is lost
+-- a piece is read; or its front, and what follows is refused, or the last item isn't taken
 abbrev pub IsPieceEnd : FeedState → List ℕ → List (ℕ × Item) → FeedState → Result (Unit {0}) PumpError → Type 0
 IsPieceEnd f piece xs g (Ok u) = IsFed f piece xs g × (is_closed g.stage g.held ≡ false)
 IsPieceEnd f piece xs g (Err (error.Refused r)) = (n : ℕ) × IsFed f (take n piece) xs g × IsAnswer g (Err r)
-IsPieceEnd f piece xs g (Err (error.Sink e)) = (n : ℕ) × (x : ℕ × Item) × IsFed f (take n piece) (xs ++ x ∷ []) g
+IsPieceEnd f piece xs g (Err (error.Sink e)) = (n : ℕ) × IsFed f (take n piece) xs g
 IsPieceEnd f piece xs g (Err error.ReadFault) = ⊥
 IsPieceEnd f piece xs g (Err error.Turns) = ⊥
 
@@ -92,4 +96,5 @@ pub record IsEndOf (f : FeedState) (r : Result ℕ PumpError) : Type 0 where
   pub last : Outcome
   pub comes : Comes f.stage f.held last
   pub no_items : last.items ≡ []
+  pub number : last.number ≡ number_of f.stage
   pub verdict : IsVerdictAtEnd last r

@@ -3,7 +3,7 @@ ghost use Rattle.std.specs.Prelude.{◌≡◌, ◌+◌, ◌-◌, ◌^◌, ◌≤
 ghost use Rattle.bt_wire.specs.declared.fault.Reason.TheVariants as reasons;
 ghost use Rattle.bt_wire.specs.declared.item.Item.{Item};
 ghost use Rattle.bt_feed.specs.Counts.{Grew};
-ghost use Rattle.bt_feed.specs.Pumps.{Gets, IsEnd, IsEndOf, IsPump, IsPieceEnd, IsSinkFault};
+ghost use Rattle.bt_feed.specs.Pumps.{IsGiven, IsEnd, IsEndOf, IsPump, IsPieceEnd, IsSinkFault};
 ghost use Rattle.bt_feed.specs.Stages.{limit_of, is_closed};
 
 use crate::feed::Feed;
@@ -38,7 +38,7 @@ fn pump_piece<S: Sink, A: Allocator>(
     sink: &mut S,
     piece: &[u8],
 ) -> Result<(), PumpError>
-    ensures items { (xs : List (ℕ × Item)) × Gets (S.taken sink.old) (S.taken sink.new) xs × IsPieceEnd feed.old piece.now xs feed.new result }
+    ensures items { (xs : List (ℕ × Item)) × IsGiven S.takes S.misses sink.old xs sink.new result × IsPieceEnd feed.old piece.now xs feed.new result }
     ensures calm { OnOk result (S.failed sink.new ≡ S.failed sink.old) }
     ensures sink { IsSinkFault result → Grew (S.failed sink.old) (S.failed sink.new) }
     ensures limit { limit_of feed.new.stage ≤ 1048576 }
@@ -82,7 +82,7 @@ pub fn pump<R: Source, S: Sink, A: Allocator>(
     sink: &mut S,
     max_turns: u64,
 ) -> Result<u64, PumpError>
-    ensures moved { IsPump feed.old (R.left reader.old) (R.left reader.new) (S.taken sink.old) (S.taken sink.new) feed.new result }
+    ensures moved { IsPump S.takes S.misses feed.old (R.left reader.old) (R.left reader.new) sink.old sink.new feed.new result }
     ensures end { IsEnd result → Grew (R.ends reader.old) (R.ends reader.new) }
     ensures read { result ≡ Err PumpError.ReadFault → Grew (R.failed_reads reader.old) (R.failed_reads reader.new) }
     ensures sink { IsSinkFault result → Grew (S.failed sink.old) (S.failed sink.new) }

@@ -5,7 +5,7 @@ use Rattle.std.proofs.lemmas.List.{append-nil}
 use Rattle.std.specs.Io.KnownBytes.{Consumes}
 use Rattle.bt_feed.specs.Pumps.{IsPieceEnd}
 use Rattle.bt_feed.specs.declared.pumping.PumpError.{PumpError}
-use Rattle.bt_feed.proofs.Moving.{gets_both, fed_none, fed_both, stopped_by, not_at_end, ended_open, ended_last}
+use Rattle.bt_feed.proofs.Moving.{took_both, given_more, given_end, fed_none, fed_both, stopped_by, not_at_end, ended_open, ended_last}
 use Rattle.bt_feed.proofs.pumping.pump.Goals as goal
 
 pub returns-in-Err-clause-moved : goal.returns-in-Err-clause-moved
@@ -13,7 +13,7 @@ returns-in-Err-clause-moved g c =
     let p = c.in-Err.ensures.items in
     let stop = stopped_by c.args.feed.now c.args.feed.now c.pump_piece.new.feed [] [] [] p.0 c.in-Err.error (fed_none c.args.feed.now) c.in-Err.ensures.limit p.2 in
     let left = g.R.Source.left c.args.reader.now in
-    (stop.bytes, stop.lost, p.0, subst (Consumes left left) stop.parts (Consumes-nil left), p.1, stop.end)
+    (stop.bytes, stop.lost, p.0, subst (Consumes left left) stop.parts (Consumes-nil left), given_more (Unit {0}) g.S.Sink.takes g.S.Sink.misses _ _ _ [] p.0 c.in-Err.error refl p.1, stop.end)
 
 pub returns-in-Err-clause-end : goal.returns-in-Err-clause-end
 returns-in-Err-clause-end g c = λ e. let p = c.in-Err.ensures.items in absurd (not_at_end c.args.feed.now c.pump_piece.new.feed [] p.0 c.in-Err.error p.2 e)
@@ -23,7 +23,7 @@ returns-in-Ok-eq0-clause-moved g c =
     let m = c.loop-turn.invariant.moved in
     let none : c.in-Ok-eq0.field-0 ≡ 0 = omega (arith, c.in-Ok-eq0.field-0-test) in
     let P : ℕ → Type 0 = λ k. Consumes (g.R.Source.left c.loop-turn.reader) (g.R.Source.left c.read.new.self) (take k c.read.new.into) in
-    (m.0, [], m.1, Consumes-trans _ _ _ m.0 [] m.2 (subst P none c.in-Ok-eq0.ensures.bytes.0), m.3, ended_last c.args.feed.now c.loop-turn.feed m.0 m.1 c.end.result m.4 c.end.ensures.end)
+    (m.0, [], m.1, Consumes-trans _ _ _ m.0 [] m.2 (subst P none c.in-Ok-eq0.ensures.bytes.0), given_end g.S.Sink.takes g.S.Sink.misses _ _ m.1 c.loop-turn.feed c.end.result c.end.ensures.end m.3, ended_last c.args.feed.now c.loop-turn.feed m.0 m.1 c.end.result m.4 c.end.ensures.end)
 
 pub returns-in-Err-pump_piece-clause-moved : goal.returns-in-Err-pump_piece-clause-moved
 returns-in-Err-pump_piece-clause-moved g c =
@@ -33,7 +33,7 @@ returns-in-Err-pump_piece-clause-moved g c =
     let stop = stopped_by c.args.feed.now c.loop-turn.feed c.pump_piece-in-Ok.new.feed m.0 piece m.1 p.0 c.in-Err-pump_piece.error m.4 c.in-Err-pump_piece.ensures.limit p.2 in
     let left = g.R.Source.left c.args.reader.now in
     let left' = g.R.Source.left c.read.new.self in
-    (stop.bytes, stop.lost, m.1 ++ p.0, subst (Consumes left left') stop.parts (Consumes-trans _ _ _ m.0 piece m.2 c.in-Ok.ensures.bytes.0), gets_both _ _ _ m.1 p.0 m.3 p.1, stop.end)
+    (stop.bytes, stop.lost, m.1 ++ p.0, subst (Consumes left left') stop.parts (Consumes-trans _ _ _ m.0 piece m.2 c.in-Ok.ensures.bytes.0), given_more (Unit {0}) g.S.Sink.takes g.S.Sink.misses _ _ _ m.1 p.0 c.in-Err-pump_piece.error m.3 p.1, stop.end)
 
 pub returns-in-Err-pump_piece-clause-end : goal.returns-in-Err-pump_piece-clause-end
 returns-in-Err-pump_piece-clause-end g c = λ e.
@@ -61,7 +61,7 @@ loop-turn-preserved g c =
       reads = omega (arith, c.in-Ok.ensures.reads, c.loop-turn.invariant.reads);
       limit = c.in_default-pump_piece.ensures.limit;
       waits = done.1;
-      moved = (m.0 ++ piece, m.1 ++ xs, Consumes-trans _ _ _ m.0 piece m.2 c.in-Ok.ensures.bytes.0, gets_both _ _ _ m.1 xs m.3 c.in_default-pump_piece.ensures.items.1, fed_both c.args.feed.now c.loop-turn.feed c.pump_piece-in-Ok.new.feed m.0 piece m.1 xs m.4 done.0);
+      moved = (m.0 ++ piece, m.1 ++ xs, Consumes-trans _ _ _ m.0 piece m.2 c.in-Ok.ensures.bytes.0, took_both _ _ _ _ m.1 xs m.3 c.in_default-pump_piece.ensures.items.1, fed_both c.args.feed.now c.loop-turn.feed c.pump_piece-in-Ok.new.feed m.0 piece m.1 xs m.4 done.0);
     }
 
 pub returns-clause-moved : goal.returns-clause-moved

@@ -2,7 +2,7 @@ use Rattle.std.proofs.Common.{◌≡◌, ◌+◌, ◌-◌, ◌^◌, ◌≤◌, �
 use Rattle.std.specs.Io.KnownBytes.{Consumes}
 use Rattle.bt_wire.specs.declared.item.Item.{Item}
 use Rattle.bt_feed.specs.Stages.{limit_of, is_closed}
-use Rattle.bt_feed.specs.Pumps.{Gets, IsFed}
+use Rattle.bt_feed.specs.Pumps.{Took, IsFed}
 use Rattle.bt_feed.proofs.pumping.pump.Given as goal
 
 -- what was read so far went into the feed, which waits
@@ -14,5 +14,5 @@ invariant-loop-turn g l = record {
   reads : min (g.R.Source.reads l.fn.reader + l._turn) (2 ^ 64 - 1) ≤ g.R.Source.reads l.reader;
   limit : limit_of l.feed.stage ≤ 1048576;
   waits : is_closed l.feed.stage l.feed.held ≡ false;
-  moved : (bytes : List ℕ) × (xs : List (ℕ × Item)) × Consumes (g.R.Source.left l.fn.reader) (g.R.Source.left l.reader) bytes × Gets (g.S.Sink.taken l.fn.sink) (g.S.Sink.taken l.sink) xs × IsFed l.fn.feed bytes xs l.feed;
+  moved : (bytes : List ℕ) × (xs : List (ℕ × Item)) × Consumes (g.R.Source.left l.fn.reader) (g.R.Source.left l.reader) bytes × Took g.S.Sink.takes l.fn.sink xs l.sink × IsFed l.fn.feed bytes xs l.feed;
 }
