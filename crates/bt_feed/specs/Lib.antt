@@ -8,3 +8,4 @@ pub mod Transcripts
 pub mod Laws
 pub mod Counts
 pub mod Devices
+pub mod Outbox
