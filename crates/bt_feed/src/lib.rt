@@ -15,6 +15,12 @@ mod stage;
 mod target;
 #[cfg(test)]
 mod tests;
+#[cfg(test)]
+mod tests_devices;
+#[cfg(test)]
+mod tests_memory;
+#[cfg(test)]
+mod tests_outbox;
 mod transcript;
 mod view;
 

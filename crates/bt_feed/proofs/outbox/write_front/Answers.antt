@@ -1,6 +1,6 @@
-use Rattle.std.proofs.Common.{◌+◌, ◌-◌, length, take, drop, sym, arith}
+use Rattle.std.proofs.Common.{◌-◌, length, drop, arith}
 use Rattle.std.proofs.lemmas.List.{length-drop, length-take}
-use Rattle.bt_feed.proofs.Moved.{Appends-more, Appends-none}
+use Rattle.bt_feed.proofs.Moved.{Appends-more}
 use Rattle.bt_feed.proofs.outbox.write_front.Goals as goal
 
 pub loop-done-preserved : goal.loop-done-preserved
