@@ -8,4 +8,5 @@ pub mod Transcripts
 pub mod Laws
 pub mod Counts
 pub mod Devices
+pub mod Outbox
 pub mod Pumps

@@ -7,6 +7,7 @@ mod feed;
 mod host;
 pub mod laws;
 mod memory;
+mod outbox;
 mod progress;
 mod pumping;
 mod sink;
@@ -16,6 +17,12 @@ mod stage;
 mod target;
 #[cfg(test)]
 mod tests;
+#[cfg(test)]
+mod tests_devices;
+#[cfg(test)]
+mod tests_memory;
+#[cfg(test)]
+mod tests_outbox;
 mod transcript;
 mod view;
 
@@ -23,6 +30,7 @@ pub use failed::Failed;
 pub use feed::{Feed, FeedError};
 pub use host::Host;
 pub use memory::{MemSource, MemTarget};
+pub use outbox::{Memory, Outbox, WriteFault};
 pub use pumping::{PumpError, pump};
 pub use sink::{Sink, SinkFault};
 pub use source::Source;
