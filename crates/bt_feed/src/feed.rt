@@ -53,7 +53,7 @@ impl<A: Allocator> Model for Feed<A> {
     ghost invariant = { IsSound };
 }
 
-ghost use Rattle.bt_feed.specs.Stages.{limit_of, start_of, capacity_of, is_closed};
+ghost use Rattle.bt_feed.specs.Stages.{limit_of, start_of, number_of, capacity_of, is_closed};
 ghost use Rattle.bt_feed.specs.Feeds.{taken, pushed};
 ghost use Rattle.bt_feed.specs.Views.{shown};
 ghost use Rattle.bt_feed.specs.Progress.{IsPartial, IsFeed};
@@ -108,6 +108,13 @@ impl<A: Allocator> Feed<A> {
         ensures feed { IsFeed self.now }
     {
         self.progress.stage.start()
+    }
+
+    /// The present item's number: 0 for the handshake, k for the k-th message behind it.
+    pub fn number(&self) -> u64
+        ensures { result ≡ number_of self.now.stage }
+    {
+        self.progress.stage.number()
     }
 
     /// How many bytes of the present item are held.

@@ -30,7 +30,7 @@ pub use failed::Failed;
 pub use feed::{Feed, FeedError};
 pub use host::Host;
 pub use memory::{MemSource, MemTarget};
-pub use outbox::{Memory, Outbox, WriteFault};
+pub use outbox::{Memory, Outbox, WriteFault, write_front};
 pub use pumping::{PumpError, pump};
 pub use sink::{Sink, SinkFault};
 pub use source::Source;

@@ -80,7 +80,7 @@ fn make_room<A: Allocator>(buffer: &mut Vec<u8, A>, at: &mut usize, n: usize) ->
 }
 
 /// Writes the bytes until all are taken or a write fails, and says how many were taken.
-fn write_front<W: Target>(writer: &mut W, bytes: &[u8]) -> usize
+pub fn write_front<W: Target>(writer: &mut W, bytes: &[u8]) -> usize
     ensures within { result ≤ length bytes.now }
     ensures sent { Appends (W.held writer.old) (W.held writer.new) (take result bytes.now) }
     ensures stopped { result < length bytes.now → Grew (W.failed_writes writer.old) (W.failed_writes writer.new) }

@@ -40,7 +40,7 @@ pub(crate) enum Goal {
 impl Stage {
     /// The number of the item.
     #[inline(always)]
-    fn number(&self) -> u64
+    pub fn number(&self) -> u64
         ensures { result ≡ number_of self.now }
     {
         match self {

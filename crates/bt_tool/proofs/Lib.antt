@@ -1,4 +1,2 @@
-mod Walking
-mod Fronts
-mod Places
 mod Numbers
+mod Printing

@@ -1,5 +1,4 @@
 pub mod Lines
-pub mod Shown
-pub mod Walked
+pub mod Printed
 pub mod Commands
 pub mod Options

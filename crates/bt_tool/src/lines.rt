@@ -270,10 +270,10 @@ pub fn message_line(at: u64, view: &MessageView, line: &mut Line) -> usize
     number(at, line, place)
 }
 
-/// Writes the line of a handshake, whose offset is 0, at the end of the array, and says where it starts.
-pub fn handshake_line(handshake: &Handshake, line: &mut Line) -> usize
+/// Writes the line of a handshake at the end of the array, and says where it starts.
+pub fn handshake_line(at: u64, handshake: &Handshake, line: &mut Line) -> usize
     ensures room { result ≤ 160 }
-    ensures text { (own : Own) → drop result line.new ≡ line_of own (0, items.Handshake handshake.now) }
+    ensures text { (own : Own) → drop result line.new ≡ line_of own (at, items.Handshake handshake.now) }
 {
     let place = word(b"\n", line, 160);
     let place = hex_word(&handshake.peer_id, line, place);
@@ -282,7 +282,7 @@ pub fn handshake_line(handshake: &Handshake, line: &mut Line) -> usize
     let place = word(b" ", line, place);
     let place = hex_word(&handshake.reserved.0.to_be_bytes(), line, place);
     let place = word(b" handshake ", line, place);
-    number(0, line, place)
+    number(at, line, place)
 }
 
 /// The name of a reason.

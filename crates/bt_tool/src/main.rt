@@ -5,12 +5,12 @@ mod commands;
 mod ended;
 mod lines;
 mod options;
+mod printer;
 mod show;
 #[cfg(test)]
 mod tests;
 #[cfg(test)]
 mod tests_options;
-mod transfer;
 mod values;
 
 use crate::commands::{Asked, Notice, status, status_of};

@@ -1,0 +1,96 @@
+-- What a command writes of a stream, and what it does to its reader and its writer.
+use Rattle.std.specs.Prelude.{◌≡◌, ℕ, ⊤, List, [], ◌++◌, length, Option, None, Some, Result, Ok, Err, MatchResult}
+use Rattle.std.specs.Io.KnownBytes.{Consumes, Appends}
+use Rattle.std.specs.List.{flat_map}
+use Rattle.bt_feed.specs.Feeds.{FeedState}
+use Rattle.bt_feed.specs.Stages.{Comes}
+use Rattle.bt_feed.specs.Transcripts.{with_items}
+use Rattle.bt_wire.specs.declared.context.Own.{Own}
+use Rattle.bt_wire.specs.declared.fault.Reason.TheVariants.{EndInside}
+use Rattle.bt_wire.specs.declared.item.Item.{Item}
+use Rattle.bt_wire.specs.Streams.{Outcome, IsVerdict}
+use Rattle.bt_tool.specs.declared.ended.Ended.{Ended}
+use Rattle.bt_tool.specs.declared.ended.Ended.TheVariants.{Accepted, Refused}
+use Rattle.bt_tool.specs.declared.ended.ToolFault.{ToolFault}
+use Rattle.bt_tool.specs.declared.printer.Form.{Form}
+use Rattle.bt_tool.specs.declared.printer.Form.TheVariants as form
+use Rattle.bt_tool.specs.declared.printer.Printer.{Printer}
+use Rattle.bt_tool.specs.Lines.{line, ended_as}
+
+-- ---- the text of items
+
+abbrev pub text_of : Form → Own → ℕ × Item → List ℕ
+text_of form.Show own x = line own x
+text_of form.Check own x = []
+
+abbrev pub texts : Form → Own → List (ℕ × Item) → List ℕ
+texts f own xs = flat_map (text_of f own) xs
+
+-- what a printer writes, and what it hasn't written yet
+abbrev pub form_of : Printer → Form
+form_of p = p.form
+
+abbrev pub text_in : Printer → List ℕ
+text_in p = p.text.items
+
+-- the item's text is behind that of the others
+abbrev pub Prints : Printer → ℕ × Item → Printer → Type 0
+Prints old x new = (form_of new ≡ form_of old) × ((own : Own) → text_in new ≡ text_in old ++ text_of (form_of old) own x)
+
+-- ---- known bytes
+
+-- they grow by some front of bs
+abbrev pub AppendsFront : Option (List ℕ) → Option (List ℕ) → List ℕ → Type 0
+AppendsFront old new bs = (front : List ℕ) × (back : List ℕ) × (bs ≡ front ++ back) × Appends old new front
+
+-- all of the text is written, and gone, or at a fault a front of it
+abbrev pub IsFlushed : {T : Type 0} → T → List ℕ → Option (List ℕ) → Option (List ℕ) → List ℕ → Result T ToolFault → Type 0
+IsFlushed answer text held held' left (Ok a) = (a ≡ answer) × Appends held held' text × (left ≡ [])
+IsFlushed answer text held held' left (Err e) = AppendsFront held held' text
+
+-- ---- commands
+
+-- a verdict that stands only at the stream's end
+abbrev pub WantsEnd : Ended → Type 0
+WantsEnd (Accepted messages bytes) = ⊤
+WantsEnd (Refused r) = r.reason ≡ EndInside
+
+-- what a command writes of a stream of n bytes that comes to v
+abbrev pub Writing : Type 0
+Writing = Outcome → ℕ → List ℕ
+
+-- all of it is written, and the answer is the verdict
+abbrev pub IsAllWritten : Writing → Own → List ℕ → Option (List ℕ) → Option (List ℕ) → Ended → Type 0
+IsAllWritten w own b held held' e = (v : Outcome) × IsVerdict own b v × Appends held held' (w v (length b)) × (e ≡ ended_as v (length b))
+
+-- a front of it is written
+abbrev pub IsFrontWritten : Writing → Own → List ℕ → Option (List ℕ) → Option (List ℕ) → Type 0
+IsFrontWritten w own b held held' = (v : Outcome) → IsVerdict own b v → AppendsFront held held' (w v (length b))
+
+-- what was read is b: all of its text is written, or at a fault a front of that
+abbrev pub IsWritten : Writing → Own → Option (List ℕ) → Option (List ℕ) → Option (List ℕ) → Option (List ℕ) → Result Ended ToolFault → Type 0
+IsWritten w own left left' held held' r =
+    (b : List ℕ) × Consumes left left' b × MatchResult r (IsAllWritten w own b held held') (λ _. IsFrontWritten w own b held held')
+
+-- the items alone
+abbrev pub items_in : Form → Own → Writing
+items_in f own v n = texts f own v.items
+
+-- ---- for private contracts: how far a stream is read
+
+-- b was read, these are its items, and the feed holds what is behind them
+pub record IsReadTo (own : Own) (b : List ℕ) (xs : List (ℕ × Item)) (f : FeedState) : Type 0 where
+  pub comes : (later : List ℕ) (v : Outcome) → Comes f.stage (f.held ++ later) v → IsVerdict own (b ++ later) (with_items xs v)
+  pub now : Outcome
+  pub is : IsVerdict own b now
+  pub items : now.items ≡ xs
+
+-- a turn read some bytes more: it goes on behind the text of some items more, or all is written, or at a fault a front
+abbrev pub IsTurn : Form → Own → List ℕ → List (ℕ × Item) → Option (List ℕ) → Option (List ℕ) → Option (List ℕ) → Option (List ℕ) → FeedState → Printer → Result (Option Ended) ToolFault → Type 0
+IsTurn f own b xs left left' held held' g p (Ok None) =
+    (more : List ℕ) × (ys : List (ℕ × Item)) × Consumes left left' more × Appends held held' (texts f own ys) × IsReadTo own (b ++ more) (xs ++ ys) g × (form_of p ≡ f) × (text_in p ≡ [])
+IsTurn f own b xs left left' held held' g p (Ok (Some e)) =
+    (more : List ℕ) × (ys : List (ℕ × Item)) × Consumes left left' more × Appends held held' (texts f own ys)
+    × ((v : Outcome) × IsVerdict own (b ++ more) v × (v.items ≡ xs ++ ys) × (e ≡ ended_as v (length (b ++ more)))) × (form_of p ≡ f) × (text_in p ≡ [])
+IsTurn f own b xs left left' held held' g p (Err e) =
+    (more : List ℕ) × Consumes left left' more × ((v : Outcome) → IsVerdict own (b ++ more) v → (ys : List (ℕ × Item)) × (v.items ≡ xs ++ ys) × AppendsFront held held' (texts f own ys))
