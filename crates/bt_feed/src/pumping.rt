@@ -87,7 +87,7 @@ pub fn pump<R: Source, S: Sink, A: Allocator>(
     ensures read { result ≡ Err PumpError.ReadFault → Grew (R.failed_reads reader.old) (R.failed_reads reader.new) }
     ensures sink { IsSinkFault result → Grew (S.failed sink.old) (S.failed sink.new) }
     ensures turns { result ≡ Err PumpError.Turns
-        → (min (R.reads reader.old + max_turns) (2 ^ 64 - 1) ≤ R.reads reader.new) × (R.ends reader.new ≡ R.ends reader.old) }
+        → (min (R.reads reader.old + max_turns) (2 ^ 64 - 1) ≤ R.reads reader.new) × (R.failed_reads reader.new ≡ R.failed_reads reader.old) × (R.ends reader.new ≡ R.ends reader.old) }
 {
     if let Err(error) = pump_piece(feed, sink, &[]) {
         return Err(error);

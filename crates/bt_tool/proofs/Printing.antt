@@ -2,7 +2,7 @@
 use Rattle.std.proofs.Common.{◌≡◌, ℕ, ◌+◌, ◌-◌, ◌^◌, ◌<◌, ◌≤◌, List, [], ◌∷◌, ◌++◌, length, drop, Option, Some, None, Result, Ok, Err, refl, sym, ap, subst, ◌∙◌, arith, inl, inr}
 use Rattle.std.proofs.lemmas.Bool.{cases_lt}
 use Rattle.std.proofs.lemmas.List.{append-nil, append_assoc, length-append}
-use Rattle.std.proofs.KnownBytes.{Appends-nil}
+use Rattle.std.proofs.KnownBytes.{Appends-nil, Appends-trans, Consumes-nil, Consumes-trans}
 use Rattle.std.specs.Io.KnownBytes.{Consumes, Appends}
 use Rattle.std.specs.List.{flat_map}
 use Rattle.bt_wire.specs.declared.context.Own.{Own}
@@ -20,15 +20,19 @@ use Rattle.bt_feed.specs.Answers.{unless_refused}
 use Rattle.bt_feed.specs.Feeds.{FeedState}
 use Rattle.bt_feed.specs.Laws.{verdict_at_end}
 use Rattle.bt_feed.specs.Pumps.{Took, IsPumped}
-use Rattle.bt_feed.specs.Stages.{Comes, number_of}
+use Rattle.bt_feed.specs.Stages.{Comes, number_of, stopped}
 use Rattle.bt_feed.specs.Transcripts.{with_items}
 use Rattle.bt_tool.specs.declared.ended.Ended.{Ended}
 use Rattle.bt_tool.specs.declared.ended.Ended.TheVariants.{Accepted, Refused}
 use Rattle.bt_tool.specs.declared.ended.ToolFault.{ToolFault}
 use Rattle.bt_tool.specs.declared.printer.Form.{Form}
+use Rattle.bt_tool.specs.declared.printer.Form.TheVariants as forms
+use Rattle.bt_feed.proofs.Coming.{open_comes}
+use Rattle.bt_feed.proofs.Reading.{hand_open}
+use Rattle.std.specs.Prelude.{MatchResult}
 use Rattle.bt_tool.specs.declared.printer.Printer.{Printer}
-use Rattle.bt_tool.specs.Lines.{ended_by, ended_as}
-use Rattle.bt_tool.specs.Printed.{texts, text_of, form_of, text_in, Prints, AppendsFront, IsFlushed, IsReadTo, IsTurn}
+use Rattle.bt_tool.specs.Lines.{ended_by, ended_as, verdict_line, lines_of}
+use Rattle.bt_tool.specs.Printed.{texts, text_of, form_of, text_in, Prints, AppendsFront, IsFlushed, IsAllWritten, IsFrontWritten, items_in, IsReadTo, IsTurn}
 
 -- ---- the text of items
 
@@ -46,10 +50,10 @@ printed p q (x ∷ xs) h =
 -- ---- the verdict at the end
 
 length_by : (o : Option Fault) (own : Own) (b : List ℕ) (v : Outcome) → IsVerdictBy o own b v → v.start + length v.tail ≡ length b
-length_by (Some f) own b v h = ap (λ (w : Outcome). w.start + length w.tail) h
+length_by (Some f) own b v h = omega (arith, ap (λ (w : Outcome). w.start + length w.tail) h)
 length_by None own b v h =
     elim (cases_lt (length b) 68) [
-      | inl lt ↦ ap (λ (w : Outcome). w.start + length w.tail) (h.0 lt)
+      | inl lt ↦ omega (arith, ap (λ (w : Outcome). w.start + length w.tail) (h.0 lt))
       | inr le ↦
           let o = h.1 le in
           omega (arith, ap (λ (w : Outcome). w.start + length w.tail) o.whole, o.messages.start_after, ap length o.parts, length-append (hand o.handshake) o.rest, hand-length o.handshake o.fits)
@@ -140,3 +144,117 @@ is_accepted v g number messages n e same is less =
 
 pub is_refused : (v : Outcome) (r : Refusal) → verdict_at_end v ≡ Err (finish.Refused r) → Refused r ≡ ended_as v (v.start + length v.tail)
 is_refused v r e = ap (λ (o : Option Refusal). ended_by o v.number (v.start + length v.tail)) (sym (refused_by (refusal_at_end v) (v.start + length v.tail) r e))
+
+-- ---- the turns
+
+texts_both : (form : Form) (own : Own) (xs ys : List (ℕ × Item)) → texts form own (xs ++ ys) ≡ texts form own xs ++ texts form own ys
+texts_both form own [] ys = refl
+texts_both form own (x ∷ xs) ys = ap (λ (l : List ℕ). text_of form own x ++ l) (texts_both form own xs ys) ∙ sym (append_assoc (text_of form own x) (texts form own xs) (texts form own ys))
+
+-- a new feed
+pub starts : (own : Own) (f : FeedState) → own.limit ≤ 1048576 → f ≡ record { stage = stage.Handshake own; held = []; refused = None } → IsReadTo own [] [] f
+starts own f le e =
+    let P : FeedState → Type 0 = λ s. IsReadTo own [] [] s in
+    subst P (sym e) (record {
+      comes = λ later v k. k;
+      now = stopped (stage.Handshake own) [] None;
+      is = open_comes (stage.Handshake own) [] (omega (arith, le)) (hand_open own);
+      items = refl;
+    })
+
+-- what was told before, and a turn more
+pub record IsToldTo (form : Form) (own : Own) (left left' held held' : Option (List ℕ)) (f : FeedState) (p : Printer) : Type 0 where
+  pub bytes : List ℕ
+  pub items : List (ℕ × Item)
+  pub consumed : Consumes left left' bytes
+  pub written : Appends held held' (texts form own items)
+  pub read : IsReadTo own bytes items f
+  pub form_is : form_of p ≡ form
+  pub empty : text_in p ≡ []
+
+pub told_first : (own : Own) (left held : Option (List ℕ)) (f : FeedState) (p : Printer) → own.limit ≤ 1048576 → f ≡ record { stage = stage.Handshake own; held = []; refused = None } → text_in p ≡ [] → IsToldTo (form_of p) own left left held held f p
+told_first own left held f p le e empty =
+    record { bytes = []; items = []; consumed = Consumes-nil left; written = Appends-nil held; read = starts own f le e; form_is = refl; empty = empty }
+
+joined : (form : Form) (own : Own) (a b c : Option (List ℕ)) (xs ys : List (ℕ × Item)) → Appends a b (texts form own xs) → Appends b c (texts form own ys) → Appends a c (texts form own (xs ++ ys))
+joined form own a b c xs ys p q = subst (Appends a c) (sym (texts_both form own xs ys)) (Appends-trans a b c (texts form own xs) (texts form own ys) p q)
+
+pub told_more : (form : Form) (own : Own) (left0 left left' held0 held held' : Option (List ℕ)) (f g : FeedState) (p q : Printer) → (t : IsToldTo form own left0 left held0 held f p)
+    → IsTurn (form_of p) own t.bytes t.items left left' held held' g q (Ok None) → IsToldTo form own left0 left' held0 held' g q
+told_more form own left0 left left' held0 held held' f g p q t n =
+    let P : Form → Type 0 = λ x. IsTurn x own t.bytes t.items left left' held held' g q (Ok None) in
+    let m = subst P t.form_is n in
+    record {
+      bytes = t.bytes ++ m.0;
+      items = t.items ++ m.1;
+      consumed = Consumes-trans left0 left left' t.bytes m.0 t.consumed m.2;
+      written = joined form own held0 held held' t.items m.1 t.written m.3;
+      read = m.4;
+      form_is = m.5;
+      empty = m.6;
+    }
+
+pub told_end : (form : Form) (own : Own) (left0 left left' held0 held held' : Option (List ℕ)) (f g : FeedState) (p q : Printer) (e : Ended) → (t : IsToldTo form own left0 left held0 held f p)
+    → IsTurn (form_of p) own t.bytes t.items left left' held held' g q (Ok (Some e)) → ((b : List ℕ) × Consumes left0 left' b × IsAllWritten (items_in form own) own b held0 held' e) × (text_in q ≡ [])
+told_end form own left0 left left' held0 held held' f g p q e t n =
+    let P : Form → Type 0 = λ x. IsTurn x own t.bytes t.items left left' held held' g q (Ok (Some e)) in
+    let m = subst P t.form_is n in
+    let v = m.4.0 in
+    let Q : List (ℕ × Item) → Type 0 = λ xs. Appends held0 held' (texts form own xs) in
+    ((t.bytes ++ m.0, Consumes-trans left0 left left' t.bytes m.0 t.consumed m.2, (v, m.4.1, subst Q (sym m.4.2) (joined form own held0 held held' t.items m.1 t.written m.3), m.4.3)), m.6)
+
+-- known bytes that grew, and then by a front
+front_behind : (a b c : Option (List ℕ)) (xs ys : List ℕ) → Appends a b xs → AppendsFront b c ys → AppendsFront a c (xs ++ ys)
+front_behind a b c xs ys p q = (xs ++ q.0, q.1, ap (λ (l : List ℕ). xs ++ l) q.2 ∙ sym (append_assoc xs q.0 q.1), Appends-trans a b c xs q.0 p q.3)
+
+-- a front, of something longer
+front_of_more : (a b : Option (List ℕ)) (xs ys : List ℕ) → AppendsFront a b xs → AppendsFront a b (xs ++ ys)
+front_of_more a b xs ys p = (p.0, p.1 ++ ys, ap (λ (l : List ℕ). l ++ ys) p.2 ∙ append_assoc p.0 p.1 ys, p.3)
+
+all_is_front : (a b : Option (List ℕ)) (xs : List ℕ) → Appends a b xs → AppendsFront a b xs
+all_is_front a b xs p = (xs, [], sym (append-nil xs), p)
+
+pub told_fault : (form : Form) (own : Own) (left0 left left' held0 held held' : Option (List ℕ)) (f g : FeedState) (p q : Printer) (e : ToolFault) → (t : IsToldTo form own left0 left held0 held f p)
+    → IsTurn (form_of p) own t.bytes t.items left left' held held' g q (Err e) → (b : List ℕ) × Consumes left0 left' b × IsFrontWritten (items_in form own) own b held0 held'
+told_fault form own left0 left left' held0 held held' f g p q e t n =
+    let P : Form → Type 0 = λ x. IsTurn x own t.bytes t.items left left' held held' g q (Err e) in
+    let m = subst P t.form_is n in
+    (t.bytes ++ m.0, Consumes-trans left0 left left' t.bytes m.0 t.consumed m.1, λ w is.
+      let k = m.2 w is in
+      let all : texts form own t.items ++ texts form own k.0 ≡ texts form own w.items = sym (texts_both form own t.items k.0) ∙ ap (texts form own) (sym k.1) in
+      subst (AppendsFront held0 held') all (front_behind held0 held held' (texts form own t.items) (texts form own k.0) t.written k.2))
+
+-- after so many turns what is written is a front
+pub told_so_far : (form : Form) (own : Own) (left left' held held' : Option (List ℕ)) (f : FeedState) (p : Printer) → own.limit ≤ 1048576 → VerdictIsOne → IsToldTo form own left left' held held' f p
+    → (b : List ℕ) × Consumes left left' b × IsFrontWritten (items_in form own) own b held held'
+told_so_far form own left left' held held' f p le one t =
+    (t.bytes, t.consumed, λ w is.
+      let same : t.items ≡ w.items = sym t.read.items ∙ ap (λ (v : Outcome). v.items) (one own t.bytes t.read.now w (omega (arith, le)) t.read.is is) in
+      subst (λ xs. AppendsFront held held' (texts form own xs)) same (all_is_front held held' (texts form own t.items) t.written))
+
+-- ---- the verdict's line
+
+pub front_shown : (own : Own) (b : List ℕ) (held held' : Option (List ℕ)) → IsFrontWritten (items_in forms.Show own) own b held held' → IsFrontWritten (lines_of own) own b held held'
+front_shown own b held held' h = λ w is. front_of_more held held' (texts forms.Show own w.items) (verdict_line (ended_as w (length b))) (h w is)
+
+-- the same outcome
+written_by : (own : Own) (b : List ℕ) (held held' : Option (List ℕ)) (e : Ended) → own.limit < 2 ^ 32 → VerdictIsOne → (a : IsAllWritten (items_in forms.Show own) own b held held' e) → (w : Outcome) → IsVerdict own b w
+    → Appends held held' (texts forms.Show own w.items) × (e ≡ ended_as w (length b))
+written_by own b held held' e lt one a w is =
+    let same = one own b a.0 w lt a.1 is in
+    subst (λ (v : Outcome). Appends held held' (texts forms.Show own v.items) × (e ≡ ended_as v (length b))) same (a.2, a.3)
+
+pub front_shown_all : (own : Own) (b : List ℕ) (held held' : Option (List ℕ)) (e : Ended) → own.limit < 2 ^ 32 → VerdictIsOne → IsAllWritten (items_in forms.Show own) own b held held' e → IsFrontWritten (lines_of own) own b held held'
+front_shown_all own b held held' e lt one a = λ w is.
+    let here = written_by own b held held' e lt one a w is in
+    front_of_more held held' (texts forms.Show own w.items) (verdict_line (ended_as w (length b))) (all_is_front held held' (texts forms.Show own w.items) here.0)
+
+pub all_shown : (own : Own) (b text left : List ℕ) (held mid held' : Option (List ℕ)) (e : Ended) (r : Result Ended ToolFault) → own.limit < 2 ^ 32 → VerdictIsOne → IsAllWritten (items_in forms.Show own) own b held mid e
+    → text ≡ verdict_line e → IsFlushed e text mid held' left r → MatchResult r (IsAllWritten (lines_of own) own b held held') (λ _. IsFrontWritten (lines_of own) own b held held')
+all_shown own b text left held mid held' e (Ok d) lt one a is f =
+    let v = a.0 in
+    let line : text ≡ verdict_line (ended_as v (length b)) = is ∙ ap verdict_line a.3 in
+    (v, a.1, Appends-trans held mid held' (texts forms.Show own v.items) (verdict_line (ended_as v (length b))) a.2 (subst (Appends mid held') line f.1), f.0 ∙ a.3)
+all_shown own b text left held mid held' e (Err x) lt one a is f = λ w isw.
+    let here = written_by own b held mid e lt one a w isw in
+    front_behind held mid held' (texts forms.Show own w.items) (verdict_line (ended_as w (length b))) here.0 (subst (AppendsFront mid held') (is ∙ ap verdict_line here.1) f)

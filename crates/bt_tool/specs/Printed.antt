@@ -1,5 +1,5 @@
 -- What a command writes of a stream, and what it does to its reader and its writer.
-use Rattle.std.specs.Prelude.{◌≡◌, ℕ, ⊤, List, [], ◌++◌, length, Option, None, Some, Result, Ok, Err, MatchResult}
+use Rattle.std.specs.Prelude.{◌≡◌, ℕ, ◌+◌, ◌-◌, ◌^◌, ◌≤◌, min, ⊤, List, [], ◌++◌, length, Option, None, Some, Result, Ok, Err, MatchResult}
 use Rattle.std.specs.Io.KnownBytes.{Consumes, Appends}
 use Rattle.std.specs.List.{flat_map}
 use Rattle.bt_feed.specs.Feeds.{FeedState}
@@ -12,6 +12,8 @@ use Rattle.bt_wire.specs.Streams.{Outcome, IsVerdict}
 use Rattle.bt_tool.specs.declared.ended.Ended.{Ended}
 use Rattle.bt_tool.specs.declared.ended.Ended.TheVariants.{Accepted, Refused}
 use Rattle.bt_tool.specs.declared.ended.ToolFault.{ToolFault}
+use Rattle.bt_tool.specs.declared.ended.ToolFault.TheVariants as fault
+use Rattle.bt_feed.specs.Counts.{Grew}
 use Rattle.bt_tool.specs.declared.printer.Form.{Form}
 use Rattle.bt_tool.specs.declared.printer.Form.TheVariants as form
 use Rattle.bt_tool.specs.declared.printer.Printer.{Printer}
@@ -50,10 +52,15 @@ IsFlushed answer text held held' left (Err e) = AppendsFront held held' text
 
 -- ---- commands
 
--- a verdict that stands only at the stream's end
-abbrev pub WantsEnd : Ended → Type 0
-WantsEnd (Accepted messages bytes) = ⊤
-WantsEnd (Refused r) = r.reason ≡ EndInside
+-- Where a command's answer comes from, by its reader's counts: a verdict that stands only at the stream's end from a read that
+-- gave it, and a fault of reading from a read that failed or from so many reads
+abbrev pub IsEndOfReads : Result Ended ToolFault → ℕ → ℕ → ℕ → ℕ → ℕ → ℕ → Type 0
+IsEndOfReads (Ok (Accepted messages bytes)) reads reads' failed failed' ends ends' = Grew ends ends'
+IsEndOfReads (Ok (Refused r)) reads reads' failed failed' ends ends' = r.reason ≡ EndInside → Grew ends ends'
+IsEndOfReads (Err fault.Read) reads reads' failed failed' ends ends' = Grew failed failed'
+IsEndOfReads (Err fault.Turns) reads reads' failed failed' ends ends' = (min (reads + 2 ^ 32) (2 ^ 64 - 1) ≤ reads') × (ends' ≡ ends)
+IsEndOfReads (Err fault.Write) reads reads' failed failed' ends ends' = ⊤
+IsEndOfReads (Err fault.Memory) reads reads' failed failed' ends ends' = ⊤
 
 -- what a command writes of a stream of n bytes that comes to v
 abbrev pub Writing : Type 0
@@ -84,6 +91,15 @@ pub record IsReadTo (own : Own) (b : List ℕ) (xs : List (ℕ × Item)) (f : Fe
   pub now : Outcome
   pub is : IsVerdict own b now
   pub items : now.items ≡ xs
+
+-- the same of one turn
+abbrev pub IsEndOfTurn : Result (Option Ended) ToolFault → ℕ → ℕ → ℕ → ℕ → ℕ → ℕ → Type 0
+IsEndOfTurn (Ok None) reads reads' failed failed' ends ends' = (min (reads + 1) (2 ^ 64 - 1) ≤ reads') × (failed' ≡ failed) × (ends' ≡ ends)
+IsEndOfTurn (Ok (Some e)) reads reads' failed failed' ends ends' = IsEndOfReads (Ok e) reads reads' failed failed' ends ends'
+IsEndOfTurn (Err fault.Turns) reads reads' failed failed' ends ends' = ⊥
+IsEndOfTurn (Err fault.Read) reads reads' failed failed' ends ends' = Grew failed failed'
+IsEndOfTurn (Err fault.Write) reads reads' failed failed' ends ends' = ⊤
+IsEndOfTurn (Err fault.Memory) reads reads' failed failed' ends ends' = ⊤
 
 -- a turn read some bytes more: it goes on behind the text of some items more, or all is written, or at a fault a front
 abbrev pub IsTurn : Form → Own → List ℕ → List (ℕ × Item) → Option (List ℕ) → Option (List ℕ) → Option (List ℕ) → Option (List ℕ) → FeedState → Printer → Result (Option Ended) ToolFault → Type 0

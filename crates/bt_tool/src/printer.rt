@@ -36,11 +36,16 @@ pub struct Printer {
 fn push_item(at: u64, view: &View, line: &mut Line, text: &mut Vec<u8>) -> Result<(), AllocError>
     ensures { OnOk result ((own : Own) → text.new.items ≡ text.old.items ++ line_of own (at, item_of view.now)) }
 {
-    let place = match view {
-        View::Handshake(handshake) => handshake_line(at, handshake, line),
-        View::Message(message) => message_line(at, message, line),
-    };
-    push_line(text, line, place)
+    match view {
+        View::Handshake(handshake) => {
+            let place = handshake_line(at, handshake, line);
+            push_line(text, line, place)
+        }
+        View::Message(message) => {
+            let place = message_line(at, message, line);
+            push_line(text, line, place)
+        }
+    }
 }
 
 impl Printer {
@@ -67,7 +72,7 @@ impl Printer {
     }
 
     /// Writes the text, which goes with that, and answers so; at a fault a front of it is written.
-    pub fn flush<W: Target, T>(&mut self, writer: &mut W, answer: T) -> Result<T, ToolFault>
+    pub fn flush<W: Target, T: Drop>(&mut self, writer: &mut W, answer: T) -> Result<T, ToolFault>
         ensures flushed { IsFlushed answer (text_in self.old) (W.held writer.old) (W.held writer.new) (text_in self.new) result }
         ensures failed { OnErr result (Grew (W.failed_writes writer.old) (W.failed_writes writer.new)) }
         ensures calm { OnOk result (W.failed_writes writer.new ≡ W.failed_writes writer.old) }

@@ -3,7 +3,7 @@ ghost use Rattle.std.specs.Prelude.{◌≡◌, ◌+◌, ◌-◌, ◌≤◌, ◌^
 ghost use Rattle.bt_feed.specs.Counts.{Grew};
 ghost use Rattle.bt_wire.specs.declared.item.Item.{Item};
 ghost use Rattle.bt_tool.specs.Lines.{lines_of};
-ghost use Rattle.bt_tool.specs.Printed.{IsWritten, IsReadTo, IsTurn, WantsEnd, form_of, text_in, items_in};
+ghost use Rattle.bt_tool.specs.Printed.{IsWritten, IsReadTo, IsTurn, IsEndOfReads, IsEndOfTurn, form_of, text_in, items_in};
 
 use crate::ended::{Ended, ToolFault};
 use crate::printer::{Form, Printer};
@@ -21,6 +21,9 @@ fn turn<R: Source, W: Target>(
     printer: &mut Printer,
     writer: &mut W,
 ) -> Result<Option<Ended>, ToolFault>
+    ensures faults { IsEndOfTurn result (R.reads reader.old) (R.reads reader.new) (R.failed_reads reader.old) (R.failed_reads reader.new) (R.ends reader.old) (R.ends reader.new) }
+    ensures write { result ≡ Err ToolFault.Write → Grew (W.failed_writes writer.old) (W.failed_writes writer.new) }
+    ensures calm { OnOk result (W.failed_writes writer.new ≡ W.failed_writes writer.old) }
     ensures told { (own : Own) (b : List ℕ) (xs : List (ℕ × Item)) → own.limit ≤ 1048576 → IsReadTo own b xs feed.old → text_in printer.old ≡ []
         → IsTurn (form_of printer.old) own b xs (R.left reader.old) (R.left reader.new) (W.held writer.old) (W.held writer.new) feed.new printer.new result }
 {
@@ -34,5 +37,60 @@ fn turn<R: Source, W: Target>(
         Err(PumpError::Turns) => printer.flush(writer, None),
         Err(PumpError::ReadFault) => Err(ToolFault::Read),
         Err(PumpError::Sink(_)) => Err(ToolFault::Memory),
+    }
+}
+
+/// Reads the stream to its end, and writes the text of its items turn by turn.
+fn tell<R: Source, W: Target>(
+    alloc: Global,
+    reader: &mut R,
+    printer: &mut Printer,
+    writer: &mut W,
+    own: &Own,
+) -> Result<Ended, ToolFault>
+    requires limit { (1 ≤ own.now.limit) × (own.now.limit ≤ 1048576) }
+    requires empty { text_in printer.old ≡ [] }
+    ensures told { IsWritten (items_in (form_of printer.old) own.now) own.now (R.left reader.old) (R.left reader.new) (W.held writer.old) (W.held writer.new) result }
+    ensures empty { OnOk result (text_in printer.new ≡ []) }
+    ensures calm { OnOk result (W.failed_writes writer.new ≡ W.failed_writes writer.old) }
+    ensures faults { IsEndOfReads result (R.reads reader.old) (R.reads reader.new) (R.failed_reads reader.old) (R.failed_reads reader.new) (R.ends reader.old) (R.ends reader.new) }
+    ensures write { result ≡ Err ToolFault.Write → Grew (W.failed_writes writer.old) (W.failed_writes writer.new) }
+{
+    laws::one_verdict();
+    let Ok(mut feed) = Feed::new(alloc, *own) else {
+        return Err(ToolFault::Memory);
+    };
+    for _turn in 0..MAX_READS {
+        match turn(reader, &mut feed, printer, writer) {
+            Ok(None) => {}
+            Ok(Some(ended)) => return Ok(ended),
+            Err(fault) => return Err(fault),
+        }
+    }
+    Err(ToolFault::Turns)
+}
+
+/// Writes a line for each item of the stream that the reader gives, and then the verdict's line; the lines of what was read are
+/// written before more is read. It answers `Read` where a read failed, `Write` where a write failed or took nothing, `Memory`
+/// where a growth was refused, `Turns` after 4,294,967,296 reads without the end.
+pub fn run_show<R: Source, W: Target>(
+    alloc: Global,
+    reader: &mut R,
+    writer: &mut W,
+    own: &Own,
+) -> Result<Ended, ToolFault>
+    requires { (1 ≤ own.now.limit) × (own.now.limit ≤ 1048576) }
+    ensures shown { IsWritten (lines_of own.now) own.now (R.left reader.old) (R.left reader.new) (W.held writer.old) (W.held writer.new) result }
+    ensures faults { IsEndOfReads result (R.reads reader.old) (R.reads reader.new) (R.failed_reads reader.old) (R.failed_reads reader.new) (R.ends reader.old) (R.ends reader.new) }
+    ensures write { result ≡ Err ToolFault.Write → Grew (W.failed_writes writer.old) (W.failed_writes writer.new) }
+{
+    laws::one_verdict();
+    let mut printer = Printer::new(alloc, Form::Show);
+    match tell(alloc, reader, &mut printer, writer, own) {
+        Ok(ended) => match printer.verdict(ended) {
+            Ok(()) => printer.flush(writer, ended),
+            Err(_) => Err(ToolFault::Memory),
+        },
+        Err(fault) => Err(fault),
     }
 }

@@ -1,0 +1,14 @@
+use Rattle.std.proofs.Common.{◌≡◌, ◌++◌, ℕ, List, Result, Ok, Err, ap, sym, ◌∙◌}
+use Rattle.std.specs.Prelude.{OnOk}
+use Rattle.bt_feed.specs.Views.{item_of}
+use Rattle.bt_feed.specs.declared.view.View.{View}
+use Rattle.bt_tool.specs.Lines.{line as line_of}
+use Rattle.bt_tool.proofs.printer.push_item.Goals as goal
+
+on_ok : {T E : Type 0} (r : Result T E) (P Q : Type 0) → (P → Q) → OnOk r P → OnOk r Q
+on_ok (Ok x) P Q f h = f h
+on_ok (Err e) P Q f h = tt
+
+pub returns-in-Handshake : goal.returns-in-Handshake
+returns-in-Handshake c =
+    on_ok c.push_line.result _ _ (λ added own. added ∙ ap (λ (l : List ℕ). c.args.text.now.items ++ l) (c.handshake_line-place.ensures.text own ∙ ap (λ (v : View). line_of own (c.args.at, item_of v)) (sym c.in-Handshake.is))) c.push_line.ensures
