@@ -15,6 +15,8 @@ mod target;
 #[cfg(test)]
 mod tests;
 #[cfg(test)]
+mod tests_captures;
+#[cfg(test)]
 mod tests_options;
 mod transfer;
 mod values;
