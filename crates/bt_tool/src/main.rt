@@ -18,6 +18,8 @@ mod tests;
 mod tests_captures;
 #[cfg(test)]
 mod tests_options;
+#[cfg(test)]
+mod tests_shown;
 mod transfer;
 mod values;
 
