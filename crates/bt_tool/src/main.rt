@@ -10,13 +10,17 @@ mod show;
 #[cfg(test)]
 mod tests;
 #[cfg(test)]
+mod tests_captures;
+#[cfg(test)]
 mod tests_options;
+#[cfg(test)]
+mod tests_shown;
 mod values;
 
 use crate::commands::{Asked, Notice, status, status_of};
-use bt_feed::Host;
 use crate::options::asked;
 use crate::show::run_show;
+use bt_feed::Host;
 use std::process::ExitCode;
 use std::rt::Env;
 use std::{env, io};

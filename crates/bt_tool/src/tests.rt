@@ -8,14 +8,14 @@ use std::alloc::{AllocError, Global};
 use std::test::Fail;
 
 /// The handshake of reserved bytes 0000000000100005, the SHA-1 of `abc` and the peer id `-XX0001-000000000000`.
-const HAND: &[u8; 68] =
+pub const HAND: &[u8; 68] =
     b"\x13BitTorrent protocol\x00\x00\x00\x00\x00\x10\x00\x05\xa9\x99\x3e\x36\x47\x06\x81\x6a\xba\x3e\x25\x71\x78\x50\xc2\x6c\x9c\xd0\xd8\x9d-XX0001-000000000000";
 
 /// The same with another byte 5.
 const BAD_HAND: &[u8; 68] =
     b"\x13BitTOrrent protocol\x00\x00\x00\x00\x00\x10\x00\x05\xa9\x99\x3e\x36\x47\x06\x81\x6a\xba\x3e\x25\x71\x78\x50\xc2\x6c\x9c\xd0\xd8\x9d-XX0001-000000000000";
 
-const LINE: &str =
+pub const LINE: &str =
     "0 handshake 0000000000100005 a9993e364706816aba3e25717850c26c9cd0d89d 2d5858303030312d303030303030303030303030\n";
 
 /// The bytes of a stream in two parts, its text in two parts, and how it ends.
@@ -69,7 +69,7 @@ fn refused(rest: &'static [u8], lines: &'static str, at: u64, reason: Reason) ->
     }
 }
 
-fn joined(alloc: Global, first: &[u8], then: &[u8]) -> Result<Vec<u8>, AllocError> {
+pub fn joined(alloc: Global, first: &[u8], then: &[u8]) -> Result<Vec<u8>, AllocError> {
     let mut bytes = Vec::from_slice(alloc, first)?;
     bytes.extend_from_slice(then)?;
     Ok(bytes)

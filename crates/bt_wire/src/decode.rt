@@ -35,7 +35,7 @@ pub fn view_window<'a>(
     if id_at(window) == EXTENDED {
         return view_extended(context, order, window);
     }
-    let view = read_fields(context, window);
+    let view = read_fields(window);
     match judge_view(context, length, &view) {
         Some(refused) => Err(refused),
         None => Ok(view),
@@ -100,9 +100,9 @@ fn placed(fault: ViewError, _length: usize) -> Refused
 /// The message of a window, by its id, but for an extended one.
 #[tactic(auto, unfolding(crate::specs::Parts::made))]
 #[inline(always)]
-fn read_fields<'a>(_context: &Context, window: &'a [u8]) -> MessageView<'a>
+fn read_fields<'a>(window: &'a [u8]) -> MessageView<'a>
     requires some { 5 ≤ length window.now }
-    requires sized { allows (size_of _context.now (said_id window.now)) (length window.now - 4) ≡ true }
+    requires sized { (context : Context) × (allows (size_of context (said_id window.now)) (length window.now - 4) ≡ true) }
     requires plain { said_id window.now ≢ 20 }
     ensures { message_of result ≡ made (said_id window.now) (drop 5 window.now) }
 {

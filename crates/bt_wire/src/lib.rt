@@ -22,6 +22,8 @@ mod slices;
 mod tests;
 #[cfg(test)]
 mod tests_messages;
+#[cfg(test)]
+mod tests_rows;
 
 pub use context::{Context, Order, Own, negotiate};
 pub use decode::{copy_message, decode_window, view_window};

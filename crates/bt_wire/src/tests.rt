@@ -1,6 +1,6 @@
 //! Worked rows, the limits, the order of the reasons, and each public call.
 use crate::*;
-use bt_ext::{Registered, Rules};
+use bt_ext::{ExtId, Registered, Rules};
 use std::alloc::Global;
 use std::process::Abort;
 use std::test::Fail;
@@ -25,9 +25,9 @@ fn head(length: u32, id: u8) -> [u8; 5] {
     [a, b, c, d, id]
 }
 
+/// The least and the greatest length of each id, one less and one more, under several limits.
 #[test]
 fn allowed_lengths(rt: HostRuntime) {
-    let free = agreed(Rules::Free, true, None);
     let wrong = Header::Refused {
         at: 0,
         reason: Reason::WrongLength,
@@ -36,39 +36,46 @@ fn allowed_lengths(rt: HostRuntime) {
         at: 0,
         reason: Reason::TooLong,
     };
-    for (id, least, greatest) in [
-        (0, 1, 1),
-        (1, 1, 1),
-        (2, 1, 1),
-        (3, 1, 1),
-        (4, 5, 5),
-        (5, 1, LIMIT),
-        (6, 13, 13),
-        (7, 9, LIMIT),
-        (8, 13, 13),
-        (9, 3, 3),
-        (10, 1, LIMIT),
-        (12, 1, LIMIT),
-        (13, 5, 5),
-        (14, 1, 1),
-        (15, 1, 1),
-        (16, 13, 13),
-        (17, 5, 5),
-        (18, 1, LIMIT),
-        (20, 2, LIMIT),
-        (99, 1, LIMIT),
-        (255, 1, LIMIT),
+    for (id, least, most) in [
+        (0, 1, Some(1)),
+        (1, 1, Some(1)),
+        (2, 1, Some(1)),
+        (3, 1, Some(1)),
+        (4, 5, Some(5)),
+        (5, 1, None),
+        (6, 13, Some(13)),
+        (7, 9, None),
+        (8, 13, Some(13)),
+        (9, 3, Some(3)),
+        (10, 1, None),
+        (12, 1, None),
+        (13, 5, Some(5)),
+        (14, 1, Some(1)),
+        (15, 1, Some(1)),
+        (16, 13, Some(13)),
+        (17, 5, Some(5)),
+        (18, 1, None),
+        (20, 2, None),
+        (99, 1, None),
+        (255, 1, None),
     ] {
-        let below = if least == 1 { Header::Window(4) } else { wrong };
-        let above = if greatest == LIMIT { long } else { wrong };
-        for (length, answer) in [
-            (least, Header::Window(4 + u64::from(least))),
-            (greatest, Header::Window(4 + u64::from(greatest))),
-            (least.saturating_sub(1), below),
-            (greatest.saturating_add(1), above),
-        ] {
-            let header = judge_header(&free, Order::Fresh, &head(length, id));
-            assert_eq!(rt; header, answer, "id {id}, length {length}");
+        for limit in [13, LIMIT, 1_048_576] {
+            let free = Context {
+                limit,
+                ..agreed(Rules::Free, true, None)
+            };
+            let greatest: u32 = most.unwrap_or(limit);
+            let below = if least == 1 { Header::Window(4) } else { wrong };
+            let above = if greatest == limit { long } else { wrong };
+            for (length, answer) in [
+                (least, Header::Window(4 + u64::from(least))),
+                (greatest, Header::Window(4 + u64::from(greatest))),
+                (least.saturating_sub(1), below),
+                (greatest.saturating_add(1), above),
+            ] {
+                let header = judge_header(&free, Order::Fresh, &head(length, id));
+                assert_eq!(rt; header, answer, "id {id}, length {length}, limit {limit}");
+            }
         }
     }
 }
@@ -150,6 +157,7 @@ fn place_of(reason: Reason, whole: usize) -> (usize, u64) {
         Reason::TooLong => (4, 0),
         Reason::WrongLength => (5, 0),
         Reason::BadIndex => (whole, 5),
+        Reason::BadBencode | Reason::Unsorted | Reason::BadField | Reason::BadBlock => (whole, 6),
         Reason::SpareBits => (whole, whole.saturating_sub(1) as u64),
         _ => (5, 4),
     }
@@ -164,7 +172,10 @@ fn refuses_value(
     bytes: &[u8],
     reason: Reason,
 ) -> Result<(), Fail> {
-    let lax = agreed(Rules::Free, true, None);
+    let lax = Context {
+        reg: context.reg,
+        ..agreed(Rules::Free, true, None)
+    };
     if let Front::Whole(view, _) = read_front(&lax, Order::Fresh, 0, bytes) {
         let message = copy_message(alloc, &view)?;
         let fault = Fault::Reason(reason);
@@ -173,6 +184,34 @@ fn refuses_value(
         assert!(rt; matches!(encoded, Err(EncodeError::Illegal(f)) if f == fault));
     }
     Ok(())
+}
+
+/// The bytes are refused so from the byte on with which the reason is judged, but for one that starts too late.
+fn refuses_from(
+    rt: &impl Abort,
+    alloc: Global,
+    context: &Context,
+    order: Order,
+    bytes: &[u8],
+    refused: Refused,
+) -> Result<(), Fail> {
+    let full = Refused {
+        at: 0,
+        reason: Reason::StreamFull,
+    };
+    let end = 1 << 62;
+    let (judged, _) = place_of(refused.reason, bytes.len());
+    for (n, _) in bytes.iter().enumerate() {
+        let part = refused_for(context, order, 0, &bytes[..n]);
+        assert_eq!(rt; part.is_some(), n >= judged, "{n} of {bytes:?}");
+        let late = refused_for(context, order, end, &bytes[..n]);
+        assert_eq!(rt; late, Some(full), "{n} of {bytes:?}");
+    }
+    for (start, answer) in [(0, refused), (end - 1, refused), (end, full)] {
+        let front = refused_for(context, order, start, bytes);
+        assert_eq!(rt; front, Some(answer), "{bytes:?} at {start}");
+    }
+    refuses_value(rt, alloc, context, order, bytes, refused.reason)
 }
 
 /// Each reason alone, and then each two that can hold together: the first counts, from the byte on with which it is judged.
@@ -287,22 +326,85 @@ fn reasons(rt: HostRuntime) -> Result<(), Fail> {
             limit,
             ..agreed(rules, fast, pieces)
         };
-        let (judged, at) = place_of(reason, bytes.len());
-        for (n, _) in bytes.iter().enumerate() {
-            let part = refused_for(&context, order, 0, &bytes[..n]);
-            assert_eq!(rt; part.is_some(), n >= judged, "{n} of {bytes:?}");
-        }
-        let full = Refused {
-            at: 0,
-            reason: Reason::StreamFull,
+        let (_, at) = place_of(reason, bytes.len());
+        let refused = Refused { at, reason };
+        refuses_from(&rt, rt.alloc(), &context, order, bytes, refused)?;
+    }
+    Ok(())
+}
+
+/// Extended messages with one fault each: no dictionary, keys out of order, an `m` that is none, a block of 2 bytes for 3.
+const NO_INTEGER: &[u8] = b"\0\0\0\x0b\x14\0d1:pi-0ee";
+
+const UNSORTED: &[u8] = b"\0\0\0\x2d\x14\0d13:metadata_sizei3e1:md11:ut_metadatai3eee";
+
+const NO_NAMES: &[u8] = b"\0\0\0\x0a\x14\0d1:mi1ee";
+
+const SHORT: &[u8] = b"\0\0\0\x2d\x14\x03d8:msg_typei1e5:piecei0e10:total_sizei3eeab";
+
+/// The same of the reasons of extended messages.
+#[test]
+fn extended_reasons(rt: HostRuntime) -> Result<(), Fail> {
+    let free = (Rules::Free, true, LIMIT);
+    let bep = (Rules::Bep, true, LIMIT);
+    let plain = (Rules::Bep, false, LIMIT);
+    let narrow = (Rules::Bep, true, 2);
+    for ((rules, ext, limit), bytes, at, reason) in [
+        (free, NO_INTEGER, 12, Reason::BadBencode),
+        (bep, NO_INTEGER, 12, Reason::BadBencode),
+        (free, b"\0\0\0\x09\x14\0d1:pi1e", 13, Reason::BadBencode),
+        (free, b"\0\0\0\x02\x14\0", 6, Reason::BadBencode),
+        (bep, b"\0\0\0\x04\x14\x03le", 6, Reason::BadBencode),
+        (bep, UNSORTED, 26, Reason::Unsorted),
+        (bep, NO_NAMES, 6, Reason::BadField),
+        (
+            bep,
+            b"\0\0\0\x1b\x14\x03d8:msg_typei1e5:piecei0ee",
+            6,
+            Reason::BadField,
+        ),
+        (bep, SHORT, 47, Reason::BadBlock),
+        (narrow, NO_INTEGER, 0, Reason::TooLong),
+        (narrow, UNSORTED, 0, Reason::TooLong),
+        (narrow, NO_NAMES, 0, Reason::TooLong),
+        (narrow, SHORT, 0, Reason::TooLong),
+        (plain, b"\0\x04\0\x01\x14", 0, Reason::TooLong),
+        (plain, NO_INTEGER, 4, Reason::NotNegotiated),
+        (plain, UNSORTED, 4, Reason::NotNegotiated),
+        (plain, NO_NAMES, 4, Reason::NotNegotiated),
+        (plain, SHORT, 4, Reason::NotNegotiated),
+        (bep, b"\0\0\0\x0b\x14\0d1:b0:1:a", 15, Reason::BadBencode),
+        (bep, b"\0\0\0\x09\x14\0d1:mi1e", 13, Reason::BadBencode),
+        (
+            bep,
+            b"\0\0\0\x2d\x14\x03d8:msg_typei1e5:piecei0e10:total_sizei3eabc",
+            46,
+            Reason::BadBencode,
+        ),
+        (bep, b"\0\0\0\x10\x14\0d1:pi1e1:mi1ee", 13, Reason::Unsorted),
+        (
+            bep,
+            b"\0\0\0\x1b\x14\x03d5:piecei0e8:msg_typei1ee",
+            17,
+            Reason::Unsorted,
+        ),
+        (
+            bep,
+            b"\0\0\0\x2d\x14\x03d8:msg_typei1e10:total_sizei3e5:piecei0eeab",
+            36,
+            Reason::Unsorted,
+        ),
+    ] {
+        let context = Context {
+            ext,
+            limit,
+            reg: Registered::new(ExtId::new(3)),
+            ..agreed(rules, true, None)
         };
         let refused = Refused { at, reason };
-        let end = 1 << 62;
-        for (start, answer) in [(0, refused), (end - 1, refused), (end, full)] {
-            let front = refused_for(&context, order, start, bytes);
-            assert_eq!(rt; front, Some(answer), "{bytes:?} at {start}");
+        for order in [Order::Fresh, Order::Past] {
+            refuses_from(&rt, rt.alloc(), &context, order, bytes, refused)?;
         }
-        refuses_value(&rt, rt.alloc(), &context, order, bytes, reason)?;
     }
     Ok(())
 }

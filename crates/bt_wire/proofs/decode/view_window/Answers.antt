@@ -44,7 +44,7 @@ read_fields-view-requires-clause-sized c =
     let window = IsWindow-from_header _ _ _ c.requires in
     let right = sized _ _ _ window (omega (arith, window.exact, c.number_at_front-length.ensures, c.if-length-eq0.false)) in
     let size : length c.args.window.now - 4 ≡ said_length c.args.window.now = omega (arith, window.exact) in
-    ap (allows (size_of c.args.context.now (said_id c.args.window.now))) size ∙ right
+    (c.args.context.now, ap (allows (size_of c.args.context.now (said_id c.args.window.now))) size ∙ right)
 
 pub read_fields-view-requires-clause-plain : goal.read_fields-view-requires-clause-plain
 read_fields-view-requires-clause-plain c = plain _ _ c.id_at.ensures c.if-id_at-eq-EXTENDED.false
