@@ -31,7 +31,7 @@ pub use feed::{Feed, FeedError};
 pub use host::Host;
 pub use memory::{MemSource, MemTarget};
 pub use outbox::{Memory, Outbox, WriteFault, write_front};
-pub use pumping::{PumpError, pump};
+pub use pumping::{PumpError, pump, pump_with};
 pub use sink::{Sink, SinkFault};
 pub use source::Source;
 pub use stage::Stage;

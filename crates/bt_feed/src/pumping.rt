@@ -1,5 +1,5 @@
 //! From a source through a feed into a sink.
-ghost use Rattle.std.specs.Prelude.{◌≡◌, ◌+◌, ◌-◌, ◌^◌, ◌≤◌, ◌≢◌, ℕ, List, min, false, Err, OnOk};
+ghost use Rattle.std.specs.Prelude.{◌≡◌, ◌+◌, ◌-◌, ◌^◌, ◌≤◌, ◌≢◌, ℕ, List, ◌<◌, min, length, false, Err, OnOk};
 ghost use Rattle.bt_wire.specs.declared.fault.Reason.TheVariants as reasons;
 ghost use Rattle.bt_wire.specs.declared.item.Item.{Item};
 ghost use Rattle.bt_feed.specs.Counts.{Grew};
@@ -71,11 +71,44 @@ fn end<A: Allocator>(feed: &Feed<A>) -> Result<u64, PumpError>
     }
 }
 
-/// Reads to the end, at most 4,096 bytes a read and `max_turns` reads, and gives the sink each item with its offset. It answers
-/// what the stream comes to there: how many bytes it has, or its refusal. It takes no memory.
+/// Reads to the end, `max_turns` times at most and each time into the buffer, and gives the sink each item with its offset. It
+/// answers what the stream comes to there: how many bytes it has, or its refusal. It takes no memory.
 ///
-/// Behind a refusal or a sink's fault up to 4,096 bytes may have been read that are lost. Behind `Turns` or `ReadFault` nothing
-/// is lost, and another call goes on.
+/// Behind a refusal or a sink's fault bytes may have been read that are lost, fewer than the buffer has. Behind `Turns` or
+/// `ReadFault` nothing is lost, and another call goes on.
+pub fn pump_with<R: Source, S: Sink, A: Allocator>(
+    reader: &mut R,
+    feed: &mut Feed<A>,
+    sink: &mut S,
+    max_turns: u64,
+    buffer: &mut [u8],
+) -> Result<u64, PumpError>
+    requires { 0 < length buffer.old }
+    ensures moved { IsPump S.takes S.misses feed.old (R.left reader.old) (R.left reader.new) sink.old sink.new feed.new result }
+    ensures end { IsEnd result → Grew (R.ends reader.old) (R.ends reader.new) }
+    ensures read { result ≡ Err PumpError.ReadFault → Grew (R.failed_reads reader.old) (R.failed_reads reader.new) }
+    ensures sink { IsSinkFault result → Grew (S.failed sink.old) (S.failed sink.new) }
+    ensures turns { result ≡ Err PumpError.Turns
+        → (min (R.reads reader.old + max_turns) (2 ^ 64 - 1) ≤ R.reads reader.new) × (R.failed_reads reader.new ≡ R.failed_reads reader.old) × (R.ends reader.new ≡ R.ends reader.old) }
+{
+    if let Err(error) = pump_piece(feed, sink, &[]) {
+        return Err(error);
+    }
+    for _turn in 0..max_turns {
+        match reader.read(buffer) {
+            Ok(0) => return end(feed),
+            Ok(count) => {
+                if let Err(error) = pump_piece(feed, sink, &buffer[..count]) {
+                    return Err(error);
+                }
+            }
+            Err(_) => return Err(PumpError::ReadFault),
+        }
+    }
+    Err(PumpError::Turns)
+}
+
+/// The same with reads of at most 4,096 bytes.
 pub fn pump<R: Source, S: Sink, A: Allocator>(
     reader: &mut R,
     feed: &mut Feed<A>,
@@ -89,20 +122,6 @@ pub fn pump<R: Source, S: Sink, A: Allocator>(
     ensures turns { result ≡ Err PumpError.Turns
         → (min (R.reads reader.old + max_turns) (2 ^ 64 - 1) ≤ R.reads reader.new) × (R.failed_reads reader.new ≡ R.failed_reads reader.old) × (R.ends reader.new ≡ R.ends reader.old) }
 {
-    if let Err(error) = pump_piece(feed, sink, &[]) {
-        return Err(error);
-    }
     let mut buffer = [0; 4096];
-    for _turn in 0..max_turns {
-        match reader.read(&mut buffer) {
-            Ok(0) => return end(feed),
-            Ok(count) => {
-                if let Err(error) = pump_piece(feed, sink, &buffer[..count]) {
-                    return Err(error);
-                }
-            }
-            Err(_) => return Err(PumpError::ReadFault),
-        }
-    }
-    Err(PumpError::Turns)
+    pump_with(reader, feed, sink, max_turns, &mut buffer)
 }

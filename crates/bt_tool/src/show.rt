@@ -1,5 +1,5 @@
 //! Commands that read a stream: what each writes of its items, and its verdict.
-ghost use Rattle.std.specs.Prelude.{◌≡◌, ◌+◌, ◌-◌, ◌≤◌, ◌^◌, min, ℕ, List, [], IfOk, IfSome, OnOk, Err};
+ghost use Rattle.std.specs.Prelude.{◌≡◌, ◌+◌, ◌-◌, ◌≤◌, ◌^◌, ◌<◌, ℕ, List, [], length, OnOk, Err};
 ghost use Rattle.bt_feed.specs.Counts.{Grew};
 ghost use Rattle.bt_wire.specs.declared.item.Item.{Item};
 ghost use Rattle.bt_tool.specs.Lines.{lines_of};
@@ -7,20 +7,22 @@ ghost use Rattle.bt_tool.specs.Printed.{IsWritten, IsReadTo, IsTurn, IsEndOfRead
 
 use crate::ended::{Ended, ToolFault};
 use crate::printer::{Form, Printer};
-use bt_feed::{Feed, PumpError, Source, Target, pump};
+use bt_feed::{Feed, PumpError, Source, Target, pump_with};
 use bt_wire::{Own, laws};
 use std::alloc::Global;
 
 /// How many reads a command makes.
 const MAX_READS: u64 = 1 << 32;
 
-/// Reads once, and writes the text of the items that it completes. It answers how the stream ends, at its end.
+/// Reads once into the buffer, and writes the text of the items that it completes. It answers how the stream ends, at its end.
 fn turn<R: Source, W: Target>(
     reader: &mut R,
     feed: &mut Feed,
     printer: &mut Printer,
     writer: &mut W,
+    buffer: &mut [u8],
 ) -> Result<Option<Ended>, ToolFault>
+    requires { 0 < length buffer.old }
     ensures faults { IsEndOfTurn result (R.reads reader.old) (R.reads reader.new) (R.failed_reads reader.old) (R.failed_reads reader.new) (R.ends reader.old) (R.ends reader.new) }
     ensures write { result ≡ Err ToolFault.Write → Grew (W.failed_writes writer.old) (W.failed_writes writer.new) }
     ensures calm { OnOk result (W.failed_writes writer.new ≡ W.failed_writes writer.old) }
@@ -28,7 +30,7 @@ fn turn<R: Source, W: Target>(
         → IsTurn (form_of printer.old) own b xs (R.left reader.old) (R.left reader.new) (W.held writer.old) (W.held writer.new) feed.new printer.new result }
 {
     laws::one_verdict();
-    match pump(reader, feed, printer, 1) {
+    match pump_with(reader, feed, printer, 1, buffer) {
         Ok(bytes) => {
             let messages = feed.number() - 1;
             printer.flush(writer, Some(Ended::Accepted { messages, bytes }))
@@ -60,8 +62,9 @@ fn tell<R: Source, W: Target>(
     let Ok(mut feed) = Feed::new(alloc, *own) else {
         return Err(ToolFault::Memory);
     };
+    let mut buffer = [0; 65536];
     for _turn in 0..MAX_READS {
-        match turn(reader, &mut feed, printer, writer) {
+        match turn(reader, &mut feed, printer, writer, &mut buffer) {
             Ok(None) => {}
             Ok(Some(ended)) => return Ok(ended),
             Err(fault) => return Err(fault),

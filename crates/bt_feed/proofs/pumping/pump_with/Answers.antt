@@ -6,7 +6,7 @@ use Rattle.std.specs.Io.KnownBytes.{Consumes}
 use Rattle.bt_feed.specs.Pumps.{IsPieceEnd}
 use Rattle.bt_feed.specs.declared.pumping.PumpError.{PumpError}
 use Rattle.bt_feed.proofs.Moving.{took_both, given_more, given_end, fed_none, fed_both, stopped_by, not_at_end, ended_open, ended_last}
-use Rattle.bt_feed.proofs.pumping.pump.Goals as goal
+use Rattle.bt_feed.proofs.pumping.pump_with.Goals as goal
 
 pub returns-in-Err-clause-moved : goal.returns-in-Err-clause-moved
 returns-in-Err-clause-moved g c =

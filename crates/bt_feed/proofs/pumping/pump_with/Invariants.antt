@@ -3,7 +3,7 @@ use Rattle.std.specs.Io.KnownBytes.{Consumes}
 use Rattle.bt_wire.specs.declared.item.Item.{Item}
 use Rattle.bt_feed.specs.Stages.{limit_of, is_closed}
 use Rattle.bt_feed.specs.Pumps.{Took, IsFed}
-use Rattle.bt_feed.proofs.pumping.pump.Given as goal
+use Rattle.bt_feed.proofs.pumping.pump_with.Given as goal
 
 -- what was read so far went into the feed, which waits
 abbrev pub invariant-loop-turn : goal.invariant-loop-turn
