@@ -1,18 +1,17 @@
 -- No bytes have a fault for ending: only a stream's end has.
-use Rattle.std.proofs.Common.{◌≡◌, ℕ, cond, leb, Bool, true, false, List, [], ◌∷◌, ◌&&◌, length, take, drop, Option, Some, None, refl, sym, ap, subst, ◌∙◌}
-use Rattle.std.specs.Prelude.{not, is_some, option_map, unwrap_or}
+use Rattle.std.proofs.Common.{◌≡◌, ℕ, cond, Bool, true, false, List, [], ◌∷◌, ◌&&◌, Option, Some, None, refl, sym, ap, subst, ◌∙◌}
+use Rattle.std.specs.Prelude.{not, is_some, option_map}
 use Rattle.std.proofs.lemmas.Bool.{and_parts}
-use Rattle.bt_ext.specs.Faults as ext
 use Rattle.bt_ext.specs.declared.ext.ViewError.{ViewError}
 use Rattle.bt_ext.specs.declared.ext.ViewError.TheVariants as error
 use Rattle.bt_wire.specs.declared.context.Context.{Context}
 use Rattle.bt_wire.specs.declared.context.Order.{Order}
 use Rattle.bt_wire.specs.declared.context.Own.{Own}
 use Rattle.bt_wire.specs.declared.fault.Reason.{Reason}
-use Rattle.bt_wire.specs.declared.fault.Reason.TheVariants.{EndInside, BadProtocol, WrongInfoHash}
+use Rattle.bt_wire.specs.declared.fault.Reason.TheVariants.{EndInside}
 use Rattle.bt_wire.specs.declared.fault.Refused.{Refused}
 use Rattle.bt_wire.specs.Faults.{IsFault, early, unfinished, whole, IsWindowFault, in_fields, in_none, in_payload, placed_by, header_rows, header_fault, field_rows}
-use Rattle.bt_wire.specs.Handshakes.{protocol, hand_fault, first_difference, is_other_hash}
+use Rattle.bt_wire.specs.Handshakes.{protocol, hand_fault, first_difference}
 use Rattle.bt_wire.specs.Tables.{Row, counts, first_fault}
 use Rattle.bt_feed.specs.declared.stage.Stage.{Stage}
 use Rattle.bt_feed.specs.declared.stage.Stage.TheVariants as stage

@@ -5,7 +5,6 @@ use Rattle.bt_wire.specs.declared.item.Item.{Item}
 use Rattle.bt_wire.specs.declared.item.Refusal.{Refusal}
 use Rattle.bt_wire.specs.Streams.{Outcome, with_item, refusal_at_end}
 use Rattle.bt_feed.specs.declared.stage.Stage.{Stage}
-use Rattle.bt_feed.specs.declared.stage.Stage.TheVariants as stage
 use Rattle.bt_feed.specs.declared.view.Finish.{Finish}
 use Rattle.bt_feed.specs.Stages.{IsNumbered, start_of, limit_of, is_all, is_closed, HasFault, refusal_of, IsItem, stage_after, Comes, stopped}
 use Rattle.bt_feed.specs.Feeds.{FeedState, taken, pushed}

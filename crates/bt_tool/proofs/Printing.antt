@@ -1,10 +1,9 @@
 -- What is written of a stream turn by turn.
-use Rattle.std.proofs.Common.{◌≡◌, ℕ, ◌+◌, ◌-◌, ◌^◌, ◌<◌, ◌≤◌, List, [], ◌∷◌, ◌++◌, length, drop, Option, Some, None, Result, Ok, Err, refl, sym, ap, subst, ◌∙◌, arith, inl, inr}
+use Rattle.std.proofs.Common.{◌≡◌, ℕ, ◌+◌, ◌-◌, ◌^◌, ◌<◌, ◌≤◌, List, [], ◌∷◌, ◌++◌, length, Option, Some, None, Result, Ok, Err, refl, sym, ap, subst, ◌∙◌, arith, inl, inr}
 use Rattle.std.proofs.lemmas.Bool.{cases_lt}
 use Rattle.std.proofs.lemmas.List.{append-nil, append_assoc, length-append}
 use Rattle.std.proofs.KnownBytes.{Appends-nil, Appends-trans, Consumes-nil, Consumes-trans}
 use Rattle.std.specs.Io.KnownBytes.{Consumes, Appends}
-use Rattle.std.specs.List.{flat_map}
 use Rattle.bt_wire.specs.declared.context.Own.{Own}
 use Rattle.bt_wire.specs.declared.fault.Refused.{Refused as Fault}
 use Rattle.bt_wire.specs.declared.item.Item.{Item}
@@ -14,13 +13,12 @@ use Rattle.bt_wire.specs.Laws.{VerdictIsOne, ItemsStay}
 use Rattle.bt_wire.specs.Streams.{Outcome, IsVerdict, IsVerdictBy, refusal_at_end}
 use Rattle.bt_wire.proofs.HandLaws.{hand-length}
 use Rattle.bt_feed.specs.declared.stage.Stage.TheVariants as stage
-use Rattle.bt_feed.specs.declared.view.Finish.{Finish}
 use Rattle.bt_feed.specs.declared.view.Finish.TheVariants as finish
 use Rattle.bt_feed.specs.Answers.{unless_refused}
 use Rattle.bt_feed.specs.Feeds.{FeedState}
 use Rattle.bt_feed.specs.Laws.{verdict_at_end}
 use Rattle.bt_feed.specs.Pumps.{Took, IsPumped}
-use Rattle.bt_feed.specs.Stages.{Comes, number_of, stopped}
+use Rattle.bt_feed.specs.Stages.{number_of, stopped}
 use Rattle.bt_feed.specs.Transcripts.{with_items}
 use Rattle.bt_tool.specs.declared.ended.Ended.{Ended}
 use Rattle.bt_tool.specs.declared.ended.Ended.TheVariants.{Accepted, Refused}
@@ -43,8 +41,8 @@ printed p q (x ∷ xs) h =
     let rest = printed m q xs h.2 in (
       rest.0 ∙ h.1.0,
       λ own.
-        let more : text_in q ≡ text_in m ++ texts (form_of p) own xs = rest.1 own ∙ ap (λ (f : Form). text_in m ++ texts f own xs) h.1.0 in
-        more ∙ ap (λ (t : List ℕ). t ++ texts (form_of p) own xs) (h.1.1 own) ∙ append_assoc (text_in p) (text_of (form_of p) own x) (texts (form_of p) own xs),
+          let more : text_in q ≡ text_in m ++ texts (form_of p) own xs = rest.1 own ∙ ap (λ (f : Form). text_in m ++ texts f own xs) h.1.0 in
+          more ∙ ap (λ (t : List ℕ). t ++ texts (form_of p) own xs) (h.1.1 own) ∙ append_assoc (text_in p) (text_of (form_of p) own x) (texts (form_of p) own xs),
     )
 
 -- ---- the verdict at the end
@@ -129,9 +127,15 @@ pub ends : (own : Own) (b : List ℕ) (xs : List (ℕ × Item)) (f g : FeedState
 ends own b xs f g left left' held held' p q s bytes lost ys v ended (Ok (Some e)) one h is flushed form =
     let all = total own b xs f g bytes lost ys v h.before h.pumped in
     let same : e ≡ ended = let some : Some e ≡ Some ended = flushed.0 in cc in
-    let size : v.start + length v.tail ≡ length (b ++ (bytes ++ lost)) = verdict_length own (b ++ (bytes ++ lost)) (with_items xs v) all in
-    (bytes ++ lost, ys, h.consumed, subst (Appends held held') (text_of_turn own p q ys h.empty h.took) flushed.1,
-      (with_items xs v, all, ap (λ (l : List (ℕ × Item)). xs ++ l) h.pumped.items, same ∙ is ∙ ap (λ (n : ℕ). ended_as v n) size), form ∙ (printed p q ys h.took).0, flushed.2)
+    let size : v.start + length v.tail ≡ length (b ++ (bytes ++ lost)) = verdict_length own (b ++ (bytes ++ lost)) (with_items xs v) all in (
+      bytes ++ lost,
+      ys,
+      h.consumed,
+      subst (Appends held held') (text_of_turn own p q ys h.empty h.took) flushed.1,
+      (with_items xs v, all, ap (λ (l : List (ℕ × Item)). xs ++ l) h.pumped.items, same ∙ is ∙ ap (λ (n : ℕ). ended_as v n) size),
+      form ∙ (printed p q ys h.took).0,
+      flushed.2,
+    )
 ends own b xs f g left left' held held' p q s bytes lost ys v ended (Ok None) one h is flushed form = absurd (let no : None ≡ Some ended = flushed.0 in cc)
 ends own b xs f g left left' held held' p q s bytes lost ys v ended (Err e) one h is flushed form =
     (bytes ++ lost, h.consumed, front_of_turn own b xs f g left left' held held' p q bytes lost ys v one h flushed)
@@ -218,19 +222,25 @@ pub told_fault : (form : Form) (own : Own) (left0 left left' held0 held held' : 
     → IsTurn (form_of p) own t.bytes t.items left left' held held' g q (Err e) → (b : List ℕ) × Consumes left0 left' b × IsFrontWritten (items_in form own) own b held0 held'
 told_fault form own left0 left left' held0 held held' f g p q e t n =
     let P : Form → Type 0 = λ x. IsTurn x own t.bytes t.items left left' held held' g q (Err e) in
-    let m = subst P t.form_is n in
-    (t.bytes ++ m.0, Consumes-trans left0 left left' t.bytes m.0 t.consumed m.1, λ w is.
-      let k = m.2 w is in
-      let all : texts form own t.items ++ texts form own k.0 ≡ texts form own w.items = sym (texts_both form own t.items k.0) ∙ ap (texts form own) (sym k.1) in
-      subst (AppendsFront held0 held') all (front_behind held0 held held' (texts form own t.items) (texts form own k.0) t.written k.2))
+    let m = subst P t.form_is n in (
+      t.bytes ++ m.0,
+      Consumes-trans left0 left left' t.bytes m.0 t.consumed m.1,
+      λ w is.
+          let k = m.2 w is in
+          let all : texts form own t.items ++ texts form own k.0 ≡ texts form own w.items = sym (texts_both form own t.items k.0) ∙ ap (texts form own) (sym k.1) in
+          subst (AppendsFront held0 held') all (front_behind held0 held held' (texts form own t.items) (texts form own k.0) t.written k.2),
+    )
 
 -- after so many turns what is written is a front
 pub told_so_far : (form : Form) (own : Own) (left left' held held' : Option (List ℕ)) (f : FeedState) (p : Printer) → own.limit ≤ 1048576 → VerdictIsOne → IsToldTo form own left left' held held' f p
     → (b : List ℕ) × Consumes left left' b × IsFrontWritten (items_in form own) own b held held'
-told_so_far form own left left' held held' f p le one t =
-    (t.bytes, t.consumed, λ w is.
+told_so_far form own left left' held held' f p le one t = (
+  t.bytes,
+  t.consumed,
+  λ w is.
       let same : t.items ≡ w.items = sym t.read.items ∙ ap (λ (v : Outcome). v.items) (one own t.bytes t.read.now w (omega (arith, le)) t.read.is is) in
-      subst (λ xs. AppendsFront held held' (texts form own xs)) same (all_is_front held held' (texts form own t.items) t.written))
+      subst (λ xs. AppendsFront held held' (texts form own xs)) same (all_is_front held held' (texts form own t.items) t.written),
+)
 
 -- ---- the verdict's line
 

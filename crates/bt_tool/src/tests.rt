@@ -1,8 +1,8 @@
 //! Streams, the text that showing them writes and how they end, over devices in memory that move few bytes a call.
 use crate::commands::default_own;
 use crate::ended::{Ended, ToolFault};
-use bt_feed::{MemSource, MemTarget};
 use crate::show::run_show;
+use bt_feed::{MemSource, MemTarget};
 use bt_wire::{Own, Reason, Refusal};
 use std::alloc::{AllocError, Global};
 use std::test::Fail;

@@ -1,5 +1,4 @@
 use Rattle.std.proofs.Common.{Ok, Err, ap, sym, ◌∙◌}
-use Rattle.bt_feed.specs.declared.view.Finish.TheVariants as finish
 use Rattle.bt_feed.proofs.Moving.{end_of_open}
 use Rattle.bt_feed.proofs.pumping.end.Goals as goal
 

@@ -1,6 +1,5 @@
-use Rattle.std.proofs.Common.{◌≡◌, ◌∙◌, ◌+◌, ◌++◌, ◌∷◌, [], ℕ, List, length, take, Ok, Err, refl, sym, subst, ap, arith, length-drop}
+use Rattle.std.proofs.Common.{◌∙◌, ◌+◌, ◌++◌, ◌∷◌, [], ℕ, List, length, take, Ok, Err, refl, sym, subst, ap, arith, length-drop}
 use Rattle.bt_wire.specs.declared.item.Item.{Item}
-use Rattle.bt_feed.specs.Stages.{start_of}
 use Rattle.bt_feed.specs.Views.{item_of, shown}
 use Rattle.bt_feed.specs.Pumps.{IsFed}
 use Rattle.bt_feed.proofs.Reading.{IsPushed}
@@ -18,9 +17,12 @@ items-preserved g c =
     record {
       within = omega (arith, c.push-at.ensures.in_range, ap (length {A = ℕ}) c.behind.ensures, length-drop c.items.at c.args.piece.now);
       quiet = c.in-Ok.ensures.failed ∙ c.items.invariant.quiet;
-      moved = (h.0 ++ one, took_more _ _ _ _ h.0 (c.start-start.result, item) h.1 c.in-Ok.ensures.items,
+      moved = (
+        h.0 ++ one,
+        took_more _ _ _ _ h.0 (c.start-start.result, item) h.1 c.in-Ok.ensures.items,
         subst P (sym c.start-start.ensures.value) (fed_item c.args.feed.now c.items.feed p c.take.follows.lender-at-none c.args.piece.now c.behind.result.now c.items.at c.push-at.result h.0 (shown c.take.result) item
-          h.2 pushed c.start-start.ensures.feed.limit (ap shown (c.in-Ok-Some.is ∙ ap Ok c.in-Ok-Some.field-0-is)) c.take.ensures.value c.take.follows.holds-at-none));
+            h.2 pushed c.start-start.ensures.feed.limit (ap shown (c.in-Ok-Some.is ∙ ap Ok c.in-Ok-Some.field-0-is)) c.take.ensures.value c.take.follows.holds-at-none),
+      );
     }
 
 pub returns-in-Err-item-clause-items : goal.returns-in-Err-item-clause-items
@@ -30,24 +32,32 @@ returns-in-Err-item-clause-items g c =
     let item : Item = item_of c.in-Ok-Some.view in
     let pushed : IsPushed c.items.feed c.push-at.new.self c.args.piece.now c.behind.result.now c.items.at c.push-at.result = record { rest_is = c.behind.ensures; taken_is = c.push-at.ensures.taken; held_is = c.push-at.ensures.held; partial = c.push-at.ensures.partial } in
     let x : ℕ × Item = (c.start-start.result, item) in
-    let P : ℕ → Type 0 = λ at. IsFed c.args.feed.now (take (c.items.at + c.push-at.result) c.args.piece.now) (h.0 ++ (at, item) ∷ []) c.take.follows.lender-at-none in
-    (h.0 ++ x ∷ [], (h.0, x, c.items.sink, refl, h.1, c.in-Err-item.ensures.items), (c.items.at + c.push-at.result,
-      subst P (sym c.start-start.ensures.value) (fed_item c.args.feed.now c.items.feed p c.take.follows.lender-at-none c.args.piece.now c.behind.result.now c.items.at c.push-at.result h.0 (shown c.take.result) item
-        h.2 pushed c.start-start.ensures.feed.limit (ap shown (c.in-Ok-Some.is ∙ ap Ok c.in-Ok-Some.field-0-is)) c.take.ensures.value c.take.follows.holds-at-none)))
+    let P : ℕ → Type 0 = λ at. IsFed c.args.feed.now (take (c.items.at + c.push-at.result) c.args.piece.now) (h.0 ++ (at, item) ∷ []) c.take.follows.lender-at-none in (
+      h.0 ++ x ∷ [],
+      (h.0, x, c.items.sink, refl, h.1, c.in-Err-item.ensures.items),
+      (
+        c.items.at + c.push-at.result,
+        subst P (sym c.start-start.ensures.value) (fed_item c.args.feed.now c.items.feed p c.take.follows.lender-at-none c.args.piece.now c.behind.result.now c.items.at c.push-at.result h.0 (shown c.take.result) item
+            h.2 pushed c.start-start.ensures.feed.limit (ap shown (c.in-Ok-Some.is ∙ ap Ok c.in-Ok-Some.field-0-is)) c.take.ensures.value c.take.follows.holds-at-none),
+      ),
+    )
 
 pub returns-in-Ok-None-clause-items : goal.returns-in-Ok-None-clause-items
 returns-in-Ok-None-clause-items g c =
     let h = c.items.invariant.moved in
-    let pushed : IsPushed c.items.feed c.push-at.new.self c.args.piece.now c.behind.result.now c.items.at c.push-at.result = record { rest_is = c.behind.ensures; taken_is = c.push-at.ensures.taken; held_is = c.push-at.ensures.held; partial = c.push-at.ensures.partial } in
-    (h.0, h.1, fed_all c.args.feed.now c.items.feed c.push-at.new.self c.take.follows.lender-at-none c.args.piece.now c.behind.result.now c.items.at c.push-at.result h.0 (shown c.take.result)
-      c.items.invariant.within h.2 pushed (ap shown (c.in-Ok-None.is ∙ ap Ok c.in-Ok-None.field-0-is)) c.take.ensures.value c.take.follows.holds-at-none)
+    let pushed : IsPushed c.items.feed c.push-at.new.self c.args.piece.now c.behind.result.now c.items.at c.push-at.result = record { rest_is = c.behind.ensures; taken_is = c.push-at.ensures.taken; held_is = c.push-at.ensures.held; partial = c.push-at.ensures.partial } in (
+      h.0,
+      h.1,
+      fed_all c.args.feed.now c.items.feed c.push-at.new.self c.take.follows.lender-at-none c.args.piece.now c.behind.result.now c.items.at c.push-at.result h.0 (shown c.take.result)
+          c.items.invariant.within h.2 pushed (ap shown (c.in-Ok-None.is ∙ ap Ok c.in-Ok-None.field-0-is)) c.take.ensures.value c.take.follows.holds-at-none,
+    )
 
 pub returns-in-Err-clause-items : goal.returns-in-Err-clause-items
 returns-in-Err-clause-items g c =
     let h = c.items.invariant.moved in
     let pushed : IsPushed c.items.feed c.push-at.new.self c.args.piece.now c.behind.result.now c.items.at c.push-at.result = record { rest_is = c.behind.ensures; taken_is = c.push-at.ensures.taken; held_is = c.push-at.ensures.held; partial = c.push-at.ensures.partial } in
     let end = fed_refused c.args.feed.now c.items.feed c.push-at.new.self c.take.follows.lender-at-none c.args.piece.now c.behind.result.now c.items.at c.push-at.result h.0 (shown c.take.result) c.refusal_in.result
-      h.2 pushed (ap shown (c.in-Err.is ∙ ap Err c.refusal_in.ensures)) c.take.ensures.value c.take.follows.holds-at-none in
+    h.2 pushed (ap shown (c.in-Err.is ∙ ap Err c.refusal_in.ensures)) c.take.ensures.value c.take.follows.holds-at-none in
     (h.0, h.1, (c.items.at + c.push-at.result, end.0, end.1))
 
 pub returns-in-Err-item-clause-limit : goal.returns-in-Err-item-clause-limit

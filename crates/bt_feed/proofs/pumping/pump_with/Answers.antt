@@ -1,10 +1,9 @@
-use Rattle.std.proofs.Common.{◌≡◌, ◌∙◌, ◌++◌, ℕ, List, [], take, Ok, Err, Result, refl, sym, ap, subst, arith}
+use Rattle.std.proofs.Common.{◌≡◌, ◌∙◌, ◌++◌, ℕ, [], take, Ok, refl, sym, subst, arith}
 use Rattle.std.proofs.KnownBytes.{Consumes-nil, Consumes-trans, Consumes-kept}
 use Rattle.std.proofs.lemmas.Bool.{ne_eqb}
 use Rattle.std.proofs.lemmas.List.{append-nil}
 use Rattle.std.specs.Io.KnownBytes.{Consumes}
 use Rattle.bt_feed.specs.Pumps.{IsPieceEnd}
-use Rattle.bt_feed.specs.declared.pumping.PumpError.{PumpError}
 use Rattle.bt_feed.proofs.Moving.{took_both, given_more, given_end, fed_none, fed_both, stopped_by, not_at_end, ended_open, ended_last}
 use Rattle.bt_feed.proofs.pumping.pump_with.Goals as goal
 

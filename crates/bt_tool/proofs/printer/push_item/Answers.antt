@@ -1,4 +1,4 @@
-use Rattle.std.proofs.Common.{◌≡◌, ◌++◌, ℕ, List, Result, Ok, Err, ap, sym, ◌∙◌}
+use Rattle.std.proofs.Common.{◌++◌, ℕ, List, Result, Ok, Err, ap, sym, ◌∙◌}
 use Rattle.std.specs.Prelude.{OnOk}
 use Rattle.bt_feed.specs.Views.{item_of}
 use Rattle.bt_feed.specs.declared.view.View.{View}

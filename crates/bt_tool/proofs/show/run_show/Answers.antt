@@ -1,8 +1,8 @@
-use Rattle.std.proofs.Common.{◌≡◌, ◌++◌, ℕ, List, Result, Ok, Err, refl, ap, subst, sym, ◌∙◌, arith}
+use Rattle.std.proofs.Common.{◌≡◌, ◌++◌, ℕ, List, ap, subst, ◌∙◌, arith}
 use Rattle.std.specs.Io.KnownBytes.{Consumes}
 use Rattle.bt_tool.specs.declared.printer.Form.{Form}
 use Rattle.bt_tool.specs.Lines.{verdict_line}
-use Rattle.bt_tool.specs.Printed.{IsWritten, IsAllWritten, IsFrontWritten, items_in, form_of, text_in}
+use Rattle.bt_tool.specs.Printed.{IsAllWritten, IsFrontWritten, items_in, text_in}
 use Rattle.bt_tool.proofs.Printing.{front_shown, front_shown_all, all_shown}
 use Rattle.bt_tool.proofs.show.run_show.Goals as goal
 

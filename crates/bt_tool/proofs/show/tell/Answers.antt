@@ -1,6 +1,6 @@
-use Rattle.std.proofs.Common.{◌≡◌, Option, Some, None, Ok, Err, refl, subst, ◌∙◌, arith}
+use Rattle.std.proofs.Common.{Option, Ok, refl, subst, ◌∙◌, arith}
 use Rattle.bt_tool.specs.declared.ended.Ended.{Ended}
-use Rattle.bt_tool.specs.Printed.{IsTurn, IsEndOfTurn, form_of, text_in}
+use Rattle.bt_tool.specs.Printed.{IsTurn, IsEndOfTurn, form_of}
 use Rattle.bt_tool.proofs.Printing.{told_first, told_more, told_end, told_fault, told_so_far}
 use Rattle.bt_tool.proofs.show.tell.Goals as goal
 
