@@ -3,3 +3,7 @@ mod Walking
 mod Fronts
 mod Places
 mod Numbers
+mod ScriptWords
+mod ScriptBytes
+mod ScriptFields
+mod ScriptLines

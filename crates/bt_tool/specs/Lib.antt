@@ -5,3 +5,5 @@ pub mod Shown
 pub mod Walked
 pub mod Commands
 pub mod Options
+pub mod Script
+pub mod ScriptReading

@@ -9,6 +9,7 @@ mod host;
 mod lines;
 mod memory;
 mod options;
+mod script;
 mod show;
 mod source;
 mod target;

@@ -1,0 +1,2 @@
+//! Scripts: a line of text for each item of a stream, with all of its bytes.
+pub mod reading;
