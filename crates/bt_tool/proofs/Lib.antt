@@ -7,3 +7,4 @@ mod ScriptWords
 mod ScriptBytes
 mod ScriptFields
 mod ScriptLines
+mod ScriptText

@@ -1,2 +1,3 @@
 //! Scripts: a line of text for each item of a stream, with all of its bytes.
 pub mod reading;
+pub mod writing;
