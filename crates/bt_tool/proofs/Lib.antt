@@ -8,3 +8,4 @@ mod ScriptBytes
 mod ScriptFields
 mod ScriptLines
 mod ScriptText
+mod ScriptSpoken

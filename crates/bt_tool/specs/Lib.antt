@@ -7,3 +7,4 @@ pub mod Commands
 pub mod Options
 pub mod Script
 pub mod ScriptReading
+pub mod ScriptLaws
