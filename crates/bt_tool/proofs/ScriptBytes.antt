@@ -1,9 +1,9 @@
 -- The bytes that words of a line say, and the bytes of a message made of them.
-use Rattle.std.proofs.Common.{◌≡◌, ℕ, ◌+◌, ◌*◌, ◌/◌, ◌<◌, ◌≤◌, ◌==◌, Bool, true, false, List, [], ◌∷◌, ◌++◌, length, Option, Some, None, Result, Ok, Err, refl, sym, ap, ◌∙◌, arith, inl, inr, append_assoc}
+use Rattle.std.proofs.Common.{◌≡◌, ℕ, ◌+◌, ◌/◌, Bool, true, false, List, ◌∷◌, ◌++◌, length, Option, Some, None, Result, Ok, Err, refl, sym, ap, ◌∙◌, arith, append_assoc}
 use Rattle.std.specs.Prelude.{codes, IfOk, option_map, option_and_then, MatchResult}
 use Rattle.std.specs.Result.{result_ok}
 use Rattle.std.specs.Str.{bytes_eq}
-use Rattle.std.proofs.lemmas.List.{length-append, append-nil}
+use Rattle.std.proofs.lemmas.List.{length-append}
 use Rattle.hex.specs.Hex.{decode_of}
 use Rattle.hex.specs.declared.error.FromHexError.{FromHexError}
 use Rattle.hex.proofs.HexLemmas.{decode_of-ok}
@@ -11,7 +11,7 @@ use Rattle.bt_wire.specs.Numbers.{be32}
 use Rattle.bt_tool.specs.Script.{framed_by, row_named}
 use Rattle.bt_wire.specs.declared.ids.Shape.{Shape}
 use Rattle.bt_wire.specs.Ids.{Id, ids}
-use Rattle.bt_tool.specs.ScriptReading.{word_of, behind_word, bytes_in_word, closed, fields_in, row_in_text, message_in, Gives}
+use Rattle.bt_tool.specs.ScriptReading.{word_of, behind_word, fields_in, row_in_text, message_in, Gives}
 
 framed-append : (id size : ℕ) (numbers bytes : List ℕ) → size ≡ 1 + length numbers + length bytes → (be32 size ++ (id ∷ numbers)) ++ bytes ≡ framed_by id (numbers ++ bytes)
 framed-append id size numbers bytes e =

@@ -1,5 +1,5 @@
 -- The lines that are read are those that are said, with the same bytes.
-use Rattle.std.proofs.Common.{◌≡◌, ℕ, ◌+◌, ◌*◌, ◌<◌, ◌≤◌, ◌^◌, ◌==◌, Bool, true, false, cond, not, ◌&&◌, List, [], ◌∷◌, ◌++◌, length, Option, Some, None, Result, Ok, Err, refl, sym, ap, subst, ◌∙◌, arith, inl, inr}
+use Rattle.std.proofs.Common.{◌≡◌, ℕ, ◌<◌, ◌^◌, ◌==◌, Bool, true, false, cond, not, ◌&&◌, List, [], ◌∷◌, ◌++◌, length, Some, None, Result, Ok, Err, refl, sym, ap, subst, ◌∙◌, arith, inl, inr}
 use Rattle.std.specs.Prelude.{codes, option_map, option_and_then, nat_lt, IfOk}
 use Rattle.std.specs.Int.{w64, from_be_bytes}
 use Rattle.std.specs.List.{list_all, AllPass}
@@ -13,15 +13,15 @@ use Rattle.std.proofs.lemmas.Slice.Eq.{bytes_eq-Decides}
 use Rattle.hex.specs.Hex.{IsBytes, decode_of, decode_sized, is_hex_digit}
 use Rattle.hex.proofs.HexLemmas.{decode_of-ok, decode_sized-ok, decode_sized-twice}
 use Rattle.bt_wire.specs.declared.handshake.Handshake.{Handshake}
-use Rattle.bt_wire.specs.Handshakes.{hand, IsHandshake, protocol}
+use Rattle.bt_wire.specs.Handshakes.{hand, IsHandshake}
 use Rattle.bt_wire.specs.Ids.{Id, ids, has_meaning}
 use Rattle.bt_wire.specs.Messages.{Fields, spell_fields}
 use Rattle.bt_wire.specs.Numbers.{be32, be64}
 use Rattle.bt_tool.specs.Lines.{spaced}
-use Rattle.bt_tool.specs.Script.{SaysSpaced, SaysFields, row_named, IsOfRow, Said, keep_alive, known, unknown, Says, framed_by, said_bytes, IsMessageLine, HasHandshakeWords, SaysHandshake, IsHandshakeLine, IsLine, IsAnswer}
+use Rattle.bt_tool.specs.Script.{SaysSpaced, SaysFields, row_named, IsOfRow, Said, keep_alive, known, unknown, Says, framed_by, said_bytes, IsMessageLine, HasHandshakeWords, IsHandshakeLine, IsLine, IsAnswer}
 use Rattle.bt_tool.specs.ScriptReading.{word_of, behind_word, number_behind, with_bytes, fields_in, payload_in, unknown_in, row_in_text, message_in, array_behind, peer_in, info_in, handshake_in, bytes_of_parts, closed, line_in, Gives}
 use Rattle.bt_tool.proofs.ScriptWords.{Stops, has_no_space, word-parts, word_of-append, behind_word-append}
-use Rattle.bt_tool.proofs.ScriptFields.{option_map-Some, option_and_then-Some, closed-Some, is_space, HasNumber, number_behind-Some, pair, number_behind-spaced, HasBytes, with_bytes-Some, with_bytes-says, Stops-says, fields_in-Some, fields_in-says, Stops-fields}
+use Rattle.bt_tool.proofs.ScriptFields.{option_map-Some, option_and_then-Some, closed-Some, is_space, number_behind-Some, pair, number_behind-spaced, with_bytes-Some, with_bytes-says, Stops-says, fields_in-Some, fields_in-says, Stops-fields}
 
 same_text : (a b : List ℕ) → bytes_eq a b ≡ true → a ≡ b
 same_text a b e = (bytes_eq-Decides a b).0 e

@@ -1,7 +1,7 @@
 -- What is written of an item is a line, with the bytes of the item.
-use Rattle.std.proofs.Common.{◌≡◌, ℕ, zero, suc, ◌+◌, ◌<◌, ◌^◌, Bool, true, false, List, [], ◌∷◌, ◌++◌, length, Option, Some, None, Ok, refl, sym, ap, subst, ◌∙◌, arith}
+use Rattle.std.proofs.Common.{◌≡◌, ℕ, zero, suc, ◌+◌, ◌<◌, false, List, [], ◌∷◌, ◌++◌, length, Some, refl, ap, subst, arith}
 use Rattle.std.specs.Prelude.{codes, unwrap_or}
-use Rattle.hex.specs.Hex.{encode_lower, decode_of}
+use Rattle.hex.specs.Hex.{encode_lower}
 use Rattle.hex.proofs.HexLemmas.{decode_of-encode_lower}
 use Rattle.bt_ext.specs.Payloads.{ext_id, payload_of}
 use Rattle.bt_ext.specs.declared.ids.Registered.{Registered}
@@ -15,7 +15,7 @@ use Rattle.bt_wire.specs.declared.message.Message.{Message}
 use Rattle.bt_wire.specs.declared.message.Message.TheVariants as m
 use Rattle.bt_wire.specs.Handshakes.{hand, IsHandshake, protocol}
 use Rattle.bt_wire.specs.Ids.{Id, id, ids, has_meaning}
-use Rattle.bt_wire.specs.Messages.{Fields, none, index, part, block, port, field, extended, payload, spell_fields, framed, spell, AreInRange, IsShaped, IsInRange}
+use Rattle.bt_wire.specs.Messages.{Fields, none, index, part, block, port, field, extended, payload, spell_fields, spell, AreInRange, IsShaped, IsInRange}
 use Rattle.bt_wire.specs.Numbers.{be32, be64, AreBytes}
 use Rattle.bt_tool.specs.Lines.{spaced, handshake_words}
 use Rattle.bt_tool.specs.Script.{hex_or_dash, spaced_hex, script_fields, script_message, SaysBytes, SaysSpaced, SaysFields, shape_of, row_named, framed_by, known, unknown, keep_alive, IsMessageLine, IsHandshakeLine, HasHandshakeWords}

@@ -17,6 +17,8 @@ mod target;
 mod tests;
 #[cfg(test)]
 mod tests_options;
+#[cfg(test)]
+mod tests_script;
 mod transfer;
 mod values;
 

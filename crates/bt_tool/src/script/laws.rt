@@ -4,17 +4,14 @@ ghost use Rattle.bt_tool.specs.ScriptLaws.{LineIsOne, MessageIsLine, HandshakeIs
 /// A text names one list of bytes at most.
 pub fn one_reading()
     ensures { LineIsOne }
-{
-}
+{}
 
 /// The words of a message are a line, with just the bytes of the message.
 pub fn message_is_line()
     ensures { MessageIsLine }
-{
-}
+{}
 
 /// The words of a handshake are the first line, with just its bytes.
 pub fn handshake_is_line()
     ensures { HandshakeIsLine }
-{
-}
+{}

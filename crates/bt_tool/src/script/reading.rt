@@ -77,11 +77,11 @@ fn number_behind(text: &[u8]) -> Option<(u32, &[u8])>
     ensures value { seen result ≡ number_read text.now }
     ensures short { IfSome result (λ p. length p.1.now ≤ length text.now) }
 {
-    let (space, digits) = text.split_first()?;
+    let (space, number) = text.split_first()?;
     if *space != b' ' {
         return None;
     }
-    let (word, rest) = split_word(digits);
+    let (word, rest) = split_word(number);
     let n = plain_number(word)?;
     Some((n, rest))
 }
@@ -211,12 +211,7 @@ fn put_block(id: u8, text: &[u8], bytes: &mut Vec<u8>) -> Result<bool, AllocErro
 }
 
 /// The message of an id whose fields have this shape.
-fn put_fields(
-    shape: Shape,
-    id: u8,
-    text: &[u8],
-    bytes: &mut Vec<u8>,
-) -> Result<bool, AllocError>
+fn put_fields(shape: Shape, id: u8, text: &[u8], bytes: &mut Vec<u8>) -> Result<bool, AllocError>
     requires { length text.now < 2 ^ 32 }
     ensures { IfOk result (Gives (option_map (framed_by id) (fields_in shape text.now)) bytes.new.items) }
 {

@@ -111,11 +111,7 @@ fn extended_id(reg: Registered, payload: &ExtView) -> u8
 }
 
 /// Appends the words of an extended message.
-fn push_extended(
-    reg: Registered,
-    payload: &ExtView,
-    text: &mut Vec<u8>,
-) -> Result<(), AllocError>
+fn push_extended(reg: Registered, payload: &ExtView, text: &mut Vec<u8>) -> Result<(), AllocError>
     ensures { OnOk result (text.new.items ≡ text.old.items ++ (codes "extended" ++ (spaced (unwrap_or (ext_id reg (seen_ext payload.now)) 0) ++ spaced_hex (payload_of (seen_ext payload.now))))) }
 {
     let id = extended_id(reg, payload);
@@ -135,8 +131,10 @@ fn kept(view: &MessageView) -> usize {
     match view {
         MessageView::Bitfield(bits) => bits.len(),
         MessageView::Piece { block, .. } => block.len(),
-        MessageView::Extended(ExtView::Handshake { dict, rest }) => dict.spelled().len() + rest.len(),
-        MessageView::Extended(ExtView::Metadata { dict, rest }) => dict.spelled().len() + rest.len(),
+        MessageView::Extended(ExtView::Handshake { dict, rest }) => dict.spelled().len()
+            + rest.len(),
+        MessageView::Extended(ExtView::Metadata { dict, rest }) => dict.spelled().len()
+            + rest.len(),
         MessageView::Extended(ExtView::Raw { payload, .. }) => payload.len(),
         MessageView::Unknown { payload, .. } => payload.len(),
         _ => 0,
@@ -211,7 +209,11 @@ fn push_words(own: &Own, view: &MessageView, text: &mut Vec<u8>) -> Result<(), A
 ///
 /// # Errors
 /// `AllocError` where the growth of the text was refused, which is one at most.
-pub fn push_message_line(own: &Own, view: &MessageView, text: &mut Vec<u8>) -> Result<(), AllocError>
+pub fn push_message_line(
+    own: &Own,
+    view: &MessageView,
+    text: &mut Vec<u8>,
+) -> Result<(), AllocError>
     ensures { OnOk result (text.new.items ≡ text.old.items ++ script_line own.now (items.Message (message_of view.now))) }
 {
     // a name of 16 letters at most, three numbers of 10 digits, four spaces and the line feed

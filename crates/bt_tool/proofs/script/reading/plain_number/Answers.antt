@@ -1,7 +1,5 @@
-use Rattle.std.proofs.Common.{◌≡◌, ℕ, ◌<◌, ◌≤◌, ◌+◌, ◌*◌, ◌-◌, ◌^◌, take, length, get_or, sym, ap, ◌∙◌, arith, below_more, rules, true, false}
-use Rattle.std.specs.Int.{IsInRange}
-use Rattle.std.specs.Str.Parse.{digits_value}
-use Rattle.bt_tool.proofs.ScriptWords.{number_in_word-None, IsDecimal-nonempty, IsDecimal-short, IsDecimal-zero, IsDecimal-digits, number_step, value_short, IsDecimal-other, is_digit, read_number}
+use Rattle.std.proofs.Common.{◌<◌, length, get_or, sym, ◌∙◌, arith, below_more}
+use Rattle.bt_tool.proofs.ScriptWords.{number_in_word-None, IsDecimal-nonempty, IsDecimal-short, IsDecimal-zero, number_step, value_short, IsDecimal-other, is_digit, read_number}
 use Rattle.bt_tool.proofs.script.reading.plain_number.Goals as goal
 use Rattle.bt_tool.proofs.script.reading.plain_number.Goals.{then-is_empty-via-then-is_empty, then-is_empty-via-else-is_empty+then-word-gt10, then-is_empty-via-else-is_empty+else-word-gt10+then-word-gt1, then-word-eq48, else-word-eq48}
 

@@ -1,5 +1,4 @@
-use Rattle.std.proofs.Common.{rules, ◌∙◌, ap, take, drop, List, ℕ}
-use Rattle.bt_tool.proofs.ScriptWords.{take-word, drop-word, length-behind_word, word_end}
+use Rattle.bt_tool.proofs.ScriptWords.{take-word, drop-word, word_end}
 use Rattle.bt_tool.proofs.script.reading.split_word.Goals as goal
 
 pub returns-clause-word : goal.returns-clause-word

@@ -1,4 +1,4 @@
-use Rattle.std.proofs.Common.{ℕ, ◌+◌, ◌<◌, length, arith}
+use Rattle.std.proofs.Common.{◌+◌, ◌<◌, length, arith}
 use Rattle.bt_tool.proofs.ScriptText.{two_parts}
 use Rattle.bt_tool.proofs.script.writing.push_bytes.Goals as goal
 use Rattle.bt_tool.proofs.script.writing.push_bytes.Goals.{else-is_empty-via-then-is_empty+else-is_empty-2, else-is_empty-via-else-is_empty}

@@ -1,5 +1,4 @@
 use Rattle.std.specs.Prelude.{codes}
-use Rattle.std.proofs.Common.{refl}
 use Rattle.hex.specs.Hex.{encode_lower}
 use Rattle.bt_wire.specs.Numbers.{be64}
 use Rattle.bt_tool.proofs.ScriptText.{hand_words}
