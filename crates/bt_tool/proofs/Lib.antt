@@ -9,3 +9,4 @@ mod ScriptFields
 mod ScriptLines
 mod ScriptText
 mod ScriptSpoken
+mod ScriptBounds
