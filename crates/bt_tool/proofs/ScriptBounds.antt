@@ -1,5 +1,5 @@
 -- How long the words of an item are, and that they hold no line feed.
-use Rattle.std.proofs.Common.{◌≡◌, ℕ, zero, suc, ◌+◌, ◌*◌, ◌/◌, ◌%◌, ◌<◌, ◌≤◌, ◌^◌, ◌==◌, ◌||◌, Bool, true, false, List, [], ◌∷◌, ◌++◌, length, get_or, Option, Some, None, refl, sym, ap, subst, ◌∙◌, arith}
+use Rattle.std.proofs.Common.{◌≡◌, ℕ, zero, suc, ◌+◌, ◌*◌, ◌/◌, ◌%◌, ◌<◌, ◌≤◌, ◌^◌, ◌==◌, ◌||◌, Bool, false, List, [], ◌∷◌, ◌++◌, length, get_or, refl, subst, arith}
 use Rattle.std.specs.Prelude.{codes, unwrap_or}
 use Rattle.std.specs.Fmt.{decimal}
 use Rattle.std.specs.Int.{IsInRange as IsBetween}
@@ -18,7 +18,7 @@ use Rattle.bt_wire.specs.Handshakes.{IsHandshake}
 use Rattle.bt_wire.specs.Messages.{Fields, none, index, part, block, port, field, extended, payload, spell_fields, body, AreInRange, IsInRange}
 use Rattle.bt_wire.specs.Numbers.{be64}
 use Rattle.bt_tool.specs.Lines.{spaced, handshake_words}
-use Rattle.bt_tool.specs.Script.{hex_or_dash, spaced_hex, script_fields, script_message}
+use Rattle.bt_tool.specs.Script.{spaced_hex, script_fields, script_message}
 use Rattle.bt_tool.specs.ScriptLaws.{has_feed, IsFitLine}
 use Rattle.bt_tool.proofs.ScriptWords.{AreDigits, own}
 

@@ -1,5 +1,5 @@
 -- The words of a line: its front up to a space, and the numbers that words say.
-use Rattle.std.proofs.Common.{◌≡◌, ℕ, suc, ◌+◌, ◌-◌, ◌*◌, ◌<◌, ◌≤◌, ◌^◌, ◌==◌, Bool, true, false, ◌&&◌, not, List, [], ◌∷◌, ◌++◌, length, take, drop, get_or, Some, None, Result, Ok, Err, ◌⊎◌, refl, sym, ap, ◌∙◌, arith, inl, inr, cond, zero}
+use Rattle.std.proofs.Common.{◌≡◌, ℕ, suc, ◌+◌, ◌-◌, ◌*◌, ◌<◌, ◌≤◌, ◌^◌, ◌==◌, Bool, true, false, ◌&&◌, not, List, [], ◌∷◌, ◌++◌, length, take, drop, get_or, Some, None, Result, Ok, Err, refl, sym, ap, ◌∙◌, arith, inl, inr, cond, zero}
 use Rattle.std.proofs.lemmas.Bool.{cases_Bool, cases_lt, and_parts, ltb-true, ltb-false, lt-ltb, le-ltb}
 use Rattle.std.proofs.lemmas.Fmt.{digits_decimal, digits_value-decimal, decimal-digits_value, length-decimal-le, decimal_nonempty, first_decimal, decimal_digit}
 use Rattle.std.proofs.lemmas.List.{length-take, get_or-take, take_all}
@@ -238,9 +238,9 @@ ok_iff w n (Ok x) small large h = rw h.1 (sym (small h.0))
 ok_iff w n (Err e) small large h = sym (large (elim (cases_lt n (2 ^ 32)) [ inl lt ↦ absurd (h lt) | inr le ↦ le ]))
 
 -- the value of all digits, where no more than one is there or the first isn't 0
-pub read_number : {E : Type 0} (w : List ℕ) (i n : ℕ) (r : Result ℕ E) → (0 < length w) → length w ≤ i → n ≡ digits_value 10 (take i w) → ((k : ℕ) → k < i → IsInRange 48 57 (get_or w k 0)) → ((get_or w 0 0 ≡ 48) × (length w ≤ 1)) ⊎ (get_or w 0 0 ≡ 48 → ⊥) → OkIff r (n < 2 ^ 32) n → result_ok r ≡ number_in_word w
+pub read_number : {E : Type 0} (w : List ℕ) (i n : ℕ) (r : Result ℕ E) → (0 < length w) → length w ≤ i → n ≡ digits_value 10 (take i w) → ((k : ℕ) → k < i → IsInRange 48 57 (get_or w k 0)) → (get_or w 0 0 ≡ 48 → 1 < length w → ⊥) → OkIff r (n < 2 ^ 32) n → result_ok r ≡ number_in_word w
 read_number w i n r some le is digits led h =
     let same : n ≡ digits_value 10 w = is ∙ ap (digits_value 10) (take_all i w le) in
     let all : AreDigits w = λ k lt. digits k (omega arith) in
-    let first : get_or w 0 0 ≡ 48 → length w ≡ 1 = λ e. elim led [ inl p ↦ omega (arith, p.1) | inr other ↦ absurd (other e) ] in
+    let first : get_or w 0 0 ≡ 48 → length w ≡ 1 = λ e. elim (cases_lt 1 (length w)) [ inl more ↦ absurd (led e more) | inr one ↦ omega arith ] in
     ok_iff w n r (λ lt. small_digits w all some first (omega arith) ∙ ap (λ (k : ℕ). Some k) (sym same)) (λ le'. large_digits w (omega arith)) h

@@ -1,5 +1,5 @@
 //! A line of a script, from its text to its bytes. Nothing is allocated but the bytes.
-ghost use Rattle.std.specs.Prelude.{◌≡◌, ◌+◌, ◌<◌, ◌≤◌, ◌^◌, length, IfOk, IfSome, OnOk, MatchResult, option_map, position, unwrap_or, true, false, ◌++◌, ◌∷◌, ◌-◌, ◌==◌};
+ghost use Rattle.std.specs.Prelude.{◌≡◌, ◌+◌, ◌<◌, ◌≤◌, ◌^◌, length, IsTrue, ◌↔◌, slice_index, IfOk, IfSome, OnOk, MatchResult, option_map, position, unwrap_or, true, false, ◌++◌, ◌∷◌, ◌-◌, ◌==◌};
 ghost use Rattle.std.specs.Str.{bytes_eq};
 ghost use Rattle.std.specs.Result.{result_ok};
 ghost use Rattle.hex.specs.Hex.{decode_of};
@@ -55,11 +55,18 @@ fn split_word(text: &[u8]) -> (&[u8], &[u8])
     text.split_at(end)
 }
 
+/// Whether a zero leads further digits.
+fn has_leading_zero(word: &[u8]) -> bool
+    ensures { IsTrue result ↔ ((slice_index word.now 0 ≡ 48) × (1 < length word.now)) }
+{
+    word.len() > 1 && word[0] == b'0'
+}
+
 /// The number below 2^32 whose digits the word is, without leading zeros.
 fn plain_number(word: &[u8]) -> Option<u32>
     ensures { result ≡ number_in_word word.now }
 {
-    if word.is_empty() || word.len() > 10 || (word[0] == b'0' && word.len() > 1) {
+    if word.is_empty() || word.len() > 10 || has_leading_zero(word) {
         return None;
     }
     let mut n: u64 = 0;

@@ -1,7 +1,7 @@
-use Rattle.std.proofs.Common.{◌<◌, length, get_or, sym, ◌∙◌, arith, below_more}
+use Rattle.std.proofs.Common.{◌≡◌, ◌<◌, true, false, length, get_or, sym, ◌∙◌, arith, below_more}
 use Rattle.bt_tool.proofs.ScriptWords.{number_in_word-None, IsDecimal-nonempty, IsDecimal-short, IsDecimal-zero, number_step, value_short, IsDecimal-other, is_digit, read_number}
 use Rattle.bt_tool.proofs.script.reading.plain_number.Goals as goal
-use Rattle.bt_tool.proofs.script.reading.plain_number.Goals.{then-is_empty-via-then-is_empty, then-is_empty-via-else-is_empty+then-word-gt10, then-is_empty-via-else-is_empty+else-word-gt10+then-word-gt1, then-word-eq48, else-word-eq48}
+use Rattle.bt_tool.proofs.script.reading.plain_number.Goals.{then-is_empty-via-then-is_empty, then-is_empty-via-else-is_empty+then-word-gt10, then-is_empty-via-else-is_empty+else-word-gt10+then-has_leading_zero}
 
 pub returns-then-is_empty : goal.returns-then-is_empty
 returns-then-is_empty c =
@@ -9,7 +9,9 @@ returns-then-is_empty c =
     elim c.then-is_empty.branch [
       | then-is_empty-via-then-is_empty w ↦ absurd (let some = IsDecimal-nonempty c.args.word.now n h in grind arith)
       | then-is_empty-via-else-is_empty+then-word-gt10 w ↦ absurd (omega (arith, IsDecimal-short c.args.word.now n h, w.if-word-gt10.true))
-      | then-is_empty-via-else-is_empty+else-word-gt10+then-word-gt1 w ↦ absurd (omega (arith, IsDecimal-zero c.args.word.now n h w.if-word-gt1.true.0, w.if-word-gt1.true.1))
+      | then-is_empty-via-else-is_empty+else-word-gt10+then-has_leading_zero w ↦
+          let led = w.has_leading_zero.ensures.0 w.if-has_leading_zero.true in
+          absurd (omega (arith, IsDecimal-zero c.args.word.now n h led.0, led.1))
     ]))
 
 pub returns-then-not-is_ascii_digit : goal.returns-then-not-is_ascii_digit
@@ -39,4 +41,6 @@ loop-digit-preserved c =
 pub returns : goal.returns
 returns c =
     let some : 0 < length c.args.word.now = grind arith in
-    c.ok.ensures.value ∙ read_number c.args.word.now c.loop-digit.digit-index c.loop-digit.n c.try_from.result some c.loop-digit-test.false c.loop-digit.invariant.value c.loop-digit.invariant.digits c.if-word-gt1.either c.try_from.ensures
+    let led : get_or c.args.word.now 0 0 ≡ 48 → 1 < length c.args.word.now → ⊥ = λ e more.
+    let k : true ≡ false = sym (c.has_leading_zero.ensures.1 (e, more)) ∙ c.if-has_leading_zero.false in cc k in
+    c.ok.ensures.value ∙ read_number c.args.word.now c.loop-digit.digit-index c.loop-digit.n c.try_from.result some c.loop-digit-test.false c.loop-digit.invariant.value c.loop-digit.invariant.digits led c.try_from.ensures
