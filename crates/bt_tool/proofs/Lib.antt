@@ -1,2 +1,9 @@
 mod Numbers
 mod Printing
+mod ScriptWords
+mod ScriptBytes
+mod ScriptFields
+mod ScriptLines
+mod ScriptText
+mod ScriptSpoken
+mod ScriptBounds

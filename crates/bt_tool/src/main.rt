@@ -6,6 +6,7 @@ mod ended;
 mod lines;
 mod options;
 mod printer;
+mod script;
 mod show;
 #[cfg(test)]
 mod tests;
@@ -13,6 +14,8 @@ mod tests;
 mod tests_captures;
 #[cfg(test)]
 mod tests_options;
+#[cfg(test)]
+mod tests_script;
 #[cfg(test)]
 mod tests_shown;
 mod values;

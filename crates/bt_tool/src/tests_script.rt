@@ -1,0 +1,247 @@
+//! The lines of scripts: what each text says, and what is written of each message.
+use crate::commands::default_own;
+use crate::script::reading::read_line;
+use crate::script::writing::{push_handshake_line, push_message_line};
+use bt_wire::{Front, Opening, Order, negotiate, read_front, read_opening};
+use std::alloc::Global;
+use std::process::Abort;
+use std::test::Fail;
+
+/// The handshake of reserved bytes 0000000000100005, the SHA-1 of `abc` and the peer id `-XX0001-000000000000`.
+const HAND: &[u8; 68] =
+    b"\x13BitTorrent protocol\x00\x00\x00\x00\x00\x10\x00\x05\xa9\x99\x3e\x36\x47\x06\x81\x6a\xba\x3e\x25\x71\x78\x50\xc2\x6c\x9c\xd0\xd8\x9d-XX0001-000000000000";
+
+const LINE: &str =
+    "handshake 0000000000100005 a9993e364706816aba3e25717850c26c9cd0d89d 2d5858303030312d303030303030303030303030";
+
+/// The text is a line with these bytes, given in hex.
+fn says(rt: &impl Abort, alloc: Global, first: bool, text: &str, bytes: &str) -> Result<(), Fail> {
+    assert!(rt; text.len() < 1000);
+    let mut read = Vec::new(alloc);
+    assert!(rt; read_line(text.as_bytes(), first, &mut read)?, "{text}");
+    assert_eq!(rt;
+        hex::encode(alloc, read.as_slice())?.as_str(),
+        bytes,
+        "{text}"
+    );
+    Ok(())
+}
+
+/// The text is no line.
+fn says_nothing(rt: &impl Abort, alloc: Global, first: bool, text: &str) -> Result<(), Fail> {
+    assert!(rt; text.len() < 1000);
+    let mut read = Vec::new(alloc);
+    assert!(rt; !read_line(text.as_bytes(), first, &mut read)?, "{text}");
+    Ok(())
+}
+
+#[test]
+fn message_lines_are_read(rt: HostRuntime) -> Result<(), Fail> {
+    for (text, bytes) in [
+        ("keep-alive", "00000000"),
+        ("choke", "0000000100"),
+        ("unchoke", "0000000101"),
+        ("interested", "0000000102"),
+        ("not-interested", "0000000103"),
+        ("have 0", "000000050400000000"),
+        ("have 9", "000000050400000009"),
+        ("have 4294967295", "0000000504ffffffff"),
+        ("bitfield ffc0", "0000000305ffc0"),
+        ("bitfield FFc0", "0000000305ffc0"),
+        ("bitfield -", "0000000105"),
+        (
+            "request 1 16384 16384",
+            "0000000d06000000010000400000004000",
+        ),
+        ("piece 1 16384 -", "00000009070000000100004000"),
+        ("piece 1 0 616263", "0000000c070000000100000000616263"),
+        ("cancel 0 0 1", "0000000d08000000000000000000000001"),
+        ("port 6881", "00000003091ae1"),
+        ("port 65535", "0000000309ffff"),
+        ("suggest 7", "000000050d00000007"),
+        ("have-all", "000000010e"),
+        ("have-none", "000000010f"),
+        ("reject 1 2 3", "0000000d10000000010000000200000003"),
+        ("allowed-fast 7", "000000051100000007"),
+        ("extended 0 -", "000000021400"),
+        ("extended 255 0A", "0000000314ff0a"),
+        (
+            "extended 3 64383a6d73675f74797065693065353a706965636569306565",
+            "0000001b140364383a6d73675f74797065693065353a706965636569306565",
+        ),
+        ("unknown 10 -", "000000010a"),
+        ("unknown 99 0a0b", "00000003630a0b"),
+        ("unknown 255 -", "00000001ff"),
+    ] {
+        says(&rt, rt.alloc(), false, text, bytes)?;
+    }
+    Ok(())
+}
+
+#[test]
+fn other_texts_are_no_lines(rt: HostRuntime) -> Result<(), Fail> {
+    for text in [
+        "",
+        " ",
+        "-",
+        "have",
+        "have ",
+        "have 09",
+        "have 00",
+        "have  9",
+        "have 9 ",
+        " have 9",
+        "have 9\r",
+        "have 9\n",
+        "have\t9",
+        "have -1",
+        "have +1",
+        "have a",
+        "have 4294967296",
+        "have 10000000000",
+        "have 18446744073709551625",
+        "have 9 9",
+        "HAVE 9",
+        "bitfield",
+        "bitfield ",
+        "bitfield f",
+        "bitfield ffg0",
+        "bitfield ff ff",
+        "bitfield --",
+        "bitfield -ff",
+        "request 1 2",
+        "request 1 2 3 4",
+        "piece 1 2",
+        "piece 1 2 3",
+        "port 65536",
+        "port 080",
+        "extended 256 -",
+        "extended 03 -",
+        "extended 3",
+        "extended -",
+        "unknown 9 -",
+        "unknown 20 -",
+        "unknown 256 -",
+        "unknown 099 -",
+        "unknown 99",
+        "unknown 99 9",
+        "choke ",
+        "choke -",
+        "keep-alive ",
+        "keepalive",
+        "ok",
+        LINE,
+    ] {
+        says_nothing(&rt, rt.alloc(), false, text)?;
+    }
+    Ok(())
+}
+
+#[test]
+fn first_lines_are_read(rt: HostRuntime) -> Result<(), Fail> {
+    let hand =
+        "13426974546f7272656e742070726f746f636f6c0000000000100005a9993e364706816aba3e25717850c26c9cd0d89d2d5858303030312d303030303030303030303030";
+    let alloc = rt.alloc();
+    says(&rt, alloc, true, LINE, hand)?;
+    says(
+        &rt,
+        alloc,
+        true,
+        "handshake 0000000000100005 A9993E364706816ABA3E25717850C26C9CD0D89D 2D5858303030312D303030303030303030303030",
+        hand,
+    )?;
+    for text in [
+        "",
+        "choke",
+        "keep-alive",
+        "handshake",
+        "handshake 0000000000100005",
+        "handshake 0000000000100005 a9993e364706816aba3e25717850c26c9cd0d89d 2d5858303030312d303030303030303030303030 ",
+        "handshake  0000000000100005 a9993e364706816aba3e25717850c26c9cd0d89d 2d5858303030312d303030303030303030303030",
+        "handshake 000000000010005 a9993e364706816aba3e25717850c26c9cd0d89d 2d5858303030312d303030303030303030303030",
+        "handshake 0000000000100005 a9993e364706816aba3e25717850c26c9cd0d89g 2d5858303030312d303030303030303030303030",
+        "handshake 0000000000100005 a9993e364706816aba3e25717850c26c9cd0d89d -",
+        "Handshake 0000000000100005 a9993e364706816aba3e25717850c26c9cd0d89d 2d5858303030312d303030303030303030303030",
+    ] {
+        says_nothing(&rt, alloc, true, text)?;
+    }
+    Ok(())
+}
+
+/// The line of the message behind a handshake, which is read as the message again.
+fn is_written(rt: &impl Abort, alloc: Global, bytes: &[u8], line: &str) -> Result<(), Fail> {
+    let own = default_own();
+    let context = negotiate(&own, own.reserved);
+    let Front::Whole(view, _) = read_front(&context, Order::Fresh, 68, bytes) else {
+        return Err("no message".into());
+    };
+    let mut text = Vec::from_slice(alloc, b"before\n")?;
+    push_message_line(&own, &view, &mut text)?;
+    let written = String::from_utf8(text).ok().ok_or("no text")?;
+    assert_eq!(rt;
+        written.as_str(),
+        format!(in alloc; "before\n{line}\n")?.as_str()
+    );
+    says(rt, alloc, false, line, hex::encode(alloc, bytes)?.as_str())
+}
+
+#[test]
+fn message_lines_are_written(rt: HostRuntime) -> Result<(), Fail> {
+    for (bytes, line) in [
+        (b"\0\0\0\0".as_slice(), "keep-alive"),
+        (b"\0\0\0\x01\0", "choke"),
+        (b"\0\0\0\x01\x01", "unchoke"),
+        (b"\0\0\0\x01\x02", "interested"),
+        (b"\0\0\0\x01\x03", "not-interested"),
+        (b"\0\0\0\x05\x04\xff\xff\xff\xff", "have 4294967295"),
+        (b"\0\0\0\x03\x05\xff\xc0", "bitfield ffc0"),
+        (b"\0\0\0\x01\x05", "bitfield -"),
+        (
+            b"\0\0\0\x0d\x06\0\0\0\x01\0\0\x40\0\0\0\x40\0",
+            "request 1 16384 16384",
+        ),
+        (b"\0\0\0\x09\x07\0\0\0\x01\0\0\x40\0", "piece 1 16384 -"),
+        (b"\0\0\0\x0c\x07\0\0\0\x01\0\0\0\0abc", "piece 1 0 616263"),
+        (
+            b"\0\0\0\x0d\x08\0\0\0\x01\0\0\0\x02\0\0\0\x03",
+            "cancel 1 2 3",
+        ),
+        (b"\0\0\0\x03\x09\x1a\xe1", "port 6881"),
+        (b"\0\0\0\x05\x0d\0\0\0\x07", "suggest 7"),
+        (b"\0\0\0\x01\x0e", "have-all"),
+        (b"\0\0\0\x01\x0f", "have-none"),
+        (
+            b"\0\0\0\x0d\x10\0\0\0\x01\0\0\0\x02\0\0\0\x03",
+            "reject 1 2 3",
+        ),
+        (b"\0\0\0\x05\x11\0\0\0\x07", "allowed-fast 7"),
+        (
+            b"\0\0\0\x0b\x14\0d1:mdeeab",
+            "extended 0 64313a6d6465656162",
+        ),
+        (
+            b"\0\0\0\x1b\x14\x03d8:msg_typei0e5:piecei0ee",
+            "extended 3 64383a6d73675f74797065693065353a706965636569306565",
+        ),
+        (b"\0\0\0\x02\x14\x04", "extended 4 -"),
+        (b"\0\0\0\x03\x14\x04\xff", "extended 4 ff"),
+        (b"\0\0\0\x01\x63", "unknown 99 -"),
+        (b"\0\0\0\x03\x63\x0a\xfb", "unknown 99 0afb"),
+    ] {
+        is_written(&rt, rt.alloc(), bytes, line)?;
+    }
+    Ok(())
+}
+
+#[test]
+fn handshakes_are_written(rt: HostRuntime) -> Result<(), Fail> {
+    let alloc = rt.alloc();
+    let Opening::Whole(handshake) = read_opening(&default_own(), HAND) else {
+        return Err("no handshake".into());
+    };
+    let mut text = Vec::new(alloc);
+    push_handshake_line(&handshake, &mut text)?;
+    let written = String::from_utf8(text).ok().ok_or("no text")?;
+    assert_eq!(rt; written.as_str(), format!(in alloc; "{LINE}\n")?.as_str());
+    Ok(())
+}

@@ -1,0 +1,37 @@
+ghost use Rattle.std.specs.Prelude.{◌≡◌, ◌+◌, ◌-◌, ◌<◌, ◌^◌, ◌∷◌, ◌++◌, length, IfOk};
+ghost use Rattle.bt_wire.specs.Numbers.{be32};
+
+use std::alloc::{AllocError, Global};
+
+/// The bytes of a message with this id and these fields (BEP 3, "peer messages"): the length of both in four bytes, the
+/// id and the fields. Nothing is judged, and the id may be any.
+pub fn frame(alloc: Global, id: u8, fields: &[u8]) -> Result<Vec<u8>, AllocError>
+    requires { length fields.now < 2 ^ 32 - 1 }
+    ensures { IfOk result (λ bytes. bytes.items ≡ be32 (1 + length fields.now) ++ id ∷ fields.now) }
+{
+    let length = 1 + fields.len() as u32;
+    let mut bytes = Vec::with_capacity(alloc, 5 + fields.len())?;
+    bytes.extend_from_slice(&length.to_be_bytes())?;
+    bytes.push(id)?;
+    bytes.extend_from_slice(fields)?;
+    Ok(bytes)
+}
+
+#[cfg(test)]
+mod tests {
+    use super::*;
+    use std::test::Fail;
+
+    #[test]
+    fn messages_are_framed(rt: HostRuntime) -> Result<(), Fail> {
+        for (id, fields, bytes) in [
+            (1, b"".as_slice(), b"\0\0\0\x01\x01".as_slice()),
+            (4, b"\0\0\0\x09", b"\0\0\0\x05\x04\0\0\0\x09"),
+            (20, b"\0", b"\0\0\0\x02\x14\0"),
+            (99, b"abc", b"\0\0\0\x04cabc"),
+        ] {
+            assert!(rt; frame(rt.alloc(), id, fields)?.as_slice() == bytes);
+        }
+        Ok(())
+    }
+}
