@@ -17,13 +17,15 @@ use Rattle.bt_feed.specs.Counts.{Grew}
 use Rattle.bt_tool.specs.declared.printer.Form.{Form}
 use Rattle.bt_tool.specs.declared.printer.Form.TheVariants as form
 use Rattle.bt_tool.specs.declared.printer.Printer.{Printer}
-use Rattle.bt_tool.specs.Lines.{line, ended_as}
+use Rattle.bt_tool.specs.Lines.{line, ended_as, verdict_line}
+use Rattle.bt_tool.specs.Script.{script_line, script}
 
 -- ---- the text of items
 
 abbrev pub text_of : Form → Own → ℕ × Item → List ℕ
 text_of form.Show own x = line own x
 text_of form.Check own x = []
+text_of (form.Unpack receiver) own x = script_line receiver x.1
 
 abbrev pub texts : Form → Own → List (ℕ × Item) → List ℕ
 texts f own xs = flat_map (text_of f own) xs
@@ -82,6 +84,18 @@ IsWritten w own left left' held held' r =
 -- the items alone
 abbrev pub items_in : Form → Own → Writing
 items_in f own v n = texts f own v.items
+
+-- the verdict alone
+abbrev pub checked : Writing
+checked v n = verdict_line (ended_as v n)
+
+-- the script of the items
+abbrev pub unpacked : Own → Writing
+unpacked own v n = script own v.items
+
+-- the items, and then the verdict
+abbrev pub with_verdict : Form → Own → Writing
+with_verdict f own v n = texts f own v.items ++ verdict_line (ended_as v n)
 
 -- ---- for private contracts: how far a stream is read
 

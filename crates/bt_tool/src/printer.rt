@@ -3,13 +3,16 @@ ghost use Rattle.std.specs.Prelude.{◌≡◌, ℕ, List, [], ◌++◌, OnOk, On
 ghost use Rattle.std.specs.Io.KnownBytes.{Appends};
 ghost use Rattle.bt_feed.specs.Counts.{Grew};
 ghost use Rattle.bt_feed.specs.Views.{item_of};
-ghost use Rattle.bt_wire.specs.declared.context.Own.{Own};
+ghost use Rattle.bt_wire.specs.declared.context.Own.{Own as Receiver};
+ghost use Rattle.bt_tool.specs.Script.{script_line};
 ghost use Rattle.bt_tool.specs.Lines.{line as line_of, verdict_line as verdict_words};
 ghost use Rattle.bt_tool.specs.Printed.{IsFlushed, Prints, form_of, text_in};
 
 use crate::ended::{Ended, ToolFault};
 use crate::lines::{Line, handshake_line, message_line, push_line, verdict_line};
+use crate::script::writing::{push_handshake_line, push_message_line};
 use bt_feed::{Sink, SinkFault, Target, View, write_front};
+use bt_wire::Own;
 use std::alloc::{AllocError, Global};
 
 /// What is written of an item.
@@ -19,6 +22,8 @@ pub enum Form {
     Show,
     /// Nothing.
     Check,
+    /// A script's line with all of its bytes, as this receiver's registered ids have it.
+    Unpack(Own),
 }
 
 /// A sink that makes text of items, and keeps it until it is written.
@@ -34,7 +39,7 @@ pub struct Printer {
 /// Adds the line of an item.
 #[inline(always)]
 fn push_item(at: u64, view: &View, line: &mut Line, text: &mut Vec<u8>) -> Result<(), AllocError>
-    ensures { OnOk result ((own : Own) → text.new.items ≡ text.old.items ++ line_of own (at, item_of view.now)) }
+    ensures { OnOk result ((own : Receiver) → text.new.items ≡ text.old.items ++ line_of own (at, item_of view.now)) }
 {
     match view {
         View::Handshake(handshake) => {
@@ -45,6 +50,16 @@ fn push_item(at: u64, view: &View, line: &mut Line, text: &mut Vec<u8>) -> Resul
             let place = message_line(at, message, line);
             push_line(text, line, place)
         }
+    }
+}
+
+/// Adds the script's line of an item.
+fn push_script(own: &Own, view: &View, text: &mut Vec<u8>) -> Result<(), AllocError>
+    ensures { OnOk result (text.new.items ≡ text.old.items ++ script_line own.now (item_of view.now)) }
+{
+    match view {
+        View::Handshake(handshake) => push_handshake_line(handshake, text),
+        View::Message(message) => push_message_line(own, message, text),
     }
 }
 
@@ -105,6 +120,7 @@ impl Sink for Printer {
         let added = match self.form {
             Form::Show => push_item(at, view, &mut self.line, &mut self.text),
             Form::Check => Ok(()),
+            Form::Unpack(own) => push_script(&own, view, &mut self.text),
         };
         if added.is_err() {
             self.failed = self.failed.saturating_add(1);

@@ -1,13 +1,9 @@
-use Rattle.std.proofs.Common.{◌++◌, ℕ, List, Result, Ok, Err, ap, sym, ◌∙◌}
-use Rattle.std.specs.Prelude.{OnOk}
+use Rattle.std.proofs.Common.{◌++◌, ℕ, List, ap, sym, ◌∙◌}
 use Rattle.bt_feed.specs.Views.{item_of}
 use Rattle.bt_feed.specs.declared.view.View.{View}
 use Rattle.bt_tool.specs.Lines.{line as line_of}
+use Rattle.bt_tool.proofs.Printing.{on_ok}
 use Rattle.bt_tool.proofs.printer.push_item.Goals as goal
-
-on_ok : {T E : Type 0} (r : Result T E) (P Q : Type 0) → (P → Q) → OnOk r P → OnOk r Q
-on_ok (Ok x) P Q f h = f h
-on_ok (Err e) P Q f h = tt
 
 pub returns-in-Handshake : goal.returns-in-Handshake
 returns-in-Handshake c =
