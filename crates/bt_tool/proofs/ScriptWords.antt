@@ -51,23 +51,12 @@ word_end t =
     let n = position_or_len is_space t in
     end_by (nat_lt n (length t)) n (length t) (λ e. omega (arith, ltb-false n (length t) e, prefix_len-le-length (λ c. not (is_space c)) t))
 
-pub word_end-le : (t : List ℕ) → unwrap_or (position is_space t) (length t) ≤ length t
-word_end-le t = rw (word_end t) (prefix_len-le-length (λ c. not (is_space c)) t)
-
 pub word-parts : (t : List ℕ) → word_of t ++ behind_word t ≡ t
 word-parts [] = refl
 word-parts (c ∷ cs) =
     elim (cases_Bool (c == 32)) [
       | inl e ↦ rw e refl
       | inr e ↦ rw e (ap (λ (x : List ℕ). c ∷ x) (word-parts cs))
-    ]
-
-pub length-behind_word : (t : List ℕ) → length (behind_word t) ≤ length t
-length-behind_word [] = omega arith
-length-behind_word (c ∷ cs) =
-    elim (cases_Bool (c == 32)) [
-      | inl e ↦ rw e (omega arith)
-      | inr e ↦ rw e (omega (arith, length-behind_word cs))
     ]
 
 -- ---- a word and what follows it
@@ -100,17 +89,6 @@ behind_word-append (c ∷ cs) t h stops =
     let p = and_parts (not (c == 32)) (has_no_space cs) h in
     let e : (c == 32) ≡ false = not_space (c == 32) p.0 in
     rw e (behind_word-append cs t p.1 stops)
-
-pub Stops-behind_word : (t : List ℕ) → Stops (behind_word t)
-Stops-behind_word [] = tt
-Stops-behind_word (c ∷ cs) =
-    elim (cases_Bool (c == 32)) [
-      | inl e ↦ rw e (borrow_eq c e)
-      | inr e ↦ rw e (Stops-behind_word cs)
-    ]
-  where
-    borrow_eq : (c : ℕ) → (c == 32) ≡ true → c ≡ 32
-    borrow_eq c e = grind arith
 
 -- ---- numbers
 
