@@ -4,7 +4,8 @@ use Rattle.bt_ext.specs.declared.ids.Rules.TheVariants.{Free}
 use Rattle.bt_ext.specs.Ids.{metadata_id}
 use Rattle.bt_wire.specs.declared.context.Own.{Own}
 use Rattle.bt_tool.specs.declared.commands.Asked.{Asked}
-use Rattle.bt_tool.specs.declared.commands.Asked.TheVariants.{Show, Told}
+use Rattle.bt_tool.specs.declared.commands.Asked.TheVariants.{Run, Told}
+use Rattle.bt_tool.specs.declared.commands.Job.TheVariants.{Show, Check, Unpack}
 use Rattle.bt_tool.specs.declared.commands.Notice.{Notice}
 use Rattle.bt_tool.specs.declared.commands.Notice.TheVariants.{Help, Version, Usage}
 use Rattle.bt_tool.specs.declared.ended.Ended.{Ended}
@@ -23,12 +24,14 @@ HasLimit own = (1 ≤ own.limit) × (own.limit ≤ 1048576)
 
 -- a receiver that is asked for has such a limit
 abbrev pub IsLimited : Asked → Type 0
-IsLimited (Show own) = HasLimit own
+IsLimited (Run job own) = HasLimit own
 IsLimited (Told notice text) = Unit {0}
 
 -- the stream is asked for, with the default receiver
 abbrev pub IsShowByDefault : Asked → Type 0
-IsShowByDefault (Show own) = IsDefault own
+IsShowByDefault (Run Show own) = IsDefault own
+IsShowByDefault (Run Check own) = ⊥
+IsShowByDefault (Run Unpack own) = ⊥
 IsShowByDefault (Told notice text) = ⊥
 
 -- 0 with help and with the version, 2 with words that are no command line

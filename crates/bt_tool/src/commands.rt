@@ -17,11 +17,22 @@ pub enum Notice {
     Usage,
 }
 
+/// What is done with a stream.
+#[derive(Clone, Copy, PartialEq, Eq, Debug)]
+pub enum Job {
+    /// A line for each item, and the verdict.
+    Show,
+    /// The verdict alone.
+    Check,
+    /// The script of the items.
+    Unpack,
+}
+
 /// What the words ask for.
 #[derive(Debug, Drop)]
 pub enum Asked {
-    /// To show a stream that this receiver gets.
-    Show(Own),
+    /// A job on a stream that this receiver gets.
+    Run(Job, Own),
     /// A text and no work.
     Told(Notice, String),
 }

@@ -13,6 +13,8 @@ mod tests;
 #[cfg(test)]
 mod tests_captures;
 #[cfg(test)]
+mod tests_jobs;
+#[cfg(test)]
 mod tests_options;
 #[cfg(test)]
 mod tests_script;
@@ -20,9 +22,10 @@ mod tests_script;
 mod tests_shown;
 mod values;
 
-use crate::commands::{Asked, Notice, status, status_of};
+use crate::commands::{Asked, Job, Notice, status, status_of};
+use crate::ended::Ended;
 use crate::options::asked;
-use crate::show::run_show;
+use crate::show::{run_check, run_show, run_unpack};
 use bt_feed::Host;
 use std::process::ExitCode;
 use std::rt::Env;
@@ -49,8 +52,8 @@ fn main(rt: HostRuntime) -> ExitCode {
             return ExitCode::from(2);
         }
     };
-    let own = match asked(rt.alloc(), &words) {
-        Ok(Asked::Show(own)) => own,
+    let (job, own) = match asked(rt.alloc(), &words) {
+        Ok(Asked::Run(job, own)) => (job, own),
         Ok(Asked::Told(Notice::Usage, text)) => {
             let _ = eprint!(rt; "{text}");
             return ExitCode::from(status_of(Notice::Usage));
@@ -69,9 +72,25 @@ fn main(rt: HostRuntime) -> ExitCode {
     };
     let mut reader = Host::new(rt.reader());
     let mut writer = Host::new(io::writer(&rt));
-    let result = run_show(rt.alloc(), &mut reader, &mut writer, &own);
-    if let Err(fault) = &result {
-        let _ = eprintln!(rt; "fault: {fault}");
+    let result = match job {
+        Job::Show => run_show(rt.alloc(), &mut reader, &mut writer, &own),
+        Job::Check => run_check(rt.alloc(), &mut reader, &mut writer, &own),
+        Job::Unpack => run_unpack(rt.alloc(), &mut reader, &mut writer, &own),
+    };
+    match &result {
+        Ok(Ended::Refused(refusal)) if job == Job::Unpack => {
+            let _ = eprintln!(
+                rt;
+                "refused message={} at={} {}",
+                refusal.message,
+                refusal.at,
+                refusal.reason
+            );
+        }
+        Ok(_) => {}
+        Err(fault) => {
+            let _ = eprintln!(rt; "fault: {fault}");
+        }
     }
     ExitCode::from(status(&result))
 }

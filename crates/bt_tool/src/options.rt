@@ -2,7 +2,7 @@
 ghost use Rattle.std.specs.Prelude.{◌≡◌, [], IfOk};
 ghost use Rattle.bt_tool.specs.Commands.{IsLimited, IsShowByDefault};
 
-use crate::commands::{Asked, Notice, default_own};
+use crate::commands::{Asked, Job, Notice, default_own};
 use crate::values::{Setting, Written, own_of};
 use clap::error::ErrorKind;
 use clap::{Arg, ArgAction, ArgMatches, Command, Error};
@@ -17,27 +17,33 @@ Usage: bt_tool [COMMAND] [OPTIONS]
 Commands read a stream, from its handshake on, from standard input. No words at all mean 'show'.
 
 Commands:
-  show  Prints a line for each item of the stream, and then the verdict
-  help  Prints this text
+  show    Prints a line for each item of the stream, and then the verdict
+  check   Prints the verdict alone; its rules are 'bep' where none are given
+  unpack  Prints a script: a line for each item, with all of its bytes
+  help    Prints this text
 
-Options of 'show', which stand after the command and describe the receiver:
-      --reserved <HEX>    Its reserved bits: 16 hex digits [default: 0000000000100005]
+Options, which stand after the command and describe the receiver of the stream:
+      --reserved <HEX>    The reserved bits that it sent: 16 hex digits [default: 0000000000100005]
       --pieces <N>        The torrent's pieces: 0 to 4294967295 [default: unknown]
-      --metadata-id <N>   Its id for ut_metadata: 0 to 255, 0 is none [default: 3]
+      --metadata-id <N>   The id under which it announced ut_metadata: 0 to 255, 0 is none [default: 3]
       --info-hash <HEX>   The one info hash that it accepts: 40 hex digits [default: any]
-      --rules <RULES>     'free' judges syntax alone, 'bep' judges what the BEPs ask beyond it [default: free]
-      --limit <N>         The greatest length of a message in bytes: 1 to 1048576 [default: 262144]
+      --rules <RULES>     'free' judges what every reader has to, 'bep' also what the BEPs ask of
+                          a sender [default: free; bep for 'check']
+      --limit <N>         The greatest length of a message, its four bytes of length not counted:
+                          1 to 1048576 [default: 262144]
   -h, --help              Prints this text
   -V, --version           Prints the name and version (without a command)
 
-Example:
+Examples:
   bt_tool show --pieces 10 --rules bep < stream.bin
+  bt_tool check --reserved 0000000000100004 < stream.bin
+  bt_tool unpack < stream.bin > script.txt
 
 Exit status:
   0  the stream is accepted, or a text was asked for
   1  the stream is refused
   2  the words are no command line
-  3  a read or write failed, or there was no memory
+  3  a read or a write failed, there was no memory, or the stream had no end
 ";
 
 fn option<'a>(alloc: Global, name: &'a str, value: &'a str) -> Arg<'a> {
@@ -47,9 +53,10 @@ fn option<'a>(alloc: Global, name: &'a str, value: &'a str) -> Arg<'a> {
         .action(ArgAction::Set)
 }
 
-fn show_command<'a>(alloc: Global) -> Result<Command<'a>, AllocError> {
+/// A command with the options that describe a receiver.
+fn job_command<'a>(alloc: Global, name: &'a str) -> Result<Command<'a>, AllocError> {
     Ok(
-        Command::new(alloc, "show")
+        Command::new(alloc, name)
             .override_help(HELP)
             .arg(option(alloc, "reserved", "HEX"))?
             .arg(option(alloc, "pieces", "N"))?
@@ -67,17 +74,31 @@ fn command_line<'a>(alloc: Global) -> Result<Command<'a>, AllocError> {
             .no_binary_name(true)
             .subcommand_required(true)
             .override_help(HELP)
-            .subcommand(show_command(alloc)?)?,
+            .subcommand(job_command(alloc, "show")?)?
+            .subcommand(job_command(alloc, "check")?)?
+            .subcommand(job_command(alloc, "unpack")?)?,
     )
 }
 
-fn written<'a>(options: &ArgMatches<'a>) -> Written<'a> {
+fn job_named(name: &str) -> Job {
+    match name {
+        "check" => Job::Check,
+        "unpack" => Job::Unpack,
+        _ => Job::Show,
+    }
+}
+
+fn written<'a>(job: Job, options: &ArgMatches<'a>) -> Written<'a> {
+    let rules = match (options.get_str("rules"), job) {
+        (None, Job::Check) => Some("bep"),
+        (text, _) => text,
+    };
     Written {
         reserved: options.get_str("reserved"),
         pieces: options.get_str("pieces"),
         metadata_id: options.get_str("metadata-id"),
         info_hash: options.get_str("info-hash"),
-        rules: options.get_str("rules"),
+        rules,
         limit: options.get_str("limit"),
     }
 }
@@ -114,18 +135,19 @@ pub fn asked(alloc: Global, words: &[String]) -> Result<Asked, AllocError>
     ensures default { words.now ≡ [] → IfOk result IsShowByDefault }
 {
     if words.is_empty() {
-        return Ok(Asked::Show(default_own()));
+        return Ok(Asked::Run(Job::Show, default_own()));
     }
     let mut command = command_line(alloc)?;
     let matches = match command.try_get_matches_from_mut(words) {
         Ok(matches) => matches,
         Err(error) => return told(alloc, &error),
     };
-    let Some((_, options)) = matches.subcommand() else {
-        return Ok(Asked::Show(default_own()));
+    let Some((name, options)) = matches.subcommand() else {
+        return Ok(Asked::Run(Job::Show, default_own()));
     };
-    match own_of(&written(options)) {
-        Ok(own) => Ok(Asked::Show(own)),
+    let job = job_named(name);
+    match own_of(&written(job, options)) {
+        Ok(own) => Ok(Asked::Run(job, own)),
         Err(setting) => {
             let error = command.error(ErrorKind::ValueValidation, expected(setting))?;
             told(alloc, &error)

@@ -1,4 +1,4 @@
-use crate::commands::{Asked, Notice};
+use crate::commands::{Asked, Job, Notice, default_own};
 use crate::options::asked;
 use bt_ext::{ExtId, Registered, Rules};
 use bt_wire::{Own, Reserved};
@@ -14,10 +14,13 @@ fn asked_by(alloc: Global, words: &[&str]) -> Result<Asked, AllocError> {
     asked(alloc, &texts)
 }
 
-/// The words ask for the stream, with this receiver.
-fn show(rt: &impl Abort, alloc: Global, words: &[&str], own: Own) -> Result<(), Fail> {
+/// The words ask for this job on the stream, with this receiver.
+fn run(rt: &impl Abort, alloc: Global, words: &[&str], job: Job, own: Own) -> Result<(), Fail> {
     match asked_by(alloc, words)? {
-        Asked::Show(found) => assert_eq!(rt; found, own, "{words:?}"),
+        Asked::Run(found, receiver) => {
+            assert_eq!(rt; found, job, "{words:?}");
+            assert_eq!(rt; receiver, own, "{words:?}");
+        }
         Asked::Told(_, text) => assert!(rt; false, "{words:?}: {text}"),
     }
     Ok(())
@@ -32,7 +35,7 @@ fn tell(
     part: &str,
 ) -> Result<(), Fail> {
     match asked_by(alloc, words)? {
-        Asked::Show(found) => assert!(rt; false, "{words:?}: {found:?}"),
+        Asked::Run(found, _) => assert!(rt; false, "{words:?}: {found:?}"),
         Asked::Told(found, text) => {
             assert_eq!(rt; found, notice, "{words:?}");
             assert!(rt; text.as_str().contains(part), "{words:?}: {text}");
@@ -260,10 +263,12 @@ fn receivers(rt: HostRuntime) -> Result<(), Fail> {
     for (words, reserved, pieces, id, info_hash, rules, limit) in table {
         let reg = Registered::new(ExtId::new(id));
         let reserved = Reserved(reserved);
-        show(
+        let job = Job::Show;
+        run(
             &rt,
             rt.alloc(),
             words,
+            job,
             Own {
                 reserved,
                 info_hash,
@@ -273,6 +278,29 @@ fn receivers(rt: HostRuntime) -> Result<(), Fail> {
                 limit,
             },
         )?;
+    }
+    Ok(())
+}
+
+/// Each command, its job, and the rules by which it judges.
+#[test]
+fn jobs(rt: HostRuntime) -> Result<(), Fail> {
+    let table: [(&[&str], Job, Rules); 8] = [
+        (&[], Job::Show, Rules::Free),
+        (&["show", "--rules", "bep"], Job::Show, Rules::Bep),
+        (&["check"], Job::Check, Rules::Bep),
+        (&["check", "--rules", "bep"], Job::Check, Rules::Bep),
+        (&["check", "--rules", "free"], Job::Check, Rules::Free),
+        (&["unpack"], Job::Unpack, Rules::Free),
+        (&["unpack", "--rules=free"], Job::Unpack, Rules::Free),
+        (&["unpack", "--rules=bep"], Job::Unpack, Rules::Bep),
+    ];
+    for (words, job, rules) in table {
+        let own = Own {
+            rules,
+            ..default_own()
+        };
+        run(&rt, rt.alloc(), words, job, own)?;
     }
     Ok(())
 }
@@ -299,7 +327,7 @@ fn mistakes(rt: HostRuntime) -> Result<(), Fail> {
         &[""],
         &["SHOW"],
         &["sho"],
-        &["check"],
+        &["checks"],
         &["show", "show"],
         &["show", "stream.bin"],
         &["--pieces", "10"],
