@@ -5,3 +5,4 @@ pub mod Options
 pub mod Script
 pub mod ScriptReading
 pub mod ScriptLaws
+pub mod Packs

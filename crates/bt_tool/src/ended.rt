@@ -1,4 +1,4 @@
-use bt_wire::Refusal;
+use bt_wire::{Reason, Refusal};
 use thiserror::Error;
 
 /// How a stream ended: accepted, with its messages (the handshake not counted) and its bytes, or refused.
@@ -6,6 +6,21 @@ use thiserror::Error;
 pub enum Ended {
     Accepted { messages: u64, bytes: u64 },
     Refused(Refusal),
+}
+
+/// Why a script's line isn't taken: it is none, or its bytes are refused.
+#[derive(Clone, Copy, PartialEq, Eq, Debug)]
+pub enum ScriptReason {
+    Syntax,
+    Reason(Reason),
+}
+
+/// How a script ended: all of its lines were taken, with the messages of its stream (the handshake not counted) and its bytes,
+/// or the line, counted from 1, that wasn't.
+#[derive(Clone, Copy, PartialEq, Eq, Debug)]
+pub enum PackEnd {
+    Accepted { messages: u64, bytes: u64 },
+    Refused { line: u64, reason: ScriptReason },
 }
 
 /// What kept a command from its work.
