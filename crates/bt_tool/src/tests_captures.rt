@@ -1,8 +1,8 @@
 //! Streams that were recorded between clients, as `examples` has them: their lines are the same under both rule sets.
 use crate::ended::Ended;
-use bt_feed::{MemSource, MemTarget};
 use crate::show::run_show;
 use bt_ext::{ExtId, Registered, Rules};
+use bt_feed::{MemSource, MemTarget};
 use bt_wire::{Own, Reserved};
 use std::alloc::Global;
 use std::process::Abort;

@@ -1,8 +1,8 @@
 //! The lines of each kind of message and of each reason, with offsets worked out by hand.
-use bt_feed::{MemSource, MemTarget};
 use crate::show::run_show;
 use crate::tests::{HAND, LINE, joined};
 use bt_ext::{ExtId, Registered, Rules};
+use bt_feed::{MemSource, MemTarget};
 use bt_wire::{Own, Reserved};
 use std::alloc::Global;
 use std::process::Abort;
