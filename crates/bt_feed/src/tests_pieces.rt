@@ -201,122 +201,138 @@ const LONG_REJECT: &[u8] = b"\0\0\0\x1c\x14\x03d8:msg_typei2e5:piecei0ee\0";
 
 const LATE: &[u8] = b"\0\0\0\x01\x0f\0\0\0\x03\x05\xff\xc0";
 
+/// A stream's name, its receiver, the messages behind a handshake, and the offsets of what is read.
+type Accepted = (&'static str, Receiver, &'static [u8], &'static [u64]);
+
+const ACCEPTED: &[Accepted] = &[
+    ("no message", FREE, b"", &[0]),
+    (
+        "have",
+        FREE,
+        b"\0\0\0\0\0\0\0\x05\x04\0\0\0\x09",
+        &[0, 68, 72],
+    ),
+    (
+        "request",
+        FREE,
+        b"\0\0\0\x0d\x06\0\0\0\x01\0\0\x40\0\0\0\x40\0",
+        &[0, 68],
+    ),
+    ("bitfield of ten", TEN, b"\0\0\0\x03\x05\xff\xc0", &[0, 68]),
+    ("bitfield", FREE, b"\0\0\0\x03\x05\xff\xc0", &[0, 68]),
+    (
+        "bitfield of eleven",
+        FREE,
+        b"\0\0\0\x03\x05\xff\xe0",
+        &[0, 68],
+    ),
+    ("have the last", TEN, b"\0\0\0\x05\x04\0\0\0\x09", &[0, 68]),
+    ("port", FREE, b"\0\0\0\x03\x09\x1a\xe1", &[0, 68]),
+    (
+        "no block",
+        FREE,
+        b"\0\0\0\x09\x07\0\0\0\x01\0\0\x40\0",
+        &[0, 68],
+    ),
+    ("bitfield of none", NONE, b"\0\0\0\x01\x05", &[0, 68]),
+    ("bitfield of no bytes", FREE, b"\0\0\0\x01\x05", &[0, 68]),
+    ("unknown", FREE, b"\0\0\0\x01\x63", &[0, 68]),
+    (
+        "keep-alive behind",
+        FREE,
+        b"\0\0\0\x01\x63\0\0\0\0",
+        &[0, 68, 73],
+    ),
+    (
+        "have none",
+        BEP,
+        b"\0\0\0\0\0\0\0\x01\x0f\0\0\0\x01\x01",
+        &[0, 68, 72, 77],
+    ),
+    ("late bitfield", FREE, LATE, &[0, 68, 73]),
+    ("unchoke", PLAIN, b"\0\0\0\x01\x01", &[0, 68]),
+    (
+        "extended first",
+        BEP,
+        b"\0\0\0\x2d\x14\0d1:md11:ut_metadatai3ee13:metadata_sizei3ee\
+\0\0\0\0\0\0\0\x01\x0f\0\0\0\x01\x01",
+        &[0, 68, 117, 121, 126],
+    ),
+    ("extended", FREE, EXTENDED, &[0, 68]),
+    ("unsorted", FREE, UNSORTED, &[0, 68]),
+    (
+        "usual",
+        BEP,
+        b"\0\0\0\x42\x14\0d1:md11:ut_metadatai2e6:ut_pexi1ee1:pi6881e4:reqqi500e1:v4:teste",
+        &[0, 68],
+    ),
+    ("metadata request", FREE, REQUEST, &[0, 68]),
+    ("the same, not registered", UNREGISTERED, REQUEST, &[0, 68]),
+    (
+        "under another id",
+        FREE,
+        b"\0\0\0\x1b\x14\x04d8:msg_typei0e5:piecei0ee",
+        &[0, 68],
+    ),
+    (
+        "metadata data",
+        FREE,
+        b"\0\0\0\x2e\x14\x03d8:msg_typei1e5:piecei0e10:total_sizei3eeabc",
+        &[0, 68],
+    ),
+    (
+        "data of e",
+        FREE,
+        b"\0\0\0\x2e\x14\x03d8:msg_typei1e5:piecei0e10:total_sizei3eeeee",
+        &[0, 68],
+    ),
+    ("short data", FREE, SHORT, &[0, 68]),
+    ("no size", FREE, NO_SIZE, &[0, 68]),
+    ("another type", FREE, OTHER, &[0, 68]),
+    ("another type, strictly", BEP, OTHER, &[0, 68]),
+    ("long reject", FREE, LONG_REJECT, &[0, 68]),
+    (
+        "deepest",
+        FREE,
+        b"\0\0\0\x45\x14\0d1:pllllllllllllllllllllllllllllllleeeeeeeeeeeeeeeeeeeeeeeeeeeeeeee",
+        &[0, 68],
+    ),
+];
+
 #[test]
 fn accepted(rt: HostRuntime) -> Result<(), Fail> {
     let alloc = rt.alloc();
-    for (name, receiver, messages, offsets) in [
-        ("no message", FREE, b"".as_slice(), [0].as_slice()),
-        (
-            "have",
-            FREE,
-            b"\0\0\0\0\0\0\0\x05\x04\0\0\0\x09",
-            &[0, 68, 72],
-        ),
-        (
-            "request",
-            FREE,
-            b"\0\0\0\x0d\x06\0\0\0\x01\0\0\x40\0\0\0\x40\0",
-            &[0, 68],
-        ),
-        ("bitfield of ten", TEN, b"\0\0\0\x03\x05\xff\xc0", &[0, 68]),
-        ("bitfield", FREE, b"\0\0\0\x03\x05\xff\xc0", &[0, 68]),
-        (
-            "bitfield of eleven",
-            FREE,
-            b"\0\0\0\x03\x05\xff\xe0",
-            &[0, 68],
-        ),
-        ("have the last", TEN, b"\0\0\0\x05\x04\0\0\0\x09", &[0, 68]),
-        ("port", FREE, b"\0\0\0\x03\x09\x1a\xe1", &[0, 68]),
-        (
-            "no block",
-            FREE,
-            b"\0\0\0\x09\x07\0\0\0\x01\0\0\x40\0",
-            &[0, 68],
-        ),
-        ("bitfield of none", NONE, b"\0\0\0\x01\x05", &[0, 68]),
-        ("bitfield of no bytes", FREE, b"\0\0\0\x01\x05", &[0, 68]),
-        ("unknown", FREE, b"\0\0\0\x01\x63\0\0\0\0", &[0, 68, 73]),
-        (
-            "have none",
-            BEP,
-            b"\0\0\0\0\0\0\0\x01\x0f\0\0\0\x01\x01",
-            &[0, 68, 72, 77],
-        ),
-        ("late bitfield", FREE, LATE, &[0, 68, 73]),
-        ("unchoke", PLAIN, b"\0\0\0\x01\x01", &[0, 68]),
-        (
-            "extended first",
-            BEP,
-            b"\0\0\0\x2d\x14\0d1:md11:ut_metadatai3ee13:metadata_sizei3ee\
-\0\0\0\0\0\0\0\x01\x0f\0\0\0\x01\x01",
-            &[0, 68, 117, 121, 126],
-        ),
-        ("extended", FREE, EXTENDED, &[0, 68]),
-        ("unsorted", FREE, UNSORTED, &[0, 68]),
-        (
-            "usual",
-            BEP,
-            b"\0\0\0\x42\x14\0d1:md11:ut_metadatai2e6:ut_pexi1ee1:pi6881e4:reqqi500e1:v4:teste",
-            &[0, 68],
-        ),
-        ("metadata request", FREE, REQUEST, &[0, 68]),
-        ("the same, not registered", UNREGISTERED, REQUEST, &[0, 68]),
-        (
-            "under another id",
-            FREE,
-            b"\0\0\0\x1b\x14\x04d8:msg_typei0e5:piecei0ee",
-            &[0, 68],
-        ),
-        (
-            "metadata data",
-            FREE,
-            b"\0\0\0\x2e\x14\x03d8:msg_typei1e5:piecei0e10:total_sizei3eeabc",
-            &[0, 68],
-        ),
-        (
-            "data of e",
-            FREE,
-            b"\0\0\0\x2e\x14\x03d8:msg_typei1e5:piecei0e10:total_sizei3eeeee",
-            &[0, 68],
-        ),
-        ("short data", FREE, SHORT, &[0, 68]),
-        ("no size", FREE, NO_SIZE, &[0, 68]),
-        ("another type", FREE, OTHER, &[0, 68]),
-        ("another type, strictly", BEP, OTHER, &[0, 68]),
-        ("long reject", FREE, LONG_REJECT, &[0, 68]),
-        (
-            "deepest",
-            FREE,
-            b"\0\0\0\x45\x14\0d1:pllllllllllllllllllllllllllllllleeeeeeeeeeeeeeeeeeeeeeeeeeeeeeee",
-            &[0, 68],
-        ),
-    ] {
+    for (name, receiver, messages, offsets) in ACCEPTED {
         let stream = joined(alloc, messages)?;
-        let own = own_of(receiver, None);
+        let own = own_of(*receiver, None);
         in_any_pieces(&rt, alloc, &own, &stream, (offsets, None, 0), name)?;
     }
     Ok(())
 }
 
+/// The same, and how many bytes of an unfinished message are held.
+type Unfinished = (&'static str, Receiver, &'static [u8], &'static [u64], u64);
+
+const UNFINISHED: &[Unfinished] = &[
+    ("a length", FREE, b"\0\0\0", &[0], 3),
+    ("the limit", FREE, b"\0\x04\0\0", &[0], 4),
+    ("have", FREE, b"\0\0\0\0\0\0\0\x05\x04\0\0", &[0, 68], 7),
+    (
+        "a block",
+        TEN,
+        b"\0\0\0\x0a\x07\0\0\0\x0a\0\0\0\0",
+        &[0],
+        13,
+    ),
+];
+
 #[test]
 fn unfinished(rt: HostRuntime) -> Result<(), Fail> {
     let alloc = rt.alloc();
-    for (name, receiver, messages, offsets, rest) in [
-        ("a length", FREE, b"\0\0\0".as_slice(), [0].as_slice(), 3),
-        ("the limit", FREE, b"\0\x04\0\0", &[0], 4),
-        ("have", FREE, b"\0\0\0\0\0\0\0\x05\x04\0\0", &[0, 68], 7),
-        (
-            "a block",
-            TEN,
-            b"\0\0\0\x0a\x07\0\0\0\x0a\0\0\0\0",
-            &[0],
-            13,
-        ),
-    ] {
+    for (name, receiver, messages, offsets, rest) in UNFINISHED {
         let stream = joined(alloc, messages)?;
-        let own = own_of(receiver, None);
-        in_any_pieces(&rt, alloc, &own, &stream, (offsets, None, rest), name)?;
+        let own = own_of(*receiver, None);
+        in_any_pieces(&rt, alloc, &own, &stream, (offsets, None, *rest), name)?;
     }
     let hand = hand();
     let own = own_of(FREE, None);
@@ -328,204 +344,216 @@ fn unfinished(rt: HostRuntime) -> Result<(), Fail> {
     Ok(())
 }
 
+/// The same, with the refused message, its place and the reason before them.
+type Refused = (
+    &'static str,
+    Receiver,
+    &'static [u8],
+    &'static [u64],
+    (u64, u64, Reason),
+    u64,
+);
+
+const REFUSED: &[Refused] = &[
+    (
+        "above the limit",
+        FREE,
+        b"\0\x04\0\x01",
+        &[0],
+        (1, 68, Reason::TooLong),
+        4,
+    ),
+    (
+        "longest",
+        FREE,
+        b"\xff\xff\xff\xff",
+        &[0],
+        (1, 68, Reason::TooLong),
+        4,
+    ),
+    (
+        "short have",
+        FREE,
+        b"\0\0\0\x04\x04",
+        &[0],
+        (1, 68, Reason::WrongLength),
+        5,
+    ),
+    (
+        "short have behind",
+        FREE,
+        b"\0\0\0\0\0\0\0\x04\x04",
+        &[0, 68],
+        (2, 72, Reason::WrongLength),
+        5,
+    ),
+    (
+        "spare bit",
+        TEN,
+        b"\0\0\0\x03\x05\xff\xe0",
+        &[0],
+        (1, 74, Reason::SpareBits),
+        7,
+    ),
+    (
+        "long bitfield",
+        TEN,
+        b"\0\0\0\x04\x05",
+        &[0],
+        (1, 68, Reason::WrongLength),
+        5,
+    ),
+    (
+        "have past the last",
+        TEN,
+        b"\0\0\0\x05\x04\0\0\0\x0a",
+        &[0],
+        (1, 73, Reason::BadIndex),
+        9,
+    ),
+    (
+        "have of none",
+        NONE,
+        b"\0\0\0\x05\x04\0\0\0\0",
+        &[0],
+        (1, 73, Reason::BadIndex),
+        9,
+    ),
+    (
+        "short piece",
+        FREE,
+        b"\0\0\0\x08\x07",
+        &[0],
+        (1, 68, Reason::WrongLength),
+        5,
+    ),
+    (
+        "piece past the last",
+        TEN,
+        b"\0\0\0\x0a\x07\0\0\0\x0a\0\0\0\0a",
+        &[0],
+        (1, 73, Reason::BadIndex),
+        14,
+    ),
+    (
+        "have all",
+        SLOW,
+        b"\0\0\0\x01\x0e",
+        &[0],
+        (1, 72, Reason::NotNegotiated),
+        5,
+    ),
+    (
+        "long have none",
+        FREE,
+        b"\0\0\0\x02\x0f\0",
+        &[0],
+        (1, 68, Reason::WrongLength),
+        5,
+    ),
+    (
+        "unchoke first",
+        BEP,
+        b"\0\0\0\x01\x01",
+        &[0],
+        (1, 72, Reason::Missing),
+        5,
+    ),
+    (
+        "bitfield behind have none",
+        BEP,
+        LATE,
+        &[0, 68],
+        (2, 77, Reason::Late),
+        5,
+    ),
+    (
+        "bitfield behind unchoke",
+        PLAIN,
+        b"\0\0\0\x01\x01\0\0\0\x03\x05\xff\xc0",
+        &[0, 68],
+        (2, 77, Reason::Late),
+        5,
+    ),
+    (
+        "unknown",
+        BEP,
+        b"\0\0\0\x01\x63",
+        &[0],
+        (1, 72, Reason::UnknownId),
+        5,
+    ),
+    (
+        "unsorted",
+        BEP,
+        UNSORTED,
+        &[0],
+        (1, 94, Reason::Unsorted),
+        49,
+    ),
+    (
+        "names of no kind",
+        BEP,
+        b"\0\0\0\x0a\x14\0d1:mi1ee",
+        &[0],
+        (1, 74, Reason::BadField),
+        14,
+    ),
+    (
+        "short data",
+        BEP,
+        SHORT,
+        &[0],
+        (1, 115, Reason::BadBlock),
+        49,
+    ),
+    ("no size", BEP, NO_SIZE, &[0], (1, 74, Reason::BadField), 31),
+    (
+        "long reject",
+        BEP,
+        LONG_REJECT,
+        &[0],
+        (1, 99, Reason::BadBlock),
+        32,
+    ),
+    (
+        "minus nought",
+        FREE,
+        b"\0\0\0\x0b\x14\0d1:pi-0ee",
+        &[0],
+        (1, 80, Reason::BadBencode),
+        15,
+    ),
+    (
+        "cut",
+        FREE,
+        b"\0\0\0\x09\x14\0d1:pi1e",
+        &[0],
+        (1, 81, Reason::BadBencode),
+        13,
+    ),
+    (
+        "too deep",
+        FREE,
+        b"\0\0\0\x47\x14\0d1:plllllllllllllllllllllllllllllllleeeeeeeeeeeeeeeeeeeeeeeeeeeeeeeee",
+        &[0],
+        (1, 109, Reason::BadBencode),
+        75,
+    ),
+];
+
 #[test]
 fn refused(rt: HostRuntime) -> Result<(), Fail> {
     let alloc = rt.alloc();
-    for (name, receiver, messages, offsets, refusal, rest) in [
-        (
-            "above the limit",
-            FREE,
-            b"\0\x04\0\x01".as_slice(),
-            [0].as_slice(),
-            (1, 68, Reason::TooLong),
-            4,
-        ),
-        (
-            "longest",
-            FREE,
-            b"\xff\xff\xff\xff",
-            &[0],
-            (1, 68, Reason::TooLong),
-            4,
-        ),
-        (
-            "short have",
-            FREE,
-            b"\0\0\0\x04\x04",
-            &[0],
-            (1, 68, Reason::WrongLength),
-            5,
-        ),
-        (
-            "short have behind",
-            FREE,
-            b"\0\0\0\0\0\0\0\x04\x04",
-            &[0, 68],
-            (2, 72, Reason::WrongLength),
-            5,
-        ),
-        (
-            "spare bit",
-            TEN,
-            b"\0\0\0\x03\x05\xff\xe0",
-            &[0],
-            (1, 74, Reason::SpareBits),
-            7,
-        ),
-        (
-            "long bitfield",
-            TEN,
-            b"\0\0\0\x04\x05",
-            &[0],
-            (1, 68, Reason::WrongLength),
-            5,
-        ),
-        (
-            "have past the last",
-            TEN,
-            b"\0\0\0\x05\x04\0\0\0\x0a",
-            &[0],
-            (1, 73, Reason::BadIndex),
-            9,
-        ),
-        (
-            "have of none",
-            NONE,
-            b"\0\0\0\x05\x04\0\0\0\0",
-            &[0],
-            (1, 73, Reason::BadIndex),
-            9,
-        ),
-        (
-            "short piece",
-            FREE,
-            b"\0\0\0\x08\x07",
-            &[0],
-            (1, 68, Reason::WrongLength),
-            5,
-        ),
-        (
-            "piece past the last",
-            TEN,
-            b"\0\0\0\x0a\x07\0\0\0\x0a\0\0\0\0a",
-            &[0],
-            (1, 73, Reason::BadIndex),
-            14,
-        ),
-        (
-            "have all",
-            SLOW,
-            b"\0\0\0\x01\x0e",
-            &[0],
-            (1, 72, Reason::NotNegotiated),
-            5,
-        ),
-        (
-            "long have none",
-            FREE,
-            b"\0\0\0\x02\x0f",
-            &[0],
-            (1, 68, Reason::WrongLength),
-            5,
-        ),
-        (
-            "unchoke first",
-            BEP,
-            b"\0\0\0\x01\x01",
-            &[0],
-            (1, 72, Reason::Missing),
-            5,
-        ),
-        (
-            "bitfield behind have none",
-            BEP,
-            b"\0\0\0\x01\x0f\0\0\0\x03\x05",
-            &[0, 68],
-            (2, 77, Reason::Late),
-            5,
-        ),
-        (
-            "bitfield behind unchoke",
-            PLAIN,
-            b"\0\0\0\x01\x01\0\0\0\x03\x05",
-            &[0, 68],
-            (2, 77, Reason::Late),
-            5,
-        ),
-        (
-            "unknown",
-            BEP,
-            b"\0\0\0\x01\x63",
-            &[0],
-            (1, 72, Reason::UnknownId),
-            5,
-        ),
-        (
-            "unsorted",
-            BEP,
-            UNSORTED,
-            &[0],
-            (1, 94, Reason::Unsorted),
-            49,
-        ),
-        (
-            "names of no kind",
-            BEP,
-            b"\0\0\0\x0a\x14\0d1:mi1ee",
-            &[0],
-            (1, 74, Reason::BadField),
-            14,
-        ),
-        (
-            "short data",
-            BEP,
-            SHORT,
-            &[0],
-            (1, 115, Reason::BadBlock),
-            49,
-        ),
-        ("no size", BEP, NO_SIZE, &[0], (1, 74, Reason::BadField), 31),
-        (
-            "long reject",
-            BEP,
-            LONG_REJECT,
-            &[0],
-            (1, 99, Reason::BadBlock),
-            32,
-        ),
-        (
-            "minus nought",
-            FREE,
-            b"\0\0\0\x0b\x14\0d1:pi-0ee",
-            &[0],
-            (1, 80, Reason::BadBencode),
-            15,
-        ),
-        (
-            "cut",
-            FREE,
-            b"\0\0\0\x09\x14\0d1:pi1e",
-            &[0],
-            (1, 81, Reason::BadBencode),
-            13,
-        ),
-        (
-            "too deep",
-            FREE,
-            b"\0\0\0\x47\x14\0d1:plllllllllllllllllllllllllllllllleeeeeeeeeeeeeeeeeeeeeeeeeeeeeeeee",
-            &[0],
-            (1, 109, Reason::BadBencode),
-            75,
-        ),
-    ] {
+    for (name, receiver, messages, offsets, refusal, rest) in REFUSED {
         let stream = joined(alloc, messages)?;
-        let own = own_of(receiver, None);
+        let own = own_of(*receiver, None);
         in_any_pieces(
             &rt,
             alloc,
             &own,
             &stream,
-            (offsets, Some(refusal), rest),
+            (offsets, Some(*refusal), *rest),
             name,
         )?;
     }

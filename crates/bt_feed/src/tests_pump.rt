@@ -101,6 +101,14 @@ fn any_reads(rt: HostRuntime) -> Result<(), Fail> {
         let mut reader = MemSource::new(joined(alloc, MESSAGES)?, most, None);
         assert_eq!(rt; pump(&mut reader, &mut feed, &mut sink, 243), Ok(242));
         assert_eq!(rt; sink.items.as_slice(), ITEMS.as_slice());
+
+        let mut feed = Feed::new(alloc, own(262_144))?;
+        let mut sink = sink_of(alloc, None, SinkFault::Write);
+        let mut reader = MemSource::new(joined(alloc, MESSAGES)?, most, None);
+        let mut buffer = [0; 3];
+        let ended = pump_with(&mut reader, &mut feed, &mut sink, 243, &mut buffer);
+        assert_eq!(rt; ended, Ok(242));
+        assert_eq!(rt; sink.items.as_slice(), ITEMS.as_slice());
     }
     Ok(())
 }
@@ -268,6 +276,28 @@ fn refused_streams(rt: HostRuntime) -> Result<(), Fail> {
             assert_eq!(rt; ended, Err(PumpError::Refused(refusal)));
             assert_eq!(rt; Some(sink.items.as_slice()), ITEMS.get(..count));
         }
+    }
+    Ok(())
+}
+
+/// Streams that end inside the handshake.
+#[test]
+fn cut_handshakes(rt: HostRuntime) -> Result<(), Fail> {
+    let alloc = rt.alloc();
+    let hand = hand();
+    for count in 0..68usize {
+        let front = hand.get(..count).ok_or("short")?;
+        let mut feed = Feed::new(alloc, own(262_144))?;
+        let mut sink = sink_of(alloc, None, SinkFault::Write);
+        let mut reader = MemSource::new(Vec::from_slice(alloc, front)?, 9, None);
+        let refusal = Refusal {
+            message: 0,
+            at: count as u64,
+            reason: Reason::EndInside,
+        };
+        let ended = pump(&mut reader, &mut feed, &mut sink, 1000);
+        assert_eq!(rt; ended, Err(PumpError::Refused(refusal)));
+        assert!(rt; sink.items.is_empty());
     }
     Ok(())
 }
