@@ -26,7 +26,7 @@ pub fn own(limit: u32) -> Own {
     }
 }
 
-pub fn context(limit: u32) -> Context {
+fn context(limit: u32) -> Context {
     Context {
         fast: true,
         ext: true,
