@@ -23,6 +23,10 @@ mod tests_devices;
 mod tests_memory;
 #[cfg(test)]
 mod tests_outbox;
+#[cfg(test)]
+mod tests_pieces;
+#[cfg(test)]
+mod tests_pump;
 mod transcript;
 mod view;
 

@@ -56,6 +56,13 @@ fn feed_takes_no_memory(rt: HostRuntime) -> Result<(), Fail> {
     Ok(())
 }
 
+#[test]
+fn no_room_for_a_feed(rt: HostRuntime) -> Result<(), Fail> {
+    let heap = LocalHeap::new(rt.alloc(), 48)?;
+    assert!(rt; matches!(Feed::new(&heap, own(64)), Err(FeedError::Memory)));
+    Ok(())
+}
+
 /// The reserved bytes fill the heap: a queue of as many takes no memory, and one of more is refused.
 #[test]
 fn reserved_room_takes_no_memory(rt: HostRuntime) -> Result<(), Fail> {

@@ -168,19 +168,78 @@ fn another_info_hash_is_refused(rt: HostRuntime) -> Result<(), Fail> {
     Ok(())
 }
 
-#[test]
-fn devices_fail(rt: HostRuntime) -> Result<(), Fail> {
-    let cases = [
-        (Some(3), 7, None, ToolFault::Read, ""),
-        (None, 7, Some(4), ToolFault::Write, "0 handshake 000000000"),
-        (None, 0, None, ToolFault::Write, ""),
-    ];
-    for (read_fails, most, write_fails, fault, text) in cases {
-        let mut reader = MemSource::new(Vec::from_slice(rt.alloc(), HAND)?, 10, read_fails);
-        let mut writer = MemTarget::new(Vec::new(rt.alloc()), most, write_fails);
-        let ended = run_show(rt.alloc(), &mut reader, &mut writer, &default_own());
-        assert_eq!(rt; ended, Err(fault));
-        assert_eq!(rt; writer.bytes(), text.as_bytes());
+/// A handshake, a keep-alive and have 9; the text of each with the offset where it ends.
+const MESSAGES: &[u8; 13] = b"\0\0\0\0\0\0\0\x05\x04\0\0\0\x09";
+
+const TEXTS: [(usize, &str); 3] = [(68, LINE), (72, "68 keep-alive\n"), (81, "72 have 9\n")];
+
+const VERDICT: &str = "ok messages=2 bytes=81\n";
+
+/// The lines of the items in so many bytes of the stream.
+fn lines_of(alloc: Global, bytes: usize) -> Result<Vec<u8>, AllocError> {
+    let mut text = Vec::new(alloc);
+    for (end, line) in &TEXTS {
+        if *end <= bytes {
+            text.extend_from_slice(line.as_bytes())?;
+        }
     }
+    Ok(text)
+}
+
+/// A write that fails at any call: what was taken before it is a front of the lines, and no call is repeated.
+#[test]
+fn failed_writes(rt: HostRuntime) -> Result<(), Fail> {
+    let alloc = rt.alloc();
+    let mut text = lines_of(alloc, 81)?;
+    text.extend_from_slice(VERDICT.as_bytes())?;
+    for read in [1, 4096] {
+        for written in 0..text.len() {
+            let fails_at = (written as u64).wrapping_add(1);
+            let mut reader = MemSource::new(joined(alloc, HAND, MESSAGES)?, read, None);
+            let mut writer = MemTarget::new(Vec::new(alloc), 1, Some(fails_at));
+            let ended = run_show(alloc, &mut reader, &mut writer, &default_own());
+            assert_eq!(rt; ended, Err(ToolFault::Write));
+            assert_eq!(rt; Some(writer.bytes()), text.get(..written));
+
+            let mut reader = MemSource::new(joined(alloc, HAND, MESSAGES)?, read, None);
+            let mut writer = MemTarget::new(Vec::new(alloc), 9, Some(fails_at));
+            match run_show(alloc, &mut reader, &mut writer, &default_own()) {
+                Ok(_) => assert_eq!(rt; writer.bytes(), text.as_slice()),
+                Err(fault) => {
+                    assert_eq!(rt; fault, ToolFault::Write);
+                    assert!(rt; text.starts_with(writer.bytes()));
+                    assert!(rt; writer.bytes().len() < text.len());
+                }
+            }
+        }
+    }
+    Ok(())
+}
+
+/// A read that fails at any call: the lines of the bytes before it are written, and no verdict.
+#[test]
+fn failed_reads(rt: HostRuntime) -> Result<(), Fail> {
+    let alloc = rt.alloc();
+    for most in [1usize, 5, 100] {
+        for before in 0..=81usize.div_ceil(most) {
+            let fails_at = (before as u64).wrapping_add(1);
+            let mut reader = MemSource::new(joined(alloc, HAND, MESSAGES)?, most, Some(fails_at));
+            let mut writer = MemTarget::new(Vec::new(alloc), 7, None);
+            let ended = run_show(alloc, &mut reader, &mut writer, &default_own());
+            assert_eq!(rt; ended, Err(ToolFault::Read));
+            let text = lines_of(alloc, before.wrapping_mul(most))?;
+            assert_eq!(rt; writer.bytes(), text.as_slice(), "{most} {before}");
+        }
+    }
+    Ok(())
+}
+
+#[test]
+fn a_writer_takes_nothing(rt: HostRuntime) -> Result<(), Fail> {
+    let mut reader = MemSource::new(Vec::from_slice(rt.alloc(), HAND)?, 10, None);
+    let mut writer = MemTarget::new(Vec::new(rt.alloc()), 0, None);
+    let ended = run_show(rt.alloc(), &mut reader, &mut writer, &default_own());
+    assert_eq!(rt; ended, Err(ToolFault::Write));
+    assert_eq!(rt; writer.bytes(), b"".as_slice());
     Ok(())
 }
