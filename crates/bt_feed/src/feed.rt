@@ -112,7 +112,8 @@ impl<A: Allocator> Feed<A> {
 
     /// The present item's number: 0 for the handshake, k for the k-th message behind it.
     pub fn number(&self) -> u64
-        ensures { result ≡ number_of self.now.stage }
+        ensures value { result ≡ number_of self.now.stage }
+        ensures feed { IsFeed self.now }
     {
         self.progress.stage.number()
     }

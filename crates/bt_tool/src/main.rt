@@ -5,6 +5,7 @@ mod commands;
 mod ended;
 mod lines;
 mod options;
+mod pack;
 mod printer;
 mod script;
 mod show;
