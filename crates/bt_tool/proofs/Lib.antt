@@ -7,3 +7,4 @@ mod ScriptLines
 mod ScriptText
 mod ScriptSpoken
 mod ScriptBounds
+mod PackLaws

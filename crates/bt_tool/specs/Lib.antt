@@ -6,3 +6,4 @@ pub mod Script
 pub mod ScriptReading
 pub mod ScriptLaws
 pub mod Packs
+pub mod PackLaws

@@ -5,6 +5,7 @@ mod commands;
 mod ended;
 mod lines;
 mod options;
+mod pack_laws;
 mod printer;
 mod script;
 mod show;
