@@ -8,3 +8,4 @@ mod ScriptText
 mod ScriptSpoken
 mod ScriptBounds
 mod Packing
+mod PackLaws

@@ -7,3 +7,4 @@ pub mod ScriptReading
 pub mod ScriptLaws
 pub mod Packs
 pub mod PackSteps
+pub mod PackLaws

@@ -6,6 +6,7 @@ mod ended;
 mod lines;
 mod options;
 mod pack;
+mod pack_laws;
 mod printer;
 mod script;
 mod show;
