@@ -1,5 +1,5 @@
 -- How lines are packed.
-use Rattle.std.proofs.Common.{◌≡◌, ℕ, ◌+◌, ◌-◌, ◌*◌, ◌/◌, ◌^◌, ◌<◌, ◌≤◌, leb, eqb, Bool, true, false, List, [], ◌∷◌, ◌++◌, length, take, drop, Option, Some, None, Result, Ok, Err, refl, sym, ap, subst, ◌∙◌, arith, inl, inr}
+use Rattle.std.proofs.Common.{◌≡◌, ℕ, ◌+◌, ◌*◌, ◌^◌, ◌<◌, ◌≤◌, leb, eqb, Bool, true, false, List, [], ◌∷◌, ◌++◌, length, take, drop, Option, Some, None, Ok, Err, refl, sym, ap, subst, ◌∙◌, arith, inl, inr}
 use Rattle.std.specs.Prelude.{codes}
 use Rattle.std.proofs.lemmas.Bool.{cases_lt, ne_eqb}
 use Rattle.std.proofs.lemmas.List.{append-nil, append_assoc, length-append, length-take-le, take_all, take-append-drop}
@@ -9,8 +9,7 @@ use Rattle.bt_wire.specs.declared.fault.Refused.{Refused as Fault}
 use Rattle.bt_wire.specs.declared.item.Item.{Item}
 use Rattle.bt_wire.specs.declared.item.Item.TheVariants as items
 use Rattle.bt_wire.specs.declared.item.Refusal.{Refusal}
-use Rattle.bt_wire.specs.Faults.{is_whole, said_length, window_length}
-use Rattle.bt_wire.specs.Handshakes.{hand}
+use Rattle.bt_wire.specs.Faults.{window_length}
 use Rattle.bt_wire.specs.Messages.{Fields, none, index, part, block, port, field, extended, payload, spell_fields, spell}
 use Rattle.bt_wire.specs.Numbers.{be32}
 use Rattle.bt_wire.specs.Streams.{Outcome, IsVerdict, with_item}
@@ -31,7 +30,7 @@ use Rattle.bt_feed.proofs.Reading.{taken_least}
 use Rattle.bt_tool.specs.Lines.{spaced}
 use Rattle.bt_tool.specs.Script.{IsLine, IsAnswer as IsReadAs, Said, keep_alive, known, unknown, Says, said_bytes, framed_by, SaysFields, SaysSpaced, SaysBytes}
 use Rattle.bt_tool.specs.declared.ended.ScriptReason.TheVariants.{Reason}
-use Rattle.bt_tool.specs.Packs.{IsNamed, AreNamed, AreTaken, IsNotTaken, is_none}
+use Rattle.bt_tool.specs.Packs.{IsNamed, AreNamed, AreTaken, is_none}
 use Rattle.bt_tool.specs.PackSteps.{is_hand, IsPackedTo, IsLineEnd}
 
 -- ---- lines that are named
@@ -80,13 +79,15 @@ pub record IsTakenSoFar (own : Own) (lines : List (List ℕ)) (b : List ℕ) (f 
 pub taken_so_far : (own : Own) (lines : List (List ℕ)) (b : List ℕ) (f : FeedState) → (h : IsPackedTo own lines b f) → (v : Outcome) × IsTakenSoFar own lines b f h.items v
 taken_so_far own lines b f h =
     let last = by_early f.stage (early f.stage []) (omega (arith, h.limit, h.bound)) refl in
-    let P : List ℕ → Type 0 = λ l. IsVerdict own l (with_items h.items last.0) in
-    (with_items h.items last.0, record {
-      taken = record { named = h.named; verdict = subst P (append-nil b) (h.comes [] last.0 last.1.comes); nothing_left = last.1.tail };
-      items = ap (λ (l : List (ℕ × Item)). h.items ++ l) last.1.items ∙ append-nil h.items;
-      number = last.1.number;
-      start = last.1.start;
-    })
+    let P : List ℕ → Type 0 = λ l. IsVerdict own l (with_items h.items last.0) in (
+      with_items h.items last.0,
+      record {
+        taken = record { named = h.named; verdict = subst P (append-nil b) (h.comes [] last.0 last.1.comes); nothing_left = last.1.tail };
+        items = ap (λ (l : List (ℕ × Item)). h.items ++ l) last.1.items ∙ append-nil h.items;
+        number = last.1.number;
+        start = last.1.start;
+      },
+    )
 
 -- ---- how long the bytes of a line are
 
@@ -182,21 +183,24 @@ line_taken own lines b text x out out' f p g item lt named h e is after_is grown
     let g_is : g ≡ record { stage = stage_after f.stage (length x) item; held = []; refused = p.refused } =
     after_is ∙ ap (λ (k : ℕ). record { stage = stage_after p.stage k item; held = []; refused = p.refused }) size ∙ ap (λ (t : Stage). record { stage = stage_after t (length x) item; held = []; refused = p.refused }) stage_is in
     let steps = after_number f.stage x (length x) item item_is in
-    let R : FeedState → Type 0 = λ s. IsPackedTo own (lines ++ text ∷ []) (b ++ x) s in
-    (x, grown, subst R (sym g_is) (record {
-      named = named_more own.limit lines b text x h.named named;
-      items = h.items ++ (start_of f.stage, item) ∷ [];
-      comes = λ later v k.
-          let S : List ℕ → Type 0 = λ l. IsVerdict own l (with_items (h.items ++ (start_of f.stage, item) ∷ []) v) in
-          let T : List (ℕ × Item) → Type 0 = λ l. IsVerdict own (b ++ (x ++ later)) (record v { items = l }) in
-          subst S (sym (append_assoc b x later)) (subst T (sym (append_assoc h.items ((start_of f.stage, item) ∷ []) v.items))
+    let R : FeedState → Type 0 = λ s. IsPackedTo own (lines ++ text ∷ []) (b ++ x) s in (
+      x,
+      grown,
+      subst R (sym g_is) (record {
+        named = named_more own.limit lines b text x h.named named;
+        items = h.items ++ (start_of f.stage, item) ∷ [];
+        comes = λ later v k.
+            let S : List ℕ → Type 0 = λ l. IsVerdict own l (with_items (h.items ++ (start_of f.stage, item) ∷ []) v) in
+            let T : List (ℕ × Item) → Type 0 = λ l. IsVerdict own (b ++ (x ++ later)) (record v { items = l }) in
+            subst S (sym (append_assoc b x later)) (subst T (sym (append_assoc h.items ((start_of f.stage, item) ∷ []) v.items))
             (h.comes (x ++ later) (with_item (start_of f.stage) item v) (item_comes f.stage x later item v (omega (arith, h.limit, h.bound)) item_is k)));
-      empty = refl;
-      first = steps.1 ∙ sym (some_lines lines text);
-      count = steps.0 ∙ omega (arith, h.count, length-append lines (text ∷ []));
-      limit = steps.2 ∙ h.limit;
-      bound = h.bound;
-    }))
+        empty = refl;
+        first = steps.1 ∙ sym (some_lines lines text);
+        count = steps.0 ∙ omega (arith, h.count, length-append lines (text ∷ []));
+        limit = steps.2 ∙ h.limit;
+        bound = h.bound;
+      }),
+    )
 
 pub line_refused : (own : Own) (lines : List (List ℕ)) (b text x out out' : List ℕ) (f p g : FeedState) (r : Refusal) → IsNamed own.limit (is_none lines) text x → IsPackedTo own lines b f → p ≡ pushed f x
     → IsAnswer p (Err r) → g ≡ after p (Err r) → out' ≡ out → IsLineEnd own lines b text g out out' (Some (Reason r.reason))
@@ -211,9 +215,24 @@ line_refused own lines b text x out out' f p g r named h e is after_is same =
     let all : HasFault f.stage x is.0 = subst Q (take-append-drop n x) (fault_more f.stage (take n x) (drop n x) is.0 here) in
     let last = stopped f.stage x (Some (refusal_of f.stage is.0)) in
     let so_far = taken_so_far own lines b f h in
-    let reason : r.reason ≡ (refusal_of f.stage is.0).reason = ap (λ (q : Refusal). q.reason) is.2 in
-    (same, same_number, (so_far.0, so_far.1.taken, (x, named, with_items h.items last, h.comes x last (fault_comes f.stage x is.0 (omega (arith, h.limit, h.bound)) all),
-      append-nil h.items ∙ sym so_far.1.items, refusal_of f.stage is.0, refl, reason)))
+    let reason : r.reason ≡ (refusal_of f.stage is.0).reason = ap (λ (q : Refusal). q.reason) is.2 in (
+      same,
+      same_number,
+      (
+        so_far.0,
+        so_far.1.taken,
+        (
+          x,
+          named,
+          with_items h.items last,
+          h.comes x last (fault_comes f.stage x is.0 (omega (arith, h.limit, h.bound)) all),
+          append-nil h.items ∙ sym so_far.1.items,
+          refusal_of f.stage is.0,
+          refl,
+          reason,
+        ),
+      ),
+    )
 
 by_lines : (lines : List (List ℕ)) → eqb (length lines) 0 ≡ is_none lines
 by_lines [] = refl

@@ -1,18 +1,14 @@
 -- What a script comes to when it is packed: its lines, the bytes that they name one after the other, and the first line that
 -- isn't taken.
-use Rattle.std.specs.Prelude.{◌≡◌, ℕ, ◌+◌, ◌-◌, ◌*◌, ◌≤◌, ⊤, Bool, true, false, List, [], ◌∷◌, ◌++◌, length, Option, Some, Result, MatchResult}
-use Rattle.std.specs.Io.KnownBytes.{Consumes, Appends}
+use Rattle.std.specs.Prelude.{◌≡◌, ℕ, ◌+◌, ◌-◌, ◌*◌, ◌≤◌, ⊤, Bool, true, false, List, [], ◌∷◌, ◌++◌, length, Some}
 use Rattle.std.specs.List.{flat_map}
 use Rattle.bt_wire.specs.declared.context.Own.{Own}
-use Rattle.bt_wire.specs.declared.fault.Reason.{Reason as WireReason}
 use Rattle.bt_wire.specs.declared.item.Refusal.{Refusal}
 use Rattle.bt_wire.specs.Streams.{Outcome, IsVerdict}
 use Rattle.bt_tool.specs.declared.ended.PackEnd.{PackEnd}
 use Rattle.bt_tool.specs.declared.ended.PackEnd.TheVariants.{Accepted, Refused}
 use Rattle.bt_tool.specs.declared.ended.ScriptReason.{ScriptReason}
 use Rattle.bt_tool.specs.declared.ended.ScriptReason.TheVariants.{Syntax, Reason}
-use Rattle.bt_tool.specs.declared.ended.ToolFault.{ToolFault}
-use Rattle.bt_tool.specs.Printed.{AppendsFront}
 use Rattle.bt_tool.specs.Script.{IsLine}
 use Rattle.bt_tool.specs.ScriptLaws.{has_feed}
 

@@ -81,12 +81,9 @@ fn main(rt: HostRuntime) -> ExitCode {
     };
     match &result {
         Ok(Ended::Refused(refusal)) if job == Job::Unpack => {
-            let _ = eprintln!(
-                rt;
+            let _ = eprintln!(rt;
                 "refused message={} at={} {}",
-                refusal.message,
-                refusal.at,
-                refusal.reason
+                refusal.message, refusal.at, refusal.reason
             );
         }
         Ok(_) => {}

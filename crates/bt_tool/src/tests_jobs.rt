@@ -127,6 +127,7 @@ fn scripts_are_read_back(rt: HostRuntime) -> Result<(), Fail> {
         for line in text.as_slice().split(|byte| *byte == b'\n') {
             if !line.is_empty() {
                 let first = stream.is_empty();
+                assert!(rt; line.len() < 1000);
                 assert!(rt; read_line(line, first, &mut bytes)?);
                 stream.extend_from_slice(bytes.as_slice())?;
             }

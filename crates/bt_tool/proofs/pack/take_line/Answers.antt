@@ -1,4 +1,4 @@
-use Rattle.std.proofs.Common.{◌≡◌, ◌∙◌, ◌+◌, ◌*◌, ◌≤◌, ◌++◌, Bool, true, false, List, ℕ, Result, Option, Ok, Err, Some, None, refl, ap, subst, sym, arith}
+use Rattle.std.proofs.Common.{◌≡◌, ◌∙◌, ◌++◌, true, false, List, ℕ, Result, Option, Ok, Err, refl, ap, subst, sym, arith}
 use Rattle.bt_wire.specs.declared.item.Item.{Item}
 use Rattle.bt_wire.specs.declared.item.Refusal.{Refusal}
 use Rattle.bt_feed.specs.Answers.{IsAnswer, after}
@@ -32,7 +32,7 @@ returns-in-Ok c = λ own lines b e h.
     let item = item_of c.in-Ok-Some.field-0-0 in
     let is = ap shown (c.in-Ok-Some.is ∙ ap Ok c.in-Ok-Some.field-0-is) in
     line_taken own lines b c.args.text.now x c.args.out.now.items c.extend_from_slice.new.self.items c.args.feed.now c.push.new.self c.take.follows.lender-at-none item (omega (arith, c.if-text-from.false, c.requires))
-      named h push (subst A is c.take.ensures.value) (c.take.follows.holds-at-none ∙ ap (after c.push.new.self) is) (c.in-Ok.ensures.items ∙ ap (λ (l : List ℕ). c.args.out.now.items ++ l) c.as_slice-in-Ok-Some.ensures.value)
+    named h push (subst A is c.take.ensures.value) (c.take.follows.holds-at-none ∙ ap (after c.push.new.self) is) (c.in-Ok.ensures.items ∙ ap (λ (l : List ℕ). c.args.out.now.items ++ l) c.as_slice-in-Ok-Some.ensures.value)
 
 pub returns-in-Ok-None : goal.returns-in-Ok-None
 returns-in-Ok-None c = λ own lines b e h.
