@@ -1,7 +1,7 @@
 -- A header, once judged, says how many bytes the message has, whatever follows.
-use Rattle.std.proofs.Common.{◌≡◌, ℕ, ◌+◌, ◌^◌, ◌≤◌, ◌<◌, Bool, true, false, cond, eqb, leb, ltb, List, [], ◌∷◌, ◌++◌, map, length, take, drop, Option, Some, None, refl, sym, ap, ◌∙◌, arith, inl, inr}
+use Rattle.std.proofs.Common.{◌≡◌, ℕ, ◌+◌, ◌^◌, ◌≤◌, ◌<◌, Bool, true, false, cond, eqb, leb, ltb, List, [], ◌∷◌, ◌++◌, map, length, take, drop, Option, Some, None, refl, sym, ap, subst, ◌∙◌, arith, inl, inr}
 use Rattle.std.proofs.lemmas.Bool.{cases_Bool, cases_lt, cases_eq, eq-eqb, ne_eqb, le-leb, le-ltb, lt-ltb, ltb-true, ltb-false, and_cases, leb-false}
-use Rattle.std.proofs.lemmas.List.{append-nil, length-append, take-append-drop, get_or_append_left, nil_from_length, length-take, length-take-le}
+use Rattle.std.proofs.lemmas.List.{append-nil, length-append, take-append-drop, get_or_append_left, nil_from_length, length-take, length-take-le, take_all}
 use Rattle.bt_wire.specs.declared.context.Context.{Context}
 use Rattle.bt_wire.specs.declared.context.Order.{Order}
 use Rattle.bt_wire.specs.declared.fault.Header.{Header}
@@ -16,6 +16,8 @@ use Rattle.bt_wire.proofs.HeaderLaws.{IsHeader, judged_at, whole_there, whole_le
 use Rattle.bt_wire.proofs.NumberLaws.{number32-append}
 use Rattle.bt_wire.proofs.RowLaws.{NoneCounts-from}
 use Rattle.bt_wire.proofs.WindowLaws.{early_header}
+use Rattle.bt_feed.specs.Progress.{HasWindow}
+use Rattle.bt_feed.specs.declared.stage.Stage.{Stage}
 use Rattle.bt_feed.specs.declared.stage.Stage.TheVariants as stage
 use Rattle.bt_feed.specs.Stages.{is_closed}
 use Rattle.bt_feed.proofs.Closed.{open_by}
@@ -148,3 +150,9 @@ pub need_open : (c : Context) (o : Order) (s i : ℕ) (b : List ℕ) (n : ℕ) �
 need_open c o s i b n lt e =
     let j : (header_fault c o b ≡ None) × (is_whole b ≡ false) = judged_at c o b (headers.Need n) e in
     open_by (stage.Message c o s i) b (early_header c o s b lt ∙ j.0) j.1
+
+-- where some of a message is missing its bytes are open
+pub window_waits : (t : Stage) (b : List ℕ) (n : ℕ) → HasWindow t b n → length b < n → is_closed t b ≡ false
+window_waits (stage.Handshake own) b n h lt = absurd (omega (arith, h))
+window_waits (stage.Message c o s i) b n h lt =
+    subst (λ (l : List ℕ). is_closed (stage.Message c o s i) l ≡ false) (take_all (length b) b (omega arith)) (window_open c o s i b (length b) n h.0 h.1 lt)

@@ -167,7 +167,10 @@ impl Progress {
         requires wanted { 0 < self.now.wanted → HasWindow self.now.stage held.now self.now.wanted × (length held.now ≤ self.now.wanted) }
         ensures { IsFound self.now.stage held.now result }
     {
-        if self.wanted > 0 && held.len() == self.wanted {
+        if self.wanted > 0 {
+            if held.len() < self.wanted {
+                return Ok(None);
+            }
             if let Stage::Message { context, order, .. } = &self.stage {
                 return match view_window(context, *order, held) {
                     Ok(view) => Ok(Some(View::Message(view))),
