@@ -32,7 +32,7 @@ impl<'a> DictRef<'a> {
         self.bytes
     }
 
-    /// The dictionary as a value: one allocation for each string, and for each list and dictionary as a vector grows.
+    /// The dictionary as a value. It takes memory at most once for each string, each list and each dictionary of it.
     pub fn to_value(&self, alloc: Global) -> Result<Value, AllocError>
         ensures { IfOk result (λ v. v ≡ Value.Dict self.now.tree.0) }
     {
