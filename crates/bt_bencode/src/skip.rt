@@ -1,6 +1,5 @@
 //! What follows a value in a checked spelling, how many values or pairs there are, and what stands at a key. It takes
-//! no memory. Skipping a value recurses
-//! by its nesting, which is at most 32 in what the public calls hand in.
+//! no memory. Skipping a value recurses by its nesting, which is at most 32 in what the public calls hand in.
 ghost use Rattle.std.specs.Prelude.{◌≡◌, ℕ, ◌<◌, ◌∷◌, ◌++◌, List, length, option_map};
 ghost use Rattle.bt_bencode.specs.Trees.{Tree, Trees, Pairs};
 ghost use Rattle.bt_bencode.specs.Bencoding.{ben, ben_all, ben_pairs, InRange, AllInRange, PairsInRange};

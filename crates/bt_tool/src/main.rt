@@ -26,7 +26,7 @@ mod values;
 
 use crate::commands::{Asked, Job, Notice, status, status_of};
 use crate::ended::Ended;
-use crate::options::asked;
+use crate::options::{USAGE, asked};
 use crate::show::{run_check, run_show, run_unpack};
 use bt_feed::Host;
 use std::process::ExitCode;
@@ -50,7 +50,7 @@ fn main(rt: HostRuntime) -> ExitCode {
             return ExitCode::from(3);
         }
         Err(_) => {
-            let _ = eprintln!(rt; "error: the words are no text");
+            let _ = eprint!(rt; "error: the words are no text\n\n{USAGE}");
             return ExitCode::from(2);
         }
     };

@@ -46,6 +46,9 @@ Exit status:
   3  a read or a write failed, there was no memory, or the stream had no end
 ";
 
+/// What is printed behind a mistake.
+pub const USAGE: &str = "Usage: bt_tool [COMMAND] [OPTIONS]\n";
+
 fn option<'a>(alloc: Global, name: &'a str, value: &'a str) -> Arg<'a> {
     Arg::new(alloc, name)
         .long(name)
@@ -57,6 +60,7 @@ fn option<'a>(alloc: Global, name: &'a str, value: &'a str) -> Arg<'a> {
 fn job_command<'a>(alloc: Global, name: &'a str) -> Result<Command<'a>, AllocError> {
     Ok(
         Command::new(alloc, name)
+            .override_usage("bt_tool [COMMAND] [OPTIONS]")
             .override_help(HELP)
             .arg(option(alloc, "reserved", "HEX"))?
             .arg(option(alloc, "pieces", "N"))?
@@ -73,6 +77,7 @@ fn command_line<'a>(alloc: Global) -> Result<Command<'a>, AllocError> {
             .version("0.1.0")
             .no_binary_name(true)
             .subcommand_required(true)
+            .override_usage("bt_tool [COMMAND] [OPTIONS]")
             .override_help(HELP)
             .subcommand(job_command(alloc, "show")?)?
             .subcommand(job_command(alloc, "check")?)?
@@ -112,7 +117,11 @@ fn told(alloc: Global, error: &Error) -> Result<Asked, AllocError>
         ErrorKind::DisplayVersion => Notice::Version,
         _ => Notice::Usage,
     };
-    Ok(Asked::Told(notice, format!(in alloc; "{error}")?))
+    let text = format!(in alloc; "{error}")?;
+    if notice == Notice::Usage && !text.as_str().contains("Usage: ") {
+        return Ok(Asked::Told(notice, format!(in alloc; "{text}\n{USAGE}")?));
+    }
+    Ok(Asked::Told(notice, text))
 }
 
 /// What an option's value has to be.

@@ -383,6 +383,7 @@ fn mistakes(rt: HostRuntime) -> Result<(), Fail> {
     ];
     for words in table {
         tell(&rt, rt.alloc(), words, Notice::Usage, "error: ")?;
+        tell(&rt, rt.alloc(), words, Notice::Usage, "Usage: bt_tool ")?;
     }
     Ok(())
 }
