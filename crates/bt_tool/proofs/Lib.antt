@@ -8,4 +8,7 @@ mod ScriptText
 mod ScriptSpoken
 mod ScriptBounds
 mod Packing
+mod PackText
+mod PackPieces
+mod PackRuns
 mod PackLaws

@@ -46,7 +46,7 @@ named_more limit [] b line x h n = (x, [], n, ap (λ (l : List ℕ). l ++ x) h �
 named_more limit (l ∷ lines) b line x h n =
     (h.0, h.1 ++ x, h.2, ap (λ (z : List ℕ). z ++ x) h.3 ∙ append_assoc h.0 h.1 x, named_behind limit lines h.1 line x h.4 n)
 
-some_lines : (lines : List (List ℕ)) (line : List ℕ) → is_none (lines ++ line ∷ []) ≡ false
+pub some_lines : (lines : List (List ℕ)) (line : List ℕ) → is_none (lines ++ line ∷ []) ≡ false
 some_lines [] line = refl
 some_lines (l ∷ lines) line = refl
 

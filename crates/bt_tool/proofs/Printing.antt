@@ -61,7 +61,7 @@ length_by None own b v h =
           omega (arith, ap (λ (w : Outcome). w.start + length w.tail) o.whole, o.messages.start_after, ap length o.parts, length-append (hand o.handshake) o.rest, hand-length o.handshake o.fits)
     ]
 
-verdict_length : (own : Own) (b : List ℕ) (v : Outcome) → IsVerdict own b v → v.start + length v.tail ≡ length b
+pub verdict_length : (own : Own) (b : List ℕ) (v : Outcome) → IsVerdict own b v → v.start + length v.tail ≡ length b
 verdict_length own b v h = length_by (hand_fault own b) own b v h
 
 accepted_by : (o : Option Refusal) (m n : ℕ) → unless_refused o (Ok m) ≡ Ok n → (o ≡ None) × (n ≡ m)
@@ -212,14 +212,14 @@ told_end form own left0 left left' held0 held held' f g p q e t n =
     ((t.bytes ++ m.0, Consumes-trans left0 left left' t.bytes m.0 t.consumed m.2, (v, m.4.1, subst Q (sym m.4.2) (joined form own held0 held held' t.items m.1 t.written m.3), m.4.3)), m.6)
 
 -- known bytes that grew, and then by a front
-front_behind : (a b c : Option (List ℕ)) (xs ys : List ℕ) → Appends a b xs → AppendsFront b c ys → AppendsFront a c (xs ++ ys)
+pub front_behind : (a b c : Option (List ℕ)) (xs ys : List ℕ) → Appends a b xs → AppendsFront b c ys → AppendsFront a c (xs ++ ys)
 front_behind a b c xs ys p q = (xs ++ q.0, q.1, ap (λ (l : List ℕ). xs ++ l) q.2 ∙ sym (append_assoc xs q.0 q.1), Appends-trans a b c xs q.0 p q.3)
 
 -- a front, of something longer
 front_of_more : (a b : Option (List ℕ)) (xs ys : List ℕ) → AppendsFront a b xs → AppendsFront a b (xs ++ ys)
 front_of_more a b xs ys p = (p.0, p.1 ++ ys, ap (λ (l : List ℕ). l ++ ys) p.2 ∙ append_assoc p.0 p.1 ys, p.3)
 
-all_is_front : (a b : Option (List ℕ)) (xs : List ℕ) → Appends a b xs → AppendsFront a b xs
+pub all_is_front : (a b : Option (List ℕ)) (xs : List ℕ) → Appends a b xs → AppendsFront a b xs
 all_is_front a b xs p = (xs, [], sym (append-nil xs), p)
 
 pub told_fault : (form : Form) (own : Own) (left0 left left' held0 held held' : Option (List ℕ)) (f g : FeedState) (p q : Printer) (e : ToolFault) → (t : IsToldTo form own left0 left held0 held f p)

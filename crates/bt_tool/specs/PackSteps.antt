@@ -1,5 +1,5 @@
 -- For private contracts alone: how far a script is packed.
-use Rattle.std.specs.Prelude.{◌≡◌, ℕ, ◌≤◌, Bool, true, false, List, [], ◌∷◌, ◌++◌, length, Option, Some, None}
+use Rattle.std.specs.Prelude.{◌≡◌, ◌==◌, ℕ, ◌+◌, ◌*◌, ◌≤◌, ◌<◌, Bool, true, false, if◌then◌else◌, List, [], ◌∷◌, ◌++◌, length, Option, Some, None}
 use Rattle.bt_feed.specs.declared.stage.Stage.{Stage}
 use Rattle.bt_feed.specs.declared.stage.Stage.TheVariants as stage
 use Rattle.bt_feed.specs.Feeds.{FeedState}
@@ -9,7 +9,9 @@ use Rattle.bt_wire.specs.declared.context.Own.{Own}
 use Rattle.bt_wire.specs.declared.item.Item.{Item}
 use Rattle.bt_wire.specs.Streams.{Outcome, IsVerdict}
 use Rattle.bt_tool.specs.declared.ended.ScriptReason.{ScriptReason}
-use Rattle.bt_tool.specs.Packs.{AreNamed, AreTaken, IsNotTaken, is_none}
+use Rattle.bt_tool.specs.Packs.{IsSplit, AreLines, AreNamed, AreTaken, IsNotTaken, IsStop, IsPacked, is_none}
+use Rattle.bt_tool.specs.declared.ended.PackEnd.{PackEnd}
+use Rattle.bt_tool.specs.ScriptLaws.{has_feed}
 
 abbrev pub is_hand : Stage → Bool
 is_hand (stage.Handshake own) = true
@@ -30,3 +32,36 @@ pub record IsPackedTo (own : Own) (lines : List (List ℕ)) (b : List ℕ) (f : 
 abbrev pub IsLineEnd : Own → List (List ℕ) → List ℕ → List ℕ → FeedState → List ℕ → List ℕ → Option ScriptReason → Type 0
 IsLineEnd own lines b text g out out' None = (x : List ℕ) × (out' ≡ out ++ x) × IsPackedTo own (lines ++ text ∷ []) (b ++ x) g
 IsLineEnd own lines b text g out out' (Some reason) = (out' ≡ out) × (number_of g.stage ≡ length lines) × ((v : Outcome) × AreTaken own lines b v × IsNotTaken own (is_none lines) text b v reason)
+
+-- what was read is these lines, which are taken, and a front of the next
+pub record IsReadSo (own : Own) (text : List ℕ) (lines : List (List ℕ)) (b held : List ℕ) (f : FeedState) : Type 0 where
+  pub split : IsSplit text lines held
+  pub packed : IsPackedTo own lines b f
+
+-- a piece of the script is read, or it has a line that isn't taken
+abbrev pub IsPieceRead : Own → List ℕ → List (List ℕ) → List ℕ → List ℕ → FeedState → List ℕ → List ℕ → Option ScriptReason → Type 0
+IsPieceRead own text lines b held g out out' None = (more : List (List ℕ)) × (x : List ℕ) × (out' ≡ out ++ x) × IsReadSo own text (lines ++ more) (b ++ x) held g
+IsPieceRead own text lines b held g out out' (Some reason) = (x : List ℕ) × (out' ≡ out ++ x) × ((all : List (List ℕ)) × AreLines text all × IsStop own all (b ++ x) (number_of g.stage + 1) reason)
+
+-- the text's first line and what follows its line feed
+abbrev pub IsCut : List ℕ → Option (List ℕ × List ℕ) → Type 0
+IsCut text None = has_feed text ≡ false
+IsCut text (Some p) = (text ≡ p.0 ++ 10 ∷ p.1) × (has_feed p.0 ≡ false)
+
+-- the text up to its first line feed, and from there on
+abbrev pub front_of : List ℕ → List ℕ
+front_of [] = []
+front_of (c ∷ cs) = if c == 10 then [] else c ∷ front_of cs
+
+abbrev pub back_of : List ℕ → List ℕ
+back_of [] = []
+back_of (c ∷ cs) = if c == 10 then c ∷ cs else back_of cs
+
+-- the bytes are behind those of the present line, or it is too long with them and as it was
+abbrev pub IsHeld : ℕ → List ℕ → List ℕ → List ℕ → Bool → Type 0
+IsHeld limit old more new true = (new ≡ old ++ more) × (length (old ++ more) ≤ 2 * limit + 256)
+IsHeld limit old more new false = (new ≡ old) × (2 * limit + 256 < length (old ++ more))
+
+-- the text is all of the script: what its lines come to
+abbrev pub IsScriptEnd : Own → List ℕ → List ℕ → List ℕ → List ℕ → PackEnd → Type 0
+IsScriptEnd own text b out out' e = (x : List ℕ) × (out' ≡ out ++ x) × ((all : List (List ℕ)) × AreLines text all × IsPacked own all (b ++ x) e)

@@ -1,6 +1,7 @@
 -- What a script comes to when it is packed: its lines, the bytes that they name one after the other, and the first line that
 -- isn't taken.
-use Rattle.std.specs.Prelude.{◌≡◌, ℕ, ◌+◌, ◌-◌, ◌*◌, ◌≤◌, ⊤, Bool, true, false, List, [], ◌∷◌, ◌++◌, length, Some}
+use Rattle.std.specs.Prelude.{◌≡◌, ℕ, ◌+◌, ◌-◌, ◌*◌, ◌≤◌, ⊤, Bool, true, false, List, [], ◌∷◌, ◌++◌, length, Option, Some, Result, Ok, Err, MatchResult}
+use Rattle.std.specs.Io.KnownBytes.{Consumes, Appends}
 use Rattle.std.specs.List.{flat_map}
 use Rattle.bt_wire.specs.declared.context.Own.{Own}
 use Rattle.bt_wire.specs.declared.item.Refusal.{Refusal}
@@ -9,6 +10,8 @@ use Rattle.bt_tool.specs.declared.ended.PackEnd.{PackEnd}
 use Rattle.bt_tool.specs.declared.ended.PackEnd.TheVariants.{Accepted, Refused}
 use Rattle.bt_tool.specs.declared.ended.ScriptReason.{ScriptReason}
 use Rattle.bt_tool.specs.declared.ended.ScriptReason.TheVariants.{Syntax, Reason}
+use Rattle.bt_tool.specs.declared.ended.ToolFault.{ToolFault}
+use Rattle.bt_tool.specs.Printed.{AppendsFront}
 use Rattle.bt_tool.specs.Script.{IsLine}
 use Rattle.bt_tool.specs.ScriptLaws.{has_feed}
 
@@ -81,3 +84,24 @@ pub data IsPacked (own : Own) (all : List (List ℕ)) (b : List ℕ) (e : PackEn
   empty : all ≡ [] → b ≡ [] → e ≡ Refused 1 Syntax → IsPacked own all b e
   stopped : (number : ℕ) → (reason : ScriptReason) → IsStop own all b number reason → e ≡ Refused number reason → IsPacked own all b e
   accepted : (v : Outcome) → is_none all ≡ false → AreTaken own all b v → e ≡ Accepted (v.number - 1) (length b) → IsPacked own all b e
+
+-- ---- a run
+
+-- all bytes are written, or at a fault a front of them
+abbrev pub IsWrittenOut : {T : Type 0} → T → List ℕ → Option (List ℕ) → Option (List ℕ) → Result T ToolFault → Type 0
+IsWrittenOut answer bytes held held' (Ok a) = (a ≡ answer) × Appends held held' bytes
+IsWrittenOut answer bytes held held' (Err e) = AppendsFront held held' bytes
+
+-- a front of the bytes of lines that are taken is written
+abbrev pub IsFrontPacked : Own → List (List ℕ) → Option (List ℕ) → Option (List ℕ) → Type 0
+IsFrontPacked own all held held' =
+    (before : List (List ℕ)) × (behind : List (List ℕ)) × (b : List ℕ) × (v : Outcome) × (all ≡ before ++ behind) × AreTaken own before b v × AppendsFront held held' b
+
+-- what was read is a text of these lines: what is written and answered is what they come to, or at a fault a front is written
+abbrev pub IsPackRun : Own → Option (List ℕ) → Option (List ℕ) → Option (List ℕ) → Option (List ℕ) → Result PackEnd ToolFault → Type 0
+IsPackRun own left left' held held' r =
+    (text : List ℕ) × (all : List (List ℕ)) × Consumes left left' text × AreLines text all × MatchResult r (λ e. (b : List ℕ) × IsPacked own all b e × Appends held held' b) (λ _. IsFrontPacked own all held held')
+
+abbrev pub IsAccepted : PackEnd → Type 0
+IsAccepted (Accepted messages bytes) = ⊤
+IsAccepted (Refused line reason) = ⊥

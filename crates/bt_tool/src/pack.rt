@@ -1,13 +1,19 @@
 //! Packing a script: the bytes that its lines name, as long as they are a stream's items.
-ghost use Rattle.std.specs.Prelude.{◌≡◌, ◌≤◌, ℕ, List, IfOk};
-ghost use Rattle.bt_wire.specs.declared.context.Own.{Own};
-ghost use Rattle.bt_tool.specs.PackSteps.{IsPackedTo, IsLineEnd};
+ghost use Rattle.std.specs.Prelude.{◌≡◌, ◌==◌, ◌≤◌, ◌<◌, ◌++◌, ℕ, List, length, position, option_map, min, ◌+◌, ◌-◌, ◌^◌, IfOk, IfErr, IfSome, OnOk, OnErr, Err};
+ghost use Rattle.bt_wire.specs.declared.context.Own.{Own as Receiver};
+ghost use Rattle.bt_feed.specs.Counts.{Grew};
+ghost use Rattle.bt_feed.specs.Stages.{number_of, start_of};
+ghost use Rattle.bt_tool.specs.Packs.{IsPackRun, IsAccepted, IsWrittenOut};
+ghost use Rattle.bt_tool.specs.PackSteps.{IsPackedTo, IsLineEnd, IsCut, IsReadSo, IsPieceRead, IsHeld, IsScriptEnd};
 
-use crate::ended::ScriptReason;
+use crate::ended::{PackEnd, ScriptReason, ToolFault};
 use crate::script::reading::read_line;
-use bt_feed::{Feed, TakeError};
-use bt_wire::Refusal;
-use std::alloc::AllocError;
+use bt_feed::{Feed, Source, TakeError, Target, write_front};
+use bt_wire::{Own, Refusal};
+use std::alloc::{AllocError, Global};
+
+/// How many reads a command makes.
+const MAX_READS: u64 = 1 << 32;
 
 fn refusal_in(error: TakeError) -> Refusal
     ensures { error ≡ TakeError.Refused result }
@@ -15,6 +21,39 @@ fn refusal_in(error: TakeError) -> Refusal
     match error {
         TakeError::Refused(refusal) => refusal,
     }
+}
+
+/// The place of the first line feed.
+fn first_feed(text: &[u8]) -> Option<usize>
+    ensures { result ≡ position (λ c. c == 10) text.now }
+{
+    text.iter().position(|byte| *byte == b'\n')
+}
+
+/// The text's first line, and what follows its line feed.
+fn split_line(text: &[u8]) -> Option<(&[u8], &[u8])>
+    ensures cut { IsCut text.now (option_map (λ p. (p.0.now, p.1.now)) result) }
+    ensures shorter { IfSome result (λ p. length p.1.now < length text.now) }
+{
+    let end = first_feed(text).unwrap_or(text.len());
+    let (front, back) = text.split_at(end);
+    match back.split_first() {
+        Some((_, behind)) => Some((front, behind)),
+        None => None,
+    }
+}
+
+/// Writes the bytes, and answers so; at a fault a front of them is written.
+fn flush<W: Target, T: Drop>(writer: &mut W, bytes: &[u8], answer: T) -> Result<T, ToolFault>
+    ensures written { IsWrittenOut answer bytes.now (W.held writer.old) (W.held writer.new) result }
+    ensures failed { OnErr result (Grew (W.failed_writes writer.old) (W.failed_writes writer.new)) }
+    ensures calm { OnOk result (W.failed_writes writer.new ≡ W.failed_writes writer.old) }
+    ensures fault { IfErr result (λ fault. fault ≡ ToolFault.Write) }
+{
+    if write_front(writer, bytes) < bytes.len() {
+        return Err(ToolFault::Write);
+    }
+    Ok(answer)
 }
 
 /// Takes a line, which stands without its line feed, and adds the bytes that it names; or says why not.
@@ -26,7 +65,7 @@ fn take_line(
     out: &mut Vec<u8>,
 ) -> Result<Option<ScriptReason>, AllocError>
     requires { limit ≤ 1048576 }
-    ensures { IfOk result (λ answer. (own : Own) (lines : List (List ℕ)) (b : List ℕ) → limit ≡ own.limit → IsPackedTo own lines b feed.old
+    ensures { IfOk result (λ answer. (own : Receiver) (lines : List (List ℕ)) (b : List ℕ) → limit ≡ own.limit → IsPackedTo own lines b feed.old
         → IsLineEnd own lines b text.now feed.new out.old.items out.new.items answer) }
 {
     let first = feed.number() == 0;
@@ -47,4 +86,149 @@ fn take_line(
         Ok(None) => Ok(Some(ScriptReason::Syntax)),
         Err(error) => Ok(Some(ScriptReason::Reason(refusal_in(error).reason))),
     }
+}
+
+/// Puts bytes behind those of the present line, and says whether it isn't too long with them.
+fn hold(line: &mut Vec<u8>, more: &[u8], limit: u32) -> Result<bool, AllocError>
+    requires { limit ≤ 1048576 }
+    ensures { IfOk result (IsHeld limit line.old.items more.now line.new.items) }
+{
+    if line.len() as u64 + more.len() as u64 > 2 * u64::from(limit) + 256 {
+        return Ok(false);
+    }
+    match line.extend_from_slice(more) {
+        Ok(()) => Ok(true),
+        Err(error) => Err(error),
+    }
+}
+
+/// Takes the lines that a piece of the script ends, and keeps the front of the next; or says why one isn't taken.
+fn take_piece(
+    feed: &mut Feed,
+    line: &mut Vec<u8>,
+    piece: &[u8],
+    limit: u32,
+    bytes: &mut Vec<u8>,
+    out: &mut Vec<u8>,
+) -> Result<Option<ScriptReason>, AllocError>
+    requires { limit ≤ 1048576 }
+    ensures { IfOk result (λ answer. (own : Receiver) (text : List ℕ) (lines : List (List ℕ)) (b : List ℕ) → limit ≡ own.limit → IsReadSo own text lines b line.old.items feed.old
+        → IsPieceRead own (text ++ piece.now) lines b line.new.items feed.new out.old.items out.new.items answer) }
+{
+    let mut rest = piece;
+    'lines: loop {
+        match split_line(rest) {
+            None => match hold(line, rest, limit) {
+                Ok(true) => return Ok(None),
+                Ok(false) => return Ok(Some(ScriptReason::Syntax)),
+                Err(error) => return Err(error),
+            },
+            Some((front, behind)) => {
+                match hold(line, front, limit) {
+                    Ok(true) => {}
+                    Ok(false) => return Ok(Some(ScriptReason::Syntax)),
+                    Err(error) => return Err(error),
+                }
+                match take_line(feed, line.as_slice(), limit, bytes, out) {
+                    Ok(None) => {}
+                    Ok(Some(reason)) => return Ok(Some(reason)),
+                    Err(error) => return Err(error),
+                }
+                line.clear();
+                rest = behind;
+            }
+        }
+    }
+}
+
+/// The counts of the items that were taken.
+fn counts(feed: &Feed) -> PackEnd
+    ensures { result ≡ PackEnd.Accepted (number_of feed.now.stage - 1) (start_of feed.now.stage) }
+{
+    PackEnd::Accepted {
+        messages: feed.number().saturating_sub(1),
+        bytes: feed.start(),
+    }
+}
+
+/// What the script comes to that ends here. Its last line may lack its line feed.
+fn end_script(
+    feed: &mut Feed,
+    line: &[u8],
+    limit: u32,
+    bytes: &mut Vec<u8>,
+    out: &mut Vec<u8>,
+) -> Result<PackEnd, AllocError>
+    requires { limit ≤ 1048576 }
+    ensures { IfOk result (λ end. (own : Receiver) (text : List ℕ) (lines : List (List ℕ)) (b : List ℕ) → limit ≡ own.limit → IsReadSo own text lines b line.now feed.old
+        → IsScriptEnd own text b out.old.items out.new.items end) }
+{
+    if line.len() == 0 {
+        if feed.number() == 0 {
+            return Ok(PackEnd::Refused {
+                line: 1,
+                reason: ScriptReason::Syntax,
+            });
+        }
+        return Ok(counts(feed));
+    }
+    match take_line(feed, line, limit, bytes, out) {
+        Ok(None) => Ok(counts(feed)),
+        Ok(Some(reason)) => Ok(PackEnd::Refused {
+            line: feed.number() + 1,
+            reason,
+        }),
+        Err(error) => Err(error),
+    }
+}
+
+/// Reads a script and writes the bytes that its lines name, up to the first line that isn't taken. It answers the counts of the
+/// stream, or that line and why. The faults are those of `run_show`; on a fault a front of the bytes of lines that are taken is
+/// written.
+pub fn run_pack<R: Source, W: Target>(
+    alloc: Global,
+    reader: &mut R,
+    writer: &mut W,
+    own: &Own,
+) -> Result<PackEnd, ToolFault>
+    requires { (1 ≤ own.now.limit) × (own.now.limit ≤ 1048576) }
+    ensures packed { IsPackRun own.now (R.left reader.old) (R.left reader.new) (W.held writer.old) (W.held writer.new) result }
+    ensures end { IfOk result (λ end. IsAccepted end → Grew (R.ends reader.old) (R.ends reader.new)) }
+    ensures read { result ≡ Err ToolFault.Read → Grew (R.failed_reads reader.old) (R.failed_reads reader.new) }
+    ensures write { result ≡ Err ToolFault.Write → Grew (W.failed_writes writer.old) (W.failed_writes writer.new) }
+    ensures turns { result ≡ Err ToolFault.Turns
+        → (min (R.reads reader.old + 2 ^ 32) (2 ^ 64 - 1) ≤ R.reads reader.new) × (R.ends reader.new ≡ R.ends reader.old) }
+{
+    let Ok(mut feed) = Feed::new(alloc, *own) else {
+        return Err(ToolFault::Memory);
+    };
+    let mut line = Vec::new(alloc);
+    let mut bytes = Vec::new(alloc);
+    let mut out = Vec::new(alloc);
+    let mut buffer = [0; 65536];
+    for _turn in 0..MAX_READS {
+        match reader.read(&mut buffer) {
+            Ok(0) => {
+                match end_script(&mut feed, line.as_slice(), own.limit, &mut bytes, &mut out) {
+                    Ok(end) => return flush(writer, out.as_slice(), end),
+                    Err(_) => return Err(ToolFault::Memory),
+                }
+            }
+            Ok(count) => {
+                match take_piece(&mut feed, &mut line, &buffer[..count], own.limit, &mut bytes, &mut out) {
+                    Ok(None) => match flush(writer, out.as_slice(), ()) {
+                        Ok(()) => out.clear(),
+                        Err(fault) => return Err(fault),
+                    },
+                    Ok(Some(reason)) => {
+                        let line = feed.number() + 1;
+                        return flush(writer, out.as_slice(), PackEnd::Refused { line, reason });
+                    }
+                    Err(_) => return Err(ToolFault::Memory),
+                }
+            }
+            Err(_) => return Err(ToolFault::Read),
+        }
+    }
+    Err(ToolFault::Turns)
 }
