@@ -5,11 +5,13 @@ use Rattle.bt_ext.specs.Ids.{metadata_id}
 use Rattle.bt_wire.specs.declared.context.Own.{Own}
 use Rattle.bt_tool.specs.declared.commands.Asked.{Asked}
 use Rattle.bt_tool.specs.declared.commands.Asked.TheVariants.{Run, Told}
-use Rattle.bt_tool.specs.declared.commands.Job.TheVariants.{Show, Check, Unpack}
+use Rattle.bt_tool.specs.declared.commands.Job.TheVariants.{Show, Check, Unpack, Pack}
 use Rattle.bt_tool.specs.declared.commands.Notice.{Notice}
 use Rattle.bt_tool.specs.declared.commands.Notice.TheVariants.{Help, Version, Usage}
 use Rattle.bt_tool.specs.declared.ended.Ended.{Ended}
 use Rattle.bt_tool.specs.declared.ended.Ended.TheVariants.{Accepted, Refused}
+use Rattle.bt_tool.specs.declared.ended.PackEnd.{PackEnd}
+use Rattle.bt_tool.specs.declared.ended.PackEnd.TheVariants as packs
 use Rattle.bt_tool.specs.declared.ended.ToolFault.{ToolFault}
 
 -- the receiver where no option is given
@@ -32,6 +34,7 @@ abbrev pub IsShowByDefault : Asked → Type 0
 IsShowByDefault (Run Show own) = IsDefault own
 IsShowByDefault (Run Check own) = ⊥
 IsShowByDefault (Run Unpack own) = ⊥
+IsShowByDefault (Run Pack own) = ⊥
 IsShowByDefault (Told notice text) = ⊥
 
 -- 0 with help and with the version, 2 with words that are no command line
@@ -45,3 +48,8 @@ abbrev pub status_of : Result Ended ToolFault → ℕ
 status_of (Ok (Accepted messages bytes)) = 0
 status_of (Ok (Refused r)) = 1
 status_of (Err fault) = 3
+
+abbrev pub pack_status_of : Result PackEnd ToolFault → ℕ
+pack_status_of (Ok (packs.Accepted messages bytes)) = 0
+pack_status_of (Ok (packs.Refused line reason)) = 1
+pack_status_of (Err fault) = 3

@@ -1,8 +1,8 @@
 //! What the command line can ask for, and the exit status.
 ghost use Rattle.std.specs.Prelude.{◌≡◌};
-ghost use Rattle.bt_tool.specs.Commands.{IsDefault, notice_status, status_of as status_by};
+ghost use Rattle.bt_tool.specs.Commands.{IsDefault, notice_status, status_of as status_by, pack_status_of as pack_status_by};
 
-use crate::ended::{Ended, ToolFault};
+use crate::ended::{Ended, PackEnd, ToolFault};
 use bt_ext::{ExtId, Registered, Rules};
 use bt_wire::{Own, Reserved};
 
@@ -17,7 +17,7 @@ pub enum Notice {
     Usage,
 }
 
-/// What is done with a stream.
+/// What is done with a stream, or with a script.
 #[derive(Clone, Copy, PartialEq, Eq, Debug)]
 pub enum Job {
     /// A line for each item, and the verdict.
@@ -26,6 +26,8 @@ pub enum Job {
     Check,
     /// The script of the items.
     Unpack,
+    /// The stream of a script.
+    Pack,
 }
 
 /// What the words ask for.
@@ -54,6 +56,17 @@ pub fn status(end: &Result<Ended, ToolFault>) -> u8
     match end {
         Ok(Ended::Accepted { .. }) => 0,
         Ok(Ended::Refused(_)) => 1,
+        Err(_) => 3,
+    }
+}
+
+/// The exit status of `pack`.
+pub fn pack_status(end: &Result<PackEnd, ToolFault>) -> u8
+    ensures { result ≡ pack_status_by end.now }
+{
+    match end {
+        Ok(PackEnd::Accepted { .. }) => 0,
+        Ok(PackEnd::Refused { .. }) => 1,
         Err(_) => 3,
     }
 }

@@ -9,9 +9,11 @@ pub enum Ended {
 }
 
 /// Why a script's line isn't taken: it is none, or its bytes are refused.
-#[derive(Clone, Copy, PartialEq, Eq, Debug)]
+#[derive(Clone, Copy, PartialEq, Eq, Debug, Error)]
 pub enum ScriptReason {
+    #[error("Syntax")]
     Syntax,
+    #[error("{0}")]
     Reason(Reason),
 }
 

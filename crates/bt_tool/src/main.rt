@@ -19,14 +19,17 @@ mod tests_jobs;
 #[cfg(test)]
 mod tests_options;
 #[cfg(test)]
+mod tests_pack;
+#[cfg(test)]
 mod tests_script;
 #[cfg(test)]
 mod tests_shown;
 mod values;
 
-use crate::commands::{Asked, Job, Notice, status, status_of};
-use crate::ended::Ended;
+use crate::commands::{Asked, Job, Notice, pack_status, status, status_of};
+use crate::ended::{Ended, PackEnd};
 use crate::options::{USAGE, asked};
+use crate::pack::run_pack;
 use crate::show::{run_check, run_show, run_unpack};
 use bt_feed::Host;
 use std::process::ExitCode;
@@ -74,8 +77,21 @@ fn main(rt: HostRuntime) -> ExitCode {
     };
     let mut reader = Host::new(rt.reader());
     let mut writer = Host::new(io::writer(&rt));
+    if job == Job::Pack {
+        let result = run_pack(rt.alloc(), &mut reader, &mut writer, &own);
+        match &result {
+            Ok(PackEnd::Refused { line, reason }) => {
+                let _ = eprintln!(rt; "refused line={line} {reason}");
+            }
+            Ok(PackEnd::Accepted { .. }) => {}
+            Err(fault) => {
+                let _ = eprintln!(rt; "fault: {fault}");
+            }
+        }
+        return ExitCode::from(pack_status(&result));
+    }
     let result = match job {
-        Job::Show => run_show(rt.alloc(), &mut reader, &mut writer, &own),
+        Job::Show | Job::Pack => run_show(rt.alloc(), &mut reader, &mut writer, &own),
         Job::Check => run_check(rt.alloc(), &mut reader, &mut writer, &own),
         Job::Unpack => run_unpack(rt.alloc(), &mut reader, &mut writer, &own),
     };

@@ -14,12 +14,13 @@ Judges the bytes that a BitTorrent peer sends (BEP 3, 5, 6, 9 and 10).
 
 Usage: bt_tool [COMMAND] [OPTIONS]
 
-Commands read a stream, from its handshake on, from standard input. No words at all mean 'show'.
+Commands read standard input: 'pack' a script, the others a stream, from its handshake on. No words at all mean 'show'.
 
 Commands:
   show    Prints a line for each item of the stream, and then the verdict
   check   Prints the verdict alone; its rules are 'bep' where none are given
   unpack  Prints a script: a line for each item, with all of its bytes
+  pack    Writes the stream of a script, up to the first line that isn't taken
   help    Prints this text
 
 Options, which stand after the command and describe the receiver of the stream:
@@ -38,12 +39,13 @@ Examples:
   bt_tool show --pieces 10 --rules bep < stream.bin
   bt_tool check --reserved 0000000000100004 < stream.bin
   bt_tool unpack < stream.bin > script.txt
+  bt_tool pack < script.txt > stream.bin
 
 Exit status:
-  0  the stream is accepted, or a text was asked for
-  1  the stream is refused
+  0  the stream or the script is accepted, or a text was asked for
+  1  the stream is refused, or a line of the script is
   2  the words are no command line
-  3  a read or a write failed, there was no memory, or the stream had no end
+  3  a read or a write failed, there was no memory, or the input had no end
 ";
 
 /// What is printed behind a mistake.
@@ -81,7 +83,8 @@ fn command_line<'a>(alloc: Global) -> Result<Command<'a>, AllocError> {
             .override_help(HELP)
             .subcommand(job_command(alloc, "show")?)?
             .subcommand(job_command(alloc, "check")?)?
-            .subcommand(job_command(alloc, "unpack")?)?,
+            .subcommand(job_command(alloc, "unpack")?)?
+            .subcommand(job_command(alloc, "pack")?)?,
     )
 }
 
@@ -89,6 +92,7 @@ fn job_named(name: &str) -> Job {
     match name {
         "check" => Job::Check,
         "unpack" => Job::Unpack,
+        "pack" => Job::Pack,
         _ => Job::Show,
     }
 }

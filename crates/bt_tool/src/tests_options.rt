@@ -285,7 +285,7 @@ fn receivers(rt: HostRuntime) -> Result<(), Fail> {
 /// Each command, its job, and the rules by which it judges.
 #[test]
 fn jobs(rt: HostRuntime) -> Result<(), Fail> {
-    let table: [(&[&str], Job, Rules); 8] = [
+    let table: [(&[&str], Job, Rules); 10] = [
         (&[], Job::Show, Rules::Free),
         (&["show", "--rules", "bep"], Job::Show, Rules::Bep),
         (&["check"], Job::Check, Rules::Bep),
@@ -294,6 +294,8 @@ fn jobs(rt: HostRuntime) -> Result<(), Fail> {
         (&["unpack"], Job::Unpack, Rules::Free),
         (&["unpack", "--rules=free"], Job::Unpack, Rules::Free),
         (&["unpack", "--rules=bep"], Job::Unpack, Rules::Bep),
+        (&["pack"], Job::Pack, Rules::Free),
+        (&["pack", "--rules", "bep"], Job::Pack, Rules::Bep),
     ];
     for (words, job, rules) in table {
         let own = Own {

@@ -1,0 +1,156 @@
+//! Scripts that are packed, and streams that are unpacked and packed again.
+use crate::commands::default_own;
+use crate::ended::{PackEnd, ScriptReason, ToolFault};
+use crate::pack::run_pack;
+use crate::show::run_unpack;
+use bt_feed::{MemSource, MemTarget};
+use bt_wire::{Own, Reason};
+use std::alloc::{AllocError, Global};
+use std::test::Fail;
+
+/// The handshake of reserved bytes 0000000000100005, the SHA-1 of `abc` and the peer id `-XX0001-000000000000`.
+const HAND: &[u8; 68] =
+    b"\x13BitTorrent protocol\x00\x00\x00\x00\x00\x10\x00\x05\xa9\x99\x3e\x36\x47\x06\x81\x6a\xba\x3e\x25\x71\x78\x50\xc2\x6c\x9c\xd0\xd8\x9d-XX0001-000000000000";
+
+const LINE: &str =
+    "handshake 0000000000100005 a9993e364706816aba3e25717850c26c9cd0d89d 2d5858303030312d303030303030303030303030\n";
+
+fn joined(alloc: Global, first: &[u8], then: &[u8]) -> Result<Vec<u8>, AllocError> {
+    let mut bytes = Vec::from_slice(alloc, first)?;
+    bytes.extend_from_slice(then)?;
+    Ok(bytes)
+}
+
+fn refused(line: u64, reason: ScriptReason) -> PackEnd {
+    PackEnd::Refused { line, reason }
+}
+
+/// The lines behind that of the handshake, the bytes behind those of the handshake, and how the script ends; ten pieces.
+type Row = (&'static str, &'static [u8], PackEnd);
+
+fn rows() -> [Row; 13] {
+    let syntax = refused(2, ScriptReason::Syntax);
+    let accepted = |messages: u64, bytes: u64| PackEnd::Accepted { messages, bytes };
+    [
+        ("", b"", accepted(0, 68)),
+        ("have 9\n", b"\x00\x00\x00\x05\x04\x00\x00\x00\x09", accepted(1, 77)),
+        ("keep-alive\nhave 9", b"\x00\x00\x00\x00\x00\x00\x00\x05\x04\x00\x00\x00\x09", accepted(2, 81)),
+        (
+            "extended 3 64383a6d73675f74797065693065353a706965636569306565\n",
+            b"\x00\x00\x00\x1b\x14\x03d8:msg_typei0e5:piecei0ee",
+            accepted(1, 99),
+        ),
+        ("piece 1 2 ABcd\n", b"\x00\x00\x00\x0b\x07\x00\x00\x00\x01\x00\x00\x00\x02\xab\xcd", accepted(1, 83)),
+        ("have 09\n", b"", syntax),
+        ("unknown 9 -\n", b"", syntax),
+        ("have  9\n", b"", syntax),
+        ("\n", b"", syntax),
+        ("choke\n\nchoke\n", b"\x00\x00\x00\x01\x00", refused(3, ScriptReason::Syntax)),
+        ("have 10\n", b"", refused(2, ScriptReason::Reason(Reason::BadIndex))),
+        ("extended 0 -\n", b"", refused(2, ScriptReason::Reason(Reason::BadBencode))),
+        (LINE, b"", syntax),
+    ]
+}
+
+#[test]
+fn scripts_are_packed(rt: HostRuntime) -> Result<(), Fail> {
+    let own = Own {
+        pieces: Some(10),
+        ..default_own()
+    };
+    for most in [1, 3, 4096] {
+        for (lines, bytes, end) in rows() {
+            let script = joined(rt.alloc(), LINE.as_bytes(), lines.as_bytes())?;
+            let stream = joined(rt.alloc(), HAND, bytes)?;
+            let mut reader = MemSource::new(script, most, None);
+            let mut writer = MemTarget::new(Vec::new(rt.alloc()), most, None);
+            let found = run_pack(rt.alloc(), &mut reader, &mut writer, &own);
+            assert_eq!(rt; found, Ok(end));
+            assert_eq!(rt; writer.bytes(), stream.as_slice());
+        }
+    }
+    Ok(())
+}
+
+#[test]
+fn first_lines_that_are_none(rt: HostRuntime) -> Result<(), Fail> {
+    for script in ["", "choke\n", "\n", "handshake\n"] {
+        let mut reader = MemSource::new(Vec::from_slice(rt.alloc(), script.as_bytes())?, 5, None);
+        let mut writer = MemTarget::new(Vec::new(rt.alloc()), 5, None);
+        let found = run_pack(rt.alloc(), &mut reader, &mut writer, &default_own());
+        assert_eq!(rt; found, Ok(refused(1, ScriptReason::Syntax)));
+        assert_eq!(rt; writer.bytes(), b"".as_slice());
+    }
+    let own = Own {
+        info_hash: Some([0; 20]),
+        ..default_own()
+    };
+    let mut reader = MemSource::new(Vec::from_slice(rt.alloc(), LINE.as_bytes())?, 5, None);
+    let mut writer = MemTarget::new(Vec::new(rt.alloc()), 5, None);
+    let found = run_pack(rt.alloc(), &mut reader, &mut writer, &own);
+    assert_eq!(rt; found, Ok(refused(1, ScriptReason::Reason(Reason::WrongInfoHash))));
+    assert_eq!(rt; writer.bytes(), b"".as_slice());
+    Ok(())
+}
+
+/// A line that is longer than twice the limit and 256 bytes is refused before it ends.
+#[test]
+fn long_lines(rt: HostRuntime) -> Result<(), Fail> {
+    let own = Own {
+        limit: 1,
+        ..default_own()
+    };
+    let mut script = joined(rt.alloc(), LINE.as_bytes(), b"")?;
+    for _ in 0..259 {
+        script.push(b'x')?;
+    }
+    let mut reader = MemSource::new(script, 64, None);
+    let mut writer = MemTarget::new(Vec::new(rt.alloc()), 64, None);
+    let found = run_pack(rt.alloc(), &mut reader, &mut writer, &own);
+    assert_eq!(rt; found, Ok(refused(2, ScriptReason::Syntax)));
+    assert_eq!(rt; writer.bytes(), HAND.as_slice());
+    Ok(())
+}
+
+#[test]
+fn devices_of_a_pack_fail(rt: HostRuntime) -> Result<(), Fail> {
+    let script = joined(rt.alloc(), LINE.as_bytes(), b"choke\n")?;
+    let mut reader = MemSource::new(script, 50, Some(3));
+    let mut writer = MemTarget::new(Vec::new(rt.alloc()), 50, None);
+    let found = run_pack(rt.alloc(), &mut reader, &mut writer, &default_own());
+    assert_eq!(rt; found, Err(ToolFault::Read));
+    assert_eq!(rt; writer.bytes(), b"".as_slice());
+
+    let script = joined(rt.alloc(), LINE.as_bytes(), b"choke\n")?;
+    let mut reader = MemSource::new(script, 200, None);
+    let mut writer = MemTarget::new(Vec::new(rt.alloc()), 50, Some(2));
+    let found = run_pack(rt.alloc(), &mut reader, &mut writer, &default_own());
+    assert_eq!(rt; found, Err(ToolFault::Write));
+    assert_eq!(rt; writer.bytes(), HAND.get(..50).unwrap_or(b""));
+    Ok(())
+}
+
+/// What is unpacked is packed again.
+#[test]
+fn there_and_back(rt: HostRuntime) -> Result<(), Fail> {
+    let own = default_own();
+    for rest in [
+        b"".as_slice(),
+        b"\x00\x00\x00\x00\x00\x00\x00\x01\x0f\x00\x00\x00\x03\x05\xff\xc0",
+        b"\x00\x00\x00\x0c\x07\x00\x00\x00\x01\x00\x00\x40\x00\xab\x0c\x7f\x00\x00\x00\x01\x63",
+        b"\x00\x00\x00\x2d\x14\x00d1:md11:ut_metadatai3ee13:metadata_sizei3ee",
+        b"\x00\x00\x00\x2e\x14\x03d8:msg_typei1e5:piecei0e10:total_sizei3eeabc",
+        b"\x00\x00\x00\x03\x09\x1a\xe1\x00\x00\x00\x0d\x06\x00\x00\x00\x01\x00\x00\x40\x00\x00\x00\x40\x00",
+    ] {
+        let stream = joined(rt.alloc(), HAND, rest)?;
+        let mut reader = MemSource::new(joined(rt.alloc(), HAND, rest)?, 31, None);
+        let mut script = MemTarget::new(Vec::new(rt.alloc()), 31, None);
+        assert!(rt; run_unpack(rt.alloc(), &mut reader, &mut script, &own).is_ok());
+        let mut reader = MemSource::new(Vec::from_slice(rt.alloc(), script.bytes())?, 31, None);
+        let mut writer = MemTarget::new(Vec::new(rt.alloc()), 31, None);
+        let found = run_pack(rt.alloc(), &mut reader, &mut writer, &own);
+        assert!(rt; matches!(found, Ok(PackEnd::Accepted { .. })));
+        assert_eq!(rt; writer.bytes(), stream.as_slice());
+    }
+    Ok(())
+}
