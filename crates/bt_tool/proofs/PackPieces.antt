@@ -1,5 +1,5 @@
 -- A script that is read piece by piece.
-use Rattle.std.proofs.Common.{◌≡◌, ℕ, suc, ◌+◌, ◌-◌, ◌*◌, ◌<◌, ◌≤◌, Bool, true, false, List, [], ◌∷◌, ◌++◌, length, Some, None, refl, sym, ap, subst, ◌∙◌, arith}
+use Rattle.std.proofs.Common.{◌≡◌, ℕ, ◌+◌, ◌-◌, ◌*◌, ◌<◌, false, List, [], ◌∷◌, ◌++◌, length, Some, None, refl, sym, ap, subst, ◌∙◌, arith}
 use Rattle.std.proofs.lemmas.List.{append-nil, append_assoc, nil_from_length}
 use Rattle.bt_feed.specs.Feeds.{FeedState}
 use Rattle.bt_feed.specs.Stages.{start_of, number_of}
@@ -8,7 +8,7 @@ use Rattle.bt_wire.specs.Streams.{Outcome}
 use Rattle.bt_tool.specs.declared.ended.ScriptReason.{ScriptReason}
 use Rattle.bt_tool.specs.declared.ended.ScriptReason.TheVariants.{Syntax}
 use Rattle.bt_tool.specs.ScriptLaws.{has_feed}
-use Rattle.bt_tool.specs.Packs.{ended_lines, AreWhole, IsSplit, with_last, AreLines, AreTaken, IsNotTaken, IsStop, IsPacked, empty, stopped, accepted, is_none}
+use Rattle.bt_tool.specs.Packs.{ended_lines, with_last, AreLines, AreTaken, IsNotTaken, IsStop, IsPacked, empty, stopped, accepted, is_none}
 use Rattle.bt_tool.specs.declared.ended.PackEnd.{PackEnd}
 use Rattle.bt_tool.specs.declared.ended.PackEnd.TheVariants.{Accepted, Refused}
 use Rattle.bt_tool.proofs.Printing.{verdict_length}
@@ -73,11 +73,16 @@ stops_at own text front behind line lines b held f number reason h none e count 
     line_parts text held front line behind lines h.split.parts e ∙ ap (λ (t : List ℕ). ended_lines lines ++ t) tail ∙ sym (append_assoc (ended_lines lines) (ended_lines (line ∷ s.0)) s.1)
     ∙ ap (λ (t : List ℕ). t ++ s.1) (sym (ended_both lines (line ∷ s.0))) in (
       with_last (lines ++ line ∷ s.0) s.1,
-      (lines ++ line ∷ s.0, s.1, record {
-        parts = parts;
-        whole = whole_both lines (line ∷ s.0) h.split.whole (ap has_feed e ∙ none_in_both held front h.split.last none, s.2.whole);
-        last = s.2.last;
-      }, refl),
+      (
+        lines ++ line ∷ s.0,
+        s.1,
+        record {
+          parts = parts;
+          whole = whole_both lines (line ∷ s.0) h.split.whole (ap has_feed e ∙ none_in_both held front h.split.last none, s.2.whole);
+          last = s.2.last;
+        },
+        refl,
+      ),
       record {
         before = lines;
         line = line;
@@ -97,17 +102,20 @@ long_last lines (c ∷ cs) lt = refl
 -- the line isn't ended yet
 pub stops_in : (own : Own) (text rest line : List ℕ) (lines : List (List ℕ)) (b held : List ℕ) (f : FeedState) (number : ℕ) (reason : ScriptReason) → IsReadSo own text lines b held f → has_feed rest ≡ false → line ≡ held ++ rest
     → 0 < length line → number ≡ length lines → IsRefused own lines b line reason → (all : List (List ℕ)) × AreLines (text ++ rest) all × IsStop own all b (number + 1) reason
-stops_in own text rest line lines b held f number reason h none e some count r =
-    (lines ++ line ∷ [], (lines, line, (read_rest own text rest lines b held line f h none e).split, long_last lines line some), record {
-      before = lines;
-      line = line;
-      behind = [];
-      parts = refl;
-      verdict = r.0;
-      taken = r.1;
-      count = omega (arith, count);
-      not_taken = r.2;
-    })
+stops_in own text rest line lines b held f number reason h none e some count r = (
+  lines ++ line ∷ [],
+  (lines, line, (read_rest own text rest lines b held line f h none e).split, long_last lines line some),
+  record {
+    before = lines;
+    line = line;
+    behind = [];
+    parts = refl;
+    verdict = r.0;
+    taken = r.1;
+    count = omega (arith, count);
+    not_taken = r.2;
+  },
+)
 
 -- ---- pieces
 

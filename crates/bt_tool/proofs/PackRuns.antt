@@ -1,21 +1,20 @@
 -- A script that is read and packed turn by turn.
-use Rattle.std.proofs.Common.{◌≡◌, ℕ, ◌+◌, ◌^◌, ◌≤◌, List, [], ◌∷◌, ◌++◌, length, Option, Some, None, Result, Ok, Err, refl, sym, ap, subst, ◌∙◌, arith}
+use Rattle.std.proofs.Common.{◌≡◌, ℕ, ◌≤◌, List, [], ◌∷◌, ◌++◌, Option, None, Result, Ok, Err, refl, sym, ap, subst, ◌∙◌, arith}
 use Rattle.std.proofs.lemmas.List.{append-nil, append_assoc}
 use Rattle.std.proofs.KnownBytes.{Appends-nil, Appends-trans, Consumes-nil, Consumes-trans}
 use Rattle.std.specs.Io.KnownBytes.{Consumes, Appends}
 use Rattle.bt_feed.specs.declared.stage.Stage.TheVariants as stage
 use Rattle.bt_feed.specs.Feeds.{FeedState}
-use Rattle.bt_feed.specs.Stages.{number_of, stopped as left_at}
+use Rattle.bt_feed.specs.Stages.{stopped as left_at}
 use Rattle.bt_feed.proofs.Coming.{open_comes}
 use Rattle.bt_feed.proofs.Reading.{hand_open}
 use Rattle.bt_wire.specs.declared.context.Own.{Own}
 use Rattle.bt_wire.specs.Streams.{Outcome}
 use Rattle.bt_tool.specs.declared.ended.PackEnd.{PackEnd}
-use Rattle.bt_tool.specs.declared.ended.PackEnd.TheVariants.{Accepted, Refused}
 use Rattle.bt_tool.specs.declared.ended.ScriptReason.{ScriptReason}
 use Rattle.bt_tool.specs.declared.ended.ToolFault.{ToolFault}
-use Rattle.bt_tool.specs.Packs.{ended_lines, with_last, AreLines, AreTaken, IsPacked, empty, stopped, accepted, IsFrontPacked, IsPackRun, IsWrittenOut}
-use Rattle.bt_tool.specs.PackSteps.{IsReadSo, IsPieceRead, IsScriptEnd}
+use Rattle.bt_tool.specs.Packs.{ended_lines, with_last, AreLines, AreTaken, IsPacked, empty, stopped, accepted, IsPackRun, IsWrittenOut}
+use Rattle.bt_tool.specs.PackSteps.{IsReadSo, IsPieceRead}
 use Rattle.bt_tool.specs.Printed.{AppendsFront}
 use Rattle.bt_tool.proofs.Packing.{taken_so_far}
 use Rattle.bt_tool.proofs.PackText.{ended_both, whole_both, split_of}
@@ -98,7 +97,7 @@ pub more_fails : (own : Own) (left left' left'' held held' held'' : Option (List
 more_fails own left left' left'' held held' held'' line new piece out out' f g e r read none p front =
     let P : List ℕ → Type 0 = λ t. Consumes left left'' t in
     fails own left left'' held held'' (r.text ++ piece) [] (r.lines ++ p.0) (r.bytes ++ p.1) new g e (subst P (sym (append-nil (r.text ++ piece))) (Consumes-trans left left' left'' r.text piece r.consumed read)) p.3
-      (front_behind held held' held'' r.bytes p.1 r.written (subst (AppendsFront held' held'') (out_is out out' p.1 none p.2) front))
+    (front_behind held held' held'' r.bytes p.1 r.written (subst (AppendsFront held' held'') (out_is out out' p.1 none p.2) front))
 
 -- ---- the end
 

@@ -1,5 +1,5 @@
 -- A text and its lines.
-use Rattle.std.proofs.Common.{◌≡◌, ℕ, suc, ◌+◌, ◌-◌, ◌<◌, ◌≤◌, ◌==◌, ◌⊎◌, Bool, true, false, cond, List, [], ◌∷◌, ◌++◌, length, take, drop, Option, Some, None, refl, sym, ap, subst, ◌∙◌, arith, inl, inr}
+use Rattle.std.proofs.Common.{◌≡◌, ℕ, suc, ◌+◌, ◌==◌, Bool, true, false, cond, List, [], ◌∷◌, ◌++◌, length, take, drop, Some, None, refl, sym, ap, subst, ◌∙◌, arith, inl, inr}
 use Rattle.std.specs.Prelude.{nat_lt, position, unwrap_or, not, ◌||◌}
 use Rattle.std.specs.List.{position_or_len}
 use Rattle.std.proofs.lemmas.Bool.{cases_Bool, ltb-false, eqb-true}
@@ -74,9 +74,10 @@ cut_none t back e none =
 
 pub cut_some : (t front back rest : List ℕ) (b : ℕ) → front ≡ front_of t → back ≡ back_of t → back ≡ b ∷ rest → IsCut t (Some (front, rest))
 cut_some t front back rest b f e some =
-    let feed = back_by t b rest (sym e ∙ some) in
-    (sym (parts t) ∙ ap (λ (l : List ℕ). l ++ back_of t) (sym f) ∙ ap (λ (l : List ℕ). front ++ l) (sym e ∙ some ∙ ap (λ (c : ℕ). c ∷ rest) feed),
-      subst (λ (l : List ℕ). has_feed l ≡ false) (sym f) (front_has_none t))
+    let feed = back_by t b rest (sym e ∙ some) in (
+      sym (parts t) ∙ ap (λ (l : List ℕ). l ++ back_of t) (sym f) ∙ ap (λ (l : List ℕ). front ++ l) (sym e ∙ some ∙ ap (λ (c : ℕ). c ∷ rest) feed),
+      subst (λ (l : List ℕ). has_feed l ≡ false) (sym f) (front_has_none t),
+    )
 
 -- ---- pieces of a text
 

@@ -215,7 +215,14 @@ pub fn run_pack<R: Source, W: Target>(
                 }
             }
             Ok(count) => {
-                match take_piece(&mut feed, &mut line, &buffer[..count], own.limit, &mut bytes, &mut out) {
+                match take_piece(
+                    &mut feed,
+                    &mut line,
+                    &buffer[..count],
+                    own.limit,
+                    &mut bytes,
+                    &mut out,
+                ) {
                     Ok(None) => match flush(writer, out.as_slice(), ()) {
                         Ok(()) => out.clear(),
                         Err(fault) => return Err(fault),

@@ -33,21 +33,45 @@ fn rows() -> [Row; 13] {
     let accepted = |messages: u64, bytes: u64| PackEnd::Accepted { messages, bytes };
     [
         ("", b"", accepted(0, 68)),
-        ("have 9\n", b"\x00\x00\x00\x05\x04\x00\x00\x00\x09", accepted(1, 77)),
-        ("keep-alive\nhave 9", b"\x00\x00\x00\x00\x00\x00\x00\x05\x04\x00\x00\x00\x09", accepted(2, 81)),
+        (
+            "have 9\n",
+            b"\x00\x00\x00\x05\x04\x00\x00\x00\x09",
+            accepted(1, 77),
+        ),
+        (
+            "keep-alive\nhave 9",
+            b"\x00\x00\x00\x00\x00\x00\x00\x05\x04\x00\x00\x00\x09",
+            accepted(2, 81),
+        ),
         (
             "extended 3 64383a6d73675f74797065693065353a706965636569306565\n",
             b"\x00\x00\x00\x1b\x14\x03d8:msg_typei0e5:piecei0ee",
             accepted(1, 99),
         ),
-        ("piece 1 2 ABcd\n", b"\x00\x00\x00\x0b\x07\x00\x00\x00\x01\x00\x00\x00\x02\xab\xcd", accepted(1, 83)),
+        (
+            "piece 1 2 ABcd\n",
+            b"\x00\x00\x00\x0b\x07\x00\x00\x00\x01\x00\x00\x00\x02\xab\xcd",
+            accepted(1, 83),
+        ),
         ("have 09\n", b"", syntax),
         ("unknown 9 -\n", b"", syntax),
         ("have  9\n", b"", syntax),
         ("\n", b"", syntax),
-        ("choke\n\nchoke\n", b"\x00\x00\x00\x01\x00", refused(3, ScriptReason::Syntax)),
-        ("have 10\n", b"", refused(2, ScriptReason::Reason(Reason::BadIndex))),
-        ("extended 0 -\n", b"", refused(2, ScriptReason::Reason(Reason::BadBencode))),
+        (
+            "choke\n\nchoke\n",
+            b"\x00\x00\x00\x01\x00",
+            refused(3, ScriptReason::Syntax),
+        ),
+        (
+            "have 10\n",
+            b"",
+            refused(2, ScriptReason::Reason(Reason::BadIndex)),
+        ),
+        (
+            "extended 0 -\n",
+            b"",
+            refused(2, ScriptReason::Reason(Reason::BadBencode)),
+        ),
         (LINE, b"", syntax),
     ]
 }
@@ -88,7 +112,10 @@ fn first_lines_that_are_none(rt: HostRuntime) -> Result<(), Fail> {
     let mut reader = MemSource::new(Vec::from_slice(rt.alloc(), LINE.as_bytes())?, 5, None);
     let mut writer = MemTarget::new(Vec::new(rt.alloc()), 5, None);
     let found = run_pack(rt.alloc(), &mut reader, &mut writer, &own);
-    assert_eq!(rt; found, Ok(refused(1, ScriptReason::Reason(Reason::WrongInfoHash))));
+    assert_eq!(rt;
+        found,
+        Ok(refused(1, ScriptReason::Reason(Reason::WrongInfoHash)))
+    );
     assert_eq!(rt; writer.bytes(), b"".as_slice());
     Ok(())
 }

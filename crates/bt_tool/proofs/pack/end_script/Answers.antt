@@ -1,4 +1,4 @@
-use Rattle.std.proofs.Common.{◌≡◌, ◌∙◌, ◌<◌, List, ℕ, Option, Some, None, sym, subst, arith}
+use Rattle.std.proofs.Common.{◌∙◌, Option, subst, arith}
 use Rattle.bt_tool.specs.PackSteps.{IsLineEnd}
 use Rattle.bt_tool.specs.declared.ended.ScriptReason.{ScriptReason}
 use Rattle.bt_tool.proofs.PackPieces.{end_empty, end_line, end_stop}

@@ -1,4 +1,4 @@
-use Rattle.std.proofs.Common.{◌≡◌, ◌∙◌, ◌++◌, ◌+◌, ℕ, List, [], Option, Some, None, Result, Ok, Err, take, refl, sym, ap, subst, arith}
+use Rattle.std.proofs.Common.{◌≡◌, ◌∙◌, ◌++◌, ◌+◌, ℕ, List, [], Option, take, refl, sym, ap, subst, arith}
 use Rattle.std.proofs.KnownBytes.{Consumes-nil, Consumes-kept, Consumes-trans}
 use Rattle.std.proofs.lemmas.Bool.{ne_eqb}
 use Rattle.std.specs.Io.KnownBytes.{Consumes, Appends}
@@ -35,7 +35,7 @@ returns-in-Ok-end_script-clause-packed g c =
     let S : List ℕ → Type 0 = λ l. IsWrittenOut c.in-Ok-end_script.end l (g.W.Target.held c.loop-turn.writer) (g.W.Target.held c.flush.new.writer) c.flush.result in
     let end = c.in-Ok-end_script.ensures c.args.own.now r.text r.lines r.bytes refl (subst Q (sym c.as_slice.ensures.value) r.read) in
     packed_run c.args.own.now _ _ _ _ _ r.text r.bytes end.0 c.loop-turn.out.items c.end_script.new.out.items end.2.0 c.in-Ok-end_script.end c.flush.result c.requires.1 (no_bytes _ _ _ r.text r.consumed (subst P none c.in-Ok-eq0.ensures.bytes.0)) end.2.1 end.2.2
-      r.written c.loop-turn.invariant.empty end.1 (subst S c.as_slice-in-Ok-end_script.ensures.value c.flush.ensures.written)
+    r.written c.loop-turn.invariant.empty end.1 (subst S c.as_slice-in-Ok-end_script.ensures.value c.flush.ensures.written)
 
 pub returns-in-Err-end_script-clause-packed : goal.returns-in-Err-end_script-clause-packed
 returns-in-Err-end_script-clause-packed g c =
@@ -51,7 +51,7 @@ returns-in-Err-flush-clause-packed g c =
     let p = subst P c.in-Ok-None.field-0-is (c.in-Ok-None.ensures c.args.own.now r.text r.lines r.bytes refl r.read) in
     let S : List ℕ → Type 0 = λ l. AppendsFront (g.W.Target.held c.loop-turn.writer) (g.W.Target.held c.flush-in-Ok-None.new.writer) l in
     more_fails c.args.own.now _ _ _ _ _ _ c.loop-turn.line.items c.take_piece.new.line.items piece c.loop-turn.out.items c.take_piece.new.out.items c.loop-turn.feed c.take_piece.new.feed c.in-Err-flush.fault r c.in-Ok-read.ensures.bytes.0
-      c.loop-turn.invariant.empty p (subst S c.as_slice-in-Ok-None.ensures.value c.in-Err-flush.ensures.written)
+    c.loop-turn.invariant.empty p (subst S c.as_slice-in-Ok-None.ensures.value c.in-Err-flush.ensures.written)
 
 pub returns-in-Ok-Some-clause-packed : goal.returns-in-Ok-Some-clause-packed
 returns-in-Ok-Some-clause-packed g c =
@@ -63,7 +63,7 @@ returns-in-Ok-Some-clause-packed g c =
     let S : List ℕ → Type 0 = λ l. IsWrittenOut e l (g.W.Target.held c.loop-turn.writer) (g.W.Target.held c.flush-in-Ok-Some.new.writer) c.flush-in-Ok-Some.result in
     let same : e ≡ Refused (number_of c.take_piece.new.feed.stage + 1) c.in-Ok-Some.reason = ap (λ (n : ℕ). Refused (n + 1) c.in-Ok-Some.reason) c.number-line.ensures.value in
     packed_run c.args.own.now _ _ _ _ _ (r.text ++ piece) r.bytes p.0 c.loop-turn.out.items c.take_piece.new.out.items p.2.0 e c.flush-in-Ok-Some.result c.requires.1 (Consumes-trans _ _ _ r.text piece r.consumed c.in-Ok-read.ensures.bytes.0) p.2.1
-      (stopped (number_of c.take_piece.new.feed.stage + 1) c.in-Ok-Some.reason p.2.2 same) r.written c.loop-turn.invariant.empty p.1 (subst S c.as_slice-in-Ok-Some.ensures.value c.flush-in-Ok-Some.ensures.written)
+    (stopped (number_of c.take_piece.new.feed.stage + 1) c.in-Ok-Some.reason p.2.2 same) r.written c.loop-turn.invariant.empty p.1 (subst S c.as_slice-in-Ok-Some.ensures.value c.flush-in-Ok-Some.ensures.written)
 
 pub returns-in-Err-take_piece-clause-packed : goal.returns-in-Err-take_piece-clause-packed
 returns-in-Err-take_piece-clause-packed g c =

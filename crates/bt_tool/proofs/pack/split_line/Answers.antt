@@ -1,4 +1,4 @@
-use Rattle.std.proofs.Common.{◌≡◌, ◌∙◌, List, ℕ, sym, ap}
+use Rattle.std.proofs.Common.{◌≡◌}
 use Rattle.std.proofs.lemmas.List.{nil_from_length}
 use Rattle.bt_tool.specs.PackSteps.{front_of, back_of}
 use Rattle.bt_tool.proofs.PackText.{take-front, drop-back, front_end, cut_none, cut_some}
