@@ -1,6 +1,7 @@
 //! Streams that were recorded between clients, as `examples` has them: their lines are the same under both rule sets.
 use crate::ended::Ended;
 use crate::show::run_show;
+use crate::tests_pack::comes_back;
 use bt_ext::{ExtId, Registered, Rules};
 use bt_feed::{MemSource, MemTarget};
 use bt_wire::{Own, Reserved};
@@ -35,6 +36,7 @@ fn is_shown(
         let bytes = stream.len() as u64;
         assert_eq!(rt; ended, Ok(Ended::Accepted { messages, bytes }), "{rules:?}");
         assert_eq!(rt; writer.bytes(), text.as_bytes(), "{rules:?}");
+        comes_back(rt, alloc, &own, stream)?;
     }
     Ok(())
 }

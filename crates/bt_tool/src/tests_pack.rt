@@ -1,11 +1,12 @@
 //! Scripts that are packed, and streams that are unpacked and packed again.
 use crate::commands::default_own;
-use crate::ended::{PackEnd, ScriptReason, ToolFault};
+use crate::ended::{Ended, PackEnd, ScriptReason, ToolFault};
 use crate::pack::run_pack;
 use crate::show::run_unpack;
 use bt_feed::{MemSource, MemTarget};
 use bt_wire::{Own, Reason};
 use std::alloc::{AllocError, Global};
+use std::process::Abort;
 use std::test::Fail;
 
 /// The handshake of reserved bytes 0000000000100005, the SHA-1 of `abc` and the peer id `-XX0001-000000000000`.
@@ -157,27 +158,26 @@ fn devices_of_a_pack_fail(rt: HostRuntime) -> Result<(), Fail> {
     Ok(())
 }
 
-/// What is unpacked is packed again.
-#[test]
-fn there_and_back(rt: HostRuntime) -> Result<(), Fail> {
-    let own = default_own();
-    for rest in [
-        b"".as_slice(),
-        b"\x00\x00\x00\x00\x00\x00\x00\x01\x0f\x00\x00\x00\x03\x05\xff\xc0",
-        b"\x00\x00\x00\x0c\x07\x00\x00\x00\x01\x00\x00\x40\x00\xab\x0c\x7f\x00\x00\x00\x01\x63",
-        b"\x00\x00\x00\x2d\x14\x00d1:md11:ut_metadatai3ee13:metadata_sizei3ee",
-        b"\x00\x00\x00\x2e\x14\x03d8:msg_typei1e5:piecei0e10:total_sizei3eeabc",
-        b"\x00\x00\x00\x03\x09\x1a\xe1\x00\x00\x00\x0d\x06\x00\x00\x00\x01\x00\x00\x40\x00\x00\x00\x40\x00",
-    ] {
-        let stream = joined(rt.alloc(), HAND, rest)?;
-        let mut reader = MemSource::new(joined(rt.alloc(), HAND, rest)?, 31, None);
-        let mut script = MemTarget::new(Vec::new(rt.alloc()), 31, None);
-        assert!(rt; run_unpack(rt.alloc(), &mut reader, &mut script, &own).is_ok());
-        let mut reader = MemSource::new(Vec::from_slice(rt.alloc(), script.bytes())?, 31, None);
-        let mut writer = MemTarget::new(Vec::new(rt.alloc()), 31, None);
-        let found = run_pack(rt.alloc(), &mut reader, &mut writer, &own);
-        assert!(rt; matches!(found, Ok(PackEnd::Accepted { .. })));
-        assert_eq!(rt; writer.bytes(), stream.as_slice());
+/// What is unpacked of a stream is packed again: all of it where it is accepted, and else a front.
+pub fn comes_back(rt: &impl Abort, alloc: Global, own: &Own, stream: &[u8]) -> Result<(), Fail> {
+    let limit = own.limit;
+    assert!(rt; 1 <= limit);
+    assert!(rt; limit <= 1_048_576);
+    let mut reader = MemSource::new(Vec::from_slice(alloc, stream)?, 31, None);
+    let mut script = MemTarget::new(Vec::new(alloc), 31, None);
+    let ended = run_unpack(alloc, &mut reader, &mut script, own);
+    let mut reader = MemSource::new(Vec::from_slice(alloc, script.bytes())?, 31, None);
+    let mut writer = MemTarget::new(Vec::new(alloc), 31, None);
+    let found = run_pack(alloc, &mut reader, &mut writer, own);
+    match ended {
+        Ok(Ended::Accepted { messages, bytes }) => {
+            assert_eq!(rt; found, Ok(PackEnd::Accepted { messages, bytes }));
+            assert_eq!(rt; writer.bytes(), stream);
+        }
+        Ok(Ended::Refused(_)) => {
+            assert_eq!(rt; Some(writer.bytes()), stream.get(..writer.bytes().len()));
+        }
+        Err(fault) => assert!(rt; false, "{fault}"),
     }
     Ok(())
 }

@@ -1,6 +1,7 @@
 //! The lines of each kind of message and of each reason, with offsets worked out by hand.
 use crate::show::run_show;
 use crate::tests::{HAND, LINE, joined};
+use crate::tests_pack::comes_back;
 use bt_ext::{ExtId, Registered, Rules};
 use bt_feed::{MemSource, MemTarget};
 use bt_wire::{Own, Reserved};
@@ -33,7 +34,7 @@ fn has_lines(
     let ended = run_show(alloc, &mut reader, &mut writer, &own);
     assert!(rt; ended.is_ok(), "{lines}");
     assert_eq!(rt; writer.bytes(), text.as_slice(), "{lines}");
-    Ok(())
+    comes_back(rt, alloc, &own, joined(alloc, HAND, messages)?.as_slice())
 }
 
 const FREE: Receiver = (Rules::Free, 0x10_0005, None);
