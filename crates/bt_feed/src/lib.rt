@@ -41,4 +41,4 @@ pub use source::Source;
 pub use stage::Stage;
 pub use target::Target;
 pub use transcript::{Transcript, read_all};
-pub use view::{Finish, TakeError, View, to_item};
+pub use view::{Finish, TakeError, View, refusal_in, to_item};

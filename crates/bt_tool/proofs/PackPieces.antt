@@ -14,7 +14,8 @@ use Rattle.bt_tool.specs.declared.ended.PackEnd.TheVariants.{Accepted, Refused}
 use Rattle.bt_tool.proofs.Printing.{verdict_length}
 use Rattle.bt_tool.specs.PackSteps.{IsPackedTo, IsLineEnd, IsReadSo, IsPieceRead, IsScriptEnd}
 use Rattle.bt_tool.proofs.Packing.{taken_so_far, some_lines}
-use Rattle.bt_tool.proofs.PackText.{none_in_both, ended_more, ended_both, whole_both, split_of}
+use Rattle.bt_tool.proofs.ScriptBounds.{has_feed-append}
+use Rattle.bt_tool.proofs.PackText.{ended_more, ended_both, whole_both, split_of}
 
 -- ---- a front of the next line
 
@@ -23,7 +24,7 @@ read_rest own text rest lines b held new f h none e = record {
   split = record {
     parts = ap (λ (t : List ℕ). t ++ rest) h.split.parts ∙ append_assoc (ended_lines lines) held rest ∙ ap (λ (t : List ℕ). ended_lines lines ++ t) (sym e);
     whole = h.split.whole;
-    last = ap has_feed e ∙ none_in_both held rest h.split.last none;
+    last = ap has_feed e ∙ has_feed-append held rest h.split.last none;
   };
   packed = h.packed;
 }
@@ -41,7 +42,7 @@ pub read_line : (own : Own) (text front line x : List ℕ) (lines : List (List �
 read_line own text front line x lines b held f g h none e packed = record {
   split = record {
     parts = line_parts text held front line [] lines h.split.parts e ∙ sym (ended_more lines line) ∙ sym (append-nil (ended_lines (lines ++ line ∷ [])));
-    whole = whole_both lines (line ∷ []) h.split.whole (ap has_feed e ∙ none_in_both held front h.split.last none, tt);
+    whole = whole_both lines (line ∷ []) h.split.whole (ap has_feed e ∙ has_feed-append held front h.split.last none, tt);
     last = refl;
   };
   packed = packed;
@@ -78,7 +79,7 @@ stops_at own text front behind line lines b held f number reason h none e count 
         s.1,
         record {
           parts = parts;
-          whole = whole_both lines (line ∷ s.0) h.split.whole (ap has_feed e ∙ none_in_both held front h.split.last none, s.2.whole);
+          whole = whole_both lines (line ∷ s.0) h.split.whole (ap has_feed e ∙ has_feed-append held front h.split.last none, s.2.whole);
           last = s.2.last;
         },
         refl,

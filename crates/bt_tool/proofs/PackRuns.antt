@@ -74,9 +74,6 @@ run_fails own left left' left'' held held' line more f e r read =
 
 -- ---- a turn
 
-abbrev pub PieceOf : Own → List ℕ → List (List ℕ) → List ℕ → List ℕ → List ℕ → FeedState → List ℕ → List ℕ → Option ScriptReason → Type 0
-PieceOf own text lines b piece held g out out' answer = IsPieceRead own (text ++ piece) lines b held g out out' answer
-
 out_is : (out out' x : List ℕ) → out ≡ [] → out' ≡ out ++ x → out' ≡ x
 out_is out out' x none e = e ∙ ap (λ (l : List ℕ). l ++ x) none
 

@@ -4,6 +4,7 @@ use Rattle.std.specs.Prelude.{nat_lt, position, unwrap_or, not, ◌||◌}
 use Rattle.std.specs.List.{position_or_len}
 use Rattle.std.proofs.lemmas.Bool.{cases_Bool, ltb-false, eqb-true}
 use Rattle.std.proofs.lemmas.List.{append-nil, append_assoc}
+use Rattle.std.proofs.lemmas.Grind.{flat_map-append}
 use Rattle.std.proofs.lemmas.List.Sums.{prefix_len-le-length}
 use Rattle.bt_tool.specs.ScriptLaws.{has_feed}
 use Rattle.bt_tool.specs.PackSteps.{front_of, back_of, IsCut}
@@ -81,23 +82,11 @@ cut_some t front back rest b f e some =
 
 -- ---- pieces of a text
 
-or_parts : (a b : Bool) → (a || b) ≡ false → (a ≡ false) × (b ≡ false)
-or_parts true b e = absurd cc
-or_parts false b e = (refl, e)
-
-pub none_in_both : (x y : List ℕ) → has_feed x ≡ false → has_feed y ≡ false → has_feed (x ++ y) ≡ false
-none_in_both [] y e f = f
-none_in_both (c ∷ x) y e f =
-    let parts = or_parts (c == 10) (has_feed x) e in
-    ap (λ (b : Bool). b || has_feed (x ++ y)) parts.0 ∙ none_in_both x y parts.1 f
+pub ended_both : (lines more : List (List ℕ)) → ended_lines (lines ++ more) ≡ ended_lines lines ++ ended_lines more
+ended_both lines more = flat_map-append (λ line. line ++ 10 ∷ []) lines more
 
 pub ended_more : (lines : List (List ℕ)) (line : List ℕ) → ended_lines (lines ++ line ∷ []) ≡ ended_lines lines ++ (line ++ 10 ∷ [])
-ended_more [] line = append-nil (line ++ 10 ∷ [])
-ended_more (l ∷ lines) line = ap (λ (t : List ℕ). (l ++ 10 ∷ []) ++ t) (ended_more lines line) ∙ sym (append_assoc (l ++ 10 ∷ []) (ended_lines lines) (line ++ 10 ∷ []))
-
-pub ended_both : (lines more : List (List ℕ)) → ended_lines (lines ++ more) ≡ ended_lines lines ++ ended_lines more
-ended_both [] more = refl
-ended_both (l ∷ lines) more = ap (λ (t : List ℕ). (l ++ 10 ∷ []) ++ t) (ended_both lines more) ∙ sym (append_assoc (l ++ 10 ∷ []) (ended_lines lines) (ended_lines more))
+ended_more lines line = ended_both lines (line ∷ []) ∙ ap (λ (t : List ℕ). ended_lines lines ++ t) (append-nil (line ++ 10 ∷ []))
 
 pub whole_both : (lines more : List (List ℕ)) → AreWhole lines → AreWhole more → AreWhole (lines ++ more)
 whole_both [] more h k = k

@@ -2,6 +2,7 @@
 use Rattle.std.proofs.Common.{◌≡◌, ℕ, ◌+◌, ◌-◌, ◌^◌, ◌<◌, ◌≤◌, List, [], ◌∷◌, ◌++◌, length, Option, Some, None, Result, Ok, Err, refl, sym, ap, subst, ◌∙◌, arith, inl, inr}
 use Rattle.std.proofs.lemmas.Bool.{cases_lt}
 use Rattle.std.proofs.lemmas.List.{append-nil, append_assoc, length-append}
+use Rattle.std.proofs.lemmas.Grind.{flat_map-append}
 use Rattle.std.proofs.KnownBytes.{Appends-nil, Appends-trans, Consumes-nil, Consumes-trans}
 use Rattle.std.specs.Io.KnownBytes.{Consumes, Appends}
 use Rattle.bt_wire.specs.declared.context.Own.{Own}
@@ -156,8 +157,7 @@ is_refused v r e = ap (λ (o : Option Refusal). ended_by o v.number (v.start + l
 -- ---- the turns
 
 texts_both : (form : Form) (own : Own) (xs ys : List (ℕ × Item)) → texts form own (xs ++ ys) ≡ texts form own xs ++ texts form own ys
-texts_both form own [] ys = refl
-texts_both form own (x ∷ xs) ys = ap (λ (l : List ℕ). text_of form own x ++ l) (texts_both form own xs ys) ∙ sym (append_assoc (text_of form own x) (texts form own xs) (texts form own ys))
+texts_both form own xs ys = flat_map-append (text_of form own) xs ys
 
 -- a new feed
 pub starts : (own : Own) (f : FeedState) → own.limit ≤ 1048576 → f ≡ record { stage = stage.Handshake own; held = []; refused = None } → IsReadTo own [] [] f

@@ -27,7 +27,7 @@ use Rattle.bt_tool.proofs.ScriptWords.{AreDigits, own}
 either : (x y : Bool) → x ≡ false → y ≡ false → (x || y) ≡ false
 either x y e f = rw (e, f) refl
 
-has_feed-append : (a b : List ℕ) → has_feed a ≡ false → has_feed b ≡ false → has_feed (a ++ b) ≡ false
+pub has_feed-append : (a b : List ℕ) → has_feed a ≡ false → has_feed b ≡ false → has_feed (a ++ b) ≡ false
 has_feed-append [] b h k = k
 has_feed-append (c ∷ cs) b h k = grind (arith, has_feed-append cs b)
 

@@ -8,20 +8,10 @@ ghost use Rattle.bt_tool.specs.PackSteps.{IsPackedTo, IsLineEnd, IsCut, IsReadSo
 
 use crate::ended::{PackEnd, ScriptReason, ToolFault};
 use crate::script::reading::read_line;
-use bt_feed::{Feed, Source, TakeError, Target, write_front};
-use bt_wire::{Own, Refusal};
+use crate::show::MAX_READS;
+use bt_feed::{Feed, Source, Target, refusal_in, write_front};
+use bt_wire::Own;
 use std::alloc::{AllocError, Global};
-
-/// How many reads a command makes.
-const MAX_READS: u64 = 1 << 32;
-
-fn refusal_in(error: TakeError) -> Refusal
-    ensures { error ≡ TakeError.Refused result }
-{
-    match error {
-        TakeError::Refused(refusal) => refusal,
-    }
-}
 
 /// The place of the first line feed.
 fn first_feed(text: &[u8]) -> Option<usize>

@@ -12,7 +12,7 @@ use bt_wire::{Own, laws};
 use std::alloc::Global;
 
 /// How many reads a command makes.
-const MAX_READS: u64 = 1 << 32;
+pub const MAX_READS: u64 = 1 << 32;
 
 /// Reads once into the buffer, and writes the text of the items that it completes. It answers how the stream ends, at its end.
 fn turn<R: Source, W: Target>(
