@@ -71,7 +71,7 @@ IsEnd (Err (error.Sink e)) = ⊥
 IsEnd (Err error.ReadFault) = ⊥
 IsEnd (Err error.Turns) = ⊥
 
--- ---- for private contracts
+-- ---- of one piece (for private contracts)
 
 -- a piece is read; or its front, and what follows is refused, or the last item isn't taken
 abbrev pub IsPieceEnd : FeedState → List ℕ → List (ℕ × Item) → FeedState → Result (Unit {0}) PumpError → Type 0

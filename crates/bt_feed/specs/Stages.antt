@@ -52,7 +52,7 @@ abbrev pub is_all : Stage → List ℕ → Bool
 is_all (stage.Handshake own) b = nat_le 68 (length b)
 is_all (stage.Message c o s n) b = is_whole b
 
--- nothing may be added to the bytes: they have a fault, or are the spelling of an item (law ClosedIsEnded)
+-- nothing may be added to the bytes: they have a fault, or are the spelling of an item (laws EndedIsClosed and ClosedStays)
 abbrev pub is_closed : Stage → List ℕ → Bool
 is_closed t b = is_some (early t b) || is_all t b
 

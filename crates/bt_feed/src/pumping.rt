@@ -74,8 +74,8 @@ fn end<A: Allocator>(feed: &Feed<A>) -> Result<u64, PumpError>
 /// Reads to the end, `max_turns` times at most and each time into the buffer, and gives the sink each item with its offset. It
 /// answers what the stream comes to there: how many bytes it has, or its refusal. It takes no memory.
 ///
-/// Behind a refusal or a sink's fault bytes may have been read that are lost, fewer than the buffer has. Behind `Turns` or
-/// `ReadFault` nothing is lost, and another call goes on.
+/// Behind a refusal or a sink's fault, what is left of the piece in the buffer is lost. Behind `Turns` or `ReadFault` nothing
+/// is lost, and another call goes on.
 pub fn pump_with<R: Source, S: Sink, A: Allocator>(
     reader: &mut R,
     feed: &mut Feed<A>,
