@@ -1,0 +1,174 @@
+#!/usr/bin/env python3
+"""Runs the commands that the documents show, and compares what they print.
+
+usage: tests/documents.py [PROGRAM]
+
+A command stands in an indented block behind `$ `; lines behind `> ` go on with it. The lines up to the next command or the
+block's end are its standard output, exactly. Standard error has to be empty, but that of the capture tools isn't looked at.
+The commands of one document run in one shell, in a new folder that has `bt_tool` and `examples`. `bt_tool` is PROGRAM, or
+the script at the top of the repository, which builds the program where it has to.
+
+A command is skipped that needs a tool which isn't installed, or a file that a skipped command would have made. The two
+directions of examples/small.pcap are there all the same: this script reads them itself.
+"""
+import os
+import re
+import shlex
+import shutil
+import struct
+import subprocess
+import sys
+import tempfile
+from collections import Counter
+
+ROOT = os.path.dirname(os.path.dirname(os.path.abspath(__file__)))
+DOCUMENTS = ["README.md", "examples/README.md", "docs/CAPTURES.md"]
+TOOLS = ["tshark", "tcpflow", "editcap", "mergecap", "tcpdump", "xxd"]
+# The names of the files and folders that commands make.
+FILE = re.compile(r"[\w./-]+?(?:\.(?:bin|pcap|txt)|flows)(?![\w-])")
+# What the capture tools make of the two directions.
+DIRECTIONS = {
+    ("127.0.0.1:51413", "127.0.0.1:6881"):
+        ("examples/fetching.bin", ["node0.bin", "flows/127.000.000.001.51413-127.000.000.001.06881"]),
+    ("127.0.0.1:6881", "127.0.0.1:51413"):
+        ("examples/serving.bin", ["node1.bin", "flows/127.000.000.001.06881-127.000.000.001.51413"]),
+}
+
+
+def content(path):
+    with open(path, "rb") as file:
+        return file.read()
+
+
+def directions(capture):
+    """The bytes of each direction in a classic pcap of TCP over IPv4 over Ethernet, by sender and receiver."""
+    assert capture[:4] == b"\xd4\xc3\xb2\xa1" and capture[20:24] == b"\1\0\0\0", "no classic pcap of Ethernet frames"
+    segments, at = {}, 24
+    while at < len(capture):
+        size = struct.unpack_from("<I", capture, at + 8)[0]
+        packet = capture[at + 16 + 14:at + 16 + size]
+        at += 16 + size
+        assert packet[0] >> 4 == 4 and packet[9] == 6, "no TCP over IPv4"
+        tcp = packet[4 * (packet[0] & 15):struct.unpack_from(">H", packet, 2)[0]]
+        ports, sequence = struct.unpack_from(">HH", tcp), struct.unpack_from(">I", tcp, 4)[0]
+        hosts = [".".join(map(str, packet[k:k + 4])) for k in (12, 16)]
+        ends = tuple("%s:%d" % end for end in zip(hosts, ports))
+        payload = tcp[4 * (tcp[12] >> 4):]
+        if payload:
+            segments.setdefault(ends, {})[sequence] = payload
+    return {ends: b"".join(found[k] for k in sorted(found)) for ends, found in segments.items()}
+
+
+def sessions(path):
+    """The commands of a document: line number, command and shown output."""
+    found, indent, lines = [], None, content(path).decode().split("\n")
+    for number, line in enumerate(lines, 1):
+        begin = re.match(r"( {4,})\$ (.*)", line)
+        if begin:
+            indent = begin[1]
+            found.append((number, [begin[2]], []))
+        elif indent and line.startswith(indent + "> ") and not found[-1][2]:
+            found[-1][1].append(line[len(indent) + 2:])
+        elif indent and (line.startswith(indent) or not line.strip()):
+            found[-1][2].append(line[len(indent):])
+        else:
+            indent = None
+    for number, command, shown in found:
+        while shown and not shown[-1]:
+            shown.pop()
+        yield number, "\n".join(command), "".join(line + "\n" for line in shown)
+
+
+class Shell:
+    """One shell, in which the commands of a document run in turn."""
+
+    def __init__(self, folder):
+        self.folder = folder
+        self.room = tempfile.mkdtemp(dir=folder, prefix=".shell-")
+        environment = {**os.environ, "LC_ALL": "C.UTF-8"}
+        self.process = subprocess.Popen(["sh"], cwd=folder, env=environment, stdin=subprocess.PIPE,
+                                        stdout=subprocess.PIPE, text=True)
+
+    def run(self, command):
+        """Standard output and standard error. The command finds `$?` as the one before left it."""
+        out, errors = [os.path.join(self.room, name) for name in ("out", "errors")]
+        words = (shlex.quote(command), shlex.quote(out), shlex.quote(errors))
+        try:
+            self.process.stdin.write("eval %s >%s 2>%s </dev/null; kept=$?; echo $kept; (exit $kept)\n" % words)
+            self.process.stdin.flush()
+            ended = not self.process.stdout.readline()
+        except BrokenPipeError:
+            ended = True
+        if ended:
+            return "", "the shell has ended\n"
+        return tuple(content(path).decode("utf8", "replace") for path in (out, errors))
+
+    def close(self):
+        self.process.communicate()
+
+
+def stand_in(command, folder, made):
+    """Puts the files there that a skipped command would have made of the two directions."""
+    for name, found in made.items():
+        path = os.path.join(folder, name)
+        if " " + name.split("/")[0] in command and not os.path.exists(path):
+            os.makedirs(os.path.dirname(path), exist_ok=True)
+            with open(path, "wb") as file:
+                file.write(found)
+
+
+def run_document(document, folder, made, absent, counts):
+    """Runs a document's commands in the folder, and gives what went wrong. `lacking` has the files that weren't made."""
+    shell, wrong, lacking = Shell(folder), [], {}
+    for number, command, shown in sessions(os.path.join(ROOT, document)):
+        tools = {tool for tool in TOOLS if re.search(r"(?<![\w./-])%s(?![\w.-])" % tool, command)}
+        files = [name for name in FILE.findall(command) if not os.path.exists(os.path.join(folder, name))]
+        needed = (tools & absent).union(*(lacking.get(name, ()) for name in files))
+        if needed:
+            stand_in(command, folder, made)
+            lacking.update((name, needed) for name in files)
+            counts.update(needed, skipped=1)
+            continue
+        out, errors = shell.run(command)
+        counts.update(commands=1, outputs=bool(shown))
+        if out != shown or errors and not tools:
+            wrong.append("%s:%d: %s\nexpected:\n%sgot:\n%s" % (document, number, command, shown, out)
+                         + ("on standard error:\n" + errors if errors else ""))
+    shell.close()
+    return wrong
+
+
+def make_folder(folder, program):
+    os.symlink(os.path.join(ROOT, "examples"), os.path.join(folder, "examples"))
+    with open(os.path.join(folder, "bt_tool"), "w") as script:
+        script.write('#!/bin/sh\nexec %s "$@"\n' % shlex.quote(program))
+    os.chmod(os.path.join(folder, "bt_tool"), 0o755)
+
+
+def main():
+    program = os.path.abspath(sys.argv[1] if len(sys.argv) > 1 else os.path.join(ROOT, "bt_tool"))
+    captured, made, wrong = directions(content(os.path.join(ROOT, "examples/small.pcap"))), {}, []
+    for ends, (example, names) in DIRECTIONS.items():
+        made.update((name, content(os.path.join(ROOT, example))) for name in names)
+        if captured.pop(ends, b"") != made[names[0]]:
+            wrong.append("examples/small.pcap: from %s to %s: other bytes than in %s\n" % (*ends, example))
+    if captured:
+        wrong.append("examples/small.pcap: bytes of another connection: %s\n" % captured.keys())
+    if subprocess.run([program, "--version"], stdout=subprocess.DEVNULL).returncode:
+        sys.exit("documents: failed: %s --version" % program)
+    absent, counts = {tool for tool in TOOLS if not shutil.which(tool)}, Counter()
+    for document in DOCUMENTS:
+        with tempfile.TemporaryDirectory(prefix="documents-") as folder:
+            make_folder(folder, program)
+            wrong += run_document(document, folder, made, absent, counts)
+    for tool in sorted(tool for tool in absent if counts[tool]):
+        print("documents: skipped: %d commands that need %s, which isn't installed" % (counts[tool], tool))
+    for text in wrong:
+        print("documents: wrong: " + text, end="")
+    words = ("failed: %d wrong of" % len(wrong) if wrong else "ok:", counts["commands"], counts["outputs"], counts["skipped"])
+    print("documents: %s %d commands, %d outputs compared, %d skipped" % words)
+    sys.exit(1 if wrong else 0)
+
+
+if __name__ == "__main__":
+    main()
