@@ -165,8 +165,9 @@ def main():
         print("documents: skipped: %d commands that need %s, which isn't installed" % (counts[tool], tool))
     for text in wrong:
         print("documents: wrong: " + text, end="")
-    words = ("failed: %d wrong of" % len(wrong) if wrong else "ok:", counts["commands"], counts["outputs"], counts["skipped"])
-    print("documents: %s %d commands, %d outputs compared, %d skipped" % words)
+    verdict = "failed: %d wrong of" % len(wrong) if wrong else "ok:"
+    numbers = (counts["commands"], counts["outputs"], counts["skipped"])
+    print("documents: %s %d commands, %d outputs compared, %d skipped" % (verdict, *numbers))
     sys.exit(1 if wrong else 0)
 
 
