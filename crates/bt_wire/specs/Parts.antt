@@ -16,7 +16,7 @@ use Rattle.bt_wire.specs.declared.fault.Refused.{Refused}
 use Rattle.bt_wire.specs.Bitfields.{has_spare}
 use Rattle.bt_wire.specs.Numbers.{number16, number32}
 use Rattle.bt_wire.specs.Ids.{kind_of}
-use Rattle.bt_wire.specs.Messages.{Fields, none, index, part, block, port, field, id_of, fields_of, spell_fields, index_in, field_in, IsShaped, IsInRange}
+use Rattle.bt_wire.specs.Messages.{Fields, none, index, part, block, port, field, payload, id_of, fields_of, spell_fields, index_in, field_in, IsShaped, IsInRange}
 use Rattle.bt_wire.specs.Faults.{allows, field_size, is_beyond, placed_by}
 
 -- the fields of a shape that bytes are; of an extended message bytes are read apart
@@ -28,6 +28,11 @@ reading Block bytes = block (number32 bytes) (number32 (drop 4 bytes)) (drop 8 b
 reading Port bytes = port (number16 bytes)
 reading Field bytes = field bytes
 reading Extended bytes = none
+
+-- the same, or the payload of an id without a meaning
+abbrev pub reading_by : Option Shape → List ℕ → Fields
+reading_by None bytes = payload bytes
+reading_by (Some shape) bytes = reading shape bytes
 
 -- the parts of fields
 abbrev pub first_in : Fields → ℕ

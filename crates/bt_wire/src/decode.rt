@@ -5,11 +5,12 @@ ghost use Rattle.bt_wire.specs.declared.context.Context.{Context};
 ghost use Rattle.bt_wire.specs.declared.fault.Header.TheVariants as headers;
 ghost use Rattle.bt_wire.specs.Messages.{message_of, fields_of, keeps_bytes};
 ghost use Rattle.bt_wire.specs.Numbers.{number32};
-ghost use Rattle.bt_wire.specs.Parts.{made, place_in};
+ghost use Rattle.bt_wire.specs.Ids.{shape_by, kind_of as kind_at};
+ghost use Rattle.bt_wire.specs.Parts.{made, reading_by, place_in};
 
 use crate::context::{Context, Order};
 use crate::fault::{DecodeError, Reason, Refused};
-use crate::fields::judge_view;
+use crate::fields::judge_bytes;
 use crate::message::{Message, MessageView};
 use crate::numbers::{number_at_front, port_at_front};
 use crate::slices::behind;
@@ -32,11 +33,13 @@ pub fn view_window<'a>(
     if length == 0 {
         return Ok(MessageView::KeepAlive);
     }
-    if id_at(window) == EXTENDED {
+    let id = id_at(window);
+    if id == EXTENDED {
         return view_extended(context, order, window);
     }
     let view = read_fields(window);
-    match judge_view(context, length, &view) {
+    // Judged by the bytes, so that a view that nobody reads needn't be made.
+    match judge_bytes(context, id, length, behind(window, 5)) {
         Some(refused) => Err(refused),
         None => Ok(view),
     }
@@ -104,7 +107,8 @@ fn read_fields<'a>(window: &'a [u8]) -> MessageView<'a>
     requires some { 5 ≤ length window.now }
     requires sized { (context : Context) × (allows (size_of context (said_id window.now)) (length window.now - 4) ≡ true) }
     requires plain { said_id window.now ≢ 20 }
-    ensures { message_of result ≡ made (said_id window.now) (drop 5 window.now) }
+    ensures message { message_of result ≡ made (said_id window.now) (drop 5 window.now) }
+    ensures fields { (c : Context) → fields_of c (message_of result) ≡ reading_by (shape_by (kind_at (said_id window.now))) (drop 5 window.now) }
 {
     let fields = behind(window, 5);
     match window[4] {

@@ -1,12 +1,16 @@
 //! What follows a message's id, by its shape.
-ghost use Rattle.std.specs.Prelude.{◌≡◌, nat_le, IfSome, Some, None, length, if◌then◌else◌};
+ghost use Rattle.std.specs.Prelude.{◌≡◌, ◌+◌, nat_le, IfSome, Some, None, length, true, if◌then◌else◌};
 ghost use Rattle.bt_wire.specs.Bitfields.{field_bytes, has_spare};
-ghost use Rattle.bt_wire.specs.Messages.{seen, fields_of, message_of, AreInRange};
-ghost use Rattle.bt_wire.specs.Parts.{broken_field, bound_of, IsSized};
+ghost use Rattle.bt_wire.specs.Messages.{seen, fields_of, AreInRange};
+ghost use Rattle.bt_wire.specs.Faults.{allows, size_of};
+ghost use Rattle.bt_wire.specs.Ids.{shape_by, kind_of as kind_at};
+ghost use Rattle.bt_wire.specs.Parts.{broken_field, bound_of, reading_by, IsSized};
 
 use crate::context::Context;
 use crate::fault::{Reason, Refused};
-use crate::message::{Message, MessageView};
+use crate::ids::{Shape, kind_of};
+use crate::message::Message;
+use crate::numbers::number_at_front;
 
 /// The fields of a message, by their shape.
 #[derive(Clone, Copy, Debug)]
@@ -49,15 +53,7 @@ fn judge_fields(pieces: Option<u32>, length: u32, fields: &Fields) -> Option<Ref
         Fields::Part { index, .. } => judge_index(pieces, *index),
         Fields::Block { index, .. } => judge_index(pieces, *index),
         Fields::Port(_) => None,
-        Fields::Field(bits) => {
-            if has_spare_bits(pieces, bits) {
-                return Some(Refused {
-                    at: 3 + u64::from(length),
-                    reason: Reason::SpareBits,
-                });
-            }
-            None
-        }
+        Fields::Field(bits) => judge_bits(pieces, length, bits),
         Fields::Payload(_) => None,
     }
 }
@@ -74,15 +70,22 @@ pub fn judge_message(context: &Context, length: u32, message: &Message) -> Optio
     }
 }
 
-/// The same of a view.
+/// The same of the bytes behind an id, where a message with this id may have so many. The message has this length.
 #[inline(always)]
-pub fn judge_view(context: &Context, length: u32, view: &MessageView) -> Option<Refused>
-    requires { IsSized context.now.pieces (fields_of context.now (message_of view.now)) }
-    ensures { result ≡ broken_field context.now.pieces length (fields_of context.now (message_of view.now)) }
+pub fn judge_bytes(context: &Context, id: u8, size: u32, bytes: &[u8]) -> Option<Refused>
+    requires { allows (size_of context.now id) (length bytes.now + 1) ≡ true }
+    ensures { result ≡ broken_field context.now.pieces size (reading_by (shape_by (kind_at id)) bytes.now) }
 {
-    match view.fields() {
-        Some(fields) => judge_fields(context.pieces, length, &fields),
-        None => None,
+    let Some(pieces) = context.pieces else {
+        return None;
+    };
+    let Some(kind) = kind_of(id) else {
+        return None;
+    };
+    match kind.shape {
+        Shape::Index | Shape::Part | Shape::Block => judge_index(pieces, number_at_front(bytes)),
+        Shape::Field => judge_bits(pieces, size, bytes),
+        Shape::Nothing | Shape::Port | Shape::Extended => None,
     }
 }
 
@@ -94,6 +97,20 @@ fn judge_index(pieces: u32, index: u32) -> Option<Refused>
         return Some(Refused {
             at: 5,
             reason: Reason::BadIndex,
+        });
+    }
+    None
+}
+
+/// The fault of a bitfield, where the message has this length.
+fn judge_bits(pieces: u32, size: u32, bits: &[u8]) -> Option<Refused>
+    requires { length bits.now ≡ field_bytes pieces }
+    ensures { result ≡ (if has_spare (Some pieces) bits.now then Some (record { at = 3 + size; reason = Reason.SpareBits }) else None) }
+{
+    if has_spare_bits(pieces, bits) {
+        return Some(Refused {
+            at: 3 + u64::from(size),
+            reason: Reason::SpareBits,
         });
     }
     None

@@ -1,8 +1,9 @@
-ghost use Rattle.std.specs.Prelude.{◌≡◌, Some};
+ghost use Rattle.std.specs.Prelude.{◌≡◌, ◌≤◌, ℕ, true, Some, None};
 ghost use Rattle.bt_wire.specs.Ids.{shape_by, kind_of as kind_at};
 ghost use Rattle.bt_wire.specs.Faults.{allows, size_by, field_size, is_agreed as agrees, is_strict as judges_strictly, is_late as comes_late, is_missing as lacks_opening};
 ghost use Rattle.bt_wire.specs.Rules.{broken_by, broken_any};
 ghost use Rattle.bt_wire.specs.Headers.{header_of};
+ghost use Rattle.bt_wire.specs.declared.context.Context.{Context};
 
 use crate::context::{Context, Order};
 use crate::fault::{Header, Reason, Refused};
@@ -101,12 +102,59 @@ fn is_missing(context: &Context, order: Order, kind: Option<Kind>) -> bool
     }
 }
 
+/// The least and the greatest length of a message of this shape, its id counted. A bitfield's is judged apart.
+#[inline(always)]
+fn span(shape: Shape) -> (u32, u32)
+    ensures { (c : Context) (n : ℕ) → result.0 ≤ n → n ≤ result.1 → allows (size_by c (Some shape)) n ≡ true }
+{
+    match shape {
+        Shape::Nothing => (1, 1),
+        Shape::Index => (5, 5),
+        Shape::Part => (13, 13),
+        Shape::Block => (9, u32::MAX),
+        Shape::Port => (3, 3),
+        Shape::Field => (1, 0),
+        Shape::Extended => (2, u32::MAX),
+    }
+}
+
+/// Whether a message breaks no rule, at a glance and without a branch for its kind; where it doesn't say so it may break none.
+#[inline(always)]
+fn is_plain(context: &Context, order: Order, kind: Kind, length: u32) -> bool
+    ensures { result ≡ true → broken_by context.now order (Some kind) length ≡ None }
+{
+    let (least, most) = span(kind.shape);
+    let is_fast = matches!(kind.needs, Needs::Fast);
+    let is_extension = matches!(kind.needs, Needs::Extension);
+    let is_opening = matches!(kind.turn, Turn::Opening);
+    let is_fresh = matches!(order, Order::Fresh);
+    (least <= length)
+        & (length <= most)
+        & (!is_fast | context.fast)
+        & (!is_extension | context.ext)
+        & (!is_strict(context) | !(is_opening | (is_fresh & context.fast)))
+}
+
 /// The first rule on the id and the length that is broken.
 #[inline(always)]
 pub fn judge_id(context: &Context, order: Order, id: u8, length: u32) -> Option<Refused>
     ensures { result ≡ broken_by context.now order (kind_at id) length }
 {
     let kind = kind_of(id);
+    if let Some(kind) = kind {
+        if is_plain(context, order, kind, length) {
+            return None;
+        }
+    }
+    judge_kind(context, order, kind, length)
+}
+
+/// The same of a message of this kind.
+#[cold]
+#[inline(never)]
+fn judge_kind(context: &Context, order: Order, kind: Option<Kind>, length: u32) -> Option<Refused>
+    ensures { result ≡ broken_by context.now order kind length }
+{
     let strict = is_strict(context);
     if strict && kind.is_none() {
         return refused(4, Reason::UnknownId);
