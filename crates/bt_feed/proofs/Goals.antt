@@ -18,7 +18,7 @@ use Rattle.bt_feed.proofs.Closed.{closed_early}
 use Rattle.bt_feed.proofs.Hands.{to_hash, to_end}
 use Rattle.bt_feed.proofs.Windows.{need_until, need_short, need_open}
 
-pub none_from : (o : Option Refused) (b : Bool) → b ≡ is_some o → b ≡ false → o ≡ None
+pub none_from : {A : Type 0} (o : Option A) (b : Bool) → b ≡ is_some o → b ≡ false → o ≡ None
 none_from None b e f = refl
 none_from (Some x) b e f = absurd cc
 

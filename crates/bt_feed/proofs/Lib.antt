@@ -10,4 +10,5 @@ pub mod FeedLaws
 pub mod Places
 pub mod Moved
 pub mod Moving
+mod Passed
 mod Reasons

@@ -8,7 +8,7 @@ use Rattle.bt_feed.specs.Stages.{start_of, number_of, limit_of, is_closed, IsIte
 use Rattle.bt_feed.specs.Feeds.{FeedState, taken, pushed}
 use Rattle.bt_feed.specs.Answers.{IsAnswer, after, finish_of}
 use Rattle.bt_feed.specs.Transcripts.{with_items}
-use Rattle.bt_feed.specs.Pumps.{Took, IsGiven, IsFed, IsPumped, IsPumpEnd, IsEnd, IsPieceEnd, IsVerdictAtEnd, IsEndOf}
+use Rattle.bt_feed.specs.Pumps.{Took, IsMissed, IsGiven, IsFed, IsPumped, IsPumpEnd, IsEnd, IsPieceEnd, IsVerdictAtEnd, IsEndOf}
 use Rattle.bt_feed.specs.Laws.{verdict_at_end}
 use Rattle.bt_feed.specs.Progress.{IsFeed}
 use Rattle.bt_feed.specs.declared.pumping.PumpError.{PumpError}
@@ -33,12 +33,15 @@ took_both R a b c (x ∷ xs) ys p q = (p.0, p.1, took_both R p.0 b c xs ys p.2 q
 pub took_more : {S : Type 0} (R : S → ℕ × Item → S → Type 0) (a b c : S) (xs : List (ℕ × Item)) (x : ℕ × Item) → Took R a xs b → R b x c → Took R a (xs ++ x ∷ []) c
 took_more R a b c xs x p q = took_both R a b c xs (x ∷ []) p (c, q, refl)
 
+pub missed_more : {S : Type 0} (takes misses : S → ℕ × Item → S → Type 0) (a b c : S) (xs ys : List (ℕ × Item)) → Took takes a xs b → IsMissed takes misses b ys c → IsMissed takes misses a (xs ++ ys) c
+missed_more takes misses a b c xs ys p q =
+    (xs ++ q.0, q.1, q.2, ap (λ (l : List (ℕ × Item)). xs ++ l) q.3 ∙ sym (append_assoc xs q.0 (q.1 ∷ [])), took_both takes a b q.2 xs q.0 p q.4, q.5)
+
 pub given_more : {S : Type 0} (A : Type 0) (takes misses : S → ℕ × Item → S → Type 0) (a b c : S) (xs ys : List (ℕ × Item)) (e : PumpError) → Took takes a xs b → IsGiven {A = A} takes misses b ys c (Err e) → IsGiven {A = ℕ} takes misses a (xs ++ ys) c (Err e)
 given_more A takes misses a b c xs ys (error.Refused r) p q = took_both takes a b c xs ys p q
 given_more A takes misses a b c xs ys error.ReadFault p q = took_both takes a b c xs ys p q
 given_more A takes misses a b c xs ys error.Turns p q = took_both takes a b c xs ys p q
-given_more A takes misses a b c xs ys (error.Sink e) p q =
-    (xs ++ q.0, q.1, q.2, ap (λ (l : List (ℕ × Item)). xs ++ l) q.3 ∙ sym (append_assoc xs q.0 (q.1 ∷ [])), took_both takes a b q.2 xs q.0 p q.4, q.5)
+given_more A takes misses a b c xs ys (error.Sink e) p q = missed_more takes misses a b c xs ys p q
 
 pub given_end : {S : Type 0} (takes misses : S → ℕ × Item → S → Type 0) (a b : S) (xs : List (ℕ × Item)) (f : FeedState) (r : Result ℕ PumpError) → IsEndOf f r → Took takes a xs b → IsGiven takes misses a xs b r
 given_end takes misses a b xs f (Ok n) h p = p
@@ -78,7 +81,7 @@ fed_take p g item le is after_is =
 -- ---- a piece
 
 -- the bytes up to the n-th behind the place
-front : (piece rest : List ℕ) (at n : ℕ) → rest ≡ drop at piece → take at piece ++ take n rest ≡ take (at + n) piece
+pub front : (piece rest : List ℕ) (at n : ℕ) → rest ≡ drop at piece → take at piece ++ take n rest ≡ take (at + n) piece
 front piece rest at n e = ap (λ (l : List ℕ). take at piece ++ take n l) e ∙ sym (take-add at n piece)
 
 pub fed_front : (f s p : FeedState) (piece rest : List ℕ) (at n : ℕ) (xs : List (ℕ × Item)) → IsFed f (take at piece) xs s → IsPushed s p piece rest at n → IsFed f (take (at + n) piece) xs p

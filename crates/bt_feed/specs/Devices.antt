@@ -1,5 +1,6 @@
 -- What the devices of std and of memory tell: their bytes and their counts.
 use Rattle.std.specs.Prelude.{ℕ, List, drop, Option}
+use Rattle.bt_feed.specs.declared.discard.Discard.{Discard}
 use Rattle.bt_feed.specs.declared.host.Host.{Host}
 use Rattle.bt_feed.specs.declared.memory.MemSource.{MemSource}
 use Rattle.bt_feed.specs.declared.memory.MemTarget.{MemTarget}
@@ -20,6 +21,11 @@ host_device h = h.device
 
 abbrev pub host_counts : {T : Type 0} → Host T → Counts
 host_counts h = record { calls = h.calls; failed = h.failed; ends = h.ends }
+
+-- ---- how many items a sink took that keeps none, up to 2^64 - 1
+
+abbrev pub discarded : Discard → ℕ
+discarded d = d.items
 
 -- ---- memory: the bytes, how many move in a call at most, the call that fails
 

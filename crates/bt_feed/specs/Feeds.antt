@@ -1,5 +1,5 @@
 -- What a feed is, and what taking bytes does to it.
-use Rattle.std.specs.Prelude.{ℕ, suc, Bool, cond, if◌then◌else◌, List, [], ◌∷◌, ◌++◌, take, Option}
+use Rattle.std.specs.Prelude.{ℕ, suc, Bool, cond, if◌then◌else◌, List, [], ◌∷◌, ◌++◌, take, Option, None}
 use Rattle.bt_wire.specs.declared.item.Refusal.{Refusal}
 use Rattle.bt_feed.specs.declared.stage.Stage.{Stage}
 use Rattle.bt_feed.specs.declared.progress.Progress.{Progress}
@@ -10,6 +10,10 @@ pub record FeedState : Type 0 where
   pub stage : Stage
   pub held : List ℕ
   pub refused : Option Refusal
+
+-- nothing is held or refused
+abbrev pub waiting : Stage → FeedState
+waiting t = record { stage = t; held = []; refused = None }
 
 -- the least n for which the held bytes with the first n of the piece are closed, or all of the piece where there is none
 -- (law TakenIsLeast)

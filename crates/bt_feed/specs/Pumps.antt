@@ -6,6 +6,7 @@ use Rattle.bt_wire.specs.declared.item.Item.{Item}
 use Rattle.bt_wire.specs.Streams.{Outcome}
 use Rattle.bt_feed.specs.declared.pumping.PumpError.{PumpError}
 use Rattle.bt_feed.specs.declared.pumping.PumpError.TheVariants as error
+use Rattle.bt_feed.specs.declared.sink.SinkFault.{SinkFault}
 use Rattle.bt_feed.specs.declared.view.Finish.TheVariants as finish
 use Rattle.bt_feed.specs.Stages.{number_of, is_closed, Comes}
 use Rattle.bt_feed.specs.Feeds.{FeedState}
@@ -20,13 +21,22 @@ abbrev pub Took : {S : Type 0} → (S → ℕ × Item → S → Type 0) → S �
 Took takes old [] new = new ≡ old
 Took takes old (x ∷ xs) new = (next : _) × takes old x next × Took takes next xs new
 
--- these items were given: all of them are taken, or at the sink's fault all but the last
+-- of these items all but the last are taken
+abbrev pub IsMissed : {S : Type 0} → (S → ℕ × Item → S → Type 0) → (S → ℕ × Item → S → Type 0) → S → List (ℕ × Item) → S → Type 0
+IsMissed takes misses old given new = (xs : List (ℕ × Item)) × (x : ℕ × Item) × (last : _) × (given ≡ xs ++ x ∷ []) × Took takes old xs last × misses last x new
+
+-- these items were given: all of them are taken, or at a fault all but the last
+abbrev pub IsHanded : {S : Type 0} → (S → ℕ × Item → S → Type 0) → (S → ℕ × Item → S → Type 0) → S → List (ℕ × Item) → S → Result (Unit {0}) SinkFault → Type 0
+IsHanded takes misses old given new (Ok u) = Took takes old given new
+IsHanded takes misses old given new (Err e) = IsMissed takes misses old given new
+
+-- the same of a pump's answer
 abbrev pub IsGiven : {S A : Type 0} → (S → ℕ × Item → S → Type 0) → (S → ℕ × Item → S → Type 0) → S → List (ℕ × Item) → S → Result A PumpError → Type 0
 IsGiven takes misses old given new (Ok n) = Took takes old given new
 IsGiven takes misses old given new (Err (error.Refused r)) = Took takes old given new
 IsGiven takes misses old given new (Err error.ReadFault) = Took takes old given new
 IsGiven takes misses old given new (Err error.Turns) = Took takes old given new
-IsGiven takes misses old given new (Err (error.Sink e)) = (xs : List (ℕ × Item)) × (x : ℕ × Item) × (last : _) × (given ≡ xs ++ x ∷ []) × Took takes old xs last × misses last x new
+IsGiven takes misses old given new (Err (error.Sink e)) = IsMissed takes misses old given new
 
 -- ---- bytes through a feed
 

@@ -1,6 +1,7 @@
-ghost use Rattle.std.specs.Prelude.{◌≡◌, ◌+◌, ◌<◌, ◌≤◌, ◌^◌, ◌⊎◌, ◌↔◌, [], length, None, Err, IfOk, IfSome, IsErrOf};
+ghost use Rattle.std.specs.Prelude.{◌≡◌, ◌+◌, ◌<◌, ◌≤◌, ◌^◌, ◌⊎◌, ◌↔◌, ℕ, List, [], length, take, None, Err, IfOk, IfSome, IsErrOf, OnOk, OnErr};
 
 use crate::progress::Progress;
+use crate::sink::{Sink, SinkFault};
 use crate::stage::{END, Stage};
 use crate::view::{Finish, TakeError, View};
 use bt_wire::{Context, Order, Own};
@@ -55,6 +56,9 @@ impl<A: Allocator> Model for Feed<A> {
 
 ghost use Rattle.bt_feed.specs.Stages.{limit_of, start_of, number_of, capacity_of, is_closed};
 ghost use Rattle.bt_feed.specs.Feeds.{taken, pushed};
+ghost use Rattle.bt_wire.specs.declared.item.Item.{Item};
+ghost use Rattle.bt_feed.specs.Counts.{Grew};
+ghost use Rattle.bt_feed.specs.Pumps.{IsHanded, IsFed};
 ghost use Rattle.bt_feed.specs.Views.{shown};
 ghost use Rattle.bt_feed.specs.Progress.{IsPartial, IsFeed};
 ghost use Rattle.bt_feed.specs.Answers.{IsAnswer, after, finish_of};
@@ -136,6 +140,24 @@ impl<A: Allocator> Feed<A> {
         ensures partial { IsPartial self.new.stage self.new.held }
     {
         self.progress.fill(&mut self.buffer, piece)
+    }
+
+    /// Gives the sink the whole messages at the front of a piece, where nothing is held or refused, as pushing and taking them
+    /// would, but without a copy. It says how many bytes they have, and whether the sink took them all.
+    #[inline(always)]
+    pub(crate) fn pass<S: Sink>(
+        &mut self,
+        sink: &mut S,
+        piece: &[u8],
+    ) -> (usize, Result<(), SinkFault>)
+        ensures within { result.0 ≤ length piece.now }
+        ensures held { self.new.held ≡ self.old.held }
+        ensures items { (xs : List (ℕ × Item)) × IsHanded S.takes S.misses sink.old xs sink.new result.1 × IsFed self.old (take result.0 piece.now) xs self.new }
+        ensures calm { OnOk result.1 (S.failed sink.new ≡ S.failed sink.old) }
+        ensures sink { OnErr result.1 (Grew (S.failed sink.old) (S.failed sink.new)) }
+        ensures limit { limit_of self.new.stage ≤ 1048576 }
+    {
+        self.progress.pass(self.buffer.as_slice(), sink, piece)
     }
 
     /// The next item, where it is whole: its bytes are held no more from then on. A refusal is given again for ever after.

@@ -2,12 +2,14 @@
 #![tactic(auto)]
 
 mod counts;
+mod discard;
 mod failed;
 mod feed;
 mod host;
 pub mod laws;
 mod memory;
 mod outbox;
+mod passing;
 mod progress;
 mod pumping;
 mod sink;
@@ -30,6 +32,7 @@ mod tests_pump;
 mod transcript;
 mod view;
 
+pub use discard::Discard;
 pub use failed::Failed;
 pub use feed::{Feed, FeedError};
 pub use host::Host;

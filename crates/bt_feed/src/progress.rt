@@ -1,11 +1,16 @@
 //! How far a feed is with the item that it awaits.
-ghost use Rattle.std.specs.Prelude.{◌≡◌, ◌+◌, ◌-◌, ◌<◌, ◌≤◌, ◌⊎◌, ◌++◌, false, true, List, ℕ, length, take, min, vec_capacity, None, Err, IfSome};
+ghost use Rattle.std.specs.Prelude.{◌≡◌, ◌+◌, ◌-◌, ◌<◌, ◌≤◌, ◌⊎◌, ◌++◌, false, true, List, ℕ, length, take, min, vec_capacity, None, Err, IfSome, OnOk, OnErr};
+ghost use Rattle.bt_wire.specs.declared.item.Item.{Item};
+ghost use Rattle.bt_feed.specs.Counts.{Grew};
+ghost use Rattle.bt_feed.specs.Pumps.{IsHanded, IsFed};
 ghost use Rattle.bt_feed.specs.Stages.{limit_of, capacity_of, is_closed};
 ghost use Rattle.bt_feed.specs.Feeds.{held_of, state_of};
 ghost use Rattle.bt_feed.specs.Views.{shown};
 ghost use Rattle.bt_feed.specs.Answers.{IsAnswer, IsFound, after, finish_of};
 ghost use Rattle.bt_feed.specs.Progress.{IsPartial, HasWindow, Fills, IsProgress, IsSameItem};
 
+use crate::passing::pass_messages;
+use crate::sink::{Sink, SinkFault};
 use crate::slices::behind;
 use crate::stage::{Goal, Stage};
 use crate::view::{Finish, TakeError, View};
@@ -157,6 +162,44 @@ impl Progress {
         }
         self.wanted = length;
         append_up_to(buffer, length, piece)
+    }
+
+    /// Gives the sink the whole messages at the front of a piece, where nothing is held or refused, and says how many bytes they
+    /// have and whether the sink took them all.
+    #[inline(always)]
+    pub fn pass<S: Sink>(
+        &mut self,
+        buffer: &[u8],
+        sink: &mut S,
+        piece: &[u8],
+    ) -> (usize, Result<(), SinkFault>)
+        requires { IsProgress self.old buffer.now }
+        ensures within { result.0 ≤ length piece.now }
+        ensures held { held_of self.new buffer.now ≡ held_of self.old buffer.now }
+        ensures items { (xs : List (ℕ × Item)) × IsHanded S.takes S.misses sink.old xs sink.new result.1
+            × IsFed (state_of self.old buffer.now) (take result.0 piece.now) xs (state_of self.new buffer.now) }
+        ensures calm { OnOk result.1 (S.failed sink.new ≡ S.failed sink.old) }
+        ensures sink { OnErr result.1 (Grew (S.failed sink.old) (S.failed sink.new)) }
+        ensures sound { IsProgress self.new buffer.now }
+        ensures limit { limit_of self.new.stage ≡ limit_of self.old.stage }
+    {
+        if self.refused.is_some() || self.held(buffer).len() > 0 {
+            return (0, Ok(()));
+        }
+        let Stage::Message {
+            context,
+            order,
+            start,
+            number,
+        } = &mut self.stage
+        else {
+            return (0, Ok(()));
+        };
+        let passed = pass_messages(context, *order, *start, sink, piece);
+        *order = passed.order;
+        *start += passed.bytes as u64;
+        *number += passed.messages;
+        (passed.bytes, passed.taken)
     }
 
     /// The item that the bytes are, or their fault.

@@ -45,6 +45,11 @@ fn pump_piece<S: Sink, A: Allocator>(
 {
     let mut at = 0;
     'items: loop {
+        let (passed, taken) = feed.pass(sink, behind(piece, at));
+        at += passed;
+        if let Err(fault) = taken {
+            return Err(PumpError::Sink(fault));
+        }
         at += feed.push(behind(piece, at));
         let start = feed.start();
         match feed.take() {
