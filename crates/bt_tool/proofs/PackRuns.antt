@@ -13,9 +13,9 @@ use Rattle.bt_wire.specs.Streams.{Outcome}
 use Rattle.bt_tool.specs.declared.ended.PackEnd.{PackEnd}
 use Rattle.bt_tool.specs.declared.ended.ScriptReason.{ScriptReason}
 use Rattle.bt_tool.specs.declared.ended.ToolFault.{ToolFault}
-use Rattle.bt_tool.specs.Packs.{ended_lines, with_last, AreLines, AreTaken, IsPacked, empty, stopped, accepted, IsPackRun, IsWrittenOut}
+use Rattle.bt_tool.specs.Packs.{ended_lines, with_last, AreLines, AreTaken, IsPacked, empty, stopped, accepted, IsPackRun}
 use Rattle.bt_tool.specs.PackSteps.{IsReadSo, IsPieceRead}
-use Rattle.bt_tool.specs.Printed.{AppendsFront}
+use Rattle.bt_tool.specs.Printed.{AppendsFront, IsWrittenOut}
 use Rattle.bt_tool.proofs.Packing.{taken_so_far}
 use Rattle.bt_tool.proofs.PackText.{ended_both, whole_both, split_of}
 use Rattle.bt_tool.proofs.Printing.{front_behind, all_is_front}

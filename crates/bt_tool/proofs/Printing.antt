@@ -19,7 +19,7 @@ use Rattle.bt_feed.specs.Answers.{unless_refused}
 use Rattle.bt_feed.specs.Feeds.{FeedState}
 use Rattle.bt_feed.specs.Laws.{verdict_at_end}
 use Rattle.bt_feed.specs.Pumps.{Took, IsPumped}
-use Rattle.bt_feed.specs.Stages.{number_of, stopped}
+use Rattle.bt_feed.specs.Stages.{number_of, stopped, Comes}
 use Rattle.bt_feed.specs.Transcripts.{with_items}
 use Rattle.bt_tool.specs.declared.ended.Ended.{Ended}
 use Rattle.bt_tool.specs.declared.ended.Ended.TheVariants.{Accepted, Refused}
@@ -31,7 +31,7 @@ use Rattle.bt_feed.proofs.Reading.{hand_open}
 use Rattle.std.specs.Prelude.{MatchResult, OnOk}
 use Rattle.bt_tool.specs.declared.printer.Printer.{Printer}
 use Rattle.bt_tool.specs.Lines.{ended_by, ended_as, verdict_line}
-use Rattle.bt_tool.specs.Printed.{texts, text_of, form_of, text_in, Prints, AppendsFront, IsFlushed, IsAllWritten, IsFrontWritten, Writing, items_in, with_verdict, checked, IsWritten, IsReadTo, IsTurn}
+use Rattle.bt_tool.specs.Printed.{texts, text_of, form_of, text_in, Prints, AppendsFront, IsWrittenOut, IsFlushed, IsAllWritten, IsFrontWritten, Writing, items_in, with_verdict, checked, IsWritten, IsReadTo, IsTurn}
 
 pub on_ok : {T E : Type 0} (r : Result T E) (P Q : Type 0) → (P → Q) → OnOk r P → OnOk r Q
 on_ok (Ok x) P Q f h = f h
@@ -273,19 +273,26 @@ all_shown form own b text left held mid held' e (Err x) lt one a is f = λ w isw
     let here = written_by form own b held mid e lt one a w isw in
     front_behind held mid held' (texts form own w.items) (verdict_line (ended_as w (length b))) here.0 (subst (AppendsFront mid held') (is ∙ ap verdict_line here.1) f)
 
--- ---- other texts
+-- ---- the verdict alone
 
-no_texts : (own : Own) (xs : List (ℕ × Item)) → texts forms.Check own xs ≡ []
-no_texts own [] = refl
-no_texts own (x ∷ xs) = no_texts own xs
+-- nothing is written
+pub nothing_checked : (w : Writing) (own : Own) (left left' held : Option (List ℕ)) (b : List ℕ) (f : ToolFault) → Consumes left left' b → IsWritten w own left left' held held (Err f)
+nothing_checked w own left left' held b f c = (b, c, λ v is. ([], w v (length b), refl, Appends-nil held))
 
-all_again : (w u : Writing) (own : Own) (b : List ℕ) (held held' : Option (List ℕ)) (e : Ended) → ((v : Outcome) (n : ℕ) → w v n ≡ u v n) → IsAllWritten w own b held held' e → IsAllWritten u own b held held' e
-all_again w u own b held held' e same a = (a.0, a.1, subst (Appends held held') (same a.0 (length b)) a.2, a.3)
-
--- the same is written where the texts are the same
-pub written_again : (w u : Writing) (own : Own) (left left' held held' : Option (List ℕ)) (r : Result Ended ToolFault) → ((v : Outcome) (n : ℕ) → w v n ≡ u v n) → IsWritten w own left left' held held' r → IsWritten u own left left' held held' r
-written_again w u own left left' held held' (Ok e) same h = (h.0, h.1, all_again w u own h.0 held held' e same h.2)
-written_again w u own left left' held held' (Err f) same h = (h.0, h.1, λ v is. subst (AppendsFront held held') (same v (length h.0)) (h.2 v is))
-
-pub verdict_alone : (own : Own) (v : Outcome) (n : ℕ) → with_verdict forms.Check own v n ≡ checked v n
-verdict_alone own v n = ap (λ (l : List ℕ). l ++ checked v n) (no_texts own v.items)
+-- what went through a new feed comes to v, whose verdict is to be written
+pub checked_all : (own : Own) (f : FeedState) (left left' held held' : Option (List ℕ)) (b : List ℕ) (v : Outcome) (e : Ended) (r : Result Ended ToolFault) → own.limit ≤ 1048576 → VerdictIsOne → Consumes left left' b
+    → f ≡ record { stage = stage.Handshake own; held = []; refused = None } → Comes f.stage (f.held ++ b) v → e ≡ ended_as v (v.start + length v.tail) → IsWrittenOut e (verdict_line e) held held' r → IsWritten checked own left left' held held' r
+checked_all own f left left' held held' b v e (Ok a) le one c new comes ended out =
+    let F : FeedState → Type 0 = λ g. Comes g.stage (g.held ++ b) v in
+    let is : IsVerdict own b v = subst F new comes in
+    let same : e ≡ ended_as v (length b) = ended ∙ ap (λ (n : ℕ). ended_as v n) (verdict_length own b v is) in
+    let P : Ended → Type 0 = λ x. Appends held held' (verdict_line x) in
+    (b, c, (v, is, subst P same out.1, out.0 ∙ same))
+checked_all own f left left' held held' b v e (Err x) le one c new comes ended out =
+    let F : FeedState → Type 0 = λ g. Comes g.stage (g.held ++ b) v in
+    let is : IsVerdict own b v = subst F new comes in
+    let same : e ≡ ended_as v (length b) = ended ∙ ap (λ (n : ℕ). ended_as v n) (verdict_length own b v is) in
+    (b, c, λ w isw.
+        let P : Ended → Type 0 = λ x. AppendsFront held held' (verdict_line x) in
+        let Q : Outcome → Type 0 = λ u. AppendsFront held held' (verdict_line (ended_as u (length b))) in
+        subst Q (one own b v w (omega (arith, le)) is isw) (subst P same out))

@@ -87,11 +87,6 @@ pub data IsPacked (own : Own) (all : List (List ℕ)) (b : List ℕ) (e : PackEn
 
 -- ---- a run
 
--- all bytes are written, or at a fault a front of them
-abbrev pub IsWrittenOut : {T : Type 0} → T → List ℕ → Option (List ℕ) → Option (List ℕ) → Result T ToolFault → Type 0
-IsWrittenOut answer bytes held held' (Ok a) = (a ≡ answer) × Appends held held' bytes
-IsWrittenOut answer bytes held held' (Err e) = AppendsFront held held' bytes
-
 -- a front of the bytes of lines that are taken is written
 abbrev pub IsFrontPacked : Own → List (List ℕ) → Option (List ℕ) → Option (List ℕ) → Type 0
 IsFrontPacked own all held held' =

@@ -24,7 +24,6 @@ use Rattle.bt_tool.specs.Script.{script_line, script}
 
 abbrev pub text_of : Form → Own → ℕ × Item → List ℕ
 text_of form.Show own x = line own x
-text_of form.Check own x = []
 text_of (form.Unpack receiver) own x = script_line receiver x.1
 
 abbrev pub texts : Form → Own → List (ℕ × Item) → List ℕ
@@ -47,7 +46,12 @@ Prints old x new = (form_of new ≡ form_of old) × ((own : Own) → text_in new
 abbrev pub AppendsFront : Option (List ℕ) → Option (List ℕ) → List ℕ → Type 0
 AppendsFront old new bs = (front : List ℕ) × (back : List ℕ) × (bs ≡ front ++ back) × Appends old new front
 
--- all of the text is written, and gone, or at a fault a front of it
+-- all of the bytes are written, or at a fault a front of them
+abbrev pub IsWrittenOut : {T : Type 0} → T → List ℕ → Option (List ℕ) → Option (List ℕ) → Result T ToolFault → Type 0
+IsWrittenOut answer bytes held held' (Ok a) = (a ≡ answer) × Appends held held' bytes
+IsWrittenOut answer bytes held held' (Err e) = AppendsFront held held' bytes
+
+-- the same of a text, which goes with that
 abbrev pub IsFlushed : {T : Type 0} → T → List ℕ → Option (List ℕ) → Option (List ℕ) → List ℕ → Result T ToolFault → Type 0
 IsFlushed answer text held held' left (Ok a) = (a ≡ answer) × Appends held held' text × (left ≡ [])
 IsFlushed answer text held held' left (Err e) = AppendsFront held held' text

@@ -1,10 +1,12 @@
 //! Reads the stream that a BitTorrent peer sends.
 #![tactic(auto)]
 
+mod check;
 mod commands;
 mod ended;
 mod lines;
 mod options;
+mod output;
 mod pack;
 mod pack_laws;
 mod printer;
@@ -26,11 +28,12 @@ mod tests_script;
 mod tests_shown;
 mod values;
 
+use crate::check::run_check;
 use crate::commands::{Asked, Job, Notice, pack_status, status, status_of};
 use crate::ended::{Ended, PackEnd};
 use crate::options::{USAGE, asked};
 use crate::pack::run_pack;
-use crate::show::{run_check, run_show, run_unpack};
+use crate::show::{run_show, run_unpack};
 use bt_feed::Host;
 use std::process::ExitCode;
 use std::rt::Env;

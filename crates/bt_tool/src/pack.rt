@@ -1,15 +1,16 @@
 //! Packing a script: the bytes that its lines name, as long as they are a stream's items.
-ghost use Rattle.std.specs.Prelude.{◌≡◌, ◌==◌, ◌≤◌, ◌<◌, ◌++◌, ℕ, List, length, position, option_map, min, ◌+◌, ◌-◌, ◌^◌, IfOk, IfErr, IfSome, OnOk, OnErr, Err};
+ghost use Rattle.std.specs.Prelude.{◌≡◌, ◌==◌, ◌≤◌, ◌<◌, ◌++◌, ℕ, List, length, position, option_map, min, ◌+◌, ◌-◌, ◌^◌, IfOk, IfErr, IfSome, Err};
 ghost use Rattle.bt_wire.specs.declared.context.Own.{Own as Receiver};
 ghost use Rattle.bt_feed.specs.Counts.{Grew};
 ghost use Rattle.bt_feed.specs.Stages.{number_of, start_of};
-ghost use Rattle.bt_tool.specs.Packs.{IsPackRun, IsAccepted, IsWrittenOut};
+ghost use Rattle.bt_tool.specs.Packs.{IsPackRun, IsAccepted};
 ghost use Rattle.bt_tool.specs.PackSteps.{IsPackedTo, IsLineEnd, IsCut, IsReadSo, IsPieceRead, IsHeld, IsScriptEnd};
 
 use crate::ended::{PackEnd, ScriptReason, ToolFault};
+use crate::output::write_out;
 use crate::script::reading::read_line;
 use crate::show::MAX_READS;
-use bt_feed::{Feed, Source, Target, refusal_in, write_front};
+use bt_feed::{Feed, Source, Target, refusal_in};
 use bt_wire::Own;
 use std::alloc::{AllocError, Global};
 
@@ -31,19 +32,6 @@ fn split_line(text: &[u8]) -> Option<(&[u8], &[u8])>
         Some((_, behind)) => Some((front, behind)),
         None => None,
     }
-}
-
-/// Writes the bytes, and answers so; at a fault a front of them is written.
-fn flush<W: Target, T: Drop>(writer: &mut W, bytes: &[u8], answer: T) -> Result<T, ToolFault>
-    ensures written { IsWrittenOut answer bytes.now (W.held writer.old) (W.held writer.new) result }
-    ensures failed { OnErr result (Grew (W.failed_writes writer.old) (W.failed_writes writer.new)) }
-    ensures calm { OnOk result (W.failed_writes writer.new ≡ W.failed_writes writer.old) }
-    ensures fault { IfErr result (λ fault. fault ≡ ToolFault.Write) }
-{
-    if write_front(writer, bytes) < bytes.len() {
-        return Err(ToolFault::Write);
-    }
-    Ok(answer)
 }
 
 /// Takes a line, which stands without its line feed, and adds the bytes that it names; or says why not.
@@ -200,7 +188,7 @@ pub fn run_pack<R: Source, W: Target>(
         match reader.read(&mut buffer) {
             Ok(0) => {
                 match end_script(&mut feed, line.as_slice(), own.limit, &mut bytes, &mut out) {
-                    Ok(end) => return flush(writer, out.as_slice(), end),
+                    Ok(end) => return write_out(writer, out.as_slice(), end),
                     Err(_) => return Err(ToolFault::Memory),
                 }
             }
@@ -213,13 +201,13 @@ pub fn run_pack<R: Source, W: Target>(
                     &mut bytes,
                     &mut out,
                 ) {
-                    Ok(None) => match flush(writer, out.as_slice(), ()) {
+                    Ok(None) => match write_out(writer, out.as_slice(), ()) {
                         Ok(()) => out.clear(),
                         Err(fault) => return Err(fault),
                     },
                     Ok(Some(reason)) => {
                         let line = feed.number() + 1;
-                        return flush(writer, out.as_slice(), PackEnd::Refused { line, reason });
+                        return write_out(writer, out.as_slice(), PackEnd::Refused { line, reason });
                     }
                     Err(_) => return Err(ToolFault::Memory),
                 }

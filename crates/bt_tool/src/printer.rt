@@ -10,8 +10,9 @@ ghost use Rattle.bt_tool.specs.Printed.{IsFlushed, Prints, form_of, text_in};
 
 use crate::ended::{Ended, ToolFault};
 use crate::lines::{Line, handshake_line, message_line, push_line, verdict_line};
+use crate::output::write_out;
 use crate::script::writing::{push_handshake_line, push_message_line};
-use bt_feed::{Sink, SinkFault, Target, View, write_front};
+use bt_feed::{Sink, SinkFault, Target, View};
 use bt_wire::Own;
 use std::alloc::{AllocError, Global};
 
@@ -20,8 +21,6 @@ use std::alloc::{AllocError, Global};
 pub enum Form {
     /// A line with its offset.
     Show,
-    /// Nothing.
-    Check,
     /// A script's line with all of its bytes, as this receiver's registered ids have it.
     Unpack(Own),
 }
@@ -94,11 +93,13 @@ impl Printer {
         ensures form { form_of self.new ≡ form_of self.old }
         ensures fault { IfErr result (λ fault. fault ≡ ToolFault.Write) }
     {
-        if write_front(writer, self.text.as_slice()) < self.text.len() {
-            return Err(ToolFault::Write);
+        match write_out(writer, self.text.as_slice(), answer) {
+            Ok(answer) => {
+                self.text.clear();
+                Ok(answer)
+            }
+            Err(fault) => Err(fault),
         }
-        self.text.clear();
-        Ok(answer)
     }
 }
 
@@ -119,7 +120,6 @@ impl Sink for Printer {
         self.calls = self.calls.saturating_add(1);
         let added = match self.form {
             Form::Show => push_item(at, view, &mut self.line, &mut self.text),
-            Form::Check => Ok(()),
             Form::Unpack(own) => push_script(&own, view, &mut self.text),
         };
         if added.is_err() {

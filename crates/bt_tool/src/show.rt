@@ -3,7 +3,7 @@ ghost use Rattle.std.specs.Prelude.{◌≡◌, ◌+◌, ◌-◌, ◌≤◌, ◌^
 ghost use Rattle.bt_feed.specs.Counts.{Grew};
 ghost use Rattle.bt_wire.specs.declared.item.Item.{Item};
 ghost use Rattle.bt_tool.specs.Lines.{lines_of};
-ghost use Rattle.bt_tool.specs.Printed.{IsWritten, IsReadTo, IsTurn, IsEndOfReads, IsEndOfTurn, form_of, text_in, items_in, with_verdict, checked, unpacked};
+ghost use Rattle.bt_tool.specs.Printed.{IsWritten, IsReadTo, IsTurn, IsEndOfReads, IsEndOfTurn, form_of, text_in, items_in, unpacked};
 
 use crate::ended::{Ended, ToolFault};
 use crate::printer::{Form, Printer};
@@ -73,30 +73,6 @@ fn tell<R: Source, W: Target>(
     Err(ToolFault::Turns)
 }
 
-/// Reads the stream to its end, and writes the text of its items and then the verdict's line.
-fn judge<R: Source, W: Target>(
-    alloc: Global,
-    reader: &mut R,
-    writer: &mut W,
-    own: &Own,
-    form: Form,
-) -> Result<Ended, ToolFault>
-    requires { (1 ≤ own.now.limit) × (own.now.limit ≤ 1048576) }
-    ensures written { IsWritten (with_verdict form own.now) own.now (R.left reader.old) (R.left reader.new) (W.held writer.old) (W.held writer.new) result }
-    ensures faults { IsEndOfReads result (R.reads reader.old) (R.reads reader.new) (R.failed_reads reader.old) (R.failed_reads reader.new) (R.ends reader.old) (R.ends reader.new) }
-    ensures write { result ≡ Err ToolFault.Write → Grew (W.failed_writes writer.old) (W.failed_writes writer.new) }
-{
-    laws::one_verdict();
-    let mut printer = Printer::new(alloc, form);
-    match tell(alloc, reader, &mut printer, writer, own) {
-        Ok(ended) => match printer.verdict(ended) {
-            Ok(()) => printer.flush(writer, ended),
-            Err(_) => Err(ToolFault::Memory),
-        },
-        Err(fault) => Err(fault),
-    }
-}
-
 /// Writes a line for each item of the stream that the reader gives, and then the verdict's line; the lines of what was read are
 /// written before more is read. It answers `Read` where a read failed, `Write` where a write failed or took nothing, `Memory`
 /// where a growth was refused, `Turns` after 4,294,967,296 reads without the end.
@@ -111,22 +87,15 @@ pub fn run_show<R: Source, W: Target>(
     ensures faults { IsEndOfReads result (R.reads reader.old) (R.reads reader.new) (R.failed_reads reader.old) (R.failed_reads reader.new) (R.ends reader.old) (R.ends reader.new) }
     ensures write { result ≡ Err ToolFault.Write → Grew (W.failed_writes writer.old) (W.failed_writes writer.new) }
 {
-    judge(alloc, reader, writer, own, Form::Show)
-}
-
-/// Writes the verdict's line of the stream that the reader gives. The faults are those of `run_show`.
-pub fn run_check<R: Source, W: Target>(
-    alloc: Global,
-    reader: &mut R,
-    writer: &mut W,
-    own: &Own,
-) -> Result<Ended, ToolFault>
-    requires { (1 ≤ own.now.limit) × (own.now.limit ≤ 1048576) }
-    ensures checked { IsWritten checked own.now (R.left reader.old) (R.left reader.new) (W.held writer.old) (W.held writer.new) result }
-    ensures faults { IsEndOfReads result (R.reads reader.old) (R.reads reader.new) (R.failed_reads reader.old) (R.failed_reads reader.new) (R.ends reader.old) (R.ends reader.new) }
-    ensures write { result ≡ Err ToolFault.Write → Grew (W.failed_writes writer.old) (W.failed_writes writer.new) }
-{
-    judge(alloc, reader, writer, own, Form::Check)
+    laws::one_verdict();
+    let mut printer = Printer::new(alloc, Form::Show);
+    match tell(alloc, reader, &mut printer, writer, own) {
+        Ok(ended) => match printer.verdict(ended) {
+            Ok(()) => printer.flush(writer, ended),
+            Err(_) => Err(ToolFault::Memory),
+        },
+        Err(fault) => Err(fault),
+    }
 }
 
 /// Writes the script of the items of the stream that the reader gives, up to its end or a refusal. The faults are those of

@@ -2,7 +2,8 @@
 use crate::commands::default_own;
 use crate::ended::Ended;
 use crate::script::reading::read_line;
-use crate::show::{run_check, run_unpack};
+use crate::check::run_check;
+use crate::show::run_unpack;
 use bt_ext::Rules;
 use bt_feed::{MemSource, MemTarget};
 use bt_wire::{Own, Reason, Refusal};

@@ -1,6 +1,6 @@
 use Rattle.std.proofs.Common.{take, drop, sym}
 use Rattle.std.proofs.lemmas.List.{take-append-drop}
-use Rattle.bt_tool.proofs.pack.flush.Goals as goal
+use Rattle.bt_tool.proofs.output.write_out.Goals as goal
 
 pub returns-then-write_front-bytes-clause-written : goal.returns-then-write_front-bytes-clause-written
 returns-then-write_front-bytes-clause-written g c =

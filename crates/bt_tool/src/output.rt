@@ -1,0 +1,23 @@
+ghost use Rattle.std.specs.Prelude.{◌≡◌, OnOk, OnErr, IfErr};
+ghost use Rattle.bt_feed.specs.Counts.{Grew};
+ghost use Rattle.bt_tool.specs.Printed.{IsWrittenOut};
+
+use crate::ended::ToolFault;
+use bt_feed::{Target, write_front};
+
+/// Writes the bytes, and answers so; at a fault a front of them is written.
+pub fn write_out<W: Target, T: Drop>(
+    writer: &mut W,
+    bytes: &[u8],
+    answer: T,
+) -> Result<T, ToolFault>
+    ensures written { IsWrittenOut answer bytes.now (W.held writer.old) (W.held writer.new) result }
+    ensures failed { OnErr result (Grew (W.failed_writes writer.old) (W.failed_writes writer.new)) }
+    ensures calm { OnOk result (W.failed_writes writer.new ≡ W.failed_writes writer.old) }
+    ensures fault { IfErr result (λ fault. fault ≡ ToolFault.Write) }
+{
+    if write_front(writer, bytes) < bytes.len() {
+        return Err(ToolFault::Write);
+    }
+    Ok(answer)
+}
