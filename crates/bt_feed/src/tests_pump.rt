@@ -113,6 +113,20 @@ fn any_reads(rt: HostRuntime) -> Result<(), Fail> {
     Ok(())
 }
 
+/// A sink that keeps nothing hears the same verdict, wherever reads cut the messages.
+#[test]
+fn discarded(rt: HostRuntime) -> Result<(), Fail> {
+    let alloc = rt.alloc();
+    for most in [1, 7, 68, 241, 4096] {
+        let mut feed = Feed::new(alloc, own(262_144))?;
+        let mut reader = MemSource::new(joined(alloc, MESSAGES)?, most, None);
+        let ended = pump(&mut reader, &mut feed, &mut Discard::new(), 243);
+        assert_eq!(rt; ended, Ok(242));
+        assert_eq!(rt; feed.number(), 10);
+    }
+    Ok(())
+}
+
 /// A failed read loses nothing: the items of the bytes before it are given, and another call goes on.
 #[test]
 fn failed_reads(rt: HostRuntime) -> Result<(), Fail> {
