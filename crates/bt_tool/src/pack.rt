@@ -180,8 +180,13 @@ pub fn run_pack<R: Source, W: Target>(
     let Ok(mut feed) = Feed::new(alloc, *own) else {
         return Err(ToolFault::Memory);
     };
-    let mut line = Vec::new(alloc);
-    let mut bytes = Vec::new(alloc);
+    // Room for the longest line and its bytes, so that lines take no memory.
+    let Ok(mut line) = Vec::with_capacity(alloc, 2 * own.limit as usize + 256) else {
+        return Err(ToolFault::Memory);
+    };
+    let Ok(mut bytes) = Vec::with_capacity(alloc, (own.limit as usize + 4).max(68)) else {
+        return Err(ToolFault::Memory);
+    };
     let mut out = Vec::new(alloc);
     let mut buffer = [0; 65536];
     for _turn in 0..MAX_READS {

@@ -16,6 +16,12 @@ use Rattle.bt_tool.proofs.pack.run_pack.Goals as goal
 pub returns-in_default-clause-packed : goal.returns-in_default-clause-packed
 returns-in_default-clause-packed g c = nothing_run c.args.own.now _ _ fault.Memory c.requires.1
 
+pub returns-in_default-with_capacity-clause-packed : goal.returns-in_default-with_capacity-clause-packed
+returns-in_default-with_capacity-clause-packed g c = nothing_run c.args.own.now _ _ fault.Memory c.requires.1
+
+pub returns-in_default-with_capacity-2-clause-packed : goal.returns-in_default-with_capacity-2-clause-packed
+returns-in_default-with_capacity-2-clause-packed g c = nothing_run c.args.own.now _ _ fault.Memory c.requires.1
+
 pub loop-turn-init : goal.loop-turn-init
 loop-turn-init g c = record {
   reads = omega arith;
@@ -23,7 +29,7 @@ loop-turn-init g c = record {
   ends = refl;
   calm = refl;
   empty = c.new-out.ensures.items;
-  run = run_starts c.args.own.now _ _ c.new-line.result.items c.in-Ok.feed c.requires.1 c.new-line.ensures.items c.in-Ok.ensures.ok;
+  run = run_starts c.args.own.now _ _ c.in-Ok-with_capacity.line.items c.in-Ok.feed c.requires.1 c.in-Ok-with_capacity.ensures.items c.in-Ok.ensures.ok;
 }
 
 pub returns-in-Ok-end_script-clause-packed : goal.returns-in-Ok-end_script-clause-packed
