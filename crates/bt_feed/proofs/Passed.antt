@@ -58,7 +58,7 @@ passed_more c o o' s n at k count piece rest window xs m e is fed lt le within h
     let mid = waiting (stage.Message c o' (s + at) (n + count)) in
     let to = waiting (stage.Message c (order_after o' m) (s + at + k) (n + count + 1)) in
     let ys = xs ++ (s + at, items.Message m) ∷ [] in
-        let P : List ℕ → Type 0 = λ b. IsFed from b ys to in
+    let P : List ℕ → Type 0 = λ b. IsFed from b ys to in
     let Q : ℕ → Type 0 = λ start. IsFed from (take (at + k) piece) ys (waiting (stage.Message c (order_after o' m) start (n + count + 1))) in
     let R : ℕ → Type 0 = λ number. IsFed from (take (at + k) piece) ys (waiting (stage.Message c (order_after o' m) (s + (at + k)) number)) in
     subst R (omega arith) (subst Q (omega arith) (subst P (front piece rest at k e) (fed_both from mid to (take at piece) (take k rest) xs ((s + at, items.Message m) ∷ []) fed one)))

@@ -291,8 +291,11 @@ checked_all own f left left' held held' b v e (Ok a) le one c new comes ended ou
 checked_all own f left left' held held' b v e (Err x) le one c new comes ended out =
     let F : FeedState → Type 0 = λ g. Comes g.stage (g.held ++ b) v in
     let is : IsVerdict own b v = subst F new comes in
-    let same : e ≡ ended_as v (length b) = ended ∙ ap (λ (n : ℕ). ended_as v n) (verdict_length own b v is) in
-    (b, c, λ w isw.
-        let P : Ended → Type 0 = λ x. AppendsFront held held' (verdict_line x) in
-        let Q : Outcome → Type 0 = λ u. AppendsFront held held' (verdict_line (ended_as u (length b))) in
-        subst Q (one own b v w (omega (arith, le)) is isw) (subst P same out))
+    let same : e ≡ ended_as v (length b) = ended ∙ ap (λ (n : ℕ). ended_as v n) (verdict_length own b v is) in (
+      b,
+      c,
+      λ w isw.
+          let P : Ended → Type 0 = λ x. AppendsFront held held' (verdict_line x) in
+          let Q : Outcome → Type 0 = λ u. AppendsFront held held' (verdict_line (ended_as u (length b))) in
+          subst Q (one own b v w (omega (arith, le)) is isw) (subst P same out),
+    )

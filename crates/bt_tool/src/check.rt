@@ -29,7 +29,13 @@ pub fn run_check<R: Source, W: Target>(
         return Err(ToolFault::Memory);
     };
     let mut buffer = [0; 65536];
-    match pump_with(reader, &mut feed, &mut Discard::new(), MAX_READS, &mut buffer) {
+    match pump_with(
+        reader,
+        &mut feed,
+        &mut Discard::new(),
+        MAX_READS,
+        &mut buffer,
+    ) {
         Ok(bytes) => {
             let messages = feed.number() - 1;
             say(writer, Ended::Accepted { messages, bytes })

@@ -1,8 +1,8 @@
 //! Streams that are checked and unpacked, and scripts that are read back.
+use crate::check::run_check;
 use crate::commands::default_own;
 use crate::ended::Ended;
 use crate::script::reading::read_line;
-use crate::check::run_check;
 use crate::show::run_unpack;
 use bt_ext::Rules;
 use bt_feed::{MemSource, MemTarget};

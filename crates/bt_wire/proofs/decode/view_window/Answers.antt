@@ -2,8 +2,6 @@ use Rattle.std.proofs.Common.{◌≡◌, ◌+◌, ◌-◌, ◌≤◌, ℕ, lengt
 use Rattle.bt_wire.specs.declared.message.Message.{Message}
 use Rattle.bt_wire.specs.Faults.{said_length, said_id, allows, size_of}
 use Rattle.bt_wire.specs.Headers.{IsRead}
-use Rattle.bt_wire.specs.Messages.{fields_of}
-use Rattle.bt_wire.specs.Parts.{IsSized}
 use Rattle.bt_wire.proofs.HeaderLaws.{IsWindow-from_header}
 use Rattle.bt_wire.proofs.WindowLaws.{keep_alive_read, fields_found, fields_read, window_fault, extended_long, plain_allowed, same_fields, sized}
 use Rattle.bt_wire.proofs.decode.view_window.Goals as goal
