@@ -1,8 +1,8 @@
 -- What may follow the bytes that the scanner has read. `Then` says what may follow the part at hand.
 -- (For the contracts of functions that are not public.)
-use Rattle.std.specs.Prelude.{◌≡◌, ◌⊎◌, ℕ, ◌+◌, ◌-◌, ◌*◌, ◌<◌, ◌≤◌, ◌^◌, List, [], ◌∷◌, ◌++◌, length, drop, Option, Some, None, ⊤}
+use Rattle.std.specs.Prelude.{◌≡◌, ◌⊎◌, ℕ, ◌+◌, ◌-◌, ◌*◌, ◌<◌, ◌≤◌, ◌^◌, List, [], ◌∷◌, ◌++◌, length, take, drop, Option, Some, None, ⊤}
 use Rattle.bt_bencode.specs.Trees.{Tree, Trees, Pairs}
-use Rattle.bt_bencode.specs.Bencoding.{ben, ben_all, ben_pairs, longest_string, deepest_nesting}
+use Rattle.bt_bencode.specs.Bencoding.{ben, ben_all, ben_pairs, longest_string, deepest_nesting, IsSpelling}
 use Rattle.bt_bencode.specs.Room.{FitsIn, AllFitIn, PairsFitIn}
 use Rattle.bt_bencode.specs.declared.scan.Container.{Container}
 use Rattle.bt_bencode.specs.declared.scan.Container.TheVariants as container
@@ -117,3 +117,13 @@ Scans e stack byte (Some e') stack' = Goes e stack (byte ∷ []) e' stack'
 -- the payload's dictionary has ended
 abbrev pub IsDone : Expect → List Container → Type 0
 IsDone e stack = (e ≡ expect.Item) × (stack ≡ [])
+
+-- The scanner has read these bytes of a dictionary that goes on: just what may follow makes a spelling of them.
+pub record HasRead (bytes : List ℕ) (e : Expect) (stack : List Container) : Type 0 where
+  pub live : IsLive e
+  pub forth : (r : List ℕ) → IsSpelling (bytes ++ r) → May e stack r
+  pub back : (r : List ℕ) → May e stack r → IsSpelling (bytes ++ r)
+
+-- between `at` and `end` the payload leads from the one expectation to the other
+abbrev pub Leads : List ℕ → ℕ → Expect → List Container → ℕ → Expect → List Container → Type 0
+Leads payload at e stack end e' stack' = Goes e stack (take (end - at) (drop at payload)) e' stack'
