@@ -1,5 +1,5 @@
 -- Whole byte strings and integers, read at once.
-use Rattle.std.proofs.Common.{◌≡◌, ◌≢◌, inl, inr, ℕ, suc, ◌+◌, ◌-◌, ◌*◌, ◌<◌, ◌≤◌, List, [], ◌∷◌, ◌++◌, length, get_or, slice_get, Some, take, drop, subst, sym, ◌∙◌, refl, add-one, append_assoc, drop-cons, Option, None, IfSome, MatchOption, arith, length-append, length-take, length-drop}
+use Rattle.std.proofs.Common.{◌≡◌, ◌≢◌, inl, inr, ℕ, suc, ◌+◌, ◌-◌, ◌*◌, ◌^◌, ◌<◌, ◌≤◌, List, [], ◌∷◌, ◌++◌, length, get_or, slice_get, Some, take, drop, subst, sym, ◌∙◌, refl, add-one, append_assoc, drop-cons, Option, None, IfSome, MatchOption, arith, length-append, length-take, length-drop}
 use Rattle.std.proofs.Math.Seq.{drop-append_seam, take-add, drop-drop}
 use Rattle.bt_bencode.specs.Bencoding.{longest_string}
 use Rattle.bt_bencode.specs.Scanner.{IsDigit, NumberThen, TextThen, Rest, AfterString, May, IsLive, Goes, HasRead, Leads, after_string, magnitude_limit, opening}
@@ -91,10 +91,9 @@ goes_first stack b d = record { live = omega arith; forth = λ r h. go r h; back
 pub goes_first_negative : (stack : Stack) (b : ℕ) → IsDigit b → b ≢ 48 → Goes expect.Negative stack (b ∷ []) (expect.Digits sign.Minus (b - 48)) stack
 goes_first_negative stack b d other = record { live = omega arith; forth = λ r h. h.1.1; back = λ r h. (omega arith, (d, h)) }
 
-module _ (payload : List ℕ) (at end : ℕ) (h : at < length payload) where
-  -- the bytes from `at` on
-  first_byte : at < end → take (end - at) (drop at payload) ≡ get_or payload at 0 ∷ take (end - (at + 1)) (drop (at + 1) payload)
-  first_byte low = let same : end - at ≡ suc (end - (at + 1)) = omega arith in rw (same, drop-cons payload at 0, ← add-one at) refl
+-- the bytes from `at` on
+first_byte : (payload : List ℕ) (at end : ℕ) → at < length payload → at < end → take (end - at) (drop at payload) ≡ get_or payload at 0 ∷ take (end - (at + 1)) (drop (at + 1) payload)
+first_byte payload at end h low = let same : end - at ≡ suc (end - (at + 1)) = omega arith in rw (same, drop-cons payload at 0, ← add-one at) refl
 
 pub leads_byte : (payload : List ℕ) (at : ℕ) (e e' : Expect) (s s' : Stack) → at < length payload → Goes e s (get_or payload at 0 ∷ []) e' s' → Leads payload at e s (at + 1) e' s'
 leads_byte payload at e e' s s' h goes =
@@ -142,7 +141,7 @@ string_starts payload at h d = record {
   leads = λ part s. nothing payload (at + 1) (expect.Length part (get_or payload at 0 - 48)) s (omega arith);
 }
 
-pub string_goes_on : (payload : List ℕ) (at i n : ℕ) → StringRead payload at i n → i < length payload → IsDigit (get_or payload i 0) → 0 < n → n ≤ 104856 → StringRead payload at (i + 1) (n * 10 + (get_or payload i 0 - 48))
+pub string_goes_on : (payload : List ℕ) (at i n : ℕ) → StringRead payload at i n → i < length payload → IsDigit (get_or payload i 0) → 0 < n → n * 10 + 9 ≤ longest_string → StringRead payload at (i + 1) (n * 10 + (get_or payload i 0 - 48))
 string_goes_on payload at i n so h d some low = record {
   behind = omega (arith, so.behind);
   within = omega arith;
@@ -179,29 +178,25 @@ pub record DigitsRead (payload : List ℕ) (at i n : ℕ) : Type 0 where
   pub first : IsDigit (get_or payload at 0)
   pub leads : (side : Sign) (s : Stack) → Goes (expect.Digits side (get_or payload at 0 - 48)) s (take (i - (at + 1)) (drop (at + 1) payload)) (expect.Digits side n) s
 
-far_below : (side : Sign) (n d : ℕ) → n ≤ 922337203685477579 → d ≤ 9 → n * 10 + d ≤ magnitude_limit side
-far_below sign.Plus n d low digit = omega arith
-far_below sign.Minus n d low digit = omega arith
-
-one_digit : (side : Sign) (d : ℕ) → d ≤ 9 → d ≤ magnitude_limit side
-one_digit sign.Plus d digit = omega arith
-one_digit sign.Minus d digit = omega arith
+keeps_limit : (side : Sign) (n : ℕ) → n < 2 ^ 63 → n ≤ magnitude_limit side
+keeps_limit sign.Plus n low = omega arith
+keeps_limit sign.Minus n low = omega arith
 
 pub digits_start : (payload : List ℕ) (at : ℕ) → at < length payload → IsDigit (get_or payload at 0) → DigitsRead payload at (at + 1) (get_or payload at 0 - 48)
 digits_start payload at h d = record {
   behind = omega arith;
   within = omega arith;
   first = d;
-  leads = λ side s. nothing payload (at + 1) (expect.Digits side (get_or payload at 0 - 48)) s (one_digit side (get_or payload at 0 - 48) (omega arith));
+  leads = λ side s. nothing payload (at + 1) (expect.Digits side (get_or payload at 0 - 48)) s (keeps_limit side (get_or payload at 0 - 48) (omega arith));
 }
 
-pub digits_go_on : (payload : List ℕ) (at i n : ℕ) → DigitsRead payload at i n → i < length payload → IsDigit (get_or payload i 0) → 0 < n → n ≤ 922337203685477579 → DigitsRead payload at (i + 1) (n * 10 + (get_or payload i 0 - 48))
+pub digits_go_on : (payload : List ℕ) (at i n : ℕ) → DigitsRead payload at i n → i < length payload → IsDigit (get_or payload i 0) → 0 < n → n * 10 + 9 < 2 ^ 63 → DigitsRead payload at (i + 1) (n * 10 + (get_or payload i 0 - 48))
 digits_go_on payload at i n so h d some low = record {
   behind = omega (arith, so.behind);
   within = omega arith;
   first = so.first;
   leads = λ side s. leads_on payload (at + 1) i (i + 1) (expect.Digits side (get_or payload at 0 - 48)) (expect.Digits side n) (expect.Digits side (n * 10 + (get_or payload i 0 - 48))) s s s (omega (arith, so.behind)) (omega arith) (so.leads side s)
-      (leads_byte payload i (expect.Digits side n) (expect.Digits side (n * 10 + (get_or payload i 0 - 48))) s s h (goes_digits s side n (get_or payload i 0) d some (far_below side n (get_or payload i 0 - 48) low (omega arith))));
+      (leads_byte payload i (expect.Digits side n) (expect.Digits side (n * 10 + (get_or payload i 0 - 48))) s s h (goes_digits s side n (get_or payload i 0) d some (keeps_limit side (n * 10 + (get_or payload i 0 - 48)) (omega arith))));
 }
 
 module _ (payload : List ℕ) (at i n : ℕ) (so : DigitsRead payload at i n) (h : i < length payload) (stop : get_or payload i 0 ≡ 101) where
