@@ -1,5 +1,5 @@
 -- A script that is read piece by piece.
-use Rattle.std.proofs.Common.{◌≡◌, ℕ, ◌+◌, ◌-◌, ◌*◌, ◌<◌, false, List, [], ◌∷◌, ◌++◌, length, Some, None, refl, sym, ap, subst, ◌∙◌, arith}
+use Rattle.std.proofs.Common.{◌≡◌, ℕ, ◌+◌, ◌-◌, ◌*◌, ◌<◌, false, List, [], ◌∷◌, ◌++◌, length, Some, None, refl, sym, ap, subst, ◌∙◌, arith, inl, inr, length-append}
 use Rattle.std.proofs.lemmas.List.{append-nil, append_assoc, nil_from_length}
 use Rattle.bt_feed.specs.Feeds.{FeedState}
 use Rattle.bt_feed.specs.Stages.{start_of, number_of}
@@ -8,7 +8,7 @@ use Rattle.bt_wire.specs.Streams.{Outcome}
 use Rattle.bt_tool.specs.declared.ended.ScriptReason.{ScriptReason}
 use Rattle.bt_tool.specs.declared.ended.ScriptReason.TheVariants.{Syntax}
 use Rattle.bt_tool.specs.ScriptLaws.{has_feed}
-use Rattle.bt_tool.specs.Packs.{ended_lines, with_last, AreLines, AreTaken, IsNotTaken, IsStop, IsPacked, empty, stopped, accepted, is_none}
+use Rattle.bt_tool.specs.Packs.{ended_lines, with_last, IsSplit, IsEndedLine, AreLines, AreTaken, IsNotTaken, IsStop, IsPacked, empty, stopped, accepted, is_none}
 use Rattle.bt_tool.specs.declared.ended.PackEnd.{PackEnd}
 use Rattle.bt_tool.specs.declared.ended.PackEnd.TheVariants.{Accepted, Refused}
 use Rattle.bt_tool.proofs.Printing.{verdict_length}
@@ -65,25 +65,21 @@ behind_line lines ls line (c ∷ cs) = append_assoc lines (line ∷ ls) ((c ∷ 
 
 -- the line is ended, and others may follow
 pub stops_at : (own : Own) (text front behind line : List ℕ) (lines : List (List ℕ)) (b held : List ℕ) (f : FeedState) (number : ℕ) (reason : ScriptReason) → IsReadSo own text lines b held f → has_feed front ≡ false → line ≡ held ++ front
-    → number ≡ length lines → IsRefused own lines b line reason → (all : List (List ℕ)) × AreLines (text ++ (front ++ 10 ∷ behind)) all × IsStop own all b (number + 1) reason
+    → number ≡ length lines → IsRefused own lines b line reason → (all : List (List ℕ)) × AreLines (text ++ (front ++ 10 ∷ behind)) all × IsStop own all b (number + 1) reason × IsEndedLine own.limit (text ++ (front ++ 10 ∷ behind)) (number + 1)
 stops_at own text front behind line lines b held f number reason h none e count r =
     let s = split_of behind in
     let tail : line ++ 10 ∷ behind ≡ ended_lines (line ∷ s.0) ++ s.1 =
     ap (λ (t : List ℕ). line ++ 10 ∷ t) s.2.parts ∙ sym (append_assoc line (10 ∷ []) (ended_lines s.0 ++ s.1)) ∙ sym (append_assoc (line ++ 10 ∷ []) (ended_lines s.0) s.1) in
     let parts : text ++ (front ++ 10 ∷ behind) ≡ ended_lines (lines ++ line ∷ s.0) ++ s.1 =
     line_parts text held front line behind lines h.split.parts e ∙ ap (λ (t : List ℕ). ended_lines lines ++ t) tail ∙ sym (append_assoc (ended_lines lines) (ended_lines (line ∷ s.0)) s.1)
-    ∙ ap (λ (t : List ℕ). t ++ s.1) (sym (ended_both lines (line ∷ s.0))) in (
+    ∙ ap (λ (t : List ℕ). t ++ s.1) (sym (ended_both lines (line ∷ s.0))) in
+    let split : IsSplit (text ++ (front ++ 10 ∷ behind)) (lines ++ line ∷ s.0) s.1 = record {
+      parts = parts;
+      whole = whole_both lines (line ∷ s.0) h.split.whole (ap has_feed e ∙ has_feed-append held front h.split.last none, s.2.whole);
+      last = s.2.last;
+    } in (
       with_last (lines ++ line ∷ s.0) s.1,
-      (
-        lines ++ line ∷ s.0,
-        s.1,
-        record {
-          parts = parts;
-          whole = whole_both lines (line ∷ s.0) h.split.whole (ap has_feed e ∙ has_feed-append held front h.split.last none, s.2.whole);
-          last = s.2.last;
-        },
-        refl,
-      ),
+      (lines ++ line ∷ s.0, s.1, split, refl),
       record {
         before = lines;
         line = line;
@@ -94,6 +90,7 @@ stops_at own text front behind line lines b held f number reason h none e count 
         count = omega (arith, count);
         not_taken = r.2;
       },
+      (lines ++ line ∷ s.0, s.1, split, inl (omega (arith, count, length-append lines (line ∷ s.0)))),
     )
 
 long_last : (lines : List (List ℕ)) (line : List ℕ) → 0 < length line → lines ++ line ∷ [] ≡ with_last lines line
@@ -165,15 +162,18 @@ line_stops own text lines b piece rest held front behind line new f g out mid ou
     let stop = stops_at own (text ++ d.done) front behind line (lines ++ d.more) (b ++ d.named) held f (number_of g.stage) reason d.read none e count r in
     let all : (text ++ d.done) ++ (front ++ 10 ∷ behind) ≡ text ++ piece = append_assoc text d.done (front ++ 10 ∷ behind) ∙ ap (λ (l : List ℕ). text ++ l) (ap (λ (l : List ℕ). d.done ++ l) (sym cut) ∙ sym d.parts) in
     let P : List ℕ → Type 0 = λ t. AreLines t stop.0 in
-    (d.named, same ∙ d.grown, (stop.0, subst P all stop.1, stop.2))
+    let Q : List ℕ → Type 0 = λ t. IsEndedLine own.limit t (number_of g.stage + 1) in
+    (d.named, same ∙ d.grown, (stop.0, subst P all stop.1, stop.2), subst Q all stop.3)
 
 pub rest_stops : (own : Own) (text : List ℕ) (lines : List (List ℕ)) (b piece rest held line new : List ℕ) (f : FeedState) (out out' : List ℕ) (reason : ScriptReason) → (d : IsDone own text lines b piece rest held f out out') → has_feed rest ≡ false
-    → line ≡ held ++ rest → 0 < length line → IsRefused own (lines ++ d.more) (b ++ d.named) line reason → IsPieceRead own (text ++ piece) lines b new f out out' (Some reason)
-rest_stops own text lines b piece rest held line new f out out' reason d none e some r =
-    let stop = stops_in own (text ++ d.done) rest line (lines ++ d.more) (b ++ d.named) held f (number_of f.stage) reason d.read none e some d.read.packed.count r in
+    → line ≡ held ++ rest → 2 * own.limit + 256 < length line → IsRefused own (lines ++ d.more) (b ++ d.named) line reason → IsPieceRead own (text ++ piece) lines b new f out out' (Some reason)
+rest_stops own text lines b piece rest held line new f out out' reason d none e long r =
+    let stop = stops_in own (text ++ d.done) rest line (lines ++ d.more) (b ++ d.named) held f (number_of f.stage) reason d.read none e (omega (arith, long)) d.read.packed.count r in
+    let split = (read_rest own (text ++ d.done) rest (lines ++ d.more) (b ++ d.named) held line f d.read none e).split in
     let all : (text ++ d.done) ++ rest ≡ text ++ piece = append_assoc text d.done rest ∙ ap (λ (l : List ℕ). text ++ l) (sym d.parts) in
     let P : List ℕ → Type 0 = λ t. AreLines t stop.0 in
-    (d.named, d.grown, (stop.0, subst P all stop.1, stop.2))
+    let Q : List ℕ → Type 0 = λ t. IsEndedLine own.limit t (number_of f.stage + 1) in
+    (d.named, d.grown, (stop.0, subst P all stop.1, stop.2), subst Q all (lines ++ d.more, line, split, inr (omega (arith, d.read.packed.count), long)))
 
 -- ---- the end of a script
 

@@ -1,7 +1,8 @@
 -- A script that is read and packed turn by turn.
-use Rattle.std.proofs.Common.{◌≡◌, ℕ, ◌≤◌, List, [], ◌∷◌, ◌++◌, Option, None, Result, Ok, Err, refl, sym, ap, subst, ◌∙◌, arith}
+use Rattle.std.proofs.Common.{◌≡◌, ℕ, ◌≤◌, List, [], ◌∷◌, ◌++◌, Option, None, Result, Ok, Err, refl, sym, ap, subst, ◌∙◌, arith, inl, inr}
 use Rattle.std.proofs.lemmas.List.{append-nil, append_assoc}
 use Rattle.std.proofs.KnownBytes.{Appends-nil, Appends-trans, Consumes-nil, Consumes-trans}
+use Rattle.std.specs.Prelude.{⊤}
 use Rattle.std.specs.Io.KnownBytes.{Consumes, Appends}
 use Rattle.bt_feed.specs.declared.stage.Stage.TheVariants as stage
 use Rattle.bt_feed.specs.Feeds.{FeedState}
@@ -11,9 +12,10 @@ use Rattle.bt_feed.proofs.Reading.{hand_open}
 use Rattle.bt_wire.specs.declared.context.Own.{Own}
 use Rattle.bt_wire.specs.Streams.{Outcome}
 use Rattle.bt_tool.specs.declared.ended.PackEnd.{PackEnd}
+use Rattle.bt_tool.specs.declared.ended.PackEnd.TheVariants.{Accepted, Refused}
 use Rattle.bt_tool.specs.declared.ended.ScriptReason.{ScriptReason}
 use Rattle.bt_tool.specs.declared.ended.ToolFault.{ToolFault}
-use Rattle.bt_tool.specs.Packs.{ended_lines, with_last, AreLines, AreTaken, IsPacked, empty, stopped, accepted, IsPackRun}
+use Rattle.bt_tool.specs.Packs.{ended_lines, with_last, AreLines, AreTaken, IsPacked, empty, stopped, accepted, IsEndedLine, IsTimely, IsPackRun}
 use Rattle.bt_tool.specs.PackSteps.{IsReadSo, IsPieceRead}
 use Rattle.bt_tool.specs.Printed.{AppendsFront, IsWrittenOut}
 use Rattle.bt_tool.proofs.Packing.{taken_so_far}
@@ -62,13 +64,13 @@ front_of_text own text more lines b held f h =
 
 -- at a fault: what was written is a front of what the taken lines name
 fails : (own : Own) (left left' held held' : Option (List ℕ)) (text more : List ℕ) (lines : List (List ℕ)) (b line : List ℕ) (f : FeedState) (e : ToolFault) → Consumes left left' (text ++ more) → IsReadSo own text lines b line f → AppendsFront held held' b
-    → IsPackRun own left left' held held' (Err e)
+    → IsPackRun own ⊤ left left' held held' (Err e)
 fails own left left' held held' text more lines b line f e read h front =
     let t = front_of_text own text more lines b line f h in
     let s = taken_so_far own lines b f h.packed in
     (text ++ more, t.0, read, t.1, (lines, t.2.0, b, s.0, t.2.1, s.1.taken, front))
 
-pub run_fails : (own : Own) (left left' left'' held held' : Option (List ℕ)) (line more : List ℕ) (f : FeedState) (e : ToolFault) → IsRun own left left' held held' line f → Consumes left' left'' more → IsPackRun own left left'' held held' (Err e)
+pub run_fails : (own : Own) (left left' left'' held held' : Option (List ℕ)) (line more : List ℕ) (f : FeedState) (e : ToolFault) → IsRun own left left' held held' line f → Consumes left' left'' more → IsPackRun own ⊤ left left'' held held' (Err e)
 run_fails own left left' left'' held held' line more f e r read =
     fails own left left'' held held' r.text more r.lines r.bytes line f e (Consumes-trans left left' left'' r.text more r.consumed read) r.read (all_is_front held held' r.bytes r.written)
 
@@ -90,7 +92,7 @@ run_more own left left' left'' held held' held'' line new piece out out' f g r r
 
 -- the text of the piece can't be written
 pub more_fails : (own : Own) (left left' left'' held held' held'' : Option (List ℕ)) (line new piece out out' : List ℕ) (f g : FeedState) (e : ToolFault) → (r : IsRun own left left' held held' line f) → Consumes left' left'' piece → out ≡ []
-    → IsPieceRead own (r.text ++ piece) r.lines r.bytes new g out out' None → AppendsFront held' held'' out' → IsPackRun own left left'' held held'' (Err e)
+    → IsPieceRead own (r.text ++ piece) r.lines r.bytes new g out out' None → AppendsFront held' held'' out' → IsPackRun own ⊤ left left'' held held'' (Err e)
 more_fails own left left' left'' held held' held'' line new piece out out' f g e r read none p front =
     let P : List ℕ → Type 0 = λ t. Consumes left left'' t in
     fails own left left'' held held'' (r.text ++ piece) [] (r.lines ++ p.0) (r.bytes ++ p.1) new g e (subst P (sym (append-nil (r.text ++ piece))) (Consumes-trans left left' left'' r.text piece r.consumed read)) p.3
@@ -107,16 +109,26 @@ taken_of own all b e le (empty none bytes is) =
 taken_of own all b e le (stopped number reason stop is) = (stop.before, stop.line ∷ stop.behind, stop.verdict, stop.parts, stop.taken)
 taken_of own all b e le (accepted v some taken is) = (all, [], v, sym (append-nil all), taken)
 
-pub packed_run : (own : Own) (left left' held held' held'' : Option (List ℕ)) (text b x out out' : List ℕ) (all : List (List ℕ)) (e : PackEnd) (r : Result PackEnd ToolFault) → own.limit ≤ 1048576 → Consumes left left' text → AreLines text all → IsPacked own all (b ++ x) e
-    → Appends held held' b → out ≡ [] → out' ≡ out ++ x → IsWrittenOut e out' held' held'' r → IsPackRun own left left' held held'' r
-packed_run own left left' held held' held'' text b x out out' all e (Ok d) le read lines packed before none grown written =
+pub packed_run : (E : Type 0) (own : Own) (left left' held held' held'' : Option (List ℕ)) (text b x out out' : List ℕ) (all : List (List ℕ)) (e : PackEnd) (r : Result PackEnd ToolFault) → own.limit ≤ 1048576 → Consumes left left' text → AreLines text all → IsPacked own all (b ++ x) e
+    → IsTimely own.limit text E e → Appends held held' b → out ≡ [] → out' ≡ out ++ x → IsWrittenOut e out' held' held'' r → IsPackRun own E left left' held held'' r
+packed_run E own left left' held held' held'' text b x out out' all e (Ok d) le read lines packed timely before none grown written =
     let P : PackEnd → Type 0 = λ z. IsPacked own all (b ++ x) z in
-    (text, all, read, lines, (b ++ x, subst P (sym written.0) packed, Appends-trans held held' held'' b x before (subst (Appends held' held'') (out_is out out' x none grown) written.1)))
-packed_run own left left' held held' held'' text b x out out' all e (Err fault) le read lines packed before none grown front =
+    let T : PackEnd → Type 0 = λ z. IsTimely own.limit text E z in
+    (text, all, read, lines, (b ++ x, subst P (sym written.0) packed, Appends-trans held held' held'' b x before (subst (Appends held' held'') (out_is out out' x none grown) written.1), subst T (sym written.0) timely))
+packed_run E own left left' held held' held'' text b x out out' all e (Err fault) le read lines packed timely before none grown front =
     let t = taken_of own all (b ++ x) e le packed in
     (text, all, read, lines, (t.0, t.1, b ++ x, t.2, t.3, t.4, front_behind held held' held'' b x before (subst (AppendsFront held' held'') (out_is out out' x none grown) front)))
 
-pub nothing_run : (own : Own) (left held : Option (List ℕ)) (e : ToolFault) → own.limit ≤ 1048576 → IsPackRun own left left held held (Err e)
+pub timely_at_end : (limit : ℕ) (text : List ℕ) (E : Type 0) (e : PackEnd) → E → IsTimely limit text E e
+timely_at_end limit text E (Accepted messages bytes) h = h
+timely_at_end limit text E (Refused number reason) h = inr h
+
+pub timely_line : (limit : ℕ) (text : List ℕ) (E : Type 0) (e : PackEnd) (number : ℕ) (reason : ScriptReason) → e ≡ Refused number reason → IsEndedLine limit text number → IsTimely limit text E e
+timely_line limit text E e number reason is h =
+    let P : PackEnd → Type 0 = λ x. IsTimely limit text E x in
+    subst P (sym is) (inl h)
+
+pub nothing_run : (own : Own) (left held : Option (List ℕ)) (e : ToolFault) → own.limit ≤ 1048576 → IsPackRun own ⊤ left left held held (Err e)
 nothing_run own left held e le =
     let v = left_at (stage.Handshake own) [] None in
     ([], [], Consumes-nil left, ([], [], record { parts = refl; whole = tt; last = refl }, refl), ([], [], [], v, refl, record { named = refl; verdict = open_comes (stage.Handshake own) [] (omega (arith, le)) (hand_open own); nothing_left = refl }, all_is_front held held [] (Appends-nil held)))

@@ -9,7 +9,7 @@ use Rattle.bt_wire.specs.declared.context.Own.{Own}
 use Rattle.bt_wire.specs.declared.item.Item.{Item}
 use Rattle.bt_wire.specs.Streams.{Outcome, IsVerdict}
 use Rattle.bt_tool.specs.declared.ended.ScriptReason.{ScriptReason}
-use Rattle.bt_tool.specs.Packs.{IsSplit, AreLines, AreNamed, AreTaken, IsNotTaken, IsStop, IsPacked, is_none}
+use Rattle.bt_tool.specs.Packs.{IsSplit, IsEndedLine, AreLines, AreNamed, AreTaken, IsNotTaken, IsStop, IsPacked, is_none}
 use Rattle.bt_tool.specs.declared.ended.PackEnd.{PackEnd}
 use Rattle.bt_tool.specs.ScriptLaws.{has_feed}
 
@@ -41,7 +41,7 @@ pub record IsReadSo (own : Own) (text : List ℕ) (lines : List (List ℕ)) (b h
 -- a piece of the script is read, or it has a line that isn't taken
 abbrev pub IsPieceRead : Own → List ℕ → List (List ℕ) → List ℕ → List ℕ → FeedState → List ℕ → List ℕ → Option ScriptReason → Type 0
 IsPieceRead own text lines b held g out out' None = (more : List (List ℕ)) × (x : List ℕ) × (out' ≡ out ++ x) × IsReadSo own text (lines ++ more) (b ++ x) held g
-IsPieceRead own text lines b held g out out' (Some reason) = (x : List ℕ) × (out' ≡ out ++ x) × ((all : List (List ℕ)) × AreLines text all × IsStop own all (b ++ x) (number_of g.stage + 1) reason)
+IsPieceRead own text lines b held g out out' (Some reason) = (x : List ℕ) × (out' ≡ out ++ x) × ((all : List (List ℕ)) × AreLines text all × IsStop own all (b ++ x) (number_of g.stage + 1) reason) × IsEndedLine own.limit text (number_of g.stage + 1)
 
 -- the text's first line and what follows its line feed
 abbrev pub IsCut : List ℕ → Option (List ℕ × List ℕ) → Type 0

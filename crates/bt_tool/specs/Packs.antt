@@ -1,6 +1,6 @@
 -- What a script comes to when it is packed: its lines, the bytes that they name one after the other, and the first line that
 -- isn't taken.
-use Rattle.std.specs.Prelude.{◌≡◌, ℕ, ◌+◌, ◌-◌, ◌*◌, ◌≤◌, ⊤, Bool, true, false, List, [], ◌∷◌, ◌++◌, length, Option, Some, Result, Ok, Err, MatchResult}
+use Rattle.std.specs.Prelude.{◌≡◌, ◌⊎◌, ℕ, ◌+◌, ◌-◌, ◌*◌, ◌≤◌, ◌<◌, ⊤, Bool, true, false, List, [], ◌∷◌, ◌++◌, length, Option, Some, Result, Ok, Err, MatchResult}
 use Rattle.std.specs.Io.KnownBytes.{Consumes, Appends}
 use Rattle.std.specs.List.{flat_map}
 use Rattle.bt_wire.specs.declared.context.Own.{Own}
@@ -87,16 +87,24 @@ pub data IsPacked (own : Own) (all : List (List ℕ)) (b : List ℕ) (e : PackEn
 
 -- ---- a run
 
+-- the line with this number is ended by a line feed, or it is too long
+abbrev pub IsEndedLine : ℕ → List ℕ → ℕ → Type 0
+IsEndedLine limit text number =
+    (lines : List (List ℕ)) × (rest : List ℕ) × IsSplit text lines rest × ((number ≤ length lines) ⊎ ((number ≡ length lines + 1) × (2 * limit + 256 < length rest)))
+
+-- what the end of the text alone decides is answered only there
+abbrev pub IsTimely : ℕ → List ℕ → Type 0 → PackEnd → Type 0
+IsTimely limit text AtEnd (Accepted messages bytes) = AtEnd
+IsTimely limit text AtEnd (Refused number reason) = IsEndedLine limit text number ⊎ AtEnd
+
 -- a front of the bytes of lines that are taken is written
 abbrev pub IsFrontPacked : Own → List (List ℕ) → Option (List ℕ) → Option (List ℕ) → Type 0
 IsFrontPacked own all held held' =
     (before : List (List ℕ)) × (behind : List (List ℕ)) × (b : List ℕ) × (v : Outcome) × (all ≡ before ++ behind) × AreTaken own before b v × AppendsFront held held' b
 
--- what was read is a text of these lines: what is written and answered is what they come to, or at a fault a front is written
-abbrev pub IsPackRun : Own → Option (List ℕ) → Option (List ℕ) → Option (List ℕ) → Option (List ℕ) → Result PackEnd ToolFault → Type 0
-IsPackRun own left left' held held' r =
-    (text : List ℕ) × (all : List (List ℕ)) × Consumes left left' text × AreLines text all × MatchResult r (λ e. (b : List ℕ) × IsPacked own all b e × Appends held held' b) (λ _. IsFrontPacked own all held held')
-
-abbrev pub IsAccepted : PackEnd → Type 0
-IsAccepted (Accepted messages bytes) = ⊤
-IsAccepted (Refused line reason) = ⊥
+-- What was read is a text of these lines: what is written and answered is what they come to, or at a fault a front is written.
+-- AtEnd says that the text's end was read.
+abbrev pub IsPackRun : Own → Type 0 → Option (List ℕ) → Option (List ℕ) → Option (List ℕ) → Option (List ℕ) → Result PackEnd ToolFault → Type 0
+IsPackRun own AtEnd left left' held held' r =
+    (text : List ℕ) × (all : List (List ℕ)) × Consumes left left' text × AreLines text all
+    × MatchResult r (λ e. (b : List ℕ) × IsPacked own all b e × Appends held held' b × IsTimely own.limit text AtEnd e) (λ _. IsFrontPacked own all held held')

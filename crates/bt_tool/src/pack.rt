@@ -3,7 +3,7 @@ ghost use Rattle.std.specs.Prelude.{◌≡◌, ◌==◌, ◌≤◌, ◌<◌, ◌
 ghost use Rattle.bt_wire.specs.declared.context.Own.{Own as Receiver};
 ghost use Rattle.bt_feed.specs.Counts.{Grew};
 ghost use Rattle.bt_feed.specs.Stages.{number_of, start_of};
-ghost use Rattle.bt_tool.specs.Packs.{IsPackRun, IsAccepted};
+ghost use Rattle.bt_tool.specs.Packs.{IsPackRun};
 ghost use Rattle.bt_tool.specs.PackSteps.{IsPackedTo, IsLineEnd, IsCut, IsReadSo, IsPieceRead, IsHeld, IsScriptEnd};
 
 use crate::ended::{PackEnd, ScriptReason, ToolFault};
@@ -170,8 +170,7 @@ pub fn run_pack<R: Source, W: Target>(
     own: &Own,
 ) -> Result<PackEnd, ToolFault>
     requires { (1 ≤ own.now.limit) × (own.now.limit ≤ 1048576) }
-    ensures packed { IsPackRun own.now (R.left reader.old) (R.left reader.new) (W.held writer.old) (W.held writer.new) result }
-    ensures end { IfOk result (λ end. IsAccepted end → Grew (R.ends reader.old) (R.ends reader.new)) }
+    ensures packed { IsPackRun own.now (Grew (R.ends reader.old) (R.ends reader.new)) (R.left reader.old) (R.left reader.new) (W.held writer.old) (W.held writer.new) result }
     ensures read { result ≡ Err ToolFault.Read → Grew (R.failed_reads reader.old) (R.failed_reads reader.new) }
     ensures write { result ≡ Err ToolFault.Write → Grew (W.failed_writes writer.old) (W.failed_writes writer.new) }
     ensures turns { result ≡ Err ToolFault.Turns

@@ -1,8 +1,9 @@
-use Rattle.std.proofs.Common.{◌≡◌, ◌∙◌, ◌++◌, ◌+◌, ℕ, List, [], Option, take, refl, sym, ap, subst, arith}
+use Rattle.std.proofs.Common.{rules, ◌≡◌, ◌∙◌, ◌++◌, ◌+◌, ℕ, List, [], Option, take, refl, sym, ap, subst, arith}
 use Rattle.std.proofs.KnownBytes.{Consumes-nil, Consumes-kept, Consumes-trans}
 use Rattle.std.proofs.lemmas.Bool.{ne_eqb}
 use Rattle.std.specs.Io.KnownBytes.{Consumes, Appends}
 use Rattle.bt_tool.specs.Printed.{AppendsFront, IsWrittenOut}
+use Rattle.bt_feed.specs.Counts.{Grew}
 use Rattle.bt_feed.specs.Stages.{number_of}
 use Rattle.bt_tool.specs.declared.ended.PackEnd.{PackEnd}
 use Rattle.bt_tool.specs.declared.ended.PackEnd.TheVariants.{Refused}
@@ -10,7 +11,7 @@ use Rattle.bt_tool.specs.declared.ended.ScriptReason.{ScriptReason}
 use Rattle.bt_tool.specs.declared.ended.ToolFault.TheVariants as fault
 use Rattle.bt_tool.specs.Packs.{stopped}
 use Rattle.bt_tool.specs.PackSteps.{IsReadSo, IsPieceRead}
-use Rattle.bt_tool.proofs.PackRuns.{run_starts, run_more, run_fails, more_fails, packed_run, nothing_run, no_bytes}
+use Rattle.bt_tool.proofs.PackRuns.{timely_at_end, timely_line, run_starts, run_more, run_fails, more_fails, packed_run, nothing_run, no_bytes}
 use Rattle.bt_tool.proofs.pack.run_pack.Goals as goal
 
 pub returns-in_default-clause-packed : goal.returns-in_default-clause-packed
@@ -40,8 +41,10 @@ returns-in-Ok-end_script-clause-packed g c =
     let Q : List ℕ → Type 0 = λ l. IsReadSo c.args.own.now r.text r.lines r.bytes l c.loop-turn.feed in
     let S : List ℕ → Type 0 = λ l. IsWrittenOut c.in-Ok-end_script.end l (g.W.Target.held c.loop-turn.writer) (g.W.Target.held c.write_out.new.writer) c.write_out.result in
     let end = c.in-Ok-end_script.ensures c.args.own.now r.text r.lines r.bytes refl (subst Q (sym c.as_slice.ensures.value) r.read) in
-    packed_run c.args.own.now _ _ _ _ _ r.text r.bytes end.0 c.loop-turn.out.items c.end_script.new.out.items end.2.0 c.in-Ok-end_script.end c.write_out.result c.requires.1 (no_bytes _ _ _ r.text r.consumed (subst P none c.in-Ok-eq0.ensures.bytes.0)) end.2.1 end.2.2
-    r.written c.loop-turn.invariant.empty end.1 (subst S c.as_slice-in-Ok-end_script.ensures.value c.write_out.ensures.written)
+    let AtEnd : Type 0 = Grew (g.R.Source.ends c.args.reader.now) (g.R.Source.ends c.read.new.self) in
+    let grew : AtEnd = search rules in
+    packed_run AtEnd c.args.own.now _ _ _ _ _ r.text r.bytes end.0 c.loop-turn.out.items c.end_script.new.out.items end.2.0 c.in-Ok-end_script.end c.write_out.result c.requires.1 (no_bytes _ _ _ r.text r.consumed (subst P none c.in-Ok-eq0.ensures.bytes.0)) end.2.1 end.2.2
+    (timely_at_end c.args.own.now.limit r.text AtEnd c.in-Ok-end_script.end grew) r.written c.loop-turn.invariant.empty end.1 (subst S c.as_slice-in-Ok-end_script.ensures.value c.write_out.ensures.written)
 
 pub returns-in-Err-end_script-clause-packed : goal.returns-in-Err-end_script-clause-packed
 returns-in-Err-end_script-clause-packed g c =
@@ -68,8 +71,9 @@ returns-in-Ok-Some-clause-packed g c =
     let e : PackEnd = Refused (c.number-line.result + 1) c.in-Ok-Some.reason in
     let S : List ℕ → Type 0 = λ l. IsWrittenOut e l (g.W.Target.held c.loop-turn.writer) (g.W.Target.held c.write_out-in-Ok-Some.new.writer) c.write_out-in-Ok-Some.result in
     let same : e ≡ Refused (number_of c.take_piece.new.feed.stage + 1) c.in-Ok-Some.reason = ap (λ (n : ℕ). Refused (n + 1) c.in-Ok-Some.reason) c.number-line.ensures.value in
-    packed_run c.args.own.now _ _ _ _ _ (r.text ++ piece) r.bytes p.0 c.loop-turn.out.items c.take_piece.new.out.items p.2.0 e c.write_out-in-Ok-Some.result c.requires.1 (Consumes-trans _ _ _ r.text piece r.consumed c.in-Ok-read.ensures.bytes.0) p.2.1
-    (stopped (number_of c.take_piece.new.feed.stage + 1) c.in-Ok-Some.reason p.2.2 same) r.written c.loop-turn.invariant.empty p.1 (subst S c.as_slice-in-Ok-Some.ensures.value c.write_out-in-Ok-Some.ensures.written)
+    let AtEnd : Type 0 = Grew (g.R.Source.ends c.args.reader.now) (g.R.Source.ends c.read.new.self) in
+    packed_run AtEnd c.args.own.now _ _ _ _ _ (r.text ++ piece) r.bytes p.0 c.loop-turn.out.items c.take_piece.new.out.items p.2.0 e c.write_out-in-Ok-Some.result c.requires.1 (Consumes-trans _ _ _ r.text piece r.consumed c.in-Ok-read.ensures.bytes.0) p.2.1
+    (stopped (number_of c.take_piece.new.feed.stage + 1) c.in-Ok-Some.reason p.2.2 same) (timely_line c.args.own.now.limit (r.text ++ piece) AtEnd e (number_of c.take_piece.new.feed.stage + 1) c.in-Ok-Some.reason same p.3) r.written c.loop-turn.invariant.empty p.1 (subst S c.as_slice-in-Ok-Some.ensures.value c.write_out-in-Ok-Some.ensures.written)
 
 pub returns-in-Err-take_piece-clause-packed : goal.returns-in-Err-take_piece-clause-packed
 returns-in-Err-take_piece-clause-packed g c =

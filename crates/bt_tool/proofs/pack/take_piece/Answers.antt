@@ -20,7 +20,7 @@ returns-in-Ok-false c = λ own text lines b e h.
     let P : Bool → Type 0 = λ o. IsHeld c.args.limit c.lines.line.items c.lines.rest.now c.hold.new.line.items o in
     let held = subst P c.in-Ok-false.field-0-test c.in-Ok-false.ensures in
     let line = c.lines.line.items ++ c.lines.rest.now in
-    rest_stops own text lines b c.args.piece.now c.lines.rest.now c.lines.line.items line c.hold.new.line.items c.lines.feed c.args.out.now.items c.lines.out.items _ d c.in-None.ensures.cut refl (omega (arith, held.1))
+    rest_stops own text lines b c.args.piece.now c.lines.rest.now c.lines.line.items line c.hold.new.line.items c.lines.feed c.args.out.now.items c.lines.out.items _ d c.in-None.ensures.cut refl (omega (arith, held.1, e))
     (too_long own (lines ++ d.more) (b ++ d.named) line c.lines.feed d.read.packed (omega (arith, held.1, e)))
 
 pub returns-in-Ok-false-hold : goal.returns-in-Ok-false-hold
