@@ -28,7 +28,7 @@ pub fn run_check<R: Source, W: Target>(
     let Ok(mut feed) = Feed::new(alloc, *own) else {
         return Err(ToolFault::Memory);
     };
-    let mut buffer = [0; 65536];
+    let mut buffer = [0; 262144];
     match pump_with(
         reader,
         &mut feed,
