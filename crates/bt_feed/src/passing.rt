@@ -1,5 +1,5 @@
 //! Whole messages, handed on where they lie in a piece.
-ghost use Rattle.std.specs.Prelude.{◌≡◌, ◌+◌, ◌^◌, ◌≤◌, ℕ, List, length, take, OnOk, OnErr, is_err};
+ghost use Rattle.std.specs.Prelude.{◌≡◌, ◌+◌, ◌^◌, ◌≤◌, ℕ, List, length, take, OnOk, OnErr};
 ghost use Rattle.bt_wire.specs.declared.item.Item.{Item};
 ghost use Rattle.bt_feed.specs.declared.stage.Stage.TheVariants as stages;
 ghost use Rattle.bt_feed.specs.Counts.{Grew};

@@ -97,10 +97,6 @@ checked v n = verdict_line (ended_as v n)
 abbrev pub unpacked : Own → Writing
 unpacked own v n = script own v.items
 
--- the items, and then the verdict
-abbrev pub with_verdict : Form → Own → Writing
-with_verdict f own v n = texts f own v.items ++ verdict_line (ended_as v n)
-
 -- ---- for private contracts: how far a stream is read
 
 -- b was read, these are its items, and the feed holds what is behind them
