@@ -104,13 +104,22 @@ fn bad_m_ref(dict: &DictRef) -> bool
 fn bad_size(dict: &Value) -> bool
     ensures { result ≡ is_bad_size (lookup_of (codes "metadata_size") (tree_of dict.now)) }
 {
-    lookup(dict, b"metadata_size").is_some() && metadata_size(dict).is_none()
+    match lookup(dict, b"metadata_size") {
+        None => false,
+        Some(size) => match size {
+            Value::Int(n) => *n < 0,
+            _ => true,
+        },
+    }
 }
 
 fn bad_size_ref(dict: &DictRef) -> bool
     ensures { result ≡ is_bad_size (value_at (codes "metadata_size") dict.now.tree.0) }
 {
-    dict.has(b"metadata_size") && metadata_size_ref(dict).is_none()
+    match dict.lookup_int(b"metadata_size") {
+        Some(n) => n < 0,
+        None => dict.has(b"metadata_size"),
+    }
 }
 
 /// Whether an extended handshake's dictionary has a field of the wrong kind.

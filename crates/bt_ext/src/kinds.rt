@@ -55,9 +55,11 @@ pub fn kind(dict: &Value) -> Kind
 pub fn kind_ref(dict: &DictRef) -> Kind
     ensures { result ≡ kind_of (dictionary dict.now.tree.0) }
 {
-    kind_by(
-        dict.lookup_int(b"msg_type"),
-        dict.lookup_int(b"piece"),
-        dict.lookup_int(b"total_size"),
-    )
+    let msg_type = dict.lookup_int(b"msg_type");
+    // A data message alone has a size; in a request it would be sought to the dictionary's end.
+    let total = match msg_type {
+        Some(1) => dict.lookup_int(b"total_size"),
+        _ => None,
+    };
+    kind_by(msg_type, dict.lookup_int(b"piece"), total)
 }

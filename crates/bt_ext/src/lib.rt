@@ -1,6 +1,7 @@
 //! Extended payloads (BEP 10, BEP 9): their values, the fields of their dictionaries, and the peer's names and ids.
 #![tactic(auto)]
 
+mod bytes;
 mod ext;
 mod fields;
 mod ids;

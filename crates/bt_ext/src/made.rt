@@ -4,21 +4,16 @@ ghost use Rattle.std.specs.Option.{ForSome};
 ghost use Rattle.bt_bencode.specs.Views.{tree_of};
 ghost use Rattle.bt_ext.specs.Made.{IsMade, message_tree, m_pairs, handshake_tree};
 
+use crate::bytes::copy_bytes;
 use crate::ids::ExtId;
 use crate::metadata::Kind;
 use bt_bencode::{ByteString, Pairs, Value};
 use std::alloc::{AllocError, Global};
 
-fn named(alloc: Global, name: &[u8]) -> Result<ByteString, AllocError>
-    ensures { IfOk result (λ s. s ≡ name.now) }
-{
-    Ok(ByteString::from_vec(name.to_vec(alloc)?))
-}
-
 fn numbered(alloc: Global, name: &[u8], n: i64) -> Result<(ByteString, Value), AllocError>
     ensures { IfOk result (λ p. (p.0 ≡ name.now) × (p.1 ≡ Value.Int n)) }
 {
-    Ok((named(alloc, name)?, Value::Int(n)))
+    Ok((copy_bytes(alloc, name)?, Value::Int(n)))
 }
 
 fn typed(alloc: Global, msg_type: u8, piece: u32) -> Result<Vec<(ByteString, Value)>, AllocError>
@@ -78,7 +73,7 @@ pub fn handshake_dict(
     ensures { IfOk result (λ v. tree_of v ≡ handshake_tree id size) }
 {
     let m = m_dict(alloc, id)?;
-    let name = named(alloc, b"m")?;
+    let name = copy_bytes(alloc, b"m")?;
     let mut pairs = Vec::new(alloc);
     pairs.push((name, Value::Dict(m)))?;
     if let Some(size) = size {

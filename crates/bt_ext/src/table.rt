@@ -6,6 +6,7 @@ ghost use Rattle.bt_bencode.specs.Views.{tree_of};
 ghost use Rattle.bt_ext.specs.Tables.{id_of_name, entered, entered_all, applied, IsTable};
 ghost use Rattle.bt_ext.specs.Holding.{entries_of, HoldsAt};
 
+use crate::bytes::copy_bytes;
 use crate::told::{told_of, told_of_ref};
 use bt_bencode::{ByteString, DictRef, Value};
 use std::alloc::{AllocError, Global};
@@ -61,7 +62,7 @@ fn enter(entries: &mut Vec<(ByteString, u8)>, name: &[u8], id: u8) -> Result<(),
         }
         Some(i) => entries[i].1 = id,
         None if id != 0 && entries.len() < MAX_NAMES => {
-            let name = ByteString::from_vec(name.to_vec(*entries.allocator())?);
+            let name = copy_bytes(*entries.allocator(), name)?;
             entries.push((name, id))?;
         }
         None => {}
@@ -95,7 +96,7 @@ impl Table {
         let alloc = *self.entries.allocator();
         let mut entries = Vec::with_capacity(alloc, self.entries.len())?;
         for (name, id) in &self.entries {
-            let name = ByteString::from_vec(name.as_slice().to_vec(alloc)?);
+            let name = copy_bytes(alloc, name.as_slice())?;
             entries.push((name, *id))?;
         }
         Ok(Table { entries })

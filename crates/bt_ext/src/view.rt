@@ -6,12 +6,13 @@ ghost use Rattle.bt_bencode.specs.Payloads.{BeginsWithNone};
 ghost use Rattle.bt_ext.specs.Payloads.{IsExt, seen};
 ghost use Rattle.bt_ext.specs.Faults.{HasNoDict, Reads, Refuses, RefusesToRead, fault_of, handshake_fault_of, metadata_fault_of};
 
+use crate::bytes::copy_bytes;
 use crate::ext::{Ext, ExtError, ExtView, ViewError};
 use crate::fields::bad_field_ref;
 use crate::ids::{Registered, Rules};
 use crate::kinds::kind_ref;
 use crate::metadata::{block_ok, is_malformed};
-use bt_bencode::{Bad, ByteString, DictRef, check};
+use bt_bencode::{Bad, DictRef, check};
 use std::alloc::{AllocError, Global};
 
 /// The dictionary in front and what follows it, or the place where none goes on.
@@ -102,12 +103,6 @@ pub fn view_ext<'a>(
             Some(fault) => Err(fault),
         },
     }
-}
-
-fn copy_bytes(alloc: Global, bytes: &[u8]) -> Result<ByteString, AllocError>
-    ensures { IfOk result (λ s. s ≡ bytes.now) }
-{
-    Ok(ByteString::from_vec(bytes.to_vec(alloc)?))
 }
 
 /// The value that a view is.
