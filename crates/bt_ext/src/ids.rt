@@ -8,9 +8,10 @@ use std::marker::Model;
 /// What a receiver judges.
 #[derive(Clone, Copy, Debug, PartialEq, Eq)]
 pub enum Rules {
-    /// Syntax alone.
+    /// Syntax, negotiation and lengths; and piece indexes and spare bits where the piece count is known.
     Free,
-    /// Also the order of keys, the kinds of fields and the sizes of blocks.
+    /// Also unknown ids and first messages, and of dictionaries the order of keys, the kinds of fields and the lengths of
+    /// blocks.
     Bep,
 }
 

@@ -10,9 +10,9 @@ use Rattle.bt_wire.specs.declared.ids.Shape.TheVariants.{Nothing, Index, Part, B
 use Rattle.bt_wire.specs.declared.message.Message.{Message}
 use Rattle.bt_wire.specs.Numbers.{be32, number32, AreBytes}
 use Rattle.bt_wire.specs.Ids.{Id, ids, row_in, kind_of}
-use Rattle.bt_wire.specs.Messages.{Fields, IsIdInRange, id_of, fields_of, spell_fields, AreInRange, IsShaped}
+use Rattle.bt_wire.specs.Messages.{Fields, IsIdInRange, id_of, fields_of, spell_fields, AreInRange, IsShaped, IsInRange}
 use Rattle.bt_wire.specs.Faults.{allows, shape_size, size_of}
-use Rattle.bt_wire.specs.Parts.{reading, known, named, made, IsPart}
+use Rattle.bt_wire.specs.Parts.{reading, known, named, made}
 use Rattle.bt_wire.proofs.NumberLaws.{AreBytes-drop, AreBytes-take, be32-number32, number32-take, number32-lt, be16-number16, number16-lt}
 
 -- ---- the fields that bytes are
@@ -136,6 +136,13 @@ found_in P (j ∷ is) n i all e =
           record { number = same ∙ ap (λ (x : Id). x.number) one; holds = subst P one all.0 }
       | inr other ↦ found_in P is n i all.1 (rw (ne_eqb n j.number other) at e)
     ]
+
+-- the message has this id and these bytes behind it, and a spelling of its own
+pub record IsPart (c : Context) (n : ℕ) (bytes : List ℕ) (m : Message) : Type 0 where
+  pub id : id_of m ≡ Some n
+  pub fields : spell_fields (fields_of c m) ≡ bytes
+  pub shaped : IsShaped c m
+  pub in_range : IsInRange c m
 
 part_of_row : (c : Context) (i : Id) (bytes : List ℕ) → (i.kind.shape ≡ Extended → ⊥) → IsGood i → AreBytes bytes → allows (shape_size c i.kind.shape) (suc (length bytes)) ≡ true → IsPart c i.number bytes (known i.number (reading i.kind.shape bytes))
 part_of_row c i bytes ne good fits size =

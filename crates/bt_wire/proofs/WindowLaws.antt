@@ -24,8 +24,8 @@ use Rattle.bt_wire.specs.Faults.{said_length, said_id, has_length, has_id, is_wh
 use Rattle.bt_wire.specs.Legal.{IsLegal, IsAllowed, IsSaid, Refuses}
 use Rattle.bt_wire.specs.Headers.{IsWindow, IsRead}
 use Rattle.bt_wire.specs.Rules.{broken_by}
-use Rattle.bt_wire.specs.Parts.{IsPart, made, broken_field}
-use Rattle.bt_wire.proofs.PartLaws.{part}
+use Rattle.bt_wire.specs.Parts.{made, broken_field}
+use Rattle.bt_wire.proofs.PartLaws.{IsPart, part}
 use Rattle.bt_wire.proofs.NumberLaws.{AreBytes-drop, be32-number32, header_parts, number32-take}
 use Rattle.bt_wire.proofs.RowLaws.{NoneCounts, NoneCounts-from, first_fault-none}
 use Rattle.bt_wire.proofs.HeaderLaws.{none_by_id, id_empty, id_there, length_there, whole_there, whole_length, window-append, whole-append, header_stays, header_keeps, header-window}

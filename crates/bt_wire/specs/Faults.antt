@@ -96,9 +96,8 @@ abbrev pub is_fresh : Order → Bool
 is_fresh Fresh = true
 is_fresh Past = false
 
--- BEP 3: "The bitfield message may only be sent immediately after the handshaking sequence is completed, and before any
--- other messages are sent." BEP 6: one of bitfield, have all and have none must be sent then. Here keep-alives, port,
--- extended and unknown messages don't count.
+-- BEP 3: "'bitfield' is only ever sent as the first message". BEP 6: one of bitfield, have all and have none must be sent
+-- right behind the handshakes. Here keep-alives, port, extended and unknown messages don't count.
 abbrev pub is_late : Order → Option Kind → Bool
 is_late o None = false
 is_late o (Some k) = elim k.turn [ Apart ↦ false | Counted ↦ false | Opening ↦ not (is_fresh o) ]

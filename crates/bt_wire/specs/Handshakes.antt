@@ -51,7 +51,7 @@ hand_rows own b =
 unfoldable pub hand_fault : Own → List ℕ → Option Refused
 hand_fault own b = first_fault (hand_rows own b)
 
--- BEP 6: "reserved_byte[7] & 0x04" says that an end knows the Fast Extension
+-- BEP 6: an end says that it knows the Fast Extension by "reserved[7] |= 0x04"
 abbrev pub sets_fast : Reserved → Bool
 sets_fast r = bit_and r.0 4 == 4
 

@@ -16,7 +16,7 @@ use Rattle.bt_wire.specs.declared.fault.Refused.{Refused}
 use Rattle.bt_wire.specs.Bitfields.{has_spare}
 use Rattle.bt_wire.specs.Numbers.{number16, number32}
 use Rattle.bt_wire.specs.Ids.{kind_of}
-use Rattle.bt_wire.specs.Messages.{Fields, none, index, part, block, port, field, payload, id_of, fields_of, spell_fields, index_in, field_in, IsShaped, IsInRange}
+use Rattle.bt_wire.specs.Messages.{Fields, none, index, part, block, port, field, payload, index_in, field_in}
 use Rattle.bt_wire.specs.Faults.{allows, field_size, is_beyond, placed_by}
 
 -- the fields of a shape that bytes are; of an extended message bytes are read apart
@@ -82,13 +82,6 @@ named (Some k) n bytes = known n (reading k.shape bytes)
 
 unfoldable pub made : ℕ → List ℕ → Message
 made n bytes = named (kind_of n) n bytes
-
--- the message has this id and these bytes behind it, and a spelling of its own
-pub record IsPart (c : Context) (n : ℕ) (bytes : List ℕ) (m : Message) : Type 0 where
-  pub id : id_of m ≡ Some n
-  pub fields : spell_fields (fields_of c m) ≡ bytes
-  pub shaped : IsShaped c m
-  pub in_range : IsInRange c m
 
 -- ---- the fault of fields, where the message has this length
 

@@ -16,9 +16,10 @@ pub struct Own {
     pub pieces: Option<u32>,
     /// The ids under which the receiver wants extensions.
     pub reg: Registered,
-    /// Whether syntax alone is judged.
+    /// The rules by which the receiver judges.
     pub rules: Rules,
-    /// The greatest length that a message may have, its four bytes of length not counted.
+    /// The greatest length in bytes that a message may have, its four bytes of length not counted. A feed wants 1 to
+    /// 1,048,576.
     pub limit: u32,
 }
 
@@ -33,9 +34,10 @@ pub struct Context {
     pub pieces: Option<u32>,
     /// The receiver's ids of extensions.
     pub reg: Registered,
-    /// Whether syntax alone is judged.
+    /// The rules by which the receiver judges.
     pub rules: Rules,
-    /// The greatest length that a message may have, its four bytes of length not counted.
+    /// The greatest length in bytes that a message may have, its four bytes of length not counted. A feed wants 1 to
+    /// 1,048,576.
     pub limit: u32,
 }
 

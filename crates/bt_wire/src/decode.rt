@@ -11,6 +11,7 @@ ghost use Rattle.bt_wire.specs.Parts.{made, reading_by, place_in};
 use crate::context::{Context, Order};
 use crate::fault::{DecodeError, Reason, Refused};
 use crate::fields::judge_bytes;
+use crate::ids::EXTENDED;
 use crate::message::{Message, MessageView};
 use crate::numbers::{number_at_front, port_at_front};
 use crate::slices::behind;
@@ -19,6 +20,10 @@ use bt_ext::{ViewError, copy_ext, view_ext};
 use std::alloc::{AllocError, Global};
 
 /// Reads the bytes of one message as parts of them, where `judge_header` lets them be a window. It takes no memory.
+///
+/// # Errors
+/// The first fault of the fields, and its place in the message: `BadIndex` or `SpareBits`, and of an extended message
+/// `BadBencode`, `Unsorted`, `BadField` or `BadBlock`, in this order.
 #[inline(always)]
 pub fn view_window<'a>(
     context: &Context,
@@ -53,9 +58,6 @@ fn id_at(window: &[u8]) -> u8
 {
     window[4]
 }
-
-/// The id of extended messages (BEP 10).
-const EXTENDED: u8 = 20;
 
 /// The extended message of a window.
 fn view_extended<'a>(
@@ -243,6 +245,9 @@ fn copy_bytes(alloc: Global, bytes: &[u8]) -> Result<ByteString, AllocError>
 }
 
 /// Reads the bytes of one message, where `judge_header` lets them be a window.
+///
+/// # Errors
+/// As `view_window`, and `Memory` where there is no fault and memory was refused.
 pub fn decode_window(
     alloc: Global,
     context: &Context,
@@ -254,10 +259,7 @@ pub fn decode_window(
     ensures err { IfErr result (RefusesWindow context.now order window.now) }
 {
     match view_window(context, order, window) {
-        Ok(view) => match copy_message(alloc, &view) {
-            Ok(message) => Ok(message),
-            Err(_) => Err(DecodeError::Memory),
-        },
+        Ok(view) => Ok(copy_message(alloc, &view)?),
         Err(Refused { at, reason }) => Err(DecodeError::Refused { at, reason }),
     }
 }

@@ -9,30 +9,10 @@ use crate::context::{Context, Order};
 use crate::fault::{EncodeError, Fault, Reason, Refused};
 use crate::fields::{Fields, judge_message};
 use crate::header::judge_any_id;
-use crate::ids::kind_of;
+use crate::ids::{EXTENDED, kind_of};
 use crate::message::Message;
 use bt_ext::{Ext, ExtReason, Registered, ext_len, ext_reason, spell_ext};
 use std::alloc::{AllocError, Global};
-
-/// Whether the value has a spelling of its own.
-fn is_shaped(context: &Context, message: &Message) -> bool
-    ensures { IsTrue result ↔ IsShaped context.now message.now }
-{
-    match message {
-        Message::Unknown { id, .. } => kind_of(*id).is_none(),
-        Message::Extended(value) => has_spelling(context.reg, value),
-        _ => true,
-    }
-}
-
-fn has_spelling(reg: Registered, value: &Ext) -> bool
-    ensures { IsTrue result ↔ HasSpelling reg value.now }
-{
-    match ext_len(reg, value) {
-        Some(_) => true,
-        None => false,
-    }
-}
 
 /// How many bytes the fields have.
 fn fields_length(fields: &Fields) -> usize
@@ -50,49 +30,56 @@ fn fields_length(fields: &Fields) -> usize
     }
 }
 
-/// How many bytes follow the length, at most 2^64 - 1.
-fn body_length(context: &Context, message: &Message) -> u64
-    requires { IsShaped context.now message.now }
-    ensures { result ≡ min (list_length (body context.now message.now)) (2 ^ 64 - 1) }
+/// How many bytes follow the length, at most 2^64 - 1; `None` where the value has no spelling of its own.
+fn shaped_length(context: &Context, message: &Message) -> Option<u64>
+    ensures { MatchOption result (¬ IsShaped context.now message.now)
+        (λ length. IsShaped context.now message.now × (length ≡ min (list_length (body context.now message.now)) (2 ^ 64 - 1))) }
 {
-    match message.fields() {
-        Some(fields) => match message.id() {
-            None => 0,
-            Some(_) => (fields_length(&fields) as u64).saturating_add(1),
+    match message {
+        Message::KeepAlive => Some(0),
+        Message::Unknown { id, .. } if kind_of(*id).is_some() => None,
+        Message::Extended(value) => match ext_len(context.reg, value) {
+            Some(length) => Some(length.saturating_add(2)),
+            None => None,
         },
-        None => match message {
-            Message::Extended(value) => extended_length(context.reg, value),
-            _ => 0,
+        _ => match message.fields() {
+            Some(fields) => Some(1 + fields_length(&fields) as u64),
+            None => None,
         },
-    }
-}
-
-/// The same of an extended message.
-fn extended_length(reg: Registered, value: &Ext) -> u64
-    requires { HasSpelling reg value.now }
-    ensures { result ≡ min (2 + list_length (payload_of value.now)) (2 ^ 64 - 1) }
-{
-    match ext_len(reg, value) {
-        Some(length) => length.saturating_add(2),
-        None => 0,
     }
 }
 
 /// Whether the message may be sent, or why not.
+///
+/// # Errors
+/// `Shape` where the value has no spelling of its own, and else the reason for which its spelling is refused: the first
+/// of `TooLong`, `UnknownId`, `NotNegotiated`, `WrongLength`, `Late`, `Missing`, `BadIndex`, `SpareBits`, and of an extended
+/// message `Unsorted`, `BadField` and `BadBlock`.
 pub fn legal(context: &Context, order: Order, message: &Message) -> Result<(), Fault>
     ensures exactly { IsOk result ↔ IsLegal context.now order message.now }
     ensures fault { IfErr result (Refuses context.now order message.now) }
 {
-    if !is_shaped(context, message) {
+    judged(context, order, message)?;
+    Ok(())
+}
+
+/// How many bytes follow the length of a message that may be sent, or why it may not.
+fn judged(context: &Context, order: Order, message: &Message) -> Result<u32, Fault>
+    ensures legal { IfOk result (λ _. IsLegal context.now order message.now) }
+    ensures length { IfOk result (λ length. length ≡ list_length (body context.now message.now)) }
+    ensures illegal { IfErr result (λ _. ¬ IsLegal context.now order message.now) }
+    ensures fault { IfErr result (Refuses context.now order message.now) }
+{
+    let Some(length) = shaped_length(context, message) else {
         return Err(Fault::Shape);
-    }
-    let length = body_length(context, message);
+    };
     if length > u64::from(context.limit) {
         return Err(Fault::Reason(Reason::TooLong));
     }
-    match judge_value(context, order, message, length as u32) {
+    let length = length as u32;
+    match judge_value(context, order, message, length) {
         Some(reason) => Err(Fault::Reason(reason)),
-        None => Ok(()),
+        None => Ok(length),
     }
 }
 
@@ -129,6 +116,9 @@ fn judge_extended(context: &Context, message: &Message) -> Option<Reason>
 }
 
 /// The bytes of a message that may be sent.
+///
+/// # Errors
+/// `Illegal` as `legal`, and `Memory` where the message may be sent and memory was refused.
 pub fn encode(
     alloc: Global,
     context: &Context,
@@ -137,23 +127,23 @@ pub fn encode(
 ) -> Result<Vec<u8>, EncodeError>
     ensures { IsEncoded context.now order message.now result }
 {
-    if let Err(fault) = legal(context, order, message) {
-        return Err(EncodeError::Illegal(fault));
-    }
-    let _limit = context.limit;
-    match spelled(alloc, context, message) {
-        Ok(bytes) => Ok(bytes),
-        Err(_) => Err(EncodeError::Memory),
+    match judged(context, order, message) {
+        Ok(length) => Ok(spelled(alloc, context, message, length)?),
+        Err(fault) => Err(EncodeError::Illegal(fault)),
     }
 }
 
-/// The bytes of a message, whose length fits four bytes.
-fn spelled(alloc: Global, context: &Context, message: &Message) -> Result<Vec<u8>, AllocError>
+/// The bytes of a message of this length.
+fn spelled(
+    alloc: Global,
+    context: &Context,
+    message: &Message,
+    length: u32,
+) -> Result<Vec<u8>, AllocError>
     requires shaped { IsShaped context.now message.now }
-    requires fits { list_length (body context.now message.now) < 2 ^ 32 }
+    requires size { length ≡ list_length (body context.now message.now) }
     ensures { IfOk result (λ bytes. bytes.items ≡ spell context.now message.now) }
 {
-    let length = body_length(context, message) as u32;
     let mut bytes = Vec::with_capacity(alloc, 4 + length as usize)?;
     bytes.extend_from_slice(&length.to_be_bytes())?;
     push_body(alloc, &mut bytes, context, message)?;
@@ -204,7 +194,7 @@ fn push_extended(
 {
     match spell_ext(alloc, reg, value) {
         Ok((id, payload)) => {
-            bytes.push(20)?;
+            bytes.push(EXTENDED)?;
             bytes.push(id)?;
             bytes.extend_from_slice(&payload)?;
             Ok(())

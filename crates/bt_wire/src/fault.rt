@@ -2,7 +2,7 @@ ghost use Rattle.std.specs.Prelude.{◌≡◌};
 ghost use Rattle.bt_wire.specs.declared.fault.DecodeError.TheVariants as decode;
 ghost use Rattle.bt_wire.specs.declared.fault.EncodeError.TheVariants as encode;
 
-use std::alloc::{AllocError, AllocFailed};
+use std::alloc::AllocError;
 use thiserror::Error;
 
 /// Why a stream is refused. Strict rules are `Rules::Bep`.
@@ -116,14 +116,6 @@ impl From<AllocError> for EncodeError {
     ghost from_gives = { λ _ e. e ≡ encode.Memory };
 
     fn from(_e: AllocError) -> EncodeError {
-        EncodeError::Memory
-    }
-}
-
-impl<T: Drop> From<AllocFailed<T>> for EncodeError {
-    ghost from_gives = { λ _ e. e ≡ encode.Memory };
-
-    fn from(_e: AllocFailed<T>) -> EncodeError {
         EncodeError::Memory
     }
 }

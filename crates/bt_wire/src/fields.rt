@@ -1,5 +1,5 @@
 //! What follows a message's id, by its shape.
-ghost use Rattle.std.specs.Prelude.{◌≡◌, ◌+◌, nat_le, IfSome, Some, None, length, true, if◌then◌else◌};
+ghost use Rattle.std.specs.Prelude.{◌≡◌, ◌+◌, nat_le, IfSome, Some, None, length as list_length, true, if◌then◌else◌};
 ghost use Rattle.bt_wire.specs.Bitfields.{field_bytes, has_spare};
 ghost use Rattle.bt_wire.specs.Messages.{seen, fields_of, AreInRange};
 ghost use Rattle.bt_wire.specs.Faults.{allows, size_of};
@@ -72,9 +72,9 @@ pub fn judge_message(context: &Context, length: u32, message: &Message) -> Optio
 
 /// The same of the bytes behind an id, where a message with this id may have so many. The message has this length.
 #[inline(always)]
-pub fn judge_bytes(context: &Context, id: u8, size: u32, bytes: &[u8]) -> Option<Refused>
-    requires { allows (size_of context.now id) (length bytes.now + 1) ≡ true }
-    ensures { result ≡ broken_field context.now.pieces size (reading_by (shape_by (kind_at id)) bytes.now) }
+pub fn judge_bytes(context: &Context, id: u8, length: u32, bytes: &[u8]) -> Option<Refused>
+    requires { allows (size_of context.now id) (list_length bytes.now + 1) ≡ true }
+    ensures { result ≡ broken_field context.now.pieces length (reading_by (shape_by (kind_at id)) bytes.now) }
 {
     let Some(pieces) = context.pieces else {
         return None;
@@ -84,7 +84,7 @@ pub fn judge_bytes(context: &Context, id: u8, size: u32, bytes: &[u8]) -> Option
     };
     match kind.shape {
         Shape::Index | Shape::Part | Shape::Block => judge_index(pieces, number_at_front(bytes)),
-        Shape::Field => judge_bits(pieces, size, bytes),
+        Shape::Field => judge_bits(pieces, length, bytes),
         Shape::Nothing | Shape::Port | Shape::Extended => None,
     }
 }
@@ -103,13 +103,13 @@ fn judge_index(pieces: u32, index: u32) -> Option<Refused>
 }
 
 /// The fault of a bitfield, where the message has this length.
-fn judge_bits(pieces: u32, size: u32, bits: &[u8]) -> Option<Refused>
-    requires { length bits.now ≡ field_bytes pieces }
-    ensures { result ≡ (if has_spare (Some pieces) bits.now then Some (record { at = 3 + size; reason = Reason.SpareBits }) else None) }
+fn judge_bits(pieces: u32, length: u32, bits: &[u8]) -> Option<Refused>
+    requires { list_length bits.now ≡ field_bytes pieces }
+    ensures { result ≡ (if has_spare (Some pieces) bits.now then Some (record { at = 3 + length; reason = Reason.SpareBits }) else None) }
 {
     if has_spare_bits(pieces, bits) {
         return Some(Refused {
-            at: 3 + u64::from(size),
+            at: 3 + u64::from(length),
             reason: Reason::SpareBits,
         });
     }
@@ -118,7 +118,7 @@ fn judge_bits(pieces: u32, size: u32, bits: &[u8]) -> Option<Refused>
 
 /// Whether a bit past the last piece is 1 (BEP 3: "Spare bits at the end are set to zero").
 fn has_spare_bits(pieces: u32, field: &[u8]) -> bool
-    requires { length field.now ≡ field_bytes pieces }
+    requires { list_length field.now ≡ field_bytes pieces }
     ensures { result ≡ has_spare (Some pieces) field.now }
 {
     match field.last() {

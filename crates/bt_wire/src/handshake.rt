@@ -16,7 +16,7 @@ pub struct Handshake {
 }
 
 /// What a handshake begins with: the length of the protocol's name, and the name.
-pub const PROTOCOL: &[u8; 20] = b"\x13BitTorrent protocol";
+const PROTOCOL: &[u8; 20] = b"\x13BitTorrent protocol";
 
 /// The 68 bytes of a handshake.
 pub fn spell_handshake(handshake: &Handshake) -> [u8; 68]

@@ -66,7 +66,7 @@ fn is_strict(context: &Context) -> bool
     }
 }
 
-/// Whether a message that comes first comes later.
+/// Whether a bitfield, have all or have none comes behind a message that counts (BEP 3, BEP 6).
 #[inline(always)]
 fn is_late(order: Order, kind: Option<Kind>) -> bool
     ensures { result ≡ comes_late order kind }
@@ -84,7 +84,7 @@ fn is_late(order: Order, kind: Option<Kind>) -> bool
     }
 }
 
-/// Whether one that comes first is missing before it.
+/// Whether the Fast Extension asks for one of these three first (BEP 6).
 #[inline(always)]
 fn is_missing(context: &Context, order: Order, kind: Option<Kind>) -> bool
     ensures { result ≡ lacks_opening context.now order kind }
@@ -118,7 +118,7 @@ fn span(shape: Shape) -> (u32, u32)
     }
 }
 
-/// Whether a message breaks no rule, at a glance and without a branch for its kind; where it doesn't say so it may break none.
+/// True only if no rule on the id and the length is broken; false says nothing. It has no branch for the kind.
 #[inline(always)]
 fn is_plain(context: &Context, order: Order, kind: Kind, length: u32) -> bool
     ensures { result ≡ true → broken_by context.now order (Some kind) length ≡ None }
@@ -137,7 +137,7 @@ fn is_plain(context: &Context, order: Order, kind: Kind, length: u32) -> bool
 
 /// The first rule on the id and the length that is broken.
 #[inline(always)]
-pub fn judge_id(context: &Context, order: Order, id: u8, length: u32) -> Option<Refused>
+fn judge_id(context: &Context, order: Order, id: u8, length: u32) -> Option<Refused>
     ensures { result ≡ broken_by context.now order (kind_at id) length }
 {
     let kind = kind_of(id);

@@ -54,6 +54,9 @@ const fn row(shape: Shape, needs: Needs, turn: Turn) -> Kind
     Kind { shape, needs, turn }
 }
 
+/// The id of extended messages (BEP 10).
+pub const EXTENDED: u8 = 20;
+
 /// The row of an id.
 #[inline(always)]
 pub fn kind_of(id: u8) -> Option<Kind>

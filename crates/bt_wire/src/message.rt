@@ -123,7 +123,7 @@ impl Message {
     }
 
     /// What follows the id, but of an extended message, whose payload is read and written apart.
-    pub fn fields(&self) -> Option<Fields<'_>>
+    pub(crate) fn fields(&self) -> Option<Fields<'_>>
         ensures value { MatchOption result (IsExtended self.now) (λ f. (c : Context) → seen f ≡ fields_of c self.now) }
         ensures in_range { IfSome result (λ f. AreInRange (seen f)) }
     {
@@ -198,56 +198,6 @@ impl<'a> MessageView<'a> {
             MessageView::AllowedFast(_) => Some(17),
             MessageView::Extended(_) => Some(20),
             MessageView::Unknown { id, .. } => Some(*id),
-        }
-    }
-
-    /// What follows the id, but of an extended message, whose payload is read and written apart.
-    pub fn fields(&self) -> Option<Fields<'a>>
-        ensures value { MatchOption result (IsExtended (message_of self.now)) (λ f. (c : Context) → seen f ≡ fields_of c (message_of self.now)) }
-    {
-        match self {
-            MessageView::KeepAlive
-            | MessageView::Choke
-            | MessageView::Unchoke
-            | MessageView::Interested
-            | MessageView::NotInterested
-            | MessageView::HaveAll
-            | MessageView::HaveNone => Some(Fields::Nothing),
-            MessageView::Have(index)
-            | MessageView::Suggest(index)
-            | MessageView::AllowedFast(index) => Some(Fields::Index(*index)),
-            MessageView::Request {
-                index,
-                begin,
-                length,
-            }
-            | MessageView::Cancel {
-                index,
-                begin,
-                length,
-            }
-            | MessageView::Reject {
-                index,
-                begin,
-                length,
-            } => Some(Fields::Part {
-                index: *index,
-                begin: *begin,
-                length: *length,
-            }),
-            MessageView::Bitfield(bits) => Some(Fields::Field(bits)),
-            MessageView::Piece {
-                index,
-                begin,
-                block,
-            } => Some(Fields::Block {
-                index: *index,
-                begin: *begin,
-                block: block,
-            }),
-            MessageView::Port(port) => Some(Fields::Port(*port)),
-            MessageView::Unknown { payload, .. } => Some(Fields::Payload(payload)),
-            MessageView::Extended(_) => None,
         }
     }
 }
