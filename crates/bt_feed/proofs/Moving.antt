@@ -1,14 +1,14 @@
 -- What moves from a source through a feed into a sink.
-use Rattle.std.proofs.Common.{◌≡◌, ℕ, ◌+◌, ◌≤◌, false, List, [], ◌∷◌, ◌++◌, length, take, drop, Option, Some, None, Result, Ok, Err, refl, sym, ap, subst, ◌∙◌, arith}
+use Rattle.std.proofs.Common.{◌≡◌, ℕ, ◌+◌, ◌≤◌, Bool, true, false, if◌then◌else◌, List, [], ◌∷◌, ◌++◌, length, take, drop, Option, Some, None, Result, Ok, Err, refl, sym, ap, subst, ◌∙◌, arith}
 use Rattle.std.proofs.lemmas.List.{append-nil, append_assoc, length-drop, take_all, take-append-drop}
 use Rattle.std.proofs.Math.Seq.{take-add}
 use Rattle.bt_wire.specs.declared.item.Item.{Item}
 use Rattle.bt_wire.specs.declared.item.Refusal.{Refusal}
 use Rattle.bt_feed.specs.Stages.{start_of, number_of, limit_of, is_closed, IsItem, stage_after, Comes, stopped}
 use Rattle.bt_feed.specs.Feeds.{FeedState, taken, pushed}
-use Rattle.bt_feed.specs.Answers.{IsAnswer, after, finish_of}
+use Rattle.bt_feed.specs.Answers.{IsAnswer, after, finish_of, unless_refused}
 use Rattle.bt_feed.specs.Transcripts.{with_items}
-use Rattle.bt_feed.specs.Pumps.{Took, IsMissed, IsGiven, IsFed, IsPumped, IsPumpEnd, IsEnd, IsPieceEnd, IsVerdictAtEnd, IsEndOf}
+use Rattle.bt_feed.specs.Pumps.{Took, IsMissed, IsGiven, IsFed, IsPumped, IsPumpEnd, IsEnd, IsPieceEnd, IsVerdictAtEnd, IsEndOf, IsSinkFault}
 use Rattle.bt_feed.specs.Laws.{verdict_at_end}
 use Rattle.bt_feed.specs.Progress.{IsFeed}
 use Rattle.bt_feed.specs.declared.pumping.PumpError.{PumpError}
@@ -18,7 +18,9 @@ use Rattle.bt_feed.specs.declared.stage.Stage.TheVariants as stage
 use Rattle.bt_feed.proofs.Closed.{fault_more, fault_closed, open_parts}
 use Rattle.bt_feed.proofs.FeedLaws.{finish_verdict}
 use Rattle.bt_feed.proofs.Reasons.{no_fault_ends}
-use Rattle.bt_wire.specs.Streams.{Outcome}
+use Rattle.bt_wire.specs.Streams.{Outcome, is_complete, end_inside}
+use Rattle.bt_wire.specs.declared.fault.Reason.TheVariants.{EndInside}
+use Rattle.bt_feed.specs.declared.view.Finish.TheVariants as finish
 use Rattle.bt_wire.specs.declared.item.Item.TheVariants as items
 use Rattle.std.specs.Prelude.{IfSome}
 use Rattle.bt_feed.proofs.Coming.{item_comes, fault_comes, open_comes}
@@ -172,26 +174,29 @@ ended_last f g bytes xs r m h =
     ended_as f g bytes xs r h.last (pumped f g bytes [] xs h.last m (subst P (sym (append-nil g.held)) h.comes) h.no_items h.number) h.verdict
 
 -- where a piece stops: what went into the feed, what is lost, and how it ended
-pub record IsStop (f : FeedState) (all : List ℕ) (xs : List (ℕ × Item)) (g : FeedState) (e : PumpError) : Type 0 where
+pub record IsStop (f : FeedState) (before piece : List ℕ) (xs : List (ℕ × Item)) (g : FeedState) (e : PumpError) : Type 0 where
   pub bytes : List ℕ
   pub lost : List ℕ
-  pub parts : all ≡ bytes ++ lost
+  pub parts : before ++ piece ≡ bytes ++ lost
+  pub few : length lost ≤ length piece
   pub end : IsPumpEnd f bytes lost xs g (Err e)
 
 cut : (before piece : List ℕ) (n : ℕ) → before ++ piece ≡ (before ++ take n piece) ++ drop n piece
 cut before piece n = ap (λ (l : List ℕ). before ++ l) (sym (take-append-drop n piece)) ∙ sym (append_assoc before (take n piece) (drop n piece))
 
-pub stopped_by : (f s g : FeedState) (before piece : List ℕ) (xs ys : List (ℕ × Item)) (e : PumpError) → IsFed f before xs s → limit_of g.stage ≤ 1048576 → IsPieceEnd s piece ys g (Err e) → IsStop f (before ++ piece) (xs ++ ys) g e
+pub stopped_by : (f s g : FeedState) (before piece : List ℕ) (xs ys : List (ℕ × Item)) (e : PumpError) → IsFed f before xs s → limit_of g.stage ≤ 1048576 → IsPieceEnd s piece ys g (Err e) → IsStop f before piece (xs ++ ys) g e
 stopped_by f s g before piece xs ys (error.Refused r) m le h = record {
   bytes = before ++ take h.0 piece;
   lost = drop h.0 piece;
   parts = cut before piece h.0;
+  few = omega (arith, length-drop h.0 piece);
   end = ended_refused f g (before ++ take h.0 piece) (drop h.0 piece) (xs ++ ys) r (fed_both f s g before (take h.0 piece) xs ys m h.1) le h.2;
 }
 stopped_by f s g before piece xs ys (error.Sink e) m le h = record {
   bytes = before ++ take h.0 piece;
   lost = drop h.0 piece;
   parts = cut before piece h.0;
+  few = omega (arith, length-drop h.0 piece);
   end = fed_both f s g before (take h.0 piece) xs ys m h.1;
 }
 stopped_by f s g before piece xs ys error.ReadFault m le h = absurd h
@@ -203,21 +208,41 @@ not_at_end s g piece ys (error.Sink f) h e = absurd e
 not_at_end s g piece ys error.ReadFault h e = absurd h
 not_at_end s g piece ys error.Turns h e = absurd h
 
+pub sink_fault : (e : PumpError) → IsSinkFault {A = Unit {0}} (Err e) → IsSinkFault {A = ℕ} (Err e)
+sink_fault (error.Refused r) h = absurd h
+sink_fault (error.Sink f) h = h
+sink_fault error.ReadFault h = absurd h
+sink_fault error.Turns h = absurd h
+
 -- ---- the end
 
 not_refused : (f : FeedState) (o : Option Refusal) → f.refused ≡ o → IfSome o (λ r. IsAnswer f (Err r)) → is_closed f.stage f.held ≡ false → f.refused ≡ None
 not_refused f None e a waits = e
 not_refused f (Some r) e a waits = absurd (let closed = fault_closed f.stage f.held a.0 a.1 in cc)
 
+-- where nothing is refused before, the verdict at the end stands only there
+ends_inside : (v : Outcome) (complete : Bool) (n : ℕ) (r : Refusal) → unless_refused (if complete then None else Some (end_inside v)) (Ok n) ≡ Err (finish.Refused r) → r.reason ≡ EndInside
+ends_inside v true n r h = absurd cc
+ends_inside v false n r h = let e : end_inside v ≡ r = cc in sym (ap (λ (x : Refusal). x.reason) e)
+
+ends_only : (t : Stage) (b : List ℕ) (r : Result ℕ PumpError) → IsVerdictAtEnd (stopped t b None) r → IsEnd r
+ends_only t b (Ok n) h = tt
+ends_only t b (Err (error.Refused r)) h = ends_inside (stopped t b None) (is_complete (stopped t b None)) (start_of t + length b) r h
+ends_only t b (Err (error.Sink e)) h = absurd h
+ends_only t b (Err error.ReadFault) h = absurd h
+ends_only t b (Err error.Turns) h = absurd h
+
 -- a feed that holds no whole item has its verdict there
 pub end_of_open : (f : FeedState) (r : Result ℕ PumpError) → IsFeed f → is_closed f.stage f.held ≡ false → ((v : Outcome) → finish_of f ≡ verdict_at_end v → IsVerdictAtEnd v r) → IsEndOf f r
 end_of_open f r h e verdict =
     let last = stopped f.stage f.held None in
     let comes = open_comes f.stage f.held (omega (arith, h.limit)) e in
+    let is = verdict last (finish_verdict f last (omega (arith, h.limit)) h.numbered (not_refused f f.refused refl h.refused e) (open_parts f.stage f.held e).1 comes) in
     record {
       last = last;
       comes = comes;
       no_items = refl;
       number = refl;
-      verdict = verdict last (finish_verdict f last (omega (arith, h.limit)) h.numbered (not_refused f f.refused refl h.refused e) (open_parts f.stage f.held e).1 comes);
+      verdict = is;
+      at_end = ends_only f.stage f.held r is;
     }

@@ -11,10 +11,6 @@ pub record FeedState : Type 0 where
   pub held : List ℕ
   pub refused : Option Refusal
 
--- nothing is held or refused
-abbrev pub waiting : Stage → FeedState
-waiting t = record { stage = t; held = []; refused = None }
-
 -- the least n for which the held bytes with the first n of the piece are closed, or all of the piece where there is none
 -- (law TakenIsLeast)
 abbrev pub taken_by : (List ℕ → Bool) → List ℕ → List ℕ → ℕ
@@ -31,8 +27,13 @@ with_bytes f bytes = record f { held = f.held ++ bytes }
 abbrev pub pushed : FeedState → List ℕ → FeedState
 pushed f piece = with_bytes f (take (taken f piece) piece)
 
--- ---- for private contracts: the state that a buffer and what is known of it are
+-- ---- for private contracts
 
+-- nothing is held or refused
+abbrev pub waiting : Stage → FeedState
+waiting t = record { stage = t; held = []; refused = None }
+
+-- what a buffer holds of the present item
 abbrev pub held_of : Progress → List ℕ → List ℕ
 held_of p buffer = cond p.spent [] buffer
 

@@ -1,5 +1,5 @@
 -- What a pump moves: the bytes of a source through a feed, and its items into a sink.
-use Rattle.std.specs.Prelude.{◌≡◌, ℕ, ⊤, false, List, [], ◌∷◌, ◌++◌, take, Option, None, Result, Ok, Err}
+use Rattle.std.specs.Prelude.{◌≡◌, ◌≤◌, ℕ, ⊤, false, length, List, [], ◌∷◌, ◌++◌, take, Option, None, Result, Ok, Err}
 use Rattle.std.specs.Io.KnownBytes.{Consumes}
 use Rattle.bt_wire.specs.declared.fault.Reason.TheVariants.{EndInside}
 use Rattle.bt_wire.specs.declared.item.Item.{Item}
@@ -25,12 +25,7 @@ Took takes old (x ∷ xs) new = (next : _) × takes old x next × Took takes nex
 abbrev pub IsMissed : {S : Type 0} → (S → ℕ × Item → S → Type 0) → (S → ℕ × Item → S → Type 0) → S → List (ℕ × Item) → S → Type 0
 IsMissed takes misses old given new = (xs : List (ℕ × Item)) × (x : ℕ × Item) × (last : _) × (given ≡ xs ++ x ∷ []) × Took takes old xs last × misses last x new
 
--- these items were given: all of them are taken, or at a fault all but the last
-abbrev pub IsHanded : {S : Type 0} → (S → ℕ × Item → S → Type 0) → (S → ℕ × Item → S → Type 0) → S → List (ℕ × Item) → S → Result (Unit {0}) SinkFault → Type 0
-IsHanded takes misses old given new (Ok u) = Took takes old given new
-IsHanded takes misses old given new (Err e) = IsMissed takes misses old given new
-
--- the same of a pump's answer
+-- a pump gave these items: all of them are taken, or at the sink's fault all but the last
 abbrev pub IsGiven : {S A : Type 0} → (S → ℕ × Item → S → Type 0) → (S → ℕ × Item → S → Type 0) → S → List (ℕ × Item) → S → Result A PumpError → Type 0
 IsGiven takes misses old given new (Ok n) = Took takes old given new
 IsGiven takes misses old given new (Err (error.Refused r)) = Took takes old given new
@@ -60,18 +55,10 @@ IsPumpEnd f bytes lost xs g (Err (error.Sink e)) = IsFed f bytes xs g
 IsPumpEnd f bytes lost xs g (Err error.ReadFault) = (v : Outcome) × IsPumped f bytes lost xs g v × (lost ≡ []) × (v.refusal ≡ None)
 IsPumpEnd f bytes lost xs g (Err error.Turns) = (v : Outcome) × IsPumped f bytes lost xs g v × (lost ≡ []) × (v.refusal ≡ None)
 
--- the source gave some bytes, and others that are lost; these items came of them
-abbrev pub IsPump : {S : Type 0} → (S → ℕ × Item → S → Type 0) → (S → ℕ × Item → S → Type 0) → FeedState → Option (List ℕ) → Option (List ℕ) → S → S → FeedState → Result ℕ PumpError → Type 0
-IsPump takes misses f left left' sink sink' g r =
-    (bytes : List ℕ) × (lost : List ℕ) × (xs : List (ℕ × Item)) × Consumes left left' (bytes ++ lost) × IsGiven takes misses sink xs sink' r × IsPumpEnd f bytes lost xs g r
-
--- the answer is the verdict at the stream's end
-abbrev pub IsVerdictAtEnd : Outcome → Result ℕ PumpError → Type 0
-IsVerdictAtEnd v (Ok n) = verdict_at_end v ≡ Ok n
-IsVerdictAtEnd v (Err (error.Refused r)) = verdict_at_end v ≡ Err (finish.Refused r)
-IsVerdictAtEnd v (Err (error.Sink e)) = ⊥
-IsVerdictAtEnd v (Err error.ReadFault) = ⊥
-IsVerdictAtEnd v (Err error.Turns) = ⊥
+-- the source gave some bytes, and others, no more than a read gives, that are lost; these items came of them
+abbrev pub IsPump : {S : Type 0} → (S → ℕ × Item → S → Type 0) → (S → ℕ × Item → S → Type 0) → ℕ → FeedState → Option (List ℕ) → Option (List ℕ) → S → S → FeedState → Result ℕ PumpError → Type 0
+IsPump takes misses read f left left' sink sink' g r =
+    (bytes : List ℕ) × (lost : List ℕ) × (xs : List (ℕ × Item)) × Consumes left left' (bytes ++ lost) × IsGiven takes misses sink xs sink' r × IsPumpEnd f bytes lost xs g r × (length lost ≤ read)
 
 -- the answer stands only at the stream's end
 abbrev pub IsEnd : Result ℕ PumpError → Type 0
@@ -81,7 +68,20 @@ IsEnd (Err (error.Sink e)) = ⊥
 IsEnd (Err error.ReadFault) = ⊥
 IsEnd (Err error.Turns) = ⊥
 
--- ---- of one piece (for private contracts)
+-- the sink didn't take an item
+abbrev pub IsSinkFault : {A : Type 0} → Result A PumpError → Type 0
+IsSinkFault (Err (error.Sink e)) = ⊤
+IsSinkFault (Err (error.Refused r)) = ⊥
+IsSinkFault (Err error.ReadFault) = ⊥
+IsSinkFault (Err error.Turns) = ⊥
+IsSinkFault (Ok a) = ⊥
+
+-- ---- for private contracts
+
+-- these items were given: all of them are taken, or at a fault all but the last
+abbrev pub IsHanded : {S : Type 0} → (S → ℕ × Item → S → Type 0) → (S → ℕ × Item → S → Type 0) → S → List (ℕ × Item) → S → Result (Unit {0}) SinkFault → Type 0
+IsHanded takes misses old given new (Ok u) = Took takes old given new
+IsHanded takes misses old given new (Err e) = IsMissed takes misses old given new
 
 -- a piece is read; or its front, and what follows is refused, or the last item isn't taken
 abbrev pub IsPieceEnd : FeedState → List ℕ → List (ℕ × Item) → FeedState → Result (Unit {0}) PumpError → Type 0
@@ -91,14 +91,13 @@ IsPieceEnd f piece xs g (Err (error.Sink e)) = (n : ℕ) × IsFed f (take n piec
 IsPieceEnd f piece xs g (Err error.ReadFault) = ⊥
 IsPieceEnd f piece xs g (Err error.Turns) = ⊥
 
--- ---- what a fault is
-
-abbrev pub IsSinkFault : {A : Type 0} → Result A PumpError → Type 0
-IsSinkFault (Err (error.Sink e)) = ⊤
-IsSinkFault (Err (error.Refused r)) = ⊥
-IsSinkFault (Err error.ReadFault) = ⊥
-IsSinkFault (Err error.Turns) = ⊥
-IsSinkFault (Ok a) = ⊥
+-- the answer is the verdict at the stream's end
+abbrev pub IsVerdictAtEnd : Outcome → Result ℕ PumpError → Type 0
+IsVerdictAtEnd v (Ok n) = verdict_at_end v ≡ Ok n
+IsVerdictAtEnd v (Err (error.Refused r)) = verdict_at_end v ≡ Err (finish.Refused r)
+IsVerdictAtEnd v (Err (error.Sink e)) = ⊥
+IsVerdictAtEnd v (Err error.ReadFault) = ⊥
+IsVerdictAtEnd v (Err error.Turns) = ⊥
 
 -- what is held comes to no item more, and the answer is the verdict at the stream's end
 pub record IsEndOf (f : FeedState) (r : Result ℕ PumpError) : Type 0 where
@@ -107,3 +106,4 @@ pub record IsEndOf (f : FeedState) (r : Result ℕ PumpError) : Type 0 where
   pub no_items : last.items ≡ []
   pub number : last.number ≡ number_of f.stage
   pub verdict : IsVerdictAtEnd last r
+  pub at_end : IsEnd r

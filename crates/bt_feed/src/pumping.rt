@@ -39,8 +39,8 @@ fn pump_piece<S: Sink, A: Allocator>(
     piece: &[u8],
 ) -> Result<(), PumpError>
     ensures items { (xs : List (ℕ × Item)) × IsGiven S.takes S.misses sink.old xs sink.new result × IsPieceEnd feed.old piece.now xs feed.new result }
-    ensures calm { OnOk result (S.failed sink.new ≡ S.failed sink.old) }
     ensures sink { IsSinkFault result → Grew (S.failed sink.old) (S.failed sink.new) }
+    ensures quiet { (IsSinkFault result → ⊥) → S.failed sink.new ≡ S.failed sink.old }
     ensures limit { limit_of feed.new.stage ≤ 1048576 }
 {
     let mut at = 0;
@@ -76,11 +76,11 @@ fn end<A: Allocator>(feed: &Feed<A>) -> Result<u64, PumpError>
     }
 }
 
-/// Reads to the end, `max_turns` times at most and each time into the buffer, and gives the sink each item with its offset. It
-/// answers what the stream comes to there: how many bytes it has, or its refusal. It takes no memory.
+/// Reads to the end, `max_turns` times at most and each time into the buffer, which isn't empty, and gives the sink each item with
+/// its offset. It answers what the stream comes to there: the offset of its end, or its refusal. It takes no memory itself.
 ///
-/// Behind a refusal or a sink's fault, what is left of the piece in the buffer is lost. Behind `Turns` or `ReadFault` nothing
-/// is lost, and another call goes on.
+/// A refusal, a sink's fault, a failed read and the end stop it at once. Behind a refusal or a sink's fault, what is left of
+/// the piece in the buffer is lost. Behind `Turns` or `ReadFault` nothing is lost, and another call goes on.
 pub fn pump_with<R: Source, S: Sink, A: Allocator>(
     reader: &mut R,
     feed: &mut Feed<A>,
@@ -89,12 +89,15 @@ pub fn pump_with<R: Source, S: Sink, A: Allocator>(
     buffer: &mut [u8],
 ) -> Result<u64, PumpError>
     requires { 0 < length buffer.old }
-    ensures moved { IsPump S.takes S.misses feed.old (R.left reader.old) (R.left reader.new) sink.old sink.new feed.new result }
+    ensures moved { IsPump S.takes S.misses (length buffer.old) feed.old (R.left reader.old) (R.left reader.new) sink.old sink.new feed.new result }
+    ensures reads { R.reads reader.new ≤ R.reads reader.old + max_turns }
+    ensures turns { result ≡ Err PumpError.Turns → min (R.reads reader.old + max_turns) (2 ^ 64 - 1) ≤ R.reads reader.new }
     ensures end { IsEnd result → Grew (R.ends reader.old) (R.ends reader.new) }
+    ensures inside { (IsEnd result → ⊥) → R.ends reader.new ≡ R.ends reader.old }
     ensures read { result ≡ Err PumpError.ReadFault → Grew (R.failed_reads reader.old) (R.failed_reads reader.new) }
+    ensures calm { result ≢ Err PumpError.ReadFault → R.failed_reads reader.new ≡ R.failed_reads reader.old }
     ensures sink { IsSinkFault result → Grew (S.failed sink.old) (S.failed sink.new) }
-    ensures turns { result ≡ Err PumpError.Turns
-        → (min (R.reads reader.old + max_turns) (2 ^ 64 - 1) ≤ R.reads reader.new) × (R.failed_reads reader.new ≡ R.failed_reads reader.old) × (R.ends reader.new ≡ R.ends reader.old) }
+    ensures quiet { (IsSinkFault result → ⊥) → S.failed sink.new ≡ S.failed sink.old }
 {
     if let Err(error) = pump_piece(feed, sink, &[]) {
         return Err(error);
@@ -120,12 +123,15 @@ pub fn pump<R: Source, S: Sink, A: Allocator>(
     sink: &mut S,
     max_turns: u64,
 ) -> Result<u64, PumpError>
-    ensures moved { IsPump S.takes S.misses feed.old (R.left reader.old) (R.left reader.new) sink.old sink.new feed.new result }
+    ensures moved { IsPump S.takes S.misses 4096 feed.old (R.left reader.old) (R.left reader.new) sink.old sink.new feed.new result }
+    ensures reads { R.reads reader.new ≤ R.reads reader.old + max_turns }
+    ensures turns { result ≡ Err PumpError.Turns → min (R.reads reader.old + max_turns) (2 ^ 64 - 1) ≤ R.reads reader.new }
     ensures end { IsEnd result → Grew (R.ends reader.old) (R.ends reader.new) }
+    ensures inside { (IsEnd result → ⊥) → R.ends reader.new ≡ R.ends reader.old }
     ensures read { result ≡ Err PumpError.ReadFault → Grew (R.failed_reads reader.old) (R.failed_reads reader.new) }
+    ensures calm { result ≢ Err PumpError.ReadFault → R.failed_reads reader.new ≡ R.failed_reads reader.old }
     ensures sink { IsSinkFault result → Grew (S.failed sink.old) (S.failed sink.new) }
-    ensures turns { result ≡ Err PumpError.Turns
-        → (min (R.reads reader.old + max_turns) (2 ^ 64 - 1) ≤ R.reads reader.new) × (R.failed_reads reader.new ≡ R.failed_reads reader.old) × (R.ends reader.new ≡ R.ends reader.old) }
+    ensures quiet { (IsSinkFault result → ⊥) → S.failed sink.new ≡ S.failed sink.old }
 {
     let mut buffer = [0; 4096];
     pump_with(reader, feed, sink, max_turns, &mut buffer)

@@ -1,10 +1,7 @@
-use Rattle.std.proofs.Common.{◌≡◌, ◌+◌, ◌∙◌, ◌++◌, ◌∷◌, ◌≤◌, ℕ, [], List, length, take, Ok, refl, sym, ap, arith, length-drop}
+use Rattle.std.proofs.Common.{◌+◌, ◌∙◌, ◌++◌, ◌∷◌, ℕ, [], length, refl, sym, ap, arith, length-drop}
 use Rattle.bt_wire.specs.declared.item.Item.{Item}
 use Rattle.bt_wire.specs.declared.item.Item.TheVariants as items
-use Rattle.bt_wire.specs.Messages.{message_of, order_after}
-use Rattle.bt_feed.specs.declared.stage.Stage.TheVariants as stages
-use Rattle.bt_feed.specs.Feeds.{waiting}
-use Rattle.bt_feed.specs.Pumps.{IsFed}
+use Rattle.bt_wire.specs.Messages.{message_of}
 use Rattle.bt_feed.proofs.Windows.{window_size}
 use Rattle.bt_feed.proofs.Passed.{passed_none, front_range, window_there, passed_more, handed_all, handed_more}
 use Rattle.bt_feed.proofs.passing.pass_messages.Goals as goal

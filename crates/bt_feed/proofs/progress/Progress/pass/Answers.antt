@@ -1,4 +1,4 @@
-use Rattle.std.proofs.Common.{◌≡◌, ◌+◌, [], List, ℕ, length, take, None, ap, arith}
+use Rattle.std.proofs.Common.{◌≡◌, ◌+◌, [], ℕ, length, take, None, ap, arith}
 use Rattle.std.proofs.lemmas.List.{nil_from_length}
 use Rattle.bt_feed.specs.Feeds.{held_of}
 use Rattle.bt_feed.specs.declared.stage.Stage.TheVariants as stages
