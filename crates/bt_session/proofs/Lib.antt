@@ -1,0 +1,5 @@
+pub mod Counts
+pub mod Lengths
+pub mod Parts
+pub mod Slots
+pub mod States

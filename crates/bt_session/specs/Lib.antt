@@ -1,0 +1,4 @@
+pub mod Blocks
+pub mod Assemblies
+pub mod Unfinished
+pub mod Sound
