@@ -1,4 +1,5 @@
 pub mod Counts
+pub mod LawProofs
 pub mod Lengths
 pub mod Parts
 pub mod Slots

@@ -15,7 +15,7 @@ use thiserror::Error;
 pub const MAX_METADATA: usize = 33_554_432;
 
 /// How many bytes a block has, but for the last one.
-const BLOCK: usize = 16_384;
+pub(crate) const BLOCK: usize = 16_384;
 
 /// How many blocks may be asked for at once.
 const WINDOW: usize = 1;
@@ -229,8 +229,8 @@ impl<A: Allocator> Assembly<A> {
         ensures value { MatchResult result (λ _. piece_error self.old piece ≡ None) (λ e. piece_error self.old piece ≡ Some e) }
         ensures state { self.new ≡ with_reject self.old piece }
     {
-        let k = asked_at(&self.states, piece)?;
-        self.states[k] = Status::Rejected;
+        let place = asked_at(&self.states, piece)?;
+        self.states[place] = Status::Rejected;
         Ok(())
     }
 

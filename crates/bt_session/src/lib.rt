@@ -2,5 +2,10 @@
 #![tactic(auto)]
 
 mod assembly;
+pub mod laws;
+mod server;
+#[cfg(test)]
+mod tests;
 
-pub use assembly::{Assembly, BlockError, NewError, Unfinished};
+pub use assembly::{Assembly, BlockError, MAX_METADATA, NewError, Unfinished};
+pub use server::{BadSize, Reply, Server};
