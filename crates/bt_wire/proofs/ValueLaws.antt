@@ -1,6 +1,6 @@
 -- Why a value may not be sent.
-use Rattle.std.proofs.Common.{◌≡◌, ℕ, ◌^◌, ◌≤◌, ◌<◌, List, [], ◌∷◌, ◌++◌, map, length, Option, Some, None, refl, sym, ap, subst, ◌∙◌, arith, inr, true}
-use Rattle.std.proofs.lemmas.List.{append-nil, append_assoc}
+use Rattle.std.proofs.Common.{◌≡◌, ℕ, ◌^◌, ◌≤◌, ◌<◌, List, [], ◌++◌, map, length, Option, Some, None, refl, sym, ap, subst, ◌∙◌, arith, inr, true}
+use Rattle.std.proofs.lemmas.List.{append-nil}
 use Rattle.std.specs.Prelude.{MatchOption, option_and_then}
 use Rattle.bt_ext.specs.declared.ext.Ext.{Ext}
 use Rattle.bt_ext.specs.declared.ext.ViewError.{ViewError}
@@ -18,8 +18,7 @@ use Rattle.bt_wire.specs.declared.fault.Refused.{Refused}
 use Rattle.bt_wire.specs.declared.message.Message.{Message}
 use Rattle.bt_wire.specs.declared.message.Message.TheVariants as m
 use Rattle.bt_wire.specs.Ids.{kind_of}
-use Rattle.bt_wire.specs.Messages.{Fields, id_of, fields_of, spell_fields, framed, body, spell, IsShaped, AreInRange, IsIdInRange, IsInRange}
-use Rattle.bt_wire.specs.Numbers.{be32}
+use Rattle.bt_wire.specs.Messages.{Fields, id_of, fields_of, body, spell, IsShaped, AreInRange, IsIdInRange, IsInRange}
 use Rattle.bt_wire.specs.Tables.{first_fault}
 use Rattle.bt_wire.specs.Faults.{is_strict, is_whole, has_id, window, id_rules, id_row, header_fault, said_ext_id, said_payload, placed_by, IsWindowFault, in_fields, in_payload, IsFault, early, whole}
 use Rattle.bt_wire.specs.Legal.{IsLegal, IsAllowed, IsRefusedFor}
@@ -149,13 +148,6 @@ no_reason (Some (error.BadBlock at)) v h = absurd cc
 
 pub unrefused : (r : Rules) (e : Ext) → None ≡ reason_of r e → Allows r e
 unrefused r e h = allowed r e (no_reason (fault_of r e) (fault_of_value r e) h)
-
--- ---- a spelling, one part after another
-
-pub spelled_parts : (c : Context) (m : Message) (n : ℕ) (x y z : List ℕ) (f : Fields) → id_of m ≡ Some n → f ≡ fields_of c m → x ≡ be32 (length (body c m)) → y ≡ x ++ (n ∷ []) → z ≡ y ++ spell_fields f → z ≡ spell c m
-spelled_parts c m n x y z f id fields first second third =
-    third ∙ ap (λ (k : List ℕ). k ++ spell_fields f) (second ∙ ap (λ (k : List ℕ). k ++ (n ∷ [])) first) ∙ append_assoc (be32 (length (body c m))) (n ∷ []) (spell_fields f)
-    ∙ ap (λ (g : Fields). be32 (length (body c m)) ++ (n ∷ spell_fields g)) fields ∙ ap (λ (o : Option ℕ). be32 (length (body c m)) ++ framed o (spell_fields (fields_of c m))) (sym id)
 
 -- ---- what calls gave
 
