@@ -1,10 +1,12 @@
 -- What the command line asks for, and the exit status.
 use Rattle.std.specs.Prelude.{◌≡◌, ℕ, ◌≤◌, Some, None, Result, Ok, Err}
-use Rattle.bt_ext.specs.declared.ids.Rules.TheVariants.{Free}
+use Rattle.bt_ext.specs.declared.ids.Rules.{Rules}
+use Rattle.bt_ext.specs.declared.ids.Rules.TheVariants.{Free, Bep}
 use Rattle.bt_ext.specs.Ids.{metadata_id}
 use Rattle.bt_wire.specs.declared.context.Own.{Own}
 use Rattle.bt_tool.specs.declared.commands.Asked.{Asked}
 use Rattle.bt_tool.specs.declared.commands.Asked.TheVariants.{Run, Told}
+use Rattle.bt_tool.specs.declared.commands.Job.{Job}
 use Rattle.bt_tool.specs.declared.commands.Job.TheVariants.{Show, Check, Unpack, Pack}
 use Rattle.bt_tool.specs.declared.commands.Notice.{Notice}
 use Rattle.bt_tool.specs.declared.commands.Notice.TheVariants.{Help, Version, Usage}
@@ -13,6 +15,13 @@ use Rattle.bt_tool.specs.declared.ended.Ended.TheVariants.{Accepted, Refused}
 use Rattle.bt_tool.specs.declared.ended.PackEnd.{PackEnd}
 use Rattle.bt_tool.specs.declared.ended.PackEnd.TheVariants as packs
 use Rattle.bt_tool.specs.declared.ended.ToolFault.{ToolFault}
+
+-- what the standards ask of a sender is judged where the verdict alone is wanted
+abbrev pub default_rules : Job → Rules
+default_rules Show = Free
+default_rules Check = Bep
+default_rules Unpack = Free
+default_rules Pack = Free
 
 -- the receiver where no option is given
 abbrev pub IsDefault : Own → Type 0
@@ -29,7 +38,7 @@ abbrev pub IsLimited : Asked → Type 0
 IsLimited (Run job own) = HasLimit own
 IsLimited (Told notice text) = Unit {0}
 
--- the stream is asked for, with the default receiver
+-- `show` is asked for, with the default receiver
 abbrev pub IsShowByDefault : Asked → Type 0
 IsShowByDefault (Run Show own) = IsDefault own
 IsShowByDefault (Run Check own) = ⊥

@@ -11,9 +11,11 @@ use Rattle.bt_ext.specs.declared.ids.Rules.{Rules}
 use Rattle.bt_ext.specs.declared.ids.Rules.TheVariants.{Free, Bep}
 use Rattle.bt_ext.specs.Ids.{extension_id, metadata_id}
 use Rattle.bt_wire.specs.declared.context.Own.{Own}
+use Rattle.bt_tool.specs.declared.commands.Job.{Job}
 use Rattle.bt_tool.specs.declared.values.Setting.{Setting}
 use Rattle.bt_tool.specs.declared.values.Setting.TheVariants as settings
 use Rattle.bt_tool.specs.declared.values.Written.{Written}
+use Rattle.bt_tool.specs.Commands.{default_rules}
 
 -- ---- a value's text
 
@@ -58,28 +60,28 @@ metadata_id_in t = value_of (Some 3) (λ s. option_map extension_id (number_in 0
 abbrev pub info_hash_in : Option (List ℕ) → Option (Option (List ℕ))
 info_hash_in t = value_of None (λ s. option_map (λ h. Some h) (hash_of s)) t
 
-abbrev pub rules_in : Option (List ℕ) → Option Rules
-rules_in t = value_of Free rules_of t
+abbrev pub rules_in : Job → Option (List ℕ) → Option Rules
+rules_in job t = value_of (default_rules job) rules_of t
 
 abbrev pub limit_in : Option (List ℕ) → Option ℕ
 limit_in t = value_of 262144 (number_in 1 1048576) t
 
 -- ---- the receiver
 
--- it is as the options say
-pub record IsReceiver (w : Written) (own : Own) : Type 0 where
+-- it is as the options say, for this job
+pub record IsReceiver (job : Job) (w : Written) (own : Own) : Type 0 where
   pub reserved : reserved_in (option_map (λ s. s.now) w.reserved) ≡ Some own.reserved.0
   pub pieces : pieces_in (option_map (λ s. s.now) w.pieces) ≡ Some own.pieces
   pub metadata : metadata_id_in (option_map (λ s. s.now) w.metadata_id) ≡ Some (metadata_id own.reg)
   pub info_hash : info_hash_in (option_map (λ s. s.now) w.info_hash) ≡ Some own.info_hash
-  pub rules : rules_in (option_map (λ s. s.now) w.rules) ≡ Some own.rules
+  pub rules : rules_in job (option_map (λ s. s.now) w.rules) ≡ Some own.rules
   pub limit : limit_in (option_map (λ s. s.now) w.limit) ≡ Some own.limit
 
 -- the option's text is no value of it
-abbrev pub IsWrong : Written → Setting → Type 0
-IsWrong w settings.Reserved = reserved_in (option_map (λ s. s.now) w.reserved) ≡ None
-IsWrong w settings.Pieces = pieces_in (option_map (λ s. s.now) w.pieces) ≡ None
-IsWrong w settings.MetadataId = metadata_id_in (option_map (λ s. s.now) w.metadata_id) ≡ None
-IsWrong w settings.InfoHash = info_hash_in (option_map (λ s. s.now) w.info_hash) ≡ None
-IsWrong w settings.Rules = rules_in (option_map (λ s. s.now) w.rules) ≡ None
-IsWrong w settings.Limit = limit_in (option_map (λ s. s.now) w.limit) ≡ None
+abbrev pub IsWrong : Job → Written → Setting → Type 0
+IsWrong job w settings.Reserved = reserved_in (option_map (λ s. s.now) w.reserved) ≡ None
+IsWrong job w settings.Pieces = pieces_in (option_map (λ s. s.now) w.pieces) ≡ None
+IsWrong job w settings.MetadataId = metadata_id_in (option_map (λ s. s.now) w.metadata_id) ≡ None
+IsWrong job w settings.InfoHash = info_hash_in (option_map (λ s. s.now) w.info_hash) ≡ None
+IsWrong job w settings.Rules = rules_in job (option_map (λ s. s.now) w.rules) ≡ None
+IsWrong job w settings.Limit = limit_in (option_map (λ s. s.now) w.limit) ≡ None

@@ -1,10 +1,19 @@
 //! What the command line can ask for, and the exit status.
 ghost use Rattle.std.specs.Prelude.{◌≡◌};
-ghost use Rattle.bt_tool.specs.Commands.{IsDefault, notice_status, status_of as status_by, pack_status_of as pack_status_by};
+ghost use Rattle.bt_tool.specs.Commands.{IsDefault, notice_status, status_of as status_by, pack_status_of as pack_status_by, default_rules as rules_by_default};
 
 use crate::ended::{Ended, PackEnd, ToolFault};
 use bt_ext::{ExtId, Registered, Rules};
 use bt_wire::{Own, Reserved};
+
+/// The reserved bits where none are given: those of the Fast Extension, of the DHT and of the Extension Protocol.
+pub const DEFAULT_RESERVED: u64 = 0x10_0005;
+
+/// The id of `ut_metadata` where none is given.
+pub const DEFAULT_METADATA_ID: u8 = 3;
+
+/// The greatest length of a message where none is given.
+pub const DEFAULT_LIMIT: u32 = 262_144;
 
 /// What a text tells its reader.
 #[derive(Clone, Copy, PartialEq, Eq, Debug)]
@@ -71,6 +80,16 @@ pub fn pack_status(end: &Result<PackEnd, ToolFault>) -> u8
     }
 }
 
+/// The rules by which a job judges where none are given.
+pub fn default_rules(job: Job) -> Rules
+    ensures { result ≡ rules_by_default job }
+{
+    match job {
+        Job::Check => Rules::Bep,
+        Job::Show | Job::Unpack | Job::Pack => Rules::Free,
+    }
+}
+
 /// The receiver where no option is given: the bits of the Fast Extension, of the DHT and of the Extension Protocol,
 /// any info hash, an unknown count of pieces, `ut_metadata` under id 3, the free rules, messages of at most
 /// 262,144 bytes.
@@ -78,11 +97,11 @@ pub fn default_own() -> Own
     ensures { IsDefault result }
 {
     Own {
-        reserved: Reserved(0x10_0005),
+        reserved: Reserved(DEFAULT_RESERVED),
         info_hash: None,
         pieces: None,
-        reg: Registered::new(ExtId::new(3)),
-        rules: Rules::Free,
-        limit: 262_144,
+        reg: Registered::new(ExtId::new(DEFAULT_METADATA_ID)),
+        rules: default_rules(Job::Show),
+        limit: DEFAULT_LIMIT,
     }
 }

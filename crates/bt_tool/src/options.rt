@@ -12,7 +12,7 @@ use std::alloc::{AllocError, Global};
 const HELP: &str = "\
 Judges the bytes that a BitTorrent peer sends (BEP 3, 5, 6, 9 and 10).
 
-Usage: bt_tool [COMMAND] [OPTIONS]
+Usage: bt_tool [COMMAND [OPTIONS]]
 
 Commands read standard input: 'pack' a script, the others a stream, from its handshake on. No words at all mean 'show'.
 
@@ -48,9 +48,13 @@ Exit status:
   3  a read or a write failed, there was no memory, or the input had no end
 ";
 
-/// What is printed behind a mistake.
-pub const USAGE: &str = "Usage: bt_tool [COMMAND] [OPTIONS]\n";
+/// How the program is called.
+const CALL: &str = "bt_tool [COMMAND [OPTIONS]]";
 
+/// What is printed behind a mistake.
+pub const USAGE: &str = "Usage: bt_tool [COMMAND [OPTIONS]]\n";
+
+/// An option with a value.
 fn option<'a>(alloc: Global, name: &'a str, value: &'a str) -> Arg<'a> {
     Arg::new(alloc, name)
         .long(name)
@@ -62,7 +66,7 @@ fn option<'a>(alloc: Global, name: &'a str, value: &'a str) -> Arg<'a> {
 fn job_command<'a>(alloc: Global, name: &'a str) -> Result<Command<'a>, AllocError> {
     Ok(
         Command::new(alloc, name)
-            .override_usage("bt_tool [COMMAND] [OPTIONS]")
+            .override_usage(CALL)
             .override_help(HELP)
             .arg(option(alloc, "reserved", "HEX"))?
             .arg(option(alloc, "pieces", "N"))?
@@ -73,13 +77,14 @@ fn job_command<'a>(alloc: Global, name: &'a str) -> Result<Command<'a>, AllocErr
     )
 }
 
+/// The commands, each with its options.
 fn command_line<'a>(alloc: Global) -> Result<Command<'a>, AllocError> {
     Ok(
         Command::new(alloc, "bt_tool")
             .version("0.1.0")
             .no_binary_name(true)
             .subcommand_required(true)
-            .override_usage("bt_tool [COMMAND] [OPTIONS]")
+            .override_usage(CALL)
             .override_help(HELP)
             .subcommand(job_command(alloc, "show")?)?
             .subcommand(job_command(alloc, "check")?)?
@@ -88,30 +93,30 @@ fn command_line<'a>(alloc: Global) -> Result<Command<'a>, AllocError> {
     )
 }
 
-fn job_named(name: &str) -> Job {
+/// The job of a command.
+fn job_named(name: &str) -> Option<Job> {
     match name {
-        "check" => Job::Check,
-        "unpack" => Job::Unpack,
-        "pack" => Job::Pack,
-        _ => Job::Show,
+        "show" => Some(Job::Show),
+        "check" => Some(Job::Check),
+        "unpack" => Some(Job::Unpack),
+        "pack" => Some(Job::Pack),
+        _ => None,
     }
 }
 
-fn written<'a>(job: Job, options: &ArgMatches<'a>) -> Written<'a> {
-    let rules = match (options.get_str("rules"), job) {
-        (None, Job::Check) => Some("bep"),
-        (text, _) => text,
-    };
+/// The options of a command as they were written.
+fn written<'a>(options: &ArgMatches<'a>) -> Written<'a> {
     Written {
         reserved: options.get_str("reserved"),
         pieces: options.get_str("pieces"),
         metadata_id: options.get_str("metadata-id"),
         info_hash: options.get_str("info-hash"),
-        rules,
+        rules: options.get_str("rules"),
         limit: options.get_str("limit"),
     }
 }
 
+/// What is told of clap's answer: a text that was asked for, or a mistake.
 fn told(alloc: Global, error: &Error) -> Result<Asked, AllocError>
     ensures { IfOk result IsLimited }
 {
@@ -126,6 +131,14 @@ fn told(alloc: Global, error: &Error) -> Result<Asked, AllocError>
         return Ok(Asked::Told(notice, format!(in alloc; "{text}\n{USAGE}")?));
     }
     Ok(Asked::Told(notice, text))
+}
+
+/// The text for words that are no command line.
+fn mistake(alloc: Global, command: &mut Command, what: &str) -> Result<Asked, AllocError>
+    ensures { IfOk result IsLimited }
+{
+    let error = command.error(ErrorKind::ValueValidation, what)?;
+    told(alloc, &error)
 }
 
 /// What an option's value has to be.
@@ -156,14 +169,13 @@ pub fn asked(alloc: Global, words: &[String]) -> Result<Asked, AllocError>
         Err(error) => return told(alloc, &error),
     };
     let Some((name, options)) = matches.subcommand() else {
-        return Ok(Asked::Run(Job::Show, default_own()));
+        return mistake(alloc, &mut command, "a command is missing");
     };
-    let job = job_named(name);
-    match own_of(&written(job, options)) {
+    let Some(job) = job_named(name) else {
+        return mistake(alloc, &mut command, "there is no such command");
+    };
+    match own_of(job, &written(options)) {
         Ok(own) => Ok(Asked::Run(job, own)),
-        Err(setting) => {
-            let error = command.error(ErrorKind::ValueValidation, expected(setting))?;
-            told(alloc, &error)
-        }
+        Err(setting) => mistake(alloc, &mut command, expected(setting)),
     }
 }

@@ -16,32 +16,46 @@ ghost use Rattle.bt_tool.specs.Options.{
   IsWrong,
 };
 
+use crate::commands::{DEFAULT_LIMIT, DEFAULT_METADATA_ID, DEFAULT_RESERVED, Job, default_rules};
 use bt_ext::{ExtId, Registered, Rules};
 use bt_wire::{Own, Reserved};
 use hex::FromHex;
 
-/// The options of `show` as they were written; `None` where one isn't given.
+/// The options as they were written; `None` where one isn't given.
 #[derive(Clone, Copy, Debug)]
 pub struct Written<'a> {
+    /// `--reserved`
     pub reserved: Option<&'a str>,
+    /// `--pieces`
     pub pieces: Option<&'a str>,
+    /// `--metadata-id`
     pub metadata_id: Option<&'a str>,
+    /// `--info-hash`
     pub info_hash: Option<&'a str>,
+    /// `--rules`
     pub rules: Option<&'a str>,
+    /// `--limit`
     pub limit: Option<&'a str>,
 }
 
-/// An option of `show`.
+/// An option.
 #[derive(Clone, Copy, PartialEq, Eq, Debug)]
 pub enum Setting {
+    /// `--reserved`
     Reserved,
+    /// `--pieces`
     Pieces,
+    /// `--metadata-id`
     MetadataId,
+    /// `--info-hash`
     InfoHash,
+    /// `--rules`
     Rules,
+    /// `--limit`
     Limit,
 }
 
+/// Whether these are decimal digits alone.
 fn are_digits(text: &[u8]) -> bool
     ensures { result ≡ list_all is_ascii_digit text.now }
 {
@@ -71,11 +85,12 @@ pub fn number_within(text: &str, low: u32, high: u32) -> Option<u32>
     }
 }
 
+/// The bits of `--reserved`.
 fn read_reserved(text: Option<&str>) -> Option<Reserved>
     ensures { option_map (λ r. r.0) result ≡ reserved_in (option_map (λ s. s.now) text.entry) }
 {
     match text {
-        None => Some(Reserved(0x10_0005)),
+        None => Some(Reserved(DEFAULT_RESERVED)),
         Some(digits) => {
             let bytes = <[u8; 8] as FromHex>::from_hex(digits).ok()?;
             Some(Reserved(u64::from_be_bytes(bytes)))
@@ -83,6 +98,7 @@ fn read_reserved(text: Option<&str>) -> Option<Reserved>
     }
 }
 
+/// The count of `--pieces`.
 fn read_pieces(text: Option<&str>) -> Option<Option<u32>>
     ensures { result ≡ pieces_in (option_map (λ s. s.now) text.entry) }
 {
@@ -92,15 +108,17 @@ fn read_pieces(text: Option<&str>) -> Option<Option<u32>>
     }
 }
 
+/// The id of `--metadata-id`, of which 0 is none.
 fn read_metadata_id(text: Option<&str>) -> Option<Option<ExtId>>
     ensures { result ≡ metadata_id_in (option_map (λ s. s.now) text.entry) }
 {
     match text {
-        None => Some(ExtId::new(3)),
+        None => Some(ExtId::new(DEFAULT_METADATA_ID)),
         Some(digits) => Some(ExtId::new(number_within(digits, 0, 255)? as u8)),
     }
 }
 
+/// The bytes of `--info-hash`.
 fn read_info_hash(text: Option<&str>) -> Option<Option<[u8; 20]>>
     ensures { result ≡ info_hash_in (option_map (λ s. s.now) text.entry) }
 {
@@ -110,36 +128,38 @@ fn read_info_hash(text: Option<&str>) -> Option<Option<[u8; 20]>>
     }
 }
 
-fn read_rules(text: Option<&str>) -> Option<Rules>
-    ensures { result ≡ rules_in (option_map (λ s. s.now) text.entry) }
+/// The rules of `--rules`.
+fn read_rules(job: Job, text: Option<&str>) -> Option<Rules>
+    ensures { result ≡ rules_in job (option_map (λ s. s.now) text.entry) }
 {
     match text {
-        None => Some(Rules::Free),
+        None => Some(default_rules(job)),
         Some(name) if name == "free" => Some(Rules::Free),
         Some(name) if name == "bep" => Some(Rules::Bep),
         Some(_) => None,
     }
 }
 
+/// The limit of `--limit`.
 fn read_limit(text: Option<&str>) -> Option<u32>
     ensures { result ≡ limit_in (option_map (λ s. s.now) text.entry) }
 {
     match text {
-        None => Some(262_144),
+        None => Some(DEFAULT_LIMIT),
         Some(digits) => number_within(digits, 1, 1_048_576),
     }
 }
 
-/// The receiver that the options describe, or the first option whose text is no value of it.
-pub fn own_of(written: &Written<'_>) -> Result<Own, Setting>
-    ensures value { MatchResult result (λ own. IsReceiver written.now own) (λ setting. IsWrong written.now setting) }
+/// The receiver of the job that the options describe, or the first option whose text is no value of it.
+pub fn own_of(job: Job, written: &Written<'_>) -> Result<Own, Setting>
+    ensures value { MatchResult result (λ own. IsReceiver job written.now own) (λ setting. IsWrong job written.now setting) }
     ensures limited { IfOk result (λ own. (1 ≤ own.limit) × (own.limit ≤ 1048576)) }
 {
     let reserved = read_reserved(written.reserved).ok_or(Setting::Reserved)?;
     let pieces = read_pieces(written.pieces).ok_or(Setting::Pieces)?;
     let metadata = read_metadata_id(written.metadata_id).ok_or(Setting::MetadataId)?;
     let info_hash = read_info_hash(written.info_hash).ok_or(Setting::InfoHash)?;
-    let rules = read_rules(written.rules).ok_or(Setting::Rules)?;
+    let rules = read_rules(job, written.rules).ok_or(Setting::Rules)?;
     let limit = read_limit(written.limit).ok_or(Setting::Limit)?;
     Ok(Own {
         reserved,
