@@ -1,4 +1,4 @@
--- The lines of `show`: one for each item of a stream, and one for the verdict.
+-- The lines of `show`: one for each item of a stream, and one for the verdict. And what `pack` says of a refused line.
 use Rattle.std.specs.Prelude.{ℕ, ◌-◌, List, [], ◌++◌, length, codes, decimal, Option, Some, None, option_and_then}
 use Rattle.std.specs.List.{flat_map}
 use Rattle.hex.specs.Hex.{encode_lower}
@@ -30,6 +30,8 @@ use Rattle.bt_wire.specs.Numbers.{be64}
 use Rattle.bt_wire.specs.Streams.{Outcome, refusal_at_end}
 use Rattle.bt_tool.specs.declared.ended.Ended.{Ended}
 use Rattle.bt_tool.specs.declared.ended.Ended.TheVariants.{Accepted, Refused}
+use Rattle.bt_tool.specs.declared.ended.ScriptReason.{ScriptReason}
+use Rattle.bt_tool.specs.declared.ended.ScriptReason.TheVariants.{Syntax, Reason as ReasonOf}
 
 -- ---- an item
 
@@ -137,6 +139,17 @@ verdict_line (Accepted messages bytes) =
     codes "ok messages=" ++ (decimal messages ++ (codes " bytes=" ++ (decimal bytes ++ codes "\n")))
 verdict_line (Refused r) =
     codes "refused message=" ++ (decimal r.message ++ (codes " at=" ++ (decimal r.at ++ (codes " " ++ (reason_name r.reason ++ codes "\n")))))
+
+-- ---- a script's line that is refused
+
+abbrev pub script_reason_name : ScriptReason → List ℕ
+script_reason_name Syntax = codes "Syntax"
+script_reason_name (ReasonOf r) = reason_name r
+
+abbrev pub refused_line : ℕ → ScriptReason → List ℕ
+refused_line n reason = codes "refused line=" ++ (decimal n ++ (codes " " ++ (script_reason_name reason ++ codes "\n")))
+
+-- ---- the end of a stream
 
 -- a stream of n bytes: its refusal at the end, or the messages behind the handshake and the bytes
 abbrev pub ended_by : Option Refusal → ℕ → ℕ → Ended

@@ -1,19 +1,22 @@
+//! How a command ends, and what keeps it from its work.
 use bt_wire::{Reason, Refusal};
 use thiserror::Error;
 
 /// How a stream ended: accepted, with its messages (the handshake not counted) and its bytes, or refused.
 #[derive(Clone, Copy, PartialEq, Eq, Debug)]
 pub enum Ended {
+    /// The stream is accepted.
     Accepted { messages: u64, bytes: u64 },
+    /// The stream is refused.
     Refused(Refusal),
 }
 
 /// Why a script's line isn't taken: it is none, or its bytes are refused.
-#[derive(Clone, Copy, PartialEq, Eq, Debug, Error)]
+#[derive(Clone, Copy, PartialEq, Eq, Debug)]
 pub enum ScriptReason {
-    #[error("Syntax")]
+    /// The text is no line, or too long for one.
     Syntax,
-    #[error("{0}")]
+    /// The bytes that it names are refused.
     Reason(Reason),
 }
 
@@ -21,7 +24,9 @@ pub enum ScriptReason {
 /// or the line, counted from 1, that wasn't.
 #[derive(Clone, Copy, PartialEq, Eq, Debug)]
 pub enum PackEnd {
+    /// All lines are taken.
     Accepted { messages: u64, bytes: u64 },
+    /// This line is the first that isn't.
     Refused { line: u64, reason: ScriptReason },
 }
 

@@ -1,4 +1,4 @@
-//! The lines of `show`. Each is written into an array from its end to its front.
+//! The lines of `show`, and what `pack` says of a refused line. Each is written into an array from its end to its front.
 ghost use Rattle.std.specs.Prelude.{◌≡◌, ◌≤◌, ◌+◌, ◌*◌, ℕ, List, ◌++◌, length, drop, decimal, OnOk};
 ghost use Rattle.hex.specs.Hex.{encode_lower};
 ghost use Rattle.bt_bencode.specs.Bencoding.{ben};
@@ -9,9 +9,9 @@ ghost use Rattle.bt_ext.specs.declared.ext.Ext.TheVariants as ext;
 ghost use Rattle.bt_wire.specs.Messages.{message_of};
 ghost use Rattle.bt_wire.specs.declared.context.Own.{Own};
 ghost use Rattle.bt_wire.specs.declared.item.Item.TheVariants as items;
-ghost use Rattle.bt_tool.specs.Lines.{spaced, or_dash, told_id, ext_words, message_words, reason_name, line as line_of, verdict_line as verdict_words};
+ghost use Rattle.bt_tool.specs.Lines.{spaced, or_dash, told_id, ext_words, message_words, reason_name, script_reason_name, line as line_of, verdict_line as verdict_words, refused_line as refused_words};
 
-use crate::ended::Ended;
+use crate::ended::{Ended, ScriptReason};
 use bt_bencode::DictRef;
 use bt_ext::{ExtView, Kind, kind_ref, metadata_size_ref};
 use bt_wire::{Handshake, MessageView, Reason};
@@ -332,6 +332,29 @@ pub fn verdict_line(ended: Ended, line: &mut Line) -> usize
             word(b"refused message=", line, place)
         }
     }
+}
+
+/// The name of a reason why a line of a script isn't taken.
+fn script_name_of(reason: ScriptReason) -> &'static [u8]
+    ensures name { result.now ≡ script_reason_name reason }
+    ensures short { length result.now ≤ 20 }
+{
+    match reason {
+        ScriptReason::Syntax => b"Syntax",
+        ScriptReason::Reason(reason) => name_of(reason),
+    }
+}
+
+/// Writes what `pack` says of a refused line at the end of the array, and says where it starts.
+pub fn refused_line(number_of_line: u64, reason: ScriptReason, line: &mut Line) -> usize
+    ensures room { result ≤ 160 }
+    ensures text { drop result line.new ≡ refused_words number_of_line reason }
+{
+    let place = word(b"\n", line, 160);
+    let place = word(script_name_of(reason), line, place);
+    let place = word(b" ", line, place);
+    let place = number(number_of_line, line, place);
+    word(b"refused line=", line, place)
 }
 
 /// Adds the line that starts at the place.

@@ -1,6 +1,8 @@
 //! Reads the stream that a BitTorrent peer sends.
 #![tactic(auto)]
 
+ghost use Rattle.bt_tool.specs.Commands.{HasLimit};
+
 mod check;
 mod commands;
 mod ended;
@@ -30,11 +32,14 @@ mod values;
 
 use crate::check::run_check;
 use crate::commands::{Asked, Job, Notice, pack_status, status, status_of};
-use crate::ended::{Ended, PackEnd};
+use crate::ended::{Ended, PackEnd, ToolFault};
+use crate::lines::{refused_line, verdict_line};
 use crate::options::{USAGE, asked};
 use crate::pack::run_pack;
 use crate::show::{run_show, run_unpack};
 use bt_feed::Host;
+use bt_wire::Own;
+use std::io::Write;
 use std::process::ExitCode;
 use std::rt::Env;
 use std::{env, io};
@@ -48,67 +53,93 @@ fn words<R: Env + AllocGlobal>(rt: &R) -> io::Result<Vec<String>> {
     Ok(words)
 }
 
+/// Names on standard error what kept the program from its work.
+fn failed(rt: &HostRuntime, fault: ToolFault) -> ExitCode {
+    let _ = eprintln!(rt; "fault: {fault}");
+    ExitCode::from(status(&Err(fault)))
+}
+
+/// Writes a line on standard error.
+fn complain(rt: &HostRuntime, line: &[u8]) {
+    let errors = rt.stderr();
+    let _ = io::writer(&errors).write_all(line);
+}
+
+/// Prints a text that was asked for, or what is wrong with the words.
+fn tell(rt: &HostRuntime, notice: Notice, text: &str) -> ExitCode {
+    if notice == Notice::Usage {
+        let _ = eprint!(rt; "{text}");
+    } else if print!(rt; "{text}").is_err() {
+        return failed(rt, ToolFault::Write);
+    }
+    ExitCode::from(status_of(notice))
+}
+
+/// The exit status of a job whose output has the verdict.
+fn shown(rt: &HostRuntime, end: Result<Ended, ToolFault>) -> ExitCode {
+    match end {
+        Ok(_) => ExitCode::from(status(&end)),
+        Err(fault) => failed(rt, fault),
+    }
+}
+
+/// The same of `unpack`: the verdict's line of a refused stream goes to standard error.
+fn unpacked(rt: &HostRuntime, end: Result<Ended, ToolFault>) -> ExitCode {
+    if let Ok(Ended::Refused(refusal)) = end {
+        let mut line = [0; 160];
+        let place = verdict_line(Ended::Refused(refusal), &mut line);
+        complain(rt, &line[place..]);
+    }
+    shown(rt, end)
+}
+
+/// The same of `pack`: the number of a refused line and the reason go to standard error.
+fn packed(rt: &HostRuntime, end: Result<PackEnd, ToolFault>) -> ExitCode {
+    match end {
+        Ok(PackEnd::Accepted { .. }) => {}
+        Ok(
+            PackEnd::Refused {
+                line: number,
+                reason,
+            },
+        ) => {
+            let mut line = [0; 160];
+            let place = refused_line(number, reason, &mut line);
+            complain(rt, &line[place..]);
+        }
+        Err(fault) => return failed(rt, fault),
+    }
+    ExitCode::from(pack_status(&end))
+}
+
+/// Does the job on standard input and output.
+fn run(rt: &HostRuntime, job: Job, own: &Own) -> ExitCode
+    requires { HasLimit own.now }
+{
+    let mut reader = Host::new(rt.reader());
+    let mut writer = Host::new(io::writer(rt));
+    match job {
+        Job::Show => shown(rt, run_show(rt.alloc(), &mut reader, &mut writer, own)),
+        Job::Check => shown(rt, run_check(rt.alloc(), &mut reader, &mut writer, own)),
+        Job::Unpack => unpacked(rt, run_unpack(rt.alloc(), &mut reader, &mut writer, own)),
+        Job::Pack => packed(rt, run_pack(rt.alloc(), &mut reader, &mut writer, own)),
+    }
+}
+
 fn main(rt: HostRuntime) -> ExitCode {
     let words = match words(&rt) {
         Ok(words) => words,
         Err(error) if error.kind() == io::ErrorKind::OutOfMemory => {
-            let _ = eprintln!(rt; "fault: memory");
-            return ExitCode::from(3);
+            return failed(&rt, ToolFault::Memory);
         }
         Err(_) => {
             let _ = eprint!(rt; "error: the words are no text\n\n{USAGE}");
-            return ExitCode::from(2);
-        }
-    };
-    let (job, own) = match asked(rt.alloc(), &words) {
-        Ok(Asked::Run(job, own)) => (job, own),
-        Ok(Asked::Told(Notice::Usage, text)) => {
-            let _ = eprint!(rt; "{text}");
             return ExitCode::from(status_of(Notice::Usage));
         }
-        Ok(Asked::Told(notice, text)) => {
-            if print!(rt; "{text}").is_err() {
-                let _ = eprintln!(rt; "fault: write");
-                return ExitCode::from(3);
-            }
-            return ExitCode::from(status_of(notice));
-        }
-        Err(_) => {
-            let _ = eprintln!(rt; "fault: memory");
-            return ExitCode::from(3);
-        }
     };
-    let mut reader = Host::new(rt.reader());
-    let mut writer = Host::new(io::writer(&rt));
-    if job == Job::Pack {
-        let result = run_pack(rt.alloc(), &mut reader, &mut writer, &own);
-        match &result {
-            Ok(PackEnd::Refused { line, reason }) => {
-                let _ = eprintln!(rt; "refused line={line} {reason}");
-            }
-            Ok(PackEnd::Accepted { .. }) => {}
-            Err(fault) => {
-                let _ = eprintln!(rt; "fault: {fault}");
-            }
-        }
-        return ExitCode::from(pack_status(&result));
+    match asked(rt.alloc(), &words) {
+        Ok(Asked::Run(job, own)) => run(&rt, job, &own),
+        Ok(Asked::Told(notice, text)) => tell(&rt, notice, text.as_str()),
+        Err(_) => failed(&rt, ToolFault::Memory),
     }
-    let result = match job {
-        Job::Show | Job::Pack => run_show(rt.alloc(), &mut reader, &mut writer, &own),
-        Job::Check => run_check(rt.alloc(), &mut reader, &mut writer, &own),
-        Job::Unpack => run_unpack(rt.alloc(), &mut reader, &mut writer, &own),
-    };
-    match &result {
-        Ok(Ended::Refused(refusal)) if job == Job::Unpack => {
-            let _ = eprintln!(rt;
-                "refused message={} at={} {}",
-                refusal.message, refusal.at, refusal.reason
-            );
-        }
-        Ok(_) => {}
-        Err(fault) => {
-            let _ = eprintln!(rt; "fault: {fault}");
-        }
-    }
-    ExitCode::from(status(&result))
 }

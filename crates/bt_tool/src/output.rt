@@ -1,3 +1,4 @@
+//! Writing all of some bytes.
 ghost use Rattle.std.specs.Prelude.{◌≡◌, OnOk, OnErr, IfErr};
 ghost use Rattle.bt_feed.specs.Counts.{Grew};
 ghost use Rattle.bt_tool.specs.Printed.{IsWrittenOut};
