@@ -22,9 +22,8 @@ use Rattle.bt_tool.specs.declared.ended.PackEnd.{PackEnd}
 use Rattle.bt_tool.specs.declared.ended.PackEnd.TheVariants.{Accepted, Refused}
 use Rattle.bt_tool.specs.declared.ended.ScriptReason.{ScriptReason}
 use Rattle.bt_tool.specs.declared.ended.ScriptReason.TheVariants.{Syntax, Reason}
-use Rattle.bt_tool.specs.Packs.{ended_lines, AreWhole, IsSplit, with_last, AreLines, IsNamed, is_none, AreNamed, AreTaken, IsNotTaken, IsStop, IsPacked, empty, stopped, accepted}
+use Rattle.bt_tool.specs.Packs.{has_feed, ended_lines, AreWhole, IsSplit, with_last, AreLines, IsNamed, is_none, AreNamed, AreTaken, IsNotTaken, IsStop, IsPacked, empty, stopped, accepted}
 use Rattle.bt_tool.specs.Script.{script, script_words, Said, keep_alive, known, unknown, said_bytes, IsLine}
-use Rattle.bt_tool.specs.ScriptLaws.{has_feed}
 use Rattle.bt_tool.proofs.ScriptBounds.{handshake_fits, message_fits}
 use Rattle.bt_tool.proofs.ScriptLines.{one_reading}
 use Rattle.bt_tool.proofs.ScriptSpoken.{handshake_line, message_line}

@@ -7,8 +7,7 @@ use Rattle.bt_wire.specs.declared.context.Own.{Own}
 use Rattle.bt_wire.specs.Streams.{Outcome}
 use Rattle.bt_tool.specs.declared.ended.ScriptReason.{ScriptReason}
 use Rattle.bt_tool.specs.declared.ended.ScriptReason.TheVariants.{Syntax}
-use Rattle.bt_tool.specs.ScriptLaws.{has_feed}
-use Rattle.bt_tool.specs.Packs.{ended_lines, with_last, IsSplit, IsEndedLine, AreLines, AreTaken, IsNotTaken, IsStop, IsPacked, empty, stopped, accepted, is_none}
+use Rattle.bt_tool.specs.Packs.{has_feed, ended_lines, with_last, IsSplit, IsEndedLine, AreLines, AreTaken, IsNotTaken, IsStop, IsPacked, empty, stopped, accepted, is_none}
 use Rattle.bt_tool.specs.declared.ended.PackEnd.{PackEnd}
 use Rattle.bt_tool.specs.declared.ended.PackEnd.TheVariants.{Accepted, Refused}
 use Rattle.bt_tool.proofs.Printing.{verdict_length}

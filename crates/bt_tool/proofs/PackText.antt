@@ -3,12 +3,11 @@ use Rattle.std.proofs.Common.{◌≡◌, ℕ, suc, ◌+◌, ◌==◌, Bool, true
 use Rattle.std.specs.Prelude.{nat_lt, position, unwrap_or, not, ◌||◌}
 use Rattle.std.specs.List.{position_or_len}
 use Rattle.std.proofs.lemmas.Bool.{cases_Bool, ltb-false, eqb-true}
-use Rattle.std.proofs.lemmas.List.{append-nil, append_assoc}
+use Rattle.std.proofs.lemmas.List.{append-nil, append_assoc, length-append}
 use Rattle.std.proofs.lemmas.Grind.{flat_map-append}
 use Rattle.std.proofs.lemmas.List.Sums.{prefix_len-le-length}
-use Rattle.bt_tool.specs.ScriptLaws.{has_feed}
 use Rattle.bt_tool.specs.PackSteps.{front_of, back_of, IsCut}
-use Rattle.bt_tool.specs.Packs.{ended_lines, AreWhole, IsSplit}
+use Rattle.bt_tool.specs.Packs.{has_feed, ended_lines, with_last, AreWhole, AreLines, IsSplit}
 
 abbrev pub is_feed : ℕ → Bool
 is_feed c = c == 10
@@ -91,6 +90,32 @@ ended_more lines line = ended_both lines (line ∷ []) ∙ ap (λ (t : List ℕ)
 pub whole_both : (lines more : List (List ℕ)) → AreWhole lines → AreWhole more → AreWhole (lines ++ more)
 whole_both [] more h k = k
 whole_both (l ∷ lines) more h k = (h.0, whole_both lines more h.1 k)
+
+pub whole_front : (lines more : List (List ℕ)) → AreWhole (lines ++ more) → AreWhole lines
+whole_front [] more h = tt
+whole_front (l ∷ lines) more h = (h.0, whole_front lines more h.1)
+
+-- the lines before one of a text are ended
+before_last : (lines before behind : List (List ℕ)) (last line : List ℕ) → lines ++ last ∷ [] ≡ before ++ line ∷ behind → (more : List (List ℕ)) × (lines ≡ before ++ more)
+before_last lines [] behind last line e = (lines, refl)
+before_last [] (b ∷ before) behind last line e = absurd (omega (arith, ap length e, length-append before (line ∷ behind)))
+before_last (l ∷ lines) (b ∷ before) behind last line e =
+    let same : l ≡ b = cc in
+    let rest : lines ++ last ∷ [] ≡ before ++ line ∷ behind = cc in
+    let more = before_last lines before behind last line rest in
+    (more.0, ap (λ (x : List ℕ). x ∷ lines) same ∙ ap (λ (ls : List (List ℕ)). b ∷ ls) more.1)
+
+before_by : (lines before behind : List (List ℕ)) (rest line : List ℕ) → with_last lines rest ≡ before ++ line ∷ behind → (more : List (List ℕ)) × (lines ≡ before ++ more)
+before_by lines before behind [] line e = (line ∷ behind, e)
+before_by lines before behind (c ∷ cs) line e = before_last lines before behind (c ∷ cs) line e
+
+pub ended_before : (text : List ℕ) (all before behind : List (List ℕ)) (line : List ℕ) → AreLines text all → all ≡ before ++ line ∷ behind → (rest : List ℕ) × (text ≡ ended_lines before ++ rest) × AreWhole before
+ended_before text all before behind line h e =
+    let s = h.2 in
+    let more = before_by h.0 before behind h.1 line (sym h.3 ∙ e) in
+    let parts : text ≡ ended_lines before ++ (ended_lines more.0 ++ h.1) =
+    s.parts ∙ ap (λ (ls : List (List ℕ)). ended_lines ls ++ h.1) more.1 ∙ ap (λ (t : List ℕ). t ++ h.1) (ended_both before more.0) ∙ append_assoc (ended_lines before) (ended_lines more.0) h.1 in
+    (ended_lines more.0 ++ h.1, parts, whole_front before more.0 (subst AreWhole more.1 s.whole))
 
 -- every text has its lines
 first_more : (c : ℕ) (cs : List ℕ) (lines : List (List ℕ)) (rest : List ℕ) → (c == 10) ≡ false → IsSplit cs lines rest → (ls : List (List ℕ)) × (r : List ℕ) × IsSplit (c ∷ cs) ls r

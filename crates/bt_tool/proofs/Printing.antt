@@ -1,5 +1,5 @@
 -- What is written of a stream turn by turn.
-use Rattle.std.proofs.Common.{◌≡◌, ℕ, ◌+◌, ◌-◌, ◌^◌, ◌<◌, ◌≤◌, List, [], ◌∷◌, ◌++◌, length, Option, Some, None, Result, Ok, Err, refl, sym, ap, subst, ◌∙◌, arith, inl, inr}
+use Rattle.std.proofs.Common.{◌≡◌, ℕ, ◌+◌, ◌-◌, ◌^◌, ◌<◌, ◌≤◌, ◌⊎◌, List, [], ◌∷◌, ◌++◌, length, Option, Some, None, Result, Ok, Err, refl, sym, ap, subst, ◌∙◌, arith, inl, inr}
 use Rattle.std.proofs.lemmas.Bool.{cases_lt}
 use Rattle.std.proofs.lemmas.List.{append-nil, append_assoc, length-append}
 use Rattle.std.proofs.lemmas.Grind.{flat_map-append}
@@ -31,7 +31,7 @@ use Rattle.bt_feed.proofs.Reading.{hand_open}
 use Rattle.std.specs.Prelude.{MatchResult, OnOk}
 use Rattle.bt_tool.specs.declared.printer.Printer.{Printer}
 use Rattle.bt_tool.specs.Lines.{ended_by, ended_as, verdict_line, lines_of}
-use Rattle.bt_tool.specs.Printed.{texts, text_of, form_of, text_in, Prints, AppendsFront, IsWrittenOut, IsFlushed, IsAllWritten, IsFrontWritten, Writing, items_in, checked, IsWritten, IsReadTo, IsTurn}
+use Rattle.bt_tool.specs.Printed.{texts, text_of, form_of, text_in, Prints, AppendsFront, IsWrittenOut, IsFlushed, MayBeTold, IsAllWritten, IsFrontWritten, Writing, nothing, items_in, checked, IsWritten, IsReadTo, IsTurn}
 
 pub on_ok : {T E : Type 0} (r : Result T E) (P Q : Type 0) → (P → Q) → OnOk r P → OnOk r Q
 on_ok (Ok x) P Q f h = f h
@@ -222,9 +222,9 @@ front_of_more a b xs ys p = (p.0, p.1 ++ ys, ap (λ (l : List ℕ). l ++ ys) p.2
 pub all_is_front : (a b : Option (List ℕ)) (xs : List ℕ) → Appends a b xs → AppendsFront a b xs
 all_is_front a b xs p = (xs, [], sym (append-nil xs), p)
 
-pub told_fault : (form : Form) (own : Own) (left0 left left' held0 held held' : Option (List ℕ)) (f g : FeedState) (p q : Printer) (e : ToolFault) → (t : IsToldTo form own left0 left held0 held f p)
-    → IsTurn (form_of p) own t.bytes t.items left left' held held' g q (Err e) → (b : List ℕ) × Consumes left0 left' b × IsFrontWritten (items_in form own) own b held0 held'
-told_fault form own left0 left left' held0 held held' f g p q e t n =
+pub told_fault : (E : Type 0) (form : Form) (own : Own) (left0 left left' held0 held held' : Option (List ℕ)) (f g : FeedState) (p q : Printer) (e : ToolFault) → (t : IsToldTo form own left0 left held0 held f p)
+    → IsTurn (form_of p) own t.bytes t.items left left' held held' g q (Err e) → (b : List ℕ) × Consumes left0 left' b × IsFrontWritten (items_in form own) (items_in form own) own E b held0 held'
+told_fault E form own left0 left left' held0 held held' f g p q e t n =
     let P : Form → Type 0 = λ x. IsTurn x own t.bytes t.items left left' held held' g q (Err e) in
     let m = subst P t.form_is n in (
       t.bytes ++ m.0,
@@ -232,24 +232,28 @@ told_fault form own left0 left left' held0 held held' f g p q e t n =
       λ w is.
           let k = m.2 w is in
           let all : texts form own t.items ++ texts form own k.0 ≡ texts form own w.items = sym (texts_both form own t.items k.0) ∙ ap (texts form own) (sym k.1) in
-          subst (AppendsFront held0 held') all (front_behind held0 held held' (texts form own t.items) (texts form own k.0) t.written k.2),
+          inl (subst (AppendsFront held0 held') all (front_behind held0 held held' (texts form own t.items) (texts form own k.0) t.written k.2)),
     )
 
 -- after so many turns what is written is a front
-pub told_so_far : (form : Form) (own : Own) (left left' held held' : Option (List ℕ)) (f : FeedState) (p : Printer) → own.limit ≤ 1048576 → VerdictIsOne → IsToldTo form own left left' held held' f p
-    → (b : List ℕ) × Consumes left left' b × IsFrontWritten (items_in form own) own b held held'
-told_so_far form own left left' held held' f p le one t = (
+pub told_so_far : (E : Type 0) (form : Form) (own : Own) (left left' held held' : Option (List ℕ)) (f : FeedState) (p : Printer) → own.limit ≤ 1048576 → VerdictIsOne → IsToldTo form own left left' held held' f p
+    → (b : List ℕ) × Consumes left left' b × IsFrontWritten (items_in form own) (items_in form own) own E b held held'
+told_so_far E form own left left' held held' f p le one t = (
   t.bytes,
   t.consumed,
   λ w is.
       let same : t.items ≡ w.items = sym t.read.items ∙ ap (λ (v : Outcome). v.items) (one own t.bytes t.read.now w (omega (arith, le)) t.read.is is) in
-      subst (λ xs. AppendsFront held held' (texts form own xs)) same (all_is_front held held' (texts form own t.items) t.written),
+      inl (subst (λ xs. AppendsFront held held' (texts form own xs)) same (all_is_front held held' (texts form own t.items) t.written)),
 )
 
 -- ---- the verdict's line
 
-pub front_shown : (own : Own) (b : List ℕ) (held held' : Option (List ℕ)) → IsFrontWritten (items_in forms.Show own) own b held held' → IsFrontWritten (lines_of own) own b held held'
-front_shown own b held held' h = λ w is. front_of_more held held' (texts forms.Show own w.items) (verdict_line (ended_as w (length b))) (h w is)
+either_front : (E P : Type 0) → P ⊎ (E × P) → P
+either_front E P (inl p) = p
+either_front E P (inr p) = p.1
+
+pub front_shown : (E : Type 0) (own : Own) (b : List ℕ) (held held' : Option (List ℕ)) → IsFrontWritten (items_in forms.Show own) (items_in forms.Show own) own E b held held' → IsFrontWritten (items_in forms.Show own) (lines_of own) own E b held held'
+front_shown E own b held held' h = λ w is. inl (either_front (MayBeTold E (ended_as w (length b))) (AppendsFront held held' (texts forms.Show own w.items)) (h w is))
 
 -- the same outcome
 written_by : (own : Own) (b : List ℕ) (held held' : Option (List ℕ)) (e : Ended) → own.limit < 2 ^ 32 → VerdictIsOne → (a : IsAllWritten (items_in forms.Show own) own b held held' e) → (w : Outcome) → IsVerdict own b w
@@ -258,44 +262,44 @@ written_by own b held held' e lt one a w is =
     let same = one own b a.0 w lt a.1 is in
     subst (λ (v : Outcome). Appends held held' (texts forms.Show own v.items) × (e ≡ ended_as v (length b))) same (a.2, a.3)
 
-pub front_shown_all : (own : Own) (b : List ℕ) (held held' : Option (List ℕ)) (e : Ended) → own.limit < 2 ^ 32 → VerdictIsOne → IsAllWritten (items_in forms.Show own) own b held held' e → IsFrontWritten (lines_of own) own b held held'
-front_shown_all own b held held' e lt one a = λ w is.
+pub front_shown_all : (E : Type 0) (own : Own) (b : List ℕ) (held held' : Option (List ℕ)) (e : Ended) → own.limit < 2 ^ 32 → VerdictIsOne → IsAllWritten (items_in forms.Show own) own b held held' e → IsFrontWritten (items_in forms.Show own) (lines_of own) own E b held held'
+front_shown_all E own b held held' e lt one a = λ w is.
     let here = written_by own b held held' e lt one a w is in
-    front_of_more held held' (texts forms.Show own w.items) (verdict_line (ended_as w (length b))) (all_is_front held held' (texts forms.Show own w.items) here.0)
+    inl (all_is_front held held' (texts forms.Show own w.items) here.0)
 
-pub all_shown : (own : Own) (b text left : List ℕ) (held mid held' : Option (List ℕ)) (e : Ended) (r : Result Ended ToolFault) → own.limit < 2 ^ 32 → VerdictIsOne → IsAllWritten (items_in forms.Show own) own b held mid e
-    → text ≡ verdict_line e → IsFlushed e text mid held' left r → MatchResult r (IsAllWritten (lines_of own) own b held held') (λ _. IsFrontWritten (lines_of own) own b held held')
-all_shown own b text left held mid held' e (Ok d) lt one a is f =
+pub all_shown : (E : Type 0) (own : Own) (b text left : List ℕ) (held mid held' : Option (List ℕ)) (e : Ended) (r : Result Ended ToolFault) → own.limit < 2 ^ 32 → VerdictIsOne → IsAllWritten (items_in forms.Show own) own b held mid e
+    → text ≡ verdict_line e → MayBeTold E e → IsFlushed e text mid held' left r → MatchResult r (IsAllWritten (lines_of own) own b held held') (λ _. IsFrontWritten (items_in forms.Show own) (lines_of own) own E b held held')
+all_shown E own b text left held mid held' e (Ok d) lt one a is told f =
     let v = a.0 in
     let line : text ≡ verdict_line (ended_as v (length b)) = is ∙ ap verdict_line a.3 in
     (v, a.1, Appends-trans held mid held' (texts forms.Show own v.items) (verdict_line (ended_as v (length b))) a.2 (subst (Appends mid held') line f.1), f.0 ∙ a.3)
-all_shown own b text left held mid held' e (Err x) lt one a is f = λ w isw.
+all_shown E own b text left held mid held' e (Err x) lt one a is told f = λ w isw.
     let here = written_by own b held mid e lt one a w isw in
-    front_behind held mid held' (texts forms.Show own w.items) (verdict_line (ended_as w (length b))) here.0 (subst (AppendsFront mid held') (is ∙ ap verdict_line here.1) f)
+    inr (subst (MayBeTold E) here.1 told, front_behind held mid held' (texts forms.Show own w.items) (verdict_line (ended_as w (length b))) here.0 (subst (AppendsFront mid held') (is ∙ ap verdict_line here.1) f))
 
 -- ---- the verdict alone
 
 -- nothing is written
-pub nothing_checked : (w : Writing) (own : Own) (left left' held : Option (List ℕ)) (b : List ℕ) (f : ToolFault) → Consumes left left' b → IsWritten w own left left' held held (Err f)
-nothing_checked w own left left' held b f c = (b, c, λ v is. ([], w v (length b), refl, Appends-nil held))
+pub nothing_checked : (E : Type 0) (w : Writing) (own : Own) (left left' held : Option (List ℕ)) (b : List ℕ) (f : ToolFault) → Consumes left left' b → IsWritten nothing w own E left left' held held (Err f)
+nothing_checked E w own left left' held b f c = (b, c, λ v is. inl ([], [], refl, Appends-nil held))
 
 -- what went through a new feed comes to v, whose verdict is to be written
-pub checked_all : (own : Own) (f : FeedState) (left left' held held' : Option (List ℕ)) (b : List ℕ) (v : Outcome) (e : Ended) (r : Result Ended ToolFault) → own.limit ≤ 1048576 → VerdictIsOne → Consumes left left' b
-    → f ≡ record { stage = stage.Handshake own; held = []; refused = None } → Comes f.stage (f.held ++ b) v → e ≡ ended_as v (v.start + length v.tail) → IsWrittenOut e (verdict_line e) held held' r → IsWritten checked own left left' held held' r
-checked_all own f left left' held held' b v e (Ok a) le one c new comes ended out =
+pub checked_all : (E : Type 0) (own : Own) (f : FeedState) (left left' held held' : Option (List ℕ)) (b : List ℕ) (v : Outcome) (e : Ended) (r : Result Ended ToolFault) → own.limit ≤ 1048576 → VerdictIsOne → Consumes left left' b
+    → f ≡ record { stage = stage.Handshake own; held = []; refused = None } → Comes f.stage (f.held ++ b) v → e ≡ ended_as v (v.start + length v.tail) → MayBeTold E e → IsWrittenOut e (verdict_line e) held held' r → IsWritten nothing checked own E left left' held held' r
+checked_all E own f left left' held held' b v e (Ok a) le one c new comes ended told out =
     let F : FeedState → Type 0 = λ g. Comes g.stage (g.held ++ b) v in
     let is : IsVerdict own b v = subst F new comes in
     let same : e ≡ ended_as v (length b) = ended ∙ ap (λ (n : ℕ). ended_as v n) (verdict_length own b v is) in
     let P : Ended → Type 0 = λ x. Appends held held' (verdict_line x) in
     (b, c, (v, is, subst P same out.1, out.0 ∙ same))
-checked_all own f left left' held held' b v e (Err x) le one c new comes ended out =
+checked_all E own f left left' held held' b v e (Err x) le one c new comes ended told out =
     let F : FeedState → Type 0 = λ g. Comes g.stage (g.held ++ b) v in
     let is : IsVerdict own b v = subst F new comes in
     let same : e ≡ ended_as v (length b) = ended ∙ ap (λ (n : ℕ). ended_as v n) (verdict_length own b v is) in (
       b,
       c,
       λ w isw.
-          let P : Ended → Type 0 = λ x. AppendsFront held held' (verdict_line x) in
-          let Q : Outcome → Type 0 = λ u. AppendsFront held held' (verdict_line (ended_as u (length b))) in
-          subst Q (one own b v w (omega (arith, le)) is isw) (subst P same out),
+          let P : Ended → Type 0 = λ x. MayBeTold E x × AppendsFront held held' (verdict_line x) in
+          let Q : Outcome → Type 0 = λ u. MayBeTold E (ended_as u (length b)) × AppendsFront held held' (verdict_line (ended_as u (length b))) in
+          inr (subst Q (one own b v w (omega (arith, le)) is isw) (subst P same (told, out))),
     )

@@ -19,7 +19,8 @@ use Rattle.bt_wire.specs.Messages.{Fields, none, index, part, block, port, field
 use Rattle.bt_wire.specs.Numbers.{be64}
 use Rattle.bt_tool.specs.Lines.{spaced, handshake_words}
 use Rattle.bt_tool.specs.Script.{spaced_hex, script_fields, script_message}
-use Rattle.bt_tool.specs.ScriptLaws.{has_feed, IsFitLine}
+use Rattle.bt_tool.specs.Packs.{has_feed}
+use Rattle.bt_tool.specs.ScriptLaws.{IsFitLine}
 use Rattle.bt_tool.proofs.ScriptWords.{AreDigits, own}
 
 -- ---- no line feed

@@ -9,9 +9,8 @@ use Rattle.bt_wire.specs.declared.context.Own.{Own}
 use Rattle.bt_wire.specs.declared.item.Item.{Item}
 use Rattle.bt_wire.specs.Streams.{Outcome, IsVerdict}
 use Rattle.bt_tool.specs.declared.ended.ScriptReason.{ScriptReason}
-use Rattle.bt_tool.specs.Packs.{IsSplit, IsEndedLine, AreLines, AreNamed, AreTaken, IsNotTaken, IsStop, IsPacked, is_none}
+use Rattle.bt_tool.specs.Packs.{has_feed, IsSplit, IsEndedLine, AreLines, AreNamed, AreTaken, IsNotTaken, IsStop, IsPacked, is_none}
 use Rattle.bt_tool.specs.declared.ended.PackEnd.{PackEnd}
-use Rattle.bt_tool.specs.ScriptLaws.{has_feed}
 
 abbrev pub is_hand : Stage → Bool
 is_hand (stage.Handshake own) = true

@@ -1,6 +1,6 @@
 -- What a script comes to when it is packed: its lines, the bytes that they name one after the other, and the first line that
 -- isn't taken.
-use Rattle.std.specs.Prelude.{◌≡◌, ◌⊎◌, ℕ, ◌+◌, ◌-◌, ◌*◌, ◌≤◌, ◌<◌, ⊤, Bool, true, false, List, [], ◌∷◌, ◌++◌, length, Option, Some, Result, Ok, Err, MatchResult}
+use Rattle.std.specs.Prelude.{◌≡◌, ◌==◌, ◌||◌, ◌⊎◌, ℕ, ◌+◌, ◌-◌, ◌*◌, ◌≤◌, ◌<◌, ⊤, Bool, true, false, List, [], ◌∷◌, ◌++◌, length, Option, Some, Result, Ok, Err, MatchResult}
 use Rattle.std.specs.Io.KnownBytes.{Consumes, Appends}
 use Rattle.std.specs.List.{flat_map}
 use Rattle.bt_wire.specs.declared.context.Own.{Own}
@@ -13,9 +13,12 @@ use Rattle.bt_tool.specs.declared.ended.ScriptReason.TheVariants.{Syntax, Reason
 use Rattle.bt_tool.specs.declared.ended.ToolFault.{ToolFault}
 use Rattle.bt_tool.specs.Printed.{AppendsFront}
 use Rattle.bt_tool.specs.Script.{IsLine}
-use Rattle.bt_tool.specs.ScriptLaws.{has_feed}
 
 -- ---- the lines of a text
+
+abbrev pub has_feed : List ℕ → Bool
+has_feed [] = false
+has_feed (c ∷ cs) = c == 10 || has_feed cs
 
 -- the lines, each with its line feed
 abbrev pub ended_lines : List (List ℕ) → List ℕ
@@ -50,7 +53,7 @@ abbrev pub is_none : List (List ℕ) → Bool
 is_none [] = true
 is_none (line ∷ lines) = false
 
--- the lines, of which the first may be that of a handshake, name these bytes in their order
+-- the lines name these bytes in their order: where the first is to be a handshake's, it is, and all others are messages'
 abbrev pub AreNamed : ℕ → Bool → List (List ℕ) → List ℕ → Type 0
 AreNamed limit first [] b = b ≡ []
 AreNamed limit first (line ∷ lines) b = (x : List ℕ) × (rest : List ℕ) × IsNamed limit first line x × (b ≡ x ++ rest) × AreNamed limit false lines rest
@@ -61,7 +64,7 @@ pub record AreTaken (own : Own) (lines : List (List ℕ)) (b : List ℕ) (v : Ou
   pub verdict : IsVerdict own b v
   pub nothing_left : v.tail ≡ []
 
--- the text is no line, or one whose bytes are refused where they stand
+-- the text is no line or too long for one, or it is one whose bytes are refused where they stand
 abbrev pub IsNotTaken : Own → Bool → List ℕ → List ℕ → Outcome → ScriptReason → Type 0
 IsNotTaken own first text b v Syntax = (x : List ℕ) → IsNamed own.limit first text x → ⊥
 IsNotTaken own first text b v (Reason reason) =
@@ -97,14 +100,18 @@ abbrev pub IsTimely : ℕ → List ℕ → Type 0 → PackEnd → Type 0
 IsTimely limit text AtEnd (Accepted messages bytes) = AtEnd
 IsTimely limit text AtEnd (Refused number reason) = IsEndedLine limit text number ⊎ AtEnd
 
--- a front of the bytes of lines that are taken is written
-abbrev pub IsFrontPacked : Own → List (List ℕ) → Option (List ℕ) → Option (List ℕ) → Type 0
-IsFrontPacked own all held held' =
-    (before : List (List ℕ)) × (behind : List (List ℕ)) × (b : List ℕ) × (v : Outcome) × (all ≡ before ++ behind) × AreTaken own before b v × AppendsFront held held' b
+-- the text begins with these lines, each ended by a line feed; only where the end was read may one that none ends be the last
+abbrev pub AreFrontLines : List ℕ → Type 0 → List (List ℕ) → Type 0
+AreFrontLines text AtEnd lines = ((behind : List ℕ) × (text ≡ ended_lines lines ++ behind) × AreWhole lines) ⊎ (AtEnd × AreLines text lines)
+
+-- a front of the bytes of such lines is written, which are taken
+abbrev pub IsFrontPacked : Own → List ℕ → Type 0 → Option (List ℕ) → Option (List ℕ) → Type 0
+IsFrontPacked own text AtEnd held held' =
+    (lines : List (List ℕ)) × (b : List ℕ) × (v : Outcome) × AreFrontLines text AtEnd lines × AreTaken own lines b v × AppendsFront held held' b
 
 -- What was read is a text of these lines: what is written and answered is what they come to, or at a fault a front is written.
 -- AtEnd says that the text's end was read.
 abbrev pub IsPackRun : Own → Type 0 → Option (List ℕ) → Option (List ℕ) → Option (List ℕ) → Option (List ℕ) → Result PackEnd ToolFault → Type 0
 IsPackRun own AtEnd left left' held held' r =
     (text : List ℕ) × (all : List (List ℕ)) × Consumes left left' text × AreLines text all
-    × MatchResult r (λ e. (b : List ℕ) × IsPacked own all b e × Appends held held' b × IsTimely own.limit text AtEnd e) (λ _. IsFrontPacked own all held held')
+    × MatchResult r (λ e. (b : List ℕ) × IsPacked own all b e × Appends held held' b × IsTimely own.limit text AtEnd e) (λ _. IsFrontPacked own text AtEnd held held')

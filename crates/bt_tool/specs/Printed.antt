@@ -1,5 +1,5 @@
 -- What a command writes of a stream, and what it does to its reader and its writer.
-use Rattle.std.specs.Prelude.{◌≡◌, ℕ, ◌+◌, ◌-◌, ◌^◌, ◌≤◌, min, ⊤, List, [], ◌++◌, length, Option, None, Some, Result, Ok, Err, MatchResult}
+use Rattle.std.specs.Prelude.{◌≡◌, ◌⊎◌, ℕ, ◌+◌, ◌-◌, ◌^◌, ◌≤◌, min, ⊤, List, [], ◌++◌, length, Option, None, Some, Result, Ok, Err, MatchResult}
 use Rattle.std.specs.Io.KnownBytes.{Consumes, Appends}
 use Rattle.std.specs.List.{flat_map}
 use Rattle.bt_feed.specs.Feeds.{FeedState}
@@ -58,11 +58,15 @@ IsFlushed answer text held held' left (Err e) = AppendsFront held held' text
 
 -- ---- commands
 
+-- the verdict may be told: it is a refusal that no later byte undoes, or the end was read
+abbrev pub MayBeTold : Type 0 → Ended → Type 0
+MayBeTold AtEnd (Accepted messages bytes) = AtEnd
+MayBeTold AtEnd (Refused r) = r.reason ≡ EndInside → AtEnd
+
 -- Where a command's answer comes from, by its reader's counts: a verdict that stands only at the stream's end from a read that
 -- gave it, and a fault of reading from a read that failed or from so many reads
 abbrev pub IsEndOfReads : Result Ended ToolFault → ℕ → ℕ → ℕ → ℕ → ℕ → ℕ → Type 0
-IsEndOfReads (Ok (Accepted messages bytes)) reads reads' failed failed' ends ends' = Grew ends ends'
-IsEndOfReads (Ok (Refused r)) reads reads' failed failed' ends ends' = r.reason ≡ EndInside → Grew ends ends'
+IsEndOfReads (Ok e) reads reads' failed failed' ends ends' = MayBeTold (Grew ends ends') e
 IsEndOfReads (Err fault.Read) reads reads' failed failed' ends ends' = Grew failed failed'
 IsEndOfReads (Err fault.Turns) reads reads' failed failed' ends ends' = (min (reads + 2 ^ 32) (2 ^ 64 - 1) ≤ reads') × (ends' ≡ ends)
 IsEndOfReads (Err fault.Write) reads reads' failed failed' ends ends' = ⊤
@@ -76,14 +80,20 @@ Writing = Outcome → ℕ → List ℕ
 abbrev pub IsAllWritten : Writing → Own → List ℕ → Option (List ℕ) → Option (List ℕ) → Ended → Type 0
 IsAllWritten w own b held held' e = (v : Outcome) × IsVerdict own b v × Appends held held' (w v (length b)) × (e ≡ ended_as v (length b))
 
--- a front of it is written
-abbrev pub IsFrontWritten : Writing → Own → List ℕ → Option (List ℕ) → Option (List ℕ) → Type 0
-IsFrontWritten w own b held held' = (v : Outcome) → IsVerdict own b v → AppendsFront held held' (w v (length b))
+-- a front of what is early is written; only where the verdict may be told is it a front of all
+abbrev pub IsFrontWritten : Writing → Writing → Own → Type 0 → List ℕ → Option (List ℕ) → Option (List ℕ) → Type 0
+IsFrontWritten early all own AtEnd b held held' =
+    (v : Outcome) → IsVerdict own b v → AppendsFront held held' (early v (length b)) ⊎ (MayBeTold AtEnd (ended_as v (length b)) × AppendsFront held held' (all v (length b)))
 
--- what was read is b: all of its text is written, or at a fault a front of that
-abbrev pub IsWritten : Writing → Own → Option (List ℕ) → Option (List ℕ) → Option (List ℕ) → Option (List ℕ) → Result Ended ToolFault → Type 0
-IsWritten w own left left' held held' r =
-    (b : List ℕ) × Consumes left left' b × MatchResult r (IsAllWritten w own b held held') (λ _. IsFrontWritten w own b held held')
+-- What was read is b: all of its text is written, or at a fault a front of that, whose verdict isn't early. AtEnd says that
+-- the end was read.
+abbrev pub IsWritten : Writing → Writing → Own → Type 0 → Option (List ℕ) → Option (List ℕ) → Option (List ℕ) → Option (List ℕ) → Result Ended ToolFault → Type 0
+IsWritten early all own AtEnd left left' held held' r =
+    (b : List ℕ) × Consumes left left' b × MatchResult r (IsAllWritten all own b held held') (λ _. IsFrontWritten early all own AtEnd b held held')
+
+-- nothing
+abbrev pub nothing : Writing
+nothing v n = []
 
 -- the items alone
 abbrev pub items_in : Form → Own → Writing

@@ -1,5 +1,5 @@
 -- Laws on the lines of a script.
-use Rattle.std.specs.Prelude.{◌≡◌, ◌==◌, ◌||◌, ◌≤◌, ◌+◌, ◌*◌, Bool, true, false, List, [], ◌∷◌, length, ℕ}
+use Rattle.std.specs.Prelude.{◌≡◌, ◌≤◌, ◌+◌, ◌*◌, Bool, true, false, List, length, ℕ}
 use Rattle.bt_wire.specs.declared.context.Context.{Context}
 use Rattle.bt_wire.specs.declared.context.Own.{Own}
 use Rattle.bt_wire.specs.declared.handshake.Handshake.{Handshake}
@@ -8,6 +8,7 @@ use Rattle.bt_wire.specs.declared.message.Message.{Message}
 use Rattle.bt_wire.specs.Handshakes.{hand, IsHandshake}
 use Rattle.bt_wire.specs.Messages.{spell, body, IsShaped, IsInRange}
 use Rattle.bt_wire.specs.Numbers.{AreBytes}
+use Rattle.bt_tool.specs.Packs.{has_feed}
 use Rattle.bt_tool.specs.Script.{script_words, IsLine}
 
 -- a text names one list of bytes at most
@@ -21,10 +22,6 @@ MessageIsLine = (own : Own) (c : Context) (m : Message) → c.reg ≡ own.reg �
 -- the words of a handshake are the first line, with just its bytes
 abbrev pub HandshakeIsLine : Type 0
 HandshakeIsLine = (own : Own) (h : Handshake) → IsHandshake h → AreBytes (hand h) → IsLine true (script_words own (items.Handshake h)) (hand h)
-
-abbrev pub has_feed : List ℕ → Bool
-has_feed [] = false
-has_feed (c ∷ cs) = c == 10 || has_feed cs
 
 -- the words hold no line feed, and for n bytes they aren't longer than a script's line may be
 pub record IsFitLine (words : List ℕ) (n : ℕ) : Type 0 where

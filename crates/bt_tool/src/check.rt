@@ -2,7 +2,7 @@
 ghost use Rattle.std.specs.Prelude.{◌≡◌, ◌≤◌, Err, IfErr};
 ghost use Rattle.bt_feed.specs.Counts.{Grew};
 ghost use Rattle.bt_tool.specs.Lines.{verdict_line as verdict_words};
-ghost use Rattle.bt_tool.specs.Printed.{IsWritten, IsWrittenOut, IsEndOfReads, checked};
+ghost use Rattle.bt_tool.specs.Printed.{IsWritten, IsWrittenOut, IsEndOfReads, nothing, checked};
 
 use crate::ended::{Ended, ToolFault};
 use crate::lines::verdict_line;
@@ -20,7 +20,7 @@ pub fn run_check<R: Source, W: Target>(
     own: &Own,
 ) -> Result<Ended, ToolFault>
     requires { (1 ≤ own.now.limit) × (own.now.limit ≤ 1048576) }
-    ensures checked { IsWritten checked own.now (R.left reader.old) (R.left reader.new) (W.held writer.old) (W.held writer.new) result }
+    ensures checked { IsWritten nothing checked own.now (Grew (R.ends reader.old) (R.ends reader.new)) (R.left reader.old) (R.left reader.new) (W.held writer.old) (W.held writer.new) result }
     ensures faults { IsEndOfReads result (R.reads reader.old) (R.reads reader.new) (R.failed_reads reader.old) (R.failed_reads reader.new) (R.ends reader.old) (R.ends reader.new) }
     ensures write { result ≡ Err ToolFault.Write → Grew (W.failed_writes writer.old) (W.failed_writes writer.new) }
 {

@@ -1,5 +1,5 @@
 //! Packing a script: the bytes that its lines name, as long as they are a stream's items.
-ghost use Rattle.std.specs.Prelude.{◌≡◌, ◌==◌, ◌≤◌, ◌<◌, ◌++◌, ℕ, List, length, position, option_map, min, ◌+◌, ◌-◌, ◌^◌, IfOk, IfErr, IfSome, Err};
+ghost use Rattle.std.specs.Prelude.{◌≡◌, ◌==◌, ◌≤◌, ◌<◌, ◌++◌, ℕ, List, [], None, length, position, option_map, min, ◌+◌, ◌-◌, ◌^◌, IfOk, IfErr, IfSome, Err};
 ghost use Rattle.bt_wire.specs.declared.context.Own.{Own as Receiver};
 ghost use Rattle.bt_feed.specs.Counts.{Grew};
 ghost use Rattle.bt_feed.specs.Stages.{number_of, start_of};
@@ -50,17 +50,15 @@ fn take_line(
     if text.len() as u64 > 2 * u64::from(limit) + 256 {
         return Ok(Some(ScriptReason::Syntax));
     }
-    match read_line(text, first, bytes) {
-        Ok(true) => {}
-        Ok(false) => return Ok(Some(ScriptReason::Syntax)),
-        Err(error) => return Err(error),
+    if !read_line(text, first, bytes)? {
+        return Ok(Some(ScriptReason::Syntax));
     }
     feed.push(bytes.as_slice());
     match feed.take() {
-        Ok(Some(_)) => match out.extend_from_slice(bytes.as_slice()) {
-            Ok(()) => Ok(None),
-            Err(error) => Err(error),
-        },
+        Ok(Some(_)) => {
+            out.extend_from_slice(bytes.as_slice())?;
+            Ok(None)
+        }
         Ok(None) => Ok(Some(ScriptReason::Syntax)),
         Err(error) => Ok(Some(ScriptReason::Reason(refusal_in(error).reason))),
     }
@@ -74,10 +72,33 @@ fn hold(line: &mut Vec<u8>, more: &[u8], limit: u32) -> Result<bool, AllocError>
     if line.len() as u64 + more.len() as u64 > 2 * u64::from(limit) + 256 {
         return Ok(false);
     }
-    match line.extend_from_slice(more) {
-        Ok(()) => Ok(true),
-        Err(error) => Err(error),
+    line.extend_from_slice(more)?;
+    Ok(true)
+}
+
+/// Takes the line that the text ends, whose front may be held; only then is it copied. Behind a line that is taken none is held.
+fn take_ended(
+    feed: &mut Feed,
+    line: &mut Vec<u8>,
+    text: &[u8],
+    limit: u32,
+    bytes: &mut Vec<u8>,
+    out: &mut Vec<u8>,
+) -> Result<Option<ScriptReason>, AllocError>
+    requires { limit ≤ 1048576 }
+    ensures taken { IfOk result (λ answer. (own : Receiver) (lines : List (List ℕ)) (b : List ℕ) → limit ≡ own.limit → IsPackedTo own lines b feed.old
+        → IsLineEnd own lines b (line.old.items ++ text.now) feed.new out.old.items out.new.items answer) }
+    ensures empty { IfOk result (λ answer. answer ≡ None → line.new.items ≡ []) }
+{
+    if line.as_slice().is_empty() {
+        return take_line(feed, text, limit, bytes, out);
     }
+    if !hold(line, text, limit)? {
+        return Ok(Some(ScriptReason::Syntax));
+    }
+    let answer = take_line(feed, line.as_slice(), limit, bytes, out)?;
+    line.clear();
+    Ok(answer)
 }
 
 /// Takes the lines that a piece of the script ends, and keeps the front of the next; or says why one isn't taken.
@@ -96,23 +117,16 @@ fn take_piece(
     let mut rest = piece;
     'lines: loop {
         match split_line(rest) {
-            None => match hold(line, rest, limit) {
-                Ok(true) => return Ok(None),
-                Ok(false) => return Ok(Some(ScriptReason::Syntax)),
-                Err(error) => return Err(error),
-            },
+            None => {
+                if !hold(line, rest, limit)? {
+                    return Ok(Some(ScriptReason::Syntax));
+                }
+                return Ok(None);
+            }
             Some((front, behind)) => {
-                match hold(line, front, limit) {
-                    Ok(true) => {}
-                    Ok(false) => return Ok(Some(ScriptReason::Syntax)),
-                    Err(error) => return Err(error),
+                if let Some(reason) = take_ended(feed, line, front, limit, bytes, out)? {
+                    return Ok(Some(reason));
                 }
-                match take_line(feed, line.as_slice(), limit, bytes, out) {
-                    Ok(None) => {}
-                    Ok(Some(reason)) => return Ok(Some(reason)),
-                    Err(error) => return Err(error),
-                }
-                line.clear();
                 rest = behind;
             }
         }
@@ -179,11 +193,12 @@ pub fn run_pack<R: Source, W: Target>(
     let Ok(mut feed) = Feed::new(alloc, *own) else {
         return Err(ToolFault::Memory);
     };
-    // Room for the longest line and its bytes, so that lines take no memory.
+    // Room for the longest line and its bytes, so that lines take no memory: `piece 0 0 `, and behind it the digits of
+    // limit + 123 bytes, which stand behind 13 others.
     let Ok(mut line) = Vec::with_capacity(alloc, 2 * own.limit as usize + 256) else {
         return Err(ToolFault::Memory);
     };
-    let Ok(mut bytes) = Vec::with_capacity(alloc, (own.limit as usize + 4).max(68)) else {
+    let Ok(mut bytes) = Vec::with_capacity(alloc, own.limit as usize + 136) else {
         return Err(ToolFault::Memory);
     };
     let mut out = Vec::new(alloc);

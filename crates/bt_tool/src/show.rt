@@ -2,6 +2,7 @@
 ghost use Rattle.std.specs.Prelude.{◌≡◌, ◌+◌, ◌-◌, ◌≤◌, ◌^◌, ◌<◌, ℕ, List, [], length, OnOk, Err};
 ghost use Rattle.bt_feed.specs.Counts.{Grew};
 ghost use Rattle.bt_wire.specs.declared.item.Item.{Item};
+ghost use Rattle.bt_tool.specs.declared.printer.Form.TheVariants as form;
 ghost use Rattle.bt_tool.specs.Lines.{lines_of};
 ghost use Rattle.bt_tool.specs.Printed.{IsWritten, IsReadTo, IsTurn, IsEndOfReads, IsEndOfTurn, form_of, text_in, items_in, unpacked};
 
@@ -11,7 +12,7 @@ use bt_feed::{Feed, PumpError, Source, Target, pump_with};
 use bt_wire::{Own, laws};
 use std::alloc::Global;
 
-/// How many reads a command makes.
+/// How many reads a command makes at most.
 pub const MAX_READS: u64 = 1 << 32;
 
 /// Reads once into the buffer, and writes the text of the items that it completes. It answers how the stream ends, at its end.
@@ -52,7 +53,7 @@ fn tell<R: Source, W: Target>(
 ) -> Result<Ended, ToolFault>
     requires limit { (1 ≤ own.now.limit) × (own.now.limit ≤ 1048576) }
     requires empty { text_in printer.old ≡ [] }
-    ensures told { IsWritten (items_in (form_of printer.old) own.now) own.now (R.left reader.old) (R.left reader.new) (W.held writer.old) (W.held writer.new) result }
+    ensures told { IsWritten (items_in (form_of printer.old) own.now) (items_in (form_of printer.old) own.now) own.now (Grew (R.ends reader.old) (R.ends reader.new)) (R.left reader.old) (R.left reader.new) (W.held writer.old) (W.held writer.new) result }
     ensures empty { OnOk result (text_in printer.new ≡ []) }
     ensures calm { OnOk result (W.failed_writes writer.new ≡ W.failed_writes writer.old) }
     ensures faults { IsEndOfReads result (R.reads reader.old) (R.reads reader.new) (R.failed_reads reader.old) (R.failed_reads reader.new) (R.ends reader.old) (R.ends reader.new) }
@@ -83,7 +84,7 @@ pub fn run_show<R: Source, W: Target>(
     own: &Own,
 ) -> Result<Ended, ToolFault>
     requires { (1 ≤ own.now.limit) × (own.now.limit ≤ 1048576) }
-    ensures shown { IsWritten (lines_of own.now) own.now (R.left reader.old) (R.left reader.new) (W.held writer.old) (W.held writer.new) result }
+    ensures shown { IsWritten (items_in form.Show own.now) (lines_of own.now) own.now (Grew (R.ends reader.old) (R.ends reader.new)) (R.left reader.old) (R.left reader.new) (W.held writer.old) (W.held writer.new) result }
     ensures faults { IsEndOfReads result (R.reads reader.old) (R.reads reader.new) (R.failed_reads reader.old) (R.failed_reads reader.new) (R.ends reader.old) (R.ends reader.new) }
     ensures write { result ≡ Err ToolFault.Write → Grew (W.failed_writes writer.old) (W.failed_writes writer.new) }
 {
@@ -107,7 +108,7 @@ pub fn run_unpack<R: Source, W: Target>(
     own: &Own,
 ) -> Result<Ended, ToolFault>
     requires { (1 ≤ own.now.limit) × (own.now.limit ≤ 1048576) }
-    ensures unpacked { IsWritten (unpacked own.now) own.now (R.left reader.old) (R.left reader.new) (W.held writer.old) (W.held writer.new) result }
+    ensures unpacked { IsWritten (unpacked own.now) (unpacked own.now) own.now (Grew (R.ends reader.old) (R.ends reader.new)) (R.left reader.old) (R.left reader.new) (W.held writer.old) (W.held writer.new) result }
     ensures faults { IsEndOfReads result (R.reads reader.old) (R.reads reader.new) (R.failed_reads reader.old) (R.failed_reads reader.new) (R.ends reader.old) (R.ends reader.new) }
     ensures write { result ≡ Err ToolFault.Write → Grew (W.failed_writes writer.old) (W.failed_writes writer.new) }
 {

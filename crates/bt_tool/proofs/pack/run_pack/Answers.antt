@@ -15,13 +15,13 @@ use Rattle.bt_tool.proofs.PackRuns.{timely_at_end, timely_line, run_starts, run_
 use Rattle.bt_tool.proofs.pack.run_pack.Goals as goal
 
 pub returns-in_default-clause-packed : goal.returns-in_default-clause-packed
-returns-in_default-clause-packed g c = nothing_run c.args.own.now _ _ fault.Memory c.requires.1
+returns-in_default-clause-packed g c = nothing_run _ c.args.own.now _ _ fault.Memory c.requires.1
 
 pub returns-in_default-with_capacity-clause-packed : goal.returns-in_default-with_capacity-clause-packed
-returns-in_default-with_capacity-clause-packed g c = nothing_run c.args.own.now _ _ fault.Memory c.requires.1
+returns-in_default-with_capacity-clause-packed g c = nothing_run _ c.args.own.now _ _ fault.Memory c.requires.1
 
 pub returns-in_default-with_capacity-2-clause-packed : goal.returns-in_default-with_capacity-2-clause-packed
-returns-in_default-with_capacity-2-clause-packed g c = nothing_run c.args.own.now _ _ fault.Memory c.requires.1
+returns-in_default-with_capacity-2-clause-packed g c = nothing_run _ c.args.own.now _ _ fault.Memory c.requires.1
 
 pub loop-turn-init : goal.loop-turn-init
 loop-turn-init g c = record {
@@ -50,7 +50,7 @@ pub returns-in-Err-end_script-clause-packed : goal.returns-in-Err-end_script-cla
 returns-in-Err-end_script-clause-packed g c =
     let none : c.in-Ok-eq0.field-0 ≡ 0 = omega (arith, c.in-Ok-eq0.field-0-test) in
     let P : ℕ → Type 0 = λ k. Consumes (g.R.Source.left c.loop-turn.reader) (g.R.Source.left c.read.new.self) (take k c.read.new.into) in
-    run_fails c.args.own.now _ _ _ _ _ c.loop-turn.line.items [] c.loop-turn.feed fault.Memory c.loop-turn.invariant.run (subst P none c.in-Ok-eq0.ensures.bytes.0)
+    run_fails _ c.args.own.now _ _ _ _ _ c.loop-turn.line.items [] c.loop-turn.feed fault.Memory c.loop-turn.invariant.run (subst P none c.in-Ok-eq0.ensures.bytes.0)
 
 pub returns-in-Err-write_out-clause-packed : goal.returns-in-Err-write_out-clause-packed
 returns-in-Err-write_out-clause-packed g c =
@@ -59,7 +59,7 @@ returns-in-Err-write_out-clause-packed g c =
     let P : Option ScriptReason → Type 0 = λ o. IsPieceRead c.args.own.now (r.text ++ piece) r.lines r.bytes c.take_piece.new.line.items c.take_piece.new.feed c.loop-turn.out.items c.take_piece.new.out.items o in
     let p = subst P c.in-Ok-None.field-0-is (c.in-Ok-None.ensures c.args.own.now r.text r.lines r.bytes refl r.read) in
     let S : List ℕ → Type 0 = λ l. AppendsFront (g.W.Target.held c.loop-turn.writer) (g.W.Target.held c.write_out-in-Ok-None.new.writer) l in
-    more_fails c.args.own.now _ _ _ _ _ _ c.loop-turn.line.items c.take_piece.new.line.items piece c.loop-turn.out.items c.take_piece.new.out.items c.loop-turn.feed c.take_piece.new.feed c.in-Err-write_out.fault r c.in-Ok-read.ensures.bytes.0
+    more_fails _ c.args.own.now _ _ _ _ _ _ c.loop-turn.line.items c.take_piece.new.line.items piece c.loop-turn.out.items c.take_piece.new.out.items c.loop-turn.feed c.take_piece.new.feed c.in-Err-write_out.fault r c.in-Ok-read.ensures.bytes.0
     c.loop-turn.invariant.empty p (subst S c.as_slice-in-Ok-None.ensures.value c.in-Err-write_out.ensures.written)
 
 pub returns-in-Ok-Some-clause-packed : goal.returns-in-Ok-Some-clause-packed
@@ -77,14 +77,14 @@ returns-in-Ok-Some-clause-packed g c =
 
 pub returns-in-Err-take_piece-clause-packed : goal.returns-in-Err-take_piece-clause-packed
 returns-in-Err-take_piece-clause-packed g c =
-    run_fails c.args.own.now _ _ _ _ _ c.loop-turn.line.items (take c.in-Ok-read.count c.read.new.into) c.loop-turn.feed fault.Memory c.loop-turn.invariant.run c.in-Ok-read.ensures.bytes.0
+    run_fails _ c.args.own.now _ _ _ _ _ c.loop-turn.line.items (take c.in-Ok-read.count c.read.new.into) c.loop-turn.feed fault.Memory c.loop-turn.invariant.run c.in-Ok-read.ensures.bytes.0
 
 pub returns-in-Err-clause-packed : goal.returns-in-Err-clause-packed
 returns-in-Err-clause-packed g c =
-    run_fails c.args.own.now _ _ _ _ _ c.loop-turn.line.items [] c.loop-turn.feed fault.Read c.loop-turn.invariant.run (Consumes-kept _ _ _ [] (Consumes-nil _) c.in-Err.ensures.bytes)
+    run_fails _ c.args.own.now _ _ _ _ _ c.loop-turn.line.items [] c.loop-turn.feed fault.Read c.loop-turn.invariant.run (Consumes-kept _ _ _ [] (Consumes-nil _) c.in-Err.ensures.bytes)
 
 pub returns-clause-packed : goal.returns-clause-packed
-returns-clause-packed g c = run_fails c.args.own.now _ _ _ _ _ c.loop-turn.line.items [] c.loop-turn.feed fault.Turns c.loop-turn.invariant.run (Consumes-nil _)
+returns-clause-packed g c = run_fails _ c.args.own.now _ _ _ _ _ c.loop-turn.line.items [] c.loop-turn.feed fault.Turns c.loop-turn.invariant.run (Consumes-nil _)
 
 pub loop-turn-preserved : goal.loop-turn-preserved
 loop-turn-preserved g c =

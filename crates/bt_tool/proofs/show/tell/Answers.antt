@@ -45,7 +45,7 @@ returns-in-Ok-Some-clause-empty g c =
 pub returns-in-Err-clause-told : goal.returns-in-Err-clause-told
 returns-in-Err-clause-told g c =
     let t = c.loop-turn.invariant.told in
-    told_fault _ c.args.own.now _ _ _ _ _ _ c.loop-turn.feed c.turn.new.feed c.loop-turn.printer c.turn.new.printer c.in-Err.fault t (c.in-Err.ensures.told c.args.own.now t.bytes t.items c.requires.limit.1 t.read t.empty)
+    told_fault _ _ c.args.own.now _ _ _ _ _ _ c.loop-turn.feed c.turn.new.feed c.loop-turn.printer c.turn.new.printer c.in-Err.fault t (c.in-Err.ensures.told c.args.own.now t.bytes t.items c.requires.limit.1 t.read t.empty)
 
 pub returns-clause-told : goal.returns-clause-told
-returns-clause-told g c = told_so_far _ c.args.own.now _ _ _ _ c.loop-turn.feed c.loop-turn.printer c.requires.limit.1 c.one_verdict.ensures.one c.loop-turn.invariant.told
+returns-clause-told g c = told_so_far _ _ c.args.own.now _ _ _ _ c.loop-turn.feed c.loop-turn.printer c.requires.limit.1 c.one_verdict.ensures.one c.loop-turn.invariant.told
