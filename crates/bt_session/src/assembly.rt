@@ -165,7 +165,7 @@ fn store(bytes: &mut [u8], at: usize, block: &[u8])
 }
 
 impl<A: Allocator + Copy> Assembly<A> {
-    /// Metadata of this SHA-1 and size, of which nothing is held. All memory is taken here.
+    /// Metadata of this SHA-1 and size in bytes, of which nothing is held. All memory is taken here.
     pub fn new(alloc: A, info_hash: [u8; 20], size: u64) -> Result<Assembly<A>, NewError>
         ensures ok { IfOk result (λ a. a ≡ started info_hash size) }
         ensures size { IsErrOf result NewError.BadSize ↔ ((size ≡ 0) ⊎ (max_metadata < size)) }
@@ -183,7 +183,7 @@ impl<A: Allocator + Copy> Assembly<A> {
 }
 
 impl<A: Allocator> Assembly<A> {
-    /// The size of the metadata.
+    /// The size of the metadata in bytes, 1 to `MAX_METADATA`.
     pub fn size(&self) -> u64
         ensures value { result ≡ self.now.size }
         ensures assembly { IsAssembly self.now }

@@ -13,10 +13,10 @@ use thiserror::Error;
 #[error("the size isn't 1 to 33,554,432")]
 pub struct BadSize;
 
-/// What a request for a block is answered with.
+/// What a request for a block is answered with (BEP 9, "extension message").
 #[derive(Clone, Copy, Debug)]
 pub enum Reply<'a> {
-    /// The block, and the size of the whole metadata.
+    /// The block, and the size of the whole metadata in bytes.
     Data { total: u64, block: &'a [u8] },
     /// There is no such block.
     Reject,
@@ -51,7 +51,7 @@ impl<A: Allocator> Server<A> {
         Ok(Server { metadata })
     }
 
-    /// The size of the metadata.
+    /// The size of the metadata in bytes, 1 to `MAX_METADATA`.
     pub fn size(&self) -> u64
         ensures value { result ≡ length self.now }
         ensures bounds { (0 < result) × (result ≤ max_metadata) }
