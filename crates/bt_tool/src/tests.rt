@@ -1,7 +1,8 @@
-//! Streams, the text that showing them writes and how they end, over devices in memory that move few bytes a call.
-use crate::commands::default_own;
+//! Streams, the text that showing them writes and how they end, over devices in memory that move few bytes a call, or fail.
+use crate::check::run_check;
+use crate::commands::{Job, default_own};
 use crate::ended::{Ended, ToolFault};
-use crate::show::run_show;
+use crate::show::{run_show, run_unpack};
 use bt_feed::{MemSource, MemTarget};
 use bt_wire::{Own, Reason, Refusal};
 use std::alloc::{AllocError, Global};
@@ -15,8 +16,13 @@ pub const HAND: &[u8; 68] =
 const BAD_HAND: &[u8; 68] =
     b"\x13BitTOrrent protocol\x00\x00\x00\x00\x00\x10\x00\x05\xa9\x99\x3e\x36\x47\x06\x81\x6a\xba\x3e\x25\x71\x78\x50\xc2\x6c\x9c\xd0\xd8\x9d-XX0001-000000000000";
 
+/// Its line.
 pub const LINE: &str =
     "0 handshake 0000000000100005 a9993e364706816aba3e25717850c26c9cd0d89d 2d5858303030312d303030303030303030303030\n";
+
+/// The same as a script has it.
+pub const SCRIPT_LINE: &str =
+    "handshake 0000000000100005 a9993e364706816aba3e25717850c26c9cd0d89d 2d5858303030312d303030303030303030303030\n";
 
 /// The bytes of a stream in two parts, its text in two parts, and how it ends.
 #[derive(Drop)]
@@ -168,47 +174,76 @@ fn another_info_hash_is_refused(rt: HostRuntime) -> Result<(), Fail> {
     Ok(())
 }
 
-/// A handshake, a keep-alive and have 9; the text of each with the offset where it ends.
+/// A handshake, a keep-alive and have 9; the text of each, and as a script has it, with the offset where it ends.
 const MESSAGES: &[u8; 13] = b"\0\0\0\0\0\0\0\x05\x04\0\0\0\x09";
 
-const TEXTS: [(usize, &str); 3] = [(68, LINE), (72, "68 keep-alive\n"), (81, "72 have 9\n")];
+const TEXTS: [(usize, &str, &str); 3] = [
+    (68, LINE, SCRIPT_LINE),
+    (72, "68 keep-alive\n", "keep-alive\n"),
+    (81, "72 have 9\n", "have 9\n"),
+];
 
 const VERDICT: &str = "ok messages=2 bytes=81\n";
 
-/// The lines of the items in so many bytes of the stream.
-fn lines_of(alloc: Global, bytes: usize) -> Result<Vec<u8>, AllocError> {
+const JOBS: [Job; 3] = [Job::Show, Job::Check, Job::Unpack];
+
+/// What a job on a stream writes of the items in so many bytes.
+fn lines_of(alloc: Global, job: Job, bytes: usize) -> Result<Vec<u8>, AllocError> {
     let mut text = Vec::new(alloc);
-    for (end, line) in &TEXTS {
+    for (end, line, script) in &TEXTS {
+        let words = match job {
+            Job::Show => line,
+            Job::Unpack => script,
+            Job::Check | Job::Pack => "",
+        };
         if *end <= bytes {
-            text.extend_from_slice(line.as_bytes())?;
+            text.extend_from_slice(words.as_bytes())?;
         }
     }
     Ok(text)
+}
+
+/// A job on a stream, with the default receiver.
+fn run(
+    alloc: Global,
+    job: Job,
+    reader: &mut MemSource,
+    writer: &mut MemTarget,
+) -> Result<Ended, ToolFault> {
+    match job {
+        Job::Check => run_check(alloc, reader, writer, &default_own()),
+        Job::Unpack => run_unpack(alloc, reader, writer, &default_own()),
+        Job::Show | Job::Pack => run_show(alloc, reader, writer, &default_own()),
+    }
 }
 
 /// A write that fails at any call: what was taken before it is a front of the lines, and no call is repeated.
 #[test]
 fn failed_writes(rt: HostRuntime) -> Result<(), Fail> {
     let alloc = rt.alloc();
-    let mut text = lines_of(alloc, 81)?;
-    text.extend_from_slice(VERDICT.as_bytes())?;
-    for read in [1, 4096] {
-        for written in 0..text.len() {
-            let fails_at = (written as u64).wrapping_add(1);
-            let mut reader = MemSource::new(joined(alloc, HAND, MESSAGES)?, read, None);
-            let mut writer = MemTarget::new(Vec::new(alloc), 1, Some(fails_at));
-            let ended = run_show(alloc, &mut reader, &mut writer, &default_own());
-            assert_eq!(rt; ended, Err(ToolFault::Write));
-            assert_eq!(rt; Some(writer.bytes()), text.get(..written));
+    for job in JOBS {
+        let mut text = lines_of(alloc, job, 81)?;
+        if job != Job::Unpack {
+            text.extend_from_slice(VERDICT.as_bytes())?;
+        }
+        for read in [1, 4096] {
+            for written in 0..text.len() {
+                let fails_at = (written as u64).wrapping_add(1);
+                let mut reader = MemSource::new(joined(alloc, HAND, MESSAGES)?, read, None);
+                let mut writer = MemTarget::new(Vec::new(alloc), 1, Some(fails_at));
+                let ended = run(alloc, job, &mut reader, &mut writer);
+                assert_eq!(rt; ended, Err(ToolFault::Write));
+                assert_eq!(rt; Some(writer.bytes()), text.get(..written));
 
-            let mut reader = MemSource::new(joined(alloc, HAND, MESSAGES)?, read, None);
-            let mut writer = MemTarget::new(Vec::new(alloc), 9, Some(fails_at));
-            match run_show(alloc, &mut reader, &mut writer, &default_own()) {
-                Ok(_) => assert_eq!(rt; writer.bytes(), text.as_slice()),
-                Err(fault) => {
-                    assert_eq!(rt; fault, ToolFault::Write);
-                    assert!(rt; text.starts_with(writer.bytes()));
-                    assert!(rt; writer.bytes().len() < text.len());
+                let mut reader = MemSource::new(joined(alloc, HAND, MESSAGES)?, read, None);
+                let mut writer = MemTarget::new(Vec::new(alloc), 9, Some(fails_at));
+                match run(alloc, job, &mut reader, &mut writer) {
+                    Ok(_) => assert_eq!(rt; writer.bytes(), text.as_slice()),
+                    Err(fault) => {
+                        assert_eq!(rt; fault, ToolFault::Write);
+                        assert!(rt; text.starts_with(writer.bytes()));
+                        assert!(rt; writer.bytes().len() < text.len());
+                    }
                 }
             }
         }
@@ -220,15 +255,18 @@ fn failed_writes(rt: HostRuntime) -> Result<(), Fail> {
 #[test]
 fn failed_reads(rt: HostRuntime) -> Result<(), Fail> {
     let alloc = rt.alloc();
-    for most in [1usize, 5, 100] {
-        for before in 0..=81usize.div_ceil(most) {
-            let fails_at = (before as u64).wrapping_add(1);
-            let mut reader = MemSource::new(joined(alloc, HAND, MESSAGES)?, most, Some(fails_at));
-            let mut writer = MemTarget::new(Vec::new(alloc), 7, None);
-            let ended = run_show(alloc, &mut reader, &mut writer, &default_own());
-            assert_eq!(rt; ended, Err(ToolFault::Read));
-            let text = lines_of(alloc, before.wrapping_mul(most))?;
-            assert_eq!(rt; writer.bytes(), text.as_slice(), "{most} {before}");
+    for job in JOBS {
+        for most in [1usize, 5, 100] {
+            for before in 0..=81usize.div_ceil(most) {
+                let fails_at = (before as u64).wrapping_add(1);
+                let stream = joined(alloc, HAND, MESSAGES)?;
+                let mut reader = MemSource::new(stream, most, Some(fails_at));
+                let mut writer = MemTarget::new(Vec::new(alloc), 7, None);
+                let ended = run(alloc, job, &mut reader, &mut writer);
+                assert_eq!(rt; ended, Err(ToolFault::Read));
+                let text = lines_of(alloc, job, before.wrapping_mul(most))?;
+                assert_eq!(rt; writer.bytes(), text.as_slice(), "{job:?} {most} {before}");
+            }
         }
     }
     Ok(())

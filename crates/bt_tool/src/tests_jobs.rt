@@ -4,18 +4,11 @@ use crate::commands::default_own;
 use crate::ended::Ended;
 use crate::script::reading::read_line;
 use crate::show::run_unpack;
+use crate::tests::{HAND, SCRIPT_LINE as LINE, joined};
 use bt_ext::Rules;
 use bt_feed::{MemSource, MemTarget};
 use bt_wire::{Own, Reason, Refusal};
-use std::alloc::{AllocError, Global};
 use std::test::Fail;
-
-/// The handshake of reserved bytes 0000000000100005, the SHA-1 of `abc` and the peer id `-XX0001-000000000000`.
-const HAND: &[u8; 68] =
-    b"\x13BitTorrent protocol\x00\x00\x00\x00\x00\x10\x00\x05\xa9\x99\x3e\x36\x47\x06\x81\x6a\xba\x3e\x25\x71\x78\x50\xc2\x6c\x9c\xd0\xd8\x9d-XX0001-000000000000";
-
-const LINE: &str =
-    "handshake 0000000000100005 a9993e364706816aba3e25717850c26c9cd0d89d 2d5858303030312d303030303030303030303030\n";
 
 /// What follows the handshake; the verdict under `bep` as a line; the script under `free`, behind its first line.
 type Row = (&'static [u8], &'static str, &'static str);
@@ -63,12 +56,6 @@ const ROWS: [Row; 9] = [
         "extended 4 -\n",
     ),
 ];
-
-fn joined(alloc: Global, first: &[u8], then: &[u8]) -> Result<Vec<u8>, AllocError> {
-    let mut bytes = Vec::from_slice(alloc, first)?;
-    bytes.extend_from_slice(then)?;
-    Ok(bytes)
-}
 
 #[test]
 fn streams_are_checked(rt: HostRuntime) -> Result<(), Fail> {

@@ -3,24 +3,12 @@ use crate::commands::default_own;
 use crate::ended::{Ended, PackEnd, ScriptReason, ToolFault};
 use crate::pack::run_pack;
 use crate::show::run_unpack;
-use bt_feed::{MemSource, MemTarget};
+use crate::tests::{HAND, SCRIPT_LINE as LINE, joined};
+use bt_feed::{MemSource, MemTarget, Source};
 use bt_wire::{Own, Reason};
-use std::alloc::{AllocError, Global};
+use std::alloc::Global;
 use std::process::Abort;
 use std::test::Fail;
-
-/// The handshake of reserved bytes 0000000000100005, the SHA-1 of `abc` and the peer id `-XX0001-000000000000`.
-const HAND: &[u8; 68] =
-    b"\x13BitTorrent protocol\x00\x00\x00\x00\x00\x10\x00\x05\xa9\x99\x3e\x36\x47\x06\x81\x6a\xba\x3e\x25\x71\x78\x50\xc2\x6c\x9c\xd0\xd8\x9d-XX0001-000000000000";
-
-const LINE: &str =
-    "handshake 0000000000100005 a9993e364706816aba3e25717850c26c9cd0d89d 2d5858303030312d303030303030303030303030\n";
-
-fn joined(alloc: Global, first: &[u8], then: &[u8]) -> Result<Vec<u8>, AllocError> {
-    let mut bytes = Vec::from_slice(alloc, first)?;
-    bytes.extend_from_slice(then)?;
-    Ok(bytes)
-}
 
 fn refused(line: u64, reason: ScriptReason) -> PackEnd {
     PackEnd::Refused { line, reason }
@@ -121,22 +109,35 @@ fn first_lines_that_are_none(rt: HostRuntime) -> Result<(), Fail> {
     Ok(())
 }
 
-/// A line that is longer than twice the limit and 256 bytes is refused before it ends.
+/// A line of twice the limit and 256 characters is judged by what it says; a longer one is refused, before it ends.
 #[test]
 fn long_lines(rt: HostRuntime) -> Result<(), Fail> {
     let own = Own {
         limit: 1,
         ..default_own()
     };
-    let mut script = joined(rt.alloc(), LINE.as_bytes(), b"")?;
-    for _ in 0..259 {
-        script.push(b'x')?;
+    for (words, digits, reason, is_read) in [
+        (
+            "piece 0 0 ",
+            248,
+            ScriptReason::Reason(Reason::TooLong),
+            true,
+        ),
+        ("unknown 10 ", 248, ScriptReason::Syntax, true),
+        ("unknown 10 ", 1248, ScriptReason::Syntax, false),
+    ] {
+        let mut script = joined(rt.alloc(), LINE.as_bytes(), words.as_bytes())?;
+        for _ in 0..digits {
+            script.push(b'0')?;
+        }
+        let mut reader = MemSource::new(script, 64, None);
+        let mut writer = MemTarget::new(Vec::new(rt.alloc()), 64, None);
+        let found = run_pack(rt.alloc(), &mut reader, &mut writer, &own);
+        assert_eq!(rt; found, Ok(refused(2, reason)));
+        assert_eq!(rt; writer.bytes(), HAND.as_slice());
+        let left = reader.read(&mut [0; 1]);
+        assert_eq!(rt; matches!(left, Ok(0)), is_read);
     }
-    let mut reader = MemSource::new(script, 64, None);
-    let mut writer = MemTarget::new(Vec::new(rt.alloc()), 64, None);
-    let found = run_pack(rt.alloc(), &mut reader, &mut writer, &own);
-    assert_eq!(rt; found, Ok(refused(2, ScriptReason::Syntax)));
-    assert_eq!(rt; writer.bytes(), HAND.as_slice());
     Ok(())
 }
 

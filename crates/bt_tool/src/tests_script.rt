@@ -2,17 +2,11 @@
 use crate::commands::default_own;
 use crate::script::reading::read_line;
 use crate::script::writing::{push_handshake_line, push_message_line};
+use crate::tests::{HAND, SCRIPT_LINE};
 use bt_wire::{Front, Opening, Order, negotiate, read_front, read_opening};
 use std::alloc::Global;
 use std::process::Abort;
 use std::test::Fail;
-
-/// The handshake of reserved bytes 0000000000100005, the SHA-1 of `abc` and the peer id `-XX0001-000000000000`.
-const HAND: &[u8; 68] =
-    b"\x13BitTorrent protocol\x00\x00\x00\x00\x00\x10\x00\x05\xa9\x99\x3e\x36\x47\x06\x81\x6a\xba\x3e\x25\x71\x78\x50\xc2\x6c\x9c\xd0\xd8\x9d-XX0001-000000000000";
-
-const LINE: &str =
-    "handshake 0000000000100005 a9993e364706816aba3e25717850c26c9cd0d89d 2d5858303030312d303030303030303030303030";
 
 /// The text is a line with these bytes, given in hex.
 fn says(rt: &impl Abort, alloc: Global, first: bool, text: &str, bytes: &str) -> Result<(), Fail> {
@@ -130,7 +124,7 @@ fn other_texts_are_no_lines(rt: HostRuntime) -> Result<(), Fail> {
         "keep-alive ",
         "keepalive",
         "ok",
-        LINE,
+        SCRIPT_LINE.trim_end(),
     ] {
         says_nothing(&rt, rt.alloc(), false, text)?;
     }
@@ -142,7 +136,7 @@ fn first_lines_are_read(rt: HostRuntime) -> Result<(), Fail> {
     let hand =
         "13426974546f7272656e742070726f746f636f6c0000000000100005a9993e364706816aba3e25717850c26c9cd0d89d2d5858303030312d303030303030303030303030";
     let alloc = rt.alloc();
-    says(&rt, alloc, true, LINE, hand)?;
+    says(&rt, alloc, true, SCRIPT_LINE.trim_end(), hand)?;
     says(
         &rt,
         alloc,
@@ -242,6 +236,6 @@ fn handshakes_are_written(rt: HostRuntime) -> Result<(), Fail> {
     let mut text = Vec::new(alloc);
     push_handshake_line(&handshake, &mut text)?;
     let written = String::from_utf8(text).ok().ok_or("no text")?;
-    assert_eq!(rt; written.as_str(), format!(in alloc; "{LINE}\n")?.as_str());
+    assert_eq!(rt; written.as_str(), SCRIPT_LINE);
     Ok(())
 }

@@ -1,4 +1,5 @@
 //! The lines of each kind of message and of each reason, with offsets worked out by hand.
+use crate::check::run_check;
 use crate::show::run_show;
 use crate::tests::{HAND, LINE, joined};
 use crate::tests_pack::comes_back;
@@ -12,7 +13,7 @@ use std::test::Fail;
 /// The rules, the reserved bits, and how many pieces are known of, of a receiver that gets metadata under id 3.
 type Receiver = (Rules, u64, Option<u32>);
 
-/// The messages behind a usual handshake have these lines.
+/// The messages behind a usual handshake have these lines, and checking them writes the last.
 fn has_lines(
     rt: &impl Abort,
     alloc: Global,
@@ -29,11 +30,19 @@ fn has_lines(
         limit: 262_144,
     };
     let text = joined(alloc, LINE.as_bytes(), lines.as_bytes())?;
-    let mut reader = MemSource::new(joined(alloc, HAND, messages)?, 9, None);
-    let mut writer = MemTarget::new(Vec::new(alloc), 11, None);
-    let ended = run_show(alloc, &mut reader, &mut writer, &own);
-    assert!(rt; ended.is_ok(), "{lines}");
-    assert_eq!(rt; writer.bytes(), text.as_slice(), "{lines}");
+    for most in [9, 4096] {
+        let mut reader = MemSource::new(joined(alloc, HAND, messages)?, most, None);
+        let mut writer = MemTarget::new(Vec::new(alloc), 11, None);
+        let ended = run_show(alloc, &mut reader, &mut writer, &own);
+        assert!(rt; ended.is_ok(), "{lines}");
+        assert_eq!(rt; writer.bytes(), text.as_slice(), "{lines}");
+
+        let mut reader = MemSource::new(joined(alloc, HAND, messages)?, most, None);
+        let mut writer = MemTarget::new(Vec::new(alloc), 11, None);
+        assert_eq!(rt; run_check(alloc, &mut reader, &mut writer, &own), ended);
+        let verdict = writer.bytes().strip_suffix(b"\n".as_slice());
+        assert_eq!(rt; verdict, lines.lines().last().map(|line| line.as_bytes()));
+    }
     comes_back(rt, alloc, &own, joined(alloc, HAND, messages)?.as_slice())
 }
 
@@ -222,6 +231,11 @@ fn extended_messages(rt: HostRuntime) -> Result<(), Fail> {
             "68 ext-handshake 43 0 size=3 ut_metadata=3\nok messages=1 bytes=117\n",
         ),
         (
+            BEP,
+            b"\0\0\0\x2d\x14\0d1:md11:ut_metadatai3ee13:metadata_sizei3ee",
+            "68 ext-handshake 43 0 size=3 ut_metadata=3\nok messages=1 bytes=117\n",
+        ),
+        (
             FREE,
             UNSORTED,
             "68 ext-handshake 43 0 size=3 ut_metadata=3\nok messages=1 bytes=117\n",
@@ -250,6 +264,11 @@ fn extended_messages(rt: HostRuntime) -> Result<(), Fail> {
         (
             FREE,
             b"\0\0\0\x2e\x14\x03d8:msg_typei1e5:piecei0e10:total_sizei3eeeee",
+            "68 metadata-data 0 3 3\nok messages=1 bytes=118\n",
+        ),
+        (
+            BEP,
+            b"\0\0\0\x2e\x14\x03d8:msg_typei1e5:piecei0e10:total_sizei3eeabc",
             "68 metadata-data 0 3 3\nok messages=1 bytes=118\n",
         ),
         (
