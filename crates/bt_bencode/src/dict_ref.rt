@@ -18,7 +18,7 @@ use std::marker::Model;
 
 /// A slice that was checked: it spells one fitting dictionary, whose pairs are its `tree`.
 // It has no `impl Model`: a value inside a view that borrows from a `&mut self` must have none.
-#[derive(Clone, Copy, Debug)]
+#[derive(Clone, Copy)]
 pub struct DictRef<'a> {
     bytes: &'a [u8],
     pub ghost tree: { IsSpelling bytes.now } by { IsSpelling-prop bytes.now },
@@ -126,7 +126,7 @@ pub fn check(payload: &[u8]) -> Result<(DictRef<'_>, usize), Bad>
 }
 
 /// The pairs that are left, seen as pairs of a key and a tree. It gives each key, and its value where that is an integer.
-#[derive(Debug, Drop)]
+#[derive(Drop)]
 pub struct IntPairs<'a> {
     rest: &'a [u8],
     ghost pairs: { ArePairs rest.now } by { ArePairs-prop rest.now },

@@ -6,6 +6,10 @@ use Rattle.bt_ext.specs.declared.ids.Registered.{Registered}
 abbrev pub extension_id : ℕ → Option ℕ
 extension_id id = if id == 0 then None else Some id
 
+-- the ids of a receiver that wants `ut_metadata` (BEP 9) under this one
+abbrev pub registered : Option ℕ → Registered
+registered metadata = record { metadata = metadata }
+
 -- the id under which a receiver wants `ut_metadata` (BEP 9), if it wants it
 abbrev pub metadata_id : Registered → Option ℕ
 metadata_id reg = option_and_then extension_id reg.metadata

@@ -1,3 +1,4 @@
+//! Copies of bytes. The modules that keep a name or a payload call it.
 ghost use Rattle.std.specs.Prelude.{◌≡◌, IfOk};
 
 use bt_bencode::ByteString;

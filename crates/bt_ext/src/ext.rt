@@ -17,7 +17,7 @@ pub enum Ext {
 }
 
 /// An extended payload as parts of the slice that it was read from.
-#[derive(Clone, Copy, Debug)]
+#[derive(Clone, Copy)]
 pub enum ExtView<'a> {
     /// The extended handshake (BEP 10): a dictionary, and bytes behind it.
     Handshake { dict: DictRef<'a>, rest: &'a [u8] },

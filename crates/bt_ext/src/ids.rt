@@ -1,7 +1,7 @@
 //! Extended ids (BEP 10), the ids that a receiver registers, and its rules.
 ghost use Rattle.std.specs.Prelude.{◌≡◌, ◌<◌, ◌==◌, ◌||◌};
 ghost use Rattle.std.specs.Option.{SomeIff};
-ghost use Rattle.bt_ext.specs.Ids.{metadata_id, is_metadata, needs_dict};
+ghost use Rattle.bt_ext.specs.Ids.{registered, metadata_id, is_metadata, needs_dict};
 
 use std::marker::Model;
 
@@ -59,7 +59,8 @@ pub struct Registered {
 impl Registered {
     /// Registers the id of `ut_metadata` (BEP 9), or none.
     pub fn new(metadata: Option<ExtId>) -> Registered
-        ensures { metadata_id result ≡ metadata }
+        ensures ids { result ≡ registered metadata }
+        ensures metadata { metadata_id result ≡ metadata }
     {
         if let Some(id) = metadata {
             let number = id.get();

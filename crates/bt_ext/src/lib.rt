@@ -2,6 +2,7 @@
 #![tactic(auto)]
 
 mod bytes;
+mod dict_text;
 mod ext;
 mod fields;
 mod ids;
@@ -9,15 +10,13 @@ mod kinds;
 pub mod laws;
 mod made;
 mod metadata;
+mod name;
 mod spelling;
 mod table;
-#[cfg(test)]
-mod table_tests;
-#[cfg(test)]
-mod tests;
 mod told;
 mod view;
 
+pub use dict_text::{DictText, handshake_text, message_text};
 pub use ext::{Ext, ExtError, ExtReason, ExtView, ViewError};
 pub use fields::{metadata_size, metadata_size_ref};
 pub use ids::{ExtId, Registered, Rules};

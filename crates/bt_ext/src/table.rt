@@ -6,10 +6,10 @@ ghost use Rattle.bt_bencode.specs.Views.{tree_of};
 ghost use Rattle.bt_ext.specs.Tables.{id_of_name, entered, entered_all, applied, IsTable};
 ghost use Rattle.bt_ext.specs.Holding.{entries_of, HoldsAt};
 
-use crate::bytes::copy_bytes;
+use crate::name::Name;
 use crate::told::{told_of, told_of_ref};
-use bt_bencode::{ByteString, DictRef, Value};
-use std::alloc::{AllocError, Global};
+use bt_bencode::{DictRef, Value};
+use std::alloc::{AllocError, Allocator, Global};
 use std::marker::Model;
 
 /// The most names that a table keeps.
@@ -21,11 +21,11 @@ const MAX_NAME: usize = 255;
 /// The peer's names of extensions and the ids under which it wants them. A clause sees the names with their ids: a
 /// finite map of at most 256 names, each once and of at most 255 bytes, and ids from 1 to 255.
 #[derive(Debug, Drop)]
-pub struct Table {
-    entries: Vec<(ByteString, u8)>,
+pub struct Table<A: Allocator = Global> {
+    entries: Vec<(Name<A>, u8), A>,
 }
 
-impl Model for Table {
+impl<A: Allocator> Model for Table<A> {
     ghost use Rattle.std.specs.Prelude.{List, ℕ};
     ghost use Rattle.bt_ext.specs.Tables.{IsTable};
 
@@ -37,7 +37,7 @@ impl Model for Table {
 }
 
 /// The place of a name.
-fn place_of(entries: &[(ByteString, u8)], name: &[u8]) -> Option<usize>
+fn place_of<A: Allocator>(entries: &[(Name<A>, u8)], name: &[u8]) -> Option<usize>
     ensures { HoldsAt name.now entries.now result }
 {
     for (i, (known, _)) in entries.iter().enumerate() {
@@ -49,7 +49,11 @@ fn place_of(entries: &[(ByteString, u8)], name: &[u8]) -> Option<usize>
 }
 
 /// Takes an id for a name, as the table's rules are.
-fn enter(entries: &mut Vec<(ByteString, u8)>, name: &[u8], id: u8) -> Result<(), AllocError>
+fn enter<A: Allocator + Copy>(
+    entries: &mut Vec<(Name<A>, u8), A>,
+    name: &[u8],
+    id: u8,
+) -> Result<(), AllocError>
     ensures ok { OnOk result (entries.new.items ≡ entered name.now id entries.old.items) }
     ensures memory { OnErr result (entries.new.items ≡ entries.old.items) }
 {
@@ -62,7 +66,7 @@ fn enter(entries: &mut Vec<(ByteString, u8)>, name: &[u8], id: u8) -> Result<(),
         }
         Some(i) => entries[i].1 = id,
         None if id != 0 && entries.len() < MAX_NAMES => {
-            let name = copy_bytes(*entries.allocator(), name)?;
+            let name = Name::copied(*entries.allocator(), name)?;
             entries.push((name, id))?;
         }
         None => {}
@@ -70,9 +74,9 @@ fn enter(entries: &mut Vec<(ByteString, u8)>, name: &[u8], id: u8) -> Result<(),
     Ok(())
 }
 
-impl Table {
+impl<A: Allocator + Copy> Table<A> {
     /// A table without a name.
-    pub fn new(alloc: Global) -> Table
+    pub fn new(alloc: A) -> Table<A>
         ensures { result ≡ [] }
     {
         Table {
@@ -90,13 +94,13 @@ impl Table {
     }
 
     /// A table with the same names and ids.
-    pub fn copy(&self) -> Result<Table, AllocError>
+    pub fn copy(&self) -> Result<Table<A>, AllocError>
         ensures { IfOk result (λ t. t ≡ self.now) }
     {
         let alloc = *self.entries.allocator();
         let mut entries = Vec::with_capacity(alloc, self.entries.len())?;
         for (name, id) in &self.entries {
-            let name = copy_bytes(alloc, name.as_slice())?;
+            let name = Name::copied(alloc, name.as_slice())?;
             entries.push((name, *id))?;
         }
         Ok(Table { entries })

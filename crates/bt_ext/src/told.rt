@@ -9,18 +9,21 @@ ghost use Rattle.bt_ext.specs.Holding.{entries_of, names_of, AddsName};
 
 use crate::fields::{byte_of, id_value};
 use bt_bencode::{DictRef, Pairs, Value, lookup};
-use std::alloc::{AllocError, Global};
+use std::alloc::{AllocError, Allocator};
 use std::collections::BTreeSet;
 
 /// What the pairs so far told, and their names. The names are in a tree, so that many pairs stay cheap.
 #[derive(Drop)]
-struct Told<'a> {
-    names: BTreeSet<&'a [u8]>,
-    entries: Vec<(&'a [u8], u8)>,
+struct Told<'a, A: Allocator> {
+    names: BTreeSet<&'a [u8], A>,
+    entries: Vec<(&'a [u8], u8), A>,
 }
 
 /// Adds a name, and says whether it is new.
-fn add_name<'a>(names: &mut BTreeSet<&'a [u8]>, name: &'a [u8]) -> Result<bool, AllocError>
+fn add_name<'a, A: Allocator + Clone>(
+    names: &mut BTreeSet<&'a [u8], A>,
+    name: &'a [u8],
+) -> Result<bool, AllocError>
     ensures new { IfOk result (λ new. new ≡ not (list_any (bytes_eq name.now) (names_of names.old))) }
     ensures adds { OnOk result (AddsName name.now (names_of names.old) (names_of names.new)) }
 {
@@ -28,8 +31,8 @@ fn add_name<'a>(names: &mut BTreeSet<&'a [u8]>, name: &'a [u8]) -> Result<bool, 
     Ok(new)
 }
 
-impl<'a> Told<'a> {
-    fn new(alloc: Global) -> Told<'a>
+impl<'a, A: Allocator + Copy> Told<'a, A> {
+    fn new(alloc: A) -> Told<'a, A>
         ensures names { names_of result.names ≡ [] }
         ensures entries { entries_of result.entries.items ≡ [] }
     {
@@ -54,7 +57,10 @@ impl<'a> Told<'a> {
     }
 }
 
-fn told_by<'a>(alloc: Global, m: &'a Pairs) -> Result<Vec<(&'a [u8], u8)>, AllocError>
+fn told_by<'a, A: Allocator + Copy>(
+    alloc: A,
+    m: &'a Pairs,
+) -> Result<Vec<(&'a [u8], u8), A>, AllocError>
     ensures { IfOk result (λ v. entries_of v.items ≡ told_by [] m.now) }
 {
     let mut told = Told::new(alloc);
@@ -65,7 +71,10 @@ fn told_by<'a>(alloc: Global, m: &'a Pairs) -> Result<Vec<(&'a [u8], u8)>, Alloc
     Ok(entries)
 }
 
-fn told_by_ref<'a>(alloc: Global, m: &DictRef<'a>) -> Result<Vec<(&'a [u8], u8)>, AllocError>
+fn told_by_ref<'a, A: Allocator + Copy>(
+    alloc: A,
+    m: &DictRef<'a>,
+) -> Result<Vec<(&'a [u8], u8), A>, AllocError>
     ensures { IfOk result (λ v. entries_of v.items ≡ told_by [] m.now.tree.0) }
 {
     let mut told = Told::new(alloc);
@@ -77,7 +86,10 @@ fn told_by_ref<'a>(alloc: Global, m: &DictRef<'a>) -> Result<Vec<(&'a [u8], u8)>
 }
 
 /// The names and ids that an extended handshake's dictionary tells.
-pub fn told_of<'a>(alloc: Global, dict: &'a Value) -> Result<Vec<(&'a [u8], u8)>, AllocError>
+pub fn told_of<'a, A: Allocator + Copy>(
+    alloc: A,
+    dict: &'a Value,
+) -> Result<Vec<(&'a [u8], u8), A>, AllocError>
     ensures { IfOk result (λ v. entries_of v.items ≡ told_of (tree_of dict.now)) }
 {
     match lookup(dict, b"m") {
@@ -87,7 +99,10 @@ pub fn told_of<'a>(alloc: Global, dict: &'a Value) -> Result<Vec<(&'a [u8], u8)>
 }
 
 /// The same of a checked slice.
-pub fn told_of_ref<'a>(alloc: Global, dict: &DictRef<'a>) -> Result<Vec<(&'a [u8], u8)>, AllocError>
+pub fn told_of_ref<'a, A: Allocator + Copy>(
+    alloc: A,
+    dict: &DictRef<'a>,
+) -> Result<Vec<(&'a [u8], u8), A>, AllocError>
     ensures { IfOk result (λ v. entries_of v.items ≡ told_of (dictionary dict.now.tree.0)) }
 {
     match dict.lookup_dict(b"m") {

@@ -15,3 +15,4 @@ pub mod HandLaws
 pub mod VerdictLaws
 pub mod WalkLaws
 pub mod Parts
+pub mod ContextLaws

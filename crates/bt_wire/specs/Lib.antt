@@ -12,3 +12,4 @@ pub mod Parts
 pub mod Streams
 pub mod Fronts
 pub mod Laws
+pub mod Contexts

@@ -1,3 +1,4 @@
+//! Who receives: a receiver, what two ends agree on, and the order of messages. All that judges takes it.
 ghost use Rattle.std.specs.Prelude.{◌≡◌};
 ghost use Rattle.bt_wire.specs.Handshakes.{negotiated};
 

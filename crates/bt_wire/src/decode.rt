@@ -1,3 +1,4 @@
+//! One message read from its bytes. A feed reads its items by it.
 ghost use Rattle.std.specs.Prelude.{◌≡◌, ◌≢◌, ◌<◌, ◌^◌, ◌+◌, ◌∷◌, ◌≤◌, ◌-◌, length, drop, IfOk, IfErr, true, Some};
 ghost use Rattle.bt_wire.specs.Faults.{IsFault, said_id, allows, size_of, placed_by};
 ghost use Rattle.bt_wire.specs.Headers.{header_of, IsWindow, IsRead, RefusesWindow};

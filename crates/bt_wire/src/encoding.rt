@@ -1,3 +1,4 @@
+//! What is legal, and the bytes of a legal message. Ends and callers that write messages call it.
 ghost use Rattle.std.specs.Prelude.{◌≡◌, ◌↔◌, ◌+◌, ◌-◌, ◌<◌, ◌≤◌, ◌^◌, ◌∷◌, ◌++◌, min, unwrap_or, IsTrue, IsOk, IfErr, IfOk, OnOk, MatchOption, length as list_length};
 ghost use Rattle.bt_wire.specs.Numbers.{be32};
 ghost use Rattle.bt_wire.specs.Legal.{IsLegal, IsRefusedFor, Refuses, IsEncoded};
@@ -59,12 +60,15 @@ pub fn legal(context: &Context, order: Order, message: &Message) -> Result<(), F
     ensures exactly { IsOk result ↔ IsLegal context.now order message.now }
     ensures fault { IfErr result (Refuses context.now order message.now) }
 {
-    judged(context, order, message)?;
+    legal_length(context, order, message)?;
     Ok(())
 }
 
-/// How many bytes follow the length of a message that may be sent, or why it may not.
-fn judged(context: &Context, order: Order, message: &Message) -> Result<u32, Fault>
+/// How many bytes follow the length of a message that may be sent. It takes no memory.
+///
+/// # Errors
+/// As [`legal`].
+pub fn legal_length(context: &Context, order: Order, message: &Message) -> Result<u32, Fault>
     ensures legal { IfOk result (λ _. IsLegal context.now order message.now) }
     ensures length { IfOk result (λ length. length ≡ list_length (body context.now message.now)) }
     ensures illegal { IfErr result (λ _. ¬ IsLegal context.now order message.now) }
@@ -127,7 +131,7 @@ pub fn encode(
 ) -> Result<Vec<u8>, EncodeError>
     ensures { IsEncoded context.now order message.now result }
 {
-    match judged(context, order, message) {
+    match legal_length(context, order, message) {
         Ok(length) => Ok(spelled(alloc, context, message, length)?),
         Err(fault) => Err(EncodeError::Illegal(fault)),
     }

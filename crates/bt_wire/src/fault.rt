@@ -1,3 +1,4 @@
+//! Why bytes or a message are refused. Each call that refuses answers with these.
 ghost use Rattle.std.specs.Prelude.{◌≡◌};
 ghost use Rattle.bt_wire.specs.declared.fault.DecodeError.TheVariants as decode;
 ghost use Rattle.bt_wire.specs.declared.fault.EncodeError.TheVariants as encode;
@@ -95,7 +96,7 @@ pub enum DecodeError {
 }
 
 /// What the first bytes of a message say.
-#[derive(Clone, Copy, PartialEq, Eq, Debug)]
+#[derive(Clone, Copy, PartialEq, Eq)]
 pub enum Header {
     /// So many bytes are needed, 4 or 5.
     Need(u8),

@@ -13,7 +13,7 @@ use crate::message::Message;
 use crate::numbers::number_at_front;
 
 /// The fields of a message, by their shape.
-#[derive(Clone, Copy, Debug)]
+#[derive(Clone, Copy)]
 pub enum Fields<'a> {
     Nothing,
     /// A piece index.

@@ -1,3 +1,4 @@
+//! A message made of any id and any fields, which judges nothing. `pack` of the program calls it.
 ghost use Rattle.std.specs.Prelude.{◌≡◌, ◌+◌, ◌-◌, ◌<◌, ◌^◌, ◌∷◌, ◌++◌, length, IfOk};
 ghost use Rattle.bt_wire.specs.Numbers.{be32};
 

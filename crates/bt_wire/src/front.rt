@@ -9,7 +9,7 @@ use crate::header::judge_header;
 use crate::message::MessageView;
 
 /// What the bytes at the front of a stream come to: a fault, less than a message, or a message and its length.
-#[derive(Debug, Drop)]
+#[derive(Drop)]
 pub enum Front<'a> {
     Refused(Refused),
     Partial,

@@ -1,3 +1,4 @@
+//! The handshake of BEP 3, read and written. Feeds and ends call it.
 ghost use Rattle.std.specs.Prelude.{◌≡◌, length};
 ghost use Rattle.bt_wire.specs.Numbers.{be64};
 ghost use Rattle.bt_wire.specs.Fronts.{IsOpening};
@@ -75,7 +76,7 @@ fn has_other_hash(own: &Own, hash: &[u8]) -> bool
 }
 
 /// What the bytes at the front of a stream come to: a fault, less than a handshake, or a handshake.
-#[derive(Clone, Copy, Debug)]
+#[derive(Clone, Copy)]
 pub enum Opening {
     Refused(Refused),
     Partial,

@@ -1,3 +1,4 @@
+//! The first five bytes of a message: its length, or why it is refused. A feed calls it before it reads more.
 ghost use Rattle.std.specs.Prelude.{◌≡◌, ◌≤◌, ℕ, true, Some, None};
 ghost use Rattle.bt_wire.specs.Ids.{shape_by, kind_of as kind_at};
 ghost use Rattle.bt_wire.specs.Faults.{allows, size_by, field_size, is_agreed as agrees, is_strict as judges_strictly, is_late as comes_late, is_missing as lacks_opening};

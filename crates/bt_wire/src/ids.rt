@@ -3,7 +3,7 @@ ghost use Rattle.std.specs.Prelude.{◌≡◌};
 ghost use Rattle.bt_wire.specs.Ids.{kind_of as kind_at};
 
 /// What follows a message's id.
-#[derive(Clone, Copy, PartialEq, Eq, Debug)]
+#[derive(Clone, Copy, PartialEq, Eq)]
 pub enum Shape {
     Nothing,
     /// A piece index.
@@ -20,7 +20,7 @@ pub enum Shape {
 }
 
 /// The extension that both ends must have agreed on.
-#[derive(Clone, Copy, PartialEq, Eq, Debug)]
+#[derive(Clone, Copy, PartialEq, Eq)]
 pub enum Needs {
     Neither,
     /// The Fast Extension (BEP 6).
@@ -30,7 +30,7 @@ pub enum Needs {
 }
 
 /// A message's part in the order of messages.
-#[derive(Clone, Copy, PartialEq, Eq, Debug)]
+#[derive(Clone, Copy, PartialEq, Eq)]
 pub enum Turn {
     /// It may stand anywhere, and doesn't count.
     Apart,
@@ -40,7 +40,7 @@ pub enum Turn {
 }
 
 /// What is known of a message by its id.
-#[derive(Clone, Copy, PartialEq, Eq, Debug)]
+#[derive(Clone, Copy, PartialEq, Eq)]
 pub struct Kind {
     pub shape: Shape,
     pub needs: Needs,

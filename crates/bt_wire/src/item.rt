@@ -1,3 +1,4 @@
+//! An item of a stream, and the refusal of one. Feeds and the crates above answer with these.
 use crate::fault::Reason;
 use crate::handshake::Handshake;
 use crate::message::Message;

@@ -1,4 +1,5 @@
 //! Laws on the definitions, each the contract of a function that does nothing, but for the walk over a stream.
+ghost use Rattle.bt_wire.specs.Contexts.{LegalElsewhere, LegalIsNotRefused, RefusalIsOne};
 ghost use Rattle.bt_wire.specs.Laws.{LegalHasNoFault, FaultlessIsLegal, FaultIsOne, FaultStays, FaultIsFinal, NoneBeginsAnother, VerdictIsOne, RefusalStays, ItemsStay};
 ghost use Rattle.bt_wire.specs.Streams.{Outcome, IsOutcome, IsVerdict};
 
@@ -62,4 +63,12 @@ pub fn one_verdict()
     ensures one { VerdictIsOne }
     ensures refused { RefusalStays }
     ensures items { ItemsStay }
+{}
+
+/// A legal message stays legal, with the same spelling, where the receiver's context differs in what it doesn't use; and a
+/// message is legal or refused for one fault, and never both.
+pub fn legal_elsewhere()
+    ensures stays { LegalElsewhere }
+    ensures apart { LegalIsNotRefused }
+    ensures one { RefusalIsOne }
 {}

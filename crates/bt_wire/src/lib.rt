@@ -19,17 +19,12 @@ mod numbers;
 mod order;
 mod reserved;
 mod slices;
-#[cfg(test)]
-mod tests;
-#[cfg(test)]
-mod tests_messages;
-#[cfg(test)]
-mod tests_rows;
 
 pub use context::{Context, Order, Own, negotiate};
 pub use decode::{copy_message, decode_window, view_window};
-pub use encoding::{encode, legal};
+pub use encoding::{encode, legal, legal_length};
 pub use fault::{DecodeError, EncodeError, Fault, Header, Reason, Refused};
+pub use fields::Fields;
 pub use framing::frame;
 pub use front::{Front, read_front};
 pub use handshake::{Handshake, Opening, judge_handshake, read_opening, spell_handshake};

@@ -1,3 +1,4 @@
+//! The messages, owned and as views of bytes. All that reads or writes messages takes them.
 ghost use Rattle.std.specs.Prelude.{◌≡◌, MatchOption, IfSome};
 ghost use Rattle.bt_wire.specs.declared.context.Context.{Context};
 ghost use Rattle.bt_wire.specs.Messages.{id_of as id_in, IsExtended, fields_of, seen, message_of, AreInRange, IsIdInRange};
@@ -53,7 +54,7 @@ pub enum Message {
 }
 
 /// The same over the bytes that it was read from.
-#[derive(Debug, Drop)]
+#[derive(Drop)]
 pub enum MessageView<'a> {
     KeepAlive,
     Choke,
@@ -123,7 +124,7 @@ impl Message {
     }
 
     /// What follows the id, but of an extended message, whose payload is read and written apart.
-    pub(crate) fn fields(&self) -> Option<Fields<'_>>
+    pub fn fields(&self) -> Option<Fields<'_>>
         ensures value { MatchOption result (IsExtended self.now) (λ f. (c : Context) → seen f ≡ fields_of c self.now) }
         ensures in_range { IfSome result (λ f. AreInRange (seen f)) }
     {

@@ -1,3 +1,4 @@
+//! The order that a message leaves (BEP 6: what the first message may be). Feeds and ends call it.
 ghost use Rattle.std.specs.Prelude.{◌≡◌};
 ghost use Rattle.bt_wire.specs.Messages.{order_after, message_of};
 

@@ -4,7 +4,7 @@ use Rattle.bt_ext.proofs.Telling.{pairs_step}
 use Rattle.bt_ext.proofs.told.told_by.Goals as goal
 
 pub loop-name-preserved : goal.loop-name-preserved
-loop-name-preserved c =
+loop-name-preserved g c =
     let old = c.loop-name.told in
     let new = c.tell.new.self in
     let adds = subst (λ (n : List ℕ). AddsName n (names_of old.names) (names_of new.names)) c.as_slice.ensures c.in_ok-tell.ensures.names in

@@ -6,4 +6,4 @@ use Rattle.bt_ext.specs.Holding.{entries_of, names_of}
 use Rattle.bt_ext.proofs.told.told_by.Given as goal
 
 abbrev pub invariant-loop-name : goal.invariant-loop-name
-invariant-loop-name l = told_by [] l.m ≡ entries_of l.told.entries.items ++ told_by (names_of l.told.names) (pairs_of (drop l.name-index l.name-items))
+invariant-loop-name g l = told_by [] l.m ≡ entries_of l.told.entries.items ++ told_by (names_of l.told.names) (pairs_of (drop l.name-index l.name-items))

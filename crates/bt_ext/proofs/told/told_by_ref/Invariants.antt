@@ -5,4 +5,4 @@ use Rattle.bt_ext.specs.Holding.{entries_of, names_of}
 use Rattle.bt_ext.proofs.told.told_by_ref.Given as goal
 
 abbrev pub invariant-loop-name : goal.invariant-loop-name
-invariant-loop-name l = told_by [] l.initial.name-iterator ≡ entries_of l.told.entries.items ++ told_by (names_of l.told.names) l.name-iterator
+invariant-loop-name g l = told_by [] l.initial.name-iterator ≡ entries_of l.told.entries.items ++ told_by (names_of l.told.names) l.name-iterator

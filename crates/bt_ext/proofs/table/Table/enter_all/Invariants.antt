@@ -5,4 +5,4 @@ use Rattle.bt_ext.specs.Holding.{entries_of}
 use Rattle.bt_ext.proofs.table.Table.enter_all.Given as goal
 
 abbrev pub invariant-loop-name : goal.invariant-loop-name
-invariant-loop-name l = entered_all (entries_of (drop l.name-index l.told)) l.next ≡ entered_all (entries_of l.told) l.self
+invariant-loop-name g l = entered_all (entries_of (drop l.name-index l.told)) l.next ≡ entered_all (entries_of l.told) l.self

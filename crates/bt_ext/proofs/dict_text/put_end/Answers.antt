@@ -1,0 +1,8 @@
+use Rattle.std.proofs.Common.{rules, arith, ◌≤◌, length}
+use Rattle.std.proofs.lemmas.List.{drop_all}
+use Rattle.bt_ext.proofs.dict_text.put_end.Goals as goal
+
+pub returns-clause-text : goal.returns-clause-text
+returns-clause-text c =
+    let whole : length c.args.text.now ≤ 160 = omega (arith, c.told-text) in
+    rw (c.put_bytes.ensures.text, drop_all 160 c.args.text.now whole) (search rules)

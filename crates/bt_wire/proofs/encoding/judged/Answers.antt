@@ -1,6 +1,0 @@
-use Rattle.std.proofs.Common.{refl, arith}
-use Rattle.bt_wire.proofs.WindowLaws.{too_long}
-use Rattle.bt_wire.proofs.encoding.judged.Goals as goal
-
-pub returns-then-length-from-clause-fault : goal.returns-then-length-from-clause-fault
-returns-then-length-from-clause-fault c = too_long _ _ _ c.in-Some.ensures.0 (omega (arith, c.in-Some.ensures.1))

@@ -1,0 +1,203 @@
+//! Bencoding: keys in and out of order, look-ups, and the parts of values.
+use bt_bencode::*;
+use std::alloc::Global;
+use std::test::Fail;
+
+fn dict(payload: &[u8]) -> Result<DictRef<'_>, Fail> {
+    let (dict, _) = check(payload)?;
+    Ok(dict)
+}
+
+/// The dictionary that the payload begins with, read into memory.
+fn tree(alloc: Global, payload: &[u8]) -> Result<Value, Fail> {
+    let (value, _) = read_dict(alloc, payload)?;
+    Ok(value)
+}
+
+/// Where the first key out of order stands, by the payload and by its checked dictionary.
+fn unsorted(payload: &[u8]) -> Result<(Option<usize>, Option<usize>), Fail> {
+    let (dict, _) = check(payload)?;
+    Ok((first_unsorted(payload), dict.first_unsorted()))
+}
+
+/// Whether the keys of the dictionary's value rise.
+fn has_sorted_value(alloc: Global, payload: &[u8]) -> Result<bool, Fail> {
+    Ok(is_sorted(&dict(payload)?.to_value(alloc)?))
+}
+
+#[test]
+fn unsorted_keys(rt: HostRuntime) -> Result<(), Fail> {
+    for (payload, at) in [
+        (b"de".as_slice(), None),
+        (b"d1:ai1e1:bi2ee", None),
+        (b"d0:0:1:a0:2:ab0:e", None),
+        (b"d1:ai1e1:ai2ee", Some(7)),
+        (b"d1:b0:1:a0:e", Some(6)),
+        (b"d1:ad1:ci1e1:bi2eee", Some(11)),
+        (b"d1:ale2:aale1:bld1:z0:1:y0:eee", Some(22)),
+    ] {
+        let is_right = unsorted(payload)? == (at, at)
+            && has_sorted_value(rt.alloc(), payload)? == at.is_none();
+        assert!(rt; is_right, "{payload:?}");
+    }
+    Ok(())
+}
+
+/// A dictionary of 34 bytes, with two pairs of the key `a`, and four bytes after it.
+const PAYLOAD: &[u8] = b"d1:ai7e1:b3:xyz1:cd1:ei-1ee1:ai8eetail";
+
+fn has_ints(dict: &DictRef) -> bool {
+    dict.lookup_int(b"a") == Some(7) && dict.lookup_int(b"b").is_none()
+}
+
+fn has_texts(dict: &DictRef) -> bool {
+    dict.lookup_bytes(b"b") == Some(b"xyz".as_slice()) && dict.lookup_bytes(b"a").is_none()
+}
+
+fn has_keys(dict: &DictRef) -> bool {
+    dict.has(b"c") && !dict.has(b"z")
+}
+
+fn has_inner(dict: &DictRef) -> bool {
+    let is_last = match dict.lookup_dict(b"c") {
+        Some(inner) => inner.lookup_int(b"e") == Some(-1),
+        None => false,
+    };
+    is_last && dict.lookup_dict(b"a").is_none()
+}
+
+#[test]
+fn look_ups(rt: HostRuntime) -> Result<(), Fail> {
+    let dict = dict(PAYLOAD)?;
+    assert!(rt; has_ints(&dict) && has_texts(&dict) && has_keys(&dict) && has_inner(&dict));
+    Ok(())
+}
+
+/// The pairs' keys, of one byte each, and their integers.
+fn pairs(alloc: Global, dict: &DictRef) -> Result<Vec<(u8, Option<i64>)>, Fail> {
+    let mut pairs = Vec::new(alloc);
+    for (key, number) in dict.int_pairs() {
+        let [letter] = key else {
+            return Err("a key of another length".into());
+        };
+        pairs.push((*letter, number))?;
+    }
+    Ok(pairs)
+}
+
+#[test]
+fn pairs_in_order(rt: HostRuntime) -> Result<(), Fail> {
+    let (dict, len) = check(PAYLOAD)?;
+    let wanted = [(b'a', Some(7)), (b'b', None), (b'c', None), (b'a', Some(8))];
+    assert!(rt; len == 34 && pairs(rt.alloc(), &dict)?.as_slice() == wanted.as_slice());
+    Ok(())
+}
+
+/// The integer that stands first under the key, if that is an integer.
+fn int_under(value: &Value, key: &[u8]) -> Option<i64> {
+    match lookup(value, key) {
+        Some(Value::Int(n)) => Some(*n),
+        _ => None,
+    }
+}
+
+fn has(value: &Value, key: &[u8]) -> bool {
+    lookup(value, key).is_some()
+}
+
+#[test]
+fn look_ups_in_values(rt: HostRuntime) -> Result<(), Fail> {
+    let value = dict(PAYLOAD)?.to_value(rt.alloc())?;
+    assert!(rt; int_under(&value, b"a") == Some(7) && !has(&value, b"z"));
+    assert!(rt; !has(&Value::Int(1), b"a"));
+    let twice = tree(rt.alloc(), b"d1:ai1e1:ai2ee")?;
+    assert!(rt; int_under(&twice, b"a") == Some(1));
+    Ok(())
+}
+
+/// Whether the string has the two letters `ab`.
+fn is_ab(text: ByteString) -> bool {
+    text.len() == 2 && !text.is_empty() && text.into_vec().as_slice() == b"ab".as_slice()
+}
+
+/// Whether the value is the number 1 or the string `ab`.
+fn is_item(value: Value) -> bool {
+    match value {
+        Value::Int(n) => n == 1,
+        Value::Bytes(text) => is_ab(text),
+        _ => false,
+    }
+}
+
+/// How many values the list has, where each is the number 1 or the string `ab`.
+fn items_in(values: Values) -> Option<usize> {
+    let count = values.as_slice().len();
+    let mut all = true;
+    for item in values.into_vec() {
+        all = all && is_item(item);
+    }
+    if all { Some(count) } else { None }
+}
+
+fn is_k(key: &ByteString) -> bool {
+    key.as_slice() == b"k".as_slice()
+}
+
+/// How many pairs the dictionary has, where each is the key `k` and a list of two such values.
+fn pairs_in(pairs: Pairs) -> Option<usize> {
+    let count = pairs.as_slice().len();
+    let mut all = true;
+    for (key, value) in pairs.into_vec() {
+        all = all
+            && is_k(&key)
+            && match value {
+                Value::List(values) => items_in(values) == Some(2),
+                _ => false,
+            };
+    }
+    if all { Some(count) } else { None }
+}
+
+fn is_of_pairs(value: Value, count: usize) -> bool {
+    match value {
+        Value::Dict(pairs) => pairs_in(pairs) == Some(count),
+        _ => false,
+    }
+}
+
+#[test]
+fn parts(rt: HostRuntime) -> Result<(), Fail> {
+    let value = tree(rt.alloc(), b"d1:kli1e2:abee")?;
+    assert!(rt; is_of_pairs(value, 1));
+    Ok(())
+}
+
+#[test]
+fn words(rt: HostRuntime) -> Result<(), Fail> {
+    assert!(rt; Bad::Cut.to_string(rt.alloc())?.as_str() == "the dictionary is cut");
+    Ok(())
+}
+
+/// Whether each list among the pairs has room for `room` values, and the pairs have room for as many.
+fn has_room(pairs: Pairs, room: usize) -> bool {
+    let pairs = pairs.into_vec();
+    let mut all = pairs.capacity() == room;
+    for (_, value) in pairs {
+        if let Value::List(values) = value {
+            all = all && values.into_vec().capacity() == room;
+        }
+    }
+    all
+}
+
+/// Room is reserved once: a vector that grows has room for more than five.
+#[test]
+fn made_once(rt: HostRuntime) -> Result<(), Fail> {
+    let value = tree(rt.alloc(), b"d0:li1ei2ei3ei4ei5ee0:0:0:0:0:0:0:0:e")?;
+    let has_room = match value {
+        Value::Dict(pairs) => has_room(pairs, 5),
+        _ => false,
+    };
+    assert!(rt; has_room);
+    Ok(())
+}

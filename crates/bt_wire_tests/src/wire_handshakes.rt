@@ -1,0 +1,128 @@
+//! The handshake: its bytes, what is refused of it and where, and what two ends agree on.
+use crate::wire::{LIMIT, agreed};
+use bitflags::Flags;
+use bt_ext::{Registered, Rules};
+use bt_wire::*;
+
+const SPELLED: &[u8; 68] = b"\x13BitTorrent protocol\0\0\0\0\0\x10\0\x05\
+\xa9\x99\x3e\x36\x47\x06\x81\x6a\xba\x3e\x25\x71\x78\x50\xc2\x6c\x9c\xd0\xd8\x9d-XX0001-000000000000";
+
+/// The handshake that these bytes spell.
+fn handshake() -> Handshake {
+    Handshake {
+        reserved: Reserved(0x10_0005),
+        info_hash: [
+            0xa9, 0x99, 0x3e, 0x36, 0x47, 0x06, 0x81, 0x6a, 0xba, 0x3e, 0x25, 0x71, 0x78, 0x50,
+            0xc2, 0x6c, 0x9c, 0xd0, 0xd8, 0x9d,
+        ],
+        peer_id: *b"-XX0001-000000000000",
+    }
+}
+
+fn receiver(reserved: Reserved, info_hash: Option<[u8; 20]>) -> Own {
+    Own {
+        reserved,
+        info_hash,
+        pieces: Some(10),
+        reg: Registered::new(None),
+        rules: Rules::Bep,
+        limit: LIMIT,
+    }
+}
+
+/// Whether both readers say that a part of a handshake has this fault, and isn't whole.
+fn is_judged(own: &Own, part: &[u8], wanted: Option<Refused>) -> bool {
+    judge_handshake(own, part) == wanted
+        && match read_opening(own, part) {
+            Opening::Refused(refused) => wanted == Some(refused),
+            Opening::Partial => wanted.is_none(),
+            Opening::Whole(_) => false,
+        }
+}
+
+/// Whether the bytes are read as the handshake, without a fault.
+fn is_whole(own: &Own, bytes: &[u8], wanted: &Handshake) -> bool {
+    match read_opening(own, bytes) {
+        Opening::Whole(read) => read == *wanted,
+        _ => false,
+    }
+}
+
+#[test]
+fn handshakes(rt: HostRuntime) {
+    let sent = handshake();
+    assert!(rt; spell_handshake(&sent).as_slice() == SPELLED.as_slice());
+    for wanted in [None, Some(sent.info_hash)] {
+        let own = receiver(Reserved(0), wanted);
+        for n in 0..68 {
+            assert!(rt; is_judged(&own, &SPELLED[..n], None), "{n}");
+        }
+        assert!(rt; is_whole(&own, SPELLED, &sent));
+    }
+}
+
+/// Whether the handshake is refused from `judged` of its bytes on, and not before.
+fn is_refused_from(own: &Own, bytes: &[u8; 68], judged: usize, refused: Refused) -> bool {
+    let mut all = true;
+    for n in 0..=68 {
+        let wanted = if n < judged { None } else { Some(refused) };
+        all = all && is_judged(own, &bytes[..n], wanted);
+    }
+    all
+}
+
+#[test]
+fn refused_handshakes(rt: HostRuntime) {
+    let same = receiver(Reserved(0), Some(handshake().info_hash));
+    let other = receiver(Reserved(0), Some(*b"--------------------"));
+    for (own, changed, judged, at, reason) in [
+        (&same, 0, 1, 0, Reason::BadProtocol),
+        (&same, 5, 6, 5, Reason::BadProtocol),
+        (&same, 19, 20, 19, Reason::BadProtocol),
+        (&other, 19, 20, 19, Reason::BadProtocol),
+        (&same, 28, 48, 28, Reason::WrongInfoHash),
+        (&same, 47, 48, 28, Reason::WrongInfoHash),
+        (&other, 67, 48, 28, Reason::WrongInfoHash),
+    ] {
+        let mut bytes = *SPELLED;
+        for (n, byte) in bytes.iter_mut().enumerate() {
+            if n == changed {
+                *byte ^= 1;
+            }
+        }
+        let refused = Refused { at, reason };
+        assert!(rt; is_refused_from(own, &bytes, judged, refused), "{changed}");
+    }
+}
+
+#[test]
+fn bits(rt: HostRuntime) {
+    for (flag, wanted) in [
+        (Reserved::FAST, 0x4),
+        (Reserved::DHT, 0x1),
+        (Reserved::EXT, 0x10_0000),
+    ] {
+        assert!(rt; flag.bits() == wanted);
+    }
+}
+
+#[test]
+fn negotiations(rt: HostRuntime) {
+    let rest = !0x4;
+    for (own, peer, fast, ext) in [
+        (0x10_0005, 0x10_0005, true, true),
+        (0x4, u64::MAX, true, false),
+        (0x10_0000, u64::MAX, false, true),
+        (0x4, rest, false, false),
+        (rest, 0x4, false, false),
+        (rest, rest, false, true),
+        (0, 0, false, false),
+    ] {
+        let context = negotiate(&receiver(Reserved(own), None), Reserved(peer));
+        let answer = Context {
+            ext,
+            ..agreed(Rules::Bep, fast, Some(10))
+        };
+        assert!(rt; context == answer, "{own} {peer}");
+    }
+}
