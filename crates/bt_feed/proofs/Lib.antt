@@ -8,7 +8,6 @@ pub mod Coming
 pub mod Reading
 pub mod FeedLaws
 pub mod Places
-pub mod Moved
 pub mod Moving
 mod Passed
 mod Reasons

@@ -6,7 +6,5 @@ pub mod Progress
 pub mod Sound
 pub mod Transcripts
 pub mod Laws
-pub mod Counts
-pub mod Devices
-pub mod Outbox
+pub mod Sinks
 pub mod Pumps

@@ -1,5 +1,6 @@
+//! A sink that keeps nothing. `check` of the program pumps into it.
 ghost use Rattle.std.specs.Prelude.{◌≡◌};
-ghost use Rattle.bt_feed.specs.Devices.{discarded};
+ghost use Rattle.bt_feed.specs.Sinks.{discarded};
 
 use crate::sink::{Sink, SinkFault};
 use crate::view::View;
@@ -21,7 +22,7 @@ impl Discard {
 
 impl Sink for Discard {
     ghost use Rattle.std.specs.Prelude.{⊤};
-    ghost use Rattle.bt_feed.specs.Devices.{discarded};
+    ghost use Rattle.bt_feed.specs.Sinks.{discarded};
 
     ghost takes = { λ _ _ _. ⊤ };
 

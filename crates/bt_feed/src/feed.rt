@@ -1,10 +1,11 @@
+//! A feed: bytes of a stream go in, in any pieces, and its items come out. Pumps and ends call it.
 ghost use Rattle.std.specs.Prelude.{◌≡◌, ◌+◌, ◌<◌, ◌≤◌, ◌^◌, ◌⊎◌, ◌↔◌, ℕ, List, [], length, take, None, Err, IfOk, IfSome, IsErrOf, OnOk, OnErr};
 
 use crate::progress::Progress;
 use crate::sink::{Sink, SinkFault};
 use crate::stage::{END, Stage};
 use crate::view::{Finish, TakeError, View};
-use bt_wire::{Context, Order, Own};
+use bt_wire::{Context, Order, Own, Refusal};
 use std::alloc::{AllocError, Allocator, Global};
 use std::marker::Model;
 use thiserror::Error;
@@ -57,11 +58,11 @@ impl<A: Allocator> Model for Feed<A> {
 ghost use Rattle.bt_feed.specs.Stages.{limit_of, start_of, number_of, capacity_of, is_closed};
 ghost use Rattle.bt_feed.specs.Feeds.{taken, pushed};
 ghost use Rattle.bt_wire.specs.declared.item.Item.{Item};
-ghost use Rattle.bt_feed.specs.Counts.{Grew};
+ghost use Rattle.bt_io.specs.Counts.{Grew};
 ghost use Rattle.bt_feed.specs.Pumps.{IsHanded, IsFed};
 ghost use Rattle.bt_feed.specs.Views.{shown};
 ghost use Rattle.bt_feed.specs.Progress.{IsPartial, IsFeed};
-ghost use Rattle.bt_feed.specs.Answers.{IsAnswer, after, finish_of};
+ghost use Rattle.bt_feed.specs.Answers.{IsAnswer, after, standing, finish_of};
 ghost use Rattle.std.specs.Io.BufRead.{Rests};
 ghost use types.Logic.{sem};
 ghost use Rattle.bt_feed.specs.contracts.feed.Feed.{the_row};
@@ -173,9 +174,17 @@ impl<A: Allocator> Feed<A> {
 
     /// What `take` would answer.
     pub fn look(&self) -> Result<Option<View<'_>>, TakeError>
-        ensures { IsAnswer self.now (shown result) }
+        ensures value { IsAnswer self.now (shown result) }
+        ensures feed { IsFeed self.now }
     {
         self.progress.answer(self.buffer.as_slice())
+    }
+
+    /// The refusal that stands: the one that `take` gave, or that of bytes that no others can make an item.
+    pub fn refusal(&self) -> Option<Refusal>
+        ensures { result ≡ standing self.now }
+    {
+        self.progress.refusal(self.buffer.as_slice())
     }
 
     /// What the stream comes to that ends here: the offset, or a refusal, or `Untaken` where a whole item is held that `take`

@@ -2,7 +2,7 @@
 ghost use Rattle.std.specs.Prelude.{◌≡◌, ◌+◌, ◌^◌, ◌≤◌, ℕ, List, length, take, OnOk, OnErr};
 ghost use Rattle.bt_wire.specs.declared.item.Item.{Item};
 ghost use Rattle.bt_feed.specs.declared.stage.Stage.TheVariants as stages;
-ghost use Rattle.bt_feed.specs.Counts.{Grew};
+ghost use Rattle.bt_io.specs.Counts.{Grew};
 ghost use Rattle.bt_feed.specs.Pumps.{IsHanded, IsFed};
 ghost use Rattle.bt_feed.specs.Feeds.{waiting};
 

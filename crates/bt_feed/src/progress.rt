@@ -1,12 +1,12 @@
 //! How far a feed is with the item that it awaits.
 ghost use Rattle.std.specs.Prelude.{◌≡◌, ◌+◌, ◌-◌, ◌<◌, ◌≤◌, ◌⊎◌, ◌++◌, false, true, List, ℕ, length, take, min, vec_capacity, None, Err, IfSome, OnOk, OnErr};
 ghost use Rattle.bt_wire.specs.declared.item.Item.{Item};
-ghost use Rattle.bt_feed.specs.Counts.{Grew};
+ghost use Rattle.bt_io.specs.Counts.{Grew};
 ghost use Rattle.bt_feed.specs.Pumps.{IsHanded, IsFed};
 ghost use Rattle.bt_feed.specs.Stages.{limit_of, capacity_of, is_closed};
 ghost use Rattle.bt_feed.specs.Feeds.{held_of, state_of};
 ghost use Rattle.bt_feed.specs.Views.{shown};
-ghost use Rattle.bt_feed.specs.Answers.{IsAnswer, IsFound, after, finish_of};
+ghost use Rattle.bt_feed.specs.Answers.{IsAnswer, IsFound, after, standing, finish_of};
 ghost use Rattle.bt_feed.specs.Progress.{IsPartial, HasWindow, Fills, IsProgress, IsSameItem};
 
 use crate::passing::pass_messages;
@@ -262,6 +262,22 @@ impl Progress {
                 self.refused = Some(refusal);
                 Err(TakeError::Refused(refusal))
             }
+        }
+    }
+
+    /// The refusal that was given, or that of a fault that is judged before all of the item is there.
+    #[cold]
+    #[inline(never)]
+    pub fn refusal(&self, buffer: &[u8]) -> Option<Refusal>
+        requires { IsProgress self.now buffer.now }
+        ensures { result ≡ standing (state_of self.now buffer.now) }
+    {
+        if let Some(refusal) = self.refused {
+            return Some(refusal);
+        }
+        match self.stage.early(self.held(buffer)) {
+            Err(fault) => Some(self.stage.refusal(fault)),
+            Ok(_) => None,
         }
     }
 

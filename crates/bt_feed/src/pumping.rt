@@ -2,15 +2,15 @@
 ghost use Rattle.std.specs.Prelude.{◌≡◌, ◌+◌, ◌-◌, ◌^◌, ◌≤◌, ◌≢◌, ℕ, List, ◌<◌, min, length, false, Err, OnOk};
 ghost use Rattle.bt_wire.specs.declared.fault.Reason.TheVariants as reasons;
 ghost use Rattle.bt_wire.specs.declared.item.Item.{Item};
-ghost use Rattle.bt_feed.specs.Counts.{Grew};
+ghost use Rattle.bt_io.specs.Counts.{Grew};
 ghost use Rattle.bt_feed.specs.Pumps.{IsGiven, IsEnd, IsEndOf, IsPump, IsPieceEnd, IsSinkFault};
 ghost use Rattle.bt_feed.specs.Stages.{limit_of, is_closed};
 
 use crate::feed::Feed;
 use crate::sink::{Sink, SinkFault};
 use crate::slices::behind;
-use crate::source::Source;
 use crate::view::{Finish, refusal_in};
+use bt_io::Source;
 use bt_wire::Refusal;
 use std::alloc::Allocator;
 use thiserror::Error;

@@ -1,6 +1,7 @@
+//! What takes the items of a stream. A pump gives its items to a `Sink`.
 ghost use Rattle.std.specs.Prelude.{◌≡◌, ℕ, MatchResult, is_err};
 ghost use Rattle.bt_wire.specs.declared.item.Item.{Item};
-ghost use Rattle.bt_feed.specs.Counts.{one_more, counted};
+ghost use Rattle.bt_io.specs.Counts.{one_more, counted};
 ghost use Rattle.bt_feed.specs.Views.{item_of};
 
 use crate::view::View;

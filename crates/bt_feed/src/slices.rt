@@ -1,3 +1,4 @@
+//! Parts of slices, with contracts over lists. The other modules call it.
 ghost use Rattle.std.specs.Prelude.{◌≡◌, ◌≤◌, length, drop};
 
 /// The bytes from the n-th on.

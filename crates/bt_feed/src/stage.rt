@@ -15,7 +15,7 @@ use bt_wire::{
 pub(crate) const END: u64 = 1 << 62;
 
 /// What a feed awaits: the handshake, or a message of this number from this offset of the stream on.
-#[derive(Clone, Copy, PartialEq, Eq, Debug)]
+#[derive(Clone, Copy, PartialEq, Eq)]
 pub enum Stage {
     Handshake(Own),
     Message {

@@ -1,3 +1,4 @@
+//! All items of a list of pieces, with the refusal and the rest. Callers that hold a whole stream call it.
 ghost use Rattle.std.specs.Prelude.{◌≡◌, ◌+◌, ◌<◌, ◌≤◌, ◌^◌, ◌⊎◌, ◌↔◌, ◌++◌, ℕ, List, [], Option, false, Err, IfOk, IsErrOf, MatchOption, flat_map};
 ghost use Rattle.bt_wire.specs.declared.context.Own.{Own};
 ghost use Rattle.bt_wire.specs.declared.item.Item.{Item};
@@ -16,7 +17,7 @@ use std::alloc::{AllocError, Global};
 
 /// What is read of a stream: its items with their offsets, the refusal of what follows them, and how many bytes of an
 /// unfinished or a refused item are held.
-#[derive(Debug, Drop)]
+#[derive(Drop)]
 pub struct Transcript {
     pub items: Vec<(u64, Item)>,
     pub refused: Option<Refusal>,

@@ -1,3 +1,4 @@
+//! What a feed answers: views of items, refusals, and what holds at the end. Callers of a feed read them.
 ghost use Rattle.std.specs.Prelude.{◌≡◌, IfOk, IfErr};
 ghost use Rattle.bt_feed.specs.Views.{item_of, KeepsBytes};
 
@@ -6,7 +7,7 @@ use std::alloc::{AllocError, Global};
 use thiserror::Error;
 
 /// An item whose bytes are those of the feed's buffer.
-#[derive(Debug, Drop)]
+#[derive(Drop)]
 pub enum View<'a> {
     Handshake(Handshake),
     Message(MessageView<'a>),

@@ -1,6 +1,0 @@
-use thiserror::Error;
-
-/// A read or a write failed.
-#[derive(Clone, Copy, PartialEq, Eq, Debug, Error)]
-#[error("failed")]
-pub struct Failed;

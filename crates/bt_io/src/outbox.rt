@@ -1,0 +1,212 @@
+//! What is to be sent.
+ghost use Rattle.std.specs.Prelude.{◌≡◌, ℕ, ◌+◌, ◌-◌, ◌*◌, ◌<◌, ◌≤◌, [], ◌++◌, length, take, drop, min, max, IfOk, OnOk, OnErr, IsOk, vec_len, vec_capacity};
+ghost use Rattle.std.specs.Io.KnownBytes.{Appends};
+ghost use Rattle.bt_io.specs.Counts.{Grew};
+ghost use Rattle.bt_io.specs.Outbox.{without_front, Sends};
+
+use crate::target::Target;
+use std::alloc::{Allocator, Global};
+use std::marker::Model;
+use thiserror::Error;
+
+/// A growth was refused.
+#[derive(Clone, Copy, PartialEq, Eq, Debug, Error)]
+#[error("out of memory")]
+pub struct Memory;
+
+/// A write failed, or took nothing.
+#[derive(Clone, Copy, PartialEq, Eq, Debug, Error)]
+#[error("a write failed")]
+pub struct WriteFault;
+
+/// The bytes that are to be sent, in order.
+#[derive(Drop)]
+pub struct Outbox<A: Allocator = Global> {
+    buffer: Vec<u8, A>,
+    /// How many bytes at the buffer's front are gone.
+    at: usize,
+    /// How many bytes the buffer was made for, with those that are gone.
+    size: usize,
+}
+
+impl<A: Allocator> Model for Outbox<A> {
+    ghost use Rattle.std.specs.Prelude.{◌≤◌, drop, vec_len, vec_capacity};
+    ghost use Rattle.bt_io.specs.Outbox.{Outgoing, outgoing};
+
+    ghost Value = { Outgoing };
+
+    ghost view = { λ a. outgoing (drop a.at a.buffer.items) a.size };
+
+    ghost invariant = { λ a. (a.at ≤ vec_len a.buffer) × (vec_len a.buffer ≤ a.size) × (a.size ≤ vec_capacity a.buffer) };
+}
+
+/// Moves the bytes from `at` on to the front.
+fn close_gap<A: Allocator>(buffer: &mut Vec<u8, A>, at: &mut usize)
+    requires { at.old ≤ vec_len buffer.old }
+    ensures items { buffer.new.items ≡ drop at.old buffer.old.items }
+    ensures capacity { vec_capacity buffer.new ≡ vec_capacity buffer.old }
+    ensures at { at.new ≡ 0 }
+{
+    let rest = buffer.len() - *at;
+    buffer.copy_within(*at.., 0);
+    buffer.truncate(rest);
+    *at = 0;
+}
+
+/// Makes the buffer larger, for n bytes more, and to twice its length where there is memory for that.
+fn enlarge<A: Allocator>(buffer: &mut Vec<u8, A>, size: &mut usize, n: usize) -> Result<(), Memory>
+    requires { size.old < vec_len buffer.old + n }
+    ensures items { buffer.new.items ≡ buffer.old.items }
+    ensures capacity { vec_capacity buffer.old ≤ vec_capacity buffer.new }
+    ensures room { OnOk result ((vec_len buffer.old + n ≤ size.new) × (size.new ≤ vec_capacity buffer.new)) }
+    ensures bound { OnOk result (size.new ≤ 2 * vec_len buffer.old + n) }
+    ensures same { OnErr result (size.new ≡ size.old) }
+{
+    let len = buffer.len();
+    let most = len.max(n);
+    let more = if buffer.reserve_exact(most).is_ok() {
+        most
+    } else if buffer.reserve_exact(n).is_ok() {
+        n
+    } else {
+        return Err(Memory);
+    };
+    *size = len + more;
+    Ok(())
+}
+
+/// Makes room for n bytes more after those from `at` on. The gap before them is closed where no more bytes move than were
+/// dropped, or where no memory is left, so that the buffer never grows for the sake of dropped bytes.
+fn make_room<A: Allocator>(
+    buffer: &mut Vec<u8, A>,
+    at: &mut usize,
+    size: &mut usize,
+    n: usize,
+) -> Result<(), Memory>
+    requires { (at.old ≤ vec_len buffer.old) × (vec_len buffer.old ≤ size.old) × (size.old ≤ vec_capacity buffer.old) }
+    ensures bytes { drop at.new buffer.new.items ≡ drop at.old buffer.old.items }
+    ensures within { (at.new ≤ vec_len buffer.new) × (vec_len buffer.new ≤ size.new) × (size.new ≤ vec_capacity buffer.new) }
+    ensures grows { size.old ≤ size.new }
+    ensures room { OnOk result (vec_len buffer.new + n ≤ size.new) }
+    ensures stays { n + 2 * length (drop at.old buffer.old.items) ≤ size.old → size.new ≡ size.old }
+    ensures bound { size.new ≤ max size.old (n + 4 * length (drop at.old buffer.old.items)) }
+    ensures full { OnErr result (size.old < n + length (drop at.old buffer.old.items)) }
+    ensures same { OnErr result (size.new ≡ size.old) }
+{
+    if n <= *size - buffer.len() {
+        return Ok(());
+    }
+    let rest = buffer.len() - *at;
+    if *at >= rest {
+        close_gap(buffer, at);
+    }
+    if n <= *size - buffer.len() || enlarge(buffer, size, n).is_ok() {
+        return Ok(());
+    }
+    if n > *size - rest {
+        return Err(Memory);
+    }
+    close_gap(buffer, at);
+    Ok(())
+}
+
+/// Writes the bytes until all are taken or a write fails, and says how many were taken.
+pub fn write_front<W: Target>(writer: &mut W, bytes: &[u8]) -> usize
+    ensures within { result ≤ length bytes.now }
+    ensures sent { Appends (W.held writer.old) (W.held writer.new) (take result bytes.now) }
+    ensures stopped { result < length bytes.now → Grew (W.failed_writes writer.old) (W.failed_writes writer.new) }
+    ensures whole { result ≡ length bytes.now → W.failed_writes writer.new ≡ W.failed_writes writer.old }
+{
+    let mut done = 0;
+    while done < bytes.len() {
+        match writer.write(&bytes[done..]) {
+            Ok(0) => return done,
+            Ok(count) => done += count,
+            Err(_) => return done,
+        }
+    }
+    done
+}
+
+impl<A: Allocator> Outbox<A> {
+    /// An outbox with no bytes. It takes no memory.
+    pub fn new(alloc: A) -> Outbox<A>
+        ensures { result ≡ record { bytes = []; room = 0 } }
+    {
+        Outbox {
+            buffer: Vec::new(alloc),
+            at: 0,
+            size: 0,
+        }
+    }
+
+    /// Makes room for `n` bytes more: a `queue` of at most `n` bytes, as the next call, takes no memory.
+    ///
+    /// Dropped bytes make no buffer grow: where the room is `n` bytes and as many as are held, the buffer stays. One that
+    /// grows has at most four times the bytes that are held, and `n`.
+    pub fn reserve(&mut self, n: usize) -> Result<(), Memory>
+        ensures bytes { self.new.bytes ≡ self.old.bytes }
+        ensures room { self.old.room ≤ self.new.room }
+        ensures ok { OnOk result (n ≤ self.new.room) }
+        ensures stays { n + length self.old.bytes ≤ self.old.room → self.new.room ≡ self.old.room }
+        ensures bound { self.new.room ≤ max self.old.room (n + 3 * length self.old.bytes) }
+        ensures err { OnErr result (self.new ≡ self.old) }
+        ensures succeeds { n ≤ self.old.room → IsOk result }
+    {
+        make_room(&mut self.buffer, &mut self.at, &mut self.size, n)
+    }
+
+    /// Puts these bytes after the others. The buffer stays or grows as in [`Outbox::reserve`], for as many bytes as these are.
+    pub fn queue(&mut self, bytes: &[u8]) -> Result<(), Memory>
+        ensures ok { OnOk result (self.new.bytes ≡ self.old.bytes ++ bytes.now) }
+        ensures room { OnOk result (self.old.room ≤ self.new.room + length bytes.now) }
+        ensures stays { OnOk result (length bytes.now + length self.old.bytes ≤ self.old.room → self.new.room + length bytes.now ≡ self.old.room) }
+        ensures bound { OnOk result (self.new.room + length bytes.now ≤ max self.old.room (length bytes.now + 3 * length self.old.bytes)) }
+        ensures err { OnErr result (self.new ≡ self.old) }
+        ensures succeeds { length bytes.now ≤ self.old.room → IsOk result }
+    {
+        make_room(&mut self.buffer, &mut self.at, &mut self.size, bytes.len())?;
+        match self.buffer.extend_from_slice(bytes) {
+            Ok(()) => Ok(()),
+            Err(_) => unreachable!(),
+        }
+    }
+
+    /// The bytes that are to be sent.
+    pub fn bytes(&self) -> &[u8]
+        ensures { result.now ≡ self.now.bytes }
+    {
+        &self.buffer.as_slice()[self.at..]
+    }
+
+    /// Drops the first n bytes. None of the others moves.
+    pub fn drop_front(&mut self, n: usize)
+        requires { n ≤ length self.old.bytes }
+        ensures { self.new ≡ without_front n self.old }
+    {
+        self.at += n;
+        if self.at == self.buffer.len() {
+            self.buffer.clear();
+            self.at = 0;
+        }
+    }
+
+    /// Writes at most `max` bytes from the front, and drops those that were taken, also at a fault. It takes no memory.
+    pub fn drain<W: Target>(&mut self, writer: &mut W, max: usize) -> Result<usize, WriteFault>
+        ensures count { IfOk result (λ n. n ≡ min max (length self.old.bytes)) }
+        ensures sends { IfOk result (λ n. Sends self.old self.new (W.held writer.old) (W.held writer.new) n) }
+        ensures stops { OnErr result ((n : ℕ) × (n < min max (length self.old.bytes))
+            × Sends self.old self.new (W.held writer.old) (W.held writer.new) n) }
+        ensures failed { OnErr result (Grew (W.failed_writes writer.old) (W.failed_writes writer.new)) }
+        ensures whole { OnOk result (W.failed_writes writer.new ≡ W.failed_writes writer.old) }
+    {
+        let bytes = self.bytes();
+        let wanted = max.min(bytes.len());
+        let taken = write_front(writer, &bytes[..wanted]);
+        self.drop_front(taken);
+        if taken < wanted {
+            return Err(WriteFault);
+        }
+        Ok(taken)
+    }
+}
