@@ -1,0 +1,9 @@
+pub mod Reactions
+pub mod Asking
+pub mod Turns
+pub mod Calls
+pub mod Sayings
+pub mod Fetches
+pub mod Finishing
+pub mod Refusals
+pub mod Handling

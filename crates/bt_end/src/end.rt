@@ -1,0 +1,403 @@
+//! One end of a connection.
+use crate::config::{Announce, Config, EndError, Role, Window};
+use crate::part::{Part, Progress};
+use crate::reactor::{Plan, Reactor};
+use bt_feed::laws::one_answer;
+use bt_feed::{Feed, Finish, Memory, Outbox, Stage, Target, WriteFault, refusal_in};
+use bt_metadata::{BadSize, Server};
+use bt_wire::{Context, Fault, Handshake, Message, Order, Own, Refusal, spell_handshake};
+use std::alloc::{Allocator, Global};
+use std::marker::Model;
+use thiserror::Error;
+
+/// What a turn did.
+#[derive(Clone, Copy, PartialEq, Eq, Debug)]
+pub enum Turn {
+    /// An item was handled.
+    Handled,
+    /// No whole item is held.
+    Idle,
+}
+
+/// Why a turn handled nothing.
+#[derive(Clone, Copy, PartialEq, Eq, Debug, Error)]
+pub enum TurnError {
+    /// The item is refused, now or before.
+    #[error("message {} at {}: {}", .0.message, .0.at, .0.reason)]
+    Refused(Refusal),
+    /// Too much waits to be sent.
+    #[error("too much waits to be sent")]
+    Busy,
+    #[error("out of memory")]
+    Memory,
+}
+
+/// Why an end doesn't say a message.
+#[derive(Clone, Copy, PartialEq, Eq, Debug, Error)]
+pub enum SayError {
+    /// The peer's handshake isn't handled yet, or what came from it is refused.
+    #[error("the connection isn't open")]
+    NotOpen,
+    /// Too much waits to be sent.
+    #[error("too much waits to be sent")]
+    Busy,
+    /// An end makes extended messages itself.
+    #[error("an end makes extended messages itself")]
+    Extended,
+    /// The message tells of pieces, and the piece count isn't known.
+    #[error("the piece count isn't known")]
+    PiecesUnknown,
+    /// The peer, as the end takes it to be, would refuse it.
+    #[error("the peer would refuse the message")]
+    Illegal(Fault),
+    #[error("out of memory")]
+    Memory,
+}
+
+/// The outbox's length, in bytes, from which on an end is busy.
+pub const HIGH_WATER: usize = 1_048_576;
+
+/// The least limit of an end, so that each message that it makes and receives fits.
+const MIN_LIMIT: u32 = 32_768;
+
+const MAX_LIMIT: u32 = 1_048_576;
+
+impl From<Memory> for TurnError {
+    ghost use Rattle.bt_end.specs.declared.end.TurnError.TheVariants.{Memory};
+    ghost use Rattle.std.specs.Prelude.{◌≡◌};
+
+    ghost from_gives = { λ _ e. e ≡ Memory };
+
+    fn from(_: Memory) -> TurnError {
+        TurnError::Memory
+    }
+}
+
+impl From<Memory> for EndError {
+    ghost use Rattle.bt_end.specs.declared.config.EndError.TheVariants.{Memory};
+    ghost use Rattle.std.specs.Prelude.{◌≡◌};
+
+    ghost from_gives = { λ _ e. e ≡ Memory };
+
+    fn from(_: Memory) -> EndError {
+        EndError::Memory
+    }
+}
+
+/// One end of a connection to a peer. A clause sees the end as values, its feed and the bytes that are to be sent.
+#[derive(Drop)]
+pub struct End<A: Allocator = Global> {
+    feed: Feed<A>,
+    reactor: Reactor<A>,
+}
+
+impl<A: Allocator> Model for End<A> {
+    ghost use Rattle.bt_end.specs.Halves.{HalfState};
+
+    ghost Value = { HalfState };
+
+    ghost use Rattle.bt_end.specs.Wholes.{half_of, IsSound};
+
+    ghost view = { half_of };
+
+    ghost invariant = { IsSound };
+}
+
+ghost use Rattle.std.specs.Prelude.{◌≡◌, ◌+◌, ◌<◌, ◌≤◌, ◌&&◌, nat_le, ℕ, true, false, List, Ok, Err, None, length, min, option_copied, IfOk, IfSome, OnOk, OnErr};
+ghost use Rattle.sha1.specs.Sha1.{sha1};
+ghost use Rattle.bt_feed.specs.Feeds.{taken, waiting};
+ghost use Rattle.bt_feed.specs.Progress.{IsFeed};
+ghost use Rattle.bt_io.specs.Counts.{Grew};
+ghost use Rattle.bt_metadata.specs.Blocks.{max_metadata};
+ghost use Rattle.bt_wire.specs.Handshakes.{hand};
+ghost use Rattle.bt_end.specs.Ends.{belief, metadata_of, unopened, renewed, progress_of, is_hopeless, fetched_block};
+ghost use Rattle.bt_end.specs.Halves.{IsTurned, IsSaid, high_water, is_ready, connected, received, without_sent, IsHandled, IsStop};
+ghost use Rattle.bt_end.specs.Parts.{part_of, shown_slice};
+ghost use Rattle.bt_end.specs.Configs.{part_for, is_bad_role, IsMade};
+ghost use Rattle.bt_end.specs.Sturdy.{IsPartOf, IsFetched, IsEnd, Sends};
+
+/// Whether a whole item is held in a feed that isn't refused.
+fn is_ready<A: Allocator>(feed: &Feed<A>) -> bool
+    ensures { result ≡ is_ready feed.now }
+{
+    match feed.finish() {
+        Err(Finish::Untaken) => true,
+        _ => false,
+    }
+}
+
+/// Does nothing: its contract says what is so of every feed.
+fn is_sound<A: Allocator>(feed: &Feed<A>)
+    ensures { IsFeed feed.now }
+{
+    let _ = feed.start();
+}
+
+/// Whether it is, but too much waits to be sent.
+fn is_busy<A: Allocator>(feed: &Feed<A>, outbox: &Outbox<A>) -> bool
+    ensures { result ≡ (is_ready feed.now && nat_le high_water (length outbox.now.bytes)) }
+{
+    outbox.bytes().len() >= HIGH_WATER && is_ready(feed)
+}
+
+/// A feed that awaits the peer's handshake, and an outbox that holds the own one.
+fn connect<A: Allocator + Copy>(
+    alloc: A,
+    own: &Own,
+    handshake: &Handshake,
+) -> Result<(Feed<A>, Outbox<A>), Memory>
+    requires { (0 < own.now.limit) × (own.now.limit ≤ 1048576) }
+    ensures feed { IfOk result (λ x. x.0 ≡ waiting (Stage.Handshake own.now)) }
+    ensures outbox { IfOk result (λ x. x.1.bytes ≡ hand handshake.now) }
+    ensures length { IfOk result (λ x. length x.1.bytes ≡ 68) }
+{
+    let Ok(feed) = Feed::new(alloc, *own) else {
+        return Err(Memory);
+    };
+    let mut outbox = Outbox::new(alloc);
+    outbox.queue(&spell_handshake(handshake))?;
+    Ok((feed, outbox))
+}
+
+/// What a role is at first.
+fn part_for<A: Allocator>(role: Role<A>) -> Result<Part<A>, BadSize>
+    ensures ok { IfOk result (λ part. (is_bad_role role ≡ false) × (part_of part ≡ part_for role)) }
+    ensures start { (hash : List ℕ) → IfOk result (λ part. IsPartOf hash (part_of part)) }
+    ensures err { OnErr result (is_bad_role role ≡ true) }
+{
+    match role {
+        Role::Watch => Ok(Part::Watching),
+        Role::Serve(metadata) => Ok(Part::Serving(Server::new(metadata)?)),
+        Role::Fetch => Ok(Part::Awaiting),
+    }
+}
+
+impl<A: Allocator + Copy> End<A> {
+    /// An end on a new connection. Its handshake is to be sent.
+    pub fn new(alloc: A, config: Config<A>) -> Result<End<A>, EndError>
+        ensures { IsMade config result }
+    {
+        let Config {
+            own,
+            peer_id,
+            announce,
+            window,
+            role,
+        } = config;
+        if own.limit < MIN_LIMIT || own.limit > MAX_LIMIT {
+            return Err(EndError::BadLimit);
+        }
+        let wanted = own.info_hash;
+        let Some(info_hash) = wanted else {
+            return Err(EndError::BadConfig);
+        };
+        let Ok(part) = part_for(role) else {
+            return Err(EndError::BadSize);
+        };
+        let handshake = Handshake {
+            reserved: own.reserved,
+            info_hash,
+            peer_id,
+        };
+        Ok(End::unopened(alloc, own, handshake, announce, window, part)?)
+    }
+
+    /// An end on a new connection.
+    fn unopened(
+        alloc: A,
+        own: Own,
+        handshake: Handshake,
+        announce: Announce,
+        window: Window,
+        part: Part<A>,
+    ) -> Result<End<A>, Memory>
+        requires limit { (32768 ≤ own.limit) × (own.limit ≤ 1048576) }
+        requires part { IsPartOf handshake.info_hash (part_of part) }
+        ensures { IfOk result (λ end. end ≡ connected (unopened own handshake announce window (part_of part))) }
+    {
+        let (feed, outbox) = connect(alloc, &own, &handshake)?;
+        let reactor = Reactor::new(alloc, own, handshake, announce, window, part, outbox);
+        Ok(End { feed, reactor })
+    }
+
+    /// Takes bytes from the peer, up to the end of the present item or the byte with which it is refused, and says how many.
+    pub fn receive(&mut self, bytes: &[u8]) -> usize
+        ensures taken { result ≡ taken self.old.feed bytes.now }
+        ensures end { self.new ≡ received self.old bytes.now }
+        ensures in_range { result ≤ length bytes.now }
+    {
+        self.feed.push(bytes)
+    }
+
+    /// The bytes that are to be sent: fewer than `HIGH_WATER`, and one message of the limit's length more.
+    pub fn outgoing(&self) -> &[u8]
+        ensures value { result.now ≡ self.now.outbox }
+        ensures bound { length result.now < high_water + self.now.end.own.limit + 4 }
+        ensures end { IsEnd self.now }
+        ensures feed { IsFeed self.now.feed }
+    {
+        is_sound(&self.feed);
+        self.reactor.outbox.bytes()
+    }
+
+    /// Drops the first n of them, which were sent.
+    pub fn sent(&mut self, n: usize)
+        requires { n ≤ length self.old.outbox }
+        ensures { self.new ≡ without_sent n self.old }
+    {
+        self.reactor.outbox.drop_front(n);
+    }
+
+    /// Writes at most `max` of them, from the front, and drops those that were taken, also at a fault.
+    pub fn drain<W: Target>(&mut self, writer: &mut W, max: usize) -> Result<usize, WriteFault>
+        ensures count { IfOk result (λ n. n ≡ min max (length self.old.outbox)) }
+        ensures sends { IfOk result (λ n. Sends self.old self.new (W.held writer.old) (W.held writer.new) n) }
+        ensures stops { OnErr result ((n : ℕ) × (n < min max (length self.old.outbox))
+            × Sends self.old self.new (W.held writer.old) (W.held writer.new) n) }
+        ensures failed { OnErr result (Grew (W.failed_writes writer.old) (W.failed_writes writer.new)) }
+        ensures whole { OnOk result (W.failed_writes writer.new ≡ W.failed_writes writer.old) }
+    {
+        self.reactor.outbox.drain(writer, max)
+    }
+
+    /// The metadata that was fetched: 1 to `MAX_METADATA` bytes, whose SHA-1 is the info hash.
+    pub fn metadata(&self) -> Option<&[u8]>
+        ensures value { shown_slice result ≡ metadata_of self.now.end.part }
+        ensures right { IfSome result (λ m. sha1 m.now ≡ self.now.end.handshake.info_hash) }
+        ensures size { IfSome result (λ m. (0 < length m.now) × (length m.now ≤ max_metadata)) }
+    {
+        self.reactor.part.metadata()
+    }
+
+    /// The block of this number, where it is held and not all of the metadata is there yet.
+    pub fn block(&self, piece: u32) -> Option<&[u8]>
+        ensures value { option_copied result ≡ fetched_block self.now.end.part piece }
+        ensures assembly { IsFetched self.now.end.part }
+    {
+        self.reactor.part.block(piece)
+    }
+
+    /// Handles the next item, where it is whole and not too much waits to be sent. Out of memory nothing changes.
+    pub fn turn(&mut self) -> Result<Turn, TurnError>
+        ensures { IsTurned self.old result self.new }
+    {
+        if is_busy(&self.feed, &self.reactor.outbox) {
+            return Err(TurnError::Busy);
+        }
+        let plan = match self.feed.look() {
+            Ok(Some(view)) => self.reactor.plan(&view)?,
+            Ok(None) => return Ok(Turn::Idle),
+            Err(_) => Plan::Nothing,
+        };
+        one_answer();
+        match self.feed.take() {
+            Ok(Some(view)) => {
+                self.reactor.handle(&view, plan);
+                Ok(Turn::Handled)
+            }
+            Ok(None) => Ok(Turn::Idle),
+            Err(error) => Err(TurnError::Refused(refusal_in(error))),
+        }
+    }
+
+    /// Says a message, where the peer, as the end takes it to be, wouldn't refuse it. Each refusal changes nothing.
+    pub fn say(&mut self, message: &Message) -> Result<(), SayError>
+        ensures { IsSaid self.old message.now result self.new }
+    {
+        let refused = self.feed.refusal().is_some();
+        self.reactor.say(refused, message)
+    }
+
+    /// The context that it takes the peer to receive in.
+    pub fn belief(&self) -> Context
+        ensures { result ≡ belief self.now.end }
+    {
+        self.reactor.belief()
+    }
+
+    /// The order in which it sends.
+    pub fn sending(&self) -> Order
+        ensures { result ≡ self.now.end.sends }
+    {
+        self.reactor.sends
+    }
+
+    /// The handshake that it sends.
+    pub fn handshake(&self) -> Handshake
+        ensures { result ≡ self.now.end.handshake }
+    {
+        self.reactor.handshake
+    }
+
+    /// Begins a new connection. What was fetched stays, and the blocks that are held do. Out of memory nothing changes.
+    pub fn reset(&mut self) -> Result<(), Memory>
+        ensures ok { OnOk result (self.new ≡ connected (renewed self.old.end)) }
+        ensures memory { OnErr result (self.new ≡ self.old) }
+    {
+        let own = self.reactor.own;
+        let handshake = self.reactor.handshake;
+        let (feed, outbox) = connect(self.reactor.alloc, &own, &handshake)?;
+        self.feed = feed;
+        self.reactor.renew(outbox);
+        Ok(())
+    }
+
+    /// How often, on this connection, the blocks that came were those of other metadata: each block was held, and their SHA-1
+    /// wasn't the info hash. The fetch then started over. The count stays at 2^64 - 1.
+    pub fn mismatches(&self) -> u64
+        ensures { result ≡ self.now.end.mismatches }
+    {
+        self.reactor.mismatches
+    }
+
+    /// How far the fetch has come: `None` where no size is known, or nothing is fetched. An end that is done holds all blocks.
+    pub fn progress(&self) -> Option<Progress>
+        ensures value { result ≡ progress_of self.now.end.part }
+        ensures bounds { IfSome result (λ p. (0 < p.size) × (p.size ≤ max_metadata) × (p.held ≤ p.blocks)) }
+    {
+        self.reactor.part.progress()
+    }
+
+    /// Whether it fetches, and no block can come any more on this connection, whatever the peer sends.
+    ///
+    /// So it is where the end has no id of its own for metadata messages, where not both ends know the Extension Protocol
+    /// (BEP 10), and where each block that isn't held was rejected. A peer that announced no id for metadata messages can
+    /// announce one later, so that alone isn't hopeless.
+    pub fn is_hopeless(&self) -> bool
+        ensures { result ≡ is_hopeless self.now.end }
+    {
+        self.reactor.is_hopeless()
+    }
+
+    /// Takes what the feed may take of the bytes, and handles the item that it then holds.
+    fn round(&mut self, bytes: &[u8]) -> (usize, Result<Turn, TurnError>)
+        ensures taken { result.0 ≡ taken self.old.feed bytes.now }
+        ensures turned { IsTurned (received self.old bytes.now) result.1 self.new }
+        ensures in_range { result.0 ≤ length bytes.now }
+    {
+        let taken = self.receive(bytes);
+        (taken, self.turn())
+    }
+
+    /// Receives these bytes and handles the items in them. It says how many bytes were used, and why it stopped.
+    ///
+    /// With `Ok`, all bytes were used, and no whole item is left. After `Busy` and `Memory` call it again with the rest of the
+    /// bytes, which may be none: after `Busy` once less waits to be sent. A refusal stays.
+    pub fn handle(&mut self, bytes: &[u8]) -> (usize, Result<(), TurnError>)
+        ensures handled { IsHandled self.old bytes.now result.0 result.1 self.new }
+        ensures stop { IsStop result.1 self.new }
+        ensures used { OnOk result.1 (result.0 ≡ length bytes.now) }
+        ensures in_range { result.0 ≤ length bytes.now }
+    {
+        let mut used = 0;
+        'rounds: loop {
+            let (taken, turn) = self.round(&bytes[used..]);
+            used += taken;
+            match turn {
+                Ok(Turn::Handled) => {}
+                Ok(Turn::Idle) => return (used, Ok(())),
+                Err(error) => return (used, Err(error)),
+            }
+        }
+    }
+}

@@ -1,0 +1,17 @@
+//! Laws over the definitions alone: each is the contract of a function that does nothing.
+ghost use Rattle.bt_end.specs.Laws.{FetchedIsFinished, DoneStays, RefusalStays};
+
+/// What an end fetches has the size that the peer announced, and the info hash as its SHA-1.
+pub fn fetched_is_finished()
+    ensures { FetchedIsFinished }
+{}
+
+/// An end that has the metadata keeps it.
+pub fn done_stays()
+    ensures { DoneStays }
+{}
+
+/// An end that refused what came refuses it again, until it is reset.
+pub fn refusal_stays()
+    ensures { RefusalStays }
+{}

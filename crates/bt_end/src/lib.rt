@@ -1,0 +1,16 @@
+//! One end of a connection: it answers the peer, and fetches or serves metadata.
+//!
+//! Bytes from the peer go in by [`End::receive`], [`End::turn`] handles an item of them, and [`End::outgoing`] has the bytes
+//! that the peer is to get. No socket is used here: the caller moves the bytes.
+#![tactic(auto)]
+
+mod config;
+mod end;
+pub mod laws;
+mod part;
+mod queueing;
+mod reactor;
+
+pub use config::{Announce, Config, EndError, Role, Window};
+pub use end::{End, HIGH_WATER, SayError, Turn, TurnError};
+pub use part::Progress;

@@ -1,0 +1,184 @@
+//! What an end does with metadata.
+ghost use Rattle.std.specs.Prelude.{◌≡◌, ◌<◌, ◌≤◌, option_map, option_copied, IfOk, IfSome};
+ghost use Rattle.bt_metadata.specs.Blocks.{max_metadata};
+ghost use Rattle.bt_end.specs.Ends.{served_size, wanted, with_asked, assembly_of, with_block, brings_mismatch, with_refused, part_kept, metadata_of, progress_of, is_fetching, is_settled, fetched_block};
+ghost use Rattle.bt_end.specs.Sturdy.{IsFetched};
+ghost use Rattle.bt_end.specs.Parts.{part_of, shown_slice, IsReplyOf};
+ghost use Rattle.bt_metadata.specs.Replies.{IsBounded};
+
+use crate::config::Window;
+use bt_metadata::{Assembly, NewError, Reply, Server, Unfinished, block_count};
+use std::alloc::{AllocError, Allocator};
+
+/// What an end does with metadata.
+#[derive(Drop)]
+pub enum Part<A: Allocator> {
+    /// Neither serves nor fetches it.
+    Watching,
+    Serving(Server<A>),
+    /// Fetches it; its size isn't known yet.
+    Awaiting,
+    Fetching(Assembly<A>),
+    Fetched(Vec<u8, A>),
+}
+
+/// How far an end has come with the metadata that it fetches.
+#[derive(Clone, Copy, PartialEq, Eq, Debug)]
+pub struct Progress {
+    /// The size of the metadata in bytes.
+    pub size: u64,
+    /// How many blocks the metadata has.
+    pub blocks: usize,
+    /// How many of them are held.
+    pub held: usize,
+}
+
+impl<A: Allocator + Copy> Part<A> {
+    /// The size of the metadata that is served.
+    pub fn served_size(&self) -> Option<u64>
+        ensures value { result ≡ served_size (part_of self.now) }
+    {
+        match self {
+            Part::Serving(server) => Some(server.size()),
+            _ => None,
+        }
+    }
+
+    /// The metadata that was fetched.
+    pub fn metadata(&self) -> Option<&[u8]>
+        ensures { shown_slice result ≡ metadata_of (part_of self.now) }
+    {
+        match self {
+            Part::Fetched(metadata) => Some(metadata.as_slice()),
+            _ => None,
+        }
+    }
+
+    /// The block of this number, where it is held by an end that is fetching.
+    pub fn block(&self, piece: u32) -> Option<&[u8]>
+        ensures value { option_copied result ≡ fetched_block (part_of self.now) piece }
+        ensures assembly { IsFetched (part_of self.now) }
+    {
+        match self {
+            Part::Fetching(assembly) => assembly.block(piece),
+            _ => None,
+        }
+    }
+
+    /// The answer to a request for a block.
+    pub fn answer(&self, piece: u32) -> Reply<'_>
+        ensures reply { IsReplyOf (part_of self.now) piece result }
+        ensures bounds { IsBounded result }
+    {
+        match self {
+            Part::Serving(server) => server.answer(piece),
+            _ => Reply::Reject,
+        }
+    }
+
+    /// An assembly for metadata of this size, where one is awaited and the size is one of metadata.
+    pub fn assembly(
+        &self,
+        alloc: A,
+        info_hash: [u8; 20],
+        size: Option<u64>,
+    ) -> Result<Option<Assembly<A>>, AllocError>
+        ensures { IfOk result (λ a. a ≡ assembly_of info_hash (part_of self.now) size) }
+    {
+        let (Part::Awaiting, Some(size)) = (self, size) else {
+            return Ok(None);
+        };
+        match Assembly::new(alloc, info_hash, size) {
+            Ok(assembly) => Ok(Some(assembly)),
+            Err(NewError::BadSize) => Ok(None),
+            Err(NewError::Memory) => Err(AllocError),
+        }
+    }
+
+    /// The next block to ask for, which is asked from then on: none while as many are asked as may be at once.
+    pub fn ask(&mut self, window: Window) -> Option<u32>
+        ensures value { result ≡ wanted window (part_of self.old) }
+        ensures state { part_of self.new ≡ with_asked result (part_of self.old) }
+    {
+        match self {
+            Part::Fetching(assembly) if assembly.asked() < window.get() => assembly.ask(),
+            _ => None,
+        }
+    }
+
+    /// Holds a block that was asked for, and says whether the blocks are those of other metadata. The metadata is there when
+    /// each block is held and the SHA-1 is the info hash; where it is another, all starts over.
+    pub fn with_block(self, piece: u32, total: u64, block: &[u8]) -> (Part<A>, bool)
+        ensures part { part_of result.0 ≡ with_block piece total block.now (part_of self) }
+        ensures mismatch { result.1 ≡ brings_mismatch piece total block.now (part_of self) }
+    {
+        match self {
+            Part::Fetching(mut assembly) => {
+                let _ = assembly.data(piece, total, block);
+                match assembly.finish() {
+                    Ok(metadata) => (Part::Fetched(metadata), false),
+                    Err(Unfinished::Lacking(assembly)) => (Part::Fetching(assembly), false),
+                    Err(Unfinished::Mismatch(assembly)) => (Part::Fetching(assembly), true),
+                }
+            }
+            other => (other, false),
+        }
+    }
+
+    /// Notes that a block that was asked for is refused.
+    pub fn reject(&mut self, piece: u32)
+        ensures { part_of self.new ≡ with_refused piece (part_of self.old) }
+    {
+        if let Part::Fetching(assembly) = self {
+            let _ = assembly.reject(piece);
+        }
+    }
+
+    /// Forgets what is asked and rejected, for a new connection.
+    pub fn disconnect(&mut self)
+        ensures { part_of self.new ≡ part_kept (part_of self.old) }
+    {
+        if let Part::Fetching(assembly) = self {
+            assembly.disconnect();
+        }
+    }
+
+    /// How far the fetch has come; nothing where no size is known, or nothing is fetched.
+    pub fn progress(&self) -> Option<Progress>
+        ensures { result ≡ progress_of (part_of self.now) }
+    {
+        match self {
+            Part::Fetching(assembly) => Some(Progress {
+                size: assembly.size(),
+                blocks: assembly.blocks(),
+                held: assembly.held(),
+            }),
+            Part::Fetched(metadata) => Some(Progress {
+                size: metadata.len() as u64,
+                blocks: block_count(metadata.len()),
+                held: block_count(metadata.len()),
+            }),
+            _ => None,
+        }
+    }
+
+    /// Whether it fetches metadata that isn't there yet.
+    pub fn is_fetching(&self) -> bool
+        ensures { result ≡ is_fetching (part_of self.now) }
+    {
+        match self {
+            Part::Awaiting | Part::Fetching(_) => true,
+            _ => false,
+        }
+    }
+
+    /// Whether each block is held, or the peer rejected it.
+    pub fn is_settled(&self) -> bool
+        ensures { result ≡ is_settled (part_of self.now) }
+    {
+        match self {
+            Part::Fetching(assembly) => assembly.is_settled(),
+            _ => false,
+        }
+    }
+}

@@ -1,0 +1,125 @@
+//! Messages that are put into an outbox where room for them is made, so that they take no memory.
+ghost use Rattle.std.specs.Prelude.{◌≡◌, ℕ, ◌+◌, ◌-◌, ◌<◌, ◌≤◌, ◌^◌, ◌++◌, ◌∷◌, [], List, length, length as list_length, OnOk, OnErr};
+ghost use Rattle.std.specs.Option.{ForSome};
+ghost use Rattle.bt_bencode.specs.Bencoding.{ben};
+ghost use Rattle.bt_ext.specs.Made.{IsMade, message_tree, handshake_tree};
+ghost use Rattle.bt_wire.specs.Messages.{framed as framed_by, seen, spell_fields};
+ghost use Rattle.bt_wire.specs.Numbers.{be32};
+ghost use Rattle.bt_end.specs.Parts.{framed};
+
+use bt_ext::{DictText, ExtId, Kind, handshake_text, message_text};
+use bt_feed::{Memory, Outbox};
+use bt_wire::Fields;
+use std::alloc::Allocator;
+
+/// As many bytes as a message with a block may have, and its dictionary as `DictText` has it: more than any message that an
+/// end makes.
+pub const ROOM: usize = 16_550;
+
+/// Appends bytes to those that are to be sent.
+pub fn put<A: Allocator>(outbox: &mut Outbox<A>, bytes: &[u8])
+    requires { length bytes.now ≤ outbox.old.room }
+    ensures bytes { outbox.new.bytes ≡ outbox.old.bytes ++ bytes.now }
+    ensures room { outbox.old.room ≤ outbox.new.room + length bytes.now }
+{
+    match outbox.queue(bytes) {
+        Ok(()) => {}
+        Err(_) => unreachable!(),
+    }
+}
+
+/// Puts an extended message of a dictionary and the bytes after it.
+fn put_extended<A: Allocator>(outbox: &mut Outbox<A>, id: u8, dict: &[u8], rest: &[u8])
+    requires dict { length dict.now ≤ 160 }
+    requires rest { length rest.now ≤ 16384 }
+    requires room { 6 + length dict.now + length rest.now ≤ outbox.old.room }
+    ensures bytes { outbox.new.bytes ≡ outbox.old.bytes ++ framed id (dict.now ++ rest.now) }
+    ensures bound { length outbox.new.bytes ≤ length outbox.old.bytes + (6 + length dict.now + length rest.now) }
+    ensures room { outbox.old.room ≤ outbox.new.room + (6 + length dict.now + length rest.now) }
+{
+    let length = (2 + dict.len() + rest.len()) as u32;
+    put(outbox, &length.to_be_bytes());
+    put(outbox, &[20, id]);
+    put(outbox, dict);
+    put(outbox, rest);
+}
+
+/// Puts a metadata message, with these bytes after its dictionary.
+pub fn put_message<A: Allocator>(outbox: &mut Outbox<A>, id: u8, kind: Kind, rest: &[u8])
+    requires kind { IsMade kind }
+    requires rest { length rest.now ≤ 16384 }
+    requires room { 166 + length rest.now ≤ outbox.old.room }
+    ensures bytes { outbox.new.bytes ≡ outbox.old.bytes ++ framed id (ben (message_tree kind) ++ rest.now) }
+    ensures bound { length outbox.new.bytes ≤ length outbox.old.bytes + (166 + length rest.now) }
+    ensures room { outbox.old.room ≤ outbox.new.room + (166 + length rest.now) }
+{
+    let mut text: DictText = [0; 160];
+    let start = message_text(kind, &mut text);
+    put_extended(outbox, id, &text[start..], rest);
+}
+
+/// Puts an extended handshake, with the end's own id, if it has one, and the size of metadata that it serves, if it serves any.
+pub fn put_handshake<A: Allocator>(outbox: &mut Outbox<A>, id: Option<ExtId>, size: Option<u64>)
+    requires room { 166 ≤ outbox.old.room }
+    ensures bytes { outbox.new.bytes ≡ outbox.old.bytes ++ framed 0 (ben (handshake_tree id size) ++ []) }
+    ensures bound { length outbox.new.bytes ≤ length outbox.old.bytes + 166 }
+    ensures room { outbox.old.room ≤ outbox.new.room + 166 }
+{
+    let mut text: DictText = [0; 160];
+    let start = handshake_text(id, size, &mut text);
+    put_extended(outbox, 0, &text[start..], &[]);
+}
+
+/// Puts two numbers and what follows them.
+fn put_two<A: Allocator>(outbox: &mut Outbox<A>, index: u32, begin: u32, rest: &[u8])
+    requires { 8 + length rest.now ≤ outbox.old.room }
+    ensures { outbox.new.bytes ≡ outbox.old.bytes ++ (be32 index ++ (be32 begin ++ rest.now)) }
+{
+    put(outbox, &index.to_be_bytes());
+    put(outbox, &begin.to_be_bytes());
+    put(outbox, rest);
+}
+
+/// Puts the bytes of a message's fields.
+fn put_fields<A: Allocator>(outbox: &mut Outbox<A>, fields: &Fields)
+    requires { length (spell_fields (seen fields.now)) ≤ outbox.old.room }
+    ensures { outbox.new.bytes ≡ outbox.old.bytes ++ spell_fields (seen fields.now) }
+{
+    match fields {
+        Fields::Nothing => {}
+        Fields::Index(index) => put(outbox, &index.to_be_bytes()),
+        Fields::Part {
+            index,
+            begin,
+            length,
+        } => put_two(outbox, *index, *begin, &length.to_be_bytes()),
+        Fields::Block {
+            index,
+            begin,
+            block,
+        } => put_two(outbox, *index, *begin, block),
+        Fields::Port(port) => put(outbox, &port.to_be_bytes()),
+        Fields::Field(bits) => put(outbox, bits),
+        Fields::Payload(payload) => put(outbox, payload),
+    }
+}
+
+/// Makes room for a message that isn't extended, and puts it there. The bytes after its length are `length`.
+pub fn put_plain<A: Allocator>(
+    outbox: &mut Outbox<A>,
+    length: u32,
+    id: Option<u8>,
+    fields: &Fields,
+) -> Result<(), Memory>
+    requires { length ≡ list_length (framed_by id (spell_fields (seen fields.now))) }
+    ensures ok { OnOk result (outbox.new.bytes ≡ outbox.old.bytes ++ (be32 length ++ framed_by id (spell_fields (seen fields.now)))) }
+    ensures err { OnErr result (outbox.new.bytes ≡ outbox.old.bytes) }
+{
+    outbox.reserve(4 + length as usize)?;
+    put(outbox, &length.to_be_bytes());
+    if let Some(id) = id {
+        put(outbox, &[id]);
+        put_fields(outbox, fields);
+    }
+    Ok(())
+}

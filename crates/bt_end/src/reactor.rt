@@ -1,0 +1,458 @@
+//! What an end does at each item, over what it sends.
+ghost use Rattle.std.specs.Prelude.{◌≡◌, ◌+◌, ◌<◌, ◌≤◌, Some, true, false, length, length as list_length, IfOk, IfSome, OnErr};
+ghost use Rattle.bt_bencode.specs.Trees.{dictionary};
+ghost use Rattle.bt_ext.specs.Payloads.{seen};
+ghost use Rattle.bt_feed.specs.Views.{item_of};
+ghost use Rattle.bt_wire.specs.Legal.{IsLegal};
+ghost use Rattle.bt_wire.specs.Messages.{body};
+ghost use Rattle.bt_end.specs.Ends.{agreed, belief, unopened, renewed, announced, queueing, greeted, peer_id, all_wanted, requesting, then_asked, replied, one_more, block_taken, by_kind, at_extended, react, is_hopeless};
+ghost use Rattle.bt_end.specs.Halves.{extended_takes_memory, takes_memory, is_extended, tells_pieces, unsaid};
+ghost use Rattle.bt_metadata.specs.Blocks.{window};
+ghost use Rattle.bt_end.specs.Parts.{part_of};
+ghost use Rattle.bt_end.specs.Reactors.{end_of, learned, IsPlan, IsPlanOf, IsLesson, IsReacted, IsQueued, IsSpoken, dict_in};
+
+use crate::config::{Announce, Window};
+use crate::end::{HIGH_WATER, SayError};
+use crate::part::Part;
+use crate::queueing::{ROOM, put, put_handshake, put_message, put_plain};
+use bt_bencode::DictRef;
+use bt_ext::{ExtId, ExtView, Kind, Registered, Table, kind_ref, metadata_size_ref};
+use bt_feed::{Memory, Outbox, View};
+use bt_metadata::{Assembly, Reply, WINDOW};
+use bt_wire::{
+    Context, Handshake, Message, MessageView, Order, Own, Reserved, legal_length, negotiate, next,
+    next_of_view,
+};
+use std::alloc::Allocator;
+use std::mem;
+
+/// An end but for its feed.
+#[derive(Drop)]
+pub struct Reactor<A: Allocator> {
+    pub alloc: A,
+    pub own: Own,
+    /// The one that it sends.
+    pub handshake: Handshake,
+    pub announce: Announce,
+    pub window: Window,
+    /// The context in which it receives, once the peer's handshake is handled.
+    pub context: Option<Context>,
+    pub receives: Order,
+    pub sends: Order,
+    pub table: Table<A>,
+    pub part: Part<A>,
+    /// How often, on this connection, the blocks that came were those of other metadata.
+    pub mismatches: u64,
+    pub outbox: Outbox<A>,
+}
+
+/// What memory was taken for, before an item is handled.
+#[derive(Drop)]
+pub enum Plan<A: Allocator> {
+    /// Room in the outbox alone, or nothing.
+    Nothing,
+    /// The table as it will be, and an assembly that begins.
+    Learn {
+        table: Table<A>,
+        assembly: Option<Assembly<A>>,
+    },
+}
+
+/// Whether memory is taken for an item.
+fn takes_memory(view: &View) -> bool
+    ensures { result ≡ takes_memory (item_of view.now) }
+{
+    match view {
+        View::Handshake(_) => true,
+        View::Message(MessageView::Extended(ExtView::Raw { .. })) => false,
+        View::Message(MessageView::Extended(_)) => true,
+        View::Message(_) => false,
+    }
+}
+
+/// A count with one more, if there is one more. It stays at 2^64 - 1.
+fn one_more(more: bool, count: u64) -> u64
+    ensures { result ≡ one_more more count }
+{
+    if more { count.saturating_add(1) } else { count }
+}
+
+/// The dictionary of an extended handshake.
+fn dict_in<'a>(view: &View<'a>) -> Option<DictRef<'a>>
+    ensures { dict_in (item_of view.now) result }
+{
+    match view {
+        View::Message(MessageView::Extended(ExtView::Handshake { dict, .. })) => Some(*dict),
+        _ => None,
+    }
+}
+
+impl<A: Allocator + Copy> Reactor<A> {
+    /// An end before its first connection.
+    pub fn new(
+        alloc: A,
+        own: Own,
+        handshake: Handshake,
+        announce: Announce,
+        window: Window,
+        part: Part<A>,
+        outbox: Outbox<A>,
+    ) -> Reactor<A>
+        ensures end { end_of result ≡ unopened own handshake announce window (part_of part) }
+        ensures outbox { result.outbox ≡ outbox }
+    {
+        Reactor {
+            alloc,
+            own,
+            handshake,
+            announce,
+            window,
+            context: None,
+            receives: Order::Fresh,
+            sends: Order::Fresh,
+            table: Table::new(alloc),
+            part,
+            mismatches: 0,
+            outbox,
+        }
+    }
+
+    /// The id under which the peer wants metadata messages.
+    fn peer_id(&self) -> Option<u8>
+        ensures value { result ≡ peer_id (end_of self.now) }
+        ensures above { IfSome result (λ id. 0 < id) }
+    {
+        self.table.id_of(b"ut_metadata")
+    }
+
+    /// Queues what is said of the pieces.
+    fn announce(&mut self)
+        requires room { 5 ≤ self.old.outbox.room }
+        ensures { IsReacted self.old self.new (queueing (end_of self.old) (announced self.old.announce)) }
+    {
+        match self.announce {
+            Announce::Silent => {}
+            Announce::All => {
+                put(&mut self.outbox, &[0, 0, 0, 1, 14]);
+                self.sends = Order::Past;
+            }
+            Announce::Nothing => {
+                put(&mut self.outbox, &[0, 0, 0, 1, 15]);
+                self.sends = Order::Past;
+            }
+        }
+    }
+
+    /// Opens the end, and queues what is said first.
+    fn greet(&mut self, context: Context)
+        requires room { 16550 ≤ self.old.outbox.room }
+        ensures { IsReacted self.old self.new (greeted (end_of self.old) context) }
+    {
+        let Context { ext, fast, .. } = context;
+        self.context = Some(context);
+        self.receives = Order::Fresh;
+        if ext {
+            let id = self.own.reg.metadata();
+            let size = self.part.served_size();
+            put_handshake(&mut self.outbox, id, size);
+        }
+        if fast {
+            self.announce();
+        }
+    }
+
+    /// Queues requests for the blocks to ask for, under the peer's id.
+    fn request(&mut self, id: u8)
+        requires id { (0 < id) × (peer_id (end_of self.old) ≡ Some id) }
+        requires room { 16550 ≤ self.old.outbox.room }
+        ensures { IsReacted self.old self.new (requesting (end_of self.old) (all_wanted window self.old.window (part_of self.old.part))) }
+    {
+        'requests: for _request in 0..WINDOW {
+            let Some(piece) = self.part.ask(self.window) else {
+                return;
+            };
+            put_message(&mut self.outbox, id, Kind::Request(piece), &[]);
+        }
+    }
+
+    /// Queues requests, as long as there is a block to ask for.
+    fn ask(&mut self)
+        requires room { 16550 ≤ self.old.outbox.room }
+        ensures { IsReacted self.old self.new (then_asked (end_of self.old)) }
+    {
+        if self.own.reg.metadata().is_none() {
+            return;
+        }
+        let Some(id) = self.peer_id() else {
+            return;
+        };
+        self.request(id);
+    }
+
+    /// Queues the answer to a request.
+    fn reply(&mut self, piece: u32)
+        requires room { 16550 ≤ self.old.outbox.room }
+        ensures { IsReacted self.old self.new (replied (end_of self.old) piece) }
+    {
+        let Some(id) = self.peer_id() else {
+            return;
+        };
+        match self.part.answer(piece) {
+            Reply::Data { total, block } => {
+                put_message(&mut self.outbox, id, Kind::Data { piece, total }, block);
+            }
+            Reply::Reject => put_message(&mut self.outbox, id, Kind::Reject(piece), &[]),
+        }
+    }
+
+    /// Takes the peer's names and ids, and begins the assembly.
+    fn learn(&mut self, table: Table<A>, assembly: Option<Assembly<A>>)
+        ensures end { end_of self.new ≡ learned (end_of self.old) table assembly }
+        ensures outbox { self.new.outbox ≡ self.old.outbox }
+    {
+        self.table = table;
+        if let Some(assembly) = assembly {
+            self.part = Part::Fetching(assembly);
+        }
+    }
+
+    /// Takes a block of the metadata that is fetched.
+    fn take_block(&mut self, piece: u32, total: u64, block: &[u8])
+        ensures end { end_of self.new ≡ block_taken (end_of self.old) piece total block.now }
+        ensures outbox { self.new.outbox ≡ self.old.outbox }
+    {
+        let part = mem::replace(&mut self.part, Part::Awaiting);
+        let (part, is_other) = part.with_block(piece, total, block);
+        self.part = part;
+        self.mismatches = one_more(is_other, self.mismatches);
+    }
+
+    fn handle_metadata(&mut self, kind: Kind, block: &[u8])
+        requires room { 16550 ≤ self.old.outbox.room }
+        ensures { IsReacted self.old self.new (by_kind (end_of self.old) kind block.now) }
+    {
+        match kind {
+            Kind::Request(piece) => self.reply(piece),
+            Kind::Data { piece, total } => {
+                self.take_block(piece, total, block);
+                self.ask();
+            }
+            Kind::Reject(piece) => {
+                self.part.reject(piece);
+                self.ask();
+            }
+            Kind::Other | Kind::Malformed => {}
+        }
+    }
+
+    fn handle_extended(&mut self, ext: &ExtView, plan: Plan<A>)
+        requires plan { IsPlanOf (end_of self.old) (seen ext.now) plan }
+        requires room { extended_takes_memory (seen ext.now) ≡ true → 16550 ≤ self.old.outbox.room }
+        ensures { IsReacted self.old self.new (at_extended (end_of self.old) (seen ext.now)) }
+    {
+        match ext {
+            ExtView::Handshake { .. } => {
+                if let Plan::Learn { table, assembly } = plan {
+                    self.learn(table, assembly);
+                }
+                self.ask();
+            }
+            ExtView::Metadata { dict, rest } => self.handle_metadata(kind_ref(dict), rest),
+            ExtView::Raw { .. } => {}
+        }
+    }
+
+    /// The table and the assembly that an extended handshake with this dictionary makes.
+    fn lesson(&self, dict: &DictRef) -> Result<Plan<A>, Memory>
+        ensures { IfOk result (λ plan. IsLesson (end_of self.now) (dictionary dict.now.tree.0) plan) }
+    {
+        let Ok(mut table) = self.table.copy() else {
+            return Err(Memory);
+        };
+        let Ok(()) = table.apply_ref(dict) else {
+            return Err(Memory);
+        };
+        let hash = self.handshake.info_hash;
+        match self
+            .part
+            .assembly(self.alloc, hash, metadata_size_ref(dict))
+        {
+            Ok(assembly) => Ok(Plan::Learn { table, assembly }),
+            Err(_) => Err(Memory),
+        }
+    }
+
+    /// Takes the memory for what handling an item will need. The end isn't changed.
+    pub fn plan(&mut self, view: &View) -> Result<Plan<A>, Memory>
+        ensures ok { IfOk result (λ plan. IsPlan (end_of self.old) (item_of view.now) plan) }
+        ensures room { IfOk result (λ plan. takes_memory (item_of view.now) ≡ true → 16550 ≤ self.new.outbox.room) }
+        ensures end { end_of self.new ≡ end_of self.old }
+        ensures bytes { self.new.outbox.bytes ≡ self.old.outbox.bytes }
+        ensures memory { OnErr result (takes_memory (item_of view.now) ≡ true) }
+    {
+        if takes_memory(view) {
+            self.outbox.reserve(ROOM)?;
+        }
+        match dict_in(view) {
+            Some(dict) => self.lesson(&dict),
+            None => Ok(Plan::Nothing),
+        }
+    }
+
+    /// Handles an item, for which memory was taken. It takes none.
+    pub fn handle(&mut self, view: &View, plan: Plan<A>)
+        requires plan { IsPlan (end_of self.old) (item_of view.now) plan }
+        requires room { takes_memory (item_of view.now) ≡ true → 16550 ≤ self.old.outbox.room }
+        ensures { IsReacted self.old self.new (react (end_of self.old) (item_of view.now)) }
+    {
+        match view {
+            View::Handshake(handshake) => {
+                let own = self.own;
+                self.greet(negotiate(&own, handshake.reserved));
+            }
+            View::Message(message) => {
+                self.receives = next_of_view(self.receives, message);
+                if let MessageView::Extended(ext) = message {
+                    self.handle_extended(ext, plan);
+                }
+            }
+        }
+    }
+
+    /// What both agreed on; nothing before the peer's handshake.
+    fn agreed(&self) -> Context
+        ensures { result ≡ agreed (end_of self.now) }
+    {
+        match self.context {
+            Some(context) => context,
+            None => negotiate(&self.own, Reserved(0)),
+        }
+    }
+
+    /// The context that it takes the peer to receive in.
+    pub fn belief(&self) -> Context
+        ensures { result ≡ belief (end_of self.now) }
+    {
+        let id = match self.peer_id() {
+            Some(id) => ExtId::new(id),
+            None => None,
+        };
+        let Context { fast, ext, .. } = self.agreed();
+        Context {
+            fast,
+            ext,
+            pieces: self.own.pieces,
+            reg: Registered::new(id),
+            rules: self.own.rules,
+            limit: self.own.limit,
+        }
+    }
+
+    /// Whether a message has a piece index, or is a bitfield.
+    fn tells_pieces(&self, message: &Message) -> bool
+        ensures { result ≡ tells_pieces (end_of self.now) message.now }
+    {
+        match message {
+            Message::Have(_)
+            | Message::Bitfield(_)
+            | Message::Request { .. }
+            | Message::Piece { .. }
+            | Message::Cancel { .. }
+            | Message::Suggest(_)
+            | Message::Reject { .. }
+            | Message::AllowedFast(_) => true,
+            _ => false,
+        }
+    }
+
+    /// Why it says nothing, whatever the message would be judged.
+    fn unsaid(&self, refused: bool, message: &Message) -> Option<SayError>
+        ensures { result ≡ unsaid (end_of self.now) refused (length self.now.outbox.bytes) message.now }
+    {
+        if refused || self.context.is_none() {
+            Some(SayError::NotOpen)
+        } else if self.outbox.bytes().len() >= HIGH_WATER {
+            Some(SayError::Busy)
+        } else if is_extended(message) {
+            Some(SayError::Extended)
+        } else if self.tells_pieces(message) && self.own.pieces.is_none() {
+            Some(SayError::PiecesUnknown)
+        } else {
+            None
+        }
+    }
+
+    /// Puts a message of this length, which may be sent and isn't extended, into the outbox.
+    fn put(&mut self, message: &Message, length: u32) -> Result<(), SayError>
+        requires plain { is_extended message.now ≡ false }
+        requires legal { IsLegal (belief (end_of self.old)) self.old.sends message.now }
+        requires size { length ≡ list_length (body (belief (end_of self.old)) message.now) }
+        ensures { IsQueued self.old message.now result self.new }
+    {
+        let Some(fields) = message.fields() else {
+            unreachable!();
+        };
+        if put_plain(&mut self.outbox, length, message.id(), &fields).is_err() {
+            return Err(SayError::Memory);
+        }
+        self.sends = next(self.sends, message);
+        Ok(())
+    }
+
+    /// Queues a message that the peer, as the end takes it to be, wouldn't refuse, and that isn't extended.
+    fn queue(&mut self, message: &Message) -> Result<(), SayError>
+        requires { is_extended message.now ≡ false }
+        ensures { IsQueued self.old message.now result self.new }
+    {
+        match legal_length(&self.belief(), self.sends, message) {
+            Ok(length) => self.put(message, length),
+            Err(fault) => Err(SayError::Illegal(fault)),
+        }
+    }
+
+    /// Says a message. Each refusal changes nothing.
+    pub fn say(&mut self, refused: bool, message: &Message) -> Result<(), SayError>
+        ensures { IsSpoken self.old refused message.now result self.new }
+    {
+        match self.unsaid(refused, message) {
+            Some(error) => Err(error),
+            None => self.queue(message),
+        }
+    }
+
+    /// Whether it fetches, and on this connection no block can come any more.
+    pub fn is_hopeless(&self) -> bool
+        ensures { result ≡ is_hopeless (end_of self.now) }
+    {
+        let is_closed = match self.context {
+            Some(context) => !context.ext,
+            None => false,
+        };
+        self.part.is_fetching()
+            && (self.own.reg.metadata().is_none() || is_closed || self.part.is_settled())
+    }
+
+    /// The end on a new connection, whose first bytes to be sent are these.
+    pub fn renew(&mut self, outbox: Outbox<A>)
+        ensures end { end_of self.new ≡ renewed (end_of self.old) }
+        ensures outbox { self.new.outbox ≡ outbox }
+    {
+        self.context = None;
+        self.receives = Order::Fresh;
+        self.sends = Order::Fresh;
+        self.table = Table::new(self.alloc);
+        self.part.disconnect();
+        self.mismatches = 0;
+        self.outbox = outbox;
+    }
+}
+
+/// Whether it is a message of the Extension Protocol.
+fn is_extended(message: &Message) -> bool
+    ensures { result ≡ is_extended message.now }
+{
+    match message {
+        Message::Extended(_) => true,
+        _ => false,
+    }
+}

@@ -1,0 +1,12 @@
+use Rattle.std.proofs.Common.{ap, sym, ◌∙◌}
+use Rattle.std.specs.List.{list_all}
+use Rattle.bt_metadata.specs.Assemblies.{AssemblyState, is_settled}
+use Rattle.bt_metadata.specs.Sound.{settles}
+use Rattle.bt_metadata.proofs.Slots.{all_settled-slots}
+use Rattle.bt_metadata.proofs.assembly.Assembly.is_settled.Goals as goal
+
+pub returns : goal.returns
+returns g c =
+    let inside = c.self.inside in
+    c.is_settled.ensures ∙ ap (list_all settles) c.deref.ensures.value ∙ sym (all_settled-slots inside.states.items inside.bytes.items)
+    ∙ ap (λ (a : AssemblyState). list_all is_settled a.slots) c.self.view_is

@@ -1,0 +1,7 @@
+pub mod Blocks
+pub mod Assemblies
+pub mod Unfinished
+pub mod Sound
+pub mod Replies
+pub mod Served
+pub mod Laws

@@ -1,0 +1,81 @@
+-- What is so of every assembly; and for private contracts and the invariant alone, what lies behind one.
+use Rattle.std.specs.Prelude.{◌≡◌, ℕ, ◌<◌, ◌≤◌, Bool, true, false, if◌then◌else◌, List, [], ◌∷◌, length, take, drop, count_by, slice_get, nat_le, Option, Some, None}
+use Rattle.bt_ext.specs.Metadata.{block_count, block_len}
+use Rattle.bt_metadata.specs.Blocks.{block_size, max_metadata, window}
+use Rattle.bt_metadata.specs.Assemblies.{Slot, Lacking, Asked, Rejected, Held, AssemblyState, is_asked}
+use Rattle.bt_metadata.specs.declared.assembly.BlockError.{BlockError}
+use Rattle.bt_metadata.specs.declared.assembly.BlockError.TheVariants.{PieceRange, NotAsked}
+use Rattle.bt_metadata.specs.declared.assembly.Status.{Status}
+use Rattle.bt_metadata.specs.declared.assembly.Status.TheVariants as status
+use Rattle.bt_metadata.specs.declared.assembly.Assembly.TheInside.{Inside}
+
+pub record IsAssembly (a : AssemblyState) : Type 0 where
+  pub least : 0 < a.size
+  pub most : a.size ≤ max_metadata
+  pub count : length a.slots ≡ block_count a.size
+  pub held : (k : ℕ) (b : List ℕ) → slice_get a.slots k ≡ Some (Held b) → length b ≡ block_len a.size k
+  pub asked : count_by is_asked a.slots ≤ window
+
+-- ---- what lies behind an assembly: a status for each block, and the bytes of all
+
+abbrev pub slot_of : Status → List ℕ → Slot
+slot_of status.Lacking b = Lacking
+slot_of status.Asked b = Asked
+slot_of status.Rejected b = Rejected
+slot_of status.Held b = Held b
+
+abbrev pub slots_of : List Status → List ℕ → List Slot
+slots_of [] d = []
+slots_of (s ∷ ss) d = slot_of s (take block_size d) ∷ slots_of ss (drop block_size d)
+
+abbrev pub state_of : List ℕ → List ℕ → List Status → AssemblyState
+state_of info_hash d ss = record { size = length d; info_hash = info_hash; slots = slots_of ss d }
+
+abbrev pub lacks : Status → Bool
+lacks status.Lacking = true
+lacks status.Asked = false
+lacks status.Rejected = false
+lacks status.Held = false
+
+abbrev pub asks : Status → Bool
+asks status.Lacking = false
+asks status.Asked = true
+asks status.Rejected = false
+asks status.Held = false
+
+abbrev pub holds : Status → Bool
+holds status.Lacking = false
+holds status.Asked = false
+holds status.Rejected = false
+holds status.Held = true
+
+abbrev pub settles : Status → Bool
+settles status.Lacking = false
+settles status.Asked = false
+settles status.Rejected = true
+settles status.Held = true
+
+abbrev pub holds_at : Option Status → Bool
+holds_at None = false
+holds_at (Some s) = holds s
+
+abbrev pub kept_status : Status → Status
+kept_status status.Lacking = status.Lacking
+kept_status status.Asked = status.Lacking
+kept_status status.Rejected = status.Lacking
+kept_status status.Held = status.Held
+
+abbrev pub asks_at : Option Status → Bool
+asks_at None = false
+asks_at (Some s) = asks s
+
+-- what is wrong with a number
+abbrev pub error_at : List Status → ℕ → Option BlockError
+error_at ss piece =
+    if nat_le (length ss) piece then Some PieceRange else (if asks_at (slice_get ss piece) then None else Some NotAsked)
+
+pub record IsSound {A : Type 0} (a : Inside A) : Type 0 where
+  pub least : 0 < length a.bytes.items
+  pub most : length a.bytes.items ≤ max_metadata
+  pub count : length a.states.items ≡ block_count (length a.bytes.items)
+  pub asked : count_by asks a.states.items ≤ window

@@ -1,0 +1,77 @@
+//! Metadata that is served in blocks (BEP 9).
+ghost use Rattle.std.specs.Prelude.{◌≡◌, ◌⊎◌, ◌↔◌, ◌<◌, ◌≤◌, length, IfOk, IsErr};
+ghost use Rattle.bt_metadata.specs.Blocks.{max_metadata};
+ghost use Rattle.bt_metadata.specs.Replies.{IsReply, IsBounded};
+
+use crate::assembly::{BLOCK, MAX_METADATA};
+use std::alloc::{Allocator, Global};
+use std::marker::Model;
+use thiserror::Error;
+
+/// Metadata of this size isn't served: it isn't 1 to 67,108,864.
+#[derive(Clone, Copy, PartialEq, Eq, Debug, Error)]
+#[error("the size isn't 1 to 67,108,864")]
+pub struct BadSize;
+
+/// What a request for a block is answered with (BEP 9, "extension message").
+#[derive(Clone, Copy, Debug)]
+pub enum Reply<'a> {
+    /// The block, and the size of the whole metadata in bytes.
+    Data { total: u64, block: &'a [u8] },
+    /// There is no such block.
+    Reject,
+}
+
+/// Metadata that is served, seen as its bytes.
+#[derive(Drop)]
+pub struct Server<A: Allocator = Global> {
+    metadata: Vec<u8, A>,
+}
+
+impl<A: Allocator> Model for Server<A> {
+    ghost use Rattle.std.specs.Prelude.{List, ℕ};
+    ghost use Rattle.bt_metadata.specs.Served.{IsServed};
+
+    ghost Value = { List ℕ };
+
+    ghost view = { λ s. s.metadata.items };
+
+    ghost invariant = { IsServed };
+}
+
+impl<A: Allocator> Server<A> {
+    /// A server of this metadata, which has 1 to `MAX_METADATA` bytes. It takes no memory.
+    pub fn new(metadata: Vec<u8, A>) -> Result<Server<A>, BadSize>
+        ensures ok { IfOk result (λ server. server ≡ metadata.items) }
+        ensures size { IsErr result ↔ ((length metadata.items ≡ 0) ⊎ (max_metadata < length metadata.items)) }
+    {
+        if metadata.is_empty() || metadata.len() > MAX_METADATA {
+            return Err(BadSize);
+        }
+        Ok(Server { metadata })
+    }
+
+    /// The size of the metadata in bytes, 1 to `MAX_METADATA`.
+    pub fn size(&self) -> u64
+        ensures value { result ≡ length self.now }
+        ensures bounds { (0 < result) × (result ≤ max_metadata) }
+    {
+        self.metadata.len() as u64
+    }
+
+    /// The answer to a request for a block: the block where there is one, else a reject.
+    pub fn answer(&self, piece: u32) -> Reply<'_>
+        ensures reply { IsReply self.now piece result }
+        ensures bounds { IsBounded result }
+    {
+        let at = BLOCK * piece as usize;
+        let size = self.metadata.len();
+        if at >= size {
+            return Reply::Reject;
+        }
+        Reply::Data {
+            total: size as u64,
+            block: &self.metadata[at..(at + BLOCK).min(size)],
+        }
+    }
+}
