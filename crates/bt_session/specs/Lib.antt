@@ -1,7 +1,6 @@
-pub mod Blocks
-pub mod Assemblies
-pub mod Unfinished
-pub mod Sound
-pub mod Replies
-pub mod Served
-pub mod Laws
+pub mod MessageLinks
+pub mod ByteLinks
+pub mod LinkLaws
+pub mod Nodes
+pub mod Reports
+pub mod Runs

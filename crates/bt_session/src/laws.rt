@@ -1,17 +1,36 @@
-//! Laws over the definitions alone.
-ghost use Rattle.bt_session.specs.Laws.{WholeIsServed, ServedIsTaken, ServedIsHeld};
+//! Laws of the links of two ends, over the definitions alone.
+ghost use Rattle.bt_session.specs.LinkLaws.{ByteLinkIsMessageLink, MessageLinkIsByteLink, NothingIsRefused, HandledInOrder, FetchedIsServed, FewStepsStaySmall, OutcomesAreOne, QueuedMayBeSent};
 
-/// An assembly whose held blocks are those of metadata of its size has that metadata, once each block is held.
-pub fn whole_is_served()
-    ensures { WholeIsServed }
+/// Two ends over bytes do what two ends over values do.
+///
+/// However the bytes are cut and whenever they come, the outcomes are the same, the ends are, and so are the items that each
+/// sends and handles on each connection.
+pub fn links_agree()
+    ensures bytes { ByteLinkIsMessageLink }
+    ensures messages { MessageLinkIsByteLink }
 {}
 
-/// An assembly takes the block that it asked for from a server of metadata of its size.
-pub fn served_is_taken()
-    ensures { ServedIsTaken }
+/// Two honest ends never refuse each other.
+///
+/// The items that an end handled on a connection are a prefix of those that the other one sent. The blocks and the metadata
+/// that an end fetched are those that the other one serves.
+pub fn honest_ends()
+    ensures accepted { NothingIsRefused }
+    ensures in_order { HandledInOrder }
+    ensures fetched { FetchedIsServed }
 {}
 
-/// An assembly that holds blocks of a server's metadata alone does so when the server's block has come.
-pub fn served_is_held()
-    ensures { ServedIsHeld }
+/// In 4,294,967,296 steps no direction of a connection has 2^62 bytes.
+pub fn runs_stay_small()
+    ensures { FewStepsStaySmall }
+{}
+
+/// Steps have one list of outcomes.
+pub fn one_outcome()
+    ensures { OutcomesAreOne }
+{}
+
+/// Each message that an end queues may be sent in the context that it believes the other end to have.
+pub fn queued_may_be_sent()
+    ensures { QueuedMayBeSent }
 {}

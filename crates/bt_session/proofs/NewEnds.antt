@@ -1,0 +1,73 @@
+-- An end that is made of a config is a new one.
+use Rattle.std.proofs.Common.{◌≡◌, ℕ, ◌^◌, ◌<◌, Bool, true, false, ◌||◌, ltb, eqb, if◌then◌else◌, List, [], length, Option, Some, None, IfSome, is_none, refl, subst, ap}
+use Rattle.std.proofs.lemmas.Bool.{ltb-false}
+use Rattle.std.specs.Prelude.{unwrap_or}
+use Rattle.std.specs.Option.{ForSome}
+use Rattle.std.specs.Global.{Global}
+use Rattle.bt_ext.proofs.Entries.{above_0}
+use Rattle.bt_ext.specs.Ids.{metadata_id}
+use Rattle.bt_metadata.specs.Blocks.{max_metadata}
+use Rattle.bt_end.specs.Configs.{config_error, is_bad_limit, is_bad_role, end_for, part_for}
+use Rattle.bt_session.specs.LinkLaws.{source_of, IsMetadata, IsFirstPart, IsNew, AreMatched}
+use Rattle.bt_session.specs.Reports.{DoMatch}
+use Rattle.bt_end.specs.declared.config.Config.{Config}
+use Rattle.bt_end.specs.declared.config.EndError.TheVariants.{BadLimit, BadConfig, BadSize}
+use Rattle.bt_end.specs.declared.config.Role.{Role}
+use Rattle.bt_end.specs.declared.config.Role.TheVariants.{Watch, Serve, Fetch}
+
+no_error : (x y z : Bool) → (if x then Some BadLimit else (if y then Some BadConfig else (if z then Some BadSize else None))) ≡ None → (x ≡ false) × (y ≡ false) × (z ≡ false)
+no_error true y z e = absurd cc
+no_error false true z e = absurd cc
+no_error false false true e = absurd cc
+no_error false false false e = (refl, refl, refl)
+
+neither : (x y : Bool) → (x || y) ≡ false → (x ≡ false) × (y ≡ false)
+neither true y e = absurd cc
+neither false y e = (refl, e)
+
+above_zero : (n : ℕ) → eqb n 0 ≡ false → 0 < n
+above_zero n e = above_0 n e
+
+sized : (role : Role Global) → is_bad_role role ≡ false → ForSome (source_of (part_for role)) (λ metadata. IsMetadata metadata)
+sized Watch e m h = absurd cc
+sized Fetch e m h = absurd cc
+sized (Serve metadata) e m h =
+    let parts = neither (eqb (length metadata.items) 0) (ltb max_metadata (length metadata.items)) e in
+    let same : metadata.items ≡ m = cc in
+    let is : IsMetadata metadata.items = record { least = above_zero (length metadata.items) parts.0; most = ltb-false max_metadata (length metadata.items) parts.1 } in
+    subst (λ (x : List ℕ). IsMetadata x) same is
+
+first : (role : Role Global) → IsFirstPart (part_for role)
+first Watch = tt
+first (Serve metadata) = tt
+first Fetch = tt
+
+hash_length : (o : Option (List ℕ)) → is_none o ≡ false → IfSome o (λ h. length h ≡ 20) → (o ≡ Some (unwrap_or o [])) × (length (unwrap_or o []) ≡ 20)
+hash_length (Some h) e l = (refl, l)
+hash_length None e l = absurd cc
+
+some_within : (o : Option ℕ) → IfSome o (λ n. n < 256) → ForSome o (λ n. n < 256)
+some_within (Some m) h n e = let same : m ≡ n = cc in subst (λ (x : ℕ). x < 256) same h
+some_within None h n e = absurd cc
+
+pub new_of : (c : Config Global) → length c.peer_id ≡ 20 → c.own.reserved.0 < 2 ^ 64 → IfSome c.own.info_hash (λ h. length h ≡ 20) → IfSome (metadata_id c.own.reg) (λ n. n < 256) → config_error c ≡ None → IsNew (end_for c)
+new_of c peer reserved hash id e =
+    let none = no_error (is_bad_limit c.own.limit) (is_none c.own.info_hash) (is_bad_role c.role) e in
+    let limits = neither (ltb c.own.limit 32768) (ltb 1048576 c.own.limit) none.0 in
+    let h = hash_length c.own.info_hash none.1 hash in
+    record {
+      is = record {
+        handshake = record { reserved = reserved; info_hash = h.1; peer_id = peer };
+        hash = h.0;
+        reserved = refl;
+        least = ltb-false c.own.limit 32768 limits.0;
+        most = ltb-false 1048576 c.own.limit limits.1;
+        id = some_within (metadata_id c.own.reg) id;
+        serves = sized c.role none.2;
+      };
+      unopened = refl;
+      part = first c.role;
+    }
+
+pub matched_ends : (c d : Config Global) → DoMatch c d → AreMatched (end_for c) (end_for d)
+matched_ends c d h = record { hash = ap (λ (o : Option (List ℕ)). unwrap_or o []) h.alike.hash; limit = h.alike.limit; rules = h.alike.rules; pieces = h.alike.pieces }

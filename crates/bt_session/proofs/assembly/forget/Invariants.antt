@@ -1,7 +1,0 @@
--- Those before this one are kept.
-use Rattle.std.proofs.Common.{◌≡◌, ◌++◌, map, take, drop}
-use Rattle.bt_session.specs.Sound.{kept_status}
-use Rattle.bt_session.proofs.assembly.forget.Given as goal
-
-abbrev pub invariant-loop-state : goal.invariant-loop-state
-invariant-loop-state l = l.states ≡ map kept_status (take l.state-index l.fn.states) ++ drop l.state-index l.fn.states

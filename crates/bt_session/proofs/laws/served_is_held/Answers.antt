@@ -1,5 +1,0 @@
-use Rattle.bt_session.proofs.LawProofs.{served_is_held}
-use Rattle.bt_session.proofs.laws.served_is_held.Goals as goal
-
-pub returns : goal.returns
-returns c = served_is_held

@@ -1,0 +1,178 @@
+//! An end of a link, with the bytes on their way to it and the items that it sent: each step of a run calls one of its methods.
+ghost use Rattle.std.specs.Prelude.{◌≡◌, ◌-◌, ◌^◌, ◌<◌, ◌≤◌, ◌++◌, ◌∷◌, [], length, drop, min, IfOk};
+ghost use Rattle.bt_wire.specs.declared.item.Item.TheVariants as items;
+ghost use Rattle.bt_end.specs.Ends.{renewed};
+ghost use Rattle.bt_session.specs.Nodes.{IsNodeOf, MayHandle, IsRecorded, IsStop};
+ghost use Rattle.bt_session.specs.ByteLinks as links;
+
+use crate::link::Outcome;
+use bt_end::{End, SayError, Turn, TurnError};
+use bt_feed::{Memory, Outbox};
+use bt_wire::{Context, Front, Item, Message, Order, copy_message, next, read_front};
+use std::alloc::{AllocError, Global};
+use std::mem;
+
+/// An end of the link.
+#[derive(Drop)]
+pub struct Node {
+    pub end: End,
+    /// The delivered bytes that its feed hasn't taken.
+    pub untaken: Outbox,
+    /// What it sent on this connection.
+    pub sent: Vec<Item>,
+    /// How many items it handled on this connection.
+    pub handled: u64,
+}
+
+/// The bytes after the first `n`.
+fn rest(bytes: &[u8], n: usize) -> &[u8]
+    requires { n ≤ length bytes.now }
+    ensures { result.now ≡ drop n bytes.now }
+{
+    &bytes[n..]
+}
+
+/// Adds the messages that `bytes` spell to `sent`, where `first` is the order of the first one.
+fn record(
+    alloc: Global,
+    context: &Context,
+    first: Order,
+    bytes: &[u8],
+    sent: &mut Vec<Item>,
+) -> Result<(), AllocError>
+    requires { context.now.limit < 2 ^ 32 }
+    ensures { IfOk result (λ _. IsRecorded context.now first bytes.now sent.old.items sent.new.items) }
+{
+    let mut order = first;
+    let mut at = 0;
+    'messages: loop {
+        match read_front(context, order, 0, rest(bytes, at)) {
+            Front::Whole(view, length) => {
+                let message = copy_message(alloc, &view)?;
+                order = next(order, &message);
+                sent.push(Item::Message(message))?;
+                at += length;
+            }
+            Front::Refused(_) => return Ok(()),
+            Front::Partial => return Ok(()),
+        }
+    }
+}
+
+/// The outcome of a turn that handled nothing.
+fn stopped(error: TurnError) -> Result<Outcome, Memory>
+    ensures { IfOk result (λ o. IsStop error o) }
+{
+    match error {
+        TurnError::Refused(refusal) => Ok(Outcome::Refused(refusal)),
+        TurnError::Busy => Ok(Outcome::Busy),
+        TurnError::Memory => Err(Memory),
+    }
+}
+
+impl Node {
+    /// An end at the start of a connection.
+    pub fn first(alloc: Global, end: End) -> Result<Node, Memory>
+        ensures { IfOk result (λ n. (n.end ≡ end) × (n.untaken.bytes ≡ []) × (n.sent.items ≡ items.Handshake end.end.handshake ∷ []) × (n.handled ≡ 0)) }
+    {
+        let handshake = end.handshake();
+        let mut sent = Vec::new(alloc);
+        if sent.push(Item::Handshake(handshake)).is_err() {
+            return Err(Memory);
+        }
+        Ok(Node {
+            end,
+            untaken: Outbox::new(alloc),
+            sent,
+            handled: 0,
+        })
+    }
+
+    /// The feed takes of the delivered bytes what it may.
+    fn feed(&mut self)
+        ensures { (x : links.Node) → IsNodeOf self.old x → IsNodeOf self.new (links.fed x) }
+    {
+        let taken = self.end.receive(self.untaken.bytes());
+        self.untaken.drop_front(taken);
+    }
+
+    /// The end handles an item, if one is there.
+    fn handle(&mut self, alloc: Global) -> Result<Outcome, Memory>
+        ensures { IfOk result (λ o. (x : links.Node) → IsNodeOf self.old x → MayHandle x → (y : links.Node) × links.TurnGives x o y × IsNodeOf self.new y) }
+    {
+        let before = self.end.outgoing().len();
+        let order = self.end.sending();
+        match self.end.turn() {
+            Ok(Turn::Handled) => {
+                self.handled = self.handled.saturating_add(1);
+                let context = self.end.belief();
+                let queued = rest(self.end.outgoing(), before);
+                match record(alloc, &context, order, queued, &mut self.sent) {
+                    Ok(()) => Ok(Outcome::Handled),
+                    Err(_) => Err(Memory),
+                }
+            }
+            Ok(Turn::Idle) => Ok(Outcome::Idle),
+            Err(error) => stopped(error),
+        }
+    }
+
+    /// The end handles an item, if one is there, and then its feed takes what it may.
+    pub fn turn(&mut self, alloc: Global) -> Result<Outcome, Memory>
+        ensures { IfOk result (λ o. (x : links.Node) → IsNodeOf self.old x → MayHandle x → (y : links.Node) × links.TurnGives x o y × IsNodeOf self.new (links.fed y)) }
+    {
+        let outcome = self.handle(alloc)?;
+        self.feed();
+        Ok(outcome)
+    }
+
+    /// The end says a message.
+    pub fn say(&mut self, alloc: Global, message: &Message) -> Result<Outcome, Memory>
+        ensures { IfOk result (λ o. (x : links.Node) → IsNodeOf self.old x → links.MayBeRecorded x message.now → (y : links.Node) × links.SayGives x message.now o y × IsNodeOf self.new y) }
+    {
+        let before = self.end.outgoing().len();
+        let order = self.end.sending();
+        let context = self.end.belief();
+        match self.end.say(message) {
+            Ok(()) => {
+                let queued = rest(self.end.outgoing(), before);
+                match record(alloc, &context, order, queued, &mut self.sent) {
+                    Ok(()) => Ok(Outcome::Said),
+                    Err(_) => Err(Memory),
+                }
+            }
+            Err(SayError::Memory) => Err(Memory),
+            Err(error) => Ok(Outcome::NotSaid(error)),
+        }
+    }
+
+    /// Delivers up to `n` bytes that the other end sent, and says how many.
+    pub fn deliver(&mut self, other: &mut Node, n: u64) -> Result<u64, Memory>
+        ensures { IfOk result (λ k. (p : links.Pair) → IsNodeOf self.old p.own → IsNodeOf other.old p.other
+            → (k ≡ min n (length p.other.half.outbox)) × IsNodeOf self.new (links.delivers p k).own × IsNodeOf other.new (links.delivers p k).other) }
+    {
+        let waiting = other.end.outgoing();
+        let count = n.min(waiting.len() as u64) as usize;
+        self.untaken.queue(&waiting[..count])?;
+        other.end.sent(count);
+        self.feed();
+        Ok(count as u64)
+    }
+
+    /// Begins a new connection. Gives the items that were sent on the last one, and how many were handled.
+    pub fn renew(&mut self, alloc: Global) -> Result<(Vec<Item>, u64), Memory>
+        ensures { IfOk result (λ r. (x : links.Node) → IsNodeOf self.old x → (r.0.items ≡ x.sent) × (r.1 ≡ length x.handled) × IsNodeOf self.new (links.first (renewed x.half.end))) }
+    {
+        self.end.reset()?;
+        let handshake = self.end.handshake();
+        let mut sent = Vec::new(alloc);
+        if sent.push(Item::Handshake(handshake)).is_err() {
+            return Err(Memory);
+        }
+        let before = mem::replace(&mut self.sent, sent);
+        let handled = self.handled;
+        self.untaken = Outbox::new(alloc);
+        self.handled = 0;
+        Ok((before, handled))
+    }
+}

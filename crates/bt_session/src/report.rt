@@ -1,0 +1,158 @@
+//! Runs two ends against each other, over bytes, and reports their outcomes, connections and blocks.
+ghost use Rattle.std.specs.Prelude.{◌≡◌, ◌++◌, None, map, IfOk, IfErr, OnOk};
+ghost use Rattle.bt_end.specs.Configs.{end_for, config_error};
+ghost use Rattle.bt_end.specs.Ends.{fetched_block};
+ghost use Rattle.bt_end.specs.Sturdy.{IsFetched};
+ghost use Rattle.bt_session.specs.ByteLinks as links;
+ghost use Rattle.bt_session.specs.Nodes.{IsNodeOf};
+ghost use Rattle.bt_session.specs.Runs.{IsLinkOf};
+ghost use Rattle.bt_session.specs.Reports.{block_of, numbered, held_blocks, DoMatch, IsReportOf, IsRun, IsUnstarted, IsUnrun};
+
+use crate::facts::is_new;
+use crate::link::{Outcome, Step};
+use crate::matching::is_mismatch;
+use crate::node::Node;
+use crate::run::{Connection, Link, keep, run};
+use bt_end::{Config, End, EndError};
+use std::alloc::{AllocError, Global};
+use thiserror::Error;
+
+/// The greatest number of steps of a run.
+pub const MOST_STEPS: u64 = 4_294_967_296;
+
+/// The greatest number of blocks of metadata, each of 16,384 bytes (BEP 9).
+const MOST_BLOCKS: u32 = 4_096;
+
+/// Why two ends aren't run against each other. The first that holds is answered, `Memory` at any point.
+#[derive(Clone, Copy, PartialEq, Eq, Debug, Error)]
+pub enum LinkError {
+    /// The info hashes, limits, rules or known piece counts differ, or metadata that is to be served has another SHA-1.
+    #[error("the configs don't match")]
+    ConfigMismatch,
+    #[error("{0}")]
+    End(EndError),
+    /// There are more than 4,294,967,296 steps.
+    #[error("too many steps")]
+    TooManySteps,
+    #[error("out of memory")]
+    Memory,
+}
+
+/// The report of a run; the left end first.
+#[derive(Drop)]
+pub struct LinkReport {
+    /// One for each step.
+    pub outcomes: Vec<Outcome>,
+    /// One more than there are resets.
+    pub connections: Vec<Connection>,
+    /// The blocks that each end holds while it is fetching, with their numbers, in rising order.
+    pub blocks: [Vec<(u32, Vec<u8>)>; 2],
+    /// The two ends, as the last step left them.
+    pub ends: [End; 2],
+}
+
+/// An end at the start of its first connection.
+fn start(alloc: Global, config: Config) -> Result<Node, LinkError>
+    ensures made { IfOk result (λ _. config_error config ≡ None) }
+    ensures node { IfOk result (λ n. IsNodeOf n (links.first (end_for config))) }
+    ensures unmade { IfErr result (λ e. IsUnstarted config e) }
+{
+    match End::new(alloc, config) {
+        Ok(end) => match Node::first(alloc, end) {
+            Ok(node) => Ok(node),
+            Err(_) => Err(LinkError::Memory),
+        },
+        Err(EndError::Memory) => Err(LinkError::Memory),
+        Err(error) => Err(LinkError::End(error)),
+    }
+}
+
+/// Adds a copy of the block of this number, where an end holds it.
+fn copy_block(
+    alloc: Global,
+    end: &End,
+    piece: u32,
+    blocks: &mut Vec<(u32, Vec<u8>)>,
+) -> Result<(), AllocError>
+    ensures assembly { IsFetched end.now.end.part }
+    ensures copied { OnOk result (map block_of blocks.new.items ≡ map block_of blocks.old.items ++ numbered piece (fetched_block end.now.end.part piece)) }
+{
+    if let Some(block) = end.block(piece) {
+        blocks.push((piece, block.to_vec(alloc)?))?;
+    }
+    Ok(())
+}
+
+/// Copies of the blocks that an end holds, with their numbers, in rising order.
+fn copy_blocks(alloc: Global, end: &End) -> Result<Vec<(u32, Vec<u8>)>, AllocError>
+    ensures { IfOk result (λ blocks. map block_of blocks.items ≡ held_blocks end.now.end.part) }
+{
+    let mut blocks = Vec::new(alloc);
+    'pieces: for piece in 0..MOST_BLOCKS {
+        copy_block(alloc, end, piece, &mut blocks)?;
+    }
+    Ok(blocks)
+}
+
+/// The report of a link, after steps with these outcomes.
+fn report(alloc: Global, link: Link, outcomes: Vec<Outcome>) -> Result<LinkReport, AllocError>
+    ensures outcomes { IfOk result (λ r. r.outcomes ≡ outcomes) }
+    ensures rest { IfOk result (λ r. (l : links.Link) → IsLinkOf link l → IsReportOf l r) }
+{
+    let Link {
+        left,
+        right,
+        mut past,
+    } = link;
+    let blocks = [
+        copy_blocks(alloc, &left.end)?,
+        copy_blocks(alloc, &right.end)?,
+    ];
+    let last = Connection {
+        sent: [left.sent, right.sent],
+        handled: [left.handled, right.handled],
+    };
+    keep(&mut past, last)?;
+    Ok(LinkReport {
+        outcomes,
+        connections: past,
+        blocks,
+        ends: [left.end, right.end],
+    })
+}
+
+/// Runs two ends against each other, over bytes, step by step.
+pub fn run_link(
+    alloc: Global,
+    left: Config,
+    right: Config,
+    steps: &[Step],
+) -> Result<LinkReport, LinkError>
+    ensures matched { OnOk result (DoMatch left right) }
+    ensures made { OnOk result ((config_error left ≡ None) × (config_error right ≡ None)) }
+    ensures report { IfOk result (λ r. IsRun (end_for left) (end_for right) steps.now r) }
+    ensures unrun { IfErr result (λ e. IsUnrun left right steps.now e) }
+{
+    if is_mismatch(&left, &right) {
+        return Err(LinkError::ConfigMismatch);
+    }
+    is_new(&left);
+    is_new(&right);
+    let left = start(alloc, left)?;
+    let right = start(alloc, right)?;
+    if steps.len() as u64 > MOST_STEPS {
+        return Err(LinkError::TooManySteps);
+    }
+    let mut link = Link {
+        left,
+        right,
+        past: Vec::new(alloc),
+    };
+    let Ok(outcomes) = run(alloc, &mut link, steps) else {
+        return Err(LinkError::Memory);
+    };
+    match report(alloc, link, outcomes) {
+        Ok(report) => Ok(report),
+        Err(_) => Err(LinkError::Memory),
+    }
+}

@@ -1,0 +1,173 @@
+//! The configs and the steps of the tests, and what their reports are compared by.
+use bt_ext::{ExtId, Registered, Rules};
+use bt_session::{Announce, Config, Connection, Outcome, Role, Side, Step, Window};
+use bt_wire::{Context, EncodeError, Item, Order, Own, Reserved, encode, spell_handshake};
+use std::alloc::{AllocError, Global};
+
+/// The SHA-1 of `abc` (FIPS 180-4).
+pub const ABC: [u8; 20] = [
+    0xa9, 0x99, 0x3e, 0x36, 0x47, 0x06, 0x81, 0x6a, 0xba, 0x3e, 0x25, 0x71, 0x78, 0x50, 0xc2, 0x6c,
+    0x9c, 0xd0, 0xd8, 0x9d,
+];
+
+pub const LEFT: [u8; 20] = *b"-BT0001-LLLLLLLLLLLL";
+
+pub const RIGHT: [u8; 20] = *b"-BT0001-RRRRRRRRRRRR";
+
+/// A receiver that knows both extensions, and wants metadata messages under this id.
+pub fn own(id: u8, rules: Rules, pieces: Option<u32>, limit: u32) -> Own {
+    Own {
+        reserved: Reserved(0x10_0005),
+        info_hash: Some(ABC),
+        pieces,
+        reg: Registered::new(ExtId::new(id)),
+        rules,
+        limit,
+    }
+}
+
+pub fn config(own: Own, peer_id: [u8; 20], announce: Announce, role: Role) -> Config {
+    Config {
+        own,
+        peer_id,
+        announce,
+        window: Window::default(),
+        role,
+    }
+}
+
+/// The left end, which serves this metadata under the id 3.
+pub fn serving(metadata: Vec<u8>) -> Config {
+    config(
+        own(3, Rules::Free, None, 262_144),
+        LEFT,
+        Announce::Silent,
+        Role::Serve(metadata),
+    )
+}
+
+/// The right end, which fetches under the id 9.
+pub fn fetching() -> Config {
+    config(
+        own(9, Rules::Free, None, 262_144),
+        RIGHT,
+        Announce::Silent,
+        Role::Fetch,
+    )
+}
+
+/// A step of a fetch.
+#[derive(Clone, Copy, Debug)]
+pub enum Move {
+    /// Brings n bytes to the end.
+    Bring(Side, u64),
+    Turn(Side),
+    Reset,
+}
+
+/// A fetch that is cut off before its one block has come whole, and then a second connection.
+pub const FETCH: [Move; 22] = [
+    Move::Bring(Side::Right, 68),
+    Move::Turn(Side::Right),
+    Move::Bring(Side::Left, 98),
+    Move::Turn(Side::Left),
+    Move::Turn(Side::Left),
+    Move::Bring(Side::Right, 49),
+    Move::Turn(Side::Right),
+    Move::Bring(Side::Left, 31),
+    Move::Turn(Side::Left),
+    Move::Bring(Side::Right, 20),
+    Move::Reset,
+    Move::Bring(Side::Right, 68),
+    Move::Turn(Side::Right),
+    Move::Bring(Side::Left, 98),
+    Move::Turn(Side::Left),
+    Move::Turn(Side::Left),
+    Move::Bring(Side::Right, 49),
+    Move::Turn(Side::Right),
+    Move::Bring(Side::Left, 31),
+    Move::Turn(Side::Left),
+    Move::Bring(Side::Right, 50),
+    Move::Turn(Side::Right),
+];
+
+/// Delivers n bytes, at most `portion` at once.
+fn push_portions(
+    steps: &mut Vec<Step>,
+    side: Side,
+    n: u64,
+    portion: u64,
+) -> Result<(), AllocError> {
+    let mut left = n;
+    for _ in 0..n {
+        let count = left.min(portion);
+        if count > 0 {
+            steps.push(Step::Deliver(side, count))?;
+        }
+        left = left.saturating_sub(count);
+    }
+    Ok(())
+}
+
+/// The steps of moves, whose bytes are delivered at most `portion` at once.
+pub fn steps(alloc: Global, moves: &[Move], portion: u64) -> Result<Vec<Step>, AllocError> {
+    let mut steps = Vec::new(alloc);
+    for next in moves {
+        match next {
+            Move::Bring(side, n) => push_portions(&mut steps, *side, *n, portion)?,
+            Move::Turn(side) => steps.push(Step::Turn(*side))?,
+            Move::Reset => steps.push(Step::Reset)?,
+        }
+    }
+    Ok(steps)
+}
+
+/// Whether each step that isn't a saying did all that it was to do.
+pub fn all_done(steps: &[Step], outcomes: &[Outcome]) -> bool {
+    steps.len() == outcomes.len()
+        && steps.iter().zip(outcomes).all(|(step, outcome)| match (step, outcome) {
+            (Step::Turn(_), Outcome::Handled) => true,
+            (Step::Deliver(_, n), Outcome::Delivered(k)) => n == k,
+            (Step::Reset, Outcome::Reset) => true,
+            _ => false,
+        })
+}
+
+/// How many items went over a connection: sent and handled by the left end, and by the right one.
+pub fn counts(connection: Option<&Connection>) -> (usize, u64, usize, u64) {
+    match connection {
+        Some(c) => (c.sent[0].len(), c.handled[0], c.sent[1].len(), c.handled[1]),
+        None => (0, 0, 0, 0),
+    }
+}
+
+/// The bytes of an item, to a receiver that wants metadata messages under this id.
+fn spelled(alloc: Global, item: &Item, id: u8, bytes: &mut Vec<u8>) -> Result<(), EncodeError> {
+    let context = Context {
+        fast: true,
+        ext: true,
+        pieces: None,
+        reg: Registered::new(ExtId::new(id)),
+        rules: Rules::Free,
+        limit: 262_144,
+    };
+    match item {
+        Item::Handshake(handshake) => {
+            bytes.extend_from_slice(&spell_handshake(handshake))?;
+        }
+        Item::Message(message) => {
+            let message = encode(alloc, &context, Order::Past, message)?;
+            bytes.extend_from_slice(message.as_slice())?;
+        }
+    }
+    Ok(())
+}
+
+/// The bytes of items.
+pub fn stream(alloc: Global, items: &[Item], id: u8) -> Result<Vec<u8>, EncodeError> {
+    let mut bytes = Vec::new(alloc);
+    for item in items {
+        spelled(alloc, item, id, &mut bytes)?;
+    }
+    Ok(bytes)
+}
