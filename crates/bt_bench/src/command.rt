@@ -1,0 +1,100 @@
+//! The command line.
+ghost use Rattle.std.specs.Prelude.{◌<◌, IfSome};
+
+use crate::jobs::State;
+use crate::setting::LIMIT;
+
+/// What the command line asks for.
+#[derive(Clone, Copy, Debug)]
+pub enum Job {
+    Serve(Amount),
+    Fetch(Amount),
+    Pair(Amount),
+    Digest(u32),
+    Hash(Amount),
+    Ends {
+        count: u32,
+        state: State,
+        limit: u32,
+    },
+}
+
+/// How many blocks the metadata has, and how often a job is done.
+#[derive(Clone, Copy, Debug)]
+pub struct Amount {
+    pub blocks: u32,
+    pub rounds: u32,
+    ghost some: { 0 < blocks },
+}
+
+/// How the program is called.
+pub const USAGE: &str = "\
+usage: bt_bench serve|fetch|pair|hash BLOCKS ROUNDS
+       bt_bench digest BLOCKS
+       bt_bench ends COUNT [new|open|serving|busy|drained|fetching [LIMIT]]
+";
+
+/// A number of blocks that metadata may have (at most 64 MiB), 1 to 4,096.
+fn blocks(word: Option<&String>) -> Option<u32>
+    ensures { IfSome result (λ n. 0 < n) }
+{
+    let blocks = number(word)?;
+    if blocks == 0 || blocks > 4_096 {
+        return None;
+    }
+    Some(blocks)
+}
+
+fn number(word: Option<&String>) -> Option<u32> {
+    word?.as_str().parse::<u32>().ok()
+}
+
+fn amount_in(words: &[String]) -> Option<Amount> {
+    Some(Amount {
+        blocks: blocks(words.get(1))?,
+        rounds: number(words.get(2))?,
+    })
+}
+
+fn state(word: Option<&String>) -> Option<State> {
+    let Some(word) = word else {
+        return Some(State::Open);
+    };
+    match word.as_str() {
+        "new" => Some(State::New),
+        "open" => Some(State::Open),
+        "serving" => Some(State::Serving),
+        "busy" => Some(State::Busy),
+        "drained" => Some(State::Drained),
+        "fetching" => Some(State::Fetching),
+        _ => None,
+    }
+}
+
+fn limit(word: Option<&String>) -> Option<u32> {
+    match word {
+        Some(_) => number(word),
+        None => Some(LIMIT),
+    }
+}
+
+fn ends(words: &[String]) -> Option<Job> {
+    Some(Job::Ends {
+        count: number(words.get(1))?,
+        state: state(words.get(2))?,
+        limit: limit(words.get(3))?,
+    })
+}
+
+/// The job that the words ask for; `None` where they are no command line.
+pub fn asked(words: &[String]) -> Option<Job> {
+    match words.first()?.as_str() {
+        "serve" => Some(Job::Serve(amount_in(words)?)),
+        "fetch" => Some(Job::Fetch(amount_in(words)?)),
+        "pair" => Some(Job::Pair(amount_in(words)?)),
+        "hash" => Some(Job::Hash(amount_in(words)?)),
+        "digest" => Some(Job::Digest(blocks(words.get(1))?)),
+        "ends" => ends(words),
+        _ => None,
+    }
+}

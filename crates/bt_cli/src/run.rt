@@ -1,0 +1,125 @@
+//! A job on any devices: what it writes, what standard error gets, and the exit status. The program's `main` calls it.
+ghost use Rattle.std.specs.Prelude.{◌≡◌, ◌≢◌, ◌≤◌, ◌+◌, ◌^◌, Some};
+ghost use Rattle.bt_io.specs.Counts.{Grew};
+ghost use Rattle.bt_text.specs.Lines.{verdict_line as verdict_words, refused_line as refused_words};
+ghost use Rattle.bt_cli.specs.Commands.{HasLimit};
+ghost use Rattle.bt_cli.specs.Runs.{IsDone, IsEndOfInput, IsSaid, complaint, exit_status_of, fault_in};
+
+use crate::commands::{Job, pack_status, status};
+use bt_feed::{Source, Target};
+use bt_jobs::output::write_out;
+use bt_jobs::{run_check, run_pack, run_show, run_unpack};
+use bt_text::ended::{Ended, PackEnd, ScriptReason, ToolFault};
+use bt_text::lines::{fault_line, refused_line, verdict_line};
+use bt_wire::Own;
+use std::alloc::Global;
+
+/// How a job ended.
+#[derive(Clone, Copy, PartialEq, Eq, Debug)]
+pub enum JobEnd {
+    /// The end of `show`, `check` or `unpack`.
+    Stream(Result<Ended, ToolFault>),
+    /// The end of `pack`.
+    Script(Result<PackEnd, ToolFault>),
+}
+
+/// Does a job for the receiver `own`: reads `reader`, and writes the job's output on `writer`.
+pub fn do_job<R: Source, W: Target>(
+    alloc: Global,
+    job: Job,
+    own: &Own,
+    reader: &mut R,
+    writer: &mut W,
+) -> JobEnd
+    requires { HasLimit own.now }
+    ensures done { IsDone job own.now (Grew (R.ends reader.old) (R.ends reader.new)) (R.left reader.old) (R.left reader.new) (W.held writer.old) (W.held writer.new) result }
+    ensures input { IsEndOfInput result (R.reads reader.old) (R.reads reader.new) (R.failed_reads reader.old) (R.failed_reads reader.new) (R.ends reader.old) (R.ends reader.new) }
+    ensures write { fault_in result ≡ Some ToolFault.Write → Grew (W.failed_writes writer.old) (W.failed_writes writer.new) }
+    ensures reads { R.reads reader.new ≤ R.reads reader.old + 2 ^ 32 }
+    ensures unfailed { fault_in result ≢ Some ToolFault.Read → R.failed_reads reader.new ≡ R.failed_reads reader.old }
+{
+    match job {
+        Job::Show => JobEnd::Stream(run_show(alloc, reader, writer, own)),
+        Job::Check => JobEnd::Stream(run_check(alloc, reader, writer, own)),
+        Job::Unpack => JobEnd::Stream(run_unpack(alloc, reader, writer, own)),
+        Job::Pack => JobEnd::Script(run_pack(alloc, reader, writer, own)),
+    }
+}
+
+/// Writes a text on standard error, as far as that takes it.
+pub fn say<E: Target>(text: &[u8], errors: &mut E)
+    ensures { IsSaid text.now (E.held errors.old) (E.held errors.new) (E.failed_writes errors.old) (E.failed_writes errors.new) }
+{
+    match write_out(errors, text, ()) {
+        Ok(()) => {}
+        Err(_) => {}
+    }
+}
+
+/// Writes the verdict's line on standard error.
+fn say_verdict<E: Target>(ended: Ended, errors: &mut E)
+    ensures { IsSaid (verdict_words ended) (E.held errors.old) (E.held errors.new) (E.failed_writes errors.old) (E.failed_writes errors.new) }
+{
+    let mut line = [0; 160];
+    let place = verdict_line(ended, &mut line);
+    say(&line[place..], errors);
+}
+
+/// Writes on standard error which line of a script is refused, and why.
+pub fn say_refused<E: Target>(number: u64, reason: ScriptReason, errors: &mut E)
+    ensures { IsSaid (refused_words number reason) (E.held errors.old) (E.held errors.new) (E.failed_writes errors.old) (E.failed_writes errors.new) }
+{
+    let mut line = [0; 160];
+    let place = refused_line(number, reason, &mut line);
+    say(&line[place..], errors);
+}
+
+/// Writes on standard error what a job's end has to say there.
+fn report<E: Target>(job: Job, end: JobEnd, errors: &mut E)
+    ensures { IsSaid (complaint job end) (E.held errors.old) (E.held errors.new) (E.failed_writes errors.old) (E.failed_writes errors.new) }
+{
+    match (job, end) {
+        (_, JobEnd::Stream(Err(fault)) | JobEnd::Script(Err(fault))) => {
+            say(fault_line(fault), errors);
+        }
+        (Job::Unpack, JobEnd::Stream(Ok(Ended::Refused(refusal)))) => {
+            say_verdict(Ended::Refused(refusal), errors);
+        }
+        (_, JobEnd::Script(Ok(PackEnd::Refused { line, reason }))) => {
+            say_refused(line, reason, errors);
+        }
+        _ => say(b"", errors),
+    }
+}
+
+/// Does a job for the receiver `own`, and writes on `errors` what standard error gets of its end.
+pub fn run<R: Source, W: Target, E: Target>(
+    alloc: Global,
+    job: Job,
+    own: &Own,
+    reader: &mut R,
+    writer: &mut W,
+    errors: &mut E,
+) -> JobEnd
+    requires { HasLimit own.now }
+    ensures done { IsDone job own.now (Grew (R.ends reader.old) (R.ends reader.new)) (R.left reader.old) (R.left reader.new) (W.held writer.old) (W.held writer.new) result }
+    ensures input { IsEndOfInput result (R.reads reader.old) (R.reads reader.new) (R.failed_reads reader.old) (R.failed_reads reader.new) (R.ends reader.old) (R.ends reader.new) }
+    ensures write { fault_in result ≡ Some ToolFault.Write → Grew (W.failed_writes writer.old) (W.failed_writes writer.new) }
+    ensures reads { R.reads reader.new ≤ R.reads reader.old + 2 ^ 32 }
+    ensures unfailed { fault_in result ≢ Some ToolFault.Read → R.failed_reads reader.new ≡ R.failed_reads reader.old }
+    ensures said { IsSaid (complaint job result) (E.held errors.old) (E.held errors.new) (E.failed_writes errors.old) (E.failed_writes errors.new) }
+{
+    let end = do_job(alloc, job, own, reader, writer);
+    report(job, end, errors);
+    end
+}
+
+/// Returns the exit status of a job's end.
+pub fn exit_status(end: JobEnd) -> u8
+    ensures { result ≡ exit_status_of end }
+{
+    match end {
+        JobEnd::Stream(end) => status(&end),
+        JobEnd::Script(end) => pack_status(&end),
+    }
+}

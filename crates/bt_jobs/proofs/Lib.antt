@@ -1,0 +1,6 @@
+mod Printing
+mod Packing
+mod PackText
+mod PackPieces
+mod PackRuns
+mod PackLaws

@@ -1,0 +1,256 @@
+-- How lines are packed.
+use Rattle.std.proofs.Common.{◌≡◌, ℕ, ◌+◌, ◌*◌, ◌^◌, ◌<◌, ◌≤◌, leb, eqb, Bool, true, false, List, [], ◌∷◌, ◌++◌, length, take, drop, Option, Some, None, Ok, Err, refl, sym, ap, subst, ◌∙◌, arith, inl, inr}
+use Rattle.std.specs.Prelude.{codes}
+use Rattle.std.proofs.lemmas.Bool.{cases_lt, ne_eqb}
+use Rattle.std.proofs.lemmas.List.{append-nil, append_assoc, length-append, length-take-le, take_all, take-append-drop}
+use Rattle.hex.proofs.HexLemmas.{decode_of-ok}
+use Rattle.bt_wire.specs.declared.context.Own.{Own}
+use Rattle.bt_wire.specs.declared.fault.Refused.{Refused as Fault}
+use Rattle.bt_wire.specs.declared.item.Item.{Item}
+use Rattle.bt_wire.specs.declared.item.Item.TheVariants as items
+use Rattle.bt_wire.specs.declared.item.Refusal.{Refusal}
+use Rattle.bt_wire.specs.Faults.{window_length}
+use Rattle.bt_wire.specs.Messages.{Fields, none, index, part, block, port, field, extended, payload, spell_fields, spell}
+use Rattle.bt_wire.specs.Numbers.{be32}
+use Rattle.bt_wire.specs.Streams.{Outcome, IsVerdict, with_item}
+use Rattle.bt_wire.proofs.HandLaws.{hand-length}
+use Rattle.bt_wire.proofs.HeaderLaws.{whole_there}
+use Rattle.bt_wire.proofs.NumberLaws.{number32-be32}
+use Rattle.bt_wire.proofs.SpellLaws.{fits, spelled_first}
+use Rattle.bt_feed.specs.declared.stage.Stage.{Stage}
+use Rattle.bt_feed.specs.declared.stage.Stage.TheVariants as stage
+use Rattle.bt_feed.specs.Answers.{IsAnswer, after}
+use Rattle.bt_feed.specs.Feeds.{FeedState, taken, pushed}
+use Rattle.bt_feed.specs.Stages.{start_of, number_of, limit_of, early, is_all, is_closed, HasFault, refusal_of, IsItem, stage_after, Comes, stopped}
+use Rattle.bt_feed.specs.Transcripts.{with_items}
+use Rattle.bt_feed.proofs.Closed.{closed_all, open_by, fault_more}
+use Rattle.bt_feed.proofs.Coming.{item_comes, fault_comes, open_comes}
+use Rattle.bt_feed.proofs.Found.{early_has}
+use Rattle.bt_feed.proofs.Reading.{taken_least}
+use Rattle.bt_text.specs.Lines.{spaced}
+use Rattle.bt_text.specs.Script.{IsLine, IsAnswer as IsReadAs, Said, keep_alive, known, unknown, Says, said_bytes, framed_by, SaysFields, SaysSpaced, SaysBytes}
+use Rattle.bt_text.specs.declared.ended.ScriptReason.TheVariants.{Reason}
+use Rattle.bt_jobs.specs.Packs.{IsNamed, AreNamed, AreTaken, is_none}
+use Rattle.bt_jobs.specs.PackSteps.{is_hand, IsPackedTo, IsLineEnd}
+
+-- ---- lines that are named
+
+named_behind : (limit : ℕ) (lines : List (List ℕ)) (b line x : List ℕ) → AreNamed limit false lines b → IsNamed limit false line x → AreNamed limit false (lines ++ line ∷ []) (b ++ x)
+named_behind limit [] b line x h n = (x, [], n, ap (λ (l : List ℕ). l ++ x) h ∙ sym (append-nil x), refl)
+named_behind limit (l ∷ lines) b line x h n =
+    (h.0, h.1 ++ x, h.2, ap (λ (z : List ℕ). z ++ x) h.3 ∙ append_assoc h.0 h.1 x, named_behind limit lines h.1 line x h.4 n)
+
+-- a line more
+named_more : (limit : ℕ) (lines : List (List ℕ)) (b line x : List ℕ) → AreNamed limit true lines b → IsNamed limit (is_none lines) line x → AreNamed limit true (lines ++ line ∷ []) (b ++ x)
+named_more limit [] b line x h n = (x, [], n, ap (λ (l : List ℕ). l ++ x) h ∙ sym (append-nil x), refl)
+named_more limit (l ∷ lines) b line x h n =
+    (h.0, h.1 ++ x, h.2, ap (λ (z : List ℕ). z ++ x) h.3 ∙ append_assoc h.0 h.1 x, named_behind limit lines h.1 line x h.4 n)
+
+pub some_lines : (lines : List (List ℕ)) (line : List ℕ) → is_none (lines ++ line ∷ []) ≡ false
+some_lines [] line = refl
+some_lines (l ∷ lines) line = refl
+
+-- ---- what is left after the items
+
+not_all : (t : Stage) → is_all t [] ≡ false
+not_all (stage.Handshake own) = refl
+not_all (stage.Message c o s n) = refl
+
+-- the outcome of no bytes
+record IsLast (t : Stage) (e : Outcome) : Type 0 where
+  comes : Comes t [] e
+  tail : e.tail ≡ []
+  items : e.items ≡ []
+  number : e.number ≡ number_of t
+  start : e.start ≡ start_of t
+
+by_early : (t : Stage) (o : Option Fault) → limit_of t < 2 ^ 32 → early t [] ≡ o → (e : Outcome) × IsLast t e
+by_early t (Some f) lt e =
+    (stopped t [] (Some (refusal_of t f)), record { comes = fault_comes t [] f lt (early_has t [] f e); tail = refl; items = refl; number = refl; start = refl })
+by_early t None lt e = (stopped t [] None, record { comes = open_comes t [] lt (open_by t [] e (not_all t)); tail = refl; items = refl; number = refl; start = refl })
+
+-- the lines so far are taken
+pub record IsTakenSoFar (own : Own) (lines : List (List ℕ)) (b : List ℕ) (f : FeedState) (xs : List (ℕ × Item)) (v : Outcome) : Type 0 where
+  pub taken : AreTaken own lines b v
+  pub items : v.items ≡ xs
+  pub number : v.number ≡ number_of f.stage
+  pub start : v.start ≡ start_of f.stage
+
+pub taken_so_far : (own : Own) (lines : List (List ℕ)) (b : List ℕ) (f : FeedState) → (h : IsPackedTo own lines b f) → (v : Outcome) × IsTakenSoFar own lines b f h.items v
+taken_so_far own lines b f h =
+    let last = by_early f.stage (early f.stage []) (omega (arith, h.limit, h.bound)) refl in
+    let P : List ℕ → Type 0 = λ l. IsVerdict own l (with_items h.items last.0) in (
+      with_items h.items last.0,
+      record {
+        taken = record { named = h.named; verdict = subst P (append-nil b) (h.comes [] last.0 last.1.comes); nothing_left = last.1.tail };
+        items = ap (λ (l : List (ℕ × Item)). h.items ++ l) last.1.items ∙ append-nil h.items;
+        number = last.1.number;
+        start = last.1.start;
+      },
+    )
+
+-- ---- how long the bytes of a line are
+
+length-said : (w bytes : List ℕ) → SaysBytes w bytes → length bytes ≤ length w
+length-said w [] h = omega arith
+length-said w (b ∷ bytes) h = omega (arith, (decode_of-ok w (b ∷ bytes) h).2)
+
+length-spaced_said : (text bytes : List ℕ) → SaysSpaced text bytes → length bytes ≤ length text
+length-spaced_said text bytes h = omega (arith, length-said h.0 bytes h.2, ap length h.1, length-append (codes " ") h.0)
+
+length-fields : (text : List ℕ) (f : Fields) → SaysFields text f → length (spell_fields f) ≤ 12 + length text
+length-fields text none h = omega arith
+length-fields text (index i) h = omega arith
+length-fields text (part i b l) h = omega arith
+length-fields text (block i b bytes) h = omega (arith, length-spaced_said h.0 bytes h.2, ap length h.1, length-append (spaced i) (spaced b ++ h.0), length-append (spaced b) h.0, length-append (be32 i ++ be32 b) bytes)
+length-fields text (port p) h = omega arith
+length-fields text (field bits) h = omega (arith, length-spaced_said text bits h)
+length-fields text (extended n bytes) h = omega (arith, length-spaced_said h.0 bytes h.2, ap length h.1, length-append (spaced n) h.0)
+length-fields text (payload bytes) h = omega (arith, length-spaced_said text bytes h)
+
+framed_whole : (n : ℕ) (fields : List ℕ) → 1 + length fields < 2 ^ 32 → window_length (framed_by n fields) ≡ length (framed_by n fields)
+framed_whole n fields lt = omega (arith, number32-be32 (1 + length fields) (n ∷ fields) lt, length-append (be32 (1 + length fields)) (n ∷ fields))
+
+said_whole : (text : List ℕ) (s : Said) → length text < 2 ^ 31 → Says text s → window_length (said_bytes s) ≡ length (said_bytes s)
+said_whole text keep_alive lt h = omega (arith, number32-be32 0 [] (omega arith))
+said_whole text (known i f) lt h = framed_whole i.number (spell_fields f) (omega (arith, length-fields h.1 f h.4, ap length h.2, length-append h.0 h.1))
+said_whole text (unknown n bytes) lt h =
+    framed_whole n bytes (omega (arith, length-spaced_said h.0 bytes h.4, ap length h.1, length-append (codes "unknown") (spaced n ++ h.0), length-append (spaced n) h.0))
+
+-- all of the item's bytes are there
+abbrev AllThere : Stage → List ℕ → Type 0
+AllThere (stage.Handshake own) x = length x ≡ 68
+AllThere (stage.Message c o s n) x = window_length x ≡ length x
+
+line_there : (t : Stage) (first : Bool) (text x : List ℕ) → length text < 2 ^ 31 → is_hand t ≡ first → IsLine first text x → AllThere t x
+line_there (stage.Handshake own) true text x lt e h = ap length h.2 ∙ hand-length h.0 h.1.3.fits
+line_there (stage.Handshake own) false text x lt e h = absurd cc
+line_there (stage.Message c o s n) true text x lt e h = absurd cc
+line_there (stage.Message c o s n) false text x lt e h = ap window_length h.2 ∙ said_whole text h.0 lt h.1 ∙ sym (ap length h.2)
+
+there_all : (t : Stage) (x : List ℕ) → AllThere t x → is_all t x ≡ true
+there_all (stage.Handshake own) x e = ap (λ (n : ℕ). leb 68 n) e
+there_all (stage.Message c o s n) x e = whole_there x (omega (arith, e))
+
+-- an item of their front is all of them
+front_is_all : (t : Stage) (x : List ℕ) (n : ℕ) (item : Item) → limit_of t < 2 ^ 32 → AllThere t x → n ≤ length x → IsItem t (take n x) item → take n x ≡ x
+front_is_all (stage.Handshake own) x n (items.Handshake h) lt all le p = take_all n x (omega (arith, ap length p.2, hand-length h p.1, length-take-le n x le, all))
+front_is_all (stage.Message c o s i) x n (items.Message m) lt all le p =
+    let r = drop n x in
+    let parts : x ≡ spell c m ++ r = sym (take-append-drop n x) ∙ ap (λ (l : List ℕ). l ++ r) p.1 in
+    let first = spelled_first c m r (fits c o s m lt p.0) in
+    take_all n x (omega (arith, all, ap window_length parts, first.size, ap length p.1, length-take-le n x le))
+front_is_all (stage.Handshake own) x n (items.Message m) lt all le p = absurd p
+front_is_all (stage.Message c o s i) x n (items.Handshake h) lt all le p = absurd p
+
+-- ---- a line
+
+-- a push of a line's bytes closes the item
+pub closes : (f p : FeedState) (text x : List ℕ) (first : Bool) → length text < 2 ^ 31 → is_hand f.stage ≡ first → f.held ≡ [] → IsLine first text x → p ≡ pushed f x → is_closed p.stage p.held ≡ true
+closes f p text x first lt is empty line e =
+    let there = line_there f.stage first text x lt is line in
+    let least = taken_least (is_closed f.stage) f.held x in
+    let n = taken f x in
+    let held : p.held ≡ take n x = ap (λ (s : FeedState). s.held) e ∙ ap (λ (l : List ℕ). l ++ take n x) empty in
+    let at : is_closed f.stage (take n x) ≡ true =
+    elim (cases_lt n (length x)) [
+      | inl less ↦ sym (ap (λ (l : List ℕ). is_closed f.stage (l ++ take n x)) empty) ∙ least.stops less
+      | inr le ↦ ap (is_closed f.stage) (take_all n x le) ∙ closed_all f.stage x (there_all f.stage x there)
+    ] in
+    let P : Stage → Type 0 = λ t. is_closed t p.held ≡ true in
+    subst P (sym (ap (λ (s : FeedState). s.stage) e)) (ap (is_closed f.stage) held ∙ at)
+
+after_number : (t : Stage) (b : List ℕ) (size : ℕ) (item : Item) → IsItem t b item → (number_of (stage_after t size item) ≡ number_of t + 1) × (is_hand (stage_after t size item) ≡ false) × (limit_of (stage_after t size item) ≡ limit_of t)
+after_number (stage.Handshake own) b size (items.Handshake h) p = (refl, refl, refl)
+after_number (stage.Message c o s n) b size (items.Message m) p = (refl, refl, refl)
+after_number (stage.Handshake own) b size (items.Message m) p = absurd p
+after_number (stage.Message c o s n) b size (items.Handshake h) p = absurd p
+
+pub line_taken : (own : Own) (lines : List (List ℕ)) (b text x out out' : List ℕ) (f p g : FeedState) (item : Item) → length text < 2 ^ 31 → IsNamed own.limit (is_none lines) text x → IsPackedTo own lines b f → p ≡ pushed f x
+    → IsAnswer p (Ok (Some item)) → g ≡ after p (Ok (Some item)) → out' ≡ out ++ x → IsLineEnd own lines b text g out out' None
+line_taken own lines b text x out out' f p g item lt named h e is after_is grown =
+    let n = taken f x in
+    let least = taken_least (is_closed f.stage) f.held x in
+    let stage_is : p.stage ≡ f.stage = ap (λ (s : FeedState). s.stage) e in
+    let held : p.held ≡ take n x = ap (λ (s : FeedState). s.held) e ∙ ap (λ (l : List ℕ). l ++ take n x) h.empty in
+    let there = line_there f.stage (is_none lines) text x lt h.first named.line in
+    let P : Stage → Type 0 = λ t. IsItem t p.held item in
+    let Q : List ℕ → Type 0 = λ l. IsItem f.stage l item in
+    let here : IsItem f.stage (take n x) item = subst Q held (subst P stage_is is) in
+    let whole : take n x ≡ x = front_is_all f.stage x n item (omega (arith, h.limit, h.bound)) there least.within here in
+    let item_is : IsItem f.stage x item = subst Q whole here in
+    let size : length p.held ≡ length x = ap length (held ∙ whole) in
+    let g_is : g ≡ record { stage = stage_after f.stage (length x) item; held = []; refused = p.refused } =
+    after_is ∙ ap (λ (k : ℕ). record { stage = stage_after p.stage k item; held = []; refused = p.refused }) size ∙ ap (λ (t : Stage). record { stage = stage_after t (length x) item; held = []; refused = p.refused }) stage_is in
+    let steps = after_number f.stage x (length x) item item_is in
+    let R : FeedState → Type 0 = λ s. IsPackedTo own (lines ++ text ∷ []) (b ++ x) s in (
+      x,
+      grown,
+      subst R (sym g_is) (record {
+        named = named_more own.limit lines b text x h.named named;
+        items = h.items ++ (start_of f.stage, item) ∷ [];
+        comes = λ later v k.
+            let S : List ℕ → Type 0 = λ l. IsVerdict own l (with_items (h.items ++ (start_of f.stage, item) ∷ []) v) in
+            let T : List (ℕ × Item) → Type 0 = λ l. IsVerdict own (b ++ (x ++ later)) (record v { items = l }) in
+            subst S (sym (append_assoc b x later)) (subst T (sym (append_assoc h.items ((start_of f.stage, item) ∷ []) v.items))
+            (h.comes (x ++ later) (with_item (start_of f.stage) item v) (item_comes f.stage x later item v (omega (arith, h.limit, h.bound)) item_is k)));
+        empty = refl;
+        first = steps.1 ∙ sym (some_lines lines text);
+        count = steps.0 ∙ omega (arith, h.count, length-append lines (text ∷ []));
+        limit = steps.2 ∙ h.limit;
+        bound = h.bound;
+      }),
+    )
+
+pub line_refused : (own : Own) (lines : List (List ℕ)) (b text x out out' : List ℕ) (f p g : FeedState) (r : Refusal) → IsNamed own.limit (is_none lines) text x → IsPackedTo own lines b f → p ≡ pushed f x
+    → IsAnswer p (Err r) → g ≡ after p (Err r) → out' ≡ out → IsLineEnd own lines b text g out out' (Some (Reason r.reason))
+line_refused own lines b text x out out' f p g r named h e is after_is same =
+    let same_number : number_of g.stage ≡ length lines = ap (λ (s : FeedState). number_of s.stage) (after_is) ∙ ap (λ (s : FeedState). number_of s.stage) e ∙ h.count in
+    let n = taken f x in
+    let stage_is : p.stage ≡ f.stage = ap (λ (s : FeedState). s.stage) e in
+    let held : p.held ≡ take n x = ap (λ (s : FeedState). s.held) e ∙ ap (λ (l : List ℕ). l ++ take n x) h.empty in
+    let P : Stage → Type 0 = λ t. HasFault t p.held is.0 in
+    let Q : List ℕ → Type 0 = λ l. HasFault f.stage l is.0 in
+    let here : HasFault f.stage (take n x) is.0 = subst Q held (subst P stage_is is.1) in
+    let all : HasFault f.stage x is.0 = subst Q (take-append-drop n x) (fault_more f.stage (take n x) (drop n x) is.0 here) in
+    let last = stopped f.stage x (Some (refusal_of f.stage is.0)) in
+    let so_far = taken_so_far own lines b f h in
+    let reason : r.reason ≡ (refusal_of f.stage is.0).reason = ap (λ (q : Refusal). q.reason) is.2 in (
+      same,
+      same_number,
+      (
+        so_far.0,
+        so_far.1.taken,
+        (
+          x,
+          named,
+          with_items h.items last,
+          h.comes x last (fault_comes f.stage x is.0 (omega (arith, h.limit, h.bound)) all),
+          append-nil h.items ∙ sym so_far.1.items,
+          refusal_of f.stage is.0,
+          refl,
+          reason,
+        ),
+      ),
+    )
+
+by_lines : (lines : List (List ℕ)) → eqb (length lines) 0 ≡ is_none lines
+by_lines [] = refl
+by_lines (l ∷ lines) = ne_eqb (length (l ∷ lines)) 0 (λ e. omega (arith, e))
+
+pub first_flag : (own : Own) (lines : List (List ℕ)) (b : List ℕ) (f : FeedState) (n : ℕ) → IsPackedTo own lines b f → n ≡ number_of f.stage → eqb n 0 ≡ is_none lines
+first_flag own lines b f n h e = ap (λ (k : ℕ). eqb k 0) (e ∙ h.count) ∙ by_lines lines
+
+-- what reading a line answered
+pub read_as : (limit : ℕ) (first flag : Bool) (text bytes : List ℕ) (ok : Bool) → ok ≡ true → first ≡ flag → length text ≤ 2 * limit + 256 → IsReadAs first text bytes ok → IsNamed limit flag text bytes
+read_as limit first flag text bytes ok e same short h =
+    let P : Bool → Type 0 = λ o. IsReadAs first text bytes o in
+    let Q : Bool → Type 0 = λ f. IsLine f text bytes in
+    record { short = short; line = subst Q same (subst P e h) }
+
+pub not_read : (limit : ℕ) (first flag : Bool) (text bytes : List ℕ) (ok : Bool) → ok ≡ false → first ≡ flag → IsReadAs first text bytes ok → (x : List ℕ) → IsNamed limit flag text x → ⊥
+not_read limit first flag text bytes ok e same h =
+    let P : Bool → Type 0 = λ o. IsReadAs first text bytes o in
+    let Q : Bool → Type 0 = λ f. (x : List ℕ) → IsNamed limit f text x → ⊥ in
+    let no = subst P e h in
+    subst Q same (λ x n. no x n.line)

@@ -1,0 +1,305 @@
+-- What is written of a stream turn by turn.
+use Rattle.std.proofs.Common.{◌≡◌, ℕ, ◌+◌, ◌-◌, ◌^◌, ◌<◌, ◌≤◌, ◌⊎◌, List, [], ◌∷◌, ◌++◌, length, Option, Some, None, Result, Ok, Err, refl, sym, ap, subst, ◌∙◌, arith, inl, inr}
+use Rattle.std.proofs.lemmas.Bool.{cases_lt}
+use Rattle.std.proofs.lemmas.List.{append-nil, append_assoc, length-append}
+use Rattle.std.proofs.lemmas.Grind.{flat_map-append}
+use Rattle.std.proofs.KnownBytes.{Appends-nil, Appends-trans, Consumes-nil, Consumes-trans}
+use Rattle.std.specs.Io.KnownBytes.{Consumes, Appends}
+use Rattle.bt_wire.specs.declared.context.Own.{Own}
+use Rattle.bt_wire.specs.declared.fault.Refused.{Refused as Fault}
+use Rattle.bt_wire.specs.declared.item.Item.{Item}
+use Rattle.bt_wire.specs.declared.item.Refusal.{Refusal}
+use Rattle.bt_wire.specs.Handshakes.{hand, hand_fault}
+use Rattle.bt_wire.specs.Laws.{VerdictIsOne, ItemsStay}
+use Rattle.bt_wire.specs.Streams.{Outcome, IsVerdict, IsVerdictBy, refusal_at_end}
+use Rattle.bt_wire.proofs.HandLaws.{hand-length}
+use Rattle.bt_feed.specs.declared.stage.Stage.TheVariants as stage
+use Rattle.bt_feed.specs.declared.view.Finish.TheVariants as finish
+use Rattle.bt_feed.specs.Answers.{unless_refused}
+use Rattle.bt_feed.specs.Feeds.{FeedState}
+use Rattle.bt_feed.specs.Laws.{verdict_at_end}
+use Rattle.bt_feed.specs.Pumps.{Took, IsPumped}
+use Rattle.bt_feed.specs.Stages.{number_of, stopped, Comes}
+use Rattle.bt_feed.specs.Transcripts.{with_items}
+use Rattle.bt_text.specs.declared.ended.Ended.{Ended}
+use Rattle.bt_text.specs.declared.ended.Ended.TheVariants.{Accepted, Refused}
+use Rattle.bt_text.specs.declared.ended.ToolFault.{ToolFault}
+use Rattle.bt_jobs.specs.declared.printer.Form.{Form}
+use Rattle.bt_jobs.specs.declared.printer.Form.TheVariants as forms
+use Rattle.bt_feed.proofs.Coming.{open_comes}
+use Rattle.bt_feed.proofs.Reading.{hand_open}
+use Rattle.std.specs.Prelude.{MatchResult, OnOk}
+use Rattle.bt_jobs.specs.declared.printer.Printer.{Printer}
+use Rattle.bt_text.specs.Lines.{ended_by, ended_as, verdict_line, lines_of}
+use Rattle.bt_jobs.specs.Printed.{texts, text_of, form_of, text_in, Prints, AppendsFront, IsWrittenOut, IsFlushed, MayBeTold, IsAllWritten, IsFrontWritten, Writing, nothing, items_in, checked, IsWritten, IsReadTo, IsTurn}
+
+pub on_ok : {T E : Type 0} (r : Result T E) (P Q : Type 0) → (P → Q) → OnOk r P → OnOk r Q
+on_ok (Ok x) P Q f h = f h
+on_ok (Err e) P Q f h = tt
+
+-- ---- the text of items
+
+pub printed : (p q : Printer) (xs : List (ℕ × Item)) → Took Prints p xs q → (form_of q ≡ form_of p) × ((own : Own) → text_in q ≡ text_in p ++ texts (form_of p) own xs)
+printed p q [] h = (ap form_of h, λ own. ap text_in h ∙ sym (append-nil (text_in p)))
+printed p q (x ∷ xs) h =
+    let m = h.0 in
+    let rest = printed m q xs h.2 in (
+      rest.0 ∙ h.1.0,
+      λ own.
+          let more : text_in q ≡ text_in m ++ texts (form_of p) own xs = rest.1 own ∙ ap (λ (f : Form). text_in m ++ texts f own xs) h.1.0 in
+          more ∙ ap (λ (t : List ℕ). t ++ texts (form_of p) own xs) (h.1.1 own) ∙ append_assoc (text_in p) (text_of (form_of p) own x) (texts (form_of p) own xs),
+    )
+
+-- ---- the verdict at the end
+
+length_by : (o : Option Fault) (own : Own) (b : List ℕ) (v : Outcome) → IsVerdictBy o own b v → v.start + length v.tail ≡ length b
+length_by (Some f) own b v h = omega (arith, ap (λ (w : Outcome). w.start + length w.tail) h)
+length_by None own b v h =
+    elim (cases_lt (length b) 68) [
+      | inl lt ↦ omega (arith, ap (λ (w : Outcome). w.start + length w.tail) (h.0 lt))
+      | inr le ↦
+          let o = h.1 le in
+          omega (arith, ap (λ (w : Outcome). w.start + length w.tail) o.whole, o.messages.start_after, ap length o.parts, length-append (hand o.handshake) o.rest, hand-length o.handshake o.fits)
+    ]
+
+pub verdict_length : (own : Own) (b : List ℕ) (v : Outcome) → IsVerdict own b v → v.start + length v.tail ≡ length b
+verdict_length own b v h = length_by (hand_fault own b) own b v h
+
+accepted_by : (o : Option Refusal) (m n : ℕ) → unless_refused o (Ok m) ≡ Ok n → (o ≡ None) × (n ≡ m)
+accepted_by (Some r) m n e = absurd cc
+accepted_by None m n e = (refl, cc)
+
+refused_by : (o : Option Refusal) (m : ℕ) (r : Refusal) → unless_refused o (Ok m) ≡ Err (finish.Refused r) → o ≡ Some r
+refused_by (Some s) m r e = cc
+refused_by None m r e = absurd cc
+
+-- ---- a turn
+
+-- what is known where a pump has stopped, but for a sink's fault
+pub record IsPumpedOn (own : Own) (b : List ℕ) (xs : List (ℕ × Item)) (f g : FeedState) (left left' : Option (List ℕ)) (p q : Printer) (bytes lost : List ℕ) (ys : List (ℕ × Item)) (v : Outcome) : Type 0 where
+  pub limit : own.limit < 2 ^ 32
+  pub before : IsReadTo own b xs f
+  pub consumed : Consumes left left' (bytes ++ lost)
+  pub empty : text_in p ≡ []
+  pub took : Took Prints p ys q
+  pub pumped : IsPumped f bytes lost ys g v
+
+-- the outcome of what was read
+total : (own : Own) (b : List ℕ) (xs : List (ℕ × Item)) (f g : FeedState) (bytes lost : List ℕ) (ys : List (ℕ × Item)) (v : Outcome) → IsReadTo own b xs f → IsPumped f bytes lost ys g v → IsVerdict own (b ++ (bytes ++ lost)) (with_items xs v)
+total own b xs f g bytes lost ys v r p = r.comes (bytes ++ lost) v p.comes
+
+read_more : (own : Own) (b : List ℕ) (xs : List (ℕ × Item)) (f g : FeedState) (bytes lost : List ℕ) (ys : List (ℕ × Item)) (v : Outcome) → lost ≡ [] → IsReadTo own b xs f → IsPumped f bytes lost ys g v → IsReadTo own (b ++ (bytes ++ lost)) (xs ++ ys) g
+read_more own b xs f g bytes lost ys v none r p = record {
+  comes = λ later w k.
+      let more : b ++ (bytes ++ later) ≡ (b ++ (bytes ++ lost)) ++ later =
+      sym (append_assoc b bytes later) ∙ ap (λ (l : List ℕ). (b ++ l) ++ later) (sym (append-nil bytes) ∙ ap (λ (l : List ℕ). bytes ++ l) (sym none)) in
+      let P : List ℕ → Type 0 = λ l. IsVerdict own l (with_items (xs ++ ys) w) in
+      let Q : List (ℕ × Item) → Type 0 = λ l. IsVerdict own (b ++ (bytes ++ later)) (record w { items = l }) in
+      subst P more (subst Q (sym (append_assoc xs ys w.items)) (r.comes (bytes ++ later) (with_items ys w) (p.fed.comes later w k)));
+  now = with_items xs v;
+  is = total own b xs f g bytes lost ys v r p;
+  items = ap (λ (l : List (ℕ × Item)). xs ++ l) p.items;
+}
+
+text_of_turn : (own : Own) (p q : Printer) (ys : List (ℕ × Item)) → text_in p ≡ [] → Took Prints p ys q → text_in q ≡ texts (form_of p) own ys
+text_of_turn own p q ys empty took = (printed p q ys took).1 own ∙ ap (λ (t : List ℕ). t ++ texts (form_of p) own ys) empty
+
+-- at a fault a prefix of the text of these items is written in this turn
+front_of_turn : (own : Own) (b : List ℕ) (xs : List (ℕ × Item)) (f g : FeedState) (left left' held held' : Option (List ℕ)) (p q : Printer) (bytes lost : List ℕ) (ys : List (ℕ × Item)) (v : Outcome) → VerdictIsOne
+    → IsPumpedOn own b xs f g left left' p q bytes lost ys v → AppendsFront held held' (text_in q)
+    → (w : Outcome) → IsVerdict own (b ++ (bytes ++ lost)) w → (zs : List (ℕ × Item)) × (w.items ≡ xs ++ zs) × AppendsFront held held' (texts (form_of p) own zs)
+front_of_turn own b xs f g left left' held held' p q bytes lost ys v one h front w is =
+    let same : w ≡ with_items xs v = one own (b ++ (bytes ++ lost)) w (with_items xs v) h.limit is (total own b xs f g bytes lost ys v h.before h.pumped) in
+    (ys, ap (λ (u : Outcome). u.items) same ∙ ap (λ (l : List (ℕ × Item)). xs ++ l) h.pumped.items, subst (AppendsFront held held') (text_of_turn own p q ys h.empty h.took) front)
+
+-- where nothing of a turn is written
+pub nothing_of_turn : (own : Own) (form : Form) (b more : List ℕ) (xs : List (ℕ × Item)) (f : FeedState) (held : Option (List ℕ)) → own.limit < 2 ^ 32 → ItemsStay → IsReadTo own b xs f
+    → (w : Outcome) → IsVerdict own (b ++ more) w → (zs : List (ℕ × Item)) × (w.items ≡ xs ++ zs) × AppendsFront held held (texts form own zs)
+nothing_of_turn own form b more xs f held lt stay r w is =
+    let s = stay own b more r.now w lt r.is is in
+    (s.0, s.1 ∙ ap (λ (l : List (ℕ × Item)). l ++ s.0) r.items, ([], texts form own s.0, refl, Appends-nil held))
+
+pub goes_on : (own : Own) (b : List ℕ) (xs : List (ℕ × Item)) (f g : FeedState) (left left' held held' : Option (List ℕ)) (p q s : Printer) (bytes lost : List ℕ) (ys : List (ℕ × Item)) (v : Outcome) (r : Result (Option Ended) ToolFault)
+    → VerdictIsOne → IsPumpedOn own b xs f g left left' p q bytes lost ys v → lost ≡ [] → IsFlushed {T = Option Ended} None (text_in q) held held' (text_in s) r → form_of s ≡ form_of q → IsTurn (form_of p) own b xs left left' held held' g s r
+goes_on own b xs f g left left' held held' p q s bytes lost ys v (Ok None) one h none flushed form =
+    (bytes ++ lost, ys, h.consumed, subst (Appends held held') (text_of_turn own p q ys h.empty h.took) flushed.1, read_more own b xs f g bytes lost ys v none h.before h.pumped, form ∙ (printed p q ys h.took).0, flushed.2)
+goes_on own b xs f g left left' held held' p q s bytes lost ys v (Ok (Some e)) one h none flushed form = absurd (let no : Some e ≡ None = flushed.0 in cc)
+goes_on own b xs f g left left' held held' p q s bytes lost ys v (Err e) one h none flushed form =
+    (bytes ++ lost, h.consumed, front_of_turn own b xs f g left left' held held' p q bytes lost ys v one h flushed)
+
+pub ends : (own : Own) (b : List ℕ) (xs : List (ℕ × Item)) (f g : FeedState) (left left' held held' : Option (List ℕ)) (p q s : Printer) (bytes lost : List ℕ) (ys : List (ℕ × Item)) (v : Outcome) (ended : Ended) (r : Result (Option Ended) ToolFault)
+    → VerdictIsOne → IsPumpedOn own b xs f g left left' p q bytes lost ys v → ended ≡ ended_as v (v.start + length v.tail) → IsFlushed (Some ended) (text_in q) held held' (text_in s) r → form_of s ≡ form_of q → IsTurn (form_of p) own b xs left left' held held' g s r
+ends own b xs f g left left' held held' p q s bytes lost ys v ended (Ok (Some e)) one h is flushed form =
+    let all = total own b xs f g bytes lost ys v h.before h.pumped in
+    let same : e ≡ ended = let some : Some e ≡ Some ended = flushed.0 in cc in
+    let size : v.start + length v.tail ≡ length (b ++ (bytes ++ lost)) = verdict_length own (b ++ (bytes ++ lost)) (with_items xs v) all in (
+      bytes ++ lost,
+      ys,
+      h.consumed,
+      subst (Appends held held') (text_of_turn own p q ys h.empty h.took) flushed.1,
+      (with_items xs v, all, ap (λ (l : List (ℕ × Item)). xs ++ l) h.pumped.items, same ∙ is ∙ ap (λ (n : ℕ). ended_as v n) size),
+      form ∙ (printed p q ys h.took).0,
+      flushed.2,
+    )
+ends own b xs f g left left' held held' p q s bytes lost ys v ended (Ok None) one h is flushed form = absurd (let no : None ≡ Some ended = flushed.0 in cc)
+ends own b xs f g left left' held held' p q s bytes lost ys v ended (Err e) one h is flushed form =
+    (bytes ++ lost, h.consumed, front_of_turn own b xs f g left left' held held' p q bytes lost ys v one h flushed)
+
+pub is_accepted : (v : Outcome) (g : FeedState) (number messages n : ℕ) → verdict_at_end v ≡ Ok n → v.number ≡ number_of g.stage → number ≡ number_of g.stage → messages ≡ number - 1 → Accepted messages n ≡ ended_as v (v.start + length v.tail)
+is_accepted v g number messages n e same is less =
+    let a = accepted_by (refusal_at_end v) (v.start + length v.tail) n e in
+    let count : messages ≡ v.number - 1 = less ∙ ap (λ (k : ℕ). k - 1) (is ∙ sym same) in
+    ap (λ (k : ℕ). Accepted k n) count ∙ ap (λ (k : ℕ). Accepted (v.number - 1) k) a.1 ∙ ap (λ (o : Option Refusal). ended_by o v.number (v.start + length v.tail)) (sym a.0)
+
+pub is_refused : (v : Outcome) (r : Refusal) → verdict_at_end v ≡ Err (finish.Refused r) → Refused r ≡ ended_as v (v.start + length v.tail)
+is_refused v r e = ap (λ (o : Option Refusal). ended_by o v.number (v.start + length v.tail)) (sym (refused_by (refusal_at_end v) (v.start + length v.tail) r e))
+
+-- ---- the turns
+
+texts_both : (form : Form) (own : Own) (xs ys : List (ℕ × Item)) → texts form own (xs ++ ys) ≡ texts form own xs ++ texts form own ys
+texts_both form own xs ys = flat_map-append (text_of form own) xs ys
+
+-- a new feed
+pub starts : (own : Own) (f : FeedState) → own.limit ≤ 1048576 → f ≡ record { stage = stage.Handshake own; held = []; refused = None } → IsReadTo own [] [] f
+starts own f le e =
+    let P : FeedState → Type 0 = λ s. IsReadTo own [] [] s in
+    subst P (sym e) (record {
+      comes = λ later v k. k;
+      now = stopped (stage.Handshake own) [] None;
+      is = open_comes (stage.Handshake own) [] (omega (arith, le)) (hand_open own);
+      items = refl;
+    })
+
+-- what was written before, and a turn more
+pub record IsToldTo (form : Form) (own : Own) (left left' held held' : Option (List ℕ)) (f : FeedState) (p : Printer) : Type 0 where
+  pub bytes : List ℕ
+  pub items : List (ℕ × Item)
+  pub consumed : Consumes left left' bytes
+  pub written : Appends held held' (texts form own items)
+  pub read : IsReadTo own bytes items f
+  pub form_is : form_of p ≡ form
+  pub empty : text_in p ≡ []
+
+pub told_first : (own : Own) (left held : Option (List ℕ)) (f : FeedState) (p : Printer) → own.limit ≤ 1048576 → f ≡ record { stage = stage.Handshake own; held = []; refused = None } → text_in p ≡ [] → IsToldTo (form_of p) own left left held held f p
+told_first own left held f p le e empty =
+    record { bytes = []; items = []; consumed = Consumes-nil left; written = Appends-nil held; read = starts own f le e; form_is = refl; empty = empty }
+
+joined : (form : Form) (own : Own) (a b c : Option (List ℕ)) (xs ys : List (ℕ × Item)) → Appends a b (texts form own xs) → Appends b c (texts form own ys) → Appends a c (texts form own (xs ++ ys))
+joined form own a b c xs ys p q = subst (Appends a c) (sym (texts_both form own xs ys)) (Appends-trans a b c (texts form own xs) (texts form own ys) p q)
+
+pub told_more : (form : Form) (own : Own) (left0 left left' held0 held held' : Option (List ℕ)) (f g : FeedState) (p q : Printer) → (t : IsToldTo form own left0 left held0 held f p)
+    → IsTurn (form_of p) own t.bytes t.items left left' held held' g q (Ok None) → IsToldTo form own left0 left' held0 held' g q
+told_more form own left0 left left' held0 held held' f g p q t n =
+    let P : Form → Type 0 = λ x. IsTurn x own t.bytes t.items left left' held held' g q (Ok None) in
+    let m = subst P t.form_is n in
+    record {
+      bytes = t.bytes ++ m.0;
+      items = t.items ++ m.1;
+      consumed = Consumes-trans left0 left left' t.bytes m.0 t.consumed m.2;
+      written = joined form own held0 held held' t.items m.1 t.written m.3;
+      read = m.4;
+      form_is = m.5;
+      empty = m.6;
+    }
+
+pub told_end : (form : Form) (own : Own) (left0 left left' held0 held held' : Option (List ℕ)) (f g : FeedState) (p q : Printer) (e : Ended) → (t : IsToldTo form own left0 left held0 held f p)
+    → IsTurn (form_of p) own t.bytes t.items left left' held held' g q (Ok (Some e)) → ((b : List ℕ) × Consumes left0 left' b × IsAllWritten (items_in form own) own b held0 held' e) × (text_in q ≡ [])
+told_end form own left0 left left' held0 held held' f g p q e t n =
+    let P : Form → Type 0 = λ x. IsTurn x own t.bytes t.items left left' held held' g q (Ok (Some e)) in
+    let m = subst P t.form_is n in
+    let v = m.4.0 in
+    let Q : List (ℕ × Item) → Type 0 = λ xs. Appends held0 held' (texts form own xs) in
+    ((t.bytes ++ m.0, Consumes-trans left0 left left' t.bytes m.0 t.consumed m.2, (v, m.4.1, subst Q (sym m.4.2) (joined form own held0 held held' t.items m.1 t.written m.3), m.4.3)), m.6)
+
+-- known bytes that grew, and then by a front
+pub front_behind : (a b c : Option (List ℕ)) (xs ys : List ℕ) → Appends a b xs → AppendsFront b c ys → AppendsFront a c (xs ++ ys)
+front_behind a b c xs ys p q = (xs ++ q.0, q.1, ap (λ (l : List ℕ). xs ++ l) q.2 ∙ sym (append_assoc xs q.0 q.1), Appends-trans a b c xs q.0 p q.3)
+
+-- a front, of something longer
+front_of_more : (a b : Option (List ℕ)) (xs ys : List ℕ) → AppendsFront a b xs → AppendsFront a b (xs ++ ys)
+front_of_more a b xs ys p = (p.0, p.1 ++ ys, ap (λ (l : List ℕ). l ++ ys) p.2 ∙ append_assoc p.0 p.1 ys, p.3)
+
+pub all_is_front : (a b : Option (List ℕ)) (xs : List ℕ) → Appends a b xs → AppendsFront a b xs
+all_is_front a b xs p = (xs, [], sym (append-nil xs), p)
+
+pub told_fault : (E : Type 0) (form : Form) (own : Own) (left0 left left' held0 held held' : Option (List ℕ)) (f g : FeedState) (p q : Printer) (e : ToolFault) → (t : IsToldTo form own left0 left held0 held f p)
+    → IsTurn (form_of p) own t.bytes t.items left left' held held' g q (Err e) → (b : List ℕ) × Consumes left0 left' b × IsFrontWritten (items_in form own) (items_in form own) own E b held0 held'
+told_fault E form own left0 left left' held0 held held' f g p q e t n =
+    let P : Form → Type 0 = λ x. IsTurn x own t.bytes t.items left left' held held' g q (Err e) in
+    let m = subst P t.form_is n in (
+      t.bytes ++ m.0,
+      Consumes-trans left0 left left' t.bytes m.0 t.consumed m.1,
+      λ w is.
+          let k = m.2 w is in
+          let all : texts form own t.items ++ texts form own k.0 ≡ texts form own w.items = sym (texts_both form own t.items k.0) ∙ ap (texts form own) (sym k.1) in
+          inl (subst (AppendsFront held0 held') all (front_behind held0 held held' (texts form own t.items) (texts form own k.0) t.written k.2)),
+    )
+
+-- after so many turns what is written is a front
+pub told_so_far : (E : Type 0) (form : Form) (own : Own) (left left' held held' : Option (List ℕ)) (f : FeedState) (p : Printer) → own.limit ≤ 1048576 → VerdictIsOne → IsToldTo form own left left' held held' f p
+    → (b : List ℕ) × Consumes left left' b × IsFrontWritten (items_in form own) (items_in form own) own E b held held'
+told_so_far E form own left left' held held' f p le one t = (
+  t.bytes,
+  t.consumed,
+  λ w is.
+      let same : t.items ≡ w.items = sym t.read.items ∙ ap (λ (v : Outcome). v.items) (one own t.bytes t.read.now w (omega (arith, le)) t.read.is is) in
+      inl (subst (λ xs. AppendsFront held held' (texts form own xs)) same (all_is_front held held' (texts form own t.items) t.written)),
+)
+
+-- ---- the verdict's line
+
+either_front : (E P : Type 0) → P ⊎ (E × P) → P
+either_front E P (inl p) = p
+either_front E P (inr p) = p.1
+
+pub front_shown : (E : Type 0) (own : Own) (b : List ℕ) (held held' : Option (List ℕ)) → IsFrontWritten (items_in forms.Show own) (items_in forms.Show own) own E b held held' → IsFrontWritten (items_in forms.Show own) (lines_of own) own E b held held'
+front_shown E own b held held' h = λ w is. inl (either_front (MayBeTold E (ended_as w (length b))) (AppendsFront held held' (texts forms.Show own w.items)) (h w is))
+
+-- the same outcome
+written_by : (own : Own) (b : List ℕ) (held held' : Option (List ℕ)) (e : Ended) → own.limit < 2 ^ 32 → VerdictIsOne → (a : IsAllWritten (items_in forms.Show own) own b held held' e) → (w : Outcome) → IsVerdict own b w
+    → Appends held held' (texts forms.Show own w.items) × (e ≡ ended_as w (length b))
+written_by own b held held' e lt one a w is =
+    let same = one own b a.0 w lt a.1 is in
+    subst (λ (v : Outcome). Appends held held' (texts forms.Show own v.items) × (e ≡ ended_as v (length b))) same (a.2, a.3)
+
+pub front_shown_all : (E : Type 0) (own : Own) (b : List ℕ) (held held' : Option (List ℕ)) (e : Ended) → own.limit < 2 ^ 32 → VerdictIsOne → IsAllWritten (items_in forms.Show own) own b held held' e → IsFrontWritten (items_in forms.Show own) (lines_of own) own E b held held'
+front_shown_all E own b held held' e lt one a = λ w is.
+    let here = written_by own b held held' e lt one a w is in
+    inl (all_is_front held held' (texts forms.Show own w.items) here.0)
+
+pub all_shown : (E : Type 0) (own : Own) (b text left : List ℕ) (held mid held' : Option (List ℕ)) (e : Ended) (r : Result Ended ToolFault) → own.limit < 2 ^ 32 → VerdictIsOne → IsAllWritten (items_in forms.Show own) own b held mid e
+    → text ≡ verdict_line e → MayBeTold E e → IsFlushed e text mid held' left r → MatchResult r (IsAllWritten (lines_of own) own b held held') (λ _. IsFrontWritten (items_in forms.Show own) (lines_of own) own E b held held')
+all_shown E own b text left held mid held' e (Ok d) lt one a is told f =
+    let v = a.0 in
+    let line : text ≡ verdict_line (ended_as v (length b)) = is ∙ ap verdict_line a.3 in
+    (v, a.1, Appends-trans held mid held' (texts forms.Show own v.items) (verdict_line (ended_as v (length b))) a.2 (subst (Appends mid held') line f.1), f.0 ∙ a.3)
+all_shown E own b text left held mid held' e (Err x) lt one a is told f = λ w isw.
+    let here = written_by own b held mid e lt one a w isw in
+    inr (subst (MayBeTold E) here.1 told, front_behind held mid held' (texts forms.Show own w.items) (verdict_line (ended_as w (length b))) here.0 (subst (AppendsFront mid held') (is ∙ ap verdict_line here.1) f))
+
+-- ---- the verdict alone
+
+-- nothing is written
+pub nothing_checked : (E : Type 0) (w : Writing) (own : Own) (left left' held : Option (List ℕ)) (b : List ℕ) (f : ToolFault) → Consumes left left' b → IsWritten nothing w own E left left' held held (Err f)
+nothing_checked E w own left left' held b f c = (b, c, λ v is. inl ([], [], refl, Appends-nil held))
+
+-- what was fed to a new feed has the outcome v, whose verdict is to be written
+pub checked_all : (E : Type 0) (own : Own) (f : FeedState) (left left' held held' : Option (List ℕ)) (b : List ℕ) (v : Outcome) (e : Ended) (r : Result Ended ToolFault) → own.limit ≤ 1048576 → VerdictIsOne → Consumes left left' b
+    → f ≡ record { stage = stage.Handshake own; held = []; refused = None } → Comes f.stage (f.held ++ b) v → e ≡ ended_as v (v.start + length v.tail) → MayBeTold E e → IsWrittenOut e (verdict_line e) held held' r → IsWritten nothing checked own E left left' held held' r
+checked_all E own f left left' held held' b v e (Ok a) le one c new comes ended told out =
+    let F : FeedState → Type 0 = λ g. Comes g.stage (g.held ++ b) v in
+    let is : IsVerdict own b v = subst F new comes in
+    let same : e ≡ ended_as v (length b) = ended ∙ ap (λ (n : ℕ). ended_as v n) (verdict_length own b v is) in
+    let P : Ended → Type 0 = λ x. Appends held held' (verdict_line x) in
+    (b, c, (v, is, subst P same out.1, out.0 ∙ same))
+checked_all E own f left left' held held' b v e (Err x) le one c new comes ended told out =
+    let F : FeedState → Type 0 = λ g. Comes g.stage (g.held ++ b) v in
+    let is : IsVerdict own b v = subst F new comes in
+    let same : e ≡ ended_as v (length b) = ended ∙ ap (λ (n : ℕ). ended_as v n) (verdict_length own b v is) in (
+      b,
+      c,
+      λ w isw.
+          let P : Ended → Type 0 = λ x. MayBeTold E x × AppendsFront held held' (verdict_line x) in
+          let Q : Outcome → Type 0 = λ u. MayBeTold E (ended_as u (length b)) × AppendsFront held held' (verdict_line (ended_as u (length b))) in
+          inr (subst Q (one own b v w (omega (arith, le)) is isw) (subst P same (told, out))),
+    )

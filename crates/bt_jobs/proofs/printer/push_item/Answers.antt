@@ -1,0 +1,10 @@
+use Rattle.std.proofs.Common.{◌++◌, ℕ, List, ap, sym, ◌∙◌}
+use Rattle.bt_feed.specs.Views.{item_of}
+use Rattle.bt_feed.specs.declared.view.View.{View}
+use Rattle.bt_text.specs.Lines.{line as line_of}
+use Rattle.bt_jobs.proofs.Printing.{on_ok}
+use Rattle.bt_jobs.proofs.printer.push_item.Goals as goal
+
+pub returns-in-Handshake : goal.returns-in-Handshake
+returns-in-Handshake c =
+    on_ok c.push_line.result _ _ (λ added own. added ∙ ap (λ (l : List ℕ). c.args.text.now.items ++ l) (c.handshake_line-place.ensures.text own ∙ ap (λ (v : View). line_of own (c.args.at, item_of v)) (sym c.in-Handshake.is))) c.push_line.ensures

@@ -1,0 +1,15 @@
+use Rattle.std.proofs.Common.{◌≡◌, ◌≤◌, ◌+◌, ◌-◌, ◌^◌, min}
+use Rattle.bt_jobs.specs.Printed.{form_of}
+use Rattle.bt_jobs.proofs.Printing.{IsToldTo}
+use Rattle.bt_jobs.proofs.show.tell.Given as goal
+
+-- the text of what was read so far is written
+abbrev pub invariant-loop-turn : goal.invariant-loop-turn
+invariant-loop-turn g l = record {
+  reads : min (g.R.Source.reads l.initial.reader + l._turn) (2 ^ 64 - 1) ≤ g.R.Source.reads l.reader;
+  most : g.R.Source.reads l.reader ≤ g.R.Source.reads l.initial.reader + l._turn;
+  failed : g.R.Source.failed_reads l.reader ≡ g.R.Source.failed_reads l.initial.reader;
+  ends : g.R.Source.ends l.reader ≡ g.R.Source.ends l.initial.reader;
+  calm : g.W.Target.failed_writes l.writer ≡ g.W.Target.failed_writes l.initial.writer;
+  told : IsToldTo (form_of l.initial.printer) l.own (g.R.Source.left l.initial.reader) (g.R.Source.left l.reader) (g.W.Target.held l.initial.writer) (g.W.Target.held l.writer) l.feed l.printer;
+}

@@ -1,0 +1,4 @@
+pub mod Printed
+pub mod Packs
+pub mod PackSteps
+pub mod PackLaws

@@ -1,0 +1,63 @@
+//! `check`: the verdict of a stream alone. The command line calls it.
+ghost use Rattle.std.specs.Prelude.{◌≡◌, ◌≢◌, ◌≤◌, ◌+◌, ◌^◌, Err, IfErr};
+ghost use Rattle.bt_io.specs.Counts.{Grew};
+ghost use Rattle.bt_text.specs.Lines.{verdict_line as verdict_words};
+ghost use Rattle.bt_jobs.specs.Printed.{IsWritten, IsWrittenOut, IsEndOfReads, nothing, checked};
+
+use crate::output::write_out;
+use crate::show::MAX_READS;
+use bt_feed::{Discard, Feed, PumpError, Source, Target, pump_with};
+use bt_text::ended::{Ended, ToolFault};
+use bt_text::lines::verdict_line;
+use bt_wire::{Own, laws};
+use std::alloc::Global;
+
+/// Writes the verdict's line of the stream that `reader` gives, and returns the verdict.
+///
+/// # Errors
+/// Those of `run_show`.
+pub fn run_check<R: Source, W: Target>(
+    alloc: Global,
+    reader: &mut R,
+    writer: &mut W,
+    own: &Own,
+) -> Result<Ended, ToolFault>
+    requires { (1 ≤ own.now.limit) × (own.now.limit ≤ 1048576) }
+    ensures checked { IsWritten nothing checked own.now (Grew (R.ends reader.old) (R.ends reader.new)) (R.left reader.old) (R.left reader.new) (W.held writer.old) (W.held writer.new) result }
+    ensures faults { IsEndOfReads result (R.reads reader.old) (R.reads reader.new) (R.failed_reads reader.old) (R.failed_reads reader.new) (R.ends reader.old) (R.ends reader.new) }
+    ensures write { result ≡ Err ToolFault.Write → Grew (W.failed_writes writer.old) (W.failed_writes writer.new) }
+    ensures reads { R.reads reader.new ≤ R.reads reader.old + 2 ^ 32 }
+    ensures calm { result ≢ Err ToolFault.Read → R.failed_reads reader.new ≡ R.failed_reads reader.old }
+{
+    laws::one_verdict();
+    let Ok(mut feed) = Feed::new(alloc, *own) else {
+        return Err(ToolFault::Memory);
+    };
+    let mut buffer = [0; 65536];
+    match pump_with(
+        reader,
+        &mut feed,
+        &mut Discard::new(),
+        MAX_READS,
+        &mut buffer,
+    ) {
+        Ok(bytes) => {
+            let messages = feed.number() - 1;
+            say(writer, Ended::Accepted { messages, bytes })
+        }
+        Err(PumpError::Refused(refusal)) => say(writer, Ended::Refused(refusal)),
+        Err(PumpError::Turns) => Err(ToolFault::Turns),
+        Err(PumpError::ReadFault) => Err(ToolFault::Read),
+        Err(PumpError::Sink(_)) => unreachable!(),
+    }
+}
+
+/// Writes the verdict's line, and returns the verdict.
+fn say<W: Target>(writer: &mut W, ended: Ended) -> Result<Ended, ToolFault>
+    ensures written { IsWrittenOut ended (verdict_words ended) (W.held writer.old) (W.held writer.new) result }
+    ensures fault { IfErr result (λ fault. (fault ≡ ToolFault.Write) × Grew (W.failed_writes writer.old) (W.failed_writes writer.new)) }
+{
+    let mut line = [0; 160];
+    let place = verdict_line(ended, &mut line);
+    write_out(writer, &line[place..], ended)
+}

@@ -1,0 +1,15 @@
+//! What each command does with a source and a target: `show`, `check`, `unpack` and `pack`.
+//!
+//! A crate with a command of its own uses [`printer::Printer`] for the lines of items, and [`output::write_out`] to write them.
+#![tactic(auto)]
+
+mod check;
+pub mod output;
+mod pack;
+pub mod pack_laws;
+pub mod printer;
+mod show;
+
+pub use check::run_check;
+pub use pack::run_pack;
+pub use show::{run_show, run_unpack};

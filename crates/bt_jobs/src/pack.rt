@@ -1,0 +1,245 @@
+//! `pack`: the bytes that a script's lines name, as long as they are a stream's items. The command line calls it.
+ghost use Rattle.std.specs.Prelude.{◌≡◌, ◌≢◌, ◌==◌, ◌≤◌, ◌<◌, ◌++◌, ℕ, List, [], None, length, position, option_map, min, ◌+◌, ◌-◌, ◌^◌, IfOk, IfErr, IfSome, Err};
+ghost use Rattle.bt_wire.specs.declared.context.Own.{Own as Receiver};
+ghost use Rattle.bt_io.specs.Counts.{Grew};
+ghost use Rattle.bt_feed.specs.Stages.{number_of, start_of};
+ghost use Rattle.bt_jobs.specs.Packs.{IsPackRun};
+ghost use Rattle.bt_jobs.specs.PackSteps.{IsPackedTo, IsLineEnd, IsCut, IsReadSo, IsPieceRead, IsHeld, IsScriptEnd};
+
+use crate::output::write_out;
+use crate::show::MAX_READS;
+use bt_feed::{Feed, Source, Target, refusal_in};
+use bt_text::ended::{PackEnd, ScriptReason, ToolFault};
+use bt_text::script::reading::read_line;
+use bt_wire::Own;
+use std::alloc::{AllocError, Global};
+
+/// Returns the place of the first line feed.
+fn first_feed(text: &[u8]) -> Option<usize>
+    ensures { result ≡ position (λ c. c == 10) text.now }
+{
+    text.iter().position(|byte| *byte == b'\n')
+}
+
+/// Returns the text's first line, and what follows its line feed.
+fn split_line(text: &[u8]) -> Option<(&[u8], &[u8])>
+    ensures cut { IsCut text.now (option_map (λ p. (p.0.now, p.1.now)) result) }
+    ensures shorter { IfSome result (λ p. length p.1.now < length text.now) }
+{
+    let end = first_feed(text).unwrap_or(text.len());
+    let (front, back) = text.split_at(end);
+    match back.split_first() {
+        Some((_, behind)) => Some((front, behind)),
+        None => None,
+    }
+}
+
+/// Takes a line, which stands without its line feed, and adds the bytes that it names; or returns why it isn't taken.
+fn take_line(
+    feed: &mut Feed,
+    text: &[u8],
+    limit: u32,
+    bytes: &mut Vec<u8>,
+    out: &mut Vec<u8>,
+) -> Result<Option<ScriptReason>, AllocError>
+    requires { limit ≤ 1048576 }
+    ensures { IfOk result (λ answer. (own : Receiver) (lines : List (List ℕ)) (b : List ℕ) → limit ≡ own.limit → IsPackedTo own lines b feed.old
+        → IsLineEnd own lines b text.now feed.new out.old.items out.new.items answer) }
+{
+    let first = feed.number() == 0;
+    if text.len() as u64 > 2 * u64::from(limit) + 256 {
+        return Ok(Some(ScriptReason::Syntax));
+    }
+    if !read_line(text, first, bytes)? {
+        return Ok(Some(ScriptReason::Syntax));
+    }
+    feed.push(bytes.as_slice());
+    match feed.take() {
+        Ok(Some(_)) => {
+            out.extend_from_slice(bytes.as_slice())?;
+            Ok(None)
+        }
+        Ok(None) => Ok(Some(ScriptReason::Syntax)),
+        Err(error) => Ok(Some(ScriptReason::Reason(refusal_in(error).reason))),
+    }
+}
+
+/// Adds bytes to those of the present line, and returns whether the line isn't too long with them.
+fn hold(line: &mut Vec<u8>, more: &[u8], limit: u32) -> Result<bool, AllocError>
+    requires { limit ≤ 1048576 }
+    ensures { IfOk result (IsHeld limit line.old.items more.now line.new.items) }
+{
+    if line.len() as u64 + more.len() as u64 > 2 * u64::from(limit) + 256 {
+        return Ok(false);
+    }
+    line.extend_from_slice(more)?;
+    Ok(true)
+}
+
+/// Completes a line, and takes it.
+///
+/// `text` is the line's last part. `line` holds its first part if an earlier read cut the line, and is empty otherwise. The
+/// line is copied only if it was cut. After a line is taken, `line` is empty.
+fn take_ended(
+    feed: &mut Feed,
+    line: &mut Vec<u8>,
+    text: &[u8],
+    limit: u32,
+    bytes: &mut Vec<u8>,
+    out: &mut Vec<u8>,
+) -> Result<Option<ScriptReason>, AllocError>
+    requires { limit ≤ 1048576 }
+    ensures taken { IfOk result (λ answer. (own : Receiver) (lines : List (List ℕ)) (b : List ℕ) → limit ≡ own.limit → IsPackedTo own lines b feed.old
+        → IsLineEnd own lines b (line.old.items ++ text.now) feed.new out.old.items out.new.items answer) }
+    ensures empty { IfOk result (λ answer. answer ≡ None → line.new.items ≡ []) }
+{
+    if line.as_slice().is_empty() {
+        return take_line(feed, text, limit, bytes, out);
+    }
+    if !hold(line, text, limit)? {
+        return Ok(Some(ScriptReason::Syntax));
+    }
+    let answer = take_line(feed, line.as_slice(), limit, bytes, out)?;
+    line.clear();
+    Ok(answer)
+}
+
+/// Takes the lines that a piece of the script ends, and keeps the first part of the next; or returns why one isn't taken.
+fn take_piece(
+    feed: &mut Feed,
+    line: &mut Vec<u8>,
+    piece: &[u8],
+    limit: u32,
+    bytes: &mut Vec<u8>,
+    out: &mut Vec<u8>,
+) -> Result<Option<ScriptReason>, AllocError>
+    requires { limit ≤ 1048576 }
+    ensures { IfOk result (λ answer. (own : Receiver) (text : List ℕ) (lines : List (List ℕ)) (b : List ℕ) → limit ≡ own.limit → IsReadSo own text lines b line.old.items feed.old
+        → IsPieceRead own (text ++ piece.now) lines b line.new.items feed.new out.old.items out.new.items answer) }
+{
+    let mut rest = piece;
+    'lines: loop {
+        match split_line(rest) {
+            None => {
+                if !hold(line, rest, limit)? {
+                    return Ok(Some(ScriptReason::Syntax));
+                }
+                return Ok(None);
+            }
+            Some((front, behind)) => {
+                if let Some(reason) = take_ended(feed, line, front, limit, bytes, out)? {
+                    return Ok(Some(reason));
+                }
+                rest = behind;
+            }
+        }
+    }
+}
+
+/// Returns the counts of the items that were taken.
+fn counts(feed: &Feed) -> PackEnd
+    ensures { result ≡ PackEnd.Accepted (number_of feed.now.stage - 1) (start_of feed.now.stage) }
+{
+    PackEnd::Accepted {
+        messages: feed.number().saturating_sub(1),
+        bytes: feed.start(),
+    }
+}
+
+/// Takes the last line, which may lack its line feed, and returns how the script ends.
+fn end_script(
+    feed: &mut Feed,
+    line: &[u8],
+    limit: u32,
+    bytes: &mut Vec<u8>,
+    out: &mut Vec<u8>,
+) -> Result<PackEnd, AllocError>
+    requires { limit ≤ 1048576 }
+    ensures { IfOk result (λ end. (own : Receiver) (text : List ℕ) (lines : List (List ℕ)) (b : List ℕ) → limit ≡ own.limit → IsReadSo own text lines b line.now feed.old
+        → IsScriptEnd own text b out.old.items out.new.items end) }
+{
+    if line.len() == 0 {
+        if feed.number() == 0 {
+            return Ok(PackEnd::Refused {
+                line: 1,
+                reason: ScriptReason::Syntax,
+            });
+        }
+        return Ok(counts(feed));
+    }
+    match take_line(feed, line, limit, bytes, out) {
+        Ok(None) => Ok(counts(feed)),
+        Ok(Some(reason)) => Ok(PackEnd::Refused {
+            line: feed.number() + 1,
+            reason,
+        }),
+        Err(error) => Err(error),
+    }
+}
+
+/// Reads a script and writes the bytes that its lines name, up to the first line that isn't taken. It returns the counts of the
+/// stream, or that line and the reason.
+///
+/// # Errors
+/// Those of `run_show`. A prefix of the bytes of lines that are taken is written then.
+pub fn run_pack<R: Source, W: Target>(
+    alloc: Global,
+    reader: &mut R,
+    writer: &mut W,
+    own: &Own,
+) -> Result<PackEnd, ToolFault>
+    requires { (1 ≤ own.now.limit) × (own.now.limit ≤ 1048576) }
+    ensures reads { R.reads reader.new ≤ R.reads reader.old + 2 ^ 32 }
+    ensures unfailed { result ≢ Err ToolFault.Read → R.failed_reads reader.new ≡ R.failed_reads reader.old }
+    ensures packed { IsPackRun own.now (Grew (R.ends reader.old) (R.ends reader.new)) (R.left reader.old) (R.left reader.new) (W.held writer.old) (W.held writer.new) result }
+    ensures read { result ≡ Err ToolFault.Read → Grew (R.failed_reads reader.old) (R.failed_reads reader.new) }
+    ensures write { result ≡ Err ToolFault.Write → Grew (W.failed_writes writer.old) (W.failed_writes writer.new) }
+    ensures turns { result ≡ Err ToolFault.Turns
+        → (min (R.reads reader.old + 2 ^ 32) (2 ^ 64 - 1) ≤ R.reads reader.new) × (R.ends reader.new ≡ R.ends reader.old) }
+{
+    let Ok(mut feed) = Feed::new(alloc, *own) else {
+        return Err(ToolFault::Memory);
+    };
+    // Room for the longest line and its bytes, so that lines take no memory: `piece 0 0 `, and after it the digits of
+    // limit + 123 bytes, which follow 13 others.
+    let Ok(mut line) = Vec::with_capacity(alloc, 2 * own.limit as usize + 256) else {
+        return Err(ToolFault::Memory);
+    };
+    let Ok(mut bytes) = Vec::with_capacity(alloc, own.limit as usize + 136) else {
+        return Err(ToolFault::Memory);
+    };
+    let mut out = Vec::new(alloc);
+    let mut buffer = [0; 65536];
+    for _turn in 0..MAX_READS {
+        match reader.read(&mut buffer) {
+            Ok(0) => {
+                match end_script(&mut feed, line.as_slice(), own.limit, &mut bytes, &mut out) {
+                    Ok(end) => return write_out(writer, out.as_slice(), end),
+                    Err(_) => return Err(ToolFault::Memory),
+                }
+            }
+            Ok(count) => {
+                match take_piece(
+                    &mut feed,
+                    &mut line,
+                    &buffer[..count],
+                    own.limit,
+                    &mut bytes,
+                    &mut out,
+                ) {
+                    Ok(None) => match write_out(writer, out.as_slice(), ()) {
+                        Ok(()) => out.clear(),
+                        Err(fault) => return Err(fault),
+                    },
+                    Ok(Some(reason)) => {
+                        let line = feed.number() + 1;
+                        return write_out(writer, out.as_slice(), PackEnd::Refused { line, reason });
+                    }
+                    Err(_) => return Err(ToolFault::Memory),
+                }
+            }
+            Err(_) => return Err(ToolFault::Read),
+        }
+    }
+    Err(ToolFault::Turns)
+}

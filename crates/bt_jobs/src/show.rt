@@ -1,0 +1,133 @@
+//! `show` and `unpack`: the text of a stream's items, and its verdict. The command line calls them.
+ghost use Rattle.std.specs.Prelude.{◌≡◌, ◌≢◌, ◌+◌, ◌-◌, ◌≤◌, ◌^◌, ◌<◌, ℕ, List, [], length, OnOk, Err};
+ghost use Rattle.bt_io.specs.Counts.{Grew};
+ghost use Rattle.bt_wire.specs.declared.item.Item.{Item};
+ghost use Rattle.bt_jobs.specs.declared.printer.Form.TheVariants as form;
+ghost use Rattle.bt_text.specs.Lines.{lines_of};
+ghost use Rattle.bt_jobs.specs.Printed.{IsWritten, IsReadTo, IsTurn, IsEndOfReads, IsEndOfTurn, form_of, text_in, items_in, unpacked};
+
+use crate::printer::{Form, Printer};
+use bt_feed::{Feed, PumpError, Source, Target, pump_with};
+use bt_text::ended::{Ended, ToolFault};
+use bt_wire::{Own, laws};
+use std::alloc::Global;
+
+/// The greatest count of reads that a command makes.
+pub const MAX_READS: u64 = 1 << 32;
+
+/// Reads once into the buffer, and writes the text of the items that the read completes. At the stream's end it returns how
+/// the stream ends.
+fn turn<R: Source, W: Target>(
+    reader: &mut R,
+    feed: &mut Feed,
+    printer: &mut Printer,
+    writer: &mut W,
+    buffer: &mut [u8],
+) -> Result<Option<Ended>, ToolFault>
+    requires { 0 < length buffer.old }
+    ensures faults { IsEndOfTurn result (R.reads reader.old) (R.reads reader.new) (R.failed_reads reader.old) (R.failed_reads reader.new) (R.ends reader.old) (R.ends reader.new) }
+    ensures write { result ≡ Err ToolFault.Write → Grew (W.failed_writes writer.old) (W.failed_writes writer.new) }
+    ensures calm { OnOk result (W.failed_writes writer.new ≡ W.failed_writes writer.old) }
+    ensures reads { R.reads reader.new ≤ R.reads reader.old + 1 }
+    ensures unfailed { result ≢ Err ToolFault.Read → R.failed_reads reader.new ≡ R.failed_reads reader.old }
+    ensures told { (own : Own) (b : List ℕ) (xs : List (ℕ × Item)) → own.limit ≤ 1048576 → IsReadTo own b xs feed.old → text_in printer.old ≡ []
+        → IsTurn (form_of printer.old) own b xs (R.left reader.old) (R.left reader.new) (W.held writer.old) (W.held writer.new) feed.new printer.new result }
+{
+    laws::one_verdict();
+    match pump_with(reader, feed, printer, 1, buffer) {
+        Ok(bytes) => {
+            let messages = feed.number() - 1;
+            printer.flush(writer, Some(Ended::Accepted { messages, bytes }))
+        }
+        Err(PumpError::Refused(refusal)) => printer.flush(writer, Some(Ended::Refused(refusal))),
+        Err(PumpError::Turns) => printer.flush(writer, None),
+        Err(PumpError::ReadFault) => Err(ToolFault::Read),
+        Err(PumpError::Sink(_)) => Err(ToolFault::Memory),
+    }
+}
+
+/// Reads the stream to its end, and writes the text of its items turn by turn.
+fn tell<R: Source, W: Target>(
+    alloc: Global,
+    reader: &mut R,
+    printer: &mut Printer,
+    writer: &mut W,
+    own: &Own,
+) -> Result<Ended, ToolFault>
+    requires limit { (1 ≤ own.now.limit) × (own.now.limit ≤ 1048576) }
+    requires empty { text_in printer.old ≡ [] }
+    ensures told { IsWritten (items_in (form_of printer.old) own.now) (items_in (form_of printer.old) own.now) own.now (Grew (R.ends reader.old) (R.ends reader.new)) (R.left reader.old) (R.left reader.new) (W.held writer.old) (W.held writer.new) result }
+    ensures empty { OnOk result (text_in printer.new ≡ []) }
+    ensures reads { R.reads reader.new ≤ R.reads reader.old + 2 ^ 32 }
+    ensures unfailed { result ≢ Err ToolFault.Read → R.failed_reads reader.new ≡ R.failed_reads reader.old }
+    ensures calm { OnOk result (W.failed_writes writer.new ≡ W.failed_writes writer.old) }
+    ensures faults { IsEndOfReads result (R.reads reader.old) (R.reads reader.new) (R.failed_reads reader.old) (R.failed_reads reader.new) (R.ends reader.old) (R.ends reader.new) }
+    ensures write { result ≡ Err ToolFault.Write → Grew (W.failed_writes writer.old) (W.failed_writes writer.new) }
+{
+    laws::one_verdict();
+    let Ok(mut feed) = Feed::new(alloc, *own) else {
+        return Err(ToolFault::Memory);
+    };
+    let mut buffer = [0; 65536];
+    for _turn in 0..MAX_READS {
+        match turn(reader, &mut feed, printer, writer, &mut buffer) {
+            Ok(None) => {}
+            Ok(Some(ended)) => return Ok(ended),
+            Err(fault) => return Err(fault),
+        }
+    }
+    Err(ToolFault::Turns)
+}
+
+/// Writes a line for each item of the stream that `reader` gives, and then the verdict's line; returns the verdict. The lines
+/// of what was read are written before more is read.
+///
+/// # Errors
+/// - `Read` if a read failed.
+/// - `Write` if a write failed or took nothing.
+/// - `Memory` if a growth was refused.
+/// - `Turns` after 4,294,967,296 reads without the end.
+pub fn run_show<R: Source, W: Target>(
+    alloc: Global,
+    reader: &mut R,
+    writer: &mut W,
+    own: &Own,
+) -> Result<Ended, ToolFault>
+    requires { (1 ≤ own.now.limit) × (own.now.limit ≤ 1048576) }
+    ensures unfailed { result ≢ Err ToolFault.Read → R.failed_reads reader.new ≡ R.failed_reads reader.old }
+    ensures reads { R.reads reader.new ≤ R.reads reader.old + 2 ^ 32 }
+    ensures shown { IsWritten (items_in form.Show own.now) (lines_of own.now) own.now (Grew (R.ends reader.old) (R.ends reader.new)) (R.left reader.old) (R.left reader.new) (W.held writer.old) (W.held writer.new) result }
+    ensures faults { IsEndOfReads result (R.reads reader.old) (R.reads reader.new) (R.failed_reads reader.old) (R.failed_reads reader.new) (R.ends reader.old) (R.ends reader.new) }
+    ensures write { result ≡ Err ToolFault.Write → Grew (W.failed_writes writer.old) (W.failed_writes writer.new) }
+{
+    laws::one_verdict();
+    let mut printer = Printer::new(alloc, Form::Show);
+    match tell(alloc, reader, &mut printer, writer, own) {
+        Ok(ended) => match printer.verdict(ended) {
+            Ok(()) => printer.flush(writer, ended),
+            Err(_) => Err(ToolFault::Memory),
+        },
+        Err(fault) => Err(fault),
+    }
+}
+
+/// Writes the script of the items of the stream that `reader` gives, up to its end or a refusal; returns the verdict.
+///
+/// # Errors
+/// Those of `run_show`.
+pub fn run_unpack<R: Source, W: Target>(
+    alloc: Global,
+    reader: &mut R,
+    writer: &mut W,
+    own: &Own,
+) -> Result<Ended, ToolFault>
+    requires { (1 ≤ own.now.limit) × (own.now.limit ≤ 1048576) }
+    ensures unfailed { result ≢ Err ToolFault.Read → R.failed_reads reader.new ≡ R.failed_reads reader.old }
+    ensures reads { R.reads reader.new ≤ R.reads reader.old + 2 ^ 32 }
+    ensures unpacked { IsWritten (unpacked own.now) (unpacked own.now) own.now (Grew (R.ends reader.old) (R.ends reader.new)) (R.left reader.old) (R.left reader.new) (W.held writer.old) (W.held writer.new) result }
+    ensures faults { IsEndOfReads result (R.reads reader.old) (R.reads reader.new) (R.failed_reads reader.old) (R.failed_reads reader.new) (R.ends reader.old) (R.ends reader.new) }
+    ensures write { result ≡ Err ToolFault.Write → Grew (W.failed_writes writer.old) (W.failed_writes writer.new) }
+{
+    let mut printer = Printer::new(alloc, Form::Unpack(*own));
+    tell(alloc, reader, &mut printer, writer, own)
+}

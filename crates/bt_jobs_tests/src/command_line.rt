@@ -1,0 +1,275 @@
+//! What the words of a command line ask for: the job, and the receiver that the options describe.
+use bt_cli::commands::{Asked, Job, default_own};
+use bt_cli::options::asked;
+use bt_ext::{ExtId, Registered, Rules};
+use bt_wire::{Own, Reserved};
+use std::alloc::{AllocError, Global};
+use std::test::Fail;
+
+/// Whether the words ask for this job, with this receiver.
+fn asks(alloc: Global, words: &[&str], job: Job, own: Own) -> Result<bool, AllocError> {
+    let mut texts = Vec::new(alloc);
+    for word in words {
+        texts.push(String::from_str(alloc, word)?)?;
+    }
+    let answer = asked(alloc, &texts)?;
+    Ok(match &answer {
+        Asked::Run(found, receiver) => *found == job && *receiver == own,
+        Asked::Link | Asked::Told(_, _) => false,
+    })
+}
+
+const HASH: [u8; 20] = [
+    0xa9, 0x99, 0x3e, 0x36, 0x47, 0x06, 0x81, 0x6a, 0xba, 0x3e, 0x25, 0x71, 0x78, 0x50, 0xc2, 0x6c,
+    0x9c, 0xd0, 0xd8, 0x9d,
+];
+
+/// The words, and the receiver's reserved bits, pieces, id of `ut_metadata`, info hash, rules and limit.
+type Row<'a> = (
+    &'a [&'a str],
+    u64,
+    Option<u32>,
+    u8,
+    Option<[u8; 20]>,
+    Rules,
+    u32,
+);
+
+#[test]
+fn receivers(rt: HostRuntime) -> Result<(), Fail> {
+    let table: [Row<'_>; 22] = [
+        (&[], 0x10_0005, None, 3, None, Rules::Free, 262_144),
+        (&["show"], 0x10_0005, None, 3, None, Rules::Free, 262_144),
+        (
+            &["show", "--reserved", "0000000000000000"],
+            0,
+            None,
+            3,
+            None,
+            Rules::Free,
+            262_144,
+        ),
+        (
+            &["show", "--reserved", "80000000001000aF"],
+            0x8000_0000_0010_00af,
+            None,
+            3,
+            None,
+            Rules::Free,
+            262_144,
+        ),
+        (
+            &["show", "--pieces", "0"],
+            0x10_0005,
+            Some(0),
+            3,
+            None,
+            Rules::Free,
+            262_144,
+        ),
+        (
+            &["show", "--pieces", "10"],
+            0x10_0005,
+            Some(10),
+            3,
+            None,
+            Rules::Free,
+            262_144,
+        ),
+        (
+            &["show", "--pieces=10"],
+            0x10_0005,
+            Some(10),
+            3,
+            None,
+            Rules::Free,
+            262_144,
+        ),
+        (
+            &["show", "--pieces", "0000000000010"],
+            0x10_0005,
+            Some(10),
+            3,
+            None,
+            Rules::Free,
+            262_144,
+        ),
+        (
+            &["show", "--pieces", "4294967295"],
+            0x10_0005,
+            Some(4_294_967_295),
+            3,
+            None,
+            Rules::Free,
+            262_144,
+        ),
+        (
+            &["show", "--metadata-id", "0"],
+            0x10_0005,
+            None,
+            0,
+            None,
+            Rules::Free,
+            262_144,
+        ),
+        (
+            &["show", "--metadata-id", "3"],
+            0x10_0005,
+            None,
+            3,
+            None,
+            Rules::Free,
+            262_144,
+        ),
+        (
+            &["show", "--metadata-id", "255"],
+            0x10_0005,
+            None,
+            255,
+            None,
+            Rules::Free,
+            262_144,
+        ),
+        (
+            &[
+                "show",
+                "--info-hash",
+                "a9993e364706816aba3e25717850c26c9cd0d89d",
+            ],
+            0x10_0005,
+            None,
+            3,
+            Some(HASH),
+            Rules::Free,
+            262_144,
+        ),
+        (
+            &[
+                "show",
+                "--info-hash",
+                "A9993E364706816ABA3E25717850C26C9CD0D89D",
+            ],
+            0x10_0005,
+            None,
+            3,
+            Some(HASH),
+            Rules::Free,
+            262_144,
+        ),
+        (
+            &["show", "--rules", "free"],
+            0x10_0005,
+            None,
+            3,
+            None,
+            Rules::Free,
+            262_144,
+        ),
+        (
+            &["show", "--rules", "bep"],
+            0x10_0005,
+            None,
+            3,
+            None,
+            Rules::Bep,
+            262_144,
+        ),
+        (
+            &["show", "--limit", "1"],
+            0x10_0005,
+            None,
+            3,
+            None,
+            Rules::Free,
+            1,
+        ),
+        (
+            &["show", "--limit", "1048576"],
+            0x10_0005,
+            None,
+            3,
+            None,
+            Rules::Free,
+            1_048_576,
+        ),
+        (
+            &["show", "--limit=262144"],
+            0x10_0005,
+            None,
+            3,
+            None,
+            Rules::Free,
+            262_144,
+        ),
+        (
+            &["show", "--limit", "262145"],
+            0x10_0005,
+            None,
+            3,
+            None,
+            Rules::Free,
+            262_145,
+        ),
+        (
+            &["show", "--limit", "9", "--pieces=7", "--rules=bep"],
+            0x10_0005,
+            Some(7),
+            3,
+            None,
+            Rules::Bep,
+            9,
+        ),
+        (
+            &[
+                "show",
+                "--metadata-id",
+                "9",
+                "--reserved",
+                "0000000000000004",
+            ],
+            4,
+            None,
+            9,
+            None,
+            Rules::Free,
+            262_144,
+        ),
+    ];
+    for (words, reserved, pieces, id, info_hash, rules, limit) in table {
+        let own = Own {
+            reserved: Reserved(reserved),
+            info_hash,
+            pieces,
+            reg: Registered::new(ExtId::new(id)),
+            rules,
+            limit,
+        };
+        assert!(rt; asks(rt.alloc(), words, Job::Show, own)?, "{words:?}");
+    }
+    Ok(())
+}
+
+/// Each command, its job, and the rules by which it judges.
+#[test]
+fn jobs(rt: HostRuntime) -> Result<(), Fail> {
+    let table: [(&[&str], Job, Rules); 10] = [
+        (&[], Job::Show, Rules::Free),
+        (&["show", "--rules", "bep"], Job::Show, Rules::Bep),
+        (&["check"], Job::Check, Rules::Bep),
+        (&["check", "--rules", "bep"], Job::Check, Rules::Bep),
+        (&["check", "--rules", "free"], Job::Check, Rules::Free),
+        (&["unpack"], Job::Unpack, Rules::Free),
+        (&["unpack", "--rules=free"], Job::Unpack, Rules::Free),
+        (&["unpack", "--rules=bep"], Job::Unpack, Rules::Bep),
+        (&["pack"], Job::Pack, Rules::Free),
+        (&["pack", "--rules", "bep"], Job::Pack, Rules::Bep),
+    ];
+    for (words, job, rules) in table {
+        let own = Own {
+            rules,
+            ..default_own()
+        };
+        assert!(rt; asks(rt.alloc(), words, job, own)?, "{words:?}");
+    }
+    Ok(())
+}

@@ -1,0 +1,5 @@
+pub mod Sayings
+pub mod Cutting
+pub mod Reading
+pub mod Texts
+pub mod Running

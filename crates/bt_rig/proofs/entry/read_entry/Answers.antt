@@ -1,0 +1,12 @@
+use Rattle.std.proofs.Common.{◌≡◌, ℕ, List, Option, Some, None, ap, subst, sym, ◌∙◌}
+use Rattle.bt_wire.specs.declared.message.Message.{Message}
+use Rattle.bt_text.specs.ScriptReading.{seen}
+use Rattle.bt_session.specs.declared.link.Side.{Side}
+use Rattle.bt_rig.specs.Entries.{IsMessageReading, said_in}
+use Rattle.bt_rig.proofs.Sayings.{nothing_said, plain_so}
+use Rattle.bt_rig.proofs.entry.read_entry.Goals as goal
+
+pub returns-in-None-2 : goal.returns-in-None-2
+returns-in-None-2 c =
+    let P : Option Message → Type 0 = λ r. IsMessageReading c.in-Some.words.now r in
+    nothing_said c.args.text.now c.in-Some.words.now c.in-Some.side (sym c.in-Some.ensures.value) (subst P c.in-None-2.is c.in_ok-message-in-Some.ensures)

@@ -1,0 +1,4 @@
+pub mod Entries
+pub mod Scripts
+pub mod Shown
+pub mod Runs

@@ -1,0 +1,161 @@
+-- The script of a link: settings of two ends, and then steps.
+use Rattle.std.specs.Global.{Global}
+use Rattle.std.specs.Prelude.{◌≡◌, ℕ, ◌+◌, ◌==◌, Bool, true, false, List, [], ◌∷◌, ◌++◌, length, codes, Option, Some, None, ⊤}
+use Rattle.std.specs.List.{flat_map}
+use Rattle.sha1.specs.Sha1.{sha1}
+use Rattle.bt_ext.specs.declared.ids.Rules.TheVariants.{Bep}
+use Rattle.bt_ext.specs.Ids.{registered}
+use Rattle.bt_wire.specs.declared.context.Own.{Own}
+use Rattle.bt_metadata.specs.Blocks.{window}
+use Rattle.bt_end.specs.declared.config.Announce.{Announce}
+use Rattle.bt_end.specs.declared.config.Announce.TheVariants.{Silent}
+use Rattle.bt_end.specs.declared.config.Config.{Config}
+use Rattle.bt_end.specs.Configs.{part_for}
+use Rattle.bt_end.specs.Ends.{Part, Watching, Serving, Awaiting}
+use Rattle.bt_session.specs.declared.link.Side.{Side}
+use Rattle.bt_session.specs.declared.link.Side.TheVariants.{Left, Right}
+use Rattle.bt_session.specs.declared.link.Step.{Step}
+use Rattle.bt_text.specs.Script.{has_feed}
+use Rattle.bt_rig.specs.declared.entry.Entry.TheVariants.{Set, Do}
+use Rattle.bt_rig.specs.declared.entry.Setting.{Setting}
+use Rattle.bt_rig.specs.declared.entry.Setting.TheVariants as settings
+use Rattle.bt_rig.specs.declared.script.Script.{Script}
+use Rattle.bt_rig.specs.Entries.{Says}
+
+-- ---- an end's config as values
+
+pub record Setup : Type 0 where
+  pub own : Own
+  pub peer_id : List ℕ
+  pub announce : Announce
+  pub window : ℕ
+  pub part : Part
+
+abbrev pub setup_of : Config Global → Setup
+setup_of c = record { own = c.own; peer_id = c.peer_id; announce = c.announce; window = c.window; part = part_for c.role }
+
+-- the end watches, and its info hash isn't known yet
+abbrev pub default_setup : ℕ → List ℕ → Setup
+default_setup id peer_id = record {
+  own = record { reserved = record { 0 = 0x100005 }; info_hash = None; pieces = None; reg = registered (Some id); rules = Bep; limit = 262144 };
+  peer_id = peer_id;
+  announce = Silent;
+  window = window;
+  part = Watching;
+}
+
+abbrev pub with_own : Setup → Own → Setup
+with_own s own = record s { own = own }
+
+abbrev pub with_hash : Setup → List ℕ → Setup
+with_hash s hash = with_own s (record s.own { info_hash = Some hash })
+
+abbrev pub with_part : Setup → Part → Setup
+with_part s part = record s { part = part }
+
+-- an end that serves metadata has its SHA-1 as info hash
+abbrev pub with_setting : Setup → Setting → Setup
+with_setting s (settings.Watch hash) = with_part (with_hash s hash) Watching
+with_setting s (settings.Serve metadata) = with_part (with_hash s (sha1 metadata)) (Serving metadata)
+with_setting s (settings.Fetch hash) = with_part (with_hash s hash) Awaiting
+with_setting s (settings.InfoHash hash) = with_hash s hash
+with_setting s (settings.PeerId peer_id) = record s { peer_id = peer_id }
+with_setting s (settings.Reserved bits) = with_own s (record s.own { reserved = record { 0 = bits } })
+with_setting s (settings.Rules rules) = with_own s (record s.own { rules = rules })
+with_setting s (settings.Announce announce) = record s { announce = announce }
+with_setting s (settings.Pieces n) = with_own s (record s.own { pieces = Some n })
+with_setting s (settings.Limit n) = with_own s (record s.own { limit = n })
+with_setting s (settings.MetadataId id) = with_own s (record s.own { reg = registered id })
+with_setting s (settings.Window n) = record s { window = n }
+
+-- ---- what the lines so far say
+
+pub record Draft : Type 0 where
+  pub left : Setup
+  pub right : Setup
+  pub steps : List Step
+
+abbrev pub draft_of : Script → Draft
+draft_of s = record { left = setup_of s.left; right = setup_of s.right; steps = s.steps.items }
+
+abbrev pub start : Draft
+start = record {
+  left = default_setup 3 (codes "-BT0001-LLLLLLLLLLLL");
+  right = default_setup 9 (codes "-BT0001-RRRRRRRRRRRR");
+  steps = [];
+}
+
+abbrev pub with_side : Draft → Side → Setting → Draft
+with_side d Left setting = record d { left = with_setting d.left setting }
+with_side d Right setting = record d { right = with_setting d.right setting }
+
+abbrev pub with_step : Draft → Step → Draft
+with_step d step = record d { steps = d.steps ++ step ∷ [] }
+
+-- an empty line, and one that begins with `#`, says nothing
+abbrev pub is_skipped : List ℕ → Bool
+is_skipped [] = true
+is_skipped (c ∷ cs) = c == 35
+
+-- a line is skipped; or it has a setting, which stands before the steps; or it has a step
+pub data Takes (d : Draft) (line : List ℕ) (next : Draft) : Type 0 where
+  skips : is_skipped line ≡ true → next ≡ d → Takes d line next
+  sets : (side : Side) → (setting : Setting) → is_skipped line ≡ false → Says line (Set side setting) → d.steps ≡ [] → next ≡ with_side d side setting → Takes d line next
+  does : (step : Step) → is_skipped line ≡ false → Says line (Do step) → next ≡ with_step d step → Takes d line next
+
+-- the lines are taken one after the other
+abbrev pub AreTaken : Draft → List (List ℕ) → Draft → Type 0
+AreTaken d [] end = end ≡ d
+AreTaken d (line ∷ lines) end = (next : Draft) × Takes d line next × AreTaken next lines end
+
+-- whether a line was taken
+abbrev pub IsTaken : Draft → List ℕ → Draft → Bool → Type 0
+IsTaken d line next true = Takes d line next
+IsTaken d line next false = (other : Draft) → Takes d line other → ⊥
+
+-- ---- the lines of a text
+
+abbrev pub AreWhole : List (List ℕ) → Type 0
+AreWhole [] = ⊤
+AreWhole (line ∷ lines) = (has_feed line ≡ false) × AreWhole lines
+
+-- the lines, each with its line feed
+abbrev pub ended_lines : List (List ℕ) → List ℕ
+ended_lines lines = flat_map (λ line. line ++ 10 ∷ []) lines
+
+-- nothing follows a line, or a line feed does
+abbrev pub IsTail : List ℕ → Type 0
+IsTail [] = ⊤
+IsTail (c ∷ cs) = c ≡ 10
+
+-- the text is these lines, each ended by a line feed, then this one and what follows it
+pub record HasLine (text : List ℕ) (before : List (List ℕ)) (line tail : List ℕ) : Type 0 where
+  pub parts : text ≡ ended_lines before ++ (line ++ tail)
+  pub whole : AreWhole before
+  pub last : has_feed line ≡ false
+  pub ends : IsTail tail
+
+-- where a text's first line ends: what stands before the line feed and after it
+abbrev pub IsCut : List ℕ → Option (List ℕ × List ℕ) → Type 0
+IsCut text None = has_feed text ≡ false
+IsCut text (Some p) = (text ≡ p.0 ++ 10 ∷ p.1) × (has_feed p.0 ≡ false)
+
+-- ---- a whole script
+
+-- all lines are taken, the last too, which no line feed ends (it may be empty)
+pub record IsScript (text : List ℕ) (d : Draft) : Type 0 where
+  pub before : List (List ℕ)
+  pub line : List ℕ
+  pub lines : HasLine text before line []
+  pub taken : AreTaken start (before ++ line ∷ []) d
+
+-- the first line that isn't taken, counted from 1
+pub record IsWrongAt (text : List ℕ) (number : ℕ) : Type 0 where
+  pub before : List (List ℕ)
+  pub line : List ℕ
+  pub tail : List ℕ
+  pub lines : HasLine text before line tail
+  pub draft : Draft
+  pub taken : AreTaken start before draft
+  pub wrong : (next : Draft) → Takes draft line next → ⊥
+  pub count : number ≡ length before + 1

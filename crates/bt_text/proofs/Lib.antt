@@ -1,0 +1,7 @@
+pub mod ScriptWords
+pub mod ScriptBytes
+pub mod ScriptFields
+pub mod ScriptLines
+pub mod ScriptText
+pub mod ScriptSpoken
+pub mod ScriptBounds

@@ -1,0 +1,12 @@
+//! The text of a stream: the lines of `show`, and the scripts that `unpack` writes and `pack` reads.
+//!
+//! - [`lines`]: the line of a message, of a handshake, of a verdict, of a refused line and of a fault.
+//! - [`script`]: the line of an item with all of its bytes, written and read.
+//! - [`ended`]: how a command ends.
+//!
+//! The commands of `bt_jobs` and the command line of `bt_cli` stand on it.
+#![tactic(auto)]
+
+pub mod ended;
+pub mod lines;
+pub mod script;

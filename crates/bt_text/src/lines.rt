@@ -1,0 +1,384 @@
+//! The lines of `show`, and those of standard error. The commands and the command line call it.
+//!
+//! A line of a varying length is written into an array, from its end to its start; the call returns where it starts.
+ghost use Rattle.std.specs.Prelude.{◌≡◌, ◌≤◌, ◌+◌, ◌*◌, ℕ, List, ◌++◌, length, drop, decimal, OnOk};
+ghost use Rattle.hex.specs.Hex.{encode_lower};
+ghost use Rattle.bt_bencode.specs.Bencoding.{ben};
+ghost use Rattle.bt_bencode.specs.Trees.{dictionary};
+ghost use Rattle.bt_bencode.specs.declared.tree.Value.TheVariants as value;
+ghost use Rattle.bt_ext.specs.Payloads.{seen as seen_ext};
+ghost use Rattle.bt_ext.specs.declared.ext.Ext.TheVariants as ext;
+ghost use Rattle.bt_wire.specs.Messages.{message_of};
+ghost use Rattle.bt_wire.specs.declared.context.Own.{Own};
+ghost use Rattle.bt_wire.specs.declared.item.Item.TheVariants as items;
+ghost use Rattle.bt_text.specs.Lines.{spaced, or_dash, told_id, ext_words, message_words, reason_name, script_reason_name, line as line_of, verdict_line as verdict_words, refused_line as refused_words, fault_line as fault_words};
+
+use crate::ended::{Ended, ScriptReason, ToolFault};
+use bt_bencode::DictRef;
+use bt_ext::{ExtView, Kind, kind_ref, metadata_size_ref};
+use bt_wire::{Handshake, MessageView, Reason};
+use itoa::write_digits;
+use std::alloc::AllocError;
+
+/// Room for a line.
+pub type Line = [u8; 160];
+
+/// Puts a number before the place.
+#[inline(always)]
+fn number(n: u64, line: &mut Line, at: usize) -> usize
+    requires { (20 ≤ at) × (at ≤ 160) }
+    ensures room { (result ≤ at) × (at ≤ result + 20) }
+    ensures text { drop result line.new ≡ decimal n ++ drop at line.old }
+{
+    write_digits(n, line, at)
+}
+
+/// Puts a word before the place.
+#[inline(always)]
+fn word(text: &[u8], line: &mut Line, at: usize) -> usize
+    requires { (length text.now ≤ at) × (at ≤ 160) }
+    ensures room { result + length text.now ≡ at }
+    ensures text { drop result line.new ≡ text.now ++ drop at line.old }
+{
+    let front = at - text.len();
+    line[front..at].copy_from_slice(text);
+    front
+}
+
+/// Puts bytes in hex before the place.
+fn hex_word(bytes: &[u8], line: &mut Line, at: usize) -> usize
+    requires { (2 * length bytes.now ≤ at) × (at ≤ 160) }
+    ensures room { result + 2 * length bytes.now ≡ at }
+    ensures text { drop result line.new ≡ encode_lower bytes.now ++ drop at line.old }
+{
+    let front = at - 2 * bytes.len();
+    let _ = hex::encode_to_slice(bytes, &mut line[front..at]);
+    front
+}
+
+/// Puts a space and a number before the place.
+#[inline(always)]
+fn number_word(n: u64, line: &mut Line, at: usize) -> usize
+    requires { (21 ≤ at) × (at ≤ 160) }
+    ensures room { (result ≤ at) × (at ≤ result + 21) }
+    ensures text { drop result line.new ≡ spaced n ++ drop at line.old }
+{
+    let place = number(n, line, at);
+    word(b" ", line, place)
+}
+
+/// Puts a number before the place, or `-` for none.
+fn number_or_dash(n: Option<u64>, line: &mut Line, at: usize) -> usize
+    requires { (20 ≤ at) × (at ≤ 160) }
+    ensures room { (result ≤ at) × (at ≤ result + 20) }
+    ensures text { drop result line.new ≡ or_dash n ++ drop at line.old }
+{
+    match n {
+        Some(n) => number(n, line, at),
+        None => word(b"-", line, at),
+    }
+}
+
+/// Puts a name and a number before the place.
+#[inline(always)]
+fn name_and_one(name: &[u8], n: u64, line: &mut Line, at: usize) -> usize
+    requires { (21 + length name.now ≤ at) × (at ≤ 160) }
+    ensures room { (result ≤ at) × (at ≤ result + 21 + length name.now) }
+    ensures text { drop result line.new ≡ name.now ++ (spaced n ++ drop at line.old) }
+{
+    let place = number_word(n, line, at);
+    word(name, line, place)
+}
+
+/// Puts a name and two numbers before the place.
+fn name_and_two(name: &[u8], n: u64, m: u64, line: &mut Line, at: usize) -> usize
+    requires { (42 + length name.now ≤ at) × (at ≤ 160) }
+    ensures room { (result ≤ at) × (at ≤ result + 42 + length name.now) }
+    ensures text { drop result line.new ≡ name.now ++ (spaced n ++ (spaced m ++ drop at line.old)) }
+{
+    let place = number_word(m, line, at);
+    name_and_one(name, n, line, place)
+}
+
+/// Puts a name and three numbers before the place.
+#[inline(always)]
+fn name_and_three(name: &[u8], n: u64, m: u64, k: u64, line: &mut Line, at: usize) -> usize
+    requires { (63 + length name.now ≤ at) × (at ≤ 160) }
+    ensures room { (result ≤ at) × (at ≤ result + 63 + length name.now) }
+    ensures text { drop result line.new ≡ name.now ++ (spaced n ++ (spaced m ++ (spaced k ++ drop at line.old))) }
+{
+    let place = number_word(k, line, at);
+    let place = number_word(m, line, place);
+    name_and_one(name, n, line, place)
+}
+
+/// Returns the id of `ut_metadata` that an extended handshake announces.
+fn told_metadata(dict: &DictRef) -> Option<u64>
+    ensures { result ≡ told_id (dictionary dict.now.tree.0) }
+{
+    let m = dict.lookup_dict(b"m")?;
+    let id = m.lookup_int(b"ut_metadata")?;
+    let id = u8::try_from(id).ok()?;
+    Some(u64::from(id))
+}
+
+/// Returns the length of the dictionary's spelling.
+fn dict_length(dict: &DictRef) -> u64
+    ensures { result ≡ length (ben (dictionary dict.now.tree.0)) }
+{
+    dict.spelled().len() as u64
+}
+
+/// Puts the words of an extended handshake before the place.
+fn handshake_words(dict: &DictRef, rest: usize, line: &mut Line, at: usize) -> usize
+    requires { (120 ≤ at) × (at ≤ 160) }
+    ensures room { (result ≤ at) × (at ≤ result + 114) }
+    ensures text { (bytes : List ℕ) → length bytes ≡ rest → drop result line.new ≡ ext_words (ext.Handshake (value.Dict dict.now.tree.0) bytes) ++ drop at line.old }
+{
+    let place = number_or_dash(told_metadata(dict), line, at);
+    let place = word(b" ut_metadata=", line, place);
+    let place = number_or_dash(metadata_size_ref(dict), line, place);
+    let place = word(b" size=", line, place);
+    name_and_two(
+        b"ext-handshake",
+        dict_length(dict),
+        rest as u64,
+        line,
+        place,
+    )
+}
+
+/// Puts the words of a metadata message before the place.
+fn metadata_words(dict: &DictRef, rest: usize, line: &mut Line, at: usize) -> usize
+    requires { (120 ≤ at) × (at ≤ 160) }
+    ensures room { (result ≤ at) × (at ≤ result + 114) }
+    ensures text { (bytes : List ℕ) → length bytes ≡ rest → drop result line.new ≡ ext_words (ext.Metadata (value.Dict dict.now.tree.0) bytes) ++ drop at line.old }
+{
+    let rest = rest as u64;
+    match kind_ref(dict) {
+        Kind::Request(piece) => name_and_one(b"metadata-request", u64::from(piece), line, at),
+        Kind::Data { piece, total } => {
+            name_and_three(b"metadata-data", u64::from(piece), total, rest, line, at)
+        }
+        Kind::Reject(piece) => name_and_one(b"metadata-reject", u64::from(piece), line, at),
+        Kind::Other => name_and_two(b"metadata-other", dict_length(dict), rest, line, at),
+        Kind::Malformed => name_and_two(b"metadata-malformed", dict_length(dict), rest, line, at),
+    }
+}
+
+/// Puts the words of an extended payload before the place.
+fn payload_words(payload: &ExtView, line: &mut Line, at: usize) -> usize
+    requires { (120 ≤ at) × (at ≤ 160) }
+    ensures room { (result ≤ at) × (at ≤ result + 114) }
+    ensures text { drop result line.new ≡ ext_words (seen_ext payload.now) ++ drop at line.old }
+{
+    match payload {
+        ExtView::Handshake { dict, rest } => handshake_words(dict, rest.len(), line, at),
+        ExtView::Metadata { dict, rest } => metadata_words(dict, rest.len(), line, at),
+        ExtView::Raw { id, payload } => {
+            name_and_two(b"extended", u64::from(*id), payload.len() as u64, line, at)
+        }
+    }
+}
+
+/// Puts the words of a message before the place.
+#[inline(always)]
+fn view_words(view: &MessageView, line: &mut Line, at: usize) -> usize
+    requires { (120 ≤ at) × (at ≤ 160) }
+    ensures room { (result ≤ at) × (at ≤ result + 114) }
+    ensures text { (own : Own) → drop result line.new ≡ message_words own (message_of view.now) ++ drop at line.old }
+{
+    match view {
+        MessageView::KeepAlive => word(b"keep-alive", line, at),
+        MessageView::Choke => word(b"choke", line, at),
+        MessageView::Unchoke => word(b"unchoke", line, at),
+        MessageView::Interested => word(b"interested", line, at),
+        MessageView::NotInterested => word(b"not-interested", line, at),
+        MessageView::Have(i) => name_and_one(b"have", u64::from(*i), line, at),
+        MessageView::Bitfield(bits) => name_and_one(b"bitfield", bits.len() as u64, line, at),
+        MessageView::Request {
+            index,
+            begin,
+            length,
+        } => name_and_three(
+            b"request",
+            u64::from(*index),
+            u64::from(*begin),
+            u64::from(*length),
+            line,
+            at,
+        ),
+        MessageView::Piece {
+            index,
+            begin,
+            block,
+        } => name_and_three(
+            b"piece",
+            u64::from(*index),
+            u64::from(*begin),
+            block.len() as u64,
+            line,
+            at,
+        ),
+        MessageView::Cancel {
+            index,
+            begin,
+            length,
+        } => name_and_three(
+            b"cancel",
+            u64::from(*index),
+            u64::from(*begin),
+            u64::from(*length),
+            line,
+            at,
+        ),
+        MessageView::Port(port) => name_and_one(b"port", u64::from(*port), line, at),
+        MessageView::Suggest(i) => name_and_one(b"suggest", u64::from(*i), line, at),
+        MessageView::HaveAll => word(b"have-all", line, at),
+        MessageView::HaveNone => word(b"have-none", line, at),
+        MessageView::Reject {
+            index,
+            begin,
+            length,
+        } => name_and_three(
+            b"reject",
+            u64::from(*index),
+            u64::from(*begin),
+            u64::from(*length),
+            line,
+            at,
+        ),
+        MessageView::AllowedFast(i) => name_and_one(b"allowed-fast", u64::from(*i), line, at),
+        MessageView::Extended(payload) => payload_words(payload, line, at),
+        MessageView::Unknown { id, payload } => name_and_two(
+            b"unknown",
+            u64::from(*id),
+            payload.len() as u64,
+            line,
+            at,
+        ),
+    }
+}
+
+/// Writes the line of a message at the end of the array, and returns where it starts.
+#[inline(always)]
+pub fn message_line(at: u64, view: &MessageView, line: &mut Line) -> usize
+    ensures room { result ≤ 160 }
+    ensures text { (own : Own) → drop result line.new ≡ line_of own (at, items.Message (message_of view.now)) }
+{
+    let place = word(b"\n", line, 160);
+    let place = view_words(view, line, place);
+    let place = word(b" ", line, place);
+    number(at, line, place)
+}
+
+/// Writes the line of a handshake at the end of the array, and returns where it starts.
+pub fn handshake_line(at: u64, handshake: &Handshake, line: &mut Line) -> usize
+    ensures room { result ≤ 160 }
+    ensures text { (own : Own) → drop result line.new ≡ line_of own (at, items.Handshake handshake.now) }
+{
+    let place = word(b"\n", line, 160);
+    let place = hex_word(&handshake.peer_id, line, place);
+    let place = word(b" ", line, place);
+    let place = hex_word(&handshake.info_hash, line, place);
+    let place = word(b" ", line, place);
+    let place = hex_word(&handshake.reserved.0.to_be_bytes(), line, place);
+    let place = word(b" handshake ", line, place);
+    number(at, line, place)
+}
+
+/// Returns the name of a reason.
+pub fn name_of(reason: Reason) -> &'static [u8]
+    ensures name { result.now ≡ reason_name reason }
+    ensures short { length result.now ≤ 20 }
+{
+    match reason {
+        Reason::BadProtocol => b"BadProtocol",
+        Reason::WrongInfoHash => b"WrongInfoHash",
+        Reason::TooLong => b"TooLong",
+        Reason::UnknownId => b"UnknownId",
+        Reason::NotNegotiated => b"NotNegotiated",
+        Reason::WrongLength => b"WrongLength",
+        Reason::BadIndex => b"BadIndex",
+        Reason::SpareBits => b"SpareBits",
+        Reason::Late => b"Late",
+        Reason::Missing => b"Missing",
+        Reason::BadBencode => b"BadBencode",
+        Reason::Unsorted => b"Unsorted",
+        Reason::BadField => b"BadField",
+        Reason::BadBlock => b"BadBlock",
+        Reason::StreamFull => b"StreamFull",
+        Reason::EndInside => b"EndInside",
+    }
+}
+
+/// Writes the verdict's line at the end of the array, and returns where it starts.
+pub fn verdict_line(ended: Ended, line: &mut Line) -> usize
+    ensures room { result ≤ 160 }
+    ensures text { drop result line.new ≡ verdict_words ended }
+{
+    let place = word(b"\n", line, 160);
+    match ended {
+        Ended::Accepted { messages, bytes } => {
+            let place = number(bytes, line, place);
+            let place = word(b" bytes=", line, place);
+            let place = number(messages, line, place);
+            word(b"ok messages=", line, place)
+        }
+        Ended::Refused(refusal) => {
+            let place = word(name_of(refusal.reason), line, place);
+            let place = word(b" ", line, place);
+            let place = number(refusal.at, line, place);
+            let place = word(b" at=", line, place);
+            let place = number(refusal.message, line, place);
+            word(b"refused message=", line, place)
+        }
+    }
+}
+
+/// Returns the name of the reason why a line of a script isn't taken.
+fn script_name_of(reason: ScriptReason) -> &'static [u8]
+    ensures name { result.now ≡ script_reason_name reason }
+    ensures short { length result.now ≤ 20 }
+{
+    match reason {
+        ScriptReason::Syntax => b"Syntax",
+        ScriptReason::Reason(reason) => name_of(reason),
+    }
+}
+
+/// Writes the line for a refused line of a script at the end of the array, and returns where it starts.
+pub fn refused_line(number_of_line: u64, reason: ScriptReason, line: &mut Line) -> usize
+    ensures room { result ≤ 160 }
+    ensures text { drop result line.new ≡ refused_words number_of_line reason }
+{
+    let place = word(b"\n", line, 160);
+    let place = word(script_name_of(reason), line, place);
+    let place = word(b" ", line, place);
+    let place = number(number_of_line, line, place);
+    word(b"refused line=", line, place)
+}
+
+/// Returns the line that a fault gets on standard error.
+pub fn fault_line(fault: ToolFault) -> &'static [u8]
+    ensures { result.now ≡ fault_words fault }
+{
+    match fault {
+        ToolFault::Read => b"fault: read\n",
+        ToolFault::Write => b"fault: write\n",
+        ToolFault::Memory => b"fault: memory\n",
+        ToolFault::Turns => b"fault: turns\n",
+    }
+}
+
+/// Adds the line that starts at `place` to the text.
+///
+/// # Errors
+/// `AllocError` if the growth of the text was refused.
+#[inline(always)]
+pub fn push_line(text: &mut Vec<u8>, line: &Line, place: usize) -> Result<(), AllocError>
+    requires { place ≤ 160 }
+    ensures { OnOk result (text.new.items ≡ text.old.items ++ drop place line.now) }
+{
+    text.extend_from_slice(&line[place..])
+}

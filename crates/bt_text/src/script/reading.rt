@@ -1,0 +1,422 @@
+//! A line of a script, from its text to its bytes. `pack` calls it.
+//!
+//! Nothing is allocated but the bytes.
+ghost use Rattle.std.specs.Prelude.{◌≡◌, ◌+◌, ◌<◌, ◌≤◌, ◌^◌, length, IsTrue, ◌↔◌, slice_index, IfOk, IfSome, OnOk, MatchResult, option_map, position, unwrap_or, true, false, ◌++◌, ◌∷◌, ◌-◌, ◌==◌};
+ghost use Rattle.std.specs.Str.{bytes_eq};
+ghost use Rattle.std.specs.Result.{result_ok};
+ghost use Rattle.hex.specs.Hex.{decode_of};
+ghost use Rattle.bt_wire.specs.Numbers.{be32, be64};
+ghost use Rattle.bt_wire.specs.Ids.{ids, has_meaning as is_known};
+ghost use Rattle.bt_text.specs.Script.{row_named, framed_by, IsAnswer};
+ghost use Rattle.bt_text.specs.ScriptReading.{
+  word_of,
+  behind_word,
+  number_in_word,
+  bytes_in_word,
+  number_behind as number_read,
+  two_behind,
+  three_behind,
+  closed,
+  with_bytes,
+  fields_in,
+  unknown_in,
+  message_in,
+  array_behind as array_read,
+  handshake_in,
+  parts_of,
+  line_in,
+  seen,
+  Gives,
+};
+
+use bt_wire::{Handshake, Reserved, Shape, spell_handshake};
+use hex::FromHex;
+use std::alloc::AllocError;
+
+#[inline(always)]
+fn is(text: &[u8], word: &[u8]) -> bool
+    ensures { result ≡ bytes_eq text.now word.now }
+{
+    text == word
+}
+
+/// Returns the place of the first space.
+fn first_space(text: &[u8]) -> Option<usize>
+    ensures { result ≡ position (λ c. c == 32) text.now }
+{
+    text.iter().position(|byte| *byte == b' ')
+}
+
+/// Splits the text before its first space.
+fn split_word(text: &[u8]) -> (&[u8], &[u8])
+    ensures word { result.0.now ≡ word_of text.now }
+    ensures rest { result.1.now ≡ behind_word text.now }
+    ensures short { length result.1.now ≤ length text.now }
+{
+    let end = first_space(text).unwrap_or(text.len());
+    text.split_at(end)
+}
+
+/// Whether a zero leads further digits.
+fn has_leading_zero(word: &[u8]) -> bool
+    ensures { IsTrue result ↔ ((slice_index word.now 0 ≡ 48) × (1 < length word.now)) }
+{
+    word.len() > 1 && word[0] == b'0'
+}
+
+/// Returns the number below 2^32 whose digits the word is, without leading zeros.
+pub fn plain_number(word: &[u8]) -> Option<u32>
+    ensures { result ≡ number_in_word word.now }
+{
+    if word.is_empty() || word.len() > 10 || has_leading_zero(word) {
+        return None;
+    }
+    let mut n: u64 = 0;
+    for digit in word {
+        if !digit.is_ascii_digit() {
+            return None;
+        }
+        n = n * 10 + u64::from(digit - b'0');
+    }
+    u32::try_from(n).ok()
+}
+
+/// Reads a space and a number, and returns the number and what follows it.
+fn number_behind(text: &[u8]) -> Option<(u32, &[u8])>
+    ensures value { seen result ≡ number_read text.now }
+    ensures short { IfSome result (λ p. length p.1.now ≤ length text.now) }
+{
+    let (space, number) = text.split_first()?;
+    if *space != b' ' {
+        return None;
+    }
+    let (word, rest) = split_word(number);
+    let n = plain_number(word)?;
+    Some((n, rest))
+}
+
+/// Reads two numbers, each after a space, and returns their bytes and what follows them.
+fn two_numbers(text: &[u8]) -> Option<([u8; 8], &[u8])>
+    ensures value { seen result ≡ two_behind text.now }
+    ensures short { IfSome result (λ p. length p.1.now ≤ length text.now) }
+{
+    let (first, rest) = number_behind(text)?;
+    let (second, rest) = number_behind(rest)?;
+    let mut numbers = [0u8; 8];
+    numbers[..4].copy_from_slice(&first.to_be_bytes());
+    numbers[4..].copy_from_slice(&second.to_be_bytes());
+    Some((numbers, rest))
+}
+
+/// Reads three numbers, each after a space, and returns their bytes and what follows them.
+fn three_numbers(text: &[u8]) -> Option<([u8; 12], &[u8])>
+    ensures { seen result ≡ three_behind text.now }
+{
+    let (two, rest) = two_numbers(text)?;
+    let (third, rest) = number_behind(rest)?;
+    let mut numbers = [0u8; 12];
+    numbers[..8].copy_from_slice(&two);
+    numbers[8..].copy_from_slice(&third.to_be_bytes());
+    Some((numbers, rest))
+}
+
+/// Appends the bytes that hex digits of either case say, and returns whether they are such digits.
+fn push_decoded(digits: &[u8], bytes: &mut Vec<u8>) -> Result<bool, AllocError>
+    ensures { IfOk result (λ ok. MatchResult (decode_of digits.now)
+        (λ decoded. (ok ≡ true) × (bytes.new.items ≡ bytes.old.items ++ decoded)) (λ _. ok ≡ false)) }
+{
+    let start = bytes.len();
+    bytes.resize(start + digits.len() / 2, 0)?;
+    Ok(hex::decode_to_slice(digits, &mut bytes[start..]).is_ok())
+}
+
+/// Puts the length, the id and the bytes of the numbers of a message in which `size` bytes follow, and reserves room for
+/// these.
+fn begin(id: u8, numbers: &[u8], size: usize, bytes: &mut Vec<u8>) -> Result<(), AllocError>
+    requires { length numbers.now + size < 2 ^ 32 - 1 }
+    ensures { OnOk result (bytes.new.items ≡ be32 (1 + length numbers.now + size) ++ (id ∷ numbers.now)) }
+{
+    let length = 1 + numbers.len() + size;
+    bytes.clear();
+    bytes.reserve(4 + length)?;
+    bytes.extend_from_slice(&(length as u32).to_be_bytes())?;
+    bytes.push(id)?;
+    bytes.extend_from_slice(numbers)
+}
+
+/// Puts the message of an id and the bytes of its numbers, where nothing follows them.
+fn put_numbers(id: u8, numbers: &[u8], rest: &[u8], bytes: &mut Vec<u8>) -> Result<bool, AllocError>
+    requires { length numbers.now ≤ 12 }
+    ensures { IfOk result (Gives (option_map (framed_by id) (closed numbers.now rest.now)) bytes.new.items) }
+{
+    if !rest.is_empty() {
+        return Ok(false);
+    }
+    begin(id, numbers, 0, bytes)?;
+    Ok(true)
+}
+
+/// Puts the message of an id, the bytes of its numbers, and the bytes that hex digits say.
+fn put_digits(
+    id: u8,
+    numbers: &[u8],
+    digits: &[u8],
+    bytes: &mut Vec<u8>,
+) -> Result<bool, AllocError>
+    requires { (length numbers.now ≤ 12) × (length digits.now < 2 ^ 32) }
+    ensures { IfOk result (Gives (option_map (framed_by id) (option_map (λ b. numbers.now ++ b) (result_ok (decode_of digits.now)))) bytes.new.items) }
+{
+    begin(id, numbers, digits.len() / 2, bytes)?;
+    push_decoded(digits, bytes)
+}
+
+/// Puts the message of an id, the bytes of its numbers, and the bytes of a word: hex digits, or `-` for no bytes.
+#[tactic(auto, unfolding(crate::specs::ScriptReading::bytes_in_word))]
+fn put_word(id: u8, numbers: &[u8], word: &[u8], bytes: &mut Vec<u8>) -> Result<bool, AllocError>
+    requires { (length numbers.now ≤ 12) × (length word.now < 2 ^ 32) }
+    ensures { IfOk result (Gives (option_map (framed_by id) (option_map (λ b. numbers.now ++ b) (bytes_in_word word.now))) bytes.new.items) }
+{
+    if is(word, b"-") {
+        return put_numbers(id, numbers, b"", bytes);
+    }
+    if word.is_empty() {
+        return Ok(false);
+    }
+    put_digits(id, numbers, word, bytes)
+}
+
+/// Puts the message of an id, the bytes of its numbers, and the bytes of a word after a space.
+fn put_bytes(id: u8, numbers: &[u8], rest: &[u8], bytes: &mut Vec<u8>) -> Result<bool, AllocError>
+    requires { (length numbers.now ≤ 12) × (length rest.now < 2 ^ 32) }
+    ensures { IfOk result (Gives (option_map (framed_by id) (with_bytes numbers.now rest.now)) bytes.new.items) }
+{
+    match rest.split_first() {
+        Some((b' ', word)) => put_word(id, numbers, word, bytes),
+        _ => Ok(false),
+    }
+}
+
+/// Puts the message of an id and three numbers.
+fn put_part(id: u8, text: &[u8], bytes: &mut Vec<u8>) -> Result<bool, AllocError>
+    ensures { IfOk result (Gives (option_map (framed_by id) (fields_in Shape.Part text.now)) bytes.new.items) }
+{
+    let Some(found) = three_numbers(text) else {
+        return Ok(false);
+    };
+    let (numbers, rest) = found;
+    put_numbers(id, &numbers, rest, bytes)
+}
+
+/// Puts the message of an id, two numbers and bytes.
+fn put_block(id: u8, text: &[u8], bytes: &mut Vec<u8>) -> Result<bool, AllocError>
+    requires { length text.now < 2 ^ 32 }
+    ensures { IfOk result (Gives (option_map (framed_by id) (fields_in Shape.Block text.now)) bytes.new.items) }
+{
+    let Some(found) = two_numbers(text) else {
+        return Ok(false);
+    };
+    let (numbers, rest) = found;
+    put_bytes(id, &numbers, rest, bytes)
+}
+
+/// Puts the message of an id whose fields have this shape.
+fn put_fields(shape: Shape, id: u8, text: &[u8], bytes: &mut Vec<u8>) -> Result<bool, AllocError>
+    requires { length text.now < 2 ^ 32 }
+    ensures { IfOk result (Gives (option_map (framed_by id) (fields_in shape text.now)) bytes.new.items) }
+{
+    match shape {
+        Shape::Nothing => put_numbers(id, b"", text, bytes),
+        Shape::Index => match number_behind(text) {
+            Some((index, rest)) => put_numbers(id, &index.to_be_bytes(), rest, bytes),
+            None => Ok(false),
+        },
+        Shape::Part => put_part(id, text, bytes),
+        Shape::Block => put_block(id, text, bytes),
+        Shape::Port => put_port(id, text, bytes),
+        Shape::Field => put_bytes(id, b"", text, bytes),
+        Shape::Extended => put_extended(id, text, bytes),
+    }
+}
+
+/// Puts the message of an id and a port.
+fn put_port(id: u8, text: &[u8], bytes: &mut Vec<u8>) -> Result<bool, AllocError>
+    ensures { IfOk result (Gives (option_map (framed_by id) (fields_in Shape.Port text.now)) bytes.new.items) }
+{
+    match number_behind(text) {
+        Some((port, rest)) if port < 65_536 => {
+            put_numbers(id, &(port as u16).to_be_bytes(), rest, bytes)
+        }
+        _ => Ok(false),
+    }
+}
+
+/// Puts the message of an id, an extended id and its payload.
+fn put_extended(id: u8, text: &[u8], bytes: &mut Vec<u8>) -> Result<bool, AllocError>
+    requires { length text.now < 2 ^ 32 }
+    ensures { IfOk result (Gives (option_map (framed_by id) (fields_in Shape.Extended text.now)) bytes.new.items) }
+{
+    match number_behind(text) {
+        Some((extended, rest)) if extended < 256 => put_bytes(id, &[extended as u8], rest, bytes),
+        _ => Ok(false),
+    }
+}
+
+/// Returns whether an id is in the table of ids.
+fn has_meaning(id: u8) -> bool
+    ensures { result ≡ is_known id }
+{
+    match id {
+        0..=9 | 13..=17 | 20 => true,
+        _ => false,
+    }
+}
+
+/// Puts the message of an id that has no meaning and its payload.
+fn put_unknown(text: &[u8], bytes: &mut Vec<u8>) -> Result<bool, AllocError>
+    requires { length text.now < 2 ^ 32 }
+    ensures { IfOk result (Gives (unknown_in text.now) bytes.new.items) }
+{
+    match number_behind(text) {
+        Some((id, rest)) if id < 256 && !has_meaning(id as u8) => {
+            put_bytes(id as u8, b"", rest, bytes)
+        }
+        _ => Ok(false),
+    }
+}
+
+/// Returns the id of a name, and the shape of its fields.
+fn row_of(name: &[u8]) -> Option<(u8, Shape)>
+    ensures { result ≡ option_map (λ i. (i.number, i.kind.shape)) (row_named name.now ids) }
+{
+    if is(name, b"choke") {
+        Some((0, Shape::Nothing))
+    } else if is(name, b"unchoke") {
+        Some((1, Shape::Nothing))
+    } else if is(name, b"interested") {
+        Some((2, Shape::Nothing))
+    } else if is(name, b"not-interested") {
+        Some((3, Shape::Nothing))
+    } else if is(name, b"have") {
+        Some((4, Shape::Index))
+    } else if is(name, b"bitfield") {
+        Some((5, Shape::Field))
+    } else if is(name, b"request") {
+        Some((6, Shape::Part))
+    } else if is(name, b"piece") {
+        Some((7, Shape::Block))
+    } else if is(name, b"cancel") {
+        Some((8, Shape::Part))
+    } else if is(name, b"port") {
+        Some((9, Shape::Port))
+    } else if is(name, b"suggest") {
+        Some((13, Shape::Index))
+    } else if is(name, b"have-all") {
+        Some((14, Shape::Nothing))
+    } else if is(name, b"have-none") {
+        Some((15, Shape::Nothing))
+    } else if is(name, b"reject") {
+        Some((16, Shape::Part))
+    } else if is(name, b"allowed-fast") {
+        Some((17, Shape::Index))
+    } else if is(name, b"extended") {
+        Some((20, Shape::Extended))
+    } else {
+        None
+    }
+}
+
+/// Puts the message of a line.
+fn put_message(text: &[u8], bytes: &mut Vec<u8>) -> Result<bool, AllocError>
+    requires { length text.now < 2 ^ 32 }
+    ensures { IfOk result (Gives (message_in text.now) bytes.new.items) }
+{
+    if is(text, b"keep-alive") {
+        bytes.clear();
+        bytes.extend_from_slice(&[0; 4])?;
+        return Ok(true);
+    }
+    let (name, rest) = split_word(text);
+    if is(name, b"unknown") {
+        return put_unknown(rest, bytes);
+    }
+    match row_of(name) {
+        Some((id, shape)) => put_fields(shape, id, rest, bytes),
+        None => Ok(false),
+    }
+}
+
+/// Reads a space and the hex digits of `N` bytes, of either case, and returns the bytes and what follows them.
+fn array_behind<const N: usize>(text: &[u8]) -> Option<([u8; N], &[u8])>
+    ensures { seen result ≡ array_read N text.now }
+{
+    let (space, digits) = text.split_first()?;
+    if *space != b' ' {
+        return None;
+    }
+    let (word, rest) = split_word(digits);
+    let bytes = <[u8; N] as FromHex>::from_hex(word).ok()?;
+    Some((bytes, rest))
+}
+
+/// Returns the number that eight bytes say, the highest byte first.
+fn reserved_of(bytes: &[u8]) -> u64
+    requires { length bytes.now ≡ 8 }
+    ensures { be64 result ≡ bytes.now }
+{
+    u64::from_be_bytes([
+        bytes[0], bytes[1], bytes[2], bytes[3], bytes[4], bytes[5], bytes[6], bytes[7],
+    ])
+}
+
+/// Reads the handshake of a line.
+fn read_handshake(text: &[u8]) -> Option<Handshake>
+    ensures { option_map parts_of result ≡ handshake_in text.now }
+{
+    let (name, rest) = split_word(text);
+    if !is(name, b"handshake") {
+        return None;
+    }
+    let (reserved, rest) = array_behind::<8>(rest)?;
+    let (info_hash, rest) = array_behind::<20>(rest)?;
+    let (peer_id, rest) = array_behind::<20>(rest)?;
+    if !rest.is_empty() {
+        return None;
+    }
+    Some(Handshake {
+        reserved: Reserved(reserved_of(&reserved)),
+        info_hash,
+        peer_id,
+    })
+}
+
+/// Reads a line of a script, which stands without its line feed, and puts what it names in `bytes`.
+///
+/// The first line of a script names the 68 bytes of a handshake (BEP 3), each other one the length, id and fields of a
+/// message, whether that may be sent or not. It returns false for what is no line; `bytes` is then of no use.
+///
+/// # Errors
+/// `AllocError` if the growth of `bytes` was refused; there is one at most.
+pub fn read_line(text: &[u8], first: bool, bytes: &mut Vec<u8>) -> Result<bool, AllocError>
+    requires { length text.now < 2 ^ 32 }
+    ensures { IfOk result (IsAnswer first text.now bytes.new.items) }
+{
+    put_line(text, first, bytes)
+}
+
+/// Does what [`read_line`] does; its contract says how the line is read from left to right.
+fn put_line(text: &[u8], first: bool, bytes: &mut Vec<u8>) -> Result<bool, AllocError>
+    requires { length text.now < 2 ^ 32 }
+    ensures { IfOk result (Gives (line_in first text.now) bytes.new.items) }
+{
+    if !first {
+        return put_message(text, bytes);
+    }
+    match read_handshake(text) {
+        Some(handshake) => {
+            bytes.clear();
+            bytes.extend_from_slice(&spell_handshake(&handshake))?;
+            Ok(true)
+        }
+        None => Ok(false),
+    }
+}

@@ -1,5 +1,0 @@
-use Rattle.bt_tool.proofs.PackLaws.{pack_is_one}
-use Rattle.bt_tool.proofs.pack_laws.one_packing.Goals as goal
-
-pub returns : goal.returns
-returns c = pack_is_one

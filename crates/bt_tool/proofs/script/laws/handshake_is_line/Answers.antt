@@ -1,5 +1,0 @@
-use Rattle.bt_tool.proofs.ScriptSpoken.{handshake_line}
-use Rattle.bt_tool.proofs.script.laws.handshake_is_line.Goals as goal
-
-pub returns : goal.returns
-returns c = λ own h is fits. handshake_line h is fits

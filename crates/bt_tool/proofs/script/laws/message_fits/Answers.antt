@@ -1,5 +1,0 @@
-use Rattle.bt_tool.proofs.ScriptBounds.{message_fits}
-use Rattle.bt_tool.proofs.script.laws.message_fits.Goals as goal
-
-pub returns : goal.returns
-returns c = message_fits

@@ -1,5 +1,0 @@
-use Rattle.bt_tool.proofs.ScriptLines.{one_reading}
-use Rattle.bt_tool.proofs.script.laws.one_reading.Goals as goal
-
-pub returns : goal.returns
-returns c = one_reading

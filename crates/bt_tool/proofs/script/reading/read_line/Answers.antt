@@ -1,5 +1,0 @@
-use Rattle.bt_tool.proofs.ScriptLines.{read_answer}
-use Rattle.bt_tool.proofs.script.reading.read_line.Goals as goal
-
-pub returns : goal.returns
-returns c = read_answer c.args.first c.args.text.now c.put_line.new.bytes.items c.put_line.result c.put_line.ensures

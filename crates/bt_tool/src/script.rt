@@ -1,4 +1,0 @@
-//! Scripts: a line of text for each item of a stream, with all of its bytes.
-pub mod laws;
-pub mod reading;
-pub mod writing;
