@@ -4,7 +4,8 @@
 usage: tests/statuses.py [PROGRAM]
 
 PROGRAM is the built program, or else the script `bt_tool` at the top of the repository. What is expected was worked out from
-docs/FORMAT.md. The texts of help, usage and of mistakes aren't fixed: a row has TEXT where some text has to be.
+docs/FORMAT.md. The texts of help, usage and of mistakes aren't fixed: a row has TEXT where some text has to be, and Parts
+where a text has to have some parts.
 """
 import os
 import subprocess
@@ -12,16 +13,27 @@ import sys
 
 ROOT = os.path.dirname(os.path.dirname(os.path.abspath(__file__)))
 TEXT = object()
+
+
+class Parts:
+    """A text that has these parts."""
+
+    def __init__(self, *parts):
+        self.parts = parts
+
+
 # Input that can't be read, and output that can't be written.
 FOLDER, FULL = object(), object()
 
 HASH = "a9993e364706816aba3e25717850c26c9cd0d89d"
 PEER = b"-XX0001-000000000000"
 HAND = b"\x13BitTorrent protocol" + bytes.fromhex("0000000000100005") + bytes.fromhex(HASH) + PEER
+HAVE_9 = bytes.fromhex("00000005 04 00000009")
 LINE = ("handshake 0000000000100005 %s %s\n" % (HASH, PEER.hex())).encode()
 REQUEST = b"d8:msg_typei0e5:piecei0ee"
+MISTAKE = Parts(b"error: ", b"Usage: bt_tool ")
 
-# Words, standard input, standard output, standard error, exit status.
+# Words, standard input, standard output, standard error, exit status. Words are a list where one is empty or has a space.
 ROWS = [
     # streams
     ("", HAND, b"0 " + LINE + b"ok messages=0 bytes=68\n", b"", 0),
@@ -34,6 +46,17 @@ ROWS = [
     ("unpack", HAND + bytes.fromhex("0000001b1403") + REQUEST, LINE + b"extended 3 " + REQUEST.hex().encode() + b"\n", b"", 0),
     ("unpack", HAND + bytes.fromhex("0000000404"), LINE, b"refused message=1 at=68 WrongLength\n", 1),
     ("unpack", HAND[:67], b"", b"refused message=0 at=67 EndInside\n", 1),
+    ("unpack --limit 1", HAND + HAVE_9, LINE, b"refused message=1 at=68 TooLong\n", 1),
+    ("unpack", HAND + bytes.fromhex("00000000 00000004 04 000000"), LINE + b"keep-alive\n",
+     b"refused message=2 at=72 WrongLength\n", 1),
+    ("show", HAND[:5] + b"O" + HAND[6:], b"refused message=0 at=5 BadProtocol\n", b"", 1),
+    ("show --info-hash " + 40 * "0", HAND, b"refused message=0 at=28 WrongInfoHash\n", b"", 1),
+    ("show", HAND + bytes(4) + HAVE_9, b"0 " + LINE + b"68 keep-alive\n72 have 9\nok messages=2 bytes=81\n", b"", 0),
+    ("show", HAND + bytes.fromhex("00000003 05 ffc0"), b"0 " + LINE + b"68 bitfield 2\nok messages=1 bytes=75\n", b"", 0),
+    ("show", HAND + bytes.fromhex("00040001"), b"0 " + LINE + b"refused message=1 at=68 TooLong\n", b"", 1),
+    ("show", HAND + bytes.fromhex("00040000"), b"0 " + LINE + b"refused message=1 at=72 EndInside\n", b"", 1),
+    ("show", HAND + bytes.fromhex("ffffffff"), b"0 " + LINE + b"refused message=1 at=68 TooLong\n", b"", 1),
+    ("show", HAND + bytes.fromhex("000000"), b"0 " + LINE + b"refused message=1 at=71 EndInside\n", b"", 1),
     # scripts
     ("pack", LINE, HAND, b"", 0),
     ("pack", LINE + b"keep-alive\nhave 9", HAND + bytes.fromhex("00000000 00000005 04 00000009"), b"", 0),
@@ -45,14 +68,37 @@ ROWS = [
     ("pack --pieces 10", LINE + b"have 10\n", HAND, b"refused line=2 BadIndex\n", 1),
     ("pack", LINE + b"extended 0 -\n", HAND, b"refused line=2 BadBencode\n", 1),
     ("pack --info-hash " + 40 * "0", LINE, b"", b"refused line=1 WrongInfoHash\n", 1),
+    ("pack --pieces 10", LINE, HAND, b"", 0),
+    ("pack --pieces 10", LINE + b"have 9\n", HAND + HAVE_9, b"", 0),
+    ("pack --pieces 10", LINE + b"keep-alive\nhave 9", HAND + bytes(4) + HAVE_9, b"", 0),
+    ("pack --pieces 10", LINE + b"extended 3 " + REQUEST.hex().encode() + b"\n", HAND + bytes.fromhex("0000001b1403") + REQUEST,
+     b"", 0),
+    ("pack --pieces 10", LINE + b"piece 1 2 ABcd\n", HAND + bytes.fromhex("0000000b 07 00000001 00000002 abcd"), b"", 0),
+    ("pack --pieces 10", LINE + b"have 09\n", HAND, b"refused line=2 Syntax\n", 1),
+    ("pack --pieces 10", LINE + b"unknown 9 -\n", HAND, b"refused line=2 Syntax\n", 1),
+    ("pack --pieces 10", LINE + b"have  9\n", HAND, b"refused line=2 Syntax\n", 1),
+    ("pack --pieces 10", LINE + b"\n", HAND, b"refused line=2 Syntax\n", 1),
+    ("pack --pieces 10", LINE + b"choke\n\nchoke\n", HAND + bytes.fromhex("00000001 00"), b"refused line=3 Syntax\n", 1),
+    ("pack --pieces 10", LINE + b"extended 0 -\n", HAND, b"refused line=2 BadBencode\n", 1),
+    ("pack --pieces 10", LINE + LINE, HAND, b"refused line=2 Syntax\n", 1),
+    ("pack", b"\n", b"", b"refused line=1 Syntax\n", 1),
+    ("pack", b"handshake\n", b"", b"refused line=1 Syntax\n", 1),
+    # a line of twice the limit and 256 characters is judged by what it says, a longer one isn't
+    ("pack --limit 1", LINE + b"piece 0 0 " + 248 * b"0", HAND, b"refused line=2 TooLong\n", 1),
+    ("pack --limit 1", LINE + b"unknown 10 " + 248 * b"0", HAND, b"refused line=2 Syntax\n", 1),
+    ("pack --limit 1", LINE + b"unknown 10 " + 1248 * b"0", HAND, b"refused line=2 Syntax\n", 1),
     # words that are no command line, and texts
     ("show --limit 0", HAND, b"", TEXT, 2),
     ("show --pieces 10 --pieces 10", HAND, b"", TEXT, 2),
     ("list", HAND, b"", TEXT, 2),
     ("--pieces 10", HAND, b"", TEXT, 2),
     ("pack --rules loose", FOLDER, b"", TEXT, 2),
-    ("--help", b"", TEXT, b"", 0),
-    ("--version", b"", TEXT, b"", 0),
+    ("--help", b"", Parts(b"--metadata-id"), b"", 0),
+    ("-h", b"", Parts(b"Exit status"), b"", 0),
+    ("help", b"", Parts(b"Example"), b"", 0),
+    ("show --help", b"", Parts(b"--info-hash"), b"", 0),
+    ("--version", b"", Parts(b"bt_tool "), b"", 0),
+    ("-V", b"", Parts(b"bt_tool "), b"", 0),
     # devices that fail
     ("show", FOLDER, b"", b"fault: read\n", 3),
     ("check", FOLDER, b"", b"fault: read\n", 3),
@@ -65,12 +111,362 @@ ROWS = [
     ("--help", b"", FULL, b"fault: write\n", 3),
 ]
 
+# Two ends of which one fetches the metadata `abc` from the other, over a second connection after a loss (BEP 9).
+NINE = "deliver right 68\nturn right\ndeliver left 98\nturn left\nturn left\ndeliver right 49\nturn right\ndeliver left 31\nturn left\n"
+FETCH = ("left serve 616263\nright fetch %s\n" % HASH + NINE + "deliver right 20\nreset\n" + NINE
+         + "deliver right 50\nturn right\n").encode()
+HANDED = "delivered 68\nhandled\ndelivered 98\nhandled\nhandled\ndelivered 49\nhandled\ndelivered 31\nhandled\n"
+LEFT = "0 handshake 0000000000100005 %s %s\n" % (HASH, b"-BT0001-LLLLLLLLLLLL".hex())
+RIGHT = "0 handshake 0000000000100005 %s %s\n" % (HASH, b"-BT0001-RRRRRRRRRRRR".hex())
+
+
+def fetched(number, handled):
+    """The lines of a connection over which the block was asked for and sent."""
+    return ("connection %d\nleft sent=3 handled=3\n" % number + LEFT
+            + "68 ext-handshake 43 0 size=3 ut_metadata=3\n117 metadata-data 0 3 3\nright sent=3 handled=%d\n" % handled + RIGHT
+            + "68 ext-handshake 24 0 size=- ut_metadata=9\n98 metadata-request 0\n")
+
+
+FETCHED = (HANDED + "delivered 20\nreset\n" + HANDED + "delivered 50\nhandled\n" + fetched(1, 2) + fetched(2, 3)
+           + "left metadata -\nright metadata sha1=%s bytes=3\n" % HASH).encode()
+
+# Two ends that neither serve nor fetch, and say what they have.
+WATCH = "".join("%s watch %s\n%s pieces 10\n%s metadata-id 0\n" % (side, HASH, side, side) for side in ("left", "right"))
+SAYINGS = (WATCH + "left announce all\nright announce nothing\nsay left unchoke\ndeliver left 68\nturn left\nsay left have 9\n"
+           "say left have 10\nsay left have-all\ndeliver right 200\n" + 5 * "turn right\n").encode()
+SAID = ("not-said NotOpen\ndelivered 68\nhandled\nsaid\nnot-said Illegal BadIndex\nnot-said Illegal Late\ndelivered 95\n"
+        + 4 * "handled\n" + "idle\nconnection 1\nleft sent=4 handled=1\n" + LEFT
+        + "68 ext-handshake 7 0 size=- ut_metadata=-\n81 have-all\n86 have 9\nright sent=3 handled=4\n" + RIGHT
+        + "68 ext-handshake 7 0 size=- ut_metadata=-\n81 have-none\nleft metadata -\nright metadata -\n").encode()
+NO_STEPS = ("connection 1\nleft sent=1 handled=0\n" + LEFT + "right sent=1 handled=0\n" + RIGHT
+            + "left metadata -\nright metadata -\n").encode()
+TWO = ("left watch %s\nright watch %s\n" % (HASH, HASH)).encode()
+
+LINK_ROWS = [
+    ("link", FETCH, FETCHED, b"", 0),
+    ("link", SAYINGS, SAID, b"", 0),
+    ("link", TWO, NO_STEPS, b"", 0),
+    ("link", b"# two ends\n\n" + TWO[:-1], NO_STEPS, b"", 0),
+    ("link", TWO + b"left limit 32768\nright limit 32769\n", b"", b"refused config ConfigMismatch\n", 1),
+    ("link", TWO + b"left pieces 1\nright pieces 2\n", b"", b"refused config ConfigMismatch\n", 1),
+    ("link", b"left serve 616264\nright fetch " + HASH.encode(), b"", b"refused config ConfigMismatch\n", 1),
+    ("link", TWO + b"left limit 1\nright limit 1\n", b"", b"refused config BadLimit\n", 1),
+    ("link", b"left serve -\nright watch da39a3ee5e6b4b0d3255bfef95601890afd80709\n", b"", b"refused config BadSize\n", 1),
+    ("link", b"", b"", b"refused config BadConfig\n", 1),
+    ("link", TWO + b"turn left\nturn up\nturn right\n", b"", b"refused line=4 Syntax\n", 1),
+    ("link", TWO + b"reset\nleft pieces 1\n", b"", b"refused line=4 Syntax\n", 1),
+    ("link", b"# a comment\n\nleft window 9\n", b"", b"refused line=3 Syntax\n", 1),
+    ("link", TWO + b"say left have 09\n", b"", b"refused line=3 Syntax\n", 1),
+    ("link", TWO + b"say left bitfield\n", b"", b"refused line=3 Syntax\n", 1),
+    ("link", TWO + b"deliver left 4294967296\n", b"", b"refused line=3 Syntax\n", 1),
+    ("link", TWO + b"turn left ", b"", b"refused line=3 Syntax\n", 1),
+    ("link", FOLDER, b"", b"fault: read\n", 3),
+    ("link", TWO, FULL, b"fault: write\n", 3),
+]
+ROWS += LINK_ROWS
+
+
+# Words that are no command line.
+MISTAKES = [
+    [""],
+    ["SHOW"],
+    ["sho"],
+    ["checks"],
+    ["show", "show"],
+    ["show", "stream.bin"],
+    ["--pieces", "10"],
+    ["--pieces", "10", "show"],
+    ["--limit=1"],
+    ["show", "--piece", "10"],
+    ["show", "-p", "10"],
+    ["show", "--unknown"],
+    ["show", "--pieces"],
+    ["show", "--pieces="],
+    ["show", "--pieces", ""],
+    ["show", "--pieces", "+1"],
+    ["show", "--pieces", "-1"],
+    ["show", "--pieces", "1 "],
+    ["show", "--pieces", "0x10"],
+    ["show", "--pieces", "4294967296"],
+    ["show", "--pieces", "18446744073709551617"],
+    ["show", "--pieces", "10", "--pieces", "10"],
+    ["show", "--pieces=10", "--pieces=10"],
+    ["show", "--reserved", "000000000010000"],
+    ["show", "--reserved", "00000000001000050"],
+    ["show", "--reserved", "000000000010000g"],
+    ["show", "--reserved", ""],
+    ["show", "--metadata-id", "256"],
+    ["show", "--metadata-id", "x"],
+    ["show", "--metadata-id", "3", "--metadata-id", "4"],
+    ["show", "--info-hash", "a9993e364706816aba3e25717850c26c9cd0d8"],
+    ["show", "--info-hash", "a9993e364706816aba3e25717850c26c9cd0d89d00"],
+    ["show", "--info-hash", "g9993e364706816aba3e25717850c26c9cd0d89d"],
+    ["show", "--rules", "Free"],
+    ["show", "--rules", "BEP"],
+    ["show", "--rules", ""],
+    ["show", "--rules"],
+    ["show", "--rules", "bep", "--rules", "bep"],
+    ["show", "--limit", "0"],
+    ["show", "--limit", "1048577"],
+    ["show", "--limit", "4294967297"],
+    ["show", "--limit", "1e3"],
+    ["show", "--rules", "bep", "--limit", "0"],
+    ["show", "--donthave-id", "3"],
+]
+
+# What follows the handshake; the verdict's line of `check`, under `bep`; the script's lines of `unpack`, under `free`.
+SCRIPTS = [
+    (b"", b"ok messages=0 bytes=68\n", b""),
+    (b"\0\0\0\x1b\x14\x03" + REQUEST, b"ok messages=1 bytes=99\n",
+     b"extended 3 64383a6d73675f74797065693065353a706965636569306565\n"),
+    (b"\0\0\0\x01\x0f\0\0\0\x01\x01", b"ok messages=2 bytes=78\n", b"have-none\nunchoke\n"),
+    (b"\0\0\0\x01\x01", b"refused message=1 at=72 Missing\n", b"unchoke\n"),
+    (b"\0\0\0\x01\x0f\0\0\0\x03\x05\xff\xc0", b"refused message=2 at=77 Late\n", b"have-none\nbitfield ffc0\n"),
+    (b"\0\0\0\x01\x63", b"refused message=1 at=72 UnknownId\n", b"unknown 99 -\n"),
+    (b"\0\0\0\0\0\0\0\x03\x09\x1a\xe1", b"ok messages=2 bytes=79\n", b"keep-alive\nport 6881\n"),
+    (b"\0\0\0\x01\x0e\0\0\0\x0c\x07\0\0\0\x01\0\0\x40\0\xab\x0c\x7f", b"ok messages=2 bytes=89\n",
+     b"have-all\npiece 1 16384 ab0c7f\n"),
+    (b"\0\0\0\x02\x14\x04", b"ok messages=1 bytes=74\n", b"extended 4 -\n"),
+]
+
+FREE = "--rules free"
+TEN = "--rules free --pieces 10"
+NONE = "--rules free --pieces 0"
+BEP = "--rules bep"
+# Strict, with neither extension.
+PLAIN = "--rules bep --reserved 0000000000000000"
+# With the Extension Protocol and without the Fast Extension.
+SLOW = "--rules free --reserved 0000000000100001"
+
+# The receiver's options, what follows the handshake, and the lines that follow the handshake's.
+STREAMS = [
+    # messages
+    (FREE, b"\0\0\0\x0d\x06\0\0\0\x01\0\0\x40\0\0\0\x40\0", b"68 request 1 16384 16384\nok messages=1 bytes=85\n"),
+    (FREE, b"\0\0\0\x01\x0e\0\0\0\x01\0\0\0\0\x01\x02\0\0\0\x01\x03\0\0\0\x05\x0d\0\0\0\x01\0\0\0\x05\x11\0\0\0\x02\0\0\0"
+     b"\x0d\x08\0\0\0\x01\0\0\0\x02\0\0\0\x03\0\0\0\x0d\x10\0\0\0\x04\0\0\0\x05\0\0\0\x06\0\0\0\x05\x12data",
+     b"68 have-all\n73 choke\n78 interested\n83 not-interested\n88 suggest 1\n"
+     b"97 allowed-fast 2\n106 cancel 1 2 3\n123 reject 4 5 6\n140 unknown 18 4\n"
+     b"ok messages=9 bytes=149\n"),
+    (FREE, b"\0\0\0\x03\x05\xff\xe0", b"68 bitfield 2\nok messages=1 bytes=75\n"),
+    (TEN, b"\0\0\0\x03\x05\xff\xc0", b"68 bitfield 2\nok messages=1 bytes=75\n"),
+    (TEN, b"\0\0\0\x03\x05\xff\xe0", b"refused message=1 at=74 SpareBits\n"),
+    (TEN, b"\0\0\0\x04\x05", b"refused message=1 at=68 WrongLength\n"),
+    (TEN, b"\0\0\0\x05\x04\0\0\0\x09", b"68 have 9\nok messages=1 bytes=77\n"),
+    (TEN, b"\0\0\0\x05\x04\0\0\0\x0a", b"refused message=1 at=73 BadIndex\n"),
+    (FREE, b"\0\0\0\x03\x09\x1a\xe1", b"68 port 6881\nok messages=1 bytes=75\n"),
+    (FREE, b"\0\0\0\x09\x07\0\0\0\x01\0\0\x40\0", b"68 piece 1 16384 0\nok messages=1 bytes=81\n"),
+    (FREE, b"\0\0\0\x08\x07", b"refused message=1 at=68 WrongLength\n"),
+    (TEN, b"\0\0\0\x0a\x07\0\0\0\x0a\0\0\0\0", b"refused message=1 at=81 EndInside\n"),
+    (TEN, b"\0\0\0\x0a\x07\0\0\0\x0a\0\0\0\0a", b"refused message=1 at=73 BadIndex\n"),
+    (NONE, b"\0\0\0\x01\x05", b"68 bitfield 0\nok messages=1 bytes=73\n"),
+    (FREE, b"\0\0\0\x01\x05", b"68 bitfield 0\nok messages=1 bytes=73\n"),
+    (NONE, b"\0\0\0\x05\x04\0\0\0\0", b"refused message=1 at=73 BadIndex\n"),
+    # first messages
+    (SLOW, b"\0\0\0\x01\x0e", b"refused message=1 at=72 NotNegotiated\n"),
+    (FREE, b"\0\0\0\x01\x63", b"68 unknown 99 0\nok messages=1 bytes=73\n"),
+    (BEP, b"\0\0\0\x01\x63", b"refused message=1 at=72 UnknownId\n"),
+    (BEP, b"\0\0\0\0\0\0\0\x01\x0f\0\0\0\x01\x01",
+     b"68 keep-alive\n72 have-none\n77 unchoke\nok messages=3 bytes=82\n"),
+    (BEP, b"\0\0\0\x01\x01", b"refused message=1 at=72 Missing\n"),
+    (BEP, b"\0\0\0\x01\x0f\0\0\0\x03\x05\xff\xc0", b"68 have-none\nrefused message=2 at=77 Late\n"),
+    (FREE, b"\0\0\0\x01\x0f\0\0\0\x03\x05\xff\xc0", b"68 have-none\n73 bitfield 2\nok messages=2 bytes=80\n"),
+    (PLAIN, b"\0\0\0\x01\x01\0\0\0\x03\x05\xff\xc0", b"68 unchoke\nrefused message=2 at=77 Late\n"),
+    (PLAIN, b"\0\0\0\x01\x01", b"68 unchoke\nok messages=1 bytes=73\n"),
+    (FREE, b"\0\0\0\x02\x0f\0", b"refused message=1 at=68 WrongLength\n"),
+    (BEP, b"\0\0\0\x2d\x14\0d1:md11:ut_metadatai3ee13:metadata_sizei3ee\0\0\0\0\0\0\0\x01\x0f\0\0\0\x01\x01",
+     b"68 ext-handshake 43 0 size=3 ut_metadata=3\n117 keep-alive\n121 have-none\n"
+     b"126 unchoke\nok messages=4 bytes=131\n"),
+    # extended messages
+    (FREE, b"\0\0\0\x2d\x14\0d1:md11:ut_metadatai3ee13:metadata_sizei3ee",
+     b"68 ext-handshake 43 0 size=3 ut_metadata=3\nok messages=1 bytes=117\n"),
+    (BEP, b"\0\0\0\x2d\x14\0d1:md11:ut_metadatai3ee13:metadata_sizei3ee",
+     b"68 ext-handshake 43 0 size=3 ut_metadata=3\nok messages=1 bytes=117\n"),
+    (FREE, b"\0\0\0\x2d\x14\0d13:metadata_sizei3e1:md11:ut_metadatai3eee",
+     b"68 ext-handshake 43 0 size=3 ut_metadata=3\nok messages=1 bytes=117\n"),
+    (BEP, b"\0\0\0\x2d\x14\0d13:metadata_sizei3e1:md11:ut_metadatai3eee", b"refused message=1 at=94 Unsorted\n"),
+    (BEP, b"\0\0\0\x42\x14\0d1:md11:ut_metadatai2e6:ut_pexi1ee1:pi6881e4:reqqi500e1:v4:teste",
+     b"68 ext-handshake 64 0 size=- ut_metadata=2\nok messages=1 bytes=138\n"),
+    (FREE, b"\0\0\0\x1b\x14\x03d8:msg_typei0e5:piecei0ee", b"68 metadata-request 0\nok messages=1 bytes=99\n"),
+    (FREE, b"\0\0\0\x1b\x14\x04d8:msg_typei0e5:piecei0ee", b"68 extended 4 25\nok messages=1 bytes=99\n"),
+    (FREE, b"\0\0\0\x2e\x14\x03d8:msg_typei1e5:piecei0e10:total_sizei3eeabc",
+     b"68 metadata-data 0 3 3\nok messages=1 bytes=118\n"),
+    (FREE, b"\0\0\0\x2e\x14\x03d8:msg_typei1e5:piecei0e10:total_sizei3eeeee",
+     b"68 metadata-data 0 3 3\nok messages=1 bytes=118\n"),
+    (BEP, b"\0\0\0\x2e\x14\x03d8:msg_typei1e5:piecei0e10:total_sizei3eeabc",
+     b"68 metadata-data 0 3 3\nok messages=1 bytes=118\n"),
+    (FREE, b"\0\0\0\x2d\x14\x03d8:msg_typei1e5:piecei0e10:total_sizei3eeab",
+     b"68 metadata-data 0 3 2\nok messages=1 bytes=117\n"),
+    (BEP, b"\0\0\0\x2d\x14\x03d8:msg_typei1e5:piecei0e10:total_sizei3eeab", b"refused message=1 at=115 BadBlock\n"),
+    (FREE, b"\0\0\0\x1b\x14\x03d8:msg_typei1e5:piecei0ee", b"68 metadata-malformed 25 0\nok messages=1 bytes=99\n"),
+    (BEP, b"\0\0\0\x1b\x14\x03d8:msg_typei1e5:piecei0ee", b"refused message=1 at=74 BadField\n"),
+    (FREE, b"\0\0\0\x1b\x14\x03d8:msg_typei7e5:piecei0ee", b"68 metadata-other 25 0\nok messages=1 bytes=99\n"),
+    (BEP, b"\0\0\0\x1b\x14\x03d8:msg_typei7e5:piecei0ee", b"68 metadata-other 25 0\nok messages=1 bytes=99\n"),
+    (FREE, b"\0\0\0\x1c\x14\x03d8:msg_typei2e5:piecei0ee\0", b"68 metadata-reject 0\nok messages=1 bytes=100\n"),
+    (BEP, b"\0\0\0\x1c\x14\x03d8:msg_typei2e5:piecei0ee\0", b"refused message=1 at=99 BadBlock\n"),
+    (BEP, b"\0\0\0\x0a\x14\0d1:mi1ee", b"refused message=1 at=74 BadField\n"),
+    (FREE, b"\0\0\0\x0b\x14\0d1:pi-0ee", b"refused message=1 at=80 BadBencode\n"),
+    (FREE, b"\0\0\0\x09\x14\0d1:pi1e", b"refused message=1 at=81 BadBencode\n"),
+    (FREE, b"\0\0\0\x47\x14\0d1:plllllllllllllllllllllllllllllllleeeeeeeeeeeeeeeeeeeeeeeeeeeeeeeee",
+     b"refused message=1 at=109 BadBencode\n"),
+    (FREE, b"\0\0\0\x45\x14\0d1:pllllllllllllllllllllllllllllllleeeeeeeeeeeeeeeeeeeeeeeeeeeeeeee",
+     b"68 ext-handshake 67 0 size=- ut_metadata=-\nok messages=1 bytes=141\n"),
+]
+
+# The lines of the streams that were recorded between clients (examples/README.md), which are the same under both rules.
+FETCHING_LINES = """\
+0 handshake 0000000000100004 af5a3b2ac0bec218a9f53f021946bfee0f069177 2d5452333030302d686b75727434303468756272
+68 ext-handshake 102 0 size=- ut_metadata=3
+176 have-none
+181 extended 1 29
+216 metadata-request 0
+247 metadata-request 1
+ok messages=5 bytes=278
+"""
+
+SERVING_LINES = """\
+0 handshake 0000000000100005 af5a3b2ac0bec218a9f53f021946bfee0f069177 2d4c54323038302d4f53426328562d2d70487938
+68 ext-handshake 212 0 size=25486 ut_metadata=2
+286 have-all
+291 unchoke
+296 choke
+301 metadata-data 0 25486 16384
+16736 metadata-data 1 25486 9102
+ok messages=6 bytes=25889
+"""
+
+DOWNLOADING_LINES = """\
+0 handshake 0000000000100005 cf838b3f2fdddabfed5ebd0e56b3cf4c48c9ce45 2d4c54323038302d4b3252702864633078596d7e
+68 ext-handshake 203 0 size=829 ut_metadata=2
+277 have-none
+282 interested
+287 request 20 0 16384
+304 request 21 0 16384
+321 request 22 0 16384
+338 request 23 0 16384
+355 request 10 0 16384
+372 request 11 0 16384
+389 request 1 0 16384
+406 request 2 0 16384
+423 have 20
+432 request 4 0 16384
+449 request 5 0 16384
+466 request 17 0 16384
+483 request 18 0 16384
+500 have 21
+509 have 22
+518 have 23
+527 request 24 0 16384
+544 request 25 0 16384
+561 request 26 0 16384
+578 request 27 0 16384
+595 request 28 0 16384
+612 request 29 0 16384
+629 have 10
+638 have 1
+647 have 11
+656 request 30 0 16384
+673 request 31 0 16384
+690 request 32 0 16384
+707 request 33 0 16384
+724 request 34 0 16384
+741 request 35 0 16384
+758 request 36 0 16384
+775 request 37 0 8269
+792 request 12 0 16384
+809 request 13 0 16384
+826 have 2
+835 have 18
+844 have 17
+853 have 5
+862 have 4
+871 request 14 0 16384
+888 request 15 0 16384
+905 request 16 0 16384
+922 request 0 0 16384
+939 request 6 0 16384
+956 request 7 0 16384
+973 request 8 0 16384
+990 request 9 0 16384
+1007 request 3 0 16384
+1024 request 19 0 16384
+1041 have 24
+1050 have 26
+1059 have 27
+1068 have 28
+1077 have 25
+1086 have 29
+1095 have 30
+1104 have 31
+1113 have 32
+1122 have 33
+1131 have 34
+1140 have 35
+1149 have 36
+1158 have 37
+1167 have 12
+1176 have 13
+1185 have 14
+1194 have 15
+1203 have 16
+1212 have 0
+1221 have 6
+1230 have 7
+1239 have 8
+1248 have 9
+1257 have 3
+1266 have 19
+1275 not-interested
+ok messages=80 bytes=1280
+"""
+
+# The receiver's options, the file, and its lines.
+CAPTURES = [
+    ("--reserved 0000000000100005 --metadata-id 2", "fetching.bin", FETCHING_LINES.encode()),
+    ("--reserved 0000000000100004", "serving.bin", SERVING_LINES.encode()),
+    ("--reserved 0000000000100004 --pieces 38", "downloading.bin", DOWNLOADING_LINES.encode()),
+]
+
+
+def has_lines(options, stream, lines):
+    """`show` prints the lines, and `check` the last of them."""
+    verdict = lines[lines.rindex(b"\n", 0, -1) + 1:] if lines.count(b"\n") > 1 else lines
+    status = 0 if verdict.startswith(b"ok ") else 1
+    return [("show " + options, stream, lines, b"", status), ("check " + options, stream, verdict, b"", status)]
+
+
+def scripted(rest, verdict, script):
+    """`check` prints the verdict, `unpack` the script, and `pack` makes the stream of it."""
+    status = 0 if verdict.startswith(b"ok ") else 1
+    stream, script = HAND + rest, LINE + script
+    return [("check", stream, verdict, b"", status), ("unpack", stream, script, b"", 0), ("pack", script, stream, b"", 0)]
+
+
+def streams():
+    """The receiver's options, a stream, and its lines."""
+    found = [(options, HAND + rest, b"0 " + LINE + lines) for options, rest, lines in STREAMS]
+    for options, name, lines in CAPTURES:
+        with open(os.path.join(ROOT, "examples", name), "rb") as file:
+            stream = file.read()
+        found += [("--rules %s %s" % (rules, options), stream, lines) for rules in ("free", "bep")]
+    return found
+
+
+def rows():
+    """All rows, those of the tables of streams and mistakes too."""
+    found = ROWS + [(words, HAND, b"", MISTAKE, 2) for words in MISTAKES]
+    for row in SCRIPTS:
+        found += scripted(*row)
+    for row in streams():
+        found += has_lines(*row)
+    return found
+
 
 def run(program, words, given, out):
     """Standard output, standard error and the exit status."""
     source = os.open(ROOT, os.O_RDONLY) if given is FOLDER else None
     target = os.open("/dev/full", os.O_WRONLY) if out is FULL else None
-    ended = subprocess.run([program, *words.split()], stdin=source, input=None if given is FOLDER else given,
+    words = words.split() if isinstance(words, str) else words
+    ended = subprocess.run([program, *words], stdin=source, input=None if given is FOLDER else given,
                            stdout=subprocess.PIPE if target is None else target, stderr=subprocess.PIPE)
     for device in (source, target):
         if device is not None:
@@ -79,18 +475,33 @@ def run(program, words, given, out):
 
 
 def is_as(found, wanted):
+    if isinstance(wanted, Parts):
+        return all(part in found for part in wanted.parts)
     return bool(found) if wanted is TEXT else wanted is FULL or found == wanted
+
+
+def comes_back(program, options, stream):
+    """Whether what is unpacked of a stream is packed to the stream, or to a prefix of it where the stream is refused."""
+    script, _, status = run(program, "unpack " + options, stream, None)
+    packed = run(program, "pack " + options, script, None)
+    return packed == (stream, b"", 0) if status == 0 else status == 1 and stream.startswith(packed[0])
 
 
 def main():
     program = os.path.abspath(sys.argv[1] if len(sys.argv) > 1 else os.path.join(ROOT, "bt_tool"))
-    wrong = 0
-    for words, given, *wanted in ROWS:
+    wrong = runs = 0
+    for words, given, *wanted in rows():
+        runs += 1
         found = run(program, words, given, wanted[0])
         if not all(map(is_as, found, wanted)):
             wrong += 1
             print("statuses: wrong: bt_tool %s: of %r\nexpected: %r\ngot:      %r" % (words, given, wanted, found))
-    print("statuses: %s %d runs" % ("failed: %d wrong of" % wrong if wrong else "ok:", len(ROWS)))
+    for options, stream, _ in streams():
+        runs += 2
+        if not comes_back(program, options, stream):
+            wrong += 1
+            print("statuses: wrong: bt_tool unpack %s, and pack of its output: of %r" % (options, stream))
+    print("statuses: %s %d runs" % ("failed: %d wrong of" % wrong if wrong else "ok:", runs))
     sys.exit(1 if wrong else 0)
 
 

@@ -19,11 +19,8 @@ for crate in "$root"/crates/*/; do
     done
 done
 
-# The copy has no test but the one below.
 feed=$work/crates/bt_feed
-sed '/^#\[cfg(test)\]$/{N;d;}' "$root/crates/bt_feed/src/lib.rt" >"$feed/src/lib.rt"
 printf '\n#[cfg(test)]\nmod later_use;\n' >>"$feed/src/lib.rt"
-rm -f "$feed"/src/tests*.rt
 
 # compile LINE: compiles and runs the function with that line behind the push; the words go to $work/log.
 compile() {

@@ -88,7 +88,7 @@ pub struct Receiver {
     info_hash: Option<[u8; 20]>,
     pub limit: u32,
     fast: bool,
-    ext: bool,
+    pub ext: bool,
     fresh: bool,
 }
 
@@ -131,6 +131,21 @@ impl Receiver {
             }
         }
         Some(receiver)
+    }
+
+    /// The receiver that an end is: it judges by the rules `bep`, and doesn't know the piece count.
+    pub fn of_end(reserved: u64, info_hash: [u8; 20], metadata_id: u8, limit: u32) -> Receiver {
+        Receiver {
+            bep: true,
+            reserved,
+            pieces: None,
+            metadata_id,
+            info_hash: Some(info_hash),
+            limit,
+            fast: false,
+            ext: false,
+            fresh: true,
+        }
     }
 
     /// Judges the handshake, of which `held` is what there is of its 68 bytes.

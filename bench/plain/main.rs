@@ -5,11 +5,16 @@
 //! judges each message where it lies. What it writes is gathered in one buffer that goes out at 64 KiB. Numbers are
 //! written by hand, two digits at a time from a table, as the crate `itoa` does it; `format!` stands only in lines that
 //! come once.
+//!
+//! The jobs of `ends` drive ends of connections over memory, beside `bt_bench`.
 mod bencoding;
+mod end;
+mod ends;
 mod judging;
 mod lines;
 mod reading;
 mod scripts;
+mod sha1;
 
 use judging::{Judged, Receiver};
 use lines::{Shown, Text};
@@ -21,7 +26,10 @@ use std::os::fd::AsFd;
 use std::process::ExitCode;
 
 const USAGE: &str = "usage: plain [show|check|unpack|pack] [--rules free|bep] [--reserved HEX] [--pieces N] \
-                     [--metadata-id N] [--info-hash HEX] [--limit N]";
+                     [--metadata-id N] [--info-hash HEX] [--limit N]\n       \
+                     plain serve|fetch|pair|hash BLOCKS ROUNDS\n       \
+                     plain digest BLOCKS\n       \
+                     plain ends COUNT [new|open|serving|busy|drained|fetching [LIMIT]]";
 
 /// Why a run has no verdict.
 pub enum Fault {
@@ -100,8 +108,29 @@ fn run(command: &str, receiver: &mut Receiver) -> Result<bool, Fault> {
     Ok(accepted)
 }
 
+/// Does a job of `ends`.
+fn run_ends(words: &[String]) -> ExitCode {
+    match ends::run(words) {
+        Some(Ok(line)) => {
+            println!("{line}");
+            ExitCode::SUCCESS
+        }
+        Some(Err((place, reason))) => {
+            eprintln!("fault: {reason:?} at {place}");
+            ExitCode::from(3)
+        }
+        None => {
+            eprintln!("{USAGE}");
+            ExitCode::from(2)
+        }
+    }
+}
+
 fn main() -> ExitCode {
     let words: Vec<String> = std::env::args().skip(1).collect();
+    if words.first().is_some_and(|word| ends::JOBS.contains(&word.as_str())) {
+        return run_ends(&words);
+    }
     let command = words.first().map_or("show", String::as_str);
     let options = words.get(1..).unwrap_or(&[]);
     let known = ["show", "check", "unpack", "pack"].contains(&command);
