@@ -3,7 +3,7 @@ use Rattle.std.proofs.Common.{◌≡◌, ℕ, ◌<◌, ◌^◌, Bool, true, fals
 use Rattle.std.specs.Prelude.{is_some, is_none}
 use Rattle.bt_wire.specs.declared.item.Item.{Item}
 use Rattle.bt_wire.specs.declared.item.Refusal.{Refusal}
-use Rattle.bt_wire.specs.declared.message.Message.{Message}
+use Rattle.bt_wire.specs.Messages.{Message}
 use Rattle.bt_feed.specs.Answers.{IsAnswer, standing}
 use Rattle.bt_feed.specs.Feeds.{FeedState, taken_by, taken, pushed}
 use Rattle.bt_feed.specs.Stages.{limit_of, is_closed}

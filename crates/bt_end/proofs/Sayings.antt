@@ -3,7 +3,7 @@ use Rattle.std.proofs.Common.{◌≡◌, ℕ, ◌+◌, ◌≤◌, Bool, true, fa
 use Rattle.std.specs.Prelude.{is_some, is_none}
 use Rattle.bt_wire.specs.declared.context.Context.{Context}
 use Rattle.bt_wire.specs.declared.context.Order.{Order}
-use Rattle.bt_wire.specs.declared.message.Message.{Message}
+use Rattle.bt_wire.specs.Messages.{Message}
 use Rattle.bt_wire.specs.Legal.{IsLegal}
 use Rattle.bt_wire.specs.Messages.{body, spell}
 use Rattle.bt_wire.specs.Numbers.{be32}

@@ -5,7 +5,7 @@ use Rattle.bt_ext.specs.declared.ext.Ext.TheVariants as ext
 use Rattle.bt_wire.specs.declared.item.Item.{Item}
 use Rattle.bt_wire.specs.declared.item.Item.TheVariants as items
 use Rattle.bt_wire.specs.declared.item.Refusal.{Refusal}
-use Rattle.bt_wire.specs.declared.message.Message.{Message}
+use Rattle.bt_wire.specs.Messages.{Message}
 use Rattle.bt_wire.specs.declared.message.Message.TheVariants as m
 use Rattle.bt_wire.specs.Handshakes.{hand}
 use Rattle.bt_wire.specs.Legal.{IsLegal, Refuses}

@@ -5,7 +5,7 @@ use Rattle.std.specs.Str.{bytes_eq}
 use Rattle.std.proofs.lemmas.List.{append-nil}
 use Rattle.bt_wire.specs.declared.context.Order.TheVariants.{Past}
 use Rattle.bt_wire.specs.declared.fault.Refused.{Refused}
-use Rattle.bt_wire.specs.declared.message.Message.{Message}
+use Rattle.bt_wire.specs.Messages.{Message}
 use Rattle.bt_wire.specs.Faults.{IsFault, is_whole}
 use Rattle.bt_wire.specs.Fronts.{IsPartial}
 use Rattle.bt_wire.specs.Laws.{FaultIsFinal}

@@ -9,7 +9,7 @@ use Rattle.bt_ext.specs.declared.ids.Rules.TheVariants.{Free, Bep}
 use Rattle.bt_ext.specs.Ids.{extension_id}
 use Rattle.bt_wire.specs.declared.context.Context.{Context}
 use Rattle.bt_wire.specs.declared.context.Order.TheVariants.{Past}
-use Rattle.bt_wire.specs.declared.message.Message.{Message}
+use Rattle.bt_wire.specs.Messages.{Message}
 use Rattle.bt_wire.specs.Legal.{IsSaid}
 use Rattle.bt_wire.specs.Messages.{spell}
 use Rattle.bt_metadata.specs.Blocks.{window}

@@ -18,7 +18,7 @@ use Rattle.bt_wire.specs.declared.fault.Fault.TheVariants as faults
 use Rattle.bt_wire.specs.declared.item.Item.{Item}
 use Rattle.bt_wire.specs.declared.item.Item.TheVariants as items
 use Rattle.bt_wire.specs.declared.item.Refusal.{Refusal}
-use Rattle.bt_wire.specs.declared.message.Message.{Message}
+use Rattle.bt_wire.specs.Messages.{Message}
 use Rattle.bt_wire.specs.declared.message.Message.TheVariants.{KeepAlive, Extended, Unknown}
 use Rattle.bt_wire.specs.Messages.{known_id, fields_of}
 use Rattle.bt_end.specs.declared.end.SayError.{SayError}

@@ -7,7 +7,7 @@ use Rattle.bt_wire.specs.declared.context.Order.{Order}
 use Rattle.bt_wire.specs.declared.context.Own.{Own}
 use Rattle.bt_wire.specs.declared.item.Item.{Item}
 use Rattle.bt_wire.specs.declared.item.Item.TheVariants as items
-use Rattle.bt_wire.specs.declared.message.Message.{Message}
+use Rattle.bt_wire.specs.Messages.{Message}
 use Rattle.bt_wire.specs.Messages.{spell}
 use Rattle.bt_feed.specs.Feeds.{FeedState, taken, pushed}
 use Rattle.bt_feed.specs.Progress.{IsPartial}

@@ -14,7 +14,7 @@ use Rattle.bt_wire.specs.declared.handshake.Handshake.{Handshake}
 use Rattle.bt_wire.specs.declared.item.Item.{Item}
 use Rattle.bt_wire.specs.declared.item.Item.TheVariants as items
 use Rattle.bt_wire.specs.declared.item.Refusal.{Refusal}
-use Rattle.bt_wire.specs.declared.message.Message.{Message}
+use Rattle.bt_wire.specs.Messages.{Message}
 use Rattle.bt_wire.specs.declared.message.Message.TheVariants as m
 use Rattle.bt_wire.specs.declared.reserved.Reserved.{Reserved}
 use Rattle.bt_wire.specs.Handshakes.{negotiated, hand, IsHandshake}

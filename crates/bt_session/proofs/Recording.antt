@@ -6,7 +6,7 @@ use Rattle.bt_wire.specs.declared.context.Order.{Order}
 use Rattle.bt_wire.specs.declared.fault.Refused.{Refused}
 use Rattle.bt_wire.specs.declared.item.Item.{Item}
 use Rattle.bt_wire.specs.declared.item.Item.TheVariants as items
-use Rattle.bt_wire.specs.declared.message.Message.{Message}
+use Rattle.bt_wire.specs.Messages.{Message}
 use Rattle.bt_wire.specs.Faults.{IsFault, is_whole}
 use Rattle.bt_wire.specs.Fronts.{BeginsBy, IsPartial}
 use Rattle.bt_wire.specs.Messages.{spell, order_after}

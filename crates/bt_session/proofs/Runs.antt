@@ -2,7 +2,7 @@
 use Rattle.std.proofs.Common.{◌≡◌, ℕ, ◌≤◌, ◌||◌, ◌&&◌, min, List, [], ◌∷◌, ◌++◌, length, Result, Ok, Err, IfOk, nat_le, is_none, is_some, refl, sym, ap, subst, ◌∙◌, arith, length-append, ◌+◌, ◌<◌, take, get_or, add-one}
 use Rattle.std.proofs.lemmas.List.{length-take-le}
 use Rattle.std.proofs.Math.Seq.{take-suc}
-use Rattle.bt_wire.specs.declared.message.Message.{Message}
+use Rattle.bt_wire.specs.Messages.{Message}
 use Rattle.bt_wire.specs.Messages.{IsInRange}
 use Rattle.bt_feed.specs.Answers.{standing}
 use Rattle.bt_io.specs.declared.outbox.Memory.{Memory}

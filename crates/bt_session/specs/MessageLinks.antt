@@ -4,7 +4,7 @@ use Rattle.bt_ext.specs.declared.ids.Rules.TheVariants.{Free}
 use Rattle.bt_wire.specs.declared.context.Context.{Context}
 use Rattle.bt_wire.specs.declared.item.Item.{Item}
 use Rattle.bt_wire.specs.declared.item.Item.TheVariants as items
-use Rattle.bt_wire.specs.declared.message.Message.{Message}
+use Rattle.bt_wire.specs.Messages.{Message}
 use Rattle.bt_wire.specs.Legal.{IsLegal, Refuses}
 use Rattle.bt_wire.specs.Messages.{spell}
 use Rattle.bt_end.specs.Ends.{EndState, Reaction, react, queueing, belief, renewed}

@@ -5,7 +5,7 @@ use Rattle.bt_wire.specs.declared.context.Context.{Context}
 use Rattle.bt_wire.specs.declared.context.Order.{Order}
 use Rattle.bt_wire.specs.declared.item.Item.{Item}
 use Rattle.bt_wire.specs.declared.item.Item.TheVariants as items
-use Rattle.bt_wire.specs.declared.message.Message.{Message}
+use Rattle.bt_wire.specs.Messages.{Message}
 use Rattle.bt_wire.specs.Messages.{spell}
 use Rattle.bt_session.specs.ByteLinks as B
 use Rattle.bt_end.specs.declared.end.TurnError.{TurnError}

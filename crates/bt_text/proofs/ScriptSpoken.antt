@@ -11,7 +11,7 @@ use Rattle.bt_wire.specs.declared.ids.Needs.TheVariants.{Neither, Fast, Extensio
 use Rattle.bt_wire.specs.declared.ids.Shape.TheVariants.{Nothing, Index, Part, Block, Port, Field, Extended}
 use Rattle.bt_wire.specs.declared.ids.Turn.TheVariants.{Apart, Counted, Opening}
 use Rattle.bt_wire.specs.declared.handshake.Handshake.{Handshake}
-use Rattle.bt_wire.specs.declared.message.Message.{Message}
+use Rattle.bt_wire.specs.Messages.{Message}
 use Rattle.bt_wire.specs.declared.message.Message.TheVariants as m
 use Rattle.bt_wire.specs.Handshakes.{hand, IsHandshake, protocol}
 use Rattle.bt_wire.specs.Ids.{Id, id, ids, has_meaning}

@@ -10,7 +10,7 @@ use Rattle.bt_wire.specs.declared.ids.Shape.{Shape}
 use Rattle.bt_wire.specs.declared.ids.Shape.TheVariants as shapes
 use Rattle.bt_wire.specs.declared.item.Item.{Item}
 use Rattle.bt_wire.specs.declared.item.Item.TheVariants as items
-use Rattle.bt_wire.specs.declared.message.Message.{Message}
+use Rattle.bt_wire.specs.Messages.{Message}
 use Rattle.bt_wire.specs.declared.message.Message.TheVariants.{KeepAlive, Unknown}
 use Rattle.bt_wire.specs.Handshakes.{hand, IsHandshake}
 use Rattle.bt_wire.specs.Ids.{Id, ids, has_meaning}

@@ -4,7 +4,7 @@ use Rattle.bt_wire.specs.declared.context.Context.{Context}
 use Rattle.bt_wire.specs.declared.context.Own.{Own}
 use Rattle.bt_wire.specs.declared.handshake.Handshake.{Handshake}
 use Rattle.bt_wire.specs.declared.item.Item.TheVariants as items
-use Rattle.bt_wire.specs.declared.message.Message.{Message}
+use Rattle.bt_wire.specs.Messages.{Message}
 use Rattle.bt_wire.specs.Handshakes.{hand, IsHandshake}
 use Rattle.bt_wire.specs.Messages.{spell, body, IsShaped, IsInRange}
 use Rattle.bt_wire.specs.Numbers.{AreBytes}

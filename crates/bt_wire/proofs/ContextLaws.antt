@@ -1,28 +1,26 @@
 -- A legal message stays legal in a context that differs in what it doesn't use; and a message is judged one way.
-use Rattle.std.proofs.Common.{◌≡◌, ℕ, suc, ◌+◌, ◌^◌, ◌<◌, ◌≤◌, ◌⊎◌, inl, inr, Bool, true, false, cond, ◌&&◌, ◌||◌, eqb, if◌then◌else◌, List, [], ◌∷◌, ◌++◌, length, Option, Some, None, refl, sym, ap, subst, ◌∙◌, arith}
+use Rattle.std.proofs.Common.{◌≡◌, ℕ, suc, ◌^◌, ◌<◌, ◌≤◌, ◌⊎◌, inl, inr, Bool, true, false, ◌&&◌, ◌||◌, eqb, if◌then◌else◌, List, [], ◌++◌, length, Option, Some, None, refl, sym, ap, subst, ◌∙◌, arith}
 use Rattle.std.proofs.lemmas.Bool.{le-leb}
 use Rattle.std.proofs.lemmas.List.{append-nil}
 use Rattle.std.specs.Prelude.{IfSome, IsSome, unwrap_or}
-use Rattle.bt_ext.specs.Ids.{metadata_id, is_id, needs_dict, is_metadata}
-use Rattle.bt_ext.specs.Payloads.{ext_id, payload_of, HasSpelling}
+use Rattle.bt_ext.specs.Ids.{metadata_id, is_id, is_metadata}
+use Rattle.bt_ext.specs.Payloads.{ext_id, payload_of}
 use Rattle.bt_ext.specs.declared.ext.Ext.{Ext}
 use Rattle.bt_ext.specs.declared.ext.Ext.TheVariants as ext
 use Rattle.bt_ext.specs.declared.ids.Registered.{Registered}
 use Rattle.bt_wire.specs.declared.context.Context.{Context}
 use Rattle.bt_wire.specs.declared.context.Order.{Order}
-use Rattle.bt_wire.specs.declared.message.Message.{Message}
+use Rattle.bt_wire.specs.Messages.{Message}
 use Rattle.bt_wire.specs.declared.message.Message.TheVariants as m
-use Rattle.bt_wire.specs.declared.fault.Fault.{Fault}
 use Rattle.bt_wire.specs.declared.fault.Fault.TheVariants as fault
 use Rattle.bt_wire.specs.declared.fault.Reason.{Reason}
-use Rattle.bt_wire.specs.declared.fault.Reason.TheVariants.{TooLong}
 use Rattle.bt_wire.specs.declared.fault.Refused.{Refused}
 use Rattle.bt_wire.specs.Bitfields.{has_spare}
 use Rattle.bt_wire.specs.Contexts.{UsesNoId, PiecesSuit, IdsSuit, moved, LegalElsewhere, LegalIsNotRefused, RefusalIsOne}
 use Rattle.bt_wire.specs.Faults.{allows, field_size, is_beyond, is_strict}
 use Rattle.bt_wire.specs.Faults.{IsFault}
-use Rattle.bt_wire.specs.Legal.{IsLegal, IsAllowed, IsSaid, IsRefusedFor, Refuses}
-use Rattle.bt_wire.specs.Messages.{Fields, extended, fields_of, index_in, field_in, is_payload, id_of, framed, spell_fields, body, spell, IsShaped, IsInRange, AreInRange}
+use Rattle.bt_wire.specs.Legal.{IsLegal, IsAllowed, IsRefusedFor}
+use Rattle.bt_wire.specs.Messages.{Fields, extended, fields_of, index_in, field_in, is_payload, id_of, framed, spell_fields, spell, IsShaped, IsInRange}
 use Rattle.bt_wire.specs.Numbers.{be32}
 use Rattle.bt_wire.proofs.WindowLaws.{one_fault, fault-spell}
 

@@ -6,7 +6,7 @@ use Rattle.bt_wire.specs.declared.context.Order.{Order}
 use Rattle.bt_wire.specs.declared.fault.Header.TheVariants as headers
 use Rattle.bt_wire.specs.declared.fault.Reason.TheVariants.{StreamFull}
 use Rattle.bt_wire.specs.declared.fault.Refused.{Refused}
-use Rattle.bt_wire.specs.declared.message.Message.{Message}
+use Rattle.bt_wire.specs.Messages.{Message}
 use Rattle.bt_wire.specs.Faults.{is_whole, window, IsFault, early, unfinished}
 use Rattle.bt_wire.specs.Fronts.{BeginsBy, IsPartial}
 use Rattle.bt_wire.specs.Headers.{header_of, IsRead, IsWindow}

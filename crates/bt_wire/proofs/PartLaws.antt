@@ -7,7 +7,7 @@ use Rattle.bt_wire.specs.declared.context.Context.{Context}
 use Rattle.bt_wire.specs.declared.ids.Kind.{Kind}
 use Rattle.bt_wire.specs.declared.ids.Shape.{Shape}
 use Rattle.bt_wire.specs.declared.ids.Shape.TheVariants.{Nothing, Index, Part, Block, Port, Field, Extended}
-use Rattle.bt_wire.specs.declared.message.Message.{Message}
+use Rattle.bt_wire.specs.Messages.{Message}
 use Rattle.bt_wire.specs.Numbers.{be32, number32, AreBytes}
 use Rattle.bt_wire.specs.Ids.{Id, ids, row_in, kind_of}
 use Rattle.bt_wire.specs.Messages.{Fields, IsIdInRange, id_of, fields_of, spell_fields, AreInRange, IsShaped, IsInRange}

@@ -11,7 +11,7 @@ use Rattle.bt_wire.specs.declared.context.Order.{Order}
 use Rattle.bt_wire.specs.declared.ids.Kind.{Kind}
 use Rattle.bt_wire.specs.declared.ids.Shape.{Shape}
 use Rattle.bt_wire.specs.declared.ids.Shape.TheVariants.{Nothing, Index, Part, Block, Port, Field, Extended}
-use Rattle.bt_wire.specs.declared.message.Message.{Message}
+use Rattle.bt_wire.specs.Messages.{Message}
 use Rattle.bt_wire.specs.declared.message.Message.TheVariants as m
 use Rattle.bt_wire.specs.Numbers.{be32, number32}
 use Rattle.bt_wire.specs.Ids.{kind_of, shape_by}
@@ -132,7 +132,7 @@ some_id (Some n) h = refl
 pub spelled_ext : (reg : Registered) (e : Ext) → HasSpelling reg e → IsExt reg e (unwrap_or (ext_id reg e) 0) (payload_of e)
 spelled_ext reg e h = record { named = some_id (ext_id reg e) h.0; fits = h.1; spelled = refl }
 
-both_ext : (c : Context) (e f : Ext) → HasSpelling c.reg e → HasSpelling c.reg f → body c (m.Extended e) ≡ body c (m.Extended f) → m.Extended e ≡ m.Extended f
+both_ext : (c : Context) (e f : Ext) → HasSpelling c.reg e → HasSpelling c.reg f → body c (m.Extended e) ≡ body c (m.Extended f) → ◌≡◌ {A = Message} (m.Extended e) (m.Extended f)
 both_ext c e f he hf h =
     let id : unwrap_or (ext_id c.reg e) 0 ≡ unwrap_or (ext_id c.reg f) 0 = cc in
     let bytes : payload_of e ≡ payload_of f = cc in

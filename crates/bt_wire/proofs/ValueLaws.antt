@@ -15,7 +15,7 @@ use Rattle.bt_wire.specs.declared.fault.Reason.{Reason}
 use Rattle.bt_wire.specs.declared.context.Context.{Context}
 use Rattle.bt_wire.specs.declared.context.Order.{Order}
 use Rattle.bt_wire.specs.declared.fault.Refused.{Refused}
-use Rattle.bt_wire.specs.declared.message.Message.{Message}
+use Rattle.bt_wire.specs.Messages.{Message}
 use Rattle.bt_wire.specs.declared.message.Message.TheVariants as m
 use Rattle.bt_wire.specs.Ids.{kind_of}
 use Rattle.bt_wire.specs.Messages.{Fields, id_of, fields_of, body, spell, IsShaped, AreInRange, IsIdInRange, IsInRange}

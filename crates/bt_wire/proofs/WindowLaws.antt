@@ -14,7 +14,7 @@ use Rattle.bt_wire.specs.declared.context.Order.{Order}
 use Rattle.bt_wire.specs.declared.fault.Fault.TheVariants as fault
 use Rattle.bt_wire.specs.declared.fault.Reason.TheVariants.{TooLong, StreamFull}
 use Rattle.bt_wire.specs.declared.fault.Refused.{Refused}
-use Rattle.bt_wire.specs.declared.message.Message.{Message}
+use Rattle.bt_wire.specs.Messages.{Message}
 use Rattle.bt_wire.specs.declared.message.Message.TheVariants as m
 use Rattle.bt_wire.specs.Numbers.{be32, AreBytes}
 use Rattle.bt_wire.specs.Ids.{kind_of, shape_by}

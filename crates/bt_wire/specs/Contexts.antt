@@ -6,7 +6,7 @@ use Rattle.bt_ext.specs.declared.ids.Registered.{Registered}
 use Rattle.bt_wire.specs.declared.context.Context.{Context}
 use Rattle.bt_wire.specs.declared.context.Order.{Order}
 use Rattle.bt_wire.specs.declared.fault.Fault.{Fault}
-use Rattle.bt_wire.specs.declared.message.Message.{Message}
+use Rattle.bt_wire.specs.Messages.{Message}
 use Rattle.bt_wire.specs.declared.message.Message.TheVariants as m
 use Rattle.bt_wire.specs.Legal.{IsLegal, Refuses}
 use Rattle.bt_wire.specs.Messages.{fields_of, index_in, field_in, spell, IsInRange}

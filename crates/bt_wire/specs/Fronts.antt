@@ -4,7 +4,7 @@ use Rattle.bt_wire.specs.declared.context.Context.{Context}
 use Rattle.bt_wire.specs.declared.context.Order.{Order}
 use Rattle.bt_wire.specs.declared.front.Front.{Front}
 use Rattle.bt_wire.specs.declared.front.Front.TheVariants as front
-use Rattle.bt_wire.specs.declared.message.Message.{Message}
+use Rattle.bt_wire.specs.Messages.{Message}
 use Rattle.bt_wire.specs.declared.context.Own.{Own}
 use Rattle.bt_wire.specs.declared.handshake.Opening.{Opening}
 use Rattle.bt_wire.specs.declared.handshake.Opening.TheVariants as opening

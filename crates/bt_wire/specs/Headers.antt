@@ -2,7 +2,7 @@
 use Rattle.std.specs.Prelude.{◌≡◌, ◌==◌, ℕ, ◌+◌, ◌≤◌, List, length, nat_lt, Option, Some, None, true, if◌then◌else◌}
 use Rattle.bt_wire.specs.declared.context.Context.{Context}
 use Rattle.bt_wire.specs.declared.context.Order.{Order}
-use Rattle.bt_wire.specs.declared.message.Message.{Message}
+use Rattle.bt_wire.specs.Messages.{Message}
 use Rattle.bt_wire.specs.declared.fault.DecodeError.{DecodeError}
 use Rattle.bt_wire.specs.declared.fault.DecodeError.TheVariants as decode
 use Rattle.bt_wire.specs.declared.fault.Header.{Header}

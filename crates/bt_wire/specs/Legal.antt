@@ -4,7 +4,7 @@ use Rattle.std.specs.Global.{Vec}
 use Rattle.bt_wire.specs.declared.context.Context.{Context}
 use Rattle.bt_wire.specs.declared.context.Order.{Order}
 use Rattle.bt_ext.specs.Faults.{Allows}
-use Rattle.bt_wire.specs.declared.message.Message.{Message}
+use Rattle.bt_wire.specs.Messages.{Message}
 use Rattle.bt_wire.specs.declared.message.Message.TheVariants as m
 use Rattle.bt_wire.specs.declared.fault.Fault.{Fault}
 use Rattle.bt_wire.specs.declared.fault.Fault.TheVariants as fault

@@ -1,5 +1,8 @@
 -- What messages are as bytes (BEP 3, "peer messages"; BEP 5; BEP 6; BEP 10).
+use Rattle.std.specs.Borrow.{Bor}
 use Rattle.std.specs.Prelude.{◌≡◌, ℕ, ◌<◌, ◌^◌, Bool, true, false, List, [], ◌∷◌, ◌++◌, length, Option, Some, None, unwrap_or, option_and_then, if◌then◌else◌, ⊤}
+use Rattle.bt_ext.specs.declared.ext.Ext.{Ext}
+use Rattle.bt_ext.specs.declared.ext.ExtView.{ExtView}
 use Rattle.bt_ext.specs.Payloads.{ext_id, payload_of, HasSpelling, seen as ext_of_view}
 use Rattle.bt_wire.specs.declared.context.Context.{Context}
 use Rattle.bt_wire.specs.declared.context.Order.{Order}
@@ -9,12 +12,17 @@ use Rattle.bt_wire.specs.declared.fields.Fields.TheVariants as f
 use Rattle.bt_wire.specs.declared.ids.Kind.{Kind}
 use Rattle.bt_wire.specs.declared.ids.Turn.{Turn}
 use Rattle.bt_wire.specs.declared.ids.Turn.TheVariants.{Apart, Counted, Opening}
-use Rattle.bt_wire.specs.declared.message.Message.{Message}
+use Rattle.bt_wire.specs.declared.message.Message.{Message as MessageOver}
 use Rattle.bt_wire.specs.declared.message.Message.TheVariants as m
-use Rattle.bt_wire.specs.declared.message.MessageView.{MessageView}
-use Rattle.bt_wire.specs.declared.message.MessageView.TheVariants as v
 use Rattle.bt_wire.specs.Numbers.{be16, be32}
 use Rattle.bt_wire.specs.Ids.{kind_of, has_meaning}
+
+-- a message as a value, and as a view of bytes
+abbrev pub Message : Type 0
+Message = MessageOver (List ℕ) Ext
+
+abbrev pub MessageView : Type 0
+MessageView = MessageOver (Bor (List ℕ)) ExtView
 
 -- what follows the id, by its shape: nothing; a piece index; an index with begin and length; an index with begin and a
 -- block; a port; a bitfield; an extended id and its payload; or the bytes behind an id that has no meaning
@@ -46,7 +54,7 @@ IsExtended msg = ⊥
 -- ---- a message is a keep-alive, or an id and fields
 
 -- the id of a message with a meaning
-abbrev pub known_id : Message → Option ℕ
+abbrev pub known_id : {B E : Type 0} → MessageOver B E → Option ℕ
 known_id m.KeepAlive = None
 known_id m.Choke = Some 0
 known_id m.Unchoke = Some 1
@@ -66,7 +74,7 @@ known_id (m.AllowedFast i) = Some 17
 known_id (m.Extended e) = Some 20
 known_id (m.Unknown n bytes) = None
 
-abbrev pub id_of : Message → Option ℕ
+abbrev pub id_of : {B E : Type 0} → MessageOver B E → Option ℕ
 id_of (m.Unknown n bytes) = Some n
 id_of msg = known_id msg
 
@@ -144,7 +152,7 @@ IsShaped c msg = ⊤
 -- ---- the order of messages
 
 -- what is known of a message: nothing of an unknown one and of a keep-alive
-abbrev pub kind_in : Message → Option Kind
+abbrev pub kind_in : {B E : Type 0} → MessageOver B E → Option Kind
 kind_in m = option_and_then kind_of (known_id m)
 
 abbrev pub counts : Turn → Bool
@@ -157,7 +165,7 @@ counts_by None = false
 counts_by (Some k) = counts k.turn
 
 -- the order that a message leaves
-abbrev pub order_after : Order → Message → Order
+abbrev pub order_after : {B E : Type 0} → Order → MessageOver B E → Order
 order_after o m = if counts_by (kind_in m) then Past else o
 
 -- ---- parts
@@ -187,23 +195,27 @@ keeps_bytes (extended n bytes) = true
 keeps_bytes (payload bytes) = true
 keeps_bytes other = false
 
+-- a message over other bytes and another payload
+abbrev pub map : {B C D E : Type 0} → (B → C) → (D → E) → MessageOver B D → MessageOver C E
+map f g m.KeepAlive = m.KeepAlive
+map f g m.Choke = m.Choke
+map f g m.Unchoke = m.Unchoke
+map f g m.Interested = m.Interested
+map f g m.NotInterested = m.NotInterested
+map f g (m.Have i) = m.Have i
+map f g (m.Bitfield bits) = m.Bitfield (f bits)
+map f g (m.Request i b l) = m.Request i b l
+map f g (m.Piece i b bytes) = m.Piece i b (f bytes)
+map f g (m.Cancel i b l) = m.Cancel i b l
+map f g (m.Port p) = m.Port p
+map f g (m.Suggest i) = m.Suggest i
+map f g m.HaveAll = m.HaveAll
+map f g m.HaveNone = m.HaveNone
+map f g (m.Reject i b l) = m.Reject i b l
+map f g (m.AllowedFast i) = m.AllowedFast i
+map f g (m.Extended e) = m.Extended (g e)
+map f g (m.Unknown n bytes) = m.Unknown n (f bytes)
+
 -- the message that a view is
 abbrev pub message_of : MessageView → Message
-message_of v.KeepAlive = m.KeepAlive
-message_of v.Choke = m.Choke
-message_of v.Unchoke = m.Unchoke
-message_of v.Interested = m.Interested
-message_of v.NotInterested = m.NotInterested
-message_of (v.Have i) = m.Have i
-message_of (v.Bitfield bits) = m.Bitfield bits.now
-message_of (v.Request i b l) = m.Request i b l
-message_of (v.Piece i b bytes) = m.Piece i b bytes.now
-message_of (v.Cancel i b l) = m.Cancel i b l
-message_of (v.Port p) = m.Port p
-message_of (v.Suggest i) = m.Suggest i
-message_of v.HaveAll = m.HaveAll
-message_of v.HaveNone = m.HaveNone
-message_of (v.Reject i b l) = m.Reject i b l
-message_of (v.AllowedFast i) = m.AllowedFast i
-message_of (v.Extended e) = m.Extended (ext_of_view e)
-message_of (v.Unknown n bytes) = m.Unknown n bytes.now
+message_of v = map (λ bytes. bytes.now) ext_of_view v

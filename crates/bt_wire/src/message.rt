@@ -7,10 +7,11 @@ use crate::fields::Fields;
 use bt_bencode::ByteString;
 use bt_ext::{Ext, ExtView};
 
-/// What follows the handshake (BEP 3, "peer messages"; BEP 5; BEP 6; BEP 10). `index` is a piece's, `begin` and `length` are
-/// bytes within it. A message whose id isn't known is kept with its payload.
+/// What follows the handshake (BEP 3, "peer messages"; BEP 5; BEP 6; BEP 10), over its bytes `B` and extended payload `E`.
+///
+/// `index` is a piece's, `begin` and `length` are bytes within it. A message whose id isn't known is kept with its payload.
 #[derive(Debug, Drop)]
-pub enum Message {
+pub enum Message<B = ByteString, E = Ext> {
     KeepAlive,
     Choke,
     Unchoke,
@@ -18,7 +19,7 @@ pub enum Message {
     NotInterested,
     Have(u32),
     /// A bit for each piece, that of piece 0 the high bit of the first byte.
-    Bitfield(ByteString),
+    Bitfield(B),
     Request {
         index: u32,
         begin: u32,
@@ -27,7 +28,7 @@ pub enum Message {
     Piece {
         index: u32,
         begin: u32,
-        block: ByteString,
+        block: B,
     },
     Cancel {
         index: u32,
@@ -46,56 +47,17 @@ pub enum Message {
     },
     AllowedFast(u32),
     /// A message of the Extension Protocol (BEP 10).
-    Extended(Ext),
+    Extended(E),
     Unknown {
         id: u8,
-        payload: ByteString,
+        payload: B,
     },
 }
 
-/// The same over the bytes that it was read from.
-#[derive(Drop)]
-pub enum MessageView<'a> {
-    KeepAlive,
-    Choke,
-    Unchoke,
-    Interested,
-    NotInterested,
-    Have(u32),
-    Bitfield(&'a [u8]),
-    Request {
-        index: u32,
-        begin: u32,
-        length: u32,
-    },
-    Piece {
-        index: u32,
-        begin: u32,
-        block: &'a [u8],
-    },
-    Cancel {
-        index: u32,
-        begin: u32,
-        length: u32,
-    },
-    Port(u16),
-    Suggest(u32),
-    HaveAll,
-    HaveNone,
-    Reject {
-        index: u32,
-        begin: u32,
-        length: u32,
-    },
-    AllowedFast(u32),
-    Extended(ExtView<'a>),
-    Unknown {
-        id: u8,
-        payload: &'a [u8],
-    },
-}
+/// A message over the bytes that it was read from.
+pub type MessageView<'a> = Message<&'a [u8], ExtView<'a>>;
 
-impl Message {
+impl<B, E> Message<B, E> {
     /// The id, but for a keep-alive.
     pub fn id(&self) -> Option<u8>
         ensures value { result ≡ id_in self.now }
@@ -122,7 +84,9 @@ impl Message {
             Message::Unknown { id, .. } => Some(*id),
         }
     }
+}
 
+impl Message {
     /// What follows the id, but of an extended message, whose payload is read and written apart.
     pub fn fields(&self) -> Option<Fields<'_>>
         ensures value { MatchOption result (IsExtended self.now) (λ f. (c : Context) → seen f ≡ fields_of c self.now) }
@@ -171,34 +135,6 @@ impl Message {
             Message::Port(port) => Some(Fields::Port(*port)),
             Message::Unknown { payload, .. } => Some(Fields::Payload(payload.as_slice())),
             Message::Extended(_) => None,
-        }
-    }
-}
-
-impl<'a> MessageView<'a> {
-    /// The id, but for a keep-alive.
-    pub fn id(&self) -> Option<u8>
-        ensures { result ≡ id_in (message_of self.now) }
-    {
-        match self {
-            MessageView::KeepAlive => None,
-            MessageView::Choke => Some(0),
-            MessageView::Unchoke => Some(1),
-            MessageView::Interested => Some(2),
-            MessageView::NotInterested => Some(3),
-            MessageView::Have(_) => Some(4),
-            MessageView::Bitfield(_) => Some(5),
-            MessageView::Request { .. } => Some(6),
-            MessageView::Piece { .. } => Some(7),
-            MessageView::Cancel { .. } => Some(8),
-            MessageView::Port(_) => Some(9),
-            MessageView::Suggest(_) => Some(13),
-            MessageView::HaveAll => Some(14),
-            MessageView::HaveNone => Some(15),
-            MessageView::Reject { .. } => Some(16),
-            MessageView::AllowedFast(_) => Some(17),
-            MessageView::Extended(_) => Some(20),
-            MessageView::Unknown { id, .. } => Some(*id),
         }
     }
 }

@@ -5,8 +5,9 @@ ghost use Rattle.bt_wire.specs.Messages.{order_after, message_of};
 use crate::context::Order;
 use crate::message::{Message, MessageView};
 
-/// The order that a message leaves.
-pub fn next(order: Order, message: &Message) -> Order
+/// Returns the order that a message leaves.
+#[inline(always)]
+pub fn next<B, E>(order: Order, message: &Message<B, E>) -> Order
     ensures { result ≡ order_after order message.now }
 {
     match message {
@@ -16,16 +17,10 @@ pub fn next(order: Order, message: &Message) -> Order
     }
 }
 
-/// The order that the message of a view leaves.
+/// Returns the order that the message of a view leaves.
 #[inline(always)]
 pub fn next_of_view(order: Order, view: &MessageView) -> Order
     ensures { result ≡ order_after order (message_of view.now) }
 {
-    match view {
-        MessageView::KeepAlive
-        | MessageView::Port(_)
-        | MessageView::Extended(_)
-        | MessageView::Unknown { .. } => order,
-        _ => Order::Past,
-    }
+    next(order, view)
 }

@@ -1,5 +1,5 @@
 use Rattle.std.proofs.Common.{◌≡◌, ℕ, List, Option, Some, None, ap, subst, sym, ◌∙◌}
-use Rattle.bt_wire.specs.declared.message.Message.{Message}
+use Rattle.bt_wire.specs.Messages.{Message}
 use Rattle.bt_text.specs.ScriptReading.{seen}
 use Rattle.bt_session.specs.declared.link.Side.{Side}
 use Rattle.bt_rig.specs.Entries.{IsMessageReading, said_in}

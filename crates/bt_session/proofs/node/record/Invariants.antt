@@ -1,5 +1,5 @@
 use Rattle.std.proofs.Common.{◌≤◌, ◌-◌, List, length, drop}
-use Rattle.bt_wire.specs.declared.message.Message.{Message}
+use Rattle.bt_wire.specs.Messages.{Message}
 use Rattle.bt_session.specs.Nodes.{Spells, IsRecording}
 use Rattle.bt_session.proofs.node.record.Given as goal
 

@@ -1,5 +1,5 @@
 use Rattle.std.proofs.Common.{◌≡◌, ◌+◌, ◌-◌, ◌≤◌, ℕ, length, length-drop, sym, subst, ap, ◌∙◌, arith}
-use Rattle.bt_wire.specs.declared.message.Message.{Message}
+use Rattle.bt_wire.specs.Messages.{Message}
 use Rattle.bt_wire.specs.Faults.{said_length, said_id, allows, size_of}
 use Rattle.bt_wire.specs.Headers.{IsRead}
 use Rattle.bt_wire.proofs.HeaderLaws.{IsWindow-from_header}

@@ -1,5 +1,5 @@
 use Rattle.std.proofs.Common.{None, sym, subst}
-use Rattle.bt_wire.specs.declared.message.Message.{Message}
+use Rattle.bt_wire.specs.Messages.{Message}
 use Rattle.bt_wire.specs.Parts.{IsJudged}
 use Rattle.bt_wire.proofs.ValueLaws.{unrefused}
 use Rattle.bt_wire.proofs.encoding.judge_extended.Goals as goal
