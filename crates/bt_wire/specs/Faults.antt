@@ -23,7 +23,7 @@ use Rattle.bt_wire.specs.Tables.{Row, row, first_fault}
 
 -- ---- what the bytes of a message say
 
--- the length that the first four bytes say, and the id behind it
+-- the length that the first four bytes say, and the id after it
 abbrev pub said_length : List ℕ → ℕ
 said_length b = number32 b
 
@@ -46,6 +46,17 @@ window_length b = 4 + said_length b
 
 abbrev pub window : List ℕ → List ℕ
 window b = take (window_length b) b
+
+-- where a message's parts begin, counted from its start: the id after the length, the fields after the id, an extended
+-- payload after the extended id
+abbrev pub id_at : ℕ
+id_at = 4
+
+abbrev pub fields_at : ℕ
+fields_at = 5
+
+abbrev pub payload_at : ℕ
+payload_at = 6
 
 -- ---- what the rules ask of an id
 
@@ -97,7 +108,7 @@ is_fresh Fresh = true
 is_fresh Past = false
 
 -- BEP 3: "'bitfield' is only ever sent as the first message". BEP 6: one of bitfield, have all and have none must be sent
--- right behind the handshakes. Here keep-alives, port, extended and unknown messages don't count.
+-- right after the handshakes. Here keep-alives, port, extended and unknown messages don't count.
 abbrev pub is_late : Order → Option Kind → Bool
 is_late o None = false
 is_late o (Some k) = elim k.turn [ Apart ↦ false | Counted ↦ false | Opening ↦ not (is_fresh o) ]
@@ -146,11 +157,11 @@ id_rule reason at condition = record { reason = reason; at = at; condition = con
 
 abbrev pub id_rules : List IdRule
 id_rules =
-    id_rule UnknownId 4 (λ c o id length. is_strict c && not (has_meaning id))
-    ∷ id_rule NotNegotiated 4 (λ c o id length. not (is_agreed c (kind_of id)))
+    id_rule UnknownId id_at (λ c o id length. is_strict c && not (has_meaning id))
+    ∷ id_rule NotNegotiated id_at (λ c o id length. not (is_agreed c (kind_of id)))
     ∷ id_rule WrongLength 0 (λ c o id length. not (allows (size_of c id) length))
-    ∷ id_rule Late 4 (λ c o id length. is_strict c && is_late o (kind_of id))
-    ∷ id_rule Missing 4 (λ c o id length. is_strict c && is_missing c o (kind_of id))
+    ∷ id_rule Late id_at (λ c o id length. is_strict c && is_late o (kind_of id))
+    ∷ id_rule Missing id_at (λ c o id length. is_strict c && is_missing c o (kind_of id))
     ∷ []
 
 abbrev pub id_row : Context → Order → List ℕ → IdRule → Row
@@ -163,8 +174,8 @@ header_rows c o b = row TooLong 0 (has_length b) (nat_lt c.limit (said_length b)
 -- what is judged by the fields of the whole message w
 abbrev pub field_rows : Context → List ℕ → List Row
 field_rows c w =
-    row BadIndex 5 (has_id w) (has_index (shape_by (kind_of (said_id w))) && is_beyond c.pieces (number32 (drop 5 w)))
-    ∷ row SpareBits (3 + said_length w) (has_id w) (is_field (shape_by (kind_of (said_id w))) && has_spare c.pieces (drop 5 w))
+    row BadIndex fields_at (has_id w) (has_index (shape_by (kind_of (said_id w))) && is_beyond c.pieces (number32 (drop fields_at w)))
+    ∷ row SpareBits (3 + said_length w) (has_id w) (is_field (shape_by (kind_of (said_id w))) && has_spare c.pieces (drop fields_at w))
     ∷ []
 
 unfoldable pub header_fault : Context → Order → List ℕ → Option Refused
@@ -182,14 +193,14 @@ abbrev pub said_ext_id : List ℕ → ℕ
 said_ext_id w = slice_index w 5
 
 abbrev pub said_payload : List ℕ → List ℕ
-said_payload w = drop 6 w
+said_payload w = drop payload_at w
 
 -- the fault of a payload, by its place in the message
 abbrev pub placed_by : ViewError → Refused
-placed_by (error.BadBencode at) = record { at = 6 + at; reason = BadBencode }
-placed_by (error.Unsorted at) = record { at = 6 + at; reason = Unsorted }
-placed_by error.BadField = record { at = 6; reason = BadField }
-placed_by (error.BadBlock at) = record { at = 6 + at; reason = BadBlock }
+placed_by (error.BadBencode at) = record { at = payload_at + at; reason = BadBencode }
+placed_by (error.Unsorted at) = record { at = payload_at + at; reason = Unsorted }
+placed_by error.BadField = record { at = payload_at; reason = BadField }
+placed_by (error.BadBlock at) = record { at = payload_at + at; reason = BadBlock }
 
 -- the fault, if any, of the whole message w that has no early one: one of its fields, or else of its extended payload
 pub data IsWindowFault (c : Context) (w : List ℕ) (f : Option Refused) : Type 0 where

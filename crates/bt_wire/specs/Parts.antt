@@ -17,7 +17,7 @@ use Rattle.bt_wire.specs.Bitfields.{has_spare}
 use Rattle.bt_wire.specs.Numbers.{number16, number32}
 use Rattle.bt_wire.specs.Ids.{kind_of}
 use Rattle.bt_wire.specs.Messages.{Fields, none, index, part, block, port, field, payload, index_in, field_in}
-use Rattle.bt_wire.specs.Faults.{allows, field_size, is_beyond, placed_by}
+use Rattle.bt_wire.specs.Faults.{allows, field_size, fields_at, is_beyond, placed_by}
 
 -- the fields of a shape that bytes are; of an extended message bytes are read apart
 abbrev pub reading : Shape → List ℕ → Fields
@@ -95,7 +95,7 @@ is_field_spare pieces (Some bits) = has_spare pieces bits
 
 abbrev pub broken_field : Option ℕ → ℕ → Fields → Option Refused
 broken_field pieces length f =
-    if is_index_beyond pieces (index_in f) then Some (record { at = 5; reason = BadIndex })
+    if is_index_beyond pieces (index_in f) then Some (record { at = fields_at; reason = BadIndex })
     else if is_field_spare pieces (field_in f) then Some (record { at = 3 + length; reason = SpareBits })
     else None
 

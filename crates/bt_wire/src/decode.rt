@@ -10,7 +10,7 @@ ghost use Rattle.bt_wire.specs.Ids.{shape_by, kind_of as kind_at};
 ghost use Rattle.bt_wire.specs.Parts.{made, reading_by, place_in};
 
 use crate::context::{Context, Order};
-use crate::fault::{DecodeError, Reason, Refused};
+use crate::fault::{DecodeError, PAYLOAD_AT, Reason, Refused};
 use crate::fields::judge_bytes;
 use crate::ids::EXTENDED;
 use crate::message::{Message, MessageView};
@@ -85,19 +85,19 @@ fn placed(fault: ViewError, _length: usize) -> Refused
 {
     match fault {
         ViewError::BadBencode { at } => Refused {
-            at: 6 + at as u64,
+            at: PAYLOAD_AT + at as u64,
             reason: Reason::BadBencode,
         },
         ViewError::Unsorted { at } => Refused {
-            at: 6 + at as u64,
+            at: PAYLOAD_AT + at as u64,
             reason: Reason::Unsorted,
         },
         ViewError::BadField => Refused {
-            at: 6,
+            at: PAYLOAD_AT,
             reason: Reason::BadField,
         },
         ViewError::BadBlock { at } => Refused {
-            at: 6 + at as u64,
+            at: PAYLOAD_AT + at as u64,
             reason: Reason::BadBlock,
         },
     }

@@ -48,7 +48,7 @@ pub enum Reason {
     /// Strict rules alone: a field of the dictionary has the wrong kind (BEP 9, BEP 10).
     #[error("BadField")]
     BadField,
-    /// Strict rules alone: the block behind the dictionary has the wrong length (BEP 9).
+    /// Strict rules alone: the block after the dictionary has the wrong length (BEP 9).
     #[error("BadBlock")]
     BadBlock,
     /// The message would start at 2^62 or later.
@@ -58,6 +58,15 @@ pub enum Reason {
     #[error("EndInside")]
     EndInside,
 }
+
+/// Where the id of a message stands, counted from the message's start: after the four bytes of its length.
+pub(crate) const ID_AT: u64 = 4;
+
+/// Where its fields begin: after the id.
+pub(crate) const FIELDS_AT: u64 = 5;
+
+/// Where an extended payload begins: after the extended id.
+pub(crate) const PAYLOAD_AT: u64 = 6;
 
 /// A fault of bytes: why, and where, counted from the start of the message or of the handshake.
 #[derive(Clone, Copy, PartialEq, Eq, Debug, Error)]
@@ -86,7 +95,7 @@ pub enum EncodeError {
     Memory,
 }
 
-/// Why a window isn't decoded: its fault, at this place of the window, or want of memory.
+/// Why a window isn't decoded: its fault, at this place of the window, or out of memory.
 #[derive(Clone, Copy, PartialEq, Eq, Debug, Error)]
 pub enum DecodeError {
     #[error("{reason} at {at}")]
@@ -98,9 +107,9 @@ pub enum DecodeError {
 /// What the first bytes of a message say.
 #[derive(Clone, Copy, PartialEq, Eq)]
 pub enum Header {
-    /// So many bytes are needed, 4 or 5.
+    /// This many bytes are needed, 4 or 5.
     Need(u8),
-    /// The message has so many bytes, those of its length counted.
+    /// The message has this many bytes, those of its length counted.
     Window(u64),
     Refused { at: u64, reason: Reason },
 }

@@ -7,7 +7,7 @@ ghost use Rattle.bt_wire.specs.Ids.{shape_by, kind_of as kind_at};
 ghost use Rattle.bt_wire.specs.Parts.{broken_field, bound_of, reading_by, IsSized};
 
 use crate::context::Context;
-use crate::fault::{Reason, Refused};
+use crate::fault::{FIELDS_AT, Reason, Refused};
 use crate::ids::{Shape, kind_of};
 use crate::message::Message;
 use crate::numbers::number_at_front;
@@ -95,7 +95,7 @@ fn judge_index(pieces: u32, index: u32) -> Option<Refused>
 {
     if index >= pieces {
         return Some(Refused {
-            at: 5,
+            at: FIELDS_AT,
             reason: Reason::BadIndex,
         });
     }

@@ -7,7 +7,7 @@ ghost use Rattle.bt_wire.specs.Headers.{header_of};
 ghost use Rattle.bt_wire.specs.declared.context.Context.{Context};
 
 use crate::context::{Context, Order};
-use crate::fault::{Header, Reason, Refused};
+use crate::fault::{Header, ID_AT, Reason, Refused};
 use crate::ids::{Kind, Needs, Shape, Turn, kind_of};
 use crate::numbers::number_at_front;
 use bt_ext::Rules;
@@ -158,19 +158,19 @@ fn judge_kind(context: &Context, order: Order, kind: Option<Kind>, length: u32) 
 {
     let strict = is_strict(context);
     if strict && kind.is_none() {
-        return refused(4, Reason::UnknownId);
+        return refused(ID_AT, Reason::UnknownId);
     }
     if !is_agreed(context, kind) {
-        return refused(4, Reason::NotNegotiated);
+        return refused(ID_AT, Reason::NotNegotiated);
     }
     if !is_allowed(context, kind, length) {
         return refused(0, Reason::WrongLength);
     }
     if strict && is_late(order, kind) {
-        return refused(4, Reason::Late);
+        return refused(ID_AT, Reason::Late);
     }
     if strict && is_missing(context, order, kind) {
-        return refused(4, Reason::Missing);
+        return refused(ID_AT, Reason::Missing);
     }
     None
 }
