@@ -4,6 +4,7 @@ use Rattle.std.proofs.lemmas.Bool.{cases_lt, le-leb, lt-leb}
 use Rattle.std.proofs.lemmas.List.{take_all}
 use Rattle.bt_wire.specs.declared.context.Context.{Context}
 use Rattle.bt_wire.specs.declared.context.Order.{Order}
+use Rattle.bt_wire.specs.declared.fault.Header.{Header}
 use Rattle.bt_wire.specs.declared.fault.Header.TheVariants as headers
 use Rattle.bt_wire.specs.declared.fault.Refused.{Refused}
 use Rattle.bt_wire.specs.Faults as faults
@@ -18,7 +19,7 @@ use Rattle.bt_feed.specs.declared.stage.Stage.TheVariants as stage
 use Rattle.bt_feed.specs.declared.progress.Progress.{Progress}
 use Rattle.bt_feed.specs.Stages.{start_of, early, is_all, HasFault}
 use Rattle.bt_feed.specs.Feeds.{held_of}
-use Rattle.bt_feed.specs.Progress.{IsProgress}
+use Rattle.bt_feed.specs.Progress.{IsProgress, IsStart}
 
 -- ---- the place of a refusal
 
@@ -57,7 +58,8 @@ early_window c o s i b n lt e =
       ],
     )
 
-pub early_refused : (c : Context) (o : Order) (s i : ℕ) (b : List ℕ) (f : Refused) → s < 2 ^ 62 → header_of c o b ≡ headers.Refused f.at f.reason → early (stage.Message c o s i) b ≡ Some f
-early_refused c o s i b f lt e =
-    let found : header_fault c o b ≡ Some f = judged_at c o b (headers.Refused f.at f.reason) e in
-    early_header c o s b lt ∙ found
+-- what the first bytes say of a message that starts before the bound is what its header says
+pub started : (c : Context) (o : Order) (s : ℕ) (b : List ℕ) → s < 2 ^ 62 → (h : Header) → h ≡ header_of c o b → IsStart c o s b h
+started c o s b lt (headers.Need n) e = (lt, sym e)
+started c o s b lt (headers.Window n) e = (lt, sym e)
+started c o s b lt (headers.Refused at reason) e = early_header c o s b lt ∙ judged_at c o b (headers.Refused at reason) (sym e)

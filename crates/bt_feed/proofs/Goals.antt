@@ -1,20 +1,15 @@
 -- How far bytes are judged together with what follows them.
-use Rattle.std.proofs.Common.{◌≡◌, ℕ, ◌^◌, ◌≤◌, ◌<◌, Bool, false, List, ◌++◌, length, Option, Some, None, refl, ◌∙◌, arith}
+use Rattle.std.proofs.Common.{◌≡◌, ℕ, ◌^◌, ◌≤◌, ◌<◌, Bool, false, List, ◌++◌, length, Option, Some, None, refl, arith}
 use Rattle.std.specs.Prelude.{is_some}
 use Rattle.bt_wire.specs.declared.context.Context.{Context}
 use Rattle.bt_wire.specs.declared.context.Order.{Order}
 use Rattle.bt_wire.specs.declared.context.Own.{Own}
 use Rattle.bt_wire.specs.declared.fault.Header.TheVariants as headers
-use Rattle.bt_wire.specs.declared.fault.Refused.{Refused}
-use Rattle.bt_wire.specs.Faults.{header_fault}
 use Rattle.bt_wire.specs.Handshakes.{hand_fault}
 use Rattle.bt_wire.specs.Headers.{header_of}
-use Rattle.bt_wire.proofs.HeaderLaws.{judged_at}
-use Rattle.bt_wire.proofs.WindowLaws.{early_header}
 use Rattle.bt_feed.specs.declared.stage.Goal.TheVariants as goal
 use Rattle.bt_feed.specs.declared.stage.Stage.TheVariants as stage
 use Rattle.bt_feed.specs.Progress.{IsGoal}
-use Rattle.bt_feed.proofs.Closed.{closed_early}
 use Rattle.bt_feed.proofs.Hands.{to_hash, to_end}
 use Rattle.bt_feed.proofs.Windows.{need_until, need_short, need_open}
 
@@ -32,8 +27,3 @@ pub need_goal : (c : Context) (o : Order) (s i : ℕ) (b : List ℕ) (n : ℕ) �
 need_goal c o s i b n lt e =
     let short = need_short c o b n e in
     (short.0, omega (arith, short.1), λ x less. need_open c o s i (b ++ x) n lt (need_until c o b x n e less))
-
-pub refused_goal : (c : Context) (o : Order) (s i : ℕ) (b : List ℕ) (f : Refused) → s < 2 ^ 62 → header_of c o b ≡ headers.Refused f.at f.reason → IsGoal (stage.Message c o s i) b goal.Closed
-refused_goal c o s i b f lt e =
-    let found : header_fault c o b ≡ Some f = judged_at c o b (headers.Refused f.at f.reason) e in
-    closed_early (stage.Message c o s i) b f (early_header c o s b lt ∙ found)

@@ -1,6 +1,10 @@
 -- What is so of every feed; and for private contracts and the invariant alone, what is known of the bytes in the buffer.
-use Rattle.std.specs.Prelude.{◌≡◌, ℕ, ◌+◌, ◌^◌, ◌≤◌, ◌<◌, true, false, List, ◌++◌, length, take, IfSome, Err}
+use Rattle.std.specs.Prelude.{◌≡◌, ℕ, ◌+◌, ◌^◌, ◌≤◌, ◌<◌, true, false, List, ◌++◌, length, take, Some, IfSome, Err}
+use Rattle.bt_wire.specs.declared.context.Context.{Context}
+use Rattle.bt_wire.specs.declared.context.Order.{Order}
+use Rattle.bt_wire.specs.declared.fault.Header.{Header}
 use Rattle.bt_wire.specs.declared.fault.Header.TheVariants as headers
+use Rattle.bt_wire.specs.Faults.{early_fault}
 use Rattle.bt_wire.specs.Headers.{header_of}
 use Rattle.bt_feed.specs.declared.stage.Stage.{Stage}
 use Rattle.bt_feed.specs.declared.stage.Stage.TheVariants as stage
@@ -19,6 +23,12 @@ pub record IsPartial (t : Stage) (b : List ℕ) : Type 0 where
 abbrev pub HasWindow : Stage → List ℕ → ℕ → Type 0
 HasWindow (stage.Handshake own) b n = 2 ≤ 1
 HasWindow (stage.Message c o s k) b n = (s < 2 ^ 62) × (header_of c o b ≡ headers.Window n)
+
+-- what the first bytes say of a message that starts at s: how many of them are needed, how many bytes it has, or its fault
+abbrev pub IsStart : Context → Order → ℕ → List ℕ → Header → Type 0
+IsStart c o s b (headers.Need n) = (s < 2 ^ 62) × (header_of c o b ≡ headers.Need n)
+IsStart c o s b (headers.Window n) = (s < 2 ^ 62) × (header_of c o b ≡ headers.Window n)
+IsStart c o s b (headers.Refused at reason) = early_fault c o s b ≡ Some (record { at = at; reason = reason })
 
 -- what is so of every feed
 pub record IsFeed (f : FeedState) : Type 0 where

@@ -3,7 +3,7 @@ ghost use Rattle.std.specs.Prelude.{◌≡◌, ◌+◌, ◌<◌, ◌≤◌, ◌^
 ghost use Rattle.bt_feed.specs.Stages.{start_of, number_of, limit_of, refusal_of, stage_after};
 ghost use Rattle.bt_feed.specs.Views.{item_of};
 ghost use Rattle.bt_feed.specs.Answers.{IsFound, IsEarly};
-ghost use Rattle.bt_feed.specs.Progress.{IsPartial, HasWindow, IsGoal};
+ghost use Rattle.bt_feed.specs.Progress.{IsPartial, HasWindow, IsGoal, IsStart};
 
 use crate::view::View;
 use bt_wire::{
@@ -35,6 +35,20 @@ pub(crate) enum Goal {
     Until(usize),
     /// All of the message.
     Window(usize),
+}
+
+/// Returns what the first bytes say of the message that starts at an offset, or its fault.
+#[inline(always)]
+fn judge_start(context: &Context, order: Order, start: u64, bytes: &[u8]) -> Header
+    ensures { IsStart context.now order start bytes.now result }
+{
+    if start >= END {
+        return Header::Refused {
+            at: 0,
+            reason: Reason::StreamFull,
+        };
+    }
+    judge_header(context, order, bytes)
 }
 
 impl Stage {
@@ -151,19 +165,11 @@ impl Stage {
                 order,
                 start,
                 ..
-            } => {
-                if *start >= END {
-                    return Err(Refused {
-                        at: 0,
-                        reason: Reason::StreamFull,
-                    });
-                }
-                match judge_header(context, *order, held) {
-                    Header::Need(_) => Ok(false),
-                    Header::Window(length) => Ok(held.len() as u64 >= length),
-                    Header::Refused { at, reason } => Err(Refused { at, reason }),
-                }
-            }
+            } => match judge_start(context, *order, *start, held) {
+                Header::Need(_) => Ok(false),
+                Header::Window(length) => Ok(held.len() as u64 >= length),
+                Header::Refused { at, reason } => Err(Refused { at, reason }),
+            },
         }
     }
 
@@ -192,16 +198,11 @@ impl Stage {
                 order,
                 start,
                 ..
-            } => {
-                if *start >= END {
-                    return Goal::Closed;
-                }
-                match judge_header(context, *order, held) {
-                    Header::Need(count) => Goal::Until(count as usize),
-                    Header::Window(length) => Goal::Window(length as usize),
-                    Header::Refused { .. } => Goal::Closed,
-                }
-            }
+            } => match judge_start(context, *order, *start, held) {
+                Header::Need(count) => Goal::Until(count as usize),
+                Header::Window(length) => Goal::Window(length as usize),
+                Header::Refused { .. } => Goal::Closed,
+            },
         }
     }
 
@@ -216,11 +217,11 @@ impl Stage {
                 order,
                 start,
                 ..
-            } if *start < END => match judge_header(context, *order, bytes) {
+            } => match judge_start(context, *order, *start, bytes) {
                 Header::Window(length) => length as usize,
                 _ => 0,
             },
-            _ => 0,
+            Stage::Handshake(_) => 0,
         }
     }
 }

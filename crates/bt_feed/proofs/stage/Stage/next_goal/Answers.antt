@@ -2,8 +2,10 @@ use Rattle.std.proofs.Common.{◌≡◌, ◌∙◌, None, subst, sym}
 use Rattle.bt_wire.specs.Handshakes.{hand_fault}
 use Rattle.bt_feed.specs.declared.stage.Goal.TheVariants as goals
 use Rattle.bt_feed.specs.declared.stage.Stage.{Stage}
+use Rattle.bt_feed.specs.declared.stage.Stage.TheVariants as stage
 use Rattle.bt_feed.specs.Progress.{IsGoal}
-use Rattle.bt_feed.proofs.Goals.{none_from, hash_goal, end_goal, need_goal, refused_goal}
+use Rattle.bt_feed.proofs.Closed.{closed_early}
+use Rattle.bt_feed.proofs.Goals.{none_from, hash_goal, end_goal, need_goal}
 use Rattle.bt_feed.proofs.stage.Stage.next_goal.Goals as goal
 
 pub returns-then-held-lt48 : goal.returns-then-held-lt48
@@ -21,9 +23,9 @@ returns-else-held-lt48 c =
 pub returns-in-Need : goal.returns-in-Need
 returns-in-Need c =
     let P : Stage → Type 0 = λ t. IsGoal t c.args.held.now (goals.Until c.in-Need.count) in
-    subst P (sym c.in-Message.is) (need_goal _ _ _ c.in-Message.number _ _ c.if-start-ge-END.false (sym c.in-Need.ensures))
+    subst P (sym c.in-Message.is) (need_goal _ _ _ c.in-Message.number _ _ c.in-Need.ensures.0 c.in-Need.ensures.1)
 
 pub returns-in-Refused : goal.returns-in-Refused
 returns-in-Refused c =
     let P : Stage → Type 0 = λ t. IsGoal t c.args.held.now goals.Closed in
-    subst P (sym c.in-Message.is) (refused_goal _ _ _ c.in-Message.number _ (record { at = c.in-Refused.at; reason = c.in-Refused.reason }) c.if-start-ge-END.false (sym c.in-Refused.ensures))
+    subst P (sym c.in-Message.is) (closed_early (stage.Message c.in-Message.context c.in-Message.order c.in-Message.start c.in-Message.number) c.args.held.now (record { at = c.in-Refused.at; reason = c.in-Refused.reason }) c.in-Refused.ensures)
