@@ -30,7 +30,8 @@ use Rattle.bt_session.specs.declared.link.Outcome.TheVariants as outcomes
 use Rattle.bt_session.specs.declared.run.Connection.{Connection}
 use Rattle.bt_session.specs.declared.report.LinkReport.{LinkReport}
 use Rattle.bt_session.specs.MessageLinks.{bare, size}
-use Rattle.bt_text.specs.Lines.{spaced, field_words, name_of, or_dash, told_id, handshake_words, reason_name}
+use Rattle.bt_text.specs.Lines.{spaced, field_words, name_of, or_dash, told_id, handshake_words}
+use Rattle.bt_wire.specs.Reasons.{reason_name}
 
 -- a number of 2^64 - 1 stands for that many or more
 abbrev pub capped : ℕ → ℕ

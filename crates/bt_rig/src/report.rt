@@ -21,7 +21,6 @@ ghost use Rattle.bt_rig.specs.Shown.{
 use crate::items::push_items;
 use crate::text::{push_hex, push_number, push_one};
 use bt_session::{Connection, End, LinkReport, Outcome, SayError};
-use bt_text::lines::name_of;
 use bt_wire::{Fault, Item, Refusal};
 use sha1::Sha1;
 use std::alloc::AllocError;
@@ -32,7 +31,7 @@ fn fault_name(fault: Fault) -> &'static [u8]
 {
     match fault {
         Fault::Shape => b"Shape",
-        Fault::Reason(reason) => name_of(reason),
+        Fault::Reason(reason) => reason.name().as_bytes(),
     }
 }
 
@@ -68,7 +67,7 @@ fn push_refusal(refusal: Refusal, text: &mut Vec<u8>) -> Result<(), AllocError>
     text.extend_from_slice(b" at=")?;
     push_number(refusal.at, text)?;
     text.extend_from_slice(b" ")?;
-    text.extend_from_slice(name_of(refusal.reason))?;
+    text.extend_from_slice(refusal.reason.name().as_bytes())?;
     Ok(())
 }
 

@@ -16,7 +16,6 @@ use Rattle.bt_ext.specs.Metadata.{kind_of}
 use Rattle.bt_wire.specs.declared.context.Context.{Context}
 use Rattle.bt_wire.specs.declared.context.Own.{Own}
 use Rattle.bt_wire.specs.declared.fault.Reason.{Reason}
-use Rattle.bt_wire.specs.declared.fault.Reason.TheVariants as reasons
 use Rattle.bt_wire.specs.declared.handshake.Handshake.{Handshake}
 use Rattle.bt_wire.specs.declared.item.Item.{Item}
 use Rattle.bt_wire.specs.declared.item.Item.TheVariants as items
@@ -27,6 +26,7 @@ use Rattle.bt_wire.specs.Handshakes.{negotiated}
 use Rattle.bt_wire.specs.Ids.{Id, ids, row_in}
 use Rattle.bt_wire.specs.Messages.{Fields, none, index, part, block, port, field, extended, payload, known_id, fields_of}
 use Rattle.bt_wire.specs.Numbers.{be64}
+use Rattle.bt_wire.specs.Reasons.{reason_name}
 use Rattle.bt_wire.specs.Streams.{Outcome, refusal_at_end}
 use Rattle.bt_text.specs.declared.ended.Ended.{Ended}
 use Rattle.bt_text.specs.declared.ended.Ended.TheVariants.{Accepted, Refused}
@@ -117,24 +117,6 @@ abbrev pub line : Own → ℕ × Item → List ℕ
 line own p = decimal p.0 ++ (codes " " ++ (words own p.1 ++ codes "\n"))
 
 -- ---- the verdict
-
-abbrev pub reason_name : Reason → List ℕ
-reason_name reasons.BadProtocol = codes "BadProtocol"
-reason_name reasons.WrongInfoHash = codes "WrongInfoHash"
-reason_name reasons.TooLong = codes "TooLong"
-reason_name reasons.UnknownId = codes "UnknownId"
-reason_name reasons.NotNegotiated = codes "NotNegotiated"
-reason_name reasons.WrongLength = codes "WrongLength"
-reason_name reasons.BadIndex = codes "BadIndex"
-reason_name reasons.SpareBits = codes "SpareBits"
-reason_name reasons.Late = codes "Late"
-reason_name reasons.Missing = codes "Missing"
-reason_name reasons.BadBencode = codes "BadBencode"
-reason_name reasons.Unsorted = codes "Unsorted"
-reason_name reasons.BadField = codes "BadField"
-reason_name reasons.BadBlock = codes "BadBlock"
-reason_name reasons.StreamFull = codes "StreamFull"
-reason_name reasons.EndInside = codes "EndInside"
 
 abbrev pub verdict_line : Ended → List ℕ
 verdict_line (Accepted messages bytes) =

@@ -11,12 +11,12 @@ ghost use Rattle.bt_ext.specs.declared.ext.Ext.TheVariants as ext;
 ghost use Rattle.bt_wire.specs.Messages.{message_of};
 ghost use Rattle.bt_wire.specs.declared.context.Own.{Own};
 ghost use Rattle.bt_wire.specs.declared.item.Item.TheVariants as items;
-ghost use Rattle.bt_text.specs.Lines.{spaced, or_dash, told_id, ext_words, message_words, reason_name, script_reason_name, line as line_of, verdict_line as verdict_words, refused_line as refused_words, fault_line as fault_words};
+ghost use Rattle.bt_text.specs.Lines.{spaced, or_dash, told_id, ext_words, message_words, script_reason_name, line as line_of, verdict_line as verdict_words, refused_line as refused_words, fault_line as fault_words};
 
 use crate::ended::{Ended, ScriptReason, ToolFault};
 use bt_bencode::DictRef;
 use bt_ext::{ExtView, Kind, kind_ref, metadata_size_ref};
-use bt_wire::{Handshake, MessageView, Reason};
+use bt_wire::{Handshake, MessageView};
 use itoa::write_digits;
 use std::alloc::AllocError;
 
@@ -287,31 +287,6 @@ pub fn handshake_line(at: u64, handshake: &Handshake, line: &mut Line) -> usize
     number(at, line, place)
 }
 
-/// Returns the name of a reason.
-pub fn name_of(reason: Reason) -> &'static [u8]
-    ensures name { result.now ≡ reason_name reason }
-    ensures short { length result.now ≤ 20 }
-{
-    match reason {
-        Reason::BadProtocol => b"BadProtocol",
-        Reason::WrongInfoHash => b"WrongInfoHash",
-        Reason::TooLong => b"TooLong",
-        Reason::UnknownId => b"UnknownId",
-        Reason::NotNegotiated => b"NotNegotiated",
-        Reason::WrongLength => b"WrongLength",
-        Reason::BadIndex => b"BadIndex",
-        Reason::SpareBits => b"SpareBits",
-        Reason::Late => b"Late",
-        Reason::Missing => b"Missing",
-        Reason::BadBencode => b"BadBencode",
-        Reason::Unsorted => b"Unsorted",
-        Reason::BadField => b"BadField",
-        Reason::BadBlock => b"BadBlock",
-        Reason::StreamFull => b"StreamFull",
-        Reason::EndInside => b"EndInside",
-    }
-}
-
 /// Writes the verdict's line at the end of the array, and returns where it starts.
 pub fn verdict_line(ended: Ended, line: &mut Line) -> usize
     ensures room { result ≤ 160 }
@@ -326,7 +301,7 @@ pub fn verdict_line(ended: Ended, line: &mut Line) -> usize
             word(b"ok messages=", line, place)
         }
         Ended::Refused(refusal) => {
-            let place = word(name_of(refusal.reason), line, place);
+            let place = word(refusal.reason.name().as_bytes(), line, place);
             let place = word(b" ", line, place);
             let place = number(refusal.at, line, place);
             let place = word(b" at=", line, place);
@@ -343,7 +318,7 @@ fn script_name_of(reason: ScriptReason) -> &'static [u8]
 {
     match reason {
         ScriptReason::Syntax => b"Syntax",
-        ScriptReason::Reason(reason) => name_of(reason),
+        ScriptReason::Reason(reason) => reason.name().as_bytes(),
     }
 }
 

@@ -13,3 +13,4 @@ pub mod Streams
 pub mod Fronts
 pub mod Laws
 pub mod Contexts
+pub mod Reasons

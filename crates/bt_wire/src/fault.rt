@@ -1,63 +1,89 @@
 //! Why bytes or a message are refused. Each call that refuses answers with these.
-ghost use Rattle.std.specs.Prelude.{◌≡◌};
+ghost use Rattle.std.specs.Prelude.{◌≡◌, ◌≤◌, length};
+ghost use Rattle.bt_wire.specs.Reasons.{reason_name};
 ghost use Rattle.bt_wire.specs.declared.fault.DecodeError.TheVariants as decode;
 ghost use Rattle.bt_wire.specs.declared.fault.EncodeError.TheVariants as encode;
 
 use std::alloc::AllocError;
+use std::fmt::{self, Display};
 use thiserror::Error;
 
 /// Why a stream is refused. Strict rules are `Rules::Bep`.
-#[derive(Clone, Copy, PartialEq, Eq, Debug, Error)]
+#[derive(Clone, Copy, PartialEq, Eq, Debug)]
 pub enum Reason {
     /// The stream doesn't begin with the protocol's length and name (BEP 3).
-    #[error("BadProtocol")]
     BadProtocol,
     /// The handshake names another torrent.
-    #[error("WrongInfoHash")]
     WrongInfoHash,
     /// The length is above the receiver's limit.
-    #[error("TooLong")]
     TooLong,
     /// Strict rules alone: an id without a meaning.
-    #[error("UnknownId")]
     UnknownId,
     /// The id belongs to an extension that not both ends have.
-    #[error("NotNegotiated")]
     NotNegotiated,
     /// The length isn't one that the id has.
-    #[error("WrongLength")]
     WrongLength,
     /// The piece index isn't below the known piece count.
-    #[error("BadIndex")]
     BadIndex,
     /// A bit of the bitfield past the last piece is 1 (BEP 3).
-    #[error("SpareBits")]
     SpareBits,
     /// Strict rules alone: a bitfield, have all or have none that isn't the first message that counts (BEP 3, BEP 6).
-    #[error("Late")]
     Late,
     /// Strict rules alone: another message stands where the Fast Extension asks for one of them (BEP 6).
-    #[error("Missing")]
     Missing,
     /// The extended payload begins with no dictionary (BEP 10).
-    #[error("BadBencode")]
     BadBencode,
     /// Strict rules alone: a key of the dictionary isn't above the one before it (BEP 3).
-    #[error("Unsorted")]
     Unsorted,
     /// Strict rules alone: a field of the dictionary has the wrong kind (BEP 9, BEP 10).
-    #[error("BadField")]
     BadField,
     /// Strict rules alone: the block after the dictionary has the wrong length (BEP 9).
-    #[error("BadBlock")]
     BadBlock,
     /// The message would start at 2^62 or later.
-    #[error("StreamFull")]
     StreamFull,
     /// The stream ends inside its handshake or a message.
-    #[error("EndInside")]
     EndInside,
 }
+
+impl Reason {
+    /// Returns its name, as verdicts and scripts have it.
+    pub fn name(self) -> &'static str
+        ensures name { result.now ≡ reason_name self }
+        ensures short { length result.now ≤ 20 }
+    {
+        match self {
+            Reason::BadProtocol => "BadProtocol",
+            Reason::WrongInfoHash => "WrongInfoHash",
+            Reason::TooLong => "TooLong",
+            Reason::UnknownId => "UnknownId",
+            Reason::NotNegotiated => "NotNegotiated",
+            Reason::WrongLength => "WrongLength",
+            Reason::BadIndex => "BadIndex",
+            Reason::SpareBits => "SpareBits",
+            Reason::Late => "Late",
+            Reason::Missing => "Missing",
+            Reason::BadBencode => "BadBencode",
+            Reason::Unsorted => "Unsorted",
+            Reason::BadField => "BadField",
+            Reason::BadBlock => "BadBlock",
+            Reason::StreamFull => "StreamFull",
+            Reason::EndInside => "EndInside",
+        }
+    }
+}
+
+impl Display for Reason {
+    ghost use Rattle.std.specs.Prelude.{Some};
+    ghost use Rattle.bt_wire.specs.Reasons.{reason_name};
+
+    ghost output = { λ reason. Some (reason_name reason) };
+
+    fn fmt<W: fmt::Write>(&self, f: &mut fmt::Formatter<W>) -> fmt::Result {
+        f.write_str(self.name())
+    }
+}
+
+impl std::error::Error for Reason {}
 
 /// Where the id of a message stands, counted from the message's start: after the four bytes of its length.
 pub(crate) const ID_AT: u64 = 4;

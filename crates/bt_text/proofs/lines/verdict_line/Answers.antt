@@ -8,4 +8,4 @@ returns-in-Accepted-clause-text c =
 
 pub returns-in-Refused-clause-text : goal.returns-in-Refused-clause-text
 returns-in-Refused-clause-text c =
-    rw c.in-Refused.is (rw c.word-in-Refused.ensures.text (rw c.number-place-in-Refused-2.ensures.text (rw c.word-place-in-Refused-3.ensures.text (rw c.number-place-in-Refused.ensures.text (rw c.word-place-in-Refused-2.ensures.text (rw c.word-place-in-Refused.ensures.text (rw c.name_of.ensures.name (rw c.word-place.ensures.text (rw (drop_all 160 c.args.line.now (omega arith)) refl)))))))))
+    rw c.in-Refused.is (rw c.word-in-Refused.ensures.text (rw c.number-place-in-Refused-2.ensures.text (rw c.word-place-in-Refused-3.ensures.text (rw c.number-place-in-Refused.ensures.text (rw c.word-place-in-Refused-2.ensures.text (rw c.word-place-in-Refused.ensures.text (rw c.as_bytes.ensures.value (rw c.name.ensures.name (rw c.word-place.ensures.text (rw (drop_all 160 c.args.line.now (omega arith)) refl))))))))))
