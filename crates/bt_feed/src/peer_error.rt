@@ -10,7 +10,7 @@ use crate::sink::SinkFault;
 use crate::view::{Finish, TakeError};
 use bt_io::{Failed, Memory, WriteFault};
 use bt_wire::{EncodeError, Fault, Refusal};
-use std::alloc::AllocError;
+use std::alloc::{AllocError, AllocFailed};
 use std::io;
 use thiserror::Error;
 
@@ -162,5 +162,13 @@ impl From<io::Error> for PeerError {
 
     fn from(_: io::Error) -> PeerError {
         PeerError::Device
+    }
+}
+
+impl<T: Drop> From<AllocFailed<T>> for PeerError {
+    ghost from_gives = { λ _ e. e ≡ peer.Memory };
+
+    fn from(_: AllocFailed<T>) -> PeerError {
+        PeerError::Memory
     }
 }
