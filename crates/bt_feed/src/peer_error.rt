@@ -14,7 +14,8 @@ use std::alloc::{AllocError, AllocFailed};
 use std::io;
 use thiserror::Error;
 
-/// What ends a conversation with a peer. `?` makes it of the error of each call of this crate, and of `bt_wire`'s `encode`.
+/// What ends a conversation with a peer. `?` makes it of the error of each call of this crate and of
+/// `bt_end`, and of `encode`.
 #[derive(Clone, Copy, PartialEq, Eq, Debug, Error)]
 pub enum PeerError {
     #[error("out of memory")]
@@ -44,6 +45,18 @@ pub enum PeerError {
     /// At the stream's end a whole item was held that wasn't taken.
     #[error("an item is held that wasn't taken")]
     Untaken,
+    /// An end has too much that waits to be sent: write some of it, and call again.
+    #[error("too much waits to be sent")]
+    Busy,
+    /// An end's connection isn't open: the peer's handshake hasn't come, or the peer was refused.
+    #[error("the connection isn't open")]
+    NotOpen,
+    /// An end doesn't say this message: it is extended, or tells of pieces whose count isn't known.
+    #[error("an end doesn't say this message")]
+    NotSaid,
+    /// An end can't be made of this config.
+    #[error("an end can't be made of this config")]
+    BadConfig,
 }
 
 impl From<AllocError> for PeerError {
