@@ -1,5 +1,5 @@
 -- One item of a piece.
-use Rattle.std.proofs.Common.{◌≡◌, ℕ, ◌≤◌, false, List, [], ◌∷◌, ◌++◌, take, Option, Some, None, Result, Ok, Err, map, refl, sym, ap, subst, ◌∙◌, arith}
+use Rattle.std.proofs.Common.{◌≡◌, ℕ, ◌+◌, ◌≤◌, false, List, [], ◌∷◌, ◌++◌, take, Option, Some, None, Result, Ok, Err, map, refl, sym, ap, subst, ◌∙◌, arith}
 use Rattle.bt_wire.specs.declared.item.Item.{Item}
 use Rattle.bt_wire.specs.declared.item.Refusal.{Refusal}
 use Rattle.bt_feed.specs.Stages.{start_of, limit_of, is_closed}
@@ -12,7 +12,8 @@ use Rattle.std.proofs.lemmas.List.{take-append-drop}
 use Rattle.std.specs.Iterator.{YieldsThen}
 use Rattle.bt_feed.specs.Items.{GivesNext}
 use Rattle.bt_feed.specs.declared.items.Items.{Items}
-use Rattle.bt_feed.proofs.Moving.{fed_both, fed_none, fed_item, fed_all, fed_refused}
+use Rattle.bt_feed.specs.declared.items.ItemError.TheVariants as item
+use Rattle.bt_feed.proofs.Moving.{front, fed_both, fed_none, fed_item, fed_all, fed_refused}
 
 -- a push and then a take
 pub record IsStepped (f p g : FeedState) (piece : List ℕ) (n : ℕ) (answer : Result (Option Item) Refusal) : Type 0 where
@@ -56,3 +57,19 @@ given_all {A} s (x ∷ xs) u starts y =
     let P : List ℕ → Type 0 = λ b. IsFed s.feed.now b (x ∷ xs) u.feed.now in
     let parts : take n piece ++ j.rest.now ≡ piece = ap (λ (b : List ℕ). take n piece ++ b) step.4 ∙ take-append-drop n piece in
     (subst P parts (fed_both s.feed.now j.feed.now u.feed.now (take n piece) j.rest.now (x ∷ []) xs step.3 later.0), later.1)
+
+pub given_refused : {A : Type 0} (s : Items A) (xs : List (ℕ × Item)) (r : Refusal) (u : Items A) → YieldsThen GivesNext s (map Ok xs) (Some (Err (item.Refused r))) u
+    → (n : ℕ) × IsFed s.feed.now (take n s.rest.now) xs u.feed.now × IsAnswer u.feed.now (Err r)
+given_refused {A} s [] r u y =
+    let P : Items A → Type 0 = λ t. GivesNext t (Some (Err (item.Refused r))) u in
+    let last = subst P (sym y.1) y.2 in
+    (last.2, last.3.0, last.3.1)
+given_refused {A} s (x ∷ xs) r u y =
+    let j = y.1.0 in
+    let step = y.1.1 in
+    let later = given_refused j xs r u (y.0, y.1.2, y.2) in
+    let piece = s.rest.now in
+    let m = step.2 in
+    let n = later.0 in
+    let P : List ℕ → Type 0 = λ b. IsFed s.feed.now b (x ∷ xs) u.feed.now in
+    (m + n, subst P (front piece j.rest.now m n step.4) (fed_both s.feed.now j.feed.now u.feed.now (take m piece) (take n j.rest.now) (x ∷ []) xs step.3 later.1), later.2)

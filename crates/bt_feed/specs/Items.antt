@@ -3,6 +3,7 @@ use Rattle.std.specs.Prelude.{◌≡◌, ◌+◌, ◌*◌, ℕ, true, false, con
 use Rattle.std.specs.Prelude.{map}
 use Rattle.std.specs.Iterator.{YieldsThen}
 use Rattle.bt_wire.specs.declared.item.Item.{Item}
+use Rattle.bt_wire.specs.declared.item.Refusal.{Refusal}
 use Rattle.bt_feed.specs.declared.items.ItemError.{ItemError}
 use Rattle.bt_feed.specs.declared.items.ItemError.TheVariants.{Refused, Memory}
 use Rattle.bt_feed.specs.declared.items.Items.{Items}
@@ -44,3 +45,10 @@ IsStart s f piece = (s.feed.now ≡ f) × (s.rest.now ≡ piece) × (s.over ≡ 
 abbrev pub GivesAll : {A : Type 0} → Items A → FeedState → List ℕ → Type 0
 GivesAll {A} s f piece =
     (xs : List (ℕ × Item)) (u : Items A) → YieldsThen GivesNext s (map Ok xs) None u → IsFed f piece xs u.feed.now × (is_closed u.feed.now.stage u.feed.now.held ≡ false)
+
+-- where the iterator gives xs and ends with a refusal, the first bytes of the piece are fed, xs are the items that they yield, and
+-- the feed is refused
+abbrev pub GivesUpTo : {A : Type 0} → Items A → FeedState → List ℕ → Type 0
+GivesUpTo {A} s f piece =
+    (xs : List (ℕ × Item)) (r : Refusal) (u : Items A) → YieldsThen GivesNext s (map Ok xs) (Some (Err (Refused r))) u →
+    (n : ℕ) × IsFed f (take n piece) xs u.feed.now × IsAnswer u.feed.now (Err r)

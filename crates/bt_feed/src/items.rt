@@ -1,6 +1,6 @@
 //! The items that a piece of a stream completes, one after the other. Embeddings loop over them.
 ghost use Rattle.std.specs.Prelude.{◌≡◌, ◌≤◌, ◌<◌, ◌-◌, ◌∷◌, ℕ, length, IfOk, IfSome, false};
-ghost use Rattle.bt_feed.specs.Items.{GivesItem, work, IsStart, GivesAll};
+ghost use Rattle.bt_feed.specs.Items.{GivesItem, work, IsStart, GivesAll, GivesUpTo};
 
 use crate::feed::Feed;
 use crate::view::{refusal_in, to_item};
@@ -70,6 +70,7 @@ impl<A: Allocator> Feed<A> {
     pub fn items<'a>(&'a mut self, alloc: Global, piece: &'a [u8]) -> Items<'a, A>
         ensures start { IsStart result self.old piece.now }
         ensures all { GivesAll result self.old piece.now }
+        ensures refused { GivesUpTo result self.old piece.now }
     {
         Items {
             alloc,

@@ -1,6 +1,7 @@
 //! Items as text, in the words of `show`, and the names of ids. Embeddings print them.
 ghost use Rattle.std.specs.Prelude.{◌≡◌, option_map};
 ghost use Rattle.bt_wire.specs.Ids.{ids, row_in};
+ghost use Rattle.bt_text.specs.Shown.{item_in};
 
 use bt_bencode::{Value, ben_len, lookup};
 use bt_ext::{Ext, Kind, kind, metadata_size};
@@ -40,7 +41,9 @@ pub enum ItemText<'a> {
 }
 
 /// Shows an item in the words of `show`, without its offset.
-pub fn shown(item: &Item) -> ItemText<'_> {
+pub fn shown(item: &Item) -> ItemText<'_>
+    ensures { item_in result ≡ item.now }
+{
     match item {
         Item::Handshake(handshake) => ItemText::Handshake(handshake),
         Item::Message(message) => ItemText::Message(message),
@@ -48,7 +51,9 @@ pub fn shown(item: &Item) -> ItemText<'_> {
 }
 
 /// Shows a message in the words of `show`, without its offset.
-pub fn shown_message(message: &Message) -> ItemText<'_> {
+pub fn shown_message(message: &Message) -> ItemText<'_>
+    ensures { item_in result ≡ Item.Message message.now }
+{
     ItemText::Message(message)
 }
 
