@@ -1,4 +1,6 @@
 -- The one error that an embedding sees, for the error of each call.
+use Rattle.std.specs.declared.io.ErrorKind.{ErrorKind}
+use Rattle.std.specs.declared.io.ErrorKind.TheVariants as kind
 use Rattle.bt_wire.specs.declared.fault.EncodeError.{EncodeError}
 use Rattle.bt_wire.specs.declared.fault.EncodeError.TheVariants as encode
 use Rattle.bt_feed.specs.declared.feed.FeedError.{FeedError}
@@ -14,7 +16,7 @@ use Rattle.bt_feed.specs.declared.view.Finish.TheVariants as finish
 use Rattle.bt_feed.specs.declared.view.TakeError.{TakeError}
 use Rattle.bt_feed.specs.declared.view.TakeError.TheVariants as take
 use Rattle.bt_feed.specs.declared.peer_error.PeerError.{PeerError}
-use Rattle.bt_feed.specs.declared.peer_error.PeerError.TheVariants.{Memory, Refused, Illegal, BadLimit, BadBase, Read, Write, Turns, Untaken}
+use Rattle.bt_feed.specs.declared.peer_error.PeerError.TheVariants.{Memory, Refused, Illegal, BadLimit, BadBase, Read, Write, Device, Turns, Untaken}
 
 abbrev pub of_feed : FeedError → PeerError
 of_feed feed.BadLimit = BadLimit
@@ -45,3 +47,8 @@ of_pump (pump.Sink fault) = of_sink fault
 abbrev pub of_encode : EncodeError → PeerError
 of_encode (encode.Illegal fault) = Illegal fault
 of_encode encode.Memory = Memory
+
+-- of an input or output error: out of memory, or the device failed
+abbrev pub of_kind : ErrorKind → PeerError
+of_kind kind.OutOfMemory = Memory
+of_kind k = Device

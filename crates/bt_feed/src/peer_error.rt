@@ -1,6 +1,7 @@
 //! One error for the calls that an embedding makes, so that it writes none of its own.
 ghost use Rattle.std.specs.Prelude.{◌≡◌};
-ghost use Rattle.bt_feed.specs.Errors.{of_feed, of_item, of_take, of_finish, of_sink, of_pump, of_encode};
+ghost use Rattle.bt_feed.specs.Errors.{of_feed, of_item, of_take, of_finish, of_sink, of_pump, of_encode, of_kind};
+ghost use Rattle.std.specs.IoError.{error_kind};
 ghost use Rattle.bt_feed.specs.declared.peer_error.PeerError.TheVariants as peer;
 
 use crate::feed::FeedError;
@@ -171,10 +172,13 @@ impl From<Failed> for PeerError {
 }
 
 impl From<io::Error> for PeerError {
-    ghost from_gives = { λ _ e. e ≡ peer.Device };
+    ghost from_gives = { λ a e. e ≡ of_kind (error_kind a) };
 
-    fn from(_: io::Error) -> PeerError {
-        PeerError::Device
+    fn from(error: io::Error) -> PeerError {
+        match error.kind() {
+            io::ErrorKind::OutOfMemory => PeerError::Memory,
+            _ => PeerError::Device,
+        }
     }
 }
 
