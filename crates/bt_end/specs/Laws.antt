@@ -1,10 +1,10 @@
 -- Laws of an end over the definitions alone.
-use Rattle.std.specs.Prelude.{◌≡◌, ◌⊎◌, ℕ, List, [], ◌∷◌, length, Result, Err}
+use Rattle.std.specs.Prelude.{◌≡◌, ◌⊎◌, ℕ, List, [], ◌∷◌, length, Some, Result, Err}
 use Rattle.sha1.specs.Sha1.{sha1}
 use Rattle.bt_feed.specs.Feeds.{taken}
 use Rattle.bt_feed.specs.Progress.{IsFeed}
 use Rattle.bt_metadata.specs.Assemblies.{AssemblyState}
-use Rattle.bt_end.specs.Ends.{EndState, Part, Fetching, Fetched, react, renewed}
+use Rattle.bt_end.specs.Ends.{EndState, Part, Fetching, Fetched, react, renewed, belief}
 use Rattle.bt_end.specs.Halves.{HalfState, received, without_sent, IsTurned, IsSaid}
 use Rattle.bt_end.specs.Sturdy.{IsEnd}
 use Rattle.bt_end.specs.declared.end.Turn.{Turn}
@@ -15,6 +15,9 @@ use Rattle.bt_end.specs.declared.end.SayError.TheVariants as say_error
 use Rattle.bt_wire.specs.declared.item.Item.{Item}
 use Rattle.bt_wire.specs.declared.item.Refusal.{Refusal}
 use Rattle.bt_wire.specs.Messages.{Message}
+use Rattle.bt_wire.specs.declared.reserved.Reserved.{Reserved}
+use Rattle.bt_wire.specs.Handshakes.{negotiated}
+use Rattle.bt_feed.specs.Senders.{peer_context}
 
 -- ---- what is fetched
 
@@ -63,3 +66,9 @@ pub record Refuses (a : HalfState) (r : Refusal) : Type 0 where
 -- After a turn that answered a refusal, and whatever calls on this connection, the end refuses all with this refusal.
 abbrev pub RefusalStays : Type 0
 RefusalStays = (a b c : HalfState) (r : Refusal) (calls : List Call) → IsFeed a.feed → IsTurned a (Err (turn_error.Refused r)) b → AreCalled b calls c → Refuses c r
+
+-- ---- the peer
+
+-- once the peer's handshake is handled, the end takes the peer to receive in the context that any sender takes it to receive in
+abbrev pub BeliefIsPeerContext : Type 0
+BeliefIsPeerContext = (e : EndState) (theirs : Reserved) → e.context ≡ Some (negotiated e.own theirs) → belief e ≡ peer_context e.own theirs e.table

@@ -6,3 +6,4 @@ pub mod Configs
 pub mod Sturdy
 pub mod Wholes
 pub mod Laws
+pub mod Errors

@@ -1,5 +1,5 @@
 //! Laws over the definitions alone: each is the contract of a function that does nothing.
-ghost use Rattle.bt_end.specs.Laws.{FetchedIsFinished, DoneStays, RefusalStays};
+ghost use Rattle.bt_end.specs.Laws.{FetchedIsFinished, DoneStays, RefusalStays, BeliefIsPeerContext};
 
 /// What an end fetches has the size that the peer announced, and the info hash as its SHA-1.
 pub fn fetched_is_finished()
@@ -14,4 +14,9 @@ pub fn done_stays()
 /// An end that refused what came refuses it again, until it is reset.
 pub fn refusal_stays()
     ensures { RefusalStays }
+{}
+
+/// The context of [`End::belief`](crate::End::belief) is that of `bt_feed::peer_context`.
+pub fn belief_is_peer_context()
+    ensures { BeliefIsPeerContext }
 {}

@@ -6,6 +6,7 @@
 
 mod config;
 mod end;
+mod errors;
 pub mod laws;
 mod part;
 mod queueing;

@@ -9,5 +9,6 @@ pub mod Reading
 pub mod FeedLaws
 pub mod Places
 pub mod Moving
+pub mod Stepping
 mod Passed
 mod Reasons

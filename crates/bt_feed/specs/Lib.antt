@@ -8,3 +8,6 @@ pub mod Transcripts
 pub mod Laws
 pub mod Sinks
 pub mod Pumps
+pub mod Items
+pub mod Senders
+pub mod Errors

@@ -3,10 +3,13 @@
 
 mod discard;
 mod feed;
+mod items;
 pub mod laws;
 mod passing;
+mod peer_error;
 mod progress;
 mod pumping;
+mod sender;
 mod sink;
 mod slices;
 mod stage;
@@ -18,7 +21,10 @@ pub use bt_io::{
 };
 pub use discard::Discard;
 pub use feed::{Feed, FeedError};
+pub use items::{ItemError, Items};
+pub use peer_error::PeerError;
 pub use pumping::{PumpError, pump, pump_with};
+pub use sender::peer_context;
 pub use sink::{Sink, SinkFault};
 pub use stage::Stage;
 pub use transcript::{Transcript, read_all};

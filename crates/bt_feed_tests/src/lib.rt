@@ -4,6 +4,8 @@
 #[cfg(test)]
 mod devices;
 #[cfg(test)]
+mod embedding;
+#[cfg(test)]
 mod feed;
 #[cfg(test)]
 mod memory;

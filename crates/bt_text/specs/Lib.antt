@@ -2,3 +2,4 @@ pub mod Lines
 pub mod Script
 pub mod ScriptReading
 pub mod ScriptLaws
+pub mod Shown

@@ -3,6 +3,7 @@
 //! - [`lines`]: the line of a message, of a handshake, of a verdict, of a refused line and of a fault.
 //! - [`script`]: the line of an item with all of its bytes, written and read.
 //! - [`ended`]: how a command ends.
+//! - [`shown`]: items of one's own as text, and the names of ids.
 //!
 //! The commands of `bt_jobs` and the command line of `bt_cli` stand on it.
 #![tactic(auto)]
@@ -10,3 +11,4 @@
 pub mod ended;
 pub mod lines;
 pub mod script;
+pub mod shown;

@@ -1,0 +1,96 @@
+//! Fetches the metadata of a torrent from a peer: an end of a connection, driven over any source and target.
+//!
+//!     example_fetch < STREAM
+//!     example_fetch INFO-HASH 192.0.2.9:6881
+//!
+//! The first reads what a peer sent to a fetching end on standard input. The second connects to a peer. Either writes the
+//! metadata, whose SHA-1 is the info hash.
+#![tactic(auto)]
+
+use bt_end::{Announce, Config, End, Role, Window};
+use bt_ext::{ExtId, Registered, Rules};
+use bt_feed::{Host, MemTarget, PeerError, Source, Target};
+use bt_wire::{Own, Reserved};
+use hex::FromHex;
+use std::alloc::Global;
+use std::io::Write;
+use std::net::TcpStream;
+use std::process::ExitCode;
+use std::{env, io};
+
+/// The SHA-1 of the metadata that is fetched from standard input: that of `abc` (FIPS 180-4).
+const INFO_HASH: [u8; 20] = *b"\xa9\x99>6G\x06\x81j\xba>%qxP\xc2l\x9c\xd0\xd8\x9d";
+
+/// An end that fetches the metadata with this SHA-1.
+fn fetching(alloc: Global, info_hash: [u8; 20]) -> Result<End, PeerError> {
+    let own = Own {
+        reserved: Reserved(Reserved::FAST.0 | Reserved::EXT.0),
+        info_hash: Some(info_hash),
+        pieces: None,
+        reg: Registered::new(ExtId::new(3)),
+        rules: Rules::Free,
+        limit: 32_768,
+    };
+    let config = Config {
+        own,
+        peer_id: *b"-XX0001-fetchfetchfe",
+        announce: Announce::Nothing,
+        window: Window::default(),
+        role: Role::Fetch,
+    };
+    Ok(End::new(alloc, config)?)
+}
+
+/// Drives an end until it has the metadata, can't get it from this peer any more, or the peer closes the connection.
+fn drive<R: Source, W: Target>(
+    end: &mut End,
+    reader: &mut R,
+    writer: &mut W,
+) -> Result<(), PeerError> {
+    let mut buffer = [0; 4096];
+    for _ in 0..u64::MAX {
+        let waiting = end.outgoing().len();
+        end.drain(writer, waiting)?;
+        if end.metadata().is_some() || end.is_hopeless() {
+            break;
+        }
+        let count = reader.read(&mut buffer)?;
+        if count == 0 {
+            break;
+        }
+        let (_, handled) = end.handle(&buffer[..count]);
+        handled?;
+    }
+    Ok(())
+}
+
+/// Drives an end over a connection to a peer, or over standard input.
+fn run(rt: &HostRuntime) -> Result<End, PeerError> {
+    let mut words = env::args(rt)?.skip(1);
+    let (Some(hash), Some(address)) = (words.next(), words.next()) else {
+        let mut end = fetching(rt.alloc(), INFO_HASH)?;
+        let mut kept = MemTarget::new(Vec::new(rt.alloc()), 4096, None);
+        drive(&mut end, &mut Host::new(rt.reader()), &mut kept)?;
+        return Ok(end);
+    };
+    let Ok(info_hash) = <[u8; 20] as FromHex>::from_hex(hash.as_str()) else {
+        return Err(PeerError::BadConfig);
+    };
+    let mut end = fetching(rt.alloc(), info_hash)?;
+    let stream = TcpStream::connect(rt, address.as_str())?;
+    drive(&mut end, &mut Host::new(&stream), &mut Host::new(&stream))?;
+    Ok(end)
+}
+
+fn main(rt: HostRuntime) -> ExitCode {
+    match run(&rt) {
+        Ok(end) => match end.metadata() {
+            Some(metadata) if io::writer(&rt).write_all(metadata).is_ok() => ExitCode::from(0),
+            _ => ExitCode::from(1),
+        },
+        Err(error) => {
+            let _ = eprintln!(&rt; "{error}");
+            ExitCode::from(1)
+        }
+    }
+}
