@@ -1,12 +1,15 @@
-//! A reader of a peer's stream for C: a plain struct that the caller keeps, over bytes that the caller holds.
+//! The reader of a peer's stream and the writer of messages for programs in C: plain structs that the caller keeps, over
+//! bytes that the caller holds. `bt.h` says each call to C. Nothing here takes memory.
 #![tactic(auto)]
 
+mod extended;
 mod feed;
 mod item;
 mod reader;
 mod receiver;
 
-pub use feed::{BtFeed, bt_feed_init, bt_feed_next, bt_feed_push};
+pub use extended::BtExtended;
+pub use feed::{BtFeed, bt_feed_finish, bt_feed_init, bt_feed_next, bt_feed_push};
 pub use item::BtItem;
-pub use reader::{BtReader, bt_reader_init, bt_reader_next};
+pub use reader::{BtReader, bt_reader_finish, bt_reader_init, bt_reader_next};
 pub use receiver::BtOwn;
