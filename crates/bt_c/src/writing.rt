@@ -121,7 +121,9 @@ fn size_of(message: &BtItem, front: &[u8], back: &[u8], room: usize) -> Option<u
     ensures { MatchOption result (DoesNotFit message.now (front.now ++ back.now) room)
         (λ n. (message.now.id ≤ 256) × (n ≡ length (message_bytes message.now (front.now ++ back.now))) × (n ≤ room) × (n < 2 ^ 32 + 4)) }
 {
-    if message.id > KEEP_ALIVE {
+    // Before any sum, since a caller in C may say any length.
+    let too_long = back.len() > u32::MAX as usize;
+    if message.id > KEEP_ALIVE || message.id < KEEP_ALIVE && too_long {
         return None;
     }
     let rest = rest_length(message, front, back);
