@@ -44,25 +44,30 @@ def words(item):
     return ""
 
 
+def show(own, pieces, line):
+    """Gives the lines of a stream in pieces to `line`, and returns whether it is accepted."""
+    feed, count = bt.Feed(own), 0
+    try:
+        for piece in pieces:
+            for item in feed.push(piece):
+                line(" ".join(part for part in (str(item.start), item.name, words(item)) if part))
+                count += 1
+        for _ in feed.finish():
+            pass
+    except bt.Refused as refused:
+        line("refused message=%d at=%d %s" % (refused.message, refused.at, refused.name))
+        return False
+    line("ok messages=%d bytes=%d" % (count - 1, feed.start))
+    return True
+
+
 def main():
     given = os.environ.get
     own = bt.Own(strict=given("RULES") == "bep", limit=int(given("LIMIT", 262144)),
                  pieces=int(given("PIECES")) if given("PIECES") else None,
                  info_hash=bytes.fromhex(given("INFO_HASH")) if given("INFO_HASH") else None)
-    feed, size, count = bt.Feed(own), int(given("PIECE", 65536)), 0
-    try:
-        while True:
-            piece = sys.stdin.buffer.read(size)
-            for item in feed.push(piece) if piece else feed.finish():
-                print(" ".join(part for part in (str(item.start), item.name, words(item)) if part))
-                count += 1
-            if not piece:
-                break
-    except bt.Refused as refused:
-        print("refused message=%d at=%d %s" % (refused.message, refused.at, refused.name))
-        return 1
-    print("ok messages=%d bytes=%d" % (count - 1, feed.start))
-    return 0
+    size = int(given("PIECE", 65536))
+    return 0 if show(own, iter(lambda: sys.stdin.buffer.read(size), b""), print) else 1
 
 
 if __name__ == "__main__":
