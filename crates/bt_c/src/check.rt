@@ -1,0 +1,86 @@
+//! The verdict on a whole stream in one call.
+ghost use Rattle.std.specs.Prelude.{◌≡◌, ◌≢◌, ◌≤◌, ◌+◌, ◌-◌, ◌^◌, min, length, drop};
+ghost use Rattle.bt_wire.specs.Streams.{Outcome, IsVerdict};
+ghost use Rattle.bt_c.specs.Readers.{own_of};
+ghost use Rattle.bt_c.specs.Runs.{ShowsVerdict};
+
+use crate::item::{BtItem, bare};
+use crate::reader::{BtReader, ITEM, END, last_item};
+use crate::receiver::BtOwn;
+
+/// The verdict on a stream.
+#[repr(C)]
+#[derive(Clone, Copy)]
+pub struct BtVerdict {
+    /// The number of the refused message, 0 for the handshake; of an accepted stream how many messages it has.
+    pub message: u64,
+    /// Where it is refused, counted from the start of the stream; of an accepted stream how many bytes it has.
+    pub at: u64,
+    /// 0, or the number of the reason.
+    pub reason: u8,
+}
+
+/// Judges the bytes as a whole stream.
+///
+/// Returns 3 where the stream is accepted, and 2 where it is refused.
+#[unsafe(no_mangle)]
+pub extern "C" fn bt_check(own: &BtOwn, bytes: &[u8], verdict: &mut BtVerdict) -> u32
+    ensures { (v : Outcome) × IsVerdict (own_of own.now) bytes.now v × ShowsVerdict verdict.new bytes.now v result }
+{
+    let _limit = own.limit;
+    let mut reader = fresh(own);
+    let mut item = bare(0, 0, 0);
+    let mut at = 0usize;
+    let mut count = 0u64;
+    'items: loop {
+        let answer = last_item(&mut reader, behind(bytes, at), &mut item);
+        if answer != ITEM {
+            *verdict = verdict_of(answer, count, bytes.len(), &item);
+            return answer;
+        }
+        at += item.size;
+        count += 1;
+    }
+}
+
+/// A reader at the start of a stream.
+fn fresh(own: &BtOwn) -> BtReader
+    ensures { result ≡ record { own = own.now; opened = 0; fast = 0; ext = 0; past = 0; start = 0 } }
+{
+    BtReader {
+        own: *own,
+        opened: 0,
+        fast: 0,
+        ext: 0,
+        past: 0,
+        start: 0,
+    }
+}
+
+/// The bytes from the n-th on.
+fn behind(bytes: &[u8], n: usize) -> &[u8]
+    requires { n ≤ length bytes.now }
+    ensures { result.now ≡ drop n bytes.now }
+{
+    &bytes[n..]
+}
+
+/// The verdict after so many items, by the answer of the last call.
+fn verdict_of(answer: u32, count: u64, size: usize, item: &BtItem) -> BtVerdict
+    ensures end { answer ≡ 3 → (result.message ≡ count - 1) × (result.at ≡ size) × (result.reason ≡ 0) }
+    ensures refused { answer ≢ 3 → (result.message ≡ count) × (result.at ≡ min (item.now.start + item.now.size) (2 ^ 64 - 1)) × (result.reason ≡ item.now.reason) }
+{
+    if answer == END {
+        BtVerdict {
+            message: count.saturating_sub(1),
+            at: size as u64,
+            reason: 0,
+        }
+    } else {
+        BtVerdict {
+            message: count,
+            at: item.start.saturating_add(item.size as u64),
+            reason: item.reason,
+        }
+    }
+}

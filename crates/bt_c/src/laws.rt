@@ -1,0 +1,7 @@
+//! Laws on the definitions, each the contract of a function that does nothing.
+ghost use Rattle.bt_c.specs.Runs.{ItemsAreTheVerdicts};
+
+/// The items that a reader gives, call after call, are those of the stream's verdict.
+pub fn items_are_the_verdicts()
+    ensures { ItemsAreTheVerdicts }
+{}
