@@ -3,7 +3,7 @@
 
 usage: tests/documents.py [PROGRAM]
 
-A command stands in an indented block behind `$ `; lines behind `> ` go on with it. The lines up to the next command or the
+A command stands in an indented block after `$ `; lines after `> ` go on with it. The lines up to the next command or the
 block's end are its standard output, exactly. Standard error has to be empty, but that of the capture tools isn't looked at.
 The commands of one document run in one shell, in a new folder that has `bt_tool` and `examples`. `bt_tool` is PROGRAM, or
 the script at the top of the repository, which builds the program where it has to.

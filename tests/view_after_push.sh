@@ -1,5 +1,5 @@
 #!/bin/sh
-# A view that `take` gives lies in the feed's buffer, so the compiler has to refuse its use behind the next `push`.
+# A view that `take` gives lies in the feed's buffer, so the compiler has to refuse its use after the next `push`.
 #
 # In a copy of the crates it compiles a function with such a use, which must be refused as a second borrow, and the same
 # function without the use, which must pass: so it is the use that is refused. Nothing is proved.
@@ -22,7 +22,7 @@ done
 feed=$work/crates/bt_feed
 printf '\n#[cfg(test)]\nmod later_use;\n' >>"$feed/src/lib.rt"
 
-# compile LINE: compiles and runs the function with that line behind the push; the words go to $work/log.
+# compile LINE: compiles and runs the function with that line after the push; the words go to $work/log.
 compile() {
     cat >"$feed/src/later_use.rt" <<END
 use crate::*;
@@ -61,9 +61,9 @@ fail() {
     exit 1
 }
 
-! compile 'let _ = view.is_ok();' || fail 'a view was used behind a push'
+! compile 'let _ = view.is_ok();' || fail 'a view was used after a push'
 [ "$(grep -c 'error\[' "$work/log")" = 1 ] || fail 'it was refused with another count of errors than 1'
 grep -q '^src/later_use\.rt:[0-9:]* error\[borrow-e0499\]' "$work/log" || fail 'it was refused for another reason'
-compile '' || fail 'a push behind a view that is used no more was refused'
+compile '' || fail 'a push after a view that is used no more was refused'
 grep -q '^test result: ok\. 1 passed' "$work/log" || fail 'the function was not run'
-echo 'view_after_push: ok: a view that is used behind the next push is refused as a second borrow'
+echo 'view_after_push: ok: a view that is used after the next push is refused as a second borrow'

@@ -1,4 +1,4 @@
-use Rattle.std.proofs.Common.{◌∙◌, Some, None, subst, arith}
+use Rattle.std.proofs.Common.{◌∙◌, Some, None, subst, arith, rules}
 use Rattle.bt_ext.specs.Tables.{Entries}
 use Rattle.bt_ext.specs.Holding.{HoldsAt}
 use Rattle.bt_ext.proofs.Entries.{remove-at, replace-at, keep-absent}
@@ -18,3 +18,12 @@ pub returns-else-id-ne0-clause-ok : goal.returns-else-id-ne0-clause-ok
 returns-else-id-ne0-clause-ok g c =
     let none = subst (λ (es : Entries). HoldsAt c.args.name.now es None) c.deref.ensures.value c.in-None.ensures in
     keep-absent c.args.name.now c.args.id c.args.entries.now.items (omega arith) (omega arith) none
+
+pub returns-in_ok-push-in-None-clause-ok : goal.returns-in_ok-push-in-None-clause-ok
+returns-in_ok-push-in-None-clause-ok g c = search rules
+
+pub returns-else-len-lt-MAX_NAMES-clause-ok : goal.returns-else-len-lt-MAX_NAMES-clause-ok
+returns-else-len-lt-MAX_NAMES-clause-ok g c = search rules
+
+pub returns-else-id-ne0-clause-memory : goal.returns-else-id-ne0-clause-memory
+returns-else-id-ne0-clause-memory g c = search rules

@@ -1,10 +1,13 @@
 use Rattle.bt_ext.specs.Payloads.{seen}
 use Rattle.bt_ext.proofs.Allowed.{allowed}
 use Rattle.bt_ext.proofs.view.view_ext.Goals as goal
-use Rattle.std.proofs.Common.{sym, ◌∙◌}
+use Rattle.std.proofs.Common.{sym, ◌∙◌, rules}
 
 pub returns-in-None-clause-ok : goal.returns-in-None-clause-ok
 returns-in-None-clause-ok c = record {
   is = c.in-Ok.ensures.ok;
   allowed = allowed c.args.rules (seen c.in-Ok.view) (sym c.fault_in.ensures ∙ c.in-None.is);
 }
+
+pub returns-in-Err-clause-err : goal.returns-in-Err-clause-err
+returns-in-Err-clause-err c = search rules

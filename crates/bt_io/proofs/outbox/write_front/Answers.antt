@@ -1,4 +1,4 @@
-use Rattle.std.proofs.Common.{◌-◌, length, drop, arith}
+use Rattle.std.proofs.Common.{◌-◌, length, drop, arith, rules}
 use Rattle.std.proofs.lemmas.List.{length-drop, length-take}
 use Rattle.bt_io.proofs.Moved.{Appends-more}
 use Rattle.bt_io.proofs.outbox.write_front.Goals as goal
@@ -11,3 +11,9 @@ loop-done-preserved g c =
       sent = Appends-more _ _ _ bs c.loop-done.done c.in-Ok.count c.loop-done.invariant.sent c.in-Ok.ensures.bytes;
       failed = grind (arith, c.in-Ok.ensures.failed, c.loop-done.invariant.failed);
     }
+
+pub returns-in-Ok-eq0-clause-sent : goal.returns-in-Ok-eq0-clause-sent
+returns-in-Ok-eq0-clause-sent g c = search rules
+
+pub returns-in-Ok-eq0-clause-whole : goal.returns-in-Ok-eq0-clause-whole
+returns-in-Ok-eq0-clause-whole g c = search rules

@@ -1,4 +1,4 @@
-use Rattle.std.proofs.Common.{◌≡◌, ◌+◌, ◌-◌, ◌≤◌, ℕ, length, length-drop, sym, subst, ap, ◌∙◌, arith}
+use Rattle.std.proofs.Common.{◌≡◌, ◌+◌, ◌-◌, ◌≤◌, ℕ, length, length-drop, sym, subst, ap, ◌∙◌, arith, rules}
 use Rattle.bt_wire.specs.Messages.{Message}
 use Rattle.bt_wire.specs.Faults.{said_length, said_id, allows, size_of}
 use Rattle.bt_wire.specs.Headers.{IsRead}
@@ -77,3 +77,6 @@ returns-in-None-clause-ok c =
     let P : Message → Type 0 = λ m. IsRead c.args.context.now c.args.order c.args.window.now m in
     subst P (sym c.read_fields-view.ensures.message) (fields_read c.args.context.now c.args.order c.args.window.now _ window long found (plain_allowed c.args.context.now _ _ found.its_part.id other)
     (same_fields c.args.context.now c.number_at_front-length.result (said_length c.args.window.now) _ _ _ _ c.number_at_front-length.ensures (sym (c.read_fields-view.ensures.fields c.args.context.now)) c.read_fields-view.ensures.message (rw (c.id_at-id.ensures, c.behind.ensures) at c.in-None.ensures)))
+
+pub returns-in-Some-clause-ok : goal.returns-in-Some-clause-ok
+returns-in-Some-clause-ok c = search rules

@@ -1,4 +1,5 @@
-use Rattle.std.proofs.Common.{◌≡◌, ◌-◌, Result, Ok, length, take, drop, ap, subst, ◌∙◌}
+use Rattle.std.proofs.Common.{◌≡◌, ◌-◌, Result, Ok, length, take, drop, ap, subst, ◌∙◌, rules, arith}
+use Rattle.std.proofs.lemmas.Grind.{common_steps}
 use Rattle.bt_end.specs.Halves.{received, IsTurned}
 use Rattle.bt_end.specs.declared.end.Turn.{Turn}
 use Rattle.bt_end.specs.declared.end.Turn.TheVariants.{Handled, Idle}
@@ -27,3 +28,15 @@ returns-in-Ok-Idle-clause-used g c =
     let is : c.round-taken.result.1 ≡ Ok Idle = c.in-Ok-Idle.is ∙ ap (λ (t : Turn). Ok t) turn in
     idle_used now next bytes rest c.rounds.used c.round-taken.result.0 (rest_is bytes c.rounds.used) c.round-taken.ensures.taken c.round-taken.ensures.in_range c.rounds.invariant.within
     (subst (λ (x : Result Turn TurnError). IsTurned (received now rest) x next) is c.round-taken.ensures.turned)
+
+pub returns-in-Ok-Idle-clause-handled : goal.returns-in-Ok-Idle-clause-handled
+returns-in-Ok-Idle-clause-handled g c = grind (arith, common_steps)
+
+pub returns-in-Ok-Idle-clause-in_range : goal.returns-in-Ok-Idle-clause-in_range
+returns-in-Ok-Idle-clause-in_range g c = search rules
+
+pub returns-in-Err-clause-handled : goal.returns-in-Err-clause-handled
+returns-in-Err-clause-handled g c = grind (arith, common_steps)
+
+pub returns-in-Err-clause-in_range : goal.returns-in-Err-clause-in_range
+returns-in-Err-clause-in_range g c = search rules

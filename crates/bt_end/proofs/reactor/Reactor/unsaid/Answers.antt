@@ -1,0 +1,14 @@
+use Rattle.std.proofs.Common.{rules}
+use Rattle.bt_end.proofs.reactor.Reactor.unsaid.Goals as goal
+
+pub returns-then-bytes-ge-HIGH_WATER : goal.returns-then-bytes-ge-HIGH_WATER
+returns-then-bytes-ge-HIGH_WATER g c = search rules
+
+pub returns-then-is_extended : goal.returns-then-is_extended
+returns-then-is_extended g c = search rules
+
+pub returns-then-is_none-2 : goal.returns-then-is_none-2
+returns-then-is_none-2 g c = search rules
+
+pub returns-else-tells_pieces : goal.returns-else-tells_pieces
+returns-else-tells_pieces g c = search rules

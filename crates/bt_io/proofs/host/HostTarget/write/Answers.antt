@@ -1,0 +1,14 @@
+use Rattle.std.proofs.Common.{rules}
+use Rattle.bt_io.proofs.host.HostTarget.write.Goals as goal
+
+pub returns-after-count-eq0-clause-bound : goal.returns-after-count-eq0-clause-bound
+returns-after-count-eq0-clause-bound g c = search rules
+
+pub returns-after-count-eq0-clause-bytes : goal.returns-after-count-eq0-clause-bytes
+returns-after-count-eq0-clause-bytes g c = search rules
+
+pub returns-after-count-eq0-clause-writes : goal.returns-after-count-eq0-clause-writes
+returns-after-count-eq0-clause-writes g c = search rules
+
+pub returns-after-count-eq0-clause-failed : goal.returns-after-count-eq0-clause-failed
+returns-after-count-eq0-clause-failed g c = search rules
