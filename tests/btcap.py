@@ -552,9 +552,11 @@ def main():
                 found = run(each, words, capture, folder)
                 if not is_as(found, wanted):
                     wrong.append("%s\nexpected: %s\ngot: %s" % (name, wanted, found))
-        runs += 1
+        runs += 2
         if not is_written(program, folder):
             wrong.append("--write")
+        if example("refused.pcap") != fault()[0]:
+            wrong.append("examples/refused.pcap isn't the capture of a fault")
         real = is_real_read(program, folder)
     if real is None:
         print("btcap: no real capture: tcpdump isn't installed or may not capture")
