@@ -5,7 +5,7 @@ usage: tests/documents.py [PROGRAM]
 
 A command stands in an indented block after `$ `; lines after `> ` go on with it. The lines up to the next command or the
 block's end are its standard output, exactly. Standard error has to be empty, but that of the capture tools isn't looked at.
-The commands of one document run in one shell, in a new folder that has `bt_tool` and `examples`. `bt_tool` is PROGRAM, or
+The commands of one document run in one shell, in a new folder that has `bt_tool`, `examples` and `tools`. `bt_tool` is PROGRAM, or
 the script at the top of the repository, which builds the program where it has to.
 
 A command is skipped that needs a tool which isn't installed, or a file that a skipped command would have made. The two
@@ -24,6 +24,8 @@ from collections import Counter
 ROOT = os.path.dirname(os.path.dirname(os.path.abspath(__file__)))
 DOCUMENTS = ["README.md", "examples/README.md", "docs/CAPTURES.md"]
 TOOLS = ["tshark", "tcpflow", "editcap", "mergecap", "tcpdump", "xxd"]
+# Options that an older program hasn't, with which it reads files.
+OPTIONS = ["--other"]
 # The names of the files and folders that commands make.
 FILE = re.compile(r"[\w./-]+?(?:\.(?:bin|pcap|txt)|flows)(?![\w-])")
 # What the capture tools make of the two directions.
@@ -121,7 +123,7 @@ def run_document(document, folder, made, absent, counts):
     """Runs a document's commands in the folder, and gives what went wrong. `lacking` has the files that weren't made."""
     shell, wrong, lacking = Shell(folder), [], {}
     for number, command, shown in sessions(os.path.join(ROOT, document)):
-        tools = {tool for tool in TOOLS if re.search(r"(?<![\w./-])%s(?![\w.-])" % tool, command)}
+        tools = {tool for tool in TOOLS + sorted(absent & set(OPTIONS)) if re.search(r"(?<![\w./-])%s(?![\w.-])" % tool, command)}
         files = [name for name in FILE.findall(command) if not os.path.exists(os.path.join(folder, name))]
         needed = (tools & absent).union(*(lacking.get(name, ()) for name in files))
         if needed:
@@ -139,7 +141,8 @@ def run_document(document, folder, made, absent, counts):
 
 
 def make_folder(folder, program):
-    os.symlink(os.path.join(ROOT, "examples"), os.path.join(folder, "examples"))
+    for name in ("examples", "tools"):
+        os.symlink(os.path.join(ROOT, name), os.path.join(folder, name))
     with open(os.path.join(folder, "bt_tool"), "w") as script:
         script.write('#!/bin/sh\nexec %s "$@"\n' % shlex.quote(program))
     os.chmod(os.path.join(folder, "bt_tool"), 0o755)
@@ -157,6 +160,8 @@ def main():
     if subprocess.run([program, "--version"], stdout=subprocess.DEVNULL).returncode:
         sys.exit("documents: failed: %s --version" % program)
     absent, counts = {tool for tool in TOOLS if not shutil.which(tool)}, Counter()
+    said = subprocess.run([program, "show", "--help"], stdout=subprocess.PIPE).stdout
+    absent.update(option for option in OPTIONS if option.encode() not in said)
     for document in DOCUMENTS:
         with tempfile.TemporaryDirectory(prefix="documents-") as folder:
             make_folder(folder, program)

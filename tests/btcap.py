@@ -1,0 +1,574 @@
+#!/usr/bin/env python3
+"""Runs tools/btcap on captures that this script writes, and compares what it prints, and its exit status.
+
+usage: tests/btcap.py [PROGRAM]
+
+PROGRAM is the built bt_tool, or else the script at the top of the repository. The streams are those of examples/, whose
+verdicts examples/README.md states, and some made here by hand. Where PROGRAM has --other, each capture is read twice,
+the second time without it. Where tcpdump is installed and may capture, two ends talk over loopback, and their capture
+is read too.
+"""
+import hashlib
+import os
+import re
+import shutil
+import socket
+import stat
+import struct
+import subprocess
+import sys
+import tempfile
+import threading
+import time
+
+ROOT = os.path.dirname(os.path.dirname(os.path.abspath(__file__)))
+BTCAP = os.path.join(ROOT, "tools/btcap")
+FIN, SYN, RST, ACK = 1, 2, 4, 16
+A, B = ("10.0.0.1", 51413), ("10.0.0.2", 6881)
+
+
+def example(name):
+    with open(os.path.join(ROOT, "examples", name), "rb") as file:
+        return file.read()
+
+
+FETCHING, SERVING = example("fetching.bin"), example("serving.bin")
+
+
+# ---- writing captures
+
+class Packet:
+    """A TCP packet of end A or B at a time in milliseconds."""
+
+    def __init__(self, side, flags, sequence, acked, payload, at):
+        self.side, self.flags, self.sequence, self.acked = side, flags, sequence, acked
+        self.payload, self.at = payload, at
+
+    def tcp(self, ports):
+        head = struct.pack(">HHIIHHHH", *ports, self.sequence % 2 ** 32, self.acked % 2 ** 32,
+                           5 << 12 | self.flags, 65535, 0, 0)
+        return head + self.payload
+
+
+class Talk:
+    """A TCP connection, packet by packet. A segment is acknowledged at once. Sequence numbers start at `start`."""
+
+    def __init__(self, size=1000, start=7):
+        self.packets, self.size, self.next = [], size, {"A": start, "B": start + 5}
+        self.add("A", SYN)
+        self.add("B", SYN | ACK)
+        self.add("A", ACK)
+
+    def add(self, side, flags, payload=b""):
+        other = "B" if side == "A" else "A"
+        self.packets.append(Packet(side, flags, self.next[side], self.next[other] if flags & ACK else 0, payload,
+                                   len(self.packets)))
+        self.next[side] += len(payload) + bool(flags & (SYN | FIN))
+
+    def say(self, side, stream):
+        for at in range(0, len(stream), self.size):
+            self.add(side, ACK, stream[at:at + self.size])
+            self.add("B" if side == "A" else "A", ACK)
+        return self
+
+    def close(self, side):
+        other = "B" if side == "A" else "A"
+        for end, flags in ((side, FIN | ACK), (other, FIN | ACK), (side, ACK)):
+            self.add(end, flags)
+        return self
+
+
+def ipv4(packet, ends, total=None):
+    tcp = packet.tcp([port for _, port in ends])
+    hosts = b"".join(socket.inet_aton(host) for host, _ in ends)
+    total = 20 + len(tcp) if total is None else total
+    return struct.pack(">BBHHHBBH", 0x45, 0, total, 0, 0x4000, 64, 6, 0) + hosts + tcp
+
+
+def ipv6(packet, ends, options=b""):
+    tcp = packet.tcp([port for _, port in ends])
+    hosts = b"".join(bytes(14) + bytes([int(host.split(".")[0]), int(host.split(".")[3])]) for host, _ in ends)
+    return struct.pack(">IHBB", 6 << 28, len(options) + len(tcp), 0 if options else 6, 64) + hosts + options + tcp
+
+
+MACS = bytes(12)
+# Name: the link type, and the frame of an IP packet of this version.
+FRAMES = {
+    "ethernet": (1, lambda ip, kind: MACS + kind + ip),
+    "padded": (1, lambda ip, kind: (MACS + kind + ip).ljust(60, b"\xff")),
+    "vlan": (1, lambda ip, kind: MACS + b"\x81\x00\x00\x05" + kind + ip),
+    "two tags": (1, lambda ip, kind: MACS + b"\x88\xa8\x00\x05\x81\x00\x00\x06" + kind + ip),
+    "cooked": (113, lambda ip, kind: bytes(14) + kind + ip),
+    "cooked 2": (276, lambda ip, kind: kind + bytes(18) + ip),
+    "raw": (101, lambda ip, kind: ip),
+    "loopback": (0, lambda ip, kind: b"\x02\x00\x00\x00" + ip),
+}
+
+
+def frames(packets, name="ethernet", ip=ipv4, ends=(A, B)):
+    """The link type, and each packet's time and frame."""
+    link, frame = FRAMES[name]
+    kind = b"\x08\x00" if ip in (ipv4, offloaded) else b"\x86\xdd"
+    return link, [(it.at, frame(ip(it, ends if it.side == "A" else ends[::-1]), kind)) for it in packets]
+
+
+def offloaded(packet, ends):
+    """An IPv4 packet before the network card cuts it: its header has no length."""
+    return ipv4(packet, ends, 0)
+
+
+def pcap(framed, order="<", nano=False, snap=None):
+    link, found = framed
+    file = struct.pack(order + "IHHIIII", 0xA1B23C4D if nano else 0xA1B2C3D4, 2, 4, 0, 0, 262144, link)
+    for at, frame in found:
+        file += struct.pack(order + "4I", 1000 + at // 1000, at % 1000 * (10 ** 6 if nano else 1000),
+                            len(frame[:snap]), len(frame)) + frame[:snap]
+    return file
+
+
+def block(order, kind, body):
+    body += bytes(-len(body) % 4)
+    return struct.pack(order + "II", kind, 12 + len(body)) + body + struct.pack(order + "I", 12 + len(body))
+
+
+def pcapng(framed, order="<", nano=False):
+    link, found = framed
+    file = block(order, 0x0A0D0D0A, struct.pack(order + "IHHq", 0x1A2B3C4D, 1, 0, -1))
+    option = struct.pack(order + "HHB3xHH", 9, 1, 9, 0, 0) if nano else b""
+    # another interface comes first, and a block of a type that isn't read
+    file += block(order, 1, struct.pack(order + "HHI", 101, 0, 0))
+    file += block(order, 1, struct.pack(order + "HHI", link, 0, 0) + option) + block(order, 5, bytes(12))
+    for at, frame in found:
+        ticks = (1_000_000 + at) * (10 ** 6 if nano else 1000)
+        file += block(order, 6, struct.pack(order + "5I", 1, ticks >> 32, ticks & 0xFFFFFFFF, len(frame), len(frame))
+                      + frame)
+    return file
+
+
+# ---- what is expected
+
+A_LINES = """  A Transmission 3.00
+    free ok messages=5 bytes=278
+    bep  ok messages=5 bytes=278
+    options --reserved 0000000000100005 --metadata-id 2
+"""
+B_LINES = """  B libtorrent/2.0.8.0
+    free ok messages=6 bytes=25889
+    bep  ok messages=6 bytes=25889
+    options --reserved 0000000000100004 --metadata-id 3
+"""
+CLOSE = """  A closed first, by FIN, at 0.057000 s
+    B had sent 25889 bytes, last: 16736 metadata-data 1 25486 9102
+    A had sent 278 bytes, last: 247 metadata-request 1
+"""
+NAMES = "connection 0  A 10.0.0.1:51413 > B 10.0.0.2:6881\n"
+WHOLE = NAMES + A_LINES + B_LINES + CLOSE
+WHOLE6 = "connection 0  A [0:0:0:0:0:0:0:a01]:51413 > B [0:0:0:0:0:0:0:a02]:6881\n" + A_LINES + B_LINES + CLOSE
+
+
+def talk(**how):
+    """Packet 3 has A's stream, and packets 5, 7, .. 55 have B's; packets 57 to 59 close."""
+    return Talk(**how).say("A", FETCHING).say("B", SERVING).close("A").packets
+
+
+def without(*numbers, **how):
+    return [it for k, it in enumerate(talk(**how)) if k not in numbers]
+
+
+def swapped(k, n):
+    found = talk()
+    found[k], found[n] = found[n], found[k]
+    return found
+
+
+def repeated(k, place, sequence=0, payload=None):
+    """Packet k again at another place, `sequence` bytes later, with another payload."""
+    found = talk()
+    old = found[k]
+    found.insert(place, Packet(old.side, old.flags, old.sequence + sequence, old.acked,
+                               old.payload if payload is None else payload, found[place].at))
+    return found
+
+
+def readings():
+    """Captures of one connection that say the same: a name and the file."""
+    plain = frames(talk())
+    yield from ((name, pcap(frames(talk(), name))) for name in FRAMES)
+    yield "nanoseconds", pcap(plain, nano=True)
+    yield "big-endian", pcap(plain, order=">")
+    yield "pcapng", pcapng(plain)
+    yield "pcapng, big-endian", pcapng(plain, order=">")
+    yield "pcapng, nanoseconds", pcapng(plain, nano=True)
+    yield "segmentation offload", pcap(frames(talk(), ip=offloaded))
+    yield "sequence numbers wrap", pcap(frames(talk(start=2 ** 32 - 100)))
+    yield "sequence numbers wrap later", pcap(frames(talk(start=2 ** 32 - 20_000)))
+    yield "reordered", pcap(frames(swapped(11, 15)))
+    yield "after its acknowledgement", pcap(frames(swapped(11, 12)))
+    yield "first bytes reordered", pcap(frames(swapped(5, 7)))
+    yield "a segment twice", pcap(frames(repeated(9, 15)))
+    yield "SYN twice", pcap(frames(repeated(0, 1)))
+    yield "two segments again as one", pcap(frames(repeated(7, 20, 500, SERVING[1500:2700])))
+    yield "a probe without bytes", pcap(frames(repeated(7, 20, -1, b"")))
+    yield "the close of B is lost", pcap(frames(without(58, 59)))
+    yield "the close of B is lost, its acknowledgement isn't", pcap(frames(without(58)))
+    yield "the opening is lost", pcap(frames(without(1, 2)))
+
+
+def gap_lines(at, more="", message=5, size=1000):
+    return B_LINES.replace("    free ok messages=6 bytes=25889\n    bep  ok messages=6 bytes=25889\n", (
+        "    gap at %d: %d bytes aren't in the capture%s\n" % (at, size, more)
+        + "".join("    %s refused message=%d at=%d EndInside (cut by the gap)\n" % (rules, message, at)
+                  for rules in ("free", "bep "))))
+
+
+def gap_close(last, sent=25889):
+    return CLOSE.replace("B had sent 25889", "B had sent %d" % sent).replace("16736 metadata-data 1 25486 9102", last)
+
+
+BLOCK = "301 metadata-data 0 25486 16384"
+# What the options say of a receiver whose handshake isn't there.
+UNKNOWN = "    options --reserved 0000000000100005 --metadata-id 0 (guessed: its receiver's handshake isn't there)\n"
+
+
+def gaps():
+    """Captures with gaps: name, file, output."""
+    yield "a segment lost", pcap(frames(without(7))), NAMES + A_LINES + gap_lines(1000) + gap_close("296 choke")
+    lines = gap_lines(1000, "; 2 gaps, 2000 bytes in all")
+    yield "two segments lost", pcap(frames(without(7, 11))), NAMES + A_LINES + lines + gap_close("296 choke")
+    lines = NAMES + A_LINES + gap_lines(25000, message=6, size=889)
+    yield "the end lost", pcap(frames(without(55))), lines + gap_close(BLOCK, 25000)
+    yield "the end and the close lost", pcap(frames(without(55, 58, 59))), lines + gap_close(BLOCK, 25000)
+    lines = NAMES + "  A sent 0 bytes and no whole handshake\n    gap at 0: 278 bytes aren't in the capture\n" + B_LINES
+    lines = re.sub(" *options.*\n", UNKNOWN, lines) + CLOSE[:CLOSE.index("    A had")]
+    # without the id of A's handshake the block of 9,102 bytes and its dictionary of 45 are only an extended message
+    lines = lines.replace("16736 metadata-data 1 25486 9102", "16736 extended 3 9147")
+    yield "one direction's start lost", pcap(frames(without(3))), lines
+
+
+# ---- streams made by hand
+
+HASH = bytes.fromhex("a9993e364706816aba3e25717850c26c9cd0d89d")
+
+
+def hand(peer, reserved="0000000000100005", info_hash=HASH):
+    return b"\x13BitTorrent protocol" + bytes.fromhex(reserved) + info_hash + peer
+
+
+def message(*parts):
+    body = b"".join(parts)
+    return struct.pack(">I", len(body)) + body
+
+
+def handshakes(**how):
+    return hand(b"-AA0001-000000000000", **how), hand(b"-BB0001-000000000000", **how)
+
+
+def report(name, sent, free, bep, options="--reserved 0000000000100005 --metadata-id 0", side="A", notes=""):
+    return "  %s %s\n%s    free %s\n    bep  %s\n    options %s\n" % (side, name, notes, free, bep, options)
+
+
+def empty_b(options="--reserved 0000000000100005 --metadata-id 0", notes=""):
+    """The lines of an end B that sends its handshake alone."""
+    ok = "ok messages=0 bytes=68"
+    return report("-BB0001-000000000000", 68, ok, ok, options, "B", notes)
+
+
+LINE_A = "0 handshake 0000000000100005 %s 2d4141303030312d303030303030303030303030" % HASH.hex()
+LINE_B = "0 handshake 0000000000100005 %s 2d4242303030312d303030303030303030303030" % HASH.hex()
+
+
+def fault():
+    """B answers an index that is too high by closing: packets 3 and 7 are A's, 5 is B's, 9 closes."""
+    left, right = handshakes()
+    found = Talk().say("A", left).say("B", right)
+    found.say("A", message(b"\x0f") + message(b"\x04", struct.pack(">I", 38)) + message(b"\x02")).close("B")
+    options = "--reserved 0000000000100005 --metadata-id 0 --pieces 38"
+    refused = "refused message=2 at=78 BadIndex"
+    lines = NAMES + report("-AA0001-000000000000", 87, refused, refused, options) + empty_b(options)
+    return pcap(frames(found.packets)), lines + """  B closed first, by FIN, at 0.009000 s
+    A had sent 87 bytes, last: refused message=2 at=78 BadIndex
+    B had sent 68 bytes, last: %s
+""" % LINE_B
+
+
+def shown():
+    """The lines of `fault` in the order of time. Both ends send a FIN."""
+    return """     0.003000 A %s
+     0.005000 B %s
+     0.007000 A 68 have-none
+     0.007000 A 78 refused message=2 at=78 BadIndex
+     0.009000 B 68 (FIN)
+     0.010000 A 87 (FIN)
+""" % (LINE_A, LINE_B)
+
+
+def other_extension():
+    """B has ut_metadata under 9 and another extension under 3, of which A sends a byte."""
+    left, right = handshakes()
+    extended = message(b"\x14\x00d1:md11:upload_onlyi3e11:ut_metadatai9eee")
+    found = Talk().say("B", right + message(b"\x0f") + extended)
+    found.say("A", left + message(b"\x0f") + message(b"\x14\x03\x01"))
+    lines = NAMES + report("-AA0001-000000000000", 80, *2 * ["ok messages=2 bytes=80"],
+                           "--reserved 0000000000100005 --metadata-id 9")
+    size = 68 + 5 + len(extended)
+    return pcap(frames(found.packets)), lines + report(
+        "-BB0001-000000000000", size, *2 * ["ok messages=2 bytes=%d" % size], side="B"
+    ) + "  still open at the capture's end\n"
+
+
+def without_fast():
+    """B hasn't the Fast Extension, so A's first message may be any."""
+    left, right = handshakes()[0], hand(b"-BB0001-000000000000", "0000000000100000")
+    found = Talk().say("B", right).say("A", left + message(b"\x02"))
+    lines = NAMES + report("-AA0001-000000000000", 73, *2 * ["ok messages=1 bytes=73"],
+                           "--reserved 0000000000100000 --metadata-id 0")
+    return pcap(frames(found.packets)), lines + empty_b() + "  still open at the capture's end\n"
+
+
+def key_exchange():
+    """Both streams begin after the key exchange of an encrypted connection whose payload is plain. A's end is cut."""
+    left, right = handshakes()
+    found = Talk(size=400).say("A", bytes(range(200)) * 3).say("B", bytes(range(200, 250)) * 10)
+    found.say("A", left + message(b"\x0f") + b"\0\0").say("B", right)
+    notes = "    handshake after %d bytes of a key exchange; offsets count from it\n"
+    cut = "refused message=2 at=75 EndInside (cut by the capture's end)"
+    lines = NAMES + report("-AA0001-000000000000", 75, cut, cut, notes=notes % 600) + empty_b(notes=notes % 500)
+    return pcap(frames(found.packets)), lines + "  still open at the capture's end\n"
+
+
+def cut_by_the_other():
+    """B resets the connection inside a message of A."""
+    left, right = handshakes()
+    found = Talk().say("A", left + message(b"\x0f") + b"\0\0").say("B", right)
+    found.add("B", RST)
+    cut = "refused message=2 at=75 EndInside (cut by the close of the other end)"
+    return pcap(frames(found.packets)), NAMES + report("-AA0001-000000000000", 75, cut, cut) + empty_b() + """\
+  B closed first, by RST, at 0.007000 s
+    A had sent 75 bytes, last: 68 have-none
+    B had sent 68 bytes, last: %s
+""" % LINE_B
+
+
+def cut_by_itself():
+    """A closes inside a message of its own."""
+    left, right = handshakes()
+    found = Talk().say("A", left + b"\0\0").say("B", right).close("A")
+    cut = "refused message=1 at=70 EndInside"
+    return pcap(frames(found.packets)), NAMES + report("-AA0001-000000000000", 70, cut, cut) + empty_b() + """\
+  A closed first, by FIN, at 0.007000 s
+    B had sent 68 bytes, last: %s
+    A had sent 70 bytes, last: %s
+""" % (LINE_B, LINE_A)
+
+
+def twice():
+    """Two connections between the same ports, one with HTTP, and packets that aren't TCP."""
+    first, second = Talk(), Talk(start=5000)
+    left, right = handshakes()
+    first.say("A", left).say("B", right).close("A")
+    second.say("A", left).say("B", right)
+    link, found = frames(first.packets + second.packets)
+    found += frames(Talk().say("A", b"GET / HTTP/1.1\r\n\r\n").packets, ends=(("10.0.0.3", 999), ("10.0.0.4", 80)))[1]
+    found += frames(Talk().packets, ends=(("10.0.0.3", 998), ("10.0.0.4", 80)))[1]
+    udp = struct.pack(">BBHHHBBH", 0x45, 0, 28, 0, 0, 64, 17, 0) + bytes(16)
+    found += [(0, MACS + b"\x08\x00" + udp), (0, MACS + b"\x08\x06" + bytes(28)), (0, MACS), (0, b"")]
+    ok = "ok messages=0 bytes=68"
+    both = report("-AA0001-000000000000", 68, ok, ok) + empty_b()
+    return pcap((link, found)), NAMES + both + """  A closed first, by FIN, at 0.007000 s
+    B had sent 68 bytes, last: %s
+    A had sent 68 bytes, last: %s
+""" % (LINE_B, LINE_A) + NAMES.replace("0", "1", 1) + both + """  still open at the capture's end
+connection 2  A 10.0.0.3:999 > B 10.0.0.4:80  no BitTorrent handshake: encrypted, another protocol, or begun before \
+the capture
+"""
+
+
+def conflict():
+    """A segment comes again with two other bytes."""
+    other = b"\xff\xff" + SERVING[1002:2000] if SERVING[1000] != 255 != SERVING[1001] else None
+    lines = B_LINES.replace("    free", "    repeated with other bytes: 2; the first ones count\n    free", 1)
+    return pcap(frames(repeated(7, 20, 0, other))), NAMES + A_LINES + lines + CLOSE
+
+
+TORRENT = b"d8:announce1:x4:infod6:lengthi1e4:name1:a12:piece lengthi16384e6:pieces60:" + 60 * b"p" + b"ee"
+
+
+def with_torrent():
+    """Of two torrents one has its piece count in a .torrent file."""
+    info_hash = hashlib.sha1(TORRENT[TORRENT.index(b"4:info") + 6:-1]).digest()
+    left, right = handshakes(info_hash=info_hash)
+    third = message(b"\x0f") + message(b"\x04", struct.pack(">I", 3))
+    found = Talk().say("A", left + third).say("B", right)
+    plain = Talk().say("A", handshakes()[0] + third).say("B", handshakes()[1])
+    link, both = frames(found.packets)
+    ends = (("10.0.0.1", 51414), B)
+    both += frames(plain.packets, ends=ends)[1]
+    options = "--reserved 0000000000100005 --metadata-id 0 --pieces 3"
+    refused, ok = "refused message=2 at=78 BadIndex", "ok messages=2 bytes=82"
+    still = "  still open at the capture's end\n"
+    lines = NAMES + report("-AA0001-000000000000", 82, refused, refused, options) + empty_b(options) + still
+    lines += NAMES.replace("0", "1", 1).replace("51413", "51414") + report("-AA0001-000000000000", 82, ok, ok)
+    return pcap((link, both)), lines + empty_b() + still
+
+
+def is_short(out):
+    """Whether each segment has its first 146 bytes: 25 of 1,000 and one of 889, and one of 278."""
+    cut = "refused message=1 at=146 EndInside (cut by the gap)"
+    a = report("-TR3000-hkurt404hubr", 146, cut, cut, notes="    gap at 146: 132 bytes aren't in the capture\n")
+    more = "    gap at 146: 854 bytes aren't in the capture; 26 gaps, 22093 bytes in all\n"
+    b = report("-LT2080-OSBc(V--pHy8", 146, cut, cut, "--reserved 0000000000100004 --metadata-id 0", "B", more)
+    return out.startswith(NAMES + a + b)
+
+
+def rows():
+    """Words, the capture, standard output, a part of standard error or b"" for none, the exit status, by name."""
+    yield from ((name, [], file, WHOLE, b"", 0) for name, file in readings())
+    yield "IPv6", [], pcap(frames(talk(), ip=ipv6)), WHOLE6, b"", 0
+    option = lambda it, ends: ipv6(it, ends, b"\x06\x01" + bytes(14))
+    yield "IPv6 with options", [], pcap(frames(talk(), ip=option)), WHOLE6, b"", 0
+    yield from ((name, [], file, lines, b"", 0) for name, file, lines in gaps())
+    yield "a short snap length", [], pcap(frames(talk()), snap=200), is_short, b"", 0
+    yield "the first packet lost", [], pcap(frames(without(0))), WHOLE.replace("0.057000", "0.056000"), b"", 0
+    whole = pcap(frames(talk()))
+    yield "cut inside the last packet", [], whole[:-1], WHOLE, b"ends inside a packet", 0
+    yield "a fault", ["--pieces", "38"], *fault(), b"", 1
+    yield "a fault, shown", ["--pieces", "38", "--show"], fault()[0], fault()[1] + shown(), b"", 1
+    yield "the id of another extension", [], *other_extension(), b"", 0
+    yield "no Fast Extension", [], *without_fast(), b"", 0
+    yield "a key exchange", [], *key_exchange(), b"", 0
+    yield "cut by the other end", [], *cut_by_the_other(), b"", 0
+    yield "cut by itself", [], *cut_by_itself(), b"", 1
+    yield "two connections", [], *twice(), b"", 0
+    yield "other bytes again", [], *conflict(), b"", 0
+    yield "a torrent", ["--torrent", "TORRENT"], *with_torrent(), b"", 1
+    yield "no packet", [], whole[:24], "", b"no BitTorrent connection in 0 packets", 3
+    yield "no handshake", [], pcap(frames(Talk().packets)), "", b"no BitTorrent connection in 3 packets", 3
+    yield "no capture", [], b"d8:announce", "", b"neither a pcap nor a pcapng file", 2
+    yield "nothing", [], b"", "", b"neither a pcap nor a pcapng file", 2
+    yield "an impossible block", [], pcapng(frames([]))[:28] + bytes(8), "", b"impossible length", 2
+    yield "no torrent", ["--torrent", "CAPTURE"], whole, "", b"no torrent", 2
+    yield "no program", ["--tool", "/no/such"], whole, "", b"/no/such", 2
+    yield "wrong words", ["--piece", "x"], whole, "", b"invalid int", 2
+
+
+# ---- running
+
+def run(program, words, capture, folder):
+    paths = {"TORRENT": os.path.join(folder, "a.torrent"), "CAPTURE": os.path.join(folder, "capture")}
+    for name, data in (("TORRENT", TORRENT), ("CAPTURE", capture)):
+        with open(paths[name], "wb") as file:
+            file.write(data)
+    words = [paths.get(word, word) for word in words]
+    ended = subprocess.run([BTCAP, "--tool", program, *words, paths["CAPTURE"]], capture_output=True)
+    return ended.stdout.decode(), ended.stderr, ended.returncode
+
+
+def is_as(found, wanted):
+    out, errors, status = wanted
+    right = out(found[0]) if callable(out) else found[0] == out
+    return right and (errors in found[1] if errors else not found[1]) and found[2] == status
+
+
+def hiding(program, folder):
+    """A script that runs the program, and whose help doesn't name --other."""
+    path = os.path.join(folder, "hiding")
+    with open(path, "w") as file:
+        file.write('#!/bin/sh\n[ "$2" != --help ] || exec echo help\n'
+                   'for word; do [ "$word" != --other ] || exit 2; done\nexec "%s" "$@"\n' % program)
+    os.chmod(path, stat.S_IRWXU)
+    return path
+
+
+def is_written(program, folder):
+    """Whether --write keeps the two streams."""
+    run(program, ["--write", os.path.join(folder, "streams")], pcap(frames(talk())), folder)
+    found = []
+    for name in ("0-A.bin", "0-B.bin"):
+        with open(os.path.join(folder, "streams", name), "rb") as file:
+            found.append(file.read())
+    return found == [FETCHING, SERVING]
+
+
+def read_all(end, size):
+    while size > 0:
+        size -= len(end.recv(65536)) or size
+
+
+def serve(server):
+    end = server.accept()[0]
+    read_all(end, len(FETCHING))
+    end.sendall(SERVING)
+    end.recv(1)
+    end.close()
+
+
+def capture_of(file):
+    """Captures two ends over loopback, and returns their ports, or None where nothing can be captured."""
+    with socket.create_server(("127.0.0.1", 0)) as server:
+        port = server.getsockname()[1]
+        words = ["-i", "lo", "--immediate-mode", "-U", "-B", "65536", "-w", file, "tcp port %d" % port]
+        dump = subprocess.Popen(["tcpdump", *words], stderr=subprocess.PIPE)
+        # it says so once it captures, and ends where it may not
+        if not any(b"listening on" in line for line in iter(dump.stderr.readline, b"")):
+            dump.wait()
+            return None
+        server_thread = threading.Thread(target=serve, args=[server])
+        server_thread.start()
+        with socket.create_connection(("127.0.0.1", port)) as client:
+            ports = client.getsockname()[1], port
+            client.sendall(FETCHING)
+            read_all(client, len(SERVING))
+        server_thread.join()
+    time.sleep(0.5)
+    dump.terminate()
+    dump.communicate()
+    return ports
+
+
+def is_real_read(program, folder):
+    """Whether a capture by tcpdump gives both verdicts, or None where nothing can be captured."""
+    file = os.path.join(folder, "real.pcap")
+    ports = shutil.which("tcpdump") and capture_of(file)
+    if not ports:
+        return None
+    ended = subprocess.run([BTCAP, "--tool", program, file], capture_output=True, text=True)
+    wanted = "connection 0  A 127.0.0.1:%d > B 127.0.0.1:%d\n" % ports + A_LINES + B_LINES + CLOSE
+    found = re.sub(r"at \d+\.\d{6} s", "at 0.057000 s", ended.stdout)
+    if (found, ended.stderr, ended.returncode) == (wanted, "", 0):
+        return True
+    print("btcap: expected:\n%sgot:\n%s%s" % (wanted, found, ended.stderr))
+    return False
+
+
+def main():
+    program = os.path.abspath(sys.argv[1] if len(sys.argv) > 1 else os.path.join(ROOT, "bt_tool"))
+    has_other = b"--other" in subprocess.run([program, "show", "--help"], capture_output=True).stdout
+    runs, wrong = 0, []
+    with tempfile.TemporaryDirectory(prefix="btcap-tests-") as folder:
+        programs = [program] + [hiding(program, folder)] * has_other
+        for name, words, capture, *wanted in rows():
+            for each in programs:
+                runs += 1
+                found = run(each, words, capture, folder)
+                if not is_as(found, wanted):
+                    wrong.append("%s\nexpected: %s\ngot: %s" % (name, wanted, found))
+        runs += 2
+        if not is_written(program, folder):
+            wrong.append("--write")
+        if example("refused.pcap") != fault()[0]:
+            wrong.append("examples/refused.pcap isn't the capture of a fault")
+        real = is_real_read(program, folder)
+    if real is None:
+        print("btcap: no real capture: tcpdump isn't installed or may not capture")
+    else:
+        runs += 1
+        wrong += [] if real else ["a real capture"]
+    for text in wrong:
+        print("btcap: wrong: " + text)
+    print("btcap: %s %d runs, %s --other" % ("failed: %d wrong of" % len(wrong) if wrong else "ok:", runs,
+                                           "with and without" if has_other else "without"))
+    sys.exit(1 if wrong else 0)
+
+
+if __name__ == "__main__":
+    main()
