@@ -69,7 +69,7 @@ accepted_by : (o : Option Refusal) (m n : ℕ) → unless_refused o (Ok m) ≡ O
 accepted_by (Some r) m n e = absurd cc
 accepted_by None m n e = (refl, cc)
 
-refused_by : (o : Option Refusal) (m : ℕ) (r : Refusal) → unless_refused o (Ok m) ≡ Err (finish.Refused r) → o ≡ Some r
+pub refused_by : (o : Option Refusal) (m : ℕ) (r : Refusal) → unless_refused o (Ok m) ≡ Err (finish.Refused r) → o ≡ Some r
 refused_by (Some s) m r e = cc
 refused_by None m r e = absurd cc
 
@@ -85,10 +85,10 @@ pub record IsPumpedOn (own : Own) (b : List ℕ) (xs : List (ℕ × Item)) (f g 
   pub pumped : IsPumped f bytes lost ys g v
 
 -- the outcome of what was read
-total : (own : Own) (b : List ℕ) (xs : List (ℕ × Item)) (f g : FeedState) (bytes lost : List ℕ) (ys : List (ℕ × Item)) (v : Outcome) → IsReadTo own b xs f → IsPumped f bytes lost ys g v → IsVerdict own (b ++ (bytes ++ lost)) (with_items xs v)
+pub total : (own : Own) (b : List ℕ) (xs : List (ℕ × Item)) (f g : FeedState) (bytes lost : List ℕ) (ys : List (ℕ × Item)) (v : Outcome) → IsReadTo own b xs f → IsPumped f bytes lost ys g v → IsVerdict own (b ++ (bytes ++ lost)) (with_items xs v)
 total own b xs f g bytes lost ys v r p = r.comes (bytes ++ lost) v p.comes
 
-read_more : (own : Own) (b : List ℕ) (xs : List (ℕ × Item)) (f g : FeedState) (bytes lost : List ℕ) (ys : List (ℕ × Item)) (v : Outcome) → lost ≡ [] → IsReadTo own b xs f → IsPumped f bytes lost ys g v → IsReadTo own (b ++ (bytes ++ lost)) (xs ++ ys) g
+pub read_more : (own : Own) (b : List ℕ) (xs : List (ℕ × Item)) (f g : FeedState) (bytes lost : List ℕ) (ys : List (ℕ × Item)) (v : Outcome) → lost ≡ [] → IsReadTo own b xs f → IsPumped f bytes lost ys g v → IsReadTo own (b ++ (bytes ++ lost)) (xs ++ ys) g
 read_more own b xs f g bytes lost ys v none r p = record {
   comes = λ later w k.
       let more : b ++ (bytes ++ later) ≡ (b ++ (bytes ++ lost)) ++ later =

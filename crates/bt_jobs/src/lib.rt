@@ -4,6 +4,7 @@
 #![tactic(auto)]
 
 mod check;
+mod other;
 pub mod output;
 mod pack;
 pub mod pack_laws;
@@ -11,5 +12,6 @@ pub mod printer;
 mod show;
 
 pub use check::run_check;
+pub use other::{Announced, OtherError, read_other};
 pub use pack::run_pack;
 pub use show::{run_show, run_unpack};
