@@ -90,7 +90,7 @@ IsFaultOfOther (Err errors.NoHandshake) reads reads' failed failed' ends ends' =
 IsFaultOfOther (Err (errors.Fault fault.Read)) reads reads' failed failed' ends ends' = Grew failed failed'
 IsFaultOfOther (Err (errors.Fault fault.Turns)) reads reads' failed failed' ends ends' = (min (reads + 2 ^ 32) (2 ^ 64 - 1) ≤ reads') × (ends' ≡ ends)
 IsFaultOfOther (Err (errors.Fault fault.Memory)) reads reads' failed failed' ends ends' = failed' ≡ failed
-IsFaultOfOther (Err (errors.Fault fault.Write)) reads reads' failed failed' ends ends' = ⊥
+IsFaultOfOther (Err (errors.Fault f)) reads reads' failed failed' ends ends' = ⊥
 
 -- ---- for private contracts
 

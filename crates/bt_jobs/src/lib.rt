@@ -11,7 +11,7 @@ pub mod pack_laws;
 pub mod printer;
 mod show;
 
-pub use check::run_check;
+pub use check::{run_check, run_check_after};
 pub use other::{Announced, OtherError, read_other};
 pub use pack::run_pack;
 pub use show::{run_show, run_unpack};
