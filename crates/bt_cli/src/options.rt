@@ -67,6 +67,9 @@ const CALL: &str = "bt_tool [COMMAND] [OPTIONS] [FILE]";
 /// The line that follows a mistake.
 const USAGE: &str = "Usage: bt_tool [COMMAND] [OPTIONS] [FILE]\n";
 
+/// What is wrong with several files.
+const ONE_FILE: &str = "'check' alone takes more than one file";
+
 /// What is printed where the words are no text.
 pub const NO_TEXT: &str = "error: the words are no text\n\nUsage: bt_tool [COMMAND] [OPTIONS] [FILE]\n";
 
@@ -291,7 +294,7 @@ fn requested(alloc: Global, name: &str, options: &ArgMatches<'_>) -> Result<Requ
     };
     let files = files(alloc, options)?;
     if files.len() > 1 && job != Job::Check {
-        return Err(NoRequest::Wrong("'check' alone takes more than one file"));
+        return Err(NoRequest::Wrong(ONE_FILE));
     }
     let other = other(alloc, options)?;
     if wants_input_twice(&other, &files) {
@@ -365,7 +368,11 @@ pub fn asked(alloc: Global, words: &[String]) -> Result<Asked, AllocError>
         return mistake(alloc, &mut command, "a command is missing");
     };
     if name == "link" {
-        return Ok(Asked::Link(files(alloc, options)?));
+        let files = files(alloc, options)?;
+        if files.len() > 1 {
+            return mistake(alloc, &mut command, ONE_FILE);
+        }
+        return Ok(Asked::Link(files));
     }
     match requested(alloc, name, options) {
         Ok(request) => Ok(Asked::Run(request)),
