@@ -29,12 +29,7 @@ pub fn say_both<E: Target>(prefix: &[u8], text: &[u8], errors: &mut E)
 }
 
 /// Says which fault ended the program, and returns the exit status.
-pub fn end_by_fault<E: Target>(
-    fault: ToolFault,
-    prefix: &[u8],
-    is_gone: bool,
-    errors: &mut E,
-) -> u8
+pub fn end_by_fault<E: Target>(fault: ToolFault, prefix: &[u8], is_gone: bool, errors: &mut E) -> u8
     ensures said { IsSaid (fault_words is_gone prefix.now fault) (E.held errors.old) (E.held errors.new) (E.failed_writes errors.old) (E.failed_writes errors.new) }
     ensures status { result ≡ fault_status is_gone fault }
 {
@@ -65,13 +60,7 @@ fn fault_of(end: JobEnd) -> Option<ToolFault>
 }
 
 /// Says what a job's end has to say on standard error, and returns the exit status.
-pub fn end_job<E: Target>(
-    job: Job,
-    end: JobEnd,
-    prefix: &[u8],
-    is_gone: bool,
-    errors: &mut E,
-) -> u8
+pub fn end_job<E: Target>(job: Job, end: JobEnd, prefix: &[u8], is_gone: bool, errors: &mut E) -> u8
     ensures said { IsSaid (job_words is_gone prefix.now job end) (E.held errors.old) (E.held errors.new) (E.failed_writes errors.old) (E.failed_writes errors.new) }
     ensures status { result ≡ job_status is_gone end }
 {

@@ -71,7 +71,8 @@ const USAGE: &str = "Usage: bt_tool [COMMAND] [OPTIONS] [FILE]\n";
 const ONE_FILE: &str = "'check' alone takes more than one file";
 
 /// What is printed where the words are no text.
-pub const NO_TEXT: &str = "error: the words are no text\n\nUsage: bt_tool [COMMAND] [OPTIONS] [FILE]\n";
+pub const NO_TEXT: &str =
+    "error: the words are no text\n\nUsage: bt_tool [COMMAND] [OPTIONS] [FILE]\n";
 
 /// Returns an option with a value.
 fn option<'a>(alloc: Global, name: &'a str, value: &'a str) -> Arg<'a> {
@@ -83,7 +84,9 @@ fn option<'a>(alloc: Global, name: &'a str, value: &'a str) -> Arg<'a> {
 
 /// Returns what is said where the file of `--other` doesn't begin with a whole handshake.
 pub fn no_handshake(alloc: Global, name: &str) -> Result<String, AllocError> {
-    format!(in alloc; "error: '{name}', the file of '--other', doesn't begin with a whole handshake\n\n{USAGE}")
+    format!(in alloc;
+        "error: '{name}', the file of '--other', doesn't begin with a whole handshake\n\n{USAGE}"
+    )
 }
 
 /// Returns whether a file's name is that of standard input.

@@ -84,11 +84,7 @@ fn say<W: Target>(writer: &mut W, ended: Ended) -> Result<Ended, ToolFault>
 }
 
 /// Writes `prefix` and the verdict's line, and returns the verdict.
-fn say_after<W: Target>(
-    prefix: &[u8],
-    writer: &mut W,
-    ended: Ended,
-) -> Result<Ended, ToolFault>
+fn say_after<W: Target>(prefix: &[u8], writer: &mut W, ended: Ended) -> Result<Ended, ToolFault>
     ensures written { IsWrittenOut ended (prefix.now ++ verdict_words ended) (W.held writer.old) (W.held writer.new) result }
     ensures fault { IfErr result (λ fault. (fault ≡ ToolFault.Write) × Grew (W.failed_writes writer.old) (W.failed_writes writer.new)) }
 {

@@ -197,11 +197,26 @@ impl<'a, R: Files + Input + AllocGlobal, W: Write, E: Write> Program<'a, R, W, E
         };
         let prefix = prefix.as_bytes();
         let Some(mut reader) = self.open(name, STREAM_AWAITED) else {
-            return (end_by_fault(ToolFault::Read, prefix, false, &mut self.errors), true);
+            return (
+                end_by_fault(ToolFault::Read, prefix, false, &mut self.errors),
+                true,
+            );
         };
-        let end = run_check_after(self.host.alloc(), prefix, &mut reader, &mut self.writer, own);
+        let end = run_check_after(
+            self.host.alloc(),
+            prefix,
+            &mut reader,
+            &mut self.writer,
+            own,
+        );
         let is_gone = self.is_gone.get();
-        let status = end_job(Job::Check, JobEnd::Stream(end), prefix, is_gone, &mut self.errors);
+        let status = end_job(
+            Job::Check,
+            JobEnd::Stream(end),
+            prefix,
+            is_gone,
+            &mut self.errors,
+        );
         (status, end != Err(ToolFault::Write))
     }
 
