@@ -10,6 +10,7 @@ where a text has to have some parts.
 import os
 import subprocess
 import sys
+import tempfile
 
 ROOT = os.path.dirname(os.path.dirname(os.path.abspath(__file__)))
 TEXT = object()
@@ -91,7 +92,6 @@ ROWS = [
     ("show --limit 0", HAND, b"", TEXT, 2),
     ("show --pieces 10 --pieces 10", HAND, b"", TEXT, 2),
     ("list", HAND, b"", TEXT, 2),
-    ("--pieces 10", HAND, b"", TEXT, 2),
     ("pack --rules loose", FOLDER, b"", TEXT, 2),
     ("--help", b"", Parts(b"--metadata-id"), b"", 0),
     ("-h", b"", Parts(b"Exit status"), b"", 0),
@@ -172,11 +172,6 @@ MISTAKES = [
     ["SHOW"],
     ["sho"],
     ["checks"],
-    ["show", "show"],
-    ["show", "stream.bin"],
-    ["--pieces", "10"],
-    ["--pieces", "10", "show"],
-    ["--limit=1"],
     ["show", "--piece", "10"],
     ["show", "-p", "10"],
     ["show", "--unknown"],
@@ -212,7 +207,130 @@ MISTAKES = [
     ["show", "--limit", "1e3"],
     ["show", "--rules", "bep", "--limit", "0"],
     ["show", "--donthave-id", "3"],
+    ["--donthave-id", "3"],
+    ["stream.bin"],
+    ["show", "--other"],
+    ["show", "--other", "a", "--other", "b", "c"],
+    ["show", "--other", "-"],
+    ["show", "--other", "-", "-"],
+    ["check", "--other", "-", "a", "-"],
+    ["show", "a", "b"],
+    ["unpack", "a", "b"],
+    ["pack", "a", "b"],
+    ["link", "a", "b"],
+    ["link", "--other", "a"],
 ]
+
+
+def hand(reserved):
+    """A handshake with these reserved bits."""
+    return HAND[:20] + bytes.fromhex(reserved) + HAND[28:]
+
+
+def message(content):
+    """A message with this id and what follows it."""
+    return len(content).to_bytes(4, "big") + content
+
+
+def naming(number):
+    """An extended handshake that has this id for `ut_metadata`."""
+    return message(b"\x14\0d1:md11:ut_metadatai%deee" % number)
+
+
+# Extended messages under 3 and 1 that are no dictionary, and one that is.
+RAW_3, RAW_1, ASKS_1 = message(b"\x14\x03\x01"), message(b"\x14\x01\x01"), message(b"\x14\x01" + REQUEST)
+# Have all, which only a receiver with the Fast Extension (BEP 6) takes.
+HAVE_ALL = message(b"\x0e")
+NO_FAST, FAST, NOTHING = "0000000000100000", "0000000000100005", "0000000000000000"
+PEX = message(b"\x14\0d1:md6:ut_pexi1eee")
+
+
+def shown(*lines):
+    """What `show` prints of the handshake and of these lines."""
+    return b"0 " + LINE + b"".join(line + b"\n" for line in lines)
+
+
+def other_row(other, rest, lines, options="", status=0):
+    """`show` of what follows a handshake, with this stream as the other direction."""
+    return ("show %s --other other a" % options, {"other": other, "a": HAND + rest}, b"", shown(*lines), b"", status)
+
+
+NO_HANDSHAKE = Parts(b"error: ", b"other", b"doesn't begin with a whole handshake", b"Usage: bt_tool ")
+KEPT = (b"68 extended 3 1", b"ok messages=1 bytes=75")
+JUDGED = (b"refused message=1 at=74 BadBencode",)
+
+# Words, files, standard input, standard output, standard error, exit status. The words are run where the files are.
+FILES = [
+    # files
+    ("show a", {"a": HAND}, b"", shown(b"ok messages=0 bytes=68"), b"", 0),
+    ("show -", {}, HAND, shown(b"ok messages=0 bytes=68"), b"", 0),
+    ("show -- a", {"a": HAND}, b"", shown(b"ok messages=0 bytes=68"), b"", 0),
+    ("show show", {"show": HAND}, b"", shown(b"ok messages=0 bytes=68"), b"", 0),
+    ("--pieces 9", {}, HAND + HAVE_9, shown(b"refused message=1 at=73 BadIndex"), b"", 1),
+    ("--pieces=9 a", {"a": HAND + HAVE_9}, b"", shown(b"refused message=1 at=73 BadIndex"), b"", 1),
+    ("-", {}, HAND, shown(b"ok messages=0 bytes=68"), b"", 0),
+    ("unpack a", {"a": HAND}, b"", LINE, b"", 0),
+    ("pack a", {"a": LINE}, b"", HAND, b"", 0),
+    ("link a", {"a": TWO}, b"", NO_STEPS, b"", 0),
+    ("link -", {}, TWO, NO_STEPS, b"", 0),
+    ("show a", {"a": b""}, HAND, b"refused message=0 at=0 EndInside\n", b"", 1),
+    ("check a", {"a": HAND}, b"", b"ok messages=0 bytes=68\n", b"", 0),
+    ("check a -", {"a": HAND}, HAND + bytes(4), b"a: ok messages=0 bytes=68\n-: ok messages=1 bytes=72\n", b"", 0),
+    ("check a b a", {"a": HAND, "b": b"\x13Bit"}, b"",
+     b"a: ok messages=0 bytes=68\nb: refused message=0 at=4 EndInside\na: ok messages=0 bytes=68\n", b"", 1),
+    ("check a none . b", {"a": HAND, "b": b""}, b"", b"a: ok messages=0 bytes=68\nb: refused message=0 at=0 EndInside\n",
+     b"none: fault: read\n.: fault: read\n", 3),
+    ("check a b", {"a": HAND, "b": HAND}, b"", FULL, b"fault: write\n", 3),
+    ("show none", {}, HAND, b"", b"none: fault: read\n", 3),
+    ("show .", {}, HAND, b"", b".: fault: read\n", 3),
+    ("check .", {}, HAND, b"", b".: fault: read\n", 3),
+    ("unpack none", {}, HAND, b"", b"none: fault: read\n", 3),
+    ("pack .", {}, LINE, b"", b".: fault: read\n", 3),
+    ("link none", {}, TWO, b"", b"none: fault: read\n", 3),
+    # the other direction: its reserved bits
+    other_row(hand(NO_FAST), HAVE_ALL, [b"refused message=1 at=72 NotNegotiated"], status=1),
+    other_row(hand(NO_FAST), HAVE_ALL, [b"68 have-all", b"ok messages=1 bytes=73"], "--reserved " + FAST),
+    other_row(hand(FAST), HAVE_ALL, [b"68 have-all", b"ok messages=1 bytes=73"]),
+    other_row(hand(NOTHING), RAW_1, [b"refused message=1 at=72 NotNegotiated"], status=1),
+    # its id of `ut_metadata`: the first that it names, and none where it names none or 0
+    other_row(hand(NO_FAST), RAW_3, KEPT),
+    other_row(hand(NO_FAST), RAW_3, JUDGED, "--metadata-id 3", 1),
+    other_row(hand(NO_FAST) + PEX, RAW_3, KEPT),
+    other_row(hand(NO_FAST) + naming(0) + naming(3), RAW_3, KEPT),
+    other_row(hand(NO_FAST) + naming(1) + naming(3), RAW_3, KEPT),
+    other_row(hand(NO_FAST) + naming(3), RAW_3, JUDGED, status=1),
+    other_row(hand(NO_FAST) + PEX + naming(3), RAW_3, JUDGED, status=1),
+    other_row(hand(NO_FAST) + naming(3), RAW_3, KEPT, "--metadata-id 0"),
+    other_row(hand(NO_FAST) + naming(1), ASKS_1, [b"68 metadata-request 0", b"ok messages=1 bytes=99"]),
+    # what follows a refusal says nothing, and an unfinished message neither
+    other_row(hand(NO_FAST) + bytes.fromhex("00000002 00 00") + naming(3), RAW_3, KEPT),
+    other_row(hand(NO_FAST) + naming(3)[:-1], RAW_3, KEPT),
+    # the same stream
+    ("show --other a a", {"a": HAND + naming(1) + RAW_1}, b"",
+     shown(b"68 ext-handshake 24 0 size=- ut_metadata=1", b"refused message=2 at=104 BadBencode"), b"", 1),
+    # other commands, and standard input
+    ("check --rules free --other other a", {"other": hand(NO_FAST), "a": HAND + RAW_3}, b"", KEPT[1] + b"\n", b"", 0),
+    ("check --other other a", {"other": hand(NO_FAST), "a": HAND + HAVE_9}, b"", b"ok messages=1 bytes=77\n", b"", 0),
+    ("unpack --other other a", {"other": hand(NO_FAST), "a": HAND + RAW_3}, b"", LINE + b"extended 3 01\n", b"", 0),
+    ("pack --other other a", {"other": hand(NO_FAST), "a": LINE + b"extended 3 01\n"}, b"", HAND + RAW_3, b"", 0),
+    ("pack --other other a", {"other": hand(NO_FAST) + naming(3), "a": LINE + b"extended 3 01\n"}, b"", HAND,
+     b"refused line=2 BadBencode\n", 1),
+    ("show --other - a", {"a": HAND + RAW_3}, hand(NO_FAST), shown(*KEPT), b"", 0),
+    ("show --other other", {"other": hand(NO_FAST)}, HAND + RAW_3, shown(*KEPT), b"", 0),
+    ("--other other", {"other": hand(NO_FAST)}, HAND + RAW_3, shown(*KEPT), b"", 0),
+    # another direction that says nothing
+    ("show --other other a", {"other": b"", "a": HAND}, b"", b"", NO_HANDSHAKE, 2),
+    ("check --other other a", {"other": HAND[:67], "a": HAND}, b"", b"", NO_HANDSHAKE, 2),
+    ("unpack --other other a", {"other": LINE, "a": HAND}, b"", b"", NO_HANDSHAKE, 2),
+    ("pack --other other a", {"other": b"\x13BitTorrent protocoL" + bytes(48), "a": LINE}, b"", b"", NO_HANDSHAKE, 2),
+    ("show --other none a", {"a": HAND}, b"", b"", b"none: fault: read\n", 3),
+    ("show --other . a", {"a": HAND}, b"", b"", b".: fault: read\n", 3),
+    ("pack --other . a", {"a": LINE}, b"", b"", b".: fault: read\n", 3),
+]
+
+# Words whose output nobody reads, and standard input.
+UNREAD = [("show", HAND), ("check", HAND), ("unpack", HAND), ("pack", LINE), ("link", TWO), ("--help", b""),
+          ("check - -", HAND)]
 
 # What follows the handshake; the verdict's line of `check`, under `bep`; the script's lines of `unpack`, under `free`.
 SCRIPTS = [
@@ -451,6 +569,31 @@ def streams():
     return found
 
 
+def both_directions():
+    """The captures, each with what its receiver sent: the lines are those with the receiver's options."""
+    found = []
+    for (_, name, lines), other in zip(CAPTURES, ("serving.bin", "fetching.bin", None)):
+        with open(os.path.join(ROOT, "examples", name), "rb") as file:
+            stream = file.read()
+        # Transmission's direction of the third connection isn't stored: its reserved bits and its id are known.
+        sent = hand("0000000000100004") + naming(3)
+        if other:
+            with open(os.path.join(ROOT, "examples", other), "rb") as file:
+                sent = file.read()
+        for options in ("", "--rules bep ", "--metadata-id %d " % (2 if name == "fetching.bin" else 3)):
+            found.append(("show %s--other other a" % options, {"other": sent, "a": stream}, b"", lines, b"", 0))
+    return found
+
+
+def devices(program):
+    """What is tried on pipes and terminals, and whether it was right."""
+    found = [("bt_tool %s, whose output nobody reads" % words, ends_quietly(program, words, given)) for words, given in UNREAD]
+    found.append(("bt_tool show --other, of a pipe that stays open", needs_no_end(program)))
+    found += [("bt_tool %s, on a terminal" % words, is_awaited(program, words, awaited))
+              for words, awaited in (("show", b"a stream"), ("check", b"a stream"), ("pack", b"a script"), ("link", b"a script"))]
+    return found
+
+
 def rows():
     """All rows, those of the tables of streams and mistakes too."""
     found = ROWS + [(words, HAND, b"", MISTAKE, 2) for words in MISTAKES]
@@ -461,17 +604,63 @@ def rows():
     return found
 
 
-def run(program, words, given, out):
+def run(program, words, given, out, folder=None):
     """Standard output, standard error and the exit status."""
     source = os.open(ROOT, os.O_RDONLY) if given is FOLDER else None
     target = os.open("/dev/full", os.O_WRONLY) if out is FULL else None
     words = words.split() if isinstance(words, str) else words
     ended = subprocess.run([program, *words], stdin=source, input=None if given is FOLDER else given,
-                           stdout=subprocess.PIPE if target is None else target, stderr=subprocess.PIPE)
+                           stdout=subprocess.PIPE if target is None else target, stderr=subprocess.PIPE, cwd=folder)
     for device in (source, target):
         if device is not None:
             os.close(device)
     return ended.stdout, ended.stderr, ended.returncode
+
+
+def run_with_files(program, words, files, given, out):
+    """As `run`, in a folder that has these files."""
+    with tempfile.TemporaryDirectory() as folder:
+        for name, content in files.items():
+            with open(os.path.join(folder, name), "wb") as file:
+                file.write(content)
+        return run(program, words, given, out, folder)
+
+
+def ends_quietly(program, words, given):
+    """Whether a run whose output nobody reads says nothing, and has the status of a program that SIGPIPE ended."""
+    source, target = os.pipe()
+    os.close(source)
+    ended = subprocess.run([program, *words.split()], input=given, stdout=target, stderr=subprocess.PIPE)
+    os.close(target)
+    return (ended.stderr, ended.returncode) == (b"", 141)
+
+
+def needs_no_end(program):
+    """Whether the other direction is read only as far as needed: its pipe stays open, and the stream is judged."""
+    with tempfile.TemporaryDirectory() as folder:
+        pipe = os.path.join(folder, "other")
+        os.mkfifo(pipe)
+        running = subprocess.Popen([program, "show", "--other", pipe], stdin=subprocess.PIPE, stdout=subprocess.PIPE)
+        with open(pipe, "wb", buffering=0) as file:
+            file.write(hand(NO_FAST) + naming(7))
+            try:
+                shows = running.communicate(HAND + RAW_3, timeout=20)[0]
+            except subprocess.TimeoutExpired:
+                running.kill()
+                running.wait()
+                return False
+        return shows == shown(*KEPT)
+
+
+def is_awaited(program, words, awaited):
+    """Whether a run on a terminal says what it awaits, and reads it."""
+    terminal, end = os.openpty()
+    running = subprocess.Popen([program, words], stdin=end, stdout=subprocess.PIPE, stderr=subprocess.PIPE)
+    os.close(end)
+    os.write(terminal, b"x\n\x04")
+    _, said = running.communicate(timeout=20)
+    os.close(terminal)
+    return said.startswith(b"bt_tool: " + awaited) and b"\n" in said
 
 
 def is_as(found, wanted):
@@ -496,6 +685,17 @@ def main():
         if not all(map(is_as, found, wanted)):
             wrong += 1
             print("statuses: wrong: bt_tool %s: of %r\nexpected: %r\ngot:      %r" % (words, given, wanted, found))
+    for words, files, given, *wanted in FILES + both_directions():
+        runs += 1
+        found = run_with_files(program, words, files, given, wanted[0])
+        if not all(map(is_as, found, wanted)):
+            wrong += 1
+            print("statuses: wrong: bt_tool %s: of %r and %r\nexpected: %r\ngot:      %r" % (words, files, given, wanted, found))
+    for what, is_right in devices(program):
+        runs += 1
+        if not is_right:
+            wrong += 1
+            print("statuses: wrong: %s" % what)
     for options, stream, _ in streams():
         runs += 2
         if not comes_back(program, options, stream):

@@ -1,5 +1,5 @@
 -- What the command line asks for, and the exit status.
-use Rattle.std.specs.Prelude.{◌≡◌, ℕ, ◌≤◌, List, Option, Some, None, Result, Ok, Err, codes, if◌then◌else◌}
+use Rattle.std.specs.Prelude.{◌≡◌, ℕ, ◌≤◌, List, [], false, Option, Some, None, Result, Ok, Err, codes, if◌then◌else◌}
 use Rattle.std.specs.Str.{bytes_eq}
 use Rattle.bt_ext.specs.declared.ids.Rules.{Rules}
 use Rattle.bt_ext.specs.declared.ids.Rules.TheVariants.{Free, Bep}
@@ -47,23 +47,20 @@ HasLimit own = (1 ≤ own.limit) × (own.limit ≤ 1048576)
 
 -- a receiver that is asked for has such a limit
 abbrev pub IsLimited : Asked → Type 0
-IsLimited (Run job own) = HasLimit own
-IsLimited Link = Unit {0}
+IsLimited (Run r) = HasLimit r.own
+IsLimited (Link files) = Unit {0}
 IsLimited (Told notice text) = Unit {0}
 
 -- a text of this kind is asked for
 abbrev pub HasText : Notice → Asked → Type 0
-HasText kind (Run job own) = ⊥
-HasText kind Link = ⊥
+HasText kind (Run r) = ⊥
+HasText kind (Link files) = ⊥
 HasText kind (Told notice text) = notice ≡ kind
 
--- `show` is asked for, with the default receiver
+-- `show` of standard input is asked for, with the default receiver
 abbrev pub IsShowByDefault : Asked → Type 0
-IsShowByDefault (Run Show own) = IsDefault own
-IsShowByDefault (Run Check own) = ⊥
-IsShowByDefault (Run Unpack own) = ⊥
-IsShowByDefault (Run Pack own) = ⊥
-IsShowByDefault Link = ⊥
+IsShowByDefault (Run r) = (r.job ≡ Show) × IsDefault r.own × (r.given ≡ record { reserved = false; metadata_id = false }) × (r.other ≡ None) × (r.files.items ≡ [])
+IsShowByDefault (Link files) = ⊥
 IsShowByDefault (Told notice text) = ⊥
 
 -- clap's answer is help, the version, or a mistake; no text where it was out of memory

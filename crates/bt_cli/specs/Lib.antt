@@ -1,3 +1,5 @@
 pub mod Commands
+pub mod Endings
 pub mod Options
+pub mod Others
 pub mod Runs

@@ -1,5 +1,5 @@
 -- What the options of the command line say of the receiver.
-use Rattle.std.specs.Prelude.{◌≡◌, ℕ, ◌^◌, ◌&&◌, nat_le, nat_lt, List, length, codes, Option, Some, None, option_map, option_and_then, is_none, if◌then◌else◌}
+use Rattle.std.specs.Prelude.{◌≡◌, ◌==◌, ℕ, ◌^◌, ◌&&◌, ◌||◌, not, Bool, false, nat_le, nat_lt, List, [], ◌∷◌, map, string_bytes, is_some, unwrap_or, length, codes, Option, Some, None, option_map, option_and_then, is_none, if◌then◌else◌}
 use Rattle.std.specs.Int.{w64, from_be_bytes}
 use Rattle.std.specs.Result.{result_ok}
 use Rattle.std.specs.Str.{bytes_eq}
@@ -7,13 +7,15 @@ use Rattle.std.specs.Char.{is_ascii_digit}
 use Rattle.std.specs.List.{list_all}
 use Rattle.std.specs.Str.Parse.{digits_value}
 use Rattle.clap.specs.declared.parser.matches.Found.{Found}
-use Rattle.clap.specs.Matches.{first_value}
+use Rattle.clap.specs.Matches.{first_value, matched_of, raw_values}
 use Rattle.hex.specs.Hex.{decode_sized}
 use Rattle.bt_ext.specs.declared.ids.Rules.{Rules}
 use Rattle.bt_ext.specs.declared.ids.Rules.TheVariants.{Free, Bep}
 use Rattle.bt_ext.specs.Ids.{extension_id, metadata_id}
 use Rattle.bt_wire.specs.declared.context.Own.{Own}
+use Rattle.bt_cli.specs.declared.commands.Given.{Given}
 use Rattle.bt_cli.specs.declared.commands.Job.{Job}
+use Rattle.bt_cli.specs.declared.commands.Request.{Request}
 use Rattle.bt_cli.specs.declared.values.Setting.{Setting}
 use Rattle.bt_cli.specs.declared.values.Setting.TheVariants as settings
 use Rattle.bt_cli.specs.declared.values.Written.{Written}
@@ -90,9 +92,39 @@ pub record IsReceiver (job : Job) (w : Written) (own : Own) : Type 0 where
   pub rules : rules_in job (option_map (λ s. s.now) w.rules) ≡ Some own.rules
   pub limit : limit_in (option_map (λ s. s.now) w.limit) ≡ Some own.limit
 
+-- what of the receiver is given, by the options that were found
+abbrev pub given_in : Found → Given
+given_in f = record { reserved = is_some (first_value f (codes "reserved")); metadata_id = is_some (first_value f (codes "metadata-id")) }
+
+-- the texts of all files that were found
+abbrev pub files_in : Found → List (List ℕ)
+files_in f = unwrap_or (option_map raw_values (matched_of f (codes "FILE"))) []
+
 -- the command with this name does the job, for the receiver that the options found in f describe
 abbrev pub IsChosen : List ℕ → Found → Job → Own → Type 0
 IsChosen name f job own = (job_of name ≡ Some job) × ((w : Written) × IsWritten f w × IsReceiver job w own)
+
+-- the command with this name asks for this, with the options and files found in f
+pub record IsRequested (name : List ℕ) (f : Found) (r : Request) : Type 0 where
+  pub chosen : IsChosen name f r.job r.own
+  pub given : r.given ≡ given_in f
+  pub other : option_map string_bytes r.other ≡ first_value f (codes "other")
+  pub files : map string_bytes r.files.items ≡ files_in f
+
+-- ---- the words
+
+abbrev pub is_text_option : List ℕ → Bool
+is_text_option w = bytes_eq w (codes "-h") || (bytes_eq w (codes "--help") || (bytes_eq w (codes "-V") || bytes_eq w (codes "--version")))
+
+-- an option of a job: it begins with '-' and asks for no text
+abbrev pub is_job_option : List ℕ → Bool
+is_job_option [] = false
+is_job_option (c ∷ cs) = (c == 45) && not (is_text_option (c ∷ cs))
+
+-- options without a command are those of `show`
+abbrev pub with_command : List (List ℕ) → List (List ℕ)
+with_command [] = []
+with_command (w ∷ ws) = if is_job_option w then codes "show" ∷ w ∷ ws else w ∷ ws
 
 -- the option's text is no value of it
 abbrev pub IsWrong : Job → Written → Setting → Type 0

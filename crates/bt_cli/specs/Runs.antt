@@ -82,11 +82,3 @@ IsSaid text held held' failed failed' = Appends held held' text ⊎ (Grew failed
 abbrev pub exit_status_of : JobEnd → ℕ
 exit_status_of (Stream r) = status_of r
 exit_status_of (Script r) = pack_status_of r
-
--- ---- a text in place of a job
-
--- all of it is on standard output and the status is 0; or a write failed, and the status and standard error say so
-abbrev pub IsPrinted : List ℕ → Option (List ℕ) → Option (List ℕ) → ℕ → ℕ → Option (List ℕ) → Option (List ℕ) → ℕ → ℕ → ℕ → Type 0
-IsPrinted text held held' failed failed' told told' stuck stuck' status =
-    ((status ≡ 0) × Appends held held' text × (told' ≡ told) × (stuck' ≡ stuck))
-    ⊎ ((status ≡ 3) × Grew failed failed' × AppendsFront held held' text × IsSaid (fault_line fault.Write) told told' stuck stuck')

@@ -39,13 +39,37 @@ pub enum Job {
     Pack,
 }
 
+/// What an option gives of that which the other direction says too.
+#[derive(Clone, Copy, PartialEq, Eq, Debug)]
+pub struct Given {
+    /// `--reserved` is given.
+    pub reserved: bool,
+    /// `--metadata-id` is given.
+    pub metadata_id: bool,
+}
+
+/// A job, with its receiver and its files.
+#[derive(Debug, Drop)]
+pub struct Request {
+    /// What is done.
+    pub job: Job,
+    /// The receiver, by the options and their defaults.
+    pub own: Own,
+    /// What of the receiver an option gives.
+    pub given: Given,
+    /// The file that has the other direction, if one is given.
+    pub other: Option<String>,
+    /// The files that are read, in turn. None of them is standard input.
+    pub files: Vec<String>,
+}
+
 /// What the words ask for.
 #[derive(Debug, Drop)]
 pub enum Asked {
-    /// A job on a stream that this receiver gets.
-    Run(Job, Own),
-    /// The link of two ends, which a script describes.
-    Link,
+    /// A job on a stream or a script.
+    Run(Request),
+    /// The link of two ends, which a script describes: that of the first file, or of standard input.
+    Link(Vec<String>),
     /// A text and no work.
     Told(Notice, String),
 }

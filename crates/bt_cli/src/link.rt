@@ -1,17 +1,13 @@
-//! The command `link` on any devices: what it writes, what standard error gets, and the exit status. The program's `main` calls
-//! it.
+//! The command `link`: what standard error gets of its end. The module `ending` calls it.
 ghost use Rattle.std.specs.Prelude.{◌≡◌};
-ghost use Rattle.bt_io.specs.Counts.{Grew};
-ghost use Rattle.bt_rig.specs.Runs.{IsRigRun};
 ghost use Rattle.bt_cli.specs.Runs.{IsSaid, link_complaint, unrun_line as unrun_words};
 
 use crate::run::{say, say_refused};
-use bt_feed::{Source, Target};
-use bt_rig::{RigEnd, run_rig};
+use bt_feed::Target;
+use bt_rig::RigEnd;
 use bt_session::{EndError, LinkError};
 use bt_text::ended::{ScriptReason, ToolFault};
 use bt_text::lines::fault_line;
-use std::alloc::Global;
 
 /// Returns the line on why a link isn't run.
 fn unrun_line(error: LinkError) -> &'static [u8]
@@ -36,7 +32,7 @@ fn say_unrun<E: Target>(error: LinkError, errors: &mut E)
 }
 
 /// Writes on standard error what the end of a link has to say there.
-fn report_link<E: Target>(end: Result<RigEnd, ToolFault>, errors: &mut E)
+pub(crate) fn report_link<E: Target>(end: Result<RigEnd, ToolFault>, errors: &mut E)
     ensures { IsSaid (link_complaint end) (E.held errors.old) (E.held errors.new) (E.failed_writes errors.old) (E.failed_writes errors.new) }
 {
     match end {
@@ -46,19 +42,4 @@ fn report_link<E: Target>(end: Result<RigEnd, ToolFault>, errors: &mut E)
         Ok(RigEnd::Unrun(error)) => say_unrun(error, errors),
         Err(fault) => say(fault_line(fault), errors),
     }
-}
-
-/// Runs the link that a script on `reader` describes, and writes on `errors` what standard error gets of its end.
-pub fn link<R: Source, W: Target, E: Target>(
-    alloc: Global,
-    reader: &mut R,
-    writer: &mut W,
-    errors: &mut E,
-) -> Result<RigEnd, ToolFault>
-    ensures done { IsRigRun (R.left reader.old) (R.left reader.new) (W.held writer.old) (W.held writer.new) (Grew (R.ends reader.old) (R.ends reader.new)) (Grew (R.failed_reads reader.old) (R.failed_reads reader.new)) (Grew (W.failed_writes writer.old) (W.failed_writes writer.new)) result }
-    ensures said { IsSaid (link_complaint result) (E.held errors.old) (E.held errors.new) (E.failed_writes errors.old) (E.failed_writes errors.new) }
-{
-    let end = run_rig(alloc, reader, writer);
-    report_link(end, errors);
-    end
 }

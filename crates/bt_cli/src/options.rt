@@ -1,11 +1,12 @@
 //! The command line, read by `clap`, which no other module uses. The program's `main` calls [`asked`].
-ghost use Rattle.std.specs.Prelude.{◌≡◌, [], IfOk};
-ghost use Rattle.clap.specs.Matches.{found_of};
+ghost use Rattle.std.specs.Prelude.{◌≡◌, [], IfOk, map, option_map, string_bytes, codes};
+ghost use Rattle.std.specs.Str.{bytes_eq};
+ghost use Rattle.clap.specs.Matches.{found_of, first_value};
 ghost use Rattle.clap.specs.Values.{kind_of};
 ghost use Rattle.bt_cli.specs.Commands.{HasLimit, HasNotice, IsLimited, IsShowByDefault, job_of};
-ghost use Rattle.bt_cli.specs.Options.{IsChosen, IsWritten};
+ghost use Rattle.bt_cli.specs.Options.{IsChosen, IsRequested, IsWritten, files_in, given_in, is_job_option as is_option_by_rule, with_command as words_with_command};
 
-use crate::commands::{Asked, Job, Notice, default_own};
+use crate::commands::{Asked, Given, Job, Notice, Request, default_own};
 use crate::values::{Setting, Written, own_of};
 use bt_wire::Own;
 use clap::error::ErrorKind;
@@ -16,20 +17,23 @@ use std::alloc::{AllocError, Global};
 const HELP: &str = "\
 Judges the bytes that a BitTorrent peer sends (BEP 3, 5, 6, 9 and 10).
 
-Usage: bt_tool [COMMAND [OPTIONS]]
+Usage: bt_tool [COMMAND] [OPTIONS] [FILE]
 
-Commands read standard input: 'pack' and 'link' a script, the others a stream, from its handshake on. No words at all mean
-'show'.
+Commands read FILE, or standard input where none is given or it is '-': 'pack' and 'link' a script, the others a stream, from
+its handshake on. Without a command, options and no words at all mean 'show'.
 
 Commands:
   show    Prints a line for each item of the stream, and then the verdict
-  check   Prints the verdict alone; its rules are 'bep' where none are given
+  check   Prints the verdict alone; its rules are 'bep' where none are given. Of several files it
+          prints a line each, with the file's name in front
   unpack  Prints a script: a line for each item, with all of its bytes
   pack    Writes the stream of a script, up to the first line that isn't taken
   link    Runs two ends against each other, step by step, as a script of its own says
   help    Prints this text
 
-Options, which stand after the command and describe the receiver of the stream ('link' has none):
+Options, which describe the receiver of the stream ('link' has none):
+      --other <FILE>      The other direction of the connection, which the receiver sent: it gives the
+                          reserved bits and the id of ut_metadata where no option does
       --reserved <HEX>    The reserved bits that it sent: 16 hex digits [default: 0000000000100005]
       --pieces <N>        The torrent's pieces: 0 to 4294967295 [default: unknown]
       --metadata-id <N>   The id under which it announced ut_metadata: 0 to 255, 0 is none [default: 3]
@@ -42,27 +46,33 @@ Options, which stand after the command and describe the receiver of the stream (
   -V, --version           Prints the name and version (without a command)
 
 Examples:
-  bt_tool show --pieces 10 --rules bep < stream.bin
-  bt_tool check --reserved 0000000000100004 < stream.bin
-  bt_tool unpack < stream.bin > script.txt
-  bt_tool pack < script.txt > stream.bin
-  bt_tool link < examples/link.txt
+  bt_tool show --other sent-by-receiver.bin stream.bin
+  bt_tool show --pieces 10 --rules bep stream.bin
+  bt_tool check --reserved 0000000000100004 *.bin
+  bt_tool unpack stream.bin > script.txt
+  bt_tool pack script.txt > stream.bin
+  bt_tool link examples/link.txt
 
 Exit status:
   0  the stream or the script is accepted, the link ran, or a text was asked for
   1  the stream is refused, or a line of the script is, or the two ends of a link don't match
-  2  the words are no command line
+  2  the words are no command line, or the file of '--other' doesn't begin with a whole handshake
   3  a read or a write failed, there was no memory, or the input had no end
+  141  nobody reads the output any more, as after '| head'
 ";
 
 /// How the program is called.
-const CALL: &str = "bt_tool [COMMAND [OPTIONS]]";
+const CALL: &str = "bt_tool [COMMAND] [OPTIONS] [FILE]";
 
 /// The line that follows a mistake.
-const USAGE: &str = "Usage: bt_tool [COMMAND [OPTIONS]]\n";
+const USAGE: &str = "Usage: bt_tool [COMMAND] [OPTIONS] [FILE]\n";
+
+/// What is wrong with several files.
+const ONE_FILE: &str = "'check' alone takes more than one file";
 
 /// What is printed where the words are no text.
-pub const NO_TEXT: &str = "error: the words are no text\n\nUsage: bt_tool [COMMAND [OPTIONS]]\n";
+pub const NO_TEXT: &str =
+    "error: the words are no text\n\nUsage: bt_tool [COMMAND] [OPTIONS] [FILE]\n";
 
 /// Returns an option with a value.
 fn option<'a>(alloc: Global, name: &'a str, value: &'a str) -> Arg<'a> {
@@ -70,6 +80,30 @@ fn option<'a>(alloc: Global, name: &'a str, value: &'a str) -> Arg<'a> {
         .long(name)
         .value_name(value)
         .action(ArgAction::Set)
+}
+
+/// Returns what is said where the file of `--other` doesn't begin with a whole handshake.
+pub fn no_handshake(alloc: Global, name: &str) -> Result<String, AllocError> {
+    format!(in alloc;
+        "error: '{name}', the file of '--other', doesn't begin with a whole handshake\n\n{USAGE}"
+    )
+}
+
+/// Returns whether a file's name is that of standard input.
+pub fn is_input(name: &str) -> bool
+    ensures { result ≡ bytes_eq name.now (codes "-") }
+{
+    name == "-"
+}
+
+/// Returns whether standard input is wanted as the other direction and as the stream.
+fn wants_input_twice(other: &Option<String>, files: &[String]) -> bool {
+    match other {
+        Some(name) if is_input(name.as_str()) => {
+            files.is_empty() || files.iter().any(|file| is_input(file.as_str()))
+        }
+        _ => false,
+    }
 }
 
 /// Returns a command with the options that describe a receiver.
@@ -83,15 +117,27 @@ fn job_command<'a>(alloc: Global, name: &'a str) -> Result<Command<'a>, AllocErr
             .arg(option(alloc, "metadata-id", "N"))?
             .arg(option(alloc, "info-hash", "HEX"))?
             .arg(option(alloc, "rules", "RULES"))?
-            .arg(option(alloc, "limit", "N"))?,
+            .arg(option(alloc, "limit", "N"))?
+            .arg(option(alloc, "other", "FILE"))?
+            .arg(files_argument(alloc))?,
     )
 }
 
+/// Returns the argument that the files are.
+fn files_argument<'a>(alloc: Global) -> Arg<'a> {
+    Arg::new(alloc, "FILE")
+        .num_args(0..)
+        .action(ArgAction::Append)
+}
+
 /// Returns the command `link`, which has no options.
-fn link_command<'a>(alloc: Global) -> Command<'a> {
-    Command::new(alloc, "link")
-        .override_usage(CALL)
-        .override_help(HELP)
+fn link_command<'a>(alloc: Global) -> Result<Command<'a>, AllocError> {
+    Ok(
+        Command::new(alloc, "link")
+            .override_usage(CALL)
+            .override_help(HELP)
+            .arg(files_argument(alloc))?,
+    )
 }
 
 /// Returns the commands, each with its options.
@@ -107,7 +153,7 @@ fn command_line<'a>(alloc: Global) -> Result<Command<'a>, AllocError> {
             .subcommand(job_command(alloc, "check")?)?
             .subcommand(job_command(alloc, "unpack")?)?
             .subcommand(job_command(alloc, "pack")?)?
-            .subcommand(link_command(alloc))?,
+            .subcommand(link_command(alloc)?)?,
     )
 }
 
@@ -181,6 +227,91 @@ fn chosen(name: &str, options: &ArgMatches<'_>) -> Result<(Job, Own), &'static s
     }
 }
 
+/// Returns what of the receiver the options give.
+fn given(options: &ArgMatches<'_>) -> Given
+    ensures { result ≡ given_in (found_of options.now) }
+{
+    Given {
+        reserved: options.get_str("reserved").is_some(),
+        metadata_id: options.get_str("metadata-id").is_some(),
+    }
+}
+
+/// Returns the file with the other direction, if one is given.
+fn other(alloc: Global, options: &ArgMatches<'_>) -> Result<Option<String>, AllocError>
+    ensures { IfOk result (λ o. option_map string_bytes o ≡ first_value (found_of options.now) (codes "other")) }
+{
+    match options.get_str("other") {
+        Some(name) => Ok(Some(String::from_str(alloc, name)?)),
+        None => Ok(None),
+    }
+}
+
+/// Returns copies of the texts.
+fn copied(alloc: Global, texts: &[&str]) -> Result<Vec<String>, AllocError>
+    ensures { IfOk result (λ v. map string_bytes v.items ≡ map (λ s. s.now) texts.now) }
+{
+    let mut copies = Vec::with_capacity(alloc, texts.len())?;
+    for text in texts {
+        copies.push(String::from_str(alloc, text)?)?;
+    }
+    Ok(copies)
+}
+
+/// Returns the files that are read.
+fn files(alloc: Global, options: &ArgMatches<'_>) -> Result<Vec<String>, AllocError>
+    ensures { IfOk result (λ v. map string_bytes v.items ≡ files_in (found_of options.now)) }
+{
+    match options.get_strs("FILE") {
+        Some(names) => copied(alloc, names),
+        None => Ok(Vec::new(alloc)),
+    }
+}
+
+/// Why a command's options and files ask for nothing.
+enum NoRequest {
+    /// What is wrong with them.
+    Wrong(&'static str),
+    /// A growth was refused.
+    Memory,
+}
+
+impl From<AllocError> for NoRequest {
+    ghost use Rattle.bt_cli.specs.declared.options.NoRequest.TheVariants.{Memory};
+
+    ghost from_gives = { λ _ e. e ≡ Memory };
+
+    fn from(_: AllocError) -> NoRequest {
+        NoRequest::Memory
+    }
+}
+
+/// Returns what a command with its options and files asks for.
+fn requested(alloc: Global, name: &str, options: &ArgMatches<'_>) -> Result<Request, NoRequest>
+    ensures requested { IfOk result (IsRequested name.now (found_of options.now)) }
+    ensures limited { IfOk result (λ r. HasLimit r.own) }
+{
+    let (job, own) = match chosen(name, options) {
+        Ok(chosen) => chosen,
+        Err(what) => return Err(NoRequest::Wrong(what)),
+    };
+    let files = files(alloc, options)?;
+    if files.len() > 1 && job != Job::Check {
+        return Err(NoRequest::Wrong(ONE_FILE));
+    }
+    let other = other(alloc, options)?;
+    if wants_input_twice(&other, &files) {
+        return Err(NoRequest::Wrong("'--other' and the stream can't both be standard input"));
+    }
+    Ok(Request {
+        job,
+        own,
+        given: given(options),
+        other,
+        files,
+    })
+}
+
 /// Returns what an option's value has to be.
 fn expected(setting: Setting) -> &'static str {
     match setting {
@@ -193,6 +324,32 @@ fn expected(setting: Setting) -> &'static str {
     }
 }
 
+/// Returns whether a first word is an option of a job, and asks for no text.
+fn is_job_option(word: &str) -> bool
+    ensures { result ≡ is_option_by_rule word.now }
+{
+    match word {
+        "-h" | "--help" | "-V" | "--version" => false,
+        _ => word.as_bytes().first() == Some(&b'-'),
+    }
+}
+
+/// Returns the words, with `show` before options that have no command.
+fn with_command<'a>(alloc: Global, words: &'a [String]) -> Result<Vec<&'a str>, AllocError>
+    ensures { IfOk result (λ v. map (λ s. s.now) v.items ≡ words_with_command (map string_bytes words.now)) }
+{
+    let mut all = Vec::new(alloc);
+    if let Some(first) = words.first() {
+        if is_job_option(first.as_str()) {
+            all.push("show")?;
+        }
+    }
+    for word in words {
+        all.push(word.as_str())?;
+    }
+    Ok(all)
+}
+
 /// Returns what the words after the program's name ask for.
 ///
 /// # Errors
@@ -202,10 +359,11 @@ pub fn asked(alloc: Global, words: &[String]) -> Result<Asked, AllocError>
     ensures default { words.now ≡ [] → IfOk result IsShowByDefault }
 {
     if words.is_empty() {
-        return Ok(Asked::Run(Job::Show, default_own()));
+        return Ok(show_by_default(alloc));
     }
+    let words = with_command(alloc, words)?;
     let mut command = command_line(alloc)?;
-    let matches = match command.try_get_matches_from_mut(words) {
+    let matches = match command.try_get_matches_from_mut(words.as_slice()) {
         Ok(matches) => matches,
         Err(error) => return told(alloc, &error),
     };
@@ -213,10 +371,32 @@ pub fn asked(alloc: Global, words: &[String]) -> Result<Asked, AllocError>
         return mistake(alloc, &mut command, "a command is missing");
     };
     if name == "link" {
-        return Ok(Asked::Link);
+        let files = files(alloc, options)?;
+        if files.len() > 1 {
+            return mistake(alloc, &mut command, ONE_FILE);
+        }
+        return Ok(Asked::Link(files));
     }
-    match chosen(name, options) {
-        Ok((job, own)) => Ok(Asked::Run(job, own)),
-        Err(what) => mistake(alloc, &mut command, what),
+    match requested(alloc, name, options) {
+        Ok(request) => Ok(Asked::Run(request)),
+        Err(NoRequest::Wrong(what)) => mistake(alloc, &mut command, what),
+        Err(NoRequest::Memory) => Err(AllocError),
     }
+}
+
+/// Returns what no words at all ask for.
+fn show_by_default(alloc: Global) -> Asked
+    ensures default { IsShowByDefault result }
+    ensures limited { IsLimited result }
+{
+    Asked::Run(Request {
+        job: Job::Show,
+        own: default_own(),
+        given: Given {
+            reserved: false,
+            metadata_id: false,
+        },
+        other: None,
+        files: Vec::new(alloc),
+    })
 }

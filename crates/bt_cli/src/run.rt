@@ -1,4 +1,5 @@
-//! A job on any devices: what it writes, what standard error gets, and the exit status. The program's `main` calls it.
+//! A job on any devices: what it writes, what standard error gets, and the exit status. The program's `main` calls
+//! [`do_job`], and `ending` the others.
 ghost use Rattle.std.specs.Prelude.{◌≡◌, ◌≢◌, ◌≤◌, ◌+◌, ◌^◌, Some};
 ghost use Rattle.bt_io.specs.Counts.{Grew};
 ghost use Rattle.bt_text.specs.Lines.{verdict_line as verdict_words, refused_line as refused_words};
@@ -75,7 +76,7 @@ pub fn say_refused<E: Target>(number: u64, reason: ScriptReason, errors: &mut E)
 }
 
 /// Writes on standard error what a job's end has to say there.
-fn report<E: Target>(job: Job, end: JobEnd, errors: &mut E)
+pub(crate) fn report<E: Target>(job: Job, end: JobEnd, errors: &mut E)
     ensures { IsSaid (complaint job end) (E.held errors.old) (E.held errors.new) (E.failed_writes errors.old) (E.failed_writes errors.new) }
 {
     match (job, end) {
@@ -90,28 +91,6 @@ fn report<E: Target>(job: Job, end: JobEnd, errors: &mut E)
         }
         _ => say(b"", errors),
     }
-}
-
-/// Does a job for the receiver `own`, and writes on `errors` what standard error gets of its end.
-pub fn run<R: Source, W: Target, E: Target>(
-    alloc: Global,
-    job: Job,
-    own: &Own,
-    reader: &mut R,
-    writer: &mut W,
-    errors: &mut E,
-) -> JobEnd
-    requires { HasLimit own.now }
-    ensures done { IsDone job own.now (Grew (R.ends reader.old) (R.ends reader.new)) (R.left reader.old) (R.left reader.new) (W.held writer.old) (W.held writer.new) result }
-    ensures input { IsEndOfInput result (R.reads reader.old) (R.reads reader.new) (R.failed_reads reader.old) (R.failed_reads reader.new) (R.ends reader.old) (R.ends reader.new) }
-    ensures write { fault_in result ≡ Some ToolFault.Write → Grew (W.failed_writes writer.old) (W.failed_writes writer.new) }
-    ensures reads { R.reads reader.new ≤ R.reads reader.old + 2 ^ 32 }
-    ensures unfailed { fault_in result ≢ Some ToolFault.Read → R.failed_reads reader.new ≡ R.failed_reads reader.old }
-    ensures said { IsSaid (complaint job result) (E.held errors.old) (E.held errors.new) (E.failed_writes errors.old) (E.failed_writes errors.new) }
-{
-    let end = do_job(alloc, job, own, reader, writer);
-    report(job, end, errors);
-    end
 }
 
 /// Returns the exit status of a job's end.

@@ -4,3 +4,4 @@ mod PackText
 mod PackPieces
 mod PackRuns
 mod PackLaws
+mod Hearing

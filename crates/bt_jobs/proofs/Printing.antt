@@ -31,7 +31,7 @@ use Rattle.bt_feed.proofs.Reading.{hand_open}
 use Rattle.std.specs.Prelude.{MatchResult, OnOk}
 use Rattle.bt_jobs.specs.declared.printer.Printer.{Printer}
 use Rattle.bt_text.specs.Lines.{ended_by, ended_as, verdict_line, lines_of}
-use Rattle.bt_jobs.specs.Printed.{texts, text_of, form_of, text_in, Prints, AppendsFront, IsWrittenOut, IsFlushed, MayBeTold, IsAllWritten, IsFrontWritten, Writing, nothing, items_in, checked, IsWritten, IsReadTo, IsTurn}
+use Rattle.bt_jobs.specs.Printed.{texts, text_of, form_of, text_in, Prints, AppendsFront, IsWrittenOut, IsFlushed, MayBeTold, IsAllWritten, IsFrontWritten, Writing, nothing, items_in, checked, prefixed, IsWritten, IsReadTo, IsTurn}
 
 pub on_ok : {T E : Type 0} (r : Result T E) (P Q : Type 0) → (P → Q) → OnOk r P → OnOk r Q
 on_ok (Ok x) P Q f h = f h
@@ -69,7 +69,7 @@ accepted_by : (o : Option Refusal) (m n : ℕ) → unless_refused o (Ok m) ≡ O
 accepted_by (Some r) m n e = absurd cc
 accepted_by None m n e = (refl, cc)
 
-refused_by : (o : Option Refusal) (m : ℕ) (r : Refusal) → unless_refused o (Ok m) ≡ Err (finish.Refused r) → o ≡ Some r
+pub refused_by : (o : Option Refusal) (m : ℕ) (r : Refusal) → unless_refused o (Ok m) ≡ Err (finish.Refused r) → o ≡ Some r
 refused_by (Some s) m r e = cc
 refused_by None m r e = absurd cc
 
@@ -85,10 +85,10 @@ pub record IsPumpedOn (own : Own) (b : List ℕ) (xs : List (ℕ × Item)) (f g 
   pub pumped : IsPumped f bytes lost ys g v
 
 -- the outcome of what was read
-total : (own : Own) (b : List ℕ) (xs : List (ℕ × Item)) (f g : FeedState) (bytes lost : List ℕ) (ys : List (ℕ × Item)) (v : Outcome) → IsReadTo own b xs f → IsPumped f bytes lost ys g v → IsVerdict own (b ++ (bytes ++ lost)) (with_items xs v)
+pub total : (own : Own) (b : List ℕ) (xs : List (ℕ × Item)) (f g : FeedState) (bytes lost : List ℕ) (ys : List (ℕ × Item)) (v : Outcome) → IsReadTo own b xs f → IsPumped f bytes lost ys g v → IsVerdict own (b ++ (bytes ++ lost)) (with_items xs v)
 total own b xs f g bytes lost ys v r p = r.comes (bytes ++ lost) v p.comes
 
-read_more : (own : Own) (b : List ℕ) (xs : List (ℕ × Item)) (f g : FeedState) (bytes lost : List ℕ) (ys : List (ℕ × Item)) (v : Outcome) → lost ≡ [] → IsReadTo own b xs f → IsPumped f bytes lost ys g v → IsReadTo own (b ++ (bytes ++ lost)) (xs ++ ys) g
+pub read_more : (own : Own) (b : List ℕ) (xs : List (ℕ × Item)) (f g : FeedState) (bytes lost : List ℕ) (ys : List (ℕ × Item)) (v : Outcome) → lost ≡ [] → IsReadTo own b xs f → IsPumped f bytes lost ys g v → IsReadTo own (b ++ (bytes ++ lost)) (xs ++ ys) g
 read_more own b xs f g bytes lost ys v none r p = record {
   comes = λ later w k.
       let more : b ++ (bytes ++ later) ≡ (b ++ (bytes ++ lost)) ++ later =
@@ -284,22 +284,31 @@ pub nothing_checked : (E : Type 0) (w : Writing) (own : Own) (left left' held : 
 nothing_checked E w own left left' held b f c = (b, c, λ v is. inl ([], [], refl, Appends-nil held))
 
 -- what was fed to a new feed has the outcome v, whose verdict is to be written
-pub checked_all : (E : Type 0) (own : Own) (f : FeedState) (left left' held held' : Option (List ℕ)) (b : List ℕ) (v : Outcome) (e : Ended) (r : Result Ended ToolFault) → own.limit ≤ 1048576 → VerdictIsOne → Consumes left left' b
-    → f ≡ record { stage = stage.Handshake own; held = []; refused = None } → Comes f.stage (f.held ++ b) v → e ≡ ended_as v (v.start + length v.tail) → MayBeTold E e → IsWrittenOut e (verdict_line e) held held' r → IsWritten nothing checked own E left left' held held' r
-checked_all E own f left left' held held' b v e (Ok a) le one c new comes ended told out =
+pub checked_all : (E : Type 0) (p : List ℕ) (own : Own) (f : FeedState) (left left' held held' : Option (List ℕ)) (b : List ℕ) (v : Outcome) (e : Ended) (r : Result Ended ToolFault) → own.limit ≤ 1048576 → VerdictIsOne → Consumes left left' b
+    → f ≡ record { stage = stage.Handshake own; held = []; refused = None } → Comes f.stage (f.held ++ b) v → e ≡ ended_as v (v.start + length v.tail) → MayBeTold E e → IsWrittenOut e (p ++ verdict_line e) held held' r → IsWritten nothing (prefixed p) own E left left' held held' r
+checked_all E p own f left left' held held' b v e (Ok a) le one c new comes ended told out =
     let F : FeedState → Type 0 = λ g. Comes g.stage (g.held ++ b) v in
     let is : IsVerdict own b v = subst F new comes in
     let same : e ≡ ended_as v (length b) = ended ∙ ap (λ (n : ℕ). ended_as v n) (verdict_length own b v is) in
-    let P : Ended → Type 0 = λ x. Appends held held' (verdict_line x) in
+    let P : Ended → Type 0 = λ x. Appends held held' (p ++ verdict_line x) in
     (b, c, (v, is, subst P same out.1, out.0 ∙ same))
-checked_all E own f left left' held held' b v e (Err x) le one c new comes ended told out =
+checked_all E p own f left left' held held' b v e (Err x) le one c new comes ended told out =
     let F : FeedState → Type 0 = λ g. Comes g.stage (g.held ++ b) v in
     let is : IsVerdict own b v = subst F new comes in
     let same : e ≡ ended_as v (length b) = ended ∙ ap (λ (n : ℕ). ended_as v n) (verdict_length own b v is) in (
       b,
       c,
       λ w isw.
-          let P : Ended → Type 0 = λ x. MayBeTold E x × AppendsFront held held' (verdict_line x) in
-          let Q : Outcome → Type 0 = λ u. MayBeTold E (ended_as u (length b)) × AppendsFront held held' (verdict_line (ended_as u (length b))) in
+          let P : Ended → Type 0 = λ x. MayBeTold E x × AppendsFront held held' (p ++ verdict_line x) in
+          let Q : Outcome → Type 0 = λ u. MayBeTold E (ended_as u (length b)) × AppendsFront held held' (p ++ verdict_line (ended_as u (length b))) in
           inr (subst Q (one own b v w (omega (arith, le)) is isw) (subst P same (told, out))),
     )
+
+-- ---- a prefix before a line
+
+pub written_after : (held mid held' : Option (List ℕ)) (p text : List ℕ) (e : Ended) (r : Result Ended ToolFault) → Appends held mid p → IsWrittenOut e text mid held' r → IsWrittenOut e (p ++ text) held held' r
+written_after held mid held' p text e (Ok a) first out = (out.0, Appends-trans held mid held' p text first out.1)
+written_after held mid held' p text e (Err f) first out = front_behind held mid held' p text first out
+
+pub prefix_of_both : (held held' : Option (List ℕ)) (p text : List ℕ) → AppendsFront held held' p → AppendsFront held held' (p ++ text)
+prefix_of_both held held' p text h = front_of_more held held' p text h

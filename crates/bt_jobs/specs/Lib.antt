@@ -2,3 +2,4 @@ pub mod Printed
 pub mod Packs
 pub mod PackSteps
 pub mod PackLaws
+pub mod Others

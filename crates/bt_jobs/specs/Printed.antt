@@ -103,6 +103,10 @@ items_in f own v n = texts f own v.items
 abbrev pub checked : Writing
 checked v n = verdict_line (ended_as v n)
 
+-- the verdict with a prefix
+abbrev pub prefixed : List ℕ → Writing
+prefixed p v n = p ++ verdict_line (ended_as v n)
+
 -- the script of the items
 abbrev pub unpacked : Own → Writing
 unpacked own v n = script own v.items

@@ -1,8 +1,8 @@
-//! `check`: the verdict of a stream alone. The command line calls it.
-ghost use Rattle.std.specs.Prelude.{◌≡◌, ◌≢◌, ◌≤◌, ◌+◌, ◌^◌, Err, IfErr};
+//! `check`: the verdict of a stream alone, or with the stream's name. The command line calls it.
+ghost use Rattle.std.specs.Prelude.{◌≡◌, ◌≢◌, ◌≤◌, ◌+◌, ◌^◌, ◌++◌, Err, IfErr};
 ghost use Rattle.bt_io.specs.Counts.{Grew};
 ghost use Rattle.bt_text.specs.Lines.{verdict_line as verdict_words};
-ghost use Rattle.bt_jobs.specs.Printed.{IsWritten, IsWrittenOut, IsEndOfReads, nothing, checked};
+ghost use Rattle.bt_jobs.specs.Printed.{IsWritten, IsWrittenOut, IsEndOfReads, nothing, checked, prefixed};
 
 use crate::output::write_out;
 use crate::show::MAX_READS;
@@ -29,6 +29,27 @@ pub fn run_check<R: Source, W: Target>(
     ensures reads { R.reads reader.new ≤ R.reads reader.old + 2 ^ 32 }
     ensures calm { result ≢ Err ToolFault.Read → R.failed_reads reader.new ≡ R.failed_reads reader.old }
 {
+    run_check_after(alloc, b"", reader, writer, own)
+}
+
+/// Writes `prefix` and then the verdict's line of the stream that `reader` gives, and returns the verdict.
+///
+/// # Errors
+/// Those of `run_show`.
+pub fn run_check_after<R: Source, W: Target>(
+    alloc: Global,
+    prefix: &[u8],
+    reader: &mut R,
+    writer: &mut W,
+    own: &Own,
+) -> Result<Ended, ToolFault>
+    requires { (1 ≤ own.now.limit) × (own.now.limit ≤ 1048576) }
+    ensures checked { IsWritten nothing (prefixed prefix.now) own.now (Grew (R.ends reader.old) (R.ends reader.new)) (R.left reader.old) (R.left reader.new) (W.held writer.old) (W.held writer.new) result }
+    ensures faults { IsEndOfReads result (R.reads reader.old) (R.reads reader.new) (R.failed_reads reader.old) (R.failed_reads reader.new) (R.ends reader.old) (R.ends reader.new) }
+    ensures write { result ≡ Err ToolFault.Write → Grew (W.failed_writes writer.old) (W.failed_writes writer.new) }
+    ensures reads { R.reads reader.new ≤ R.reads reader.old + 2 ^ 32 }
+    ensures calm { result ≢ Err ToolFault.Read → R.failed_reads reader.new ≡ R.failed_reads reader.old }
+{
     laws::one_verdict();
     let Ok(mut feed) = Feed::new(alloc, *own) else {
         return Err(ToolFault::Memory);
@@ -43,9 +64,9 @@ pub fn run_check<R: Source, W: Target>(
     ) {
         Ok(bytes) => {
             let messages = feed.number() - 1;
-            say(writer, Ended::Accepted { messages, bytes })
+            say_after(prefix, writer, Ended::Accepted { messages, bytes })
         }
-        Err(PumpError::Refused(refusal)) => say(writer, Ended::Refused(refusal)),
+        Err(PumpError::Refused(refusal)) => say_after(prefix, writer, Ended::Refused(refusal)),
         Err(PumpError::Turns) => Err(ToolFault::Turns),
         Err(PumpError::ReadFault) => Err(ToolFault::Read),
         Err(PumpError::Sink(_)) => unreachable!(),
@@ -60,4 +81,15 @@ fn say<W: Target>(writer: &mut W, ended: Ended) -> Result<Ended, ToolFault>
     let mut line = [0; 160];
     let place = verdict_line(ended, &mut line);
     write_out(writer, &line[place..], ended)
+}
+
+/// Writes `prefix` and the verdict's line, and returns the verdict.
+fn say_after<W: Target>(prefix: &[u8], writer: &mut W, ended: Ended) -> Result<Ended, ToolFault>
+    ensures written { IsWrittenOut ended (prefix.now ++ verdict_words ended) (W.held writer.old) (W.held writer.new) result }
+    ensures fault { IfErr result (λ fault. (fault ≡ ToolFault.Write) × Grew (W.failed_writes writer.old) (W.failed_writes writer.new)) }
+{
+    match write_out(writer, prefix, ()) {
+        Ok(()) => say(writer, ended),
+        Err(fault) => Err(fault),
+    }
 }

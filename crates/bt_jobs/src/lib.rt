@@ -4,12 +4,14 @@
 #![tactic(auto)]
 
 mod check;
+mod other;
 pub mod output;
 mod pack;
 pub mod pack_laws;
 pub mod printer;
 mod show;
 
-pub use check::run_check;
+pub use check::{run_check, run_check_after};
+pub use other::{Announced, OtherError, read_other};
 pub use pack::run_pack;
 pub use show::{run_show, run_unpack};

@@ -1,21 +1,25 @@
 //! What the words of a command line ask for: the job, and the receiver that the options describe.
-use bt_cli::commands::{Asked, Job, default_own};
+use bt_cli::commands::{Asked, Given, Job, default_own};
 use bt_cli::options::asked;
 use bt_ext::{ExtId, Registered, Rules};
 use bt_wire::{Own, Reserved};
 use std::alloc::{AllocError, Global};
 use std::test::Fail;
 
-/// Whether the words ask for this job, with this receiver.
-fn asks(alloc: Global, words: &[&str], job: Job, own: Own) -> Result<bool, AllocError> {
+/// Returns what the words ask for.
+fn answer(alloc: Global, words: &[&str]) -> Result<Asked, AllocError> {
     let mut texts = Vec::new(alloc);
     for word in words {
         texts.push(String::from_str(alloc, word)?)?;
     }
-    let answer = asked(alloc, &texts)?;
-    Ok(match &answer {
-        Asked::Run(found, receiver) => *found == job && *receiver == own,
-        Asked::Link | Asked::Told(_, _) => false,
+    asked(alloc, &texts)
+}
+
+/// Whether the words ask for this job, with this receiver.
+fn asks(alloc: Global, words: &[&str], job: Job, own: Own) -> Result<bool, AllocError> {
+    Ok(match &answer(alloc, words)? {
+        Asked::Run(request) => request.job == job && request.own == own,
+        Asked::Link(_) | Asked::Told(_, _) => false,
     })
 }
 
@@ -270,6 +274,77 @@ fn jobs(rt: HostRuntime) -> Result<(), Fail> {
             ..default_own()
         };
         assert!(rt; asks(rt.alloc(), words, job, own)?, "{words:?}");
+    }
+    Ok(())
+}
+
+/// Whether the words ask for this job with this other direction, these files, and no more options than these.
+fn asks_for(
+    alloc: Global,
+    words: &[&str],
+    (job, other, files, given): (Job, Option<&str>, &[&str], Given),
+) -> Result<bool, AllocError> {
+    Ok(match &answer(alloc, words)? {
+        Asked::Run(request) => {
+            request.job == job
+                && request.other.as_ref().map(|name| name.as_str()) == other
+                && request.given == given
+                && request
+                    .files
+                    .iter()
+                    .map(|file| file.as_str())
+                    .eq(files.iter().copied())
+        }
+        Asked::Link(_) | Asked::Told(_, _) => false,
+    })
+}
+
+/// What is given of the reserved bits and of the id.
+const fn given(reserved: bool, metadata_id: bool) -> Given {
+    Given {
+        reserved,
+        metadata_id,
+    }
+}
+
+/// Files, the other direction, and what options give.
+#[test]
+fn files(rt: HostRuntime) -> Result<(), Fail> {
+    let id = "--metadata-id";
+    let bits = "--reserved=0000000000000000";
+    let table: [(&[&str], (Job, Option<&str>, &[&str], Given)); 8] = [
+        (&["show"], (Job::Show, None, &[], given(false, false))),
+        (
+            &["show", "a"],
+            (Job::Show, None, &["a"], given(false, false)),
+        ),
+        (
+            &["pack", "-"],
+            (Job::Pack, None, &["-"], given(false, false)),
+        ),
+        (
+            &["check", "a", "", "b"],
+            (Job::Check, None, &["a", "", "b"], given(false, false)),
+        ),
+        (
+            &["show", "--other", "b", "a"],
+            (Job::Show, Some("b"), &["a"], given(false, false)),
+        ),
+        (
+            &["unpack", "a", id, "3", "--other=b"],
+            (Job::Unpack, Some("b"), &["a"], given(false, true)),
+        ),
+        (
+            &[bits, "show"],
+            (Job::Show, None, &["show"], given(true, false)),
+        ),
+        (
+            &["-", id, "3", bits],
+            (Job::Show, None, &["-"], given(true, true)),
+        ),
+    ];
+    for (words, wanted) in table {
+        assert!(rt; asks_for(rt.alloc(), words, wanted)?, "{words:?}");
     }
     Ok(())
 }

@@ -2,7 +2,8 @@
 //! may be.
 use crate::given::{HAND, LINE, MESSAGES, SCRIPT_LINE, VERDICT, joined, outcome};
 use bt_cli::commands::{Job, default_own};
-use bt_cli::run::{JobEnd, exit_status, run};
+use bt_cli::ending::end_job;
+use bt_cli::run::{JobEnd, do_job};
 use bt_feed::{MemSource, MemTarget, Source};
 use bt_jobs::run_pack;
 use bt_text::ended::{Ended, PackEnd, ScriptReason, ToolFault};
@@ -143,20 +144,10 @@ fn unpack_short(alloc: Global, stream: Vec<u8>) -> Result<(u8, Vec<u8>, Vec<u8>)
     let mut reader = MemSource::new(stream, 5, None);
     let mut writer = MemTarget::new(Vec::new(alloc), 7, None);
     let mut errors = MemTarget::new(Vec::new(alloc), 3, None);
-    let end = run(
-        alloc,
-        Job::Unpack,
-        &own,
-        &mut reader,
-        &mut writer,
-        &mut errors,
-    );
+    let end = do_job(alloc, Job::Unpack, &own, &mut reader, &mut writer);
+    let status = end_job(Job::Unpack, end, b"", false, &mut errors);
     let written = Vec::from_slice(alloc, writer.bytes())?;
-    Ok((
-        exit_status(end),
-        written,
-        Vec::from_slice(alloc, errors.bytes())?,
-    ))
+    Ok((status, written, Vec::from_slice(alloc, errors.bytes())?))
 }
 
 #[test]

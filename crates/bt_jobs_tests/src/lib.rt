@@ -14,4 +14,6 @@ mod jobs;
 #[cfg(test)]
 mod laws;
 #[cfg(test)]
+mod other;
+#[cfg(test)]
 mod script_lines;

@@ -1,14 +1,14 @@
 //! Reads the stream that a BitTorrent peer sends, or a script of one: the program, which gives `bt_cli` its words and devices.
 #![tactic(auto)]
 
-use bt_cli::commands::{Asked, Notice};
-use bt_cli::link::link;
-use bt_cli::notice::{fail, tell};
+mod piped;
+mod program;
+
 use bt_cli::options::{NO_TEXT, asked};
-use bt_cli::run::{exit_status, run};
-use bt_feed::Host;
-use bt_rig::status as link_status;
 use bt_text::ended::ToolFault;
+use program::Program;
+use std::cell::Cell;
+use std::io::IsTerminal;
 use std::process::ExitCode;
 use std::rt::Env;
 use std::{env, io};
@@ -23,24 +23,23 @@ fn words<R: Env + AllocGlobal>(rt: &R) -> io::Result<Vec<String>> {
 }
 
 fn main(rt: HostRuntime) -> ExitCode {
-    let alloc = rt.alloc();
     let stderr = rt.stderr();
-    let mut reader = Host::new(rt.reader());
-    let mut writer = Host::new(io::writer(&rt));
-    let mut errors = Host::new(io::writer(&stderr));
+    let is_gone = Cell::new(false);
+    let is_terminal = rt.stdin().is_terminal();
+    let mut program = Program::new(
+        &rt,
+        io::writer(&rt),
+        io::writer(&stderr),
+        &is_gone,
+        is_terminal,
+    );
     let status = match words(&rt) {
-        Ok(words) => match asked(alloc, &words) {
-            Ok(Asked::Run(job, own)) => {
-                exit_status(run(alloc, job, &own, &mut reader, &mut writer, &mut errors))
-            }
-            Ok(Asked::Link) => link_status(&link(alloc, &mut reader, &mut writer, &mut errors)),
-            Ok(Asked::Told(notice, text)) => tell(notice, text.as_str(), &mut writer, &mut errors),
-            Err(_) => fail(ToolFault::Memory, &mut errors),
+        Ok(words) => match asked(rt.alloc(), &words) {
+            Ok(asked) => program.answer(&asked),
+            Err(_) => program.fail(ToolFault::Memory),
         },
-        Err(error) if error.kind() == io::ErrorKind::OutOfMemory => {
-            fail(ToolFault::Memory, &mut errors)
-        }
-        Err(_) => tell(Notice::Usage, NO_TEXT, &mut writer, &mut errors),
+        Err(error) if error.kind() == io::ErrorKind::OutOfMemory => program.fail(ToolFault::Memory),
+        Err(_) => program.refuse(NO_TEXT),
     };
     ExitCode::from(status)
 }

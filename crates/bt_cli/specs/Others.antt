@@ -1,0 +1,21 @@
+-- What the other direction says of the receiver, where no option says it.
+use Rattle.std.specs.Prelude.{◌≡◌, List, ℕ, Option, Result, Ok, Err, if◌then◌else◌}
+use Rattle.bt_ext.specs.Ids.{registered}
+use Rattle.bt_wire.specs.declared.context.Own.{Own}
+use Rattle.bt_jobs.specs.declared.other.Announced.{Announced}
+use Rattle.bt_jobs.specs.declared.other.OtherError.{OtherError}
+use Rattle.bt_jobs.specs.Others.{IsLearnt}
+use Rattle.bt_cli.specs.declared.commands.Given.{Given}
+
+-- what an option gives stays; the rest of what the receiver's own stream says takes the place of the defaults
+abbrev pub informed : Own → Given → Announced → Own
+informed own given said =
+    record own { reserved = if given.reserved then own.reserved else said.reserved; reg = if given.metadata_id then own.reg else registered said.metadata }
+
+abbrev pub informed_as : Own → Given → Result Announced OtherError → Result Own OtherError
+informed_as own given (Ok said) = Ok (informed own given said)
+informed_as own given (Err e) = Err e
+
+-- the receiver is informed by what was learnt of the other direction
+abbrev pub IsInformed : Own → Given → Type 0 → Option (List ℕ) → Option (List ℕ) → Result Own OtherError → Type 0
+IsInformed own given AtEnd left left' r = (a : Result Announced OtherError) × IsLearnt AtEnd left left' a × (r ≡ informed_as own given a)

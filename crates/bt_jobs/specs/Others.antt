@@ -1,0 +1,119 @@
+-- What the other direction of a connection says of the end that sent it, and that receives this one.
+use Rattle.std.specs.Prelude.{◌≡◌, ◌⊎◌, ◌+◌, ◌-◌, ◌^◌, ◌≤◌, ℕ, min, ⊤, Bool, true, false, List, [], ◌∷◌, ◌++◌, Option, Some, None, IsSome, option_and_then, Result, Ok, Err}
+use Rattle.std.specs.Io.KnownBytes.{Consumes}
+use Rattle.bt_bencode.specs.Views.{tree_of}
+use Rattle.bt_ext.specs.declared.ext.Ext.{Ext}
+use Rattle.bt_ext.specs.declared.ext.Ext.TheVariants as ext
+use Rattle.bt_ext.specs.declared.ids.Rules.TheVariants.{Free}
+use Rattle.bt_ext.specs.Ids.{extension_id, registered}
+use Rattle.bt_wire.specs.declared.context.Own.{Own}
+use Rattle.bt_wire.specs.declared.item.Item.{Item}
+use Rattle.bt_wire.specs.declared.item.Item.TheVariants as items
+use Rattle.bt_wire.specs.declared.message.Message.{Message}
+use Rattle.bt_wire.specs.declared.message.Message.TheVariants as message
+use Rattle.bt_wire.specs.declared.reserved.Reserved.{Reserved}
+use Rattle.bt_wire.specs.Streams.{Outcome, IsVerdict}
+use Rattle.bt_feed.specs.Feeds.{FeedState}
+use Rattle.bt_io.specs.Counts.{Grew}
+use Rattle.bt_text.specs.declared.ended.ToolFault.{ToolFault}
+use Rattle.bt_text.specs.declared.ended.ToolFault.TheVariants as fault
+use Rattle.bt_text.specs.Lines.{told_id}
+use Rattle.bt_jobs.specs.declared.other.Announced.{Announced}
+use Rattle.bt_jobs.specs.declared.other.Listener.{Listener}
+use Rattle.bt_jobs.specs.declared.other.OtherError.{OtherError}
+use Rattle.bt_jobs.specs.declared.other.OtherError.TheVariants as errors
+use Rattle.bt_jobs.specs.Printed.{IsReadTo}
+
+-- ---- what items say
+
+abbrev pub or_else : {A : Type 0} → Option A → Option A → Option A
+or_else (Some a) o = Some a
+or_else None o = o
+
+-- the first value that f finds in an item
+abbrev pub first_of : {A : Type 0} → (Item → Option A) → List (ℕ × Item) → Option A
+first_of f [] = None
+first_of f (x ∷ xs) = or_else (f x.1) (first_of f xs)
+
+-- the reserved bits of a handshake
+abbrev pub reserved_of : Item → Option Reserved
+reserved_of (items.Handshake h) = Some h.reserved
+reserved_of (items.Message m) = None
+
+abbrev pub id_in : Ext → Option ℕ
+id_in (ext.Handshake dict rest) = told_id (tree_of dict)
+id_in (ext.Metadata dict rest) = None
+id_in (ext.Raw id payload) = None
+
+abbrev pub id_said : Message → Option ℕ
+id_said (message.Extended e) = id_in e
+id_said m = None
+
+-- the id that an extended handshake has for `ut_metadata` (BEP 10): 0 says that the extension isn't wanted
+abbrev pub id_of : Item → Option ℕ
+id_of (items.Handshake h) = None
+id_of (items.Message m) = id_said m
+
+abbrev pub announced : Option Reserved → Option ℕ → Option Announced
+announced None id = None
+announced (Some reserved) id = Some (record { reserved = reserved; metadata = option_and_then extension_id id })
+
+-- the reserved bits of the handshake, and the id of `ut_metadata` in the first extended handshake that has one
+abbrev pub own_of_other : List (ℕ × Item) → Option Announced
+own_of_other xs = announced (first_of reserved_of xs) (first_of id_of xs)
+
+-- ---- what a stream says
+
+-- The receiver by which the other direction is read: it has the extensions that its sender may have, and refuses no more than
+-- every reader has to.
+abbrev pub reader_of_other : Own
+reader_of_other = record { reserved = record { 0 = 0x100005 }; info_hash = None; pieces = None; reg = registered None; rules = Free; limit = 1048576 }
+
+-- the answer is what the items say; a fault says nothing of them
+abbrev pub IsSaidBy : List (ℕ × Item) → Result Announced OtherError → Type 0
+IsSaidBy xs (Ok a) = own_of_other xs ≡ Some a
+IsSaidBy xs (Err errors.NoHandshake) = own_of_other xs ≡ None
+IsSaidBy xs (Err (errors.Fault f)) = ⊤
+
+-- the answer is what the items of these bytes say
+abbrev pub IsSaidIn : List ℕ → Result Announced OtherError → Type 0
+IsSaidIn b r = (v : Outcome) → IsVerdict reader_of_other b v → IsSaidBy v.items r
+
+-- b was read. The answer is what the items of b and of whatever follows say; or the end was read, and it is what those of b say.
+abbrev pub IsLearnt : Type 0 → Option (List ℕ) → Option (List ℕ) → Result Announced OtherError → Type 0
+IsLearnt AtEnd left left' r = (b : List ℕ) × Consumes left left' b × (((later : List ℕ) → IsSaidIn (b ++ later) r) ⊎ (AtEnd × IsSaidIn b r))
+
+-- Where a fault comes from, by the source's counts: from a read that failed, or from so many reads without the end
+abbrev pub IsFaultOfOther : Result Announced OtherError → ℕ → ℕ → ℕ → ℕ → ℕ → ℕ → Type 0
+IsFaultOfOther (Ok a) reads reads' failed failed' ends ends' = failed' ≡ failed
+IsFaultOfOther (Err errors.NoHandshake) reads reads' failed failed' ends ends' = failed' ≡ failed
+IsFaultOfOther (Err (errors.Fault fault.Read)) reads reads' failed failed' ends ends' = Grew failed failed'
+IsFaultOfOther (Err (errors.Fault fault.Turns)) reads reads' failed failed' ends ends' = (min (reads + 2 ^ 32) (2 ^ 64 - 1) ≤ reads') × (ends' ≡ ends)
+IsFaultOfOther (Err (errors.Fault fault.Memory)) reads reads' failed failed' ends ends' = failed' ≡ failed
+IsFaultOfOther (Err (errors.Fault f)) reads reads' failed failed' ends ends' = ⊥
+
+-- ---- for private contracts
+
+-- what was heard of these items
+abbrev pub IsHeard : List (ℕ × Item) → Listener → Type 0
+IsHeard xs l = (l.reserved ≡ first_of reserved_of xs) × (l.metadata ≡ first_of id_of xs)
+
+-- an item more
+abbrev pub Hears : Listener → ℕ × Item → Listener → Type 0
+Hears old x new = (new.reserved ≡ or_else old.reserved (reserved_of x.1)) × (new.metadata ≡ or_else old.metadata (id_of x.1))
+
+-- b was read, these are its items, and what they say was heard
+pub record IsListening (b : List ℕ) (xs : List (ℕ × Item)) (f : FeedState) (l : Listener) : Type 0 where
+  pub read : IsReadTo reader_of_other b xs f
+  pub heard : IsHeard xs l
+
+-- nothing that follows changes what was heard: both are known, or the stream is refused, or it ends here
+abbrev pub IsSettled : Type 0 → Listener → Outcome → Type 0
+IsSettled AtEnd l v = (IsSome l.reserved × IsSome l.metadata) ⊎ (IsSome v.refusal ⊎ AtEnd)
+
+-- a turn read some bytes more: what they say was heard, and may be settled
+abbrev pub IsTurnHeard : List ℕ → List (ℕ × Item) → Type 0 → Option (List ℕ) → Option (List ℕ) → FeedState → Listener → Result Bool ToolFault → Type 0
+IsTurnHeard b xs AtEnd left left' g l (Ok false) = (more : List ℕ) × (ys : List (ℕ × Item)) × Consumes left left' more × IsListening (b ++ more) (xs ++ ys) g l
+IsTurnHeard b xs AtEnd left left' g l (Ok true) =
+    (more : List ℕ) × (v : Outcome) × Consumes left left' more × IsVerdict reader_of_other (b ++ more) v × IsHeard v.items l × IsSettled AtEnd l v
+IsTurnHeard b xs AtEnd left left' g l (Err f) = (more : List ℕ) × Consumes left left' more

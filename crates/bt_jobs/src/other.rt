@@ -1,0 +1,187 @@
+//! What the other direction of a connection says of the receiver: `--other` of the command line reads it.
+ghost use Rattle.std.specs.Prelude.{◌≡◌, ◌+◌, ◌-◌, ◌≤◌, ◌^◌, ◌<◌, ℕ, min, List, length, false, Ok, OnOk, IfErr, ok_or};
+ghost use Rattle.bt_bencode.specs.Trees.{dictionary};
+ghost use Rattle.bt_io.specs.Counts.{Grew};
+ghost use Rattle.bt_wire.specs.declared.item.Item.{Item};
+ghost use Rattle.bt_text.specs.Lines.{told_id};
+ghost use Rattle.bt_jobs.specs.Others.{IsFaultOfOther, IsHeard, IsLearnt, IsListening, IsTurnHeard, announced, reader_of_other as reader_by_rule};
+
+use crate::show::MAX_READS;
+use bt_bencode::DictRef;
+use bt_ext::{ExtId, ExtView, Registered, Rules};
+use bt_feed::{Feed, PumpError, Sink, SinkFault, Source, View, pump_with};
+use bt_text::ended::ToolFault;
+use bt_wire::{MessageView, Own, Reserved, laws};
+use std::alloc::Global;
+use thiserror::Error;
+
+/// What a sender's stream says of the sender as a receiver.
+#[derive(Clone, Copy, PartialEq, Eq, Debug)]
+pub struct Announced {
+    /// The reserved bits of its handshake.
+    pub reserved: Reserved,
+    /// The id under which it wants `ut_metadata` (BEP 10), by its first extended handshake that names one.
+    pub metadata: Option<ExtId>,
+}
+
+/// Why a stream says nothing of its sender.
+#[derive(Clone, Copy, PartialEq, Eq, Debug, Error)]
+pub enum OtherError {
+    /// The stream doesn't begin with a whole handshake.
+    #[error("no handshake")]
+    NoHandshake,
+    /// It can't be read.
+    #[error("{0}")]
+    Fault(ToolFault),
+}
+
+/// A sink that keeps what the items so far say of their sender.
+#[derive(Drop)]
+struct Listener {
+    reserved: Option<Reserved>,
+    metadata: Option<u8>,
+    items: u64,
+}
+
+/// Returns the id of `ut_metadata` that an extended handshake announces; 0 is none.
+fn announced_id(dict: &DictRef) -> Option<u8>
+    ensures { result ≡ told_id (dictionary dict.now.tree.0) }
+{
+    let m = dict.lookup_dict(b"m")?;
+    let id = m.lookup_int(b"ut_metadata")?;
+    u8::try_from(id).ok()
+}
+
+impl Listener {
+    ghost use Rattle.std.specs.Prelude.{[], IsSome, true, false};
+
+    /// A listener that has heard nothing.
+    fn new() -> Listener
+        ensures { IsHeard [] result }
+    {
+        Listener {
+            reserved: None,
+            metadata: None,
+            items: 0,
+        }
+    }
+
+    /// Returns whether nothing more has to be heard.
+    fn knows_all(&self) -> bool
+        ensures yes { result ≡ true → IsSome self.now.reserved × IsSome self.now.metadata }
+    {
+        self.reserved.is_some() && self.metadata.is_some()
+    }
+
+    /// Returns what was heard.
+    ///
+    /// # Errors
+    /// `NoHandshake` if there was none.
+    fn answer(&self) -> Result<Announced, OtherError>
+        ensures { result ≡ ok_or (announced self.now.reserved self.now.metadata) OtherError.NoHandshake }
+    {
+        let Some(reserved) = self.reserved else {
+            return Err(OtherError::NoHandshake);
+        };
+        let metadata = match self.metadata {
+            Some(id) => ExtId::new(id),
+            None => None,
+        };
+        Ok(Announced { reserved, metadata })
+    }
+}
+
+impl Sink for Listener {
+    ghost use Rattle.bt_jobs.specs.Others.{Hears};
+
+    ghost takes = { Hears };
+
+    ghost misses = { λ _ _ _. ⊥ };
+
+    ghost calls = { λ l. l.items };
+
+    ghost failed = { λ _. 0 };
+
+    fn item(&mut self, _at: u64, view: &View<'_>) -> Result<(), SinkFault> {
+        self.items = self.items.saturating_add(1);
+        match view {
+            View::Handshake(handshake) => {
+                if self.reserved.is_none() {
+                    self.reserved = Some(handshake.reserved);
+                }
+            }
+            View::Message(MessageView::Extended(ExtView::Handshake { dict, rest: _ })) => {
+                if self.metadata.is_none() {
+                    self.metadata = announced_id(dict);
+                }
+            }
+            View::Message(_) => {}
+        }
+        Ok(())
+    }
+}
+
+/// Returns the receiver by which the other direction is read.
+fn reader_of_other() -> Own
+    ensures { result ≡ reader_by_rule }
+{
+    Own {
+        reserved: Reserved(0x10_0005),
+        info_hash: None,
+        pieces: None,
+        reg: Registered::new(None),
+        rules: Rules::Free,
+        limit: 1_048_576,
+    }
+}
+
+/// Reads once into the buffer, and hears the items that the read completes; returns whether that settles the answer.
+fn turn<R: Source>(
+    reader: &mut R,
+    feed: &mut Feed,
+    listener: &mut Listener,
+    buffer: &mut [u8],
+) -> Result<bool, ToolFault>
+    requires { 0 < length buffer.old }
+    ensures heard { (b : List ℕ) (xs : List (ℕ × Item)) → IsListening b xs feed.old listener.old
+        → IsTurnHeard b xs (Grew (R.ends reader.old) (R.ends reader.new)) (R.left reader.old) (R.left reader.new) feed.new listener.new result }
+    ensures reads { R.reads reader.new ≤ R.reads reader.old + 1 }
+    ensures turns { result ≡ Ok false → (min (R.reads reader.old + 1) (2 ^ 64 - 1) ≤ R.reads reader.new) × (R.ends reader.new ≡ R.ends reader.old) }
+    ensures fault { IfErr result (λ fault. (fault ≡ ToolFault.Read) × Grew (R.failed_reads reader.old) (R.failed_reads reader.new)) }
+    ensures calm { OnOk result (R.failed_reads reader.new ≡ R.failed_reads reader.old) }
+{
+    match pump_with(reader, feed, listener, 1, buffer) {
+        Ok(_) => Ok(true),
+        Err(PumpError::Refused(_)) => Ok(true),
+        Err(PumpError::Turns) => Ok(listener.knows_all()),
+        Err(PumpError::ReadFault) => Err(ToolFault::Read),
+        Err(PumpError::Sink(_)) => unreachable!(),
+    }
+}
+
+/// Returns what the stream that `reader` gives says of its sender. It reads until both are known, to the stream's end, or to
+/// its refusal.
+///
+/// # Errors
+/// - `NoHandshake` if the stream doesn't begin with a whole handshake.
+/// - `Fault(Read)` if a read failed, `Fault(Memory)` if a growth was refused, `Fault(Turns)` after 4,294,967,296 reads.
+pub fn read_other<R: Source>(alloc: Global, reader: &mut R) -> Result<Announced, OtherError>
+    ensures learnt { IsLearnt (Grew (R.ends reader.old) (R.ends reader.new)) (R.left reader.old) (R.left reader.new) result }
+    ensures faults { IsFaultOfOther result (R.reads reader.old) (R.reads reader.new) (R.failed_reads reader.old) (R.failed_reads reader.new) (R.ends reader.old) (R.ends reader.new) }
+    ensures reads { R.reads reader.new ≤ R.reads reader.old + 2 ^ 32 }
+{
+    laws::one_verdict();
+    let Ok(mut feed) = Feed::new(alloc, reader_of_other()) else {
+        return Err(OtherError::Fault(ToolFault::Memory));
+    };
+    let mut listener = Listener::new();
+    let mut buffer = [0; 65536];
+    for _turn in 0..MAX_READS {
+        match turn(reader, &mut feed, &mut listener, &mut buffer) {
+            Ok(false) => {}
+            Ok(true) => return listener.answer(),
+            Err(fault) => return Err(OtherError::Fault(fault)),
+        }
+    }
+    Err(OtherError::Fault(ToolFault::Turns))
+}

@@ -1,0 +1,239 @@
+//! A run of the program over its host's files and standard streams. `main` calls it with what the words ask for.
+ghost use Rattle.std.specs.Prelude.{IfOk};
+ghost use Rattle.bt_cli.specs.Commands.{HasLimit, IsLimited};
+
+use crate::piped::Piped;
+use bt_cli::commands::{Asked, Job, Notice, Request};
+use bt_cli::ending::{end_by_fault, end_job, end_link, end_text};
+use bt_cli::notice::refuse_words;
+use bt_cli::options::{is_input, no_handshake};
+use bt_cli::other::receiver_by;
+use bt_cli::run::{JobEnd, do_job, say};
+use bt_feed::Host;
+use bt_jobs::output::write_out;
+use bt_jobs::{OtherError, run_check_after};
+use bt_rig::run_rig;
+use bt_text::ended::ToolFault;
+use bt_wire::Own;
+use either::Either;
+use std::alloc::AllocError;
+use std::cell::Cell;
+use std::fs;
+use std::io::{Input, Write};
+use std::rt::Files;
+
+/// What is said where a stream is awaited from a terminal.
+const STREAM_AWAITED: &[u8] =
+    b"bt_tool: a stream is awaited on standard input, from its handshake on\n";
+
+/// What is said where a script is awaited from a terminal.
+const SCRIPT_AWAITED: &[u8] = b"bt_tool: a script is awaited on standard input\n";
+
+/// The host's devices, and what is known of them.
+#[derive(Drop)]
+pub struct Program<'a, R, W, E> {
+    /// The host, which has the files and standard input.
+    host: &'a R,
+    /// Standard output.
+    writer: Host<Piped<'a, W>>,
+    /// Standard error.
+    errors: Host<E>,
+    /// A write failed since nobody reads standard output.
+    is_gone: &'a Cell<bool>,
+    /// Standard input is a terminal.
+    is_terminal: bool,
+}
+
+/// An input: standard input, or a file.
+type Opened<R> = Host<Either<<R as Input>::Reader, <R as Files>::File>>;
+
+impl<'a, R: Files + Input + AllocGlobal, W: Write, E: Write> Program<'a, R, W, E> {
+    /// A program on this host, with its standard output and standard error.
+    pub fn new(
+        host: &'a R,
+        writer: W,
+        errors: E,
+        is_gone: &'a Cell<bool>,
+        is_terminal: bool,
+    ) -> Program<'a, R, W, E> {
+        let writer = Host::new(Piped::new(writer, is_gone));
+        let errors = Host::new(errors);
+        Program {
+            host,
+            writer,
+            errors,
+            is_gone,
+            is_terminal,
+        }
+    }
+
+    /// Does what the words ask for, and returns the exit status.
+    pub fn answer(&mut self, asked: &Asked) -> u8
+        requires { IsLimited asked.now }
+    {
+        match asked {
+            Asked::Run(request) => self.run(request),
+            Asked::Link(files) => self.link(files),
+            Asked::Told(Notice::Usage, text) => self.refuse(text.as_str()),
+            Asked::Told(_, text) => {
+                let end = write_out(&mut self.writer, text.as_bytes(), ());
+                end_text(end, self.is_gone.get(), &mut self.errors)
+            }
+        }
+    }
+
+    /// Says what is wrong with the words, and returns the exit status.
+    pub fn refuse(&mut self, text: &str) -> u8 {
+        refuse_words(text, &mut self.errors)
+    }
+
+    /// Returns the exit status of a fault that came before any work.
+    pub fn fail(&mut self, fault: ToolFault) -> u8 {
+        end_by_fault(fault, b"", false, &mut self.errors)
+    }
+
+    /// Opens an input, and says what is awaited where it is a terminal.
+    fn open(&mut self, name: &str, awaited: &[u8]) -> Option<Opened<R>> {
+        if !is_input(name) {
+            let file = fs::open(self.host, name).ok()?;
+            return Some(Host::new(Either::Right(file)));
+        }
+        if self.is_terminal {
+            say(awaited, &mut self.errors);
+        }
+        Some(Host::new(Either::Left(self.host.reader())))
+    }
+
+    /// Returns what stands before the line of a failed read: a file's name.
+    fn prefix(&self, name: &str) -> Result<String, AllocError> {
+        if is_input(name) {
+            return Ok(String::new(self.host.alloc()));
+        }
+        format!(in self.host.alloc(); "{name}: ")
+    }
+
+    /// Returns the receiver, with what the other direction says of it; or the exit status where that can't be read.
+    fn receiver(&mut self, request: &Request) -> Result<Own, u8>
+        requires { HasLimit request.now.own }
+        ensures { IfOk result HasLimit }
+    {
+        let Some(name) = &request.other else {
+            return Ok(request.own);
+        };
+        let name = name.as_str();
+        let Ok(prefix) = self.prefix(name) else {
+            return Err(self.fail(ToolFault::Memory));
+        };
+        let Some(mut reader) = self.open(name, STREAM_AWAITED) else {
+            return Err(end_by_fault(ToolFault::Read, prefix.as_bytes(), false, &mut self.errors));
+        };
+        match receiver_by(self.host.alloc(), &request.own, request.given, &mut reader) {
+            Ok(own) => Ok(own),
+            Err(OtherError::Fault(fault)) => {
+                Err(end_by_fault(fault, prefix.as_bytes(), false, &mut self.errors))
+            }
+            Err(OtherError::NoHandshake) => match no_handshake(self.host.alloc(), name) {
+                Ok(text) => Err(refuse_words(text.as_str(), &mut self.errors)),
+                Err(_) => Err(self.fail(ToolFault::Memory)),
+            },
+        }
+    }
+
+    /// Does a job, and returns the exit status.
+    fn run(&mut self, request: &Request) -> u8
+        requires { HasLimit request.now.own }
+    {
+        let own = match self.receiver(request) {
+            Ok(own) => own,
+            Err(status) => return status,
+        };
+        match request.files.as_slice() {
+            [] => self.run_on("-", request.job, &own),
+            [name] => self.run_on(name.as_str(), request.job, &own),
+            names => self.check_each(names, &own),
+        }
+    }
+
+    /// Does a job on one input, and returns the exit status.
+    fn run_on(&mut self, name: &str, job: Job, own: &Own) -> u8
+        requires { HasLimit own.now }
+    {
+        let Ok(prefix) = self.prefix(name) else {
+            return self.fail(ToolFault::Memory);
+        };
+        let awaited = match job {
+            Job::Pack => SCRIPT_AWAITED,
+            Job::Show | Job::Check | Job::Unpack => STREAM_AWAITED,
+        };
+        let Some(mut reader) = self.open(name, awaited) else {
+            return end_by_fault(ToolFault::Read, prefix.as_bytes(), false, &mut self.errors);
+        };
+        let end = do_job(self.host.alloc(), job, own, &mut reader, &mut self.writer);
+        let is_gone = self.is_gone.get();
+        end_job(job, end, prefix.as_bytes(), is_gone, &mut self.errors)
+    }
+
+    /// Checks files in turn, a line each, up to a write that fails; returns the greatest of their exit statuses.
+    fn check_each(&mut self, names: &[String], own: &Own) -> u8
+        requires { HasLimit own.now }
+    {
+        let mut status = 0;
+        for name in names {
+            let (of_file, goes_on) = self.check_named(name.as_str(), own);
+            status = status.max(of_file);
+            if !goes_on {
+                return status;
+            }
+        }
+        status
+    }
+
+    /// Checks a file; returns the exit status, and whether the output takes more.
+    fn check_named(&mut self, name: &str, own: &Own) -> (u8, bool)
+        requires { HasLimit own.now }
+    {
+        let Ok(prefix) = format!(in self.host.alloc(); "{name}: ") else {
+            return (self.fail(ToolFault::Memory), true);
+        };
+        let prefix = prefix.as_bytes();
+        let Some(mut reader) = self.open(name, STREAM_AWAITED) else {
+            return (
+                end_by_fault(ToolFault::Read, prefix, false, &mut self.errors),
+                true,
+            );
+        };
+        let end = run_check_after(
+            self.host.alloc(),
+            prefix,
+            &mut reader,
+            &mut self.writer,
+            own,
+        );
+        let is_gone = self.is_gone.get();
+        let status = end_job(
+            Job::Check,
+            JobEnd::Stream(end),
+            prefix,
+            is_gone,
+            &mut self.errors,
+        );
+        (status, end != Err(ToolFault::Write))
+    }
+
+    /// Runs the link that a script describes, and returns the exit status.
+    fn link(&mut self, files: &[String]) -> u8 {
+        let name = match files {
+            [] => "-",
+            [name, ..] => name.as_str(),
+        };
+        let Ok(prefix) = self.prefix(name) else {
+            return self.fail(ToolFault::Memory);
+        };
+        let Some(mut reader) = self.open(name, SCRIPT_AWAITED) else {
+            return end_by_fault(ToolFault::Read, prefix.as_bytes(), false, &mut self.errors);
+        };
+        let end = run_rig(self.host.alloc(), &mut reader, &mut self.writer);
+        let is_gone = self.is_gone.get();
+        end_link(end, prefix.as_bytes(), is_gone, &mut self.errors)
+    }
+}
