@@ -12,4 +12,4 @@ mod show;
 
 pub use check::run_check;
 pub use pack::run_pack;
-pub use show::{run_show, run_unpack};
+pub use show::{run_json, run_show, run_unpack};

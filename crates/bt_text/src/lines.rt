@@ -113,7 +113,7 @@ fn name_and_three(name: &[u8], n: u64, m: u64, k: u64, line: &mut Line, at: usiz
 }
 
 /// Returns the id of `ut_metadata` that an extended handshake announces.
-fn told_metadata(dict: &DictRef) -> Option<u64>
+pub fn told_metadata(dict: &DictRef) -> Option<u64>
     ensures { result ≡ told_id (dictionary dict.now.tree.0) }
 {
     let m = dict.lookup_dict(b"m")?;
@@ -287,29 +287,37 @@ pub fn handshake_line(at: u64, handshake: &Handshake, line: &mut Line) -> usize
     number(at, line, place)
 }
 
+/// Returns the name of a reason, as text.
+pub fn reason_text(reason: Reason) -> &'static str
+    ensures name { result.now ≡ reason_name reason }
+    ensures short { length result.now ≤ 20 }
+{
+    match reason {
+        Reason::BadProtocol => "BadProtocol",
+        Reason::WrongInfoHash => "WrongInfoHash",
+        Reason::TooLong => "TooLong",
+        Reason::UnknownId => "UnknownId",
+        Reason::NotNegotiated => "NotNegotiated",
+        Reason::WrongLength => "WrongLength",
+        Reason::BadIndex => "BadIndex",
+        Reason::SpareBits => "SpareBits",
+        Reason::Late => "Late",
+        Reason::Missing => "Missing",
+        Reason::BadBencode => "BadBencode",
+        Reason::Unsorted => "Unsorted",
+        Reason::BadField => "BadField",
+        Reason::BadBlock => "BadBlock",
+        Reason::StreamFull => "StreamFull",
+        Reason::EndInside => "EndInside",
+    }
+}
+
 /// Returns the name of a reason.
 pub fn name_of(reason: Reason) -> &'static [u8]
     ensures name { result.now ≡ reason_name reason }
     ensures short { length result.now ≤ 20 }
 {
-    match reason {
-        Reason::BadProtocol => b"BadProtocol",
-        Reason::WrongInfoHash => b"WrongInfoHash",
-        Reason::TooLong => b"TooLong",
-        Reason::UnknownId => b"UnknownId",
-        Reason::NotNegotiated => b"NotNegotiated",
-        Reason::WrongLength => b"WrongLength",
-        Reason::BadIndex => b"BadIndex",
-        Reason::SpareBits => b"SpareBits",
-        Reason::Late => b"Late",
-        Reason::Missing => b"Missing",
-        Reason::BadBencode => b"BadBencode",
-        Reason::Unsorted => b"Unsorted",
-        Reason::BadField => b"BadField",
-        Reason::BadBlock => b"BadBlock",
-        Reason::StreamFull => b"StreamFull",
-        Reason::EndInside => b"EndInside",
-    }
+    reason_text(reason).as_bytes()
 }
 
 /// Writes the verdict's line at the end of the array, and returns where it starts.
