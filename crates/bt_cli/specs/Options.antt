@@ -1,5 +1,5 @@
 -- What the options of the command line say of the receiver.
-use Rattle.std.specs.Prelude.{◌≡◌, ℕ, ◌^◌, ◌&&◌, nat_le, nat_lt, List, length, codes, Option, Some, None, option_map, option_and_then, is_none, if◌then◌else◌}
+use Rattle.std.specs.Prelude.{◌≡◌, ℕ, ◌^◌, ◌&&◌, nat_le, nat_lt, Bool, List, [], length, unwrap_or, codes, Option, Some, None, option_map, option_and_then, is_none, if◌then◌else◌}
 use Rattle.std.specs.Int.{w64, from_be_bytes}
 use Rattle.std.specs.Result.{result_ok}
 use Rattle.std.specs.Str.{bytes_eq}
@@ -17,7 +17,7 @@ use Rattle.bt_cli.specs.declared.commands.Job.{Job}
 use Rattle.bt_cli.specs.declared.values.Setting.{Setting}
 use Rattle.bt_cli.specs.declared.values.Setting.TheVariants as settings
 use Rattle.bt_cli.specs.declared.values.Written.{Written}
-use Rattle.bt_cli.specs.Commands.{default_rules, job_of}
+use Rattle.bt_cli.specs.Commands.{as_json, default_rules, job_of}
 
 -- ---- the texts
 
@@ -90,9 +90,13 @@ pub record IsReceiver (job : Job) (w : Written) (own : Own) : Type 0 where
   pub rules : rules_in job (option_map (λ s. s.now) w.rules) ≡ Some own.rules
   pub limit : limit_in (option_map (λ s. s.now) w.limit) ≡ Some own.limit
 
+-- `--json` was found
+abbrev pub json_in : Found → Bool
+json_in f = bytes_eq (unwrap_or (first_value f (codes "json")) []) (codes "true")
+
 -- the command with this name does the job, for the receiver that the options found in f describe
 abbrev pub IsChosen : List ℕ → Found → Job → Own → Type 0
-IsChosen name f job own = (job_of name ≡ Some job) × ((w : Written) × IsWritten f w × IsReceiver job w own)
+IsChosen name f job own = (option_map (as_json (json_in f)) (job_of name) ≡ Some job) × ((w : Written) × IsWritten f w × IsReceiver job w own)
 
 -- the option's text is no value of it
 abbrev pub IsWrong : Job → Written → Setting → Type 0
