@@ -1,13 +1,12 @@
 //! The names of items and of reasons as text of C.
 ghost use Rattle.std.specs.Prelude.{◌≡◌, ◌≤◌, ◌<◌, length, None, IfSome};
-ghost use Rattle.bt_text.specs.Lines.{reason_name};
+ghost use Rattle.bt_wire.specs.Reasons.{reason_name};
 ghost use Rattle.bt_c.specs.Names.{extended_name, item_name, IsPut};
 ghost use Rattle.bt_c.specs.Readers.{reason_number};
 ghost use Rattle.bt_wire.specs.declared.fault.Reason.{Reason};
 
 use crate::item::BtItem;
 use bt_bencode::put_bytes;
-use bt_text::lines::name_of;
 use bt_wire::Reason;
 
 /// Writes the name of a reason's number, as `WrongLength`, and a zero after it, where there is room for both.
@@ -19,7 +18,7 @@ pub extern "C" fn bt_reason_name(reason: u32, text: &mut [u8]) -> usize
     ensures none { ((r : Reason) → reason ≡ reason_number r → ⊥) → result ≡ 0 }
 {
     match reason_at(reason) {
-        Some(reason) => put_name(name_of(reason), text),
+        Some(reason) => put_name(reason.name().as_bytes(), text),
         None => put_name(b"", text),
     }
 }

@@ -1,5 +1,5 @@
 -- What the command line asks for, and the exit status.
-use Rattle.std.specs.Prelude.{◌≡◌, ℕ, ◌≤◌, List, [], false, Option, Some, None, Result, Ok, Err, codes, if◌then◌else◌}
+use Rattle.std.specs.Prelude.{◌≡◌, ℕ, ◌≤◌, List, [], false, Option, Some, None, Result, Ok, Err, codes, if◌then◌else◌, Bool, true}
 use Rattle.std.specs.Str.{bytes_eq}
 use Rattle.bt_ext.specs.declared.ids.Rules.{Rules}
 use Rattle.bt_ext.specs.declared.ids.Rules.TheVariants.{Free, Bep}
@@ -10,7 +10,7 @@ use Rattle.clap.specs.declared.error.kind.ErrorKind.TheVariants as kinds
 use Rattle.bt_cli.specs.declared.commands.Asked.{Asked}
 use Rattle.bt_cli.specs.declared.commands.Asked.TheVariants.{Run, Link, Told}
 use Rattle.bt_cli.specs.declared.commands.Job.{Job}
-use Rattle.bt_cli.specs.declared.commands.Job.TheVariants.{Show, Check, Unpack, Pack}
+use Rattle.bt_cli.specs.declared.commands.Job.TheVariants.{Show, Json, Check, Unpack, Pack}
 use Rattle.bt_cli.specs.declared.commands.Notice.{Notice}
 use Rattle.bt_cli.specs.declared.commands.Notice.TheVariants.{Help, Version, Usage}
 use Rattle.bt_text.specs.declared.ended.Ended.{Ended}
@@ -28,9 +28,19 @@ job_of name =
     else if bytes_eq name (codes "pack") then Some Pack
     else None
 
+-- `show` with `--json`; no other job changes
+abbrev pub as_json : Bool → Job → Job
+as_json false job = job
+as_json true Show = Json
+as_json true Json = Json
+as_json true Check = Check
+as_json true Unpack = Unpack
+as_json true Pack = Pack
+
 -- what the standards ask of a sender is judged where the verdict alone is wanted
 abbrev pub default_rules : Job → Rules
 default_rules Show = Free
+default_rules Json = Free
 default_rules Check = Bep
 default_rules Unpack = Free
 default_rules Pack = Free

@@ -19,7 +19,7 @@ use Rattle.bt_cli.specs.declared.commands.Request.{Request}
 use Rattle.bt_cli.specs.declared.values.Setting.{Setting}
 use Rattle.bt_cli.specs.declared.values.Setting.TheVariants as settings
 use Rattle.bt_cli.specs.declared.values.Written.{Written}
-use Rattle.bt_cli.specs.Commands.{default_rules, job_of}
+use Rattle.bt_cli.specs.Commands.{as_json, default_rules, job_of}
 
 -- ---- the texts
 
@@ -100,9 +100,13 @@ given_in f = record { reserved = is_some (first_value f (codes "reserved")); met
 abbrev pub files_in : Found → List (List ℕ)
 files_in f = unwrap_or (option_map raw_values (matched_of f (codes "FILE"))) []
 
+-- `--json` was found
+abbrev pub json_in : Found → Bool
+json_in f = bytes_eq (unwrap_or (first_value f (codes "json")) []) (codes "true")
+
 -- the command with this name does the job, for the receiver that the options found in f describe
 abbrev pub IsChosen : List ℕ → Found → Job → Own → Type 0
-IsChosen name f job own = (job_of name ≡ Some job) × ((w : Written) × IsWritten f w × IsReceiver job w own)
+IsChosen name f job own = (option_map (as_json (json_in f)) (job_of name) ≡ Some job) × ((w : Written) × IsWritten f w × IsReceiver job w own)
 
 -- the command with this name asks for this, with the options and files found in f
 pub record IsRequested (name : List ℕ) (f : Found) (r : Request) : Type 0 where

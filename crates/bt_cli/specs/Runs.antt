@@ -8,6 +8,7 @@ use Rattle.bt_text.specs.declared.ended.PackEnd.TheVariants as packs
 use Rattle.bt_text.specs.declared.ended.ToolFault.{ToolFault}
 use Rattle.bt_text.specs.declared.ended.ToolFault.TheVariants as fault
 use Rattle.bt_text.specs.Lines.{lines_of, verdict_line, refused_line, fault_line}
+use Rattle.bt_json.specs.Objects.{lines_of as json_lines_of}
 use Rattle.bt_jobs.specs.declared.printer.Form.TheVariants as form
 use Rattle.bt_jobs.specs.Printed.{AppendsFront, IsWritten, IsEndOfReads, nothing, items_in, checked, unpacked}
 use Rattle.bt_jobs.specs.Packs.{IsPackRun}
@@ -16,7 +17,7 @@ use Rattle.bt_rig.specs.declared.run.RigEnd.{RigEnd}
 use Rattle.bt_rig.specs.declared.run.RigEnd.TheVariants.{Unrun}
 use Rattle.bt_rig.specs.Runs.{complaint as rig_complaint}
 use Rattle.bt_cli.specs.declared.commands.Job.{Job}
-use Rattle.bt_cli.specs.declared.commands.Job.TheVariants.{Show, Check, Unpack, Pack}
+use Rattle.bt_cli.specs.declared.commands.Job.TheVariants.{Show, Json, Check, Unpack, Pack}
 use Rattle.bt_cli.specs.declared.run.JobEnd.{JobEnd}
 use Rattle.bt_cli.specs.declared.run.JobEnd.TheVariants.{Stream, Script}
 use Rattle.bt_cli.specs.Commands.{status_of, pack_status_of}
@@ -26,10 +27,12 @@ use Rattle.bt_cli.specs.Commands.{status_of, pack_status_of}
 -- The job's command writes its output for this receiver, and ends so. AtEnd says that the input's end was read.
 abbrev pub IsDone : Job → Own → Type 0 → Option (List ℕ) → Option (List ℕ) → Option (List ℕ) → Option (List ℕ) → JobEnd → Type 0
 IsDone Show own AtEnd left left' held held' (Stream r) = IsWritten (items_in form.Show own) (lines_of own) own AtEnd left left' held held' r
+IsDone Json own AtEnd left left' held held' (Stream r) = IsWritten (items_in form.Json own) (json_lines_of own) own AtEnd left left' held held' r
 IsDone Check own AtEnd left left' held held' (Stream r) = IsWritten nothing checked own AtEnd left left' held held' r
 IsDone Unpack own AtEnd left left' held held' (Stream r) = IsWritten (unpacked own) (unpacked own) own AtEnd left left' held held' r
 IsDone Pack own AtEnd left left' held held' (Stream r) = ⊥
 IsDone Show own AtEnd left left' held held' (Script r) = ⊥
+IsDone Json own AtEnd left left' held held' (Script r) = ⊥
 IsDone Check own AtEnd left left' held held' (Script r) = ⊥
 IsDone Unpack own AtEnd left left' held held' (Script r) = ⊥
 IsDone Pack own AtEnd left left' held held' (Script r) = IsPackRun own AtEnd left left' held held' r
@@ -58,6 +61,7 @@ complaint job (Stream (Err f)) = fault_line f
 complaint job (Script (Err f)) = fault_line f
 complaint Unpack (Stream (Ok (ends.Refused r))) = verdict_line (ends.Refused r)
 complaint Show (Stream (Ok (ends.Refused r))) = []
+complaint Json (Stream (Ok (ends.Refused r))) = []
 complaint Check (Stream (Ok (ends.Refused r))) = []
 complaint Pack (Stream (Ok (ends.Refused r))) = []
 complaint job (Stream (Ok (ends.Accepted messages bytes))) = []

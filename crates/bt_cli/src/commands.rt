@@ -31,6 +31,8 @@ pub enum Notice {
 pub enum Job {
     /// A line for each item, and the verdict.
     Show,
+    /// A JSON object for each item, and one for the verdict.
+    Json,
     /// The verdict alone.
     Check,
     /// The script of the items.
@@ -112,7 +114,7 @@ pub fn default_rules(job: Job) -> Rules
 {
     match job {
         Job::Check => Rules::Bep,
-        Job::Show | Job::Unpack | Job::Pack => Rules::Free,
+        Job::Show | Job::Json | Job::Unpack | Job::Pack => Rules::Free,
     }
 }
 

@@ -3,8 +3,8 @@ ghost use Rattle.std.specs.Prelude.{◌≡◌, [], IfOk, map, option_map, string
 ghost use Rattle.std.specs.Str.{bytes_eq};
 ghost use Rattle.clap.specs.Matches.{found_of, first_value};
 ghost use Rattle.clap.specs.Values.{kind_of};
-ghost use Rattle.bt_cli.specs.Commands.{HasLimit, HasNotice, IsLimited, IsShowByDefault, job_of};
-ghost use Rattle.bt_cli.specs.Options.{IsChosen, IsRequested, IsWritten, files_in, given_in, is_job_option as is_option_by_rule, with_command as words_with_command};
+ghost use Rattle.bt_cli.specs.Commands.{HasLimit, HasNotice, IsLimited, IsShowByDefault, job_of, as_json as job_as_json};
+ghost use Rattle.bt_cli.specs.Options.{IsChosen, IsRequested, IsWritten, files_in, given_in, is_job_option as is_option_by_rule, with_command as words_with_command, json_in};
 
 use crate::commands::{Asked, Given, Job, Notice, Request, default_own};
 use crate::values::{Setting, Written, own_of};
@@ -42,12 +42,14 @@ Options, which describe the receiver of the stream ('link' has none):
                           a sender [default: free; bep for 'check']
       --limit <N>         The greatest length of a message, its four bytes of length not counted:
                           1 to 1048576 [default: 262144]
+      --json              Of 'show': a JSON object a line for each item, and one for the verdict
   -h, --help              Prints this text
   -V, --version           Prints the name and version (without a command)
 
 Examples:
   bt_tool show --other sent-by-receiver.bin stream.bin
   bt_tool show --pieces 10 --rules bep stream.bin
+  bt_tool show --json stream.bin | jq .item
   bt_tool check --reserved 0000000000100004 *.bin
   bt_tool unpack stream.bin > script.txt
   bt_tool pack script.txt > stream.bin
@@ -106,6 +108,11 @@ fn wants_input_twice(other: &Option<String>, files: &[String]) -> bool {
     }
 }
 
+/// Returns the option `--json`, which has no value.
+fn json_flag<'a>(alloc: Global) -> Arg<'a> {
+    Arg::new(alloc, "json").long("json").action(ArgAction::SetTrue)
+}
+
 /// Returns a command with the options that describe a receiver.
 fn job_command<'a>(alloc: Global, name: &'a str) -> Result<Command<'a>, AllocError> {
     Ok(
@@ -149,7 +156,7 @@ fn command_line<'a>(alloc: Global) -> Result<Command<'a>, AllocError> {
             .subcommand_required(true)
             .override_usage(CALL)
             .override_help(HELP)
-            .subcommand(job_command(alloc, "show")?)?
+            .subcommand(job_command(alloc, "show")?.arg(json_flag(alloc))?)?
             .subcommand(job_command(alloc, "check")?)?
             .subcommand(job_command(alloc, "unpack")?)?
             .subcommand(job_command(alloc, "pack")?)?
@@ -167,6 +174,26 @@ fn job_named(name: &str) -> Option<Job>
         "unpack" => Some(Job::Unpack),
         "pack" => Some(Job::Pack),
         _ => None,
+    }
+}
+
+/// Returns the job with `--json`, which changes `show` alone.
+fn as_json(json: bool, job: Job) -> Job
+    ensures { result ≡ job_as_json json job }
+{
+    match job {
+        Job::Show if json => Job::Json,
+        _ => job,
+    }
+}
+
+/// Returns whether `--json` is given.
+fn is_json(options: &ArgMatches<'_>) -> bool
+    ensures { result ≡ json_in (found_of options.now) }
+{
+    match options.get_str("json") {
+        Some(given) => given == "true",
+        None => false,
     }
 }
 
@@ -221,6 +248,7 @@ fn chosen(name: &str, options: &ArgMatches<'_>) -> Result<(Job, Own), &'static s
     let Some(job) = job_named(name) else {
         return Err("there is no such command");
     };
+    let job = as_json(is_json(options), job);
     match own_of(job, &written(options)) {
         Ok(own) => Ok((job, own)),
         Err(setting) => Err(expected(setting)),

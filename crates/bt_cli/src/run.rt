@@ -9,7 +9,7 @@ ghost use Rattle.bt_cli.specs.Runs.{IsDone, IsEndOfInput, IsSaid, complaint, exi
 use crate::commands::{Job, pack_status, status};
 use bt_feed::{Source, Target};
 use bt_jobs::output::write_out;
-use bt_jobs::{run_check, run_pack, run_show, run_unpack};
+use bt_jobs::{run_check, run_json, run_pack, run_show, run_unpack};
 use bt_text::ended::{Ended, PackEnd, ScriptReason, ToolFault};
 use bt_text::lines::{fault_line, refused_line, verdict_line};
 use bt_wire::Own;
@@ -41,6 +41,7 @@ pub fn do_job<R: Source, W: Target>(
 {
     match job {
         Job::Show => JobEnd::Stream(run_show(alloc, reader, writer, own)),
+        Job::Json => JobEnd::Stream(run_json(alloc, reader, writer, own)),
         Job::Check => JobEnd::Stream(run_check(alloc, reader, writer, own)),
         Job::Unpack => JobEnd::Stream(run_unpack(alloc, reader, writer, own)),
         Job::Pack => JobEnd::Script(run_pack(alloc, reader, writer, own)),

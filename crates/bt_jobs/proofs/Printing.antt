@@ -25,13 +25,12 @@ use Rattle.bt_text.specs.declared.ended.Ended.{Ended}
 use Rattle.bt_text.specs.declared.ended.Ended.TheVariants.{Accepted, Refused}
 use Rattle.bt_text.specs.declared.ended.ToolFault.{ToolFault}
 use Rattle.bt_jobs.specs.declared.printer.Form.{Form}
-use Rattle.bt_jobs.specs.declared.printer.Form.TheVariants as forms
 use Rattle.bt_feed.proofs.Coming.{open_comes}
 use Rattle.bt_feed.proofs.Reading.{hand_open}
 use Rattle.std.specs.Prelude.{MatchResult, OnOk}
 use Rattle.bt_jobs.specs.declared.printer.Printer.{Printer}
 use Rattle.bt_text.specs.Lines.{ended_by, ended_as, verdict_line, lines_of}
-use Rattle.bt_jobs.specs.Printed.{texts, text_of, form_of, text_in, Prints, AppendsFront, IsWrittenOut, IsFlushed, MayBeTold, IsAllWritten, IsFrontWritten, Writing, nothing, items_in, checked, prefixed, IsWritten, IsReadTo, IsTurn}
+use Rattle.bt_jobs.specs.Printed.{texts, text_of, form_of, text_in, Prints, AppendsFront, IsWrittenOut, IsFlushed, MayBeTold, IsAllWritten, IsFrontWritten, Writing, nothing, items_in, checked, prefixed, IsWritten, IsReadTo, IsTurn, verdict_of, all_in}
 
 pub on_ok : {T E : Type 0} (r : Result T E) (P Q : Type 0) → (P → Q) → OnOk r P → OnOk r Q
 on_ok (Ok x) P Q f h = f h
@@ -252,30 +251,30 @@ either_front : (E P : Type 0) → P ⊎ (E × P) → P
 either_front E P (inl p) = p
 either_front E P (inr p) = p.1
 
-pub front_shown : (E : Type 0) (own : Own) (b : List ℕ) (held held' : Option (List ℕ)) → IsFrontWritten (items_in forms.Show own) (items_in forms.Show own) own E b held held' → IsFrontWritten (items_in forms.Show own) (lines_of own) own E b held held'
-front_shown E own b held held' h = λ w is. inl (either_front (MayBeTold E (ended_as w (length b))) (AppendsFront held held' (texts forms.Show own w.items)) (h w is))
+pub front_shown : (form : Form) (E : Type 0) (own : Own) (b : List ℕ) (held held' : Option (List ℕ)) → IsFrontWritten (items_in form own) (items_in form own) own E b held held' → IsFrontWritten (items_in form own) (all_in form own) own E b held held'
+front_shown form E own b held held' h = λ w is. inl (either_front (MayBeTold E (ended_as w (length b))) (AppendsFront held held' (texts form own w.items)) (h w is))
 
 -- the same outcome
-written_by : (own : Own) (b : List ℕ) (held held' : Option (List ℕ)) (e : Ended) → own.limit < 2 ^ 32 → VerdictIsOne → (a : IsAllWritten (items_in forms.Show own) own b held held' e) → (w : Outcome) → IsVerdict own b w
-    → Appends held held' (texts forms.Show own w.items) × (e ≡ ended_as w (length b))
-written_by own b held held' e lt one a w is =
+written_by : (form : Form) (own : Own) (b : List ℕ) (held held' : Option (List ℕ)) (e : Ended) → own.limit < 2 ^ 32 → VerdictIsOne → (a : IsAllWritten (items_in form own) own b held held' e) → (w : Outcome) → IsVerdict own b w
+    → Appends held held' (texts form own w.items) × (e ≡ ended_as w (length b))
+written_by form own b held held' e lt one a w is =
     let same = one own b a.0 w lt a.1 is in
-    subst (λ (v : Outcome). Appends held held' (texts forms.Show own v.items) × (e ≡ ended_as v (length b))) same (a.2, a.3)
+    subst (λ (v : Outcome). Appends held held' (texts form own v.items) × (e ≡ ended_as v (length b))) same (a.2, a.3)
 
-pub front_shown_all : (E : Type 0) (own : Own) (b : List ℕ) (held held' : Option (List ℕ)) (e : Ended) → own.limit < 2 ^ 32 → VerdictIsOne → IsAllWritten (items_in forms.Show own) own b held held' e → IsFrontWritten (items_in forms.Show own) (lines_of own) own E b held held'
-front_shown_all E own b held held' e lt one a = λ w is.
-    let here = written_by own b held held' e lt one a w is in
-    inl (all_is_front held held' (texts forms.Show own w.items) here.0)
+pub front_shown_all : (form : Form) (E : Type 0) (own : Own) (b : List ℕ) (held held' : Option (List ℕ)) (e : Ended) → own.limit < 2 ^ 32 → VerdictIsOne → IsAllWritten (items_in form own) own b held held' e → IsFrontWritten (items_in form own) (all_in form own) own E b held held'
+front_shown_all form E own b held held' e lt one a = λ w is.
+    let here = written_by form own b held held' e lt one a w is in
+    inl (all_is_front held held' (texts form own w.items) here.0)
 
-pub all_shown : (E : Type 0) (own : Own) (b text left : List ℕ) (held mid held' : Option (List ℕ)) (e : Ended) (r : Result Ended ToolFault) → own.limit < 2 ^ 32 → VerdictIsOne → IsAllWritten (items_in forms.Show own) own b held mid e
-    → text ≡ verdict_line e → MayBeTold E e → IsFlushed e text mid held' left r → MatchResult r (IsAllWritten (lines_of own) own b held held') (λ _. IsFrontWritten (items_in forms.Show own) (lines_of own) own E b held held')
-all_shown E own b text left held mid held' e (Ok d) lt one a is told f =
+pub all_shown : (form : Form) (E : Type 0) (own : Own) (b text left : List ℕ) (held mid held' : Option (List ℕ)) (e : Ended) (r : Result Ended ToolFault) → own.limit < 2 ^ 32 → VerdictIsOne → IsAllWritten (items_in form own) own b held mid e
+    → text ≡ verdict_of form e → MayBeTold E e → IsFlushed e text mid held' left r → MatchResult r (IsAllWritten (all_in form own) own b held held') (λ _. IsFrontWritten (items_in form own) (all_in form own) own E b held held')
+all_shown form E own b text left held mid held' e (Ok d) lt one a is told f =
     let v = a.0 in
-    let line : text ≡ verdict_line (ended_as v (length b)) = is ∙ ap verdict_line a.3 in
-    (v, a.1, Appends-trans held mid held' (texts forms.Show own v.items) (verdict_line (ended_as v (length b))) a.2 (subst (Appends mid held') line f.1), f.0 ∙ a.3)
-all_shown E own b text left held mid held' e (Err x) lt one a is told f = λ w isw.
-    let here = written_by own b held mid e lt one a w isw in
-    inr (subst (MayBeTold E) here.1 told, front_behind held mid held' (texts forms.Show own w.items) (verdict_line (ended_as w (length b))) here.0 (subst (AppendsFront mid held') (is ∙ ap verdict_line here.1) f))
+    let line : text ≡ verdict_of form (ended_as v (length b)) = is ∙ ap (verdict_of form) a.3 in
+    (v, a.1, Appends-trans held mid held' (texts form own v.items) (verdict_of form (ended_as v (length b))) a.2 (subst (Appends mid held') line f.1), f.0 ∙ a.3)
+all_shown form E own b text left held mid held' e (Err x) lt one a is told f = λ w isw.
+    let here = written_by form own b held mid e lt one a w isw in
+    inr (subst (MayBeTold E) here.1 told, front_behind held mid held' (texts form own w.items) (verdict_of form (ended_as w (length b))) here.0 (subst (AppendsFront mid held') (is ∙ ap (verdict_of form) here.1) f))
 
 -- ---- the verdict alone
 

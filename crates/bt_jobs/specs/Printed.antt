@@ -18,13 +18,21 @@ use Rattle.bt_jobs.specs.declared.printer.Form.{Form}
 use Rattle.bt_jobs.specs.declared.printer.Form.TheVariants as form
 use Rattle.bt_jobs.specs.declared.printer.Printer.{Printer}
 use Rattle.bt_text.specs.Lines.{line, ended_as, verdict_line}
+use Rattle.bt_json.specs.Objects.{line as json_line, verdict_line as json_verdict_line}
 use Rattle.bt_text.specs.Script.{script_line, script}
 
 -- ---- the text of items
 
 abbrev pub text_of : Form → Own → ℕ × Item → List ℕ
 text_of form.Show own x = line own x
+text_of form.Json own x = json_line own x
 text_of (form.Unpack receiver) own x = script_line receiver x.1
+
+-- the text of a verdict; a script has none
+abbrev pub verdict_of : Form → Ended → List ℕ
+verdict_of form.Show e = verdict_line e
+verdict_of form.Json e = json_verdict_line e
+verdict_of (form.Unpack receiver) e = []
 
 abbrev pub texts : Form → Own → List (ℕ × Item) → List ℕ
 texts f own xs = flat_map (text_of f own) xs
@@ -98,6 +106,10 @@ nothing v n = []
 -- the items alone
 abbrev pub items_in : Form → Own → Writing
 items_in f own v n = texts f own v.items
+
+-- the items and the verdict
+abbrev pub all_in : Form → Own → Writing
+all_in f own v n = texts f own v.items ++ verdict_of f (ended_as v n)
 
 -- the verdict alone
 abbrev pub checked : Writing

@@ -14,4 +14,4 @@ mod show;
 pub use check::{run_check, run_check_after};
 pub use other::{Announced, OtherError, read_other};
 pub use pack::run_pack;
-pub use show::{run_show, run_unpack};
+pub use show::{run_json, run_show, run_unpack};

@@ -6,6 +6,7 @@ ghost use Rattle.bt_feed.specs.Views.{item_of};
 ghost use Rattle.bt_wire.specs.declared.context.Own.{Own as Receiver};
 ghost use Rattle.bt_text.specs.Script.{script_line};
 ghost use Rattle.bt_text.specs.Lines.{line as line_of, verdict_line as verdict_words};
+ghost use Rattle.bt_json.specs.Objects.{line as object_of, verdict_line as verdict_object};
 ghost use Rattle.bt_jobs.specs.Printed.{IsFlushed, Prints, form_of, text_in};
 
 use crate::output::write_out;
@@ -21,6 +22,8 @@ use std::alloc::{AllocError, Global};
 pub enum Form {
     /// A line with its offset.
     Show,
+    /// A JSON object with its offset.
+    Json,
     /// A script's line with all of its bytes, as this receiver's registered ids have it.
     Unpack(Own),
 }
@@ -28,6 +31,7 @@ pub enum Form {
 /// A sink that turns items into text, and keeps the text until it is written.
 #[derive(Drop)]
 pub struct Printer {
+    alloc: Global,
     form: Form,
     text: Vec<u8>,
     line: Line,
@@ -52,6 +56,21 @@ fn push_item(at: u64, view: &View, line: &mut Line, text: &mut Vec<u8>) -> Resul
     }
 }
 
+/// Adds the object of an item.
+fn push_object(
+    alloc: Global,
+    at: u64,
+    view: &View,
+    text: &mut Vec<u8>,
+) -> Result<(), AllocError>
+    ensures { OnOk result ((own : Receiver) → text.new.items ≡ text.old.items ++ object_of own (at, item_of view.now)) }
+{
+    match view {
+        View::Handshake(handshake) => bt_json::handshake_line(alloc, at, handshake, text),
+        View::Message(message) => bt_json::message_line(alloc, at, message, text),
+    }
+}
+
 /// Adds the script's line of an item.
 fn push_script(own: &Own, view: &View, text: &mut Vec<u8>) -> Result<(), AllocError>
     ensures { OnOk result (text.new.items ≡ text.old.items ++ script_line own.now (item_of view.now)) }
@@ -69,6 +88,7 @@ impl Printer {
         ensures text { text_in result ≡ [] }
     {
         Printer {
+            alloc,
             form,
             text: Vec::new(alloc),
             line: [0; 160],
@@ -83,6 +103,13 @@ impl Printer {
     {
         let place = verdict_line(ended, &mut self.line);
         push_line(&mut self.text, &self.line, place)
+    }
+
+    /// Adds the verdict's JSON object.
+    pub fn verdict_object(&mut self, ended: Ended) -> Result<(), AllocError>
+        ensures { OnOk result (text_in self.new ≡ text_in self.old ++ verdict_object ended) }
+    {
+        bt_json::verdict_line(self.alloc, ended, &mut self.text)
     }
 
     /// Writes the text, which is then empty, and returns `answer`.
@@ -123,6 +150,7 @@ impl Sink for Printer {
         self.calls = self.calls.saturating_add(1);
         let added = match self.form {
             Form::Show => push_item(at, view, &mut self.line, &mut self.text),
+            Form::Json => push_object(self.alloc, at, view, &mut self.text),
             Form::Unpack(own) => push_script(&own, view, &mut self.text),
         };
         if added.is_err() {

@@ -1,16 +1,17 @@
-//! `show` and `unpack`: the text of a stream's items, and its verdict. The command line calls them.
-ghost use Rattle.std.specs.Prelude.{◌≡◌, ◌≢◌, ◌+◌, ◌-◌, ◌≤◌, ◌^◌, ◌<◌, ℕ, List, [], length, OnOk, Err};
+//! `show`, `show --json` and `unpack`: the text of a stream's items, and its verdict. The command line calls them.
+ghost use Rattle.std.specs.Prelude.{◌≡◌, ◌≢◌, ◌+◌, ◌-◌, ◌≤◌, ◌^◌, ◌<◌, ℕ, List, [], ◌++◌, length, OnOk, Err};
 ghost use Rattle.bt_io.specs.Counts.{Grew};
 ghost use Rattle.bt_wire.specs.declared.item.Item.{Item};
-ghost use Rattle.bt_jobs.specs.declared.printer.Form.TheVariants as form;
+ghost use Rattle.bt_jobs.specs.declared.printer.Form.TheVariants as shape;
+ghost use Rattle.bt_json.specs.Objects.{lines_of as json_lines_of};
 ghost use Rattle.bt_text.specs.Lines.{lines_of};
-ghost use Rattle.bt_jobs.specs.Printed.{IsWritten, IsReadTo, IsTurn, IsEndOfReads, IsEndOfTurn, form_of, text_in, items_in, unpacked};
+ghost use Rattle.bt_jobs.specs.Printed.{IsWritten, IsReadTo, IsTurn, IsEndOfReads, IsEndOfTurn, form_of, text_in, items_in, all_in, verdict_of, unpacked};
 
 use crate::printer::{Form, Printer};
 use bt_feed::{Feed, PumpError, Source, Target, pump_with};
 use bt_text::ended::{Ended, ToolFault};
 use bt_wire::{Own, laws};
-use std::alloc::Global;
+use std::alloc::{AllocError, Global};
 
 /// The greatest count of reads that a command makes.
 pub const MAX_READS: u64 = 1 << 32;
@@ -79,6 +80,46 @@ fn tell<R: Source, W: Target>(
     Err(ToolFault::Turns)
 }
 
+/// Adds the text that a verdict has in this form.
+fn push_verdict(printer: &mut Printer, form: &Form, ended: Ended) -> Result<(), AllocError>
+    ensures { OnOk result (text_in printer.new ≡ text_in printer.old ++ verdict_of form.now ended) }
+{
+    match form {
+        Form::Show => printer.verdict(ended),
+        Form::Json => printer.verdict_object(ended),
+        Form::Unpack(_) => Ok(()),
+    }
+}
+
+/// Writes the text of each item of the stream in this form, and then that of the verdict; returns the verdict.
+///
+/// # Errors
+/// Those of `run_show`.
+fn run_form<R: Source, W: Target>(
+    alloc: Global,
+    form: &Form,
+    reader: &mut R,
+    writer: &mut W,
+    own: &Own,
+) -> Result<Ended, ToolFault>
+    requires { (1 ≤ own.now.limit) × (own.now.limit ≤ 1048576) }
+    ensures unfailed { result ≢ Err ToolFault.Read → R.failed_reads reader.new ≡ R.failed_reads reader.old }
+    ensures reads { R.reads reader.new ≤ R.reads reader.old + 2 ^ 32 }
+    ensures shown { IsWritten (items_in form.now own.now) (all_in form.now own.now) own.now (Grew (R.ends reader.old) (R.ends reader.new)) (R.left reader.old) (R.left reader.new) (W.held writer.old) (W.held writer.new) result }
+    ensures faults { IsEndOfReads result (R.reads reader.old) (R.reads reader.new) (R.failed_reads reader.old) (R.failed_reads reader.new) (R.ends reader.old) (R.ends reader.new) }
+    ensures write { result ≡ Err ToolFault.Write → Grew (W.failed_writes writer.old) (W.failed_writes writer.new) }
+{
+    laws::one_verdict();
+    let mut printer = Printer::new(alloc, *form);
+    match tell(alloc, reader, &mut printer, writer, own) {
+        Ok(ended) => match push_verdict(&mut printer, form, ended) {
+            Ok(()) => printer.flush(writer, ended),
+            Err(_) => Err(ToolFault::Memory),
+        },
+        Err(fault) => Err(fault),
+    }
+}
+
 /// Writes a line for each item of the stream that `reader` gives, and then the verdict's line; returns the verdict. The lines
 /// of what was read are written before more is read.
 ///
@@ -96,19 +137,32 @@ pub fn run_show<R: Source, W: Target>(
     requires { (1 ≤ own.now.limit) × (own.now.limit ≤ 1048576) }
     ensures unfailed { result ≢ Err ToolFault.Read → R.failed_reads reader.new ≡ R.failed_reads reader.old }
     ensures reads { R.reads reader.new ≤ R.reads reader.old + 2 ^ 32 }
-    ensures shown { IsWritten (items_in form.Show own.now) (lines_of own.now) own.now (Grew (R.ends reader.old) (R.ends reader.new)) (R.left reader.old) (R.left reader.new) (W.held writer.old) (W.held writer.new) result }
+    ensures shown { IsWritten (items_in shape.Show own.now) (lines_of own.now) own.now (Grew (R.ends reader.old) (R.ends reader.new)) (R.left reader.old) (R.left reader.new) (W.held writer.old) (W.held writer.new) result }
     ensures faults { IsEndOfReads result (R.reads reader.old) (R.reads reader.new) (R.failed_reads reader.old) (R.failed_reads reader.new) (R.ends reader.old) (R.ends reader.new) }
     ensures write { result ≡ Err ToolFault.Write → Grew (W.failed_writes writer.old) (W.failed_writes writer.new) }
 {
-    laws::one_verdict();
-    let mut printer = Printer::new(alloc, Form::Show);
-    match tell(alloc, reader, &mut printer, writer, own) {
-        Ok(ended) => match printer.verdict(ended) {
-            Ok(()) => printer.flush(writer, ended),
-            Err(_) => Err(ToolFault::Memory),
-        },
-        Err(fault) => Err(fault),
-    }
+    run_form(alloc, &Form::Show, reader, writer, own)
+}
+
+/// Writes a JSON object for each item of the stream that `reader` gives, and then one for the verdict; returns the verdict.
+/// Each stands on a line of its own. The objects of what was read are written before more is read.
+///
+/// # Errors
+/// Those of `run_show`.
+pub fn run_json<R: Source, W: Target>(
+    alloc: Global,
+    reader: &mut R,
+    writer: &mut W,
+    own: &Own,
+) -> Result<Ended, ToolFault>
+    requires { (1 ≤ own.now.limit) × (own.now.limit ≤ 1048576) }
+    ensures unfailed { result ≢ Err ToolFault.Read → R.failed_reads reader.new ≡ R.failed_reads reader.old }
+    ensures reads { R.reads reader.new ≤ R.reads reader.old + 2 ^ 32 }
+    ensures shown { IsWritten (items_in shape.Json own.now) (json_lines_of own.now) own.now (Grew (R.ends reader.old) (R.ends reader.new)) (R.left reader.old) (R.left reader.new) (W.held writer.old) (W.held writer.new) result }
+    ensures faults { IsEndOfReads result (R.reads reader.old) (R.reads reader.new) (R.failed_reads reader.old) (R.failed_reads reader.new) (R.ends reader.old) (R.ends reader.new) }
+    ensures write { result ≡ Err ToolFault.Write → Grew (W.failed_writes writer.old) (W.failed_writes writer.new) }
+{
+    run_form(alloc, &Form::Json, reader, writer, own)
 }
 
 /// Writes the script of the items of the stream that `reader` gives, up to its end or a refusal; returns the verdict.

@@ -113,7 +113,7 @@ fn name_and_three(name: &[u8], n: u64, m: u64, k: u64, line: &mut Line, at: usiz
 }
 
 /// Returns the id of `ut_metadata` that an extended handshake announces.
-fn told_metadata(dict: &DictRef) -> Option<u64>
+pub fn told_metadata(dict: &DictRef) -> Option<u64>
     ensures { result ≡ told_id (dictionary dict.now.tree.0) }
 {
     let m = dict.lookup_dict(b"m")?;

@@ -1,0 +1,60 @@
+//! The hint that the first bytes of a refused stream give. The command line calls it.
+ghost use Rattle.std.specs.Prelude.{◌≡◌, true, IfSome};
+ghost use Rattle.bt_hint.specs.Hints.{HasMark, begins as begins_with, protocol};
+
+use crate::kind::{Kind, PROTOCOL, begins, kind_of};
+use crate::places::{find_handshake, find_keep_alives};
+
+/// What the bytes tell. Places are offsets in the stream.
+#[derive(Clone, Copy, PartialEq, Eq, Debug)]
+pub enum Hint {
+    /// They begin as another kind of file.
+    Is(Kind),
+    /// They begin with no handshake, and one stands at this place.
+    Handshake(u64),
+    /// They begin with a handshake, and a second one stands at this place.
+    SecondHandshake(u64),
+    /// From a place on so many bytes are zero, and read as keep-alives.
+    KeepAlives(u64, u64),
+}
+
+/// Returns a hint for bytes that begin with no handshake.
+fn outside(bytes: &[u8]) -> Option<Hint>
+    ensures { IfSome result (HasMark bytes.now) }
+{
+    if let Some(kind) = kind_of(bytes) {
+        return Some(Hint::Is(kind));
+    }
+    let place = find_handshake(bytes)?;
+    Some(Hint::Handshake(place as u64))
+}
+
+/// Returns a hint for a stream that begins with a handshake and is refused at `at`.
+fn inside(bytes: &[u8], at: u64) -> Option<Hint>
+    requires { begins_with protocol bytes.now ≡ true }
+    ensures { IfSome result (HasMark bytes.now) }
+{
+    if let Some(place) = find_handshake(bytes) {
+        if place as u64 <= at {
+            return Some(Hint::SecondHandshake(place as u64));
+        }
+    }
+    let (start, size) = find_keep_alives(bytes)?;
+    if start as u64 > at {
+        return None;
+    }
+    Some(Hint::KeepAlives(start as u64, size as u64))
+}
+
+/// Returns what the first bytes of a stream tell that is refused at the offset `at`.
+///
+/// A place is within these bytes, and not after `at`, unless there is no handshake at the start.
+pub fn hint_of(bytes: &[u8], at: u64) -> Option<Hint>
+    ensures { IfSome result (HasMark bytes.now) }
+{
+    if begins(bytes, PROTOCOL) {
+        inside(bytes, at)
+    } else {
+        outside(bytes)
+    }
+}

@@ -1,0 +1,182 @@
+//! The fields of an item. The module `lines` calls it.
+ghost use Rattle.std.specs.Prelude.{◌≡◌, ◌++◌, ℕ, List, codes, length, OnOk};
+ghost use Rattle.bt_bencode.specs.Trees.{dictionary};
+ghost use Rattle.bt_bencode.specs.declared.tree.Value.TheVariants as value;
+ghost use Rattle.bt_ext.specs.Payloads.{seen as seen_ext};
+ghost use Rattle.bt_ext.specs.declared.ext.Ext.TheVariants as ext;
+ghost use Rattle.bt_wire.specs.Messages.{message_of};
+ghost use Rattle.bt_wire.specs.declared.context.Own.{Own};
+ghost use Rattle.bt_json.specs.Objects.{a_number, announced_fields, ext_fields, handshake_fields, kind_field, message_fields, size_fields};
+
+use crate::fields::{hex_text, number, number_if, text, text_if};
+use bt_bencode::DictRef;
+use bt_ext::{ExtView, Kind, kind_ref, metadata_size_ref};
+use bt_text::lines::told_metadata;
+use bt_wire::{Handshake, MessageView};
+use json::Writer;
+use std::alloc::{AllocError, Global};
+
+/// Adds which kind of item it is.
+fn kind(name: &str, out: &mut Writer) -> Result<(), AllocError>
+    ensures tokens { OnOk result (out.new.tokens ≡ out.old.tokens ++ kind_field name.now) }
+    ensures before { out.new.before ≡ out.old.before }
+{
+    text("item", name, out)
+}
+
+/// Adds the kind and a number.
+fn kind_and_one(name: &str, field: &str, n: u64, out: &mut Writer) -> Result<(), AllocError>
+    ensures tokens { OnOk result (out.new.tokens ≡ out.old.tokens ++ (kind_field name.now ++ a_number field.now n)) }
+    ensures before { out.new.before ≡ out.old.before }
+{
+    kind(name, out)?;
+    number(field, n, out)
+}
+
+/// Adds the kind, an index, a begin and a third number.
+fn kind_and_part(
+    name: &str,
+    index: u32,
+    begin: u32,
+    field: &str,
+    n: u64,
+    out: &mut Writer,
+) -> Result<(), AllocError>
+    ensures tokens { OnOk result (out.new.tokens ≡ out.old.tokens ++ (kind_field name.now ++ (a_number (codes "index") index ++ (a_number (codes "begin") begin ++ a_number field.now n)))) }
+    ensures before { out.new.before ≡ out.old.before }
+{
+    kind_and_one(name, "index", u64::from(index), out)?;
+    number("begin", u64::from(begin), out)?;
+    number(field, n, out)
+}
+
+/// Adds the kind, an id and how many bytes follow it.
+fn kind_and_payload(name: &str, id: u8, bytes: &[u8], out: &mut Writer) -> Result<(), AllocError>
+    ensures tokens { OnOk result (out.new.tokens ≡ out.old.tokens ++ (kind_field name.now ++ (a_number (codes "id") id ++ a_number (codes "bytes") (length bytes.now)))) }
+    ensures before { out.new.before ≡ out.old.before }
+{
+    kind_and_one(name, "id", u64::from(id), out)?;
+    number("bytes", bytes.len() as u64, out)
+}
+
+/// Adds the kind, the length of a dictionary, and how many bytes follow it.
+fn kind_and_sizes(
+    name: &str,
+    dict: &DictRef,
+    rest: &[u8],
+    out: &mut Writer,
+) -> Result<(), AllocError>
+    ensures tokens { OnOk result (out.new.tokens ≡ out.old.tokens ++ (kind_field name.now ++ size_fields (dictionary dict.now.tree.0) rest.now)) }
+    ensures before { out.new.before ≡ out.old.before }
+{
+    kind_and_one(name, "dictionary", dict.spelled().len() as u64, out)?;
+    number("rest", rest.len() as u64, out)
+}
+
+/// Adds what an extended handshake announces.
+fn announced(dict: &DictRef, out: &mut Writer) -> Result<(), AllocError>
+    ensures tokens { OnOk result (out.new.tokens ≡ out.old.tokens ++ announced_fields (dictionary dict.now.tree.0)) }
+    ensures before { out.new.before ≡ out.old.before }
+{
+    number_if("metadata_size", metadata_size_ref(dict), out)?;
+    number_if("ut_metadata", told_metadata(dict), out)?;
+    text_if("client", dict.lookup_bytes(b"v"), out)
+}
+
+/// Adds the fields of an extended handshake.
+fn put_ext_handshake(dict: &DictRef, rest: &[u8], out: &mut Writer) -> Result<(), AllocError>
+    ensures tokens { OnOk result (out.new.tokens ≡ out.old.tokens ++ ext_fields (ext.Handshake (value.Dict dict.now.tree.0) rest.now)) }
+    ensures before { out.new.before ≡ out.old.before }
+{
+    kind_and_sizes("ext-handshake", dict, rest, out)?;
+    announced(dict, out)
+}
+
+/// Adds the fields of a metadata message.
+fn put_metadata(dict: &DictRef, rest: &[u8], out: &mut Writer) -> Result<(), AllocError>
+    ensures tokens { OnOk result (out.new.tokens ≡ out.old.tokens ++ ext_fields (ext.Metadata (value.Dict dict.now.tree.0) rest.now)) }
+    ensures before { out.new.before ≡ out.old.before }
+{
+    match kind_ref(dict) {
+        Kind::Request(piece) => kind_and_one("metadata-request", "piece", u64::from(piece), out),
+        Kind::Data { piece, total } => {
+            kind_and_one("metadata-data", "piece", u64::from(piece), out)?;
+            number("total_size", total, out)?;
+            number("bytes", rest.len() as u64, out)
+        }
+        Kind::Reject(piece) => kind_and_one("metadata-reject", "piece", u64::from(piece), out),
+        Kind::Other => kind_and_sizes("metadata-other", dict, rest, out),
+        Kind::Malformed => kind_and_sizes("metadata-malformed", dict, rest, out),
+    }
+}
+
+/// Adds the fields of an extended message.
+fn put_ext(payload: &ExtView, out: &mut Writer) -> Result<(), AllocError>
+    ensures tokens { OnOk result (out.new.tokens ≡ out.old.tokens ++ ext_fields (seen_ext payload.now)) }
+    ensures before { out.new.before ≡ out.old.before }
+{
+    match payload {
+        ExtView::Handshake { dict, rest } => put_ext_handshake(dict, rest, out),
+        ExtView::Metadata { dict, rest } => put_metadata(dict, rest, out),
+        ExtView::Raw { id, payload } => kind_and_payload("extended", *id, payload, out),
+    }
+}
+
+/// Adds the fields of a message.
+pub fn put_message(view: &MessageView, out: &mut Writer) -> Result<(), AllocError>
+    ensures tokens { OnOk result ((own : Own) → out.new.tokens ≡ out.old.tokens ++ message_fields own (message_of view.now)) }
+    ensures before { out.new.before ≡ out.old.before }
+{
+    match view {
+        MessageView::KeepAlive => kind("keep-alive", out),
+        MessageView::Choke => kind("choke", out),
+        MessageView::Unchoke => kind("unchoke", out),
+        MessageView::Interested => kind("interested", out),
+        MessageView::NotInterested => kind("not-interested", out),
+        MessageView::Have(i) => kind_and_one("have", "index", u64::from(*i), out),
+        MessageView::Bitfield(bits) => kind_and_one("bitfield", "bytes", bits.len() as u64, out),
+        MessageView::Request {
+            index,
+            begin,
+            length,
+        } => kind_and_part("request", *index, *begin, "length", u64::from(*length), out),
+        MessageView::Piece {
+            index,
+            begin,
+            block,
+        } => kind_and_part("piece", *index, *begin, "bytes", block.len() as u64, out),
+        MessageView::Cancel {
+            index,
+            begin,
+            length,
+        } => kind_and_part("cancel", *index, *begin, "length", u64::from(*length), out),
+        MessageView::Port(port) => kind_and_one("port", "port", u64::from(*port), out),
+        MessageView::Suggest(i) => kind_and_one("suggest", "index", u64::from(*i), out),
+        MessageView::HaveAll => kind("have-all", out),
+        MessageView::HaveNone => kind("have-none", out),
+        MessageView::Reject {
+            index,
+            begin,
+            length,
+        } => kind_and_part("reject", *index, *begin, "length", u64::from(*length), out),
+        MessageView::AllowedFast(i) => kind_and_one("allowed-fast", "index", u64::from(*i), out),
+        MessageView::Extended(payload) => put_ext(payload, out),
+        MessageView::Unknown { id, payload } => kind_and_payload("unknown", *id, payload, out),
+    }
+}
+
+/// Adds the fields of a handshake.
+pub fn put_handshake(
+    alloc: Global,
+    handshake: &Handshake,
+    out: &mut Writer,
+) -> Result<(), AllocError>
+    ensures tokens { OnOk result (out.new.tokens ≡ out.old.tokens ++ handshake_fields handshake.now) }
+    ensures before { out.new.before ≡ out.old.before }
+{
+    kind("handshake", out)?;
+    hex_text(alloc, "reserved", &handshake.reserved.0.to_be_bytes(), out)?;
+    hex_text(alloc, "info_hash", &handshake.info_hash, out)?;
+    hex_text(alloc, "peer_id", &handshake.peer_id, out)?;
+    text_if("peer_id_text", Some(&handshake.peer_id), out)
+}

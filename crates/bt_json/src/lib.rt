@@ -1,0 +1,10 @@
+//! The lines of `show --json`: a JSON object (RFC 8259) for each item, and one for the verdict.
+//!
+//! The printer of `bt_jobs` calls [`handshake_line`] and [`message_line`], and the command [`verdict_line`].
+#![tactic(auto)]
+
+mod fields;
+mod items;
+mod lines;
+
+pub use lines::{handshake_line, message_line, verdict_line};
