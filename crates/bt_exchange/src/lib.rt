@@ -1,0 +1,22 @@
+//! One end of a connection over a device: the loop that sends, reads and takes turns, and fetching from several peers.
+#![tactic(auto)]
+
+mod both;
+mod connection;
+mod fetching;
+mod hearing;
+mod sided;
+mod stream;
+mod talking;
+mod tcp;
+mod wire;
+
+pub use both::{Both, BothError, run_both};
+pub use connection::Connection;
+pub use fetching::{Dial, FetchError, fetch};
+pub use hearing::Hearing;
+pub use sided::Sided;
+pub use stream::Stream;
+pub use talking::{Limits, Step, Stop, advance, exchange};
+pub use tcp::{TcpWire, open_tcp};
+pub use wire::{Side, Wire, WireFault};
