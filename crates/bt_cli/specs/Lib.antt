@@ -1,3 +1,4 @@
 pub mod Commands
 pub mod Options
 pub mod Runs
+pub mod Fetches

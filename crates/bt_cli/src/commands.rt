@@ -2,6 +2,7 @@
 ghost use Rattle.std.specs.Prelude.{◌≡◌};
 ghost use Rattle.bt_cli.specs.Commands.{IsDefault, notice_status, status_of as status_by, pack_status_of as pack_status_by, default_rules as rules_by_default};
 
+use crate::fetch::FetchJob;
 use bt_ext::{ExtId, Registered, Rules};
 use bt_text::ended::{Ended, PackEnd, ToolFault};
 use bt_wire::{Own, Reserved};
@@ -46,6 +47,8 @@ pub enum Asked {
     Run(Job, Own),
     /// The link of two ends, which a script describes.
     Link,
+    /// A fetch of metadata from peers.
+    Fetch(FetchJob),
     /// A text and no work.
     Told(Notice, String),
 }

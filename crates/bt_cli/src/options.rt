@@ -6,6 +6,7 @@ ghost use Rattle.bt_cli.specs.Commands.{HasLimit, HasNotice, IsLimited, IsShowBy
 ghost use Rattle.bt_cli.specs.Options.{IsChosen, IsWritten};
 
 use crate::commands::{Asked, Job, Notice, default_own};
+use crate::fetch::{Mistake, fetch_asked};
 use crate::values::{Setting, Written, own_of};
 use bt_wire::Own;
 use clap::error::ErrorKind;
@@ -18,8 +19,8 @@ Judges the bytes that a BitTorrent peer sends (BEP 3, 5, 6, 9 and 10).
 
 Usage: bt_tool [COMMAND [OPTIONS]]
 
-Commands read standard input: 'pack' and 'link' a script, the others a stream, from its handshake on. No words at all mean
-'show'.
+Commands read standard input: 'pack' and 'link' a script, 'fetch' nothing, the others a stream, from its handshake on. No
+words at all mean 'show'.
 
 Commands:
   show    Prints a line for each item of the stream, and then the verdict
@@ -27,6 +28,7 @@ Commands:
   unpack  Prints a script: a line for each item, with all of its bytes
   pack    Writes the stream of a script, up to the first line that isn't taken
   link    Runs two ends against each other, step by step, as a script of its own says
+  fetch   Fetches the metadata of a torrent from peers: fetch INFOHASH ADDRESS..
   help    Prints this text
 
 Options, which stand after the command and describe the receiver of the stream ('link' has none):
@@ -41,16 +43,26 @@ Options, which stand after the command and describe the receiver of the stream (
   -h, --help              Prints this text
   -V, --version           Prints the name and version (without a command)
 
+Options of 'fetch', whose INFOHASH is 40 hex digits, and each ADDRESS is IP:PORT or [IPv6]:PORT:
+      --rules <RULES>     As above [default: bep]
+      --limit <N>         As above, from 32768 on [default: 262144]
+      --patience <N>      The seconds without progress after which a connection ends [default: 30]
+      --window <N>        How many blocks are asked for at once: 1 to 8 [default: 8, and 1 when a peer that fell silent
+                          is tried again]
+      --most <BYTES>      The greatest size of metadata that is taken: 1 to 67108864 [default: 67108864]
+      --torrent           Writes a .torrent in place of the metadata alone
+
 Examples:
   bt_tool show --pieces 10 --rules bep < stream.bin
   bt_tool check --reserved 0000000000100004 < stream.bin
   bt_tool unpack < stream.bin > script.txt
   bt_tool pack < script.txt > stream.bin
   bt_tool link < examples/link.txt
+  bt_tool fetch --torrent a9993e364706816aba3e25717850c26c9cd0d89d 192.0.2.1:6881 > a.torrent
 
 Exit status:
-  0  the stream or the script is accepted, the link ran, or a text was asked for
-  1  the stream is refused, or a line of the script is, or the two ends of a link don't match
+  0  the stream or the script is accepted, the link ran, the metadata was fetched, or a text was asked for
+  1  the stream is refused, or a line of the script is, the two ends of a link don't match, or nothing was fetched
   2  the words are no command line
   3  a read or a write failed, there was no memory, or the input had no end
 ";
@@ -94,6 +106,27 @@ fn link_command<'a>(alloc: Global) -> Command<'a> {
         .override_help(HELP)
 }
 
+/// Returns the command `fetch` with its options.
+fn fetch_command<'a>(alloc: Global) -> Result<Command<'a>, AllocError> {
+    Ok(
+        Command::new(alloc, "fetch")
+            .override_usage(CALL)
+            .override_help(HELP)
+            .arg(Arg::new(alloc, "INFOHASH").required(true))?
+            .arg(Arg::new(alloc, "ADDRESS").required(true).num_args(1..))?
+            .arg(option(alloc, "rules", "RULES"))?
+            .arg(option(alloc, "limit", "N"))?
+            .arg(option(alloc, "patience", "SECONDS"))?
+            .arg(option(alloc, "window", "N"))?
+            .arg(option(alloc, "most", "BYTES"))?
+            .arg(
+                Arg::new(alloc, "torrent")
+                    .long("torrent")
+                    .action(ArgAction::SetTrue),
+            )?,
+    )
+}
+
 /// Returns the commands, each with its options.
 fn command_line<'a>(alloc: Global) -> Result<Command<'a>, AllocError> {
     Ok(
@@ -107,7 +140,8 @@ fn command_line<'a>(alloc: Global) -> Result<Command<'a>, AllocError> {
             .subcommand(job_command(alloc, "check")?)?
             .subcommand(job_command(alloc, "unpack")?)?
             .subcommand(job_command(alloc, "pack")?)?
-            .subcommand(link_command(alloc))?,
+            .subcommand(link_command(alloc))?
+            .subcommand(fetch_command(alloc)?)?,
     )
 }
 
@@ -214,6 +248,13 @@ pub fn asked(alloc: Global, words: &[String]) -> Result<Asked, AllocError>
     };
     if name == "link" {
         return Ok(Asked::Link);
+    }
+    if name == "fetch" {
+        return match fetch_asked(alloc, options) {
+            Ok(job) => Ok(Asked::Fetch(job)),
+            Err(Mistake::Text(what)) => mistake(alloc, &mut command, what),
+            Err(Mistake::Memory) => Err(AllocError),
+        };
     }
     match chosen(name, options) {
         Ok((job, own)) => Ok(Asked::Run(job, own)),

@@ -2,6 +2,7 @@
 #![tactic(auto)]
 
 use bt_cli::commands::{Asked, Notice};
+use bt_cli::fetch::{end_fetch, run_fetch};
 use bt_cli::link::link;
 use bt_cli::notice::{fail, tell};
 use bt_cli::options::{NO_TEXT, asked};
@@ -34,6 +35,11 @@ fn main(rt: HostRuntime) -> ExitCode {
                 exit_status(run(alloc, job, &own, &mut reader, &mut writer, &mut errors))
             }
             Ok(Asked::Link) => link_status(&link(alloc, &mut reader, &mut writer, &mut errors)),
+            Ok(Asked::Fetch(job)) => {
+                let is_terminal = stderr.is_terminal();
+                let fetched = run_fetch(&rt, alloc, &job, is_terminal, &mut writer, &mut errors);
+                end_fetch(fetched, &mut errors)
+            }
             Ok(Asked::Told(notice, text)) => tell(notice, text.as_str(), &mut writer, &mut errors),
             Err(_) => fail(ToolFault::Memory, &mut errors),
         },
