@@ -10,6 +10,7 @@ use bt_cli::run::{exit_status, run};
 use bt_feed::Host;
 use bt_rig::status as link_status;
 use bt_text::ended::ToolFault;
+use std::io::IsTerminal;
 use std::process::ExitCode;
 use std::rt::Env;
 use std::{env, io};
