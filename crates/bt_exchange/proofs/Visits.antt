@@ -2,11 +2,11 @@
 use Rattle.std.proofs.Common.{◌≡◌, ℕ, List, [], ◌∷◌, ◌++◌, refl, sym, ap, subst, ◌∙◌}
 use Rattle.bt_wire.specs.declared.item.Item.{Item}
 use Rattle.bt_wire.specs.declared.handshake.Handshake.{Handshake}
-use Rattle.bt_end.specs.Ends.{EndState, Part, react, renewed}
+use Rattle.bt_end.specs.Ends.{EndState, react, renewed}
 use Rattle.bt_end.specs.Halves.{HalfState, connected}
 use Rattle.bt_end.specs.Sturdy.{IsPartOf, IsEnd}
 use Rattle.bt_end.proofs.Reactions.{react_keeps}
-use Rattle.bt_exchange.specs.Courses.{end_after, Course, IsMoved, Moment}
+use Rattle.bt_exchange.specs.Courses.{end_after, IsMoved, Moment}
 use Rattle.bt_exchange.specs.Fetches.{visited, IsVisited}
 
 visited_both : (e : EndState) (xs ys : List (List (ℕ × Item))) → visited e (xs ++ ys) ≡ visited (visited e xs) ys

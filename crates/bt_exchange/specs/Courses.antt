@@ -1,8 +1,7 @@
 -- What an end does over a connection.
-use Rattle.std.specs.Prelude.{◌≡◌, ℕ, ◌≤◌, List, [], ◌∷◌, ◌++◌, Option, Some, None, Result, Ok, Err}
+use Rattle.std.specs.Prelude.{◌≡◌, ℕ, List, [], ◌∷◌, ◌++◌, Option, Some, None, Result, Ok, Err}
 use Rattle.std.specs.Io.KnownBytes.{Consumes, Appends, Keeps}
 use Rattle.bt_wire.specs.declared.item.Item.{Item}
-use Rattle.bt_feed.specs.Stages.{limit_of}
 use Rattle.bt_feed.specs.Pumps.{IsFed}
 use Rattle.bt_end.specs.Ends.{EndState, react, spelled}
 use Rattle.bt_end.specs.Halves.{HalfState}
@@ -16,7 +15,7 @@ Fills old new (Err e) bytes = (bytes ≡ []) × Keeps old.coming new.coming × (
 
 -- ---- an end between two moments
 
--- the end behind these items
+-- the end after these items
 abbrev pub end_after : EndState → List (ℕ × Item) → EndState
 end_after e [] = e
 end_after e (x ∷ xs) = end_after (react e x.1).end xs
@@ -26,12 +25,11 @@ abbrev pub replies : EndState → List (ℕ × Item) → List ℕ
 replies e [] = []
 replies e (x ∷ xs) = spelled (react e x.1).end (react e x.1).queued ++ replies (react e x.1).end xs
 
--- These bytes were given to the end and those were sent of it: items came of the former, the end reacted to each, and what was sent
--- is the front of what waited and of what it queued, none lost and none sent twice.
+-- The bytes `heard` were given to the end, and it sent the bytes `sent`: `heard` has these items, the end reacted to each, and
+-- `sent` is a prefix of what waited and of what it queued, none lost and none sent twice.
 pub record Course (old new : HalfState) (heard sent : List ℕ) : Type 0 where
   pub items : List (ℕ × Item)
-  pub fed : limit_of old.feed.stage ≤ 1048576 → IsFed old.feed heard items new.feed
-  pub limit : limit_of new.feed.stage ≡ limit_of old.feed.stage
+  pub fed : IsFed old.feed heard items new.feed
   pub end : new.end ≡ end_after old.end items
   pub bytes : old.outbox ++ replies old.end items ≡ sent ++ new.outbox
 

@@ -4,3 +4,4 @@ pub mod Stops
 pub mod Fetches
 pub mod Sides
 pub mod Boths
+pub mod Watches

@@ -9,8 +9,8 @@ ghost use Rattle.bt_exchange.specs.Fetches.{IsVisited, IsWritten};
 use crate::connection::Connection;
 use crate::hearing::Hearing;
 use crate::talking::{Limits, Stop, exchange};
-use bt_io::{Memory, Target, write_front};
 use bt_end::End;
+use bt_io::{Memory, Target, write_front};
 use thiserror::Error;
 
 /// Opens connections, and is told how each ended.

@@ -1,11 +1,11 @@
-//! Bytes that were read and not yet given to the end.
+//! Bytes that were read and not yet given to the end. The loops of this crate call it.
 ghost use Rattle.std.specs.Prelude.{◌≡◌, ◌≤◌, [], length, drop, take, IfOk, IfSome};
 ghost use Rattle.bt_exchange.specs.Connections.{read_counts};
 ghost use Rattle.bt_exchange.specs.Courses.{Fills};
 
 use crate::connection::Connection;
 use bt_io::{Failed, Memory};
-use std::alloc::Global;
+use std::alloc::{Allocator, Global};
 use std::marker::Model;
 
 /// How many bytes are read at once, at most.
@@ -13,13 +13,13 @@ const SIZE: usize = 65_536;
 
 /// Bytes that were read and not yet given to the end.
 #[derive(Drop)]
-pub struct Hearing {
-    buffer: Vec<u8>,
+pub struct Hearing<A: Allocator = Global> {
+    buffer: Vec<u8, A>,
     at: usize,
     filled: usize,
 }
 
-impl Model for Hearing {
+impl<A: Allocator> Model for Hearing<A> {
     ghost use Rattle.std.specs.Prelude.{ℕ, List, ◌≤◌, ◌<◌, drop, take, vec_len};
 
     ghost Value = { List ℕ };
@@ -29,9 +29,9 @@ impl Model for Hearing {
     ghost invariant = { λ a. (a.at ≤ a.filled) × (a.filled ≤ vec_len a.buffer) × (0 < vec_len a.buffer) };
 }
 
-impl Hearing {
-    /// None was read.
-    pub fn new(alloc: Global) -> Result<Hearing, Memory>
+impl<A: Allocator> Hearing<A> {
+    /// Makes the buffer; no bytes were read.
+    pub fn new(alloc: A) -> Result<Hearing<A>, Memory>
         ensures { IfOk result (λ h. h ≡ []) }
     {
         let mut buffer = Vec::new(alloc);
@@ -45,14 +45,14 @@ impl Hearing {
         })
     }
 
-    /// The bytes.
+    /// The bytes that were read and not yet given.
     pub fn bytes(&self) -> &[u8]
         ensures { result.now ≡ self.now }
     {
         &self.buffer[self.at..self.filled]
     }
 
-    /// The first n of them were given to the end.
+    /// Drops the first n of them, which were given to the end.
     pub fn pass(&mut self, n: usize)
         requires { n ≤ length self.old }
         ensures { self.new ≡ drop n self.old }
@@ -60,7 +60,7 @@ impl Hearing {
         self.at += n;
     }
 
-    /// None is left.
+    /// Drops all of them.
     pub fn clear(&mut self)
         ensures { self.new ≡ [] }
     {

@@ -17,6 +17,6 @@ pub use fetching::{Dial, FetchError, fetch};
 pub use hearing::Hearing;
 pub use sided::Sided;
 pub use stream::Stream;
-pub use talking::{Limits, Step, Stop, advance, exchange};
+pub use talking::{Limits, Sign, Step, Stop, advance, exchange};
 pub use tcp::{TcpWire, open_tcp};
 pub use wire::{Side, Wire, WireFault};

@@ -14,7 +14,8 @@ pub struct Sided<W: Wire + Drop> {
     /// How many bytes are under way to each side.
     to_left: u64,
     to_right: u64,
-    waits: u64,
+    calls: u64,
+    time: u64,
 }
 
 impl<W: Wire + Drop> Sided<W> {
@@ -27,7 +28,8 @@ impl<W: Wire + Drop> Sided<W> {
             side: Side::Left,
             to_left: 0,
             to_right: 0,
-            waits: 0,
+            calls: 0,
+            time: 0,
         }
     }
 
@@ -41,7 +43,7 @@ impl<W: Wire + Drop> Sided<W> {
 
     /// As many bytes were received.
     fn came(&mut self, count: u64)
-        ensures { (self.new.wire ≡ self.old.wire) × (self.new.waits ≡ self.old.waits) × (self.new.side ≡ self.old.side) }
+        ensures { (self.new.wire ≡ self.old.wire) × (self.new.calls ≡ self.old.calls) × (self.new.time ≡ self.old.time) × (self.new.side ≡ self.old.side) }
     {
         match self.side {
             Side::Left => self.to_left = self.to_left.saturating_sub(count),
@@ -51,7 +53,7 @@ impl<W: Wire + Drop> Sided<W> {
 
     /// As many bytes were sent.
     fn went(&mut self, count: u64)
-        ensures { (self.new.wire ≡ self.old.wire) × (self.new.waits ≡ self.old.waits) × (self.new.side ≡ self.old.side) }
+        ensures { (self.new.wire ≡ self.old.wire) × (self.new.calls ≡ self.old.calls) × (self.new.time ≡ self.old.time) × (self.new.side ≡ self.old.side) }
     {
         match self.side {
             Side::Left => self.to_right = self.to_right.saturating_add(count),
@@ -63,12 +65,15 @@ impl<W: Wire + Drop> Sided<W> {
 impl<W: Wire + Drop> Connection for Sided<W> {
     ghost use Rattle.std.specs.Prelude.{None};
 
-    ghost seen = { λ s. record { coming = None; gone = None; counts = record { ends = 0; failed = W.failed s.wire; waits = s.waits } } };
+    ghost seen = { λ s. record {
+      coming = None;
+      gone = None;
+      counts = record { calls = s.calls; ends = 0; failed = W.failed s.wire; clock = s.time };
+    } };
 
     fn read(&mut self, into: &mut [u8]) -> Result<Option<usize>, Failed> {
-        let coming = self.coming();
-        if coming == 0 {
-            self.waits = self.waits.saturating_add(1);
+        self.calls = self.calls.saturating_add(1);
+        if self.coming() == 0 {
             return Ok(None);
         }
         let side = self.side;
@@ -78,7 +83,6 @@ impl<W: Wire + Drop> Connection for Sided<W> {
                     return Err(Failed);
                 }
                 self.came(count as u64);
-                self.waits = 0;
                 Ok(Some(count))
             }
             Err(_) => Err(Failed),
@@ -86,6 +90,7 @@ impl<W: Wire + Drop> Connection for Sided<W> {
     }
 
     fn write(&mut self, from: &[u8]) -> Result<Option<usize>, Failed> {
+        self.calls = self.calls.saturating_add(1);
         let side = self.side;
         match self.wire.send(side, from) {
             Ok(count) => {
@@ -93,10 +98,13 @@ impl<W: Wire + Drop> Connection for Sided<W> {
                     return Ok(Some(0));
                 }
                 self.went(count as u64);
-                self.waits = 0;
                 Ok(Some(count))
             }
             Err(_) => Err(Failed),
         }
+    }
+
+    fn now(&mut self) -> u64 {
+        self.time
     }
 }

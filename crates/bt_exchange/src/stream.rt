@@ -1,77 +1,87 @@
-//! A connection over a stream of std, as a TCP stream whose reads and writes have a time limit.
+//! A connection over a stream of std, as a TCP stream whose reads and writes have a time limit. Fetching and serving use it.
 use crate::connection::Connection;
+use crate::wire::counted;
 use bt_io::Failed;
+use std::io;
 use std::io::{ErrorKind, Read, Write};
+use std::time::Clock;
 
 /// A connection over a stream. A call that meets the stream's time limit finds that nothing can be moved yet.
 #[derive(Drop)]
-pub struct Stream<S: Read + Write + Drop> {
+pub struct Stream<S: Read + Write + Drop, K: Clock + Drop> {
     stream: S,
+    clock: K,
+    calls: u64,
     ends: u64,
     failed: u64,
-    waits: u64,
+    time: u64,
 }
 
-impl<S: Read + Write + Drop> Stream<S> {
+/// Whether the error says that nothing can be moved yet.
+fn is_wait(error: &io::Error) -> bool {
+    matches!(
+        error.kind(),
+        ErrorKind::WouldBlock | ErrorKind::TimedOut | ErrorKind::Interrupted
+    )
+}
+
+impl<S: Read + Write + Drop, K: Clock + Drop> Stream<S, K> {
     /// The connection, with no call made.
-    pub fn new(stream: S) -> Stream<S> {
+    pub fn new(stream: S, clock: K) -> Stream<S, K> {
         Stream {
             stream,
+            clock,
+            calls: 0,
             ends: 0,
             failed: 0,
-            waits: 0,
+            time: 0,
         }
     }
 }
 
-impl<S: Read + Write + Drop> Connection for Stream<S> {
+impl<S: Read + Write + Drop, K: Clock + Drop> Connection for Stream<S, K> {
     ghost use Rattle.std.specs.Prelude.{None};
 
-    ghost seen = { λ s. record { coming = None; gone = None; counts = record { ends = s.ends; failed = s.failed; waits = s.waits } } };
+    ghost seen = { λ s. record {
+      coming = None;
+      gone = None;
+      counts = record { calls = s.calls; ends = s.ends; failed = s.failed; clock = s.time };
+    } };
 
     fn read(&mut self, into: &mut [u8]) -> Result<Option<usize>, Failed> {
+        self.calls = self.calls.saturating_add(1);
         match self.stream.read(into) {
-            Ok(0) if !into.is_empty() => {
-                self.ends = self.ends.saturating_add(1);
-                Ok(Some(0))
-            }
             Ok(count) => {
-                self.waits = 0;
+                self.ends = counted(count == 0 && !into.is_empty(), self.ends);
                 Ok(Some(count))
             }
-            Err(error) => match error.kind() {
-                ErrorKind::WouldBlock | ErrorKind::TimedOut | ErrorKind::Interrupted => {
-                    self.waits = self.waits.saturating_add(1);
-                    Ok(None)
-                }
-                _ => {
-                    self.failed = self.failed.saturating_add(1);
-                    Err(Failed)
-                }
-            },
+            Err(error) if is_wait(&error) => Ok(None),
+            Err(_) => {
+                self.failed = self.failed.saturating_add(1);
+                Err(Failed)
+            }
         }
     }
 
     fn write(&mut self, from: &[u8]) -> Result<Option<usize>, Failed> {
+        self.calls = self.calls.saturating_add(1);
         match self.stream.write(from) {
-            Ok(0) if !from.is_empty() => {
-                self.failed = self.failed.saturating_add(1);
-                Ok(Some(0))
-            }
             Ok(count) => {
-                self.waits = 0;
+                self.failed = counted(count == 0 && !from.is_empty(), self.failed);
                 Ok(Some(count))
             }
-            Err(error) => match error.kind() {
-                ErrorKind::WouldBlock | ErrorKind::TimedOut | ErrorKind::Interrupted => {
-                    self.waits = self.waits.saturating_add(1);
-                    Ok(None)
-                }
-                _ => {
-                    self.failed = self.failed.saturating_add(1);
-                    Err(Failed)
-                }
-            },
+            Err(error) if is_wait(&error) => Ok(None),
+            Err(_) => {
+                self.failed = self.failed.saturating_add(1);
+                Err(Failed)
+            }
         }
+    }
+
+    fn now(&mut self) -> u64 {
+        if let Ok(time) = self.clock.monotonic() {
+            self.time = time.as_secs();
+        }
+        self.time
     }
 }

@@ -1,13 +1,17 @@
-//! The loop over one connection.
-ghost use Rattle.std.specs.Prelude.{◌<◌, ◌≤◌, ℕ, List, length, OnOk, IfOk, IfErr};
-ghost use Rattle.bt_exchange.specs.Connections.{Seen, Counts};
-ghost use Rattle.bt_exchange.specs.Courses.{IsMoved};
-ghost use Rattle.bt_exchange.specs.Stops.{IsCalm, IsStep, IsStopped};
+//! The loop over one connection. Fetching and serving call [`exchange`]; two ends over one wire call [`advance`].
+ghost use Rattle.std.specs.Prelude.{◌≡◌, ◌<◌, ◌≤◌, ℕ, true, false, List, [], length, is_some, Ok};
+ghost use Rattle.bt_feed.specs.Progress.{IsFeed};
+ghost use Rattle.bt_end.specs.Ends.{metadata_of, progress_of};
+ghost use Rattle.bt_exchange.specs.Connections.{Seen};
+ghost use Rattle.bt_exchange.specs.Courses.{Moment};
+ghost use Rattle.bt_exchange.specs.Stops.{IsCalm, IsAdvanced, IsMade, IsMark, IsExchanged, is_done, is_still, steps_of};
+ghost use Rattle.bt_exchange.specs.Watches.{IsVerdict, IsWatched, is_over};
 
 use crate::connection::Connection;
 use crate::hearing::Hearing;
-use bt_end::{End, Turn, TurnError};
+use bt_end::{End, Progress, Turn, TurnError};
 use bt_wire::Refusal;
+use std::alloc::Allocator;
 
 /// What a step did.
 #[derive(Clone, Copy, PartialEq, Eq, Debug)]
@@ -27,18 +31,31 @@ pub enum Step {
 pub enum Stop {
     /// The metadata is there.
     Done,
+    /// No block can come any more on this connection: see [`End::is_hopeless`].
+    Hopeless,
+    /// The blocks that came were twice those of other metadata.
+    Mismatch,
     /// The peer closed the connection.
     Closed,
-    /// As many calls in a row as the patience found that nothing can be moved yet.
+    /// No sign of life was seen for as long as the patience.
     Silent,
     /// A call of the connection failed.
     Failed,
     /// What came is refused.
     Refused(Refusal),
-    /// So many steps were made.
+    /// As many steps were made as may be.
     Rounds,
     /// Out of memory.
     Memory,
+}
+
+/// What counts as a sign of life.
+#[derive(Clone, Copy, PartialEq, Eq, Debug)]
+pub enum Sign {
+    /// Bytes that were read or written.
+    Bytes,
+    /// Progress of the fetch: see [`End::progress`].
+    Progress,
 }
 
 /// How long an exchange goes on.
@@ -46,19 +63,26 @@ pub enum Stop {
 pub struct Limits {
     /// The number of steps. Each writes once, reads once or handles an item.
     pub rounds: u64,
-    /// The number of calls in a row that find that nothing can be moved yet.
+    /// The number of seconds without a sign of life, by the connection's clock.
     pub patience: u64,
+    pub sign: Sign,
+}
+
+/// The time of the last sign of life, and how far the fetch had come.
+#[derive(Clone, Copy, PartialEq, Eq, Debug)]
+struct Watch {
+    since: u64,
+    progress: Option<Progress>,
 }
 
 /// Makes one step: a write, where the end has something to send; else a turn, where bytes wait for it; else a read.
-pub fn advance<C: Connection>(
+pub fn advance<C: Connection, A: Allocator + Copy>(
     connection: &mut C,
-    end: &mut End,
-    hearing: &mut Hearing,
+    end: &mut End<A>,
+    hearing: &mut Hearing<A>,
 ) -> Result<Step, Stop>
-    ensures moved { IsMoved (record { seen = C.seen connection.old; pending = hearing.old; half = end.old })
-        (record { seen = C.seen connection.new; pending = hearing.new; half = end.new }) }
-    ensures counts { IsStep (C.seen connection.old).counts (C.seen connection.new).counts end.new result }
+    ensures { IsAdvanced (record { seen = C.seen connection.old; pending = hearing.old; half = end.old })
+        (record { seen = C.seen connection.new; pending = hearing.new; half = end.new }) result }
 {
     if !end.outgoing().is_empty() {
         return send(connection, end);
@@ -75,11 +99,13 @@ pub fn advance<C: Connection>(
 }
 
 /// Writes once.
-fn send<C: Connection>(connection: &mut C, end: &mut End) -> Result<Step, Stop>
+fn send<C: Connection, A: Allocator + Copy>(
+    connection: &mut C,
+    end: &mut End<A>,
+) -> Result<Step, Stop>
     requires { 0 < length end.old.outbox }
-    ensures moved { (pending : List ℕ) → IsMoved (record { seen = C.seen connection.old; pending = pending; half = end.old })
-        (record { seen = C.seen connection.new; pending = pending; half = end.new }) }
-    ensures counts { IsStep (C.seen connection.old).counts (C.seen connection.new).counts end.new result }
+    ensures { (pending : List ℕ) → IsAdvanced (record { seen = C.seen connection.old; pending = pending; half = end.old })
+        (record { seen = C.seen connection.new; pending = pending; half = end.new }) result }
 {
     match connection.write(end.outgoing()) {
         Ok(Some(0)) => Err(Stop::Failed),
@@ -93,10 +119,12 @@ fn send<C: Connection>(connection: &mut C, end: &mut End) -> Result<Step, Stop>
 }
 
 /// Gives the end bytes, up to the end of an item, and handles it where it is whole.
-fn take_turn(end: &mut End, hearing: &mut Hearing) -> Result<Step, Stop>
-    ensures moved { (seen : Seen) → IsMoved (record { seen = seen; pending = hearing.old; half = end.old })
-        (record { seen = seen; pending = hearing.new; half = end.new }) }
-    ensures counts { (counts : Counts) → IsStep counts counts end.new result }
+fn take_turn<A: Allocator + Copy>(end: &mut End<A>, hearing: &mut Hearing<A>) -> Result<Step, Stop>
+    requires feed { IsFeed end.old.feed }
+    requires sent { length end.old.outbox ≡ 0 }
+    requires pending { 0 < length hearing.old }
+    ensures { (seen : Seen) → IsAdvanced (record { seen = seen; pending = hearing.old; half = end.old })
+        (record { seen = seen; pending = hearing.new; half = end.new }) result }
 {
     let n = end.receive(hearing.bytes());
     hearing.pass(n);
@@ -104,63 +132,106 @@ fn take_turn(end: &mut End, hearing: &mut Hearing) -> Result<Step, Stop>
         Ok(Turn::Handled) => Ok(Step::Handled),
         Ok(Turn::Idle) => Ok(Step::Held),
         Err(TurnError::Refused(refusal)) => Err(Stop::Refused(refusal)),
-        Err(TurnError::Busy) => Ok(Step::Held),
+        Err(TurnError::Busy) => unreachable!(),
         Err(TurnError::Memory) => Err(Stop::Memory),
     }
 }
 
-/// Makes a step, unless the metadata is there, and says how many calls in a row, at least, found that nothing can be moved yet.
-fn round<C: Connection>(
-    connection: &mut C,
-    end: &mut End,
-    hearing: &mut Hearing,
-    silent: u64,
-    patience: u64,
-) -> Result<u64, Stop>
-    requires { silent ≤ (C.seen connection.old).counts.waits }
-    ensures moved { IsMoved (record { seen = C.seen connection.old; pending = hearing.old; half = end.old })
-        (record { seen = C.seen connection.new; pending = hearing.new; half = end.new }) }
-    ensures calm { OnOk result (IsCalm (C.seen connection.old).counts (C.seen connection.new).counts) }
-    ensures silent { IfOk result (λ n. n ≤ (C.seen connection.new).counts.waits) }
-    ensures stop { IfErr result (λ e. IsStopped patience (C.seen connection.old).counts (C.seen connection.new).counts end.new e) }
+/// Whether, and why, a fetch is over.
+fn verdict<A: Allocator + Copy>(end: &End<A>) -> Option<Stop>
+    ensures { IsVerdict end.now.end result }
 {
     if end.metadata().is_some() {
-        return Err(Stop::Done);
-    }
-    match advance(connection, end, hearing)? {
-        Step::Moved => Ok(0),
-        Step::Handled | Step::Held => Ok(silent),
-        Step::Waited => {
-            let silent = silent.saturating_add(1);
-            if silent >= patience {
-                return Err(Stop::Silent);
-            }
-            Ok(silent)
-        }
+        Some(Stop::Done)
+    } else if end.mismatches() >= 2 {
+        Some(Stop::Mismatch)
+    } else if end.is_hopeless() {
+        Some(Stop::Hopeless)
+    } else {
+        None
     }
 }
 
-/// Makes steps until the metadata is there, the connection ends, fails or is silent, what comes is refused, or so many steps
-/// were made.
-pub fn exchange<C: Connection>(
-    connection: &mut C,
-    end: &mut End,
-    hearing: &mut Hearing,
-    limits: Limits,
-) -> Stop
-    ensures moved { IsMoved (record { seen = C.seen connection.old; pending = hearing.old; half = end.old })
-        (record { seen = C.seen connection.new; pending = hearing.new; half = end.new }) }
-    ensures stop { IsStopped limits.patience (C.seen connection.old).counts (C.seen connection.new).counts end.new result }
+/// Whether a step showed a sign of life, where the fetch had come this far before it.
+fn is_alive<A: Allocator + Copy>(
+    sign: Sign,
+    step: Step,
+    before: Option<Progress>,
+    end: &End<A>,
+) -> bool
+    ensures progress { sign ≡ Sign.Progress → step ≡ Step.Handled → result ≡ false → before ≡ progress_of end.now.end.part }
+    ensures bytes { sign ≡ Sign.Bytes → result ≡ false → is_still (Ok step) ≡ true }
 {
-    let mut silent = 0;
-    for _round in 0..limits.rounds {
-        match round(connection, end, hearing, silent, limits.patience) {
-            Ok(count) => silent = count,
-            Err(stop) => return stop,
+    match (sign, step) {
+        (Sign::Bytes, Step::Moved) => true,
+        (Sign::Progress, Step::Handled) => end.progress() != before,
+        _ => false,
+    }
+}
+
+/// Makes a step, and keeps watch.
+fn round<C: Connection, A: Allocator + Copy>(
+    connection: &mut C,
+    end: &mut End<A>,
+    hearing: &mut Hearing<A>,
+    limits: Limits,
+    watch: Watch,
+) -> Result<Watch, Stop>
+    requires progress { limits.sign ≡ Sign.Progress → watch.progress ≡ progress_of end.old.end.part }
+    requires undone { is_some (metadata_of end.old.end.part) ≡ false }
+    ensures made { (n : ℕ) × (steps_of result ≤ n) × (n ≤ 1) × IsMade n (record { seen = C.seen connection.old; pending = hearing.old; half = end.old })
+        (record { seen = C.seen connection.new; pending = hearing.new; half = end.new }) }
+    ensures watched { (start : Moment) → IsMark limits.sign watch.since start (record { seen = C.seen connection.old; pending = hearing.old; half = end.old })
+        → IsCalm start.seen.counts (C.seen connection.old).counts
+        → IsWatched limits start (record { seen = C.seen connection.new; pending = hearing.new; half = end.new }) result }
+    ensures done { is_over result ≡ is_some (metadata_of end.new.end.part) }
+{
+    let step = match advance(connection, end, hearing) {
+        Ok(step) => step,
+        Err(stop) => return Err(stop),
+    };
+    if let Step::Handled = step {
+        if let Some(stop) = verdict(end) {
+            return Err(stop);
         }
     }
-    if end.metadata().is_some() {
-        return Stop::Done;
+    let now = connection.now();
+    if is_alive(limits.sign, step, watch.progress, end) {
+        return Ok(Watch {
+            since: now,
+            progress: end.progress(),
+        });
+    }
+    if now >= watch.since && now - watch.since >= limits.patience {
+        return Err(Stop::Silent);
+    }
+    Ok(watch)
+}
+
+/// Makes steps until the metadata is there, or no more of it can come, the connection ends, fails or is silent, what comes is
+/// refused, or as many steps were made as may be.
+pub fn exchange<C: Connection, A: Allocator + Copy>(
+    connection: &mut C,
+    end: &mut End<A>,
+    hearing: &mut Hearing<A>,
+    limits: Limits,
+) -> Stop
+    ensures exchanged { IsExchanged limits (record { seen = C.seen connection.old; pending = hearing.old; half = end.old })
+        (record { seen = C.seen connection.new; pending = hearing.new; half = end.new }) result }
+    ensures done { is_done result ≡ is_some (metadata_of end.new.end.part) }
+{
+    if let Some(stop) = verdict(end) {
+        return stop;
+    }
+    let mut watch = Watch {
+        since: connection.now(),
+        progress: end.progress(),
+    };
+    for _round in 0..limits.rounds {
+        match round(connection, end, hearing, limits, watch) {
+            Ok(next) => watch = next,
+            Err(stop) => return stop,
+        }
     }
     Stop::Rounds
 }

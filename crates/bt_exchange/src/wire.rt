@@ -1,3 +1,4 @@
+//! A connection between two sides of one process. `Sided` calls it.
 ghost use Rattle.std.specs.Prelude.{◌≡◌, ℕ, List, Option, length};
 ghost use Rattle.std.specs.Io.{ReadsAtMost, WritesAtMost};
 ghost use Rattle.std.specs.Io.KnownBytes.{ReadConsumes, WriteAppends};
@@ -11,7 +12,7 @@ use thiserror::Error;
 #[error("the wire failed")]
 pub struct WireFault;
 
-/// An end of a wire.
+/// A side of a wire.
 #[derive(Clone, Copy, PartialEq, Eq, Debug)]
 pub enum Side {
     Left,
