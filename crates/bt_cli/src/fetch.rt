@@ -8,10 +8,10 @@ ghost use Rattle.bt_cli.specs.Fetches.{fetch_status};
 
 use crate::run::say;
 use crate::values::number_within;
-use bt_end::{Progress, Window};
+use bt_end::Window;
 use bt_ext::Rules;
 use bt_feed::Target;
-use bt_fetch::{FetchError, Outcome, Report, Stop, SystemClock, TcpDial, Wish, fetch};
+use bt_fetch::{FetchError, Outcome, Report, TcpDial, Wish, fetch};
 use bt_text::ended::{Ended, ToolFault};
 use bt_text::lines::{fault_line, verdict_line};
 use clap::ArgMatches;
@@ -166,37 +166,31 @@ pub fn fetch_asked(alloc: Global, options: &ArgMatches<'_>) -> Result<FetchJob, 
     })
 }
 
-/// Says on standard error how each connection ended, and on a terminal how far the fetch has come.
+/// Says on standard error how each connection ended.
 #[derive(Drop)]
 struct Lines<'a, E: Target> {
     names: &'a [String],
     errors: &'a mut E,
-    is_terminal: bool,
-    /// How far the fetch has come stands in the terminal's last line.
-    is_shown: bool,
 }
 
-/// Returns the line of a connection's end, but for the address; nothing where the address is tried again at once.
+/// Returns the line of a connection's end, but for the address; nothing for a refusal, and where the address is tried again
+/// at once.
 fn line_of(outcome: Outcome) -> &'static [u8] {
     match outcome {
+        Outcome::Fetched => b" fetched\n",
+        Outcome::Silent => b" silent\n",
+        Outcome::Closed => b" closed\n",
         Outcome::Unreachable => b" unreachable\n",
-        Outcome::Stopped(Stop::Fetched) => b" fetched\n",
-        Outcome::Stopped(Stop::Silent | Stop::Rounds) => b" silent\n",
-        Outcome::Stopped(Stop::Closed | Stop::Failed) => b" closed\n",
-        Outcome::Stopped(Stop::Rejected) => b" rejected\n",
-        Outcome::Stopped(Stop::Mismatch) => b" mismatch\n",
-        Outcome::Stopped(Stop::NoMetadata) => b" no-metadata\n",
-        _ => b"",
+        Outcome::Rejected => b" rejected\n",
+        Outcome::Mismatch => b" mismatch\n",
+        Outcome::NoMetadata => b" no-metadata\n",
+        Outcome::Refused(_) | Outcome::OtherSize => b"",
     }
 }
 
 impl<'a, E: Target> Lines<'a, E> {
     /// Says a line that begins with an address.
     fn say_line(&mut self, address: usize, line: &[u8]) {
-        if self.is_shown {
-            say(b"\r\x1b[K", self.errors);
-            self.is_shown = false;
-        }
         if let Some(name) = self.names.get(address) {
             say(name.as_str().as_bytes(), self.errors);
         }
@@ -205,22 +199,8 @@ impl<'a, E: Target> Lines<'a, E> {
 }
 
 impl<'a, E: Target> Report for Lines<'a, E> {
-    fn progress(&mut self, progress: Progress) {
-        if !self.is_terminal {
-            return;
-        }
-        self.is_shown = true;
-        let mut held = itoa::Buffer::new();
-        let mut blocks = itoa::Buffer::new();
-        say(b"\r", self.errors);
-        say(held.format(progress.held).as_bytes(), self.errors);
-        say(b" of ", self.errors);
-        say(blocks.format(progress.blocks).as_bytes(), self.errors);
-        say(b" blocks", self.errors);
-    }
-
     fn ended(&mut self, address: usize, outcome: Outcome) {
-        if let Outcome::Stopped(Stop::Refused(refusal)) = outcome {
+        if let Outcome::Refused(refusal) = outcome {
             let mut line = [0; 160];
             let place = verdict_line(Ended::Refused(refusal), &mut line);
             self.say_line(address, b" ");
@@ -255,7 +235,6 @@ pub fn run_fetch<R: Net + Clock + RandomSource, W: Target, E: Target>(
     rt: &R,
     alloc: Global,
     job: &FetchJob,
-    is_terminal: bool,
     writer: &mut W,
     errors: &mut E,
 ) -> Result<usize, FetchError>
@@ -265,12 +244,9 @@ pub fn run_fetch<R: Net + Clock + RandomSource, W: Target, E: Target>(
 {
     let wish = with_peer_id(rt, &job.wish);
     let mut dial = TcpDial::new(rt, job.addresses.as_slice());
-    let mut clock = SystemClock::new(rt);
     let mut report = Lines {
         names: job.names.as_slice(),
         errors,
-        is_terminal,
-        is_shown: false,
     };
     fetch(
         alloc,
@@ -278,7 +254,6 @@ pub fn run_fetch<R: Net + Clock + RandomSource, W: Target, E: Target>(
         job.torrent,
         job.addresses.len(),
         &mut dial,
-        &mut clock,
         &mut report,
         writer,
     )

@@ -1,4 +1,3 @@
 pub mod Courses
 pub mod Moves
-pub mod Visits
 pub mod Watches

@@ -1,9 +1,8 @@
-//! One end of a connection over a device: the loop that sends, reads and takes turns, and fetching from several peers.
+//! One end of a connection over a device: the loop that sends, reads and takes turns.
 #![tactic(auto)]
 
 mod both;
 mod connection;
-mod fetching;
 mod hearing;
 mod sided;
 mod stream;
@@ -13,7 +12,6 @@ mod wire;
 
 pub use both::{Both, BothError, run_both};
 pub use connection::Connection;
-pub use fetching::{Dial, FetchError, fetch};
 pub use hearing::Hearing;
 pub use sided::Sided;
 pub use stream::Stream;

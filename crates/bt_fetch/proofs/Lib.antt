@@ -1,2 +1,1 @@
-pub mod Stopping
 pub mod Visits

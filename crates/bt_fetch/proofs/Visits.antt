@@ -1,5 +1,5 @@
 -- What a connection leaves of an end's handshake.
-use Rattle.std.proofs.Common.{◌≡◌, ℕ, List, [], ◌∷◌, sym, ap, subst, ◌∙◌, refl}
+use Rattle.std.proofs.Common.{◌≡◌, ℕ, List, [], ◌∷◌, sym, ap, subst, ◌∙◌, refl, Result, Ok, Err, OnOk}
 use Rattle.bt_wire.specs.declared.item.Item.{Item}
 use Rattle.bt_wire.specs.declared.handshake.Handshake.{Handshake}
 use Rattle.bt_end.specs.Ends.{EndState, react, renewed}
@@ -22,3 +22,7 @@ shut_keeps e a r = ap (λ (h : HalfState). h.end.handshake) r
 pub one_keeps : (e : EndState) (a b : Moment) → a.half ≡ connected (renewed e) → IsEnd a.half → IsMoved a b → b.half.end.handshake ≡ e.handshake
 one_keeps e a b r s m =
     ap (λ (x : EndState). x.handshake) m.course.end ∙ after_keeps a.half.end m.course.items s.part ∙ ap (λ (h : HalfState). h.end.handshake) r
+
+pub so_ok : {A E : Type 0} (P : Type 0) (r : Result A E) → P → OnOk r P
+so_ok P (Ok x) p = p
+so_ok P (Err e) p = tt

@@ -1,3 +1,3 @@
 pub mod Wishes
-pub mod Stops
+pub mod Outcomes
 pub mod Fetches

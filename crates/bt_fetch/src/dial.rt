@@ -2,17 +2,30 @@
 ghost use Rattle.std.specs.Prelude.{◌≡◌};
 ghost use Rattle.bt_io.specs.Counts.{one_more};
 
-use crate::talking::Stop;
-use bt_end::Progress;
 use bt_exchange::Connection;
+use bt_wire::Refusal;
 
 /// How a try at an address ended.
 #[derive(Clone, Copy, PartialEq, Eq, Debug)]
 pub enum Outcome {
+    /// The metadata is there.
+    Fetched,
+    /// What the peer sent is refused.
+    Refused(Refusal),
+    /// The patience passed without progress, or as many steps were made as may be.
+    Silent,
+    /// The peer closed the connection, or a call of it failed.
+    Closed,
     /// No connection was opened.
     Unreachable,
-    /// There was a connection, which ended so.
-    Stopped(Stop),
+    /// Each block that isn't held was rejected.
+    Rejected,
+    /// The blocks were those of other metadata, twice.
+    Mismatch,
+    /// The peer knows no Extension Protocol, or told no id for metadata messages, or no size within bounds.
+    NoMetadata,
+    /// The peer told another size than that of the blocks that are held.
+    OtherSize,
 }
 
 /// Opens connections to the addresses of a list.
@@ -33,11 +46,8 @@ pub trait Dial {
         ensures { dials self.new ≡ dials self.old };
 }
 
-/// Is told of a fetch.
+/// Is told how each try ended.
 pub trait Report {
-    /// The fetch has come so far.
-    fn progress(&mut self, progress: Progress);
-
     /// The try at the address of this number ended.
     fn ended(&mut self, address: usize, outcome: Outcome);
 }

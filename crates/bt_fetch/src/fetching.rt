@@ -4,15 +4,17 @@ ghost use Rattle.std.specs.Io.KnownBytes.{Appends};
 ghost use Rattle.bt_io.specs.Counts.{Grew, one_more};
 ghost use Rattle.bt_end.specs.Ends.{metadata_of};
 ghost use Rattle.bt_fetch.specs.Wishes.{IsWish, handshake_of};
+ghost use Rattle.bt_exchange.specs.Courses.{Moment};
+ghost use Rattle.bt_exchange.specs.Stops.{IsStopped};
+ghost use Rattle.bt_fetch.specs.Outcomes.{IsOutcome};
 ghost use Rattle.bt_fetch.specs.Fetches.{file_of, IsWritten};
 
-use crate::clock::Clock;
 use crate::dial::{Dial, Outcome, Report};
 use crate::glimpse::Glimpse;
-use crate::talking::{Limits, Stop, talk};
+use crate::screen::{Objection, Screen};
 use crate::wish::{Wish, fetching_end, first_window, own_of};
 use bt_end::{End, Window};
-use bt_exchange::Hearing;
+use bt_exchange::{Hearing, Limits, Sign, Stop, exchange};
 use bt_io::{Memory, Target, write_front};
 use std::alloc::{AllocError, Global};
 use thiserror::Error;
@@ -44,39 +46,58 @@ impl From<Memory> for FetchError {
     }
 }
 
+/// Returns how a try ended whose exchange stopped so.
+///
+/// # Errors
+/// `Memory` if the exchange stopped for want of it.
+fn outcome_of(end: &End, stop: Stop, objection: Option<Objection>) -> Result<Outcome, Memory>
+    ensures { (limits : Limits) (old new : Moment) → new.half ≡ end.now → IsStopped limits old new stop → IfOk result (λ outcome. IsOutcome end.now outcome) }
+{
+    match (stop, objection) {
+        (Stop::Failed, Some(Objection::NoMetadata)) => Ok(Outcome::NoMetadata),
+        (Stop::Failed, Some(Objection::OtherSize)) => Ok(Outcome::OtherSize),
+        (Stop::Done, _) => Ok(Outcome::Fetched),
+        (Stop::Refused(refusal), _) => Ok(Outcome::Refused(refusal)),
+        (Stop::Hopeless, _) if end.belief().ext => Ok(Outcome::Rejected),
+        (Stop::Hopeless, _) => Ok(Outcome::NoMetadata),
+        (Stop::Mismatch, _) => Ok(Outcome::Mismatch),
+        (Stop::Silent | Stop::Rounds, _) => Ok(Outcome::Silent),
+        (Stop::Closed | Stop::Failed, _) => Ok(Outcome::Closed),
+        (Stop::Memory, _) => Err(Memory),
+    }
+}
+
 /// Makes one try at an address. What was fetched stays.
 ///
 /// # Errors
 /// `Memory` if a buffer of the new connection, or of what came over it, is refused.
-fn visit<D: Dial, K: Clock, T: Report>(
+fn visit<D: Dial>(
     alloc: Global,
     wish: &Wish,
     address: usize,
     dial: &mut D,
-    clock: &mut K,
-    report: &mut T,
     end: &mut End,
     hearing: &mut Hearing,
 ) -> Result<Outcome, Memory>
     ensures handshake { end.new.end.handshake ≡ end.old.end.handshake }
     ensures dials { OnOk result (D.dials dial.new ≡ one_more (D.dials dial.old)) }
+    ensures outcome { IfOk result (λ outcome. IsOutcome end.new outcome) }
 {
     end.reset()?;
     let _ = end.outgoing();
     hearing.clear();
-    let Some(mut link) = dial.dial(address) else {
+    let Some(link) = dial.dial(address) else {
         return Ok(Outcome::Unreachable);
     };
     let limits = Limits {
         rounds: ROUNDS,
         patience: wish.patience,
-        most: wish.most,
+        sign: Sign::Progress,
     };
-    let glimpse = Glimpse::new(alloc, own_of(wish));
-    match talk(&mut link, clock, report, end, hearing, glimpse, limits) {
-        Stop::Memory => Err(Memory),
-        stop => Ok(Outcome::Stopped(stop)),
-    }
+    let size = end.progress().map(|progress| progress.size);
+    let mut screen = Screen::new(link, Glimpse::new(alloc, own_of(wish)), wish.most, size);
+    let stop = exchange(&mut screen, end, hearing, limits);
+    outcome_of(end, stop, screen.objection())
 }
 
 /// What follows a try.
@@ -92,8 +113,8 @@ enum Next {
 /// Returns what follows a try that ended so.
 fn next_of(wish: &Wish, end: &End, outcome: Outcome) -> Next {
     match outcome {
-        Outcome::Stopped(Stop::OtherSize) => Next::Anew,
-        Outcome::Stopped(Stop::Silent) => match (wish.window, end.progress()) {
+        Outcome::OtherSize => Next::Anew,
+        Outcome::Silent => match (wish.window, end.progress()) {
             (None, Some(progress)) if progress.held + 1 < progress.blocks => Next::Narrow,
             _ => Next::Leave,
         },
@@ -102,12 +123,11 @@ fn next_of(wish: &Wish, end: &End, outcome: Outcome) -> Next {
 }
 
 /// Makes one try at an address and reports it. It returns whether another try is to follow, for which the end is ready.
-fn attempt<D: Dial, K: Clock, T: Report>(
+fn attempt<D: Dial, T: Report>(
     alloc: Global,
     wish: &Wish,
     address: usize,
     dial: &mut D,
-    clock: &mut K,
     report: &mut T,
     end: &mut End,
     hearing: &mut Hearing,
@@ -117,7 +137,7 @@ fn attempt<D: Dial, K: Clock, T: Report>(
     ensures handshake { end.new.end.handshake ≡ handshake_of wish.now }
     ensures dials { OnOk result (D.dials dial.new ≡ one_more (D.dials dial.old)) }
 {
-    let outcome = visit(alloc, wish, address, dial, clock, report, end, hearing)?;
+    let outcome = visit(alloc, wish, address, dial, end, hearing)?;
     report.ended(address, outcome);
     match next_of(wish, end, outcome) {
         Next::Leave => return Ok(false),
@@ -133,12 +153,11 @@ fn attempt<D: Dial, K: Clock, T: Report>(
 }
 
 /// Makes at most three tries at an address.
-fn visit_address<D: Dial, K: Clock, T: Report>(
+fn visit_address<D: Dial, T: Report>(
     alloc: Global,
     wish: &Wish,
     address: usize,
     dial: &mut D,
-    clock: &mut K,
     report: &mut T,
     end: &mut End,
     hearing: &mut Hearing,
@@ -149,21 +168,20 @@ fn visit_address<D: Dial, K: Clock, T: Report>(
     ensures dials { OnOk result (min (D.dials dial.old + 1) (2 ^ 64 - 1) ≤ D.dials dial.new) }
 {
     end.set_window(first_window(wish));
-    if attempt(alloc, wish, address, dial, clock, report, end, hearing)?
-        && attempt(alloc, wish, address, dial, clock, report, end, hearing)?
+    if attempt(alloc, wish, address, dial, report, end, hearing)?
+        && attempt(alloc, wish, address, dial, report, end, hearing)?
     {
-        attempt(alloc, wish, address, dial, clock, report, end, hearing)?;
+        attempt(alloc, wish, address, dial, report, end, hearing)?;
     }
     Ok(())
 }
 
 /// Tries the addresses in turn until the metadata is there.
-fn visit_all<D: Dial, K: Clock, T: Report>(
+fn visit_all<D: Dial, T: Report>(
     alloc: Global,
     wish: &Wish,
     addresses: usize,
     dial: &mut D,
-    clock: &mut K,
     report: &mut T,
     end: &mut End,
     hearing: &mut Hearing,
@@ -174,7 +192,7 @@ fn visit_all<D: Dial, K: Clock, T: Report>(
     ensures dials { OnOk result (is_some (metadata_of end.new.end.part) ≡ false → min (D.dials dial.old + addresses) (2 ^ 64 - 1) ≤ D.dials dial.new) }
 {
     for address in 0..addresses {
-        visit_address(alloc, wish, address, dial, clock, report, end, hearing)?;
+        visit_address(alloc, wish, address, dial, report, end, hearing)?;
         if end.metadata().is_some() {
             return Ok(());
         }
@@ -236,13 +254,12 @@ fn put_out<W: Target>(
 ///
 /// # Errors
 /// `NotFetched` if each address was dialled and none gave what lacked, `Write` if a write failed, `Memory` if memory was refused.
-pub fn fetch<D: Dial, K: Clock, T: Report, W: Target>(
+pub fn fetch<D: Dial, T: Report, W: Target>(
     alloc: Global,
     wish: &Wish,
     torrent: bool,
     addresses: usize,
     dial: &mut D,
-    clock: &mut K,
     report: &mut T,
     writer: &mut W,
 ) -> Result<usize, FetchError>
@@ -253,6 +270,6 @@ pub fn fetch<D: Dial, K: Clock, T: Report, W: Target>(
 {
     let mut end = fetching_end(alloc, wish)?;
     let mut hearing = Hearing::new(alloc)?;
-    visit_all(alloc, wish, addresses, dial, clock, report, &mut end, &mut hearing)?;
+    visit_all(alloc, wish, addresses, dial, report, &mut end, &mut hearing)?;
     put_out(alloc, torrent, &end, writer)
 }

@@ -43,15 +43,15 @@ fn open<R: Net>(net: &R, address: &SocketAddr) -> io::Result<R::Stream> {
 }
 
 impl<'a, R: Net + Clock> Dial for TcpDial<'a, R> {
-    type Link = Stream<R::Stream>;
+    type Link = Stream<R::Stream, &'a R>;
 
     ghost dials = { λ d. d.dials };
 
-    fn dial(&mut self, address: usize) -> Option<Stream<R::Stream>> {
+    fn dial(&mut self, address: usize) -> Option<Stream<R::Stream, &'a R>> {
         self.dials = self.dials.saturating_add(1);
         let address = self.addresses.get(address)?;
         match open(self.net, address) {
-            Ok(stream) => Some(Stream::new(stream)),
+            Ok(stream) => Some(Stream::new(stream, self.net)),
             Err(_) => None,
         }
     }

@@ -10,7 +10,6 @@ use bt_cli::run::{exit_status, run};
 use bt_feed::Host;
 use bt_rig::status as link_status;
 use bt_text::ended::ToolFault;
-use std::io::IsTerminal;
 use std::process::ExitCode;
 use std::rt::Env;
 use std::{env, io};
@@ -37,8 +36,7 @@ fn main(rt: HostRuntime) -> ExitCode {
             }
             Ok(Asked::Link) => link_status(&link(alloc, &mut reader, &mut writer, &mut errors)),
             Ok(Asked::Fetch(job)) => {
-                let is_terminal = stderr.is_terminal();
-                let fetched = run_fetch(&rt, alloc, &job, is_terminal, &mut writer, &mut errors);
+                let fetched = run_fetch(&rt, alloc, &job, &mut writer, &mut errors);
                 end_fetch(fetched, &mut errors)
             }
             Ok(Asked::Told(notice, text)) => tell(notice, text.as_str(), &mut writer, &mut errors),
