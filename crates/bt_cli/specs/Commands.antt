@@ -8,7 +8,7 @@ use Rattle.bt_wire.specs.declared.context.Own.{Own}
 use Rattle.clap.specs.declared.error.kind.ErrorKind.{ErrorKind}
 use Rattle.clap.specs.declared.error.kind.ErrorKind.TheVariants as kinds
 use Rattle.bt_cli.specs.declared.commands.Asked.{Asked}
-use Rattle.bt_cli.specs.declared.commands.Asked.TheVariants.{Run, Link, Fetch, Told}
+use Rattle.bt_cli.specs.declared.commands.Asked.TheVariants.{Run, Link, Fetch, Serve, Told}
 use Rattle.bt_cli.specs.declared.commands.Job.{Job}
 use Rattle.bt_cli.specs.declared.commands.Job.TheVariants.{Show, Check, Unpack, Pack}
 use Rattle.bt_cli.specs.declared.commands.Notice.{Notice}
@@ -51,6 +51,7 @@ abbrev pub IsLimited : Asked → Type 0
 IsLimited (Run job own) = HasLimit own
 IsLimited Link = Unit {0}
 IsLimited (Fetch job) = IsWish job.wish
+IsLimited (Serve job) = Unit {0}
 IsLimited (Told notice text) = Unit {0}
 
 -- a text of this kind is asked for
@@ -58,6 +59,7 @@ abbrev pub HasText : Notice → Asked → Type 0
 HasText kind (Run job own) = ⊥
 HasText kind Link = ⊥
 HasText kind (Fetch job) = ⊥
+HasText kind (Serve job) = ⊥
 HasText kind (Told notice text) = notice ≡ kind
 
 -- `show` is asked for, with the default receiver
@@ -68,6 +70,7 @@ IsShowByDefault (Run Unpack own) = ⊥
 IsShowByDefault (Run Pack own) = ⊥
 IsShowByDefault Link = ⊥
 IsShowByDefault (Fetch job) = ⊥
+IsShowByDefault (Serve job) = ⊥
 IsShowByDefault (Told notice text) = ⊥
 
 -- clap's answer is help, the version, or a mistake; no text where it was out of memory

@@ -3,6 +3,7 @@ ghost use Rattle.std.specs.Prelude.{◌≡◌};
 ghost use Rattle.bt_cli.specs.Commands.{IsDefault, notice_status, status_of as status_by, pack_status_of as pack_status_by, default_rules as rules_by_default};
 
 use crate::fetch::FetchJob;
+use crate::serve::ServeJob;
 use bt_ext::{ExtId, Registered, Rules};
 use bt_text::ended::{Ended, PackEnd, ToolFault};
 use bt_wire::{Own, Reserved};
@@ -49,6 +50,8 @@ pub enum Asked {
     Link,
     /// A fetch of metadata from peers.
     Fetch(FetchJob),
+    /// A service of metadata to peers.
+    Serve(ServeJob),
     /// A text and no work.
     Told(Notice, String),
 }

@@ -22,10 +22,10 @@ use std::random::RandomSource;
 use std::time::Clock;
 
 /// The seconds without progress where none are given.
-const DEFAULT_PATIENCE: u32 = 30;
+pub const DEFAULT_PATIENCE: u32 = 30;
 
 /// The greatest length of a message where none is given.
-const DEFAULT_LIMIT: u32 = 262_144;
+pub const DEFAULT_LIMIT: u32 = 262_144;
 
 /// The greatest size of metadata where none is given, which is also the greatest that may be given.
 const MOST: u32 = 67_108_864;
@@ -65,7 +65,7 @@ impl From<AllocError> for Mistake {
 }
 
 /// Returns a number of an option, or the one that stands where the option isn't given.
-fn number_or(text: Option<&str>, low: u32, high: u32, default: u32) -> Option<u32>
+pub fn number_or(text: Option<&str>, low: u32, high: u32, default: u32) -> Option<u32>
     requires { (low ≤ default) × (default ≤ high) }
     ensures { IfSome result (λ n. (low ≤ n) × (n ≤ high)) }
 {
@@ -76,7 +76,7 @@ fn number_or(text: Option<&str>, low: u32, high: u32, default: u32) -> Option<u3
 }
 
 /// Returns the rules of `--rules`.
-fn rules_in(text: Option<&str>) -> Option<Rules> {
+pub fn rules_in(text: Option<&str>) -> Option<Rules> {
     match text {
         None => Some(Rules::Bep),
         Some(name) if name == "bep" => Some(Rules::Bep),
@@ -214,20 +214,18 @@ impl<'a, E: Target> Report for Lines<'a, E> {
     }
 }
 
-/// Returns the wish with a peer id of this project's prefix and twelve digits, drawn at random where that can be had.
-fn with_peer_id<R: RandomSource>(random: &R, wish: &Wish) -> Wish
-    ensures { result ≡ record wish.now { peer_id = result.peer_id } }
-{
+/// Returns a peer id of this project's prefix and twelve digits, drawn at random where that can be had.
+pub fn drawn_peer_id<R: RandomSource>(random: &R) -> [u8; 20] {
     let mut drawn = [0u8; 12];
-    let mut wish = *wish;
     if random.fill_bytes(&mut drawn).is_err() {
         drawn = [0; 12];
     }
-    wish.peer_id[..8].copy_from_slice(PEER_PREFIX);
-    for (digit, byte) in wish.peer_id[8..].iter_mut().zip(drawn.iter()) {
+    let mut peer_id = [48u8; 20];
+    peer_id[..8].copy_from_slice(PEER_PREFIX);
+    for (digit, byte) in peer_id[8..].iter_mut().zip(drawn.iter()) {
         *digit = 48 + *byte % 10;
     }
-    wish
+    peer_id
 }
 
 /// Fetches what is asked for over TCP, and says on `errors` how each connection ended.
@@ -242,7 +240,8 @@ pub fn run_fetch<R: Net + Clock + RandomSource, W: Target, E: Target>(
     ensures written { IsWritten job.now.torrent job.now.wish.info_hash (W.held writer.old) (W.held writer.new) result }
     ensures fault { result ≡ Err FetchError.Write → Grew (W.failed_writes writer.old) (W.failed_writes writer.new) }
 {
-    let wish = with_peer_id(rt, &job.wish);
+    let mut wish = job.wish;
+    wish.peer_id = drawn_peer_id(rt);
     let mut dial = TcpDial::new(rt, job.addresses.as_slice());
     let mut report = Lines {
         names: job.names.as_slice(),

@@ -9,4 +9,5 @@ pub mod link;
 pub mod notice;
 pub mod options;
 pub mod run;
+pub mod serve;
 pub mod values;

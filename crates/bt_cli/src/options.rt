@@ -7,6 +7,7 @@ ghost use Rattle.bt_cli.specs.Options.{IsChosen, IsWritten};
 
 use crate::commands::{Asked, Job, Notice, default_own};
 use crate::fetch::{Mistake, fetch_asked};
+use crate::serve::serve_asked;
 use crate::values::{Setting, Written, own_of};
 use bt_wire::Own;
 use clap::error::ErrorKind;
@@ -19,7 +20,7 @@ Judges the bytes that a BitTorrent peer sends (BEP 3, 5, 6, 9 and 10).
 
 Usage: bt_tool [COMMAND [OPTIONS]]
 
-Commands read standard input: 'pack' and 'link' a script, 'fetch' nothing, the others a stream, from its handshake on. No
+Commands read standard input: 'pack' and 'link' a script, 'fetch' and 'serve' nothing, the others a stream, from its handshake on. No
 words at all mean 'show'.
 
 Commands:
@@ -29,6 +30,7 @@ Commands:
   pack    Writes the stream of a script, up to the first line that isn't taken
   link    Runs two ends against each other, step by step, as a script of its own says
   fetch   Fetches the metadata of a torrent from peers: fetch INFOHASH ADDRESS..
+  serve   Serves the metadata of a .torrent, or an info dictionary, to peers: serve FILE
   help    Prints this text
 
 Options, which stand after the command and describe the receiver of the stream ('link' has none):
@@ -52,6 +54,11 @@ Options of 'fetch', whose INFOHASH is 40 hex digits, and each ADDRESS is IP:PORT
       --most <BYTES>      The greatest size of metadata that is taken: 1 to 67108864 [default: 67108864]
       --torrent           Writes a .torrent in place of the metadata alone
 
+Options of 'serve', besides --rules, --limit and --patience as above:
+      --listen <ADDRESS>  Where it listens; port 0 takes a free one [default: 127.0.0.1:0]
+      --connections <N>   Ends after this many connections, from 1 on [default: never]
+      --at-once <N>       How many connections are served at the same time: 1 to 1024 [default: 64]
+
 Examples:
   bt_tool show --pieces 10 --rules bep < stream.bin
   bt_tool check --reserved 0000000000100004 < stream.bin
@@ -59,10 +66,12 @@ Examples:
   bt_tool pack < script.txt > stream.bin
   bt_tool link < examples/link.txt
   bt_tool fetch --torrent a9993e364706816aba3e25717850c26c9cd0d89d 192.0.2.1:6881 > a.torrent
+  bt_tool serve --listen 127.0.0.1:6881 a.torrent
 
 Exit status:
   0  the stream or the script is accepted, the link ran, the metadata was fetched, or a text was asked for
-  1  the stream is refused, or a line of the script is, the two ends of a link don't match, or nothing was fetched
+  1  the stream is refused, or a line of the script is, the two ends of a link don't match, nothing was fetched, or the
+     file of 'serve' has no metadata
   2  the words are no command line
   3  a read or a write failed, there was no memory, or the input had no end
 ";
@@ -127,6 +136,22 @@ fn fetch_command<'a>(alloc: Global) -> Result<Command<'a>, AllocError> {
     )
 }
 
+/// Returns the command `serve` with its options.
+fn serve_command<'a>(alloc: Global) -> Result<Command<'a>, AllocError> {
+    Ok(
+        Command::new(alloc, "serve")
+            .override_usage(CALL)
+            .override_help(HELP)
+            .arg(Arg::new(alloc, "FILE").required(true))?
+            .arg(option(alloc, "listen", "ADDRESS"))?
+            .arg(option(alloc, "rules", "RULES"))?
+            .arg(option(alloc, "limit", "N"))?
+            .arg(option(alloc, "patience", "SECONDS"))?
+            .arg(option(alloc, "connections", "N"))?
+            .arg(option(alloc, "at-once", "N"))?,
+    )
+}
+
 /// Returns the commands, each with its options.
 fn command_line<'a>(alloc: Global) -> Result<Command<'a>, AllocError> {
     Ok(
@@ -141,7 +166,8 @@ fn command_line<'a>(alloc: Global) -> Result<Command<'a>, AllocError> {
             .subcommand(job_command(alloc, "unpack")?)?
             .subcommand(job_command(alloc, "pack")?)?
             .subcommand(link_command(alloc))?
-            .subcommand(fetch_command(alloc)?)?,
+            .subcommand(fetch_command(alloc)?)?
+            .subcommand(serve_command(alloc)?)?,
     )
 }
 
@@ -252,6 +278,13 @@ pub fn asked(alloc: Global, words: &[String]) -> Result<Asked, AllocError>
     if name == "fetch" {
         return match fetch_asked(alloc, options) {
             Ok(job) => Ok(Asked::Fetch(job)),
+            Err(Mistake::Text(what)) => mistake(alloc, &mut command, what),
+            Err(Mistake::Memory) => Err(AllocError),
+        };
+    }
+    if name == "serve" {
+        return match serve_asked(alloc, options) {
+            Ok(job) => Ok(Asked::Serve(job)),
             Err(Mistake::Text(what)) => mistake(alloc, &mut command, what),
             Err(Mistake::Memory) => Err(AllocError),
         };

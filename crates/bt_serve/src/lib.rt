@@ -13,4 +13,4 @@ pub use door::{Door, Parting};
 pub use file::info_in;
 pub use guest::{Ending, Hospitality};
 pub use serving::serve;
-pub use tcp::{Farewell, TcpDoor};
+pub use tcp::{Farewell, TcpDoor, listen};

@@ -23,27 +23,25 @@ pub struct TcpDoor<'a, R: Net + Clock, F: Farewell + Drop> {
 }
 
 impl<'a, R: Net + Clock, F: Farewell + Drop> TcpDoor<'a, R, F> {
-    /// Returns a door that listens at an address.
-    ///
-    /// # Errors
-    /// The operating system's, where it can't listen there.
-    pub fn open(runtime: &'a R, address: SocketAddr, farewell: F) -> io::Result<TcpDoor<'a, R, F>> {
-        let listener = runtime.bind(address)?;
-        listener.set_nonblocking(true)?;
-        Ok(TcpDoor {
+    /// Returns a door at this listener, whose calls don't wait.
+    pub fn new(runtime: &'a R, listener: R::Listener, farewell: F) -> TcpDoor<'a, R, F> {
+        TcpDoor {
             runtime,
             listener,
             farewell,
-        })
+        }
     }
+}
 
-    /// Returns the address at which it listens.
-    ///
-    /// # Errors
-    /// The operating system's.
-    pub fn address(&self) -> io::Result<SocketAddr> {
-        self.listener.local_addr()
-    }
+/// Returns a listener at an address, whose calls don't wait, and the address at which it listens.
+///
+/// # Errors
+/// The operating system's, where it can't listen there.
+pub fn listen<R: Net>(net: &R, address: SocketAddr) -> io::Result<(R::Listener, SocketAddr)> {
+    let listener = net.bind(address)?;
+    listener.set_nonblocking(true)?;
+    let address = listener.local_addr()?;
+    Ok((listener, address))
 }
 
 /// Makes ready a stream whose calls don't wait.

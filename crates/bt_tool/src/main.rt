@@ -7,6 +7,7 @@ use bt_cli::link::link;
 use bt_cli::notice::{fail, tell};
 use bt_cli::options::{NO_TEXT, asked};
 use bt_cli::run::{exit_status, run};
+use bt_cli::serve::{end_serve, run_serve};
 use bt_feed::Host;
 use bt_rig::status as link_status;
 use bt_text::ended::ToolFault;
@@ -38,6 +39,10 @@ fn main(rt: HostRuntime) -> ExitCode {
             Ok(Asked::Fetch(job)) => {
                 let fetched = run_fetch(&rt, alloc, &job, &mut writer, &mut errors);
                 end_fetch(fetched, &mut errors)
+            }
+            Ok(Asked::Serve(job)) => {
+                let service = run_serve(&rt, alloc, &job, &mut writer);
+                end_serve(service, &mut errors)
             }
             Ok(Asked::Told(notice, text)) => tell(notice, text.as_str(), &mut writer, &mut errors),
             Err(_) => fail(ToolFault::Memory, &mut errors),
