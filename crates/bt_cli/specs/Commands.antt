@@ -8,11 +8,12 @@ use Rattle.bt_wire.specs.declared.context.Own.{Own}
 use Rattle.clap.specs.declared.error.kind.ErrorKind.{ErrorKind}
 use Rattle.clap.specs.declared.error.kind.ErrorKind.TheVariants as kinds
 use Rattle.bt_cli.specs.declared.commands.Asked.{Asked}
-use Rattle.bt_cli.specs.declared.commands.Asked.TheVariants.{Run, Link, Told}
+use Rattle.bt_cli.specs.declared.commands.Asked.TheVariants.{Run, Link, Fetch, Serve, Told}
 use Rattle.bt_cli.specs.declared.commands.Job.{Job}
 use Rattle.bt_cli.specs.declared.commands.Job.TheVariants.{Show, Json, Check, Unpack, Pack}
 use Rattle.bt_cli.specs.declared.commands.Notice.{Notice}
 use Rattle.bt_cli.specs.declared.commands.Notice.TheVariants.{Help, Version, Usage}
+use Rattle.bt_fetch.specs.Wishes.{IsWish}
 use Rattle.bt_text.specs.declared.ended.Ended.{Ended}
 use Rattle.bt_text.specs.declared.ended.Ended.TheVariants.{Accepted, Refused}
 use Rattle.bt_text.specs.declared.ended.PackEnd.{PackEnd}
@@ -59,18 +60,24 @@ HasLimit own = (1 ≤ own.limit) × (own.limit ≤ 1048576)
 abbrev pub IsLimited : Asked → Type 0
 IsLimited (Run r) = HasLimit r.own
 IsLimited (Link files) = Unit {0}
+IsLimited (Fetch job) = IsWish job.wish
+IsLimited (Serve job) = Unit {0}
 IsLimited (Told notice text) = Unit {0}
 
 -- a text of this kind is asked for
 abbrev pub HasText : Notice → Asked → Type 0
 HasText kind (Run r) = ⊥
 HasText kind (Link files) = ⊥
+HasText kind (Fetch job) = ⊥
+HasText kind (Serve job) = ⊥
 HasText kind (Told notice text) = notice ≡ kind
 
 -- `show` of standard input is asked for, with the default receiver
 abbrev pub IsShowByDefault : Asked → Type 0
 IsShowByDefault (Run r) = (r.job ≡ Show) × IsDefault r.own × (r.given ≡ record { reserved = false; metadata_id = false }) × (r.other ≡ None) × (r.files.items ≡ [])
 IsShowByDefault (Link files) = ⊥
+IsShowByDefault (Fetch job) = ⊥
+IsShowByDefault (Serve job) = ⊥
 IsShowByDefault (Told notice text) = ⊥
 
 -- clap's answer is help, the version, or a mistake; no text where it was out of memory

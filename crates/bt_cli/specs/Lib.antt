@@ -3,3 +3,4 @@ pub mod Endings
 pub mod Options
 pub mod Others
 pub mod Runs
+pub mod Fetches

@@ -2,6 +2,8 @@
 ghost use Rattle.std.specs.Prelude.{◌≡◌};
 ghost use Rattle.bt_cli.specs.Commands.{IsDefault, notice_status, status_of as status_by, pack_status_of as pack_status_by, default_rules as rules_by_default};
 
+use crate::fetch::FetchJob;
+use crate::serve::ServeJob;
 use bt_ext::{ExtId, Registered, Rules};
 use bt_text::ended::{Ended, PackEnd, ToolFault};
 use bt_wire::{Own, Reserved};
@@ -72,6 +74,10 @@ pub enum Asked {
     Run(Request),
     /// The link of two ends, which a script describes: that of the first file, or of standard input.
     Link(Vec<String>),
+    /// A fetch of metadata from peers.
+    Fetch(FetchJob),
+    /// A service of metadata to peers.
+    Serve(ServeJob),
     /// A text and no work.
     Told(Notice, String),
 }

@@ -6,9 +6,11 @@
 
 pub mod commands;
 pub mod ending;
+pub mod fetch;
 pub mod link;
 pub mod notice;
 pub mod options;
 pub mod other;
 pub mod run;
+pub mod serve;
 pub mod values;

@@ -7,6 +7,8 @@ ghost use Rattle.bt_cli.specs.Commands.{HasLimit, HasNotice, IsLimited, IsShowBy
 ghost use Rattle.bt_cli.specs.Options.{IsChosen, IsRequested, IsWritten, files_in, given_in, is_job_option as is_option_by_rule, with_command as words_with_command, json_in};
 
 use crate::commands::{Asked, Given, Job, Notice, Request, default_own};
+use crate::fetch::{Mistake, fetch_asked};
+use crate::serve::serve_asked;
 use crate::values::{Setting, Written, own_of};
 use bt_wire::Own;
 use clap::error::ErrorKind;
@@ -19,8 +21,8 @@ Judges the bytes that a BitTorrent peer sends (BEP 3, 5, 6, 9 and 10).
 
 Usage: bt_tool [COMMAND] [OPTIONS] [FILE]
 
-Commands read FILE, or standard input where none is given or it is '-': 'pack' and 'link' a script, the others a stream, from
-its handshake on. Without a command, options and no words at all mean 'show'.
+Commands read FILE, or standard input where none is given or it is '-': 'pack' and 'link' a script, 'fetch' nothing, 'serve'
+its own FILE, the others a stream, from its handshake on. Without a command, options and no words at all mean 'show'.
 
 Commands:
   show    Prints a line for each item of the stream, and then the verdict
@@ -29,6 +31,8 @@ Commands:
   unpack  Prints a script: a line for each item, with all of its bytes
   pack    Writes the stream of a script, up to the first line that isn't taken
   link    Runs two ends against each other, step by step, as a script of its own says
+  fetch   Fetches the metadata of a torrent from peers: fetch INFOHASH ADDRESS..
+  serve   Serves the metadata of a .torrent, or an info dictionary, to peers: serve FILE
   help    Prints this text
 
 Options, which describe the receiver of the stream ('link' has none):
@@ -46,6 +50,20 @@ Options, which describe the receiver of the stream ('link' has none):
   -h, --help              Prints this text
   -V, --version           Prints the name and version (without a command)
 
+Options of 'fetch', whose INFOHASH is 40 hex digits, and each ADDRESS is IP:PORT or [IPv6]:PORT:
+      --rules <RULES>     As above [default: bep]
+      --limit <N>         As above, from 32768 on [default: 262144]
+      --patience <N>      The seconds without progress after which a connection ends [default: 30]
+      --window <N>        How many blocks are asked for at once: 1 to 8 [default: 8, and 1 when a peer that fell silent
+                          is tried again]
+      --most <BYTES>      The greatest size of metadata that is taken: 1 to 67108864 [default: 67108864]
+      --torrent           Writes a .torrent in place of the metadata alone
+
+Options of 'serve', besides --rules, --limit and --patience as above:
+      --listen <ADDRESS>  Where it listens; port 0 takes a free one [default: 127.0.0.1:0]
+      --connections <N>   Ends after this many connections, from 1 on [default: never]
+      --at-once <N>       How many connections are served at the same time: 1 to 1024 [default: 64]
+
 Examples:
   bt_tool show --other sent-by-receiver.bin stream.bin
   bt_tool show --pieces 10 --rules bep stream.bin
@@ -54,10 +72,13 @@ Examples:
   bt_tool unpack stream.bin > script.txt
   bt_tool pack script.txt > stream.bin
   bt_tool link examples/link.txt
+  bt_tool fetch --torrent a9993e364706816aba3e25717850c26c9cd0d89d 192.0.2.1:6881 > a.torrent
+  bt_tool serve --listen 127.0.0.1:6881 a.torrent
 
 Exit status:
-  0  the stream or the script is accepted, the link ran, or a text was asked for
-  1  the stream is refused, or a line of the script is, or the two ends of a link don't match
+  0  the stream or the script is accepted, the link ran, the metadata was fetched, or a text was asked for
+  1  the stream is refused, or a line of the script is, the two ends of a link don't match, nothing was fetched, or the
+     file of 'serve' has no metadata
   2  the words are no command line, or the file of '--other' doesn't begin with a whole handshake
   3  a read or a write failed, there was no memory, or the input had no end
   141  nobody reads the output any more, as after '| head'
@@ -147,6 +168,43 @@ fn link_command<'a>(alloc: Global) -> Result<Command<'a>, AllocError> {
     )
 }
 
+/// Returns the command `fetch` with its options.
+fn fetch_command<'a>(alloc: Global) -> Result<Command<'a>, AllocError> {
+    Ok(
+        Command::new(alloc, "fetch")
+            .override_usage(CALL)
+            .override_help(HELP)
+            .arg(Arg::new(alloc, "INFOHASH").required(true))?
+            .arg(Arg::new(alloc, "ADDRESS").required(true).num_args(1..))?
+            .arg(option(alloc, "rules", "RULES"))?
+            .arg(option(alloc, "limit", "N"))?
+            .arg(option(alloc, "patience", "SECONDS"))?
+            .arg(option(alloc, "window", "N"))?
+            .arg(option(alloc, "most", "BYTES"))?
+            .arg(
+                Arg::new(alloc, "torrent")
+                    .long("torrent")
+                    .action(ArgAction::SetTrue),
+            )?,
+    )
+}
+
+/// Returns the command `serve` with its options.
+fn serve_command<'a>(alloc: Global) -> Result<Command<'a>, AllocError> {
+    Ok(
+        Command::new(alloc, "serve")
+            .override_usage(CALL)
+            .override_help(HELP)
+            .arg(Arg::new(alloc, "FILE").required(true))?
+            .arg(option(alloc, "listen", "ADDRESS"))?
+            .arg(option(alloc, "rules", "RULES"))?
+            .arg(option(alloc, "limit", "N"))?
+            .arg(option(alloc, "patience", "SECONDS"))?
+            .arg(option(alloc, "connections", "N"))?
+            .arg(option(alloc, "at-once", "N"))?,
+    )
+}
+
 /// Returns the commands, each with its options.
 fn command_line<'a>(alloc: Global) -> Result<Command<'a>, AllocError> {
     Ok(
@@ -160,7 +218,9 @@ fn command_line<'a>(alloc: Global) -> Result<Command<'a>, AllocError> {
             .subcommand(job_command(alloc, "check")?)?
             .subcommand(job_command(alloc, "unpack")?)?
             .subcommand(job_command(alloc, "pack")?)?
-            .subcommand(link_command(alloc)?)?,
+            .subcommand(link_command(alloc)?)?
+            .subcommand(fetch_command(alloc)?)?
+            .subcommand(serve_command(alloc)?)?,
     )
 }
 
@@ -404,6 +464,20 @@ pub fn asked(alloc: Global, words: &[String]) -> Result<Asked, AllocError>
             return mistake(alloc, &mut command, ONE_FILE);
         }
         return Ok(Asked::Link(files));
+    }
+    if name == "fetch" {
+        return match fetch_asked(alloc, options) {
+            Ok(job) => Ok(Asked::Fetch(job)),
+            Err(Mistake::Text(what)) => mistake(alloc, &mut command, what),
+            Err(Mistake::Memory) => Err(AllocError),
+        };
+    }
+    if name == "serve" {
+        return match serve_asked(alloc, options) {
+            Ok(job) => Ok(Asked::Serve(job)),
+            Err(Mistake::Text(what)) => mistake(alloc, &mut command, what),
+            Err(Mistake::Memory) => Err(AllocError),
+        };
     }
     match requested(alloc, name, options) {
         Ok(request) => Ok(Asked::Run(request)),

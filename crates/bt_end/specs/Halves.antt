@@ -50,6 +50,10 @@ received a bytes = with_feed a (pushed a.feed bytes)
 abbrev pub without_sent : ℕ → HalfState → HalfState
 without_sent n a = record a { outbox = drop n a.outbox }
 
+-- it asks for at most n blocks at once
+abbrev pub with_window : ℕ → HalfState → HalfState
+with_window n a = record a { end = record a.end { window = n } }
+
 -- ---- turns
 
 -- a whole item is held in a feed that isn't refused

@@ -111,7 +111,7 @@ ghost use Rattle.bt_io.specs.Counts.{Grew};
 ghost use Rattle.bt_metadata.specs.Blocks.{max_metadata};
 ghost use Rattle.bt_wire.specs.Handshakes.{hand};
 ghost use Rattle.bt_end.specs.Ends.{belief, metadata_of, unopened, renewed, progress_of, is_hopeless, fetched_block};
-ghost use Rattle.bt_end.specs.Halves.{IsTurned, IsSaid, high_water, is_ready, connected, received, without_sent, IsHandled, IsStop};
+ghost use Rattle.bt_end.specs.Halves.{IsTurned, IsSaid, high_water, is_ready, connected, received, without_sent, with_window, IsHandled, IsStop};
 ghost use Rattle.bt_end.specs.Parts.{part_of, shown_slice};
 ghost use Rattle.bt_end.specs.Configs.{part_for, is_bad_role, IsMade};
 ghost use Rattle.bt_end.specs.Sturdy.{IsPartOf, IsFetched, IsEnd, Sends};
@@ -340,6 +340,13 @@ impl<A: Allocator + Copy> End<A> {
         self.feed = feed;
         self.reactor.renew(outbox);
         Ok(())
+    }
+
+    /// Asks for at most so many blocks at once from now on. What is asked stays asked.
+    pub fn set_window(&mut self, window: Window)
+        ensures { self.new ≡ with_window window self.old }
+    {
+        self.reactor.window = window;
     }
 
     /// How often, on this connection, the blocks that came were those of other metadata: each block was held, and their SHA-1

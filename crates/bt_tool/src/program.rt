@@ -1,14 +1,17 @@
 //! A run of the program over its host's files and standard streams. `main` calls it with what the words ask for.
 ghost use Rattle.std.specs.Prelude.{IfOk};
 ghost use Rattle.bt_cli.specs.Commands.{HasLimit, IsLimited};
+ghost use Rattle.bt_fetch.specs.Wishes.{IsWish};
 
 use crate::piped::Piped;
 use bt_cli::commands::{Asked, Job, Notice, Request};
 use bt_cli::ending::{end_by_fault, end_job, end_link, end_text};
+use bt_cli::fetch::{FetchJob, end_fetch, run_fetch};
 use bt_cli::notice::refuse_words;
 use bt_cli::options::{is_input, no_handshake};
 use bt_cli::other::receiver_by;
 use bt_cli::run::{JobEnd, do_job, say};
+use bt_cli::serve::{ServeJob, end_serve, run_serve};
 use bt_feed::Host;
 use bt_jobs::output::write_out;
 use bt_jobs::{OtherError, run_check_after};
@@ -20,7 +23,10 @@ use std::alloc::AllocError;
 use std::cell::Cell;
 use std::fs;
 use std::io::{Input, Write};
+use std::net::Net;
+use std::random::RandomSource;
 use std::rt::Files;
+use std::time::Clock;
 
 /// What is said where a stream is awaited from a terminal.
 const STREAM_AWAITED: &[u8] =
@@ -47,7 +53,7 @@ pub struct Program<'a, R, W, E> {
 /// An input: standard input, or a file.
 type Opened<R> = Host<Either<<R as Input>::Reader, <R as Files>::File>>;
 
-impl<'a, R: Files + Input + AllocGlobal, W: Write, E: Write> Program<'a, R, W, E> {
+impl<'a, R: Files + Input + Net + Clock + RandomSource + AllocGlobal, W: Write, E: Write> Program<'a, R, W, E> {
     /// A program on this host, with its standard output and standard error.
     pub fn new(
         host: &'a R,
@@ -74,6 +80,8 @@ impl<'a, R: Files + Input + AllocGlobal, W: Write, E: Write> Program<'a, R, W, E
         match asked {
             Asked::Run(request) => self.run(request),
             Asked::Link(files) => self.link(files),
+            Asked::Fetch(job) => self.fetch(job),
+            Asked::Serve(job) => self.serve(job),
             Asked::Told(Notice::Usage, text) => self.refuse(text.as_str()),
             Asked::Told(_, text) => {
                 let end = write_out(&mut self.writer, text.as_bytes(), ());
@@ -163,7 +171,7 @@ impl<'a, R: Files + Input + AllocGlobal, W: Write, E: Write> Program<'a, R, W, E
         };
         let awaited = match job {
             Job::Pack => SCRIPT_AWAITED,
-            Job::Show | Job::Check | Job::Unpack => STREAM_AWAITED,
+            Job::Show | Job::Json | Job::Check | Job::Unpack => STREAM_AWAITED,
         };
         let Some(mut reader) = self.open(name, awaited) else {
             return end_by_fault(ToolFault::Read, prefix.as_bytes(), false, &mut self.errors);
@@ -235,5 +243,20 @@ impl<'a, R: Files + Input + AllocGlobal, W: Write, E: Write> Program<'a, R, W, E
         let end = run_rig(self.host.alloc(), &mut reader, &mut self.writer);
         let is_gone = self.is_gone.get();
         end_link(end, prefix.as_bytes(), is_gone, &mut self.errors)
+    }
+
+    /// Fetches metadata from peers, and returns the exit status.
+    fn fetch(&mut self, job: &FetchJob) -> u8
+        requires { IsWish job.now.wish }
+    {
+        let alloc = self.host.alloc();
+        let fetched = run_fetch(self.host, alloc, job, &mut self.writer, &mut self.errors);
+        end_fetch(fetched, &mut self.errors)
+    }
+
+    /// Serves metadata to peers, and returns the exit status.
+    fn serve(&mut self, job: &ServeJob) -> u8 {
+        let service = run_serve(self.host, self.host.alloc(), job, &mut self.writer);
+        end_serve(service, &mut self.errors)
     }
 }

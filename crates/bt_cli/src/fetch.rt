@@ -1,0 +1,277 @@
+//! The command `fetch`: what its words ask for, the fetch, its lines on standard error, and the exit status. The module `options`
+//! and the program's `main` call it.
+ghost use Rattle.std.specs.Prelude.{◌≡◌, ◌≤◌, Err, IfOk, IfSome};
+ghost use Rattle.bt_io.specs.Counts.{Grew};
+ghost use Rattle.bt_fetch.specs.Fetches.{IsWritten};
+ghost use Rattle.bt_fetch.specs.Wishes.{IsWish};
+ghost use Rattle.bt_cli.specs.Fetches.{fetch_status};
+
+use crate::run::say;
+use crate::values::number_within;
+use bt_end::Window;
+use bt_ext::Rules;
+use bt_feed::Target;
+use bt_fetch::{FetchError, Outcome, Report, TcpDial, Wish, fetch};
+use bt_text::ended::{Ended, ToolFault};
+use bt_text::lines::{fault_line, verdict_line};
+use clap::ArgMatches;
+use hex::FromHex;
+use std::alloc::{AllocError, Global};
+use std::net::{Net, SocketAddr};
+use std::random::RandomSource;
+use std::time::Clock;
+
+/// The seconds without progress where none are given.
+pub const DEFAULT_PATIENCE: u32 = 30;
+
+/// The greatest length of a message where none is given.
+pub const DEFAULT_LIMIT: u32 = 262_144;
+
+/// The greatest size of metadata where none is given, which is also the greatest that may be given.
+const MOST: u32 = 67_108_864;
+
+/// The beginning of a peer id: this project's prefix and version. Twelve random digits follow.
+const PEER_PREFIX: &[u8; 8] = b"-TZ0001-";
+
+/// A fetch that is asked for.
+#[derive(Debug, Drop)]
+pub struct FetchJob {
+    pub wish: Wish,
+    /// A .torrent is written in place of the metadata.
+    pub torrent: bool,
+    /// The peers' addresses, and how each was written.
+    pub addresses: Vec<SocketAddr>,
+    pub names: Vec<String>,
+}
+
+/// Why words ask for no fetch.
+#[derive(Clone, Copy, PartialEq, Eq, Debug)]
+pub enum Mistake {
+    /// What an option or a word has to be.
+    Text(&'static str),
+    /// Out of memory.
+    Memory,
+}
+
+impl From<AllocError> for Mistake {
+    ghost use Rattle.bt_cli.specs.declared.fetch.Mistake.TheVariants.{Memory};
+    ghost use Rattle.std.specs.Prelude.{◌≡◌};
+
+    ghost from_gives = { λ _ e. e ≡ Memory };
+
+    fn from(_: AllocError) -> Mistake {
+        Mistake::Memory
+    }
+}
+
+/// Returns a number of an option, or the one that stands where the option isn't given.
+pub fn number_or(text: Option<&str>, low: u32, high: u32, default: u32) -> Option<u32>
+    requires { (low ≤ default) × (default ≤ high) }
+    ensures { IfSome result (λ n. (low ≤ n) × (n ≤ high)) }
+{
+    match text {
+        None => Some(default),
+        Some(digits) => number_within(digits, low, high),
+    }
+}
+
+/// Returns the rules of `--rules`.
+pub fn rules_in(text: Option<&str>) -> Option<Rules> {
+    match text {
+        None => Some(Rules::Bep),
+        Some(name) if name == "bep" => Some(Rules::Bep),
+        Some(name) if name == "free" => Some(Rules::Free),
+        Some(_) => None,
+    }
+}
+
+/// Returns how many blocks are asked for at once, where that is given.
+fn window_in(text: Option<&str>) -> Option<Option<Window>> {
+    match text {
+        None => Some(None),
+        Some(digits) => Some(Some(Window::new(number_within(digits, 1, 8)? as u8)?)),
+    }
+}
+
+/// Returns what is to be fetched.
+fn wish_in(options: &ArgMatches<'_>) -> Result<Wish, &'static str>
+    ensures { IfOk result (λ wish. IsWish wish) }
+{
+    let hash = options.get_str("INFOHASH").unwrap_or("");
+    let info_hash =
+        <[u8; 20] as FromHex>::from_hex(hash).map_err(|_| "INFOHASH takes 40 hex digits");
+    let info_hash = info_hash?;
+    let rules = rules_in(options.get_str("rules")).ok_or("'--rules' takes 'free' or 'bep'")?;
+    let limit = number_or(options.get_str("limit"), 32_768, 1_048_576, DEFAULT_LIMIT)
+        .ok_or("'--limit' takes a number from 32768 to 1048576")?;
+    let patience = number_or(options.get_str("patience"), 1, 86_400, DEFAULT_PATIENCE)
+        .ok_or("'--patience' takes a number from 1 to 86400")?;
+    let window =
+        window_in(options.get_str("window")).ok_or("'--window' takes a number from 1 to 8")?;
+    let most = number_or(options.get_str("most"), 1, MOST, MOST)
+        .ok_or("'--most' takes a number from 1 to 67108864")?;
+    Ok(Wish {
+        info_hash,
+        peer_id: [48; 20],
+        rules,
+        limit,
+        patience: patience as u64,
+        window,
+        most: most as u64,
+    })
+}
+
+/// Returns the addresses that the words name.
+fn addresses_in(alloc: Global, words: &[&str]) -> Result<Vec<SocketAddr>, Mistake> {
+    let mut addresses = Vec::new(alloc);
+    for word in words {
+        let Ok(address) = word.parse::<SocketAddr>() else {
+            return Err(Mistake::Text("ADDRESS takes IP:PORT or [IPv6]:PORT"));
+        };
+        if addresses.push(address).is_err() {
+            return Err(Mistake::Memory);
+        }
+    }
+    Ok(addresses)
+}
+
+/// Returns copies of the words.
+fn names_of(alloc: Global, words: &[&str]) -> Result<Vec<String>, AllocError> {
+    let mut names = Vec::new(alloc);
+    for word in words {
+        names.push(String::from_str(alloc, word)?)?;
+    }
+    Ok(names)
+}
+
+/// Returns the fetch that the words of the command ask for.
+///
+/// # Errors
+/// The first option or word that has no meaning, or `Memory`.
+pub fn fetch_asked(alloc: Global, options: &ArgMatches<'_>) -> Result<FetchJob, Mistake>
+    ensures { IfOk result (λ job. IsWish job.wish) }
+{
+    let wish = match wish_in(options) {
+        Ok(wish) => wish,
+        Err(what) => return Err(Mistake::Text(what)),
+    };
+    let Some(words) = options.get_strs("ADDRESS") else {
+        return Err(Mistake::Text("an ADDRESS is missing"));
+    };
+    Ok(FetchJob {
+        wish,
+        torrent: options.get_flag("torrent"),
+        addresses: addresses_in(alloc, words)?,
+        names: names_of(alloc, words)?,
+    })
+}
+
+/// Says on standard error how each connection ended.
+#[derive(Drop)]
+struct Lines<'a, E: Target> {
+    names: &'a [String],
+    errors: &'a mut E,
+}
+
+/// Returns the line of a connection's end, but for the address; nothing for a refusal, and where the address is tried again
+/// at once.
+fn line_of(outcome: Outcome) -> &'static [u8] {
+    match outcome {
+        Outcome::Fetched => b" fetched\n",
+        Outcome::Silent => b" silent\n",
+        Outcome::Closed => b" closed\n",
+        Outcome::Unreachable => b" unreachable\n",
+        Outcome::Rejected => b" rejected\n",
+        Outcome::Mismatch => b" mismatch\n",
+        Outcome::NoMetadata => b" no-metadata\n",
+        Outcome::Refused(_) | Outcome::OtherSize => b"",
+    }
+}
+
+impl<'a, E: Target> Lines<'a, E> {
+    /// Says a line that begins with an address.
+    fn say_line(&mut self, address: usize, line: &[u8]) {
+        if let Some(name) = self.names.get(address) {
+            say(name.as_str().as_bytes(), self.errors);
+        }
+        say(line, self.errors);
+    }
+}
+
+impl<'a, E: Target> Report for Lines<'a, E> {
+    fn ended(&mut self, address: usize, outcome: Outcome) {
+        if let Outcome::Refused(refusal) = outcome {
+            let mut line = [0; 160];
+            let place = verdict_line(Ended::Refused(refusal), &mut line);
+            self.say_line(address, b" ");
+            say(&line[place..], self.errors);
+            return;
+        }
+        let line = line_of(outcome);
+        if !line.is_empty() {
+            self.say_line(address, line);
+        }
+    }
+}
+
+/// Returns a peer id of this project's prefix and twelve digits, drawn at random where that can be had.
+pub fn drawn_peer_id<R: RandomSource>(random: &R) -> [u8; 20] {
+    let mut drawn = [0u8; 12];
+    if random.fill_bytes(&mut drawn).is_err() {
+        drawn = [0; 12];
+    }
+    let mut peer_id = [48u8; 20];
+    peer_id[..8].copy_from_slice(PEER_PREFIX);
+    for (digit, byte) in peer_id[8..].iter_mut().zip(drawn.iter()) {
+        *digit = 48 + *byte % 10;
+    }
+    peer_id
+}
+
+/// Fetches what is asked for over TCP, and says on `errors` how each connection ended.
+pub fn run_fetch<R: Net + Clock + RandomSource, W: Target, E: Target>(
+    rt: &R,
+    alloc: Global,
+    job: &FetchJob,
+    writer: &mut W,
+    errors: &mut E,
+) -> Result<usize, FetchError>
+    requires { IsWish job.now.wish }
+    ensures written { IsWritten job.now.torrent job.now.wish.info_hash (W.held writer.old) (W.held writer.new) result }
+    ensures fault { result ≡ Err FetchError.Write → Grew (W.failed_writes writer.old) (W.failed_writes writer.new) }
+{
+    let mut wish = job.wish;
+    wish.peer_id = drawn_peer_id(rt);
+    let mut dial = TcpDial::new(rt, job.addresses.as_slice());
+    let mut report = Lines {
+        names: job.names.as_slice(),
+        errors,
+    };
+    fetch(
+        alloc,
+        &wish,
+        job.torrent,
+        job.addresses.len(),
+        &mut dial,
+        &mut report,
+        writer,
+    )
+}
+
+/// Says on standard error what kept a fetch from its work, if anything did, and returns the exit status.
+pub fn end_fetch<E: Target>(fetched: Result<usize, FetchError>, errors: &mut E) -> u8
+    ensures { result ≡ fetch_status fetched }
+{
+    match fetched {
+        Ok(_) => 0,
+        Err(FetchError::NotFetched) => 1,
+        Err(FetchError::Write) => {
+            say(fault_line(ToolFault::Write), errors);
+            3
+        }
+        Err(FetchError::Memory) => {
+            say(fault_line(ToolFault::Memory), errors);
+            3
+        }
+    }
+}

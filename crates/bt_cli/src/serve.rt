@@ -1,0 +1,216 @@
+//! The command `serve`: what its words ask for, the service, its lines, and the exit status. The module `options` and the
+//! program's `main` call it.
+use crate::fetch::{DEFAULT_LIMIT, DEFAULT_PATIENCE, Mistake, drawn_peer_id, number_or, rules_in};
+use crate::run::say;
+use bt_ext::Rules;
+use bt_feed::Target;
+use bt_serve::{Ending, Farewell, Hospitality, Parting, TcpDoor, info_in, listen, serve};
+use bt_text::ended::{Ended, ToolFault};
+use bt_text::lines::{fault_line, verdict_line};
+use clap::ArgMatches;
+use sha1::Sha1;
+use std::alloc::{AllocError, Global};
+use std::fs::{self, Files};
+use std::io;
+use std::net::{Net, SocketAddr};
+use std::random::RandomSource;
+use std::time::Clock;
+
+/// Where a server listens where no address is given: a free port of 127.0.0.1.
+const DEFAULT_LISTEN: &str = "127.0.0.1:0";
+
+/// How many connections are served at the same time where that isn't given.
+const DEFAULT_AT_ONCE: u32 = 64;
+
+/// The greatest size of metadata, in bytes.
+const MOST: usize = 67_108_864;
+
+/// A service that is asked for.
+#[derive(Debug, Drop)]
+pub struct ServeJob {
+    /// The name of the file: a .torrent, or an info dictionary.
+    pub file: String,
+    pub listen: SocketAddr,
+    pub rules: Rules,
+    pub limit: u32,
+    pub patience: u64,
+    /// After how many connections the service ends; `None` is never.
+    pub connections: Option<u64>,
+    pub at_once: usize,
+}
+
+/// How a service ended.
+#[derive(Clone, Copy, PartialEq, Eq, Debug)]
+pub enum Service {
+    /// As many connections were served as were asked for.
+    Done,
+    /// The file is neither a .torrent nor an info dictionary.
+    RefusedFile,
+    /// What kept it from its work, as a line of standard error.
+    Fault(&'static [u8]),
+}
+
+/// Returns the number of `--connections`.
+fn connections_in(text: Option<&str>) -> Option<Option<u64>> {
+    match text {
+        None => Some(None),
+        Some(_) => Some(Some(number_or(text, 1, 4_294_967_295, 1)? as u64)),
+    }
+}
+
+/// Returns the service that the words of the command ask for.
+///
+/// # Errors
+/// The first option or word that has no meaning, or `Memory`.
+pub fn serve_asked(alloc: Global, options: &ArgMatches<'_>) -> Result<ServeJob, Mistake> {
+    let listen = options.get_str("listen").unwrap_or(DEFAULT_LISTEN);
+    let Ok(listen) = listen.parse::<SocketAddr>() else {
+        return Err(Mistake::Text("'--listen' takes IP:PORT or [IPv6]:PORT"));
+    };
+    let Some(rules) = rules_in(options.get_str("rules")) else {
+        return Err(Mistake::Text("'--rules' takes 'free' or 'bep'"));
+    };
+    let Some(limit) = number_or(options.get_str("limit"), 32_768, 1_048_576, DEFAULT_LIMIT) else {
+        return Err(Mistake::Text("'--limit' takes a number from 32768 to 1048576"));
+    };
+    let Some(patience) = number_or(options.get_str("patience"), 1, 86_400, DEFAULT_PATIENCE) else {
+        return Err(Mistake::Text("'--patience' takes a number from 1 to 86400"));
+    };
+    let Some(connections) = connections_in(options.get_str("connections")) else {
+        return Err(Mistake::Text("'--connections' takes a number from 1 to 4294967295"));
+    };
+    let Some(at_once) = number_or(options.get_str("at-once"), 1, 1024, DEFAULT_AT_ONCE) else {
+        return Err(Mistake::Text("'--at-once' takes a number from 1 to 1024"));
+    };
+    Ok(ServeJob {
+        file: String::from_str(alloc, options.get_str("FILE").unwrap_or(""))?,
+        listen,
+        rules,
+        limit,
+        patience: patience as u64,
+        connections,
+        at_once: at_once as usize,
+    })
+}
+
+/// Says on standard output how each connection ended.
+#[derive(Drop)]
+struct Lines<'a, W: Target> {
+    alloc: Global,
+    writer: &'a mut W,
+}
+
+impl<'a, W: Target> Farewell for Lines<'a, W> {
+    fn ended(&mut self, peer: SocketAddr, parting: Parting) {
+        let (sent, handled) = (parting.sent, parting.handled);
+        let Ok(text) = format!(in self.alloc; "{peer} sent={sent} handled={handled} ") else {
+            return;
+        };
+        say(text.as_str().as_bytes(), self.writer);
+        match parting.ending {
+            Ending::Closed => say(b"closed\n", self.writer),
+            Ending::Silent => say(b"silent\n", self.writer),
+            Ending::Refused(refusal) => {
+                let mut line = [0; 160];
+                let place = verdict_line(Ended::Refused(refusal), &mut line);
+                say(&line[place..], self.writer);
+            }
+        }
+    }
+}
+
+/// Returns the SHA-1 of the metadata.
+fn hash_of(metadata: &[u8]) -> [u8; 20] {
+    let mut digest = Sha1::new();
+    digest.update(metadata);
+    digest.finalize()
+}
+
+/// Returns what the error of reading a file says.
+fn fault_of(error: &io::Error) -> Service {
+    if error.kind() == io::ErrorKind::OutOfMemory {
+        Service::Fault(fault_line(ToolFault::Memory))
+    } else {
+        Service::Fault(fault_line(ToolFault::Read))
+    }
+}
+
+/// Says the first line: the info hash, the size, and where the server listens.
+fn announce<W: Target>(
+    alloc: Global,
+    info_hash: &[u8; 20],
+    size: usize,
+    address: SocketAddr,
+    writer: &mut W,
+) -> Result<(), AllocError> {
+    let mut digits = [0u8; 40];
+    let _ = hex::encode_to_slice(info_hash, &mut digits);
+    say(b"serving ", writer);
+    say(&digits, writer);
+    let text = format!(in alloc; " size={size} on {address}\n")?;
+    say(text.as_str().as_bytes(), writer);
+    Ok(())
+}
+
+/// Serves metadata over TCP, and says on `writer` where, and how each connection ended.
+fn serve_over_tcp<R: Net + Clock + RandomSource, W: Target>(
+    rt: &R,
+    alloc: Global,
+    job: &ServeJob,
+    metadata: &[u8],
+    writer: &mut W,
+) -> Service {
+    let info_hash = hash_of(metadata);
+    let hospitality = Hospitality {
+        info_hash,
+        peer_id: drawn_peer_id(rt),
+        rules: job.rules,
+        limit: job.limit,
+        patience: job.patience,
+    };
+    let Ok((listener, address)) = listen(rt, job.listen) else {
+        return Service::Fault(b"fault: net\n");
+    };
+    if announce(alloc, &info_hash, metadata.len(), address, writer).is_err() {
+        return Service::Fault(fault_line(ToolFault::Memory));
+    }
+    let mut door = TcpDoor::new(rt, listener, Lines { alloc, writer });
+    match serve(alloc, &hospitality, metadata, job.connections, job.at_once, &mut door) {
+        Ok(()) => Service::Done,
+        Err(_) => Service::Fault(fault_line(ToolFault::Memory)),
+    }
+}
+
+/// Serves the metadata of a file over TCP.
+pub fn run_serve<R: Net + Clock + RandomSource + Files + AllocGlobal, W: Target>(
+    rt: &R,
+    alloc: Global,
+    job: &ServeJob,
+    writer: &mut W,
+) -> Service {
+    let bytes = match fs::read(rt, job.file.as_str()) {
+        Ok(bytes) => bytes,
+        Err(error) => return fault_of(&error),
+    };
+    match info_in(bytes.as_slice()) {
+        Some(metadata) if metadata.len() <= MOST => {
+            serve_over_tcp(rt, alloc, job, metadata, writer)
+        }
+        _ => Service::RefusedFile,
+    }
+}
+
+/// Says on standard error why a service didn't do its work, if it didn't, and returns the exit status.
+pub fn end_serve<E: Target>(service: Service, errors: &mut E) -> u8 {
+    match service {
+        Service::Done => 0,
+        Service::RefusedFile => {
+            say(b"refused file\n", errors);
+            1
+        }
+        Service::Fault(line) => {
+            say(line, errors);
+            3
+        }
+    }
+}

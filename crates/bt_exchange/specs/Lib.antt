@@ -1,0 +1,6 @@
+pub mod Connections
+pub mod Courses
+pub mod Stops
+pub mod Sides
+pub mod Boths
+pub mod Watches

@@ -1,0 +1,29 @@
+//! What an end talks over. `exchange` and `advance` call it.
+ghost use Rattle.std.specs.Prelude.{◌≡◌, ℕ, length};
+ghost use Rattle.bt_exchange.specs.Connections.{Seen, read_counts, write_counts, at_time, Reads, Writes};
+
+use bt_io::Failed;
+
+/// A connection to a peer. Its calls may find that nothing can be moved yet, as a socket with a time limit does.
+pub trait Connection {
+    /// What was seen of it: the bytes that are left to be read and those that it took, where they are known, the counts of
+    /// its calls, and the time that it told last.
+    ghost seen: { Self → Seen };
+
+    /// Puts bytes at the front of the given ones, and says how many; `None`: nothing is there yet.
+    ///
+    /// A read of 0 into what isn't empty is the end: the peer closed the connection.
+    fn read(&mut self, into: &mut [u8]) -> Result<Option<usize>, Failed>
+        ensures bytes { Reads (seen self.old) (seen self.new) result into.new }
+        ensures size { length into.new ≡ length into.old }
+        ensures counts { (seen self.new).counts ≡ read_counts result (length into.old) (seen self.old).counts };
+
+    /// Takes bytes from the front of the given ones, and says how many; `None`: nothing is taken yet.
+    fn write(&mut self, from: &[u8]) -> Result<Option<usize>, Failed>
+        ensures bytes { Writes (seen self.old) (seen self.new) result from.now }
+        ensures counts { (seen self.new).counts ≡ write_counts result (length from.now) (seen self.old).counts };
+
+    /// The time in seconds, by the connection's own clock. Only differences count.
+    fn now(&mut self) -> u64
+        ensures { seen self.new ≡ at_time result (seen self.old) };
+}

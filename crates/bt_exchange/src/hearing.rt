@@ -1,0 +1,85 @@
+//! Bytes that were read and not yet given to the end. The loops of this crate call it.
+ghost use Rattle.std.specs.Prelude.{◌≡◌, ◌≤◌, [], length, drop, take, IfOk, IfSome};
+ghost use Rattle.bt_exchange.specs.Connections.{read_counts};
+ghost use Rattle.bt_exchange.specs.Courses.{Fills};
+
+use crate::connection::Connection;
+use bt_io::{Failed, Memory};
+use std::alloc::{Allocator, Global};
+use std::marker::Model;
+
+/// How many bytes are read at once, at most.
+const SIZE: usize = 65_536;
+
+/// Bytes that were read and not yet given to the end.
+#[derive(Drop)]
+pub struct Hearing<A: Allocator = Global> {
+    buffer: Vec<u8, A>,
+    at: usize,
+    filled: usize,
+}
+
+impl<A: Allocator> Model for Hearing<A> {
+    ghost use Rattle.std.specs.Prelude.{ℕ, List, ◌≤◌, ◌<◌, drop, take, vec_len};
+
+    ghost Value = { List ℕ };
+
+    ghost view = { λ a. drop a.at (take a.filled a.buffer.items) };
+
+    ghost invariant = { λ a. (a.at ≤ a.filled) × (a.filled ≤ vec_len a.buffer) × (0 < vec_len a.buffer) };
+}
+
+impl<A: Allocator> Hearing<A> {
+    /// Makes the buffer; no bytes were read.
+    pub fn new(alloc: A) -> Result<Hearing<A>, Memory>
+        ensures { IfOk result (λ h. h ≡ []) }
+    {
+        let mut buffer = Vec::new(alloc);
+        let Ok(()) = buffer.resize(SIZE, 0) else {
+            return Err(Memory);
+        };
+        Ok(Hearing {
+            buffer,
+            at: 0,
+            filled: 0,
+        })
+    }
+
+    /// The bytes that were read and not yet given.
+    pub fn bytes(&self) -> &[u8]
+        ensures { result.now ≡ self.now }
+    {
+        &self.buffer[self.at..self.filled]
+    }
+
+    /// Drops the first n of them, which were given to the end.
+    pub fn pass(&mut self, n: usize)
+        requires { n ≤ length self.old }
+        ensures { self.new ≡ drop n self.old }
+    {
+        self.at += n;
+    }
+
+    /// Drops all of them.
+    pub fn clear(&mut self)
+        ensures { self.new ≡ [] }
+    {
+        self.at = 0;
+        self.filled = 0;
+    }
+
+    /// Reads once. What was there before is gone.
+    pub fn fill<C: Connection>(&mut self, connection: &mut C) -> Result<Option<usize>, Failed>
+        ensures bytes { Fills (C.seen connection.old) (C.seen connection.new) result self.new }
+        ensures count { IfOk result (λ o. IfSome o (λ n. length self.new ≡ n)) }
+        ensures counts { (C.seen connection.new).counts ≡ read_counts result 1 (C.seen connection.old).counts }
+    {
+        self.at = 0;
+        self.filled = 0;
+        let got = connection.read(self.buffer.as_mut_slice());
+        if let Ok(Some(n)) = got {
+            self.filled = n;
+        }
+        got
+    }
+}

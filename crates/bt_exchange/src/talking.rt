@@ -1,0 +1,237 @@
+//! The loop over one connection. Fetching and serving call [`exchange`]; two ends over one wire call [`advance`].
+ghost use Rattle.std.specs.Prelude.{◌≡◌, ◌<◌, ◌≤◌, ℕ, true, false, List, [], length, is_some, Ok};
+ghost use Rattle.bt_feed.specs.Progress.{IsFeed};
+ghost use Rattle.bt_end.specs.Ends.{metadata_of, progress_of};
+ghost use Rattle.bt_exchange.specs.Connections.{Seen};
+ghost use Rattle.bt_exchange.specs.Courses.{Moment};
+ghost use Rattle.bt_exchange.specs.Stops.{IsCalm, IsAdvanced, IsMade, IsMark, IsExchanged, is_done, is_still, steps_of};
+ghost use Rattle.bt_exchange.specs.Watches.{IsVerdict, IsWatched, is_over};
+
+use crate::connection::Connection;
+use crate::hearing::Hearing;
+use bt_end::{End, Progress, Turn, TurnError};
+use bt_wire::Refusal;
+use std::alloc::Allocator;
+
+/// What a step did.
+#[derive(Clone, Copy, PartialEq, Eq, Debug)]
+pub enum Step {
+    /// Bytes were written or read.
+    Moved,
+    /// The connection could move nothing yet.
+    Waited,
+    /// Bytes that were read went to the end, which handled an item.
+    Handled,
+    /// Bytes that were read went to the end, which holds no whole item yet.
+    Held,
+}
+
+/// Why an exchange stopped.
+#[derive(Clone, Copy, PartialEq, Eq, Debug)]
+pub enum Stop {
+    /// The metadata is there.
+    Done,
+    /// No block can come any more on this connection: see [`End::is_hopeless`].
+    Hopeless,
+    /// The blocks that came were twice those of other metadata.
+    Mismatch,
+    /// The peer closed the connection.
+    Closed,
+    /// No sign of life was seen for as long as the patience.
+    Silent,
+    /// A call of the connection failed.
+    Failed,
+    /// What came is refused.
+    Refused(Refusal),
+    /// As many steps were made as may be.
+    Rounds,
+    /// Out of memory.
+    Memory,
+}
+
+/// What counts as a sign of life.
+#[derive(Clone, Copy, PartialEq, Eq, Debug)]
+pub enum Sign {
+    /// Bytes that were read or written.
+    Bytes,
+    /// Progress of the fetch: see [`End::progress`].
+    Progress,
+}
+
+/// How long an exchange goes on.
+#[derive(Clone, Copy, PartialEq, Eq, Debug)]
+pub struct Limits {
+    /// The number of steps. Each writes once, reads once or handles an item.
+    pub rounds: u64,
+    /// The number of seconds without a sign of life, by the connection's clock.
+    pub patience: u64,
+    pub sign: Sign,
+}
+
+/// The time of the last sign of life, and how far the fetch had come.
+#[derive(Clone, Copy, PartialEq, Eq, Debug)]
+struct Watch {
+    since: u64,
+    progress: Option<Progress>,
+}
+
+/// Makes one step: a write, where the end has something to send; else a turn, where bytes wait for it; else a read.
+pub fn advance<C: Connection, A: Allocator + Copy>(
+    connection: &mut C,
+    end: &mut End<A>,
+    hearing: &mut Hearing<A>,
+) -> Result<Step, Stop>
+    ensures { IsAdvanced (record { seen = C.seen connection.old; pending = hearing.old; half = end.old })
+        (record { seen = C.seen connection.new; pending = hearing.new; half = end.new }) result }
+{
+    if !end.outgoing().is_empty() {
+        return send(connection, end);
+    }
+    if !hearing.bytes().is_empty() {
+        return take_turn(end, hearing);
+    }
+    match hearing.fill(connection) {
+        Ok(Some(0)) => Err(Stop::Closed),
+        Ok(Some(_)) => Ok(Step::Moved),
+        Ok(None) => Ok(Step::Waited),
+        Err(_) => Err(Stop::Failed),
+    }
+}
+
+/// Writes once.
+fn send<C: Connection, A: Allocator + Copy>(
+    connection: &mut C,
+    end: &mut End<A>,
+) -> Result<Step, Stop>
+    requires { 0 < length end.old.outbox }
+    ensures { (pending : List ℕ) → IsAdvanced (record { seen = C.seen connection.old; pending = pending; half = end.old })
+        (record { seen = C.seen connection.new; pending = pending; half = end.new }) result }
+{
+    match connection.write(end.outgoing()) {
+        Ok(Some(0)) => Err(Stop::Failed),
+        Ok(Some(n)) => {
+            end.sent(n);
+            Ok(Step::Moved)
+        }
+        Ok(None) => Ok(Step::Waited),
+        Err(_) => Err(Stop::Failed),
+    }
+}
+
+/// Gives the end bytes, up to the end of an item, and handles it where it is whole.
+fn take_turn<A: Allocator + Copy>(end: &mut End<A>, hearing: &mut Hearing<A>) -> Result<Step, Stop>
+    requires feed { IsFeed end.old.feed }
+    requires sent { length end.old.outbox ≡ 0 }
+    requires pending { 0 < length hearing.old }
+    ensures { (seen : Seen) → IsAdvanced (record { seen = seen; pending = hearing.old; half = end.old })
+        (record { seen = seen; pending = hearing.new; half = end.new }) result }
+{
+    let n = end.receive(hearing.bytes());
+    hearing.pass(n);
+    match end.turn() {
+        Ok(Turn::Handled) => Ok(Step::Handled),
+        Ok(Turn::Idle) => Ok(Step::Held),
+        Err(TurnError::Refused(refusal)) => Err(Stop::Refused(refusal)),
+        Err(TurnError::Busy) => unreachable!(),
+        Err(TurnError::Memory) => Err(Stop::Memory),
+    }
+}
+
+/// Whether, and why, a fetch is over.
+fn verdict<A: Allocator + Copy>(end: &End<A>) -> Option<Stop>
+    ensures { IsVerdict end.now.end result }
+{
+    if end.metadata().is_some() {
+        Some(Stop::Done)
+    } else if end.mismatches() >= 2 {
+        Some(Stop::Mismatch)
+    } else if end.is_hopeless() {
+        Some(Stop::Hopeless)
+    } else {
+        None
+    }
+}
+
+/// Whether a step showed a sign of life, where the fetch had come this far before it.
+fn is_alive<A: Allocator + Copy>(
+    sign: Sign,
+    step: Step,
+    before: Option<Progress>,
+    end: &End<A>,
+) -> bool
+    ensures progress { sign ≡ Sign.Progress → step ≡ Step.Handled → result ≡ false → before ≡ progress_of end.now.end.part }
+    ensures bytes { sign ≡ Sign.Bytes → result ≡ false → is_still (Ok step) ≡ true }
+{
+    match (sign, step) {
+        (Sign::Bytes, Step::Moved) => true,
+        (Sign::Progress, Step::Handled) => end.progress() != before,
+        _ => false,
+    }
+}
+
+/// Makes a step, and keeps watch.
+fn round<C: Connection, A: Allocator + Copy>(
+    connection: &mut C,
+    end: &mut End<A>,
+    hearing: &mut Hearing<A>,
+    limits: Limits,
+    watch: Watch,
+) -> Result<Watch, Stop>
+    requires progress { limits.sign ≡ Sign.Progress → watch.progress ≡ progress_of end.old.end.part }
+    requires undone { is_some (metadata_of end.old.end.part) ≡ false }
+    ensures made { (n : ℕ) × (steps_of result ≤ n) × (n ≤ 1) × IsMade n (record { seen = C.seen connection.old; pending = hearing.old; half = end.old })
+        (record { seen = C.seen connection.new; pending = hearing.new; half = end.new }) }
+    ensures watched { (start : Moment) → IsMark limits.sign watch.since start (record { seen = C.seen connection.old; pending = hearing.old; half = end.old })
+        → IsCalm start.seen.counts (C.seen connection.old).counts
+        → IsWatched limits start (record { seen = C.seen connection.new; pending = hearing.new; half = end.new }) result }
+    ensures done { is_over result ≡ is_some (metadata_of end.new.end.part) }
+{
+    let step = match advance(connection, end, hearing) {
+        Ok(step) => step,
+        Err(stop) => return Err(stop),
+    };
+    if let Step::Handled = step {
+        if let Some(stop) = verdict(end) {
+            return Err(stop);
+        }
+    }
+    let now = connection.now();
+    if is_alive(limits.sign, step, watch.progress, end) {
+        return Ok(Watch {
+            since: now,
+            progress: end.progress(),
+        });
+    }
+    if now >= watch.since && now - watch.since >= limits.patience {
+        return Err(Stop::Silent);
+    }
+    Ok(watch)
+}
+
+/// Makes steps until the metadata is there, or no more of it can come, the connection ends, fails or is silent, what comes is
+/// refused, or as many steps were made as may be.
+pub fn exchange<C: Connection, A: Allocator + Copy>(
+    connection: &mut C,
+    end: &mut End<A>,
+    hearing: &mut Hearing<A>,
+    limits: Limits,
+) -> Stop
+    ensures exchanged { IsExchanged limits (record { seen = C.seen connection.old; pending = hearing.old; half = end.old })
+        (record { seen = C.seen connection.new; pending = hearing.new; half = end.new }) result }
+    ensures done { is_done result ≡ is_some (metadata_of end.new.end.part) }
+{
+    if let Some(stop) = verdict(end) {
+        return stop;
+    }
+    let mut watch = Watch {
+        since: connection.now(),
+        progress: end.progress(),
+    };
+    for _round in 0..limits.rounds {
+        match round(connection, end, hearing, limits, watch) {
+            Ok(next) => watch = next,
+            Err(stop) => return stop,
+        }
+    }
+    Stop::Rounds
+}

@@ -1,0 +1,24 @@
+-- What the end that fetches is made with.
+use Rattle.std.specs.Prelude.{◌≤◌, Some, None}
+use Rattle.bt_ext.specs.Ids.{registered}
+use Rattle.bt_wire.specs.declared.context.Own.{Own}
+use Rattle.bt_wire.specs.declared.handshake.Handshake.{Handshake}
+use Rattle.bt_fetch.specs.declared.wish.Wish.{Wish}
+
+-- the limit is that of an end
+abbrev pub IsWish : Wish → Type 0
+IsWish w = (32768 ≤ w.limit) × (w.limit ≤ 1048576)
+
+-- It receives as the wish says, for this info hash, with the Extension Protocol and the Fast Extension, metadata messages under id 3
+abbrev pub own_of : Wish → Own
+own_of w = record {
+  reserved = record { 0 = 1048580 };
+  info_hash = Some w.info_hash;
+  pieces = None;
+  reg = registered (Some 3);
+  rules = w.rules;
+  limit = w.limit;
+}
+
+abbrev pub handshake_of : Wish → Handshake
+handshake_of w = record { reserved = record { 0 = 1048580 }; info_hash = w.info_hash; peer_id = w.peer_id }

@@ -1,0 +1,53 @@
+//! Where a fetch gets its connections from, and who is told of them.
+ghost use Rattle.std.specs.Prelude.{◌≡◌};
+ghost use Rattle.bt_io.specs.Counts.{one_more};
+
+use bt_exchange::Connection;
+use bt_wire::Refusal;
+
+/// How a try at an address ended.
+#[derive(Clone, Copy, PartialEq, Eq, Debug)]
+pub enum Outcome {
+    /// The metadata is there.
+    Fetched,
+    /// What the peer sent is refused.
+    Refused(Refusal),
+    /// The patience passed without progress, or as many steps were made as may be.
+    Silent,
+    /// The peer closed the connection, or a call of it failed.
+    Closed,
+    /// No connection was opened.
+    Unreachable,
+    /// Each block that isn't held was rejected.
+    Rejected,
+    /// The blocks were those of other metadata, twice.
+    Mismatch,
+    /// The peer knows no Extension Protocol, or told no id for metadata messages, or no size within bounds.
+    NoMetadata,
+    /// The peer told another size than that of the blocks that are held.
+    OtherSize,
+}
+
+/// Opens connections to the addresses of a list.
+pub trait Dial {
+    ghost use Rattle.std.specs.Prelude.{ℕ};
+
+    type Link: Connection + Drop;
+
+    /// How often it was asked for a connection, up to 2^64 - 1.
+    ghost dials: { Self → ℕ };
+
+    /// Opens a connection to the address of this number, counted from 0; `None` where that fails.
+    fn dial(&mut self, address: usize) -> Option<Self::Link>
+        ensures { dials self.new ≡ one_more (dials self.old) };
+
+    /// Waits a moment before the same address is dialled again.
+    fn pause(&mut self)
+        ensures { dials self.new ≡ dials self.old };
+}
+
+/// Is told how each try ended.
+pub trait Report {
+    /// The try at the address of this number ended.
+    fn ended(&mut self, address: usize, outcome: Outcome);
+}

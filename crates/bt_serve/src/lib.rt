@@ -1,0 +1,16 @@
+//! Serving the metadata of a torrent to many peers at the same time.
+//!
+//! [`serve`] takes connections from a [`Door`], over TCP from a [`TcpDoor`]. The command `serve` of `bt_cli` calls it.
+#![tactic(auto)]
+
+mod door;
+mod file;
+mod guest;
+mod serving;
+mod tcp;
+
+pub use door::{Door, Parting};
+pub use file::info_in;
+pub use guest::{Ending, Hospitality};
+pub use serving::serve;
+pub use tcp::{Farewell, TcpDoor, listen};

@@ -1,0 +1,99 @@
+//! The loop over all connections that are served.
+use crate::door::{Door, Parting};
+use crate::guest::{Guest, Hospitality, Pace};
+use bt_exchange::Connection;
+use bt_io::Memory;
+use std::alloc::Global;
+
+
+/// The connections that are served at the moment, each with its name.
+type Guests<D> = Vec<(Guest<<D as Door>::Link>, <D as Door>::Name)>;
+
+/// Lets a connection in, if one waits. It returns whether one came.
+fn let_in<D: Door>(
+    alloc: Global,
+    hospitality: &Hospitality,
+    metadata: &[u8],
+    door: &mut D,
+    guests: &mut Guests<D>,
+) -> Result<bool, Memory> {
+    let Some((link, name)) = door.enter() else {
+        return Ok(false);
+    };
+    let guest = Guest::new(alloc, hospitality, metadata, link)?;
+    if guests.push((guest, name)).is_err() {
+        return Err(Memory);
+    }
+    Ok(true)
+}
+
+/// What became of a connection at its turn.
+enum Turn {
+    Paced(Pace),
+    Ended(Parting),
+}
+
+/// Gives a connection its turn.
+fn tend_one<L: Connection + Drop>(patience: u64, guest: &mut Guest<L>) -> Turn {
+    match guest.tend(patience) {
+        Ok(pace) => Turn::Paced(pace),
+        Err(parting) => Turn::Ended(parting),
+    }
+}
+
+/// Gives each connection its turn, and drops those that ended. It returns how many ended, and whether one can go on at once.
+fn tend_all<D: Door>(patience: u64, door: &mut D, guests: &mut Guests<D>) -> (u64, bool) {
+    let mut ended = 0u64;
+    let mut is_busy = false;
+    let mut at = 0;
+    for _ in 0..guests.len() {
+        if at >= guests.len() {
+            return (ended, is_busy);
+        }
+        match tend_one(patience, &mut guests[at].0) {
+            Turn::Paced(pace) => {
+                is_busy = is_busy || pace == Pace::GoesOn;
+                at += 1;
+            }
+            Turn::Ended(parting) => {
+                let (_, name) = guests.swap_remove(at);
+                door.ended(name, parting);
+                ended = ended.saturating_add(1);
+            }
+        }
+    }
+    (ended, is_busy)
+}
+
+/// Serves metadata to so many connections, or without end, at most `at_once` of them at the same time.
+///
+/// # Errors
+/// `Memory` if the buffers of a connection are refused.
+pub fn serve<D: Door>(
+    alloc: Global,
+    hospitality: &Hospitality,
+    metadata: &[u8],
+    connections: Option<u64>,
+    at_once: usize,
+    door: &mut D,
+) -> Result<(), Memory> {
+    let mut guests: Guests<D> = Vec::new(alloc);
+    let mut entered = 0u64;
+    let mut left = 0u64;
+    for _ in 0..u64::MAX {
+        if connections == Some(left) {
+            return Ok(());
+        }
+        let is_open = guests.len() < at_once && connections != Some(entered);
+        let came = is_open && let_in(alloc, hospitality, metadata, door, &mut guests)?;
+        if came {
+            entered = entered.saturating_add(1);
+        }
+        let (ended, is_busy) = tend_all(hospitality.patience, door, &mut guests);
+        left = left.saturating_add(ended);
+        if !came && !is_busy && ended == 0 {
+            door.rest();
+        }
+    }
+    Ok(())
+}

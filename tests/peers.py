@@ -1,0 +1,377 @@
+#!/usr/bin/env python3
+"""Runs `fetch` and `serve` against peers on 127.0.0.1: honest ones, hostile ones, and real clients where they are installed.
+
+usage: tests/peers.py [PROGRAM] [--real]
+
+PROGRAM is the built program, or else the script `bt_tool` at the top of the repository. Each row has the peers in the order in
+which they are dialled, the words after their addresses, and what is expected: standard output, standard error, where `@0` is
+the first address, and the exit status. It was worked out from docs/FETCH.md. With --real, libtorrent, Transmission, aria2 and
+rtorrent serve `fetch`; a client that isn't installed is skipped, and that is said.
+"""
+import hashlib
+import os
+import shutil
+import signal
+import socket
+import struct
+import subprocess
+import sys
+import tempfile
+import threading
+import time
+
+ROOT = os.path.dirname(os.path.dirname(os.path.abspath(__file__)))
+BLOCK = 16384
+PROTOCOL = b"\x13BitTorrent protocol"
+
+
+def info_of(length):
+    """An info dictionary of this many bytes."""
+    pieces = bytes(i * 7 % 251 for i in range((length - 100) // 20 * 20))
+    for name in range(length):
+        info = b"d6:lengthi16384e4:name%d:%s12:piece lengthi16384e6:pieces%d:%se" % (name, b"n" * name, len(pieces), pieces)
+        if len(info) == length:
+            return info
+    raise ValueError(length)
+
+
+INFO = info_of(50000)
+HASH = hashlib.sha1(INFO).digest()
+FALSE = bytes(len(INFO))
+
+
+def message(number, fields):
+    return struct.pack(">IB", 1 + len(fields), number) + fields
+
+
+def handshake(reserved="0000000000100004", info_hash=HASH):
+    return PROTOCOL + bytes.fromhex(reserved) + info_hash + b"-XX0001-000000000000"
+
+
+def extended(size, number=2):
+    told = b"13:metadata_sizei%de" % size if size is not None else b""
+    return message(20, b"\0d1:md11:ut_metadatai%dee%se" % (number, told))
+
+
+def data(number, piece, info=INFO, total=None):
+    head = b"d8:msg_typei1e5:piecei%de10:total_sizei%dee" % (piece, len(info) if total is None else total)
+    return message(20, bytes([number]) + head + info[piece * BLOCK:(piece + 1) * BLOCK])
+
+
+def reject(number, piece):
+    return message(20, bytes([number]) + b"d8:msg_typei2e5:piecei%dee" % piece)
+
+
+class Peer:
+    """Listens on 127.0.0.1, and talks to the connections one after the other."""
+
+    def __init__(self, talk):
+        self.talk = talk
+        self.count = 0
+        self.socket = socket.socket()
+        self.socket.setsockopt(socket.SOL_SOCKET, socket.SO_REUSEADDR, 1)
+        self.socket.bind(("127.0.0.1", 0))
+        self.socket.listen(8)
+        self.address = "127.0.0.1:%d" % self.socket.getsockname()[1]
+        threading.Thread(target=self.serve, daemon=True).start()
+
+    def serve(self):
+        while True:
+            try:
+                link, _ = self.socket.accept()
+            except OSError:
+                return
+            self.count += 1
+            try:
+                self.talk(Link(link), self.count)
+            except OSError:
+                pass
+            link.close()
+
+    def close(self):
+        self.socket.close()
+
+
+class Link:
+    """A connection, with what it received."""
+
+    def __init__(self, link):
+        self.link = link
+        self.buffer = b""
+        self.link.settimeout(60)
+
+    def send(self, *messages):
+        self.link.sendall(b"".join(messages))
+
+    def exactly(self, count):
+        while len(self.buffer) < count:
+            got = self.link.recv(65536)
+            if not got:
+                raise OSError("closed")
+            self.buffer += got
+        taken, self.buffer = self.buffer[:count], self.buffer[count:]
+        return taken
+
+    def receive(self):
+        return self.exactly(struct.unpack(">I", self.exactly(4))[0])
+
+    def request(self):
+        """The number of the next block that is asked for."""
+        while True:
+            got = self.receive()
+            if got[:1] == b"\x14" and got[1:2] != b"\0" and b"8:msg_typei0e" in got:
+                return int(got[got.index(b"5:piecei") + 8:].split(b"e")[0])
+
+    def hold(self):
+        """Waits until the other end closes."""
+        while self.link.recv(65536):
+            pass
+
+
+def greet(link, size=len(INFO), number=2):
+    link.exactly(68)
+    link.send(handshake(), extended(size, number))
+
+
+def honest(link, count):
+    greet(link)
+    while True:
+        link.send(data(3, link.request()))
+
+
+def silent(link, count):
+    link.hold()
+
+
+def silent_later(link, count):
+    link.exactly(68)
+    link.send(handshake())
+    link.hold()
+
+
+def rejecting(link, count):
+    greet(link)
+    while True:
+        link.send(reject(3, link.request()))
+
+
+def telling(size, number=2):
+    def talk(link, count):
+        greet(link, size, number)
+        link.hold()
+    return talk
+
+
+def no_extension(link, count):
+    link.exactly(68)
+    link.send(handshake("0000000000000004"))
+    link.hold()
+
+
+def false_blocks(link, count):
+    greet(link)
+    while True:
+        link.send(data(3, link.request(), FALSE))
+
+
+def cut(link, count):
+    """Gives the first two blocks, and closes inside the third."""
+    greet(link)
+    for _ in range(2):
+        link.send(data(3, link.request()))
+    link.send(data(3, 2)[:100])
+
+
+def half_size(link, count):
+    """Tells another size, gives a block of it, and closes."""
+    greet(link, 20000)
+    link.send(data(3, link.request(), INFO[:20000]))
+    time.sleep(0.2)
+
+
+def one_at_a_time(link, count):
+    """Answers the first request, and no later one while another is outstanding, as rtorrent does."""
+    greet(link)
+    link.send(data(3, link.request()))
+    if count == 1:
+        link.hold()
+    while True:
+        link.send(data(3, link.request()))
+
+
+def closing(link, count):
+    link.exactly(68)
+
+
+def wrong_hash(link, count):
+    link.exactly(68)
+    link.send(handshake(info_hash=bytes(20)))
+    link.hold()
+
+
+def too_long(link, count):
+    link.exactly(68)
+    link.send(handshake(), struct.pack(">I", 0x7fffffff))
+    link.hold()
+
+
+def flood(bytes_of):
+    def talk(link, count):
+        greet(link, None)
+        while True:
+            link.send(bytes_of * 1000)
+    return talk
+
+
+def quiet_flood(bytes_of):
+    """Sends the same message without an extended handshake."""
+    def talk(link, count):
+        link.exactly(68)
+        link.send(handshake())
+        while True:
+            link.send(bytes_of * 1000)
+    return talk
+
+
+def bytewise(link, count):
+    """Sends each byte by itself."""
+    link.link.setsockopt(socket.IPPROTO_TCP, socket.TCP_NODELAY, 1)
+    link.exactly(68)
+    for byte in handshake(info_hash=hashlib.sha1(SMALL).digest()) + extended(300) + data(3, 0, SMALL):
+        link.send(bytes([byte]))
+    link.hold()
+
+
+def unasked(link, count):
+    """Sends blocks that nobody asked for, and then those that were."""
+    link.exactly(68)
+    link.send(handshake(), data(3, 0, FALSE), extended(len(INFO)), reject(3, 9))
+    while True:
+        piece = link.request()
+        link.send(data(3, piece), data(3, piece, FALSE))
+
+
+SMALL = info_of(300)
+TORRENT = b"d4:info" + INFO + b"e"
+NOBODY = object()
+
+# The peers, the words, standard output, standard error, the status. NOBODY is an address where nobody listens.
+ROWS = [
+    ([honest], "", INFO, "@0 fetched\n", 0),
+    ([honest], "--torrent", TORRENT, "@0 fetched\n", 0),
+    ([honest], "--window 1 --rules free --limit 32768", INFO, "@0 fetched\n", 0),
+    ([honest], "--most 50000", INFO, "@0 fetched\n", 0),
+    ([honest], "--most 49999", b"", "@0 no-metadata\n", 1),
+    ([NOBODY], "", b"", "@0 unreachable\n", 1),
+    ([NOBODY, honest], "", INFO, "@0 unreachable\n@1 fetched\n", 0),
+    ([silent], "--patience 2", b"", "@0 silent\n", 1),
+    ([silent_later, honest], "--patience 2", INFO, "@0 silent\n@1 fetched\n", 0),
+    ([closing, honest], "", INFO, "@0 closed\n@1 fetched\n", 0),
+    ([rejecting], "", b"", "@0 rejected\n", 1),
+    ([rejecting, honest], "", INFO, "@0 rejected\n@1 fetched\n", 0),
+    ([telling(0)], "", b"", "@0 no-metadata\n", 1),
+    ([telling(None)], "", b"", "@0 no-metadata\n", 1),
+    ([telling(-1)], "--rules free", b"", "@0 no-metadata\n", 1),
+    ([telling(67108865)], "", b"", "@0 no-metadata\n", 1),
+    ([telling(len(INFO), 0)], "", b"", "@0 no-metadata\n", 1),
+    ([no_extension], "", b"", "@0 no-metadata\n", 1),
+    ([false_blocks], "", b"", "@0 mismatch\n", 1),
+    ([false_blocks, honest], "", INFO, "@0 mismatch\n@1 fetched\n", 0),
+    ([cut, honest], "", INFO, "@0 closed\n@1 fetched\n", 0),
+    ([half_size, honest], "", INFO, "@0 closed\n@1 fetched\n", 0),
+    ([one_at_a_time], "--patience 2", INFO, "@0 silent\n@0 fetched\n", 0),
+    ([one_at_a_time], "--patience 2 --window 8", b"", "@0 silent\n", 1),
+    ([wrong_hash], "", b"", "@0 refused message=0 at=28 WrongInfoHash\n", 1),
+    ([too_long], "", b"", "@0 refused message=1 at=68 TooLong\n", 1),
+    ([quiet_flood(bytes(4))], "--patience 2", b"", "@0 silent\n", 1),
+    ([quiet_flood(message(4, bytes(4)))], "--patience 2 --rules free", b"", "@0 silent\n", 1),
+    ([quiet_flood(message(4, bytes(4)))], "--patience 2", b"", "@0 refused message=1 at=72 Missing\n", 1),
+    ([flood(bytes(4))], "--patience 2", b"", "@0 no-metadata\n", 1),
+    ([unasked], "", INFO, "@0 fetched\n", 0),
+]
+# The cut peer gives blocks 0 and 1; the second one is then asked for the others alone.
+ASKED = [2, 3]
+
+
+def program_of(words):
+    return os.path.abspath(words[0]) if words else os.path.join(ROOT, "bt_tool")
+
+
+def nobody():
+    taken = socket.socket()
+    taken.bind(("127.0.0.1", 0))
+    address = "127.0.0.1:%d" % taken.getsockname()[1]
+    taken.close()
+    return address
+
+
+def run(program, info_hash, addresses, words):
+    return subprocess.run([program, "fetch", info_hash.hex()] + addresses + words, stdin=subprocess.DEVNULL,
+                          capture_output=True, timeout=120)
+
+
+def differs(what, done, output, errors, status):
+    got = (done.stdout, done.stderr.decode(), done.returncode)
+    if got == (output, errors, status):
+        return 0
+    print("%s: got %d bytes, %r, status %d; expected %d bytes, %r, status %d"
+          % ((what, len(got[0])) + got[1:] + (len(output), errors, status)))
+    return 1
+
+
+def hostile(program):
+    failed = 0
+    for talks, words, output, errors, status in ROWS:
+        peers = [None if talk is NOBODY else Peer(talk) for talk in talks]
+        addresses = [nobody() if peer is None else peer.address for peer in peers]
+        for number, address in enumerate(addresses):
+            errors = errors.replace("@%d" % number, address)
+        names = " ".join("nobody" if talk is NOBODY else talk.__qualname__ for talk in talks)
+        failed += differs("%s %s" % (names, words), run(program, HASH, addresses, words.split()), output, errors, status)
+        for peer in peers:
+            if peer is not None:
+                peer.close()
+    return failed, len(ROWS)
+
+
+def kept(program):
+    """Held blocks are kept from one connection to the next, and aren't asked for again."""
+    asked = []
+
+    def counting(link, count):
+        greet(link)
+        while True:
+            asked.append(link.request())
+            link.send(data(3, asked[-1]))
+    peers = [Peer(cut), Peer(counting)]
+    done = run(program, HASH, [peer.address for peer in peers], [])
+    for peer in peers:
+        peer.close()
+    failed = differs("kept", done, INFO, "%s closed\n%s fetched\n" % tuple(peer.address for peer in peers), 0)
+    if asked != ASKED:
+        print("kept: blocks %r were asked for, expected %r" % (asked, ASKED))
+        failed += 1
+    return failed, 2
+
+
+def single(program):
+    """A stream whose bytes come one by one."""
+    peer = Peer(bytewise)
+    done = run(program, hashlib.sha1(SMALL).digest(), [peer.address], [])
+    peer.close()
+    return differs("bytewise", done, SMALL, "%s fetched\n" % peer.address, 0), 1
+
+
+def main(words):
+    program = program_of([word for word in words if word != "--real"])
+    failed = count = 0
+    for part in (hostile, kept, single):
+        more, tried = part(program)
+        failed += more
+        count += tried
+    print("peers: %d of %d as expected" % (count - failed, count))
+    return 1 if failed else 0
+
+
+if __name__ == "__main__":
+    sys.exit(main(sys.argv[1:]))
