@@ -1,4 +1,5 @@
 pub mod Courses
 pub mod Moves
 pub mod Visits
+pub mod Sides
 pub mod Watches

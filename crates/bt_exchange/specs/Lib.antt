@@ -5,3 +5,4 @@ pub mod Fetches
 pub mod Sides
 pub mod Boths
 pub mod Watches
+pub mod MemWires

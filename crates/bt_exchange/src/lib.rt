@@ -1,11 +1,12 @@
-//! One end of a connection over a device: the loop that sends, reads and takes turns, and fetching from several peers.
+//! Ends of connections over devices: the loop that sends, reads and takes turns, fetching from several peers, and two ends over one
+//! wire.
 #![tactic(auto)]
 
 mod both;
 mod connection;
 mod fetching;
 mod hearing;
-mod sided;
+mod mem_wire;
 mod stream;
 mod talking;
 mod tcp;
@@ -15,7 +16,7 @@ pub use both::{Both, BothError, run_both};
 pub use connection::Connection;
 pub use fetching::{Dial, FetchError, fetch};
 pub use hearing::Hearing;
-pub use sided::Sided;
+pub use mem_wire::MemWire;
 pub use stream::Stream;
 pub use talking::{Limits, Sign, Step, Stop, advance, exchange};
 pub use tcp::{TcpWire, open_tcp};
