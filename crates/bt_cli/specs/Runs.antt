@@ -46,6 +46,7 @@ IsEndOfInput (Script (Err fault.Read)) reads reads' failed failed' ends ends' = 
 IsEndOfInput (Script (Err fault.Turns)) reads reads' failed failed' ends ends' = (min (reads + 2 ^ 32) (2 ^ 64 - 1) ≤ reads') × (ends' ≡ ends)
 IsEndOfInput (Script (Err fault.Write)) reads reads' failed failed' ends ends' = ⊤
 IsEndOfInput (Script (Err fault.Memory)) reads reads' failed failed' ends ends' = ⊤
+IsEndOfInput (Script (Err fault.Net)) reads reads' failed failed' ends ends' = ⊥
 
 abbrev pub fault_in : JobEnd → Option ToolFault
 fault_in (Stream (Ok e)) = None

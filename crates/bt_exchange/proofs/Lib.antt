@@ -1,3 +1,4 @@
 pub mod Courses
 pub mod Moves
+pub mod Sides
 pub mod Watches

@@ -4,3 +4,4 @@ pub mod Stops
 pub mod Sides
 pub mod Boths
 pub mod Watches
+pub mod MemWires

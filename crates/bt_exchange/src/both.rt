@@ -1,95 +1,270 @@
-//! Two ends over one wire.
-ghost use Rattle.std.specs.Prelude.{◌≡◌, is_some, IfOk};
-ghost use Rattle.bt_end.specs.Ends.{metadata_of};
-ghost use Rattle.bt_exchange.specs.Boths.{IsBoth};
+//! Two ends over one wire, in rounds. The command `loop` calls it.
+ghost use Rattle.std.specs.Prelude.{◌≡◌, ◌≢◌, true, ◌+◌, ◌≤◌, ◌<◌, ◌^◌, ◌-◌, ◌&&◌, ℕ, not, length, OnOk, OnErr, IfOk};
+ghost use Rattle.bt_io.specs.Counts.{Grew};
+ghost use Rattle.bt_feed.specs.Feeds.{taken};
+ghost use Rattle.bt_feed.specs.Progress.{IsFeed};
+ghost use Rattle.bt_end.specs.Halves.{received, IsTurned};
+ghost use Rattle.bt_exchange.specs.Boths.{IsNet, IsRounds, IsSide, IsUpBy, is_fetched as is_fetched_by};
 
-use crate::hearing::Hearing;
-use crate::sided::Sided;
-use crate::talking::{Step, Stop, advance};
-use crate::wire::{Side, Wire};
-use bt_end::End;
+use crate::wire::{Side, Wire, WireFault};
+use bt_end::{End, Turn, TurnError};
+use std::alloc::Allocator;
 use thiserror::Error;
+
+/// How many bytes a round moves in a direction, at most.
+const PIECE: usize = 4_096;
 
 /// How two ends left off.
 #[derive(Clone, Copy, PartialEq, Eq, Debug)]
 pub struct Both {
-    /// Whether the right one has the metadata.
+    /// Whether the right one has the metadata, and nothing is to be sent.
     pub fetched: bool,
-    /// How many items each handled.
+    /// Whether one refused what came, or too much waited to be sent.
+    pub stopped: bool,
+    /// How many items the left one handled, up to 2^64 - 1.
     pub left: u64,
+    /// How many items the right one handled, up to 2^64 - 1.
     pub right: u64,
 }
 
 /// Why two ends were stopped.
 #[derive(Clone, Copy, PartialEq, Eq, Debug, Error)]
 pub enum BothError {
-    /// A call of the wire failed.
+    /// A call of the wire failed, or moved nothing.
     #[error("net")]
     Net,
+    /// As many rounds were made as may be.
+    #[error("rounds")]
+    Rounds,
     #[error("out of memory")]
     Memory,
 }
 
-/// What a side did.
-#[derive(Drop)]
-enum Went {
-    Handled,
-    Moved,
-    Waited,
-    Refused,
+/// How far bytes got in one direction.
+#[derive(Clone, Copy, PartialEq, Eq, Debug)]
+enum Way {
+    /// Nothing was to be sent.
+    Nothing,
+    /// All that was sent was handled.
+    All,
+    /// What came is refused, or too much waits to be sent.
+    Stopped,
 }
 
-/// One step at a side.
-fn step_at<W: Wire + Drop>(
-    wire: &mut Sided<W>,
-    side: Side,
-    end: &mut End,
-    hearing: &mut Hearing,
-) -> Result<Went, BothError>
-    ensures net { IsBoth (W.failed wire.old.wire) (W.failed wire.new.wire) result }
-{
-    wire.side = side;
-    match advance(wire, end, hearing) {
-        Ok(Step::Handled) => Ok(Went::Handled),
-        Ok(Step::Waited) => Ok(Went::Waited),
-        Ok(_) => Ok(Went::Moved),
-        Err(Stop::Memory) => Err(BothError::Memory),
-        Err(Stop::Refused(_)) => Ok(Went::Refused),
-        Err(_) => Err(BothError::Net),
+/// What one direction of a round did.
+#[derive(Clone, Copy, PartialEq, Eq, Debug)]
+struct Carried {
+    /// How many items the receiving end handled.
+    items: u64,
+    way: Way,
+}
+
+/// What a round did.
+#[derive(Clone, Copy, PartialEq, Eq, Debug)]
+struct Exchanged {
+    left: u64,
+    right: u64,
+    moved: bool,
+    stopped: bool,
+}
+
+/// The other side.
+fn across(side: Side) -> Side {
+    match side {
+        Side::Left => Side::Right,
+        Side::Right => Side::Left,
     }
 }
 
-/// Runs both ends, a step of each in turn, until neither has anything to do, or what comes is refused, or so many rounds were
-/// made.
-pub fn run_both<W: Wire + Drop>(
-    wire: &mut Sided<W>,
-    left: &mut End,
-    right: &mut End,
-    hearings: &mut (Hearing, Hearing),
-    rounds: u64,
-) -> Result<Both, BothError>
-    ensures fetched { IfOk result (λ b. b.fetched ≡ is_some (metadata_of right.new.end.part)) }
-    ensures net { IsBoth (W.failed wire.old.wire) (W.failed wire.new.wire) result }
+/// Sends bytes, and says how many were taken: one at least.
+fn send<W: Wire>(wire: &mut W, from: Side, bytes: &[u8]) -> Result<usize, WireFault>
+    requires { 0 < length bytes.now }
+    ensures bound { IfOk result (λ n. n ≤ length bytes.now) }
+    ensures failed { OnErr result (Grew (W.failed wire.old) (W.failed wire.new)) }
+    ensures calm { OnOk result (W.failed wire.new ≡ W.failed wire.old) }
+    ensures calls { IsUpBy 1 (W.calls wire.old) (W.calls wire.new) }
 {
-    let mut handled = (0u64, 0u64);
-    for _round in 0..rounds {
-        let first = step_at(wire, Side::Left, left, &mut hearings.0)?;
-        let second = step_at(wire, Side::Right, right, &mut hearings.1)?;
-        match (first, second) {
-            (Went::Refused, _) | (_, Went::Refused) | (Went::Waited, Went::Waited) => break,
-            (first, second) => {
-                if let Went::Handled = first {
-                    handled.0 = handled.0.saturating_add(1);
-                }
-                if let Went::Handled = second {
-                    handled.1 = handled.1.saturating_add(1);
-                }
-            }
+    match wire.send(from, bytes) {
+        Ok(0) => Err(WireFault),
+        answer => answer,
+    }
+}
+
+/// Reads until the buffer is full.
+fn receive_all<W: Wire>(wire: &mut W, at: Side, into: &mut [u8]) -> Result<(), WireFault>
+    ensures failed { OnErr result (Grew (W.failed wire.old) (W.failed wire.new)) }
+    ensures calm { OnOk result (W.failed wire.new ≡ W.failed wire.old) }
+    ensures calls { IsUpBy 0 (W.calls wire.old) (W.calls wire.new) }
+{
+    let mut filled = 0;
+    'reads: while filled < into.len() {
+        match wire.receive(at, &mut into[filled..]) {
+            Ok(0) => return Err(WireFault),
+            Ok(count) => filled += count,
+            Err(fault) => return Err(fault),
         }
     }
-    Ok(Both {
-        fetched: right.metadata().is_some(),
-        left: handled.0,
-        right: handled.1,
+    Ok(())
+}
+
+/// Gives an end what it may take of the bytes, and has it handle the item that it then holds.
+fn give<A: Allocator + Copy>(end: &mut End<A>, bytes: &[u8]) -> (usize, Result<Turn, TurnError>)
+    ensures taken { result.0 ≡ taken end.old.feed bytes.now }
+    ensures turned { IsTurned (received end.old bytes.now) result.1 end.new }
+    ensures in_range { result.0 ≤ length bytes.now }
+    ensures feed { IsFeed end.old.feed }
+{
+    let _ = end.outgoing();
+    let taken = end.receive(bytes);
+    (taken, end.turn())
+}
+
+/// Gives an end the bytes, and has it handle the items in them. It says how many these are, and why it stopped.
+fn give_all<A: Allocator + Copy>(end: &mut End<A>, bytes: &[u8]) -> (u64, Result<(), TurnError>)
+    ensures { IsSide end.old end.new result.0 }
+{
+    let mut used = 0;
+    let mut items = 0u64;
+    'items: loop {
+        let (taken, turn) = give(end, &bytes[used..]);
+        used += taken;
+        match turn {
+            Ok(Turn::Handled) => items = items.saturating_add(1),
+            Ok(Turn::Idle) => return (items, Ok(())),
+            Err(error) => return (items, Err(error)),
+        }
+    }
+}
+
+/// Moves bytes from the sending end over the wire to the receiving one, which handles the items in them.
+fn carry<W: Wire, A: Allocator + Copy>(
+    wire: &mut W,
+    from: Side,
+    sender: &mut End<A>,
+    receiver: &mut End<A>,
+    buffer: &mut [u8],
+) -> Result<Carried, BothError>
+    requires { length buffer.old ≡ 4096 }
+    ensures net { IsNet (W.failed wire.old) (W.failed wire.new) result }
+    ensures calls { IsUpBy 0 (W.calls wire.old) (W.calls wire.new) }
+    ensures onward { result ≢ Err BothError.Rounds }
+    ensures moved { IfOk result (λ c. (c.way ≡ Way.Nothing → length sender.old.outbox ≡ 0) × (c.way ≢ Way.Nothing → IsUpBy 1 (W.calls wire.old) (W.calls wire.new))) }
+    ensures sender { OnOk result (IsSide sender.old sender.new 0) }
+    ensures receiver { IfOk result (λ c. IsSide receiver.old receiver.new c.items) }
+{
+    let outgoing = sender.outgoing();
+    if outgoing.is_empty() {
+        return Ok(Carried {
+            items: 0,
+            way: Way::Nothing,
+        });
+    }
+    let most = outgoing.len().min(PIECE);
+    let Ok(count) = send(wire, from, &outgoing[..most]) else {
+        return Err(BothError::Net);
+    };
+    sender.sent(count);
+    let into = &mut buffer[..count];
+    let Ok(()) = receive_all(wire, across(from), into) else {
+        return Err(BothError::Net);
+    };
+    match give_all(receiver, into) {
+        (items, Ok(())) => Ok(Carried {
+            items,
+            way: Way::All,
+        }),
+        (_, Err(TurnError::Memory)) => Err(BothError::Memory),
+        (items, Err(_)) => Ok(Carried {
+            items,
+            way: Way::Stopped,
+        }),
+    }
+}
+
+/// Whether the right end has the metadata, and nothing is to be sent.
+fn is_fetched<A: Allocator + Copy>(left: &End<A>, right: &End<A>) -> bool
+    ensures { result ≡ is_fetched_by left.now right.now }
+{
+    right.metadata().is_some() && left.outgoing().is_empty() && right.outgoing().is_empty()
+}
+
+/// Moves bytes from the left end to the right one, and then back.
+fn round<W: Wire, A: Allocator + Copy>(
+    wire: &mut W,
+    left: &mut End<A>,
+    right: &mut End<A>,
+    buffer: &mut [u8],
+) -> Result<Exchanged, BothError>
+    requires { length buffer.old ≡ 4096 }
+    ensures net { IsNet (W.failed wire.old) (W.failed wire.new) result }
+    ensures calls { IsUpBy 0 (W.calls wire.old) (W.calls wire.new) }
+    ensures onward { result ≢ Err BothError.Rounds }
+    ensures moved { IfOk result (λ r. r.moved ≡ true → IsUpBy 1 (W.calls wire.old) (W.calls wire.new)) }
+    ensures left { IfOk result (λ r. IsSide left.old left.new r.left) }
+    ensures right { IfOk result (λ r. IsSide right.old right.new r.right) }
+{
+    let there = carry(wire, Side::Left, left, right, buffer)?;
+    if there.way == Way::Stopped {
+        return Ok(Exchanged {
+            left: 0,
+            right: there.items,
+            moved: true,
+            stopped: true,
+        });
+    }
+    let back = carry(wire, Side::Right, right, left, buffer)?;
+    Ok(Exchanged {
+        left: back.items,
+        right: there.items,
+        moved: there.way != Way::Nothing || back.way != Way::Nothing,
+        stopped: back.way == Way::Stopped,
     })
+}
+
+/// Runs two ends against each other, in rounds of at most 4,096 bytes in each direction, until the right one has the metadata
+/// and nothing is to be sent, or nothing more is moved, or an end refuses what comes.
+///
+/// # Errors
+/// `Net` where a call of the wire failed or moved nothing, `Rounds` after as many rounds, and `Memory`.
+pub fn run_both<W: Wire, A: Allocator + Copy>(
+    wire: &mut W,
+    left: &mut End<A>,
+    right: &mut End<A>,
+    rounds: u64,
+) -> Result<Both, BothError>
+    ensures net { IsNet (W.failed wire.old) (W.failed wire.new) result }
+    ensures rounds { IsRounds rounds (W.calls wire.old) (W.calls wire.new) result }
+    ensures left { IfOk result (λ b. IsSide left.old left.new b.left) }
+    ensures right { IfOk result (λ b. IsSide right.old right.new b.right) }
+    ensures fetched { IfOk result (λ b. b.fetched ≡ (not b.stopped && is_fetched_by left.new right.new)) }
+{
+    let mut buffer = [0; PIECE];
+    let mut items = (0u64, 0u64);
+    for _round in 0..rounds {
+        if is_fetched(left, right) {
+            return Ok(Both {
+                fetched: true,
+                stopped: false,
+                left: items.0,
+                right: items.1,
+            });
+        }
+        let done = match round(wire, left, right, &mut buffer) {
+            Ok(done) => done,
+            Err(error) => return Err(error),
+        };
+        items = (
+            items.0.saturating_add(done.left),
+            items.1.saturating_add(done.right),
+        );
+        if done.stopped || !done.moved {
+            return Ok(Both {
+                fetched: !done.stopped && is_fetched(left, right),
+                stopped: done.stopped,
+                left: items.0,
+                right: items.1,
+            });
+        }
+    }
+    Err(BothError::Rounds)
 }

@@ -1,10 +1,10 @@
-//! One end of a connection over a device: the loop that sends, reads and takes turns.
+//! Ends of connections over devices: the loop that sends, reads and takes turns, and two ends over one wire.
 #![tactic(auto)]
 
 mod both;
 mod connection;
 mod hearing;
-mod sided;
+mod mem_wire;
 mod stream;
 mod talking;
 mod tcp;
@@ -13,7 +13,7 @@ mod wire;
 pub use both::{Both, BothError, run_both};
 pub use connection::Connection;
 pub use hearing::Hearing;
-pub use sided::Sided;
+pub use mem_wire::MemWire;
 pub use stream::Stream;
 pub use talking::{Limits, Sign, Step, Stop, advance, exchange};
 pub use tcp::{TcpWire, open_tcp};

@@ -79,6 +79,7 @@ IsEndOfReads (Err fault.Read) reads reads' failed failed' ends ends' = Grew fail
 IsEndOfReads (Err fault.Turns) reads reads' failed failed' ends ends' = (min (reads + 2 ^ 32) (2 ^ 64 - 1) ≤ reads') × (ends' ≡ ends)
 IsEndOfReads (Err fault.Write) reads reads' failed failed' ends ends' = ⊤
 IsEndOfReads (Err fault.Memory) reads reads' failed failed' ends ends' = ⊤
+IsEndOfReads (Err fault.Net) reads reads' failed failed' ends ends' = ⊥
 
 -- what a command writes for a stream of n bytes with the outcome v
 abbrev pub Writing : Type 0
@@ -140,6 +141,7 @@ IsEndOfTurn (Err fault.Turns) reads reads' failed failed' ends ends' = ⊥
 IsEndOfTurn (Err fault.Read) reads reads' failed failed' ends ends' = Grew failed failed'
 IsEndOfTurn (Err fault.Write) reads reads' failed failed' ends ends' = ⊤
 IsEndOfTurn (Err fault.Memory) reads reads' failed failed' ends ends' = ⊤
+IsEndOfTurn (Err fault.Net) reads reads' failed failed' ends ends' = ⊥
 
 -- a turn read some bytes more: it goes on after the text of some items more, or all is written, or at a fault a prefix
 abbrev pub IsTurn : Form → Own → List ℕ → List (ℕ × Item) → Option (List ℕ) → Option (List ℕ) → Option (List ℕ) → Option (List ℕ) → FeedState → Printer → Result (Option Ended) ToolFault → Type 0

@@ -196,6 +196,7 @@ pub fn run_pack<R: Source, W: Target>(
     ensures write { result ≡ Err ToolFault.Write → Grew (W.failed_writes writer.old) (W.failed_writes writer.new) }
     ensures turns { result ≡ Err ToolFault.Turns
         → (min (R.reads reader.old + 2 ^ 32) (2 ^ 64 - 1) ≤ R.reads reader.new) × (R.ends reader.new ≡ R.ends reader.old) }
+    ensures local { result ≢ Err ToolFault.Net }
 {
     let Ok(mut feed) = Feed::new(alloc, *own) else {
         return Err(ToolFault::Memory);

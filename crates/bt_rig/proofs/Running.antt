@@ -5,7 +5,7 @@ use Rattle.std.specs.Global.{Vec}
 use Rattle.std.specs.Io.KnownBytes.{Consumes, Appends}
 use Rattle.bt_session.specs.declared.report.LinkReport.{LinkReport}
 use Rattle.bt_text.specs.declared.ended.ToolFault.{ToolFault}
-use Rattle.bt_text.specs.declared.ended.ToolFault.TheVariants.{Read, Write, Memory, Turns}
+use Rattle.bt_text.specs.declared.ended.ToolFault.TheVariants.{Read, Write, Memory, Turns, Net}
 use Rattle.bt_rig.specs.declared.script.Script.{Script}
 use Rattle.bt_rig.specs.declared.run.RigEnd.{RigEnd}
 use Rattle.bt_rig.specs.declared.run.RigEnd.TheVariants.{Ran, Syntax, Size, Unrun}
@@ -22,6 +22,7 @@ printed_so r h k F (Err Read) w = absurd w
 printed_so r h k F (Err Write) w = w
 printed_so r h k F (Err Memory) w = absurd w
 printed_so r h k F (Err Turns) w = absurd w
+printed_so r h k F (Err Net) w = absurd w
 
 pub finished_so : (s : Script) (r : LinkReport) (h k : Option (List ℕ)) (F : Type 0) (x : Result RigEnd ToolFault) → IsRunOf s r → IsPrinted r h k F x → IsFinished s h k F x
 finished_so s r h k F (Ok Ran) run p = (r, run, p)
@@ -32,6 +33,7 @@ finished_so s r h k F (Err Read) run p = absurd p
 finished_so s r h k F (Err Write) run p = (r, run, p.0, p.1)
 finished_so s r h k F (Err Memory) run p = p
 finished_so s r h k F (Err Turns) run p = absurd p
+finished_so s r h k F (Err Net) run p = absurd p
 
 pub ended_so : (text : List ℕ) (s : Script) (h k : Option (List ℕ)) (F : Type 0) (x : Result RigEnd ToolFault) → IsScript text (draft_of s) → IsFinished s h k F x → IsTextRun text h k F x
 ended_so text s h k F (Ok Ran) is p = (s, is, p.0, p.1, p.2)
@@ -42,6 +44,7 @@ ended_so text s h k F (Err Read) is p = absurd p
 ended_so text s h k F (Err Write) is p = (s, is, p.0, p.1, p.2, p.3)
 ended_so text s h k F (Err Memory) is p = p
 ended_so text s h k F (Err Turns) is p = absurd p
+ended_so text s h k F (Err Net) is p = absurd p
 
 timely : (E : Type 0) (e : RigEnd) → E → IsTimely E e
 timely E Ran at = at
@@ -55,6 +58,7 @@ rig_so text l m h k E U F (Err Read) read at p = absurd p.1
 rig_so text l m h k E U F (Err Write) read at p = (text, read, p)
 rig_so text l m h k E U F (Err Memory) read at p = (text, read, p)
 rig_so text l m h k E U F (Err Turns) read at p = absurd p
+rig_so text l m h k E U F (Err Net) read at p = absurd p
 
 pub script_by : (text : List ℕ) (r : Result Script ℕ) (s : Script) → MatchResult r (λ s. IsScript text (draft_of s)) (IsWrongAt text) → r ≡ Ok s → IsScript text (draft_of s)
 script_by text r s h e = subst (λ (x : Result Script ℕ). MatchResult x (λ s. IsScript text (draft_of s)) (IsWrongAt text)) e h

@@ -10,7 +10,7 @@ use Rattle.bt_session.specs.declared.report.LinkError.TheVariants as errors
 use Rattle.bt_session.specs.declared.report.LinkReport.{LinkReport}
 use Rattle.bt_session.specs.Reports.{IsRun, IsUnrun}
 use Rattle.bt_text.specs.declared.ended.ToolFault.{ToolFault}
-use Rattle.bt_text.specs.declared.ended.ToolFault.TheVariants.{Read, Write, Memory, Turns}
+use Rattle.bt_text.specs.declared.ended.ToolFault.TheVariants.{Read, Write, Memory, Turns, Net}
 use Rattle.bt_text.specs.declared.ended.ScriptReason.TheVariants.{Syntax as SyntaxReason}
 use Rattle.bt_text.specs.Lines.{refused_line}
 use Rattle.bt_rig.specs.declared.script.Script.{Script}
@@ -33,6 +33,7 @@ IsInput left left' AtEnd Failed (Err Read) = (text : List ℕ) × Consumes left 
 IsInput left left' AtEnd Failed (Err Memory) = (text : List ℕ) × Consumes left left' text
 IsInput left left' AtEnd Failed (Err Write) = ⊥
 IsInput left left' AtEnd Failed (Err Turns) = ⊥
+IsInput left left' AtEnd Failed (Err Net) = ⊥
 
 -- ---- running
 
@@ -90,6 +91,7 @@ IsFault text held held' Unread Unwritten Write =
     (s : Script) × IsScript text (draft_of s) × (r : LinkReport) × IsRunOf s r × AppendsPrefix held held' (report_lines r) × Unwritten
 IsFault text held held' Unread Unwritten Memory = held' ≡ held
 IsFault text held held' Unread Unwritten Turns = ⊥
+IsFault text held held' Unread Unwritten Net = ⊥
 
 -- the same of a text, where no read can fail
 abbrev pub IsTextRun : List ℕ → Option (List ℕ) → Option (List ℕ) → Type 0 → Result RigEnd ToolFault → Type 0

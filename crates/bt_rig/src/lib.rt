@@ -9,7 +9,7 @@ mod message;
 mod report;
 mod run;
 mod script;
-mod text;
+pub mod text;
 
 pub use entry::{Entry, Setting};
 pub use run::{MAX_SCRIPT, RigEnd, run_rig, status};

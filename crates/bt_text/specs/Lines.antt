@@ -140,6 +140,7 @@ fault_line fault.Read = codes "fault: read\n"
 fault_line fault.Write = codes "fault: write\n"
 fault_line fault.Memory = codes "fault: memory\n"
 fault_line fault.Turns = codes "fault: turns\n"
+fault_line fault.Net = codes "fault: net\n"
 
 -- ---- the end of a stream
 

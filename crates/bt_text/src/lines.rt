@@ -343,6 +343,7 @@ pub fn fault_line(fault: ToolFault) -> &'static [u8]
         ToolFault::Write => b"fault: write\n",
         ToolFault::Memory => b"fault: memory\n",
         ToolFault::Turns => b"fault: turns\n",
+        ToolFault::Net => b"fault: net\n",
     }
 }
 

@@ -1,0 +1,13 @@
+use Rattle.std.proofs.Common.{◌≤◌, ◌+◌, ◌-◌, length}
+use Rattle.bt_exchange.specs.Boths.{IsSide}
+use Rattle.bt_exchange.proofs.both.give_all.Given as goal
+
+-- the first bytes went to the end, which handled so many items
+abbrev pub invariant-items : goal.invariant-items
+invariant-items g l = record {
+  within : l.used ≤ length l.bytes;
+  side : IsSide l.fn.end l.end l.items;
+}
+
+abbrev pub decreases-items : goal.decreases-items
+decreases-items g l = (length l.bytes - l.used) + length l.end.feed.held

@@ -1,0 +1,128 @@
+-- What `loop` does: its ends, and what it writes.
+use Rattle.std.specs.Prelude.{◌≡◌, ◌⊎◌, ℕ, ◌≤◌, true, false, ⊤, List, ◌++◌, length, codes, decimal, Option, Some, None, Result, Ok, Err}
+use Rattle.std.specs.Io.KnownBytes.{Consumes, Appends}
+use Rattle.std.specs.Global.{Vec}
+use Rattle.bt_io.specs.Counts.{Grew}
+use Rattle.sha1.specs.Sha1.{sha1}
+use Rattle.hex.specs.Hex.{encode_lower}
+use Rattle.bt_ext.specs.declared.ids.Rules.{Rules}
+use Rattle.bt_ext.specs.Ids.{registered}
+use Rattle.bt_wire.specs.declared.context.Own.{Own}
+use Rattle.bt_wire.specs.declared.handshake.Handshake.{Handshake}
+use Rattle.bt_metadata.specs.Blocks.{window, max_metadata}
+use Rattle.bt_end.specs.declared.config.Announce.TheVariants.{Silent}
+use Rattle.bt_end.specs.Configs.{is_bad_size}
+use Rattle.bt_end.specs.Ends.{Serving, Awaiting, unopened, metadata_of}
+use Rattle.bt_end.specs.Halves.{HalfState, connected}
+use Rattle.bt_exchange.specs.Boths.{IsSide, IsUpBy}
+use Rattle.bt_exchange.specs.declared.both.Both.{Both}
+use Rattle.bt_text.specs.declared.ended.ToolFault.{ToolFault}
+use Rattle.bt_text.specs.declared.ended.ToolFault.TheVariants as fault
+use Rattle.bt_net.specs.declared.looped.LoopEnd.{LoopEnd}
+use Rattle.bt_net.specs.declared.looped.LoopEnd.TheVariants.{Fetched, Unfetched, BadSize}
+
+-- ---- the ends
+
+abbrev pub own_by : Rules → ℕ → List ℕ → ℕ → Own
+own_by rules limit hash id = record { reserved = record { 0 = 1048581 }; info_hash = Some hash; pieces = None; reg = registered (Some id); rules = rules; limit = limit }
+
+abbrev pub handshake_by : List ℕ → List ℕ → Handshake
+handshake_by hash peer_id = record { reserved = record { 0 = 1048581 }; info_hash = hash; peer_id = peer_id }
+
+-- the left end serves the metadata
+abbrev pub left_end : Rules → ℕ → List ℕ → HalfState
+left_end rules limit metadata =
+    connected (unopened (own_by rules limit (sha1 metadata) 3) (handshake_by (sha1 metadata) (codes "-BT0001-LLLLLLLLLLLL")) Silent window (Serving metadata))
+
+-- the right end fetches metadata of this SHA-1
+abbrev pub right_end : Rules → ℕ → List ℕ → HalfState
+right_end rules limit hash = connected (unopened (own_by rules limit hash 9) (handshake_by hash (codes "-BT0001-RRRRRRRRRRRR")) Silent window Awaiting)
+
+-- ---- what is written
+
+-- how many items an end sent, and how many it handled
+abbrev pub count_line : List ℕ → ℕ → ℕ → List ℕ
+count_line name sent handled = name ++ (codes " sent=" ++ (decimal sent ++ (codes " handled=" ++ (decimal handled ++ codes "\n"))))
+
+abbrev pub fetched_line : List ℕ → List ℕ
+fetched_line metadata = codes "fetched bytes=" ++ (decimal (length metadata) ++ (codes " sha1=" ++ (encode_lower (sha1 metadata) ++ codes "\n")))
+
+-- The metadata's size and SHA-1, and the items of both ends, of which the left one handled `left` and the right one `right`.
+-- Nothing is under way any more, so what one end handled the other sent.
+abbrev pub fetched_lines : List ℕ → ℕ → ℕ → List ℕ
+fetched_lines metadata left right = fetched_line metadata ++ (count_line (codes "left") right left ++ count_line (codes "right") left right)
+
+abbrev pub unfetched_line : List ℕ
+unfetched_line = codes "unfetched\n"
+
+-- the ends that began as `l` and `r` handled so many items, and the right one has the metadata
+pub record IsFetched (l r : HalfState) (metadata : List ℕ) (left right : ℕ) : Type 0 where
+  pub left_half : HalfState
+  pub right_half : HalfState
+  pub left : IsSide l left_half left
+  pub right : IsSide r right_half right
+  pub there : metadata_of right_half.end.part ≡ Some metadata
+
+abbrev pub AppendsPrefix : Option (List ℕ) → Option (List ℕ) → List ℕ → Type 0
+AppendsPrefix held held' text = (prefix : List ℕ) × (rest : List ℕ) × (text ≡ prefix ++ rest) × Appends held held' prefix
+
+-- the lines of a fetch, or the line of none
+abbrev pub IsOutput : HalfState → HalfState → List ℕ → Type 0
+IsOutput l r lines = ((metadata : List ℕ) × (left : ℕ) × (right : ℕ) × IsFetched l r metadata left right × (lines ≡ fetched_lines metadata left right)) ⊎ (lines ≡ unfetched_line)
+
+-- what two ends write that began so
+abbrev pub IsLinked : HalfState → HalfState → Option (List ℕ) → Option (List ℕ) → Result LoopEnd ToolFault → Type 0
+IsLinked l r held held' (Ok Fetched) =
+    (metadata : List ℕ) × (left : ℕ) × (right : ℕ) × IsFetched l r metadata left right × Appends held held' (fetched_lines metadata left right)
+IsLinked l r held held' (Ok Unfetched) = Appends held held' unfetched_line
+IsLinked l r held held' (Ok BadSize) = ⊥
+IsLinked l r held held' (Err fault.Write) = (lines : List ℕ) × IsOutput l r lines × AppendsPrefix held held' lines
+IsLinked l r held held' (Err fault.Read) = ⊥
+IsLinked l r held held' (Err other) = held' ≡ held
+
+-- what comes of metadata that was read
+abbrev pub IsLooped : Rules → ℕ → List ℕ → Option (List ℕ) → Option (List ℕ) → Result LoopEnd ToolFault → Type 0
+IsLooped rules limit text held held' (Ok BadSize) = (is_bad_size (length text) ≡ true) × (held' ≡ held)
+IsLooped rules limit text held held' (Err fault.Read) = held' ≡ held
+IsLooped rules limit text held held' (Err fault.Memory) = held' ≡ held
+IsLooped rules limit text held held' r = (is_bad_size (length text) ≡ false) × IsLinked (left_end rules limit text) (right_end rules limit (sha1 text)) held held' r
+
+-- ---- devices
+
+-- all was read to the end, or it is too long
+abbrev pub IsInput : Option (List ℕ) → Option (List ℕ) → Type 0 → Type 0 → Result (Vec ℕ) ToolFault → Type 0
+IsInput left left' AtEnd Failed (Ok text) = Consumes left left' text.items × (length text.items ≤ max_metadata → AtEnd)
+IsInput left left' AtEnd Failed (Err fault.Read) = (text : List ℕ) × Consumes left left' text × Failed
+IsInput left left' AtEnd Failed (Err fault.Memory) = (text : List ℕ) × Consumes left left' text
+IsInput left left' AtEnd Failed (Err other) = ⊥
+
+-- the reader's end was read, where the metadata was served
+abbrev pub IsTimely : Type 0 → Result LoopEnd ToolFault → Type 0
+IsTimely AtEnd (Ok Fetched) = AtEnd
+IsTimely AtEnd (Ok Unfetched) = AtEnd
+IsTimely AtEnd other = ⊤
+
+-- a call of the wire failed exactly where the answer says so; and as many calls were made as rounds, where it stopped for these
+abbrev pub IsWireFault : ℕ → ℕ → ℕ → ℕ → Result LoopEnd ToolFault → Type 0
+IsWireFault failed failed' calls calls' (Err fault.Net) = Grew failed failed'
+IsWireFault failed failed' calls calls' (Err fault.Turns) = (failed' ≡ failed) × IsUpBy 1048576 calls calls'
+IsWireFault failed failed' calls calls' other = failed' ≡ failed
+
+-- ---- for private contracts
+
+-- what is written of ends that left off so
+abbrev pub IsPrinted : Both → HalfState → Option (List ℕ) → Option (List ℕ) → Result LoopEnd ToolFault → Type 0
+IsPrinted b r held held' (Ok Fetched) = (metadata : List ℕ) × (metadata_of r.end.part ≡ Some metadata) × Appends held held' (fetched_lines metadata b.left b.right)
+IsPrinted b r held held' (Ok Unfetched) = Appends held held' unfetched_line
+IsPrinted b r held held' (Err fault.Write) =
+    (lines : List ℕ) × AppendsPrefix held held' lines × (((metadata : List ℕ) × (metadata_of r.end.part ≡ Some metadata) × (lines ≡ fetched_lines metadata b.left b.right)) ⊎ (lines ≡ unfetched_line))
+IsPrinted b r held held' (Err fault.Memory) = held' ≡ held
+IsPrinted b r held held' other = ⊥
+
+-- ---- the exit status
+
+-- 0 where it fetched, 1 where it didn't, 3 for a fault
+abbrev pub status_of : Result LoopEnd ToolFault → ℕ
+status_of (Ok Fetched) = 0
+status_of (Ok other) = 1
+status_of (Err e) = 3

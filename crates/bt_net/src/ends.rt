@@ -1,0 +1,74 @@
+//! The two ends of `loop`: the left one serves the metadata, and the right one fetches it.
+ghost use Rattle.std.specs.Prelude.{◌≡◌, ◌≤◌, true, false, length, Err, IfOk};
+ghost use Rattle.bt_end.specs.Configs.{is_bad_size};
+ghost use Rattle.bt_net.specs.Loops.{left_end, right_end};
+
+use bt_end::{Announce, Config, End, EndError, Role, Window};
+use bt_ext::{ExtId, Registered, Rules};
+use bt_wire::{Own, Reserved};
+use sha1::Sha1;
+use std::alloc::Global;
+
+/// The reserved bits of both: those of the Fast Extension, of the DHT and of the Extension Protocol.
+const RESERVED: u64 = 0x10_0005;
+
+/// Makes the end that serves the metadata.
+pub fn serving(
+    alloc: Global,
+    metadata: Vec<u8>,
+    rules: Rules,
+    limit: u32,
+) -> Result<End, EndError>
+    requires { (32768 ≤ limit) × (limit ≤ 1048576) }
+    ensures end { IfOk result (λ end. end ≡ left_end rules limit metadata.items) }
+    ensures size { IfOk result (λ end. is_bad_size (length metadata.items) ≡ false) }
+    ensures bad { result ≡ Err EndError.BadSize → is_bad_size (length metadata.items) ≡ true }
+{
+    let hash = Sha1::digest(metadata.as_slice());
+    End::new(
+        alloc,
+        Config {
+            own: Own {
+                reserved: Reserved(RESERVED),
+                info_hash: Some(hash),
+                pieces: None,
+                reg: Registered::new(ExtId::new(3)),
+                rules,
+                limit,
+            },
+            peer_id: *b"-BT0001-LLLLLLLLLLLL",
+            announce: Announce::Silent,
+            window: Window::default(),
+            role: Role::Serve(metadata),
+        },
+    )
+}
+
+/// Makes the end that fetches metadata of this SHA-1.
+pub fn fetching(
+    alloc: Global,
+    hash: [u8; 20],
+    rules: Rules,
+    limit: u32,
+) -> Result<End, EndError>
+    requires { (32768 ≤ limit) × (limit ≤ 1048576) }
+    ensures { IfOk result (λ end. end ≡ right_end rules limit hash) }
+{
+    End::new(
+        alloc,
+        Config {
+            own: Own {
+                reserved: Reserved(RESERVED),
+                info_hash: Some(hash),
+                pieces: None,
+                reg: Registered::new(ExtId::new(9)),
+                rules,
+                limit,
+            },
+            peer_id: *b"-BT0001-RRRRRRRRRRRR",
+            announce: Announce::Silent,
+            window: Window::default(),
+            role: Role::Fetch,
+        },
+    )
+}

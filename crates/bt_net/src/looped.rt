@@ -1,0 +1,231 @@
+//! `loop` on any devices: metadata is read, served by one end, and fetched by another over a wire. The command line calls
+//! [`run_loop`].
+ghost use Rattle.std.specs.Prelude.{◌≡◌, ◌≢◌, ◌≤◌, ◌++◌, length, Some, Ok, Err, List, ℕ, IfOk, IfErr, OnOk, OnErr, MatchResult};
+ghost use Rattle.std.specs.Io.KnownBytes.{Consumes, Appends};
+ghost use Rattle.bt_io.specs.Counts.{Grew};
+ghost use Rattle.bt_metadata.specs.Blocks.{max_metadata};
+ghost use Rattle.bt_end.specs.Ends.{metadata_of};
+ghost use Rattle.bt_exchange.specs.Boths.{IsUpBy};
+ghost use Rattle.bt_net.specs.Loops.{IsInput, IsLooped, IsLinked, IsPrinted, IsTimely, IsWireFault, AppendsPrefix, count_line, fetched_line, fetched_lines, status_of};
+
+use crate::ends::{fetching, serving};
+use bt_end::{End, EndError};
+use bt_exchange::{Both, BothError, Wire, run_both};
+use bt_ext::Rules;
+use bt_io::{Source, Target, write_front};
+use bt_metadata::MAX_METADATA;
+use bt_rig::text::{push_hex, push_number};
+use bt_text::ended::ToolFault;
+use sha1::Sha1;
+use std::alloc::{AllocError, Global};
+
+/// The greatest number of rounds.
+pub const ROUNDS: u64 = 1_048_576;
+
+/// How a loop ended.
+#[derive(Clone, Copy, PartialEq, Eq, Debug)]
+pub enum LoopEnd {
+    /// The right end has the metadata, and nothing is under way.
+    Fetched,
+    /// The ends moved no more bytes, or one refused what came, before that.
+    Unfetched,
+    /// The size of what was read isn't 1 to 67,108,864.
+    BadSize,
+}
+
+/// Reads to the end, or until it is more than metadata may be.
+fn read_metadata<R: Source>(alloc: Global, reader: &mut R) -> Result<Vec<u8>, ToolFault>
+    ensures { IsInput (R.left reader.old) (R.left reader.new) (Grew (R.ends reader.old) (R.ends reader.new)) (Grew (R.failed_reads reader.old) (R.failed_reads reader.new)) result }
+{
+    let mut metadata = Vec::new(alloc);
+    let mut buffer = [0; 65536];
+    'reads: loop {
+        match reader.read(&mut buffer) {
+            Ok(0) => return Ok(metadata),
+            Ok(count) => {
+                match metadata.extend_from_slice(&buffer[..count]) {
+                    Ok(()) => {
+                        if metadata.len() > MAX_METADATA {
+                            return Ok(metadata);
+                        }
+                    }
+                    Err(_) => return Err(ToolFault::Memory),
+                }
+            }
+            Err(_) => return Err(ToolFault::Read),
+        }
+    }
+}
+
+/// Appends how many items an end sent, and how many it handled.
+#[tactic(auto, using(std::proofs::lemmas::List::append_assoc))]
+fn push_counts(
+    name: &[u8],
+    sent: u64,
+    handled: u64,
+    text: &mut Vec<u8>,
+) -> Result<(), AllocError>
+    ensures { OnOk result (text.new.items ≡ text.old.items ++ count_line name.now sent handled) }
+{
+    text.extend_from_slice(name)?;
+    text.extend_from_slice(b" sent=")?;
+    push_number(sent, text)?;
+    text.extend_from_slice(b" handled=")?;
+    push_number(handled, text)?;
+    text.extend_from_slice(b"\n")
+}
+
+/// Appends the metadata's size and SHA-1.
+#[tactic(auto, using(std::proofs::lemmas::List::append_assoc))]
+fn push_fetched(metadata: &[u8], text: &mut Vec<u8>) -> Result<(), AllocError>
+    ensures { OnOk result (text.new.items ≡ text.old.items ++ fetched_line metadata.now) }
+{
+    text.extend_from_slice(b"fetched bytes=")?;
+    push_number(metadata.len() as u64, text)?;
+    text.extend_from_slice(b" sha1=")?;
+    push_hex(&Sha1::digest(metadata), text)?;
+    text.extend_from_slice(b"\n")
+}
+
+/// Returns the lines of a fetch.
+#[tactic(auto, using(std::proofs::lemmas::List::append_assoc))]
+fn lines_of(
+    alloc: Global,
+    metadata: &[u8],
+    left: u64,
+    right: u64,
+) -> Result<Vec<u8>, AllocError>
+    ensures { IfOk result (λ v. v.items ≡ fetched_lines metadata.now left right) }
+{
+    let mut text = Vec::new(alloc);
+    push_fetched(metadata, &mut text)?;
+    push_counts(b"left", right, left, &mut text)?;
+    push_counts(b"right", left, right, &mut text)?;
+    Ok(text)
+}
+
+/// Writes all of the lines.
+fn write_lines<T: Target>(
+    writer: &mut T,
+    lines: &[u8],
+    end: LoopEnd,
+) -> Result<LoopEnd, ToolFault>
+    ensures ok { OnOk result (Appends (T.held writer.old) (T.held writer.new) lines.now) }
+    ensures end { IfOk result (λ e. e ≡ end) }
+    ensures err { OnErr result (AppendsPrefix (T.held writer.old) (T.held writer.new) lines.now) }
+    ensures fault { IfErr result (λ f. f ≡ ToolFault.Write) }
+    ensures failed { OnErr result (Grew (T.failed_writes writer.old) (T.failed_writes writer.new)) }
+{
+    if write_front(writer, lines) < lines.len() {
+        return Err(ToolFault::Write);
+    }
+    Ok(end)
+}
+
+/// Writes what came of two ends.
+fn print<T: Target>(
+    alloc: Global,
+    both: Both,
+    right: &End,
+    writer: &mut T,
+) -> Result<LoopEnd, ToolFault>
+    ensures printed { IsPrinted both right.now (T.held writer.old) (T.held writer.new) result }
+    ensures failed { result ≡ Err ToolFault.Write → Grew (T.failed_writes writer.old) (T.failed_writes writer.new) }
+{
+    if !both.fetched {
+        return write_lines(writer, b"unfetched\n", LoopEnd::Unfetched);
+    }
+    let Some(metadata) = right.metadata() else {
+        return write_lines(writer, b"unfetched\n", LoopEnd::Unfetched);
+    };
+    match lines_of(alloc, metadata, both.left, both.right) {
+        Ok(lines) => write_lines(writer, lines.as_slice(), LoopEnd::Fetched),
+        Err(_) => Err(ToolFault::Memory),
+    }
+}
+
+/// Runs the two ends, and writes what came of them.
+fn link<W: Wire, T: Target>(
+    alloc: Global,
+    mut left: End,
+    mut right: End,
+    wire: &mut W,
+    writer: &mut T,
+) -> Result<LoopEnd, ToolFault>
+    ensures linked { IsLinked left right (T.held writer.old) (T.held writer.new) result }
+    ensures net { IsWireFault (W.failed wire.old) (W.failed wire.new) (W.calls wire.old) (W.calls wire.new) result }
+    ensures failed { result ≡ Err ToolFault.Write → Grew (T.failed_writes writer.old) (T.failed_writes writer.new) }
+{
+    match run_both(wire, &mut left, &mut right, ROUNDS) {
+        Ok(both) => print(alloc, both, &right, writer),
+        Err(BothError::Net) => Err(ToolFault::Net),
+        Err(BothError::Rounds) => Err(ToolFault::Turns),
+        Err(BothError::Memory) => Err(ToolFault::Memory),
+    }
+}
+
+/// Serves the metadata at the left end, and fetches it at the right one.
+fn run_metadata<W: Wire, T: Target>(
+    alloc: Global,
+    metadata: Vec<u8>,
+    writer: &mut T,
+    wire: &mut W,
+    rules: Rules,
+    limit: u32,
+) -> Result<LoopEnd, ToolFault>
+    requires { (32768 ≤ limit) × (limit ≤ 1048576) }
+    ensures looped { IsLooped rules limit metadata.items (T.held writer.old) (T.held writer.new) result }
+    ensures net { IsWireFault (W.failed wire.old) (W.failed wire.new) (W.calls wire.old) (W.calls wire.new) result }
+    ensures failed { result ≡ Err ToolFault.Write → Grew (T.failed_writes writer.old) (T.failed_writes writer.new) }
+{
+    let hash = Sha1::digest(metadata.as_slice());
+    let left = match serving(alloc, metadata, rules, limit) {
+        Ok(left) => left,
+        Err(EndError::BadSize) => return Ok(LoopEnd::BadSize),
+        Err(_) => return Err(ToolFault::Memory),
+    };
+    match fetching(alloc, hash, rules, limit) {
+        Ok(right) => link(alloc, left, right, wire, writer),
+        Err(_) => Err(ToolFault::Memory),
+    }
+}
+
+/// Reads metadata to the reader's end, serves it at one end of the wire, fetches it at the other, and writes what came of it.
+///
+/// The left end serves under the id 3, and the right one fetches under the id 9. The wire is used once all is read.
+///
+/// # Errors
+/// `Read` and `Write` where a device failed, `Net` where a call of the wire failed or moved nothing, `Turns` after 1,048,576
+/// rounds, and `Memory` where a growth was refused. After `Write` a prefix of the output is written, and after the others
+/// nothing.
+pub fn run_loop<R: Source, T: Target, W: Wire>(
+    alloc: Global,
+    reader: &mut R,
+    writer: &mut T,
+    wire: &mut W,
+    rules: Rules,
+    limit: u32,
+) -> Result<LoopEnd, ToolFault>
+    requires { (32768 ≤ limit) × (limit ≤ 1048576) }
+    ensures looped { (text : List ℕ) × Consumes (R.left reader.old) (R.left reader.new) text × IsLooped rules limit text (T.held writer.old) (T.held writer.new) result }
+    ensures end { IsTimely (Grew (R.ends reader.old) (R.ends reader.new)) result }
+    ensures read { result ≡ Err ToolFault.Read → Grew (R.failed_reads reader.old) (R.failed_reads reader.new) }
+    ensures net { IsWireFault (W.failed wire.old) (W.failed wire.new) (W.calls wire.old) (W.calls wire.new) result }
+    ensures failed { result ≡ Err ToolFault.Write → Grew (T.failed_writes writer.old) (T.failed_writes writer.new) }
+{
+    match read_metadata(alloc, reader) {
+        Ok(metadata) => run_metadata(alloc, metadata, writer, wire, rules, limit),
+        Err(fault) => Err(fault),
+    }
+}
+
+/// Returns the exit status of a loop: 0 where it fetched, 1 where it didn't, and 3 for a fault.
+pub fn status(end: &Result<LoopEnd, ToolFault>) -> u8
+    ensures { result ≡ status_of end.now }
+{
+    match end {
+        Ok(LoopEnd::Fetched) => 0,
+        Ok(LoopEnd::Unfetched | LoopEnd::BadSize) => 1,
+        Err(_) => 3,
+    }
+}
