@@ -27,15 +27,21 @@ pub record IsStepped (f p g : FeedState) (piece : List ℕ) (n : ℕ) (answer : 
 pushed_at : (f p g : FeedState) (piece : List ℕ) (n : ℕ) (answer : Result (Option Item) Refusal) → IsStepped f p g piece n answer → IsPushed f p piece piece 0 n
 pushed_at f p g piece n answer h = record { rest_is = refl; taken_is = h.taken_is; held_is = h.held_is; partial = h.partial }
 
-pub given_item : (f p g : FeedState) (piece : List ℕ) (n : ℕ) (answer : Result (Option Item) Refusal) (item : Item) → IsStepped f p g piece n answer → answer ≡ Ok (Some item) → IsFed f (take n piece) ((start_of p.stage, item) ∷ []) g
+pub given_item : (f p g : FeedState) (piece : List ℕ) (n : ℕ) (answer : Result (Option Item) Refusal) (item : Item)
+    → IsStepped f p g piece n answer → answer ≡ Ok (Some item)
+    → IsFed f (take n piece) ((start_of p.stage, item) ∷ []) g
 given_item f p g piece n answer item h e =
     let P : ℕ → Type 0 = λ k. IsFed f (take k piece) ((start_of p.stage, item) ∷ []) g in
-    subst P (omega arith) (fed_item f f p g piece piece 0 n [] answer item (fed_none f) (pushed_at f p g piece n answer h) h.limit e h.answers h.after_is)
+    subst P (omega arith) (fed_item f f p g piece piece 0 n [] answer item
+    (fed_none f) (pushed_at f p g piece n answer h) h.limit e h.answers h.after_is)
 
-pub given_none : (f p g : FeedState) (piece : List ℕ) (n : ℕ) (answer : Result (Option Item) Refusal) → IsStepped f p g piece n answer → answer ≡ Ok None → IsFed f piece [] g × (is_closed g.stage g.held ≡ false)
-given_none f p g piece n answer h e = fed_all f f p g piece piece 0 n [] answer (omega arith) (fed_none f) (pushed_at f p g piece n answer h) e h.answers h.after_is
+pub given_none : (f p g : FeedState) (piece : List ℕ) (n : ℕ) (answer : Result (Option Item) Refusal)
+    → IsStepped f p g piece n answer → answer ≡ Ok None → IsFed f piece [] g × (is_closed g.stage g.held ≡ false)
+given_none f p g piece n answer h e =
+    fed_all f f p g piece piece 0 n [] answer (omega arith) (fed_none f) (pushed_at f p g piece n answer h) e h.answers h.after_is
 
-pub given_refusal : (f p g : FeedState) (piece : List ℕ) (n : ℕ) (answer : Result (Option Item) Refusal) (r : Refusal) → IsStepped f p g piece n answer → answer ≡ Err r → IsFed f (take n piece) [] g × IsAnswer g (Err r)
+pub given_refusal : (f p g : FeedState) (piece : List ℕ) (n : ℕ) (answer : Result (Option Item) Refusal) (r : Refusal)
+    → IsStepped f p g piece n answer → answer ≡ Err r → IsFed f (take n piece) [] g × IsAnswer g (Err r)
 given_refusal f p g piece n answer r h e =
     let P : ℕ → Type 0 = λ k. IsFed f (take k piece) [] g × IsAnswer g (Err r) in
     subst P (omega arith) (fed_refused f f p g piece piece 0 n [] answer r (fed_none f) (pushed_at f p g piece n answer h) e h.answers h.after_is)
@@ -56,7 +62,8 @@ given_all {A} s (x ∷ xs) u starts y =
     let n = step.2 in
     let P : List ℕ → Type 0 = λ b. IsFed s.feed.now b (x ∷ xs) u.feed.now in
     let parts : take n piece ++ j.rest.now ≡ piece = ap (λ (b : List ℕ). take n piece ++ b) step.4 ∙ take-append-drop n piece in
-    (subst P parts (fed_both s.feed.now j.feed.now u.feed.now (take n piece) j.rest.now (x ∷ []) xs step.3 later.0), later.1)
+    let fed = fed_both s.feed.now j.feed.now u.feed.now (take n piece) j.rest.now (x ∷ []) xs step.3 later.0 in
+    (subst P parts fed, later.1)
 
 pub given_refused : {A : Type 0} (s : Items A) (xs : List (ℕ × Item)) (r : Refusal) (u : Items A) → YieldsThen GivesNext s (map Ok xs) (Some (Err (item.Refused r))) u
     → (n : ℕ) × IsFed s.feed.now (take n s.rest.now) xs u.feed.now × IsAnswer u.feed.now (Err r)
@@ -72,4 +79,5 @@ given_refused {A} s (x ∷ xs) r u y =
     let m = step.2 in
     let n = later.0 in
     let P : List ℕ → Type 0 = λ b. IsFed s.feed.now b (x ∷ xs) u.feed.now in
-    (m + n, subst P (front piece j.rest.now m n step.4) (fed_both s.feed.now j.feed.now u.feed.now (take m piece) (take n j.rest.now) (x ∷ []) xs step.3 later.1), later.2)
+    let fed = fed_both s.feed.now j.feed.now u.feed.now (take m piece) (take n j.rest.now) (x ∷ []) xs step.3 later.1 in
+    (m + n, subst P (front piece j.rest.now m n step.4) fed, later.2)

@@ -32,7 +32,8 @@ items_left s = cond s.over 0 (1 + work s.feed.now (length s.rest.now))
 
 -- what a call of `next` gave
 abbrev pub GivesNext : {A : Type 0} → Items A → Option (Result (ℕ × Item) ItemError) → Items A → Type 0
-GivesNext s (Some (Ok x)) t = (s.over ≡ false) × (t.over ≡ false) × (n : ℕ) × GivesItem s.feed.now s.rest.now n (Ok (Some x)) t.feed.now × (t.rest.now ≡ drop n s.rest.now)
+GivesNext s (Some (Ok x)) t =
+    (s.over ≡ false) × (t.over ≡ false) × (n : ℕ) × GivesItem s.feed.now s.rest.now n (Ok (Some x)) t.feed.now × (t.rest.now ≡ drop n s.rest.now)
 GivesNext s (Some (Err e)) t = (s.over ≡ false) × (t.over ≡ true) × (n : ℕ) × GivesItem s.feed.now s.rest.now n (Err e) t.feed.now
 GivesNext s None t = (t.over ≡ true) × (s.over ≡ false → (n : ℕ) × GivesItem s.feed.now s.rest.now n (Ok None) t.feed.now)
 
@@ -44,7 +45,8 @@ IsStart s f piece = (s.feed.now ≡ f) × (s.rest.now ≡ piece) × (s.over ≡ 
 -- item is held
 abbrev pub GivesAll : {A : Type 0} → Items A → FeedState → List ℕ → Type 0
 GivesAll {A} s f piece =
-    (xs : List (ℕ × Item)) (u : Items A) → YieldsThen GivesNext s (map Ok xs) None u → IsFed f piece xs u.feed.now × (is_closed u.feed.now.stage u.feed.now.held ≡ false)
+    (xs : List (ℕ × Item)) (u : Items A) → YieldsThen GivesNext s (map Ok xs) None u →
+    IsFed f piece xs u.feed.now × (is_closed u.feed.now.stage u.feed.now.held ≡ false)
 
 -- where the iterator gives xs and ends with a refusal, the first bytes of the piece are fed, xs are the items that they yield, and
 -- the feed is refused

@@ -37,7 +37,8 @@ fn next_item<A: Allocator>(
 ) -> (usize, Result<Option<(u64, Item)>, ItemError>)
     ensures given { GivesItem feed.old piece.now result.0 result.1 feed.new }
     ensures within { result.0 ≤ length piece.now }
-    ensures less { IfOk result.1 (λ found. IfSome found (λ _. work feed.new (length piece.now - result.0) < work feed.old (length piece.now))) }
+    ensures less { IfOk result.1 (λ found. IfSome found (λ _.
+        work feed.new (length piece.now - result.0) < work feed.old (length piece.now))) }
 {
     let taken = feed.push(piece);
     let start = feed.start();

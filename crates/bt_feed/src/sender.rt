@@ -8,8 +8,8 @@ use std::alloc::Allocator;
 
 /// The context that a sender takes its peer to receive in.
 ///
-/// `own` describes the sender, `theirs` is from the peer's handshake, and `table` has what the peer's extended handshakes
-/// told. Where the peer told no id for `ut_metadata`, the context has none.
+/// `own` describes the sender, `theirs` is from the peer's handshake, and `table` has what the peer's extended
+/// handshakes told. Where the peer told no id for `ut_metadata`, the context has none.
 ///
 /// What is sent is judged in this context; what is received is judged in that of [`negotiate`].
 pub fn peer_context<A: Allocator + Copy>(own: &Own, theirs: Reserved, table: &Table<A>) -> Context

@@ -129,7 +129,7 @@ fn sent_id(alloc: Global, table: &Table) -> Result<Option<u8>, PeerError> {
     Ok(bytes.get(5).copied())
 }
 
-/// A metadata message goes out under the peer's id, and not under one's own, which is 3. A peer that told none gets none.
+/// A metadata message goes out under the peer's id, and not under one's own, which is 3.
 #[test]
 fn ids_of_the_peer(rt: HostRuntime) -> Result<(), Fail> {
     let alloc = rt.alloc();

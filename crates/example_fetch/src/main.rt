@@ -3,8 +3,8 @@
 //!     example_fetch < STREAM
 //!     example_fetch INFO-HASH 192.0.2.9:6881
 //!
-//! The first reads what a peer sent to a fetching end on standard input. The second connects to a peer. Either writes the
-//! metadata, whose SHA-1 is the info hash.
+//! The first reads what a peer sent to a fetching end on standard input. The second connects to a peer. Either writes
+//! the metadata, whose SHA-1 is the info hash.
 #![tactic(auto)]
 
 use bt_end::{Announce, Config, End, Role, Window};

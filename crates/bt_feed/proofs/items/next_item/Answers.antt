@@ -31,14 +31,17 @@ returns-clause-given g c =
           let item : Item = item_of w.in-Ok-Some.view in
           let Q : ℕ → Item → Type 0 = λ at i. IsFed f (take n piece) ((at, i) ∷ []) h in
           let fed = given_item f p h piece n (shown c.take.result) item stepped (ap shown (w.in-Ok-Some.is ∙ ap Ok w.in-Ok-Some.field-0-is)) in
-          let placed : Q c.start-start.result w.in-Ok.item = subst (λ (at : ℕ). Q at w.in-Ok.item) (sym c.start-start.ensures.value) (subst (λ (i : Item). Q (start_of p.stage) i) (sym w.in-Ok.ensures.ok) fed) in
+          let named : Q (start_of p.stage) w.in-Ok.item = subst (λ (i : Item). Q (start_of p.stage) i) (sym w.in-Ok.ensures.ok) fed in
+          let placed : Q c.start-start.result w.in-Ok.item = subst (λ (at : ℕ). Q at w.in-Ok.item) (sym c.start-start.ensures.value) named in
           subst (λ s. P s c.match-take.given) (sym w.feed-is) (subst (P h) (sym w.given-is) placed)
       | in-Ok-Some+in-Err-to_item w ↦
           let item : Item = item_of w.in-Ok-Some.view in
           let fed = given_item f p h piece n (shown c.take.result) item stepped (ap shown (w.in-Ok-Some.is ∙ ap Ok w.in-Ok-Some.field-0-is)) in
           subst (λ s. P s c.match-take.given) (sym w.feed-is) (subst (P h) (sym w.given-is) ((start_of p.stage, item), fed))
       | in-Ok-None w ↦
-          subst (λ s. P s c.match-take.given) (sym w.feed-is) (subst (P h) (sym w.given-is) (given_none f p h piece n (shown c.take.result) stepped (ap shown (w.in-Ok-None.is ∙ ap Ok w.in-Ok-None.field-0-is))))
+          let given = given_none f p h piece n (shown c.take.result) stepped (ap shown (w.in-Ok-None.is ∙ ap Ok w.in-Ok-None.field-0-is)) in
+          subst (λ s. P s c.match-take.given) (sym w.feed-is) (subst (P h) (sym w.given-is) given)
       | in-Err w ↦
-          subst (λ s. P s c.match-take.given) (sym w.feed-is) (subst (P h) (sym w.given-is) (given_refusal f p h piece n (shown c.take.result) w.refusal_in.result stepped (ap shown (w.in-Err.is ∙ ap Err w.refusal_in.ensures))))
+          let given = given_refusal f p h piece n (shown c.take.result) w.refusal_in.result stepped (ap shown (w.in-Err.is ∙ ap Err w.refusal_in.ensures)) in
+          subst (λ s. P s c.match-take.given) (sym w.feed-is) (subst (P h) (sym w.given-is) given)
     ]
