@@ -1,5 +1,5 @@
 #!/usr/bin/env python3
-"""Runs tools/btcap on captures that this script writes, and compares what it prints, and its exit status.
+"""Runs tools/btcap on captures that this script writes, and compares its output and exit status; and tools/talk.
 
 usage: tests/btcap.py [PROGRAM]
 
@@ -22,7 +22,7 @@ import threading
 import time
 
 ROOT = os.path.dirname(os.path.dirname(os.path.abspath(__file__)))
-BTCAP = os.path.join(ROOT, "tools/btcap")
+BTCAP, TALK = os.path.join(ROOT, "tools/btcap"), os.path.join(ROOT, "tools/talk")
 FIN, SYN, RST, ACK = 1, 2, 4, 16
 A, B = ("10.0.0.1", 51413), ("10.0.0.2", 6881)
 
@@ -536,8 +536,41 @@ def is_real_read(program, folder):
     found = re.sub(r"at \d+\.\d{6} s", "at 0.057000 s", ended.stdout)
     if (found, ended.stderr, ended.returncode) == (wanted, "", 0):
         return True
-    print("btcap: expected:\n%sgot:\n%s%s" % (wanted, found, ended.stderr))
+    print("btcap: a real capture: expected:\n%sgot:\n%s%s" % (wanted, found, ended.stderr))
     return False
+
+
+# What an end answers to the handshake and to the rest, and whether it closes then; what tools/talk says, its status.
+TALKS = [
+    (b"h" * 68, b"rest", True, b"talk: closed after 73 bytes of ours, 72 bytes came\n", 1),
+    (b"h" * 68, b"rest", False, b"talk: kept, 72 bytes came\n", 0),
+    (b"h" * 67, None, True, b"talk: closed before its whole handshake, 67 bytes came\n", 1),
+]
+
+
+def answer(server, first, rest, closes, heard):
+    """Takes a connection, answers the handshake and, but for None, the five bytes after it, and closes or waits."""
+    with server.accept()[0] as end:
+        heard.append(end.recv(1000))
+        end.sendall(first)
+        if rest is not None:
+            heard.append(end.recv(1000))
+            end.sendall(rest)
+        if not closes:
+            end.recv(1)
+
+
+def is_talked(first, rest, closes, said, status):
+    """Whether tools/talk sends the handshake, waits for another, sends the rest, and writes what comes."""
+    stream, heard = handshakes()[0] + message(b"\x0f"), []
+    with socket.create_server(("127.0.0.1", 0)) as server:
+        thread = threading.Thread(target=answer, args=[server, first, rest, closes, heard])
+        thread.start()
+        words = ["127.0.0.1", str(server.getsockname()[1]), "0.5"]
+        ended = subprocess.run([TALK, *words], input=stream, capture_output=True)
+        thread.join()
+    wanted = [stream[:68]] + [stream[68:]] * (rest is not None)
+    return (heard, ended.stdout, ended.stderr, ended.returncode) == (wanted, first + (rest or b""), said, status)
 
 
 def main():
@@ -557,7 +590,12 @@ def main():
             wrong.append("--write")
         if example("refused.pcap") != fault()[0]:
             wrong.append("examples/refused.pcap isn't the capture of a fault")
-        real = is_real_read(program, folder)
+        for row in TALKS:
+            runs += 1
+            if not is_talked(*row):
+                wrong.append("tools/talk: %s" % (row,))
+        # a busy machine may lose packets
+        real = is_real_read(program, folder) or is_real_read(program, folder)
     if real is None:
         print("btcap: no real capture: tcpdump isn't installed or may not capture")
     else:
