@@ -190,6 +190,14 @@ def repeated(k, place, sequence=0, payload=None):
     return found
 
 
+def refilled():
+    """A lost segment that comes later with bytes of its neighbours."""
+    found = without(9)
+    old = found[7]
+    found.insert(30, Packet("B", ACK, old.sequence + 500, old.acked, SERVING[1500:3500], 9))
+    return found
+
+
 def readings():
     """Captures of one connection that say the same: a name and the file."""
     plain = frames(talk())
@@ -208,6 +216,7 @@ def readings():
     yield "a segment twice", pcap(frames(repeated(9, 15)))
     yield "SYN twice", pcap(frames(repeated(0, 1)))
     yield "two segments again as one", pcap(frames(repeated(7, 20, 500, SERVING[1500:2700])))
+    yield "a gap filled by a longer segment", pcap(frames(refilled()))
     yield "a probe without bytes", pcap(frames(repeated(7, 20, -1, b"")))
     yield "the close of B is lost", pcap(frames(without(58, 59)))
     yield "the close of B is lost, its acknowledgement isn't", pcap(frames(without(58)))
