@@ -334,6 +334,15 @@ def without_fast():
     return pcap(frames(found.packets)), lines + empty_b() + "  still open at the capture's end\n"
 
 
+def no_length():
+    """A's extended handshake has a byte string whose length is below 0, at 75."""
+    left, right = handshakes()
+    found = Talk().say("A", left + message(b"\x14\x00d-3:ae")).say("B", right)
+    refused = "refused message=1 at=75 BadBencode"
+    lines = NAMES + report("-AA0001-000000000000", 80, refused, refused) + empty_b()
+    return pcap(frames(found.packets)), lines + "  still open at the capture's end\n"
+
+
 def key_exchange():
     """Both streams begin after the key exchange of an encrypted connection whose payload is plain. A's end is cut."""
     left, right = handshakes()
@@ -444,6 +453,7 @@ def rows():
     yield "a fault, shown", ["--pieces", "38", "--show"], fault()[0], fault()[1] + shown(), b"", 1
     yield "the id of another extension", [], *other_extension(), b"", 0
     yield "no Fast Extension", [], *without_fast(), b"", 0
+    yield "a length below 0", [], *no_length(), b"", 1
     yield "a key exchange", [], *key_exchange(), b"", 0
     yield "cut by the other end", [], *cut_by_the_other(), b"", 0
     yield "cut by itself", [], *cut_by_itself(), b"", 1
@@ -468,7 +478,7 @@ def run(program, words, capture, folder):
         with open(paths[name], "wb") as file:
             file.write(data)
     words = [paths.get(word, word) for word in words]
-    ended = subprocess.run([BTCAP, "--tool", program, *words, paths["CAPTURE"]], capture_output=True)
+    ended = subprocess.run([BTCAP, "--tool", program, *words, paths["CAPTURE"]], capture_output=True, timeout=100)
     return ended.stdout.decode(), ended.stderr, ended.returncode
 
 
