@@ -1,5 +1,5 @@
 #!/usr/bin/env python3
-"""Runs tools/btcap on captures that this script writes, and compares what it prints, and its exit status.
+"""Runs tools/btcap on captures that this script writes, and compares its output and exit status; and tools/talk.
 
 usage: tests/btcap.py [PROGRAM]
 
@@ -22,7 +22,7 @@ import threading
 import time
 
 ROOT = os.path.dirname(os.path.dirname(os.path.abspath(__file__)))
-BTCAP = os.path.join(ROOT, "tools/btcap")
+BTCAP, TALK = os.path.join(ROOT, "tools/btcap"), os.path.join(ROOT, "tools/talk")
 FIN, SYN, RST, ACK = 1, 2, 4, 16
 A, B = ("10.0.0.1", 51413), ("10.0.0.2", 6881)
 
@@ -190,6 +190,14 @@ def repeated(k, place, sequence=0, payload=None):
     return found
 
 
+def refilled():
+    """A lost segment that comes later with bytes of its neighbours."""
+    found = without(9)
+    old = found[7]
+    found.insert(30, Packet("B", ACK, old.sequence + 500, old.acked, SERVING[1500:3500], 9))
+    return found
+
+
 def readings():
     """Captures of one connection that say the same: a name and the file."""
     plain = frames(talk())
@@ -208,6 +216,7 @@ def readings():
     yield "a segment twice", pcap(frames(repeated(9, 15)))
     yield "SYN twice", pcap(frames(repeated(0, 1)))
     yield "two segments again as one", pcap(frames(repeated(7, 20, 500, SERVING[1500:2700])))
+    yield "a gap filled by a longer segment", pcap(frames(refilled()))
     yield "a probe without bytes", pcap(frames(repeated(7, 20, -1, b"")))
     yield "the close of B is lost", pcap(frames(without(58, 59)))
     yield "the close of B is lost, its acknowledgement isn't", pcap(frames(without(58)))
@@ -325,6 +334,15 @@ def without_fast():
     return pcap(frames(found.packets)), lines + empty_b() + "  still open at the capture's end\n"
 
 
+def no_length():
+    """A's extended handshake has a byte string whose length is below 0, at 75."""
+    left, right = handshakes()
+    found = Talk().say("A", left + message(b"\x14\x00d-3:ae")).say("B", right)
+    refused = "refused message=1 at=75 BadBencode"
+    lines = NAMES + report("-AA0001-000000000000", 80, refused, refused) + empty_b()
+    return pcap(frames(found.packets)), lines + "  still open at the capture's end\n"
+
+
 def key_exchange():
     """Both streams begin after the key exchange of an encrypted connection whose payload is plain. A's end is cut."""
     left, right = handshakes()
@@ -435,6 +453,7 @@ def rows():
     yield "a fault, shown", ["--pieces", "38", "--show"], fault()[0], fault()[1] + shown(), b"", 1
     yield "the id of another extension", [], *other_extension(), b"", 0
     yield "no Fast Extension", [], *without_fast(), b"", 0
+    yield "a length below 0", [], *no_length(), b"", 1
     yield "a key exchange", [], *key_exchange(), b"", 0
     yield "cut by the other end", [], *cut_by_the_other(), b"", 0
     yield "cut by itself", [], *cut_by_itself(), b"", 1
@@ -459,7 +478,7 @@ def run(program, words, capture, folder):
         with open(paths[name], "wb") as file:
             file.write(data)
     words = [paths.get(word, word) for word in words]
-    ended = subprocess.run([BTCAP, "--tool", program, *words, paths["CAPTURE"]], capture_output=True)
+    ended = subprocess.run([BTCAP, "--tool", program, *words, paths["CAPTURE"]], capture_output=True, timeout=100)
     return ended.stdout.decode(), ended.stderr, ended.returncode
 
 
@@ -536,8 +555,41 @@ def is_real_read(program, folder):
     found = re.sub(r"at \d+\.\d{6} s", "at 0.057000 s", ended.stdout)
     if (found, ended.stderr, ended.returncode) == (wanted, "", 0):
         return True
-    print("btcap: expected:\n%sgot:\n%s%s" % (wanted, found, ended.stderr))
+    print("btcap: a real capture: expected:\n%sgot:\n%s%s" % (wanted, found, ended.stderr))
     return False
+
+
+# What an end answers to the handshake and to the rest, and whether it closes then; what tools/talk says, its status.
+TALKS = [
+    (b"h" * 68, b"rest", True, b"talk: closed after 73 bytes of ours, 72 bytes came\n", 1),
+    (b"h" * 68, b"rest", False, b"talk: kept, 72 bytes came\n", 0),
+    (b"h" * 67, None, True, b"talk: closed before its whole handshake, 67 bytes came\n", 1),
+]
+
+
+def answer(server, first, rest, closes, heard):
+    """Takes a connection, answers the handshake and, but for None, the five bytes after it, and closes or waits."""
+    with server.accept()[0] as end:
+        heard.append(end.recv(1000))
+        end.sendall(first)
+        if rest is not None:
+            heard.append(end.recv(1000))
+            end.sendall(rest)
+        if not closes:
+            end.recv(1)
+
+
+def is_talked(first, rest, closes, said, status):
+    """Whether tools/talk sends the handshake, waits for another, sends the rest, and writes what comes."""
+    stream, heard = handshakes()[0] + message(b"\x0f"), []
+    with socket.create_server(("127.0.0.1", 0)) as server:
+        thread = threading.Thread(target=answer, args=[server, first, rest, closes, heard])
+        thread.start()
+        words = ["127.0.0.1", str(server.getsockname()[1]), "0.5"]
+        ended = subprocess.run([TALK, *words], input=stream, capture_output=True)
+        thread.join()
+    wanted = [stream[:68]] + [stream[68:]] * (rest is not None)
+    return (heard, ended.stdout, ended.stderr, ended.returncode) == (wanted, first + (rest or b""), said, status)
 
 
 def main():
@@ -557,7 +609,12 @@ def main():
             wrong.append("--write")
         if example("refused.pcap") != fault()[0]:
             wrong.append("examples/refused.pcap isn't the capture of a fault")
-        real = is_real_read(program, folder)
+        for row in TALKS:
+            runs += 1
+            if not is_talked(*row):
+                wrong.append("tools/talk: %s" % (row,))
+        # a busy machine may lose packets
+        real = is_real_read(program, folder) or is_real_read(program, folder)
     if real is None:
         print("btcap: no real capture: tcpdump isn't installed or may not capture")
     else:

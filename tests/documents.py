@@ -22,7 +22,7 @@ import tempfile
 from collections import Counter
 
 ROOT = os.path.dirname(os.path.dirname(os.path.abspath(__file__)))
-DOCUMENTS = ["README.md", "examples/README.md", "docs/CAPTURES.md"]
+DOCUMENTS = ["README.md", "examples/README.md", "docs/CAPTURES.md", "docs/RIG.md"]
 TOOLS = ["tshark", "tcpflow", "editcap", "mergecap", "tcpdump", "xxd"]
 # Options that an older program hasn't, with which it reads files.
 OPTIONS = ["--other"]
