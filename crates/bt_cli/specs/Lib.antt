@@ -1,3 +1,4 @@
 pub mod Commands
+pub mod Hinting
 pub mod Options
 pub mod Runs

@@ -4,6 +4,7 @@
 #![tactic(auto)]
 
 pub mod commands;
+pub mod hints;
 pub mod link;
 pub mod notice;
 pub mod options;

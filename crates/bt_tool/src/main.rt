@@ -2,11 +2,13 @@
 #![tactic(auto)]
 
 use bt_cli::commands::{Asked, Notice};
+use bt_cli::hints::say_hint;
 use bt_cli::link::link;
 use bt_cli::notice::{fail, tell};
 use bt_cli::options::{NO_TEXT, asked};
 use bt_cli::run::{exit_status, run};
 use bt_feed::Host;
+use bt_hint::Kept;
 use bt_rig::status as link_status;
 use bt_text::ended::ToolFault;
 use std::process::ExitCode;
@@ -25,13 +27,15 @@ fn words<R: Env + AllocGlobal>(rt: &R) -> io::Result<Vec<String>> {
 fn main(rt: HostRuntime) -> ExitCode {
     let alloc = rt.alloc();
     let stderr = rt.stderr();
-    let mut reader = Host::new(rt.reader());
+    let mut reader = Kept::new(alloc, Host::new(rt.reader()));
     let mut writer = Host::new(io::writer(&rt));
     let mut errors = Host::new(io::writer(&stderr));
     let status = match words(&rt) {
         Ok(words) => match asked(alloc, &words) {
             Ok(Asked::Run(job, own)) => {
-                exit_status(run(alloc, job, &own, &mut reader, &mut writer, &mut errors))
+                let end = run(alloc, job, &own, &mut reader, &mut writer, &mut errors);
+                say_hint(alloc, end, reader.window(), &mut errors);
+                exit_status(end)
             }
             Ok(Asked::Link) => link_status(&link(alloc, &mut reader, &mut writer, &mut errors)),
             Ok(Asked::Told(notice, text)) => tell(notice, text.as_str(), &mut writer, &mut errors),
