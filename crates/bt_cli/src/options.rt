@@ -76,7 +76,9 @@ fn option<'a>(alloc: Global, name: &'a str, value: &'a str) -> Arg<'a> {
 
 /// Returns the option `--json`, which has no value.
 fn json_flag<'a>(alloc: Global) -> Arg<'a> {
-    Arg::new(alloc, "json").long("json").action(ArgAction::SetTrue)
+    Arg::new(alloc, "json")
+        .long("json")
+        .action(ArgAction::SetTrue)
 }
 
 /// Returns a command with the options that describe a receiver.
