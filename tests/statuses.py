@@ -31,6 +31,8 @@ PEER = b"-XX0001-000000000000"
 HAND = b"\x13BitTorrent protocol" + bytes.fromhex("0000000000100005") + bytes.fromhex(HASH) + PEER
 HAVE_9 = bytes.fromhex("00000005 04 00000009")
 LINE = ("handshake 0000000000100005 %s %s\n" % (HASH, PEER.hex())).encode()
+JSON_HAND = (b'{"offset":0,"item":"handshake","reserved":"0000000000100005","info_hash":"%s","peer_id":"%s","peer_id_text":"%s"}\n'
+             % (HASH.encode(), PEER.hex().encode(), PEER))
 REQUEST = b"d8:msg_typei0e5:piecei0ee"
 MISTAKE = Parts(b"error: ", b"Usage: bt_tool ")
 
@@ -58,6 +60,28 @@ ROWS = [
     ("show", HAND + bytes.fromhex("00040000"), b"0 " + LINE + b"refused message=1 at=72 EndInside\n", b"", 1),
     ("show", HAND + bytes.fromhex("ffffffff"), b"0 " + LINE + b"refused message=1 at=68 TooLong\n", b"", 1),
     ("show", HAND + bytes.fromhex("000000"), b"0 " + LINE + b"refused message=1 at=71 EndInside\n", b"", 1),
+    # objects
+    ("show --json", HAND + HAVE_9, JSON_HAND + b'{"offset":68,"item":"have","index":9}\n{"verdict":"ok","messages":1,"bytes":77}\n', b"", 0),
+    ("show --json", HAND + bytes.fromhex("0000000404"),
+     JSON_HAND + b'{"verdict":"refused","message":1,"offset":68,"reason":"WrongLength"}\n', b"", 1),
+    ("check --json", HAND, b"", MISTAKE, 2),
+    # hints
+    ("show", b"\xd4\xc3\xb2\xa1", b"refused message=0 at=0 BadProtocol\n", Parts(b"hint: ", b"pcap"), 1),
+    ("show", b"\n\r\r\n", b"refused message=0 at=0 BadProtocol\n", Parts(b"hint: ", b"pcapng"), 1),
+    ("show", b"\x1f\x8b\x08", b"refused message=0 at=0 BadProtocol\n", Parts(b"hint: ", b"gunzip"), 1),
+    ("check", b"\x16\x03\x01\x02", b"refused message=0 at=0 BadProtocol\n", Parts(b"hint: ", b"TLS"), 1),
+    ("check", b"GET / HTTP/1.1\r\n", b"refused message=0 at=0 BadProtocol\n", Parts(b"hint: ", b"HTTP"), 1),
+    ("show", b"d8:announce3:abce", b"refused message=0 at=0 BadProtocol\n", Parts(b"hint: ", b".torrent"), 1),
+    ("show", HAND.hex().encode(), b"refused message=0 at=0 BadProtocol\n", Parts(b"hint: ", b"xxd"), 1),
+    ("show", LINE, b"refused message=0 at=0 BadProtocol\n", Parts(b"hint: ", b"bt_tool pack"), 1),
+    ("show", b"0 " + LINE, b"refused message=0 at=0 BadProtocol\n", Parts(b"hint: ", b"'show'"), 1),
+    ("show", 335 * b"x" + HAND, b"refused message=0 at=0 BadProtocol\n", Parts(b"hint: ", b" 335;", b"tail -c +336"), 1),
+    ("check --rules free", HAND + bytes(8) + HAND, b"refused message=3 at=76 TooLong\n", Parts(b"hint: a second ", b" 76;"), 1),
+    ("check --rules free", HAND + HAVE_9 + bytes(1024) + b"\xff" * 4, b"refused message=258 at=1101 TooLong\n",
+     Parts(b"hint: from 77 on 1024 zero bytes"), 1),
+    ("check --rules free", HAND + HAVE_9 + bytes(1020) + b"\xff" * 4, b"refused message=257 at=1097 TooLong\n", b"", 1),
+    ("check --rules free", HAND + bytes(2048), b"ok messages=512 bytes=2116\n", b"", 0),
+    ("show", b"x" * 70000 + HAND, b"refused message=0 at=0 BadProtocol\n", b"", 1),
     # scripts
     ("pack", LINE, HAND, b"", 0),
     ("pack", LINE + b"keep-alive\nhave 9", HAND + bytes.fromhex("00000000 00000005 04 00000009"), b"", 0),

@@ -7,6 +7,7 @@
 pub mod commands;
 pub mod ending;
 pub mod fetch;
+pub mod hints;
 pub mod link;
 pub mod notice;
 pub mod options;

@@ -131,7 +131,9 @@ fn wants_input_twice(other: &Option<String>, files: &[String]) -> bool {
 
 /// Returns the option `--json`, which has no value.
 fn json_flag<'a>(alloc: Global) -> Arg<'a> {
-    Arg::new(alloc, "json").long("json").action(ArgAction::SetTrue)
+    Arg::new(alloc, "json")
+        .long("json")
+        .action(ArgAction::SetTrue)
 }
 
 /// Returns a command with the options that describe a receiver.

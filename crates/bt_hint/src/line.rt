@@ -66,7 +66,10 @@ fn push_words(hint: Hint, line: &mut Vec<u8>) -> Result<(), AllocError>
             push_number(start, line)?;
             push_text(b" on ", line)?;
             push_number(size, line)?;
-            push_text(b" zero bytes read as keep-alives; a gap may have been filled with them", line)
+            push_text(
+                b" zero bytes read as keep-alives; a gap may have been filled with them",
+                line,
+            )
         }
     }
 }

@@ -57,12 +57,7 @@ fn push_item(at: u64, view: &View, line: &mut Line, text: &mut Vec<u8>) -> Resul
 }
 
 /// Adds the object of an item.
-fn push_object(
-    alloc: Global,
-    at: u64,
-    view: &View,
-    text: &mut Vec<u8>,
-) -> Result<(), AllocError>
+fn push_object(alloc: Global, at: u64, view: &View, text: &mut Vec<u8>) -> Result<(), AllocError>
     ensures { OnOk result ((own : Receiver) → text.new.items ≡ text.old.items ++ object_of own (at, item_of view.now)) }
 {
     match view {

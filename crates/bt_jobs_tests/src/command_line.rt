@@ -256,9 +256,10 @@ fn receivers(rt: HostRuntime) -> Result<(), Fail> {
 /// Each command, its job, and the rules by which it judges.
 #[test]
 fn jobs(rt: HostRuntime) -> Result<(), Fail> {
-    let table: [(&[&str], Job, Rules); 10] = [
+    let table: [(&[&str], Job, Rules); 11] = [
         (&[], Job::Show, Rules::Free),
         (&["show", "--rules", "bep"], Job::Show, Rules::Bep),
+        (&["show", "--json"], Job::Json, Rules::Free),
         (&["check"], Job::Check, Rules::Bep),
         (&["check", "--rules", "bep"], Job::Check, Rules::Bep),
         (&["check", "--rules", "free"], Job::Check, Rules::Free),

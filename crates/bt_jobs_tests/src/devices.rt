@@ -1,19 +1,31 @@
 //! Jobs over devices that fail at any call, or that take nothing.
-use crate::given::{Device, HAND, LINE, MESSAGES, SCRIPT_LINE, VERDICT, joined, outcome};
+use crate::given::{
+    Device, HAND, LINE, MESSAGES, OBJECT, OBJECT_VERDICT, SCRIPT_LINE, VERDICT, joined, outcome,
+};
 use bt_cli::commands::Job;
 use bt_cli::run::JobEnd;
 use bt_text::ended::ToolFault;
 use std::alloc::{AllocError, Global};
 use std::test::Fail;
 
-/// The text of each item, and as a script has it, with the offset where the item ends.
-const TEXTS: [(usize, &str, &str); 3] = [
-    (68, LINE, SCRIPT_LINE),
-    (72, "68 keep-alive\n", "keep-alive\n"),
-    (81, "72 have 9\n", "have 9\n"),
+/// The text of each item, as an object, and as a script has it, with the offset where the item ends.
+const TEXTS: [(usize, &str, &str, &str); 3] = [
+    (68, LINE, OBJECT, SCRIPT_LINE),
+    (
+        72,
+        "68 keep-alive\n",
+        "{\"offset\":68,\"item\":\"keep-alive\"}\n",
+        "keep-alive\n",
+    ),
+    (
+        81,
+        "72 have 9\n",
+        "{\"offset\":72,\"item\":\"have\",\"index\":9}\n",
+        "have 9\n",
+    ),
 ];
 
-const JOBS: [Job; 3] = [Job::Show, Job::Check, Job::Unpack];
+const JOBS: [Job; 4] = [Job::Show, Job::Json, Job::Check, Job::Unpack];
 
 /// A device that never fails.
 const SOUND: Device = (100, None);
@@ -21,9 +33,10 @@ const SOUND: Device = (100, None);
 /// Returns what a job on a stream writes of the items in the first `bytes` bytes.
 fn lines_of(alloc: Global, job: Job, bytes: usize) -> Result<Vec<u8>, AllocError> {
     let mut text = Vec::new(alloc);
-    for (end, line, script) in &TEXTS {
+    for (end, line, object, script) in &TEXTS {
         let words = match job {
             Job::Show => line,
+            Job::Json => object,
             Job::Unpack => script,
             Job::Check | Job::Pack => "",
         };
@@ -37,9 +50,12 @@ fn lines_of(alloc: Global, job: Job, bytes: usize) -> Result<Vec<u8>, AllocError
 /// Returns all that a job on the stream writes.
 fn text_of(alloc: Global, job: Job) -> Result<Vec<u8>, AllocError> {
     let mut text = lines_of(alloc, job, 81)?;
-    if job != Job::Unpack {
-        text.extend_from_slice(VERDICT.as_bytes())?;
-    }
+    let verdict = match job {
+        Job::Show | Job::Check => VERDICT,
+        Job::Json => OBJECT_VERDICT,
+        Job::Unpack | Job::Pack => "",
+    };
+    text.extend_from_slice(verdict.as_bytes())?;
     Ok(text)
 }
 

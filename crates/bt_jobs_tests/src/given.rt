@@ -22,6 +22,13 @@ pub const MESSAGES: &[u8; 13] = b"\0\0\0\0\0\0\0\x05\x04\0\0\0\x09";
 /// The verdict's line of the handshake and these messages.
 pub const VERDICT: &str = "ok messages=2 bytes=81\n";
 
+/// The handshake's object.
+pub const OBJECT: &str =
+    "{\"offset\":0,\"item\":\"handshake\",\"reserved\":\"0000000000100005\",\"info_hash\":\"a9993e364706816aba3e25717850c26c9cd0d89d\",\"peer_id\":\"2d5858303030312d303030303030303030303030\",\"peer_id_text\":\"-XX0001-000000000000\"}\n";
+
+/// The verdict's object.
+pub const OBJECT_VERDICT: &str = "{\"verdict\":\"ok\",\"messages\":2,\"bytes\":81}\n";
+
 /// A device in memory: how many bytes a call moves at most, and the call that fails, counted from 1.
 pub type Device = (usize, Option<u64>);
 

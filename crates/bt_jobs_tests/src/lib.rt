@@ -10,6 +10,8 @@ mod devices;
 #[cfg(test)]
 mod given;
 #[cfg(test)]
+mod hints;
+#[cfg(test)]
 mod jobs;
 #[cfg(test)]
 mod laws;

@@ -7,12 +7,14 @@ use crate::piped::Piped;
 use bt_cli::commands::{Asked, Job, Notice, Request};
 use bt_cli::ending::{end_by_fault, end_job, end_link, end_text};
 use bt_cli::fetch::{FetchJob, end_fetch, run_fetch};
+use bt_cli::hints::say_hint;
 use bt_cli::notice::refuse_words;
 use bt_cli::options::{is_input, no_handshake};
 use bt_cli::other::receiver_by;
 use bt_cli::run::{JobEnd, do_job, say};
 use bt_cli::serve::{ServeJob, end_serve, run_serve};
 use bt_feed::Host;
+use bt_hint::Kept;
 use bt_jobs::output::write_out;
 use bt_jobs::{OtherError, run_check_after};
 use bt_rig::run_rig;
@@ -173,12 +175,16 @@ impl<'a, R: Files + Input + Net + Clock + RandomSource + AllocGlobal, W: Write, 
             Job::Pack => SCRIPT_AWAITED,
             Job::Show | Job::Json | Job::Check | Job::Unpack => STREAM_AWAITED,
         };
-        let Some(mut reader) = self.open(name, awaited) else {
+        let alloc = self.host.alloc();
+        let Some(reader) = self.open(name, awaited) else {
             return end_by_fault(ToolFault::Read, prefix.as_bytes(), false, &mut self.errors);
         };
-        let end = do_job(self.host.alloc(), job, own, &mut reader, &mut self.writer);
+        let mut reader = Kept::new(alloc, reader);
+        let end = do_job(alloc, job, own, &mut reader, &mut self.writer);
         let is_gone = self.is_gone.get();
-        end_job(job, end, prefix.as_bytes(), is_gone, &mut self.errors)
+        let status = end_job(job, end, prefix.as_bytes(), is_gone, &mut self.errors);
+        say_hint(alloc, end, reader.window(), &mut self.errors);
+        status
     }
 
     /// Checks files in turn, a line each, up to a write that fails; returns the greatest of their exit statuses.
