@@ -23,7 +23,7 @@ use Rattle.bt_wire.specs.Tables.{Row, row, first_fault}
 
 -- ---- what the bytes of a message say
 
--- the length that the first four bytes say, and the id behind it
+-- the length that the first four bytes say, and the id after it
 abbrev pub said_length : List ℕ → ℕ
 said_length b = number32 b
 
@@ -97,7 +97,7 @@ is_fresh Fresh = true
 is_fresh Past = false
 
 -- BEP 3: "'bitfield' is only ever sent as the first message". BEP 6: one of bitfield, have all and have none must be sent
--- right behind the handshakes. Here keep-alives, port, extended and unknown messages don't count.
+-- right after the handshakes. Here keep-alives, port, extended and unknown messages don't count.
 abbrev pub is_late : Order → Option Kind → Bool
 is_late o None = false
 is_late o (Some k) = elim k.turn [ Apart ↦ false | Counted ↦ false | Opening ↦ not (is_fresh o) ]
