@@ -8,7 +8,7 @@ use Rattle.bt_bencode.specs.Unique.{same_tree, no_end, regroup}
 use Rattle.bt_bencode.proofs.Heads.{head_of, headed, string_at}
 use Rattle.bt_bencode.proofs.Skips.{pair_at}
 
--- what is left of a list of so many values behind those that were counted
+-- what is left of a list of so many values after those that were counted
 abbrev pub LeftOf : ℕ → ℕ → List ℕ → List ℕ → Type 0
 LeftOf total count more rest = (us : Trees) × AllInRange us × (rest ≡ ben_all us ++ 101 ∷ more) × (count + trees_count us ≡ total)
 

@@ -40,11 +40,11 @@ NumberGoesOn stop n bytes = (m : ℕ) × (rest : List ℕ) × NumberThen (2 ^ 63
 abbrev pub DigitsGo : ℕ → List ℕ → Type 0
 DigitsGo stop bytes = (m : ℕ) × (rest : List ℕ) × (m ≤ 2 ^ 63) × (bytes ≡ decimal m ++ stop ∷ rest)
 
--- an integer, behind its `i`
+-- an integer, after its `i`
 abbrev pub HasInteger : List ℕ → Type 0
 HasInteger bytes = (z : ℤ) × (rest : List ℕ) × FitsSigned w64 z × (bytes ≡ signed_decimal z ++ 101 ∷ rest)
 
--- A walk over a part found the offset, or came to its end without one.
+-- A walk over a part found the offset, or reached its end without one.
 abbrev pub Walks : Result (Bor (List ℕ)) ℕ → List ℕ → Option ℕ → Type 0
 Walks (Ok rest) more offset = (offset ≡ None) × (rest.now ≡ more)
 Walks (Err n) more offset = offset ≡ Some n

@@ -36,12 +36,12 @@ abbrev pub magnitude_limit : Sign → ℕ
 magnitude_limit sign.Minus = 2 ^ 63
 magnitude_limit sign.Plus = 2 ^ 63 - 1
 
--- an integer behind `i-`
+-- an integer after `i-`
 abbrev pub NegativeThen : (List ℕ → Type 0) → List ℕ → Type 0
 NegativeThen Then [] = ⊥
 NegativeThen Then (c ∷ r) = (48 < c) × DigitsThen (2 ^ 63) 101 (λ _. Then) (c ∷ r)
 
--- an integer behind `i`
+-- an integer after `i`
 abbrev pub IntegerThen : (List ℕ → Type 0) → List ℕ → Type 0
 IntegerThen Then [] = ⊥
 IntegerThen Then (c ∷ r) = ((c ≡ 45) × NegativeThen Then r) ⊎ DigitsThen (2 ^ 63 - 1) 101 (λ _. Then) (c ∷ r)
@@ -78,7 +78,7 @@ abbrev pub AfterString : Role → List Container → List ℕ → Type 0
 AfterString role.Key stack = ValueThen (room_in stack) (Rest stack)
 AfterString role.Item stack = Rest stack
 
--- what is expected behind a string
+-- what is expected after a string
 abbrev pub after_string : Role → Expect
 after_string role.Key = expect.Value
 after_string role.Item = expect.Item
@@ -103,7 +103,7 @@ IsLive (expect.Digits side n) = n ≤ magnitude_limit side
 IsLive (expect.Length part n) = n ≤ longest_string
 IsLive (expect.Text part n) = 0 < n
 
--- behind the bytes, just what may follow there is what may follow now
+-- after the bytes, just what may follow there is what may follow now
 pub record Goes (e : Expect) (stack : List Container) (bytes : List ℕ) (e' : Expect) (stack' : List Container) : Type 0 where
   pub live : IsLive e'
   pub forth : (r : List ℕ) → May e stack (bytes ++ r) → May e' stack' r

@@ -58,7 +58,7 @@ item_ready f item h i =
 
 -- ---- what a turn leaves
 
--- the end behind the growths is as it was
+-- the end after the growths is as it was
 pub record IsKept {A : Type 0} (old new : Inside A) : Type 0 where
   pub feed : new.feed ≡ old.feed
   pub end : end_of new.reactor ≡ end_of old.reactor

@@ -56,7 +56,7 @@ faultless rules.Bep (ext.Raw i x) h = refl
 pub both : (r : Rules) (e : Ext) → Allows r e ↔ (fault_of r e ≡ None)
 both r e = (faultless r e, allowed r e)
 
--- ---- the same of a reason
+-- ---- a reason for a refusal
 one_of_two : (o : Option ℕ) (b : Bool) → option_and_then reason_by (first_of (unsorted_fault o) (fault_if b error.BadField)) ≡ None → first_of (unsorted_fault o) (fault_if b error.BadField) ≡ None
 one_of_two (Some at) b h = absurd (cc)
 one_of_two None true h = absurd (cc)

@@ -59,7 +59,7 @@ abbrev pub FirstPairTells : Type 0
 FirstPairTells = (name : List ℕ) (ps : Pairs) → id_of_name name (told_by [] ps) ≡ option_and_then id_value (value_at name ps)
 
 -- An extended handshake leaves each name's id that it doesn't tell. Of one that it tells it makes what entering it makes,
--- behind the entries that were told before; and until then the name has the id that it had.
+-- after the entries that were told before; and until then the name has the id that it had.
 abbrev pub AppliedByName : Type 0
 AppliedByName = (t : Tree) (es : Entries) (name : List ℕ) → IsTable es
     → MatchOption (id_of_name name (told_of t)) (id_of_name name (applied t es) ≡ id_of_name name es)

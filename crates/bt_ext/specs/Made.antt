@@ -29,7 +29,7 @@ message_pairs kind.Malformed = no_pairs
 abbrev pub message_tree : Kind → Tree
 message_tree k = dictionary (message_pairs k)
 
--- the message, with these bytes behind the dictionary
+-- the message, with these bytes after the dictionary
 abbrev pub message_of : Kind → List ℕ → Ext
 message_of k rest = ext.Metadata (value.Dict (message_pairs k)) rest
 

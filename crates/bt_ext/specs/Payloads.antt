@@ -25,7 +25,7 @@ ext_id reg (ext.Handshake dict rest) = Some 0
 ext_id reg (ext.Metadata dict rest) = metadata_id reg
 ext_id reg (ext.Raw id payload) = if needs_dict reg id then None else Some id
 
--- the bytes behind the extended id: a dictionary and what follows it, or the raw bytes
+-- the bytes after the extended id: a dictionary and what follows it, or the raw bytes
 abbrev pub payload_of : Ext → List ℕ
 payload_of (ext.Handshake dict rest) = ben (tree_of dict) ++ rest
 payload_of (ext.Metadata dict rest) = ben (tree_of dict) ++ rest

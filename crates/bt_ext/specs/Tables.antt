@@ -57,7 +57,7 @@ abbrev pub told : List ℕ → Option ℕ → Entries
 told name None = []
 told name (Some id) = (name, id) ∷ []
 
--- what the pairs tell behind pairs with these names: of pairs with one name the first counts
+-- what the pairs tell after pairs with these names: of pairs with one name the first counts
 abbrev pub told_by : List (List ℕ) → Pairs → Entries
 told_by earlier no_pairs = []
 told_by earlier (pair k t ps) = (if list_any (bytes_eq k) earlier then [] else told k (id_value t)) ++ told_by (k ∷ earlier) ps

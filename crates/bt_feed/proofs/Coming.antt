@@ -1,4 +1,4 @@
--- What bytes come to, by what is at their front.
+-- The outcome of bytes, by what they begin with.
 use Rattle.std.proofs.Common.{◌≡◌, ℕ, ◌+◌, ◌^◌, ◌≤◌, ◌<◌, false, List, ◌++◌, length, drop, Some, None, refl, sym, ap, subst, ◌∙◌, arith}
 use Rattle.std.proofs.lemmas.Bool.{leb-false}
 use Rattle.std.proofs.lemmas.List.{drop_at}
@@ -26,7 +26,7 @@ item_long (stage.Message c o s n) b (items.Message m) p = omega (arith, ap lengt
 item_long (stage.Handshake own) b (items.Message m) p = absurd p
 item_long (stage.Message c o s n) b (items.Handshake h) p = absurd p
 
--- behind an item comes the rest
+-- after an item comes the rest
 pub item_comes : (t : Stage) (b x : List ℕ) (item : Item) (v : Outcome) → limit_of t < 2 ^ 32 → IsItem t b item → Comes (stage_after t (length b) item) x v → Comes t (b ++ x) (with_item (start_of t) item v)
 item_comes (stage.Handshake own) b x (items.Handshake h) v lt p k =
     let size : length b ≡ 68 = ap length p.2 ∙ hand-length h p.1 in

@@ -209,7 +209,7 @@ progress_window p q buffer piece n m h same fresh is window le e =
     let Q : List ℕ → Type 0 = λ x. Fills p.stage x piece (buffer ++ take m piece) m in
     progress_filled p q buffer piece (buffer ++ take m piece) m h same (subst Q (sym (held_fresh p buffer fresh)) (window_fills p.stage buffer piece n m window le e)) (omega (arith, kept.1, (window_bound p.stage (buffer ++ piece) n window).1)) (λ some. subst P (sym is) kept)
 
--- what is known of the header is so with the piece behind the bytes
+-- what is known of the header is so with the piece after the bytes
 pub wanted_more : (p : Progress) (buffer piece : List ℕ) → IsProgress p buffer → p.spent ≡ false → 0 < p.wanted → HasWindow p.stage (buffer ++ piece) p.wanted × (length buffer ≤ p.wanted)
 wanted_more p buffer piece h fresh some =
     let P : List ℕ → Type 0 = λ x. HasWindow p.stage x p.wanted × (length x ≤ p.wanted) in

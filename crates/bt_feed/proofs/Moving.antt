@@ -82,7 +82,7 @@ fed_take p g item le is after_is =
 
 -- ---- a piece
 
--- the bytes up to the n-th behind the place
+-- the bytes up to the n-th after the place
 pub front : (piece rest : List ℕ) (at n : ℕ) → rest ≡ drop at piece → take at piece ++ take n rest ≡ take (at + n) piece
 front piece rest at n e = ap (λ (l : List ℕ). take at piece ++ take n l) e ∙ sym (take-add at n piece)
 

@@ -1,4 +1,4 @@
--- What messages come to that are handed on where they lie.
+-- The outcome of messages that are handed on where they lie.
 use Rattle.std.proofs.Common.{◌≡◌, ℕ, ◌+◌, ◌-◌, ◌^◌, ◌≤◌, ◌<◌, List, [], ◌∷◌, ◌++◌, length, take, drop, Option, None, Result, Ok, Err, sym, ap, subst, ◌∙◌, arith}
 use Rattle.std.specs.Prelude.{IfSome}
 use Rattle.std.specs.List.{slice_range}
@@ -46,7 +46,7 @@ window_there c o rest window k e le is =
     let size : length window ≡ k = ap length is ∙ length-take-le k rest le in
     ap (header_of c o) is ∙ window_taken c o rest k e le ∙ ap headers.Window (sym size)
 
--- one more behind those at the front of the piece
+-- one more after those that the piece begins with
 pub passed_more : (c : Context) (o o' : Order) (s n at k count : ℕ) (piece rest window : List ℕ) (xs : List (ℕ × Item)) (m : Message) → rest ≡ drop at piece → window ≡ take k rest
     → IsFed (waiting (stage.Message c o s n)) (take at piece) xs (waiting (stage.Message c o' (s + at) (n + count)))
     → s + at < 2 ^ 62 → c.limit ≤ 1048576 → k ≤ length rest → IsRead c o' window m

@@ -143,7 +143,7 @@ reads_same t all xs f g unread stage held r =
 unread_at : (at n : ℕ) (piece rest later : List ℕ) → rest ≡ drop at piece → drop n rest ++ later ≡ drop (at + n) piece ++ later
 unread_at at n piece rest later e = ap (λ (b : List ℕ). drop n b ++ later) e ∙ ap (λ (b : List ℕ). b ++ later) (drop-drop n at piece)
 
--- the feed behind a push of what follows at
+-- the feed after a push of what follows at
 pub record IsPushed (f p : FeedState) (piece rest : List ℕ) (at n : ℕ) : Type 0 where
   pub rest_is : rest ≡ drop at piece
   pub taken_is : n ≡ taken f rest

@@ -19,7 +19,7 @@ IsAnswer f (Ok (Some item)) = IsItem f.stage f.held item
 IsAnswer f (Ok None) = is_closed f.stage f.held ≡ false
 IsAnswer f (Err r) = (g : Fault) × HasFault f.stage f.held g × (r ≡ refusal_of f.stage g)
 
--- the feed behind an answer: an item is held no more, and a refusal stays
+-- the feed after an answer: an item is held no more, and a refusal stays
 abbrev pub after : FeedState → Result (Option Item) Refusal → FeedState
 after f (Ok (Some item)) = record { stage = stage_after f.stage (length f.held) item; held = []; refused = f.refused }
 after f (Ok None) = f
@@ -43,7 +43,7 @@ is_between (stage.Message c o s n) b = length b == 0
 abbrev pub end_inside : Stage → List ℕ → Refusal
 end_inside t b = refusal_of t (record { at = length b; reason = EndInside })
 
--- what follows where nothing stands: a whole item isn't taken, or the stream ends inside one or behind one
+-- what follows where nothing stands: a whole item isn't taken, or the stream ends inside one or after one
 abbrev pub end_of : Stage → List ℕ → Result ℕ Finish
 end_of t b = if is_all t b then Err Untaken else if is_between t b then Ok (start_of t) else Err (Refused (end_inside t b))
 

@@ -43,9 +43,9 @@ PushesJoin = (f : FeedState) (x y : List ℕ) → pushed (pushed f x) y ≡ push
 abbrev pub AnswerIsOne : Type 0
 AnswerIsOne = (f : FeedState) (a b : Result (Option Item) Refusal) → limit_of f.stage < 2 ^ 32 → IsAnswer f a → IsAnswer f b → a ≡ b
 
--- ---- what the bytes from here on come to
+-- ---- the outcome of the bytes from here on
 
--- an item, and then what the bytes behind it come to
+-- an item, and then the outcome of the bytes after it
 abbrev pub ItemComes : Type 0
 ItemComes = (t : Stage) (b x : List ℕ) (item : Item) (v : Outcome) → limit_of t < 2 ^ 32 → IsItem t b item → Comes (stage_after t (length b) item) x v → Comes t (b ++ x) (with_item (start_of t) item v)
 
@@ -57,7 +57,7 @@ FaultComes = (t : Stage) (b : List ℕ) (f : Fault) → limit_of t < 2 ^ 32 → 
 abbrev pub OpenComes : Type 0
 OpenComes = (t : Stage) (b : List ℕ) → limit_of t < 2 ^ 32 → is_closed t b ≡ false → Comes t b (stopped t b None)
 
--- bytes come to one outcome
+-- bytes have one outcome
 abbrev pub OutcomeIsOne : Type 0
 OutcomeIsOne = (t : Stage) (b : List ℕ) (v w : Outcome) → limit_of t < 2 ^ 32 → Comes t b v → Comes t b w → v ≡ w
 
@@ -65,6 +65,6 @@ OutcomeIsOne = (t : Stage) (b : List ℕ) (v w : Outcome) → limit_of t < 2 ^ 3
 abbrev pub verdict_at_end : Outcome → Result ℕ Finish
 verdict_at_end v = unless_refused (refusal_at_end v) (Ok (v.start + length v.tail))
 
--- a feed that holds no whole item says at the stream's end what its bytes come to there
+-- a feed that holds no whole item says at the stream's end the outcome of its bytes there
 abbrev pub FinishIsVerdict : Type 0
 FinishIsVerdict = (f : FeedState) (v : Outcome) → limit_of f.stage < 2 ^ 32 → IsNumbered f.stage → f.refused ≡ None → is_all f.stage f.held ≡ false → Comes f.stage f.held v → finish_of f ≡ verdict_at_end v

@@ -35,18 +35,18 @@ IsGiven takes misses old given new (Err (error.Sink e)) = IsMissed takes misses 
 
 -- ---- bytes through a feed
 
--- these bytes went into the feed, which gave these items: what follows comes to the same, behind them
+-- these bytes went into the feed, which gave these items: after them, what follows has the same outcome
 pub record IsFed (f : FeedState) (bytes : List ℕ) (xs : List (ℕ × Item)) (g : FeedState) : Type 0 where
   pub comes : (later : List ℕ) (v : Outcome) → Comes g.stage (g.held ++ later) v → Comes f.stage (f.held ++ (bytes ++ later)) (with_items xs v)
 
--- what was read comes to v, and its items are these
+-- what was read has the outcome v, and its items are these
 pub record IsPumped (f : FeedState) (bytes lost : List ℕ) (xs : List (ℕ × Item)) (g : FeedState) (v : Outcome) : Type 0 where
   pub fed : IsFed f bytes xs g
   pub comes : Comes f.stage (f.held ++ (bytes ++ lost)) v
   pub items : v.items ≡ xs
   pub number : v.number ≡ number_of g.stage
 
--- Behind a sink's fault only what went into the feed is known. Otherwise what was read comes to v: at its end the answer is the
+-- After a sink's fault only what went into the feed is known. Otherwise what was read has the outcome v: at its end the answer is the
 -- verdict there, and nothing is lost; a refusal is that of the verdict; else nothing is refused or lost.
 abbrev pub IsPumpEnd : FeedState → List ℕ → List ℕ → List (ℕ × Item) → FeedState → Result ℕ PumpError → Type 0
 IsPumpEnd f bytes lost xs g (Ok n) = (v : Outcome) × IsPumped f bytes lost xs g v × (lost ≡ []) × (verdict_at_end v ≡ Ok n)
@@ -99,7 +99,7 @@ IsVerdictAtEnd v (Err (error.Sink e)) = ⊥
 IsVerdictAtEnd v (Err error.ReadFault) = ⊥
 IsVerdictAtEnd v (Err error.Turns) = ⊥
 
--- what is held comes to no item more, and the answer is the verdict at the stream's end
+-- what is held has no further item, and the answer is the verdict at the stream's end
 pub record IsEndOf (f : FeedState) (r : Result ℕ PumpError) : Type 0 where
   pub last : Outcome
   pub comes : Comes f.stage f.held last

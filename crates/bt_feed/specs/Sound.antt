@@ -1,4 +1,4 @@
--- What is so of the fields behind a feed (for its invariant alone).
+-- What is so of a feed's private fields (for its invariant alone).
 use Rattle.std.specs.Prelude.{◌≤◌, vec_capacity}
 use Rattle.bt_feed.specs.declared.feed.Feed.TheInside.{Inside}
 use Rattle.bt_feed.specs.Stages.{capacity_of}

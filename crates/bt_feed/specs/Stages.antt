@@ -70,14 +70,14 @@ IsItem (stage.Message c o s n) b (items.Message m) = IsSaid c o s m × (b ≡ sp
 IsItem (stage.Handshake own) b (items.Message m) = ⊥
 IsItem (stage.Message c o s n) b (items.Handshake h) = ⊥
 
--- what is awaited behind an item of so many bytes
+-- what is awaited after an item of so many bytes
 abbrev pub stage_after : Stage → ℕ → Item → Stage
 stage_after (stage.Handshake own) size (items.Handshake h) = stage.Message (negotiated own h.reserved) Fresh size 1
 stage_after (stage.Message c o s n) size (items.Message m) = stage.Message c (order_after o m) (s + size) (n + 1)
 stage_after (stage.Handshake own) size (items.Message m) = stage.Handshake own
 stage_after (stage.Message c o s n) size (items.Handshake h) = stage.Message c o s n
 
--- what the bytes come to from here on
+-- the outcome of the bytes from here on
 abbrev pub Comes : Stage → List ℕ → Outcome → Type 0
 Comes (stage.Handshake own) b v = IsVerdict own b v
 Comes (stage.Message c o s n) b v = IsOutcome c o s n b v

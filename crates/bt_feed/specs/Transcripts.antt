@@ -13,7 +13,7 @@ use Rattle.bt_feed.specs.Feeds.{FeedState, taken_by}
 use Rattle.bt_feed.specs.Answers.{IsAnswer}
 use Rattle.bt_feed.specs.Progress.{IsPartial}
 
--- from t on, what is awaited behind items that begin with this one: a handshake says by which context messages are judged
+-- from t on, what is awaited after items that begin with this one: a handshake says by which context messages are judged
 abbrev pub IsOpenedBy : Stage → Item → Stage → Type 0
 IsOpenedBy (stage.Handshake own) (items.Handshake h) (stage.Message c o s n) = c ≡ negotiated own h.reserved
 IsOpenedBy (stage.Message c o s n) (items.Message m) (stage.Message d p r k) = d ≡ c

@@ -1,4 +1,4 @@
--- The states behind which statuses and bytes lie.
+-- The states that statuses and bytes stand for.
 use Rattle.std.proofs.Common.{◌≡◌, ℕ, ◌-◌, ◌*◌, ◌<◌, ◌==◌, if◌then◌else◌, Option, Some, None, List, length, map, replicate, set, count_by, position, nat_lt, min, refl, sym, ap, ◌∙◌, arith}
 use Rattle.std.proofs.lemmas.Bool.{ne_eqb, eq-eqb}
 use Rattle.std.proofs.lemmas.List.{length-replicate}

@@ -130,7 +130,7 @@ bytes_in Asked = []
 bytes_in Rejected = []
 bytes_in (Held b) = b
 
--- the held blocks, one behind the other
+-- the held blocks, one after the other
 abbrev pub joined : List Slot → List ℕ
 joined [] = []
 joined (s ∷ ss) = bytes_in s ++ joined ss

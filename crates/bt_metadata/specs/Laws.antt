@@ -11,7 +11,7 @@ use Rattle.bt_metadata.specs.declared.server.Reply.TheVariants.{Data}
 abbrev pub HoldsBlocksOf : List ℕ → AssemblyState → Type 0
 HoldsBlocksOf metadata a = (k : ℕ) (b : List ℕ) → slice_get a.slots k ≡ Some (Held b) → b ≡ block metadata k
 
--- the blocks of metadata, one behind the other, are the metadata
+-- the blocks of metadata, one after the other, are the metadata
 abbrev pub WholeIsServed : Type 0
 WholeIsServed =
     (metadata : List ℕ) (a : AssemblyState) → IsAssembly a → a.size ≡ length metadata → HoldsBlocksOf metadata a → is_whole a ≡ true → joined a.slots ≡ metadata

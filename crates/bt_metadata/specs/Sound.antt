@@ -1,4 +1,4 @@
--- What is so of every assembly; and for private contracts and the invariant alone, what lies behind one.
+-- What is so of every assembly; and for private contracts and the invariant alone, its private fields.
 use Rattle.std.specs.Prelude.{◌≡◌, ℕ, ◌<◌, ◌≤◌, Bool, true, false, if◌then◌else◌, List, [], ◌∷◌, length, take, drop, count_by, slice_get, nat_le, Option, Some, None}
 use Rattle.bt_ext.specs.Metadata.{block_count, block_len}
 use Rattle.bt_metadata.specs.Blocks.{block_size, max_metadata, window}
@@ -16,7 +16,7 @@ pub record IsAssembly (a : AssemblyState) : Type 0 where
   pub held : (k : ℕ) (b : List ℕ) → slice_get a.slots k ≡ Some (Held b) → length b ≡ block_len a.size k
   pub asked : count_by is_asked a.slots ≤ window
 
--- ---- what lies behind an assembly: a status for each block, and the bytes of all
+-- ---- the private fields of an assembly: a status for each block, and the bytes of all
 
 abbrev pub slot_of : Status → List ℕ → Slot
 slot_of status.Lacking b = Lacking

@@ -93,7 +93,7 @@ IsFault text held held' Unread Unwritten Memory = held' ≡ held
 IsFault text held held' Unread Unwritten Turns = ⊥
 IsFault text held held' Unread Unwritten Net = ⊥
 
--- the same of a text, where no read can fail
+-- how the program ends on a text, where no read can fail
 abbrev pub IsTextRun : List ℕ → Option (List ℕ) → Option (List ℕ) → Type 0 → Result RigEnd ToolFault → Type 0
 IsTextRun text held held' Unwritten r = MatchResult r (IsEnd text held held') (IsFault text held held' ⊥ Unwritten)
 

@@ -105,7 +105,7 @@ abbrev pub Coming : Stage → List Item → List ℕ → Type 0
 Coming t [] b = b ≡ []
 Coming t (i ∷ is) b = (first : List ℕ) × (rest : List ℕ) × (b ≡ first ++ rest) × IsItem t first i × Coming (stage_after t (M.size i) i) is rest
 
--- what is awaited behind the items
+-- what is awaited after the items
 abbrev pub behind : Stage → List Item → Stage
 behind t [] = t
 behind t (i ∷ is) = behind (stage_after t (M.size i) i) is

@@ -88,7 +88,7 @@ honest_more : (a : EndState) (is js : List Item) → AreHonest a is → AreHones
 honest_more a [] js h k = k
 honest_more a (i ∷ is) js h k = (h.0, honest_more a is js h.1 k)
 
--- the end of x becomes y, which sends these messages behind the others
+-- the end of x becomes y, which sends these messages after the others
 pub sent : (a b : EndState) (x : M.Node) (y : EndState) (xs : List Message) (e : EndState) (f : FeedState) (untaken outbox : List ℕ) (c : Context) → Flow a b x e f untaken outbox → AreFor c (reads b a) x.end.sends xs → AreHonest a (map items.Message xs) → y.sends ≡ orders_after x.end.sends xs → total (x.sent ++ map items.Message xs) < 2 ^ 62
     → Flow a b (record x { end = y; sent = x.sent ++ map items.Message xs }) e f untaken (outbox ++ flat_map (spell c) xs)
 sent a b x y xs e f untaken outbox c flow all own order lt =
@@ -129,7 +129,7 @@ start_after (stage.Message c o s k) b (items.Message msg) n p = refl
 start_after (stage.Handshake own) b (items.Message msg) n p = absurd p
 start_after (stage.Message c o s k) b (items.Handshake h) n p = absurd p
 
--- what is left behind the item
+-- what is left after the item
 pub left : (a b : EndState) (x : M.Node) (e y : EndState) (f : FeedState) (untaken outbox : List ℕ) (i : Item) (rest : List Item) → Loose a b x e f untaken outbox → drop x.handled x.sent ≡ i ∷ rest → drop (x.handled + 1) x.sent ≡ rest → total (take (x.handled + 1) x.sent) ≡ total (take x.handled x.sent) + size i → x.handled < length x.sent
     → IsItem f.stage f.held i → Coming (stage_after f.stage (size i) i) rest (untaken ++ outbox) → IsAwaiting y (stage_after f.stage (size i) i)
     → Loose a b (record x { handled = x.handled + 1 }) y (record { stage = stage_after f.stage (size i) i; held = []; refused = f.refused }) untaken outbox

@@ -195,7 +195,7 @@ said_for a b e msg h still known range plain pieces legal =
       same = sym there.1 ∙ ap (λ (c : Context). spell c msg) same;
     }
 
--- the end behind a saying
+-- the end after a saying
 said_node : B.Node → Message → Outcome → B.Node
 said_node x msg outcome.Said = B.says x msg (reacted x.half (queueing x.half.end (msg ∷ [])))
 said_node x msg other = x
@@ -250,7 +250,7 @@ say_gives x n msg (outcome.Refused r) e s h = absurd h
 say_gives x n msg (outcome.Delivered k) e s h = absurd h
 say_gives x n msg outcome.Reset e s h = absurd h
 
--- the wires behind it
+-- the wires after it
 record Said (a b : EndState) (p : M.Pair) (w : Wires) (msg : Message) (o : Outcome) : Type 0 where
   pub wires : Wires
   pub same : ◌≡◌ {A = B.Pair} (record { own = said_node (made p w).own msg o; other = (made p w).other }) (made (M.after_say p msg o) wires)

@@ -96,7 +96,7 @@ not_busy a o =
     by_none true y = refl
     by_none false y = refl
 
--- a turn, and the wires behind it
+-- a turn, and the wires after it
 pub record Turns (a b : EndState) (p : M.Pair) (w : Wires) (o : Outcome) (q : M.Pair) : Type 0 where
   pub wires : Wires
   pub turn : B.IsTurn (made p w) o (made q wires)
@@ -158,7 +158,7 @@ busies a b p w i inv item lt high = record {
   rests = refl;
 }
 
--- the feed behind an item
+-- the feed after an item
 behind_item : (f : FeedState) (i : Item) → IsItem f.stage f.held i → after_answer f (Ok (Some i)) ≡ record { stage = stage_after f.stage (size i) i; held = []; refused = f.refused }
 behind_item f i item = ap (λ (n : ℕ). record { stage = stage_after f.stage n i; held = []; refused = f.refused }) (item_size f.stage f.held i item)
 

@@ -57,7 +57,7 @@ record_partial c o rest old new xs lt h r = partial_by c o rest old new xs r.lef
 
 -- ---- what an end queued
 
--- what stands behind the bytes that waited before is what was queued
+-- what stands after the bytes that waited before is what was queued
 pub spells_queued : (a : HalfState) (r : Reaction) (c : Context) (o : Order) (n : ℕ) (out queued : List ℕ) → out ≡ a.outbox ++ spelled r.end r.queued → c ≡ belief r.end → o ≡ a.end.sends → n ≡ length a.outbox → queued ≡ drop n out → MayBeSent (belief r.end) a.end.sends r.queued
     → Spells c o queued r.queued
 spells_queued a r c o n out queued all context order before rest well = record {

@@ -1,4 +1,4 @@
--- The message that an id and the bytes behind it are has this id and these bytes.
+-- The message that an id and the bytes after it are has this id and these bytes.
 use Rattle.std.proofs.Common.{◌≡◌, ℕ, suc, ◌^◌, ◌≤◌, ◌<◌, true, List, [], ◌∷◌, ◌++◌, length, take, drop, Option, Some, None, refl, sym, ap, subst, ◌∙◌, arith, inl, inr, lit<}
 use Rattle.std.specs.List.{AllByRecursion}
 use Rattle.std.proofs.lemmas.Bool.{cases_eq, eqb-true, leb-true, eq-eqb, ne_eqb}
@@ -137,7 +137,7 @@ found_in P (j ∷ is) n i all e =
       | inr other ↦ found_in P is n i all.1 (rw (ne_eqb n j.number other) at e)
     ]
 
--- the message has this id and these bytes behind it, and a spelling of its own
+-- the message has this id and these bytes after it, and a spelling of its own
 pub record IsPart (c : Context) (n : ℕ) (bytes : List ℕ) (m : Message) : Type 0 where
   pub id : id_of m ≡ Some n
   pub fields : spell_fields (fields_of c m) ≡ bytes

@@ -1,4 +1,4 @@
--- What messages come to: one outcome, whose items stay whatever follows.
+-- The outcome of messages: there is one, and its items stay whatever follows.
 use Rattle.std.proofs.Common.{◌≡◌, ℕ, suc, ◌+◌, ◌^◌, ◌≤◌, ◌<◌, true, false, List, [], ◌∷◌, ◌++◌, length, Option, Some, None, refl, sym, ap, subst, ◌∙◌, arith}
 use Rattle.std.proofs.lemmas.List.{append-nil, append_assoc, length-append, nil_from_length}
 use Rattle.bt_wire.specs.declared.context.Context.{Context}

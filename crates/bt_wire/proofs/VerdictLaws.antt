@@ -15,7 +15,7 @@ use Rattle.bt_wire.specs.Streams.{Outcome, IsOutcome, IsOpened, IsVerdictBy, IsV
 use Rattle.bt_wire.proofs.HandLaws.{hand_same, hand_stays, one_handshake}
 use Rattle.bt_wire.proofs.StreamLaws.{outcome_only, refusal_stays, items_stay}
 
--- the same of an opened stream and of one that goes on
+-- the outcomes of an opened stream and of one that goes on
 record IsSameStream (own : Own) (v : Outcome) (h : Handshake) (rest : List ℕ) : Type 0 where
   after : Outcome
   messages : IsOutcome (negotiated own h.reserved) Fresh 68 1 rest after

@@ -1,4 +1,4 @@
--- A walk from message to message: what the rest comes to is, behind the message read, what all comes to.
+-- A walk from message to message: after the message that was read, the outcome of the rest is the outcome of all.
 use Rattle.std.proofs.Common.{◌≡◌, ℕ, ◌+◌, ◌^◌, ◌≤◌, ◌<◌, List, length, drop, Some, None, refl, sym, ap, subst, arith}
 use Rattle.std.proofs.lemmas.List.{drop-drop, length-append}
 use Rattle.bt_wire.specs.declared.context.Context.{Context}

@@ -1,4 +1,4 @@
--- What the bytes at the front of a stream come to: the handshake, and then each message.
+-- What a stream begins with: the handshake, and then each message.
 use Rattle.std.specs.Prelude.{◌≡◌, ℕ, ◌<◌, List, ◌++◌, length, drop, false, Some, None}
 use Rattle.bt_wire.specs.declared.context.Context.{Context}
 use Rattle.bt_wire.specs.declared.context.Order.{Order}

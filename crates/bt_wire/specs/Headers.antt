@@ -34,7 +34,7 @@ pub record IsRead (c : Context) (o : Order) (w : List ℕ) (m : Message) : Type 
   pub said : IsSaid c o 0 m
   pub spelled : spell c m ≡ w
 
--- why a window isn't read; want of memory only where the message keeps bytes
+-- why a window isn't read; out of memory only where the message keeps bytes
 abbrev pub RefusesWindow : Context → Order → List ℕ → DecodeError → Type 0
 RefusesWindow c o w (decode.Refused at reason) = IsFault c o 0 w (Some (record { at = at; reason = reason }))
 RefusesWindow c o w decode.Memory = (m : Message) × IsRead c o w m × (keeps_bytes (fields_of c m) ≡ true)

@@ -8,7 +8,7 @@ use Rattle.bt_wire.specs.declared.ids.Shape.TheVariants.{Nothing, Index, Part, B
 use Rattle.bt_wire.specs.declared.ids.Turn.{Turn}
 use Rattle.bt_wire.specs.declared.ids.Turn.TheVariants.{Apart, Counted, Opening}
 
--- an id with a meaning: its number, the name that lines give it, the shape of the fields behind it, the extension that both
+-- an id with a meaning: its number, the name that lines give it, the shape of the fields after it, the extension that both
 -- ends must have agreed on, and its part in the order of messages
 pub record Id : Type 0 where
   pub number : ℕ

@@ -38,7 +38,7 @@ abbrev pub NoneBeginsAnother : Type 0
 NoneBeginsAnother = (c : Context) (o p : Order) (s t : ℕ) (m n : Message) (x y : List ℕ) → c.limit < 2 ^ 32 → IsSaid c o s m → IsSaid c p t n
     → spell c m ++ x ≡ spell c n ++ y → (m ≡ n) × (x ≡ y)
 
--- a stream comes to one outcome
+-- a stream has one outcome
 abbrev pub VerdictIsOne : Type 0
 VerdictIsOne = (own : Own) (b : List ℕ) (v w : Outcome) → own.limit < 2 ^ 32 → IsVerdict own b v → IsVerdict own b w → v ≡ w
 

@@ -25,7 +25,7 @@ abbrev pub MessageView : Type 0
 MessageView = MessageOver (Bor (List ℕ)) ExtView
 
 -- what follows the id, by its shape: nothing; a piece index; an index with begin and length; an index with begin and a
--- block; a port; a bitfield; an extended id and its payload; or the bytes behind an id that has no meaning
+-- block; a port; a bitfield; an extended id and its payload; or the bytes after an id that has no meaning
 pub data Fields : Type 0 where
   none : Fields
   index : ℕ → Fields
@@ -182,7 +182,7 @@ abbrev pub field_in : Fields → Option (List ℕ)
 field_in (field bits) = Some bits
 field_in other = None
 
--- whether they are the bytes behind an id without a meaning
+-- whether they are the bytes after an id without a meaning
 abbrev pub is_payload : Fields → Bool
 is_payload (payload bytes) = true
 is_payload other = false

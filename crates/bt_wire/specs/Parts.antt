@@ -1,4 +1,4 @@
--- For proofs and private contracts alone: the message that an id and the bytes behind it are, read from left to right.
+-- For proofs and private contracts alone: the message that an id and the bytes after it are, read from left to right.
 use Rattle.std.specs.Prelude.{◌≡◌, ◌==◌, List, ℕ, suc, ◌+◌, [], length, drop, Bool, true, false, IfSome, Option, Some, None, if◌then◌else◌}
 use Rattle.bt_ext.specs.declared.ext.ViewError.{ViewError}
 use Rattle.bt_ext.specs.declared.ext.ViewError.TheVariants as error

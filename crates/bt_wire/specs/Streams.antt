@@ -43,7 +43,7 @@ abbrev pub placed : Context → ℕ → List Message → List (ℕ × Item)
 placed c s [] = []
 placed c s (m ∷ ms) = (s, items.Message m) ∷ placed c (s + length (spell c m)) ms
 
--- ---- what a stream comes to
+-- ---- the outcome of a stream
 
 -- its items with their offsets; the refusal of what follows them; the number of the item that follows (0 is the
 -- handshake), the order it is judged in, where it starts, and the bytes from there on
@@ -60,7 +60,7 @@ refusal_at number start None = None
 refusal_at number start (Some f) = Some (record { message = number; at = start + f.at; reason = f.reason })
 
 -- messages from the offset s on, the first of which has this number: the longest list that b begins with, and the
--- fault, if any, of the bytes behind it
+-- fault, if any, of the bytes after it
 pub record IsOutcome (c : Context) (o : Order) (s number : ℕ) (b : List ℕ) (v : Outcome) : Type 0 where
   pub messages : List Message
   pub longest : IsLongest c o s b messages v.tail
@@ -81,7 +81,7 @@ awaiting f b = record { items = []; refusal = refusal_at 0 0 f; number = 0; orde
 abbrev pub with_item : ℕ → Item → Outcome → Outcome
 with_item s item v = record v { items = (s, item) ∷ v.items }
 
--- the handshake, and what the rest comes to
+-- the handshake, and the outcome of the rest
 pub record IsOpened (own : Own) (b : List ℕ) (v : Outcome) : Type 0 where
   pub handshake : Handshake
   pub fits : IsHandshake handshake
@@ -95,7 +95,7 @@ abbrev pub IsVerdictBy : Option Refused → Own → List ℕ → Outcome → Typ
 IsVerdictBy (Some f) own b v = v ≡ awaiting (Some f) b
 IsVerdictBy None own b v = (length b < 68 → v ≡ awaiting None b) × (68 ≤ length b → IsOpened own b v)
 
--- what a stream comes to, from its handshake on
+-- the outcome of a stream, from its handshake on
 abbrev pub IsVerdict : Own → List ℕ → Outcome → Type 0
 IsVerdict own b v = IsVerdictBy (hand_fault own b) own b v
 

@@ -1,4 +1,4 @@
--- Behind what was walked over, the rest says what the whole says.
+-- After what was walked over, the rest says what the whole says.
 use Rattle.std.proofs.Common.{◌≡◌, ◌≤◌, ◌++◌, ◌∷◌, ◌+◌, ◌-◌, ◌*◌, ℕ, List, length}
 use Rattle.std.specs.Option.{option_copied}
 use Rattle.bt_bencode.specs.Trees.{Trees, Pairs}

@@ -24,6 +24,3 @@ returns-in_ok-push-in-None-clause-ok g c = search rules
 
 pub returns-else-len-lt-MAX_NAMES-clause-ok : goal.returns-else-len-lt-MAX_NAMES-clause-ok
 returns-else-len-lt-MAX_NAMES-clause-ok g c = search rules
-
-pub returns-else-id-ne0-clause-memory : goal.returns-else-id-ne0-clause-memory
-returns-else-id-ne0-clause-memory g c = search rules

@@ -1,4 +1,4 @@
-use Rattle.std.proofs.Common.{◌≡◌, ◌∙◌, ◌++◌, ℕ, [], take, Ok, refl, sym, subst, arith, length-take}
+use Rattle.std.proofs.Common.{◌≡◌, ◌∙◌, ◌++◌, ℕ, [], take, Ok, refl, sym, subst, arith, length-take, rules}
 use Rattle.std.proofs.KnownBytes.{Consumes-nil, Consumes-trans, Consumes-kept}
 use Rattle.std.proofs.lemmas.Bool.{ne_eqb}
 use Rattle.std.proofs.lemmas.List.{append-nil}
@@ -79,3 +79,6 @@ returns-in-Err-clause-quiet g c = λ h. c.in-Err.ensures.quiet (λ k. h (sink_fa
 
 pub returns-in-Err-pump_piece-clause-quiet : goal.returns-in-Err-pump_piece-clause-quiet
 returns-in-Err-pump_piece-clause-quiet g c = λ h. c.in-Err-pump_piece.ensures.quiet (λ k. h (sink_fault c.in-Err-pump_piece.error k)) ∙ c.loop-turn.invariant.calm
+
+pub returns-in-Ok-eq0-clause-read : goal.returns-in-Ok-eq0-clause-read
+returns-in-Ok-eq0-clause-read g c = search rules

@@ -1,4 +1,4 @@
-use Rattle.std.proofs.Common.{sym, rules}
+use Rattle.std.proofs.Common.{sym}
 use Rattle.bt_wire.proofs.HandLaws.{hand_parts}
 use Rattle.bt_wire.proofs.handshake.read_opening.Goals as goal
 
@@ -8,6 +8,3 @@ returns c = (
   hand_parts c.args.own.now c.args.bytes.now (record { reserved = record { 0 = c.reserved_of.result }; info_hash = c.copy_from_slice.new.self; peer_id = c.copy_from_slice-2.new.self })
       (sym c.in_default.ensures) c.if-bytes-lt68.false c.reserved_of.type_inv c.reserved_of.ensures c.copy_from_slice.ensures.after c.copy_from_slice-2.ensures.after,
 )
-
-pub returns-then-bytes-lt68 : goal.returns-then-bytes-lt68
-returns-then-bytes-lt68 c = search rules

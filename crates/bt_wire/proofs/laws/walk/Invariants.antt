@@ -3,7 +3,7 @@ use Rattle.bt_wire.specs.declared.context.Order.TheVariants.{Fresh}
 use Rattle.bt_wire.specs.Streams.{Outcome, IsOutcome}
 use Rattle.bt_wire.proofs.laws.walk.Given as goal
 
--- what the rest comes to is, behind the messages so far, what all comes to
+-- after the messages so far, the outcome of the rest is the outcome of all
 abbrev pub invariant-messages : goal.invariant-messages
 invariant-messages l = record {
   within : l.at ≤ length l.messages;

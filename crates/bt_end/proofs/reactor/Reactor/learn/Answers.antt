@@ -3,9 +3,3 @@ use Rattle.bt_end.proofs.reactor.Reactor.learn.Goals as goal
 
 pub returns-in-Some-clause-end : goal.returns-in-Some-clause-end
 returns-in-Some-clause-end g c = search rules
-
-pub returns-in_default-clause-end : goal.returns-in_default-clause-end
-returns-in_default-clause-end g c = search rules
-
-pub returns-in_default-clause-outbox : goal.returns-in_default-clause-outbox
-returns-in_default-clause-outbox g c = search rules

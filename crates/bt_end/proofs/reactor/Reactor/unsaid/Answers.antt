@@ -1,9 +1,6 @@
 use Rattle.std.proofs.Common.{rules}
 use Rattle.bt_end.proofs.reactor.Reactor.unsaid.Goals as goal
 
-pub returns-then-bytes-ge-HIGH_WATER : goal.returns-then-bytes-ge-HIGH_WATER
-returns-then-bytes-ge-HIGH_WATER g c = search rules
-
 pub returns-then-is_extended : goal.returns-then-is_extended
 returns-then-is_extended g c = search rules
 

@@ -2,12 +2,6 @@ use Rattle.std.proofs.Common.{rules, arith}
 use Rattle.std.proofs.lemmas.Grind.{common_steps}
 use Rattle.bt_ext.proofs.table.Table.enter_all.Goals as goal
 
-pub returns-in_err-next-clause-ok : goal.returns-in_err-next-clause-ok
-returns-in_err-next-clause-ok g c = search rules
-
-pub returns-in_err-next-clause-memory : goal.returns-in_err-next-clause-memory
-returns-in_err-next-clause-memory g c = search rules
-
 pub returns-in_err-enter-clause-memory : goal.returns-in_err-enter-clause-memory
 returns-in_err-enter-clause-memory g c = search rules
 
