@@ -46,8 +46,10 @@ pub stopped : (r : BtReader) (b : List ℕ) (s : BtReader) (i j : BtItem) (n k :
 stopped r b s i j n k steps none either end inside = go either where
   lacks : Lacks r b
   lacks = (lacking r b s i n steps none).0
+
   same : s ≡ r
   same = (lacking r b s i n steps none).1
+
   go : (k ≡ 2) ⊎ (k ≡ 3) → Ends r b s j k
   go (inl two) =
       let is = inside two in
@@ -77,12 +79,15 @@ over_opened r s b i n _ c o opened k e lt le whole (GoesOver.item msg read size 
     let Q : Context → Type 0 = λ z. BeginsBy z (order_in r.past) r.start b msg n in
     let R : ℕ → Type 0 = λ z. BeginsBy (context_of r) (order_in r.past) r.start b msg z in
     let fields : Shows i (fields_of (context_of r) msg) = subst (λ z. Shows i (fields_of z msg)) k shows in
-    Steps.item (items.Message msg) (opened, record {
-      begins = subst R (sym (size ∙ long)) (subst Q k (subst P e begins));
-      id = id;
-      start = start;
-      fields = fields;
-      extended = extended;
-      order = order ∙ ap (λ z. order_after z msg) e;
-      same = same ∙ ap (λ z. record r { past = s.past; start = r.start + z }) (sym size);
-    })
+    Steps.item (items.Message msg) (
+      opened,
+      record {
+        begins = subst R (sym (size ∙ long)) (subst Q k (subst P e begins));
+        id = id;
+        start = start;
+        fields = fields;
+        extended = extended;
+        order = order ∙ ap (λ z. order_after z msg) e;
+        same = same ∙ ap (λ z. record r { past = s.past; start = r.start + z }) (sym size);
+      },
+    )
