@@ -1,4 +1,4 @@
-use Rattle.std.proofs.Common.{◌+◌, ◌≡◌, refl, sym, ap, ◌∙◌}
+use Rattle.std.proofs.Common.{refl, ◌∙◌}
 use Rattle.bt_wire.specs.Messages.{message_of}
 use Rattle.bt_c.specs.Steps.{GoesOver}
 use Rattle.bt_c.proofs.reader.go_over.Goals as goal
