@@ -1,7 +1,7 @@
 /* bt.h: the BitTorrent peer wire for C and C++, over libbt.a or libbt.so.
  *
- * It reads the stream that one peer sends to another (the handshake of BEP 3, the peer messages of BEP 3, BEP 5 and BEP 6,
- * and the extended messages of BEP 10 and BEP 9), refuses what the standards don't allow, and writes messages.
+ * It reads the stream that one peer sends to another (the handshake of BEP 3, the peer messages of BEP 3, BEP 5 and
+ * BEP 6, and the extended messages of BEP 10 and BEP 9), refuses what the standards don't allow, and writes messages.
  *
  * All memory is the caller's. The structs have no pointer, need no free and may be copied. Any bytes in them are some
  * value, so that no call has a state in which it must not be made. No call allocates, blocks, or keeps a pointer.
@@ -119,7 +119,7 @@ enum {
 typedef struct bt_extended {
     uint64_t total_size;     /* bytes of the whole metadata, of BT_METADATA_DATA */
     uint64_t metadata_size;  /* bytes of the metadata that an extended handshake tells, where has_metadata_size is on */
-    size_t dict;             /* so many bytes of the body are the dictionary that it begins with; 0 of BT_EXT_RAW */
+    size_t dict;             /* how many bytes of the body its dictionary has, which comes first; 0 of BT_EXT_RAW */
     uint32_t piece;
     uint8_t kind;
     uint8_t ut_metadata;     /* the id that an extended handshake tells, where has_ut_metadata is on; 0 switches it off */
@@ -131,7 +131,7 @@ typedef struct bt_extended {
 typedef struct bt_item {
     uint64_t start;     /* where the item starts on the stream */
     size_t size;        /* how many bytes it has; of a refusal the place, counted from start */
-    size_t body;        /* so many of its last bytes are a bitfield, a block or a payload */
+    size_t body;        /* how many of its last bytes are a bitfield, a block or a payload */
     uint64_t reserved;  /* of a handshake, as a big-endian number */
     uint32_t index, begin, length;
     uint16_t port;
@@ -162,8 +162,8 @@ void bt_reader_init(bt_reader *reader, const bt_own *own);
  * BT_REFUSED: item says where and why. The reader is as it was, and refuses these bytes again. */
 uint32_t bt_reader_next(bt_reader *reader, const uint8_t *bytes, size_t n, bt_item *item);
 
-/* Reads as bt_reader_next does where the stream ends after the n bytes: BT_END in place of BT_MORE if nothing is unfinished,
- * and BT_REFUSED for BT_END_INSIDE if something is. */
+/* Reads as bt_reader_next does where the stream ends after the n bytes: BT_END in place of BT_MORE if nothing is
+ * unfinished, and BT_REFUSED for BT_END_INSIDE if something is. */
 uint32_t bt_reader_finish(bt_reader *reader, const uint8_t *bytes, size_t n, bt_item *item);
 
 /* ---- a feed: pieces of any size, over memory that the caller lends ---- */
@@ -174,14 +174,14 @@ typedef struct bt_feed {
     size_t from, to;
 } bt_feed;
 
-/* So many bytes of lent memory are enough for every item. */
+/* Lent memory of this many bytes is enough for every item. */
 #define BT_ROOM(own) ((own)->limit < 64 ? (size_t)68 : (size_t)(own)->limit + 4)
 
 /* Makes a feed at the start of a stream. Nothing is pushed. */
 void bt_feed_init(bt_feed *feed, const bt_own *own);
 
-/* Takes as many of the n bytes as there is room for, from the first on, and returns how many. It moves what is held to the
- * front of the buffer, so that the bytes of earlier items are gone. The buffer is the same in each call. */
+/* Takes as many of the n bytes as there is room for, from the first on, and returns how many. It moves what is held to
+ * the start of the buffer, so that the bytes of earlier items are gone. The buffer is the same in each call. */
 size_t bt_feed_push(bt_feed *feed, uint8_t *buffer, size_t room, const uint8_t *bytes, size_t n);
 
 /* Reads as bt_reader_next does, of the bytes pushed and not read. After BT_ITEM the item's bytes are the item->size ones
@@ -227,19 +227,19 @@ static inline void bt_writer_hear(bt_reader *peer, const bt_item *item) {
         peer->own.metadata_id = item->extended.ut_metadata;
 }
 
-/* Every message but its body fits so many bytes. */
+/* What a message has besides its body takes at most this many bytes. */
 #define BT_WRITE_ROOM 17
 
-/* Writes a message to the front of out: by message->id, the numbers that this id has, and a body of n bytes (a bitfield, a
- * block or a payload; none for other ids).
+/* Writes a message into out, from its first byte on: by message->id, the numbers that this id has, and a body of n bytes
+ * (a bitfield, a block or a payload; none for other ids).
  * BT_ITEM: it may be sent. written shows it, and its bytes are the first written->size ones of out.
  * BT_REFUSED: the peer would refuse it. written says where and why. out was written to, and isn't to be sent.
  * BT_UNWRITTEN: there is too little room, the id is above 256, or 2^32 bytes or more would follow the length. */
 uint32_t bt_write(bt_reader *peer, const bt_item *message, const uint8_t *body, size_t n, uint8_t *out, size_t room,
                   bt_item *written);
 
-/* Writes a metadata message under the id that the peer told: kind is BT_METADATA_REQUEST, BT_METADATA_DATA (with the total
- * size, 1 to 2^63 - 1, and the block) or BT_METADATA_REJECT. Its dictionary takes at most 160 bytes. Returns as bt_write
+/* Writes a metadata message under the id that the peer told: kind is BT_METADATA_REQUEST, BT_METADATA_DATA (with the
+ * total size, 1 to 2^63 - 1, and the block) or BT_METADATA_REJECT. Its dictionary takes at most 160 bytes. Returns as bt_write
  * does, and BT_UNWRITTEN also where the peer told no id, for another kind, and for another total size. */
 uint32_t bt_write_metadata(bt_reader *peer, uint8_t kind, uint32_t piece, uint64_t total_size, const uint8_t *block,
                            size_t n, uint8_t *out, size_t room, bt_item *written);
@@ -306,7 +306,7 @@ static inline uint32_t bt_write_extended(bt_reader *peer, uint8_t extended_id, c
 
 /* ---- names ---- */
 
-/* Every name and the zero after it fit so many bytes. */
+/* A name and the zero after it take at most this many bytes. */
 #define BT_NAME_ROOM 24
 
 /* Write the name of a reason, as "WrongLength", or of an item, as "have" or "metadata-request", and a zero after it, if

@@ -81,7 +81,7 @@ after_message r t b i msg number v lt g h =
     let R : ℕ → Type 0 = λ n. IsOutcome c (order_after (order_in r.past) msg) n (number + 1) (drop i.size b) v in
     let start : t.start ≡ r.start + length (spell c msg) = ap (λ z. z.start) g.same ∙ ap (λ n. r.start + n) g.begins.size in
     one_more c (order_in r.past) r.start number b (drop i.size b) msg v lt g.begins.said g.begins.parts
-      (subst R start (subst Q g.order (subst P (ap context_of g.same) h)))
+    (subst R start (subst Q g.order (subst P (ap context_of g.same) h)))
 
 after_handshake : (r t : BtReader) (b : List ℕ) (i : BtItem) (h : Handshake) (v : Outcome) → Opens r b t i h
     → IsOutcome (context_of t) (order_in t.past) t.start 1 (drop i.size b) v → IsVerdict (own_of r.own) b (with_item 0 (items.Handshake h) v)
@@ -107,16 +107,18 @@ opened_run [] r s b c f number lt opened reads stops =
     let P : BtReader → Type 0 = λ z. Stops z c f in
     let Q : List ℕ → Type 0 = λ z. Stops r z f in
     let R : BtReader → Type 0 = λ z. IsRun z c f [] number (at_rest number (order_in r.past) r.start b f) in
-    let S : List ℕ → Type 0 = λ z. IsRun r z f [] number (at_rest number (order_in r.past) r.start b f) in
-    (at_rest number (order_in r.past) r.start b f,
-     opened_here r b f number lt opened (subst Q reads.1 (subst P reads.0 stops)),
-     subst R (sym reads.0) (subst S (sym reads.1) (run_here r b f number r.start (order_in r.past) (sym (start_opened r opened)))))
+    let S : List ℕ → Type 0 = λ z. IsRun r z f [] number (at_rest number (order_in r.past) r.start b f) in (
+      at_rest number (order_in r.past) r.start b f,
+      opened_here r b f number lt opened (subst Q reads.1 (subst P reads.0 stops)),
+      subst R (sym reads.0) (subst S (sym reads.1) (run_here r b f number r.start (order_in r.past) (sym (start_opened r opened)))),
+    )
 opened_run ((at, items.Handshake h) ∷ xs) r s b c f number lt opened (t, i, start, gives, reads) stops = absurd (let e = sym opened ∙ gives.0 in cc)
 opened_run ((at, items.Message msg) ∷ xs) r s b c f number lt opened (t, i, start, gives, reads) stops =
-    let rest = opened_run xs t s (drop i.size b) c f (number + 1) (limit_after r t b i msg lt gives.1) (opened_after r t b i msg opened gives.1) reads stops in
-    (with_item r.start (items.Message msg) rest.0,
-     after_message r t b i msg number rest.0 lt gives.1 rest.1,
-     run_more s c f xs number r.start at (items.Message msg) rest.0 (sym gives.1.start ∙ start) rest.2)
+    let rest = opened_run xs t s (drop i.size b) c f (number + 1) (limit_after r t b i msg lt gives.1) (opened_after r t b i msg opened gives.1) reads stops in (
+      with_item r.start (items.Message msg) rest.0,
+      after_message r t b i msg number rest.0 lt gives.1 rest.1,
+      run_more s c f xs number r.start at (items.Message msg) rest.0 (sym gives.1.start ∙ start) rest.2,
+    )
 
 pub run : (xs : List (ℕ × Item)) (r s : BtReader) (b c : List ℕ) (f : Option Refused) → r.own.limit < 2 ^ 32 → is_on r.opened ≡ false → Reads r b xs s c → Stops s c f
     → (v : Outcome) × IsVerdict (own_of r.own) b v × IsRun s c f xs 0 v
@@ -124,25 +126,28 @@ run [] r s b c f lt closed reads stops =
     let P : BtReader → Type 0 = λ z. Stops z c f in
     let Q : List ℕ → Type 0 = λ z. Stops r z f in
     let R : BtReader → Type 0 = λ z. IsRun z c f [] 0 (awaiting f b) in
-    let S : List ℕ → Type 0 = λ z. IsRun r z f [] 0 (awaiting f b) in
-    (awaiting f b,
-     closed_here r b f closed (subst Q reads.1 (subst P reads.0 stops)),
-     subst R (sym reads.0) (subst S (sym reads.1) (run_here r b f 0 0 Fresh (sym (start_closed r closed)))))
+    let S : List ℕ → Type 0 = λ z. IsRun r z f [] 0 (awaiting f b) in (
+      awaiting f b,
+      closed_here r b f closed (subst Q reads.1 (subst P reads.0 stops)),
+      subst R (sym reads.0) (subst S (sym reads.1) (run_here r b f 0 0 Fresh (sym (start_closed r closed)))),
+    )
 run ((at, items.Message msg) ∷ xs) r s b c f lt closed (t, i, start, gives, reads) stops = absurd (let e = sym gives.0 ∙ closed in cc)
 run ((at, items.Handshake h) ∷ xs) r s b c f lt closed (t, i, start, gives, reads) stops =
     let g = gives.1 in
-    let rest = opened_run xs t s (drop i.size b) c f 1 (omega (arith, lt, ap (λ o. o.limit) g.own)) g.opened reads stops in
-    (with_item 0 (items.Handshake h) rest.0,
-     after_handshake r t b i h rest.0 g rest.1,
-     run_more s c f xs 0 0 at (items.Handshake h) rest.0 (sym g.start ∙ start) rest.2)
+    let rest = opened_run xs t s (drop i.size b) c f 1 (omega (arith, lt, ap (λ o. o.limit) g.own)) g.opened reads stops in (
+      with_item 0 (items.Handshake h) rest.0,
+      after_handshake r t b i h rest.0 g rest.1,
+      run_more s c f xs 0 0 at (items.Handshake h) rest.0 (sym g.start ∙ start) rest.2,
+    )
 
 pub items_are_the_verdicts : ItemsAreTheVerdicts
 items_are_the_verdicts r s b c xs f v lt closed reads stops verdict =
     let found = run xs r s b c f lt closed reads stops in
-    let same = verdict_only (own_of r.own) b v found.0 lt verdict found.1 in
-    (ap (λ (o : Outcome). o.items) same ∙ found.2.items,
-     ap (λ (o : Outcome). o.refusal) same ∙ found.2.refusal ∙ ap (λ n. refusal_at n (start_of s) f) (omega arith),
-     ap (λ (o : Outcome). o.tail) same ∙ found.2.tail)
+    let same = verdict_only (own_of r.own) b v found.0 lt verdict found.1 in (
+      ap (λ (o : Outcome). o.items) same ∙ found.2.items,
+      ap (λ (o : Outcome). o.refusal) same ∙ found.2.refusal ∙ ap (λ n. refusal_at n (start_of s) f) (omega arith),
+      ap (λ (o : Outcome). o.tail) same ∙ found.2.tail,
+    )
 
 -- ---- a check
 

@@ -1,6 +1,8 @@
 -- One step of a reader over the bytes that follow what it has read.
 use Rattle.std.specs.Prelude.{◌≡◌, ◌==◌, ℕ, ◌+◌, ◌<◌, Bool, true, false, ◌&&◌, List, length, Some, None, if◌then◌else◌}
 use Rattle.bt_wire.specs.declared.fault.Reason.TheVariants.{EndInside}
+use Rattle.bt_wire.specs.declared.context.Context.{Context}
+use Rattle.bt_wire.specs.declared.context.Order.{Order}
 use Rattle.bt_wire.specs.declared.context.Order.TheVariants.{Fresh}
 use Rattle.bt_wire.specs.declared.fault.Refused.{Refused}
 use Rattle.bt_wire.specs.declared.handshake.Handshake.{Handshake}
@@ -10,6 +12,7 @@ use Rattle.bt_wire.specs.declared.item.Item.TheVariants as items
 use Rattle.bt_wire.specs.Handshakes.{hand_fault, IsHandshakeOf, negotiated}
 use Rattle.bt_wire.specs.Messages.{fields_of, order_after}
 use Rattle.bt_wire.specs.Faults.{IsFault}
+use Rattle.bt_wire.specs.Headers.{IsRead}
 use Rattle.bt_wire.specs.Fronts.{BeginsBy, IsPartial}
 use Rattle.bt_c.specs.Readers.{own_of, context_of, order_in, is_on, shown_id, Shows, ShowsExtended, ShowsFault}
 use Rattle.bt_c.specs.declared.reader.BtReader.{BtReader}
@@ -53,6 +56,12 @@ pub record Goes (r : BtReader) (b : List ℕ) (s : BtReader) (i : BtItem) (msg :
   pub extended : ShowsExtended i msg
   pub order : order_in s.past ≡ order_after (order_in r.past) msg
   pub same : s ≡ record r { past = s.past; start = r.start + i.size }
+
+-- the bytes w are one message, judged in the context c and the order o: an item or a refusal (for private contracts alone)
+pub data GoesOver (c : Context) (o : Order) (r : BtReader) (w : List ℕ) (s : BtReader) (i : BtItem) : ℕ → Type 0 where
+  item : (msg : Message) → IsRead c o w msg → i.size ≡ length w → i.id ≡ shown_id msg → i.start ≡ r.start → Shows i (fields_of c msg) → ShowsExtended i msg
+      → order_in s.past ≡ order_after o msg → s ≡ record r { past = s.past; start = r.start + length w } → GoesOver c o r w s i 1
+  refused : (f : Refused) → IsFault c o 0 w (Some f) → ShowsFault i r.start f → s ≡ r → GoesOver c o r w s i 2
 
 -- ---- either
 

@@ -5,7 +5,7 @@ ghost use Rattle.bt_c.specs.Readers.{own_of};
 ghost use Rattle.bt_c.specs.Runs.{ShowsVerdict};
 
 use crate::item::{BtItem, bare};
-use crate::reader::{BtReader, ITEM, END, last_item};
+use crate::reader::{BtReader, END, ITEM, last_item};
 use crate::receiver::BtOwn;
 
 /// The verdict on a stream.
@@ -65,7 +65,7 @@ fn behind(bytes: &[u8], n: usize) -> &[u8]
     &bytes[n..]
 }
 
-/// The verdict after so many items, by the answer of the last call.
+/// The verdict after `count` items, by the answer of the last call.
 fn verdict_of(answer: u32, count: u64, size: usize, item: &BtItem) -> BtVerdict
     ensures end { answer ≡ 3 → (result.message ≡ count - 1) × (result.at ≡ size) × (result.reason ≡ 0) }
     ensures refused { answer ≢ 3 → (result.message ≡ count) × (result.at ≡ min (item.now.start + item.now.size) (2 ^ 64 - 1)) × (result.reason ≡ item.now.reason) }

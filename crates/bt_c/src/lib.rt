@@ -19,4 +19,7 @@ pub use item::BtItem;
 pub use names::{bt_abi, bt_item_name, bt_reason_name};
 pub use reader::{BtReader, bt_reader_finish, bt_reader_init, bt_reader_next};
 pub use receiver::BtOwn;
-pub use writing::{BtHandshake, bt_write, bt_write_extended_handshake, bt_write_handshake, bt_write_metadata, bt_writer_init};
+pub use writing::{
+    BtHandshake, bt_write, bt_write_extended_handshake, bt_write_handshake, bt_write_metadata,
+    bt_writer_init,
+};
