@@ -1,7 +1,8 @@
 //! What the program says at its end, and its exit status. The program's `main` calls it after its work.
 //!
-//! `prefix` is what stands before the line of a failed read: the input's name, or nothing for standard input. `is_gone` says
-//! that a write failed since nobody reads the output. The program says nothing then, as other tools of a shell do.
+//! `prefix` is what stands before the line of a failed read: the input's name, or nothing for standard input.
+//! `is_gone` says that a write failed since nobody reads the output. The program says nothing then, as other tools of a
+//! shell do.
 ghost use Rattle.std.specs.Prelude.{◌≡◌, ◌++◌};
 ghost use Rattle.bt_cli.specs.Runs.{IsSaid, fault_in};
 ghost use Rattle.bt_cli.specs.Endings.{fault_status, fault_words, job_status, job_words, link_status as link_status_by_rule, link_words, text_status, text_words};

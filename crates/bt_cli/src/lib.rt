@@ -1,7 +1,7 @@
 //! The command line of the program: what its words ask for, a job done on any devices, and the exit status.
 //!
-//! `main` of the program gives [`options::asked`] the words. It lets [`other::receiver_by`] complete the receiver and does the
-//! job by [`run::do_job`]; [`ending`] says how that ended, and [`notice`] what is wrong with words.
+//! `main` of the program gives [`options::asked`] the words. It lets [`other::receiver_by`] complete the receiver and
+//! does the job by [`run::do_job`]; [`ending`] says how that ended, and [`notice`] what is wrong with words.
 #![tactic(auto)]
 
 pub mod commands;

@@ -14,7 +14,10 @@ use Rattle.bt_feed.specs.declared.view.Finish.TheVariants as finish
 use Rattle.bt_feed.specs.Feeds.{FeedState}
 use Rattle.bt_feed.specs.Laws.{verdict_at_end}
 use Rattle.bt_feed.specs.Pumps.{Took, IsPumped}
+use Rattle.bt_feed.specs.Stages.{stopped}
 use Rattle.bt_feed.specs.Transcripts.{with_items}
+use Rattle.bt_feed.proofs.Coming.{open_comes}
+use Rattle.bt_feed.proofs.Reading.{hand_open}
 use Rattle.bt_text.specs.declared.ended.ToolFault.{ToolFault}
 use Rattle.bt_text.specs.declared.ended.ToolFault.TheVariants as faults
 use Rattle.bt_io.specs.Counts.{Grew}
@@ -22,7 +25,7 @@ use Rattle.bt_jobs.specs.declared.other.Announced.{Announced}
 use Rattle.bt_jobs.specs.declared.other.Listener.{Listener}
 use Rattle.bt_jobs.specs.declared.other.OtherError.{OtherError}
 use Rattle.bt_jobs.specs.declared.other.OtherError.TheVariants.{NoHandshake, Fault}
-use Rattle.bt_jobs.specs.Others.{or_else, first_of, reserved_of, id_of, announced, own_of_other, reader_of_other, IsSaidBy, IsSaidIn, IsLearnt, IsHeard, Hears, IsListening, IsSettled, IsTurnHeard, IsFaultOfOther}
+use Rattle.bt_jobs.specs.Others.{or_else, first_of, reserved_of, id_of, announced, own_of_other, reader_of_other, IsSaidBy, IsSaidIn, IsLearnt, IsHeard, Hears, IsListening, IsSettled, IsTurnHeard, IsFaultOfOther, IsOpenAfter}
 use Rattle.bt_jobs.proofs.Printing.{total, read_more, starts, refused_by}
 
 -- ---- the first value in items
@@ -87,11 +90,11 @@ pub ended : (E : Type 0) (b : List ℕ) (xs ys : List (ℕ × Item)) (f g : Feed
 ended E b xs ys f g left left' l m bytes lost v r c took p s =
     (bytes ++ lost, with_items xs v, c, total reader_of_other b xs f g bytes lost ys v r.read p, heard_all b xs ys f g l m bytes lost v r took p, inr s)
 
-pub turned : (E : Type 0) (b : List ℕ) (xs ys : List (ℕ × Item)) (f g : FeedState) (left left' : Option (List ℕ)) (l m : Listener) (bytes lost : List ℕ) (v : Outcome) (k : Bool) → (k ≡ true → IsSome m.reserved × IsSome m.metadata)
-    → IsListening b xs f l → Consumes left left' (bytes ++ lost) → Took Hears l ys m → IsPumped f bytes lost ys g v → lost ≡ [] → IsTurnHeard b xs E left left' g m (Ok k)
-turned E b xs ys f g left left' l m bytes lost v false know r c took p none =
-    (bytes ++ lost, ys, c, record { read = read_more reader_of_other b xs f g bytes lost ys v none r.read p; heard = heard_more xs ys l m r.heard took })
-turned E b xs ys f g left left' l m bytes lost v true know r c took p none =
+pub turned : (E : Type 0) (b : List ℕ) (xs ys : List (ℕ × Item)) (f g : FeedState) (left left' : Option (List ℕ)) (l m : Listener) (bytes lost : List ℕ) (v : Outcome) (k : Bool) → (k ≡ true → IsSome m.reserved × IsSome m.metadata) → (k ≡ false → (m.reserved ≡ None) ⊎ (m.metadata ≡ None))
+    → IsListening b xs f l → Consumes left left' (bytes ++ lost) → Took Hears l ys m → IsPumped f bytes lost ys g v → lost ≡ [] → v.refusal ≡ None → IsTurnHeard b xs E left left' g m (Ok k)
+turned E b xs ys f g left left' l m bytes lost v false know unknown r c took p none free =
+    (bytes ++ lost, ys, c, record { read = read_more reader_of_other b xs f g bytes lost ys v none r.read p; heard = heard_more xs ys l m r.heard took; unknown = unknown refl; now = with_items xs v; is = total reader_of_other b xs f g bytes lost ys v r.read p; unrefused = free })
+turned E b xs ys f g left left' l m bytes lost v true know unknown r c took p none free =
     (bytes ++ lost, with_items xs v, c, total reader_of_other b xs f g bytes lost ys v r.read p, heard_all b xs ys f g l m bytes lost v r took p, inl (know refl))
 
 refused_inside : (o : Option Refusal) (c : Bool) (e r : Refusal) → (elim o [ Some q ↦ Some q | None ↦ if c then None else Some e ]) ≡ Some r → IsSome o ⊎ (r.reason ≡ e.reason)
@@ -117,7 +120,7 @@ pub record IsListeningTo (left left' : Option (List ℕ)) (f : FeedState) (l : L
 
 pub listening_first : (left : Option (List ℕ)) (f : FeedState) (l : Listener) → f ≡ record { stage = stage.Handshake reader_of_other; held = []; refused = None } → IsHeard [] l → IsListeningTo left left f l
 listening_first left f l e h =
-    record { bytes = []; items = []; consumed = Consumes-nil left; listening = record { read = starts reader_of_other f (omega arith) e; heard = h } }
+    record { bytes = []; items = []; consumed = Consumes-nil left; listening = record { read = starts reader_of_other f (omega arith) e; heard = h; unknown = inl h.0; now = stopped (stage.Handshake reader_of_other) [] None; is = open_comes (stage.Handshake reader_of_other) [] (omega arith) (hand_open reader_of_other); unrefused = refl } }
 
 pub listening_more : (E : Type 0) (left0 left left' : Option (List ℕ)) (f g : FeedState) (l m : Listener) → (t : IsListeningTo left0 left f l) → IsTurnHeard t.bytes t.items E left left' g m (Ok false) → IsListeningTo left0 left' g m
 listening_more E left0 left left' f g l m t n =
@@ -165,3 +168,29 @@ grew_since a b c e g = subst (λ (n : ℕ). Grew n c) e g
 
 pub read_failed : (f : ToolFault) (reads reads' failed failed' ends ends' : ℕ) → f ≡ faults.Read → Grew failed failed' → IsFaultOfOther (Err (Fault f)) reads reads' failed failed' ends ends'
 read_failed f reads reads' failed failed' ends ends' e g = subst (λ (x : ToolFault). IsFaultOfOther (Err (Fault x)) reads reads' failed failed' ends ends') (sym e) g
+
+-- ---- what is read
+
+unknown_items : (xs : List (ℕ × Item)) (l : Listener) → IsHeard xs l → ((l.reserved ≡ None) ⊎ (l.metadata ≡ None)) → (first_of reserved_of xs ≡ None) ⊎ (first_of id_of xs ≡ None)
+unknown_items xs l h (inl e) = inl (sym h.0 ∙ e)
+unknown_items xs l h (inr e) = inr (sym h.1 ∙ e)
+
+-- where the listener waits, what was read leaves the answer open
+pub waits : (left left' : Option (List ℕ)) (f : FeedState) (l : Listener) → VerdictIsOne → IsListeningTo left left' f l → IsOpenAfter left left'
+waits left left' f l one t =
+    let s = t.listening in (
+      t.bytes,
+      t.consumed,
+      λ v is.
+          let same : s.read.now ≡ v = one reader_of_other t.bytes s.read.now v (omega arith) s.read.is is in
+          let as_now : v ≡ s.now = one reader_of_other t.bytes v s.now (omega arith) is s.is in
+          let P : List (ℕ × Item) → Type 0 = λ xs. (first_of reserved_of xs ≡ None) ⊎ (first_of id_of xs ≡ None) in
+          (subst P (sym s.read.items ∙ ap (λ (w : Outcome). w.items) same) (unknown_items t.items l s.heard s.unknown), ap (λ (w : Outcome). w.refusal) as_now ∙ s.unrefused),
+    )
+
+-- before the first read
+pub nothing_read : (left : Option (List ℕ)) → VerdictIsOne → IsOpenAfter left left
+nothing_read left one =
+    let f : FeedState = record { stage = stage.Handshake reader_of_other; held = []; refused = None } in
+    let l : Listener = record { reserved = None; metadata = None; items = 0 } in
+    waits left left f l one (listening_first left f l refl (refl, refl))

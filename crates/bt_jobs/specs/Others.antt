@@ -83,6 +83,15 @@ IsSaidIn b r = (v : Outcome) → IsVerdict reader_of_other b v → IsSaidBy v.it
 abbrev pub IsLearnt : Type 0 → Option (List ℕ) → Option (List ℕ) → Result Announced OtherError → Type 0
 IsLearnt AtEnd left left' r = (b : List ℕ) × Consumes left left' b × (((later : List ℕ) → IsSaidIn (b ++ later) r) ⊎ (AtEnd × IsSaidIn b r))
 
+-- the items of these bytes leave the answer open: one of both isn't known, and nothing is refused
+abbrev pub IsOpen : List ℕ → Type 0
+IsOpen b =
+    (v : Outcome) → IsVerdict reader_of_other b v → ((first_of reserved_of v.items ≡ None) ⊎ (first_of id_of v.items ≡ None)) × (v.refusal ≡ None)
+
+-- what was read leaves the answer open
+abbrev pub IsOpenAfter : Option (List ℕ) → Option (List ℕ) → Type 0
+IsOpenAfter left left' = (b : List ℕ) × Consumes left left' b × IsOpen b
+
 -- Where a fault comes from, by the source's counts: from a read that failed, or from so many reads without the end
 abbrev pub IsFaultOfOther : Result Announced OtherError → ℕ → ℕ → ℕ → ℕ → ℕ → ℕ → Type 0
 IsFaultOfOther (Ok a) reads reads' failed failed' ends ends' = failed' ≡ failed
@@ -102,10 +111,14 @@ IsHeard xs l = (l.reserved ≡ first_of reserved_of xs) × (l.metadata ≡ first
 abbrev pub Hears : Listener → ℕ × Item → Listener → Type 0
 Hears old x new = (new.reserved ≡ or_else old.reserved (reserved_of x.1)) × (new.metadata ≡ or_else old.metadata (id_of x.1))
 
--- b was read, these are its items, and what they say was heard
+-- b was read, these are its items, and what they say was heard: it leaves the answer open
 pub record IsListening (b : List ℕ) (xs : List (ℕ × Item)) (f : FeedState) (l : Listener) : Type 0 where
   pub read : IsReadTo reader_of_other b xs f
   pub heard : IsHeard xs l
+  pub unknown : (l.reserved ≡ None) ⊎ (l.metadata ≡ None)
+  pub now : Outcome
+  pub is : IsVerdict reader_of_other b now
+  pub unrefused : now.refusal ≡ None
 
 -- nothing that follows changes what was heard: both are known, or the stream is refused, or it ends here
 abbrev pub IsSettled : Type 0 → Listener → Outcome → Type 0

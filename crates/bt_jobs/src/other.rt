@@ -4,7 +4,7 @@ ghost use Rattle.bt_bencode.specs.Trees.{dictionary};
 ghost use Rattle.bt_io.specs.Counts.{Grew};
 ghost use Rattle.bt_wire.specs.declared.item.Item.{Item};
 ghost use Rattle.bt_text.specs.Lines.{told_id};
-ghost use Rattle.bt_jobs.specs.Others.{IsFaultOfOther, IsHeard, IsLearnt, IsListening, IsTurnHeard, announced, reader_of_other as reader_by_rule};
+ghost use Rattle.bt_jobs.specs.Others.{IsFaultOfOther, IsHeard, IsLearnt, IsListening, IsOpenAfter, IsTurnHeard, announced, reader_of_other as reader_by_rule};
 
 use crate::show::MAX_READS;
 use bt_bencode::DictRef;
@@ -53,7 +53,7 @@ fn announced_id(dict: &DictRef) -> Option<u8>
 }
 
 impl Listener {
-    ghost use Rattle.std.specs.Prelude.{[], IsSome, true, false};
+    ghost use Rattle.std.specs.Prelude.{[], ◌⊎◌, IsSome, None, true, false};
 
     /// A listener that has heard nothing.
     fn new() -> Listener
@@ -69,6 +69,7 @@ impl Listener {
     /// Returns whether nothing more has to be heard.
     fn knows_all(&self) -> bool
         ensures yes { result ≡ true → IsSome self.now.reserved × IsSome self.now.metadata }
+        ensures no { result ≡ false → (self.now.reserved ≡ None) ⊎ (self.now.metadata ≡ None) }
     {
         self.reserved.is_some() && self.metadata.is_some()
     }
@@ -169,6 +170,7 @@ pub fn read_other<R: Source>(alloc: Global, reader: &mut R) -> Result<Announced,
     ensures learnt { IsLearnt (Grew (R.ends reader.old) (R.ends reader.new)) (R.left reader.old) (R.left reader.new) result }
     ensures faults { IsFaultOfOther result (R.reads reader.old) (R.reads reader.new) (R.failed_reads reader.old) (R.failed_reads reader.new) (R.ends reader.old) (R.ends reader.new) }
     ensures reads { R.reads reader.new ≤ R.reads reader.old + 2 ^ 32 }
+    ensures needed { (before : R) × IsOpenAfter (R.left reader.old) (R.left before) × (R.reads reader.new ≤ R.reads before + 1) }
 {
     laws::one_verdict();
     let Ok(mut feed) = Feed::new(alloc, reader_of_other()) else {

@@ -5,7 +5,7 @@ use Rattle.std.proofs.Common.{None}
 use Rattle.bt_feed.specs.declared.stage.Stage.TheVariants as stage
 use Rattle.bt_text.specs.declared.ended.ToolFault.TheVariants as fault
 use Rattle.bt_jobs.specs.Others.{IsTurnHeard}
-use Rattle.bt_jobs.proofs.Hearing.{listening_first, listening_more, learnt, not_learnt, fault_of_turn, no_fault, read_failed, grew_since}
+use Rattle.bt_jobs.proofs.Hearing.{listening_first, listening_more, learnt, not_learnt, fault_of_turn, no_fault, read_failed, grew_since, waits, nothing_read}
 use Rattle.bt_jobs.proofs.other.read_other.Goals as goal
 
 pub loop-turn-init : goal.loop-turn-init
@@ -59,3 +59,15 @@ returns-clause-faults g c = (omega (arith, c.loop-turn.invariant.reads, c.loop-t
 
 pub returns-in_default-clause-learnt : goal.returns-in_default-clause-learnt
 returns-in_default-clause-learnt g c = not_learnt _ _ _ [] fault.Memory (Consumes-nil _)
+
+pub returns-in-Ok-true-clause-needed : goal.returns-in-Ok-true-clause-needed
+returns-in-Ok-true-clause-needed g c = (c.loop-turn.reader, waits _ _ c.loop-turn.feed c.loop-turn.listener c.one_verdict.ensures.one c.loop-turn.invariant.heard, c.in-Ok-true.ensures.reads)
+
+pub returns-in-Err-clause-needed : goal.returns-in-Err-clause-needed
+returns-in-Err-clause-needed g c = (c.loop-turn.reader, waits _ _ c.loop-turn.feed c.loop-turn.listener c.one_verdict.ensures.one c.loop-turn.invariant.heard, c.in-Err.ensures.reads)
+
+pub returns-clause-needed : goal.returns-clause-needed
+returns-clause-needed g c = (c.loop-turn.reader, waits _ _ c.loop-turn.feed c.loop-turn.listener c.one_verdict.ensures.one c.loop-turn.invariant.heard, omega arith)
+
+pub returns-in_default-clause-needed : goal.returns-in_default-clause-needed
+returns-in_default-clause-needed g c = (c.args.reader.now, nothing_read _ c.one_verdict.ensures.one, omega arith)
