@@ -8,7 +8,7 @@ use Rattle.bt_wire.specs.declared.context.Own.{Own}
 use Rattle.clap.specs.declared.error.kind.ErrorKind.{ErrorKind}
 use Rattle.clap.specs.declared.error.kind.ErrorKind.TheVariants as kinds
 use Rattle.bt_cli.specs.declared.commands.Asked.{Asked}
-use Rattle.bt_cli.specs.declared.commands.Asked.TheVariants.{Run, Link, Told}
+use Rattle.bt_cli.specs.declared.commands.Asked.TheVariants.{Run, Link, Loop, Told}
 use Rattle.bt_cli.specs.declared.commands.Job.{Job}
 use Rattle.bt_cli.specs.declared.commands.Job.TheVariants.{Show, Check, Unpack, Pack}
 use Rattle.bt_cli.specs.declared.commands.Notice.{Notice}
@@ -45,16 +45,22 @@ IsDefault own =
 abbrev pub HasLimit : Own → Type 0
 HasLimit own = (1 ≤ own.limit) × (own.limit ≤ 1048576)
 
--- a receiver that is asked for has such a limit
+-- a limit that an end may have
+abbrev pub HasLoopLimit : ℕ → Type 0
+HasLoopLimit limit = (32768 ≤ limit) × (limit ≤ 1048576)
+
+-- a receiver that is asked for has such a limit, and so have the ends
 abbrev pub IsLimited : Asked → Type 0
 IsLimited (Run job own) = HasLimit own
 IsLimited Link = Unit {0}
+IsLimited (Loop rules limit) = HasLoopLimit limit
 IsLimited (Told notice text) = Unit {0}
 
 -- a text of this kind is asked for
 abbrev pub HasText : Notice → Asked → Type 0
 HasText kind (Run job own) = ⊥
 HasText kind Link = ⊥
+HasText kind (Loop rules limit) = ⊥
 HasText kind (Told notice text) = notice ≡ kind
 
 -- `show` is asked for, with the default receiver
@@ -64,6 +70,7 @@ IsShowByDefault (Run Check own) = ⊥
 IsShowByDefault (Run Unpack own) = ⊥
 IsShowByDefault (Run Pack own) = ⊥
 IsShowByDefault Link = ⊥
+IsShowByDefault (Loop rules limit) = ⊥
 IsShowByDefault (Told notice text) = ⊥
 
 -- clap's answer is help, the version, or a mistake; no text where it was out of memory

@@ -46,6 +46,8 @@ pub enum Asked {
     Run(Job, Own),
     /// The link of two ends, which a script describes.
     Link,
+    /// Two ends over a connection of the process to itself, by these rules, with this limit of a message.
+    Loop(Rules, u32),
     /// A text and no work.
     Told(Notice, String),
 }

@@ -2,11 +2,12 @@
 ghost use Rattle.std.specs.Prelude.{◌≡◌, [], IfOk};
 ghost use Rattle.clap.specs.Matches.{found_of};
 ghost use Rattle.clap.specs.Values.{kind_of};
-ghost use Rattle.bt_cli.specs.Commands.{HasLimit, HasNotice, IsLimited, IsShowByDefault, job_of};
+ghost use Rattle.bt_cli.specs.Commands.{HasLimit, HasLoopLimit, HasNotice, IsLimited, IsShowByDefault, job_of};
 ghost use Rattle.bt_cli.specs.Options.{IsChosen, IsWritten};
 
 use crate::commands::{Asked, Job, Notice, default_own};
 use crate::values::{Setting, Written, own_of};
+use bt_ext::Rules;
 use bt_wire::Own;
 use clap::error::ErrorKind;
 use clap::{Arg, ArgAction, ArgMatches, Command, Error};
@@ -18,7 +19,7 @@ Judges the bytes that a BitTorrent peer sends (BEP 3, 5, 6, 9 and 10).
 
 Usage: bt_tool [COMMAND [OPTIONS]]
 
-Commands read standard input: 'pack' and 'link' a script, the others a stream, from its handshake on. No words at all mean
+Commands read standard input: 'pack' and 'link' a script, 'loop' metadata, the others a stream, from its handshake on. No words at all mean
 'show'.
 
 Commands:
@@ -27,9 +28,11 @@ Commands:
   unpack  Prints a script: a line for each item, with all of its bytes
   pack    Writes the stream of a script, up to the first line that isn't taken
   link    Runs two ends against each other, step by step, as a script of its own says
+  loop    Reads metadata, serves it at one end of a connection of the process to itself, and fetches it at the other
   help    Prints this text
 
-Options, which stand after the command and describe the receiver of the stream ('link' has none):
+Options, which stand after the command and describe the receiver of the stream ('link' has none, 'loop' --rules and --limit alone,
+for both ends, with 'bep' and a limit from 32768 up):
       --reserved <HEX>    The reserved bits that it sent: 16 hex digits [default: 0000000000100005]
       --pieces <N>        The torrent's pieces: 0 to 4294967295 [default: unknown]
       --metadata-id <N>   The id under which it announced ut_metadata: 0 to 255, 0 is none [default: 3]
@@ -47,12 +50,13 @@ Examples:
   bt_tool unpack < stream.bin > script.txt
   bt_tool pack < script.txt > stream.bin
   bt_tool link < examples/link.txt
+  bt_tool loop < metadata.bin
 
 Exit status:
-  0  the stream or the script is accepted, the link ran, or a text was asked for
-  1  the stream is refused, or a line of the script is, or the two ends of a link don't match
+  0  the stream or the script is accepted, the link ran, the metadata was fetched, or a text was asked for
+  1  the stream is refused, or a line of the script is, or the two ends of a link don't match, or nothing was fetched
   2  the words are no command line
-  3  a read or a write failed, there was no memory, or the input had no end
+  3  a read or a write failed, the network did, there was no memory, or the input had no end
 ";
 
 /// How the program is called.
@@ -94,6 +98,17 @@ fn link_command<'a>(alloc: Global) -> Command<'a> {
         .override_help(HELP)
 }
 
+/// Returns the command `loop`, whose options are of both ends.
+fn loop_command<'a>(alloc: Global) -> Result<Command<'a>, AllocError> {
+    Ok(
+        Command::new(alloc, "loop")
+            .override_usage(CALL)
+            .override_help(HELP)
+            .arg(option(alloc, "rules", "RULES"))?
+            .arg(option(alloc, "limit", "N"))?,
+    )
+}
+
 /// Returns the commands, each with its options.
 fn command_line<'a>(alloc: Global) -> Result<Command<'a>, AllocError> {
     Ok(
@@ -107,7 +122,8 @@ fn command_line<'a>(alloc: Global) -> Result<Command<'a>, AllocError> {
             .subcommand(job_command(alloc, "check")?)?
             .subcommand(job_command(alloc, "unpack")?)?
             .subcommand(job_command(alloc, "pack")?)?
-            .subcommand(link_command(alloc))?,
+            .subcommand(link_command(alloc))?
+            .subcommand(loop_command(alloc)?)?,
     )
 }
 
@@ -181,6 +197,27 @@ fn chosen(name: &str, options: &ArgMatches<'_>) -> Result<(Job, Own), &'static s
     }
 }
 
+/// Returns the rules and the limit of `loop`, or what is wrong with its options.
+fn looped(options: &ArgMatches<'_>) -> Result<(Rules, u32), &'static str>
+    ensures { IfOk result (λ p. HasLoopLimit p.1) }
+{
+    let written = Written {
+        reserved: None,
+        pieces: None,
+        metadata_id: None,
+        info_hash: None,
+        rules: options.get_str("rules"),
+        limit: options.get_str("limit"),
+    };
+    match own_of(Job::Check, &written) {
+        Ok(own) if own.limit >= 32_768 => Ok((own.rules, own.limit)),
+        Ok(_) | Err(Setting::Limit) => Err(
+            "'--limit' of 'loop' takes a number from 32768 to 1048576",
+        ),
+        Err(setting) => Err(expected(setting)),
+    }
+}
+
 /// Returns what an option's value has to be.
 fn expected(setting: Setting) -> &'static str {
     match setting {
@@ -214,6 +251,12 @@ pub fn asked(alloc: Global, words: &[String]) -> Result<Asked, AllocError>
     };
     if name == "link" {
         return Ok(Asked::Link);
+    }
+    if name == "loop" {
+        return match looped(options) {
+            Ok((rules, limit)) => Ok(Asked::Loop(rules, limit)),
+            Err(what) => mistake(alloc, &mut command, what),
+        };
     }
     match chosen(name, options) {
         Ok((job, own)) => Ok(Asked::Run(job, own)),

@@ -3,10 +3,13 @@
 
 use bt_cli::commands::{Asked, Notice};
 use bt_cli::link::link;
+use bt_cli::looped::run_looped;
 use bt_cli::notice::{fail, tell};
 use bt_cli::options::{NO_TEXT, asked};
 use bt_cli::run::{exit_status, run};
+use bt_exchange::open_tcp;
 use bt_feed::Host;
+use bt_net::status as loop_status;
 use bt_rig::status as link_status;
 use bt_text::ended::ToolFault;
 use std::process::ExitCode;
@@ -34,6 +37,21 @@ fn main(rt: HostRuntime) -> ExitCode {
                 exit_status(run(alloc, job, &own, &mut reader, &mut writer, &mut errors))
             }
             Ok(Asked::Link) => link_status(&link(alloc, &mut reader, &mut writer, &mut errors)),
+            Ok(Asked::Loop(rules, limit)) => match open_tcp(&rt) {
+                Ok(mut wire) => {
+                    let end = run_looped(
+                        alloc,
+                        &mut reader,
+                        &mut writer,
+                        &mut errors,
+                        &mut wire,
+                        rules,
+                        limit,
+                    );
+                    loop_status(&end)
+                }
+                Err(_) => fail(ToolFault::Net, &mut errors),
+            },
             Ok(Asked::Told(notice, text)) => tell(notice, text.as_str(), &mut writer, &mut errors),
             Err(_) => fail(ToolFault::Memory, &mut errors),
         },
