@@ -201,13 +201,14 @@ fn chosen(name: &str, options: &ArgMatches<'_>) -> Result<(Job, Own), &'static s
 fn looped(options: &ArgMatches<'_>) -> Result<(Rules, u32), &'static str>
     ensures { IfOk result (λ p. HasLoopLimit p.1) }
 {
+    let (rules, limit) = (options.get_str("rules"), options.get_str("limit"));
     let written = Written {
         reserved: None,
         pieces: None,
         metadata_id: None,
         info_hash: None,
-        rules: options.get_str("rules"),
-        limit: options.get_str("limit"),
+        rules,
+        limit,
     };
     match own_of(Job::Check, &written) {
         Ok(own) if own.limit >= 32_768 => Ok((own.rules, own.limit)),
