@@ -9,8 +9,10 @@ use std::test::Fail;
 /// What is printed of `abc`, of the 56 letters and of one million letters `a` (FIPS 180-4).
 const ABC: &[u8] = b"fetched bytes=3 sha1=a9993e364706816aba3e25717850c26c9cd0d89d\n\
 left sent=3 handled=3\nright sent=3 handled=3\n";
+
 const LETTERS: &[u8] = b"fetched bytes=56 sha1=84983e441c3bd26ebaae4aa1f95129e5e54670f1\n\
 left sent=3 handled=3\nright sent=3 handled=3\n";
+
 const MILLION: &[u8] = b"fetched bytes=1000000 sha1=34aa973cd4c4daa4f61eeb2bdbad27316534016f\n\
 left sent=64 handled=64\nright sent=64 handled=64\n";
 
@@ -24,7 +26,14 @@ fn looped(
     let mut reader = MemSource::new(input, 4_096, None);
     let mut writer = MemTarget::new(Vec::new(rt.alloc()), 4_096, None);
     let mut wire = MemWire::new(rt.alloc(), most.max(1), fails_at);
-    let end = run_loop(rt.alloc(), &mut reader, &mut writer, &mut wire, Rules::Bep, 262_144);
+    let end = run_loop(
+        rt.alloc(),
+        &mut reader,
+        &mut writer,
+        &mut wire,
+        Rules::Bep,
+        262_144,
+    );
     (end, writer)
 }
 
@@ -36,7 +45,12 @@ fn fetches(rt: &HostRuntime, input: Vec<u8>, most: usize, lines: &[u8]) -> bool 
 
 /// Whether a loop of `abc` over a wire that fails at this call ends so, and prints nothing.
 fn ends(rt: &HostRuntime, fails_at: u64, wanted: Result<LoopEnd, ToolFault>) -> Result<bool, Fail> {
-    let (end, writer) = looped(rt, Vec::from_slice(rt.alloc(), b"abc")?, 4_096, Some(fails_at));
+    let (end, writer) = looped(
+        rt,
+        Vec::from_slice(rt.alloc(), b"abc")?,
+        4_096,
+        Some(fails_at),
+    );
     Ok(end == wanted && status(&end) == 3 && writer.bytes().is_empty())
 }
 
