@@ -190,6 +190,35 @@ LINK_ROWS = [
 ROWS += LINK_ROWS
 
 
+def looped(size, digest, items):
+    """What `loop` prints of metadata whose ends send and handle so many items each."""
+    line = "sent=%d handled=%d" % (items, items)
+    return ("fetched bytes=%d sha1=%s\nleft %s\nright %s\n" % (size, digest, line, line)).encode()
+
+
+# Two ends over a TCP connection of the process to itself: a handshake, an extended handshake and a block each way, and a request
+# and a block more for each further 16,384 bytes. The digests are those of FIPS 180-4.
+ALPHABET = b"abcdbcdecdefdefgefghfghighijhijkijkljklmklmnlmnomnopnopq"
+LOOP_ROWS = [
+    ("loop", b"abc", looped(3, HASH, 3), b"", 0),
+    ("loop", ALPHABET, looped(56, "84983e441c3bd26ebaae4aa1f95129e5e54670f1", 3), b"", 0),
+    ("loop", 1000000 * b"a", looped(1000000, "34aa973cd4c4daa4f61eeb2bdbad27316534016f", 64), b"", 0),
+    ("loop --rules free --limit 32768", b"abc", looped(3, HASH, 3), b"", 0),
+    ("loop --rules bep --limit 1048576", b"abc", looped(3, HASH, 3), b"", 0),
+    ("loop", b"", b"", b"refused size\n", 1),
+    ("loop --limit 32767", b"abc", b"", MISTAKE, 2),
+    ("loop --limit 1048577", b"abc", b"", MISTAKE, 2),
+    ("loop --rules all", b"abc", b"", MISTAKE, 2),
+    ("loop --rules bep --rules bep", b"abc", b"", MISTAKE, 2),
+    ("loop --pieces 1", b"abc", b"", MISTAKE, 2),
+    ("loop more", b"abc", b"", MISTAKE, 2),
+    ("loop --help", b"", TEXT, b"", 0),
+    ("loop", FOLDER, b"", b"fault: read\n", 3),
+    ("loop", b"abc", FULL, b"fault: write\n", 3),
+]
+ROWS += LOOP_ROWS
+
+
 # Words that are no command line.
 MISTAKES = [
     [""],

@@ -8,7 +8,7 @@ use Rattle.bt_wire.specs.declared.context.Own.{Own}
 use Rattle.clap.specs.declared.error.kind.ErrorKind.{ErrorKind}
 use Rattle.clap.specs.declared.error.kind.ErrorKind.TheVariants as kinds
 use Rattle.bt_cli.specs.declared.commands.Asked.{Asked}
-use Rattle.bt_cli.specs.declared.commands.Asked.TheVariants.{Run, Link, Fetch, Serve, Told}
+use Rattle.bt_cli.specs.declared.commands.Asked.TheVariants.{Run, Link, Fetch, Serve, Told, Loop}
 use Rattle.bt_cli.specs.declared.commands.Job.{Job}
 use Rattle.bt_cli.specs.declared.commands.Job.TheVariants.{Show, Json, Check, Unpack, Pack}
 use Rattle.bt_cli.specs.declared.commands.Notice.{Notice}
@@ -56,12 +56,17 @@ IsDefault own =
 abbrev pub HasLimit : Own → Type 0
 HasLimit own = (1 ≤ own.limit) × (own.limit ≤ 1048576)
 
--- a receiver that is asked for has such a limit
+-- a limit that an end may have
+abbrev pub HasLoopLimit : ℕ → Type 0
+HasLoopLimit limit = (32768 ≤ limit) × (limit ≤ 1048576)
+
+-- a receiver that is asked for has such a limit, and so have the ends
 abbrev pub IsLimited : Asked → Type 0
 IsLimited (Run r) = HasLimit r.own
 IsLimited (Link files) = Unit {0}
 IsLimited (Fetch job) = IsWish job.wish
 IsLimited (Serve job) = Unit {0}
+IsLimited (Loop rules limit) = HasLoopLimit limit
 IsLimited (Told notice text) = Unit {0}
 
 -- a text of this kind is asked for
@@ -70,6 +75,7 @@ HasText kind (Run r) = ⊥
 HasText kind (Link files) = ⊥
 HasText kind (Fetch job) = ⊥
 HasText kind (Serve job) = ⊥
+HasText kind (Loop rules limit) = ⊥
 HasText kind (Told notice text) = notice ≡ kind
 
 -- `show` of standard input is asked for, with the default receiver
@@ -78,6 +84,7 @@ IsShowByDefault (Run r) = (r.job ≡ Show) × IsDefault r.own × (r.given ≡ re
 IsShowByDefault (Link files) = ⊥
 IsShowByDefault (Fetch job) = ⊥
 IsShowByDefault (Serve job) = ⊥
+IsShowByDefault (Loop rules limit) = ⊥
 IsShowByDefault (Told notice text) = ⊥
 
 -- clap's answer is help, the version, or a mistake; no text where it was out of memory

@@ -1,5 +1,5 @@
 -- A run of the program: what a job does to its devices, what it says on standard error, and its exit status.
-use Rattle.std.specs.Prelude.{◌≡◌, ◌⊎◌, ℕ, ◌+◌, ◌-◌, ◌^◌, ◌≤◌, min, ⊤, List, [], Option, Some, None, Result, Ok, Err}
+use Rattle.std.specs.Prelude.{◌≡◌, ◌⊎◌, ℕ, ◌+◌, ◌-◌, ◌^◌, ◌≤◌, min, ⊤, List, [], Option, Some, None, Result, Ok, Err, codes}
 use Rattle.std.specs.Io.KnownBytes.{Appends}
 use Rattle.bt_wire.specs.declared.context.Own.{Own}
 use Rattle.bt_io.specs.Counts.{Grew}
@@ -16,6 +16,8 @@ use Rattle.bt_session.specs.declared.report.LinkError.{LinkError}
 use Rattle.bt_rig.specs.declared.run.RigEnd.{RigEnd}
 use Rattle.bt_rig.specs.declared.run.RigEnd.TheVariants.{Unrun}
 use Rattle.bt_rig.specs.Runs.{complaint as rig_complaint}
+use Rattle.bt_net.specs.declared.looped.LoopEnd.{LoopEnd}
+use Rattle.bt_net.specs.declared.looped.LoopEnd.TheVariants.{Fetched, Unfetched, BadSize}
 use Rattle.bt_cli.specs.declared.commands.Job.{Job}
 use Rattle.bt_cli.specs.declared.commands.Job.TheVariants.{Show, Json, Check, Unpack, Pack}
 use Rattle.bt_cli.specs.declared.run.JobEnd.{JobEnd}
@@ -73,6 +75,13 @@ complaint job (Script (Ok (packs.Accepted messages bytes))) = []
 abbrev pub link_complaint : Result RigEnd ToolFault → List ℕ
 link_complaint (Ok end) = rig_complaint end
 link_complaint (Err f) = fault_line f
+
+-- A fault of `loop` has its line, and so has metadata of a wrong size.
+abbrev pub loop_complaint : Result LoopEnd ToolFault → List ℕ
+loop_complaint (Ok Fetched) = []
+loop_complaint (Ok Unfetched) = []
+loop_complaint (Ok BadSize) = codes "refused size\n"
+loop_complaint (Err f) = fault_line f
 
 -- why a link isn't run
 abbrev pub unrun_line : LinkError → List ℕ

@@ -78,6 +78,8 @@ pub enum Asked {
     Fetch(FetchJob),
     /// A service of metadata to peers.
     Serve(ServeJob),
+    /// Two ends over a connection of the process to itself, by these rules, with this limit of a message.
+    Loop(Rules, u32),
     /// A text and no work.
     Told(Notice, String),
 }

@@ -9,6 +9,7 @@ pub mod ending;
 pub mod fetch;
 pub mod hints;
 pub mod link;
+pub mod looped;
 pub mod notice;
 pub mod options;
 pub mod other;

@@ -3,13 +3,14 @@ ghost use Rattle.std.specs.Prelude.{◌≡◌, [], IfOk, map, option_map, string
 ghost use Rattle.std.specs.Str.{bytes_eq};
 ghost use Rattle.clap.specs.Matches.{found_of, first_value};
 ghost use Rattle.clap.specs.Values.{kind_of};
-ghost use Rattle.bt_cli.specs.Commands.{HasLimit, HasNotice, IsLimited, IsShowByDefault, job_of, as_json as job_as_json};
+ghost use Rattle.bt_cli.specs.Commands.{HasLimit, HasNotice, IsLimited, IsShowByDefault, job_of, as_json as job_as_json, HasLoopLimit};
 ghost use Rattle.bt_cli.specs.Options.{IsChosen, IsRequested, IsWritten, files_in, given_in, is_job_option as is_option_by_rule, with_command as words_with_command, json_in};
 
 use crate::commands::{Asked, Given, Job, Notice, Request, default_own};
 use crate::fetch::{Mistake, fetch_asked};
 use crate::serve::serve_asked;
 use crate::values::{Setting, Written, own_of};
+use bt_ext::Rules;
 use bt_wire::Own;
 use clap::error::ErrorKind;
 use clap::{Arg, ArgAction, ArgMatches, Command, Error};
@@ -21,8 +22,9 @@ Judges the bytes that a BitTorrent peer sends (BEP 3, 5, 6, 9 and 10).
 
 Usage: bt_tool [COMMAND] [OPTIONS] [FILE]
 
-Commands read FILE, or standard input where none is given or it is '-': 'pack' and 'link' a script, 'fetch' nothing, 'serve'
-its own FILE, the others a stream, from its handshake on. Without a command, options and no words at all mean 'show'.
+Commands read FILE, or standard input where none is given or it is '-': 'pack' and 'link' a script, the others a stream,
+from its handshake on. 'loop' reads standard input, 'serve' its own FILE, 'fetch' nothing. Without a command, options and no
+words at all mean 'show'.
 
 Commands:
   show    Prints a line for each item of the stream, and then the verdict
@@ -31,11 +33,13 @@ Commands:
   unpack  Prints a script: a line for each item, with all of its bytes
   pack    Writes the stream of a script, up to the first line that isn't taken
   link    Runs two ends against each other, step by step, as a script of its own says
+  loop    Serves what standard input has at one end of a connection to itself, and fetches it at the other
   fetch   Fetches the metadata of a torrent from peers: fetch INFOHASH ADDRESS..
   serve   Serves the metadata of a .torrent, or an info dictionary, to peers: serve FILE
   help    Prints this text
 
-Options, which describe the receiver of the stream ('link' has none):
+Options, which describe the receiver of the stream ('link' has none, 'loop' --rules and --limit alone, with
+'bep' and a limit from 32768 on):
       --other <FILE>      The other direction of the connection, which the receiver sent: it gives the
                           reserved bits and the id of ut_metadata where no option does
       --reserved <HEX>    The reserved bits that it sent: 16 hex digits [default: 0000000000100005]
@@ -72,6 +76,7 @@ Examples:
   bt_tool unpack stream.bin > script.txt
   bt_tool pack script.txt > stream.bin
   bt_tool link examples/link.txt
+  bt_tool loop < metadata.bin
   bt_tool fetch --torrent a9993e364706816aba3e25717850c26c9cd0d89d 192.0.2.1:6881 > a.torrent
   bt_tool serve --listen 127.0.0.1:6881 a.torrent
 
@@ -80,7 +85,7 @@ Exit status:
   1  the stream is refused, or a line of the script is, the two ends of a link don't match, nothing was fetched, or the
      file of 'serve' has no metadata
   2  the words are no command line, or the file of '--other' doesn't begin with a whole handshake
-  3  a read or a write failed, there was no memory, or the input had no end
+  3  a read or a write failed, the network did, there was no memory, or the input had no end
   141  nobody reads the output any more, as after '| head'
 ";
 
@@ -207,6 +212,17 @@ fn serve_command<'a>(alloc: Global) -> Result<Command<'a>, AllocError> {
     )
 }
 
+/// Returns the command `loop`, whose options are of both ends.
+fn loop_command<'a>(alloc: Global) -> Result<Command<'a>, AllocError> {
+    Ok(
+        Command::new(alloc, "loop")
+            .override_usage(CALL)
+            .override_help(HELP)
+            .arg(option(alloc, "rules", "RULES"))?
+            .arg(option(alloc, "limit", "N"))?,
+    )
+}
+
 /// Returns the commands, each with its options.
 fn command_line<'a>(alloc: Global) -> Result<Command<'a>, AllocError> {
     Ok(
@@ -221,6 +237,7 @@ fn command_line<'a>(alloc: Global) -> Result<Command<'a>, AllocError> {
             .subcommand(job_command(alloc, "unpack")?)?
             .subcommand(job_command(alloc, "pack")?)?
             .subcommand(link_command(alloc)?)?
+            .subcommand(loop_command(alloc)?)?
             .subcommand(fetch_command(alloc)?)?
             .subcommand(serve_command(alloc)?)?,
     )
@@ -402,6 +419,28 @@ fn requested(alloc: Global, name: &str, options: &ArgMatches<'_>) -> Result<Requ
     })
 }
 
+/// Returns the rules and the limit of `loop`, or what is wrong with its options.
+fn looped(options: &ArgMatches<'_>) -> Result<(Rules, u32), &'static str>
+    ensures { IfOk result (λ p. HasLoopLimit p.1) }
+{
+    let (rules, limit) = (options.get_str("rules"), options.get_str("limit"));
+    let written = Written {
+        reserved: None,
+        pieces: None,
+        metadata_id: None,
+        info_hash: None,
+        rules,
+        limit,
+    };
+    match own_of(Job::Check, &written) {
+        Ok(own) if own.limit >= 32_768 => Ok((own.rules, own.limit)),
+        Ok(_) | Err(Setting::Limit) => Err(
+            "'--limit' of 'loop' takes a number from 32768 to 1048576",
+        ),
+        Err(setting) => Err(expected(setting)),
+    }
+}
+
 /// Returns what an option's value has to be.
 fn expected(setting: Setting) -> &'static str {
     match setting {
@@ -466,6 +505,12 @@ pub fn asked(alloc: Global, words: &[String]) -> Result<Asked, AllocError>
             return mistake(alloc, &mut command, ONE_FILE);
         }
         return Ok(Asked::Link(files));
+    }
+    if name == "loop" {
+        return match looped(options) {
+            Ok((rules, limit)) => Ok(Asked::Loop(rules, limit)),
+            Err(what) => mistake(alloc, &mut command, what),
+        };
     }
     if name == "fetch" {
         return match fetch_asked(alloc, options) {

@@ -45,7 +45,7 @@ abbrev pub count_line : List ℕ → ℕ → ℕ → List ℕ
 count_line name sent handled = name ++ (codes " sent=" ++ (decimal sent ++ (codes " handled=" ++ (decimal handled ++ codes "\n"))))
 
 abbrev pub fetched_line : List ℕ → List ℕ
-fetched_line metadata = codes "fetched bytes=" ++ (decimal (length metadata) ++ (codes " sha1=" ++ (encode_lower (sha1 metadata) ++ codes "\n")))
+fetched_line metadata = (codes "fetched bytes=" ++ decimal (length metadata)) ++ (codes " sha1=" ++ (encode_lower (sha1 metadata) ++ codes "\n"))
 
 -- The metadata's size and SHA-1, and the items of both ends, of which the left one handled `left` and the right one `right`.
 -- Nothing is under way any more, so what one end handled the other sent.
@@ -59,8 +59,8 @@ unfetched_line = codes "unfetched\n"
 pub record IsFetched (l r : HalfState) (metadata : List ℕ) (left right : ℕ) : Type 0 where
   pub left_half : HalfState
   pub right_half : HalfState
-  pub left : IsSide l left_half left
-  pub right : IsSide r right_half right
+  pub at_left : IsSide l left_half left
+  pub at_right : IsSide r right_half right
   pub there : metadata_of right_half.end.part ≡ Some metadata
 
 abbrev pub AppendsPrefix : Option (List ℕ) → Option (List ℕ) → List ℕ → Type 0
@@ -109,6 +109,11 @@ IsWireFault failed failed' calls calls' (Err fault.Turns) = (failed' ≡ failed)
 IsWireFault failed failed' calls calls' other = failed' ≡ failed
 
 -- ---- for private contracts
+
+-- what was written of these lines
+abbrev pub IsWrite : List ℕ → LoopEnd → Option (List ℕ) → Option (List ℕ) → Result LoopEnd ToolFault → Type 0
+IsWrite lines end held held' (Ok e) = Appends held held' lines × (e ≡ end)
+IsWrite lines end held held' (Err e) = AppendsPrefix held held' lines × (e ≡ fault.Write)
 
 -- what is written of ends that left off so
 abbrev pub IsPrinted : Both → HalfState → Option (List ℕ) → Option (List ℕ) → Result LoopEnd ToolFault → Type 0

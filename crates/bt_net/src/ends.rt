@@ -13,12 +13,7 @@ use std::alloc::Global;
 const RESERVED: u64 = 0x10_0005;
 
 /// Makes the end that serves the metadata.
-pub fn serving(
-    alloc: Global,
-    metadata: Vec<u8>,
-    rules: Rules,
-    limit: u32,
-) -> Result<End, EndError>
+pub fn serving(alloc: Global, metadata: Vec<u8>, rules: Rules, limit: u32) -> Result<End, EndError>
     requires { (32768 ≤ limit) × (limit ≤ 1048576) }
     ensures end { IfOk result (λ end. end ≡ left_end rules limit metadata.items) }
     ensures size { IfOk result (λ end. is_bad_size (length metadata.items) ≡ false) }
@@ -45,12 +40,7 @@ pub fn serving(
 }
 
 /// Makes the end that fetches metadata of this SHA-1.
-pub fn fetching(
-    alloc: Global,
-    hash: [u8; 20],
-    rules: Rules,
-    limit: u32,
-) -> Result<End, EndError>
+pub fn fetching(alloc: Global, hash: [u8; 20], rules: Rules, limit: u32) -> Result<End, EndError>
     requires { (32768 ≤ limit) × (limit ≤ 1048576) }
     ensures { IfOk result (λ end. end ≡ right_end rules limit hash) }
 {

@@ -1,12 +1,10 @@
 //! `loop` on any devices: metadata is read, served by one end, and fetched by another over a wire. The command line calls
 //! [`run_loop`].
-ghost use Rattle.std.specs.Prelude.{◌≡◌, ◌≢◌, ◌≤◌, ◌++◌, length, Some, Ok, Err, List, ℕ, IfOk, IfErr, OnOk, OnErr, MatchResult};
-ghost use Rattle.std.specs.Io.KnownBytes.{Consumes, Appends};
+ghost use Rattle.std.specs.Prelude.{◌≡◌, ◌≢◌, ◌≤◌, ◌++◌, codes, decimal, length, Some, Ok, Err, List, ℕ, IfOk, OnOk, OnErr};
+ghost use Rattle.hex.specs.Hex.{encode_lower};
+ghost use Rattle.std.specs.Io.KnownBytes.{Consumes};
 ghost use Rattle.bt_io.specs.Counts.{Grew};
-ghost use Rattle.bt_metadata.specs.Blocks.{max_metadata};
-ghost use Rattle.bt_end.specs.Ends.{metadata_of};
-ghost use Rattle.bt_exchange.specs.Boths.{IsUpBy};
-ghost use Rattle.bt_net.specs.Loops.{IsInput, IsLooped, IsLinked, IsPrinted, IsTimely, IsWireFault, AppendsPrefix, count_line, fetched_line, fetched_lines, status_of};
+ghost use Rattle.bt_net.specs.Loops.{IsInput, IsLooped, IsLinked, IsPrinted, IsTimely, IsWireFault, IsWrite, count_line, fetched_line, fetched_lines, status_of};
 
 use crate::ends::{fetching, serving};
 use bt_end::{End, EndError};
@@ -59,12 +57,7 @@ fn read_metadata<R: Source>(alloc: Global, reader: &mut R) -> Result<Vec<u8>, To
 
 /// Appends how many items an end sent, and how many it handled.
 #[tactic(auto, using(std::proofs::lemmas::List::append_assoc))]
-fn push_counts(
-    name: &[u8],
-    sent: u64,
-    handled: u64,
-    text: &mut Vec<u8>,
-) -> Result<(), AllocError>
+fn push_counts(name: &[u8], sent: u64, handled: u64, text: &mut Vec<u8>) -> Result<(), AllocError>
     ensures { OnOk result (text.new.items ≡ text.old.items ++ count_line name.now sent handled) }
 {
     text.extend_from_slice(name)?;
@@ -75,26 +68,37 @@ fn push_counts(
     text.extend_from_slice(b"\n")
 }
 
+/// Appends a name and a number.
+#[tactic(auto, using(std::proofs::lemmas::List::append_assoc))]
+fn push_size(size: u64, text: &mut Vec<u8>) -> Result<(), AllocError>
+    ensures { OnOk result (text.new.items ≡ text.old.items ++ (codes "fetched bytes=" ++ decimal size)) }
+{
+    text.extend_from_slice(b"fetched bytes=")?;
+    push_number(size, text)
+}
+
+/// Appends a SHA-1.
+#[tactic(auto, using(std::proofs::lemmas::List::append_assoc))]
+fn push_digest(digest: &[u8], text: &mut Vec<u8>) -> Result<(), AllocError>
+    ensures { OnOk result (text.new.items ≡ text.old.items ++ (codes " sha1=" ++ (encode_lower digest.now ++ codes "\n"))) }
+{
+    text.extend_from_slice(b" sha1=")?;
+    push_hex(digest, text)?;
+    text.extend_from_slice(b"\n")
+}
+
 /// Appends the metadata's size and SHA-1.
 #[tactic(auto, using(std::proofs::lemmas::List::append_assoc))]
 fn push_fetched(metadata: &[u8], text: &mut Vec<u8>) -> Result<(), AllocError>
     ensures { OnOk result (text.new.items ≡ text.old.items ++ fetched_line metadata.now) }
 {
-    text.extend_from_slice(b"fetched bytes=")?;
-    push_number(metadata.len() as u64, text)?;
-    text.extend_from_slice(b" sha1=")?;
-    push_hex(&Sha1::digest(metadata), text)?;
-    text.extend_from_slice(b"\n")
+    push_size(metadata.len() as u64, text)?;
+    push_digest(&Sha1::digest(metadata), text)
 }
 
 /// Returns the lines of a fetch.
 #[tactic(auto, using(std::proofs::lemmas::List::append_assoc))]
-fn lines_of(
-    alloc: Global,
-    metadata: &[u8],
-    left: u64,
-    right: u64,
-) -> Result<Vec<u8>, AllocError>
+fn lines_of(alloc: Global, metadata: &[u8], left: u64, right: u64) -> Result<Vec<u8>, AllocError>
     ensures { IfOk result (λ v. v.items ≡ fetched_lines metadata.now left right) }
 {
     let mut text = Vec::new(alloc);
@@ -105,15 +109,8 @@ fn lines_of(
 }
 
 /// Writes all of the lines.
-fn write_lines<T: Target>(
-    writer: &mut T,
-    lines: &[u8],
-    end: LoopEnd,
-) -> Result<LoopEnd, ToolFault>
-    ensures ok { OnOk result (Appends (T.held writer.old) (T.held writer.new) lines.now) }
-    ensures end { IfOk result (λ e. e ≡ end) }
-    ensures err { OnErr result (AppendsPrefix (T.held writer.old) (T.held writer.new) lines.now) }
-    ensures fault { IfErr result (λ f. f ≡ ToolFault.Write) }
+fn write_lines<T: Target>(writer: &mut T, lines: &[u8], end: LoopEnd) -> Result<LoopEnd, ToolFault>
+    ensures written { IsWrite lines.now end (T.held writer.old) (T.held writer.new) result }
     ensures failed { OnErr result (Grew (T.failed_writes writer.old) (T.failed_writes writer.new)) }
 {
     if write_front(writer, lines) < lines.len() {
@@ -175,6 +172,7 @@ fn run_metadata<W: Wire, T: Target>(
 ) -> Result<LoopEnd, ToolFault>
     requires { (32768 ≤ limit) × (limit ≤ 1048576) }
     ensures looped { IsLooped rules limit metadata.items (T.held writer.old) (T.held writer.new) result }
+    ensures unread { result ≢ Err ToolFault.Read }
     ensures net { IsWireFault (W.failed wire.old) (W.failed wire.new) (W.calls wire.old) (W.calls wire.new) result }
     ensures failed { result ≡ Err ToolFault.Write → Grew (T.failed_writes writer.old) (T.failed_writes writer.new) }
 {

@@ -1,6 +1,6 @@
 //! A run of the program over its host's files and standard streams. `main` calls it with what the words ask for.
 ghost use Rattle.std.specs.Prelude.{IfOk};
-ghost use Rattle.bt_cli.specs.Commands.{HasLimit, IsLimited};
+ghost use Rattle.bt_cli.specs.Commands.{HasLimit, HasLoopLimit, IsLimited};
 ghost use Rattle.bt_fetch.specs.Wishes.{IsWish};
 
 use crate::piped::Piped;
@@ -8,15 +8,19 @@ use bt_cli::commands::{Asked, Job, Notice, Request};
 use bt_cli::ending::{end_by_fault, end_job, end_link, end_text};
 use bt_cli::fetch::{FetchJob, end_fetch, run_fetch};
 use bt_cli::hints::say_hint;
+use bt_cli::looped::run_looped;
 use bt_cli::notice::refuse_words;
 use bt_cli::options::{is_input, no_handshake};
 use bt_cli::other::receiver_by;
 use bt_cli::run::{JobEnd, do_job, say};
 use bt_cli::serve::{ServeJob, end_serve, run_serve};
+use bt_exchange::open_tcp;
+use bt_ext::Rules;
 use bt_feed::Host;
 use bt_hint::Kept;
 use bt_jobs::output::write_out;
 use bt_jobs::{OtherError, run_check_after};
+use bt_net::status as loop_status;
 use bt_rig::run_rig;
 use bt_text::ended::ToolFault;
 use bt_wire::Own;
@@ -36,6 +40,9 @@ const STREAM_AWAITED: &[u8] =
 
 /// What is said where a script is awaited from a terminal.
 const SCRIPT_AWAITED: &[u8] = b"bt_tool: a script is awaited on standard input\n";
+
+/// What is said where metadata is awaited from a terminal.
+const METADATA_AWAITED: &[u8] = b"bt_tool: metadata is awaited on standard input\n";
 
 /// The host's devices, and what is known of them.
 #[derive(Drop)]
@@ -82,6 +89,7 @@ impl<'a, R: Files + Input + Net + Clock + RandomSource + AllocGlobal, W: Write, 
         match asked {
             Asked::Run(request) => self.run(request),
             Asked::Link(files) => self.link(files),
+            Asked::Loop(rules, limit) => self.run_loop(*rules, *limit),
             Asked::Fetch(job) => self.fetch(job),
             Asked::Serve(job) => self.serve(job),
             Asked::Told(Notice::Usage, text) => self.refuse(text.as_str()),
@@ -249,6 +257,28 @@ impl<'a, R: Files + Input + Net + Clock + RandomSource + AllocGlobal, W: Write, 
         let end = run_rig(self.host.alloc(), &mut reader, &mut self.writer);
         let is_gone = self.is_gone.get();
         end_link(end, prefix.as_bytes(), is_gone, &mut self.errors)
+    }
+
+    /// Runs two ends over a connection of the process to itself, and returns the exit status.
+    fn run_loop(&mut self, rules: Rules, limit: u32) -> u8
+        requires { HasLoopLimit limit }
+    {
+        let Ok(mut wire) = open_tcp(self.host) else {
+            return self.fail(ToolFault::Net);
+        };
+        let Some(mut reader) = self.open("-", METADATA_AWAITED) else {
+            return self.fail(ToolFault::Read);
+        };
+        let end = run_looped(
+            self.host.alloc(),
+            &mut reader,
+            &mut self.writer,
+            &mut self.errors,
+            &mut wire,
+            rules,
+            limit,
+        );
+        loop_status(&end)
     }
 
     /// Fetches metadata from peers, and returns the exit status.
