@@ -199,6 +199,17 @@ def one_at_a_time(link, count):
         link.send(data(3, link.request()))
 
 
+def as_rtorrent(link, count):
+    """Has the peer id of rtorrent. On the first connection no request may come."""
+    link.exactly(68)
+    link.send(handshake()[:48] + b"-lt0D80-000000000000", extended(len(INFO)))
+    if count == 1:
+        link.hold()
+        return
+    while True:
+        link.send(data(3, link.request()))
+
+
 def closing(link, count):
     link.exactly(68)
 
@@ -281,6 +292,7 @@ ROWS = [
     ([half_size, honest], "", INFO, "@0 closed\n@1 fetched\n", 0),
     ([one_at_a_time], "--patience 2", INFO, "@0 silent\n@0 fetched\n", 0),
     ([one_at_a_time], "--patience 2 --window 8", b"", "@0 silent\n", 1),
+    ([as_rtorrent], "", INFO, "@0 fetched\n", 0),
     ([wrong_hash], "", b"", "@0 refused message=0 at=28 WrongInfoHash\n", 1),
     ([too_long], "", b"", "@0 refused message=1 at=68 TooLong\n", 1),
     ([quiet_flood(bytes(4))], "--patience 2", b"", "@0 silent\n", 1),

@@ -184,7 +184,7 @@ fn line_of(outcome: Outcome) -> &'static [u8] {
         Outcome::Rejected => b" rejected\n",
         Outcome::Mismatch => b" mismatch\n",
         Outcome::NoMetadata => b" no-metadata\n",
-        Outcome::Refused(_) | Outcome::OtherSize => b"",
+        Outcome::Refused(_) | Outcome::OtherSize | Outcome::OneAtATime => b"",
     }
 }
 
