@@ -36,7 +36,8 @@ time.sleep(120)
 
 LEECH = """
 import libtorrent, sys, time
-session = libtorrent.session({"listen_interfaces": "127.0.0.1:%s" % sys.argv[4], "enable_dht": False, "enable_lsd": False})
+session = libtorrent.session({"listen_interfaces": "127.0.0.1:%s" % sys.argv[4], "enable_dht": False, "enable_lsd": False,
+    "enable_outgoing_utp": False})
 wanted = libtorrent.parse_magnet_uri(sys.argv[1])
 wanted.save_path = sys.argv[3]
 torrent = session.add_torrent(wanted)
@@ -175,7 +176,10 @@ def leech(client, magnet, served, folder):
     if client == "libtorrent":
         return start([python_with_libtorrent(), "-c", LEECH, magnet, str(served), folder, str(port)], folder)
     if client == "transmission":
-        return start(["transmission-cli", "-p", str(port), "-w", folder, "-g", folder + "/config", "-M", magnet], folder)
+        os.mkdir(folder + "/config")
+        with open(folder + "/config/settings.json", "w") as file:
+            file.write('{"utp-enabled": false, "dht-enabled": false}')
+        return start(["transmission-cli", "-p", str(port), "-w", folder, "-g", folder + "/config", "-M", "-et", magnet], folder)
     if client == "aria2":
         return start(["aria2c", "--listen-port=%d" % port, "--enable-dht=false", "--bt-enable-lpd=false", "--dir=" + folder,
                       "--bt-metadata-only=true", "--bt-save-metadata=true", magnet], folder)
