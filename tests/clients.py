@@ -58,6 +58,16 @@ def free_port():
         return taken.getsockname()[1]
 
 
+def own_address():
+    """An address of this machine that isn't 127.0.0.1; nothing where it has none."""
+    with socket.socket(socket.AF_INET, socket.SOCK_DGRAM) as probe:
+        try:
+            probe.connect(("192.0.2.1", 9))
+        except OSError:
+            return None
+        return probe.getsockname()[0]
+
+
 def python_with_libtorrent():
     for name in ("python3", "/usr/bin/python3"):
         if shutil.which(name) and subprocess.run([name, "-c", "import libtorrent"], capture_output=True).returncode == 0:
@@ -156,10 +166,11 @@ def fetched(program, client, torrent, work):
 
 class Tracker(http.server.BaseHTTPRequestHandler):
     """Names one peer."""
+    host = "127.0.0.1"
     port = 0
 
     def do_GET(self):
-        peer = socket.inet_aton("127.0.0.1") + struct.pack(">H", self.port)
+        peer = socket.inet_aton(self.host) + struct.pack(">H", self.port)
         body = b"d8:completei1e10:incompletei1e8:intervali5e12:min intervali5e5:peers6:" + peer + b"e"
         self.send_response(200)
         self.send_header("Content-Length", str(len(body)))
@@ -204,15 +215,20 @@ def served(program, client, torrent, work):
     """Serves to a client."""
     folder = os.path.join(work, "leech-" + client)
     os.mkdir(folder)
-    server = subprocess.Popen([program, "serve", torrent], stdout=subprocess.PIPE, start_new_session=True)
+    # Transmission connects to no peer at 127.0.0.1.
+    host = own_address() if client == "transmission" else "127.0.0.1"
+    if host is None:
+        print("serve to %s: this machine has no address but 127.0.0.1: skipped" % client)
+        return 0
+    server = subprocess.Popen([program, "serve", torrent, "--listen", host + ":0"], stdout=subprocess.PIPE, start_new_session=True)
     first = server.stdout.readline().decode()
-    want = "serving %s size=%d on 127.0.0.1:" % (HASH, len(INFO))
+    want = "serving %s size=%d on %s:" % (HASH, len(INFO), host)
     if not first.startswith(want):
         stop(server)
         print("serve: first line %r" % first)
         return 1
     port = int(first[len(want):])
-    Tracker.port = port
+    Tracker.host, Tracker.port = host, port
     tracker = http.server.ThreadingHTTPServer(("127.0.0.1", 0), Tracker)
     threading.Thread(target=tracker.serve_forever, daemon=True).start()
     magnet = "magnet:?xt=urn:btih:%s&tr=http://127.0.0.1:%d/announce" % (HASH, tracker.server_address[1])
