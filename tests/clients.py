@@ -36,7 +36,8 @@ time.sleep(120)
 
 LEECH = """
 import libtorrent, sys, time
-session = libtorrent.session({"listen_interfaces": "127.0.0.1:%s" % sys.argv[4], "enable_dht": False, "enable_lsd": False})
+session = libtorrent.session({"listen_interfaces": "127.0.0.1:%s" % sys.argv[4], "enable_dht": False, "enable_lsd": False,
+    "enable_outgoing_utp": False})
 wanted = libtorrent.parse_magnet_uri(sys.argv[1])
 wanted.save_path = sys.argv[3]
 torrent = session.add_torrent(wanted)
@@ -55,6 +56,16 @@ def free_port():
     with socket.socket() as taken:
         taken.bind(("127.0.0.1", 0))
         return taken.getsockname()[1]
+
+
+def own_address():
+    """An address of this machine that isn't 127.0.0.1; nothing where it has none."""
+    with socket.socket(socket.AF_INET, socket.SOCK_DGRAM) as probe:
+        try:
+            probe.connect(("192.0.2.1", 9))
+        except OSError:
+            return None
+        return probe.getsockname()[0]
 
 
 def python_with_libtorrent():
@@ -155,10 +166,11 @@ def fetched(program, client, torrent, work):
 
 class Tracker(http.server.BaseHTTPRequestHandler):
     """Names one peer."""
+    host = "127.0.0.1"
     port = 0
 
     def do_GET(self):
-        peer = socket.inet_aton("127.0.0.1") + struct.pack(">H", self.port)
+        peer = socket.inet_aton(self.host) + struct.pack(">H", self.port)
         body = b"d8:completei1e10:incompletei1e8:intervali5e12:min intervali5e5:peers6:" + peer + b"e"
         self.send_response(200)
         self.send_header("Content-Length", str(len(body)))
@@ -175,7 +187,10 @@ def leech(client, magnet, served, folder):
     if client == "libtorrent":
         return start([python_with_libtorrent(), "-c", LEECH, magnet, str(served), folder, str(port)], folder)
     if client == "transmission":
-        return start(["transmission-cli", "-p", str(port), "-w", folder, "-g", folder + "/config", "-M", magnet], folder)
+        os.mkdir(folder + "/config")
+        with open(folder + "/config/settings.json", "w") as file:
+            file.write('{"utp-enabled": false, "dht-enabled": false}')
+        return start(["transmission-cli", "-p", str(port), "-w", folder, "-g", folder + "/config", "-M", "-et", magnet], folder)
     if client == "aria2":
         return start(["aria2c", "--listen-port=%d" % port, "--enable-dht=false", "--bt-enable-lpd=false", "--dir=" + folder,
                       "--bt-metadata-only=true", "--bt-save-metadata=true", magnet], folder)
@@ -200,15 +215,20 @@ def served(program, client, torrent, work):
     """Serves to a client."""
     folder = os.path.join(work, "leech-" + client)
     os.mkdir(folder)
-    server = subprocess.Popen([program, "serve", torrent], stdout=subprocess.PIPE, start_new_session=True)
+    # Transmission connects to no peer at 127.0.0.1.
+    host = own_address() if client == "transmission" else "127.0.0.1"
+    if host is None:
+        print("serve to %s: this machine has no address but 127.0.0.1: skipped" % client)
+        return 0
+    server = subprocess.Popen([program, "serve", torrent, "--listen", host + ":0"], stdout=subprocess.PIPE, start_new_session=True)
     first = server.stdout.readline().decode()
-    want = "serving %s size=%d on 127.0.0.1:" % (HASH, len(INFO))
+    want = "serving %s size=%d on %s:" % (HASH, len(INFO), host)
     if not first.startswith(want):
         stop(server)
         print("serve: first line %r" % first)
         return 1
     port = int(first[len(want):])
-    Tracker.port = port
+    Tracker.host, Tracker.port = host, port
     tracker = http.server.ThreadingHTTPServer(("127.0.0.1", 0), Tracker)
     threading.Thread(target=tracker.serve_forever, daemon=True).start()
     magnet = "magnet:?xt=urn:btih:%s&tr=http://127.0.0.1:%d/announce" % (HASH, tracker.server_address[1])

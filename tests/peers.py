@@ -1,17 +1,14 @@
 #!/usr/bin/env python3
-"""Runs `fetch` and `serve` against peers on 127.0.0.1: honest ones, hostile ones, and real clients where they are installed.
+"""Runs `fetch` and `serve` against peers on 127.0.0.1, honest and hostile ones.
 
-usage: tests/peers.py [PROGRAM] [--real]
+usage: tests/peers.py [PROGRAM]
 
 PROGRAM is the built program, or else the script `bt_tool` at the top of the repository. Each row has the peers in the order in
 which they are dialled, the words after their addresses, and what is expected: standard output, standard error, where `@0` is
-the first address, and the exit status. It was worked out from docs/FETCH.md. With --real, libtorrent, Transmission, aria2 and
-rtorrent serve `fetch`; a client that isn't installed is skipped, and that is said.
+the first address, and the exit status. It was worked out from docs/FETCH.md. tests/clients.py has real clients.
 """
 import hashlib
 import os
-import shutil
-import signal
 import socket
 import struct
 import subprocess
@@ -199,6 +196,17 @@ def one_at_a_time(link, count):
         link.send(data(3, link.request()))
 
 
+def as_rtorrent(link, count):
+    """Has the peer id of rtorrent. On the first connection no request may come."""
+    link.exactly(68)
+    link.send(handshake()[:48] + b"-lt0D80-000000000000", extended(len(INFO)))
+    if count == 1:
+        link.hold()
+        return
+    while True:
+        link.send(data(3, link.request()))
+
+
 def closing(link, count):
     link.exactly(68)
 
@@ -281,6 +289,7 @@ ROWS = [
     ([half_size, honest], "", INFO, "@0 closed\n@1 fetched\n", 0),
     ([one_at_a_time], "--patience 2", INFO, "@0 silent\n@0 fetched\n", 0),
     ([one_at_a_time], "--patience 2 --window 8", b"", "@0 silent\n", 1),
+    ([as_rtorrent], "", INFO, "@0 fetched\n", 0),
     ([wrong_hash], "", b"", "@0 refused message=0 at=28 WrongInfoHash\n", 1),
     ([too_long], "", b"", "@0 refused message=1 at=68 TooLong\n", 1),
     ([quiet_flood(bytes(4))], "--patience 2", b"", "@0 silent\n", 1),
@@ -362,10 +371,92 @@ def single(program):
     return differs("bytewise", done, SMALL, "%s fetched\n" % peer.address, 0), 1
 
 
+class Server:
+    """Runs `serve`, and reads its lines."""
+
+    def __init__(self, program, name, *words):
+        self.process = subprocess.Popen([program, "serve", name] + list(words), stdin=subprocess.DEVNULL, stdout=subprocess.PIPE)
+        self.first = self.process.stdout.readline().decode()
+        self.port = int(self.first.rsplit(":", 1)[1])
+
+    def connect(self):
+        link = Link(socket.create_connection(("127.0.0.1", self.port)))
+        return link, "127.0.0.1:%d" % link.link.getsockname()[1]
+
+    def end(self):
+        lines, _ = self.process.communicate(timeout=60)
+        return sorted(lines.decode().splitlines()), self.process.returncode
+
+
+def leech(server, bytewise=False):
+    """Gets the metadata from the server, and returns it with the address of this end."""
+    link, address = server.connect()
+    greeting = handshake() + message(20, b"\0d1:md11:ut_metadatai7eee")
+    for cut in range(0, len(greeting), 1 if bytewise else len(greeting)):
+        link.send(greeting[cut:cut + 1] if bytewise else greeting)
+    if link.exactly(68)[:48] != handshake()[:48]:
+        return b"another handshake", address
+    metadata = b""
+    for piece in range(-(-len(INFO) // BLOCK)):
+        link.send(message(20, b"\3d8:msg_typei0e5:piecei%dee" % piece))
+        got = link.receive()
+        while got[:2] != b"\x14\7":
+            got = link.receive()
+        metadata += got[got.index(b"ee") + 2:]
+    link.link.close()
+    return metadata, address
+
+
+def same(what, got, expected):
+    if got == expected:
+        return 0
+    print("%s: got %r, expected %r" % (what, got if len(got) < 1000 else len(got), expected if len(expected) < 1000 else len(expected)))
+    return 1
+
+
+def serving(program):
+    """Serves to honest and hostile peers at the same time."""
+    failed = 0
+    with tempfile.TemporaryDirectory() as work:
+        names = [os.path.join(work, name) for name in ("a.torrent", "info", "neither")]
+        for name, content in zip(names, (b"d8:announce3:udp4:info" + INFO + b"e", INFO, b"d4:name1:ae")):
+            with open(name, "wb") as file:
+                file.write(content)
+        done = subprocess.run([program, "serve", names[2]], capture_output=True, timeout=60)
+        failed += differs("serve neither", done, b"", "refused file\n", 1)
+
+        server = Server(program, names[0], "--connections", "4", "--patience", "3")
+        failed += same("first line", server.first, "serving %s size=%d on 127.0.0.1:%d\n" % (HASH.hex(), len(INFO), server.port))
+        mute, first = server.connect()
+        garbage, second = server.connect()
+        garbage.send(b"GET / HTTP/1.0\r\n\r\n")
+        metadata, third = leech(server)
+        failed += same("served", metadata, INFO)
+        metadata, fourth = leech(server, True)
+        failed += same("served bytewise", metadata, INFO)
+        # Sent: the handshake, and but for the first two peers the extended handshake, have none and four blocks.
+        expected = ["%s sent=1 handled=0 silent" % first, "%s sent=1 handled=0 refused message=0 at=0 BadProtocol" % second,
+                    "%s sent=7 handled=6 closed" % third, "%s sent=7 handled=6 closed" % fourth]
+        lines, status = server.end()
+        failed += same("lines", lines, sorted(expected)) + same("status", str(status), "0")
+        mute.link.close()
+
+        server = Server(program, names[1], "--connections", "2", "--at-once", "1", "--listen", "127.0.0.1:0")
+        held, first = server.connect()
+        done = subprocess.Popen([program, "fetch", HASH.hex(), "127.0.0.1:%d" % server.port], stdout=subprocess.PIPE)
+        time.sleep(1)
+        waited = done.poll() is None
+        held.link.close()
+        failed += same("one at once", str(waited), "True") + same("fetched from serve", done.communicate(timeout=60)[0], INFO)
+        lines, status = server.end()
+        failed += same("ends", str((len(lines), status)), "(2, 0)")
+    return failed, 9
+
+
 def main(words):
-    program = program_of([word for word in words if word != "--real"])
+    program = program_of(words)
     failed = count = 0
-    for part in (hostile, kept, single):
+    for part in (hostile, kept, single, serving):
         more, tried = part(program)
         failed += more
         count += tried

@@ -98,18 +98,23 @@ fn wish_in(options: &ArgMatches<'_>) -> Result<Wish, &'static str>
     ensures { IfOk result (λ wish. IsWish wish) }
 {
     let hash = options.get_str("INFOHASH").unwrap_or("");
-    let info_hash =
-        <[u8; 20] as FromHex>::from_hex(hash).map_err(|_| "INFOHASH takes 40 hex digits");
+    let info_hash = <[u8; 20] as FromHex>::from_hex(hash).map_err(
+        |_| "INFOHASH takes 40 hex digits",
+    );
     let info_hash = info_hash?;
     let rules = rules_in(options.get_str("rules")).ok_or("'--rules' takes 'free' or 'bep'")?;
-    let limit = number_or(options.get_str("limit"), 32_768, 1_048_576, DEFAULT_LIMIT)
-        .ok_or("'--limit' takes a number from 32768 to 1048576")?;
-    let patience = number_or(options.get_str("patience"), 1, 86_400, DEFAULT_PATIENCE)
-        .ok_or("'--patience' takes a number from 1 to 86400")?;
-    let window =
-        window_in(options.get_str("window")).ok_or("'--window' takes a number from 1 to 8")?;
-    let most = number_or(options.get_str("most"), 1, MOST, MOST)
-        .ok_or("'--most' takes a number from 1 to 67108864")?;
+    let limit = number_or(options.get_str("limit"), 32_768, 1_048_576, DEFAULT_LIMIT).ok_or(
+        "'--limit' takes a number from 32768 to 1048576",
+    )?;
+    let patience = number_or(options.get_str("patience"), 1, 86_400, DEFAULT_PATIENCE).ok_or(
+        "'--patience' takes a number from 1 to 86400",
+    )?;
+    let window = window_in(options.get_str("window")).ok_or(
+        "'--window' takes a number from 1 to 8",
+    )?;
+    let most = number_or(options.get_str("most"), 1, MOST, MOST).ok_or(
+        "'--most' takes a number from 1 to 67108864",
+    )?;
     Ok(Wish {
         info_hash,
         peer_id: [48; 20],
@@ -184,7 +189,7 @@ fn line_of(outcome: Outcome) -> &'static [u8] {
         Outcome::Rejected => b" rejected\n",
         Outcome::Mismatch => b" mismatch\n",
         Outcome::NoMetadata => b" no-metadata\n",
-        Outcome::Refused(_) | Outcome::OtherSize => b"",
+        Outcome::Refused(_) | Outcome::OtherSize | Outcome::OneAtATime => b"",
     }
 }
 

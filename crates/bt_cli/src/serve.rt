@@ -175,7 +175,14 @@ fn serve_over_tcp<R: Net + Clock + RandomSource, W: Target>(
         return Service::Fault(fault_line(ToolFault::Memory));
     }
     let mut door = TcpDoor::new(rt, listener, Lines { alloc, writer });
-    match serve(alloc, &hospitality, metadata, job.connections, job.at_once, &mut door) {
+    match serve(
+        alloc,
+        &hospitality,
+        metadata,
+        job.connections,
+        job.at_once,
+        &mut door,
+    ) {
         Ok(()) => Service::Done,
         Err(_) => Service::Fault(fault_line(ToolFault::Memory)),
     }

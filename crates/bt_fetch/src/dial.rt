@@ -24,8 +24,10 @@ pub enum Outcome {
     Mismatch,
     /// The peer knows no Extension Protocol, or told no id for metadata messages, or no size within bounds.
     NoMetadata,
-    /// The peer told another size than that of the blocks that are held.
+    /// The peer told another size than that of the blocks that are held. It is dialled again.
     OtherSize,
+    /// The peer is a client that answers one request at a time. It is dialled again.
+    OneAtATime,
 }
 
 /// Opens connections to the addresses of a list.

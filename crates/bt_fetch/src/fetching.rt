@@ -56,6 +56,7 @@ fn outcome_of(end: &End, stop: Stop, objection: Option<Objection>) -> Result<Out
     match (stop, objection) {
         (Stop::Failed, Some(Objection::NoMetadata)) => Ok(Outcome::NoMetadata),
         (Stop::Failed, Some(Objection::OtherSize)) => Ok(Outcome::OtherSize),
+        (Stop::Failed, Some(Objection::OneAtATime)) => Ok(Outcome::OneAtATime),
         (Stop::Done, _) => Ok(Outcome::Fetched),
         (Stop::Refused(refusal), _) => Ok(Outcome::Refused(refusal)),
         (Stop::Hopeless, _) if end.belief().ext => Ok(Outcome::Rejected),
@@ -75,6 +76,7 @@ fn visit<D: Dial>(
     alloc: Global,
     wish: &Wish,
     address: usize,
+    is_wide: bool,
     dial: &mut D,
     end: &mut End,
     hearing: &mut Hearing,
@@ -95,12 +97,18 @@ fn visit<D: Dial>(
         sign: Sign::Progress,
     };
     let size = end.progress().map(|progress| progress.size);
-    let mut screen = Screen::new(link, Glimpse::new(alloc, own_of(wish)), wish.most, size);
+    let mut screen = Screen::new(
+        link,
+        Glimpse::new(alloc, own_of(wish), is_wide),
+        wish.most,
+        size,
+    );
     let stop = exchange(&mut screen, end, hearing, limits);
     outcome_of(end, stop, screen.objection())
 }
 
 /// What follows a try.
+#[derive(Clone, Copy, PartialEq, Eq)]
 enum Next {
     /// The address isn't tried again.
     Leave,
@@ -111,45 +119,48 @@ enum Next {
 }
 
 /// Returns what follows a try that ended so.
-fn next_of(wish: &Wish, end: &End, outcome: Outcome) -> Next {
+fn next_of(is_wide: bool, end: &End, outcome: Outcome) -> Next {
     match outcome {
         Outcome::OtherSize => Next::Anew,
-        Outcome::Silent => match (wish.window, end.progress()) {
-            (None, Some(progress)) if progress.held + 1 < progress.blocks => Next::Narrow,
+        Outcome::OneAtATime => Next::Narrow,
+        Outcome::Silent if is_wide => match end.progress() {
+            Some(progress) if progress.held + 1 < progress.blocks => Next::Narrow,
             _ => Next::Leave,
         },
         _ => Next::Leave,
     }
 }
 
-/// Makes one try at an address and reports it. It returns whether another try is to follow, for which the end is ready.
+/// Makes one try at an address and reports it. It returns the window of the try that is to follow, if one is.
 fn attempt<D: Dial, T: Report>(
     alloc: Global,
     wish: &Wish,
     address: usize,
+    window: Window,
     dial: &mut D,
     report: &mut T,
     end: &mut End,
     hearing: &mut Hearing,
-) -> Result<bool, Memory>
+) -> Result<Option<Window>, Memory>
     requires wish { IsWish wish.now }
     requires handshake { end.old.end.handshake ≡ handshake_of wish.now }
     ensures handshake { end.new.end.handshake ≡ handshake_of wish.now }
     ensures dials { OnOk result (D.dials dial.new ≡ one_more (D.dials dial.old)) }
 {
-    let outcome = visit(alloc, wish, address, dial, end, hearing)?;
+    end.set_window(window);
+    let is_wide = wish.window.is_none() && window.get() > 1;
+    let outcome = visit(alloc, wish, address, is_wide, dial, end, hearing)?;
     report.ended(address, outcome);
-    match next_of(wish, end, outcome) {
-        Next::Leave => return Ok(false),
-        Next::Narrow => {
-            if let Some(window) = Window::new(1) {
-                end.set_window(window);
-            }
-        }
-        Next::Anew => *end = fetching_end(alloc, wish)?,
+    let next = next_of(is_wide, end, outcome);
+    if next == Next::Leave {
+        return Ok(None);
     }
     dial.pause();
-    Ok(true)
+    if next == Next::Narrow {
+        return Ok(Window::new(1));
+    }
+    *end = fetching_end(alloc, wish)?;
+    Ok(Some(window))
 }
 
 /// Makes at most three tries at an address.
@@ -167,12 +178,14 @@ fn visit_address<D: Dial, T: Report>(
     ensures handshake { end.new.end.handshake ≡ handshake_of wish.now }
     ensures dials { OnOk result (min (D.dials dial.old + 1) (2 ^ 64 - 1) ≤ D.dials dial.new) }
 {
-    end.set_window(first_window(wish));
-    if attempt(alloc, wish, address, dial, report, end, hearing)?
-        && attempt(alloc, wish, address, dial, report, end, hearing)?
-    {
-        attempt(alloc, wish, address, dial, report, end, hearing)?;
-    }
+    let first = first_window(wish);
+    let Some(second) = attempt(alloc, wish, address, first, dial, report, end, hearing)? else {
+        return Ok(());
+    };
+    let Some(third) = attempt(alloc, wish, address, second, dial, report, end, hearing)? else {
+        return Ok(());
+    };
+    attempt(alloc, wish, address, third, dial, report, end, hearing)?;
     Ok(())
 }
 

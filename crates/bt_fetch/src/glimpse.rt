@@ -5,18 +5,26 @@ use bt_feed::{Feed, View};
 use bt_wire::{MessageView, Own};
 use std::alloc::Global;
 
-/// What the first extended handshake of a peer says of the metadata.
+/// What a peer's handshakes say of the metadata.
 #[derive(Clone, Copy, PartialEq, Eq, Debug)]
 pub enum Offer {
     /// It has no id for metadata messages, or no size.
     Nothing,
     /// The metadata has this size in bytes.
     Size(u64),
+    /// By its peer id, the peer is a client that answers one request at a time.
+    OneAtATime,
 }
+
+/// How the peer ids of rtorrent's library begin (BEP 20). It stops for good where a second request comes before it has
+/// answered the first, and then doesn't notice the end of the connection either.
+const ONE_AT_A_TIME: &[u8] = b"-lt";
 
 /// Reads a stream up to its first extended handshake.
 #[derive(Drop)]
 pub struct Glimpse {
+    /// The fetch asks for several blocks at once, of its own accord.
+    is_wide: bool,
     /// Nothing once the extended handshake has come, or the stream is refused.
     feed: Option<Feed>,
 }
@@ -33,9 +41,12 @@ fn offer_of(dict: &DictRef) -> Offer {
     }
 }
 
-/// Returns what an item says of the metadata, if it is an extended handshake.
-fn offer_in(view: &View) -> Option<Offer> {
+/// Returns what an item says of the metadata, if it is a handshake.
+fn offer_in(view: &View, is_wide: bool) -> Option<Offer> {
     match view {
+        View::Handshake(handshake) if is_wide && handshake.peer_id.starts_with(ONE_AT_A_TIME) => {
+            Some(Offer::OneAtATime)
+        }
         View::Message(MessageView::Extended(ExtView::Handshake { dict, .. })) => {
             Some(offer_of(dict))
         }
@@ -47,7 +58,7 @@ fn offer_in(view: &View) -> Option<Offer> {
 enum Sight {
     /// No whole item is left.
     Waiting,
-    /// An item that isn't an extended handshake.
+    /// An item that offers nothing.
     Other,
     Offered(Offer),
     /// The stream is refused.
@@ -55,9 +66,9 @@ enum Sight {
 }
 
 /// Returns what the next item is.
-fn next_sight(feed: &mut Feed) -> Sight {
+fn next_sight(feed: &mut Feed, is_wide: bool) -> Sight {
     match feed.take() {
-        Ok(Some(view)) => match offer_in(&view) {
+        Ok(Some(view)) => match offer_in(&view, is_wide) {
             Some(offer) => Sight::Offered(offer),
             None => Sight::Other,
         },
@@ -68,13 +79,14 @@ fn next_sight(feed: &mut Feed) -> Sight {
 
 impl Glimpse {
     /// Returns a glimpse at the stream of a new connection. Without memory it sees nothing.
-    pub fn new(alloc: Global, own: Own) -> Glimpse {
+    pub fn new(alloc: Global, own: Own, is_wide: bool) -> Glimpse {
         Glimpse {
+            is_wide,
             feed: Feed::new(alloc, own).ok(),
         }
     }
 
-    /// Hears the next bytes, and returns what the extended handshake in them says.
+    /// Hears the next bytes, and returns what the handshakes in them say.
     pub fn hear(&mut self, bytes: &[u8]) -> Option<Offer> {
         let Some(feed) = &mut self.feed else {
             return None;
@@ -84,7 +96,7 @@ impl Glimpse {
             let used = feed.push(rest);
             let (_, more) = rest.split_at(used);
             rest = more;
-            match next_sight(feed) {
+            match next_sight(feed, self.is_wide) {
                 Sight::Other => {}
                 Sight::Waiting => return None,
                 Sight::Offered(offer) => {

@@ -13,6 +13,8 @@ pub enum Objection {
     NoMetadata,
     /// It has another size than that of the blocks that are held.
     OtherSize,
+    /// The peer answers one request at a time, and the fetch would ask for several.
+    OneAtATime,
 }
 
 /// A connection whose reads fail from the extended handshake on, where that offers what the fetch can't take.
@@ -40,6 +42,7 @@ fn judge(glimpse: &mut Glimpse, most: u64, held: Option<u64>, bytes: &[u8]) -> O
         (Offer::Size(size), Some(held)) if size != held => Some(Objection::OtherSize),
         (Offer::Size(_), _) => None,
         (Offer::Nothing, _) => Some(Objection::NoMetadata),
+        (Offer::OneAtATime, _) => Some(Objection::OneAtATime),
     }
 }
 
@@ -53,8 +56,6 @@ fn counted(is_counted: bool, count: u64) -> u64
         count
     }
 }
-
-
 
 impl<C: Connection + Drop> Screen<C> {
     /// Returns the connection behind a screen, with no call made.

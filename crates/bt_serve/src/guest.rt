@@ -67,11 +67,7 @@ pub enum Pace {
 ///
 /// # Errors
 /// `Memory` if its buffers are refused, or the metadata isn't 1 to 67,108,864 bytes.
-fn serving_end(
-    alloc: Global,
-    hospitality: &Hospitality,
-    metadata: &[u8],
-) -> Result<End, Memory> {
+fn serving_end(alloc: Global, hospitality: &Hospitality, metadata: &[u8]) -> Result<End, Memory> {
     let mut copy = Vec::new(alloc);
     if copy.extend_from_slice(metadata).is_err() {
         return Err(Memory);

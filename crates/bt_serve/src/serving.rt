@@ -5,7 +5,6 @@ use bt_exchange::Connection;
 use bt_io::Memory;
 use std::alloc::Global;
 
-
 /// The connections that are served at the moment, each with its name.
 type Guests<D> = Vec<(Guest<<D as Door>::Link>, <D as Door>::Name)>;
 

@@ -52,6 +52,7 @@ fn ready<S: OpenStream>(stream: &S) -> io::Result<()> {
 
 impl<'a, R: Net + Clock, F: Farewell + Drop> Door for TcpDoor<'a, R, F> {
     type Link = Stream<R::Stream, &'a R>;
+
     type Name = SocketAddr;
 
     fn enter(&mut self) -> Option<(Stream<R::Stream, &'a R>, SocketAddr)> {
