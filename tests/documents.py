@@ -24,8 +24,6 @@ from collections import Counter
 ROOT = os.path.dirname(os.path.dirname(os.path.abspath(__file__)))
 DOCUMENTS = ["README.md", "examples/README.md", "docs/CAPTURES.md", "docs/RIG.md"]
 TOOLS = ["tshark", "tcpflow", "editcap", "mergecap", "tcpdump", "xxd"]
-# Options that an older program hasn't, with which it reads files.
-OPTIONS = ["--other"]
 # The names of the files and folders that commands make.
 FILE = re.compile(r"[\w./-]+?(?:\.(?:bin|pcap|txt)|flows)(?![\w-])")
 # What the capture tools make of the two directions.
@@ -123,7 +121,7 @@ def run_document(document, folder, made, absent, counts):
     """Runs a document's commands in the folder, and gives what went wrong. `lacking` has the files that weren't made."""
     shell, wrong, lacking = Shell(folder), [], {}
     for number, command, shown in sessions(os.path.join(ROOT, document)):
-        tools = {tool for tool in TOOLS + sorted(absent & set(OPTIONS)) if re.search(r"(?<![\w./-])%s(?![\w.-])" % tool, command)}
+        tools = {tool for tool in TOOLS if re.search(r"(?<![\w./-])%s(?![\w.-])" % tool, command)}
         files = [name for name in FILE.findall(command) if not os.path.exists(os.path.join(folder, name))]
         needed = (tools & absent).union(*(lacking.get(name, ()) for name in files))
         if needed:
@@ -160,8 +158,6 @@ def main():
     if subprocess.run([program, "--version"], stdout=subprocess.DEVNULL).returncode:
         sys.exit("documents: failed: %s --version" % program)
     absent, counts = {tool for tool in TOOLS if not shutil.which(tool)}, Counter()
-    said = subprocess.run([program, "show", "--help"], stdout=subprocess.PIPE).stdout
-    absent.update(option for option in OPTIONS if option.encode() not in said)
     for document in DOCUMENTS:
         with tempfile.TemporaryDirectory(prefix="documents-") as folder:
             make_folder(folder, program)
