@@ -47,7 +47,7 @@ pub enum Service {
     /// The file is neither a .torrent nor an info dictionary.
     RefusedFile,
     /// What kept it from its work, as a line of standard error.
-    Fault(&'static [u8]),
+    Fault(ToolFault),
 }
 
 /// Returns the number of `--connections`.
@@ -129,9 +129,9 @@ fn hash_of(metadata: &[u8]) -> [u8; 20] {
 /// Returns what the error of reading a file says.
 fn fault_of(error: &io::Error) -> Service {
     if error.kind() == io::ErrorKind::OutOfMemory {
-        Service::Fault(fault_line(ToolFault::Memory))
+        Service::Fault(ToolFault::Memory)
     } else {
-        Service::Fault(fault_line(ToolFault::Read))
+        Service::Fault(ToolFault::Read)
     }
 }
 
@@ -169,10 +169,10 @@ fn serve_over_tcp<R: Net + Clock + RandomSource, W: Target>(
         patience: job.patience,
     };
     let Ok((listener, address)) = listen(rt, job.listen) else {
-        return Service::Fault(b"fault: net\n");
+        return Service::Fault(ToolFault::Net);
     };
     if announce(alloc, &info_hash, metadata.len(), address, writer).is_err() {
-        return Service::Fault(fault_line(ToolFault::Memory));
+        return Service::Fault(ToolFault::Memory);
     }
     let mut door = TcpDoor::new(rt, listener, Lines { alloc, writer });
     match serve(
@@ -184,7 +184,7 @@ fn serve_over_tcp<R: Net + Clock + RandomSource, W: Target>(
         &mut door,
     ) {
         Ok(()) => Service::Done,
-        Err(_) => Service::Fault(fault_line(ToolFault::Memory)),
+        Err(_) => Service::Fault(ToolFault::Memory),
     }
 }
 
@@ -215,8 +215,8 @@ pub fn end_serve<E: Target>(service: Service, errors: &mut E) -> u8 {
             say(b"refused file\n", errors);
             1
         }
-        Service::Fault(line) => {
-            say(line, errors);
+        Service::Fault(fault) => {
+            say(fault_line(fault), errors);
             3
         }
     }
