@@ -62,7 +62,12 @@ pub struct Program<'a, R, W, E> {
 /// An input: standard input, or a file.
 type Opened<R> = Host<Either<<R as Input>::Reader, <R as Files>::File>>;
 
-impl<'a, R: Files + Input + Net + Clock + RandomSource + AllocGlobal, W: Write, E: Write> Program<'a, R, W, E> {
+impl<'a, R: Files + Input + Net + Clock + RandomSource + AllocGlobal, W: Write, E: Write> Program<
+    'a,
+    R,
+    W,
+    E,
+> {
     /// A program on this host, with its standard output and standard error.
     pub fn new(
         host: &'a R,

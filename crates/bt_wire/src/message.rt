@@ -20,38 +20,19 @@ pub enum Message<B = ByteString, E = Ext> {
     Have(u32),
     /// A bit for each piece, that of piece 0 the high bit of the first byte.
     Bitfield(B),
-    Request {
-        index: u32,
-        begin: u32,
-        length: u32,
-    },
-    Piece {
-        index: u32,
-        begin: u32,
-        block: B,
-    },
-    Cancel {
-        index: u32,
-        begin: u32,
-        length: u32,
-    },
+    Request { index: u32, begin: u32, length: u32 },
+    Piece { index: u32, begin: u32, block: B },
+    Cancel { index: u32, begin: u32, length: u32 },
     /// The UDP port of the sender's node of the distributed hash table.
     Port(u16),
     Suggest(u32),
     HaveAll,
     HaveNone,
-    Reject {
-        index: u32,
-        begin: u32,
-        length: u32,
-    },
+    Reject { index: u32, begin: u32, length: u32 },
     AllowedFast(u32),
     /// A message of the Extension Protocol (BEP 10).
     Extended(E),
-    Unknown {
-        id: u8,
-        payload: B,
-    },
+    Unknown { id: u8, payload: B },
 }
 
 /// A message over the bytes that it was read from.
