@@ -19,7 +19,7 @@ fn answer(alloc: Global, words: &[&str]) -> Result<Asked, AllocError> {
 fn asks(alloc: Global, words: &[&str], job: Job, own: Own) -> Result<bool, AllocError> {
     Ok(match &answer(alloc, words)? {
         Asked::Run(request) => request.job == job && request.own == own,
-        Asked::Link(_) | Asked::Told(_, _) => false,
+        _ => false,
     })
 }
 
@@ -296,7 +296,7 @@ fn asks_for(
                     .map(|file| file.as_str())
                     .eq(files.iter().copied())
         }
-        Asked::Link(_) | Asked::Told(_, _) => false,
+        _ => false,
     })
 }
 
