@@ -25,9 +25,11 @@ pairs_behind total count rest (more, (us, h, is, n)) = (us, more, h, is)
 pub passed : (rest next : List ℕ) (t : Tree) → InRange t → rest ≡ ben t ++ next → (u : Tree) (m : List ℕ) → InRange u → rest ≡ ben u ++ m → next ≡ m
 passed rest next t h is u m h' is' = (same_tree t u next m h h' (sym is ∙ is')).1
 
-pub count_step : (total count : ℕ) (more rest next : List ℕ) → get_or rest 0 0 ≢ 101 → ((u : Tree) (m : List ℕ) → InRange u → rest ≡ ben u ++ m → next ≡ m) → LeftOf total count more rest → LeftOf total (count + 1) more next
+pub count_step : (total count : ℕ) (more rest next : List ℕ) → get_or rest 0 0 ≢ 101 → ((u : Tree) (m : List ℕ) → InRange u → rest ≡ ben u ++ m → next ≡ m)
+    → LeftOf total count more rest → LeftOf total (count + 1) more next
 count_step total count more rest next other walks (no_trees, h, is, n) = absurd (other (head_of rest 101 more is))
-count_step total count more rest next other walks (tree u us, h, is, n) = (us, h.1, walks u (ben_all us ++ 101 ∷ more) h.0 (is ∙ append_assoc (ben u) (ben_all us) (101 ∷ more)), omega (arith, n))
+count_step total count more rest next other walks (tree u us, h, is, n) =
+    (us, h.1, walks u (ben_all us ++ 101 ∷ more) h.0 (is ∙ append_assoc (ben u) (ben_all us) (101 ∷ more)), omega (arith, n))
 
 pub room : (total count : ℕ) (more rest : List ℕ) → get_or rest 0 0 ≢ 101 → LeftOf total count more rest → count < total
 room total count more rest other (no_trees, h, is, n) = absurd (other (head_of rest 101 more is))
@@ -36,10 +38,12 @@ room total count more rest other (tree u us, h, is, n) = omega (arith, n)
 pub count_over : (total count : ℕ) (more rest : List ℕ) → get_or rest 0 0 ≡ 101 → LeftOf total count more rest → count ≡ total
 count_over total count more rest end (no_trees, h, is, n) = omega (arith, n)
 count_over total count more rest end (tree u us, h, is, n) =
-    absurd (no_end u (ben_all us ++ 101 ∷ more) (drop 1 rest) h.0 (sym (is ∙ append_assoc (ben u) (ben_all us) (101 ∷ more)) ∙ headed rest 101 end (omega arith)))
+    absurd (no_end u (ben_all us ++ 101 ∷ more) (drop 1 rest) h.0 (sym (is ∙ append_assoc (ben u) (ben_all us) (101 ∷ more))
+        ∙ headed rest 101 end (omega arith)))
 
 module _ (total count : ℕ) (rest key value : List ℕ) (short : length key ≤ longest_string) (split : rest ≡ ben_string key ++ value) where
-  pub pairs_count_step : (more next : List ℕ) → get_or rest 0 0 ≢ 101 → ((u : Tree) (m : List ℕ) → InRange u → value ≡ ben u ++ m → next ≡ m) → LeftOfPairs total count more rest → LeftOfPairs total (count + 1) more next
+  pub pairs_count_step : (more next : List ℕ) → get_or rest 0 0 ≢ 101 → ((u : Tree) (m : List ℕ) → InRange u → value ≡ ben u ++ m → next ≡ m)
+      → LeftOfPairs total count more rest → LeftOfPairs total (count + 1) more next
   pairs_count_step more next other walks (no_pairs, h, is, n) = absurd (other (head_of rest 101 more is))
   pairs_count_step more next other walks (pair k u us, h, is, n) =
       let p = pair_at rest key value short split k u us more h is in
@@ -52,4 +56,5 @@ pairs_room total count more rest other (pair k u us, h, is, n) = omega (arith, n
 pub pairs_count_over : (total count : ℕ) (more rest : List ℕ) → get_or rest 0 0 ≡ 101 → LeftOfPairs total count more rest → count ≡ total
 pairs_count_over total count more rest end (no_pairs, h, is, n) = omega (arith, n)
 pairs_count_over total count more rest end (pair k u us, h, is, n) =
-    absurd (omega (arith, string_at rest k (ben u ++ (ben_pairs us ++ 101 ∷ more)) 101 h.0 (is ∙ regroup (ben_string k) (ben u) (ben_pairs us) (101 ∷ more)) end))
+    absurd (omega (arith, string_at rest k (ben u ++ (ben_pairs us ++ 101 ∷ more)) 101 h.0 (is ∙ regroup (ben_string k) (ben u) (ben_pairs us) (101 ∷ more))
+        end))

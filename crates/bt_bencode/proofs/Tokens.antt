@@ -1,8 +1,10 @@
 -- Whole byte strings and integers, read at once.
-use Rattle.std.proofs.Common.{◌≡◌, ◌≢◌, inl, inr, ℕ, suc, ◌+◌, ◌-◌, ◌*◌, ◌^◌, ◌<◌, ◌≤◌, List, [], ◌∷◌, ◌++◌, length, get_or, slice_get, Some, take, drop, subst, sym, ◌∙◌, refl, add-one, append_assoc, drop-cons, Option, None, IfSome, MatchOption, arith, length-append, length-take, length-drop}
+use Rattle.std.proofs.Common.{◌≡◌, ◌≢◌, inl, inr, ℕ, suc, ◌+◌, ◌-◌, ◌*◌, ◌^◌, ◌<◌, ◌≤◌, List, [], ◌∷◌, ◌++◌, length, get_or, slice_get, Some, take, drop,
+    subst, sym, ◌∙◌, refl, add-one, append_assoc, drop-cons, Option, None, IfSome, MatchOption, arith, length-append, length-take, length-drop}
 use Rattle.std.proofs.Math.Seq.{drop-append_seam, take-add, drop-drop}
 use Rattle.bt_bencode.specs.Bencoding.{longest_string}
-use Rattle.bt_bencode.specs.Scanner.{IsDigit, NumberThen, TextThen, Rest, AfterString, May, IsLive, Goes, HasRead, Leads, after_string, magnitude_limit, opening}
+use Rattle.bt_bencode.specs.Scanner.{IsDigit, NumberThen, TextThen, Rest, AfterString, May, IsLive, Goes, HasRead, Leads, after_string, magnitude_limit,
+    opening}
 use Rattle.bt_bencode.specs.declared.scan.Container.{Container}
 use Rattle.bt_bencode.specs.declared.scan.Container.TheVariants as container
 use Rattle.bt_bencode.specs.declared.scan.Role.{Role}
@@ -29,14 +31,16 @@ module _ (limit stop : ℕ) (Then : ℕ → List ℕ → Type 0) (n : ℕ) (high
   at_stop r (inl e) = e.1
   at_stop r (inr h) = absurd (omega (arith, h.0))
 
-pub goes_length : (stack : Stack) (part : Role) (n b : ℕ) → IsDigit b → 0 < n → n * 10 + (b - 48) ≤ longest_string → Goes (expect.Length part n) stack (b ∷ []) (expect.Length part (n * 10 + (b - 48))) stack
+pub goes_length : (stack : Stack) (part : Role) (n b : ℕ) → IsDigit b → 0 < n → n * 10 + (b - 48) ≤ longest_string
+    → Goes (expect.Length part n) stack (b ∷ []) (expect.Length part (n * 10 + (b - 48))) stack
 goes_length stack part n b d some low = record {
   live = low;
   forth = λ r h. further longest_string 58 (λ k. TextThen k (AfterString part stack)) n b (λ e. omega arith) r h;
   back = λ r h. inr (d, some, low, h);
 }
 
-pub goes_digits : (stack : Stack) (side : Sign) (n b : ℕ) → IsDigit b → 0 < n → n * 10 + (b - 48) ≤ magnitude_limit side → Goes (expect.Digits side n) stack (b ∷ []) (expect.Digits side (n * 10 + (b - 48))) stack
+pub goes_digits : (stack : Stack) (side : Sign) (n b : ℕ) → IsDigit b → 0 < n → n * 10 + (b - 48) ≤ magnitude_limit side
+    → Goes (expect.Digits side n) stack (b ∷ []) (expect.Digits side (n * 10 + (b - 48))) stack
 goes_digits stack side n b d some low = record {
   live = low;
   forth = λ r h. further (magnitude_limit side) 101 (λ _. Rest stack) n b (λ e. omega arith) r h;
@@ -70,7 +74,8 @@ module _ (stack : Stack) (part : Role) (n : ℕ) (bytes : List ℕ) (long : leng
   pub goes_text_whole : Goes (expect.Length part n) stack (58 ∷ bytes) (after_string part) stack
   goes_text_whole = record {
     live = live_after part;
-    forth = λ r h. after_whole stack part r (subst (AfterString part stack) (behind r) (at_stop longest_string 58 (λ k. TextThen k (AfterString part stack)) n (omega arith) (bytes ++ r) h).1);
+    forth = λ r h. after_whole stack part r (subst (AfterString part stack) (behind r) (at_stop longest_string 58 (λ k. TextThen k (AfterString part stack))
+        n (omega arith) (bytes ++ r) h).1);
     back = λ r h. inl (refl, (omega (arith, length-append bytes r), subst (AfterString part stack) (sym (behind r)) (whole_after stack part r h)));
   }
 
@@ -92,16 +97,19 @@ pub goes_first_negative : (stack : Stack) (b : ℕ) → IsDigit b → b ≢ 48 �
 goes_first_negative stack b d other = record { live = omega arith; forth = λ r h. h.1.1; back = λ r h. (omega arith, (d, h)) }
 
 -- the bytes from `at` on
-first_byte : (payload : List ℕ) (at end : ℕ) → at < length payload → at < end → take (end - at) (drop at payload) ≡ get_or payload at 0 ∷ take (end - (at + 1)) (drop (at + 1) payload)
+first_byte : (payload : List ℕ) (at end : ℕ) → at < length payload → at < end → take (end - at) (drop at payload)
+    ≡ get_or payload at 0 ∷ take (end - (at + 1)) (drop (at + 1) payload)
 first_byte payload at end h low = let same : end - at ≡ suc (end - (at + 1)) = omega arith in rw (same, drop-cons payload at 0, ← add-one at) refl
 
-pub leads_byte : (payload : List ℕ) (at : ℕ) (e e' : Expect) (s s' : Stack) → at < length payload → Goes e s (get_or payload at 0 ∷ []) e' s' → Leads payload at e s (at + 1) e' s'
+pub leads_byte : (payload : List ℕ) (at : ℕ) (e e' : Expect) (s s' : Stack) → at < length payload → Goes e s (get_or payload at 0 ∷ []) e' s'
+    → Leads payload at e s (at + 1) e' s'
 leads_byte payload at e e' s s' h goes =
     let none : at + 1 - (at + 1) ≡ 0 = omega arith in
     rw (first_byte payload at (at + 1) h (omega arith), none) goes
 
 -- one after the other
-pub leads_on : (payload : List ℕ) (at m end : ℕ) (e e₁ e₂ : Expect) (s s₁ s₂ : Stack) → at ≤ m → m ≤ end → Leads payload at e s m e₁ s₁ → Leads payload m e₁ s₁ end e₂ s₂ → Leads payload at e s end e₂ s₂
+pub leads_on : (payload : List ℕ) (at m end : ℕ) (e e₁ e₂ : Expect) (s s₁ s₂ : Stack) → at ≤ m → m ≤ end → Leads payload at e s m e₁ s₁
+    → Leads payload m e₁ s₁ end e₂ s₂ → Leads payload at e s end e₂ s₂
 leads_on payload at m end e e₁ e₂ s s₁ s₂ low high first second = record {
   live = second.live;
   forth = λ r h. second.forth r (first.forth (take (end - m) (drop m payload) ++ r) (subst (May e s) (apart r) h));
@@ -117,7 +125,8 @@ leads_on payload at m end e e₁ e₂ s s₁ s₂ low high first second = record
     apart : (r : List ℕ) → take (end - at) (drop at payload) ++ r ≡ take (m - at) (drop at payload) ++ (take (end - m) (drop m payload) ++ r)
     apart r = rw (split, append_assoc) refl
 
-pub read_on : (payload : List ℕ) (at end : ℕ) (e e' : Expect) (s s' : Stack) → at ≤ end → HasRead (take at payload) e s → Leads payload at e s end e' s' → HasRead (take end payload) e' s'
+pub read_on : (payload : List ℕ) (at end : ℕ) (e e' : Expect) (s s' : Stack) → at ≤ end → HasRead (take at payload) e s → Leads payload at e s end e' s'
+    → HasRead (take end payload) e' s'
 read_on payload at end e e' s s' low read leads =
     let same : at + (end - at) ≡ end = omega arith in
     subst (λ (k : ℕ). HasRead (take k payload) e' s') same (goes_over payload at (end - at) e e' s s' read leads)
@@ -127,13 +136,15 @@ pub record StringRead (payload : List ℕ) (at i n : ℕ) : Type 0 where
   pub behind : at < i
   pub within : i ≤ length payload
   pub first : IsDigit (get_or payload at 0)
-  pub leads : (part : Role) (s : Stack) → Goes (expect.Length part (get_or payload at 0 - 48)) s (take (i - (at + 1)) (drop (at + 1) payload)) (expect.Length part n) s
+  pub leads : (part : Role) (s : Stack) → Goes (expect.Length part (get_or payload at 0 - 48)) s (take (i - (at + 1)) (drop (at + 1) payload))
+      (expect.Length part n) s
 
 -- no byte
 nothing : (payload : List ℕ) (at : ℕ) (e : Expect) (s : Stack) → IsLive e → Leads payload at e s at e s
 nothing payload at e s live = let none : at - at ≡ 0 = omega arith in rw none (record { live = live; forth = λ r h. h; back = λ r h. h })
 
-pub string_starts : (payload : List ℕ) (at : ℕ) → at < length payload → IsDigit (get_or payload at 0) → StringRead payload at (at + 1) (get_or payload at 0 - 48)
+pub string_starts : (payload : List ℕ) (at : ℕ) → at < length payload → IsDigit (get_or payload at 0)
+    → StringRead payload at (at + 1) (get_or payload at 0 - 48)
 string_starts payload at h d = record {
   behind = omega arith;
   within = omega arith;
@@ -141,42 +152,53 @@ string_starts payload at h d = record {
   leads = λ part s. nothing payload (at + 1) (expect.Length part (get_or payload at 0 - 48)) s (omega arith);
 }
 
-pub string_goes_on : (payload : List ℕ) (at i n : ℕ) → StringRead payload at i n → i < length payload → IsDigit (get_or payload i 0) → 0 < n → n * 10 + 9 ≤ longest_string → StringRead payload at (i + 1) (n * 10 + (get_or payload i 0 - 48))
+pub string_goes_on : (payload : List ℕ) (at i n : ℕ) → StringRead payload at i n → i < length payload → IsDigit (get_or payload i 0) → 0 < n
+    → n * 10 + 9 ≤ longest_string → StringRead payload at (i + 1) (n * 10 + (get_or payload i 0 - 48))
 string_goes_on payload at i n so h d some low = record {
   behind = omega (arith, so.behind);
   within = omega arith;
   first = so.first;
-  leads = λ part s. leads_on payload (at + 1) i (i + 1) (expect.Length part (get_or payload at 0 - 48)) (expect.Length part n) (expect.Length part (n * 10 + (get_or payload i 0 - 48))) s s s (omega (arith, so.behind)) (omega arith) (so.leads part s)
-      (leads_byte payload i (expect.Length part n) (expect.Length part (n * 10 + (get_or payload i 0 - 48))) s s h (goes_length s part n (get_or payload i 0) d some (omega arith)));
+  leads = λ part s. leads_on payload (at + 1) i (i + 1) (expect.Length part (get_or payload at 0 - 48)) (expect.Length part n)
+      (expect.Length part (n * 10 + (get_or payload i 0 - 48))) s s s (omega (arith, so.behind)) (omega arith) (so.leads part s)
+      (leads_byte payload i (expect.Length part n) (expect.Length part (n * 10 + (get_or payload i 0 - 48))) s s h
+          (goes_length s part n (get_or payload i 0) d some (omega arith)));
 }
 
 -- the colon and the text
-text_whole : (payload : List ℕ) (i n : ℕ) (part : Role) (s : Stack) → i < length payload → get_or payload i 0 ≡ 58 → n ≤ length payload - (i + 1) → Leads payload i (expect.Length part n) s (i + 1 + n) (after_string part) s
+text_whole : (payload : List ℕ) (i n : ℕ) (part : Role) (s : Stack) → i < length payload → get_or payload i 0 ≡ 58 → n ≤ length payload - (i + 1)
+    → Leads payload i (expect.Length part n) s (i + 1 + n) (after_string part) s
 text_whole payload i n part s h colon room =
     let bytes : List ℕ = take n (drop (i + 1) payload) in
     let long : length bytes ≡ n = length-take n (drop (i + 1) payload) ∙ rw (length-drop (i + 1) payload) (omega arith) in
     let left : i + 1 + n - (i + 1) ≡ n = omega arith in
     rw (first_byte payload i (i + 1 + n) h (omega arith), left, colon) (goes_text_whole s part n bytes long)
 
-module _ (payload : List ℕ) (at i n : ℕ) (so : StringRead payload at i n) (h : i < length payload) (colon : get_or payload i 0 ≡ 58) (room : n ≤ length payload - (i + 1)) where
+module _ (payload : List ℕ) (at i n : ℕ) (so : StringRead payload at i n) (h : i < length payload) (colon : get_or payload i 0 ≡ 58)
+    (room : n ≤ length payload - (i + 1)) where
   -- a string whose first digit has been read
   string_behind : (part : Role) (s : Stack) → Leads payload (at + 1) (expect.Length part (get_or payload at 0 - 48)) s (i + 1 + n) (after_string part) s
-  string_behind part s = leads_on payload (at + 1) i (i + 1 + n) (expect.Length part (get_or payload at 0 - 48)) (expect.Length part n) (after_string part) s s s (omega (arith, so.behind)) (omega arith) (so.leads part s) (text_whole payload i n part s h colon room)
+  string_behind part s = leads_on payload (at + 1) i (i + 1 + n) (expect.Length part (get_or payload at 0 - 48)) (expect.Length part n) (after_string part)
+      s s s (omega (arith, so.behind)) (omega arith) (so.leads part s) (text_whole payload i n part s h colon room)
 
   pub string_value : (s : Stack) → Leads payload at expect.Value s (i + 1 + n) expect.Item s
-  string_value s = leads_on payload at (at + 1) (i + 1 + n) expect.Value (expect.Length role.Item (get_or payload at 0 - 48)) expect.Item s s s (omega arith) (omega (arith, so.behind))
-      (leads_byte payload at expect.Value (expect.Length role.Item (get_or payload at 0 - 48)) s s (omega (arith, so.behind)) (goes_string s (get_or payload at 0) so.first)) (string_behind role.Item s)
+  string_value s = leads_on payload at (at + 1) (i + 1 + n) expect.Value (expect.Length role.Item (get_or payload at 0 - 48)) expect.Item s s s
+      (omega arith) (omega (arith, so.behind))
+      (leads_byte payload at expect.Value (expect.Length role.Item (get_or payload at 0 - 48)) s s (omega (arith, so.behind))
+          (goes_string s (get_or payload at 0) so.first)) (string_behind role.Item s)
 
   pub string_key : (s : Stack) → Leads payload at expect.Item (container.Dict ∷ s) (i + 1 + n) expect.Value (container.Dict ∷ s)
-  string_key s = leads_on payload at (at + 1) (i + 1 + n) expect.Item (expect.Length role.Key (get_or payload at 0 - 48)) expect.Value (container.Dict ∷ s) (container.Dict ∷ s) (container.Dict ∷ s) (omega arith) (omega (arith, so.behind))
-      (leads_byte payload at expect.Item (expect.Length role.Key (get_or payload at 0 - 48)) (container.Dict ∷ s) (container.Dict ∷ s) (omega (arith, so.behind)) (goes_key s (get_or payload at 0) (λ e. omega (arith, so.first)) so.first)) (string_behind role.Key (container.Dict ∷ s))
+  string_key s = leads_on payload at (at + 1) (i + 1 + n) expect.Item (expect.Length role.Key (get_or payload at 0 - 48)) expect.Value (container.Dict ∷ s)
+      (container.Dict ∷ s) (container.Dict ∷ s) (omega arith) (omega (arith, so.behind))
+      (leads_byte payload at expect.Item (expect.Length role.Key (get_or payload at 0 - 48)) (container.Dict ∷ s) (container.Dict ∷ s)
+          (omega (arith, so.behind)) (goes_key s (get_or payload at 0) (λ e. omega (arith, so.first)) so.first)) (string_behind role.Key (container.Dict ∷ s))
 
 -- An integer's first digit stands at `at`; its digits before `i` have the value n.
 pub record DigitsRead (payload : List ℕ) (at i n : ℕ) : Type 0 where
   pub behind : at < i
   pub within : i ≤ length payload
   pub first : IsDigit (get_or payload at 0)
-  pub leads : (side : Sign) (s : Stack) → Goes (expect.Digits side (get_or payload at 0 - 48)) s (take (i - (at + 1)) (drop (at + 1) payload)) (expect.Digits side n) s
+  pub leads : (side : Sign) (s : Stack) → Goes (expect.Digits side (get_or payload at 0 - 48)) s (take (i - (at + 1)) (drop (at + 1) payload))
+      (expect.Digits side n) s
 
 keeps_limit : (side : Sign) (n : ℕ) → n < 2 ^ 63 → n ≤ magnitude_limit side
 keeps_limit sign.Plus n low = omega arith
@@ -190,54 +212,71 @@ digits_start payload at h d = record {
   leads = λ side s. nothing payload (at + 1) (expect.Digits side (get_or payload at 0 - 48)) s (keeps_limit side (get_or payload at 0 - 48) (omega arith));
 }
 
-pub digits_go_on : (payload : List ℕ) (at i n : ℕ) → DigitsRead payload at i n → i < length payload → IsDigit (get_or payload i 0) → 0 < n → n * 10 + 9 < 2 ^ 63 → DigitsRead payload at (i + 1) (n * 10 + (get_or payload i 0 - 48))
+pub digits_go_on : (payload : List ℕ) (at i n : ℕ) → DigitsRead payload at i n → i < length payload → IsDigit (get_or payload i 0) → 0 < n
+    → n * 10 + 9 < 2 ^ 63 → DigitsRead payload at (i + 1) (n * 10 + (get_or payload i 0 - 48))
 digits_go_on payload at i n so h d some low = record {
   behind = omega (arith, so.behind);
   within = omega arith;
   first = so.first;
-  leads = λ side s. leads_on payload (at + 1) i (i + 1) (expect.Digits side (get_or payload at 0 - 48)) (expect.Digits side n) (expect.Digits side (n * 10 + (get_or payload i 0 - 48))) s s s (omega (arith, so.behind)) (omega arith) (so.leads side s)
-      (leads_byte payload i (expect.Digits side n) (expect.Digits side (n * 10 + (get_or payload i 0 - 48))) s s h (goes_digits s side n (get_or payload i 0) d some (keeps_limit side (n * 10 + (get_or payload i 0 - 48)) (omega arith))));
+  leads = λ side s. leads_on payload (at + 1) i (i + 1) (expect.Digits side (get_or payload at 0 - 48)) (expect.Digits side n)
+      (expect.Digits side (n * 10 + (get_or payload i 0 - 48))) s s s (omega (arith, so.behind)) (omega arith) (so.leads side s)
+      (leads_byte payload i (expect.Digits side n) (expect.Digits side (n * 10 + (get_or payload i 0 - 48))) s s h
+          (goes_digits s side n (get_or payload i 0) d some (keeps_limit side (n * 10 + (get_or payload i 0 - 48)) (omega arith))));
 }
 
 module _ (payload : List ℕ) (at i n : ℕ) (so : DigitsRead payload at i n) (h : i < length payload) (stop : get_or payload i 0 ≡ 101) where
   -- an integer whose first digit has been read
   digits_behind : (side : Sign) (s : Stack) → Leads payload (at + 1) (expect.Digits side (get_or payload at 0 - 48)) s (i + 1) expect.Item s
-  digits_behind side s = leads_on payload (at + 1) i (i + 1) (expect.Digits side (get_or payload at 0 - 48)) (expect.Digits side n) expect.Item s s s (omega (arith, so.behind)) (omega arith) (so.leads side s)
+  digits_behind side s = leads_on payload (at + 1) i (i + 1) (expect.Digits side (get_or payload at 0 - 48)) (expect.Digits side n) expect.Item s s s
+      (omega (arith, so.behind)) (omega arith) (so.leads side s)
       (leads_byte payload i (expect.Digits side n) expect.Item s s h (rw stop (goes_integer_end s side n)))
 
   pub digits_plus : (s : Stack) → Leads payload at expect.Integer s (i + 1) expect.Item s
-  digits_plus s = leads_on payload at (at + 1) (i + 1) expect.Integer (expect.Digits sign.Plus (get_or payload at 0 - 48)) expect.Item s s s (omega arith) (omega (arith, so.behind))
-      (leads_byte payload at expect.Integer (expect.Digits sign.Plus (get_or payload at 0 - 48)) s s (omega (arith, so.behind)) (goes_first s (get_or payload at 0) so.first)) (digits_behind sign.Plus s)
+  digits_plus s = leads_on payload at (at + 1) (i + 1) expect.Integer (expect.Digits sign.Plus (get_or payload at 0 - 48)) expect.Item s s s (omega arith)
+      (omega (arith, so.behind))
+      (leads_byte payload at expect.Integer (expect.Digits sign.Plus (get_or payload at 0 - 48)) s s (omega (arith, so.behind))
+          (goes_first s (get_or payload at 0) so.first)) (digits_behind sign.Plus s)
 
   pub digits_minus : (s : Stack) → get_or payload at 0 ≢ 48 → Leads payload at expect.Negative s (i + 1) expect.Item s
-  digits_minus s other = leads_on payload at (at + 1) (i + 1) expect.Negative (expect.Digits sign.Minus (get_or payload at 0 - 48)) expect.Item s s s (omega arith) (omega (arith, so.behind))
-      (leads_byte payload at expect.Negative (expect.Digits sign.Minus (get_or payload at 0 - 48)) s s (omega (arith, so.behind)) (goes_first_negative s (get_or payload at 0) so.first other)) (digits_behind sign.Minus s)
+  digits_minus s other = leads_on payload at (at + 1) (i + 1) expect.Negative (expect.Digits sign.Minus (get_or payload at 0 - 48)) expect.Item s s s
+      (omega arith) (omega (arith, so.behind))
+      (leads_byte payload at expect.Negative (expect.Digits sign.Minus (get_or payload at 0 - 48)) s s (omega (arith, so.behind))
+          (goes_first_negative s (get_or payload at 0) so.first other)) (digits_behind sign.Minus s)
 
 module _ (payload : List ℕ) (at end : ℕ) (s : Stack) (h : at < length payload) (before : at < end) where
   -- a `-`, and what follows
   pub behind_minus : get_or payload at 0 ≡ 45 → Leads payload (at + 1) expect.Negative s end expect.Item s → Leads payload at expect.Integer s end expect.Item s
-  behind_minus is rest = leads_on payload at (at + 1) end expect.Integer expect.Negative expect.Item s s s (omega arith) (omega arith) (leads_byte payload at expect.Integer expect.Negative s s h (rw is (goes_minus s))) rest
+  behind_minus is rest = leads_on payload at (at + 1) end expect.Integer expect.Negative expect.Item s s s (omega arith) (omega arith)
+      (leads_byte payload at expect.Integer expect.Negative s s h (rw is (goes_minus s))) rest
 
   -- an `i`, and what follows
   pub behind_i : get_or payload at 0 ≡ 105 → Leads payload (at + 1) expect.Integer s end expect.Item s → Leads payload at expect.Value s end expect.Item s
-  behind_i is rest = leads_on payload at (at + 1) end expect.Value expect.Integer expect.Item s s s (omega arith) (omega arith) (leads_byte payload at expect.Value expect.Integer s s h (goes_integer s (get_or payload at 0) is)) rest
+  behind_i is rest = leads_on payload at (at + 1) end expect.Value expect.Integer expect.Item s s s (omega arith) (omega arith)
+      (leads_byte payload at expect.Value expect.Integer s s h (goes_integer s (get_or payload at 0) is)) rest
 
   -- where the innermost is a list, an item is a value
-  pub value_in_list : (s' : Stack) → slice_get s 0 ≡ Some container.List → get_or payload at 0 ≢ 101 → Leads payload at expect.Value s end expect.Item s' → Leads payload at expect.Item s end expect.Item s'
-  value_in_list s' top other leads = rw (first_byte payload at end h before) (goes_in_list s (get_or payload at 0) (take (end - (at + 1)) (drop (at + 1) payload)) expect.Item s' top other (rw (first_byte payload at end h before) at leads))
+  pub value_in_list : (s' : Stack) → slice_get s 0 ≡ Some container.List → get_or payload at 0 ≢ 101 → Leads payload at expect.Value s end expect.Item s'
+      → Leads payload at expect.Item s end expect.Item s'
+  value_in_list s' top other leads = rw (first_byte payload at end h before)
+      (goes_in_list s (get_or payload at 0) (take (end - (at + 1)) (drop (at + 1) payload)) expect.Item s' top other
+      (rw (first_byte payload at end h before) at leads))
 
 -- a key
-pub key_leads : (payload : List ℕ) (at end : ℕ) (s : Stack) → slice_get s 0 ≡ Some container.Dict → ((s : Stack) → Leads payload at expect.Item (container.Dict ∷ s) end expect.Value (container.Dict ∷ s)) → Leads payload at expect.Item s end expect.Value s
+pub key_leads : (payload : List ℕ) (at end : ℕ) (s : Stack) → slice_get s 0 ≡ Some container.Dict
+    → ((s : Stack) → Leads payload at expect.Item (container.Dict ∷ s) end expect.Value (container.Dict ∷ s))
+    → Leads payload at expect.Item s end expect.Value s
 key_leads payload at end [] top leads = cc
 key_leads payload at end (container.List ∷ s) top leads = cc
 key_leads payload at end (container.Dict ∷ s) top leads = leads s
 
 -- an `l` or a `d`
-pub nested_leads : (payload : List ℕ) (at : ℕ) (s : Stack) (kind : Container) → at < length payload → get_or payload at 0 ≡ opening kind → length s < 32 → Leads payload at expect.Value s (at + 1) expect.Item (kind ∷ s)
+pub nested_leads : (payload : List ℕ) (at : ℕ) (s : Stack) (kind : Container) → at < length payload → get_or payload at 0 ≡ opening kind → length s < 32
+    → Leads payload at expect.Value s (at + 1) expect.Item (kind ∷ s)
 nested_leads payload at s kind h is few = leads_byte payload at expect.Value expect.Item s (kind ∷ s) h (rw is (goes_nested s kind few))
 
 -- an `e`
-pub end_leads : (payload : List ℕ) (at : ℕ) (s : Stack) (kind : Container) → at < length payload → slice_get s 0 ≡ Some kind → get_or payload at 0 ≡ 101 → Leads payload at expect.Item s (at + 1) expect.Item (drop 1 s)
+pub end_leads : (payload : List ℕ) (at : ℕ) (s : Stack) (kind : Container) → at < length payload → slice_get s 0 ≡ Some kind → get_or payload at 0 ≡ 101
+    → Leads payload at expect.Item s (at + 1) expect.Item (drop 1 s)
 end_leads payload at s kind h top is = leads_byte payload at expect.Item expect.Item s (drop 1 s) h (goes_end s kind (get_or payload at 0) top is)
 
 -- what a quick reading promises, from what it found
@@ -245,7 +284,8 @@ pub or_kept : {A : Type 0} (o : Option A) (R : Type 0) (W P Q : A → Type 0) �
 or_kept None R W P Q r w h f = r
 or_kept (Some x) R W P Q r w h f = f x w h
 
-pub found_within : {A : Type 0} (o : Option A) (R : Type 0) (W P Q : A → Type 0) → IfSome o W → MatchOption o R P → ((x : A) → W x → P x → Q x) → MatchOption o R Q
+pub found_within : {A : Type 0} (o : Option A) (R : Type 0) (W P Q : A → Type 0) → IfSome o W → MatchOption o R P → ((x : A) → W x → P x → Q x)
+    → MatchOption o R Q
 found_within None R W P Q w h f = h
 found_within (Some x) R W P Q w h f = f x w h
 

@@ -31,14 +31,16 @@ Fits-prop t = λ a b.
 pub Spells-prop : (ps : Pairs) (bytes : List ℕ) → IsProp (Spells ps bytes)
 Spells-prop ps bytes = λ s t.
     ap (λ (f : Fits (dictionary ps)). let r : Spells ps bytes = record { fits = f; spelled = s.spelled } in r) (Fits-prop (dictionary ps) s.fits t.fits)
-    ∙ ap (λ (e : bytes ≡ ben (dictionary ps)). let r : Spells ps bytes = record { fits = t.fits; spelled = e } in r) (Coded-set (coded_list coded_ℕ) bytes (ben (dictionary ps)) s.spelled t.spelled)
+    ∙ ap (λ (e : bytes ≡ ben (dictionary ps)). let r : Spells ps bytes = record { fits = t.fits; spelled = e } in r)
+    (Coded-set (coded_list coded_ℕ) bytes (ben (dictionary ps)) s.spelled t.spelled)
 
 dictionary-inj : (ps qs : Pairs) → dictionary ps ≡ dictionary qs → ps ≡ qs
 dictionary-inj ps qs e = cc
 
 pub one_spelled : (bytes : List ℕ) (ps qs : Pairs) → Spells ps bytes → Spells qs bytes → ps ≡ qs
 one_spelled bytes ps qs s t =
-    dictionary-inj ps qs (same_tree (dictionary ps) (dictionary qs) [] [] s.fits.in_range t.fits.in_range (ap (λ (b : List ℕ). b ++ []) (sym s.spelled ∙ t.spelled))).0
+    dictionary-inj ps qs (same_tree (dictionary ps) (dictionary qs) [] [] s.fits.in_range t.fits.in_range
+        (ap (λ (b : List ℕ). b ++ []) (sym s.spelled ∙ t.spelled))).0
 
 pub IsSpelling-prop : (bytes : List ℕ) → IsProp (IsSpelling bytes)
 IsSpelling-prop bytes = λ a b.
@@ -48,7 +50,8 @@ IsSpelling-prop bytes = λ a b.
 SpellsPairs-prop : (ps : Pairs) (bytes : List ℕ) → IsProp (SpellsPairs ps bytes)
 SpellsPairs-prop ps bytes = λ s t.
     ap (λ (f : PairsInRange ps). let r : SpellsPairs ps bytes = record { range = f; spelled = s.spelled } in r) (PairsInRange-prop ps s.range t.range)
-    ∙ ap (λ (e : bytes ≡ ben_pairs ps ++ 101 ∷ []). let r : SpellsPairs ps bytes = record { range = t.range; spelled = e } in r) (Coded-set (coded_list coded_ℕ) bytes (ben_pairs ps ++ 101 ∷ []) s.spelled t.spelled)
+    ∙ ap (λ (e : bytes ≡ ben_pairs ps ++ 101 ∷ []). let r : SpellsPairs ps bytes = record { range = t.range; spelled = e } in r)
+    (Coded-set (coded_list coded_ℕ) bytes (ben_pairs ps ++ 101 ∷ []) s.spelled t.spelled)
 
 pub ArePairs-prop : (bytes : List ℕ) → IsProp (ArePairs bytes)
 ArePairs-prop bytes = λ a b.

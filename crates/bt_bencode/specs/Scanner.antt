@@ -24,7 +24,8 @@ TextThen n Then r = (n ≤ length r) × Then (drop n r)
 -- The further digits of a number that has begun with n and is at most `limit`, the byte `stop`, and what the number asks for.
 abbrev pub NumberThen : ℕ → ℕ → (ℕ → List ℕ → Type 0) → ℕ → List ℕ → Type 0
 NumberThen limit stop Then n [] = ⊥
-NumberThen limit stop Then n (c ∷ r) = ((c ≡ stop) × Then n r) ⊎ (IsDigit c × (0 < n) × (n * 10 + (c - 48) ≤ limit) × NumberThen limit stop Then (n * 10 + (c - 48)) r)
+NumberThen limit stop Then n (c ∷ r) = ((c ≡ stop) × Then n r) ⊎ (IsDigit c × (0 < n) × (n * 10 + (c - 48) ≤ limit)
+    × NumberThen limit stop Then (n * 10 + (c - 48)) r)
 
 -- the same from the first digit on
 abbrev pub DigitsThen : ℕ → ℕ → (ℕ → List ℕ → Type 0) → List ℕ → Type 0

@@ -1,5 +1,6 @@
 -- What calls in a row read is what the stream's verdict says.
-use Rattle.std.proofs.Common.{◌≡◌, ◌≢◌, ◌==◌, Bool, min, ◌&&◌, ℕ, ◌+◌, ◌-◌, ◌<◌, ◌≤◌, ◌^◌, true, false, not, List, [], ◌∷◌, ◌++◌, length, drop, Option, Some, None, refl, sym, ap, subst, ◌∙◌, arith}
+use Rattle.std.proofs.Common.{◌≡◌, ◌≢◌, ◌==◌, Bool, min, ◌&&◌, ℕ, ◌+◌, ◌-◌, ◌<◌, ◌≤◌, ◌^◌, true, false, not, List, [], ◌∷◌, ◌++◌, length, drop, Option,
+    Some, None, refl, sym, ap, subst, ◌∙◌, arith}
 use Rattle.std.proofs.lemmas.Grind.{common_steps}
 use Rattle.std.specs.Prelude.{if◌then◌else◌}
 use Rattle.std.proofs.lemmas.List.{length-append}
@@ -63,7 +64,8 @@ run_here r b f number s0 o e = record {
 
 -- ---- an item, and what follows it
 
-run_more : (s : BtReader) (c : List ℕ) (f : Option Refused) (xs : List (ℕ × Item)) (number a : ℕ) (at : ℕ) (x : Item) (v : Outcome) → a ≡ at → IsRun s c f xs (number + 1) v → IsRun s c f ((at, x) ∷ xs) number (with_item a x v)
+run_more : (s : BtReader) (c : List ℕ) (f : Option Refused) (xs : List (ℕ × Item)) (number a : ℕ) (at : ℕ) (x : Item) (v : Outcome) → a
+    ≡ at → IsRun s c f xs (number + 1) v → IsRun s c f ((at, x) ∷ xs) number (with_item a x v)
 run_more s c f xs number a at x v e run = record {
   items = ap (λ (ys : List (ℕ × Item)). (a, x) ∷ ys) run.items ∙ ap (λ (z : ℕ). (z, x) ∷ xs) e;
   refusal = run.refusal ∙ ap (λ n. refusal_at n (start_of s) f) (omega arith);
@@ -73,7 +75,8 @@ run_more s c f xs number a at x v e run = record {
 }
 
 after_message : (r t : BtReader) (b : List ℕ) (i : BtItem) (msg : Message) (number : ℕ) (v : Outcome) → r.own.limit < 2 ^ 32 → Goes r b t i msg
-    → IsOutcome (context_of t) (order_in t.past) t.start (number + 1) (drop i.size b) v → IsOutcome (context_of r) (order_in r.past) r.start number b (with_item r.start (items.Message msg) v)
+    → IsOutcome (context_of t) (order_in t.past) t.start (number + 1) (drop i.size b) v → IsOutcome (context_of r) (order_in r.past) r.start number b
+    (with_item r.start (items.Message msg) v)
 after_message r t b i msg number v lt g h =
     let c = context_of r in
     let P : Context → Type 0 = λ k. IsOutcome k (order_in t.past) t.start (number + 1) (drop i.size b) v in
@@ -101,7 +104,8 @@ limit_after r t b i msg lt g = omega (arith, lt, ap (λ z. z.own.limit) g.same)
 
 -- ---- runs
 
-pub opened_run : (xs : List (ℕ × Item)) (r s : BtReader) (b c : List ℕ) (f : Option Refused) (number : ℕ) → r.own.limit < 2 ^ 32 → is_on r.opened ≡ true → Reads r b xs s c → Stops s c f
+pub opened_run : (xs : List (ℕ × Item)) (r s : BtReader) (b c : List ℕ) (f : Option Refused) (number : ℕ) → r.own.limit < 2 ^ 32 → is_on r.opened ≡ true
+    → Reads r b xs s c → Stops s c f
     → (v : Outcome) × IsOutcome (context_of r) (order_in r.past) r.start number b v × IsRun s c f xs number v
 opened_run [] r s b c f number lt opened reads stops =
     let P : BtReader → Type 0 = λ z. Stops z c f in
@@ -114,13 +118,15 @@ opened_run [] r s b c f number lt opened reads stops =
     )
 opened_run ((at, items.Handshake h) ∷ xs) r s b c f number lt opened (t, i, start, gives, reads) stops = absurd (let e = sym opened ∙ gives.0 in cc)
 opened_run ((at, items.Message msg) ∷ xs) r s b c f number lt opened (t, i, start, gives, reads) stops =
-    let rest = opened_run xs t s (drop i.size b) c f (number + 1) (limit_after r t b i msg lt gives.1) (opened_after r t b i msg opened gives.1) reads stops in (
+    let rest = opened_run xs t s (drop i.size b) c f (number + 1) (limit_after r t b i msg lt gives.1) (opened_after r t b i msg opened gives.1) reads
+        stops in (
       with_item r.start (items.Message msg) rest.0,
       after_message r t b i msg number rest.0 lt gives.1 rest.1,
       run_more s c f xs number r.start at (items.Message msg) rest.0 (sym gives.1.start ∙ start) rest.2,
     )
 
-pub run : (xs : List (ℕ × Item)) (r s : BtReader) (b c : List ℕ) (f : Option Refused) → r.own.limit < 2 ^ 32 → is_on r.opened ≡ false → Reads r b xs s c → Stops s c f
+pub run : (xs : List (ℕ × Item)) (r s : BtReader) (b c : List ℕ) (f : Option Refused) → r.own.limit < 2 ^ 32 → is_on r.opened ≡ false → Reads r b xs s c
+    → Stops s c f
     → (v : Outcome) × IsVerdict (own_of r.own) b v × IsRun s c f xs 0 v
 run [] r s b c f lt closed reads stops =
     let P : BtReader → Type 0 = λ z. Stops z c f in
@@ -155,7 +161,8 @@ abbrev pub new_reader : BtOwn → BtReader
 new_reader own = record { own = own; opened = 0; fast = 0; ext = 0; past = 0; start = 0 }
 
 -- an item more
-pub reads_more : (xs : List (ℕ × Item)) (r s t : BtReader) (b c : List ℕ) (i : BtItem) (x : Item) → Reads r b xs s c → Gives s c t i x → Reads r b (xs ++ (i.start, x) ∷ []) t (drop i.size c)
+pub reads_more : (xs : List (ℕ × Item)) (r s t : BtReader) (b c : List ℕ) (i : BtItem) (x : Item) → Reads r b xs s c → Gives s c t i x
+    → Reads r b (xs ++ (i.start, x) ∷ []) t (drop i.size c)
 reads_more [] r s t b c i x reads gives =
     let P : BtReader → Type 0 = λ z. Gives z c t i x in
     let Q : List ℕ → Type 0 = λ z. Gives r z t i x in
@@ -178,7 +185,8 @@ given_size r b s i (items.Message msg) gives = message_size (context_of r) (orde
 opened_stays : (xs : List (ℕ × Item)) (r s : BtReader) (b c : List ℕ) → is_on r.opened ≡ true → Reads r b xs s c → is_on s.opened ≡ true
 opened_stays [] r s b c opened reads = ap (λ z. is_on z.opened) reads.0 ∙ opened
 opened_stays ((at, items.Handshake h) ∷ xs) r s b c opened (t, i, start, gives, reads) = opened_stays xs t s (drop i.size b) c gives.1.opened reads
-opened_stays ((at, items.Message msg) ∷ xs) r s b c opened (t, i, start, gives, reads) = opened_stays xs t s (drop i.size b) c (opened_after r t b i msg opened gives.1) reads
+opened_stays ((at, items.Message msg) ∷ xs) r s b c opened (t, i, start, gives, reads) =
+    opened_stays xs t s (drop i.size b) c (opened_after r t b i msg opened gives.1) reads
 
 not_0 : (n : ℕ) → 0 < n → (n == 0) ≡ false
 not_0 n h = grind (arith, common_steps)
@@ -192,23 +200,27 @@ opened_by ((at, items.Handshake h) ∷ xs) r s b c closed (t, i, start, gives, r
     opened_stays xs t s (drop i.size b) c gives.1.opened reads ∙ sym (not_none (length ((at, items.Handshake h) ∷ xs)) (omega arith))
 opened_by ((at, items.Message msg) ∷ xs) r s b c closed (t, i, start, gives, reads) = absurd (let e = sym gives.0 ∙ closed in cc)
 
-complete : (s : BtReader) (c : List ℕ) (f : Option Refused) (xs : List (ℕ × Item)) (v : Outcome) → is_on s.opened ≡ not (length xs == 0) → IsRun s c f xs 0 v → is_complete_verdict v ≡ is_complete s c
+complete : (s : BtReader) (c : List ℕ) (f : Option Refused) (xs : List (ℕ × Item)) (v : Outcome) → is_on s.opened ≡ not (length xs == 0)
+    → IsRun s c f xs 0 v → is_complete_verdict v ≡ is_complete s c
 complete s c f xs v opened run =
     let number : v.number ≡ length xs = omega (arith, run.number_after) in
-    ap (λ n. not (n == 0) && (length v.tail == 0)) number ∙ ap (λ (z : List ℕ). not (length xs == 0) && (length z == 0)) run.tail ∙ ap (λ k. k && (length c == 0)) (sym opened)
+    ap (λ n. not (n == 0) && (length v.tail == 0)) number ∙ ap (λ (z : List ℕ). not (length xs == 0) && (length z == 0)) run.tail
+        ∙ ap (λ k. k && (length c == 0)) (sym opened)
 
 end_refused : (v : Outcome) (r : Refusal) → v.refusal ≡ Some r → refusal_at_end v ≡ Some r
 end_refused v r e = ap (λ (z : Option Refusal). elim z [ Some q ↦ Some q | None ↦ if is_complete_verdict v then None else Some (end_inside v) ]) e
 
 end_open : (v : Outcome) (k : Bool) → v.refusal ≡ None → is_complete_verdict v ≡ k → refusal_at_end v ≡ (if k then None else Some (end_inside v))
-end_open v k e f = ap (λ (z : Option Refusal). elim z [ Some q ↦ Some q | None ↦ if is_complete_verdict v then None else Some (end_inside v) ]) e ∙ ap (λ z. if z then None else Some (end_inside v)) f
+end_open v k e f = ap (λ (z : Option Refusal). elim z [ Some q ↦ Some q | None ↦ if is_complete_verdict v then None else Some (end_inside v) ]) e
+    ∙ ap (λ z. if z then None else Some (end_inside v)) f
 
 -- what the verdict's struct says
 pub record Says (x : BtVerdict) (b : List ℕ) (i : BtItem) (n count : ℕ) : Type 0 where
   pub end : n ≡ 3 → (x.message ≡ count - 1) × (x.at ≡ length b) × (x.reason ≡ 0)
   pub refused : n ≢ 3 → (x.message ≡ count) × (x.at ≡ min (i.start + i.size) (2 ^ 64 - 1)) × (x.reason ≡ i.reason)
 
-pub checked : (own : BtOwn) (s t : BtReader) (b c : List ℕ) (i : BtItem) (xs : List (ℕ × Item)) (n count : ℕ) (x : BtVerdict) → own.limit < 2 ^ 32 → Reads (new_reader own) b xs s c → length xs ≡ count
+pub checked : (own : BtOwn) (s t : BtReader) (b c : List ℕ) (i : BtItem) (xs : List (ℕ × Item)) (n count : ℕ) (x : BtVerdict) → own.limit < 2 ^ 32
+    → Reads (new_reader own) b xs s c → length xs ≡ count
     → Ends s c t i n → n ≢ 1 → Says x b i n count → (v : Outcome) × IsVerdict (own_of own) b v × ShowsVerdict x b v n
 checked own s t b c i xs n count x lt reads counted (Ends.item y gives) other says = absurd (other refl)
 checked own s t b c i xs n count x lt reads counted (Ends.refused f fault shows same) other says =
@@ -217,14 +229,16 @@ checked own s t b c i xs n count x lt reads counted (Ends.refused f fault shows 
     let told = says.refused (λ e. omega (arith, e)) in
     let r : Refusal = record { message = 0 + length xs; at = start_of s + f.at; reason = f.reason } in
     let P : Option Refusal → Type 0 = λ o. ShowsEnd x b v 2 o in
-    (v, found.1, subst P (sym (end_refused v r found.2.refusal)) (refl, told.0 ∙ sym counted ∙ omega arith, told.1 ∙ omega (arith, shows.start, shows.at), told.2 ∙ shows.reason))
+    (v, found.1, subst P (sym (end_refused v r found.2.refusal)) (refl, told.0 ∙ sym counted ∙ omega arith, told.1 ∙ omega (arith, shows.start, shows.at),
+        told.2 ∙ shows.reason))
 checked own s t b c i xs n count x lt reads counted (Ends.inside lacks unfinished shows same) other says =
     let found = run xs (new_reader own) s b c None lt refl reads lacks in
     let v = found.0 in
     let told = says.refused (λ e. omega (arith, e)) in
     let whole = complete s c None xs v (opened_by xs (new_reader own) s b c refl reads) found.2 ∙ unfinished in
     let P : Option Refusal → Type 0 = λ o. ShowsEnd x b v 2 o in
-    (v, found.1, subst P (sym (end_open v false found.2.refusal whole)) (refl, omega (arith, told.0, counted, found.2.number_after), told.1 ∙ omega (arith, shows.start, shows.at, found.2.start, ap length found.2.tail), told.2 ∙ shows.reason))
+    (v, found.1, subst P (sym (end_open v false found.2.refusal whole)) (refl, omega (arith, told.0, counted, found.2.number_after), told.1
+        ∙ omega (arith, shows.start, shows.at, found.2.start, ap length found.2.tail), told.2 ∙ shows.reason))
 checked own s t b c i xs n count x lt reads counted (Ends.end lacks closed same) other says =
     let found = run xs (new_reader own) s b c None lt refl reads lacks in
     let v = found.0 in

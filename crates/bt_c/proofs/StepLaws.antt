@@ -53,22 +53,27 @@ stopped r b s i j n k steps none either end inside = go either where
   go : (k ≡ 2) ⊎ (k ≡ 3) → Ends r b s j k
   go (inl two) =
       let is = inside two in
-      subst (λ n. Ends r b s j n) (sym two) (Ends.inside lacks (subst (λ z. is_complete z b ≡ false) same is.0) (subst (λ z. IsInside z (length b) j) same is.1) same)
+      subst (λ n. Ends r b s j n) (sym two) (Ends.inside lacks (subst (λ z. is_complete z b ≡ false) same is.0)
+          (subst (λ z. IsInside z (length b) j) same is.1) same)
   go (inr three) = subst (λ n. Ends r b s j n) (sym three) (Ends.end lacks (subst (λ z. is_complete z b ≡ true) same (end three)) same)
 
 -- ---- a message
 
 -- in the context and the order of the reader r
-pub more_opened : (r : BtReader) (b : List ℕ) (i : BtItem) (c : Context) (o : Order) → is_on r.opened ≡ true → c ≡ context_of r → o ≡ order_in r.past → IsPartial c o r.start b → Steps r b r i 0
+pub more_opened : (r : BtReader) (b : List ℕ) (i : BtItem) (c : Context) (o : Order) → is_on r.opened ≡ true → c ≡ context_of r → o ≡ order_in r.past
+    → IsPartial c o r.start b → Steps r b r i 0
 more_opened r b i c o opened k e p =
     Steps.more (Lacks.message opened (subst (λ z. IsPartial z (order_in r.past) r.start b) k (subst (λ z. IsPartial c z r.start b) e p))) refl
 
-pub fault_opened : (r : BtReader) (b : List ℕ) (i : BtItem) (f : Refused) (c : Context) (o : Order) → is_on r.opened ≡ true → c ≡ context_of r → o ≡ order_in r.past → IsFault c o r.start b (Some f) → ShowsFault i r.start f → Steps r b r i 2
+pub fault_opened : (r : BtReader) (b : List ℕ) (i : BtItem) (f : Refused) (c : Context) (o : Order) → is_on r.opened ≡ true → c ≡ context_of r → o
+    ≡ order_in r.past → IsFault c o r.start b (Some f) → ShowsFault i r.start f → Steps r b r i 2
 fault_opened r b i f c o opened k e p shows =
-    Steps.refused f (HasFault.message opened (subst (λ z. IsFault z (order_in r.past) r.start b (Some f)) k (subst (λ z. IsFault c z r.start b (Some f)) e p))) (refused_opened r i f opened shows) refl
+    Steps.refused f (HasFault.message opened (subst (λ z. IsFault z (order_in r.past) r.start b (Some f)) k
+        (subst (λ z. IsFault c z r.start b (Some f)) e p))) (refused_opened r i f opened shows) refl
 
 -- the first n bytes are a message
-pub over_opened : (r s : BtReader) (b : List ℕ) (i : BtItem) (n k : ℕ) (c : Context) (o : Order) → is_on r.opened ≡ true → c ≡ context_of r → o ≡ order_in r.past → r.start < 2 ^ 62 → n ≤ length b → IsWhole c o b n
+pub over_opened : (r s : BtReader) (b : List ℕ) (i : BtItem) (n k : ℕ) (c : Context) (o : Order) → is_on r.opened ≡ true → c ≡ context_of r → o
+    ≡ order_in r.past → r.start < 2 ^ 62 → n ≤ length b → IsWhole c o b n
     → GoesOver c o r (take n b) s i k → Steps r b s i k
 over_opened r s b i n _ c o opened k e lt le whole (GoesOver.refused f fault shows same) =
     subst (λ z. Steps r b z i 2) (sym same) (fault_opened r b i f c o opened k e (front_fault c o r.start b n f lt whole fault) shows)

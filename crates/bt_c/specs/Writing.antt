@@ -55,7 +55,8 @@ DoesNotFit i bytes room = (256 < i.id) ⊎ ((2 ^ 32 ≤ length (rest_of i bytes)
 
 -- the message was written and is judged as the peer r reads it, or it doesn't fit and nothing changed, with the answer 4
 pub data Writes (r : BtReader) (message : BtItem) (bytes : List ℕ) (s : BtReader) (old new : List ℕ) (i : BtItem) (n : ℕ) : Type 0 where
-  written : new ≡ message_bytes message bytes ++ drop (length (message_bytes message bytes)) old → Steps r (message_bytes message bytes) s i n → Writes r message bytes s old new i n
+  written : new ≡ message_bytes message bytes ++ drop (length (message_bytes message bytes)) old → Steps r (message_bytes message bytes) s i n
+      → Writes r message bytes s old new i n
   unwritten : DoesNotFit message bytes (length old) → n ≡ 4 → new ≡ old → s ≡ r → Writes r message bytes s old new i n
 
 -- ---- extended messages that an end writes

@@ -10,7 +10,8 @@ use Rattle.bt_cli.specs.Options.{number_of}
 own : IsNumeralModel (λ t. list_all is_ascii_digit t ≡ true) (digits_value 10)
 own = numerals_by_value _ (search rules)
 
-ok_iff : {E : Type 0} (t : List ℕ) (r : Result ℕ E) → list_all is_ascii_digit t ≡ true → OkIff r ((0 < length t) × (digits_value 10 t < 2 ^ 32)) (digits_value 10 t) → result_ok r ≡ number_of t
+ok_iff : {E : Type 0} (t : List ℕ) (r : Result ℕ E) → list_all is_ascii_digit t ≡ true → OkIff r ((0 < length t) × (digits_value 10 t < 2 ^ 32))
+    (digits_value 10 t) → result_ok r ≡ number_of t
 ok_iff t (Ok x) e h = search rules
 ok_iff t (Err x) e h = search rules
 

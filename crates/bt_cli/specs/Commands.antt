@@ -80,7 +80,8 @@ HasText kind (Told notice text) = notice ≡ kind
 
 -- `show` of standard input is asked for, with the default receiver
 abbrev pub IsShowByDefault : Asked → Type 0
-IsShowByDefault (Run r) = (r.job ≡ Show) × IsDefault r.own × (r.given ≡ record { reserved = false; metadata_id = false }) × (r.other ≡ None) × (r.files.items ≡ [])
+IsShowByDefault (Run r) = (r.job ≡ Show) × IsDefault r.own × (r.given ≡ record { reserved = false; metadata_id = false }) × (r.other ≡ None)
+    × (r.files.items ≡ [])
 IsShowByDefault (Link files) = ⊥
 IsShowByDefault (Fetch job) = ⊥
 IsShowByDefault (Serve job) = ⊥

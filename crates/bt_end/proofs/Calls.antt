@@ -12,7 +12,8 @@ use Rattle.bt_end.specs.declared.reactor.Reactor.{Reactor}
 
 -- ---- a new connection
 
-pub reset_sturdy : {A : Type 0} → (old : Inside A) (f : FeedState) (new : Reactor A) → IsEnd (half_of old) → end_of new ≡ renewed (end_of old.reactor) → length new.outbox.bytes ≡ 68 → IsEnd (half_of (record { feed = f; reactor = new }))
+pub reset_sturdy : {A : Type 0} → (old : Inside A) (f : FeedState) (new : Reactor A) → IsEnd (half_of old) → end_of new ≡ renewed (end_of old.reactor)
+    → length new.outbox.bytes ≡ 68 → IsEnd (half_of (record { feed = f; reactor = new }))
 reset_sturdy old f new h e l =
     let own : new.own ≡ old.reactor.own = ap (λ (x : EndState). x.own) e in
     let limit : new.own.limit ≡ old.reactor.own.limit = ap (λ (x : Own). x.limit) own in

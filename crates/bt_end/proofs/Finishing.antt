@@ -17,7 +17,8 @@ use Rattle.bt_metadata.specs.Blocks.{window}
 use Rattle.bt_metadata.specs.Assemblies.{AssemblyState, with_data, data_error, unless_wrong}
 use Rattle.bt_metadata.specs.declared.assembly.BlockError.{BlockError}
 use Rattle.bt_metadata.proofs.Kept.{data_assembly}
-use Rattle.bt_end.specs.Ends.{Part, Watching, Serving, Awaiting, Fetching, Fetched, EndState, peer_id, may_ask, all_wanted, with_asked, with_all_asked, with_part, requesting, quiet, queueing, reply, assembly_of, begun, learnt, with_block, block_taken, with_refused, by_kind, at_extended, at_message, react}
+use Rattle.bt_end.specs.Ends.{Part, Watching, Serving, Awaiting, Fetching, Fetched, EndState, peer_id, may_ask, all_wanted, with_asked, with_all_asked,
+    with_part, requesting, quiet, queueing, reply, assembly_of, begun, learnt, with_block, block_taken, with_refused, by_kind, at_extended, at_message, react}
 use Rattle.bt_end.specs.Laws.{FetchedIsFinished}
 use Rattle.bt_end.specs.Sturdy.{IsPartOf}
 use Rattle.bt_end.proofs.Fetches.{is_fetched, concluded_finished}
@@ -60,7 +61,8 @@ unless_size (Some x) a b e = refl
 HadOrFetched : Part → List ℕ → Type 0
 HadOrFetched p d = ((p ≡ Fetched d) ⊎ ((a : AssemblyState) × (p ≡ Fetching a) × (length d ≡ a.size)))
 
-block_fetched : (h : List ℕ) (piece total : ℕ) (bytes : List ℕ) (p : Part) (d : List ℕ) → IsPartOf h p → with_block piece total bytes p ≡ Fetched d → HadOrFetched p d
+block_fetched : (h : List ℕ) (piece total : ℕ) (bytes : List ℕ) (p : Part) (d : List ℕ) → IsPartOf h p → with_block piece total bytes p ≡ Fetched d
+    → HadOrFetched p d
 unfolding HadOrFetched
 block_fetched h piece total bytes Watching d i e = inl e
 block_fetched h piece total bytes (Serving x) d i e = inl e
@@ -72,31 +74,37 @@ block_fetched h piece total bytes (Fetched x) d i e = inl e
 
 -- ---- reactions
 
-asked_had : (e : EndState) (d : List ℕ) (t : Bool) → (if t then requesting e (all_wanted window e.window e.part) else quiet e).end.part ≡ Fetched d → e.part ≡ Fetched d
+asked_had : (e : EndState) (d : List ℕ) (t : Bool) → (if t then requesting e (all_wanted window e.window e.part) else quiet e).end.part ≡ Fetched d → e.part
+    ≡ Fetched d
 asked_had e d true h = all_asked_fetched (all_wanted window e.window e.part) e.part d h
 asked_had e d false h = h
 
-replied_had : (e : EndState) (d : List ℕ) (piece : ℕ) (t : Bool) → (if t then queueing e (m.Extended (reply e.part piece) ∷ []) else quiet e).end.part ≡ Fetched d → e.part ≡ Fetched d
+replied_had : (e : EndState) (d : List ℕ) (piece : ℕ) (t : Bool) → (if t then queueing e (m.Extended (reply e.part piece) ∷ []) else quiet e).end.part
+    ≡ Fetched d → e.part ≡ Fetched d
 replied_had e d piece true h = h
 replied_had e d piece false h = h
 
-kind_had : (e : EndState) (d : List ℕ) (k : Kind) (rest : List ℕ) → IsPartOf e.handshake.info_hash e.part → (by_kind e k rest).end.part ≡ Fetched d → HadOrFetched e.part d
+kind_had : (e : EndState) (d : List ℕ) (k : Kind) (rest : List ℕ) → IsPartOf e.handshake.info_hash e.part → (by_kind e k rest).end.part ≡ Fetched d
+    → HadOrFetched e.part d
 unfolding HadOrFetched
 kind_had e d (kind.Request piece) rest i h = inl (replied_had e d piece (is_some (peer_id e)) h)
 kind_had e d (kind.Data piece total) rest i h =
     let x = block_taken e piece total rest in block_fetched e.handshake.info_hash piece total rest e.part d i (asked_had x d (may_ask x) h)
-kind_had e d (kind.Reject piece) rest i h = let x = with_part e (with_refused piece e.part) in inl (refused_fetched piece e.part d (asked_had x d (may_ask x) h))
+kind_had e d (kind.Reject piece) rest i h = let x = with_part e (with_refused piece e.part) in
+    inl (refused_fetched piece e.part d (asked_had x d (may_ask x) h))
 kind_had e d kind.Other rest i h = inl h
 kind_had e d kind.Malformed rest i h = inl h
 
 extended_had : (e : EndState) (d : List ℕ) (x : Ext) → IsPartOf e.handshake.info_hash e.part → (at_extended e x).end.part ≡ Fetched d → HadOrFetched e.part d
 unfolding HadOrFetched
 extended_had e d (ext.Handshake dict rest) i h =
-    let x = learnt e (tree_of dict) in inl (begun_fetched (assembly_of e.handshake.info_hash e.part (size_of (tree_of dict))) e.part d (asked_had x d (may_ask x) h))
+    let x = learnt e (tree_of dict) in inl (begun_fetched (assembly_of e.handshake.info_hash e.part (size_of (tree_of dict))) e.part d
+        (asked_had x d (may_ask x) h))
 extended_had e d (ext.Metadata dict rest) i h = kind_had e d (kind_of (tree_of dict)) rest i h
 extended_had e d (ext.Raw id payload) i h = inl h
 
-message_had : (e : EndState) (d : List ℕ) (msg : Message) → IsPartOf e.handshake.info_hash e.part → (at_message e msg).end.part ≡ Fetched d → HadOrFetched e.part d
+message_had : (e : EndState) (d : List ℕ) (msg : Message) → IsPartOf e.handshake.info_hash e.part → (at_message e msg).end.part ≡ Fetched d
+    → HadOrFetched e.part d
 unfolding HadOrFetched
 message_had e d (m.Extended x) i h = extended_had e d x i h
 message_had e d other i h = inl h

@@ -1,5 +1,6 @@
 -- What every reaction of an end keeps.
-use Rattle.std.proofs.Common.{◌≡◌, ℕ, zero, suc, Bool, true, false, List, [], ◌∷◌, Option, None, Some, is_some, option_map, unwrap_or, count_by, if◌then◌else◌, refl, ap, ◌∙◌, nat_lt, nat_le, ◌&&◌, arith}
+use Rattle.std.proofs.Common.{◌≡◌, ℕ, zero, suc, Bool, true, false, List, [], ◌∷◌, Option, None, Some, is_some, option_map, unwrap_or, count_by,
+    if◌then◌else◌, refl, ap, ◌∙◌, nat_lt, nat_le, ◌&&◌, arith}
 use Rattle.std.proofs.lemmas.Bool.Decides.{nat_tests}
 use Rattle.std.proofs.lemmas.Slice.Eq.{bytes_eq-Decides}
 use Rattle.std.specs.Str.{bytes_eq}
@@ -20,7 +21,9 @@ use Rattle.bt_metadata.specs.Blocks.{max_metadata, window}
 use Rattle.bt_metadata.specs.Assemblies.{AssemblyState, is_asked, ask_of, is_whole, joined, emptied, started, with_data, data_error, piece_error, unless_wrong}
 use Rattle.bt_metadata.proofs.Kept.{asked_assembly, data_assembly, reject_assembly, started_assembly, disconnected_assembly}
 use Rattle.bt_metadata.specs.declared.assembly.BlockError.{BlockError}
-use Rattle.bt_end.specs.Ends.{Part, Watching, Serving, Awaiting, Fetching, Fetched, EndState, peer_id, may_ask, wanted, all_wanted, with_asked, with_all_asked, with_part, requesting, then_asked, quiet, queueing, reply, assembly_of, begun, learnt, with_block, block_taken, with_refused, by_kind, at_extended, at_message, react, part_kept}
+use Rattle.bt_end.specs.Ends.{Part, Watching, Serving, Awaiting, Fetching, Fetched, EndState, peer_id, may_ask, wanted, all_wanted, with_asked,
+    with_all_asked, with_part, requesting, then_asked, quiet, queueing, reply, assembly_of, begun, learnt, with_block, block_taken, with_refused, by_kind,
+    at_extended, at_message, react, part_kept}
 use Rattle.bt_end.specs.Laws.{DoneStays}
 use Rattle.bt_end.specs.Sturdy.{IsFetch, IsPartOf}
 use Rattle.bt_end.proofs.Fetches.{whole_length}
@@ -47,7 +50,8 @@ asked_part h most k (Fetching a) i e =
 asked_part h most k (Fetched x) i e = i
 
 all_asked_by : (h : List ℕ) (n most : ℕ) (o : Option ℕ) (p : Part) → wanted most p ≡ o → IsPartOf h p →
-    ((q : Part) → IsPartOf h q → IsPartOf h (with_all_asked (all_wanted n most q) q)) → IsPartOf h (with_all_asked (unwrap_or (option_map (λ k. k ∷ all_wanted n most (with_asked (Some k) p)) o) []) p)
+    ((q : Part) → IsPartOf h q → IsPartOf h (with_all_asked (all_wanted n most q) q))
+        → IsPartOf h (with_all_asked (unwrap_or (option_map (λ k. k ∷ all_wanted n most (with_asked (Some k) p)) o) []) p)
 all_asked_by h n most None p e i rest = i
 all_asked_by h n most (Some k) p e i rest = rest (with_asked (Some k) p) (asked_part h most k p i e)
 
@@ -93,7 +97,8 @@ refused_part h piece Awaiting i = i
 refused_part h piece (Fetching a) i = record { hash_is = unless_hash (piece_error a piece) a _ refl ∙ i.hash_is; assembly = reject_assembly a piece i.assembly }
 refused_part h piece (Fetched x) i = i
 
-begun_size : (h : List ℕ) (size : ℕ) (s t : Bool) → nat_lt 0 size ≡ s → nat_le size max_metadata ≡ t → IsPartOf h (begun (if s && t then Some (started h size) else None) Awaiting)
+begun_size : (h : List ℕ) (size : ℕ) (s t : Bool) → nat_lt 0 size ≡ s → nat_le size max_metadata ≡ t
+    → IsPartOf h (begun (if s && t then Some (started h size) else None) Awaiting)
 begun_size h size true true e f = record { hash_is = refl; assembly = started_assembly h size (grind (arith, nat_tests)) (grind (arith, nat_tests)) }
 begun_size h size true false e f = tt
 begun_size h size false t e f = tt
@@ -118,14 +123,16 @@ kept_part h (Fetched x) i = i
 requesting_keeps : (e : EndState) → IsPartOf e.handshake.info_hash e.part → Keeps e (requesting e (all_wanted window e.window e.part)).end
 requesting_keeps e i = record { own = refl; handshake = refl; part = all_asked_part e.handshake.info_hash window e.window e.part i }
 
-asked_by : (e : EndState) (t : Bool) → IsPartOf e.handshake.info_hash e.part → Keeps e (if t then requesting e (all_wanted window e.window e.part) else quiet e).end
+asked_by : (e : EndState) (t : Bool) → IsPartOf e.handshake.info_hash e.part
+    → Keeps e (if t then requesting e (all_wanted window e.window e.part) else quiet e).end
 asked_by e true i = requesting_keeps e i
 asked_by e false i = record { own = refl; handshake = refl; part = i }
 
 asked_keeps : (e : EndState) → IsPartOf e.handshake.info_hash e.part → Keeps e (then_asked e).end
 asked_keeps e i = asked_by e (may_ask e) i
 
-replied_by : (e : EndState) (piece : ℕ) (t : Bool) → IsPartOf e.handshake.info_hash e.part → Keeps e (if t then queueing e (m.Extended (reply e.part piece) ∷ []) else quiet e).end
+replied_by : (e : EndState) (piece : ℕ) (t : Bool) → IsPartOf e.handshake.info_hash e.part
+    → Keeps e (if t then queueing e (m.Extended (reply e.part piece) ∷ []) else quiet e).end
 replied_by e piece true i = record { own = refl; handshake = refl; part = i }
 replied_by e piece false i = record { own = refl; handshake = refl; part = i }
 
@@ -178,7 +185,8 @@ unfolding IsDone
 done_asked_by e d true h = done_requesting e d (all_wanted window e.window e.part) h
 done_asked_by e d false h = h
 
-done_replied : (e : EndState) (d : List ℕ) (piece : ℕ) (t : Bool) → IsDone e d → IsDone (if t then queueing e (m.Extended (reply e.part piece) ∷ []) else quiet e).end d
+done_replied : (e : EndState) (d : List ℕ) (piece : ℕ) (t : Bool) → IsDone e d
+    → IsDone (if t then queueing e (m.Extended (reply e.part piece) ∷ []) else quiet e).end d
 unfolding IsDone
 done_replied e d piece true h = h
 done_replied e d piece false h = h

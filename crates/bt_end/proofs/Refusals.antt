@@ -1,5 +1,6 @@
 -- An end that refused what came refuses it again.
-use Rattle.std.proofs.Common.{◌≡◌, ℕ, ◌<◌, ◌^◌, Bool, true, false, ◌||◌, List, [], ◌∷◌, ◌++◌, take, Option, None, Some, Result, Ok, Err, refl, sym, ap, subst, ◌∙◌, arith, inr, append-nil, cond, suc}
+use Rattle.std.proofs.Common.{◌≡◌, ℕ, ◌<◌, ◌^◌, Bool, true, false, ◌||◌, List, [], ◌∷◌, ◌++◌, take, Option, None, Some, Result, Ok, Err, refl, sym, ap,
+    subst, ◌∙◌, arith, inr, append-nil, cond, suc}
 use Rattle.std.specs.Prelude.{is_some, is_none}
 use Rattle.bt_wire.specs.declared.item.Item.{Item}
 use Rattle.bt_wire.specs.declared.item.Refusal.{Refusal}
@@ -51,7 +52,8 @@ answer_is f r answer h i = answer_only f answer (Err r) h.limit i h.answer
 not_busy : (a : HalfState) (r : Refusal) → IsRefused a.feed r → is_busy a ≡ false
 not_busy a r h = rw h.given refl
 
-turns : (a : HalfState) (r : Refusal) (answer : Result Turn TurnError) (b : HalfState) → IsRefused a.feed r → IsTurned a answer b → (answer ≡ Err (turn_error.Refused r)) × (b ≡ a)
+turns : (a : HalfState) (r : Refusal) (answer : Result Turn TurnError) (b : HalfState) → IsRefused a.feed r → IsTurned a answer b
+    → (answer ≡ Err (turn_error.Refused r)) × (b ≡ a)
 turns a r (Ok Handled) b h (item, i, e) = let x : Ok (Some item) ≡ Err r = answer_is a.feed r (Ok (Some item)) h i.1 in absurd cc
 turns a r (Ok Idle) b h (i, e) = let x : Ok None ≡ Err r = answer_is a.feed r (Ok None) h i.1 in absurd cc
 turns a r (Err (turn_error.Refused s)) b h (i, e) =
@@ -71,7 +73,8 @@ or_true false t e = e
 not_open : (a : HalfState) (r : Refusal) (msg : Message) → IsRefused a.feed r → unsaid_by a msg ≡ Some say_error.NotOpen
 not_open a r msg h = rw (or_true (is_none a.end.context) (is_some (standing a.feed)) (stands a.feed r h)) refl
 
-says : (a : HalfState) (r : Refusal) (msg : Message) (answer : Result Unit SayError) (b : HalfState) → IsRefused a.feed r → IsSaid a msg answer b → (answer ≡ Err say_error.NotOpen) × (b ≡ a)
+says : (a : HalfState) (r : Refusal) (msg : Message) (answer : Result Unit SayError) (b : HalfState) → IsRefused a.feed r → IsSaid a msg answer b
+    → (answer ≡ Err say_error.NotOpen) × (b ≡ a)
 says a r msg (Ok x) b h s = let y : Some say_error.NotOpen ≡ None = sym (not_open a r msg h) ∙ s.0.0 in absurd cc
 says a r msg (Err say_error.NotOpen) b h s = (refl, s.1)
 says a r msg (Err say_error.Busy) b h s = let y : Some say_error.NotOpen ≡ Some say_error.Busy = sym (not_open a r msg h) ∙ s.0 in absurd cc
@@ -104,5 +107,6 @@ refuses a r h = record {
 
 pub refusal_stays : RefusalStays
 refusal_stays a b c r calls fed t cs =
-    let h : IsRefused b.feed r = subst (λ (x : HalfState). IsRefused x.feed r) (sym t.1) (record { given = refl; answer = t.0.1; limit = omega (arith, fed.limit) }) in
+    let h : IsRefused b.feed r = subst (λ (x : HalfState). IsRefused x.feed r) (sym t.1)
+        (record { given = refl; answer = t.0.1; limit = omega (arith, fed.limit) }) in
     refuses c r (all_called b c r calls h cs)

@@ -1,5 +1,6 @@
 -- What an end says.
-use Rattle.std.proofs.Common.{◌≡◌, ℕ, ◌+◌, ◌≤◌, Bool, true, false, ◌||◌, ◌&&◌, if◌then◌else◌, nat_le, List, [], ◌∷◌, ◌++◌, length, Option, None, Some, Result, Ok, Err, refl, sym, ap, subst, ◌∙◌, arith, inl, inr, length-append, append-nil}
+use Rattle.std.proofs.Common.{◌≡◌, ℕ, ◌+◌, ◌≤◌, Bool, true, false, ◌||◌, ◌&&◌, if◌then◌else◌, nat_le, List, [], ◌∷◌, ◌++◌, length, Option, None, Some,
+    Result, Ok, Err, refl, sym, ap, subst, ◌∙◌, arith, inl, inr, length-append, append-nil}
 use Rattle.std.specs.Prelude.{is_some, is_none}
 use Rattle.bt_wire.specs.declared.context.Context.{Context}
 use Rattle.bt_wire.specs.declared.context.Order.{Order}
@@ -18,7 +19,8 @@ use Rattle.bt_end.specs.declared.end.End.TheInside.{Inside}
 use Rattle.bt_end.specs.declared.reactor.Reactor.{Reactor}
 use Rattle.bt_end.proofs.Turns.{same_half}
 
-pub length_put : (old new : List ℕ) (c : Context) (o : Order) (msg : Message) → new ≡ old ++ spell c msg → IsLegal c o msg → length new ≤ length old + (4 + c.limit)
+pub length_put : (old new : List ℕ) (c : Context) (o : Order) (msg : Message) → new ≡ old ++ spell c msg → IsLegal c o msg
+    → length new ≤ length old + (4 + c.limit)
 length_put old new c o msg e h =
     omega (arith, ap (length {A = ℕ}) e, length-append old (spell c msg), length-append (be32 (length (body c msg))) (body c msg), h.short)
 
@@ -34,7 +36,8 @@ is_judged (Some (say_error.Illegal f)) = true
 is_judged (Some say_error.Memory) = true
 
 unjudged_by : (s t u v : Bool) →
-    is_judged (if s then Some say_error.NotOpen else (if t then Some say_error.Busy else (if u then Some say_error.Extended else (if v then Some say_error.PiecesUnknown else None)))) ≡ false
+    is_judged (if s then Some say_error.NotOpen else (if t then Some say_error.Busy else
+        (if u then Some say_error.Extended else (if v then Some say_error.PiecesUnknown else None)))) ≡ false
 unfolding is_judged
 unjudged_by true t u v = refl
 unjudged_by false true u v = refl
@@ -50,14 +53,17 @@ unjudged e refused n msg = unjudged_by (is_none e.context || refused) (nat_le hi
 same_saying : {A : Type 0} → (old : Inside A) (new : Reactor A) → IsSame old.reactor new → half_of (record { feed = old.feed; reactor = new }) ≡ half_of old
 same_saying old new s = same_half (end_of new) (end_of old.reactor) old.feed old.feed new.outbox.bytes old.reactor.outbox.bytes s.end refl s.bytes
 
-said_ok : {A : Type 0} → (old : Inside A) (new : Reactor A) (msg : Message) → IsPut old.reactor new msg → half_of (record { feed = old.feed; reactor = new }) ≡ reacted (half_of old) (queueing (end_of old.reactor) (msg ∷ []))
+said_ok : {A : Type 0} → (old : Inside A) (new : Reactor A) (msg : Message) → IsPut old.reactor new msg
+    → half_of (record { feed = old.feed; reactor = new }) ≡ reacted (half_of old) (queueing (end_of old.reactor) (msg ∷ []))
 said_ok old new msg p =
     let e = (queueing (end_of old.reactor) (msg ∷ [])).end in
     let bytes = old.reactor.outbox.bytes in
     let one = spell (belief (end_of old.reactor)) msg in
-    same_half (end_of new) e old.feed old.feed new.outbox.bytes (bytes ++ (one ++ [])) p.end refl (p.queued ∙ ap (λ (xs : List ℕ). bytes ++ xs) (sym (append-nil one)))
+    same_half (end_of new) e old.feed old.feed new.outbox.bytes (bytes ++ (one ++ [])) p.end refl (p.queued
+        ∙ ap (λ (xs : List ℕ). bytes ++ xs) (sym (append-nil one)))
 
-said_inside : {A : Type 0} → (old : Inside A) (msg : Message) (result : Result Unit SayError) (new : Reactor A) → IsSpoken old.reactor (is_some (standing old.feed)) msg result new →
+said_inside : {A : Type 0} → (old : Inside A) (msg : Message) (result : Result Unit SayError) (new : Reactor A)
+    → IsSpoken old.reactor (is_some (standing old.feed)) msg result new →
     IsSaid (half_of old) msg result (half_of (record { feed = old.feed; reactor = new }))
 unfolding is_judged
 said_inside old msg (Ok x) new h = ((h.0, h.1.legal), said_ok old new msg h.1)
@@ -76,7 +82,8 @@ said_inside old msg (Err say_error.Memory) new (s, inl e) =
     let b : true ≡ false = sym (ap is_judged e) ∙ unjudged (end_of old.reactor) (is_some (standing old.feed)) (length old.reactor.outbox.bytes) msg in absurd cc
 said_inside old msg (Err say_error.Memory) new (s, inr e) = ((e.0, e.1.0), same_saying old new s)
 
-pub said : {A : Type 0} → (old : Inside A) (a : HalfState) (refused : Bool) (msg : Message) (result : Result Unit SayError) (new : Reactor A) → half_of old ≡ a → refused ≡ is_some (standing old.feed) →
+pub said : {A : Type 0} → (old : Inside A) (a : HalfState) (refused : Bool) (msg : Message) (result : Result Unit SayError) (new : Reactor A) → half_of old
+    ≡ a → refused ≡ is_some (standing old.feed) →
     IsSpoken old.reactor refused msg result new → IsSaid a msg result (half_of (record { feed = old.feed; reactor = new }))
 said old a refused msg result new v r h =
     subst (λ (x : HalfState). IsSaid x msg result (half_of (record { feed = old.feed; reactor = new }))) v

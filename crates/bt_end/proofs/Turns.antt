@@ -1,5 +1,6 @@
 -- Turns of an end.
-use Rattle.std.proofs.Common.{◌≡◌, ℕ, ◌<◌, Bool, true, false, ◌&&◌, ◌||◌, nat_le, List, ◌++◌, length, Option, None, Some, Result, Ok, Err, refl, sym, ap, subst, ◌∙◌, arith, inl, inr}
+use Rattle.std.proofs.Common.{◌≡◌, ℕ, ◌<◌, Bool, true, false, ◌&&◌, ◌||◌, nat_le, List, ◌++◌, length, Option, None, Some, Result, Ok, Err, refl, sym, ap,
+    subst, ◌∙◌, arith, inl, inr}
 use Rattle.std.specs.Prelude.{is_some, IfSome}
 use Rattle.std.proofs.lemmas.Bool.{le-leb, cases_lt}
 use Rattle.bt_wire.specs.declared.fault.Refused.{Refused as Fault}
@@ -64,13 +65,16 @@ pub record IsKept {A : Type 0} (old new : Inside A) : Type 0 where
   pub end : end_of new.reactor ≡ end_of old.reactor
   pub bytes : new.reactor.outbox.bytes ≡ old.reactor.outbox.bytes
 
-pub same_half : (a b : EndState) (f g : FeedState) (x y : List ℕ) → a ≡ b → f ≡ g → x ≡ y → Path HalfState (record { end = a; feed = f; outbox = x }) (record { end = b; feed = g; outbox = y })
+pub same_half : (a b : EndState) (f g : FeedState) (x y : List ℕ) → a ≡ b → f ≡ g → x ≡ y → Path HalfState (record { end = a; feed = f; outbox = x })
+    (record { end = b; feed = g; outbox = y })
 same_half a b f g x y p q r = rw (p, q, r) refl
 
 pub kept_half : {A : Type 0} → (old new : Inside A) → IsKept old new → half_of new ≡ half_of old
-kept_half old new k = same_half (end_of new.reactor) (end_of old.reactor) new.feed old.feed new.reactor.outbox.bytes old.reactor.outbox.bytes k.end k.feed k.bytes
+kept_half old new k = same_half (end_of new.reactor) (end_of old.reactor) new.feed old.feed new.reactor.outbox.bytes old.reactor.outbox.bytes k.end k.feed
+    k.bytes
 
-pub turned : {A : Type 0} → (mid : Inside A) (f : FeedState) (new : Reactor A) (item : Item) → f ≡ after mid.feed (Ok (Some item)) → IsReacted mid.reactor new (react (end_of mid.reactor) item) →
+pub turned : {A : Type 0} → (mid : Inside A) (f : FeedState) (new : Reactor A) (item : Item) → f ≡ after mid.feed (Ok (Some item))
+    → IsReacted mid.reactor new (react (end_of mid.reactor) item) →
     half_of (record { feed = f; reactor = new }) ≡ reacted (with_feed (half_of mid) (after mid.feed (Ok (Some item)))) (react (end_of mid.reactor) item)
 turned mid f new item e h =
     let r = react (end_of mid.reactor) item in
@@ -88,7 +92,8 @@ short t n a b =
 pub free : (a : HalfState) (item : Item) → IsFeed a.feed → IsItem a.feed.stage a.feed.held item → is_busy a ≡ false → length a.outbox < high_water
 free a item h i b = short (is_ready a.feed) (length a.outbox) (item_ready a.feed item h i) b
 
-pub turned_sturdy : {A : Type 0} → (mid : Inside A) (f : FeedState) (new : Reactor A) (item : Item) → IsEnd (half_of mid) → length mid.reactor.outbox.bytes < high_water →
+pub turned_sturdy : {A : Type 0} → (mid : Inside A) (f : FeedState) (new : Reactor A) (item : Item) → IsEnd (half_of mid)
+    → length mid.reactor.outbox.bytes < high_water →
     IsReacted mid.reactor new (react (end_of mid.reactor) item) → IsEnd (half_of (record { feed = f; reactor = new }))
 turned_sturdy mid f new item h l r =
     let e = (react (end_of mid.reactor) item).end in
@@ -105,14 +110,16 @@ turned_sturdy mid f new item h l r =
 
 -- ---- the clauses of a turn
 
-pub kept_by : {A : Type 0} → (old mid : Inside A) (r : Reactor A) → mid ≡ record { feed = old.feed; reactor = r } → end_of r ≡ end_of old.reactor → r.outbox.bytes ≡ old.reactor.outbox.bytes → IsKept old mid
+pub kept_by : {A : Type 0} → (old mid : Inside A) (r : Reactor A) → mid ≡ record { feed = old.feed; reactor = r } → end_of r ≡ end_of old.reactor
+    → r.outbox.bytes ≡ old.reactor.outbox.bytes → IsKept old mid
 kept_by {A = A} old mid r e p q = record {
   feed = ap (λ (i : Inside A). i.feed) e;
   end = ap (λ (i : Inside A). end_of i.reactor) e ∙ p;
   bytes = ap (λ (i : Inside A). i.reactor.outbox.bytes) e ∙ q;
 }
 
-pub handled : {A : Type 0} → (old mid : Inside A) (a : HalfState) (f : FeedState) (new : Reactor A) (view : View) (x : Result (Option View) TakeError) → half_of old ≡ a → IsKept old mid → is_busy (half_of old) ≡ false →
+pub handled : {A : Type 0} → (old mid : Inside A) (a : HalfState) (f : FeedState) (new : Reactor A) (view : View) (x : Result (Option View) TakeError)
+    → half_of old ≡ a → IsKept old mid → is_busy (half_of old) ≡ false →
     x ≡ Ok (Some view) → IsAnswer mid.feed (shown x) → f ≡ after mid.feed (shown x) → IsReacted mid.reactor new (react (end_of mid.reactor) (item_of view)) →
     IsTurned a (Ok Handled) (half_of (record { feed = f; reactor = new }))
 handled old mid a f new view x v k b o i e h =
@@ -120,10 +127,13 @@ handled old mid a f new view x v k b o i e h =
     let busy : is_busy (half_of mid) ≡ false = ap is_busy p ∙ b in
     let answer : IsAnswer mid.feed (Ok (Some (item_of view))) = subst (λ (y : Result (Option View) TakeError). IsAnswer mid.feed (shown y)) o i in
     let left : f ≡ after mid.feed (Ok (Some (item_of view))) = e ∙ ap (λ (y : Result (Option View) TakeError). after mid.feed (shown y)) o in
-    subst (λ (y : HalfState). IsTurned y (Ok Handled) (half_of (record { feed = f; reactor = new }))) (p ∙ v) (item_of view, (busy, answer), turned mid f new (item_of view) left h)
+    subst (λ (y : HalfState). IsTurned y (Ok Handled) (half_of (record { feed = f; reactor = new }))) (p ∙ v) (item_of view, (busy, answer),
+        turned mid f new (item_of view) left h)
 
-pub refused : {A : Type 0} → (old mid : Inside A) (a : HalfState) (f : FeedState) (r : Refusal) (s : HalfState) (x : Result (Option View) TakeError) → half_of old ≡ a → IsKept old mid → is_busy (half_of old) ≡ false →
-    x ≡ Err (error.Refused r) → IsAnswer mid.feed (shown x) → f ≡ after mid.feed (shown x) → s ≡ half_of (record { feed = f; reactor = mid.reactor }) → IsTurned a (Err (turn_error.Refused r)) s
+pub refused : {A : Type 0} → (old mid : Inside A) (a : HalfState) (f : FeedState) (r : Refusal) (s : HalfState) (x : Result (Option View) TakeError)
+    → half_of old ≡ a → IsKept old mid → is_busy (half_of old) ≡ false →
+    x ≡ Err (error.Refused r) → IsAnswer mid.feed (shown x) → f ≡ after mid.feed (shown x) → s ≡ half_of (record { feed = f; reactor = mid.reactor })
+        → IsTurned a (Err (turn_error.Refused r)) s
 refused old mid a f r s x v k b o i e q =
     let p : half_of mid ≡ half_of old = kept_half old mid k in
     let busy : is_busy (half_of mid) ≡ false = ap is_busy p ∙ b in
@@ -132,8 +142,10 @@ refused old mid a f r s x v k b o i e q =
     let same : s ≡ with_feed (half_of mid) (after mid.feed (Err r)) = q ∙ ap (λ (y : FeedState). with_feed (half_of mid) y) left in
     subst (λ (y : HalfState). IsTurned y (Err (turn_error.Refused r)) s) (p ∙ v) ((busy, answer), same)
 
-pub sturdy : {A : Type 0} → (old mid : Inside A) (f : FeedState) (new : Reactor A) (view : View) (x : Result (Option View) TakeError) → IsKept old mid → is_busy (half_of old) ≡ false → IsFeed old.feed → IsEnd (half_of old) →
-    x ≡ Ok (Some view) → IsAnswer mid.feed (shown x) → IsReacted mid.reactor new (react (end_of mid.reactor) (item_of view)) → IsEnd (half_of (record { feed = f; reactor = new }))
+pub sturdy : {A : Type 0} → (old mid : Inside A) (f : FeedState) (new : Reactor A) (view : View) (x : Result (Option View) TakeError) → IsKept old mid
+    → is_busy (half_of old) ≡ false → IsFeed old.feed → IsEnd (half_of old) →
+    x ≡ Ok (Some view) → IsAnswer mid.feed (shown x) → IsReacted mid.reactor new (react (end_of mid.reactor) (item_of view))
+        → IsEnd (half_of (record { feed = f; reactor = new }))
 sturdy old mid f new view x k b h s o i r =
     let p : half_of mid ≡ half_of old = kept_half old mid k in
     let busy : is_busy (half_of mid) ≡ false = ap is_busy p ∙ b in

@@ -65,7 +65,8 @@ pub record Refuses (a : HalfState) (r : Refusal) : Type 0 where
 
 -- After a turn that answered a refusal, and whatever calls on this connection, the end refuses all with this refusal.
 abbrev pub RefusalStays : Type 0
-RefusalStays = (a b c : HalfState) (r : Refusal) (calls : List Call) → IsFeed a.feed → IsTurned a (Err (turn_error.Refused r)) b → AreCalled b calls c → Refuses c r
+RefusalStays = (a b c : HalfState) (r : Refusal) (calls : List Call) → IsFeed a.feed → IsTurned a (Err (turn_error.Refused r)) b → AreCalled b calls c
+    → Refuses c r
 
 -- ---- the peer
 

@@ -60,7 +60,8 @@ course_heard a piece n e =
     subst P (sym e) (
       record {
         items = [];
-        fed = record { comes = λ later v k. let R : List ℕ → Type 0 = λ b. Comes a.feed.stage b v in subst R (append_assoc a.feed.held (take (taken a.feed piece) piece) later) k };
+        fed = record { comes = λ later v k. let R : List ℕ → Type 0 = λ b. Comes a.feed.stage b v in
+            subst R (append_assoc a.feed.held (take (taken a.feed piece) piece) later) k };
         end = refl;
         bytes = append-nil a.outbox;
       },
@@ -75,7 +76,8 @@ course_sent a n = record {
   bytes = append-nil a.outbox ∙ sym (take-append-drop n a.outbox);
 }
 
-abbrev course_item : (a : HalfState) (item : Item) → limit_of a.feed.stage ≤ 1048576 → IsItem a.feed.stage a.feed.held item → Course a (reacted (with_feed a (after a.feed (Ok (Some item)))) (react a.end item)) [] []
+abbrev course_item : (a : HalfState) (item : Item) → limit_of a.feed.stage ≤ 1048576 → IsItem a.feed.stage a.feed.held item
+    → Course a (reacted (with_feed a (after a.feed (Ok (Some item)))) (react a.end item)) [] []
 course_item a item l is =
     let r = react a.end item in
     record {
@@ -104,11 +106,13 @@ course_turned a b (Err turn_error.Busy) l h = to a b a 0 h.1 (course_none a, ref
 course_turned a b (Err turn_error.Memory) l h = to a b a 0 h.3 (course_none a, refl)
 
 -- bytes were given, and a turn followed
-pub course_round : (a b c : HalfState) (piece : List ℕ) (n : ℕ) (r : Result Turn TurnError) → limit_of a.feed.stage ≤ 1048576 → n ≡ taken a.feed piece → b ≡ received a piece → IsTurned b r c → CourseOf a c (take n piece) [] (turned_items r)
+pub course_round : (a b c : HalfState) (piece : List ℕ) (n : ℕ) (r : Result Turn TurnError) → limit_of a.feed.stage ≤ 1048576 → n ≡ taken a.feed piece → b
+    ≡ received a piece → IsTurned b r c → CourseOf a c (take n piece) [] (turned_items r)
 course_round a b c piece n r l e f t =
     let m = received a piece in
     let turned : IsTurned m r c = let P : HalfState → Type 0 = λ x. IsTurned x r c in subst P f t in
     let first = course_heard a piece n e in
     let next = course_turned m c r l turned in
     let P : List ℕ → Type 0 = λ h. CourseOf a c h [] (turned_items r) in
-    subst P (append-nil (take n piece)) (course_both a m c (take n piece) [] [] [] first.0 next.0, omega (arith, length-append first.0.items next.0.items, first.1, next.1))
+    subst P (append-nil (take n piece)) (course_both a m c (take n piece) [] [] [] first.0 next.0, omega (arith, length-append first.0.items next.0.items,
+        first.1, next.1))

@@ -1,5 +1,6 @@
 -- What an end and its connection do, put together from their calls.
-use Rattle.std.proofs.Common.{◌≡◌, ◌==◌, ◌+◌, ◌-◌, ◌^◌, ◌<◌, ◌≤◌, ◌&&◌, nat_lt, nat_le, ℕ, zero, suc, Bool, true, false, List, [], ◌∷◌, ◌++◌, length, take, drop, Option, Some, None, Result, Ok, Err, refl, sym, ap, subst, ◌∙◌, arith, length-append, length-drop}
+use Rattle.std.proofs.Common.{◌≡◌, ◌==◌, ◌+◌, ◌-◌, ◌^◌, ◌<◌, ◌≤◌, ◌&&◌, nat_lt, nat_le, ℕ, zero, suc, Bool, true, false, List, [], ◌∷◌, ◌++◌, length, take,
+    drop, Option, Some, None, Result, Ok, Err, refl, sym, ap, subst, ◌∙◌, arith, length-append, length-drop}
 use Rattle.std.proofs.lemmas.List.{append-nil, append_assoc, take-append-drop}
 use Rattle.std.proofs.lemmas.Bool.{and_parts, leb-true}
 use Rattle.std.proofs.KnownBytes.{Consumes-nil, Consumes-trans, Consumes-kept, Appends-nil, Appends-trans, Appends-kept}
@@ -67,7 +68,8 @@ made_none m = record { moved = moved_none m; items = omega arith; calls = λ l. 
 
 pub made_both : (a b c : Moment) (m n : ℕ) → IsMade m a b → IsMade n b c → IsMade (m + n) a c
 made_both a b c m n p q =
-    let both : length (p.moved.course.items ++ q.moved.course.items) ≡ length p.moved.course.items + length q.moved.course.items = length-append p.moved.course.items q.moved.course.items in
+    let both : length (p.moved.course.items ++ q.moved.course.items) ≡ length p.moved.course.items + length q.moved.course.items =
+        length-append p.moved.course.items q.moved.course.items in
     record {
       moved = moved_both a b c p.moved q.moved;
       items = omega (arith, both, p.items, q.items);
@@ -83,14 +85,16 @@ steps_most (Ok x) = omega arith
 steps_most (Err e) = omega arith
 
 -- a step that made a call, and handled no item
-advanced_call : (old new : Moment) (r : Result Step Stop) (m : IsMoved old new) → length m.course.items ≡ 0 → items_of r ≡ 0 → (is_still r ≡ true → (m.got ≡ []) × (m.sent ≡ [])) → new.seen.counts.calls ≡ one_more old.seen.counts.calls → IsStep old new r
+advanced_call : (old new : Moment) (r : Result Step Stop) (m : IsMoved old new) → length m.course.items ≡ 0 → items_of r ≡ 0
+    → (is_still r ≡ true → (m.got ≡ []) × (m.sent ≡ [])) → new.seen.counts.calls ≡ one_more old.seen.counts.calls → IsStep old new r
     → IsAdvanced old new r
 advanced_call old new r m none items still c step = record {
   made = record {
     moved = m;
     items = omega (arith, none);
     calls = λ l. omega (arith, called_once old.seen.counts.calls new.seen.counts.calls c l);
-    steps = λ l. omega (arith, called_once old.seen.counts.calls new.seen.counts.calls c l, none, steps_most r, idle_most (length old.half.outbox + length old.pending));
+    steps = λ l. omega (arith, called_once old.seen.counts.calls new.seen.counts.calls c l, none, steps_most r,
+        idle_most (length old.half.outbox + length old.pending));
   };
   items = none ∙ sym items;
   still = still;
@@ -129,41 +133,50 @@ healthy : (s t : Counts) (n : ℕ) (b : Bool) → 0 < n → t.failed ≡ counted
 healthy s t n b l e = e ∙ ap (λ (x : Bool). counted (x && b) s.failed) (some n l)
 
 -- a read that gave bytes
-read_some : (E : Type 0) (s t : Seen) (a : HalfState) (n : ℕ) (bytes : List ℕ) → 0 < n → Fills {E = E} s t (Ok (Some n)) bytes → t.counts ≡ read_counts {E = E} (Ok (Some n)) 1 s.counts → IsAdvanced (moment s [] a) (moment t bytes a) (Ok step.Moved)
+read_some : (E : Type 0) (s t : Seen) (a : HalfState) (n : ℕ) (bytes : List ℕ) → 0 < n → Fills {E = E} s t (Ok (Some n)) bytes → t.counts
+    ≡ read_counts {E = E} (Ok (Some n)) 1 s.counts → IsAdvanced (moment s [] a) (moment t bytes a) (Ok step.Moved)
 read_some E s t a n bytes l h c =
     advanced_call (moment s [] a) (moment t bytes a) (Ok step.Moved) (reading s t a bytes h.0 h.1) refl refl (λ e. absurd cc) (ap (λ (x : Counts). x.calls) c)
     (record { ends = calm s.counts t.counts n true l (ap (λ (x : Counts). x.ends) c); failed = ap (λ (x : Counts). x.failed) c })
 
-read_end : (E : Type 0) (s t : Seen) (a : HalfState) (bytes : List ℕ) → Fills {E = E} s t (Ok (Some 0)) bytes → t.counts ≡ read_counts {E = E} (Ok (Some 0)) 1 s.counts → IsAdvanced (moment s [] a) (moment t bytes a) (Err stop.Closed)
+read_end : (E : Type 0) (s t : Seen) (a : HalfState) (bytes : List ℕ) → Fills {E = E} s t (Ok (Some 0)) bytes → t.counts
+    ≡ read_counts {E = E} (Ok (Some 0)) 1 s.counts → IsAdvanced (moment s [] a) (moment t bytes a) (Err stop.Closed)
 read_end E s t a bytes h c =
     advanced_call (moment s [] a) (moment t bytes a) (Err stop.Closed) (reading s t a bytes h.0 h.1) refl refl (λ e. absurd cc) (ap (λ (x : Counts). x.calls) c)
     (grown s.counts.ends t.counts.ends (ap (λ (x : Counts). x.ends) c), ap (λ (x : Counts). x.failed) c)
 
-read_none : (E : Type 0) (s t : Seen) (a : HalfState) (bytes : List ℕ) → Fills {E = E} s t (Ok None) bytes → t.counts ≡ read_counts {E = E} (Ok None) 1 s.counts → IsAdvanced (moment s [] a) (moment t bytes a) (Ok step.Waited)
+read_none : (E : Type 0) (s t : Seen) (a : HalfState) (bytes : List ℕ) → Fills {E = E} s t (Ok None) bytes → t.counts
+    ≡ read_counts {E = E} (Ok None) 1 s.counts → IsAdvanced (moment s [] a) (moment t bytes a) (Ok step.Waited)
 read_none E s t a bytes h c =
     let P : List ℕ → Type 0 = λ l. IsAdvanced (moment s [] a) (moment t l a) (Ok step.Waited) in
-    subst P (sym h.0) (advanced_call (moment s [] a) (moment t [] a) (Ok step.Waited) (reading s t a [] (same_coming s t h.1) h.2) refl refl (λ e. (refl, refl)) (ap (λ (x : Counts). x.calls) c)
+    subst P (sym h.0) (advanced_call (moment s [] a) (moment t [] a) (Ok step.Waited) (reading s t a [] (same_coming s t h.1) h.2) refl refl
+        (λ e. (refl, refl)) (ap (λ (x : Counts). x.calls) c)
     (record { ends = ap (λ (x : Counts). x.ends) c; failed = ap (λ (x : Counts). x.failed) c }, refl))
 
-read_failed : {E : Type 0} (s t : Seen) (a : HalfState) (e : E) (bytes : List ℕ) → Fills s t (Err e) bytes → t.counts ≡ read_counts (Err e) 1 s.counts → IsAdvanced (moment s [] a) (moment t bytes a) (Err stop.Failed)
+read_failed : {E : Type 0} (s t : Seen) (a : HalfState) (e : E) (bytes : List ℕ) → Fills s t (Err e) bytes → t.counts ≡ read_counts (Err e) 1 s.counts
+    → IsAdvanced (moment s [] a) (moment t bytes a) (Err stop.Failed)
 read_failed s t a e bytes h c =
     let P : List ℕ → Type 0 = λ l. IsAdvanced (moment s [] a) (moment t l a) (Err stop.Failed) in
-    subst P (sym h.0) (advanced_call (moment s [] a) (moment t [] a) (Err stop.Failed) (reading s t a [] (Consumes-kept _ _ _ [] (Consumes-nil s.coming) h.1) h.2) refl refl (λ e. absurd cc) (ap (λ (x : Counts). x.calls) c)
+    subst P (sym h.0) (advanced_call (moment s [] a) (moment t [] a) (Err stop.Failed)
+        (reading s t a [] (Consumes-kept _ _ _ [] (Consumes-nil s.coming) h.1) h.2) refl refl (λ e. absurd cc) (ap (λ (x : Counts). x.calls) c)
     (grown s.counts.failed t.counts.failed (ap (λ (x : Counts). x.failed) c), ap (λ (x : Counts). x.ends) c))
 
-filled : {E : Type 0} (s t : Seen) (a : HalfState) (r : Result (Option ℕ) E) (bytes : List ℕ) → Fills s t r bytes → t.counts ≡ read_counts r 1 s.counts → IsAdvanced (moment s [] a) (moment t bytes a) (at_read r)
+filled : {E : Type 0} (s t : Seen) (a : HalfState) (r : Result (Option ℕ) E) (bytes : List ℕ) → Fills s t r bytes → t.counts ≡ read_counts r 1 s.counts
+    → IsAdvanced (moment s [] a) (moment t bytes a) (at_read r)
 filled {E} s t a (Ok (Some zero)) bytes h c = read_end E s t a bytes h c
 filled {E} s t a (Ok (Some (suc n))) bytes h c = read_some E s t a (suc n) bytes (omega arith) h c
 filled {E} s t a (Ok None) bytes h c = read_none E s t a bytes h c
 filled s t a (Err e) bytes h c = read_failed s t a e bytes h c
 
-pub advanced_filled : {E : Type 0} (s t : Seen) (a : HalfState) (r r' : Result (Option ℕ) E) (before bytes : List ℕ) → length before ≡ 0 → r ≡ r' → Fills s t r bytes → t.counts ≡ read_counts r 1 s.counts → IsAdvanced (moment s before a) (moment t bytes a) (at_read r')
+pub advanced_filled : {E : Type 0} (s t : Seen) (a : HalfState) (r r' : Result (Option ℕ) E) (before bytes : List ℕ) → length before ≡ 0 → r ≡ r'
+    → Fills s t r bytes → t.counts ≡ read_counts r 1 s.counts → IsAdvanced (moment s before a) (moment t bytes a) (at_read r')
 advanced_filled s t a r r' [] bytes z e h c =
     let P : _ → Type 0 = λ x. IsAdvanced (moment s [] a) (moment t bytes a) (at_read x) in
     subst P e (filled s t a r bytes h c)
 advanced_filled s t a r r' (x ∷ xs) bytes z e h c = absurd (omega (arith, z))
 
-pub advanced_read : {E : Type 0} (s t : Seen) (a : HalfState) (r : Result (Option ℕ) E) (n : ℕ) (before bytes : List ℕ) → length before ≡ 0 → 0 < n → r ≡ Ok (Some n) → Fills s t r bytes → t.counts ≡ read_counts r 1 s.counts
+pub advanced_read : {E : Type 0} (s t : Seen) (a : HalfState) (r : Result (Option ℕ) E) (n : ℕ) (before bytes : List ℕ) → length before ≡ 0 → 0 < n → r
+    ≡ Ok (Some n) → Fills s t r bytes → t.counts ≡ read_counts r 1 s.counts
     → IsAdvanced (moment s before a) (moment t bytes a) (Ok step.Moved)
 advanced_read s t a r zero before bytes z l e h c = absurd (omega (arith, l))
 advanced_read s t a r (suc n) before bytes z l e h c = advanced_filled s t a r (Ok (Some (suc n))) before bytes z e h c
@@ -185,8 +198,10 @@ after_write other a = a
 abbrev unsent : (s t : Seen) (p : List ℕ) (a : HalfState) → Appends s.gone t.gone [] → t.coming ≡ s.coming → IsMoved (moment s p a) (moment t p a)
 unsent s t p a w e = record { got = []; heard = []; sent = []; course = course_none a; pending = append-nil p; reads = same_coming s t e; writes = w }
 
-abbrev sending : (s t : Seen) (p : List ℕ) (a : HalfState) (n : ℕ) → Appends s.gone t.gone (take n a.outbox) → t.coming ≡ s.coming → IsMoved (moment s p a) (moment t p (without_sent n a))
-sending s t p a n w e = record { got = []; heard = []; sent = take n a.outbox; course = course_sent a n; pending = append-nil p; reads = same_coming s t e; writes = w }
+abbrev sending : (s t : Seen) (p : List ℕ) (a : HalfState) (n : ℕ) → Appends s.gone t.gone (take n a.outbox) → t.coming ≡ s.coming
+    → IsMoved (moment s p a) (moment t p (without_sent n a))
+sending s t p a n w e = record { got = []; heard = []; sent = take n a.outbox; course = course_sent a n; pending = append-nil p; reads = same_coming s t e;
+    writes = w }
 
 some_given : (n : ℕ) → 0 < n → nat_lt 0 n ≡ true
 some_given n l = search (arith, l)
@@ -194,34 +209,43 @@ some_given n l = search (arith, l)
 stuck : (E : Type 0) (s t : Seen) (n : ℕ) → 0 < n → t.counts ≡ write_counts {E = E} (Ok (Some 0)) n s.counts → t.counts.failed ≡ one_more s.counts.failed
 stuck E s t n l c = ap (λ (x : Counts). x.failed) c ∙ ap (λ (b : Bool). counted b s.counts.failed) (some_given n l)
 
-write_some : (E : Type 0) (s t : Seen) (p : List ℕ) (a : HalfState) (n : ℕ) → 0 < n → Writes {E = E} s t (Ok (Some n)) a.outbox → t.counts ≡ write_counts {E = E} (Ok (Some n)) (length a.outbox) s.counts
+write_some : (E : Type 0) (s t : Seen) (p : List ℕ) (a : HalfState) (n : ℕ) → 0 < n → Writes {E = E} s t (Ok (Some n)) a.outbox → t.counts
+    ≡ write_counts {E = E} (Ok (Some n)) (length a.outbox) s.counts
     → IsAdvanced (moment s p a) (moment t p (without_sent n a)) (Ok step.Moved)
 write_some E s t p a n l h c =
-    advanced_call (moment s p a) (moment t p (without_sent n a)) (Ok step.Moved) (sending s t p a n h.1 h.2) refl refl (λ e. absurd cc) (ap (λ (x : Counts). x.calls) c)
+    advanced_call (moment s p a) (moment t p (without_sent n a)) (Ok step.Moved) (sending s t p a n h.1 h.2) refl refl (λ e. absurd cc)
+        (ap (λ (x : Counts). x.calls) c)
     (record { ends = ap (λ (x : Counts). x.ends) c; failed = healthy s.counts t.counts n (nat_lt 0 (length a.outbox)) l (ap (λ (x : Counts). x.failed) c) })
 
-write_stuck : (E : Type 0) (s t : Seen) (p : List ℕ) (a : HalfState) → 0 < length a.outbox → Writes {E = E} s t (Ok (Some 0)) a.outbox → t.counts ≡ write_counts {E = E} (Ok (Some 0)) (length a.outbox) s.counts → IsAdvanced (moment s p a) (moment t p a) (Err stop.Failed)
+write_stuck : (E : Type 0) (s t : Seen) (p : List ℕ) (a : HalfState) → 0 < length a.outbox → Writes {E = E} s t (Ok (Some 0)) a.outbox → t.counts
+    ≡ write_counts {E = E} (Ok (Some 0)) (length a.outbox) s.counts → IsAdvanced (moment s p a) (moment t p a) (Err stop.Failed)
 write_stuck E s t p a l h c =
     advanced_call (moment s p a) (moment t p a) (Err stop.Failed) (unsent s t p a h.1 h.2) refl refl (λ e. absurd cc) (ap (λ (x : Counts). x.calls) c)
     (grown s.counts.failed t.counts.failed (stuck E s t (length a.outbox) l c), ap (λ (x : Counts). x.ends) c)
 
-write_none : (E : Type 0) (s t : Seen) (p : List ℕ) (a : HalfState) → Writes {E = E} s t (Ok None) a.outbox → t.counts ≡ write_counts {E = E} (Ok None) (length a.outbox) s.counts → IsAdvanced (moment s p a) (moment t p a) (Ok step.Waited)
+write_none : (E : Type 0) (s t : Seen) (p : List ℕ) (a : HalfState) → Writes {E = E} s t (Ok None) a.outbox → t.counts
+    ≡ write_counts {E = E} (Ok None) (length a.outbox) s.counts → IsAdvanced (moment s p a) (moment t p a) (Ok step.Waited)
 write_none E s t p a h c =
-    advanced_call (moment s p a) (moment t p a) (Ok step.Waited) (unsent s t p a (same_gone s t h.1) h.0) refl refl (λ e. (refl, refl)) (ap (λ (x : Counts). x.calls) c)
+    advanced_call (moment s p a) (moment t p a) (Ok step.Waited) (unsent s t p a (same_gone s t h.1) h.0) refl refl (λ e. (refl, refl))
+        (ap (λ (x : Counts). x.calls) c)
     (record { ends = ap (λ (x : Counts). x.ends) c; failed = ap (λ (x : Counts). x.failed) c }, refl)
 
-write_failed : {E : Type 0} (s t : Seen) (p : List ℕ) (a : HalfState) (e : E) → Writes s t (Err e) a.outbox → t.counts ≡ write_counts (Err e) (length a.outbox) s.counts → IsAdvanced (moment s p a) (moment t p a) (Err stop.Failed)
+write_failed : {E : Type 0} (s t : Seen) (p : List ℕ) (a : HalfState) (e : E) → Writes s t (Err e) a.outbox → t.counts
+    ≡ write_counts (Err e) (length a.outbox) s.counts → IsAdvanced (moment s p a) (moment t p a) (Err stop.Failed)
 write_failed s t p a e h c =
-    advanced_call (moment s p a) (moment t p a) (Err stop.Failed) (unsent s t p a (Appends-kept _ _ _ [] (Appends-nil s.gone) h.1) h.0) refl refl (λ e. absurd cc) (ap (λ (x : Counts). x.calls) c)
+    advanced_call (moment s p a) (moment t p a) (Err stop.Failed) (unsent s t p a (Appends-kept _ _ _ [] (Appends-nil s.gone) h.1) h.0) refl refl
+        (λ e. absurd cc) (ap (λ (x : Counts). x.calls) c)
     (grown s.counts.failed t.counts.failed (ap (λ (x : Counts). x.failed) c), ap (λ (x : Counts). x.ends) c)
 
-written : {E : Type 0} (s t : Seen) (p : List ℕ) (a : HalfState) (r : Result (Option ℕ) E) → 0 < length a.outbox → Writes s t r a.outbox → t.counts ≡ write_counts r (length a.outbox) s.counts → IsAdvanced (moment s p a) (moment t p (after_write r a)) (at_write r)
+written : {E : Type 0} (s t : Seen) (p : List ℕ) (a : HalfState) (r : Result (Option ℕ) E) → 0 < length a.outbox → Writes s t r a.outbox → t.counts
+    ≡ write_counts r (length a.outbox) s.counts → IsAdvanced (moment s p a) (moment t p (after_write r a)) (at_write r)
 written {E} s t p a (Ok (Some zero)) l h c = write_stuck E s t p a l h c
 written {E} s t p a (Ok (Some (suc n))) l h c = write_some E s t p a (suc n) (omega arith) h c
 written {E} s t p a (Ok None) l h c = write_none E s t p a h c
 written s t p a (Err e) l h c = write_failed s t p a e h c
 
-pub advanced_written : {E : Type 0} (s t : Seen) (p bytes : List ℕ) (a b : HalfState) (r r' : Result (Option ℕ) E) → 0 < length a.outbox → bytes ≡ a.outbox → r ≡ r' → b ≡ after_write r' a → Writes s t r bytes → t.counts ≡ write_counts r (length bytes) s.counts
+pub advanced_written : {E : Type 0} (s t : Seen) (p bytes : List ℕ) (a b : HalfState) (r r' : Result (Option ℕ) E) → 0 < length a.outbox → bytes ≡ a.outbox
+    → r ≡ r' → b ≡ after_write r' a → Writes s t r bytes → t.counts ≡ write_counts r (length bytes) s.counts
     → IsAdvanced (moment s p a) (moment t p b) (at_write r')
 advanced_written s t p bytes a b r r' l is e left w c =
     let B : List ℕ → Type 0 = λ x. Writes s t r x × (t.counts ≡ write_counts r (length x) s.counts) in
@@ -230,7 +254,8 @@ advanced_written s t p bytes a b r r' l is e left w c =
     let facts = subst B is (w, c) in
     subst Q (sym left) (subst P e (written s t p a r l facts.0 facts.1))
 
-pub moved_some : {E : Type 0} (s t : Seen) (p bytes : List ℕ) (a b : HalfState) (r : Result (Option ℕ) E) (n : ℕ) → 0 < n → 0 < length a.outbox → bytes ≡ a.outbox → r ≡ Ok (Some n) → b ≡ without_sent n a → Writes s t r bytes
+pub moved_some : {E : Type 0} (s t : Seen) (p bytes : List ℕ) (a b : HalfState) (r : Result (Option ℕ) E) (n : ℕ) → 0 < n → 0 < length a.outbox → bytes
+    ≡ a.outbox → r ≡ Ok (Some n) → b ≡ without_sent n a → Writes s t r bytes
     → t.counts ≡ write_counts r (length bytes) s.counts → IsAdvanced (moment s p a) (moment t p b) (Ok step.Moved)
 moved_some s t p bytes a b r zero m l is e left w c = absurd (omega (arith, m))
 moved_some s t p bytes a b r (suc n) m l is e left w c = advanced_written s t p bytes a b r (Ok (Some (suc n))) l is e left w c
@@ -258,7 +283,8 @@ turning s p a c n course = record {
 }
 
 -- where it isn't idle
-advanced_turn : (s : Seen) (p : List ℕ) (a c : HalfState) (n k : ℕ) (r : Result Step Stop) (course : CourseOf a c (take n p) [] k) → length a.outbox ≡ 0 → 0 < length p → k ≡ items_of r → k ≤ steps_of r → steps_of r ≤ k + idle (moment s (drop n p) c)
+advanced_turn : (s : Seen) (p : List ℕ) (a c : HalfState) (n k : ℕ) (r : Result Step Stop) (course : CourseOf a c (take n p) [] k) → length a.outbox ≡ 0
+    → 0 < length p → k ≡ items_of r → k ≤ steps_of r → steps_of r ≤ k + idle (moment s (drop n p) c)
     → IsStep (moment s p a) (moment s (drop n p) c) r → IsAdvanced (moment s p a) (moment s (drop n p) c) r
 advanced_turn s p a c n k r course out more items most least step = record {
   made = record {
@@ -276,14 +302,16 @@ calm_same : (c : Counts) → IsCalm c c
 calm_same c = record { ends = refl; failed = refl }
 
 -- no whole item was held: so all bytes went to the feed, and nothing is to be sent
-idle_empty : (p : List ℕ) (a b c : HalfState) (n : ℕ) → length a.outbox ≡ 0 → b ≡ received a p → n ≡ taken a.feed p → n ≤ length p → IsTurned b (Ok Idle) c → length c.outbox + length (drop n p) ≡ 0
+idle_empty : (p : List ℕ) (a b c : HalfState) (n : ℕ) → length a.outbox ≡ 0 → b ≡ received a p → n ≡ taken a.feed p → n ≤ length p → IsTurned b (Ok Idle) c
+    → length c.outbox + length (drop n p) ≡ 0
 idle_empty p a b c n out f e le h =
     let turned : IsTurned (received a p) (Ok Idle) c = subst (λ (x : HalfState). IsTurned x (Ok Idle) c) f h in
     let used : 0 + n ≡ length p = idle_used a c p p 0 n refl e le (omega arith) turned in
     let same : length c.outbox ≡ length a.outbox = ap (λ (x : HalfState). length x.outbox) turned.1 in
     omega (arith, used, same, out, length-drop n p)
 
-turned : (s : Seen) (p : List ℕ) (a b c : HalfState) (n : ℕ) (r : Result Turn TurnError) → limit_of a.feed.stage ≤ 1048576 → length a.outbox ≡ 0 → 0 < length p → n ≡ taken a.feed p → n ≤ length p → b ≡ received a p → IsTurned b r c
+turned : (s : Seen) (p : List ℕ) (a b c : HalfState) (n : ℕ) (r : Result Turn TurnError) → limit_of a.feed.stage ≤ 1048576 → length a.outbox ≡ 0
+    → 0 < length p → n ≡ taken a.feed p → n ≤ length p → b ≡ received a p → IsTurned b r c
     → (r ≡ Err turn_error.Busy → ⊥) → IsAdvanced (moment s p a) (moment s (drop n p) c) (at_turn r)
 turned s p a b c n (Ok Handled) l out more e le f h busy =
     advanced_turn s p a c n 1 (Ok step.Handled) (course_round a b c p n (Ok Handled) l e f h) out more refl (omega arith) (omega arith) refl
@@ -305,14 +333,17 @@ not_busy a b c p out f h =
     let high : nat_le high_water (length a.outbox) ≡ true = (and_parts (is_ready (received a p).feed) (nat_le high_water (length a.outbox)) busy).1 in
     omega (arith, leb-true high_water (length a.outbox) high, out)
 
-pub advanced_turned : (s : Seen) (p q piece : List ℕ) (a b c : HalfState) (r r' : Result Turn TurnError) (n : ℕ) → limit_of a.feed.stage ≤ 1048576 → length a.outbox ≡ 0 → 0 < length p → piece ≡ p → n ≡ taken a.feed piece → n ≤ length p → b ≡ received a piece
+pub advanced_turned : (s : Seen) (p q piece : List ℕ) (a b c : HalfState) (r r' : Result Turn TurnError) (n : ℕ) → limit_of a.feed.stage ≤ 1048576
+    → length a.outbox ≡ 0 → 0 < length p → piece ≡ p → n ≡ taken a.feed piece → n ≤ length p → b ≡ received a piece
     → q ≡ drop n p → r ≡ r' → IsTurned b r c → IsAdvanced (moment s p a) (moment s q c) (at_turn r')
 advanced_turned s p q piece a b c r r' n l out more is e le f rest same h =
     let B : List ℕ → Type 0 = λ x. (n ≡ taken a.feed x) × (b ≡ received a x) in
     let facts = subst B is (e, f) in
     let Q : List ℕ → Type 0 = λ x. IsAdvanced (moment s p a) (moment s x c) (at_turn r') in
     let h' : IsTurned b r' c = subst (λ (x : Result Turn TurnError). IsTurned b x c) same h in
-    subst Q (sym rest) (turned s p a b c n r' l out more facts.0 le facts.1 h' (λ busy. not_busy a b c p out facts.1 (subst (λ (x : Result Turn TurnError). IsTurned b x c) busy h')))
+    subst Q (sym rest) (turned s p a b c n r' l out more facts.0 le facts.1 h'
+        (λ busy. not_busy a b c p out facts.1 (subst (λ (x : Result Turn TurnError). IsTurned b x c) busy h')))
 
-pub never_busy : (a b c : HalfState) (piece : List ℕ) (r : Result Turn TurnError) → length a.outbox ≡ 0 → b ≡ received a piece → r ≡ Err turn_error.Busy → IsTurned b r c → ⊥
+pub never_busy : (a b c : HalfState) (piece : List ℕ) (r : Result Turn TurnError) → length a.outbox ≡ 0 → b ≡ received a piece → r ≡ Err turn_error.Busy
+    → IsTurned b r c → ⊥
 never_busy a b c piece r out f e h = not_busy a b c piece out f (subst (λ (x : Result Turn TurnError). IsTurned b x c) e h)

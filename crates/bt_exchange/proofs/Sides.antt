@@ -39,7 +39,8 @@ turned_most (Ok Idle) = omega arith
 turned_most (Err e) = omega arith
 
 -- bytes were given, and a turn followed
-pub side_given : (a b : HalfState) (bytes : List ℕ) (n : ℕ) (r : Result Turn TurnError) → IsFeed a.feed → n ≡ taken a.feed bytes → IsTurned (received a bytes) r b → IsSide a b (turned_items r)
+pub side_given : (a b : HalfState) (bytes : List ℕ) (n : ℕ) (r : Result Turn TurnError) → IsFeed a.feed → n ≡ taken a.feed bytes
+    → IsTurned (received a bytes) r b → IsSide a b (turned_items r)
 side_given a b bytes n r f e t =
     let c = course_round a (received a bytes) b bytes n r f.limit e refl t in
     record { heard = take n bytes; sent = []; course = c.0; items = omega (arith, c.1, turned_most r) }

@@ -1,5 +1,6 @@
 -- What is seen in a round of an exchange, and in the rounds together.
-use Rattle.std.proofs.Common.{◌≡◌, ◌+◌, ◌<◌, ◌≤◌, ℕ, true, false, List, [], ◌∷◌, ◌++◌, length, is_some, Some, Option, Result, Ok, Err, refl, sym, ap, subst, ◌∙◌, arith}
+use Rattle.std.proofs.Common.{◌≡◌, ◌+◌, ◌<◌, ◌≤◌, ℕ, true, false, List, [], ◌∷◌, ◌++◌, length, is_some, Some, Option, Result, Ok, Err, refl, sym, ap, subst,
+    ◌∙◌, arith}
 use Rattle.std.proofs.lemmas.List.{append-nil}
 use Rattle.std.proofs.KnownBytes.{Consumes-nil, Appends-nil}
 use Rattle.bt_wire.specs.declared.item.Item.{Item}
@@ -90,7 +91,8 @@ fault_stops limits old new stop.Mismatch f = absurd f
 fault_stops limits old new stop.Silent f = absurd f
 fault_stops limits old new stop.Rounds f = absurd f
 
-pub stopped_fault : (limits : Limits) (start old new : Moment) (e : Stop) → IsCalm start.seen.counts old.seen.counts → IsAdvanced old new (Err e) → IsStopped limits start new e
+pub stopped_fault : (limits : Limits) (start old new : Moment) (e : Stop) → IsCalm start.seen.counts old.seen.counts → IsAdvanced old new (Err e)
+    → IsStopped limits start new e
 stopped_fault limits start old new e k a = fault_stops limits start new e (fault_after start.seen.counts old.seen.counts new.seen.counts new.half e k a.step)
 
 not_done : (old new : Counts) (h : HalfState) (e : Stop) → IsFault old new h e → is_done e ≡ false
@@ -105,15 +107,18 @@ not_done old new h stop.Rounds f = refl
 not_done old new h stop.Memory f = refl
 
 -- the metadata wasn't there, and no item was handled
-same_part : (old new : Moment) (r : Result Step Stop) → items_of r ≡ 0 → IsAdvanced old new r → is_some (metadata_of old.half.end.part) ≡ false → is_some (metadata_of new.half.end.part) ≡ false
+same_part : (old new : Moment) (r : Result Step Stop) → items_of r ≡ 0 → IsAdvanced old new r → is_some (metadata_of old.half.end.part) ≡ false
+    → is_some (metadata_of new.half.end.part) ≡ false
 same_part old new r none a e = ap (λ (x : EndState). is_some (metadata_of x.part)) (step_end old new r none a) ∙ e
 
-pub fault_undone : (old new : Moment) (e : Stop) → IsAdvanced old new (Err e) → is_some (metadata_of old.half.end.part) ≡ false → is_done e ≡ is_some (metadata_of new.half.end.part)
+pub fault_undone : (old new : Moment) (e : Stop) → IsAdvanced old new (Err e) → is_some (metadata_of old.half.end.part) ≡ false → is_done e
+    ≡ is_some (metadata_of new.half.end.part)
 fault_undone old new e a none = not_done old.seen.counts new.seen.counts new.half e a.step ∙ sym (same_part old new (Err e) refl a none)
 
 -- ---- a verdict
 
-pub verdict_stops : (limits : Limits) (start new : Moment) (e : Stop) → IsCalm start.seen.counts new.seen.counts → IsVerdict new.half.end (Some e) → IsStopped limits start new e
+pub verdict_stops : (limits : Limits) (start new : Moment) (e : Stop) → IsCalm start.seen.counts new.seen.counts → IsVerdict new.half.end (Some e)
+    → IsStopped limits start new e
 verdict_stops limits start new stop.Done k v = (k, v)
 verdict_stops limits start new stop.Mismatch k v = (k, v.1)
 verdict_stops limits start new stop.Hopeless k v = (k, v.1)
@@ -124,8 +129,10 @@ verdict_stops limits start new (stop.Refused r) k v = absurd v
 verdict_stops limits start new stop.Rounds k v = absurd v
 verdict_stops limits start new stop.Memory k v = absurd v
 
-pub stopped_verdict : (limits : Limits) (start old new : Moment) (st : Step) (e : Stop) → IsCalm start.seen.counts old.seen.counts → IsAdvanced old new (Ok st) → IsVerdict new.half.end (Some e) → IsStopped limits start new e
-stopped_verdict limits start old new st e k a v = verdict_stops limits start new e (calm_both start.seen.counts old.seen.counts new.seen.counts k (step_calm old new st a.step)) v
+pub stopped_verdict : (limits : Limits) (start old new : Moment) (st : Step) (e : Stop) → IsCalm start.seen.counts old.seen.counts
+    → IsAdvanced old new (Ok st) → IsVerdict new.half.end (Some e) → IsStopped limits start new e
+stopped_verdict limits start old new st e k a v = verdict_stops limits start new e (calm_both start.seen.counts old.seen.counts new.seen.counts k
+    (step_calm old new st a.step)) v
 
 pub verdict_done : (e : EndState) (s : Stop) → IsVerdict e (Some s) → is_done s ≡ is_some (metadata_of e.part)
 verdict_done e stop.Done v = sym v
@@ -160,10 +167,12 @@ fault_not_rounds old new h (stop.Refused x) f r = absurd cc
 fault_not_rounds old new h stop.Rounds f r = absurd f
 fault_not_rounds old new h stop.Memory f r = absurd cc
 
-pub fault_watched : (limits : Limits) (start old new : Moment) (e : Stop) → IsCalm start.seen.counts old.seen.counts → IsAdvanced old new (Err e) → IsStopped limits start new e × (e ≡ stop.Rounds → ⊥)
+pub fault_watched : (limits : Limits) (start old new : Moment) (e : Stop) → IsCalm start.seen.counts old.seen.counts → IsAdvanced old new (Err e)
+    → IsStopped limits start new e × (e ≡ stop.Rounds → ⊥)
 fault_watched limits start old new e k a = (stopped_fault limits start old new e k a, fault_not_rounds old.seen.counts new.seen.counts new.half e a.step)
 
-pub verdict_watched : (limits : Limits) (start old new : Moment) (st : Step) (e : Stop) → IsCalm start.seen.counts old.seen.counts → IsAdvanced old new (Ok st) → IsVerdict new.half.end (Some e) → IsStopped limits start new e × (e ≡ stop.Rounds → ⊥)
+pub verdict_watched : (limits : Limits) (start old new : Moment) (st : Step) (e : Stop) → IsCalm start.seen.counts old.seen.counts
+    → IsAdvanced old new (Ok st) → IsVerdict new.half.end (Some e) → IsStopped limits start new e × (e ≡ stop.Rounds → ⊥)
 verdict_watched limits start old new st e k a v = (stopped_verdict limits start old new st e k a v, verdict_not_rounds new.half.end e v)
 
 -- ---- the watch
@@ -195,7 +204,9 @@ mark_on s t start old new p m q = record {
 }
 
 -- a step that showed no sign of life
-pub quiet_step : (s : Sign) (st : Step) (old new : Moment) (a : IsAdvanced old new (Ok st)) → (s ≡ sign.Progress → st ≡ step.Handled → progress_of old.half.end.part ≡ progress_of new.half.end.part) → (s ≡ sign.Bytes → is_still (Ok st) ≡ true) → IsQuiet s old new a.made.moved
+pub quiet_step : (s : Sign) (st : Step) (old new : Moment) (a : IsAdvanced old new (Ok st))
+    → (s ≡ sign.Progress → st ≡ step.Handled → progress_of old.half.end.part ≡ progress_of new.half.end.part) → (s ≡ sign.Bytes → is_still (Ok st) ≡ true)
+    → IsQuiet s old new a.made.moved
 quiet_step sign.Bytes st old new a p b = a.still (b refl)
 quiet_step sign.Progress step.Handled old new a p b = sym (p refl refl)
 quiet_step sign.Progress step.Moved old new a p b = ap (λ (x : EndState). progress_of x.part) (step_end old new (Ok step.Moved) refl a)
@@ -208,28 +219,33 @@ quiet_clock sign.Progress m t = refl
 
 -- ---- a round: a step, and then the clock
 
-pub round_made : (old mid : Moment) (s : Seen) (st : Step) (t : ℕ) → IsAdvanced old mid (Ok st) → s ≡ at_time t mid.seen → IsMade 1 old (moment s mid.pending mid.half)
+pub round_made : (old mid : Moment) (s : Seen) (st : Step) (t : ℕ) → IsAdvanced old mid (Ok st) → s ≡ at_time t mid.seen
+    → IsMade 1 old (moment s mid.pending mid.half)
 round_made old mid s st t a e = made_both old mid (moment s mid.pending mid.half) 1 0 a.made (made_clock mid s t e)
 
-pub round_calm : (start old mid : Moment) (s : Seen) (st : Step) (t : ℕ) → IsCalm start.seen.counts old.seen.counts → IsAdvanced old mid (Ok st) → s ≡ at_time t mid.seen → IsCalm start.seen.counts s.counts
+pub round_calm : (start old mid : Moment) (s : Seen) (st : Step) (t : ℕ) → IsCalm start.seen.counts old.seen.counts → IsAdvanced old mid (Ok st) → s
+    ≡ at_time t mid.seen → IsCalm start.seen.counts s.counts
 round_calm start old mid s st t k a e =
     let P : Seen → Type 0 = λ x. IsCalm start.seen.counts x.counts in
     let c = calm_both start.seen.counts old.seen.counts mid.seen.counts k (step_calm old mid st a.step) in
     subst P (sym e) (record { ends = c.ends; failed = c.failed })
 
-pub mark_alive : (g : Sign) (start old mid : Moment) (s : Seen) (st : Step) (t u : ℕ) → IsMark g u start old → IsAdvanced old mid (Ok st) → s ≡ at_time t mid.seen → IsMark g t start (moment s mid.pending mid.half)
+pub mark_alive : (g : Sign) (start old mid : Moment) (s : Seen) (st : Step) (t u : ℕ) → IsMark g u start old → IsAdvanced old mid (Ok st) → s
+    ≡ at_time t mid.seen → IsMark g t start (moment s mid.pending mid.half)
 mark_alive g start old mid s st t u m a e =
     let new = moment s mid.pending mid.half in
     mark_here g t start new (moved_both start old new (mark_moved g u start old m) (round_made old mid s st t a e).moved) (ap (λ (x : Seen). x.counts.clock) e)
 
-pub mark_quiet : (g : Sign) (start old mid : Moment) (s : Seen) (st : Step) (t u : ℕ) (m : IsMark g u start old) (a : IsAdvanced old mid (Ok st)) → IsQuiet g old mid a.made.moved → s ≡ at_time t mid.seen → IsMark g u start (moment s mid.pending mid.half)
+pub mark_quiet : (g : Sign) (start old mid : Moment) (s : Seen) (st : Step) (t u : ℕ) (m : IsMark g u start old) (a : IsAdvanced old mid (Ok st))
+    → IsQuiet g old mid a.made.moved → s ≡ at_time t mid.seen → IsMark g u start (moment s mid.pending mid.half)
 mark_quiet g start old mid s st t u m a q e =
     let P : Seen → Type 0 = λ x. IsMark g u start (moment x mid.pending mid.half) in
     let first = mark_on g u start old mid a.made.moved m q in
     subst P (sym e) (mark_on g u start mid (moment (at_time t mid.seen) mid.pending mid.half) (moved_clock mid t) first (quiet_clock g mid t))
 
 -- what was known of the progress is still so
-pub progress_on : (g : Sign) (old mid : Moment) (m : IsMoved old mid) (o : Option Progress) → (g ≡ sign.Progress → o ≡ progress_of old.half.end.part) → IsQuiet g old mid m → g ≡ sign.Progress → o ≡ progress_of mid.half.end.part
+pub progress_on : (g : Sign) (old mid : Moment) (m : IsMoved old mid) (o : Option Progress) → (g ≡ sign.Progress → o ≡ progress_of old.half.end.part)
+    → IsQuiet g old mid m → g ≡ sign.Progress → o ≡ progress_of mid.half.end.part
 progress_on sign.Bytes old mid m o p q e = absurd cc
 progress_on sign.Progress old mid m o p q e = p refl ∙ sym q
 
@@ -240,7 +256,8 @@ round_next a b c n k least most p q =
     let P : ℕ → Type 0 = λ x. IsMade x a c in
     subst P (omega (arith, least, most)) (made_both a b c n k p q)
 
-pub stopped_at : (limits : Limits) (a b c : Moment) (n k : ℕ) (e : Stop) → k ≤ 1 → n < limits.rounds → IsMade n a b → IsMade k b c → IsStopped limits a c e × (e ≡ stop.Rounds → ⊥) → IsExchanged limits a c e
+pub stopped_at : (limits : Limits) (a b c : Moment) (n k : ℕ) (e : Stop) → k ≤ 1 → n < limits.rounds → IsMade n a b → IsMade k b c → IsStopped limits a c e
+    × (e ≡ stop.Rounds → ⊥) → IsExchanged limits a c e
 stopped_at limits a b c n k e most l p q s = record {
   steps = n + k;
   made = made_both a b c n k p q;
@@ -251,9 +268,11 @@ stopped_at limits a b c n k e most l p q s = record {
 
 -- ---- the start
 
-pub started : (g : Sign) (start : Moment) (s : Seen) (t : ℕ) → s ≡ at_time t start.seen → IsMade 0 start (moment s start.pending start.half) × IsCalm start.seen.counts s.counts × IsMark g t start (moment s start.pending start.half)
+pub started : (g : Sign) (start : Moment) (s : Seen) (t : ℕ) → s ≡ at_time t start.seen → IsMade 0 start (moment s start.pending start.half)
+    × IsCalm start.seen.counts s.counts × IsMark g t start (moment s start.pending start.half)
 started g start s t e =
-    let P : Seen → Type 0 = λ x. IsMade 0 start (moment x start.pending start.half) × IsCalm start.seen.counts x.counts × IsMark g t start (moment x start.pending start.half) in
+    let P : Seen → Type 0 = λ x. IsMade 0 start (moment x start.pending start.half) × IsCalm start.seen.counts x.counts
+        × IsMark g t start (moment x start.pending start.half) in
     let new = moment (at_time t start.seen) start.pending start.half in
     subst P (sym e) (made_clock start (at_time t start.seen) t refl, record { ends = refl; failed = refl }, mark_here g t start new (moved_clock start t) refl)
 
@@ -266,5 +285,6 @@ stopped_first limits start e v = record {
   stop = verdict_stops limits start start e (record { ends = refl; failed = refl }) v;
 }
 
-pub stopped_last : (limits : Limits) (start new : Moment) (n : ℕ) → n ≡ limits.rounds → IsMade n start new → IsCalm start.seen.counts new.seen.counts → IsExchanged limits start new stop.Rounds
+pub stopped_last : (limits : Limits) (start new : Moment) (n : ℕ) → n ≡ limits.rounds → IsMade n start new → IsCalm start.seen.counts new.seen.counts
+    → IsExchanged limits start new stop.Rounds
 stopped_last limits start new n e m k = record { steps = n; made = m; within = omega (arith, e); all = λ r. e; stop = k }

@@ -23,5 +23,6 @@ is_over (Err e) = is_done e
 
 -- the watch goes on, or the round stopped
 abbrev pub IsWatched : Limits → Moment → Moment → Result Watch Stop → Type 0
-IsWatched limits start new (Ok w) = IsCalm start.seen.counts new.seen.counts × (limits.sign ≡ sign.Progress → w.progress ≡ progress_of new.half.end.part) × IsMark limits.sign w.since start new
+IsWatched limits start new (Ok w) = IsCalm start.seen.counts new.seen.counts × (limits.sign ≡ sign.Progress → w.progress ≡ progress_of new.half.end.part)
+    × IsMark limits.sign w.since start new
 IsWatched limits start new (Err e) = IsStopped limits start new e × (e ≡ stop.Rounds → ⊥)

@@ -57,12 +57,14 @@ pub both : (r : Rules) (e : Ext) → Allows r e ↔ (fault_of r e ≡ None)
 both r e = (faultless r e, allowed r e)
 
 -- ---- a reason for a refusal
-one_of_two : (o : Option ℕ) (b : Bool) → option_and_then reason_by (first_of (unsorted_fault o) (fault_if b error.BadField)) ≡ None → first_of (unsorted_fault o) (fault_if b error.BadField) ≡ None
+one_of_two : (o : Option ℕ) (b : Bool) → option_and_then reason_by (first_of (unsorted_fault o) (fault_if b error.BadField)) ≡ None
+    → first_of (unsorted_fault o) (fault_if b error.BadField) ≡ None
 one_of_two (Some at) b h = absurd (cc)
 one_of_two None true h = absurd (cc)
 one_of_two None false h = refl
 
-one_of_three : (o : Option ℕ) (b c : Bool) (n : ℕ) → option_and_then reason_by (first_of (unsorted_fault o) (first_of (fault_if b error.BadField) (fault_if c (error.BadBlock n)))) ≡ None
+one_of_three : (o : Option ℕ) (b c : Bool) (n : ℕ) → option_and_then reason_by
+    (first_of (unsorted_fault o) (first_of (fault_if b error.BadField) (fault_if c (error.BadBlock n)))) ≡ None
     → first_of (unsorted_fault o) (first_of (fault_if b error.BadField) (fault_if c (error.BadBlock n))) ≡ None
 one_of_three (Some at) b c n h = absurd (cc)
 one_of_three None true c n h = absurd (cc)

@@ -1,5 +1,6 @@
 -- What a table has under a name after entries were told.
-use Rattle.std.proofs.Common.{◌≡◌, ℕ, ◌==◌, ◌||◌, List, [], ◌∷◌, ◌++◌, length, Bool, true, false, Option, Some, None, option_and_then, MatchOption, is_some, nat_lt, if◌then◌else◌, Result, Ok, Err, OnOk, OnErr, refl, sym, subst, ◌∙◌, codes}
+use Rattle.std.proofs.Common.{◌≡◌, ℕ, ◌==◌, ◌||◌, List, [], ◌∷◌, ◌++◌, length, Bool, true, false, Option, Some, None, option_and_then, MatchOption, is_some,
+    nat_lt, if◌then◌else◌, Result, Ok, Err, OnOk, OnErr, refl, sym, subst, ◌∙◌, codes}
 use Rattle.std.specs.declared.alloc.AllocError.{AllocError}
 use Rattle.std.specs.List.{list_any}
 use Rattle.std.specs.Str.{bytes_eq}
@@ -7,7 +8,8 @@ use Rattle.std.proofs.lemmas.Slice.Eq.{bytes_eq-Decides}
 use Rattle.bt_bencode.specs.Trees.{Tree, integer, string, list, dictionary, Pairs, no_pairs, pair}
 use Rattle.bt_bencode.specs.Keys.{value_at, lookup_of}
 use Rattle.bt_ext.specs.Fields.{id_value}
-use Rattle.bt_ext.specs.Tables.{Entries, AreEntries, IsTable, id_of_name, removed, replaced, entered, entered_all, told, told_by, told_in, told_of, applied, id_after, before}
+use Rattle.bt_ext.specs.Tables.{Entries, AreEntries, IsTable, id_of_name, removed, replaced, entered, entered_all, told, told_by, told_in, told_of, applied,
+    id_after, before}
 use Rattle.bt_ext.proofs.Entries.{flip, absent, none-append, both_ways, is_none, table-entered}
 
 same_name : (x y : List ℕ) → bytes_eq x y ≡ true → x ≡ y
@@ -62,7 +64,8 @@ by_other name other id es h = both_ways _ (nat_lt 255 (length name)) (λ long. r
     (λ new. rw new (both_ways _ (nat_lt (length es) 256) (λ room. rw room (append-other name other id es h))
     (λ full. rw full refl)))))))
 
-pub entered-name : (name other : List ℕ) (id : ℕ) (es : Entries) → IsTable es → id_of_name other (entered name id es) ≡ (if bytes_eq name other then id_after name id es else id_of_name other es)
+pub entered-name : (name other : List ℕ) (id : ℕ) (es : Entries) → IsTable es → id_of_name other (entered name id es)
+    ≡ (if bytes_eq name other then id_after name id es else id_of_name other es)
 entered-name name other id es h = both_ways _ (bytes_eq name other)
     (λ t. rw t (subst (λ (n : List ℕ). id_of_name n (entered name id es) ≡ id_after name id es) (same_name name other t) (by_same name id es h)))
     (λ f. rw f (by_other name other id es f))
@@ -73,7 +76,8 @@ table-all [] es h = h
 table-all (x ∷ xs) es h = table-all xs (entered x.0 x.1 es) (table-entered x.0 x.1 es h)
 
 -- a table after entries that may want memory
-pub table-all-after : (xs inside old new : Entries) (r : Result (Unit {0}) AllocError) → IsTable inside → inside ≡ old → OnOk r (new ≡ entered_all xs old) → OnErr r (new ≡ old) → IsTable new
+pub table-all-after : (xs inside old new : Entries) (r : Result (Unit {0}) AllocError) → IsTable inside → inside ≡ old → OnOk r (new ≡ entered_all xs old)
+    → OnErr r (new ≡ old) → IsTable new
 table-all-after xs inside old new (Ok x) h is ok err = subst IsTable (sym ok) (table-all xs old (subst IsTable is h))
 table-all-after xs inside old new (Err x) h is ok err = subst IsTable (sym err) (subst IsTable is h)
 
@@ -94,7 +98,8 @@ abbrev AreDistinct : Entries → Type 0
 AreDistinct [] = Unit {0}
 AreDistinct (x ∷ xs) = (id_of_name x.0 xs ≡ None) × AreDistinct xs
 
-by_turn : (name : List ℕ) (id : ℕ) (xs es : Entries) → AreDistinct xs → IsTable es → id_of_name name xs ≡ Some id → id_of_name name (entered_all xs es) ≡ id_after name id (entered_all (before name xs) es)
+by_turn : (name : List ℕ) (id : ℕ) (xs es : Entries) → AreDistinct xs → IsTable es → id_of_name name xs ≡ Some id → id_of_name name (entered_all xs es)
+    ≡ id_after name id (entered_all (before name xs) es)
 by_turn name id [] es d h is = absurd (cc)
 by_turn name id (x ∷ xs) es d h is = both_ways _ (bytes_eq x.0 name)
     (λ t.
@@ -114,7 +119,8 @@ skipped : (name k : List ℕ) (o : Option ℕ) (rest : Entries) → bytes_eq k n
 skipped name k None rest h = refl
 skipped name k (Some id) rest h = rw h refl
 
-other_name : (name k : List ℕ) (earlier : List (List ℕ)) → list_any (bytes_eq name) earlier ≡ true → list_any (bytes_eq k) earlier ≡ false → bytes_eq k name ≡ false
+other_name : (name k : List ℕ) (earlier : List (List ℕ)) → list_any (bytes_eq name) earlier ≡ true → list_any (bytes_eq k) earlier ≡ false → bytes_eq k name
+    ≡ false
 other_name name k earlier h n = both_ways _ (bytes_eq k name)
     (λ t. absurd (let e = rw (same_name k name t) at n in cc))
     (λ f. f)
@@ -151,7 +157,8 @@ here : (name k : List ℕ) (o : Option ℕ) (rest : Entries) → bytes_eq k name
 here name k None rest t none = none
 here name k (Some id) rest t none = rw t refl
 
-first_from : (name : List ℕ) (earlier : List (List ℕ)) (ps : Pairs) → list_any (bytes_eq name) earlier ≡ false → id_of_name name (told_by earlier ps) ≡ option_and_then id_value (value_at name ps)
+first_from : (name : List ℕ) (earlier : List (List ℕ)) (ps : Pairs) → list_any (bytes_eq name) earlier ≡ false → id_of_name name (told_by earlier ps)
+    ≡ option_and_then id_value (value_at name ps)
 first_from name earlier no_pairs h = refl
 first_from name earlier (pair k t ps) h = both_ways _ (bytes_eq k name)
     (λ same.

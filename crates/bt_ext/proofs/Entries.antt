@@ -1,5 +1,7 @@
 -- Entries of a table: look-ups, and what keeps them a table.
-use Rattle.std.proofs.Common.{◌≡◌, ℕ, zero, suc, ◌+◌, ◌<◌, ◌≤◌, ◌==◌, List, [], ◌∷◌, ◌++◌, length, take, drop, get_or, Bool, true, false, Option, Some, None, is_some, unwrap_or, IfSome, nat_lt, if◌then◌else◌, Result, Ok, Err, OnOk, OnErr, Bor, refl, sym, ap, subst, ◌∙◌, arith, add-one, drop-cons, length-append}
+use Rattle.std.proofs.Common.{◌≡◌, ℕ, zero, suc, ◌+◌, ◌<◌, ◌≤◌, ◌==◌, List, [], ◌∷◌, ◌++◌, length, take, drop, get_or, Bool, true, false, Option, Some,
+    None, is_some, unwrap_or, IfSome, nat_lt, if◌then◌else◌, Result, Ok, Err, OnOk, OnErr, Bor, refl, sym, ap, subst, ◌∙◌, arith, add-one, drop-cons,
+    length-append}
 use Rattle.std.specs.declared.alloc.AllocError.{AllocError}
 use Rattle.std.specs.List.{remove, slice_set}
 use Rattle.std.specs.Bool.{Decides}
@@ -29,7 +31,8 @@ removed-absent name (e ∷ es) h =
     rw (a.0, removed-absent name es a.1) refl
 
 -- a name that stands first at a place
-pub found : (name : List ℕ) (es : Entries) (i : ℕ) (e : List ℕ × ℕ) → i < length es → e ≡ get_or es i e → bytes_eq e.0 name ≡ true → id_of_name name (take i es) ≡ None
+pub found : (name : List ℕ) (es : Entries) (i : ℕ) (e : List ℕ × ℕ) → i < length es → e ≡ get_or es i e → bytes_eq e.0 name ≡ true
+    → id_of_name name (take i es) ≡ None
     → (id_of_name name es ≡ Some e.1) × (removed name es ≡ remove es i) × ((id : ℕ) → replaced name id es ≡ slice_set es i (e.0, id))
 found name [] i e lt is same none = absurd (omega arith)
 found name (x ∷ es) zero e lt is same none =
@@ -83,7 +86,8 @@ entries-replaced name id (e ∷ es) above h =
       | false ↦ (h.0, h.1, none-replaced e.0 name id es h.2, entries-replaced name id es above h.3)
     ]
 
-entries-append : (name : List ℕ) (id : ℕ) (es : Entries) → length name ≤ 255 → 0 < id → id_of_name name es ≡ None → AreEntries es → AreEntries (es ++ (name, id) ∷ [])
+entries-append : (name : List ℕ) (id : ℕ) (es : Entries) → length name ≤ 255 → 0 < id → id_of_name name es ≡ None → AreEntries es
+    → AreEntries (es ++ (name, id) ∷ [])
 entries-append name id [] short above none h = (short, above, refl, tt)
 entries-append name id (e ∷ es) short above none h =
     let a = absent (bytes_eq e.0 name) e.1 (id_of_name name es) none in
@@ -134,11 +138,14 @@ table-entered name id es h =
     (λ on. rw on (both_ways _ (is_some (id_of_name name es))
     (λ there. rw there (record { entries = entries-replaced name id es (above_0 id on) h.entries; few = rw (length-replaced name id es) h.few }))
     (λ new. rw new (both_ways _ (nat_lt (length es) 256)
-    (λ room. rw room (let more = length-append es ((name, id) ∷ []) in let few = is_few (length es) room in record { entries = entries-append name id es (short_name (length name) short) (above_0 id on) (is_none (id_of_name name es) new) h.entries; few = omega arith }))
+    (λ room. rw room (let more = length-append es ((name, id) ∷ []) in let few = is_few (length es) room in
+        record { entries = entries-append name id es (short_name (length name) short) (above_0 id on) (is_none (id_of_name name es) new) h.entries;
+        few = omega arith }))
     (λ full. rw full h)))))))
 
 -- one more entry that has another name
-pub none_more : (name : List ℕ) (es : Entries) (i : ℕ) (e : List ℕ × ℕ) → i < length es → e ≡ get_or es i e → bytes_eq e.0 name ≡ false → id_of_name name (take i es) ≡ None → id_of_name name (take (suc i) es) ≡ None
+pub none_more : (name : List ℕ) (es : Entries) (i : ℕ) (e : List ℕ × ℕ) → i < length es → e ≡ get_or es i e → bytes_eq e.0 name ≡ false
+    → id_of_name name (take i es) ≡ None → id_of_name name (take (suc i) es) ≡ None
 none_more name [] i e lt is other h = absurd (omega arith)
 none_more name (x ∷ es) zero e lt is other h =
     let k : bytes_eq x.0 name ≡ false = subst (λ (y : List ℕ × ℕ). bytes_eq y.0 name ≡ false) is other in
@@ -150,7 +157,8 @@ none_more name (x ∷ es) (suc i) e lt is other h =
 -- no id of a table is 0
 pub above : (name : List ℕ) (es : Entries) → AreEntries es → IfSome (id_of_name name es) (λ id. 0 < id)
 above name [] h = tt
-above name (e ∷ es) h = elim (bytes_eq e.0 name) as (λ b. IfSome (if b then Some e.1 else id_of_name name es) (λ id. 0 < id)) [ true ↦ h.1 | false ↦ above name es h.3 ]
+above name (e ∷ es) h = elim (bytes_eq e.0 name) as (λ b. IfSome (if b then Some e.1 else id_of_name name es) (λ id. 0 < id)) [ true ↦ h.1 | false ↦
+    above name es h.3 ]
 
 not_0 : (n : ℕ) → 0 < n → (n == 0) ≡ false
 not_0 n h = grind (arith, common_steps)
@@ -158,7 +166,8 @@ not_0 n h = grind (arith, common_steps)
 replaced-same : (name : List ℕ) (id : ℕ) (es : Entries) → id_of_name name es ≡ Some id → replaced name id es ≡ es
 replaced-same name id [] h = refl
 replaced-same name id (e ∷ es) h = by_name (bytes_eq e.0 name) h (replaced-same name id es) where
-  by_name : (b : Bool) → (if b then Some e.1 else id_of_name name es) ≡ Some id → (id_of_name name es ≡ Some id → replaced name id es ≡ es) → (if b then (e.0, id) ∷ es else e ∷ replaced name id es) ≡ e ∷ es
+  by_name : (b : Bool) → (if b then Some e.1 else id_of_name name es) ≡ Some id → (id_of_name name es ≡ Some id → replaced name id es ≡ es)
+      → (if b then (e.0, id) ∷ es else e ∷ replaced name id es) ≡ e ∷ es
   by_name true k rest = let same : e.1 ≡ id = cc in ap (λ (n : ℕ). (e.0, n) ∷ es) (sym same)
   by_name false k rest = ap (λ (l : Entries). e ∷ l) (rest k)
 
@@ -173,7 +182,8 @@ same-by name id es (Some n) some pos is =
     rw (other, some) (replaced-same name id es (some ∙ ap Some is))
 
 -- what a table has already, it keeps
-pub entered-same : (name : List ℕ) (id : ℕ) (es : Entries) → IfSome (id_of_name name es) (λ n. 0 < n) → unwrap_or (id_of_name name es) 0 ≡ id → entered name id es ≡ es
+pub entered-same : (name : List ℕ) (id : ℕ) (es : Entries) → IfSome (id_of_name name es) (λ n. 0 < n) → unwrap_or (id_of_name name es) 0 ≡ id
+    → entered name id es ≡ es
 entered-same name id es h is =
     both_ways _ (nat_lt 255 (length name)) (λ long. rw long refl)
     (λ short. rw short (same-by name id es (id_of_name name es) refl h is))
@@ -191,11 +201,13 @@ isnt_0 n h = not_0 n (omega (arith, h))
 pub id_at : (name : List ℕ) (es : Entries) (i : ℕ) (e : List ℕ × ℕ) → HoldsAt name es (Some i) → e ≡ get_or es i e → Some e.1 ≡ id_of_name name es
 id_at name es i e h is = sym (found name es i e h.0 is (h.1 e is) h.2).0
 
-pub remove-at : (name : List ℕ) (id : ℕ) (es : Entries) (i : ℕ) (e : List ℕ × ℕ) → length name ≤ 255 → id ≡ 0 → HoldsAt name es (Some i) → e ≡ get_or es i e → remove es i ≡ entered name id es
+pub remove-at : (name : List ℕ) (id : ℕ) (es : Entries) (i : ℕ) (e : List ℕ × ℕ) → length name ≤ 255 → id ≡ 0 → HoldsAt name es (Some i) → e ≡ get_or es i e
+    → remove es i ≡ entered name id es
 remove-at name id es i e short none h is =
     rw (not_long (length name) short, is_0 id none) (sym (found name es i e h.0 is (h.1 e is) h.2).1)
 
-pub replace-at : (name : List ℕ) (id : ℕ) (es : Entries) (i : ℕ) (e : List ℕ × ℕ) → length name ≤ 255 → (id ≡ 0 → ⊥) → HoldsAt name es (Some i) → e ≡ get_or es i e → slice_set es i (e.0, id) ≡ entered name id es
+pub replace-at : (name : List ℕ) (id : ℕ) (es : Entries) (i : ℕ) (e : List ℕ × ℕ) → length name ≤ 255 → (id ≡ 0 → ⊥) → HoldsAt name es (Some i) → e
+    ≡ get_or es i e → slice_set es i (e.0, id) ≡ entered name id es
 replace-at name id es i e short other h is =
     let f = found name es i e h.0 is (h.1 e is) h.2 in
     rw (not_long (length name) short, isnt_0 id other, f.0) (sym (f.2 id))
@@ -205,7 +217,8 @@ keep-absent name id es short off none =
     rw (not_long (length name) short, is_0 id off) (sym (removed-absent name es none))
 
 -- a table after `enter`, which may want memory
-pub table-after : (name : List ℕ) (id : ℕ) (old new : Entries) (r : Result (Unit {0}) AllocError) → IsTable old → OnOk r (new ≡ entered name id old) → OnErr r (new ≡ old) → IsTable new
+pub table-after : (name : List ℕ) (id : ℕ) (old new : Entries) (r : Result (Unit {0}) AllocError) → IsTable old → OnOk r (new ≡ entered name id old)
+    → OnErr r (new ≡ old) → IsTable new
 table-after name id old new (Ok x) h ok err = subst IsTable (sym ok) (table-entered name id old h)
 table-after name id old new (Err x) h ok err = subst IsTable (sym err) h
 

@@ -33,7 +33,8 @@ swapped false b c = refl
 
 step : (o : Ordering) (k x : Bor (List ℕ)) (ks : List (Bor (List ℕ))) (other : List ℕ) → cmp k x ≡ o
     → list_any (bytes_eq other) (now (insert_key cmp ks k)) ≡ (bytes_eq other k.now || list_any (bytes_eq other) (now ks))
-    → list_any (bytes_eq other) (now (match_ordering o (k ∷ x ∷ ks) (x ∷ ks) (x ∷ insert_key cmp ks k))) ≡ (bytes_eq other k.now || (bytes_eq other x.now || list_any (bytes_eq other) (now ks)))
+    → list_any (bytes_eq other) (now (match_ordering o (k ∷ x ∷ ks) (x ∷ ks) (x ∷ insert_key cmp ks k)))
+    ≡ (bytes_eq other k.now || (bytes_eq other x.now || list_any (bytes_eq other) (now ks)))
 step Less k x ks other is more = refl
 step Equal k x ks other is more =
     let same : k.now ≡ x.now = exact_bytes k.now x.now is in

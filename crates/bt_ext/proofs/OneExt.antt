@@ -1,5 +1,6 @@
 -- An extended id and its payload are those of one value.
-use Rattle.std.proofs.Common.{◌≡◌, ℕ, Option, Some, None, option_and_then, Bool, true, false, List, ◌++◌, refl, ap, sym, ◌∙◌, subst, length, length-append, take, arith, ◌==◌, if◌then◌else◌}
+use Rattle.std.proofs.Common.{◌≡◌, ℕ, Option, Some, None, option_and_then, Bool, true, false, List, ◌++◌, refl, ap, sym, ◌∙◌, subst, length, length-append,
+    take, arith, ◌==◌, if◌then◌else◌}
 use Rattle.std.proofs.Math.Seq.{take-append_seam}
 use Rattle.std.proofs.lemmas.Grind.{common_steps}
 use Rattle.bt_bencode.specs.Payloads.{BeginsWithNone}
@@ -58,11 +59,13 @@ zero_or_registered : (reg : Registered) (id : ℕ) → Some 0 ≡ Some id → me
 zero_or_registered reg id h r = not_zero reg.metadata (r ∙ sym h)
 
 pub same_ext : (reg : Registered) (e f : Ext) (id : ℕ) (payload : List ℕ) → IsExt reg e id payload → IsExt reg f id payload → e ≡ f
-same_ext reg (ext.Handshake v x) (ext.Handshake w y) id p he hf = let s = same_parts v w x y p he.fits hf.fits he.spelled hf.spelled in let a = s.0 in let b = s.1 in cc
+same_ext reg (ext.Handshake v x) (ext.Handshake w y) id p he hf = let s = same_parts v w x y p he.fits hf.fits he.spelled hf.spelled in let a = s.0 in
+    let b = s.1 in cc
 same_ext reg (ext.Handshake v x) (ext.Metadata w y) id p he hf = absurd (zero_or_registered reg id he.named hf.named)
 same_ext reg (ext.Handshake v x) (ext.Raw j q) id p he hf = absurd (apart reg j id hf.named (zero_needs reg id he.named))
 same_ext reg (ext.Metadata v x) (ext.Handshake w y) id p he hf = absurd (zero_or_registered reg id hf.named he.named)
-same_ext reg (ext.Metadata v x) (ext.Metadata w y) id p he hf = let s = same_parts v w x y p he.fits hf.fits he.spelled hf.spelled in let a = s.0 in let b = s.1 in cc
+same_ext reg (ext.Metadata v x) (ext.Metadata w y) id p he hf = let s = same_parts v w x y p he.fits hf.fits he.spelled hf.spelled in let a = s.0 in let b =
+    s.1 in cc
 same_ext reg (ext.Metadata v x) (ext.Raw j q) id p he hf = absurd (apart reg j id hf.named (registered reg id he.named))
 same_ext reg (ext.Raw i x) (ext.Handshake w y) id p he hf = absurd (apart reg i id he.named (zero_needs reg id hf.named))
 same_ext reg (ext.Raw i x) (ext.Metadata w y) id p he hf = absurd (apart reg i id he.named (registered reg id hf.named))

@@ -26,7 +26,8 @@ split reg r id p (Some (error.Unsorted at)) h = inl (h.value, h.is, h.faulty)
 split reg r id p (Some error.BadField) h = inl (h.value, h.is, h.faulty)
 split reg r id p (Some (error.BadBlock at)) h = inl (h.value, h.is, h.faulty)
 
-join : (reg : Registered) (r : Rules) (id : ℕ) (p : List ℕ) (a b : Option ViewError) → OfValue reg r id p a ⊎ OfNone reg id p a → OfValue reg r id p b ⊎ OfNone reg id p b → a ≡ b
+join : (reg : Registered) (r : Rules) (id : ℕ) (p : List ℕ) (a b : Option ViewError) → OfValue reg r id p a ⊎ OfNone reg id p a → OfValue reg r id p b
+    ⊎ OfNone reg id p b → a ≡ b
 unfolding OfValue OfNone
 join reg r id p a b (inl x) (inl y) = let e = same_ext reg x.0 y.0 id p x.1 y.1 in sym x.2 ∙ ap (fault_of r) e ∙ y.2
 join reg r id p a b (inl x) (inr y) = absurd (no_value reg x.0 id p y.1.needed y.1.none x.1)

@@ -39,15 +39,18 @@ KindOfMade = (k : Kind) → IsMade k → kind_of (message_tree k) ≡ k
 
 -- a metadata message that an end writes has a spelling, and the rules allow it if its block is right
 abbrev pub MadeMessageIsRight : Type 0
-MadeMessageIsRight = (k : Kind) (rest : List ℕ) → IsMade k → is_block_ok k (length rest) ≡ true → HasDict (message_of k rest) × Allows rules.Bep (message_of k rest)
+MadeMessageIsRight = (k : Kind) (rest : List ℕ) → IsMade k → is_block_ok k (length rest) ≡ true → HasDict (message_of k rest)
+    × Allows rules.Bep (message_of k rest)
 
 -- so has an extended handshake that an end writes, and the rules allow it
 abbrev pub MadeHandshakeIsRight : Type 0
-MadeHandshakeIsRight = (id size : Option ℕ) → ForSome id (λ n. n < 256) → ForSome size (λ n. n < 2 ^ 63) → HasDict (handshake_of id size) × Allows rules.Bep (handshake_of id size)
+MadeHandshakeIsRight = (id size : Option ℕ) → ForSome id (λ n. n < 256) → ForSome size (λ n. n < 2 ^ 63) → HasDict (handshake_of id size)
+    × Allows rules.Bep (handshake_of id size)
 
 -- and it tells the id and the size that it was made of
 abbrev pub MadeHandshakeTells : Type 0
-MadeHandshakeTells = (id size : Option ℕ) → ForSome id (λ n. n < 256) → (told_of (handshake_tree id size) ≡ told (codes "ut_metadata") id) × (size_of (handshake_tree id size) ≡ size)
+MadeHandshakeTells = (id size : Option ℕ) → ForSome id (λ n. n < 256) → (told_of (handshake_tree id size) ≡ told (codes "ut_metadata") id)
+    × (size_of (handshake_tree id size) ≡ size)
 
 -- entering an id changes what its name has, and no other name's id
 abbrev pub EnteredByName : Type 0

@@ -1,5 +1,6 @@
 -- Bytes that are closed stay so whatever follows; those of an item, and those with a fault, are closed.
-use Rattle.std.proofs.Common.{◌≡◌, ℕ, ◌^◌, ◌≤◌, ◌<◌, Bool, true, false, ◌||◌, List, [], ◌++◌, length, take, drop, Option, Some, None, refl, sym, ap, ◌∙◌, arith, inl, inr}
+use Rattle.std.proofs.Common.{◌≡◌, ℕ, ◌^◌, ◌≤◌, ◌<◌, Bool, true, false, ◌||◌, List, [], ◌++◌, length, take, drop, Option, Some, None, refl, sym, ap, ◌∙◌,
+    arith, inl, inr}
 use Rattle.std.specs.Prelude.{is_some}
 use Rattle.std.proofs.lemmas.Bool.{cases_Bool, cases_lt, le-leb, leb-true}
 use Rattle.std.proofs.lemmas.List.{append-nil, length-append, take-append-drop, take_at, drop_all}
@@ -98,7 +99,8 @@ spelled_whole : (c : Context) (o : Order) (s : ℕ) (b : List ℕ) (m : Message)
 spelled_whole c o s b m lt said e = ap is_whole (e ∙ sym (append-nil (spell c m))) ∙ (spelled_first c m [] (fits c o s m lt said)).whole
 
 pub item_closed : (t : Stage) (b : List ℕ) (item : Item) → limit_of t < 2 ^ 32 → IsItem t b item → is_closed t b ≡ true
-item_closed (stage.Handshake own) b (items.Handshake h) lt p = closed_all (stage.Handshake own) b (le-leb 68 (length b) (omega (arith, ap length p.2, hand-length h p.1)))
+item_closed (stage.Handshake own) b (items.Handshake h) lt p =
+    closed_all (stage.Handshake own) b (le-leb 68 (length b) (omega (arith, ap length p.2, hand-length h p.1)))
 item_closed (stage.Message c o s n) b (items.Message m) lt p = closed_all (stage.Message c o s n) b (spelled_whole c o s b m lt p.0 p.1)
 item_closed (stage.Handshake own) b (items.Message m) lt p = absurd p
 item_closed (stage.Message c o s n) b (items.Handshake h) lt p = absurd p
@@ -112,7 +114,8 @@ no_longer t b k p closed =
       | inr le ↦ le
     ]
 
-pub message_here : (c : Context) (o : Order) (s n size : ℕ) (b : List ℕ) (m : Message) → c.limit < 2 ^ 32 → IsPartial (stage.Message c o s n) b → BeginsBy c o s b m size → IsItem (stage.Message c o s n) b (items.Message m)
+pub message_here : (c : Context) (o : Order) (s n size : ℕ) (b : List ℕ) (m : Message) → c.limit < 2 ^ 32 → IsPartial (stage.Message c o s n) b
+    → BeginsBy c o s b m size → IsItem (stage.Message c o s n) b (items.Message m)
 message_here c o s n size b m lt p h =
     let t = stage.Message c o s n in
     let front : take size b ≡ spell c m = ap (take size) h.parts ∙ take_at (spell c m) (drop size b) size (sym h.size) in

@@ -27,7 +27,8 @@ item_long (stage.Handshake own) b (items.Message m) p = absurd p
 item_long (stage.Message c o s n) b (items.Handshake h) p = absurd p
 
 -- after an item comes the rest
-pub item_comes : (t : Stage) (b x : List ℕ) (item : Item) (v : Outcome) → limit_of t < 2 ^ 32 → IsItem t b item → Comes (stage_after t (length b) item) x v → Comes t (b ++ x) (with_item (start_of t) item v)
+pub item_comes : (t : Stage) (b x : List ℕ) (item : Item) (v : Outcome) → limit_of t < 2 ^ 32 → IsItem t b item → Comes (stage_after t (length b) item) x v
+    → Comes t (b ++ x) (with_item (start_of t) item v)
 item_comes (stage.Handshake own) b x (items.Handshake h) v lt p k =
     let size : length b ≡ 68 = ap length p.2 ∙ hand-length h p.1 in
     let rest : drop 68 (b ++ x) ≡ x = drop_at b x 68 size in

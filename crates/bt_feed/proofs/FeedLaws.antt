@@ -1,5 +1,6 @@
 -- Laws on feeds.
-use Rattle.std.proofs.Common.{◌≡◌, ℕ, suc, ◌+◌, ◌^◌, ◌≤◌, ◌<◌, ◌⊎◌, Bool, true, false, cond, eqb, not, ◌&&◌, List, [], ◌∷◌, ◌++◌, length, take, Option, Some, None, Result, Ok, Err, refl, sym, ap, subst, ◌∙◌, arith, inl, inr}
+use Rattle.std.proofs.Common.{◌≡◌, ℕ, suc, ◌+◌, ◌^◌, ◌≤◌, ◌<◌, ◌⊎◌, Bool, true, false, cond, eqb, not, ◌&&◌, List, [], ◌∷◌, ◌++◌, length, take, Option,
+    Some, None, Result, Ok, Err, refl, sym, ap, subst, ◌∙◌, arith, inl, inr}
 use Rattle.std.proofs.lemmas.Bool.{cases_Bool, cases_eq, eq-eqb, ne_eqb}
 use Rattle.std.proofs.lemmas.List.{append-nil, append_assoc}
 use Rattle.std.specs.Prelude.{option_map}
@@ -56,18 +57,22 @@ closed_takes closed held (b ∷ piece) e =
     ap (λ (c : Bool). held ++ take (cond c 0 (suc (taken_by closed (held ++ b ∷ []) piece))) (b ∷ piece)) e ∙ append-nil held
 
 -- a byte more
-open_takes : (closed : List ℕ → Bool) (held : List ℕ) (b : ℕ) (piece : List ℕ) → closed held ≡ false → kept closed held (b ∷ piece) ≡ kept closed (held ++ b ∷ []) piece
+open_takes : (closed : List ℕ → Bool) (held : List ℕ) (b : ℕ) (piece : List ℕ) → closed held ≡ false → kept closed held (b ∷ piece)
+    ≡ kept closed (held ++ b ∷ []) piece
 unfolding kept
 open_takes closed held b piece e =
-    ap (λ (c : Bool). held ++ take (cond c 0 (suc (taken_by closed (held ++ b ∷ []) piece))) (b ∷ piece)) e ∙ sym (append_assoc held (b ∷ []) (take (taken_by closed (held ++ b ∷ []) piece) piece))
+    ap (λ (c : Bool). held ++ take (cond c 0 (suc (taken_by closed (held ++ b ∷ []) piece))) (b ∷ piece)) e
+        ∙ sym (append_assoc held (b ∷ []) (take (taken_by closed (held ++ b ∷ []) piece) piece))
 
 joined : (closed : List ℕ → Bool) (held x y : List ℕ) → kept closed (kept closed held x) y ≡ kept closed held (x ++ y)
 unfolding kept
 joined closed held [] y = ap (λ (h : List ℕ). kept closed h y) (append-nil held)
 joined closed held (b ∷ x) y =
     elim (cases_Bool (closed held)) [
-      | inl stops ↦ ap (λ (h : List ℕ). kept closed h y) (closed_takes closed held (b ∷ x) stops) ∙ closed_takes closed held y stops ∙ sym (closed_takes closed held (b ∷ (x ++ y)) stops)
-      | inr goes ↦ ap (λ (h : List ℕ). kept closed h y) (open_takes closed held b x goes) ∙ joined closed (held ++ b ∷ []) x y ∙ sym (open_takes closed held b (x ++ y) goes)
+      | inl stops ↦ ap (λ (h : List ℕ). kept closed h y) (closed_takes closed held (b ∷ x) stops) ∙ closed_takes closed held y stops
+          ∙ sym (closed_takes closed held (b ∷ (x ++ y)) stops)
+      | inr goes ↦ ap (λ (h : List ℕ). kept closed h y) (open_takes closed held b x goes) ∙ joined closed (held ++ b ∷ []) x y
+          ∙ sym (open_takes closed held b (x ++ y) goes)
     ]
 
 pub pushes_join : (f : FeedState) (x y : List ℕ) → pushed (pushed f x) y ≡ pushed f (x ++ y)
@@ -119,7 +124,8 @@ outcome_one (stage.Message c o s n) b v w lt p q = outcome_only c o s n b v w lt
 
 -- ---- the end
 
-stands : (f : FeedState) (o : Option Fault) → f.refused ≡ None → early f.stage f.held ≡ o → finish_of f ≡ unless_refused (option_map (refusal_of f.stage) o) (end_of f.stage f.held)
+stands : (f : FeedState) (o : Option Fault) → f.refused ≡ None → early f.stage f.held ≡ o → finish_of f ≡ unless_refused (option_map (refusal_of f.stage) o)
+    (end_of f.stage f.held)
 stands f o none e =
     ap (λ (r : Option Refusal). unless_refused (or_else r (option_map (refusal_of f.stage) (early f.stage f.held))) (end_of f.stage f.held)) none
     ∙ ap (λ (x : Option Fault). unless_refused (option_map (refusal_of f.stage) x) (end_of f.stage f.held)) e
@@ -136,13 +142,17 @@ message_end s n l le (inr some) = rw (ne_eqb l 0 some, ne_eqb n 0 (λ e. omega a
 open_end : (t : Stage) (b : List ℕ) → IsNumbered t → is_all t b ≡ false → end_of t b ≡ verdict_at_end (stopped t b None)
 open_end (stage.Handshake own) b numbered part = ap (λ (w : Bool). cond w (Err Untaken) (Err (Refused (end_inside (stage.Handshake own) b)))) part
 open_end (stage.Message c o s n) b numbered part =
-    ap (λ (w : Bool). cond w (Err Untaken) (cond (eqb (length b) 0) (accepted s) (Err (Refused (end_inside (stage.Message c o s n) b))))) part ∙ message_end s n (length b) numbered (cases_eq (length b) 0)
+    ap (λ (w : Bool). cond w (Err Untaken) (cond (eqb (length b) 0) (accepted s) (Err (Refused (end_inside (stage.Message c o s n) b))))) part
+        ∙ message_end s n (length b) numbered (cases_eq (length b) 0)
 
-finish_by : (f : FeedState) (v : Outcome) (o : Option Fault) → limit_of f.stage < 2 ^ 32 → IsNumbered f.stage → f.refused ≡ None → early f.stage f.held ≡ o → is_all f.stage f.held ≡ false → Comes f.stage f.held v → finish_of f ≡ verdict_at_end v
+finish_by : (f : FeedState) (v : Outcome) (o : Option Fault) → limit_of f.stage < 2 ^ 32 → IsNumbered f.stage → f.refused ≡ None → early f.stage f.held ≡ o
+    → is_all f.stage f.held ≡ false → Comes f.stage f.held v → finish_of f ≡ verdict_at_end v
 finish_by f v (Some g) lt numbered none e part k =
     stands f (Some g) none e ∙ ap verdict_at_end (outcome_one f.stage f.held _ v lt (fault_comes f.stage f.held g lt (early_has f.stage f.held g e)) k)
 finish_by f v None lt numbered none e part k =
-    stands f None none e ∙ open_end f.stage f.held numbered part ∙ ap verdict_at_end (outcome_one f.stage f.held _ v lt (open_comes f.stage f.held lt (open_by f.stage f.held e part)) k)
+    stands f None none e ∙ open_end f.stage f.held numbered part
+        ∙ ap verdict_at_end (outcome_one f.stage f.held _ v lt (open_comes f.stage f.held lt (open_by f.stage f.held e part)) k)
 
-pub finish_verdict : (f : FeedState) (v : Outcome) → limit_of f.stage < 2 ^ 32 → IsNumbered f.stage → f.refused ≡ None → is_all f.stage f.held ≡ false → Comes f.stage f.held v → finish_of f ≡ verdict_at_end v
+pub finish_verdict : (f : FeedState) (v : Outcome) → limit_of f.stage < 2 ^ 32 → IsNumbered f.stage → f.refused ≡ None → is_all f.stage f.held ≡ false
+    → Comes f.stage f.held v → finish_of f ≡ verdict_at_end v
 finish_verdict f v lt numbered none part k = finish_by f v (early f.stage f.held) lt numbered none refl part k

@@ -1,5 +1,6 @@
 -- Bytes that are appended up to the place where an item is closed.
-use Rattle.std.proofs.Common.{◌≡◌, ℕ, zero, suc, ◌+◌, ◌-◌, ◌≤◌, ◌<◌, ◌⊎◌, Bool, true, false, cond, min, List, [], ◌∷◌, ◌++◌, length, take, drop, Option, Some, None, refl, sym, ap, subst, ◌∙◌, arith, inl, inr}
+use Rattle.std.proofs.Common.{◌≡◌, ℕ, zero, suc, ◌+◌, ◌-◌, ◌≤◌, ◌<◌, ◌⊎◌, Bool, true, false, cond, min, List, [], ◌∷◌, ◌++◌, length, take, drop, Option,
+    Some, None, refl, sym, ap, subst, ◌∙◌, arith, inl, inr}
 use Rattle.std.specs.Prelude.{IfSome}
 use Rattle.std.proofs.Math.Seq.{take-append-add}
 use Rattle.std.proofs.lemmas.Bool.{cases_lt}
@@ -26,7 +27,8 @@ take_add (suc m) n (x ∷ l) = let e : suc m + n ≡ suc (m + n) = omega arith i
 
 -- ---- the least number of bytes
 
-pub least : (closed : List ℕ → Bool) (held piece : List ℕ) (n : ℕ) → n ≤ length piece → ((k : ℕ) → k < n → closed (held ++ take k piece) ≡ false) → (n < length piece → closed (held ++ take n piece) ≡ true) → n ≡ taken_by closed held piece
+pub least : (closed : List ℕ → Bool) (held piece : List ℕ) (n : ℕ) → n ≤ length piece → ((k : ℕ) → k < n → closed (held ++ take k piece) ≡ false)
+    → (n < length piece → closed (held ++ take n piece) ≡ true) → n ≡ taken_by closed held piece
 least closed held [] n le opens stops = omega arith
 least closed held (b ∷ piece) zero le opens stops =
     let here : closed held ≡ true = ap closed (sym (append-nil held)) ∙ stops (omega arith) in
@@ -34,10 +36,12 @@ least closed held (b ∷ piece) zero le opens stops =
 least closed held (b ∷ piece) (suc n) le opens stops =
     let here : closed held ≡ false = ap closed (sym (append-nil held)) ∙ opens 0 (omega arith) in
     let next : (k : ℕ) → (held ++ b ∷ []) ++ take k piece ≡ held ++ (b ∷ take k piece) = λ k. append_assoc held (b ∷ []) (take k piece) in
-    let rest = least closed (held ++ b ∷ []) piece n (omega arith) (λ k lt. ap closed (next k) ∙ opens (suc k) (omega arith)) (λ lt. ap closed (next n) ∙ stops (omega arith)) in
+    let rest = least closed (held ++ b ∷ []) piece n (omega arith) (λ k lt. ap closed (next k) ∙ opens (suc k) (omega arith)) (λ lt. ap closed (next n)
+        ∙ stops (omega arith)) in
     ap suc rest ∙ sym (ap (λ (c : Bool). cond c 0 (suc (taken_by closed (held ++ b ∷ []) piece))) here)
 
-pub taken_filled : (t : Stage) (old piece new : List ℕ) (n : ℕ) → Fills t old piece new n → (n < length piece → is_closed t new ≡ true) → n ≡ taken_by (is_closed t) old piece
+pub taken_filled : (t : Stage) (old piece new : List ℕ) (n : ℕ) → Fills t old piece new n → (n < length piece → is_closed t new ≡ true) → n
+    ≡ taken_by (is_closed t) old piece
 taken_filled t old piece new n f stops = least (is_closed t) old piece n f.within f.opens (λ lt. ap (is_closed t) (sym f.held) ∙ stops lt)
 
 -- ---- one filling after another
@@ -46,7 +50,8 @@ pub fills_none : (t : Stage) (old piece : List ℕ) → Fills t old piece old 0
 fills_none t old piece = record { within = omega arith; held = sym (append-nil old); opens = λ k lt. absurd (omega arith) }
 
 joined : (old piece mid : List ℕ) (m k : ℕ) → mid ≡ old ++ take m piece → mid ++ take k (drop m piece) ≡ old ++ take (m + k) piece
-joined old piece mid m k e = ap (λ (x : List ℕ). x ++ take k (drop m piece)) e ∙ append_assoc old (take m piece) (take k (drop m piece)) ∙ ap (λ (x : List ℕ). old ++ x) (sym (take_add m k piece))
+joined old piece mid m k e = ap (λ (x : List ℕ). x ++ take k (drop m piece)) e ∙ append_assoc old (take m piece) (take k (drop m piece))
+    ∙ ap (λ (x : List ℕ). old ++ x) (sym (take_add m k piece))
 
 pub fills_more : (t : Stage) (old piece mid new : List ℕ) (m n : ℕ) → Fills t old piece mid m → Fills t mid (drop m piece) new n → Fills t old piece new (m + n)
 fills_more t old piece mid new m n f g = record {
@@ -57,11 +62,13 @@ fills_more t old piece mid new m n f g = record {
         | inl first ↦ f.opens k first
         | inr later ↦
             let at : m + (k - m) ≡ k = omega arith in
-            ap (λ (i : ℕ). is_closed t (old ++ take i piece)) (sym at) ∙ ap (is_closed t) (sym (joined old piece mid m (k - m) f.held)) ∙ g.opens (k - m) (omega arith)
+            ap (λ (i : ℕ). is_closed t (old ++ take i piece)) (sym at) ∙ ap (is_closed t) (sym (joined old piece mid m (k - m) f.held))
+                ∙ g.opens (k - m) (omega arith)
       ];
 }
 
-pub steps_more : (t u : Stage) (old piece rest mid new : List ℕ) (m n : ℕ) → u ≡ t → rest ≡ drop m piece → Fills t old piece mid m → Fills u mid rest new n → Fills t old piece new (m + n)
+pub steps_more : (t u : Stage) (old piece rest mid new : List ℕ) (m n : ℕ) → u ≡ t → rest ≡ drop m piece → Fills t old piece mid m → Fills u mid rest new n
+    → Fills t old piece new (m + n)
 steps_more t u old piece rest mid new m n e d f g =
     let P : Stage → Type 0 = λ x. Fills x mid (drop m piece) new n in
     let Q : List ℕ → Type 0 = λ x. Fills u mid x new n in
@@ -77,13 +84,15 @@ partial_filled t old piece new n p f = record {
             let j : ℕ = k - length old in
             let at : k ≡ length old + j = omega arith in
             let less : j < n = omega (arith, lt, ap length f.held, length-append old (take n piece), length-take-le n piece f.within) in
-            ap (is_closed t) (ap (λ (i : ℕ). take i (old ++ take n piece)) at ∙ take-append-add old (take n piece) j ∙ ap (λ (x : List ℕ). old ++ x) (take-take j n piece (omega arith))) ∙ f.opens j less
+            ap (is_closed t) (ap (λ (i : ℕ). take i (old ++ take n piece)) at ∙ take-append-add old (take n piece) j
+                ∙ ap (λ (x : List ℕ). old ++ x) (take-take j n piece (omega arith))) ∙ f.opens j less
       ];
 }
 
 -- ---- up to a number of bytes
 
-pub until_fills : (t : Stage) (old piece : List ℕ) (n m : ℕ) → ((x : List ℕ) → length old + length x < n → is_closed t (old ++ x) ≡ false) → length old ≤ n → m ≡ min (n - length old) (length piece) → Fills t old piece (old ++ take m piece) m
+pub until_fills : (t : Stage) (old piece : List ℕ) (n m : ℕ) → ((x : List ℕ) → length old + length x < n → is_closed t (old ++ x) ≡ false) → length old ≤ n
+    → m ≡ min (n - length old) (length piece) → Fills t old piece (old ++ take m piece) m
 until_fills t old piece n m h le e = record {
   within = omega arith;
   held = refl;
@@ -122,7 +131,8 @@ window_short t b n p h =
 front : (b x : List ℕ) (k : ℕ) → b ++ take k x ≡ take (length b + k) (b ++ x)
 front b x k = sym (take-append-add b x k)
 
-pub window_fills : (t : Stage) (old piece : List ℕ) (n m : ℕ) → HasWindow t (old ++ piece) n → length old ≤ n → m ≡ min (n - length old) (length piece) → Fills t old piece (old ++ take m piece) m
+pub window_fills : (t : Stage) (old piece : List ℕ) (n m : ℕ) → HasWindow t (old ++ piece) n → length old ≤ n → m ≡ min (n - length old) (length piece)
+    → Fills t old piece (old ++ take m piece) m
 window_fills t old piece n m h le e = record {
   within = omega arith;
   held = refl;
@@ -130,12 +140,15 @@ window_fills t old piece n m h le e = record {
 }
 
 -- all of the message is there, or all of the piece
-pub window_stops : (t : Stage) (old piece : List ℕ) (n m : ℕ) → HasWindow t (old ++ piece) n → length old ≤ n → m ≡ min (n - length old) (length piece) → m < length piece → is_closed t (old ++ take m piece) ≡ true
+pub window_stops : (t : Stage) (old piece : List ℕ) (n m : ℕ) → HasWindow t (old ++ piece) n → length old ≤ n → m ≡ min (n - length old) (length piece)
+    → m < length piece → is_closed t (old ++ take m piece) ≡ true
 window_stops t old piece n m h le e lt =
     let at : length old + m ≡ n = omega arith in
-    ap (is_closed t) (front old piece m ∙ ap (λ (k : ℕ). take k (old ++ piece)) at) ∙ window_closed t (old ++ piece) n h (omega (arith, length-append old piece))
+    ap (is_closed t) (front old piece m ∙ ap (λ (k : ℕ). take k (old ++ piece)) at)
+        ∙ window_closed t (old ++ piece) n h (omega (arith, length-append old piece))
 
-kept_by : (t : Stage) (old piece : List ℕ) (n m : ℕ) → HasWindow t (old ++ piece) n → length old ≤ n → m ≡ min (n - length old) (length piece) → (m < length piece) ⊎ (length piece ≤ m) → HasWindow t (old ++ take m piece) n
+kept_by : (t : Stage) (old piece : List ℕ) (n m : ℕ) → HasWindow t (old ++ piece) n → length old ≤ n → m ≡ min (n - length old) (length piece)
+    → (m < length piece) ⊎ (length piece ≤ m) → HasWindow t (old ++ take m piece) n
 kept_by t old piece n m h le e (inl lt) =
     let at : length old + m ≡ n = omega arith in
     let P : List ℕ → Type 0 = λ x. HasWindow t x n in
@@ -144,8 +157,10 @@ kept_by t old piece n m h le e (inr all) =
     let P : List ℕ → Type 0 = λ x. HasWindow t (old ++ x) n in
     subst P (sym (take_all m piece all)) h
 
-pub window_kept : (t : Stage) (old piece : List ℕ) (n m : ℕ) → HasWindow t (old ++ piece) n → length old ≤ n → m ≡ min (n - length old) (length piece) → HasWindow t (old ++ take m piece) n × (length (old ++ take m piece) ≤ n)
-window_kept t old piece n m h le e = (kept_by t old piece n m h le e (cases_lt m (length piece)), omega (arith, length-append old (take m piece), length-take m piece))
+pub window_kept : (t : Stage) (old piece : List ℕ) (n m : ℕ) → HasWindow t (old ++ piece) n → length old ≤ n → m ≡ min (n - length old) (length piece)
+    → HasWindow t (old ++ take m piece) n × (length (old ++ take m piece) ≤ n)
+window_kept t old piece n m h le e = (kept_by t old piece n m h le e (cases_lt m (length piece)),
+    omega (arith, length-append old (take m piece), length-take m piece))
 
 -- ---- what is known afterwards
 
@@ -160,15 +175,18 @@ unfolding IsRefusedBy
 refused_more t b x None h = tt
 refused_more t b x (Some r) h = (h.0, fault_more t b x h.0 h.1, h.2)
 
-refused_filled : (p q : Progress) (b piece new : List ℕ) (n : ℕ) → IsRefusedBy p.stage b p.refused → IsSameItem p q → Fills p.stage b piece new n → IsRefusedBy q.stage (held_of q new) q.refused
+refused_filled : (p q : Progress) (b piece new : List ℕ) (n : ℕ) → IsRefusedBy p.stage b p.refused → IsSameItem p q → Fills p.stage b piece new n
+    → IsRefusedBy q.stage (held_of q new) q.refused
 refused_filled p q b piece new n h same f =
     let P : Stage → Type 0 = λ t. IsRefusedBy t (held_of q new) q.refused in
     let Q : List ℕ → Type 0 = λ x. IsRefusedBy p.stage x q.refused in
     let R : Option Refusal → Type 0 = λ o. IsRefusedBy p.stage (b ++ take n piece) o in
-    subst P (sym same.stage) (subst Q (sym (held_fresh q new same.fresh ∙ f.held)) (subst R (sym same.refused) (refused_more p.stage b (take n piece) p.refused h)))
+    subst P (sym same.stage) (subst Q (sym (held_fresh q new same.fresh ∙ f.held))
+        (subst R (sym same.refused) (refused_more p.stage b (take n piece) p.refused h)))
 
 -- the same item, with the bytes that were appended
-pub progress_filled : (p q : Progress) (buffer piece new : List ℕ) (n : ℕ) → IsProgress p buffer → IsSameItem p q → Fills p.stage (held_of p buffer) piece new n → length new ≤ capacity_of p.stage
+pub progress_filled : (p q : Progress) (buffer piece new : List ℕ) (n : ℕ) → IsProgress p buffer → IsSameItem p q
+    → Fills p.stage (held_of p buffer) piece new n → length new ≤ capacity_of p.stage
     → (0 < q.wanted → HasWindow p.stage new q.wanted × (length new ≤ q.wanted)) → IsProgress q new
 unfolding IsRefusedBy
 progress_filled p q buffer piece new n h same f bound wanted =
@@ -190,27 +208,34 @@ progress_filled p q buffer piece new n h same f bound wanted =
     }
 
 -- up to the next place where bytes are judged
-pub progress_until : (p q : Progress) (buffer piece : List ℕ) (n m : ℕ) → IsProgress p buffer → IsSameItem p q → p.spent ≡ false → q.wanted ≡ 0 → length buffer < n → n ≤ 68
-    → ((x : List ℕ) → length buffer + length x < n → is_closed p.stage (buffer ++ x) ≡ false) → m ≡ min (n - length buffer) (length piece) → IsProgress q (buffer ++ take m piece)
+pub progress_until : (p q : Progress) (buffer piece : List ℕ) (n m : ℕ) → IsProgress p buffer → IsSameItem p q → p.spent ≡ false → q.wanted ≡ 0
+    → length buffer < n → n ≤ 68
+    → ((x : List ℕ) → length buffer + length x < n → is_closed p.stage (buffer ++ x) ≡ false) → m ≡ min (n - length buffer) (length piece)
+    → IsProgress q (buffer ++ take m piece)
 progress_until p q buffer piece n m h same fresh unjudged lt short opens e =
     let f = until_fills p.stage buffer piece n m opens (omega arith) e in
     let P : List ℕ → Type 0 = λ x. Fills p.stage x piece (buffer ++ take m piece) m in
-    progress_filled p q buffer piece (buffer ++ take m piece) m h same (subst P (sym (held_fresh p buffer fresh)) f) (omega (arith, length-append buffer (take m piece), length-take m piece)) (λ some. absurd (omega arith))
+    progress_filled p q buffer piece (buffer ++ take m piece) m h same (subst P (sym (held_fresh p buffer fresh)) f)
+        (omega (arith, length-append buffer (take m piece), length-take m piece)) (λ some. absurd (omega arith))
 
 pub partial_fresh : (p : Progress) (buffer : List ℕ) → IsProgress p buffer → p.spent ≡ false → IsPartial p.stage buffer
 partial_fresh p buffer h fresh = let P : List ℕ → Type 0 = λ x. IsPartial p.stage x in subst P (held_fresh p buffer fresh) h.partial
 
 -- up to the message's end
-pub progress_window : (p q : Progress) (buffer piece : List ℕ) (n m : ℕ) → IsProgress p buffer → IsSameItem p q → p.spent ≡ false → q.wanted ≡ n → HasWindow p.stage (buffer ++ piece) n → length buffer ≤ n
+pub progress_window : (p q : Progress) (buffer piece : List ℕ) (n m : ℕ) → IsProgress p buffer → IsSameItem p q → p.spent ≡ false → q.wanted ≡ n
+    → HasWindow p.stage (buffer ++ piece) n → length buffer ≤ n
     → m ≡ min (n - length buffer) (length piece) → IsProgress q (buffer ++ take m piece)
 progress_window p q buffer piece n m h same fresh is window le e =
     let kept = window_kept p.stage buffer piece n m window le e in
     let P : ℕ → Type 0 = λ w. HasWindow p.stage (buffer ++ take m piece) w × (length (buffer ++ take m piece) ≤ w) in
     let Q : List ℕ → Type 0 = λ x. Fills p.stage x piece (buffer ++ take m piece) m in
-    progress_filled p q buffer piece (buffer ++ take m piece) m h same (subst Q (sym (held_fresh p buffer fresh)) (window_fills p.stage buffer piece n m window le e)) (omega (arith, kept.1, (window_bound p.stage (buffer ++ piece) n window).1)) (λ some. subst P (sym is) kept)
+    progress_filled p q buffer piece (buffer ++ take m piece) m h same
+        (subst Q (sym (held_fresh p buffer fresh)) (window_fills p.stage buffer piece n m window le e))
+        (omega (arith, kept.1, (window_bound p.stage (buffer ++ piece) n window).1)) (λ some. subst P (sym is) kept)
 
 -- what is known of the header is so with the piece after the bytes
-pub wanted_more : (p : Progress) (buffer piece : List ℕ) → IsProgress p buffer → p.spent ≡ false → 0 < p.wanted → HasWindow p.stage (buffer ++ piece) p.wanted × (length buffer ≤ p.wanted)
+pub wanted_more : (p : Progress) (buffer piece : List ℕ) → IsProgress p buffer → p.spent ≡ false → 0 < p.wanted
+    → HasWindow p.stage (buffer ++ piece) p.wanted × (length buffer ≤ p.wanted)
 wanted_more p buffer piece h fresh some =
     let P : List ℕ → Type 0 = λ x. HasWindow p.stage x p.wanted × (length x ≤ p.wanted) in
     let here = subst P (held_fresh p buffer fresh) (h.wanted some) in
@@ -218,10 +243,12 @@ wanted_more p buffer piece h fresh some =
 
 -- ---- the feed afterwards
 
-pub taken_is : (p : Progress) (old piece new : List ℕ) (n : ℕ) → Fills p.stage (held_of p old) piece new n → (n < length piece → is_closed p.stage new ≡ true) → n ≡ taken (state_of p old) piece
+pub taken_is : (p : Progress) (old piece new : List ℕ) (n : ℕ) → Fills p.stage (held_of p old) piece new n
+    → (n < length piece → is_closed p.stage new ≡ true) → n ≡ taken (state_of p old) piece
 taken_is p old piece new n f stops = taken_filled p.stage (held_of p old) piece new n f stops
 
-pub pushed_is : (p q : Progress) (old piece new : List ℕ) (n : ℕ) → Fills p.stage (held_of p old) piece new n → (n < length piece → is_closed p.stage new ≡ true) → IsSameItem p q → state_of q new ≡ pushed (state_of p old) piece
+pub pushed_is : (p q : Progress) (old piece new : List ℕ) (n : ℕ) → Fills p.stage (held_of p old) piece new n
+    → (n < length piece → is_closed p.stage new ≡ true) → IsSameItem p q → state_of q new ≡ pushed (state_of p old) piece
 pushed_is p q old piece new n f stops same =
     let bytes : held_of q new ≡ held_of p old ++ take (taken (state_of p old) piece) piece =
     held_fresh q new same.fresh ∙ f.held ∙ ap (λ (k : ℕ). held_of p old ++ take k piece) (taken_is p old piece new n f stops) in

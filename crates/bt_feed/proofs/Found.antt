@@ -36,19 +36,22 @@ place_fits p buffer k h le = omega (arith, h.start, h.bound, h.limit, le)
 
 -- ---- the whole message
 
-pub window_fault : (c : Context) (o : Order) (s : ℕ) (b : List ℕ) (f : Refused) → s < 2 ^ 62 → header_of c o b ≡ headers.Window (length b) → IsFault c o 0 b (Some f) → IsFault c o s b (Some f)
+pub window_fault : (c : Context) (o : Order) (s : ℕ) (b : List ℕ) (f : Refused) → s < 2 ^ 62 → header_of c o b ≡ headers.Window (length b)
+    → IsFault c o 0 b (Some f) → IsFault c o s b (Some f)
 window_fault c o s b f lt e p =
     let P : List ℕ → Type 0 = λ x. IsFault c o 0 x (Some f) in
     front_fault c o s b (length b) f lt (front_whole c o b (length b) e (omega arith)) (subst P (sym (take_all (length b) b (omega arith))) p)
 
 -- ---- what the header shows
 
-pub early_need : (c : Context) (o : Order) (s i : ℕ) (b : List ℕ) (n : ℕ) → s < 2 ^ 62 → header_of c o b ≡ headers.Need n → (early (stage.Message c o s i) b ≡ None) × (is_all (stage.Message c o s i) b ≡ false)
+pub early_need : (c : Context) (o : Order) (s i : ℕ) (b : List ℕ) (n : ℕ) → s < 2 ^ 62 → header_of c o b ≡ headers.Need n
+    → (early (stage.Message c o s i) b ≡ None) × (is_all (stage.Message c o s i) b ≡ false)
 early_need c o s i b n lt e =
     let j : (header_fault c o b ≡ None) × (is_whole b ≡ false) = judged_at c o b (headers.Need n) e in
     (early_header c o s b lt ∙ j.0, j.1)
 
-pub early_window : (c : Context) (o : Order) (s i : ℕ) (b : List ℕ) (n : ℕ) → s < 2 ^ 62 → header_of c o b ≡ headers.Window n → (early (stage.Message c o s i) b ≡ None) × (is_all (stage.Message c o s i) b ≡ leb n (length b))
+pub early_window : (c : Context) (o : Order) (s i : ℕ) (b : List ℕ) (n : ℕ) → s < 2 ^ 62 → header_of c o b ≡ headers.Window n
+    → (early (stage.Message c o s i) b ≡ None) × (is_all (stage.Message c o s i) b ≡ leb n (length b))
 early_window c o s i b n lt e =
     let j : IsHeader c o b n = judged_at c o b (headers.Window n) e in (
       early_header c o s b lt ∙ j.none,

@@ -23,7 +23,8 @@ hash_goal own b e le lt = (lt, omega arith, λ x less. to_hash own b x e le less
 pub end_goal : (own : Own) (b : List ℕ) → hand_fault own b ≡ None → 48 ≤ length b → length b < 68 → IsGoal (stage.Handshake own) b (goal.Until 68)
 end_goal own b e le lt = (lt, omega arith, λ x less. to_end own b x e le less)
 
-pub need_goal : (c : Context) (o : Order) (s i : ℕ) (b : List ℕ) (n : ℕ) → s < 2 ^ 62 → header_of c o b ≡ headers.Need n → IsGoal (stage.Message c o s i) b (goal.Until n)
+pub need_goal : (c : Context) (o : Order) (s i : ℕ) (b : List ℕ) (n : ℕ) → s < 2 ^ 62 → header_of c o b ≡ headers.Need n
+    → IsGoal (stage.Message c o s i) b (goal.Until n)
 need_goal c o s i b n lt e =
     let short = need_short c o b n e in
     (short.0, omega (arith, short.1), λ x less. need_open c o s i (b ++ x) n lt (need_until c o b x n e less))

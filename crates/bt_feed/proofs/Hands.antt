@@ -24,7 +24,8 @@ open_hand : (own : Own) (b x : List ℕ) → length b + length x < 68 → hand_f
 open_hand own b x lt e = open_by (stage.Handshake own) (b ++ x) e (lt-leb 68 (length (b ++ x)) (omega (arith, length-append b x)))
 
 -- each byte of the protocol
-pub next_byte : (own : Own) (b x : List ℕ) → hand_fault own b ≡ None → length b < 68 → length b + length x < length b + 1 → is_closed (stage.Handshake own) (b ++ x) ≡ false
+pub next_byte : (own : Own) (b x : List ℕ) → hand_fault own b ≡ None → length b < 68 → length b + length x < length b + 1
+    → is_closed (stage.Handshake own) (b ++ x) ≡ false
 next_byte own b x e short lt =
     let none : x ≡ [] = nil_from_length x (omega arith) in
     open_hand own b x (omega (arith, ap length none)) (ap (λ (y : List ℕ). hand_fault own (b ++ y)) none ∙ ap (hand_fault own) (append-nil b) ∙ e)

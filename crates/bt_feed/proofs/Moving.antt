@@ -1,5 +1,6 @@
 -- What moves from a source through a feed into a sink.
-use Rattle.std.proofs.Common.{◌≡◌, ℕ, ◌+◌, ◌≤◌, Bool, true, false, if◌then◌else◌, List, [], ◌∷◌, ◌++◌, length, take, drop, Option, Some, None, Result, Ok, Err, refl, sym, ap, subst, ◌∙◌, arith}
+use Rattle.std.proofs.Common.{◌≡◌, ℕ, ◌+◌, ◌≤◌, Bool, true, false, if◌then◌else◌, List, [], ◌∷◌, ◌++◌, length, take, drop, Option, Some, None, Result, Ok,
+    Err, refl, sym, ap, subst, ◌∙◌, arith}
 use Rattle.std.proofs.lemmas.List.{append-nil, append_assoc, length-drop, take_all, take-append-drop}
 use Rattle.std.proofs.Math.Seq.{take-add}
 use Rattle.bt_wire.specs.declared.item.Item.{Item}
@@ -32,20 +33,24 @@ pub took_both : {S : Type 0} (R : S → ℕ × Item → S → Type 0) (a b c : S
 took_both R a b c [] ys p q = subst (λ s. Took R s ys c) p q
 took_both R a b c (x ∷ xs) ys p q = (p.0, p.1, took_both R p.0 b c xs ys p.2 q)
 
-pub took_more : {S : Type 0} (R : S → ℕ × Item → S → Type 0) (a b c : S) (xs : List (ℕ × Item)) (x : ℕ × Item) → Took R a xs b → R b x c → Took R a (xs ++ x ∷ []) c
+pub took_more : {S : Type 0} (R : S → ℕ × Item → S → Type 0) (a b c : S) (xs : List (ℕ × Item)) (x : ℕ × Item) → Took R a xs b → R b x c
+    → Took R a (xs ++ x ∷ []) c
 took_more R a b c xs x p q = took_both R a b c xs (x ∷ []) p (c, q, refl)
 
-pub missed_more : {S : Type 0} (takes misses : S → ℕ × Item → S → Type 0) (a b c : S) (xs ys : List (ℕ × Item)) → Took takes a xs b → IsMissed takes misses b ys c → IsMissed takes misses a (xs ++ ys) c
+pub missed_more : {S : Type 0} (takes misses : S → ℕ × Item → S → Type 0) (a b c : S) (xs ys : List (ℕ × Item)) → Took takes a xs b
+    → IsMissed takes misses b ys c → IsMissed takes misses a (xs ++ ys) c
 missed_more takes misses a b c xs ys p q =
     (xs ++ q.0, q.1, q.2, ap (λ (l : List (ℕ × Item)). xs ++ l) q.3 ∙ sym (append_assoc xs q.0 (q.1 ∷ [])), took_both takes a b q.2 xs q.0 p q.4, q.5)
 
-pub given_more : {S : Type 0} (A : Type 0) (takes misses : S → ℕ × Item → S → Type 0) (a b c : S) (xs ys : List (ℕ × Item)) (e : PumpError) → Took takes a xs b → IsGiven {A = A} takes misses b ys c (Err e) → IsGiven {A = ℕ} takes misses a (xs ++ ys) c (Err e)
+pub given_more : {S : Type 0} (A : Type 0) (takes misses : S → ℕ × Item → S → Type 0) (a b c : S) (xs ys : List (ℕ × Item)) (e : PumpError)
+    → Took takes a xs b → IsGiven {A = A} takes misses b ys c (Err e) → IsGiven {A = ℕ} takes misses a (xs ++ ys) c (Err e)
 given_more A takes misses a b c xs ys (error.Refused r) p q = took_both takes a b c xs ys p q
 given_more A takes misses a b c xs ys error.ReadFault p q = took_both takes a b c xs ys p q
 given_more A takes misses a b c xs ys error.Turns p q = took_both takes a b c xs ys p q
 given_more A takes misses a b c xs ys (error.Sink e) p q = missed_more takes misses a b c xs ys p q
 
-pub given_end : {S : Type 0} (takes misses : S → ℕ × Item → S → Type 0) (a b : S) (xs : List (ℕ × Item)) (f : FeedState) (r : Result ℕ PumpError) → IsEndOf f r → Took takes a xs b → IsGiven takes misses a xs b r
+pub given_end : {S : Type 0} (takes misses : S → ℕ × Item → S → Type 0) (a b : S) (xs : List (ℕ × Item)) (f : FeedState) (r : Result ℕ PumpError)
+    → IsEndOf f r → Took takes a xs b → IsGiven takes misses a xs b r
 given_end takes misses a b xs f (Ok n) h p = p
 given_end takes misses a b xs f (Err (error.Refused r)) h p = p
 given_end takes misses a b xs f (Err (error.Sink e)) h p = absurd h.verdict
@@ -75,7 +80,8 @@ fed_push f p rest n count is =
     }))
 
 -- a taken item goes, with its bytes
-fed_take : (p g : FeedState) (item : Item) → limit_of p.stage ≤ 1048576 → IsItem p.stage p.held item → g ≡ after p (Ok (Some item)) → IsFed p [] ((start_of p.stage, item) ∷ []) g
+fed_take : (p g : FeedState) (item : Item) → limit_of p.stage ≤ 1048576 → IsItem p.stage p.held item → g ≡ after p (Ok (Some item))
+    → IsFed p [] ((start_of p.stage, item) ∷ []) g
 fed_take p g item le is after_is =
     let P : FeedState → Type 0 = λ s. IsFed p [] ((start_of p.stage, item) ∷ []) s in
     subst P (sym after_is) (record { comes = λ later v k. item_comes p.stage p.held later item v (omega arith) is k })
@@ -86,21 +92,26 @@ fed_take p g item le is after_is =
 pub front : (piece rest : List ℕ) (at n : ℕ) → rest ≡ drop at piece → take at piece ++ take n rest ≡ take (at + n) piece
 front piece rest at n e = ap (λ (l : List ℕ). take at piece ++ take n l) e ∙ sym (take-add at n piece)
 
-pub fed_front : (f s p : FeedState) (piece rest : List ℕ) (at n : ℕ) (xs : List (ℕ × Item)) → IsFed f (take at piece) xs s → IsPushed s p piece rest at n → IsFed f (take (at + n) piece) xs p
+pub fed_front : (f s p : FeedState) (piece rest : List ℕ) (at n : ℕ) (xs : List (ℕ × Item)) → IsFed f (take at piece) xs s → IsPushed s p piece rest at n
+    → IsFed f (take (at + n) piece) xs p
 fed_front f s p piece rest at n xs m h =
     let P : List ℕ → Type 0 = λ b. IsFed f b xs p in
     let Q : List (ℕ × Item) → Type 0 = λ zs. IsFed f (take at piece ++ take n rest) zs p in
-    subst P (front piece rest at n h.rest_is) (subst Q (append-nil xs) (fed_both f s p (take at piece) (take n rest) xs [] m (fed_push s p rest n h.taken_is h.held_is)))
+    subst P (front piece rest at n h.rest_is) (subst Q (append-nil xs) (fed_both f s p (take at piece) (take n rest) xs [] m
+        (fed_push s p rest n h.taken_is h.held_is)))
 
-pub fed_item : (f s p g : FeedState) (piece rest : List ℕ) (at n : ℕ) (xs : List (ℕ × Item)) (answer : Result (Option Item) Refusal) (item : Item) → IsFed f (take at piece) xs s → IsPushed s p piece rest at n → limit_of p.stage ≤ 1048576
+pub fed_item : (f s p g : FeedState) (piece rest : List ℕ) (at n : ℕ) (xs : List (ℕ × Item)) (answer : Result (Option Item) Refusal) (item : Item)
+    → IsFed f (take at piece) xs s → IsPushed s p piece rest at n → limit_of p.stage ≤ 1048576
     → answer ≡ Ok (Some item) → IsAnswer p answer → g ≡ after p answer → IsFed f (take (at + n) piece) (xs ++ (start_of p.stage, item) ∷ []) g
 fed_item f s p g piece rest at n xs answer item m h le e a after_is =
     let P : Result (Option Item) Refusal → Type 0 = λ x. IsAnswer p x in
     let Q : List ℕ → Type 0 = λ b. IsFed f b (xs ++ (start_of p.stage, item) ∷ []) g in
-    subst Q (append-nil (take (at + n) piece)) (fed_both f p g (take (at + n) piece) [] xs ((start_of p.stage, item) ∷ []) (fed_front f s p piece rest at n xs m h) (fed_take p g item le (subst P e a) (after_is ∙ ap (after p) e)))
+    subst Q (append-nil (take (at + n) piece)) (fed_both f p g (take (at + n) piece) [] xs ((start_of p.stage, item) ∷ [])
+        (fed_front f s p piece rest at n xs m h) (fed_take p g item le (subst P e a) (after_is ∙ ap (after p) e)))
 
 -- where the feed waits all of the piece is taken
-pub fed_all : (f s p g : FeedState) (piece rest : List ℕ) (at n : ℕ) (xs : List (ℕ × Item)) (answer : Result (Option Item) Refusal) → at ≤ length piece → IsFed f (take at piece) xs s → IsPushed s p piece rest at n
+pub fed_all : (f s p g : FeedState) (piece rest : List ℕ) (at n : ℕ) (xs : List (ℕ × Item)) (answer : Result (Option Item) Refusal) → at ≤ length piece
+    → IsFed f (take at piece) xs s → IsPushed s p piece rest at n
     → answer ≡ Ok None → IsAnswer p answer → g ≡ after p answer → IsFed f piece xs g × (is_closed g.stage g.held ≡ false)
 fed_all f s p g piece rest at n xs answer le m h e a after_is =
     let P : Result (Option Item) Refusal → Type 0 = λ x. IsAnswer p x in
@@ -114,7 +125,8 @@ fed_all f s p g piece rest at n xs answer le m h e a after_is =
     subst S (sym same) (subst R all (fed_front f s p piece rest at n xs m h), opens)
 
 -- a refusal leaves the bytes
-pub fed_refused : (f s p g : FeedState) (piece rest : List ℕ) (at n : ℕ) (xs : List (ℕ × Item)) (answer : Result (Option Item) Refusal) (r : Refusal) → IsFed f (take at piece) xs s → IsPushed s p piece rest at n
+pub fed_refused : (f s p g : FeedState) (piece rest : List ℕ) (at n : ℕ) (xs : List (ℕ × Item)) (answer : Result (Option Item) Refusal) (r : Refusal)
+    → IsFed f (take at piece) xs s → IsPushed s p piece rest at n
     → answer ≡ Err r → IsAnswer p answer → g ≡ after p answer → IsFed f (take (at + n) piece) xs g × IsAnswer g (Err r)
 fed_refused f s p g piece rest at n xs answer r m h e a after_is =
     let P : Result (Option Item) Refusal → Type 0 = λ x. IsAnswer p x in
@@ -140,7 +152,8 @@ limit_kept p g answer e le = omega (arith, ap (λ (x : FeedState). limit_of x.st
 
 -- ---- to the verdict
 
-pumped : (f g : FeedState) (bytes lost : List ℕ) (xs : List (ℕ × Item)) (last : Outcome) → IsFed f bytes xs g → Comes g.stage (g.held ++ lost) last → last.items ≡ [] → last.number ≡ number_of g.stage → IsPumped f bytes lost xs g (with_items xs last)
+pumped : (f g : FeedState) (bytes lost : List ℕ) (xs : List (ℕ × Item)) (last : Outcome) → IsFed f bytes xs g → Comes g.stage (g.held ++ lost) last
+    → last.items ≡ [] → last.number ≡ number_of g.stage → IsPumped f bytes lost xs g (with_items xs last)
 pumped f g bytes lost xs last m k none same = record {
   fed = m;
   comes = m.comes lost last k;
@@ -148,27 +161,33 @@ pumped f g bytes lost xs last m k none same = record {
   number = same;
 }
 
-pub ended_refused : (f g : FeedState) (bytes lost : List ℕ) (xs : List (ℕ × Item)) (r : Refusal) → IsFed f bytes xs g → limit_of g.stage ≤ 1048576 → IsAnswer g (Err r) → IsPumpEnd f bytes lost xs g (Err (error.Refused r))
+pub ended_refused : (f g : FeedState) (bytes lost : List ℕ) (xs : List (ℕ × Item)) (r : Refusal) → IsFed f bytes xs g → limit_of g.stage ≤ 1048576
+    → IsAnswer g (Err r) → IsPumpEnd f bytes lost xs g (Err (error.Refused r))
 ended_refused f g bytes lost xs r m le a =
     let last = stopped g.stage (g.held ++ lost) (Some r) in
     let P : Refusal → Type 0 = λ x. Comes g.stage (g.held ++ lost) (stopped g.stage (g.held ++ lost) (Some x)) in
     let comes = subst P (sym a.2) (fault_comes g.stage (g.held ++ lost) a.0 (omega (arith, le)) (fault_more g.stage g.held lost a.0 a.1)) in
-    (with_items xs last, pumped f g bytes lost xs last m comes refl refl, (λ e. absurd (no_fault_ends g.stage g.held a.0 a.1 (sym (ap (λ (x : Refusal). x.reason) a.2) ∙ e))), refl)
+    (with_items xs last, pumped f g bytes lost xs last m comes refl refl,
+        (λ e. absurd (no_fault_ends g.stage g.held a.0 a.1 (sym (ap (λ (x : Refusal). x.reason) a.2) ∙ e))), refl)
 
-pub ended_open : (f g : FeedState) (bytes : List ℕ) (xs : List (ℕ × Item)) → IsFed f bytes xs g → limit_of g.stage ≤ 1048576 → is_closed g.stage g.held ≡ false → (v : Outcome) × IsPumped f bytes [] xs g v × (v.refusal ≡ None)
+pub ended_open : (f g : FeedState) (bytes : List ℕ) (xs : List (ℕ × Item)) → IsFed f bytes xs g → limit_of g.stage ≤ 1048576 → is_closed g.stage g.held
+    ≡ false → (v : Outcome) × IsPumped f bytes [] xs g v × (v.refusal ≡ None)
 ended_open f g bytes xs m le e =
     let held = append-nil g.held in
     let last = stopped g.stage (g.held ++ []) None in
-    (with_items xs last, pumped f g bytes [] xs last m (open_comes g.stage (g.held ++ []) (omega (arith, le)) (ap (is_closed g.stage) held ∙ e)) refl refl, refl)
+    (with_items xs last, pumped f g bytes [] xs last m (open_comes g.stage (g.held ++ []) (omega (arith, le)) (ap (is_closed g.stage) held ∙ e)) refl refl,
+        refl)
 
-ended_as : (f g : FeedState) (bytes : List ℕ) (xs : List (ℕ × Item)) (r : Result ℕ PumpError) (last : Outcome) → IsPumped f bytes [] xs g (with_items xs last) → IsVerdictAtEnd last r → IsPumpEnd f bytes [] xs g r
+ended_as : (f g : FeedState) (bytes : List ℕ) (xs : List (ℕ × Item)) (r : Result ℕ PumpError) (last : Outcome)
+    → IsPumped f bytes [] xs g (with_items xs last) → IsVerdictAtEnd last r → IsPumpEnd f bytes [] xs g r
 ended_as f g bytes xs (Ok n) last p v = (with_items xs last, p, refl, v)
 ended_as f g bytes xs (Err (error.Refused r)) last p v = (with_items xs last, p, (λ e. refl), v)
 ended_as f g bytes xs (Err (error.Sink e)) last p v = absurd v
 ended_as f g bytes xs (Err error.ReadFault) last p v = absurd v
 ended_as f g bytes xs (Err error.Turns) last p v = absurd v
 
-pub ended_last : (f g : FeedState) (bytes : List ℕ) (xs : List (ℕ × Item)) (r : Result ℕ PumpError) → IsFed f bytes xs g → IsEndOf g r → IsPumpEnd f bytes [] xs g r
+pub ended_last : (f g : FeedState) (bytes : List ℕ) (xs : List (ℕ × Item)) (r : Result ℕ PumpError) → IsFed f bytes xs g → IsEndOf g r
+    → IsPumpEnd f bytes [] xs g r
 ended_last f g bytes xs r m h =
     let P : List ℕ → Type 0 = λ b. Comes g.stage b h.last in
     ended_as f g bytes xs r h.last (pumped f g bytes [] xs h.last m (subst P (sym (append-nil g.held)) h.comes) h.no_items h.number) h.verdict
@@ -184,7 +203,8 @@ pub record IsStop (f : FeedState) (before piece : List ℕ) (xs : List (ℕ × I
 cut : (before piece : List ℕ) (n : ℕ) → before ++ piece ≡ (before ++ take n piece) ++ drop n piece
 cut before piece n = ap (λ (l : List ℕ). before ++ l) (sym (take-append-drop n piece)) ∙ sym (append_assoc before (take n piece) (drop n piece))
 
-pub stopped_by : (f s g : FeedState) (before piece : List ℕ) (xs ys : List (ℕ × Item)) (e : PumpError) → IsFed f before xs s → limit_of g.stage ≤ 1048576 → IsPieceEnd s piece ys g (Err e) → IsStop f before piece (xs ++ ys) g e
+pub stopped_by : (f s g : FeedState) (before piece : List ℕ) (xs ys : List (ℕ × Item)) (e : PumpError) → IsFed f before xs s → limit_of g.stage ≤ 1048576
+    → IsPieceEnd s piece ys g (Err e) → IsStop f before piece (xs ++ ys) g e
 stopped_by f s g before piece xs ys (error.Refused r) m le h = record {
   bytes = before ++ take h.0 piece;
   lost = drop h.0 piece;
@@ -221,7 +241,8 @@ not_refused f None e a waits = e
 not_refused f (Some r) e a waits = absurd (let closed = fault_closed f.stage f.held a.0 a.1 in cc)
 
 -- where nothing is refused before, the verdict at the end stands only there
-ends_inside : (v : Outcome) (complete : Bool) (n : ℕ) (r : Refusal) → unless_refused (if complete then None else Some (end_inside v)) (Ok n) ≡ Err (finish.Refused r) → r.reason ≡ EndInside
+ends_inside : (v : Outcome) (complete : Bool) (n : ℕ) (r : Refusal) → unless_refused (if complete then None else Some (end_inside v)) (Ok n)
+    ≡ Err (finish.Refused r) → r.reason ≡ EndInside
 ends_inside v true n r h = absurd cc
 ends_inside v false n r h = let e : end_inside v ≡ r = cc in sym (ap (λ (x : Refusal). x.reason) e)
 
@@ -233,11 +254,13 @@ ends_only t b (Err error.ReadFault) h = absurd h
 ends_only t b (Err error.Turns) h = absurd h
 
 -- a feed that holds no whole item has its verdict there
-pub end_of_open : (f : FeedState) (r : Result ℕ PumpError) → IsFeed f → is_closed f.stage f.held ≡ false → ((v : Outcome) → finish_of f ≡ verdict_at_end v → IsVerdictAtEnd v r) → IsEndOf f r
+pub end_of_open : (f : FeedState) (r : Result ℕ PumpError) → IsFeed f → is_closed f.stage f.held ≡ false
+    → ((v : Outcome) → finish_of f ≡ verdict_at_end v → IsVerdictAtEnd v r) → IsEndOf f r
 end_of_open f r h e verdict =
     let last = stopped f.stage f.held None in
     let comes = open_comes f.stage f.held (omega (arith, h.limit)) e in
-    let is = verdict last (finish_verdict f last (omega (arith, h.limit)) h.numbered (not_refused f f.refused refl h.refused e) (open_parts f.stage f.held e).1 comes) in
+    let is = verdict last (finish_verdict f last (omega (arith, h.limit)) h.numbered (not_refused f f.refused refl h.refused e)
+        (open_parts f.stage f.held e).1 comes) in
     record {
       last = last;
       comes = comes;

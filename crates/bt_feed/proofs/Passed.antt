@@ -1,5 +1,6 @@
 -- The outcome of messages that are handed on where they lie.
-use Rattle.std.proofs.Common.{◌≡◌, ℕ, ◌+◌, ◌-◌, ◌^◌, ◌≤◌, ◌<◌, List, [], ◌∷◌, ◌++◌, length, take, drop, Option, None, Result, Ok, Err, sym, ap, subst, ◌∙◌, arith}
+use Rattle.std.proofs.Common.{◌≡◌, ℕ, ◌+◌, ◌-◌, ◌^◌, ◌≤◌, ◌<◌, List, [], ◌∷◌, ◌++◌, length, take, drop, Option, None, Result, Ok, Err, sym, ap, subst, ◌∙◌,
+    arith}
 use Rattle.std.specs.Prelude.{IfSome}
 use Rattle.std.specs.List.{slice_range}
 use Rattle.std.proofs.lemmas.List.{length-take-le}
@@ -30,7 +31,8 @@ use Rattle.bt_feed.proofs.Windows.{window_taken}
 passed_one : (c : Context) (o : Order) (s n k : ℕ) (rest : List ℕ) (m : Message) → s < 2 ^ 62 → c.limit ≤ 1048576 → k ≤ length rest → IsRead c o (take k rest) m
     → IsFed (waiting (stage.Message c o s n)) (take k rest) ((s, items.Message m) ∷ []) (waiting (stage.Message c (order_after o m) (s + k) (n + 1)))
 passed_one c o s n k rest m lt le within h =
-    let item : IsItem (stage.Message c o s n) (take k rest) (items.Message m) = (record { in_range = h.said.in_range; legal = h.said.legal; start = lt }, sym h.spelled) in
+    let item : IsItem (stage.Message c o s n) (take k rest) (items.Message m) = (record { in_range = h.said.in_range; legal = h.said.legal; start = lt },
+        sym h.spelled) in
     record {
       comes = λ later v q.
           let P : ℕ → Type 0 = λ size. Comes (stage.Message c (order_after o m) (s + size) (n + 1)) later v in
@@ -41,16 +43,19 @@ pub front_range : (rest window : List ℕ) (k : ℕ) → window ≡ slice_range 
 front_range rest window k e = let same : k - 0 ≡ k = omega arith in e ∙ ap (λ (n : ℕ). take n rest) same
 
 -- the bytes of a message at the front
-pub window_there : (c : Context) (o : Order) (rest window : List ℕ) (k : ℕ) → header_of c o rest ≡ headers.Window k → k ≤ length rest → window ≡ take k rest → header_of c o window ≡ headers.Window (length window)
+pub window_there : (c : Context) (o : Order) (rest window : List ℕ) (k : ℕ) → header_of c o rest ≡ headers.Window k → k ≤ length rest → window ≡ take k rest
+    → header_of c o window ≡ headers.Window (length window)
 window_there c o rest window k e le is =
     let size : length window ≡ k = ap length is ∙ length-take-le k rest le in
     ap (header_of c o) is ∙ window_taken c o rest k e le ∙ ap headers.Window (sym size)
 
 -- one more after those that the piece begins with
-pub passed_more : (c : Context) (o o' : Order) (s n at k count : ℕ) (piece rest window : List ℕ) (xs : List (ℕ × Item)) (m : Message) → rest ≡ drop at piece → window ≡ take k rest
+pub passed_more : (c : Context) (o o' : Order) (s n at k count : ℕ) (piece rest window : List ℕ) (xs : List (ℕ × Item)) (m : Message) → rest ≡ drop at piece
+    → window ≡ take k rest
     → IsFed (waiting (stage.Message c o s n)) (take at piece) xs (waiting (stage.Message c o' (s + at) (n + count)))
     → s + at < 2 ^ 62 → c.limit ≤ 1048576 → k ≤ length rest → IsRead c o' window m
-    → IsFed (waiting (stage.Message c o s n)) (take (at + k) piece) (xs ++ (s + at, items.Message m) ∷ []) (waiting (stage.Message c (order_after o' m) (s + (at + k)) (n + (count + 1))))
+    → IsFed (waiting (stage.Message c o s n)) (take (at + k) piece) (xs ++ (s + at, items.Message m) ∷ [])
+    (waiting (stage.Message c (order_after o' m) (s + (at + k)) (n + (count + 1))))
 passed_more c o o' s n at k count piece rest window xs m e is fed lt le within h =
     let W : List ℕ → Type 0 = λ b. IsRead c o' b m in
     let one = passed_one c o' (s + at) (n + count) k rest m lt le within (subst W is h) in
@@ -61,21 +66,25 @@ passed_more c o o' s n at k count piece rest window xs m e is fed lt le within h
     let P : List ℕ → Type 0 = λ b. IsFed from b ys to in
     let Q : ℕ → Type 0 = λ start. IsFed from (take (at + k) piece) ys (waiting (stage.Message c (order_after o' m) start (n + count + 1))) in
     let R : ℕ → Type 0 = λ number. IsFed from (take (at + k) piece) ys (waiting (stage.Message c (order_after o' m) (s + (at + k)) number)) in
-    subst R (omega arith) (subst Q (omega arith) (subst P (front piece rest at k e) (fed_both from mid to (take at piece) (take k rest) xs ((s + at, items.Message m) ∷ []) fed one)))
+    subst R (omega arith) (subst Q (omega arith) (subst P (front piece rest at k e) (fed_both from mid to (take at piece) (take k rest) xs
+        ((s + at, items.Message m) ∷ []) fed one)))
 
 -- as long as the sink took all
-pub handed_all : {S : Type 0} (takes misses : S → ℕ × Item → S → Type 0) (a b : S) (xs : List (ℕ × Item)) (r : Result (Unit {0}) SinkFault) → r ≡ Ok tt → IsHanded takes misses a xs b r → Took takes a xs b
+pub handed_all : {S : Type 0} (takes misses : S → ℕ × Item → S → Type 0) (a b : S) (xs : List (ℕ × Item)) (r : Result (Unit {0}) SinkFault) → r ≡ Ok tt
+    → IsHanded takes misses a xs b r → Took takes a xs b
 handed_all takes misses a b xs r e h =
     let P : Result (Unit {0}) SinkFault → Type 0 = λ x. IsHanded takes misses a xs b x in
     subst P e h
 
-pub handed_more : {S : Type 0} (takes misses : S → ℕ × Item → S → Type 0) (a b c : S) (xs : List (ℕ × Item)) (x : ℕ × Item) (r : Result (Unit {0}) SinkFault) → r ≡ Ok tt → IsHanded takes misses a xs b r → takes b x c → IsHanded takes misses a (xs ++ x ∷ []) c r
+pub handed_more : {S : Type 0} (takes misses : S → ℕ × Item → S → Type 0) (a b c : S) (xs : List (ℕ × Item)) (x : ℕ × Item)
+    (r : Result (Unit {0}) SinkFault) → r ≡ Ok tt → IsHanded takes misses a xs b r → takes b x c → IsHanded takes misses a (xs ++ x ∷ []) c r
 handed_more takes misses a b c xs x r e h t =
     let P : Result (Unit {0}) SinkFault → Type 0 = λ y. IsHanded takes misses a (xs ++ x ∷ []) c y in
     subst P (sym e) (took_more takes a b c xs x (handed_all takes misses a b xs r e h) t)
 
 -- none
-pub passed_none : (c : Context) (o : Order) (s n : ℕ) (piece : List ℕ) → IsFed (waiting (stage.Message c o s n)) (take 0 piece) [] (waiting (stage.Message c o (s + 0) (n + 0)))
+pub passed_none : (c : Context) (o : Order) (s n : ℕ) (piece : List ℕ) → IsFed (waiting (stage.Message c o s n)) (take 0 piece) []
+    (waiting (stage.Message c o (s + 0) (n + 0)))
 passed_none c o s n piece =
     let from = waiting (stage.Message c o s n) in
     let P : ℕ → Type 0 = λ start. IsFed from [] [] (waiting (stage.Message c o start (n + 0))) in
@@ -84,7 +93,8 @@ passed_none c o s n piece =
 
 -- ---- a feed that messages were handed on from
 
-pub fed_waiting : (p q : Progress) (buffer bytes : List ℕ) (t : Stage) (xs : List (ℕ × Item)) → p.stage ≡ t → held_of p buffer ≡ [] → held_of q buffer ≡ [] → IsFed (waiting t) bytes xs (waiting q.stage) → IsFed (state_of p buffer) bytes xs (state_of q buffer)
+pub fed_waiting : (p q : Progress) (buffer bytes : List ℕ) (t : Stage) (xs : List (ℕ × Item)) → p.stage ≡ t → held_of p buffer ≡ [] → held_of q buffer ≡ []
+    → IsFed (waiting t) bytes xs (waiting q.stage) → IsFed (state_of p buffer) bytes xs (state_of q buffer)
 fed_waiting p q buffer bytes t xs e none none' fed = record {
   comes = λ later v k.
       let P : List ℕ → Type 0 = λ b. Comes q.stage (b ++ later) v in
@@ -103,7 +113,8 @@ wants_none (stage.Message c o s i) held n e h =
     let P : List ℕ → Type 0 = λ b. header_of c o b ≡ headers.Window n in
     not_wanted c o n (subst P e h.1)
 
-pub passed_sound : (p : Progress) (buffer : List ℕ) (c : Context) (o o' : Order) (s n bytes count : ℕ) → IsProgress p buffer → p.stage ≡ stage.Message c o s n → held_of p buffer ≡ [] → p.refused ≡ None
+pub passed_sound : (p : Progress) (buffer : List ℕ) (c : Context) (o o' : Order) (s n bytes count : ℕ) → IsProgress p buffer → p.stage
+    ≡ stage.Message c o s n → held_of p buffer ≡ [] → p.refused ≡ None
     → s + bytes ≤ 2 ^ 62 + 1048580 → count ≤ bytes → IsProgress (record p { stage = stage.Message c o' (s + bytes) (n + count) }) buffer
 passed_sound p buffer c o o' s n bytes count h e none calm start le =
     let t = stage.Message c o' (s + bytes) (n + count) in
@@ -128,19 +139,22 @@ passed_sound p buffer c o o' s n bytes count h e none calm start le =
 
 -- ---- a piece
 
-pub fed_passed : (f s p : FeedState) (piece rest : List ℕ) (at n : ℕ) (xs ys : List (ℕ × Item)) → rest ≡ drop at piece → IsFed f (take at piece) xs s → IsFed s (take n rest) ys p → IsFed f (take (at + n) piece) (xs ++ ys) p
+pub fed_passed : (f s p : FeedState) (piece rest : List ℕ) (at n : ℕ) (xs ys : List (ℕ × Item)) → rest ≡ drop at piece → IsFed f (take at piece) xs s
+    → IsFed s (take n rest) ys p → IsFed f (take (at + n) piece) (xs ++ ys) p
 fed_passed f s p piece rest at n xs ys e a b =
     let P : List ℕ → Type 0 = λ l. IsFed f l (xs ++ ys) p in
     subst P (front piece rest at n e) (fed_both f s p (take at piece) (take n rest) xs ys a b)
 
-pub passed_on : {S : Type 0} (takes misses : S → ℕ × Item → S → Type 0) (f s p : FeedState) (a b c : S) (piece rest : List ℕ) (at n : ℕ) (r : Result (Unit {0}) SinkFault) → r ≡ Ok tt → rest ≡ drop at piece
+pub passed_on : {S : Type 0} (takes misses : S → ℕ × Item → S → Type 0) (f s p : FeedState) (a b c : S) (piece rest : List ℕ) (at n : ℕ)
+    (r : Result (Unit {0}) SinkFault) → r ≡ Ok tt → rest ≡ drop at piece
     → (xs : List (ℕ × Item)) × Took takes a xs b × IsFed f (take at piece) xs s
     → (ys : List (ℕ × Item)) × IsHanded takes misses b ys c r × IsFed s (take n rest) ys p
     → (xs : List (ℕ × Item)) × Took takes a xs c × IsFed f (take (at + n) piece) xs p
 passed_on takes misses f s p a b c piece rest at n r e is x y =
     (x.0 ++ y.0, took_both takes a b c x.0 y.0 x.1 (handed_all takes misses b c y.0 r e y.1), fed_passed f s p piece rest at n x.0 y.0 is x.2 y.2)
 
-pub missed_by : {S : Type 0} (takes misses : S → ℕ × Item → S → Type 0) (a b c : S) (xs ys : List (ℕ × Item)) (r : Result (Unit {0}) SinkFault) (e : SinkFault) → r ≡ Err e → Took takes a xs b → IsHanded takes misses b ys c r → IsMissed takes misses a (xs ++ ys) c
+pub missed_by : {S : Type 0} (takes misses : S → ℕ × Item → S → Type 0) (a b c : S) (xs ys : List (ℕ × Item)) (r : Result (Unit {0}) SinkFault)
+    (e : SinkFault) → r ≡ Err e → Took takes a xs b → IsHanded takes misses b ys c r → IsMissed takes misses a (xs ++ ys) c
 missed_by takes misses a b c xs ys r e is t h =
     let P : Result (Unit {0}) SinkFault → Type 0 = λ x. IsHanded takes misses b ys c x in
     missed_more takes misses a b c xs ys t (subst P is h)

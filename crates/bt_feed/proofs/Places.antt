@@ -1,5 +1,6 @@
 -- A fault lies within the bytes, or right after them.
-use Rattle.std.proofs.Common.{◌≡◌, ℕ, suc, ◌+◌, ◌^◌, ◌≤◌, ◌⊎◌, inl, inr, Bool, true, false, cond, eqb, leb, ltb, ◌&&◌, List, [], ◌∷◌, map, length, take, drop, Option, Some, None, refl, sym, ap, subst, ◌∙◌, arith}
+use Rattle.std.proofs.Common.{◌≡◌, ℕ, suc, ◌+◌, ◌^◌, ◌≤◌, ◌⊎◌, inl, inr, Bool, true, false, cond, eqb, leb, ltb, ◌&&◌, List, [], ◌∷◌, map, length, take,
+    drop, Option, Some, None, refl, sym, ap, subst, ◌∙◌, arith}
 use Rattle.std.specs.Prelude.{is_some, option_map, unwrap_or}
 use Rattle.std.proofs.lemmas.Bool.{and_parts, cases_lt, leb-true, eqb-true}
 use Rattle.std.proofs.lemmas.List.{length-take-le, length-drop}
@@ -15,13 +16,15 @@ use Rattle.bt_ext.specs.declared.ext.ViewError.{ViewError}
 use Rattle.bt_ext.specs.declared.ext.ViewError.TheVariants as error
 use Rattle.bt_ext.specs.Faults as ext
 use Rattle.bt_wire.specs.Tables.{first_fault}
-use Rattle.bt_wire.specs.Faults.{said_length, said_id, has_length, has_id, window, window_length, IdRule, id_rules, id_row, allows, size_of, header_fault, is_extended, said_ext_id, said_payload, placed_by, IsWindowFault, in_fields, in_none, in_payload, IsFault, early, unfinished, whole}
+use Rattle.bt_wire.specs.Faults.{said_length, said_id, has_length, has_id, window, window_length, IdRule, id_rules, id_row, allows, size_of, header_fault,
+    is_extended, said_ext_id, said_payload, placed_by, IsWindowFault, in_fields, in_none, in_payload, IsFault, early, unfinished, whole}
 use Rattle.bt_wire.proofs.HeaderLaws.{five_bytes, whole_length, header-window}
 use Rattle.bt_wire.proofs.ExtLaws.{refused_within}
 use Rattle.bt_wire.proofs.WindowLaws.{early_full, early_header, no_early, sized, window_says}
 
 -- a row that counts, or a later one
-pick : (judged condition : Bool) (x f : Refused) (rest : Option Refused) → cond (judged && condition) (Some x) rest ≡ Some f → ((judged ≡ true) × (x ≡ f)) ⊎ (rest ≡ Some f)
+pick : (judged condition : Bool) (x f : Refused) (rest : Option Refused) → cond (judged && condition) (Some x) rest ≡ Some f → ((judged ≡ true) × (x ≡ f))
+    ⊎ (rest ≡ Some f)
 pick true true x f rest e = inl (refl, cc)
 pick true false x f rest e = inr e
 pick false condition x f rest e = inr e
@@ -35,12 +38,14 @@ ids_within : are_within id_rules ≡ true
 unfolding are_within
 ids_within = refl
 
-id_within : (c : Context) (o : Order) (b : List ℕ) (rules : List IdRule) (f : Refused) → are_within rules ≡ true → first_fault (map (id_row c o b) rules) ≡ Some f → f.at ≤ length b
+id_within : (c : Context) (o : Order) (b : List ℕ) (rules : List IdRule) (f : Refused) → are_within rules ≡ true → first_fault (map (id_row c o b) rules)
+    ≡ Some f → f.at ≤ length b
 unfolding are_within
 id_within c o b [] f within e = absurd cc
 id_within c o b (r ∷ rules) f within e =
     let parts = and_parts (leb r.at 4) (are_within rules) within in
-    elim (pick (has_id b) (r.condition c o (said_id b) (said_length b)) (record { at = r.at; reason = r.reason }) f (first_fault (map (id_row c o b) rules)) e) [
+    elim (pick (has_id b) (r.condition c o (said_id b) (said_length b)) (record { at = r.at; reason = r.reason }) f (first_fault (map (id_row c o b) rules))
+        e) [
       | inl here ↦ omega (arith, leb-true r.at 4 parts.0, five_bytes b here.0, ap (λ (x : Refused). x.at) here.1)
       | inr later ↦ id_within c o b rules f parts.1 later
     ]
@@ -67,7 +72,8 @@ extended_long c o w h e =
     let two : leb 2 (said_length w) ≡ true = subst P (eqb-true (said_id w) 20 parts.1) (sized c o w h (five_bytes w parts.0)) in
     omega (arith, leb-true 2 (said_length w) two, h.exact)
 
-payload_within : (c : Context) (w : List ℕ) (x : Option ViewError) (f : Refused) → 6 ≤ length w → ext.IsFault c.reg c.rules (said_ext_id w) (said_payload w) x → Some f ≡ option_map placed_by x → f.at ≤ length w
+payload_within : (c : Context) (w : List ℕ) (x : Option ViewError) (f : Refused) → 6 ≤ length w → ext.IsFault c.reg c.rules (said_ext_id w) (said_payload w)
+    x → Some f ≡ option_map placed_by x → f.at ≤ length w
 payload_within c w None f le h e = absurd cc
 payload_within c w (Some x) f le h e =
     let here : f ≡ placed_by x = cc in
@@ -101,7 +107,8 @@ fault_within c o s b f (early g e p) =
 fault_within c o s b f (unfinished e part p) = absurd cc
 fault_within c o s b f (whole e all p) =
     let says = window_says b all in
-    let h : IsWindow c o (window b) = record { long = omega (arith, says.1); exact = omega (arith, says.0, says.1); header = header-window c o b all ∙ (no_early c o s b e).1 } in
+    let h : IsWindow c o (window b) = record { long = omega (arith, says.1); exact = omega (arith, says.0, says.1); header = header-window c o b all
+        ∙ (no_early c o s b e).1 } in
     omega (arith, window_within c o (window b) f h p, length-take-le (window_length b) b (whole_length b all), whole_length b all)
 
 -- ---- the handshake's
@@ -117,7 +124,8 @@ difference_within (x ∷ xs) [] i e = absurd cc
 difference_within (x ∷ xs) (y ∷ ys) i e = next_within (eqb x y) (first_difference xs ys) (length ys) i (difference_within xs ys) e
 
 by_rows : (o : Option ℕ) (judged other : Bool) (n : ℕ) (f : Refused) → ((i : ℕ) → o ≡ Some i → i ≤ n) → (judged ≡ true → 48 ≤ n)
-    → cond (is_some o) (Some (record { at = unwrap_or o 0; reason = BadProtocol })) (cond (judged && other) (Some (record { at = 28; reason = WrongInfoHash })) None) ≡ Some f → f.at ≤ n
+    → cond (is_some o) (Some (record { at = unwrap_or o 0; reason = BadProtocol }))
+    (cond (judged && other) (Some (record { at = 28; reason = WrongInfoHash })) None) ≡ Some f → f.at ≤ n
 by_rows (Some i) judged other n f h k e =
     let bad : Refused = record { at = i; reason = BadProtocol } in
     let here : bad ≡ f = cc in
@@ -132,4 +140,5 @@ by_rows None false other n f h k e = absurd cc
 pub hand_within : (own : Own) (b : List ℕ) (f : Refused) → hand_fault own b ≡ Some f → f.at ≤ length b
 unfolding hand_fault
 hand_within own b f e =
-    by_rows (first_difference protocol b) (leb 48 (length b)) (is_other_hash own.info_hash (take 20 (drop 28 b))) (length b) f (λ i h. difference_within protocol b i h) (leb-true 48 (length b)) e
+    by_rows (first_difference protocol b) (leb 48 (length b)) (is_other_hash own.info_hash (take 20 (drop 28 b))) (length b) f
+        (λ i h. difference_within protocol b i h) (leb-true 48 (length b)) e

@@ -1,5 +1,6 @@
 -- How far a stream is read, step by step.
-use Rattle.std.proofs.Common.{◌≡◌, ℕ, zero, suc, ◌+◌, ◌^◌, ◌≤◌, ◌<◌, Bool, true, false, cond, List, [], ◌∷◌, ◌++◌, length, take, drop, flat_map, get_or, Option, Some, None, Result, Ok, Err, refl, sym, ap, subst, ◌∙◌, arith, inl, inr}
+use Rattle.std.proofs.Common.{◌≡◌, ℕ, zero, suc, ◌+◌, ◌^◌, ◌≤◌, ◌<◌, Bool, true, false, cond, List, [], ◌∷◌, ◌++◌, length, take, drop, flat_map, get_or,
+    Option, Some, None, Result, Ok, Err, refl, sym, ap, subst, ◌∙◌, arith, inl, inr}
 use Rattle.std.proofs.lemmas.Bool.{cases_lt}
 use Rattle.std.proofs.lemmas.List.{append-nil, append_assoc, length-append, take-append-drop, take-append-le, take_at, drop-drop, drop_all, drop_more}
 use Rattle.bt_wire.specs.declared.context.Own.{Own}
@@ -28,7 +29,8 @@ pub record IsLeast (closed : List ℕ → Bool) (held piece : List ℕ) (n : ℕ
   pub opens : (k : ℕ) → k < n → closed (held ++ take k piece) ≡ false
   pub stops : n < length piece → closed (held ++ take n piece) ≡ true
 
-least_at : (closed : List ℕ → Bool) (held : List ℕ) (b : ℕ) (piece : List ℕ) (c : Bool) → closed held ≡ c → IsLeast closed (held ++ b ∷ []) piece (taken_by closed (held ++ b ∷ []) piece)
+least_at : (closed : List ℕ → Bool) (held : List ℕ) (b : ℕ) (piece : List ℕ) (c : Bool) → closed held ≡ c
+    → IsLeast closed (held ++ b ∷ []) piece (taken_by closed (held ++ b ∷ []) piece)
     → IsLeast closed held (b ∷ piece) (cond c 0 (suc (taken_by closed (held ++ b ∷ []) piece)))
 least_at closed held b piece true e h = record {
   within = omega arith;
@@ -60,7 +62,8 @@ taken_all f piece e =
       | inr le ↦ omega (arith, h.within)
     ]
 
-pub reads_pushed : (t : Stage) (all : List ℕ) (xs : List (ℕ × Item)) (f g : FeedState) (rest later : List ℕ) (n : ℕ) → g ≡ with_bytes f (take n rest) → IsPartial g.stage g.held → Reads t all xs f (rest ++ later) → Reads t all xs g (drop n rest ++ later)
+pub reads_pushed : (t : Stage) (all : List ℕ) (xs : List (ℕ × Item)) (f g : FeedState) (rest later : List ℕ) (n : ℕ) → g ≡ with_bytes f (take n rest)
+    → IsPartial g.stage g.held → Reads t all xs f (rest ++ later) → Reads t all xs g (drop n rest ++ later)
 reads_pushed t all xs f g rest later n e p r =
     let stage : g.stage ≡ f.stage = ap (λ (s : FeedState). s.stage) e in
     let held : g.held ≡ f.held ++ take n rest = ap (λ (s : FeedState). s.held) e in
@@ -86,7 +89,8 @@ opened_by (stage.Message c o s n) b (items.Message m) size p = refl
 opened_by (stage.Handshake own) b (items.Message m) size p = absurd p
 opened_by (stage.Message c o s n) b (items.Handshake h) size p = absurd p
 
-opened_still : (t : Stage) (first : Item) (u : Stage) (b : List ℕ) (item : Item) (size : ℕ) → IsItem u b item → IsOpenedBy t first u → IsOpenedBy t first (stage_after u size item)
+opened_still : (t : Stage) (first : Item) (u : Stage) (b : List ℕ) (item : Item) (size : ℕ) → IsItem u b item → IsOpenedBy t first u
+    → IsOpenedBy t first (stage_after u size item)
 opened_still (stage.Handshake own) (items.Handshake h) (stage.Message c o s n) b (items.Message m) size p e = e
 opened_still (stage.Message d q r k) (items.Message i) (stage.Message c o s n) b (items.Message m) size p e = e
 opened_still (stage.Handshake own) (items.Handshake h) (stage.Message c o s n) b (items.Handshake g) size p e = absurd p
@@ -96,7 +100,8 @@ opened_still (stage.Message d q r k) (items.Message i) (stage.Handshake own') b 
 opened_still (stage.Handshake own) (items.Message m) u b item size p e = absurd e
 opened_still (stage.Message d q r k) (items.Handshake h) u b item size p e = absurd e
 
-behind_more : (t : Stage) (xs : List (ℕ × Item)) (u : Stage) (b : List ℕ) (item : Item) (at size : ℕ) → IsItem u b item → IsBehind t xs u → IsBehind t (xs ++ (at, item) ∷ []) (stage_after u size item)
+behind_more : (t : Stage) (xs : List (ℕ × Item)) (u : Stage) (b : List ℕ) (item : Item) (at size : ℕ) → IsItem u b item → IsBehind t xs u
+    → IsBehind t (xs ++ (at, item) ∷ []) (stage_after u size item)
 behind_more t [] u b item at size p e = let P : Stage → Type 0 = λ w. IsOpenedBy w item (stage_after u size item) in subst P e (opened_by u b item size p)
 behind_more t (x ∷ xs) u b item at size p e = opened_still t x.1 u b item size p e
 
@@ -109,21 +114,24 @@ limit_after (stage.Message c o s n) size (items.Handshake h) = refl
 nothing_held : (t : Stage) → IsPartial t []
 nothing_held t = record { opens = λ k lt. absurd (omega arith) }
 
-pub reads_taken : (t : Stage) (all : List ℕ) (xs : List (ℕ × Item)) (f g : FeedState) (item : Item) (unread : List ℕ) → g ≡ after f (Ok (Some item)) → IsItem f.stage f.held item → Reads t all xs f unread
+pub reads_taken : (t : Stage) (all : List ℕ) (xs : List (ℕ × Item)) (f g : FeedState) (item : Item) (unread : List ℕ) → g ≡ after f (Ok (Some item))
+    → IsItem f.stage f.held item → Reads t all xs f unread
     → Reads t all (xs ++ (start_of f.stage, item) ∷ []) g unread
 reads_taken t all xs f g item unread e p r =
     let P : FeedState → Type 0 = λ s. Reads t all (xs ++ (start_of f.stage, item) ∷ []) s unread in
     subst P (sym e) (record {
       told = λ v k.
           let Q : List (ℕ × Item) → Type 0 = λ ys. Comes t all (record v { items = ys }) in
-          subst Q (sym (append_assoc xs ((start_of f.stage, item) ∷ []) v.items)) (r.told (with_item (start_of f.stage) item v) (item_comes f.stage f.held unread item v (omega (arith, r.limit)) p k));
+          subst Q (sym (append_assoc xs ((start_of f.stage, item) ∷ []) v.items))
+              (r.told (with_item (start_of f.stage) item v) (item_comes f.stage f.held unread item v (omega (arith, r.limit)) p k));
       behind = behind_more t xs f.stage f.held item (start_of f.stage) (length f.held) p r.behind;
       limit = omega (arith, limit_after f.stage (length f.held) item, r.limit);
       partial = nothing_held (stage_after f.stage (length f.held) item);
     })
 
 -- a refusal, or no item, leaves what was read
-pub reads_same : (t : Stage) (all : List ℕ) (xs : List (ℕ × Item)) (f g : FeedState) (unread : List ℕ) → g.stage ≡ f.stage → g.held ≡ f.held → Reads t all xs f unread → Reads t all xs g unread
+pub reads_same : (t : Stage) (all : List ℕ) (xs : List (ℕ × Item)) (f g : FeedState) (unread : List ℕ) → g.stage ≡ f.stage → g.held ≡ f.held
+    → Reads t all xs f unread → Reads t all xs g unread
 reads_same t all xs f g unread stage held r =
     let P : Stage → Type 0 = λ u. IsBehind t xs u in
     let Q : Stage → Type 0 = λ u. IsPartial u g.held in
@@ -150,21 +158,26 @@ pub record IsPushed (f p : FeedState) (piece rest : List ℕ) (at n : ℕ) : Typ
   pub held_is : p ≡ pushed f rest
   pub partial : IsPartial p.stage p.held
 
-pub reads_push : (t : Stage) (all : List ℕ) (xs : List (ℕ × Item)) (f p : FeedState) (piece rest later : List ℕ) (at n : ℕ) → IsPushed f p piece rest at n → Reads t all xs f (drop at piece ++ later) → Reads t all xs p (drop (at + n) piece ++ later)
+pub reads_push : (t : Stage) (all : List ℕ) (xs : List (ℕ × Item)) (f p : FeedState) (piece rest later : List ℕ) (at n : ℕ) → IsPushed f p piece rest at n
+    → Reads t all xs f (drop at piece ++ later) → Reads t all xs p (drop (at + n) piece ++ later)
 reads_push t all xs f p piece rest later at n h r =
     let P : List ℕ → Type 0 = λ b. Reads t all xs f (b ++ later) in
     let Q : List ℕ → Type 0 = λ b. Reads t all xs p b in
     let bytes : p ≡ with_bytes f (take n rest) = h.held_is ∙ ap (λ (k : ℕ). with_bytes f (take k rest)) (sym h.taken_is) in
     subst Q (unread_at at n piece rest later h.rest_is) (reads_pushed t all xs f p rest later n bytes h.partial (subst P (sym h.rest_is) r))
 
-pub step_item : (t : Stage) (all : List ℕ) (xs : List (ℕ × Item)) (f p g : FeedState) (piece rest later : List ℕ) (at n : ℕ) (answer : Result (Option Item) Refusal) (item : Item) → IsPushed f p piece rest at n
-    → answer ≡ Ok (Some item) → IsAnswer p answer → g ≡ after p answer → Reads t all xs f (drop at piece ++ later) → Reads t all (xs ++ (start_of p.stage, item) ∷ []) g (drop (at + n) piece ++ later)
+pub step_item : (t : Stage) (all : List ℕ) (xs : List (ℕ × Item)) (f p g : FeedState) (piece rest later : List ℕ) (at n : ℕ)
+    (answer : Result (Option Item) Refusal) (item : Item) → IsPushed f p piece rest at n
+    → answer ≡ Ok (Some item) → IsAnswer p answer → g ≡ after p answer → Reads t all xs f (drop at piece ++ later)
+    → Reads t all (xs ++ (start_of p.stage, item) ∷ []) g (drop (at + n) piece ++ later)
 step_item t all xs f p g piece rest later at n answer item h e a after_is r =
     let P : Result (Option Item) Refusal → Type 0 = λ x. IsAnswer p x in
     reads_taken t all xs p g item (drop (at + n) piece ++ later) (after_is ∙ ap (after p) e) (subst P e a) (reads_push t all xs f p piece rest later at n h r)
 
-pub step_none : (t : Stage) (all : List ℕ) (xs : List (ℕ × Item)) (f p g : FeedState) (piece rest later : List ℕ) (at n : ℕ) (answer : Result (Option Item) Refusal) → IsPushed f p piece rest at n
-    → answer ≡ Ok None → IsAnswer p answer → g ≡ after p answer → Reads t all xs f (drop at piece ++ later) → Reads t all xs g later × (is_closed g.stage g.held ≡ false)
+pub step_none : (t : Stage) (all : List ℕ) (xs : List (ℕ × Item)) (f p g : FeedState) (piece rest later : List ℕ) (at n : ℕ)
+    (answer : Result (Option Item) Refusal) → IsPushed f p piece rest at n
+    → answer ≡ Ok None → IsAnswer p answer → g ≡ after p answer → Reads t all xs f (drop at piece ++ later) → Reads t all xs g later
+    × (is_closed g.stage g.held ≡ false)
 step_none t all xs f p g piece rest later at n answer h e a after_is r =
     let P : Result (Option Item) Refusal → Type 0 = λ x. IsAnswer p x in
     let opens : is_closed p.stage p.held ≡ false = subst P e a in
@@ -177,26 +190,30 @@ step_none t all xs f p g piece rest later at n answer h e a after_is r =
     let same : g ≡ p = after_is ∙ ap (after p) e in
     subst S (sym same) (subst R none (reads_push t all xs f p piece rest later at n h r), opens)
 
-pub step_refused : (t : Stage) (all : List ℕ) (xs : List (ℕ × Item)) (f p g : FeedState) (piece rest later : List ℕ) (at n : ℕ) (answer : Result (Option Item) Refusal) (refusal : Refusal) → IsPushed f p piece rest at n
+pub step_refused : (t : Stage) (all : List ℕ) (xs : List (ℕ × Item)) (f p g : FeedState) (piece rest later : List ℕ) (at n : ℕ)
+    (answer : Result (Option Item) Refusal) (refusal : Refusal) → IsPushed f p piece rest at n
     → answer ≡ Err refusal → IsAnswer p answer → g ≡ after p answer → Reads t all xs f (drop at piece ++ later) → IsReadTo t all xs g later (Some refusal)
 step_refused t all xs f p g piece rest later at n answer refusal h e a after_is r =
     let P : Result (Option Item) Refusal → Type 0 = λ x. IsAnswer p x in
     let unread = drop (at + n) piece ++ later in
     let S : FeedState → Type 0 = λ s. Reads t all xs s unread × IsAnswer s (Err refusal) in
     let same : g ≡ after p (Err refusal) = after_is ∙ ap (after p) e in
-    let both = subst S (sym same) (reads_same t all xs p (after p (Err refusal)) unread refl refl (reads_push t all xs f p piece rest later at n h r), subst P e a) in
+    let both = subst S (sym same) (reads_same t all xs p (after p (Err refusal)) unread refl refl (reads_push t all xs f p piece rest later at n h r),
+        subst P e a) in
     (unread, both.0, both.1)
 
 -- ---- the end
 
 -- the held bytes are as many as are taken of what is left
-held_taken : (t : Stage) (held unread : List ℕ) → IsPartial t held → (0 < length unread → is_closed t held ≡ true) → length held ≡ taken_by (is_closed t) [] (held ++ unread)
+held_taken : (t : Stage) (held unread : List ℕ) → IsPartial t held → (0 < length unread → is_closed t held ≡ true) → length held
+    ≡ taken_by (is_closed t) [] (held ++ unread)
 held_taken t held unread p stops =
     least (is_closed t) [] (held ++ unread) (length held) (omega (arith, length-append held unread))
     (λ k lt. ap (is_closed t) (take-append-le k held unread (omega arith)) ∙ p.opens k lt)
     (λ lt. ap (is_closed t) (take_at held unread (length held) refl) ∙ stops (omega (arith, length-append held unread)))
 
-assembled : (own : Own) (all : List ℕ) (xs : List (ℕ × Item)) (f : FeedState) (unread : List ℕ) (refusal : Option Refusal) → Reads (stage.Handshake own) all xs f unread → Comes f.stage (f.held ++ unread) (stopped f.stage (f.held ++ unread) refusal)
+assembled : (own : Own) (all : List ℕ) (xs : List (ℕ × Item)) (f : FeedState) (unread : List ℕ) (refusal : Option Refusal)
+    → Reads (stage.Handshake own) all xs f unread → Comes f.stage (f.held ++ unread) (stopped f.stage (f.held ++ unread) refusal)
     → (0 < length unread → is_closed f.stage f.held ≡ true) → IsTranscript own all xs refusal (length f.held)
 assembled own all xs f unread refusal r comes stops =
     let last = stopped f.stage (f.held ++ unread) refusal in
@@ -211,20 +228,27 @@ assembled own all xs f unread refusal r comes stops =
       held = held_taken f.stage f.held unread r.partial stops;
     }
 
-pub transcript_open : (own : Own) (all : List ℕ) (xs : List (ℕ × Item)) (f : FeedState) → Reads (stage.Handshake own) all xs f [] → is_closed f.stage f.held ≡ false → IsTranscript own all xs None (length f.held)
+pub transcript_open : (own : Own) (all : List ℕ) (xs : List (ℕ × Item)) (f : FeedState) → Reads (stage.Handshake own) all xs f [] → is_closed f.stage f.held
+    ≡ false → IsTranscript own all xs None (length f.held)
 transcript_open own all xs f r e =
-    assembled own all xs f [] None r (open_comes f.stage (f.held ++ []) (omega (arith, r.limit)) (ap (is_closed f.stage) (append-nil f.held) ∙ e)) (λ lt. absurd (omega arith))
+    assembled own all xs f [] None r (open_comes f.stage (f.held ++ []) (omega (arith, r.limit)) (ap (is_closed f.stage) (append-nil f.held) ∙ e))
+        (λ lt. absurd (omega arith))
 
-pub transcript_refused : (own : Own) (all : List ℕ) (xs : List (ℕ × Item)) (f : FeedState) (unread : List ℕ) (refusal : Refusal) → Reads (stage.Handshake own) all xs f unread → IsAnswer f (Err refusal) → IsTranscript own all xs (Some refusal) (length f.held)
+pub transcript_refused : (own : Own) (all : List ℕ) (xs : List (ℕ × Item)) (f : FeedState) (unread : List ℕ) (refusal : Refusal)
+    → Reads (stage.Handshake own) all xs f unread → IsAnswer f (Err refusal) → IsTranscript own all xs (Some refusal) (length f.held)
 transcript_refused own all xs f unread refusal r a =
     let P : Refusal → Type 0 = λ x. Comes f.stage (f.held ++ unread) (stopped f.stage (f.held ++ unread) (Some x)) in
-    assembled own all xs f unread (Some refusal) r (subst P (sym a.2) (fault_comes f.stage (f.held ++ unread) a.0 (omega (arith, r.limit)) (fault_more f.stage f.held unread a.0 a.1))) (λ _. fault_closed f.stage f.held a.0 a.1)
+    assembled own all xs f unread (Some refusal) r (subst P (sym a.2) (fault_comes f.stage (f.held ++ unread) a.0 (omega (arith, r.limit))
+        (fault_more f.stage f.held unread a.0 a.1))) (λ _. fault_closed f.stage f.held a.0 a.1)
 
 -- ---- one transcript
 
-one_opened : (t : Stage) (first : Item) (u w : Stage) → IsOpenedBy t first u → IsOpenedBy t first w → order_of u ≡ order_of w → start_of u ≡ start_of w → number_of u ≡ number_of w → u ≡ w
-one_opened (stage.Handshake own) (items.Handshake h) (stage.Message c o s n) (stage.Message d p r m) e f same start number = rw (e ∙ sym f, same, start, number) refl
-one_opened (stage.Message a q k i) (items.Message x) (stage.Message c o s n) (stage.Message d p r m) e f same start number = rw (e ∙ sym f, same, start, number) refl
+one_opened : (t : Stage) (first : Item) (u w : Stage) → IsOpenedBy t first u → IsOpenedBy t first w → order_of u ≡ order_of w → start_of u ≡ start_of w
+    → number_of u ≡ number_of w → u ≡ w
+one_opened (stage.Handshake own) (items.Handshake h) (stage.Message c o s n) (stage.Message d p r m) e f same start number =
+    rw (e ∙ sym f, same, start, number) refl
+one_opened (stage.Message a q k i) (items.Message x) (stage.Message c o s n) (stage.Message d p r m) e f same start number =
+    rw (e ∙ sym f, same, start, number) refl
 one_opened (stage.Handshake own) (items.Handshake h) (stage.Handshake own') w e f same start number = absurd e
 one_opened (stage.Message a q k i) (items.Message x) (stage.Handshake own') w e f same start number = absurd e
 one_opened (stage.Handshake own) (items.Handshake h) (stage.Message c o s n) (stage.Handshake own') e f same start number = absurd f
@@ -232,19 +256,23 @@ one_opened (stage.Message a q k i) (items.Message x) (stage.Message c o s n) (st
 one_opened (stage.Handshake own) (items.Message m) u w e f same start number = absurd e
 one_opened (stage.Message a q k i) (items.Handshake h) u w e f same start number = absurd e
 
-one_next : (t : Stage) (xs : List (ℕ × Item)) (u w : Stage) → IsBehind t xs u → IsBehind t xs w → order_of u ≡ order_of w → start_of u ≡ start_of w → number_of u ≡ number_of w → u ≡ w
+one_next : (t : Stage) (xs : List (ℕ × Item)) (u w : Stage) → IsBehind t xs u → IsBehind t xs w → order_of u ≡ order_of w → start_of u ≡ start_of w
+    → number_of u ≡ number_of w → u ≡ w
 one_next t [] u w p q o s n = p ∙ sym q
 one_next t (x ∷ xs) u w p q o s n = one_opened t x.1 u w p q o s n
 
-pub one_transcript : (own : Own) (b : List ℕ) (xs ys : List (ℕ × Item)) (r q : Option Refusal) (m n : ℕ) → own.limit < 2 ^ 32 → IsTranscript own b xs r m → IsTranscript own b ys q n → (xs ≡ ys) × (r ≡ q) × (m ≡ n)
+pub one_transcript : (own : Own) (b : List ℕ) (xs ys : List (ℕ × Item)) (r q : Option Refusal) (m n : ℕ) → own.limit < 2 ^ 32 → IsTranscript own b xs r m
+    → IsTranscript own b ys q n → (xs ≡ ys) × (r ≡ q) × (m ≡ n)
 one_transcript own b xs ys r q m n lt a c =
     let same = verdict_only own b a.verdict c.verdict lt a.is_verdict c.is_verdict in
     let P : Outcome → Type 0 = λ v. IsNext (stage.Handshake own) v a.next in
     let next = subst P same a.is_next in
-    let stage = one_next (stage.Handshake own) c.verdict.items a.next c.next next.behind c.is_next.behind (next.order ∙ sym c.is_next.order) (next.start ∙ sym c.is_next.start) (next.number ∙ sym c.is_next.number) in (
+    let stage = one_next (stage.Handshake own) c.verdict.items a.next c.next next.behind c.is_next.behind (next.order ∙ sym c.is_next.order) (next.start
+        ∙ sym c.is_next.start) (next.number ∙ sym c.is_next.number) in (
       a.same_items ∙ ap (λ (v : Outcome). v.items) same ∙ sym c.same_items,
       a.same_refusal ∙ ap (λ (v : Outcome). v.refusal) same ∙ sym c.same_refusal,
-      a.held ∙ ap (λ (v : Outcome). taken_by (is_closed a.next) [] v.tail) same ∙ ap (λ (t : Stage). taken_by (is_closed t) [] c.verdict.tail) stage ∙ sym c.held,
+      a.held ∙ ap (λ (v : Outcome). taken_by (is_closed a.next) [] v.tail) same ∙ ap (λ (t : Stage). taken_by (is_closed t) [] c.verdict.tail) stage
+          ∙ sym c.held,
     )
 
 -- ---- the beginning
@@ -263,5 +291,6 @@ open_new own f e = let P : FeedState → Type 0 = λ s. is_closed s.stage s.held
 
 -- ---- piece by piece
 
-pub pieces_more : {X : Type 0} (f : X → List ℕ) (xs : List X) (i : ℕ) (x : X) → i < length xs → x ≡ get_or xs i x → flat_map f (drop i xs) ≡ f x ++ flat_map f (drop (i + 1) xs)
+pub pieces_more : {X : Type 0} (f : X → List ℕ) (xs : List X) (i : ℕ) (x : X) → i < length xs → x ≡ get_or xs i x → flat_map f (drop i xs) ≡ f x
+    ++ flat_map f (drop (i + 1) xs)
 pieces_more f xs i x lt e = ap (flat_map f) (drop_more xs i x lt) ∙ ap (λ y. f y ++ flat_map f (drop (i + 1) xs)) (sym e)

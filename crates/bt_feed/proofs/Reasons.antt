@@ -10,7 +10,8 @@ use Rattle.bt_wire.specs.declared.context.Own.{Own}
 use Rattle.bt_wire.specs.declared.fault.Reason.{Reason}
 use Rattle.bt_wire.specs.declared.fault.Reason.TheVariants.{EndInside}
 use Rattle.bt_wire.specs.declared.fault.Refused.{Refused}
-use Rattle.bt_wire.specs.Faults.{IsFault, early, unfinished, whole, IsWindowFault, in_fields, in_none, in_payload, placed_by, header_rows, header_fault, field_rows}
+use Rattle.bt_wire.specs.Faults.{IsFault, early, unfinished, whole, IsWindowFault, in_fields, in_none, in_payload, placed_by, header_rows, header_fault,
+    field_rows}
 use Rattle.bt_wire.specs.Handshakes.{protocol, hand_fault, first_difference}
 use Rattle.bt_wire.specs.Tables.{Row, counts, first_fault}
 use Rattle.bt_feed.specs.declared.stage.Stage.{Stage}
@@ -30,7 +31,8 @@ not_end : (b : Bool) → not b ≡ true → b ≡ false
 not_end true e = absurd cc
 not_end false e = refl
 
-one_of : (t : Bool) (x g : Refused) (others : Option Refused) → is_end x.reason ≡ false → (others ≡ Some g → is_end g.reason ≡ false) → cond t (Some x) others ≡ Some g → is_end g.reason ≡ false
+one_of : (t : Bool) (x g : Refused) (others : Option Refused) → is_end x.reason ≡ false → (others ≡ Some g → is_end g.reason ≡ false)
+    → cond t (Some x) others ≡ Some g → is_end g.reason ≡ false
 one_of true x g others h more e = let same : x ≡ g = cc in subst (λ (r : Refused). is_end r.reason ≡ false) same h
 one_of false x g others h more e = more e
 
@@ -58,7 +60,8 @@ payload_no_end (Some f) g e = let same : g ≡ placed_by f = cc in subst (λ (r 
 
 window_no_end : (c : Context) (w : List ℕ) (f : Refused) → IsWindowFault c w (Some f) → is_end f.reason ≡ false
 unfolding no_ends is_end
-window_no_end c w f (in_fields g e same) = let is : f ≡ g = cc in subst (λ (r : Refused). is_end r.reason ≡ false) (sym is) (first_no_end (field_rows c w) g refl e)
+window_no_end c w f (in_fields g e same) = let is : f ≡ g = cc in subst (λ (r : Refused). is_end r.reason ≡ false) (sym is)
+    (first_no_end (field_rows c w) g refl e)
 window_no_end c w f (in_none e plain same) = absurd cc
 window_no_end c w f (in_payload e ext v h same) = payload_no_end v f same
 

@@ -65,7 +65,8 @@ given_all {A} s (x ∷ xs) u starts y =
     let fed = fed_both s.feed.now j.feed.now u.feed.now (take n piece) j.rest.now (x ∷ []) xs step.3 later.0 in
     (subst P parts fed, later.1)
 
-pub given_refused : {A : Type 0} (s : Items A) (xs : List (ℕ × Item)) (r : Refusal) (u : Items A) → YieldsThen GivesNext s (map Ok xs) (Some (Err (item.Refused r))) u
+pub given_refused : {A : Type 0} (s : Items A) (xs : List (ℕ × Item)) (r : Refusal) (u : Items A)
+    → YieldsThen GivesNext s (map Ok xs) (Some (Err (item.Refused r))) u
     → (n : ℕ) × IsFed s.feed.now (take n s.rest.now) xs u.feed.now × IsAnswer u.feed.now (Err r)
 given_refused {A} s [] r u y =
     let P : Items A → Type 0 = λ t. GivesNext t (Some (Err (item.Refused r))) u in

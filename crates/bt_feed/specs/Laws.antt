@@ -47,7 +47,8 @@ AnswerIsOne = (f : FeedState) (a b : Result (Option Item) Refusal) → limit_of 
 
 -- an item, and then the outcome of the bytes after it
 abbrev pub ItemComes : Type 0
-ItemComes = (t : Stage) (b x : List ℕ) (item : Item) (v : Outcome) → limit_of t < 2 ^ 32 → IsItem t b item → Comes (stage_after t (length b) item) x v → Comes t (b ++ x) (with_item (start_of t) item v)
+ItemComes = (t : Stage) (b x : List ℕ) (item : Item) (v : Outcome) → limit_of t < 2 ^ 32 → IsItem t b item → Comes (stage_after t (length b) item) x v
+    → Comes t (b ++ x) (with_item (start_of t) item v)
 
 -- nothing but a refusal, where there is a fault
 abbrev pub FaultComes : Type 0
@@ -67,4 +68,5 @@ verdict_at_end v = unless_refused (refusal_at_end v) (Ok (v.start + length v.tai
 
 -- a feed that holds no whole item says at the stream's end the outcome of its bytes there
 abbrev pub FinishIsVerdict : Type 0
-FinishIsVerdict = (f : FeedState) (v : Outcome) → limit_of f.stage < 2 ^ 32 → IsNumbered f.stage → f.refused ≡ None → is_all f.stage f.held ≡ false → Comes f.stage f.held v → finish_of f ≡ verdict_at_end v
+FinishIsVerdict = (f : FeedState) (v : Outcome) → limit_of f.stage < 2 ^ 32 → IsNumbered f.stage → f.refused ≡ None → is_all f.stage f.held ≡ false
+    → Comes f.stage f.held v → finish_of f ≡ verdict_at_end v

@@ -50,15 +50,18 @@ pub record IsPumped (f : FeedState) (bytes lost : List ℕ) (xs : List (ℕ × I
 -- verdict there, and nothing is lost; a refusal is that of the verdict; else nothing is refused or lost.
 abbrev pub IsPumpEnd : FeedState → List ℕ → List ℕ → List (ℕ × Item) → FeedState → Result ℕ PumpError → Type 0
 IsPumpEnd f bytes lost xs g (Ok n) = (v : Outcome) × IsPumped f bytes lost xs g v × (lost ≡ []) × (verdict_at_end v ≡ Ok n)
-IsPumpEnd f bytes lost xs g (Err (error.Refused r)) = (v : Outcome) × IsPumped f bytes lost xs g v × (r.reason ≡ EndInside → lost ≡ []) × (verdict_at_end v ≡ Err (finish.Refused r))
+IsPumpEnd f bytes lost xs g (Err (error.Refused r)) = (v : Outcome) × IsPumped f bytes lost xs g v × (r.reason ≡ EndInside → lost ≡ [])
+    × (verdict_at_end v ≡ Err (finish.Refused r))
 IsPumpEnd f bytes lost xs g (Err (error.Sink e)) = IsFed f bytes xs g
 IsPumpEnd f bytes lost xs g (Err error.ReadFault) = (v : Outcome) × IsPumped f bytes lost xs g v × (lost ≡ []) × (v.refusal ≡ None)
 IsPumpEnd f bytes lost xs g (Err error.Turns) = (v : Outcome) × IsPumped f bytes lost xs g v × (lost ≡ []) × (v.refusal ≡ None)
 
 -- the source gave some bytes, and others, no more than a read gives, that are lost; these items came of them
-abbrev pub IsPump : {S : Type 0} → (S → ℕ × Item → S → Type 0) → (S → ℕ × Item → S → Type 0) → ℕ → FeedState → Option (List ℕ) → Option (List ℕ) → S → S → FeedState → Result ℕ PumpError → Type 0
+abbrev pub IsPump : {S : Type 0} → (S → ℕ × Item → S → Type 0) → (S → ℕ × Item → S → Type 0) → ℕ → FeedState → Option (List ℕ) → Option (List ℕ) → S → S
+    → FeedState → Result ℕ PumpError → Type 0
 IsPump takes misses read f left left' sink sink' g r =
-    (bytes : List ℕ) × (lost : List ℕ) × (xs : List (ℕ × Item)) × Consumes left left' (bytes ++ lost) × IsGiven takes misses sink xs sink' r × IsPumpEnd f bytes lost xs g r × (length lost ≤ read)
+    (bytes : List ℕ) × (lost : List ℕ) × (xs : List (ℕ × Item)) × Consumes left left' (bytes ++ lost) × IsGiven takes misses sink xs sink' r
+        × IsPumpEnd f bytes lost xs g r × (length lost ≤ read)
 
 -- the answer stands only at the stream's end
 abbrev pub IsEnd : Result ℕ PumpError → Type 0

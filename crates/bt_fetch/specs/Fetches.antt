@@ -11,7 +11,8 @@ file_of torrent metadata = if torrent then codes "d4:info" ++ (metadata ++ codes
 
 -- The file of all of some metadata with this SHA-1 was written; or nothing; or, where a write failed, a shorter prefix of it.
 abbrev pub IsWritten : Bool → List ℕ → Option (List ℕ) → Option (List ℕ) → Result ℕ FetchError → Type 0
-IsWritten torrent hash old new (Ok n) = (metadata : List ℕ) × (sha1 metadata ≡ hash) × (length (file_of torrent metadata) ≡ n) × Appends old new (file_of torrent metadata)
+IsWritten torrent hash old new (Ok n) = (metadata : List ℕ) × (sha1 metadata ≡ hash) × (length (file_of torrent metadata) ≡ n)
+    × Appends old new (file_of torrent metadata)
 IsWritten torrent hash old new (Err NotFetched) = new ≡ old
 IsWritten torrent hash old new (Err Memory) = new ≡ old
 IsWritten torrent hash old new (Err Write) =

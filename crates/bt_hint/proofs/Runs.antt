@@ -14,7 +14,8 @@ pub next_reached : (b : List ℕ) (n size : ℕ) → IsReached b n → size ≡ 
 unfolding place_after
 next_reached b n size r e = (suc r.0, ap (λ (k : ℕ). n + k) e ∙ ap (λ (k : ℕ). k + (4 + from_be_bytes w32 (drop k b))) r.1)
 
-four_zero : (b : List ℕ) (p : ℕ) → from_be_bytes w32 (drop p b) ≡ 0 → (slice_index b (p + 0) ≡ 0) × (slice_index b (p + 1) ≡ 0) × (slice_index b (p + 2) ≡ 0) × (slice_index b (p + 3) ≡ 0)
+four_zero : (b : List ℕ) (p : ℕ) → from_be_bytes w32 (drop p b) ≡ 0 → (slice_index b (p + 0) ≡ 0) × (slice_index b (p + 1) ≡ 0)
+    × (slice_index b (p + 2) ≡ 0) × (slice_index b (p + 3) ≡ 0)
 four_zero b p z = (
   sym (get_or-drop p b 0 0) ∙ omega (arith, z),
   sym (get_or-drop p b 1 0) ∙ omega (arith, z),

@@ -1,5 +1,6 @@
 -- What the first bytes of a stream tell where it is refused.
-use Rattle.std.specs.Prelude.{◌≡◌, ℕ, ◌+◌, ◌-◌, ◌^◌, min, ◌<◌, ◌≤◌, zero, suc, List, [], ◌∷◌, ◌++◌, length, take, drop, slice_index, codes, decimal, Bool, ◌||◌, true, Option, Some, None, if◌then◌else◌}
+use Rattle.std.specs.Prelude.{◌≡◌, ℕ, ◌+◌, ◌-◌, ◌^◌, min, ◌<◌, ◌≤◌, zero, suc, List, [], ◌∷◌, ◌++◌, length, take, drop, slice_index, codes, decimal, Bool,
+    ◌||◌, true, Option, Some, None, if◌then◌else◌}
 use Rattle.std.specs.Int.{w32, from_be_bytes}
 use Rattle.std.specs.List.{starts_with}
 use Rattle.std.specs.Prelude.{nat_eq}
@@ -16,7 +17,8 @@ begins mark bytes = starts_with nat_eq bytes mark
 -- pcap, in either order of bytes, with times in microseconds or nanoseconds
 abbrev pub is_capture : List ℕ → Bool
 is_capture b =
-    begins (0xd4 ∷ 0xc3 ∷ 0xb2 ∷ 0xa1 ∷ []) b || (begins (0xa1 ∷ 0xb2 ∷ 0xc3 ∷ 0xd4 ∷ []) b || (begins (0x4d ∷ 0x3c ∷ 0xb2 ∷ 0xa1 ∷ []) b || begins (0xa1 ∷ 0xb2 ∷ 0x3c ∷ 0x4d ∷ []) b))
+    begins (0xd4 ∷ 0xc3 ∷ 0xb2 ∷ 0xa1 ∷ []) b || (begins (0xa1 ∷ 0xb2 ∷ 0xc3 ∷ 0xd4 ∷ []) b || (begins (0x4d ∷ 0x3c ∷ 0xb2 ∷ 0xa1 ∷ []) b || begins
+        (0xa1 ∷ 0xb2 ∷ 0x3c ∷ 0x4d ∷ []) b))
 
 abbrev pub is_http : List ℕ → Bool
 is_http b = begins (codes "GET ") b || (begins (codes "POST ") b || (begins (codes "HEAD ") b || begins (codes "HTTP/1.") b))
@@ -28,12 +30,14 @@ is_tls b = begins (22 ∷ 3 ∷ 1 ∷ []) b || begins (22 ∷ 3 ∷ 3 ∷ []) b
 -- a dictionary whose first key a .torrent file may have (BEP 3, "metainfo files")
 abbrev pub is_torrent : List ℕ → Bool
 is_torrent b =
-    begins (codes "d8:announce") b || (begins (codes "d13:announce-list") b || (begins (codes "d7:comment") b || (begins (codes "d10:created by") b || (begins (codes "d13:creation date") b || begins (codes "d4:info") b))))
+    begins (codes "d8:announce") b || (begins (codes "d13:announce-list") b ||
+        (begins (codes "d7:comment") b || (begins (codes "d10:created by") b || (begins (codes "d13:creation date") b || begins (codes "d4:info") b))))
 
 -- a handshake's first bytes in hex, or the first offset that `xxd` or `hexdump` prints
 abbrev pub is_hex : List ℕ → Bool
 is_hex b =
-    begins (codes "13426974546f7272656e74") b || (begins (codes "13426974546F7272656E74") b || (begins (codes "13 42 69 74") b || (begins (codes "00000000: ") b || begins (codes "00000000  ") b)))
+    begins (codes "13426974546f7272656e74") b || (begins (codes "13426974546F7272656E74") b ||
+        (begins (codes "13 42 69 74") b || (begins (codes "00000000: ") b || begins (codes "00000000  ") b)))
 
 abbrev pub is_lines : List ℕ → Bool
 is_lines b = begins (codes "0 handshake ") b || begins (codes "{\"offset\":0,") b
@@ -105,9 +109,11 @@ kind_text kind.Lines = codes "the output of 'show', which nothing reads; 'unpack
 
 abbrev pub hint_words : Hint → List ℕ
 hint_words (hints.Is k) = codes "the input looks like " ++ kind_text k
-hint_words (hints.Handshake n) = codes "a handshake stands at " ++ (decimal n ++ (codes "; this reads from there: tail -c +" ++ (decimal (min (n + 1) (2 ^ 64 - 1)) ++ codes " FILE | bt_tool show")))
+hint_words (hints.Handshake n) = codes "a handshake stands at "
+    ++ (decimal n ++ (codes "; this reads from there: tail -c +" ++ (decimal (min (n + 1) (2 ^ 64 - 1)) ++ codes " FILE | bt_tool show")))
 hint_words (hints.SecondHandshake n) = codes "a second handshake stands at " ++ (decimal n ++ codes "; the input may be two streams, one after the other")
-hint_words (hints.KeepAlives start size) = codes "from " ++ (decimal start ++ (codes " on " ++ (decimal size ++ codes " zero bytes read as keep-alives; a gap may have been filled with them")))
+hint_words (hints.KeepAlives start size) = codes "from " ++ (decimal start
+    ++ (codes " on " ++ (decimal size ++ codes " zero bytes read as keep-alives; a gap may have been filled with them")))
 
 abbrev pub hint_line : Hint → List ℕ
 hint_line h = codes "hint: " ++ (hint_words h ++ codes "\n")

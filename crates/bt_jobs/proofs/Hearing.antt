@@ -1,5 +1,6 @@
 -- What is heard of a stream turn by turn.
-use Rattle.std.proofs.Common.{◌≡◌, ℕ, ◌+◌, ◌⊎◌, Bool, true, false, List, [], ◌∷◌, ◌++◌, length, Option, Some, None, Result, Ok, Err, refl, sym, ap, subst, ◌∙◌, arith, inl, inr}
+use Rattle.std.proofs.Common.{◌≡◌, ℕ, ◌+◌, ◌⊎◌, Bool, true, false, List, [], ◌∷◌, ◌++◌, length, Option, Some, None, Result, Ok, Err, refl, sym, ap, subst,
+    ◌∙◌, arith, inl, inr}
 use Rattle.std.specs.Prelude.{IsSome, ok_or, if◌then◌else◌}
 use Rattle.std.proofs.KnownBytes.{Consumes-nil, Consumes-trans}
 use Rattle.std.specs.Io.KnownBytes.{Consumes}
@@ -25,7 +26,8 @@ use Rattle.bt_jobs.specs.declared.other.Announced.{Announced}
 use Rattle.bt_jobs.specs.declared.other.Listener.{Listener}
 use Rattle.bt_jobs.specs.declared.other.OtherError.{OtherError}
 use Rattle.bt_jobs.specs.declared.other.OtherError.TheVariants.{NoHandshake, Fault}
-use Rattle.bt_jobs.specs.Others.{or_else, first_of, reserved_of, id_of, announced, own_of_other, reader_of_other, IsSaidBy, IsSaidIn, IsLearnt, IsHeard, Hears, IsListening, IsSettled, IsTurnHeard, IsFaultOfOther, IsOpenAfter}
+use Rattle.bt_jobs.specs.Others.{or_else, first_of, reserved_of, id_of, announced, own_of_other, reader_of_other, IsSaidBy, IsSaidIn, IsLearnt, IsHeard,
+    Hears, IsListening, IsSettled, IsTurnHeard, IsFaultOfOther, IsOpenAfter}
 use Rattle.bt_jobs.proofs.Printing.{total, read_more, starts, refused_by}
 
 -- ---- the first value in items
@@ -48,7 +50,8 @@ first_both f (x ∷ xs) ys = ap (λ o. or_else (f x.1) o) (first_both f xs ys) �
 
 -- ---- a listener
 
-hears : (l m : Listener) (xs : List (ℕ × Item)) → Took Hears l xs m → (m.reserved ≡ or_else l.reserved (first_of reserved_of xs)) × (m.metadata ≡ or_else l.metadata (first_of id_of xs))
+hears : (l m : Listener) (xs : List (ℕ × Item)) → Took Hears l xs m → (m.reserved ≡ or_else l.reserved (first_of reserved_of xs))
+    × (m.metadata ≡ or_else l.metadata (first_of id_of xs))
 hears l m [] h = (ap (λ (k : Listener). k.reserved) h ∙ sym (or_none l.reserved), ap (λ (k : Listener). k.metadata) h ∙ sym (or_none l.metadata))
 hears l m (x ∷ xs) h =
     let rest = hears h.0 m xs h.2 in (
@@ -74,7 +77,8 @@ said_as : (xs : List (ℕ × Item)) (o : Option Announced) → own_of_other xs �
 said_as xs None e = e
 said_as xs (Some a) e = e
 
-said_by : (xs : List (ℕ × Item)) (l : Listener) (r : Result Announced OtherError) → IsHeard xs l → r ≡ ok_or (announced l.reserved l.metadata) NoHandshake → IsSaidBy xs r
+said_by : (xs : List (ℕ × Item)) (l : Listener) (r : Result Announced OtherError) → IsHeard xs l → r ≡ ok_or (announced l.reserved l.metadata) NoHandshake
+    → IsSaidBy xs r
 said_by xs l r h is =
     let same : own_of_other xs ≡ announced l.reserved l.metadata =
     ap (λ (o : Option Reserved). announced o (first_of id_of xs)) (sym h.0) ∙ ap (λ (o : Option ℕ). announced l.reserved o) (sym h.1) in
@@ -82,22 +86,29 @@ said_by xs l r h is =
 
 -- ---- a turn
 
-heard_all : (b : List ℕ) (xs ys : List (ℕ × Item)) (f g : FeedState) (l m : Listener) (bytes lost : List ℕ) (v : Outcome) → IsListening b xs f l → Took Hears l ys m → IsPumped f bytes lost ys g v → IsHeard (xs ++ v.items) m
+heard_all : (b : List ℕ) (xs ys : List (ℕ × Item)) (f g : FeedState) (l m : Listener) (bytes lost : List ℕ) (v : Outcome) → IsListening b xs f l
+    → Took Hears l ys m → IsPumped f bytes lost ys g v → IsHeard (xs ++ v.items) m
 heard_all b xs ys f g l m bytes lost v r took p = subst (λ (zs : List (ℕ × Item)). IsHeard (xs ++ zs) m) (sym p.items) (heard_more xs ys l m r.heard took)
 
-pub ended : (E : Type 0) (b : List ℕ) (xs ys : List (ℕ × Item)) (f g : FeedState) (left left' : Option (List ℕ)) (l m : Listener) (bytes lost : List ℕ) (v : Outcome) → IsListening b xs f l → Consumes left left' (bytes ++ lost)
+pub ended : (E : Type 0) (b : List ℕ) (xs ys : List (ℕ × Item)) (f g : FeedState) (left left' : Option (List ℕ)) (l m : Listener) (bytes lost : List ℕ)
+    (v : Outcome) → IsListening b xs f l → Consumes left left' (bytes ++ lost)
     → Took Hears l ys m → IsPumped f bytes lost ys g v → (IsSome v.refusal ⊎ E) → IsTurnHeard b xs E left left' g m (Ok true)
 ended E b xs ys f g left left' l m bytes lost v r c took p s =
     (bytes ++ lost, with_items xs v, c, total reader_of_other b xs f g bytes lost ys v r.read p, heard_all b xs ys f g l m bytes lost v r took p, inr s)
 
-pub turned : (E : Type 0) (b : List ℕ) (xs ys : List (ℕ × Item)) (f g : FeedState) (left left' : Option (List ℕ)) (l m : Listener) (bytes lost : List ℕ) (v : Outcome) (k : Bool) → (k ≡ true → IsSome m.reserved × IsSome m.metadata) → (k ≡ false → (m.reserved ≡ None) ⊎ (m.metadata ≡ None))
-    → IsListening b xs f l → Consumes left left' (bytes ++ lost) → Took Hears l ys m → IsPumped f bytes lost ys g v → lost ≡ [] → v.refusal ≡ None → IsTurnHeard b xs E left left' g m (Ok k)
+pub turned : (E : Type 0) (b : List ℕ) (xs ys : List (ℕ × Item)) (f g : FeedState) (left left' : Option (List ℕ)) (l m : Listener) (bytes lost : List ℕ)
+    (v : Outcome) (k : Bool) → (k ≡ true → IsSome m.reserved × IsSome m.metadata) → (k ≡ false → (m.reserved ≡ None) ⊎ (m.metadata ≡ None))
+    → IsListening b xs f l → Consumes left left' (bytes ++ lost) → Took Hears l ys m → IsPumped f bytes lost ys g v → lost ≡ [] → v.refusal ≡ None
+    → IsTurnHeard b xs E left left' g m (Ok k)
 turned E b xs ys f g left left' l m bytes lost v false know unknown r c took p none free =
-    (bytes ++ lost, ys, c, record { read = read_more reader_of_other b xs f g bytes lost ys v none r.read p; heard = heard_more xs ys l m r.heard took; unknown = unknown refl; now = with_items xs v; is = total reader_of_other b xs f g bytes lost ys v r.read p; unrefused = free })
+    (bytes ++ lost, ys, c, record { read = read_more reader_of_other b xs f g bytes lost ys v none r.read p; heard = heard_more xs ys l m r.heard took;
+        unknown = unknown refl; now = with_items xs v; is = total reader_of_other b xs f g bytes lost ys v r.read p; unrefused = free })
 turned E b xs ys f g left left' l m bytes lost v true know unknown r c took p none free =
-    (bytes ++ lost, with_items xs v, c, total reader_of_other b xs f g bytes lost ys v r.read p, heard_all b xs ys f g l m bytes lost v r took p, inl (know refl))
+    (bytes ++ lost, with_items xs v, c, total reader_of_other b xs f g bytes lost ys v r.read p, heard_all b xs ys f g l m bytes lost v r took p,
+        inl (know refl))
 
-refused_inside : (o : Option Refusal) (c : Bool) (e r : Refusal) → (elim o [ Some q ↦ Some q | None ↦ if c then None else Some e ]) ≡ Some r → IsSome o ⊎ (r.reason ≡ e.reason)
+refused_inside : (o : Option Refusal) (c : Bool) (e r : Refusal) → (elim o [ Some q ↦ Some q | None ↦ if c then None else Some e ]) ≡ Some r → IsSome o
+    ⊎ (r.reason ≡ e.reason)
 refused_inside (Some q) c e r is = inl refl
 refused_inside None true e r is = absurd cc
 refused_inside None false e r is = let same : e ≡ r = cc in inr (ap (λ (q : Refusal). q.reason) (sym same))
@@ -118,29 +129,36 @@ pub record IsListeningTo (left left' : Option (List ℕ)) (f : FeedState) (l : L
   pub consumed : Consumes left left' bytes
   pub listening : IsListening bytes items f l
 
-pub listening_first : (left : Option (List ℕ)) (f : FeedState) (l : Listener) → f ≡ record { stage = stage.Handshake reader_of_other; held = []; refused = None } → IsHeard [] l → IsListeningTo left left f l
+pub listening_first : (left : Option (List ℕ)) (f : FeedState) (l : Listener) → f ≡ record { stage = stage.Handshake reader_of_other; held = [];
+    refused = None } → IsHeard [] l → IsListeningTo left left f l
 listening_first left f l e h =
-    record { bytes = []; items = []; consumed = Consumes-nil left; listening = record { read = starts reader_of_other f (omega arith) e; heard = h; unknown = inl h.0; now = stopped (stage.Handshake reader_of_other) [] None; is = open_comes (stage.Handshake reader_of_other) [] (omega arith) (hand_open reader_of_other); unrefused = refl } }
+    record { bytes = []; items = []; consumed = Consumes-nil left; listening = record { read = starts reader_of_other f (omega arith) e; heard = h;
+        unknown = inl h.0; now = stopped (stage.Handshake reader_of_other) [] None; is = open_comes (stage.Handshake reader_of_other) [] (omega arith)
+        (hand_open reader_of_other); unrefused = refl } }
 
-pub listening_more : (E : Type 0) (left0 left left' : Option (List ℕ)) (f g : FeedState) (l m : Listener) → (t : IsListeningTo left0 left f l) → IsTurnHeard t.bytes t.items E left left' g m (Ok false) → IsListeningTo left0 left' g m
+pub listening_more : (E : Type 0) (left0 left left' : Option (List ℕ)) (f g : FeedState) (l m : Listener) → (t : IsListeningTo left0 left f l)
+    → IsTurnHeard t.bytes t.items E left left' g m (Ok false) → IsListeningTo left0 left' g m
 listening_more E left0 left left' f g l m t n =
     record { bytes = t.bytes ++ n.0; items = t.items ++ n.1; consumed = Consumes-trans left0 left left' t.bytes n.0 t.consumed n.2; listening = n.3 }
 
 -- what was heard is the answer
-settled : (D E : Type 0) (b : List ℕ) (v : Outcome) (l : Listener) (r : Result Announced OtherError) → VerdictIsOne → RefusalStays → ItemsStay → IsVerdict reader_of_other b v → IsHeard v.items l → IsSettled D l v → (D → E)
+settled : (D E : Type 0) (b : List ℕ) (v : Outcome) (l : Listener) (r : Result Announced OtherError) → VerdictIsOne → RefusalStays → ItemsStay
+    → IsVerdict reader_of_other b v → IsHeard v.items l → IsSettled D l v → (D → E)
     → r ≡ ok_or (announced l.reserved l.metadata) NoHandshake → ((later : List ℕ) → IsSaidIn (b ++ later) r) ⊎ (E × IsSaidIn b r)
 settled D E b v l r one refused stay is h (inl known) to answer = inl (λ later w isw.
     let s = stay reader_of_other b later v w (omega arith) is isw in
     subst (λ (xs : List (ℕ × Item)). IsSaidBy xs r) (sym s.1) (said_by (v.items ++ s.0) l r (heard_still v.items s.0 l h known.0 known.1) answer))
 settled D E b v l r one refused stay is h (inr (inl some)) to answer = inl (λ later w isw.
-    let same : w ≡ record v { tail = v.tail ++ later } = one reader_of_other (b ++ later) w (record v { tail = v.tail ++ later }) (omega arith) isw (refused reader_of_other b later v (omega arith) is some) in
+    let same : w ≡ record v { tail = v.tail ++ later } = one reader_of_other (b ++ later) w (record v { tail = v.tail ++ later }) (omega arith) isw
+        (refused reader_of_other b later v (omega arith) is some) in
     subst (λ (u : Outcome). IsSaidBy u.items r) (sym same) (said_by v.items l r h answer))
 settled D E b v l r one refused stay is h (inr (inr d)) to answer = inr (
   to d,
   λ w isw. subst (λ (u : Outcome). IsSaidBy u.items r) (one reader_of_other b v w (omega arith) is isw) (said_by v.items l r h answer),
 )
 
-pub learnt : (D E : Type 0) (left0 left left' : Option (List ℕ)) (f g : FeedState) (l m : Listener) (r : Result Announced OtherError) → VerdictIsOne → RefusalStays → ItemsStay → (t : IsListeningTo left0 left f l)
+pub learnt : (D E : Type 0) (left0 left left' : Option (List ℕ)) (f g : FeedState) (l m : Listener) (r : Result Announced OtherError) → VerdictIsOne
+    → RefusalStays → ItemsStay → (t : IsListeningTo left0 left f l)
     → IsTurnHeard t.bytes t.items D left left' g m (Ok true) → (D → E) → r ≡ ok_or (announced m.reserved m.metadata) NoHandshake → IsLearnt E left0 left' r
 learnt D E left0 left left' f g l m r one refused stay t n to answer = (
   t.bytes ++ n.0,
@@ -152,26 +170,33 @@ learnt D E left0 left left' f g l m r one refused stay t n to answer = (
 pub not_learnt : (E : Type 0) (left left' : Option (List ℕ)) (b : List ℕ) (f : ToolFault) → Consumes left left' b → IsLearnt E left left' (Err (Fault f))
 not_learnt E left left' b f c = (b, c, inl (λ later v is. tt))
 
-pub fault_of_turn : (E : Type 0) (left0 left left' : Option (List ℕ)) (f g : FeedState) (l m : Listener) (e : ToolFault) → (t : IsListeningTo left0 left f l) → IsTurnHeard t.bytes t.items E left left' g m (Err e) → IsLearnt E left0 left' (Err (Fault e))
+pub fault_of_turn : (E : Type 0) (left0 left left' : Option (List ℕ)) (f g : FeedState) (l m : Listener) (e : ToolFault)
+    → (t : IsListeningTo left0 left f l) → IsTurnHeard t.bytes t.items E left left' g m (Err e) → IsLearnt E left0 left' (Err (Fault e))
 fault_of_turn E left0 left left' f g l m e t n = not_learnt E left0 left' (t.bytes ++ n.0) e (Consumes-trans left0 left left' t.bytes n.0 t.consumed n.1)
 
-answer_has_no_fault : (o : Option Announced) (reads reads' failed failed' ends ends' : ℕ) → failed' ≡ failed → IsFaultOfOther (ok_or o NoHandshake) reads reads' failed failed' ends ends'
+answer_has_no_fault : (o : Option Announced) (reads reads' failed failed' ends ends' : ℕ) → failed' ≡ failed → IsFaultOfOther (ok_or o NoHandshake) reads
+    reads' failed failed' ends ends'
 answer_has_no_fault None reads reads' failed failed' ends ends' calm = calm
 answer_has_no_fault (Some a) reads reads' failed failed' ends ends' calm = calm
 
-pub no_fault : (o : Option Announced) (r : Result Announced OtherError) (reads reads' failed failed' ends ends' : ℕ) → r ≡ ok_or o NoHandshake → failed' ≡ failed → IsFaultOfOther r reads reads' failed failed' ends ends'
+pub no_fault : (o : Option Announced) (r : Result Announced OtherError) (reads reads' failed failed' ends ends' : ℕ) → r ≡ ok_or o NoHandshake → failed'
+    ≡ failed → IsFaultOfOther r reads reads' failed failed' ends ends'
 no_fault o r reads reads' failed failed' ends ends' e calm =
-    subst (λ (a : Result Announced OtherError). IsFaultOfOther a reads reads' failed failed' ends ends') (sym e) (answer_has_no_fault o reads reads' failed failed' ends ends' calm)
+    subst (λ (a : Result Announced OtherError). IsFaultOfOther a reads reads' failed failed' ends ends') (sym e)
+        (answer_has_no_fault o reads reads' failed failed' ends ends' calm)
 
 pub grew_since : (a b c : ℕ) → b ≡ a → Grew b c → Grew a c
 grew_since a b c e g = subst (λ (n : ℕ). Grew n c) e g
 
-pub read_failed : (f : ToolFault) (reads reads' failed failed' ends ends' : ℕ) → f ≡ faults.Read → Grew failed failed' → IsFaultOfOther (Err (Fault f)) reads reads' failed failed' ends ends'
-read_failed f reads reads' failed failed' ends ends' e g = subst (λ (x : ToolFault). IsFaultOfOther (Err (Fault x)) reads reads' failed failed' ends ends') (sym e) g
+pub read_failed : (f : ToolFault) (reads reads' failed failed' ends ends' : ℕ) → f ≡ faults.Read → Grew failed failed'
+    → IsFaultOfOther (Err (Fault f)) reads reads' failed failed' ends ends'
+read_failed f reads reads' failed failed' ends ends' e g = subst (λ (x : ToolFault). IsFaultOfOther (Err (Fault x)) reads reads' failed failed' ends ends')
+    (sym e) g
 
 -- ---- what is read
 
-unknown_items : (xs : List (ℕ × Item)) (l : Listener) → IsHeard xs l → ((l.reserved ≡ None) ⊎ (l.metadata ≡ None)) → (first_of reserved_of xs ≡ None) ⊎ (first_of id_of xs ≡ None)
+unknown_items : (xs : List (ℕ × Item)) (l : Listener) → IsHeard xs l → ((l.reserved ≡ None) ⊎ (l.metadata ≡ None)) → (first_of reserved_of xs ≡ None)
+    ⊎ (first_of id_of xs ≡ None)
 unknown_items xs l h (inl e) = inl (sym h.0 ∙ e)
 unknown_items xs l h (inr e) = inr (sym h.1 ∙ e)
 
@@ -185,7 +210,8 @@ waits left left' f l one t =
           let same : s.read.now ≡ v = one reader_of_other t.bytes s.read.now v (omega arith) s.read.is is in
           let as_now : v ≡ s.now = one reader_of_other t.bytes v s.now (omega arith) is s.is in
           let P : List (ℕ × Item) → Type 0 = λ xs. (first_of reserved_of xs ≡ None) ⊎ (first_of id_of xs ≡ None) in
-          (subst P (sym s.read.items ∙ ap (λ (w : Outcome). w.items) same) (unknown_items t.items l s.heard s.unknown), ap (λ (w : Outcome). w.refusal) as_now ∙ s.unrefused),
+          (subst P (sym s.read.items ∙ ap (λ (w : Outcome). w.items) same) (unknown_items t.items l s.heard s.unknown),
+              ap (λ (w : Outcome). w.refusal) as_now ∙ s.unrefused),
     )
 
 -- before the first read

@@ -1,5 +1,6 @@
 -- A text has its lines alone, the script of an accepted stream packs to that stream, and packing has one answer.
-use Rattle.std.proofs.Common.{◌≡◌, ℕ, zero, suc, ◌+◌, ◌-◌, ◌<◌, ◌≤◌, ◌^◌, ◌==◌, ◌⊎◌, not, Bool, true, false, cond, List, [], ◌∷◌, ◌++◌, length, Option, Some, None, refl, sym, ap, subst, ◌∙◌, arith, inl, inr}
+use Rattle.std.proofs.Common.{◌≡◌, ℕ, zero, suc, ◌+◌, ◌-◌, ◌<◌, ◌≤◌, ◌^◌, ◌==◌, ◌⊎◌, not, Bool, true, false, cond, List, [], ◌∷◌, ◌++◌, length, Option,
+    Some, None, refl, sym, ap, subst, ◌∙◌, arith, inl, inr}
 use Rattle.std.proofs.lemmas.Bool.{cases_lt, and_parts}
 use Rattle.std.proofs.lemmas.List.{append-nil, append_assoc, length-append, nil_from_length}
 use Rattle.std.specs.Prelude.{IsSome}
@@ -23,7 +24,8 @@ use Rattle.bt_text.specs.declared.ended.PackEnd.TheVariants.{Accepted, Refused}
 use Rattle.bt_text.specs.declared.ended.ScriptReason.{ScriptReason}
 use Rattle.bt_text.specs.declared.ended.ScriptReason.TheVariants.{Syntax, Reason}
 use Rattle.bt_text.specs.Script.{has_feed}
-use Rattle.bt_jobs.specs.Packs.{ended_lines, AreWhole, IsSplit, with_last, AreLines, IsNamed, is_none, AreNamed, AreTaken, IsNotTaken, IsStop, IsPacked, empty, stopped, accepted}
+use Rattle.bt_jobs.specs.Packs.{ended_lines, AreWhole, IsSplit, with_last, AreLines, IsNamed, is_none, AreNamed, AreTaken, IsNotTaken, IsStop, IsPacked,
+    empty, stopped, accepted}
 use Rattle.bt_text.specs.Script.{script, script_words, Said, keep_alive, known, unknown, said_bytes, IsLine}
 use Rattle.bt_text.proofs.ScriptBounds.{handshake_fits, message_fits}
 use Rattle.bt_text.proofs.ScriptLines.{one_reading}
@@ -55,7 +57,8 @@ one_front (c ∷ cs) (d ∷ ds) s t h k e =
 first_line : (l : List ℕ) (ls : List (List ℕ)) (r : List ℕ) → ended_lines (l ∷ ls) ++ r ≡ l ++ 10 ∷ (ended_lines ls ++ r)
 first_line l ls r = append_assoc (l ++ 10 ∷ []) (ended_lines ls) r ∙ append_assoc l (10 ∷ []) (ended_lines ls ++ r)
 
-pub one_split_of : (ls ms : List (List ℕ)) (r t : List ℕ) → AreWhole ls → AreWhole ms → has_feed r ≡ false → has_feed t ≡ false → ended_lines ls ++ r ≡ ended_lines ms ++ t → (ls ≡ ms) × (r ≡ t)
+pub one_split_of : (ls ms : List (List ℕ)) (r t : List ℕ) → AreWhole ls → AreWhole ms → has_feed r ≡ false → has_feed t ≡ false → ended_lines ls ++ r
+    ≡ ended_lines ms ++ t → (ls ≡ ms) × (r ≡ t)
 one_split_of [] [] r t p q h k e = (refl, e)
 one_split_of [] (m ∷ ms) r t p q h k e = absurd (no_feed m (ended_lines ms ++ t) r (e ∙ first_line m ms t) h)
 one_split_of (l ∷ ls) [] r t p q h k e = absurd (no_feed l (ended_lines ls ++ r) t (sym e ∙ first_line l ls r) k)
@@ -100,7 +103,8 @@ pub record AreItems (limit : ℕ) (first : Bool) (ls : List (List ℕ)) (b : Lis
   pub whole : AreWhole ls
   pub named : AreNamed limit first ls b
 
-messages_named : (own : Own) (c : Context) (o : Order) (s : ℕ) (ms : List Message) (b : List ℕ) → c.reg ≡ own.reg → c.limit ≡ own.limit → AreBytes b → Says c o s ms b → AreItems own.limit false (lines_in own (placed c s ms)) b
+messages_named : (own : Own) (c : Context) (o : Order) (s : ℕ) (ms : List Message) (b : List ℕ) → c.reg ≡ own.reg → c.limit ≡ own.limit → AreBytes b
+    → Says c o s ms b → AreItems own.limit false (lines_in own (placed c s ms)) b
 messages_named own c o s [] b reg limit fits h = record { whole = tt; named = h }
 messages_named own c o s (m ∷ ms) b reg limit fits h =
     let said = h.0 in
@@ -153,7 +157,8 @@ accepted_stream own b v h e =
     record { opened = opened_by (hand_fault own b) own b v both.0 h; nothing_left = nil_from_length v.tail none }
 
 -- the messages of an opened stream of which nothing is left over
-pub opened_says : (own : Own) (b : List ℕ) (v : Outcome) (p : IsOpened own b v) → v.tail ≡ [] → Says (negotiated own p.handshake.reserved) Fresh 68 p.messages.messages p.rest
+pub opened_says : (own : Own) (b : List ℕ) (v : Outcome) (p : IsOpened own b v) → v.tail ≡ [] → Says (negotiated own p.handshake.reserved) Fresh 68
+    p.messages.messages p.rest
 opened_says own b v p none =
     let c = negotiated own p.handshake.reserved in
     let ms = p.messages.messages in
@@ -169,14 +174,16 @@ accepted_items own b v fits h =
     let g = p.handshake in
     let c = negotiated own g.reserved in
     let ms = p.messages.messages in
-    let parts : v.items ≡ (0, items.Handshake g) ∷ placed c 68 ms = ap (λ (u : Outcome). u.items) p.whole ∙ ap (λ (xs : List (ℕ × Item)). (0, items.Handshake g) ∷ xs) p.messages.items in
+    let parts : v.items ≡ (0, items.Handshake g) ∷ placed c 68 ms = ap (λ (u : Outcome). u.items) p.whole
+        ∙ ap (λ (xs : List (ℕ × Item)). (0, items.Handshake g) ∷ xs) p.messages.items in
     let all : AreBytes (hand g ++ p.rest) = let P : List ℕ → Type 0 = λ z. AreBytes z in subst P p.parts fits in
     let fit = handshake_fits g p.fits in
     let more = messages_named own c Fresh 68 ms p.rest refl refl (back_fits (hand g) p.rest all) (opened_says own b v p h.nothing_left) in
     let Q : List (ℕ × Item) → Type 0 = λ xs. AreItems own.limit true (lines_in own xs) b in
     subst Q (sym parts) (record {
       whole = (fit.whole, more.whole);
-      named = (hand g, p.rest, record { short = omega (arith, fit.short); line = handshake_line g p.fits (front_fits (hand g) p.rest all) }, p.parts, more.named);
+      named = (hand g, p.rest, record { short = omega (arith, fit.short); line = handshake_line g p.fits (front_fits (hand g) p.rest all) }, p.parts,
+          more.named);
     })
 
 pub script_packs : (own : Own) (b : List ℕ) (v : Outcome) → AreBytes b → IsVerdict own b v → refusal_at_end v ≡ None
@@ -224,7 +231,8 @@ pub record IsBehind (limit : ℕ) (first : Bool) (line b c : List ℕ) : Type 0 
   pub named : IsNamed limit first line bytes
   pub parts : c ≡ (b ++ bytes) ++ rest
 
-pub named_behind : (limit : ℕ) (first : Bool) (ls : List (List ℕ)) (line : List ℕ) (more : List (List ℕ)) (b c : List ℕ) → AreNamed limit first ls b → AreNamed limit first (ls ++ line ∷ more) c → IsBehind limit (is_first_behind first ls) line b c
+pub named_behind : (limit : ℕ) (first : Bool) (ls : List (List ℕ)) (line : List ℕ) (more : List (List ℕ)) (b c : List ℕ) → AreNamed limit first ls b
+    → AreNamed limit first (ls ++ line ∷ more) c → IsBehind limit (is_first_behind first ls) line b c
 named_behind limit first [] line more b c p q = record { bytes = q.0; rest = q.1; named = q.2; parts = q.3 ∙ ap (λ (z : List ℕ). (z ++ q.0) ++ q.1) (sym p) }
 named_behind limit first (l ∷ ls) line more b c p q =
     let x = one_reading first l q.0 p.0 q.2.line p.2.line in
@@ -270,7 +278,8 @@ said_is_one c o s (m ∷ ms) x y p q =
     p.1.1 ∙ ap (λ (z : List ℕ). spell c m ++ z) rest ∙ sym q.1.1
 
 -- the bytes of messages after a handshake
-same_bytes : (own : Own) (g h : Handshake) (ms ns : List Message) (x y : List ℕ) → g ≡ h → placed (negotiated own g.reserved) 68 ms ≡ placed (negotiated own h.reserved) 68 ns
+same_bytes : (own : Own) (g h : Handshake) (ms ns : List Message) (x y : List ℕ) → g ≡ h → placed (negotiated own g.reserved) 68 ms
+    ≡ placed (negotiated own h.reserved) 68 ns
     → Says (negotiated own g.reserved) Fresh 68 ms x → Says (negotiated own h.reserved) Fresh 68 ns y → hand g ++ x ≡ hand h ++ y
 same_bytes own g h ms ns x y e places p q =
     let c = negotiated own g.reserved in
@@ -281,7 +290,8 @@ same_bytes own g h ms ns x y e places p q =
     let rest = said_is_one c Fresh 68 ms x y p (subst R (sym list) (subst Q (sym e) q)) in
     ap (λ (k : Handshake). hand k ++ x) e ∙ ap (λ (z : List ℕ). hand h ++ z) rest
 
-opened_items : (own : Own) (b : List ℕ) (v : Outcome) (p : IsOpened own b v) → v.items ≡ pair 0 (items.Handshake p.handshake) ∷ placed (negotiated own p.handshake.reserved) 68 p.messages.messages
+opened_items : (own : Own) (b : List ℕ) (v : Outcome) (p : IsOpened own b v) → v.items ≡ pair 0 (items.Handshake p.handshake) ∷ placed
+    (negotiated own p.handshake.reserved) 68 p.messages.messages
 opened_items own b v p = ap (λ (u : Outcome). u.items) p.whole ∙ ap (λ (xs : List (ℕ × Item)). (0, items.Handshake p.handshake) ∷ xs) p.messages.items
 
 opened_is_one : (own : Own) (b c : List ℕ) (v w : Outcome) → IsOpened own b v → IsOpened own c w → v.tail ≡ [] → w.tail ≡ [] → v.items ≡ w.items → b ≡ c
@@ -311,7 +321,8 @@ all_items_by None own b v h none =
 
 none_and_some : (own : Own) (b : List ℕ) (v w : Outcome) → IsOpened own b v → w.items ≡ [] → v.items ≡ w.items → ⊥
 none_and_some own b v w p none same =
-    let k : pair 0 (items.Handshake p.handshake) ∷ placed (negotiated own p.handshake.reserved) 68 p.messages.messages ≡ [] = sym (opened_items own b v p) ∙ same ∙ none in
+    let k : pair 0 (items.Handshake p.handshake) ∷ placed (negotiated own p.handshake.reserved) 68 p.messages.messages ≡ [] = sym (opened_items own b v p)
+        ∙ same ∙ none in
     absurd (cc k)
 
 pub items_are_one : (own : Own) (b c : List ℕ) (v w : Outcome) → IsVerdict own b v → IsVerdict own c w → v.tail ≡ [] → w.tail ≡ [] → v.items ≡ w.items → b ≡ c
@@ -335,7 +346,8 @@ no_front : (x y : List ℕ) → x ++ y ≡ [] → x ≡ []
 no_front x y e = nil_from_length x (omega (arith, ap length e, length-append x y))
 
 -- bytes that are refused where they stand don't stand in a stream of items
-pub refused_is_last : (own : Own) (b x y : List ℕ) (v w last : Outcome) (r : Refusal) → own.limit < 2 ^ 32 → IsVerdict own b v → v.tail ≡ [] → IsVerdict own (b ++ x) w → w.items ≡ v.items → w.refusal ≡ Some r → (x ≡ [] → ⊥)
+pub refused_is_last : (own : Own) (b x y : List ℕ) (v w last : Outcome) (r : Refusal) → own.limit < 2 ^ 32 → IsVerdict own b v → v.tail ≡ []
+    → IsVerdict own (b ++ x) w → w.items ≡ v.items → w.refusal ≡ Some r → (x ≡ [] → ⊥)
     → IsVerdict own ((b ++ x) ++ y) last → last.tail ≡ [] → ⊥
 refused_is_last own b x y v w last r lt is none refused same e some all nothing =
     let P : Option Refusal → Type 0 = λ o. IsSome o in
@@ -346,7 +358,8 @@ refused_is_last own b x y v w last r lt is none refused same e some all nothing 
     some (nil_from_length x (omega (arith, ap length bytes, length-append b x)))
 
 -- no line after it is taken
-pub stop_is_last : (own : Own) (before : List (List ℕ)) (line : List ℕ) (more : List (List ℕ)) (b c : List ℕ) (v w : Outcome) (reason : ScriptReason) → own.limit < 2 ^ 32
+pub stop_is_last : (own : Own) (before : List (List ℕ)) (line : List ℕ) (more : List (List ℕ)) (b c : List ℕ) (v w : Outcome) (reason : ScriptReason)
+    → own.limit < 2 ^ 32
     → AreTaken own before b v → IsNotTaken own (is_none before) line b v reason → AreTaken own (before ++ line ∷ more) c w → ⊥
 stop_is_last own before line more b c v w Syntax lt p n q =
     let k = named_behind own.limit true before line more b c p.named q.named in
@@ -362,7 +375,8 @@ stop_is_last own before line more b c v w (Reason reason) lt p n q =
     refused_is_last own b n.0 k.rest v n.2 w n.5 lt p.verdict p.nothing_left n.3 n.4 n.6 (line_some (is_none before) line n.0 n.1.line) all q.nothing_left
 
 -- it isn't taken for one reason
-pub reason_is_one : (own : Own) (first : Bool) (line b : List ℕ) (v : Outcome) (r s : ScriptReason) → own.limit < 2 ^ 32 → IsNotTaken own first line b v r → IsNotTaken own first line b v s → r ≡ s
+pub reason_is_one : (own : Own) (first : Bool) (line b : List ℕ) (v : Outcome) (r s : ScriptReason) → own.limit < 2 ^ 32 → IsNotTaken own first line b v r
+    → IsNotTaken own first line b v s → r ≡ s
 reason_is_one own first line b v Syntax Syntax lt p q = refl
 reason_is_one own first line b v Syntax (Reason s) lt p q = absurd (p q.0 q.1)
 reason_is_one own first line b v (Reason r) Syntax lt p q = absurd (q p.0 p.1)
@@ -379,7 +393,8 @@ record IsLonger (ks ls : List (List ℕ)) (k : List ℕ) : Type 0 where
   more : List (List ℕ)
   list : ls ≡ ks ++ k ∷ more
 
-fronts : (ks ls : List (List ℕ)) (k l : List ℕ) (s t : List (List ℕ)) → ks ++ k ∷ s ≡ ls ++ l ∷ t → length ks ≤ length ls → ((ks ≡ ls) × (k ≡ l)) ⊎ IsLonger ks ls k
+fronts : (ks ls : List (List ℕ)) (k l : List ℕ) (s t : List (List ℕ)) → ks ++ k ∷ s ≡ ls ++ l ∷ t → length ks ≤ length ls → ((ks ≡ ls) × (k ≡ l))
+    ⊎ IsLonger ks ls k
 fronts [] [] k l s t e le = inl (refl, cc e)
 fronts [] (y ∷ ys) k l s t e le = inr (let first : k ≡ y = cc e in record { more = ys; list = ap (λ (z : List ℕ). z ∷ ys) (sym first) })
 fronts (x ∷ xs) [] k l s t e le = absurd (omega arith)
@@ -396,7 +411,8 @@ pub record IsSameStop (b c : List ℕ) (m n : ℕ) (r s : ScriptReason) : Type 0
   pub number : m ≡ n
   pub reason : r ≡ s
 
-same_stop : (own : Own) (all : List (List ℕ)) (b c : List ℕ) (m n : ℕ) (r s : ScriptReason) (p : IsStop own all b m r) (q : IsStop own all c n s) → own.limit < 2 ^ 32 → p.before ≡ q.before → p.line ≡ q.line → IsSameStop b c m n r s
+same_stop : (own : Own) (all : List (List ℕ)) (b c : List ℕ) (m n : ℕ) (r s : ScriptReason) (p : IsStop own all b m r) (q : IsStop own all c n s)
+    → own.limit < 2 ^ 32 → p.before ≡ q.before → p.line ≡ q.line → IsSameStop b c m n r s
 same_stop own all b c m n r s p q lt before line =
     let P : List (List ℕ) → Type 0 = λ ls. AreTaken own ls c q.verdict in
     let taken = subst P (sym before) q.taken in
@@ -408,9 +424,11 @@ same_stop own all b c m n r s p q lt before line =
     let C : List ℕ → Type 0 = λ z. IsNotTaken own (is_none p.before) p.line z q.verdict s in
     let D : Outcome → Type 0 = λ u. IsNotTaken own (is_none p.before) p.line b u s in
     let other = subst D (sym one) (subst C (sym bytes) (subst B (sym line) (subst A (sym before) q.not_taken))) in
-    record { bytes = bytes; number = omega (arith, p.count, q.count, ap length before); reason = reason_is_one own (is_none p.before) p.line b p.verdict r s lt p.not_taken other }
+    record { bytes = bytes; number = omega (arith, p.count, q.count, ap length before); reason = reason_is_one own (is_none p.before) p.line b p.verdict r s
+        lt p.not_taken other }
 
-stop_by : (own : Own) (all : List (List ℕ)) (b c : List ℕ) (m n : ℕ) (r s : ScriptReason) (p : IsStop own all b m r) (q : IsStop own all c n s) → own.limit < 2 ^ 32 → length p.before ≤ length q.before → IsSameStop b c m n r s
+stop_by : (own : Own) (all : List (List ℕ)) (b c : List ℕ) (m n : ℕ) (r s : ScriptReason) (p : IsStop own all b m r) (q : IsStop own all c n s)
+    → own.limit < 2 ^ 32 → length p.before ≤ length q.before → IsSameStop b c m n r s
 stop_by own all b c m n r s p q lt le =
     elim (fronts p.before q.before p.line q.line p.behind q.behind (sym p.parts ∙ q.parts) le) [
       | inl same ↦ same_stop own all b c m n r s p q lt same.0 same.1
@@ -419,7 +437,8 @@ stop_by own all b c m n r s p q lt le =
           absurd (stop_is_last own p.before p.line longer.more b c p.verdict q.verdict r lt p.taken p.not_taken (subst P longer.list q.taken))
     ]
 
-pub stop_is_one : (own : Own) (all : List (List ℕ)) (b c : List ℕ) (m n : ℕ) (r s : ScriptReason) → own.limit < 2 ^ 32 → IsStop own all b m r → IsStop own all c n s → IsSameStop b c m n r s
+pub stop_is_one : (own : Own) (all : List (List ℕ)) (b c : List ℕ) (m n : ℕ) (r s : ScriptReason) → own.limit < 2 ^ 32 → IsStop own all b m r
+    → IsStop own all c n s → IsSameStop b c m n r s
 stop_is_one own all b c m n r s lt p q =
     elim (cases_lt (length q.before) (length p.before)) [
       | inl longer ↦ let k = stop_by own all c b n m s r q p lt (omega arith) in record { bytes = sym k.bytes; number = sym k.number; reason = sym k.reason }
@@ -434,18 +453,21 @@ stop_has_lines own all b m r p none = absurd (omega (arith, ap length (sym p.par
 some_has_lines : (all : List (List ℕ)) → is_none all ≡ false → all ≡ [] → ⊥
 some_has_lines all some none = let k : true ≡ false = sym (ap is_none none) ∙ some in absurd (cc k)
 
-stop_takes_none : (own : Own) (all : List (List ℕ)) (b c : List ℕ) (w : Outcome) (m : ℕ) (r : ScriptReason) → own.limit < 2 ^ 32 → IsStop own all b m r → AreTaken own all c w → ⊥
+stop_takes_none : (own : Own) (all : List (List ℕ)) (b c : List ℕ) (w : Outcome) (m : ℕ) (r : ScriptReason) → own.limit < 2 ^ 32 → IsStop own all b m r
+    → AreTaken own all c w → ⊥
 stop_takes_none own all b c w m r lt p q =
     let P : List (List ℕ) → Type 0 = λ ls. AreTaken own ls c w in
     stop_is_last own p.before p.line p.behind b c p.verdict w r lt p.taken p.not_taken (subst P p.parts q)
 
-pub taken_is_one : (own : Own) (all : List (List ℕ)) (b c : List ℕ) (v w : Outcome) → own.limit < 2 ^ 32 → AreTaken own all b v → AreTaken own all c w → (b ≡ c) × (v ≡ w)
+pub taken_is_one : (own : Own) (all : List (List ℕ)) (b c : List ℕ) (v w : Outcome) → own.limit < 2 ^ 32 → AreTaken own all b v → AreTaken own all c w
+    → (b ≡ c) × (v ≡ w)
 taken_is_one own all b c v w lt p q =
     let bytes : b ≡ c = named_is_one own.limit true all b c p.named q.named in
     let P : List ℕ → Type 0 = λ z. IsVerdict own z w in
     (bytes, verdict_only own b v w lt p.verdict (subst P (sym bytes) q.verdict))
 
-pub pack_is_one : (own : Own) (all : List (List ℕ)) (b c : List ℕ) (e f : PackEnd) → own.limit < 2 ^ 32 → IsPacked own all b e → IsPacked own all c f → (b ≡ c) × (e ≡ f)
+pub pack_is_one : (own : Own) (all : List (List ℕ)) (b c : List ℕ) (e f : PackEnd) → own.limit < 2 ^ 32 → IsPacked own all b e → IsPacked own all c f
+    → (b ≡ c) × (e ≡ f)
 pack_is_one own all b c e f lt (empty none left is) (empty none' right was) = (left ∙ sym right, is ∙ sym was)
 pack_is_one own all b c e f lt (empty none left is) (stopped n s q was) = absurd (stop_has_lines own all c n s q none)
 pack_is_one own all b c e f lt (empty none left is) (accepted w some q was) = absurd (some_has_lines all some none)

@@ -1,5 +1,6 @@
 -- A script that is read piece by piece.
-use Rattle.std.proofs.Common.{◌≡◌, ℕ, ◌+◌, ◌-◌, ◌*◌, ◌<◌, false, List, [], ◌∷◌, ◌++◌, length, Some, None, refl, sym, ap, subst, ◌∙◌, arith, inl, inr, length-append}
+use Rattle.std.proofs.Common.{◌≡◌, ℕ, ◌+◌, ◌-◌, ◌*◌, ◌<◌, false, List, [], ◌∷◌, ◌++◌, length, Some, None, refl, sym, ap, subst, ◌∙◌, arith, inl, inr,
+    length-append}
 use Rattle.std.proofs.lemmas.List.{append-nil, append_assoc, nil_from_length}
 use Rattle.bt_feed.specs.Feeds.{FeedState}
 use Rattle.bt_feed.specs.Stages.{start_of, number_of}
@@ -8,7 +9,8 @@ use Rattle.bt_wire.specs.Streams.{Outcome}
 use Rattle.bt_text.specs.declared.ended.ScriptReason.{ScriptReason}
 use Rattle.bt_text.specs.declared.ended.ScriptReason.TheVariants.{Syntax}
 use Rattle.bt_text.specs.Script.{has_feed}
-use Rattle.bt_jobs.specs.Packs.{ended_lines, with_last, IsSplit, IsEndedLine, AreLines, AreTaken, IsNotTaken, IsStop, IsPacked, empty, stopped, accepted, is_none}
+use Rattle.bt_jobs.specs.Packs.{ended_lines, with_last, IsSplit, IsEndedLine, AreLines, AreTaken, IsNotTaken, IsStop, IsPacked, empty, stopped, accepted,
+    is_none}
 use Rattle.bt_text.specs.declared.ended.PackEnd.{PackEnd}
 use Rattle.bt_text.specs.declared.ended.PackEnd.TheVariants.{Accepted, Refused}
 use Rattle.bt_jobs.proofs.Printing.{verdict_length}
@@ -19,7 +21,8 @@ use Rattle.bt_jobs.proofs.PackText.{ended_more, ended_both, whole_both, split_of
 
 -- ---- the first part of the next line
 
-pub read_rest : (own : Own) (text rest : List ℕ) (lines : List (List ℕ)) (b held new : List ℕ) (f : FeedState) → IsReadSo own text lines b held f → has_feed rest ≡ false → new ≡ held ++ rest → IsReadSo own (text ++ rest) lines b new f
+pub read_rest : (own : Own) (text rest : List ℕ) (lines : List (List ℕ)) (b held new : List ℕ) (f : FeedState) → IsReadSo own text lines b held f
+    → has_feed rest ≡ false → new ≡ held ++ rest → IsReadSo own (text ++ rest) lines b new f
 read_rest own text rest lines b held new f h none e = record {
   split = record {
     parts = ap (λ (t : List ℕ). t ++ rest) h.split.parts ∙ append_assoc (ended_lines lines) held rest ∙ ap (λ (t : List ℕ). ended_lines lines ++ t) (sym e);
@@ -32,12 +35,14 @@ read_rest own text rest lines b held new f h none e = record {
 -- ---- a line
 
 -- the text up to the line's feed
-line_parts : (text held front line behind : List ℕ) (lines : List (List ℕ)) → text ≡ ended_lines lines ++ held → line ≡ held ++ front → text ++ (front ++ 10 ∷ behind) ≡ ended_lines lines ++ (line ++ 10 ∷ behind)
+line_parts : (text held front line behind : List ℕ) (lines : List (List ℕ)) → text ≡ ended_lines lines ++ held → line ≡ held ++ front → text
+    ++ (front ++ 10 ∷ behind) ≡ ended_lines lines ++ (line ++ 10 ∷ behind)
 line_parts text held front line behind lines e is =
     ap (λ (t : List ℕ). t ++ (front ++ 10 ∷ behind)) e ∙ append_assoc (ended_lines lines) held (front ++ 10 ∷ behind)
     ∙ ap (λ (t : List ℕ). ended_lines lines ++ t) (sym (append_assoc held front (10 ∷ behind)) ∙ ap (λ (t : List ℕ). t ++ 10 ∷ behind) (sym is))
 
-pub read_line : (own : Own) (text front line x : List ℕ) (lines : List (List ℕ)) (b held : List ℕ) (f g : FeedState) → IsReadSo own text lines b held f → has_feed front ≡ false → line ≡ held ++ front
+pub read_line : (own : Own) (text front line x : List ℕ) (lines : List (List ℕ)) (b held : List ℕ) (f g : FeedState) → IsReadSo own text lines b held f
+    → has_feed front ≡ false → line ≡ held ++ front
     → IsPackedTo own (lines ++ line ∷ []) (b ++ x) g → IsReadSo own (text ++ (front ++ 10 ∷ [])) (lines ++ line ∷ []) (b ++ x) [] g
 read_line own text front line x lines b held f g h none e packed = record {
   split = record {
@@ -54,7 +59,8 @@ read_line own text front line x lines b held f g h none e packed = record {
 abbrev pub IsRefused : Own → List (List ℕ) → List ℕ → List ℕ → ScriptReason → Type 0
 IsRefused own lines b line reason = (v : Outcome) × AreTaken own lines b v × IsNotTaken own (is_none lines) line b v reason
 
-pub too_long : (own : Own) (lines : List (List ℕ)) (b line : List ℕ) (f : FeedState) → IsPackedTo own lines b f → 2 * own.limit + 256 < length line → IsRefused own lines b line Syntax
+pub too_long : (own : Own) (lines : List (List ℕ)) (b line : List ℕ) (f : FeedState) → IsPackedTo own lines b f → 2 * own.limit + 256 < length line
+    → IsRefused own lines b line Syntax
 too_long own lines b line f h lt =
     let s = taken_so_far own lines b f h in
     (s.0, s.1.taken, λ x n. absurd (omega (arith, n.short, lt)))
@@ -64,14 +70,18 @@ behind_line lines ls line [] = refl
 behind_line lines ls line (c ∷ cs) = append_assoc lines (line ∷ ls) ((c ∷ cs) ∷ [])
 
 -- the line is ended, and others may follow
-pub stops_at : (own : Own) (text front behind line : List ℕ) (lines : List (List ℕ)) (b held : List ℕ) (f : FeedState) (number : ℕ) (reason : ScriptReason) → IsReadSo own text lines b held f → has_feed front ≡ false → line ≡ held ++ front
-    → number ≡ length lines → IsRefused own lines b line reason → (all : List (List ℕ)) × AreLines (text ++ (front ++ 10 ∷ behind)) all × IsStop own all b (number + 1) reason × IsEndedLine own.limit (text ++ (front ++ 10 ∷ behind)) (number + 1)
+pub stops_at : (own : Own) (text front behind line : List ℕ) (lines : List (List ℕ)) (b held : List ℕ) (f : FeedState) (number : ℕ) (reason : ScriptReason)
+    → IsReadSo own text lines b held f → has_feed front ≡ false → line ≡ held ++ front
+    → number ≡ length lines → IsRefused own lines b line reason → (all : List (List ℕ)) × AreLines (text ++ (front ++ 10 ∷ behind)) all
+    × IsStop own all b (number + 1) reason × IsEndedLine own.limit (text ++ (front ++ 10 ∷ behind)) (number + 1)
 stops_at own text front behind line lines b held f number reason h none e count r =
     let s = split_of behind in
     let tail : line ++ 10 ∷ behind ≡ ended_lines (line ∷ s.0) ++ s.1 =
-    ap (λ (t : List ℕ). line ++ 10 ∷ t) s.2.parts ∙ sym (append_assoc line (10 ∷ []) (ended_lines s.0 ++ s.1)) ∙ sym (append_assoc (line ++ 10 ∷ []) (ended_lines s.0) s.1) in
+    ap (λ (t : List ℕ). line ++ 10 ∷ t) s.2.parts ∙ sym (append_assoc line (10 ∷ []) (ended_lines s.0 ++ s.1))
+        ∙ sym (append_assoc (line ++ 10 ∷ []) (ended_lines s.0) s.1) in
     let parts : text ++ (front ++ 10 ∷ behind) ≡ ended_lines (lines ++ line ∷ s.0) ++ s.1 =
-    line_parts text held front line behind lines h.split.parts e ∙ ap (λ (t : List ℕ). ended_lines lines ++ t) tail ∙ sym (append_assoc (ended_lines lines) (ended_lines (line ∷ s.0)) s.1)
+    line_parts text held front line behind lines h.split.parts e ∙ ap (λ (t : List ℕ). ended_lines lines ++ t) tail
+        ∙ sym (append_assoc (ended_lines lines) (ended_lines (line ∷ s.0)) s.1)
     ∙ ap (λ (t : List ℕ). t ++ s.1) (sym (ended_both lines (line ∷ s.0))) in
     let split : IsSplit (text ++ (front ++ 10 ∷ behind)) (lines ++ line ∷ s.0) s.1 = record {
       parts = parts;
@@ -98,8 +108,10 @@ long_last lines [] lt = absurd (omega arith)
 long_last lines (c ∷ cs) lt = refl
 
 -- the line isn't ended yet
-pub stops_in : (own : Own) (text rest line : List ℕ) (lines : List (List ℕ)) (b held : List ℕ) (f : FeedState) (number : ℕ) (reason : ScriptReason) → IsReadSo own text lines b held f → has_feed rest ≡ false → line ≡ held ++ rest
-    → 0 < length line → number ≡ length lines → IsRefused own lines b line reason → (all : List (List ℕ)) × AreLines (text ++ rest) all × IsStop own all b (number + 1) reason
+pub stops_in : (own : Own) (text rest line : List ℕ) (lines : List (List ℕ)) (b held : List ℕ) (f : FeedState) (number : ℕ) (reason : ScriptReason)
+    → IsReadSo own text lines b held f → has_feed rest ≡ false → line ≡ held ++ rest
+    → 0 < length line → number ≡ length lines → IsRefused own lines b line reason → (all : List (List ℕ)) × AreLines (text ++ rest) all
+    × IsStop own all b (number + 1) reason
 stops_in own text rest line lines b held f number reason h none e some count r = (
   lines ++ line ∷ [],
   (lines, line, (read_rest own text rest lines b held line f h none e).split, long_last lines line some),
@@ -126,22 +138,26 @@ pub record IsDone (own : Own) (text : List ℕ) (lines : List (List ℕ)) (b pie
   pub grown : out' ≡ out ++ named
   pub read : IsReadSo own (text ++ done) (lines ++ more) (b ++ named) held f
 
-pub nothing_done : (own : Own) (text : List ℕ) (lines : List (List ℕ)) (b piece held : List ℕ) (f : FeedState) (out : List ℕ) → IsReadSo own text lines b held f → IsDone own text lines b piece piece held f out out
+pub nothing_done : (own : Own) (text : List ℕ) (lines : List (List ℕ)) (b piece held : List ℕ) (f : FeedState) (out : List ℕ)
+    → IsReadSo own text lines b held f → IsDone own text lines b piece piece held f out out
 nothing_done own text lines b piece held f out h =
     let P : List ℕ → Type 0 = λ t. IsReadSo own t (lines ++ []) (b ++ []) held f in
     let Q : List (List ℕ) → Type 0 = λ l. IsReadSo own text l (b ++ []) held f in
     let R : List ℕ → Type 0 = λ l. IsReadSo own text lines l held f in
-    record { done = []; parts = refl; more = []; named = []; grown = sym (append-nil out); read = subst P (sym (append-nil text)) (subst Q (sym (append-nil lines)) (subst R (sym (append-nil b)) h)) }
+    record { done = []; parts = refl; more = []; named = []; grown = sym (append-nil out);
+        read = subst P (sym (append-nil text)) (subst Q (sym (append-nil lines)) (subst R (sym (append-nil b)) h)) }
 
 -- all of the piece
-pub all_done : (own : Own) (text : List ℕ) (lines : List (List ℕ)) (b piece rest held new : List ℕ) (f : FeedState) (out out' : List ℕ) → IsDone own text lines b piece rest held f out out' → has_feed rest ≡ false → new ≡ held ++ rest
+pub all_done : (own : Own) (text : List ℕ) (lines : List (List ℕ)) (b piece rest held new : List ℕ) (f : FeedState) (out out' : List ℕ)
+    → IsDone own text lines b piece rest held f out out' → has_feed rest ≡ false → new ≡ held ++ rest
     → IsPieceRead own (text ++ piece) lines b new f out out' None
 all_done own text lines b piece rest held new f out out' d none e =
     let all : (text ++ d.done) ++ rest ≡ text ++ piece = append_assoc text d.done rest ∙ ap (λ (l : List ℕ). text ++ l) (sym d.parts) in
     let P : List ℕ → Type 0 = λ t. IsReadSo own t (lines ++ d.more) (b ++ d.named) new f in
     (d.more, d.named, d.grown, subst P all (read_rest own (text ++ d.done) rest (lines ++ d.more) (b ++ d.named) held new f d.read none e))
 
-pub line_done : (own : Own) (text : List ℕ) (lines : List (List ℕ)) (b piece rest held front behind line : List ℕ) (f g : FeedState) (out mid out' : List ℕ) → (d : IsDone own text lines b piece rest held f out mid) → has_feed front ≡ false → rest ≡ front ++ 10 ∷ behind → line ≡ held ++ front
+pub line_done : (own : Own) (text : List ℕ) (lines : List (List ℕ)) (b piece rest held front behind line : List ℕ) (f g : FeedState) (out mid out' : List ℕ)
+    → (d : IsDone own text lines b piece rest held f out mid) → has_feed front ≡ false → rest ≡ front ++ 10 ∷ behind → line ≡ held ++ front
     → IsLineEnd own (lines ++ d.more) (b ++ d.named) line g mid out' None → IsDone own text lines b piece behind [] g out out'
 line_done own text lines b piece rest held front behind line f g out mid out' d none cut e end =
     let P : List ℕ → Type 0 = λ t. IsReadSo own t ((lines ++ d.more) ++ line ∷ []) ((b ++ d.named) ++ end.0) [] g in
@@ -149,26 +165,35 @@ line_done own text lines b piece rest held front behind line f g out mid out' d 
     let R : List ℕ → Type 0 = λ l. IsReadSo own (text ++ (d.done ++ (front ++ 10 ∷ []))) (lines ++ (d.more ++ line ∷ [])) l [] g in
     record {
       done = d.done ++ (front ++ 10 ∷ []);
-      parts = d.parts ∙ ap (λ (l : List ℕ). d.done ++ l) (cut ∙ sym (append_assoc front (10 ∷ []) behind)) ∙ sym (append_assoc d.done (front ++ 10 ∷ []) behind);
+      parts = d.parts ∙ ap (λ (l : List ℕ). d.done ++ l) (cut ∙ sym (append_assoc front (10 ∷ []) behind))
+          ∙ sym (append_assoc d.done (front ++ 10 ∷ []) behind);
       more = d.more ++ line ∷ [];
       named = d.named ++ end.0;
       grown = end.1 ∙ ap (λ (l : List ℕ). l ++ end.0) d.grown ∙ append_assoc out d.named end.0;
-      read = subst R (append_assoc b d.named end.0) (subst Q (append_assoc lines d.more (line ∷ [])) (subst P (append_assoc text d.done (front ++ 10 ∷ [])) (read_line own (text ++ d.done) front line end.0 (lines ++ d.more) (b ++ d.named) held f g d.read none e end.2)));
+      read = subst R (append_assoc b d.named end.0) (subst Q (append_assoc lines d.more (line ∷ [])) (subst P (append_assoc text d.done (front ++ 10 ∷ []))
+          (read_line own (text ++ d.done) front line end.0 (lines ++ d.more) (b ++ d.named) held f g d.read none e end.2)));
     }
 
-pub line_stops : (own : Own) (text : List ℕ) (lines : List (List ℕ)) (b piece rest held front behind line new : List ℕ) (f g : FeedState) (out mid out' : List ℕ) (reason : ScriptReason) → (d : IsDone own text lines b piece rest held f out mid) → has_feed front ≡ false → rest ≡ front ++ 10 ∷ behind
-    → line ≡ held ++ front → out' ≡ mid → number_of g.stage ≡ length (lines ++ d.more) → IsRefused own (lines ++ d.more) (b ++ d.named) line reason → IsPieceRead own (text ++ piece) lines b new g out out' (Some reason)
+pub line_stops : (own : Own) (text : List ℕ) (lines : List (List ℕ)) (b piece rest held front behind line new : List ℕ) (f g : FeedState)
+    (out mid out' : List ℕ) (reason : ScriptReason) → (d : IsDone own text lines b piece rest held f out mid) → has_feed front ≡ false → rest ≡ front
+    ++ 10 ∷ behind
+    → line ≡ held ++ front → out' ≡ mid → number_of g.stage ≡ length (lines ++ d.more) → IsRefused own (lines ++ d.more) (b ++ d.named) line reason
+    → IsPieceRead own (text ++ piece) lines b new g out out' (Some reason)
 line_stops own text lines b piece rest held front behind line new f g out mid out' reason d none cut e same count r =
     let stop = stops_at own (text ++ d.done) front behind line (lines ++ d.more) (b ++ d.named) held f (number_of g.stage) reason d.read none e count r in
-    let all : (text ++ d.done) ++ (front ++ 10 ∷ behind) ≡ text ++ piece = append_assoc text d.done (front ++ 10 ∷ behind) ∙ ap (λ (l : List ℕ). text ++ l) (ap (λ (l : List ℕ). d.done ++ l) (sym cut) ∙ sym d.parts) in
+    let all : (text ++ d.done) ++ (front ++ 10 ∷ behind) ≡ text ++ piece = append_assoc text d.done (front ++ 10 ∷ behind)
+        ∙ ap (λ (l : List ℕ). text ++ l) (ap (λ (l : List ℕ). d.done ++ l) (sym cut) ∙ sym d.parts) in
     let P : List ℕ → Type 0 = λ t. AreLines t stop.0 in
     let Q : List ℕ → Type 0 = λ t. IsEndedLine own.limit t (number_of g.stage + 1) in
     (d.named, same ∙ d.grown, (stop.0, subst P all stop.1, stop.2), subst Q all stop.3)
 
-pub rest_stops : (own : Own) (text : List ℕ) (lines : List (List ℕ)) (b piece rest held line new : List ℕ) (f : FeedState) (out out' : List ℕ) (reason : ScriptReason) → (d : IsDone own text lines b piece rest held f out out') → has_feed rest ≡ false
-    → line ≡ held ++ rest → 2 * own.limit + 256 < length line → IsRefused own (lines ++ d.more) (b ++ d.named) line reason → IsPieceRead own (text ++ piece) lines b new f out out' (Some reason)
+pub rest_stops : (own : Own) (text : List ℕ) (lines : List (List ℕ)) (b piece rest held line new : List ℕ) (f : FeedState) (out out' : List ℕ)
+    (reason : ScriptReason) → (d : IsDone own text lines b piece rest held f out out') → has_feed rest ≡ false
+    → line ≡ held ++ rest → 2 * own.limit + 256 < length line → IsRefused own (lines ++ d.more) (b ++ d.named) line reason
+    → IsPieceRead own (text ++ piece) lines b new f out out' (Some reason)
 rest_stops own text lines b piece rest held line new f out out' reason d none e long r =
-    let stop = stops_in own (text ++ d.done) rest line (lines ++ d.more) (b ++ d.named) held f (number_of f.stage) reason d.read none e (omega (arith, long)) d.read.packed.count r in
+    let stop = stops_in own (text ++ d.done) rest line (lines ++ d.more) (b ++ d.named) held f (number_of f.stage) reason d.read none e
+        (omega (arith, long)) d.read.packed.count r in
     let split = (read_rest own (text ++ d.done) rest (lines ++ d.more) (b ++ d.named) held line f d.read none e).split in
     let all : (text ++ d.done) ++ rest ≡ text ++ piece = append_assoc text d.done rest ∙ ap (λ (l : List ℕ). text ++ l) (sym d.parts) in
     let P : List ℕ → Type 0 = λ t. AreLines t stop.0 in
@@ -177,7 +202,8 @@ rest_stops own text lines b piece rest held line new f out out' reason d none e 
 
 -- ---- the end of a script
 
-pub all_packed : (own : Own) (text : List ℕ) (all : List (List ℕ)) (b : List ℕ) (f : FeedState) (messages bytes : ℕ) → AreLines text all → IsPackedTo own all b f → is_none all ≡ false → messages ≡ number_of f.stage - 1 → bytes ≡ start_of f.stage
+pub all_packed : (own : Own) (text : List ℕ) (all : List (List ℕ)) (b : List ℕ) (f : FeedState) (messages bytes : ℕ) → AreLines text all
+    → IsPackedTo own all b f → is_none all ≡ false → messages ≡ number_of f.stage - 1 → bytes ≡ start_of f.stage
     → (all : List (List ℕ)) × AreLines text all × IsPacked own all b (Accepted messages bytes)
 all_packed own text all b f messages bytes lines h some count size =
     let s = taken_so_far own all b f h in
@@ -187,11 +213,13 @@ all_packed own text all b f messages bytes lines h some count size =
     ap (λ (n : ℕ). Accepted n bytes) (count ∙ ap (λ (n : ℕ). n - 1) (sym s.1.number)) ∙ ap (λ (n : ℕ). Accepted (v.number - 1) n) (size ∙ long) in
     (all, lines, accepted v some s.1.taken same)
 
-pub nothing_packed : (own : Own) (text : List ℕ) (lines : List (List ℕ)) (b : List ℕ) (f : FeedState) → IsReadSo own text lines b [] f → number_of f.stage ≡ 0 → (all : List (List ℕ)) × AreLines text all × IsPacked own all b (Refused 1 Syntax)
+pub nothing_packed : (own : Own) (text : List ℕ) (lines : List (List ℕ)) (b : List ℕ) (f : FeedState) → IsReadSo own text lines b [] f → number_of f.stage
+    ≡ 0 → (all : List (List ℕ)) × AreLines text all × IsPacked own all b (Refused 1 Syntax)
 nothing_packed own text [] b f h none = ([], ([], [], h.split, refl), empty refl h.packed.named refl)
 nothing_packed own text (l ∷ lines) b f h none = absurd (omega (arith, h.packed.count, none))
 
-pub stopped_packed : (own : Own) (text line : List ℕ) (lines : List (List ℕ)) (b : List ℕ) (f g : FeedState) (number : ℕ) (reason : ScriptReason) → IsReadSo own text lines b line f → 0 < length line → number ≡ number_of g.stage + 1 → number_of g.stage ≡ length lines
+pub stopped_packed : (own : Own) (text line : List ℕ) (lines : List (List ℕ)) (b : List ℕ) (f g : FeedState) (number : ℕ) (reason : ScriptReason)
+    → IsReadSo own text lines b line f → 0 < length line → number ≡ number_of g.stage + 1 → number_of g.stage ≡ length lines
     → IsRefused own lines b line reason → (all : List (List ℕ)) × AreLines text all × IsPacked own all b (Refused number reason)
 stopped_packed own text line lines b f g number reason h some is count r =
     let stop = stops_in own text [] line lines b line f (number_of g.stage) reason h refl (sym (append-nil line)) some count r in
@@ -205,26 +233,33 @@ some_by [] h = absurd (h refl)
 some_by (l ∷ lines) h = refl
 
 -- no bytes more
-none_named : (own : Own) (text b out out' : List ℕ) (e : PackEnd) → out' ≡ out → (all : List (List ℕ)) × AreLines text all × IsPacked own all b e → IsScriptEnd own text b out out' e
+none_named : (own : Own) (text b out out' : List ℕ) (e : PackEnd) → out' ≡ out → (all : List (List ℕ)) × AreLines text all × IsPacked own all b e
+    → IsScriptEnd own text b out out' e
 none_named own text b out out' e same h =
     let P : List ℕ → Type 0 = λ l. IsPacked own h.0 l e in
     ([], same ∙ sym (append-nil out), (h.0, h.1, subst P (sym (append-nil b)) h.2))
 
-pub end_empty : (own : Own) (text : List ℕ) (lines : List (List ℕ)) (b line out : List ℕ) (f : FeedState) (e : PackEnd) → length line ≡ 0 → IsReadSo own text lines b line f → (number_of f.stage ≡ 0 → ⊥)
+pub end_empty : (own : Own) (text : List ℕ) (lines : List (List ℕ)) (b line out : List ℕ) (f : FeedState) (e : PackEnd) → length line ≡ 0
+    → IsReadSo own text lines b line f → (number_of f.stage ≡ 0 → ⊥)
     → e ≡ Accepted (number_of f.stage - 1) (start_of f.stage) → IsScriptEnd own text b out out e
 end_empty own text lines b line out f e none h some is =
     let P : List ℕ → Type 0 = λ l. IsReadSo own text lines b l f in
     let here = subst P (nil_from_length line none) h in
     let Q : PackEnd → Type 0 = λ x. (all : List (List ℕ)) × AreLines text all × IsPacked own all b x in
-    none_named own text b out out e refl (subst Q (sym is) (all_packed own text lines b f (number_of f.stage - 1) (start_of f.stage) (lines, [], here.split, refl) h.packed (some_by lines (λ z. some (h.packed.count ∙ z))) refl refl))
+    none_named own text b out out e refl (subst Q (sym is) (all_packed own text lines b f (number_of f.stage - 1) (start_of f.stage) (lines, [], here.split,
+        refl) h.packed (some_by lines (λ z. some (h.packed.count ∙ z))) refl refl))
 
-pub end_line : (own : Own) (text : List ℕ) (lines : List (List ℕ)) (b line out out' : List ℕ) (f g : FeedState) (e : PackEnd) → 0 < length line → IsReadSo own text lines b line f → IsLineEnd own lines b line g out out' None
+pub end_line : (own : Own) (text : List ℕ) (lines : List (List ℕ)) (b line out out' : List ℕ) (f g : FeedState) (e : PackEnd) → 0 < length line
+    → IsReadSo own text lines b line f → IsLineEnd own lines b line g out out' None
     → e ≡ Accepted (number_of g.stage - 1) (start_of g.stage) → IsScriptEnd own text b out out' e
 end_line own text lines b line out out' f g e some h end is =
     let Q : PackEnd → Type 0 = λ x. (all : List (List ℕ)) × AreLines text all × IsPacked own all (b ++ end.0) x in
-    (end.0, end.1, subst Q (sym is) (all_packed own text (lines ++ line ∷ []) (b ++ end.0) g (number_of g.stage - 1) (start_of g.stage) (lines, line, h.split, long_last lines line some) end.2 (some_lines lines line) refl refl))
+    (end.0, end.1, subst Q (sym is) (all_packed own text (lines ++ line ∷ []) (b ++ end.0) g (number_of g.stage - 1) (start_of g.stage) (lines, line,
+        h.split, long_last lines line some) end.2 (some_lines lines line) refl refl))
 
-pub end_stop : (own : Own) (text : List ℕ) (lines : List (List ℕ)) (b line out out' : List ℕ) (f g : FeedState) (number : ℕ) (reason : ScriptReason) → 0 < length line → IsReadSo own text lines b line f → IsLineEnd own lines b line g out out' (Some reason)
+pub end_stop : (own : Own) (text : List ℕ) (lines : List (List ℕ)) (b line out out' : List ℕ) (f g : FeedState) (number : ℕ) (reason : ScriptReason)
+    → 0 < length line → IsReadSo own text lines b line f → IsLineEnd own lines b line g out out' (Some reason)
     → number ≡ number_of g.stage → IsScriptEnd own text b out out' (Refused (number + 1) reason)
 end_stop own text lines b line out out' f g number reason some h end is =
-    none_named own text b out out' (Refused (number + 1) reason) end.0 (stopped_packed own text line lines b f g (number + 1) reason h some (omega (arith, is)) end.1 end.2)
+    none_named own text b out out' (Refused (number + 1) reason) end.0 (stopped_packed own text line lines b f g (number + 1) reason h some
+        (omega (arith, is)) end.1 end.2)

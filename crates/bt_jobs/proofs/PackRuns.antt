@@ -30,7 +30,8 @@ pub record IsRun (own : Own) (left left' held held' : Option (List ℕ)) (line :
   pub written : Appends held held' bytes
   pub read : IsReadSo own text lines bytes line f
 
-pub run_starts : (own : Own) (left held : Option (List ℕ)) (line : List ℕ) (f : FeedState) → own.limit ≤ 1048576 → line ≡ [] → f ≡ record { stage = stage.Handshake own; held = []; refused = None } → IsRun own left left held held line f
+pub run_starts : (own : Own) (left held : Option (List ℕ)) (line : List ℕ) (f : FeedState) → own.limit ≤ 1048576 → line ≡ [] → f
+    ≡ record { stage = stage.Handshake own; held = []; refused = None } → IsRun own left left held held line f
 run_starts own left held line f le none e =
     let P : FeedState → Type 0 = λ s. IsReadSo own [] [] [] [] s in
     let Q : List ℕ → Type 0 = λ l. IsReadSo own [] [] [] l f in
@@ -55,23 +56,28 @@ lines_of text =
     (with_last s.0 s.1, (s.0, s.1, s.2, refl))
 
 -- at a fault a prefix of the bytes that the taken lines name is written
-fails : (E : Type 0) (own : Own) (left left' held held' : Option (List ℕ)) (text more : List ℕ) (lines : List (List ℕ)) (b line : List ℕ) (f : FeedState) (e : ToolFault) → Consumes left left' (text ++ more) → IsReadSo own text lines b line f → AppendsFront held held' b
+fails : (E : Type 0) (own : Own) (left left' held held' : Option (List ℕ)) (text more : List ℕ) (lines : List (List ℕ)) (b line : List ℕ) (f : FeedState)
+    (e : ToolFault) → Consumes left left' (text ++ more) → IsReadSo own text lines b line f → AppendsFront held held' b
     → IsPackRun own E left left' held held' (Err e)
 fails E own left left' held held' text more lines b line f e read h front =
     let t = lines_of (text ++ more) in
     let s = taken_so_far own lines b f h.packed in
-    (text ++ more, t.0, read, t.1, (lines, b, s.0, inl (line ++ more, ap (λ (t : List ℕ). t ++ more) h.split.parts ∙ append_assoc (ended_lines lines) line more, h.split.whole), s.1.taken, front))
+    (text ++ more, t.0, read, t.1, (lines, b, s.0, inl (line ++ more, ap (λ (t : List ℕ). t ++ more) h.split.parts
+        ∙ append_assoc (ended_lines lines) line more, h.split.whole), s.1.taken, front))
 
-pub run_fails : (E : Type 0) (own : Own) (left left' left'' held held' : Option (List ℕ)) (line more : List ℕ) (f : FeedState) (e : ToolFault) → IsRun own left left' held held' line f → Consumes left' left'' more → IsPackRun own E left left'' held held' (Err e)
+pub run_fails : (E : Type 0) (own : Own) (left left' left'' held held' : Option (List ℕ)) (line more : List ℕ) (f : FeedState) (e : ToolFault)
+    → IsRun own left left' held held' line f → Consumes left' left'' more → IsPackRun own E left left'' held held' (Err e)
 run_fails E own left left' left'' held held' line more f e r read =
-    fails E own left left'' held held' r.text more r.lines r.bytes line f e (Consumes-trans left left' left'' r.text more r.consumed read) r.read (all_is_front held held' r.bytes r.written)
+    fails E own left left'' held held' r.text more r.lines r.bytes line f e (Consumes-trans left left' left'' r.text more r.consumed read) r.read
+        (all_is_front held held' r.bytes r.written)
 
 -- ---- a turn
 
 out_is : (out out' x : List ℕ) → out ≡ [] → out' ≡ out ++ x → out' ≡ x
 out_is out out' x none e = e ∙ ap (λ (l : List ℕ). l ++ x) none
 
-pub run_more : (own : Own) (left left' left'' held held' held'' : Option (List ℕ)) (line new piece out out' : List ℕ) (f g : FeedState) → (r : IsRun own left left' held held' line f) → Consumes left' left'' piece → out ≡ []
+pub run_more : (own : Own) (left left' left'' held held' held'' : Option (List ℕ)) (line new piece out out' : List ℕ) (f g : FeedState)
+    → (r : IsRun own left left' held held' line f) → Consumes left' left'' piece → out ≡ []
     → IsPieceRead own (r.text ++ piece) r.lines r.bytes new g out out' None → Appends held' held'' out' → IsRun own left left'' held held'' new g
 run_more own left left' left'' held held' held'' line new piece out out' f g r read none p written = record {
   text = r.text ++ piece;
@@ -83,42 +89,51 @@ run_more own left left' left'' held held' held'' line new piece out out' f g r r
 }
 
 -- the text of the piece can't be written
-pub more_fails : (E : Type 0) (own : Own) (left left' left'' held held' held'' : Option (List ℕ)) (line new piece out out' : List ℕ) (f g : FeedState) (e : ToolFault) → (r : IsRun own left left' held held' line f) → Consumes left' left'' piece → out ≡ []
+pub more_fails : (E : Type 0) (own : Own) (left left' left'' held held' held'' : Option (List ℕ)) (line new piece out out' : List ℕ) (f g : FeedState)
+    (e : ToolFault) → (r : IsRun own left left' held held' line f) → Consumes left' left'' piece → out ≡ []
     → IsPieceRead own (r.text ++ piece) r.lines r.bytes new g out out' None → AppendsFront held' held'' out' → IsPackRun own E left left'' held held'' (Err e)
 more_fails E own left left' left'' held held' held'' line new piece out out' f g e r read none p front =
     let P : List ℕ → Type 0 = λ t. Consumes left left'' t in
-    fails E own left left'' held held'' (r.text ++ piece) [] (r.lines ++ p.0) (r.bytes ++ p.1) new g e (subst P (sym (append-nil (r.text ++ piece))) (Consumes-trans left left' left'' r.text piece r.consumed read)) p.3
+    fails E own left left'' held held'' (r.text ++ piece) [] (r.lines ++ p.0) (r.bytes ++ p.1) new g e
+        (subst P (sym (append-nil (r.text ++ piece))) (Consumes-trans left left' left'' r.text piece r.consumed read)) p.3
     (front_behind held held' held'' r.bytes p.1 r.written (subst (AppendsFront held' held'') (out_is out out' p.1 none p.2) front))
 
 -- ---- the end
 
 -- the taken lines of a packed script
-taken_of : (E : Type 0) (own : Own) (text : List ℕ) (all : List (List ℕ)) (b : List ℕ) (e : PackEnd) → own.limit ≤ 1048576 → AreLines text all → IsTimely own.limit text E e → IsPacked own all b e → (lines : List (List ℕ)) × (v : Outcome) × AreFrontLines text E lines × AreTaken own lines b v
+taken_of : (E : Type 0) (own : Own) (text : List ℕ) (all : List (List ℕ)) (b : List ℕ) (e : PackEnd) → own.limit ≤ 1048576 → AreLines text all
+    → IsTimely own.limit text E e → IsPacked own all b e → (lines : List (List ℕ)) × (v : Outcome) × AreFrontLines text E lines × AreTaken own lines b v
 taken_of E own text all b e le lines timely (empty none bytes is) =
     let v = left_at (stage.Handshake own) [] None in
     let P : List ℕ → Type 0 = λ l. AreTaken own [] l v in
-    ([], v, inl (text, refl, tt), subst P (sym bytes) (record { named = refl; verdict = open_comes (stage.Handshake own) [] (omega (arith, le)) (hand_open own); nothing_left = refl }))
+    ([], v, inl (text, refl, tt), subst P (sym bytes) (record { named = refl; verdict = open_comes (stage.Handshake own) [] (omega (arith, le))
+        (hand_open own); nothing_left = refl }))
 taken_of E own text all b e le lines timely (stopped number reason stop is) =
     (stop.before, stop.verdict, inl (ended_before text all stop.before stop.behind stop.line lines stop.parts), stop.taken)
 taken_of E own text all b e le lines timely (accepted v some taken is) =
     let T : PackEnd → Type 0 = λ z. IsTimely own.limit text E z in
     (all, v, inr (subst T is timely, lines), taken)
 
-pub packed_run : (E : Type 0) (own : Own) (left left' held held' held'' : Option (List ℕ)) (text b x out out' : List ℕ) (all : List (List ℕ)) (e : PackEnd) (r : Result PackEnd ToolFault) → own.limit ≤ 1048576 → Consumes left left' text → AreLines text all → IsPacked own all (b ++ x) e
-    → IsTimely own.limit text E e → Appends held held' b → out ≡ [] → out' ≡ out ++ x → IsWrittenOut e out' held' held'' r → IsPackRun own E left left' held held'' r
+pub packed_run : (E : Type 0) (own : Own) (left left' held held' held'' : Option (List ℕ)) (text b x out out' : List ℕ) (all : List (List ℕ)) (e : PackEnd)
+    (r : Result PackEnd ToolFault) → own.limit ≤ 1048576 → Consumes left left' text → AreLines text all → IsPacked own all (b ++ x) e
+    → IsTimely own.limit text E e → Appends held held' b → out ≡ [] → out' ≡ out ++ x → IsWrittenOut e out' held' held'' r
+    → IsPackRun own E left left' held held'' r
 packed_run E own left left' held held' held'' text b x out out' all e (Ok d) le read lines packed timely before none grown written =
     let P : PackEnd → Type 0 = λ z. IsPacked own all (b ++ x) z in
     let T : PackEnd → Type 0 = λ z. IsTimely own.limit text E z in
-    (text, all, read, lines, (b ++ x, subst P (sym written.0) packed, Appends-trans held held' held'' b x before (subst (Appends held' held'') (out_is out out' x none grown) written.1), subst T (sym written.0) timely))
+    (text, all, read, lines, (b ++ x, subst P (sym written.0) packed, Appends-trans held held' held'' b x before
+        (subst (Appends held' held'') (out_is out out' x none grown) written.1), subst T (sym written.0) timely))
 packed_run E own left left' held held' held'' text b x out out' all e (Err fault) le read lines packed timely before none grown front =
     let t = taken_of E own text all (b ++ x) e le lines timely packed in
-    (text, all, read, lines, (t.0, b ++ x, t.1, t.2, t.3, front_behind held held' held'' b x before (subst (AppendsFront held' held'') (out_is out out' x none grown) front)))
+    (text, all, read, lines, (t.0, b ++ x, t.1, t.2, t.3, front_behind held held' held'' b x before
+        (subst (AppendsFront held' held'') (out_is out out' x none grown) front)))
 
 pub timely_at_end : (limit : ℕ) (text : List ℕ) (E : Type 0) (e : PackEnd) → E → IsTimely limit text E e
 timely_at_end limit text E (Accepted messages bytes) h = h
 timely_at_end limit text E (Refused number reason) h = inr h
 
-pub timely_line : (limit : ℕ) (text : List ℕ) (E : Type 0) (e : PackEnd) (number : ℕ) (reason : ScriptReason) → e ≡ Refused number reason → IsEndedLine limit text number → IsTimely limit text E e
+pub timely_line : (limit : ℕ) (text : List ℕ) (E : Type 0) (e : PackEnd) (number : ℕ) (reason : ScriptReason) → e ≡ Refused number reason
+    → IsEndedLine limit text number → IsTimely limit text E e
 timely_line limit text E e number reason is h =
     let P : PackEnd → Type 0 = λ x. IsTimely limit text E x in
     subst P (sym is) (inl h)
@@ -126,7 +141,9 @@ timely_line limit text E e number reason is h =
 pub nothing_run : (E : Type 0) (own : Own) (left held : Option (List ℕ)) (e : ToolFault) → own.limit ≤ 1048576 → IsPackRun own E left left held held (Err e)
 nothing_run E own left held e le =
     let v = left_at (stage.Handshake own) [] None in
-    ([], [], Consumes-nil left, ([], [], record { parts = refl; whole = tt; last = refl }, refl), ([], [], v, inl ([], refl, tt), record { named = refl; verdict = open_comes (stage.Handshake own) [] (omega (arith, le)) (hand_open own); nothing_left = refl }, all_is_front held held [] (Appends-nil held)))
+    ([], [], Consumes-nil left, ([], [], record { parts = refl; whole = tt; last = refl }, refl),
+        ([], [], v, inl ([], refl, tt), record { named = refl; verdict = open_comes (stage.Handshake own) [] (omega (arith, le)) (hand_open own);
+        nothing_left = refl }, all_is_front held held [] (Appends-nil held)))
 
 pub no_bytes : (a b c : Option (List ℕ)) (text : List ℕ) → Consumes a b text → Consumes b c [] → Consumes a c text
 no_bytes a b c text p q = subst (Consumes a c) (append-nil text) (Consumes-trans a b c text [] p q)

@@ -1,5 +1,6 @@
 -- A text and its lines.
-use Rattle.std.proofs.Common.{◌≡◌, ℕ, suc, ◌+◌, ◌==◌, Bool, true, false, cond, List, [], ◌∷◌, ◌++◌, length, take, drop, Some, None, refl, sym, ap, subst, ◌∙◌, arith, inl, inr}
+use Rattle.std.proofs.Common.{◌≡◌, ℕ, suc, ◌+◌, ◌==◌, Bool, true, false, cond, List, [], ◌∷◌, ◌++◌, length, take, drop, Some, None, refl, sym, ap, subst,
+    ◌∙◌, arith, inl, inr}
 use Rattle.std.specs.Prelude.{nat_lt, position, unwrap_or, not, ◌||◌}
 use Rattle.std.specs.List.{position_or_len}
 use Rattle.std.proofs.lemmas.Bool.{cases_Bool, ltb-false, eqb-true}
@@ -97,7 +98,8 @@ whole_front [] more h = tt
 whole_front (l ∷ lines) more h = (h.0, whole_front lines more h.1)
 
 -- the lines before one of a text are ended
-before_last : (lines before behind : List (List ℕ)) (last line : List ℕ) → lines ++ last ∷ [] ≡ before ++ line ∷ behind → (more : List (List ℕ)) × (lines ≡ before ++ more)
+before_last : (lines before behind : List (List ℕ)) (last line : List ℕ) → lines ++ last ∷ [] ≡ before ++ line ∷ behind → (more : List (List ℕ))
+    × (lines ≡ before ++ more)
 before_last lines [] behind last line e = (lines, refl)
 before_last [] (b ∷ before) behind last line e = absurd (omega (arith, ap length e, length-append before (line ∷ behind)))
 before_last (l ∷ lines) (b ∷ before) behind last line e =
@@ -106,29 +108,36 @@ before_last (l ∷ lines) (b ∷ before) behind last line e =
     let more = before_last lines before behind last line rest in
     (more.0, ap (λ (x : List ℕ). x ∷ lines) same ∙ ap (λ (ls : List (List ℕ)). b ∷ ls) more.1)
 
-before_by : (lines before behind : List (List ℕ)) (rest line : List ℕ) → with_last lines rest ≡ before ++ line ∷ behind → (more : List (List ℕ)) × (lines ≡ before ++ more)
+before_by : (lines before behind : List (List ℕ)) (rest line : List ℕ) → with_last lines rest ≡ before ++ line ∷ behind → (more : List (List ℕ))
+    × (lines ≡ before ++ more)
 before_by lines before behind [] line e = (line ∷ behind, e)
 before_by lines before behind (c ∷ cs) line e = before_last lines before behind (c ∷ cs) line e
 
-pub ended_before : (text : List ℕ) (all before behind : List (List ℕ)) (line : List ℕ) → AreLines text all → all ≡ before ++ line ∷ behind → (rest : List ℕ) × (text ≡ ended_lines before ++ rest) × AreWhole before
+pub ended_before : (text : List ℕ) (all before behind : List (List ℕ)) (line : List ℕ) → AreLines text all → all ≡ before ++ line ∷ behind → (rest : List ℕ)
+    × (text ≡ ended_lines before ++ rest) × AreWhole before
 ended_before text all before behind line h e =
     let s = h.2 in
     let more = before_by h.0 before behind h.1 line (sym h.3 ∙ e) in
     let parts : text ≡ ended_lines before ++ (ended_lines more.0 ++ h.1) =
-    s.parts ∙ ap (λ (ls : List (List ℕ)). ended_lines ls ++ h.1) more.1 ∙ ap (λ (t : List ℕ). t ++ h.1) (ended_both before more.0) ∙ append_assoc (ended_lines before) (ended_lines more.0) h.1 in
+    s.parts ∙ ap (λ (ls : List (List ℕ)). ended_lines ls ++ h.1) more.1 ∙ ap (λ (t : List ℕ). t ++ h.1) (ended_both before more.0)
+        ∙ append_assoc (ended_lines before) (ended_lines more.0) h.1 in
     (ended_lines more.0 ++ h.1, parts, whole_front before more.0 (subst AreWhole more.1 s.whole))
 
 -- every text has its lines
-first_more : (c : ℕ) (cs : List ℕ) (lines : List (List ℕ)) (rest : List ℕ) → (c == 10) ≡ false → IsSplit cs lines rest → (ls : List (List ℕ)) × (r : List ℕ) × IsSplit (c ∷ cs) ls r
-first_more c cs [] rest e s = ([], c ∷ rest, record { parts = ap (λ (t : List ℕ). c ∷ t) s.parts; whole = tt; last = ap (λ (b : Bool). b || has_feed rest) e ∙ s.last })
+first_more : (c : ℕ) (cs : List ℕ) (lines : List (List ℕ)) (rest : List ℕ) → (c == 10) ≡ false → IsSplit cs lines rest → (ls : List (List ℕ)) × (r : List ℕ)
+    × IsSplit (c ∷ cs) ls r
+first_more c cs [] rest e s = ([], c ∷ rest, record { parts = ap (λ (t : List ℕ). c ∷ t) s.parts; whole = tt; last = ap (λ (b : Bool). b || has_feed rest) e
+    ∙ s.last })
 first_more c cs (l ∷ lines) rest e s =
-    ((c ∷ l) ∷ lines, rest, record { parts = ap (λ (t : List ℕ). c ∷ t) s.parts; whole = (ap (λ (b : Bool). b || has_feed l) e ∙ s.whole.0, s.whole.1); last = s.last })
+    ((c ∷ l) ∷ lines, rest, record { parts = ap (λ (t : List ℕ). c ∷ t) s.parts; whole = (ap (λ (b : Bool). b || has_feed l) e ∙ s.whole.0, s.whole.1);
+        last = s.last })
 
 pub split_of : (t : List ℕ) → (ls : List (List ℕ)) × (r : List ℕ) × IsSplit t ls r
 split_of [] = ([], [], record { parts = refl; whole = tt; last = refl })
 split_of (c ∷ cs) =
     let s = split_of cs in
     elim (cases_Bool (c == 10)) [
-      | inl e ↦ ([] ∷ s.0, s.1, record { parts = ap (λ (t : List ℕ). c ∷ t) s.2.parts ∙ ap (λ (k : ℕ). k ∷ (ended_lines s.0 ++ s.1)) (eqb-true c 10 e); whole = (refl, s.2.whole); last = s.2.last })
+      | inl e ↦ ([] ∷ s.0, s.1, record { parts = ap (λ (t : List ℕ). c ∷ t) s.2.parts ∙ ap (λ (k : ℕ). k ∷ (ended_lines s.0 ++ s.1)) (eqb-true c 10 e);
+          whole = (refl, s.2.whole); last = s.2.last })
       | inr e ↦ first_more c cs s.0 s.1 e s.2
     ]

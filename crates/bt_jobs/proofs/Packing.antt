@@ -1,5 +1,6 @@
 -- How lines are packed.
-use Rattle.std.proofs.Common.{◌≡◌, ℕ, ◌+◌, ◌*◌, ◌^◌, ◌<◌, ◌≤◌, leb, eqb, Bool, true, false, List, [], ◌∷◌, ◌++◌, length, take, drop, Option, Some, None, Ok, Err, refl, sym, ap, subst, ◌∙◌, arith, inl, inr}
+use Rattle.std.proofs.Common.{◌≡◌, ℕ, ◌+◌, ◌*◌, ◌^◌, ◌<◌, ◌≤◌, leb, eqb, Bool, true, false, List, [], ◌∷◌, ◌++◌, length, take, drop, Option, Some, None, Ok,
+    Err, refl, sym, ap, subst, ◌∙◌, arith, inl, inr}
 use Rattle.std.specs.Prelude.{codes}
 use Rattle.std.proofs.lemmas.Bool.{cases_lt, ne_eqb}
 use Rattle.std.proofs.lemmas.List.{append-nil, append_assoc, length-append, length-take-le, take_all, take-append-drop}
@@ -35,13 +36,15 @@ use Rattle.bt_jobs.specs.PackSteps.{is_hand, IsPackedTo, IsLineEnd}
 
 -- ---- lines that are named
 
-named_behind : (limit : ℕ) (lines : List (List ℕ)) (b line x : List ℕ) → AreNamed limit false lines b → IsNamed limit false line x → AreNamed limit false (lines ++ line ∷ []) (b ++ x)
+named_behind : (limit : ℕ) (lines : List (List ℕ)) (b line x : List ℕ) → AreNamed limit false lines b → IsNamed limit false line x
+    → AreNamed limit false (lines ++ line ∷ []) (b ++ x)
 named_behind limit [] b line x h n = (x, [], n, ap (λ (l : List ℕ). l ++ x) h ∙ sym (append-nil x), refl)
 named_behind limit (l ∷ lines) b line x h n =
     (h.0, h.1 ++ x, h.2, ap (λ (z : List ℕ). z ++ x) h.3 ∙ append_assoc h.0 h.1 x, named_behind limit lines h.1 line x h.4 n)
 
 -- a line more
-named_more : (limit : ℕ) (lines : List (List ℕ)) (b line x : List ℕ) → AreNamed limit true lines b → IsNamed limit (is_none lines) line x → AreNamed limit true (lines ++ line ∷ []) (b ++ x)
+named_more : (limit : ℕ) (lines : List (List ℕ)) (b line x : List ℕ) → AreNamed limit true lines b → IsNamed limit (is_none lines) line x
+    → AreNamed limit true (lines ++ line ∷ []) (b ++ x)
 named_more limit [] b line x h n = (x, [], n, ap (λ (l : List ℕ). l ++ x) h ∙ sym (append-nil x), refl)
 named_more limit (l ∷ lines) b line x h n =
     (h.0, h.1 ++ x, h.2, ap (λ (z : List ℕ). z ++ x) h.3 ∙ append_assoc h.0 h.1 x, named_behind limit lines h.1 line x h.4 n)
@@ -66,8 +69,10 @@ record IsLast (t : Stage) (e : Outcome) : Type 0 where
 
 by_early : (t : Stage) (o : Option Fault) → limit_of t < 2 ^ 32 → early t [] ≡ o → (e : Outcome) × IsLast t e
 by_early t (Some f) lt e =
-    (stopped t [] (Some (refusal_of t f)), record { comes = fault_comes t [] f lt (early_has t [] f e); tail = refl; items = refl; number = refl; start = refl })
-by_early t None lt e = (stopped t [] None, record { comes = open_comes t [] lt (open_by t [] e (not_all t)); tail = refl; items = refl; number = refl; start = refl })
+    (stopped t [] (Some (refusal_of t f)), record { comes = fault_comes t [] f lt (early_has t [] f e); tail = refl; items = refl; number = refl;
+        start = refl })
+by_early t None lt e = (stopped t [] None, record { comes = open_comes t [] lt (open_by t [] e (not_all t)); tail = refl; items = refl; number = refl;
+    start = refl })
 
 -- the lines so far are taken
 pub record IsTakenSoFar (own : Own) (lines : List (List ℕ)) (b : List ℕ) (f : FeedState) (xs : List (ℕ × Item)) (v : Outcome) : Type 0 where
@@ -76,7 +81,8 @@ pub record IsTakenSoFar (own : Own) (lines : List (List ℕ)) (b : List ℕ) (f 
   pub number : v.number ≡ number_of f.stage
   pub start : v.start ≡ start_of f.stage
 
-pub taken_so_far : (own : Own) (lines : List (List ℕ)) (b : List ℕ) (f : FeedState) → (h : IsPackedTo own lines b f) → (v : Outcome) × IsTakenSoFar own lines b f h.items v
+pub taken_so_far : (own : Own) (lines : List (List ℕ)) (b : List ℕ) (f : FeedState) → (h : IsPackedTo own lines b f) → (v : Outcome)
+    × IsTakenSoFar own lines b f h.items v
 taken_so_far own lines b f h =
     let last = by_early f.stage (early f.stage []) (omega (arith, h.limit, h.bound)) refl in
     let P : List ℕ → Type 0 = λ l. IsVerdict own l (with_items h.items last.0) in (
@@ -102,7 +108,8 @@ length-fields : (text : List ℕ) (f : Fields) → SaysFields text f → length 
 length-fields text none h = omega arith
 length-fields text (index i) h = omega arith
 length-fields text (part i b l) h = omega arith
-length-fields text (block i b bytes) h = omega (arith, length-spaced_said h.0 bytes h.2, ap length h.1, length-append (spaced i) (spaced b ++ h.0), length-append (spaced b) h.0, length-append (be32 i ++ be32 b) bytes)
+length-fields text (block i b bytes) h = omega (arith, length-spaced_said h.0 bytes h.2, ap length h.1, length-append (spaced i) (spaced b ++ h.0),
+    length-append (spaced b) h.0, length-append (be32 i ++ be32 b) bytes)
 length-fields text (port p) h = omega arith
 length-fields text (field bits) h = omega (arith, length-spaced_said text bits h)
 length-fields text (extended n bytes) h = omega (arith, length-spaced_said h.0 bytes h.2, ap length h.1, length-append (spaced n) h.0)
@@ -115,7 +122,8 @@ said_whole : (text : List ℕ) (s : Said) → length text < 2 ^ 31 → Says text
 said_whole text keep_alive lt h = omega (arith, number32-be32 0 [] (omega arith))
 said_whole text (known i f) lt h = framed_whole i.number (spell_fields f) (omega (arith, length-fields h.1 f h.4, ap length h.2, length-append h.0 h.1))
 said_whole text (unknown n bytes) lt h =
-    framed_whole n bytes (omega (arith, length-spaced_said h.0 bytes h.4, ap length h.1, length-append (codes "unknown") (spaced n ++ h.0), length-append (spaced n) h.0))
+    framed_whole n bytes (omega (arith, length-spaced_said h.0 bytes h.4, ap length h.1, length-append (codes "unknown") (spaced n ++ h.0),
+        length-append (spaced n) h.0))
 
 -- all of the item's bytes are there
 abbrev AllThere : Stage → List ℕ → Type 0
@@ -134,7 +142,8 @@ there_all (stage.Message c o s n) x e = whole_there x (omega (arith, e))
 
 -- an item of their front is all of them
 front_is_all : (t : Stage) (x : List ℕ) (n : ℕ) (item : Item) → limit_of t < 2 ^ 32 → AllThere t x → n ≤ length x → IsItem t (take n x) item → take n x ≡ x
-front_is_all (stage.Handshake own) x n (items.Handshake h) lt all le p = take_all n x (omega (arith, ap length p.2, hand-length h p.1, length-take-le n x le, all))
+front_is_all (stage.Handshake own) x n (items.Handshake h) lt all le p =
+    take_all n x (omega (arith, ap length p.2, hand-length h p.1, length-take-le n x le, all))
 front_is_all (stage.Message c o s i) x n (items.Message m) lt all le p =
     let r = drop n x in
     let parts : x ≡ spell c m ++ r = sym (take-append-drop n x) ∙ ap (λ (l : List ℕ). l ++ r) p.1 in
@@ -146,7 +155,8 @@ front_is_all (stage.Message c o s i) x n (items.Handshake h) lt all le p = absur
 -- ---- a line
 
 -- a push of a line's bytes closes the item
-pub closes : (f p : FeedState) (text x : List ℕ) (first : Bool) → length text < 2 ^ 31 → is_hand f.stage ≡ first → f.held ≡ [] → IsLine first text x → p ≡ pushed f x → is_closed p.stage p.held ≡ true
+pub closes : (f p : FeedState) (text x : List ℕ) (first : Bool) → length text < 2 ^ 31 → is_hand f.stage ≡ first → f.held ≡ [] → IsLine first text x → p
+    ≡ pushed f x → is_closed p.stage p.held ≡ true
 closes f p text x first lt is empty line e =
     let there = line_there f.stage first text x lt is line in
     let least = taken_least (is_closed f.stage) f.held x in
@@ -160,13 +170,15 @@ closes f p text x first lt is empty line e =
     let P : Stage → Type 0 = λ t. is_closed t p.held ≡ true in
     subst P (sym (ap (λ (s : FeedState). s.stage) e)) (ap (is_closed f.stage) held ∙ at)
 
-after_number : (t : Stage) (b : List ℕ) (size : ℕ) (item : Item) → IsItem t b item → (number_of (stage_after t size item) ≡ number_of t + 1) × (is_hand (stage_after t size item) ≡ false) × (limit_of (stage_after t size item) ≡ limit_of t)
+after_number : (t : Stage) (b : List ℕ) (size : ℕ) (item : Item) → IsItem t b item → (number_of (stage_after t size item) ≡ number_of t + 1)
+    × (is_hand (stage_after t size item) ≡ false) × (limit_of (stage_after t size item) ≡ limit_of t)
 after_number (stage.Handshake own) b size (items.Handshake h) p = (refl, refl, refl)
 after_number (stage.Message c o s n) b size (items.Message m) p = (refl, refl, refl)
 after_number (stage.Handshake own) b size (items.Message m) p = absurd p
 after_number (stage.Message c o s n) b size (items.Handshake h) p = absurd p
 
-pub line_taken : (own : Own) (lines : List (List ℕ)) (b text x out out' : List ℕ) (f p g : FeedState) (item : Item) → length text < 2 ^ 31 → IsNamed own.limit (is_none lines) text x → IsPackedTo own lines b f → p ≡ pushed f x
+pub line_taken : (own : Own) (lines : List (List ℕ)) (b text x out out' : List ℕ) (f p g : FeedState) (item : Item) → length text < 2 ^ 31
+    → IsNamed own.limit (is_none lines) text x → IsPackedTo own lines b f → p ≡ pushed f x
     → IsAnswer p (Ok (Some item)) → g ≡ after p (Ok (Some item)) → out' ≡ out ++ x → IsLineEnd own lines b text g out out' None
 line_taken own lines b text x out out' f p g item lt named h e is after_is grown =
     let n = taken f x in
@@ -181,7 +193,8 @@ line_taken own lines b text x out out' f p g item lt named h e is after_is grown
     let item_is : IsItem f.stage x item = subst Q whole here in
     let size : length p.held ≡ length x = ap length (held ∙ whole) in
     let g_is : g ≡ record { stage = stage_after f.stage (length x) item; held = []; refused = p.refused } =
-    after_is ∙ ap (λ (k : ℕ). record { stage = stage_after p.stage k item; held = []; refused = p.refused }) size ∙ ap (λ (t : Stage). record { stage = stage_after t (length x) item; held = []; refused = p.refused }) stage_is in
+    after_is ∙ ap (λ (k : ℕ). record { stage = stage_after p.stage k item; held = []; refused = p.refused }) size
+        ∙ ap (λ (t : Stage). record { stage = stage_after t (length x) item; held = []; refused = p.refused }) stage_is in
     let steps = after_number f.stage x (length x) item item_is in
     let R : FeedState → Type 0 = λ s. IsPackedTo own (lines ++ text ∷ []) (b ++ x) s in (
       x,
@@ -202,10 +215,12 @@ line_taken own lines b text x out out' f p g item lt named h e is after_is grown
       }),
     )
 
-pub line_refused : (own : Own) (lines : List (List ℕ)) (b text x out out' : List ℕ) (f p g : FeedState) (r : Refusal) → IsNamed own.limit (is_none lines) text x → IsPackedTo own lines b f → p ≡ pushed f x
+pub line_refused : (own : Own) (lines : List (List ℕ)) (b text x out out' : List ℕ) (f p g : FeedState) (r : Refusal)
+    → IsNamed own.limit (is_none lines) text x → IsPackedTo own lines b f → p ≡ pushed f x
     → IsAnswer p (Err r) → g ≡ after p (Err r) → out' ≡ out → IsLineEnd own lines b text g out out' (Some (Reason r.reason))
 line_refused own lines b text x out out' f p g r named h e is after_is same =
-    let same_number : number_of g.stage ≡ length lines = ap (λ (s : FeedState). number_of s.stage) (after_is) ∙ ap (λ (s : FeedState). number_of s.stage) e ∙ h.count in
+    let same_number : number_of g.stage ≡ length lines = ap (λ (s : FeedState). number_of s.stage) (after_is) ∙ ap (λ (s : FeedState). number_of s.stage) e
+        ∙ h.count in
     let n = taken f x in
     let stage_is : p.stage ≡ f.stage = ap (λ (s : FeedState). s.stage) e in
     let held : p.held ≡ take n x = ap (λ (s : FeedState). s.held) e ∙ ap (λ (l : List ℕ). l ++ take n x) h.empty in
@@ -238,17 +253,20 @@ by_lines : (lines : List (List ℕ)) → eqb (length lines) 0 ≡ is_none lines
 by_lines [] = refl
 by_lines (l ∷ lines) = ne_eqb (length (l ∷ lines)) 0 (λ e. omega (arith, e))
 
-pub first_flag : (own : Own) (lines : List (List ℕ)) (b : List ℕ) (f : FeedState) (n : ℕ) → IsPackedTo own lines b f → n ≡ number_of f.stage → eqb n 0 ≡ is_none lines
+pub first_flag : (own : Own) (lines : List (List ℕ)) (b : List ℕ) (f : FeedState) (n : ℕ) → IsPackedTo own lines b f → n ≡ number_of f.stage → eqb n 0
+    ≡ is_none lines
 first_flag own lines b f n h e = ap (λ (k : ℕ). eqb k 0) (e ∙ h.count) ∙ by_lines lines
 
 -- what reading a line answered
-pub read_as : (limit : ℕ) (first flag : Bool) (text bytes : List ℕ) (ok : Bool) → ok ≡ true → first ≡ flag → length text ≤ 2 * limit + 256 → IsReadAs first text bytes ok → IsNamed limit flag text bytes
+pub read_as : (limit : ℕ) (first flag : Bool) (text bytes : List ℕ) (ok : Bool) → ok ≡ true → first ≡ flag → length text ≤ 2 * limit + 256
+    → IsReadAs first text bytes ok → IsNamed limit flag text bytes
 read_as limit first flag text bytes ok e same short h =
     let P : Bool → Type 0 = λ o. IsReadAs first text bytes o in
     let Q : Bool → Type 0 = λ f. IsLine f text bytes in
     record { short = short; line = subst Q same (subst P e h) }
 
-pub not_read : (limit : ℕ) (first flag : Bool) (text bytes : List ℕ) (ok : Bool) → ok ≡ false → first ≡ flag → IsReadAs first text bytes ok → (x : List ℕ) → IsNamed limit flag text x → ⊥
+pub not_read : (limit : ℕ) (first flag : Bool) (text bytes : List ℕ) (ok : Bool) → ok ≡ false → first ≡ flag → IsReadAs first text bytes ok → (x : List ℕ)
+    → IsNamed limit flag text x → ⊥
 not_read limit first flag text bytes ok e same h =
     let P : Bool → Type 0 = λ o. IsReadAs first text bytes o in
     let Q : Bool → Type 0 = λ f. (x : List ℕ) → IsNamed limit f text x → ⊥ in

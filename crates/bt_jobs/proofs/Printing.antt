@@ -1,5 +1,6 @@
 -- What is written of a stream turn by turn.
-use Rattle.std.proofs.Common.{◌≡◌, ℕ, ◌+◌, ◌-◌, ◌^◌, ◌<◌, ◌≤◌, ◌⊎◌, List, [], ◌∷◌, ◌++◌, length, Option, Some, None, Result, Ok, Err, refl, sym, ap, subst, ◌∙◌, arith, inl, inr}
+use Rattle.std.proofs.Common.{◌≡◌, ℕ, ◌+◌, ◌-◌, ◌^◌, ◌<◌, ◌≤◌, ◌⊎◌, List, [], ◌∷◌, ◌++◌, length, Option, Some, None, Result, Ok, Err, refl, sym, ap, subst,
+    ◌∙◌, arith, inl, inr}
 use Rattle.std.proofs.lemmas.Bool.{cases_lt}
 use Rattle.std.proofs.lemmas.List.{append-nil, append_assoc, length-append}
 use Rattle.std.proofs.lemmas.Grind.{flat_map-append}
@@ -30,7 +31,8 @@ use Rattle.bt_feed.proofs.Reading.{hand_open}
 use Rattle.std.specs.Prelude.{MatchResult, OnOk}
 use Rattle.bt_jobs.specs.declared.printer.Printer.{Printer}
 use Rattle.bt_text.specs.Lines.{ended_by, ended_as, verdict_line, lines_of}
-use Rattle.bt_jobs.specs.Printed.{texts, text_of, form_of, text_in, Prints, AppendsFront, IsWrittenOut, IsFlushed, MayBeTold, IsAllWritten, IsFrontWritten, Writing, nothing, items_in, checked, prefixed, IsWritten, IsReadTo, IsTurn, verdict_of, all_in}
+use Rattle.bt_jobs.specs.Printed.{texts, text_of, form_of, text_in, Prints, AppendsFront, IsWrittenOut, IsFlushed, MayBeTold, IsAllWritten, IsFrontWritten,
+    Writing, nothing, items_in, checked, prefixed, IsWritten, IsReadTo, IsTurn, verdict_of, all_in}
 
 pub on_ok : {T E : Type 0} (r : Result T E) (P Q : Type 0) → (P → Q) → OnOk r P → OnOk r Q
 on_ok (Ok x) P Q f h = f h
@@ -38,7 +40,8 @@ on_ok (Err e) P Q f h = tt
 
 -- ---- the text of items
 
-pub printed : (p q : Printer) (xs : List (ℕ × Item)) → Took Prints p xs q → (form_of q ≡ form_of p) × ((own : Own) → text_in q ≡ text_in p ++ texts (form_of p) own xs)
+pub printed : (p q : Printer) (xs : List (ℕ × Item)) → Took Prints p xs q → (form_of q ≡ form_of p)
+    × ((own : Own) → text_in q ≡ text_in p ++ texts (form_of p) own xs)
 printed p q [] h = (ap form_of h, λ own. ap text_in h ∙ sym (append-nil (text_in p)))
 printed p q (x ∷ xs) h =
     let m = h.0 in
@@ -46,7 +49,8 @@ printed p q (x ∷ xs) h =
       rest.0 ∙ h.1.0,
       λ own.
           let more : text_in q ≡ text_in m ++ texts (form_of p) own xs = rest.1 own ∙ ap (λ (f : Form). text_in m ++ texts f own xs) h.1.0 in
-          more ∙ ap (λ (t : List ℕ). t ++ texts (form_of p) own xs) (h.1.1 own) ∙ append_assoc (text_in p) (text_of (form_of p) own x) (texts (form_of p) own xs),
+          more ∙ ap (λ (t : List ℕ). t ++ texts (form_of p) own xs) (h.1.1 own) ∙ append_assoc (text_in p) (text_of (form_of p) own x)
+              (texts (form_of p) own xs),
     )
 
 -- ---- the verdict at the end
@@ -58,7 +62,8 @@ length_by None own b v h =
       | inl lt ↦ omega (arith, ap (λ (w : Outcome). w.start + length w.tail) (h.0 lt))
       | inr le ↦
           let o = h.1 le in
-          omega (arith, ap (λ (w : Outcome). w.start + length w.tail) o.whole, o.messages.start_after, ap length o.parts, length-append (hand o.handshake) o.rest, hand-length o.handshake o.fits)
+          omega (arith, ap (λ (w : Outcome). w.start + length w.tail) o.whole, o.messages.start_after, ap length o.parts,
+              length-append (hand o.handshake) o.rest, hand-length o.handshake o.fits)
     ]
 
 pub verdict_length : (own : Own) (b : List ℕ) (v : Outcome) → IsVerdict own b v → v.start + length v.tail ≡ length b
@@ -75,7 +80,8 @@ refused_by None m r e = absurd cc
 -- ---- a turn
 
 -- what is known where a pump has stopped, but for a sink's fault
-pub record IsPumpedOn (own : Own) (b : List ℕ) (xs : List (ℕ × Item)) (f g : FeedState) (left left' : Option (List ℕ)) (p q : Printer) (bytes lost : List ℕ) (ys : List (ℕ × Item)) (v : Outcome) : Type 0 where
+pub record IsPumpedOn (own : Own) (b : List ℕ) (xs : List (ℕ × Item)) (f g : FeedState) (left left' : Option (List ℕ)) (p q : Printer) (bytes lost : List ℕ)
+    (ys : List (ℕ × Item)) (v : Outcome) : Type 0 where
   pub limit : own.limit < 2 ^ 32
   pub before : IsReadTo own b xs f
   pub consumed : Consumes left left' (bytes ++ lost)
@@ -84,10 +90,12 @@ pub record IsPumpedOn (own : Own) (b : List ℕ) (xs : List (ℕ × Item)) (f g 
   pub pumped : IsPumped f bytes lost ys g v
 
 -- the outcome of what was read
-pub total : (own : Own) (b : List ℕ) (xs : List (ℕ × Item)) (f g : FeedState) (bytes lost : List ℕ) (ys : List (ℕ × Item)) (v : Outcome) → IsReadTo own b xs f → IsPumped f bytes lost ys g v → IsVerdict own (b ++ (bytes ++ lost)) (with_items xs v)
+pub total : (own : Own) (b : List ℕ) (xs : List (ℕ × Item)) (f g : FeedState) (bytes lost : List ℕ) (ys : List (ℕ × Item)) (v : Outcome)
+    → IsReadTo own b xs f → IsPumped f bytes lost ys g v → IsVerdict own (b ++ (bytes ++ lost)) (with_items xs v)
 total own b xs f g bytes lost ys v r p = r.comes (bytes ++ lost) v p.comes
 
-pub read_more : (own : Own) (b : List ℕ) (xs : List (ℕ × Item)) (f g : FeedState) (bytes lost : List ℕ) (ys : List (ℕ × Item)) (v : Outcome) → lost ≡ [] → IsReadTo own b xs f → IsPumped f bytes lost ys g v → IsReadTo own (b ++ (bytes ++ lost)) (xs ++ ys) g
+pub read_more : (own : Own) (b : List ℕ) (xs : List (ℕ × Item)) (f g : FeedState) (bytes lost : List ℕ) (ys : List (ℕ × Item)) (v : Outcome) → lost ≡ []
+    → IsReadTo own b xs f → IsPumped f bytes lost ys g v → IsReadTo own (b ++ (bytes ++ lost)) (xs ++ ys) g
 read_more own b xs f g bytes lost ys v none r p = record {
   comes = λ later w k.
       let more : b ++ (bytes ++ later) ≡ (b ++ (bytes ++ lost)) ++ later =
@@ -104,30 +112,39 @@ text_of_turn : (own : Own) (p q : Printer) (ys : List (ℕ × Item)) → text_in
 text_of_turn own p q ys empty took = (printed p q ys took).1 own ∙ ap (λ (t : List ℕ). t ++ texts (form_of p) own ys) empty
 
 -- at a fault a prefix of the text of these items is written in this turn
-front_of_turn : (own : Own) (b : List ℕ) (xs : List (ℕ × Item)) (f g : FeedState) (left left' held held' : Option (List ℕ)) (p q : Printer) (bytes lost : List ℕ) (ys : List (ℕ × Item)) (v : Outcome) → VerdictIsOne
+front_of_turn : (own : Own) (b : List ℕ) (xs : List (ℕ × Item)) (f g : FeedState) (left left' held held' : Option (List ℕ)) (p q : Printer)
+    (bytes lost : List ℕ) (ys : List (ℕ × Item)) (v : Outcome) → VerdictIsOne
     → IsPumpedOn own b xs f g left left' p q bytes lost ys v → AppendsFront held held' (text_in q)
-    → (w : Outcome) → IsVerdict own (b ++ (bytes ++ lost)) w → (zs : List (ℕ × Item)) × (w.items ≡ xs ++ zs) × AppendsFront held held' (texts (form_of p) own zs)
+    → (w : Outcome) → IsVerdict own (b ++ (bytes ++ lost)) w → (zs : List (ℕ × Item)) × (w.items ≡ xs ++ zs)
+    × AppendsFront held held' (texts (form_of p) own zs)
 front_of_turn own b xs f g left left' held held' p q bytes lost ys v one h front w is =
     let same : w ≡ with_items xs v = one own (b ++ (bytes ++ lost)) w (with_items xs v) h.limit is (total own b xs f g bytes lost ys v h.before h.pumped) in
-    (ys, ap (λ (u : Outcome). u.items) same ∙ ap (λ (l : List (ℕ × Item)). xs ++ l) h.pumped.items, subst (AppendsFront held held') (text_of_turn own p q ys h.empty h.took) front)
+    (ys, ap (λ (u : Outcome). u.items) same ∙ ap (λ (l : List (ℕ × Item)). xs ++ l) h.pumped.items,
+        subst (AppendsFront held held') (text_of_turn own p q ys h.empty h.took) front)
 
 -- where nothing of a turn is written
-pub nothing_of_turn : (own : Own) (form : Form) (b more : List ℕ) (xs : List (ℕ × Item)) (f : FeedState) (held : Option (List ℕ)) → own.limit < 2 ^ 32 → ItemsStay → IsReadTo own b xs f
+pub nothing_of_turn : (own : Own) (form : Form) (b more : List ℕ) (xs : List (ℕ × Item)) (f : FeedState) (held : Option (List ℕ)) → own.limit < 2 ^ 32
+    → ItemsStay → IsReadTo own b xs f
     → (w : Outcome) → IsVerdict own (b ++ more) w → (zs : List (ℕ × Item)) × (w.items ≡ xs ++ zs) × AppendsFront held held (texts form own zs)
 nothing_of_turn own form b more xs f held lt stay r w is =
     let s = stay own b more r.now w lt r.is is in
     (s.0, s.1 ∙ ap (λ (l : List (ℕ × Item)). l ++ s.0) r.items, ([], texts form own s.0, refl, Appends-nil held))
 
-pub goes_on : (own : Own) (b : List ℕ) (xs : List (ℕ × Item)) (f g : FeedState) (left left' held held' : Option (List ℕ)) (p q s : Printer) (bytes lost : List ℕ) (ys : List (ℕ × Item)) (v : Outcome) (r : Result (Option Ended) ToolFault)
-    → VerdictIsOne → IsPumpedOn own b xs f g left left' p q bytes lost ys v → lost ≡ [] → IsFlushed {T = Option Ended} None (text_in q) held held' (text_in s) r → form_of s ≡ form_of q → IsTurn (form_of p) own b xs left left' held held' g s r
+pub goes_on : (own : Own) (b : List ℕ) (xs : List (ℕ × Item)) (f g : FeedState) (left left' held held' : Option (List ℕ)) (p q s : Printer)
+    (bytes lost : List ℕ) (ys : List (ℕ × Item)) (v : Outcome) (r : Result (Option Ended) ToolFault)
+    → VerdictIsOne → IsPumpedOn own b xs f g left left' p q bytes lost ys v → lost ≡ [] → IsFlushed {T = Option Ended} None (text_in q) held held'
+    (text_in s) r → form_of s ≡ form_of q → IsTurn (form_of p) own b xs left left' held held' g s r
 goes_on own b xs f g left left' held held' p q s bytes lost ys v (Ok None) one h none flushed form =
-    (bytes ++ lost, ys, h.consumed, subst (Appends held held') (text_of_turn own p q ys h.empty h.took) flushed.1, read_more own b xs f g bytes lost ys v none h.before h.pumped, form ∙ (printed p q ys h.took).0, flushed.2)
+    (bytes ++ lost, ys, h.consumed, subst (Appends held held') (text_of_turn own p q ys h.empty h.took) flushed.1,
+        read_more own b xs f g bytes lost ys v none h.before h.pumped, form ∙ (printed p q ys h.took).0, flushed.2)
 goes_on own b xs f g left left' held held' p q s bytes lost ys v (Ok (Some e)) one h none flushed form = absurd (let no : Some e ≡ None = flushed.0 in cc)
 goes_on own b xs f g left left' held held' p q s bytes lost ys v (Err e) one h none flushed form =
     (bytes ++ lost, h.consumed, front_of_turn own b xs f g left left' held held' p q bytes lost ys v one h flushed)
 
-pub ends : (own : Own) (b : List ℕ) (xs : List (ℕ × Item)) (f g : FeedState) (left left' held held' : Option (List ℕ)) (p q s : Printer) (bytes lost : List ℕ) (ys : List (ℕ × Item)) (v : Outcome) (ended : Ended) (r : Result (Option Ended) ToolFault)
-    → VerdictIsOne → IsPumpedOn own b xs f g left left' p q bytes lost ys v → ended ≡ ended_as v (v.start + length v.tail) → IsFlushed (Some ended) (text_in q) held held' (text_in s) r → form_of s ≡ form_of q → IsTurn (form_of p) own b xs left left' held held' g s r
+pub ends : (own : Own) (b : List ℕ) (xs : List (ℕ × Item)) (f g : FeedState) (left left' held held' : Option (List ℕ)) (p q s : Printer)
+    (bytes lost : List ℕ) (ys : List (ℕ × Item)) (v : Outcome) (ended : Ended) (r : Result (Option Ended) ToolFault)
+    → VerdictIsOne → IsPumpedOn own b xs f g left left' p q bytes lost ys v → ended ≡ ended_as v (v.start + length v.tail)
+    → IsFlushed (Some ended) (text_in q) held held' (text_in s) r → form_of s ≡ form_of q → IsTurn (form_of p) own b xs left left' held held' g s r
 ends own b xs f g left left' held held' p q s bytes lost ys v ended (Ok (Some e)) one h is flushed form =
     let all = total own b xs f g bytes lost ys v h.before h.pumped in
     let same : e ≡ ended = let some : Some e ≡ Some ended = flushed.0 in cc in
@@ -144,14 +161,17 @@ ends own b xs f g left left' held held' p q s bytes lost ys v ended (Ok None) on
 ends own b xs f g left left' held held' p q s bytes lost ys v ended (Err e) one h is flushed form =
     (bytes ++ lost, h.consumed, front_of_turn own b xs f g left left' held held' p q bytes lost ys v one h flushed)
 
-pub is_accepted : (v : Outcome) (g : FeedState) (number messages n : ℕ) → verdict_at_end v ≡ Ok n → v.number ≡ number_of g.stage → number ≡ number_of g.stage → messages ≡ number - 1 → Accepted messages n ≡ ended_as v (v.start + length v.tail)
+pub is_accepted : (v : Outcome) (g : FeedState) (number messages n : ℕ) → verdict_at_end v ≡ Ok n → v.number ≡ number_of g.stage → number
+    ≡ number_of g.stage → messages ≡ number - 1 → Accepted messages n ≡ ended_as v (v.start + length v.tail)
 is_accepted v g number messages n e same is less =
     let a = accepted_by (refusal_at_end v) (v.start + length v.tail) n e in
     let count : messages ≡ v.number - 1 = less ∙ ap (λ (k : ℕ). k - 1) (is ∙ sym same) in
-    ap (λ (k : ℕ). Accepted k n) count ∙ ap (λ (k : ℕ). Accepted (v.number - 1) k) a.1 ∙ ap (λ (o : Option Refusal). ended_by o v.number (v.start + length v.tail)) (sym a.0)
+    ap (λ (k : ℕ). Accepted k n) count ∙ ap (λ (k : ℕ). Accepted (v.number - 1) k) a.1
+        ∙ ap (λ (o : Option Refusal). ended_by o v.number (v.start + length v.tail)) (sym a.0)
 
 pub is_refused : (v : Outcome) (r : Refusal) → verdict_at_end v ≡ Err (finish.Refused r) → Refused r ≡ ended_as v (v.start + length v.tail)
-is_refused v r e = ap (λ (o : Option Refusal). ended_by o v.number (v.start + length v.tail)) (sym (refused_by (refusal_at_end v) (v.start + length v.tail) r e))
+is_refused v r e = ap (λ (o : Option Refusal). ended_by o v.number (v.start + length v.tail))
+    (sym (refused_by (refusal_at_end v) (v.start + length v.tail) r e))
 
 -- ---- the turns
 
@@ -179,14 +199,17 @@ pub record IsToldTo (form : Form) (own : Own) (left left' held held' : Option (L
   pub form_is : form_of p ≡ form
   pub empty : text_in p ≡ []
 
-pub told_first : (own : Own) (left held : Option (List ℕ)) (f : FeedState) (p : Printer) → own.limit ≤ 1048576 → f ≡ record { stage = stage.Handshake own; held = []; refused = None } → text_in p ≡ [] → IsToldTo (form_of p) own left left held held f p
+pub told_first : (own : Own) (left held : Option (List ℕ)) (f : FeedState) (p : Printer) → own.limit ≤ 1048576 → f
+    ≡ record { stage = stage.Handshake own; held = []; refused = None } → text_in p ≡ [] → IsToldTo (form_of p) own left left held held f p
 told_first own left held f p le e empty =
     record { bytes = []; items = []; consumed = Consumes-nil left; written = Appends-nil held; read = starts own f le e; form_is = refl; empty = empty }
 
-joined : (form : Form) (own : Own) (a b c : Option (List ℕ)) (xs ys : List (ℕ × Item)) → Appends a b (texts form own xs) → Appends b c (texts form own ys) → Appends a c (texts form own (xs ++ ys))
+joined : (form : Form) (own : Own) (a b c : Option (List ℕ)) (xs ys : List (ℕ × Item)) → Appends a b (texts form own xs) → Appends b c (texts form own ys)
+    → Appends a c (texts form own (xs ++ ys))
 joined form own a b c xs ys p q = subst (Appends a c) (sym (texts_both form own xs ys)) (Appends-trans a b c (texts form own xs) (texts form own ys) p q)
 
-pub told_more : (form : Form) (own : Own) (left0 left left' held0 held held' : Option (List ℕ)) (f g : FeedState) (p q : Printer) → (t : IsToldTo form own left0 left held0 held f p)
+pub told_more : (form : Form) (own : Own) (left0 left left' held0 held held' : Option (List ℕ)) (f g : FeedState) (p q : Printer)
+    → (t : IsToldTo form own left0 left held0 held f p)
     → IsTurn (form_of p) own t.bytes t.items left left' held held' g q (Ok None) → IsToldTo form own left0 left' held0 held' g q
 told_more form own left0 left left' held0 held held' f g p q t n =
     let P : Form → Type 0 = λ x. IsTurn x own t.bytes t.items left left' held held' g q (Ok None) in
@@ -201,14 +224,17 @@ told_more form own left0 left left' held0 held held' f g p q t n =
       empty = m.6;
     }
 
-pub told_end : (form : Form) (own : Own) (left0 left left' held0 held held' : Option (List ℕ)) (f g : FeedState) (p q : Printer) (e : Ended) → (t : IsToldTo form own left0 left held0 held f p)
-    → IsTurn (form_of p) own t.bytes t.items left left' held held' g q (Ok (Some e)) → ((b : List ℕ) × Consumes left0 left' b × IsAllWritten (items_in form own) own b held0 held' e) × (text_in q ≡ [])
+pub told_end : (form : Form) (own : Own) (left0 left left' held0 held held' : Option (List ℕ)) (f g : FeedState) (p q : Printer) (e : Ended)
+    → (t : IsToldTo form own left0 left held0 held f p)
+    → IsTurn (form_of p) own t.bytes t.items left left' held held' g q (Ok (Some e))
+    → ((b : List ℕ) × Consumes left0 left' b × IsAllWritten (items_in form own) own b held0 held' e) × (text_in q ≡ [])
 told_end form own left0 left left' held0 held held' f g p q e t n =
     let P : Form → Type 0 = λ x. IsTurn x own t.bytes t.items left left' held held' g q (Ok (Some e)) in
     let m = subst P t.form_is n in
     let v = m.4.0 in
     let Q : List (ℕ × Item) → Type 0 = λ xs. Appends held0 held' (texts form own xs) in
-    ((t.bytes ++ m.0, Consumes-trans left0 left left' t.bytes m.0 t.consumed m.2, (v, m.4.1, subst Q (sym m.4.2) (joined form own held0 held held' t.items m.1 t.written m.3), m.4.3)), m.6)
+    ((t.bytes ++ m.0, Consumes-trans left0 left left' t.bytes m.0 t.consumed m.2,
+        (v, m.4.1, subst Q (sym m.4.2) (joined form own held0 held held' t.items m.1 t.written m.3), m.4.3)), m.6)
 
 -- known bytes that grew, and then by a front
 pub front_behind : (a b c : Option (List ℕ)) (xs ys : List ℕ) → Appends a b xs → AppendsFront b c ys → AppendsFront a c (xs ++ ys)
@@ -221,8 +247,10 @@ front_of_more a b xs ys p = (p.0, p.1 ++ ys, ap (λ (l : List ℕ). l ++ ys) p.2
 pub all_is_front : (a b : Option (List ℕ)) (xs : List ℕ) → Appends a b xs → AppendsFront a b xs
 all_is_front a b xs p = (xs, [], sym (append-nil xs), p)
 
-pub told_fault : (E : Type 0) (form : Form) (own : Own) (left0 left left' held0 held held' : Option (List ℕ)) (f g : FeedState) (p q : Printer) (e : ToolFault) → (t : IsToldTo form own left0 left held0 held f p)
-    → IsTurn (form_of p) own t.bytes t.items left left' held held' g q (Err e) → (b : List ℕ) × Consumes left0 left' b × IsFrontWritten (items_in form own) (items_in form own) own E b held0 held'
+pub told_fault : (E : Type 0) (form : Form) (own : Own) (left0 left left' held0 held held' : Option (List ℕ)) (f g : FeedState) (p q : Printer)
+    (e : ToolFault) → (t : IsToldTo form own left0 left held0 held f p)
+    → IsTurn (form_of p) own t.bytes t.items left left' held held' g q (Err e) → (b : List ℕ) × Consumes left0 left' b
+    × IsFrontWritten (items_in form own) (items_in form own) own E b held0 held'
 told_fault E form own left0 left left' held0 held held' f g p q e t n =
     let P : Form → Type 0 = λ x. IsTurn x own t.bytes t.items left left' held held' g q (Err e) in
     let m = subst P t.form_is n in (
@@ -230,12 +258,14 @@ told_fault E form own left0 left left' held0 held held' f g p q e t n =
       Consumes-trans left0 left left' t.bytes m.0 t.consumed m.1,
       λ w is.
           let k = m.2 w is in
-          let all : texts form own t.items ++ texts form own k.0 ≡ texts form own w.items = sym (texts_both form own t.items k.0) ∙ ap (texts form own) (sym k.1) in
+          let all : texts form own t.items ++ texts form own k.0 ≡ texts form own w.items = sym (texts_both form own t.items k.0)
+              ∙ ap (texts form own) (sym k.1) in
           inl (subst (AppendsFront held0 held') all (front_behind held0 held held' (texts form own t.items) (texts form own k.0) t.written k.2)),
     )
 
 -- after so many turns what is written is a front
-pub told_so_far : (E : Type 0) (form : Form) (own : Own) (left left' held held' : Option (List ℕ)) (f : FeedState) (p : Printer) → own.limit ≤ 1048576 → VerdictIsOne → IsToldTo form own left left' held held' f p
+pub told_so_far : (E : Type 0) (form : Form) (own : Own) (left left' held held' : Option (List ℕ)) (f : FeedState) (p : Printer) → own.limit ≤ 1048576
+    → VerdictIsOne → IsToldTo form own left left' held held' f p
     → (b : List ℕ) × Consumes left left' b × IsFrontWritten (items_in form own) (items_in form own) own E b held held'
 told_so_far E form own left left' held held' f p le one t = (
   t.bytes,
@@ -251,40 +281,51 @@ either_front : (E P : Type 0) → P ⊎ (E × P) → P
 either_front E P (inl p) = p
 either_front E P (inr p) = p.1
 
-pub front_shown : (form : Form) (E : Type 0) (own : Own) (b : List ℕ) (held held' : Option (List ℕ)) → IsFrontWritten (items_in form own) (items_in form own) own E b held held' → IsFrontWritten (items_in form own) (all_in form own) own E b held held'
-front_shown form E own b held held' h = λ w is. inl (either_front (MayBeTold E (ended_as w (length b))) (AppendsFront held held' (texts form own w.items)) (h w is))
+pub front_shown : (form : Form) (E : Type 0) (own : Own) (b : List ℕ) (held held' : Option (List ℕ))
+    → IsFrontWritten (items_in form own) (items_in form own) own E b held held' → IsFrontWritten (items_in form own) (all_in form own) own E b held held'
+front_shown form E own b held held' h = λ w is. inl (either_front (MayBeTold E (ended_as w (length b))) (AppendsFront held held' (texts form own w.items))
+    (h w is))
 
 -- the same outcome
-written_by : (form : Form) (own : Own) (b : List ℕ) (held held' : Option (List ℕ)) (e : Ended) → own.limit < 2 ^ 32 → VerdictIsOne → (a : IsAllWritten (items_in form own) own b held held' e) → (w : Outcome) → IsVerdict own b w
+written_by : (form : Form) (own : Own) (b : List ℕ) (held held' : Option (List ℕ)) (e : Ended) → own.limit < 2 ^ 32 → VerdictIsOne
+    → (a : IsAllWritten (items_in form own) own b held held' e) → (w : Outcome) → IsVerdict own b w
     → Appends held held' (texts form own w.items) × (e ≡ ended_as w (length b))
 written_by form own b held held' e lt one a w is =
     let same = one own b a.0 w lt a.1 is in
     subst (λ (v : Outcome). Appends held held' (texts form own v.items) × (e ≡ ended_as v (length b))) same (a.2, a.3)
 
-pub front_shown_all : (form : Form) (E : Type 0) (own : Own) (b : List ℕ) (held held' : Option (List ℕ)) (e : Ended) → own.limit < 2 ^ 32 → VerdictIsOne → IsAllWritten (items_in form own) own b held held' e → IsFrontWritten (items_in form own) (all_in form own) own E b held held'
+pub front_shown_all : (form : Form) (E : Type 0) (own : Own) (b : List ℕ) (held held' : Option (List ℕ)) (e : Ended) → own.limit < 2 ^ 32 → VerdictIsOne
+    → IsAllWritten (items_in form own) own b held held' e → IsFrontWritten (items_in form own) (all_in form own) own E b held held'
 front_shown_all form E own b held held' e lt one a = λ w is.
     let here = written_by form own b held held' e lt one a w is in
     inl (all_is_front held held' (texts form own w.items) here.0)
 
-pub all_shown : (form : Form) (E : Type 0) (own : Own) (b text left : List ℕ) (held mid held' : Option (List ℕ)) (e : Ended) (r : Result Ended ToolFault) → own.limit < 2 ^ 32 → VerdictIsOne → IsAllWritten (items_in form own) own b held mid e
-    → text ≡ verdict_of form e → MayBeTold E e → IsFlushed e text mid held' left r → MatchResult r (IsAllWritten (all_in form own) own b held held') (λ _. IsFrontWritten (items_in form own) (all_in form own) own E b held held')
+pub all_shown : (form : Form) (E : Type 0) (own : Own) (b text left : List ℕ) (held mid held' : Option (List ℕ)) (e : Ended) (r : Result Ended ToolFault)
+    → own.limit < 2 ^ 32 → VerdictIsOne → IsAllWritten (items_in form own) own b held mid e
+    → text ≡ verdict_of form e → MayBeTold E e → IsFlushed e text mid held' left r → MatchResult r (IsAllWritten (all_in form own) own b held held')
+    (λ _. IsFrontWritten (items_in form own) (all_in form own) own E b held held')
 all_shown form E own b text left held mid held' e (Ok d) lt one a is told f =
     let v = a.0 in
     let line : text ≡ verdict_of form (ended_as v (length b)) = is ∙ ap (verdict_of form) a.3 in
-    (v, a.1, Appends-trans held mid held' (texts form own v.items) (verdict_of form (ended_as v (length b))) a.2 (subst (Appends mid held') line f.1), f.0 ∙ a.3)
+    (v, a.1, Appends-trans held mid held' (texts form own v.items) (verdict_of form (ended_as v (length b))) a.2 (subst (Appends mid held') line f.1), f.0
+        ∙ a.3)
 all_shown form E own b text left held mid held' e (Err x) lt one a is told f = λ w isw.
     let here = written_by form own b held mid e lt one a w isw in
-    inr (subst (MayBeTold E) here.1 told, front_behind held mid held' (texts form own w.items) (verdict_of form (ended_as w (length b))) here.0 (subst (AppendsFront mid held') (is ∙ ap (verdict_of form) here.1) f))
+    inr (subst (MayBeTold E) here.1 told, front_behind held mid held' (texts form own w.items) (verdict_of form (ended_as w (length b))) here.0
+        (subst (AppendsFront mid held') (is ∙ ap (verdict_of form) here.1) f))
 
 -- ---- the verdict alone
 
 -- nothing is written
-pub nothing_checked : (E : Type 0) (w : Writing) (own : Own) (left left' held : Option (List ℕ)) (b : List ℕ) (f : ToolFault) → Consumes left left' b → IsWritten nothing w own E left left' held held (Err f)
+pub nothing_checked : (E : Type 0) (w : Writing) (own : Own) (left left' held : Option (List ℕ)) (b : List ℕ) (f : ToolFault) → Consumes left left' b
+    → IsWritten nothing w own E left left' held held (Err f)
 nothing_checked E w own left left' held b f c = (b, c, λ v is. inl ([], [], refl, Appends-nil held))
 
 -- what was fed to a new feed has the outcome v, whose verdict is to be written
-pub checked_all : (E : Type 0) (p : List ℕ) (own : Own) (f : FeedState) (left left' held held' : Option (List ℕ)) (b : List ℕ) (v : Outcome) (e : Ended) (r : Result Ended ToolFault) → own.limit ≤ 1048576 → VerdictIsOne → Consumes left left' b
-    → f ≡ record { stage = stage.Handshake own; held = []; refused = None } → Comes f.stage (f.held ++ b) v → e ≡ ended_as v (v.start + length v.tail) → MayBeTold E e → IsWrittenOut e (p ++ verdict_line e) held held' r → IsWritten nothing (prefixed p) own E left left' held held' r
+pub checked_all : (E : Type 0) (p : List ℕ) (own : Own) (f : FeedState) (left left' held held' : Option (List ℕ)) (b : List ℕ) (v : Outcome) (e : Ended)
+    (r : Result Ended ToolFault) → own.limit ≤ 1048576 → VerdictIsOne → Consumes left left' b
+    → f ≡ record { stage = stage.Handshake own; held = []; refused = None } → Comes f.stage (f.held ++ b) v → e ≡ ended_as v (v.start + length v.tail)
+    → MayBeTold E e → IsWrittenOut e (p ++ verdict_line e) held held' r → IsWritten nothing (prefixed p) own E left left' held held' r
 checked_all E p own f left left' held held' b v e (Ok a) le one c new comes ended told out =
     let F : FeedState → Type 0 = λ g. Comes g.stage (g.held ++ b) v in
     let is : IsVerdict own b v = subst F new comes in
@@ -305,7 +346,8 @@ checked_all E p own f left left' held held' b v e (Err x) le one c new comes end
 
 -- ---- a prefix before a line
 
-pub written_after : (held mid held' : Option (List ℕ)) (p text : List ℕ) (e : Ended) (r : Result Ended ToolFault) → Appends held mid p → IsWrittenOut e text mid held' r → IsWrittenOut e (p ++ text) held held' r
+pub written_after : (held mid held' : Option (List ℕ)) (p text : List ℕ) (e : Ended) (r : Result Ended ToolFault) → Appends held mid p
+    → IsWrittenOut e text mid held' r → IsWrittenOut e (p ++ text) held held' r
 written_after held mid held' p text e (Ok a) first out = (out.0, Appends-trans held mid held' p text first out.1)
 written_after held mid held' p text e (Err f) first out = front_behind held mid held' p text first out
 

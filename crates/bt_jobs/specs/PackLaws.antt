@@ -19,4 +19,5 @@ ScriptPacks = (own : Own) (b : List ℕ) (v : Outcome) → AreBytes b → IsVerd
 
 -- the lines of a script have one list of bytes and one end
 abbrev pub PackIsOne : Type 0
-PackIsOne = (own : Own) (all : List (List ℕ)) (b c : List ℕ) (e f : PackEnd) → own.limit < 2 ^ 32 → IsPacked own all b e → IsPacked own all c f → (b ≡ c) × (e ≡ f)
+PackIsOne = (own : Own) (all : List (List ℕ)) (b c : List ℕ) (e f : PackEnd) → own.limit < 2 ^ 32 → IsPacked own all b e → IsPacked own all c f → (b ≡ c)
+    × (e ≡ f)

@@ -31,7 +31,8 @@ pub record IsPackedTo (own : Own) (lines : List (List ℕ)) (b : List ℕ) (f : 
 -- a line is taken, and its bytes are put after the others; or it isn't
 abbrev pub IsLineEnd : Own → List (List ℕ) → List ℕ → List ℕ → FeedState → List ℕ → List ℕ → Option ScriptReason → Type 0
 IsLineEnd own lines b text g out out' None = (x : List ℕ) × (out' ≡ out ++ x) × IsPackedTo own (lines ++ text ∷ []) (b ++ x) g
-IsLineEnd own lines b text g out out' (Some reason) = (out' ≡ out) × (number_of g.stage ≡ length lines) × ((v : Outcome) × AreTaken own lines b v × IsNotTaken own (is_none lines) text b v reason)
+IsLineEnd own lines b text g out out' (Some reason) = (out' ≡ out) × (number_of g.stage ≡ length lines)
+    × ((v : Outcome) × AreTaken own lines b v × IsNotTaken own (is_none lines) text b v reason)
 
 -- what was read is these lines, which are taken, and the first part of the next
 pub record IsReadSo (own : Own) (text : List ℕ) (lines : List (List ℕ)) (b held : List ℕ) (f : FeedState) : Type 0 where
@@ -40,8 +41,10 @@ pub record IsReadSo (own : Own) (text : List ℕ) (lines : List (List ℕ)) (b h
 
 -- a piece of the script is read, or it has a line that isn't taken
 abbrev pub IsPieceRead : Own → List ℕ → List (List ℕ) → List ℕ → List ℕ → FeedState → List ℕ → List ℕ → Option ScriptReason → Type 0
-IsPieceRead own text lines b held g out out' None = (more : List (List ℕ)) × (x : List ℕ) × (out' ≡ out ++ x) × IsReadSo own text (lines ++ more) (b ++ x) held g
-IsPieceRead own text lines b held g out out' (Some reason) = (x : List ℕ) × (out' ≡ out ++ x) × ((all : List (List ℕ)) × AreLines text all × IsStop own all (b ++ x) (number_of g.stage + 1) reason) × IsEndedLine own.limit text (number_of g.stage + 1)
+IsPieceRead own text lines b held g out out' None = (more : List (List ℕ)) × (x : List ℕ) × (out' ≡ out ++ x) × IsReadSo own text (lines ++ more) (b ++ x)
+    held g
+IsPieceRead own text lines b held g out out' (Some reason) = (x : List ℕ) × (out' ≡ out ++ x)
+    × ((all : List (List ℕ)) × AreLines text all × IsStop own all (b ++ x) (number_of g.stage + 1) reason) × IsEndedLine own.limit text (number_of g.stage + 1)
 
 -- the text's first line and what follows its line feed
 abbrev pub IsCut : List ℕ → Option (List ℕ × List ℕ) → Type 0

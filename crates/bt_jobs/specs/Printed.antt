@@ -92,11 +92,13 @@ IsAllWritten w own b held held' e = (v : Outcome) × IsVerdict own b v × Append
 -- A prefix of what is early is written. Only where the verdict may be written is it a prefix of all.
 abbrev pub IsFrontWritten : Writing → Writing → Own → Type 0 → List ℕ → Option (List ℕ) → Option (List ℕ) → Type 0
 IsFrontWritten early all own AtEnd b held held' =
-    (v : Outcome) → IsVerdict own b v → AppendsFront held held' (early v (length b)) ⊎ (MayBeTold AtEnd (ended_as v (length b)) × AppendsFront held held' (all v (length b)))
+    (v : Outcome) → IsVerdict own b v → AppendsFront held held' (early v (length b))
+        ⊎ (MayBeTold AtEnd (ended_as v (length b)) × AppendsFront held held' (all v (length b)))
 
 -- What was read is b: all of its text is written, or at a fault a prefix of that, whose verdict isn't early. AtEnd says that
 -- the end was read.
-abbrev pub IsWritten : Writing → Writing → Own → Type 0 → Option (List ℕ) → Option (List ℕ) → Option (List ℕ) → Option (List ℕ) → Result Ended ToolFault → Type 0
+abbrev pub IsWritten : Writing → Writing → Own → Type 0 → Option (List ℕ) → Option (List ℕ) → Option (List ℕ) → Option (List ℕ) → Result Ended ToolFault
+    → Type 0
 IsWritten early all own AtEnd left left' held held' r =
     (b : List ℕ) × Consumes left left' b × MatchResult r (IsAllWritten all own b held held') (λ _. IsFrontWritten early all own AtEnd b held held')
 
@@ -144,11 +146,14 @@ IsEndOfTurn (Err fault.Memory) reads reads' failed failed' ends ends' = ⊤
 IsEndOfTurn (Err fault.Net) reads reads' failed failed' ends ends' = ⊥
 
 -- a turn read some bytes more: it goes on after the text of some items more, or all is written, or at a fault a prefix
-abbrev pub IsTurn : Form → Own → List ℕ → List (ℕ × Item) → Option (List ℕ) → Option (List ℕ) → Option (List ℕ) → Option (List ℕ) → FeedState → Printer → Result (Option Ended) ToolFault → Type 0
+abbrev pub IsTurn : Form → Own → List ℕ → List (ℕ × Item) → Option (List ℕ) → Option (List ℕ) → Option (List ℕ) → Option (List ℕ) → FeedState → Printer
+    → Result (Option Ended) ToolFault → Type 0
 IsTurn f own b xs left left' held held' g p (Ok None) =
-    (more : List ℕ) × (ys : List (ℕ × Item)) × Consumes left left' more × Appends held held' (texts f own ys) × IsReadTo own (b ++ more) (xs ++ ys) g × (form_of p ≡ f) × (text_in p ≡ [])
+    (more : List ℕ) × (ys : List (ℕ × Item)) × Consumes left left' more × Appends held held' (texts f own ys) × IsReadTo own (b ++ more) (xs ++ ys) g
+        × (form_of p ≡ f) × (text_in p ≡ [])
 IsTurn f own b xs left left' held held' g p (Ok (Some e)) =
     (more : List ℕ) × (ys : List (ℕ × Item)) × Consumes left left' more × Appends held held' (texts f own ys)
     × ((v : Outcome) × IsVerdict own (b ++ more) v × (v.items ≡ xs ++ ys) × (e ≡ ended_as v (length (b ++ more)))) × (form_of p ≡ f) × (text_in p ≡ [])
 IsTurn f own b xs left left' held held' g p (Err e) =
-    (more : List ℕ) × Consumes left left' more × ((v : Outcome) → IsVerdict own (b ++ more) v → (ys : List (ℕ × Item)) × (v.items ≡ xs ++ ys) × AppendsFront held held' (texts f own ys))
+    (more : List ℕ) × Consumes left left' more × ((v : Outcome) → IsVerdict own (b ++ more) v → (ys : List (ℕ × Item)) × (v.items ≡ xs ++ ys)
+        × AppendsFront held held' (texts f own ys))

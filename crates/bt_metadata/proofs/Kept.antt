@@ -1,12 +1,14 @@
 -- What each call leaves of an assembly is one.
-use Rattle.std.proofs.Common.{◌≡◌, ℕ, zero, suc, ◌+◌, ◌<◌, ◌≤◌, ◌⊎◌, inl, inr, Bool, true, false, cond, leb, ltb, if◌then◌else◌, List, [], ◌∷◌, length, set, map, replicate, count_by, fold, position, eqb, Option, Some, None, slice_get, refl, sym, ap, subst, ◌∙◌, arith, add-zero}
+use Rattle.std.proofs.Common.{◌≡◌, ℕ, zero, suc, ◌+◌, ◌<◌, ◌≤◌, ◌⊎◌, inl, inr, Bool, true, false, cond, leb, ltb, if◌then◌else◌, List, [], ◌∷◌, length, set,
+    map, replicate, count_by, fold, position, eqb, Option, Some, None, slice_get, refl, sym, ap, subst, ◌∙◌, arith, add-zero}
 use Rattle.std.proofs.lemmas.Bool.{leb-false, ltb-true}
 use Rattle.std.proofs.lemmas.Bool.Decides.{nat_tests}
 use Rattle.std.proofs.lemmas.List.{length-set, length-replicate, length-map}
 use Rattle.std.proofs.lemmas.List.Sums.{sum_by-set}
 use Rattle.std.proofs.lemmas.List.Quantifiers.{position-Some}
 use Rattle.bt_ext.specs.Metadata.{block_count, block_len}
-use Rattle.bt_metadata.specs.Assemblies.{Slot, Lacking, Asked, Rejected, Held, AssemblyState, is_asked, is_lacking, started, ask_of, asking, with_slots, with_data, with_reject, unless_wrong, or_else, data_error, piece_error, size_error, is_asked_in, kept, disconnected}
+use Rattle.bt_metadata.specs.Assemblies.{Slot, Lacking, Asked, Rejected, Held, AssemblyState, is_asked, is_lacking, started, ask_of, asking, with_slots,
+    with_data, with_reject, unless_wrong, or_else, data_error, piece_error, size_error, is_asked_in, kept, disconnected}
 use Rattle.bt_metadata.specs.Blocks.{max_metadata, window}
 use Rattle.bt_metadata.specs.Sound.{IsAssembly}
 use Rattle.bt_metadata.specs.declared.assembly.BlockError.{BlockError}
@@ -52,7 +54,8 @@ unless_assembly : (a b : AssemblyState) (o : Option BlockError) → IsAssembly a
 unless_assembly a b None i g = g refl
 unless_assembly a b (Some e) i g = i
 
-piece_within : (ss : List Slot) (k : ℕ) (past : Bool) (o : Option BlockError) → leb (length ss) k ≡ past → (if past then Some PieceRange else o) ≡ None → k < length ss
+piece_within : (ss : List Slot) (k : ℕ) (past : Bool) (o : Option BlockError) → leb (length ss) k ≡ past → (if past then Some PieceRange else o) ≡ None
+    → k < length ss
 piece_within ss k true o e h = absurd cc
 piece_within ss k false o e h = leb-false (length ss) k e
 
@@ -60,7 +63,8 @@ both_none : (o p : Option BlockError) → or_else o p ≡ None → (o ≡ None) 
 both_none None p e = (refl, e)
 both_none (Some x) p e = absurd cc
 
-right_size : (total size length : ℕ) (s t : Bool) (expected : ℕ) → eqb total size ≡ s → eqb length expected ≡ t → (if s then (if t then None else Some WrongSize) else Some WrongTotal) ≡ None → length ≡ expected
+right_size : (total size length : ℕ) (s t : Bool) (expected : ℕ) → eqb total size ≡ s → eqb length expected ≡ t
+    → (if s then (if t then None else Some WrongSize) else Some WrongTotal) ≡ None → length ≡ expected
 right_size total size length true true expected e f h = grind (arith, nat_tests)
 right_size total size length true false expected e f h = absurd cc
 right_size total size length false t expected e f h = absurd cc

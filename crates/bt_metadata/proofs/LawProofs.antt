@@ -1,5 +1,6 @@
 -- The laws of served blocks.
-use Rattle.std.proofs.Common.{◌≡◌, ℕ, zero, suc, ◌+◌, ◌*◌, ◌<◌, ◌≤◌, ◌==◌, ◌⊎◌, inl, inr, true, if◌then◌else◌, List, [], ◌∷◌, ◌++◌, length, take, drop, set, min, Option, Some, None, slice_get, refl, sym, ap, subst, ◌∙◌, arith, length-take, length-drop}
+use Rattle.std.proofs.Common.{◌≡◌, ℕ, zero, suc, ◌+◌, ◌*◌, ◌<◌, ◌≤◌, ◌==◌, ◌⊎◌, inl, inr, true, if◌then◌else◌, List, [], ◌∷◌, ◌++◌, length, take, drop, set,
+    min, Option, Some, None, slice_get, refl, sym, ap, subst, ◌∙◌, arith, length-take, length-drop}
 use Rattle.std.specs.List.{list_all}
 use Rattle.std.proofs.lemmas.Bool.{eq-eqb, lt-leb}
 use Rattle.std.proofs.lemmas.Grind.{common_steps}
@@ -8,7 +9,8 @@ use Rattle.bt_ext.specs.Metadata.{block_count, block_len}
 use Rattle.bt_metadata.specs.declared.assembly.BlockError.{BlockError}
 use Rattle.bt_metadata.specs.declared.assembly.BlockError.TheVariants.{PieceRange, NotAsked, WrongTotal, WrongSize}
 use Rattle.bt_metadata.specs.Blocks.{block_size, block}
-use Rattle.bt_metadata.specs.Assemblies.{Slot, Lacking, Asked, Rejected, Held, AssemblyState, is_held, is_asked_in, joined, data_error, piece_error, size_error, or_else, unless_wrong, with_slots}
+use Rattle.bt_metadata.specs.Assemblies.{Slot, Lacking, Asked, Rejected, Held, AssemblyState, is_held, is_asked_in, joined, data_error, piece_error,
+    size_error, or_else, unless_wrong, with_slots}
 use Rattle.bt_metadata.specs.Laws.{HoldsBlocksOf, WholeIsServed, ServedIsTaken, ServedIsHeld}
 use Rattle.bt_metadata.proofs.Lengths.{count_covers, block_len_is}
 
@@ -18,7 +20,8 @@ later_block m k =
     let e : block_size * suc k ≡ block_size + block_size * k = omega arith in
     ap (λ n. take block_size (drop n m)) e ∙ ap (take block_size) (sym (drop-drop (block_size * k) block_size m))
 
-joined_blocks : (ss : List Slot) (m : List ℕ) → list_all is_held ss ≡ true → length m ≤ block_size * length ss → ((k : ℕ) (b : List ℕ) → slice_get ss k ≡ Some (Held b) → b ≡ block m k) →
+joined_blocks : (ss : List Slot) (m : List ℕ) → list_all is_held ss ≡ true → length m ≤ block_size * length ss
+    → ((k : ℕ) (b : List ℕ) → slice_get ss k ≡ Some (Held b) → b ≡ block m k) →
     joined ss ≡ m
 joined_blocks [] m h l f = grind (arith, common_steps)
 joined_blocks (Held b ∷ ss) m h l f =
@@ -55,14 +58,16 @@ further (inl p) = inl (ap suc p.0, p.1)
 further (inr q) = inr q
 
 -- what is found where one is set
-pub found : (ss : List Slot) (i k : ℕ) (y : Slot) (b : List ℕ) → slice_get (set ss i y) k ≡ Some (Held b) → ((k ≡ i) × (y ≡ Held b)) ⊎ (slice_get ss k ≡ Some (Held b))
+pub found : (ss : List Slot) (i k : ℕ) (y : Slot) (b : List ℕ) → slice_get (set ss i y) k ≡ Some (Held b) → ((k ≡ i) × (y ≡ Held b))
+    ⊎ (slice_get ss k ≡ Some (Held b))
 found [] i k y b h = inr h
 found (s ∷ ss) zero zero y b h = inl (refl, cc)
 found (s ∷ ss) zero (suc k) y b h = inr h
 found (s ∷ ss) (suc i) zero y b h = inr h
 found (s ∷ ss) (suc i) (suc k) y b h = further (found ss i k y b h)
 
-pub held_apart : (m : List ℕ) (piece k : ℕ) (x b : List ℕ) (Q : Type 0) → x ≡ block m piece → (Q → b ≡ block m k) → ((k ≡ piece) × (Held x ≡ Held b)) ⊎ Q → b ≡ block m k
+pub held_apart : (m : List ℕ) (piece k : ℕ) (x b : List ℕ) (Q : Type 0) → x ≡ block m piece → (Q → b ≡ block m k) → ((k ≡ piece) × (Held x ≡ Held b)) ⊎ Q
+    → b ≡ block m k
 held_apart m piece k x b Q e f (inl p) = let w : b ≡ x = cc in w ∙ e ∙ ap (block m) (sym p.0)
 held_apart m piece k x b Q e f (inr q) = f q
 

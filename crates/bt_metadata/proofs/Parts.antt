@@ -7,7 +7,8 @@ use Rattle.bt_metadata.specs.Sound.{IsAssembly, state_of, asks}
 use Rattle.bt_metadata.proofs.Lengths.{block_len_is}
 use Rattle.bt_metadata.proofs.Slots.{length-slots, count_asked-slots, held_length, got_within}
 
-pub is_assembly : (h d : List ℕ) (ss : List Status) → 0 < length d → length d ≤ max_metadata → length ss ≡ block_count (length d) → count_by asks ss ≤ window → IsAssembly (state_of h d ss)
+pub is_assembly : (h d : List ℕ) (ss : List Status) → 0 < length d → length d ≤ max_metadata → length ss ≡ block_count (length d)
+    → count_by asks ss ≤ window → IsAssembly (state_of h d ss)
 is_assembly h d ss l m c n = record {
   least = l;
   most = m;

@@ -1,5 +1,7 @@
 -- The slots of statuses and bytes.
-use Rattle.std.proofs.Common.{◌≡◌, ℕ, zero, suc, ◌+◌, ◌-◌, ◌*◌, ◌<◌, ◌≤◌, ◌⊎◌, inl, inr, true, false, cond, List, [], ◌∷◌, ◌++◌, length, take, drop, set, Some, None, option_and_then, slice_get, map, replicate, count_by, refl, sym, ap, ◌∙◌, arith, append_assoc, length-append, length-take, length-take-le, length-drop, min, add_assoc, position, fold}
+use Rattle.std.proofs.Common.{◌≡◌, ℕ, zero, suc, ◌+◌, ◌-◌, ◌*◌, ◌<◌, ◌≤◌, ◌⊎◌, inl, inr, true, false, cond, List, [], ◌∷◌, ◌++◌, length, take, drop, set,
+    Some, None, option_and_then, slice_get, map, replicate, count_by, refl, sym, ap, ◌∙◌, arith, append_assoc, length-append, length-take, length-take-le,
+    length-drop, min, add_assoc, position, fold}
 use Rattle.std.specs.List.{list_all, position_or_len}
 use Rattle.std.proofs.lemmas.List.{append-nil, take-append-drop, drop-drop}
 use Rattle.std.proofs.Math.Seq.{take-append_seam, drop-append_seam, drop-length}
@@ -55,7 +57,8 @@ lacking_or_len-slots (s ∷ ss) d = rw (lacking_slot s (take block_size d), lack
 pub first_lacking-slots : (ss : List Status) (d : List ℕ) → position is_lacking (slots_of ss d) ≡ position lacks ss
 first_lacking-slots ss d = rw (lacking_or_len-slots ss d, length-slots ss d) refl
 
-count_from-slots : (ss : List Status) (d : List ℕ) (n : ℕ) → fold (λ a x. a + cond (is_asked x) 1 0) n (slots_of ss d) ≡ fold (λ a x. a + cond (asks x) 1 0) n ss
+count_from-slots : (ss : List Status) (d : List ℕ) (n : ℕ) → fold (λ a x. a + cond (is_asked x) 1 0) n (slots_of ss d)
+    ≡ fold (λ a x. a + cond (asks x) 1 0) n ss
 count_from-slots [] d n = refl
 count_from-slots (s ∷ ss) d n =
     ap (λ b. fold (λ a x. a + cond (is_asked x) 1 0) (n + cond b 1 0) (slots_of ss (drop block_size d))) (asked_slot s (take block_size d))
@@ -97,7 +100,8 @@ lacking-slots (suc n) d = ap (λ xs. Lacking ∷ xs) (lacking-slots n (drop bloc
 -- ---- one is set
 
 -- what isn't held has no bytes
-pub set-slots : (ss : List Status) (d : List ℕ) (k : ℕ) (x : Status) (y : Slot) → ((b : List ℕ) → slot_of x b ≡ y) → slots_of (set ss k x) d ≡ set (slots_of ss d) k y
+pub set-slots : (ss : List Status) (d : List ℕ) (k : ℕ) (x : Status) (y : Slot) → ((b : List ℕ) → slot_of x b ≡ y) → slots_of (set ss k x) d
+    ≡ set (slots_of ss d) k y
 set-slots [] d k x y h = refl
 set-slots (s ∷ ss) d zero x y h = ap (λ z. z ∷ slots_of ss (drop block_size d)) (h (take block_size d))
 set-slots (s ∷ ss) d (suc k) x y h = ap (λ zs. slot_of s (take block_size d) ∷ zs) (set-slots ss (drop block_size d) k x y h)
@@ -107,7 +111,8 @@ abbrev pub paste : List ℕ → ℕ → List ℕ → List ℕ
 paste d at b = take at d ++ b ++ drop (at + length b) d
 
 pub length-paste : (d b : List ℕ) (at : ℕ) → at + length b ≤ length d → length (paste d at b) ≡ length d
-length-paste d b at h = omega (arith, length-append (take at d ++ b) (drop (at + length b) d), length-append (take at d) b, length-take-le at d (omega arith), length-drop (at + length b) d)
+length-paste d b at h = omega (arith, length-append (take at d ++ b) (drop (at + length b) d), length-append (take at d) b,
+    length-take-le at d (omega arith), length-drop (at + length b) d)
 
 take_add : (m n : ℕ) (l : List ℕ) → take (m + n) l ≡ take m l ++ take n (drop m l)
 take_add zero n l = grind (arith, common_steps)
@@ -120,7 +125,8 @@ take_all b h =
     sym (append-nil (take block_size b)) ∙ ap (λ x. take block_size b ++ x) (sym z) ∙ take-append-drop block_size b
 
 -- the front block replaced
-front_at : (d b : List ℕ) → length b ≡ min block_size (length d) → (length b < block_size) ⊎ (block_size ≤ length b) → (take block_size (b ++ drop (length b) d) ≡ b) × (drop block_size (b ++ drop (length b) d) ≡ drop block_size d)
+front_at : (d b : List ℕ) → length b ≡ min block_size (length d) → (length b < block_size) ⊎ (block_size ≤ length b)
+    → (take block_size (b ++ drop (length b) d) ≡ b) × (drop block_size (b ++ drop (length b) d) ≡ drop block_size d)
 front_at d b e (inl h) =
     let l : length b ≡ length d = omega arith in
     let n : drop (length b) d ≡ [] = rw l (drop-length d) in
@@ -135,18 +141,24 @@ front_at d b e (inr h) =
     )
 
 -- a later block replaced
-later_at : (d b : List ℕ) (k : ℕ) → block_size * suc k ≤ length d → (take block_size (paste d (block_size * suc k) b) ≡ take block_size d) × (drop block_size (paste d (block_size * suc k) b) ≡ paste (drop block_size d) (block_size * k) b)
+later_at : (d b : List ℕ) (k : ℕ) → block_size * suc k ≤ length d → (take block_size (paste d (block_size * suc k) b) ≡ take block_size d)
+    × (drop block_size (paste d (block_size * suc k) b) ≡ paste (drop block_size d) (block_size * k) b)
 later_at d b k m =
     let a : ℕ = block_size * k in
     let e : block_size * suc k ≡ block_size + a = omega arith in
     let l : length (take block_size d) ≡ block_size = length-take-le block_size d (omega arith) in
     let t : take (block_size + a) d ≡ take block_size d ++ take a (drop block_size d) = take_add block_size a d in
-    let z : drop (block_size + a + length b) d ≡ drop (a + length b) (drop block_size d) = ap (λ n. drop n d) (add_assoc block_size a (length b)) ∙ sym (drop-drop (a + length b) block_size d) in
+    let z : drop (block_size + a + length b) d ≡ drop (a + length b) (drop block_size d) = ap (λ n. drop n d) (add_assoc block_size a (length b))
+        ∙ sym (drop-drop (a + length b) block_size d) in
     let p : paste d (block_size * suc k) b ≡ take block_size d ++ paste (drop block_size d) a b =
-    ap (λ n. take n d ++ b ++ drop (n + length b) d) e ∙ ap (λ x. x ++ b ++ drop (block_size + a + length b) d) t ∙ ap (λ x. (take block_size d ++ take a (drop block_size d)) ++ b ++ x) z
-    ∙ ap (λ x. x ++ drop (a + length b) (drop block_size d)) (append_assoc (take block_size d) (take a (drop block_size d)) b) ∙ append_assoc (take block_size d) (take a (drop block_size d) ++ b) (drop (a + length b) (drop block_size d)) in (
-      ap (take block_size) p ∙ ap (λ n. take n (take block_size d ++ paste (drop block_size d) a b)) (sym l) ∙ take-append_seam (take block_size d) (paste (drop block_size d) a b),
-      ap (drop block_size) p ∙ ap (λ n. drop n (take block_size d ++ paste (drop block_size d) a b)) (sym l) ∙ drop-append_seam (take block_size d) (paste (drop block_size d) a b),
+    ap (λ n. take n d ++ b ++ drop (n + length b) d) e ∙ ap (λ x. x ++ b ++ drop (block_size + a + length b) d) t
+        ∙ ap (λ x. (take block_size d ++ take a (drop block_size d)) ++ b ++ x) z
+    ∙ ap (λ x. x ++ drop (a + length b) (drop block_size d)) (append_assoc (take block_size d) (take a (drop block_size d)) b)
+    ∙ append_assoc (take block_size d) (take a (drop block_size d) ++ b) (drop (a + length b) (drop block_size d)) in (
+      ap (take block_size) p ∙ ap (λ n. take n (take block_size d ++ paste (drop block_size d) a b)) (sym l)
+          ∙ take-append_seam (take block_size d) (paste (drop block_size d) a b),
+      ap (drop block_size) p ∙ ap (λ n. drop n (take block_size d ++ paste (drop block_size d) a b)) (sym l)
+          ∙ drop-append_seam (take block_size d) (paste (drop block_size d) a b),
     )
 
 -- a block is held
@@ -156,7 +168,8 @@ hold-slots [] d b k l m e = absurd (omega arith)
 hold-slots (s ∷ ss) d b zero l m e =
     let f = front_at d b (omega arith) (cases_lt (length b) block_size) in
     let z : 0 + length b ≡ length b = omega arith in
-    ap (λ n. Held (take block_size (b ++ drop n d)) ∷ slots_of ss (drop block_size (b ++ drop n d))) z ∙ ap (λ x. Held x ∷ slots_of ss (drop block_size (b ++ drop (length b) d))) f.0 ∙ ap (λ x. Held b ∷ slots_of ss x) f.1
+    ap (λ n. Held (take block_size (b ++ drop n d)) ∷ slots_of ss (drop block_size (b ++ drop n d))) z
+        ∙ ap (λ x. Held x ∷ slots_of ss (drop block_size (b ++ drop (length b) d))) f.0 ∙ ap (λ x. Held b ∷ slots_of ss x) f.1
 hold-slots (s ∷ ss) d b (suc k) l m e =
     let f = later_at d b k m in
     let i = hold-slots ss (drop block_size d) b k (omega arith) (omega (arith, length-drop block_size d)) (omega (arith, length-drop block_size d)) in
@@ -174,7 +187,8 @@ joined-slots (status.Asked ∷ ss) d h l = absurd cc
 joined-slots (status.Rejected ∷ ss) d h l = absurd cc
 
 -- a held block
-pub block-slots : (ss : List Status) (d : List ℕ) (k : ℕ) → holds_at (slice_get ss k) ≡ true → option_and_then block_in (slice_get (slots_of ss d) k) ≡ Some (take block_size (drop (block_size * k) d))
+pub block-slots : (ss : List Status) (d : List ℕ) (k : ℕ) → holds_at (slice_get ss k) ≡ true → option_and_then block_in (slice_get (slots_of ss d) k)
+    ≡ Some (take block_size (drop (block_size * k) d))
 block-slots [] d k h = absurd cc
 block-slots (status.Held ∷ ss) d zero h = refl
 block-slots (status.Lacking ∷ ss) d zero h = absurd cc
@@ -200,7 +214,8 @@ held_within (s ∷ ss) zero h = omega arith
 held_within (s ∷ ss) (suc k) h = let i : k < length ss = held_within ss k h in omega arith
 
 -- a held block's length
-pub held_length : (ss : List Status) (d b : List ℕ) (k : ℕ) → slice_get (slots_of ss d) k ≡ Some (Held b) → length b ≡ min block_size (length d - block_size * k)
+pub held_length : (ss : List Status) (d b : List ℕ) (k : ℕ) → slice_get (slots_of ss d) k ≡ Some (Held b) → length b
+    ≡ min block_size (length d - block_size * k)
 held_length [] d b k h = absurd cc
 held_length (status.Held ∷ ss) d b zero h =
     let e : b ≡ take block_size d = cc in

@@ -14,22 +14,27 @@ use Rattle.bt_net.specs.declared.looped.LoopEnd.{LoopEnd}
 use Rattle.bt_net.specs.declared.looped.LoopEnd.TheVariants.{Fetched, Unfetched, BadSize}
 use Rattle.bt_net.specs.Loops.{left_end, right_end, IsLooped, IsPrinted, IsLinked, IsFetched, IsOutput, IsWrite, fetched_lines, unfetched_line}
 
-pub printed_unfetched : (b : Both) (r : HalfState) (h k : Option (List ℕ)) (x : Result LoopEnd ToolFault) → IsWrite unfetched_line Unfetched h k x → IsPrinted b r h k x
+pub printed_unfetched : (b : Both) (r : HalfState) (h k : Option (List ℕ)) (x : Result LoopEnd ToolFault) → IsWrite unfetched_line Unfetched h k x
+    → IsPrinted b r h k x
 printed_unfetched b r h k (Ok e) w = subst (λ (y : LoopEnd). IsPrinted b r h k (Ok y)) (sym w.1) w.0
 printed_unfetched b r h k (Err f) w = subst (λ (y : ToolFault). IsPrinted b r h k (Err y)) (sym w.1) (unfetched_line, w.0, inr refl)
 
-pub printed_fetched : (b : Both) (r : HalfState) (m lines : List ℕ) (h k : Option (List ℕ)) (x : Result LoopEnd ToolFault) → metadata_of r.end.part ≡ Some m → lines ≡ fetched_lines m b.left b.right → IsWrite lines Fetched h k x → IsPrinted b r h k x
+pub printed_fetched : (b : Both) (r : HalfState) (m lines : List ℕ) (h k : Option (List ℕ)) (x : Result LoopEnd ToolFault) → metadata_of r.end.part ≡ Some m
+    → lines ≡ fetched_lines m b.left b.right → IsWrite lines Fetched h k x → IsPrinted b r h k x
 printed_fetched b r m lines h k (Ok e) there is w = subst (λ (y : LoopEnd). IsPrinted b r h k (Ok y)) (sym w.1) (m, there, subst (Appends h k) is w.0)
 printed_fetched b r m lines h k (Err f) there is w = subst (λ (y : ToolFault). IsPrinted b r h k (Err y)) (sym w.1) (lines, w.0, inl (m, there, is))
 
-fetched_by : (l r l' r' : HalfState) (b : Both) (m : List ℕ) → IsSide l l' b.left → IsSide r r' b.right → metadata_of r'.end.part ≡ Some m → IsFetched l r m b.left b.right
+fetched_by : (l r l' r' : HalfState) (b : Both) (m : List ℕ) → IsSide l l' b.left → IsSide r r' b.right → metadata_of r'.end.part ≡ Some m
+    → IsFetched l r m b.left b.right
 fetched_by l r l' r' b m p q e = record { left_half = l'; right_half = r'; at_left = p; at_right = q; there = e }
 
-output : (l r l' r' : HalfState) (b : Both) (lines : List ℕ) → IsSide l l' b.left → IsSide r r' b.right → ((m : List ℕ) × (metadata_of r'.end.part ≡ Some m) × (lines ≡ fetched_lines m b.left b.right)) ⊎ (lines ≡ unfetched_line) → IsOutput l r lines
+output : (l r l' r' : HalfState) (b : Both) (lines : List ℕ) → IsSide l l' b.left → IsSide r r' b.right → ((m : List ℕ) × (metadata_of r'.end.part ≡ Some m)
+    × (lines ≡ fetched_lines m b.left b.right)) ⊎ (lines ≡ unfetched_line) → IsOutput l r lines
 output l r l' r' b lines p q (inl w) = inl (w.0, b.left, b.right, fetched_by l r l' r' b w.0 p q w.1, w.2)
 output l r l' r' b lines p q (inr e) = inr e
 
-pub linked_so : (l r l' r' : HalfState) (b : Both) (h k : Option (List ℕ)) (x : Result LoopEnd ToolFault) → IsSide l l' b.left → IsSide r r' b.right → IsPrinted b r' h k x → IsLinked l r h k x
+pub linked_so : (l r l' r' : HalfState) (b : Both) (h k : Option (List ℕ)) (x : Result LoopEnd ToolFault) → IsSide l l' b.left → IsSide r r' b.right
+    → IsPrinted b r' h k x → IsLinked l r h k x
 linked_so l r l' r' b h k (Ok Fetched) p q w = (w.0, b.left, b.right, fetched_by l r l' r' b w.0 p q w.1, w.2)
 linked_so l r l' r' b h k (Ok Unfetched) p q w = w
 linked_so l r l' r' b h k (Ok BadSize) p q w = w
@@ -42,7 +47,8 @@ linked_so l r l' r' b h k (Err fault.Net) p q w = absurd w
 pub never_read : (l r : HalfState) (h k : Option (List ℕ)) (x : Result LoopEnd ToolFault) → IsLinked l r h k x → x ≡ Err fault.Read → ⊥
 never_read l r h k x w e = subst (IsLinked l r h k) e w
 
-looped : (rules : Rules) (limit : ℕ) (text : List ℕ) (h k : Option (List ℕ)) (x : Result LoopEnd ToolFault) → is_bad_size (length text) ≡ false → IsLinked (left_end rules limit text) (right_end rules limit (sha1 text)) h k x → IsLooped rules limit text h k x
+looped : (rules : Rules) (limit : ℕ) (text : List ℕ) (h k : Option (List ℕ)) (x : Result LoopEnd ToolFault) → is_bad_size (length text) ≡ false
+    → IsLinked (left_end rules limit text) (right_end rules limit (sha1 text)) h k x → IsLooped rules limit text h k x
 looped rules limit text h k (Ok Fetched) size w = (size, w)
 looped rules limit text h k (Ok Unfetched) size w = (size, w)
 looped rules limit text h k (Ok BadSize) size w = absurd w
@@ -52,7 +58,8 @@ looped rules limit text h k (Err fault.Memory) size w = w
 looped rules limit text h k (Err fault.Turns) size w = (size, w)
 looped rules limit text h k (Err fault.Net) size w = (size, w)
 
-pub looped_so : (rules : Rules) (limit : ℕ) (text hash : List ℕ) (l r : HalfState) (h k : Option (List ℕ)) (x : Result LoopEnd ToolFault) → l ≡ left_end rules limit text → hash ≡ sha1 text → r ≡ right_end rules limit hash → is_bad_size (length text) ≡ false → IsLinked l r h k x
+pub looped_so : (rules : Rules) (limit : ℕ) (text hash : List ℕ) (l r : HalfState) (h k : Option (List ℕ)) (x : Result LoopEnd ToolFault) → l
+    ≡ left_end rules limit text → hash ≡ sha1 text → r ≡ right_end rules limit hash → is_bad_size (length text) ≡ false → IsLinked l r h k x
     → IsLooped rules limit text h k x
 looped_so rules limit text hash l r h k x left same right size w =
     let P : HalfState → Type 0 = λ a. IsLinked a r h k x in

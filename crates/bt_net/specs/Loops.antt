@@ -24,7 +24,8 @@ use Rattle.bt_net.specs.declared.looped.LoopEnd.TheVariants.{Fetched, Unfetched,
 -- ---- the ends
 
 abbrev pub own_by : Rules → ℕ → List ℕ → ℕ → Own
-own_by rules limit hash id = record { reserved = record { 0 = 1048581 }; info_hash = Some hash; pieces = None; reg = registered (Some id); rules = rules; limit = limit }
+own_by rules limit hash id = record { reserved = record { 0 = 1048581 }; info_hash = Some hash; pieces = None; reg = registered (Some id); rules = rules;
+    limit = limit }
 
 abbrev pub handshake_by : List ℕ → List ℕ → Handshake
 handshake_by hash peer_id = record { reserved = record { 0 = 1048581 }; info_hash = hash; peer_id = peer_id }
@@ -68,7 +69,8 @@ AppendsPrefix held held' text = (prefix : List ℕ) × (rest : List ℕ) × (tex
 
 -- the lines of a fetch, or the line of none
 abbrev pub IsOutput : HalfState → HalfState → List ℕ → Type 0
-IsOutput l r lines = ((metadata : List ℕ) × (left : ℕ) × (right : ℕ) × IsFetched l r metadata left right × (lines ≡ fetched_lines metadata left right)) ⊎ (lines ≡ unfetched_line)
+IsOutput l r lines = ((metadata : List ℕ) × (left : ℕ) × (right : ℕ) × IsFetched l r metadata left right × (lines ≡ fetched_lines metadata left right))
+    ⊎ (lines ≡ unfetched_line)
 
 -- what two ends write that began so
 abbrev pub IsLinked : HalfState → HalfState → Option (List ℕ) → Option (List ℕ) → Result LoopEnd ToolFault → Type 0
@@ -85,7 +87,8 @@ abbrev pub IsLooped : Rules → ℕ → List ℕ → Option (List ℕ) → Optio
 IsLooped rules limit text held held' (Ok BadSize) = (is_bad_size (length text) ≡ true) × (held' ≡ held)
 IsLooped rules limit text held held' (Err fault.Read) = held' ≡ held
 IsLooped rules limit text held held' (Err fault.Memory) = held' ≡ held
-IsLooped rules limit text held held' r = (is_bad_size (length text) ≡ false) × IsLinked (left_end rules limit text) (right_end rules limit (sha1 text)) held held' r
+IsLooped rules limit text held held' r = (is_bad_size (length text) ≡ false) × IsLinked (left_end rules limit text) (right_end rules limit (sha1 text)) held
+    held' r
 
 -- ---- devices
 
@@ -117,10 +120,12 @@ IsWrite lines end held held' (Err e) = AppendsPrefix held held' lines × (e ≡ 
 
 -- what is written of ends that left off so
 abbrev pub IsPrinted : Both → HalfState → Option (List ℕ) → Option (List ℕ) → Result LoopEnd ToolFault → Type 0
-IsPrinted b r held held' (Ok Fetched) = (metadata : List ℕ) × (metadata_of r.end.part ≡ Some metadata) × Appends held held' (fetched_lines metadata b.left b.right)
+IsPrinted b r held held' (Ok Fetched) = (metadata : List ℕ) × (metadata_of r.end.part ≡ Some metadata)
+    × Appends held held' (fetched_lines metadata b.left b.right)
 IsPrinted b r held held' (Ok Unfetched) = Appends held held' unfetched_line
 IsPrinted b r held held' (Err fault.Write) =
-    (lines : List ℕ) × AppendsPrefix held held' lines × (((metadata : List ℕ) × (metadata_of r.end.part ≡ Some metadata) × (lines ≡ fetched_lines metadata b.left b.right)) ⊎ (lines ≡ unfetched_line))
+    (lines : List ℕ) × AppendsPrefix held held' lines × (((metadata : List ℕ) × (metadata_of r.end.part ≡ Some metadata)
+        × (lines ≡ fetched_lines metadata b.left b.right)) ⊎ (lines ≡ unfetched_line))
 IsPrinted b r held held' (Err fault.Memory) = held' ≡ held
 IsPrinted b r held held' other = ⊥
 

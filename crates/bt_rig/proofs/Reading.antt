@@ -9,7 +9,8 @@ use Rattle.bt_rig.specs.declared.entry.Entry.{Entry}
 use Rattle.bt_rig.specs.declared.entry.Entry.TheVariants.{Set, Do}
 use Rattle.bt_rig.specs.declared.entry.Setting.{Setting}
 use Rattle.bt_rig.specs.Entries.{Says, IsReading}
-use Rattle.bt_rig.specs.Scripts.{Draft, start, is_skipped, with_side, with_step, Takes, skips, sets, does, AreTaken, IsTaken, AreWhole, ended_lines, IsCut, IsTail, HasLine, IsScript, IsWrongAt}
+use Rattle.bt_rig.specs.Scripts.{Draft, start, is_skipped, with_side, with_step, Takes, skips, sets, does, AreTaken, IsTaken, AreWhole, ended_lines, IsCut,
+    IsTail, HasLine, IsScript, IsWrongAt}
 
 -- ---- a line
 
@@ -18,7 +19,8 @@ none_taken d line shown none other (skips skipped e) = let k : true ≡ false = 
 none_taken d line shown none other (sets side setting s says first e) = none (Set side setting) says
 none_taken d line shown none other (does step s says e) = none (Do step) says
 
-pub says_set : (line : List ℕ) (r : Option Entry) (e : Entry) (side : Side) (setting : Setting) → IsReading line r → r ≡ Some e → e ≡ Set side setting → Says line (Set side setting)
+pub says_set : (line : List ℕ) (r : Option Entry) (e : Entry) (side : Side) (setting : Setting) → IsReading line r → r ≡ Some e → e ≡ Set side setting
+    → Says line (Set side setting)
 says_set line r e side setting h some is = subst (IsReading line) (some ∙ ap (λ (x : Entry). Some x) is) h
 
 pub says_do : (line : List ℕ) (r : Option Entry) (e : Entry) (step : Step) → IsReading line r → r ≡ Some e → e ≡ Do step → Says line (Do step)
@@ -37,7 +39,8 @@ whole_more (l ∷ ls) line h last = (h.0, whole_more ls line h.1 last)
 ended_more : (lines : List (List ℕ)) (line rest : List ℕ) → ended_lines (lines ++ line ∷ []) ++ rest ≡ ended_lines lines ++ (line ++ 10 ∷ rest)
 ended_more [] line rest = simp append_assoc
 ended_more (l ∷ ls) line rest =
-    append_assoc (l ++ 10 ∷ []) (ended_lines (ls ++ line ∷ [])) rest ∙ ap (λ (x : List ℕ). (l ++ 10 ∷ []) ++ x) (ended_more ls line rest) ∙ sym (append_assoc (l ++ 10 ∷ []) (ended_lines ls) (line ++ 10 ∷ rest))
+    append_assoc (l ++ 10 ∷ []) (ended_lines (ls ++ line ∷ [])) rest ∙ ap (λ (x : List ℕ). (l ++ 10 ∷ []) ++ x) (ended_more ls line rest)
+        ∙ sym (append_assoc (l ++ 10 ∷ []) (ended_lines ls) (line ++ 10 ∷ rest))
 
 -- these lines are read, and the rest isn't
 pub record IsReadTo (text rest : List ℕ) (number : ℕ) (d : Draft) : Type 0 where
@@ -51,7 +54,8 @@ pub record IsReadTo (text rest : List ℕ) (number : ℕ) (d : Draft) : Type 0 w
 pub nothing_read : (text : List ℕ) (d : Draft) → d ≡ start → IsReadTo text text 1 d
 nothing_read text d e = record { before = []; parts = refl; whole = tt; taken = e; count = refl; bound = omega arith }
 
-pub one_more_read : (text rest line after : List ℕ) (number : ℕ) (d next : Draft) → IsReadTo text rest number d → IsCut rest (Some (line, after)) → Takes d line next → IsReadTo text after (number + 1) next
+pub one_more_read : (text rest line after : List ℕ) (number : ℕ) (d next : Draft) → IsReadTo text rest number d → IsCut rest (Some (line, after))
+    → Takes d line next → IsReadTo text after (number + 1) next
 one_more_read text rest line after number d next h cut taken =
     let size : length rest ≡ length line + (1 + length after) = ap length cut.0 ∙ length-append line (10 ∷ after) ∙ (omega arith) in
     record {
@@ -63,7 +67,8 @@ one_more_read text rest line after number d next h cut taken =
       bound = omega (arith, h.bound, size);
     }
 
-pub wrong_line : (text rest line after : List ℕ) (number : ℕ) (d : Draft) → IsReadTo text rest number d → IsCut rest (Some (line, after)) → ((next : Draft) → Takes d line next → ⊥) → IsWrongAt text number
+pub wrong_line : (text rest line after : List ℕ) (number : ℕ) (d : Draft) → IsReadTo text rest number d → IsCut rest (Some (line, after))
+    → ((next : Draft) → Takes d line next → ⊥) → IsWrongAt text number
 wrong_line text rest line after number d h cut wrong = record {
   before = h.before;
   line = line;
@@ -76,11 +81,14 @@ wrong_line text rest line after number d h cut wrong = record {
 }
 
 last_line : (text rest : List ℕ) (number : ℕ) (d : Draft) (h : IsReadTo text rest number d) → has_feed rest ≡ false → HasLine text h.before rest []
-last_line text rest number d h none = record { parts = h.parts ∙ ap (λ (x : List ℕ). ended_lines h.before ++ x) (sym (append-nil rest)); whole = h.whole; last = none; ends = tt }
+last_line text rest number d h none = record { parts = h.parts ∙ ap (λ (x : List ℕ). ended_lines h.before ++ x) (sym (append-nil rest)); whole = h.whole;
+    last = none; ends = tt }
 
-pub wrong_last : (text rest : List ℕ) (number : ℕ) (d : Draft) → IsReadTo text rest number d → IsCut rest None → ((next : Draft) → Takes d rest next → ⊥) → IsWrongAt text number
+pub wrong_last : (text rest : List ℕ) (number : ℕ) (d : Draft) → IsReadTo text rest number d → IsCut rest None → ((next : Draft) → Takes d rest next → ⊥)
+    → IsWrongAt text number
 wrong_last text rest number d h none wrong =
-    record { before = h.before; line = rest; tail = []; lines = last_line text rest number d h none; draft = d; taken = h.taken; wrong = wrong; count = h.count }
+    record { before = h.before; line = rest; tail = []; lines = last_line text rest number d h none; draft = d; taken = h.taken; wrong = wrong;
+        count = h.count }
 
 pub all_read : (text rest : List ℕ) (number : ℕ) (d next : Draft) → IsReadTo text rest number d → IsCut rest None → Takes d rest next → IsScript text next
 all_read text rest number d next h none taken =

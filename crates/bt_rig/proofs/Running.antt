@@ -24,7 +24,8 @@ printed_so r h k F (Err Memory) w = absurd w
 printed_so r h k F (Err Turns) w = absurd w
 printed_so r h k F (Err Net) w = absurd w
 
-pub finished_so : (s : Script) (r : LinkReport) (h k : Option (List ℕ)) (F : Type 0) (x : Result RigEnd ToolFault) → IsRunOf s r → IsPrinted r h k F x → IsFinished s h k F x
+pub finished_so : (s : Script) (r : LinkReport) (h k : Option (List ℕ)) (F : Type 0) (x : Result RigEnd ToolFault) → IsRunOf s r → IsPrinted r h k F x
+    → IsFinished s h k F x
 finished_so s r h k F (Ok Ran) run p = (r, run, p)
 finished_so s r h k F (Ok (Syntax n)) run p = absurd p
 finished_so s r h k F (Ok Size) run p = absurd p
@@ -35,7 +36,8 @@ finished_so s r h k F (Err Memory) run p = p
 finished_so s r h k F (Err Turns) run p = absurd p
 finished_so s r h k F (Err Net) run p = absurd p
 
-pub ended_so : (text : List ℕ) (s : Script) (h k : Option (List ℕ)) (F : Type 0) (x : Result RigEnd ToolFault) → IsScript text (draft_of s) → IsFinished s h k F x → IsTextRun text h k F x
+pub ended_so : (text : List ℕ) (s : Script) (h k : Option (List ℕ)) (F : Type 0) (x : Result RigEnd ToolFault) → IsScript text (draft_of s)
+    → IsFinished s h k F x → IsTextRun text h k F x
 ended_so text s h k F (Ok Ran) is p = (s, is, p.0, p.1, p.2)
 ended_so text s h k F (Ok (Syntax n)) is p = absurd p
 ended_so text s h k F (Ok Size) is p = absurd p
@@ -52,7 +54,8 @@ timely E (Syntax n) at = at
 timely E Size at = tt
 timely E (Unrun e) at = at
 
-pub rig_so : (text : List ℕ) (l m h k : Option (List ℕ)) (E U F : Type 0) (x : Result RigEnd ToolFault) → Consumes l m text → E → IsTextRun text h k F x → IsRigRun l m h k E U F x
+pub rig_so : (text : List ℕ) (l m h k : Option (List ℕ)) (E U F : Type 0) (x : Result RigEnd ToolFault) → Consumes l m text → E → IsTextRun text h k F x
+    → IsRigRun l m h k E U F x
 rig_so text l m h k E U F (Ok e) read at p = (text, read, (p, timely E e at))
 rig_so text l m h k E U F (Err Read) read at p = absurd p.1
 rig_so text l m h k E U F (Err Write) read at p = (text, read, p)
@@ -60,10 +63,12 @@ rig_so text l m h k E U F (Err Memory) read at p = (text, read, p)
 rig_so text l m h k E U F (Err Turns) read at p = absurd p
 rig_so text l m h k E U F (Err Net) read at p = absurd p
 
-pub script_by : (text : List ℕ) (r : Result Script ℕ) (s : Script) → MatchResult r (λ s. IsScript text (draft_of s)) (IsWrongAt text) → r ≡ Ok s → IsScript text (draft_of s)
+pub script_by : (text : List ℕ) (r : Result Script ℕ) (s : Script) → MatchResult r (λ s. IsScript text (draft_of s)) (IsWrongAt text) → r ≡ Ok s
+    → IsScript text (draft_of s)
 script_by text r s h e = subst (λ (x : Result Script ℕ). MatchResult x (λ s. IsScript text (draft_of s)) (IsWrongAt text)) e h
 
-pub rig_by : (f : Option (Vec ℕ)) (v : Vec ℕ) (bytes : List ℕ) (l m h k : Option (List ℕ)) (E U F : Type 0) (x : Result RigEnd ToolFault) → IsInput l m E U (Ok f) → f ≡ Some v → bytes ≡ v.items → IsTextRun bytes h k F x
+pub rig_by : (f : Option (Vec ℕ)) (v : Vec ℕ) (bytes : List ℕ) (l m h k : Option (List ℕ)) (E U F : Type 0) (x : Result RigEnd ToolFault)
+    → IsInput l m E U (Ok f) → f ≡ Some v → bytes ≡ v.items → IsTextRun bytes h k F x
     → IsRigRun l m h k E U F x
 rig_by f v bytes l m h k E U F x input some same run =
     let P : Option (Vec ℕ) → Type 0 = λ o. IsInput l m E U (Ok o) in

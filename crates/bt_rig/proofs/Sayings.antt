@@ -1,5 +1,6 @@
 -- The message of a line, and what a line says.
-use Rattle.std.proofs.Common.{◌≡◌, ℕ, ◌<◌, ◌≤◌, ◌⊎◌, Bool, true, false, List, [], ◌∷◌, ◌++◌, length, Option, Some, None, Result, Ok, Err, refl, sym, ap, subst, ◌∙◌, arith, inl, inr}
+use Rattle.std.proofs.Common.{◌≡◌, ℕ, ◌<◌, ◌≤◌, ◌⊎◌, Bool, true, false, List, [], ◌∷◌, ◌++◌, length, Option, Some, None, Result, Ok, Err, refl, sym, ap,
+    subst, ◌∙◌, arith, inl, inr}
 use Rattle.std.specs.Prelude.{IfOk, codes, option_map, option_and_then, if◌then◌else◌}
 use Rattle.std.specs.Str.{bytes_eq}
 use Rattle.std.proofs.lemmas.List.{append-nil}
@@ -18,7 +19,8 @@ use Rattle.bt_text.specs.Script.{IsLine, IsAnswer}
 use Rattle.bt_text.specs.ScriptLaws.{LineIsOne}
 use Rattle.bt_rig.specs.declared.entry.Entry.{Entry}
 use Rattle.bt_rig.specs.declared.entry.Entry.TheVariants.{Set, Do}
-use Rattle.bt_rig.specs.Entries.{lenient, IsMessage, IsMessageReading, IsSpelledBy, Says, IsReading, side_of, sided_of, delivery_of, setting_in, entry_by, entry_in, cut_of, said_in}
+use Rattle.bt_rig.specs.Entries.{lenient, IsMessage, IsMessageReading, IsSpelledBy, Says, IsReading, side_of, sided_of, delivery_of, setting_in, entry_by,
+    entry_in, cut_of, said_in}
 
 -- ---- the message of bytes
 
@@ -44,7 +46,8 @@ read_by : (words bytes : List ℕ) (r : Option Message) → LineIsOne → IsLine
 read_by words bytes None one line none = λ m h. none m h.said (one false words bytes h.bytes line h.line ∙ h.spelled)
 read_by words bytes (Some m) one line h = record { bytes = bytes; line = line; said = h.0; spelled = h.1 }
 
-pub read_so : {E : Type 0} (words bytes : List ℕ) (r : Result (Option Message) E) → LineIsOne → IsLine false words bytes → IfOk r (IsSpelledBy bytes) → IfOk r (IsMessageReading words)
+pub read_so : {E : Type 0} (words bytes : List ℕ) (r : Result (Option Message) E) → LineIsOne → IsLine false words bytes → IfOk r (IsSpelledBy bytes)
+    → IfOk r (IsMessageReading words)
 read_so words bytes (Ok r) one line h = read_by words bytes r one line h
 read_so words bytes (Err e) one line h = tt
 
@@ -87,11 +90,14 @@ no_say_by p s m e =
     let delivery : Option Entry = option_and_then delivery_of (sided_of p.1) in
     let turn : Option Entry = option_map (λ s. Do (steps.Turn s)) (side_of p.1) in
     elim (either (bytes_eq p.0 (codes "turn")) turn (if bytes_eq p.0 (codes "deliver") then delivery else other) say e) [
-      | inl t ↦ (let w = mapped (λ (s : Side). Do (steps.Turn s)) (side_of p.1) (Do (steps.Say s m)) t in let k : Do (steps.Turn w.0) ≡ Do (steps.Say s m) = w.1 in cc)
+      | inl t ↦ (let w = mapped (λ (s : Side). Do (steps.Turn s)) (side_of p.1) (Do (steps.Say s m)) t in let k : Do (steps.Turn w.0)
+          ≡ Do (steps.Say s m) = w.1 in cc)
       | inr o ↦
           elim (either (bytes_eq p.0 (codes "deliver")) delivery other say o) [
-            | inl d ↦ (let w = chained delivery_of (sided_of p.1) (Do (steps.Say s m)) d in let v = mapped (λ (n : ℕ). Do (steps.Deliver w.0.0 n)) _ (Do (steps.Say s m)) w.1 in let k : Do (steps.Deliver w.0.0 v.0) ≡ Do (steps.Say s m) = v.1 in cc)
-            | inr x ↦ (let w = chained (λ (t : Side). option_map (Set t) (setting_in p.1)) (side_of p.0) (Do (steps.Say s m)) x in let v = mapped (Set w.0) (setting_in p.1) (Do (steps.Say s m)) w.1 in let k : Set w.0 v.0 ≡ Do (steps.Say s m) = v.1 in cc)
+            | inl d ↦ (let w = chained delivery_of (sided_of p.1) (Do (steps.Say s m)) d in let v = mapped (λ (n : ℕ). Do (steps.Deliver w.0.0 n)) _
+                (Do (steps.Say s m)) w.1 in let k : Do (steps.Deliver w.0.0 v.0) ≡ Do (steps.Say s m) = v.1 in cc)
+            | inr x ↦ (let w = chained (λ (t : Side). option_map (Set t) (setting_in p.1)) (side_of p.0) (Do (steps.Say s m)) x in
+                let v = mapped (Set w.0) (setting_in p.1) (Do (steps.Say s m)) w.1 in let k : Set w.0 v.0 ≡ Do (steps.Say s m) = v.1 in cc)
           ]
     ]
 

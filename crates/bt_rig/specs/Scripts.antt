@@ -100,7 +100,8 @@ is_skipped (c ∷ cs) = c == 35
 -- a line is skipped; or it has a setting, which stands before the steps; or it has a step
 pub data Takes (d : Draft) (line : List ℕ) (next : Draft) : Type 0 where
   skips : is_skipped line ≡ true → next ≡ d → Takes d line next
-  sets : (side : Side) → (setting : Setting) → is_skipped line ≡ false → Says line (Set side setting) → d.steps ≡ [] → next ≡ with_side d side setting → Takes d line next
+  sets : (side : Side) → (setting : Setting) → is_skipped line ≡ false → Says line (Set side setting) → d.steps ≡ [] → next ≡ with_side d side setting
+      → Takes d line next
   does : (step : Step) → is_skipped line ≡ false → Says line (Do step) → next ≡ with_step d step → Takes d line next
 
 -- the lines are taken one after the other

@@ -33,22 +33,28 @@ fetching = unopened (own (Some 9)) (hand (own (Some 9))) announce.Silent 8 Await
 -- on each has 68, 49 and 50 bytes, and 68, 30 and 31.
 abbrev steps : List Step
 steps =
-    step.Deliver Right 68 ∷ step.Turn Right ∷ step.Deliver Left 98 ∷ step.Turn Left ∷ step.Turn Left ∷ step.Deliver Right 49 ∷ step.Turn Right ∷ step.Deliver Left 31 ∷ step.Turn Left ∷ step.Deliver Right 20 ∷ step.Reset
-    ∷ step.Deliver Right 68 ∷ step.Turn Right ∷ step.Deliver Left 98 ∷ step.Turn Left ∷ step.Turn Left ∷ step.Deliver Right 49 ∷ step.Turn Right ∷ step.Deliver Left 31 ∷ step.Turn Left ∷ step.Deliver Right 50 ∷ step.Turn Right ∷ []
+    step.Deliver Right 68 ∷ step.Turn Right ∷ step.Deliver Left 98 ∷ step.Turn Left ∷ step.Turn Left ∷ step.Deliver Right 49 ∷ step.Turn
+        Right ∷ step.Deliver Left 31 ∷ step.Turn Left ∷ step.Deliver Right 20 ∷ step.Reset
+    ∷ step.Deliver Right 68 ∷ step.Turn Right ∷ step.Deliver Left 98 ∷ step.Turn Left ∷ step.Turn Left ∷ step.Deliver Right 49 ∷ step.Turn
+        Right ∷ step.Deliver Left 31 ∷ step.Turn Left ∷ step.Deliver Right 50 ∷ step.Turn Right ∷ []
 
 abbrev outcomes : List Outcome
 outcomes =
-    outcome.Delivered 68 ∷ outcome.Handled ∷ outcome.Delivered 98 ∷ outcome.Handled ∷ outcome.Handled ∷ outcome.Delivered 49 ∷ outcome.Handled ∷ outcome.Delivered 31 ∷ outcome.Handled ∷ outcome.Delivered 20 ∷ outcome.Reset
-    ∷ outcome.Delivered 68 ∷ outcome.Handled ∷ outcome.Delivered 98 ∷ outcome.Handled ∷ outcome.Handled ∷ outcome.Delivered 49 ∷ outcome.Handled ∷ outcome.Delivered 31 ∷ outcome.Handled ∷ outcome.Delivered 50 ∷ outcome.Handled ∷ []
+    outcome.Delivered 68 ∷ outcome.Handled ∷ outcome.Delivered 98 ∷ outcome.Handled ∷ outcome.Handled ∷ outcome.Delivered
+        49 ∷ outcome.Handled ∷ outcome.Delivered 31 ∷ outcome.Handled ∷ outcome.Delivered 20 ∷ outcome.Reset
+    ∷ outcome.Delivered 68 ∷ outcome.Handled ∷ outcome.Delivered 98 ∷ outcome.Handled ∷ outcome.Handled ∷ outcome.Delivered
+        49 ∷ outcome.Handled ∷ outcome.Delivered 31 ∷ outcome.Handled ∷ outcome.Delivered 50 ∷ outcome.Handled ∷ []
 
 two_connections : AreOutcomes (link_of serving fetching) steps outcomes
 unfolding digits hash
-two_connections = (refl, (refl, (refl, (refl, (refl, (refl, (refl, (refl, (refl, (refl, (refl, (refl, (refl, (refl, (refl, (refl, (refl, (refl, (refl, (refl, (refl, (refl, tt))))))))))))))))))))))
+two_connections = (refl, (refl, (refl, (refl, (refl, (refl, (refl,
+    (refl, (refl, (refl, (refl, (refl, (refl, (refl, (refl, (refl, (refl, (refl, (refl, (refl, (refl, (refl, tt))))))))))))))))))))))
 
 abbrev counts : Connection → List ℕ
 counts c = length c.left_sent ∷ length c.right_sent ∷ length c.left_handled ∷ length c.right_handled ∷ []
 
 -- but for the last turn, which wants a SHA-1
-sent_and_handled : map counts (connections_of (after_all (link_of serving fetching) (take 21 steps) outcomes)) ≡ (3 ∷ 3 ∷ 3 ∷ 2 ∷ []) ∷ (3 ∷ 3 ∷ 3 ∷ 2 ∷ []) ∷ []
+sent_and_handled : map counts (connections_of (after_all (link_of serving fetching) (take 21 steps) outcomes))
+    ≡ (3 ∷ 3 ∷ 3 ∷ 2 ∷ []) ∷ (3 ∷ 3 ∷ 3 ∷ 2 ∷ []) ∷ []
 unfolding digits hash
 sent_and_handled = refl

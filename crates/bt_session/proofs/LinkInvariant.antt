@@ -71,7 +71,8 @@ pub record Knows (b e : EndState) : Type 0 where
 pub data IsOwn (id : Option ℕ) (source : Option (List ℕ)) (size : Option ℕ) (e : Ext) : Type 0 where
   greeting : e ≡ handshake_of id size → IsOwn id source size e
   request : (k : ℕ) → k < 2 ^ 32 → e ≡ message_of (kind.Request k) [] → IsOwn id source size e
-  data_of : (metadata : List ℕ) (k : ℕ) → source ≡ Some metadata → k < block_count (length metadata) → e ≡ message_of (kind.Data k (length metadata)) (block metadata k) → IsOwn id source size e
+  data_of : (metadata : List ℕ) (k : ℕ) → source ≡ Some metadata → k < block_count (length metadata) → e ≡ message_of (kind.Data k (length metadata))
+      (block metadata k) → IsOwn id source size e
   reject : (k : ℕ) → k < 2 ^ 32 → e ≡ message_of (kind.Reject k) [] → IsOwn id source size e
 
 abbrev pub IsHonestMessage : EndState → Message → Type 0
@@ -153,7 +154,8 @@ pub record Inv (a b : EndState) (p : M.Pair) (w : Wires) : Type 0 where
 -- ---- the byte link of these ends
 
 abbrev pub node_of : M.Node → List Item → FeedState → List ℕ → List ℕ → B.Node
-node_of x handled feed untaken outbox = record { half = record { end = x.end; feed = feed; outbox = outbox }; untaken = untaken; sent = x.sent; handled = handled }
+node_of x handled feed untaken outbox = record { half = record { end = x.end; feed = feed; outbox = outbox }; untaken = untaken; sent = x.sent;
+    handled = handled }
 
 abbrev pub made : M.Pair → Wires → B.Pair
 made p w = record {

@@ -1,5 +1,6 @@
 -- A delivery, a saying and a new connection of the byte link are those of the message link.
-use Rattle.std.proofs.Common.{◌≡◌, ℕ, ◌+◌, ◌^◌, ◌<◌, ◌≤◌, inl, inr, min, Bool, true, false, ◌&&◌, ◌||◌, if◌then◌else◌, List, [], ◌∷◌, ◌++◌, length, take, drop, flat_map, Option, Some, None, slice_get, refl, sym, ap, subst, ◌∙◌, arith, is_none, is_some, option_map, nat_le}
+use Rattle.std.proofs.Common.{◌≡◌, ℕ, ◌+◌, ◌^◌, ◌<◌, ◌≤◌, inl, inr, min, Bool, true, false, ◌&&◌, ◌||◌, if◌then◌else◌, List, [], ◌∷◌, ◌++◌, length, take,
+    drop, flat_map, Option, Some, None, slice_get, refl, sym, ap, subst, ◌∙◌, arith, is_none, is_some, option_map, nat_le}
 use Rattle.std.specs.Prelude.{unwrap_or}
 use Rattle.std.proofs.lemmas.Bool.{cases_lt}
 use Rattle.std.proofs.lemmas.List.{append-nil, take-append-le}
@@ -42,7 +43,8 @@ use Rattle.bt_wire.proofs.ContextLaws.{legal_elsewhere, legal_is_not_refused, re
 use Rattle.bt_wire.proofs.SpellLaws.{length-spell}
 use Rattle.bt_wire.specs.declared.fault.Fault.{Fault}
 use Rattle.bt_session.specs.LinkLaws.{source_of, IsConfigured, AreMatched, SamePieces}
-use Rattle.bt_session.proofs.LinkInvariant.{IsStill, reads, IsPartFor, Knows, IsHonestMessage, IsFor, Coming, behind, IsAwaiting, Flow, Wires, Inv, node_of, made}
+use Rattle.bt_session.proofs.LinkInvariant.{IsStill, reads, IsPartFor, Knows, IsHonestMessage, IsFor, Coming, behind, IsAwaiting, Flow, Wires, Inv, node_of,
+    made}
 use Rattle.bt_session.proofs.LinkMoves.{fed, undelivered_is, delivered, sent, limited, no_bytes}
 use Rattle.bt_session.proofs.LinkReactions.{agreed_ext, agreed_fast}
 use Rattle.bt_session.proofs.LinkTurns.{item_early, empty_open}
@@ -51,7 +53,8 @@ use Rattle.bt_session.proofs.LinkTurns.{item_early, empty_open}
 
 pub record Delivers (a b : EndState) (p : M.Pair) (w : Wires) (n : ℕ) : Type 0 where
   pub wires : Wires
-  pub delivery : B.IsDelivery (made p w) n (outcome.Delivered (min n (M.undelivered p.other))) (made (M.after_deliver p (outcome.Delivered (min n (M.undelivered p.other)))) wires)
+  pub delivery : B.IsDelivery (made p w) n (outcome.Delivered (min n (M.undelivered p.other)))
+      (made (M.after_deliver p (outcome.Delivered (min n (M.undelivered p.other)))) wires)
   pub inv : Inv a b (M.after_deliver p (outcome.Delivered (min n (M.undelivered p.other)))) wires
 
 delivered_wires : Wires → ℕ → Wires
@@ -73,7 +76,8 @@ delivers a b p w n inv =
       delivery = (ap outcome.Delivered (sym same), ap (λ (j : ℕ). B.delivers (made p w) j) (sym same));
       inv = record {
         going = inv.going;
-        coming = fed b a (M.delivers p.other k) p.own.end w.feed (w.untaken ++ take k w.other_outbox) (drop k w.other_outbox) (delivered b a p.other p.own.end w.feed w.untaken w.other_outbox k le inv.coming.is);
+        coming = fed b a (M.delivers p.other k) p.own.end w.feed (w.untaken ++ take k w.other_outbox) (drop k w.other_outbox)
+            (delivered b a p.other p.own.end w.feed w.untaken w.other_outbox k le inv.coming.is);
         own = inv.own;
         other = inv.other;
         knows = inv.knows;
@@ -83,11 +87,13 @@ delivers a b p w n inv =
 
 -- ---- nothing stands against what comes
 
-early_at : (a b : EndState) (x : M.Node) (e : EndState) (f : FeedState) (untaken outbox : List ℕ) → IsConfigured b → IsStill b e → M.IsSmallNode x → Flow a b x e f untaken outbox → (next : Option Item) → slice_get x.sent x.handled ≡ next → early f.stage f.held ≡ None
+early_at : (a b : EndState) (x : M.Node) (e : EndState) (f : FeedState) (untaken outbox : List ℕ) → IsConfigured b → IsStill b e → M.IsSmallNode x
+    → Flow a b x e f untaken outbox → (next : Option Item) → slice_get x.sent x.handled ≡ next → early f.stage f.held ≡ None
 early_at a b x e f untaken outbox end still few flow None next =
     let l = flow.is in
     let none : drop x.handled x.sent ≡ [] = none_left x.handled x.sent next in
-    let empty : Coming f.stage [] (f.held ++ (untaken ++ outbox)) = subst (λ (js : List Item). Coming f.stage js (f.held ++ (untaken ++ outbox))) none l.coming in
+    let empty : Coming f.stage [] (f.held ++ (untaken ++ outbox)) = subst (λ (js : List Item). Coming f.stage js (f.held ++ (untaken ++ outbox))) none
+        l.coming in
     let is : f.stage ≡ stage.Message (reads b a) x.end.sends (total x.sent) (length x.sent) = ap (behind f.stage) (sym none) ∙ l.behind_all in
     (open_parts f.stage f.held (empty_open f.stage f.held (untaken ++ outbox) (reads b a) x.end.sends (total x.sent) (length x.sent) few is empty)).0
 early_at a b x e f untaken outbox end still few flow (Some i) next =
@@ -95,7 +101,8 @@ early_at a b x e f untaken outbox end still few flow (Some i) next =
     let parts = next_parts x.handled x.sent i next in
     let rest : List Item = drop (x.handled + 1) x.sent in
     let lt = limited a b x e f untaken outbox end still l in
-    let come : Coming f.stage (i ∷ rest) (f.held ++ (untaken ++ outbox)) = subst (λ (js : List Item). Coming f.stage js (f.held ++ (untaken ++ outbox))) parts.0 l.coming in
+    let come : Coming f.stage (i ∷ rest) (f.held ++ (untaken ++ outbox)) = subst (λ (js : List Item). Coming f.stage js (f.held ++ (untaken ++ outbox)))
+        parts.0 l.coming in
     elim (cases_lt (length f.held) (size i)) [
       | inl short ↦ (open_parts f.stage f.held (first_open f.stage i rest f.held (untaken ++ outbox) lt come short)).0
       | inr long ↦ item_early f.stage f.held i lt (first_held f.stage i rest f.held untaken outbox lt come l.partial flow.full (omega arith)).0
@@ -107,16 +114,19 @@ stands_by o t f e h = rw (e, h) refl
 -- ---- sayings
 
 -- what an end of the byte link may say is what it may say in the message link
-same_unsaid : (a b : EndState) (p : M.Pair) (w : Wires) (msg : Message) → IsConfigured a → Inv a b p w → M.IsSmallNode p.other → unsaid_by (made p w).own.half msg ≡ M.unsaid_by p.own msg
+same_unsaid : (a b : EndState) (p : M.Pair) (w : Wires) (msg : Message) → IsConfigured a → Inv a b p w → M.IsSmallNode p.other
+    → unsaid_by (made p w).own.half msg ≡ M.unsaid_by p.own msg
 same_unsaid a b p w msg end inv few =
-    let e : early w.feed.stage w.feed.held ≡ None = early_at b a p.other p.own.end w.feed w.untaken w.other_outbox end inv.own few inv.coming (M.next_item p.other) refl in
+    let e : early w.feed.stage w.feed.held ≡ None = early_at b a p.other p.own.end w.feed w.untaken w.other_outbox end inv.own few inv.coming
+        (M.next_item p.other) refl in
     let stands : is_some (standing w.feed) ≡ false = stands_by w.feed.refused w.feed.stage (early w.feed.stage w.feed.held) inv.coming.is.unrefused e in
     ap (λ (refused : Bool). unsaid p.own.end refused (length w.outbox) msg) stands
     ∙ ap (λ (n : ℕ). unsaid p.own.end false n msg) (undelivered_is a b p.own p.other.end w.other_feed w.other_untaken w.outbox inv.going.is)
 
 -- nothing stands against it
 pub unsaid_none : (closed high extended pieces : Bool)
-    → (if closed then Some say_error.NotOpen else (if high then Some say_error.Busy else (if extended then Some say_error.Extended else (if pieces then Some say_error.PiecesUnknown else None)))) ≡ None
+    → (if closed then Some say_error.NotOpen else (if high then Some say_error.Busy else
+    (if extended then Some say_error.Extended else (if pieces then Some say_error.PiecesUnknown else None)))) ≡ None
     → (closed ≡ false) × (extended ≡ false) × (pieces ≡ false)
 unsaid_none true high extended pieces e = absurd cc
 unsaid_none false true extended pieces e = absurd cc
@@ -156,21 +166,24 @@ plain_honest a (m.Extended e) h = absurd cc
 plain_honest a other h = tt
 
 -- the context of an open end
-open_context : (a b : EndState) (e : EndState) (t : Stage) (is : List Item) (o : Order) (s n : ℕ) → IsAwaiting e t → behind t is ≡ stage.Message (reads a b) o s n → is_none e.context ≡ false → e.context ≡ Some (reads a b)
+open_context : (a b : EndState) (e : EndState) (t : Stage) (is : List Item) (o : Order) (s n : ℕ) → IsAwaiting e t → behind t is
+    ≡ stage.Message (reads a b) o s n → is_none e.context ≡ false → e.context ≡ Some (reads a b)
 open_context a b e (stage.Handshake own) is o s n w follows known = absurd (let none = w.1 in let bad = rw none at known in cc)
 open_context a b e (stage.Message c p k j) is o s n w follows known = w ∙ ap Some (behind_message c p k j is (reads a b) o s n follows)
 
 -- the context that the other reads in is the believed one, with its own piece count and ids
 reads_moved : (a b e : EndState) → AreMatched a b → IsStill a e → e.context ≡ Some (reads a b) → moved (belief e) b.own.pieces b.own.reg ≡ reads b a
 reads_moved a b e h still known =
-    ap (λ (o : Option Context). record (reads b a) { fast = (unwrap_or o (negotiated e.own no_extension)).fast; ext = (unwrap_or o (negotiated e.own no_extension)).ext; rules = e.own.rules; limit = e.own.limit }) known
+    ap (λ (o : Option Context). record (reads b a) { fast = (unwrap_or o (negotiated e.own no_extension)).fast;
+        ext = (unwrap_or o (negotiated e.own no_extension)).ext; rules = e.own.rules; limit = e.own.limit }) known
     ∙ ap (λ (x : Bool). record (reads b a) { fast = x; ext = (reads a b).ext; rules = e.own.rules; limit = e.own.limit }) (agreed_fast a b)
     ∙ ap (λ (x : Bool). record (reads b a) { ext = x; rules = e.own.rules; limit = e.own.limit }) (agreed_ext a b)
     ∙ ap (λ (o : Own). record (reads b a) { rules = o.rules; limit = o.limit }) still.own
     ∙ ap (λ (x : Rules). record (reads b a) { rules = x; limit = a.own.limit }) h.rules
     ∙ ap (λ (n : ℕ). record (reads b a) { limit = n }) h.limit
 
-pieces_by : (c : Context) (msg : Message) (x y : Option ℕ) → c.pieces ≡ x → SamePieces x y → ((is_some (index_in (fields_of c msg)) || is_some (field_in (fields_of c msg))) && is_none x) ≡ false → PiecesSuit c msg y
+pieces_by : (c : Context) (msg : Message) (x y : Option ℕ) → c.pieces ≡ x → SamePieces x y
+    → ((is_some (index_in (fields_of c msg)) || is_some (field_in (fields_of c msg))) && is_none x) ≡ false → PiecesSuit c msg y
 pieces_by c msg x None is same known = inr (inl refl)
 pieces_by c msg (Some j) (Some n) is same known = inl (ap Some (sym same) ∙ sym is)
 pieces_by c msg None (Some n) is same known = inr (inr (neither (index_in (fields_of c msg)) (field_in (fields_of c msg)) known))
@@ -181,7 +194,8 @@ pieces_by c msg None (Some n) is same known = inr (inr (neither (index_in (field
     neither (Some i) f e = absurd cc
 
 -- what it says is legal where the other reads it
-said_for : (a b e : EndState) (msg : Message) → AreMatched a b → IsStill a e → e.context ≡ Some (reads a b) → IsInRange bare msg → is_extended msg ≡ false → (tells_pieces e msg && is_none e.own.pieces) ≡ false → IsLegal (belief e) e.sends msg → IsFor (belief e) (reads b a) e.sends msg
+said_for : (a b e : EndState) (msg : Message) → AreMatched a b → IsStill a e → e.context ≡ Some (reads a b) → IsInRange bare msg → is_extended msg ≡ false
+    → (tells_pieces e msg && is_none e.own.pieces) ≡ false → IsLegal (belief e) e.sends msg → IsFor (belief e) (reads b a) e.sends msg
 said_for a b e msg h still known range plain pieces legal =
     let counted : (belief e).pieces ≡ a.own.pieces = ap (λ (o : Own). o.pieces) still.own in
     let tells : (tells_pieces e msg && is_none a.own.pieces) ≡ false = ap (λ (o : Own). tells_pieces e msg && is_none o.pieces) (sym still.own) ∙ pieces in
@@ -218,7 +232,8 @@ say_is x msg (outcome.Delivered n) y h = absurd h
 say_is x msg outcome.Reset y h = absurd h
 
 -- what it answers in the byte link it answers in the message link
-say_told : (x : B.Node) (n : M.Node) (msg : Message) (o : Outcome) (y : B.Node) → x.half.end ≡ n.end → unsaid_by x.half msg ≡ M.unsaid_by n msg → B.SayGives x msg o y → M.IsSayOf n msg o
+say_told : (x : B.Node) (n : M.Node) (msg : Message) (o : Outcome) (y : B.Node) → x.half.end ≡ n.end → unsaid_by x.half msg ≡ M.unsaid_by n msg
+    → B.SayGives x msg o y → M.IsSayOf n msg o
 say_told x n msg outcome.Said y e s h = (sym s ∙ h.0.0.0, subst (λ (z : EndState). IsLegal (belief z) z.sends msg) e h.0.0.1)
 say_told x n msg (outcome.NotSaid say_error.NotOpen) y e s h = sym s ∙ h.0.0
 say_told x n msg (outcome.NotSaid say_error.Busy) y e s h = sym s ∙ h.0.0
@@ -234,14 +249,16 @@ say_told x n msg (outcome.Delivered k) y e s h = absurd h
 say_told x n msg outcome.Reset y e s h = absurd h
 
 -- and the other way round
-say_gives : (x : B.Node) (n : M.Node) (msg : Message) (o : Outcome) → x.half.end ≡ n.end → unsaid_by x.half msg ≡ M.unsaid_by n msg → M.IsSayOf n msg o → B.SayGives x msg o (said_node x msg o)
+say_gives : (x : B.Node) (n : M.Node) (msg : Message) (o : Outcome) → x.half.end ≡ n.end → unsaid_by x.half msg ≡ M.unsaid_by n msg → M.IsSayOf n msg o
+    → B.SayGives x msg o (said_node x msg o)
 unfolding said_node
 say_gives x n msg outcome.Said e s h = (((s ∙ h.0, subst (λ (z : EndState). IsLegal (belief z) z.sends msg) (sym e) h.1), refl), refl)
 say_gives x n msg (outcome.NotSaid say_error.NotOpen) e s h = ((s ∙ h, refl), refl)
 say_gives x n msg (outcome.NotSaid say_error.Busy) e s h = ((s ∙ h, refl), refl)
 say_gives x n msg (outcome.NotSaid say_error.Extended) e s h = ((s ∙ h, refl), refl)
 say_gives x n msg (outcome.NotSaid say_error.PiecesUnknown) e s h = ((s ∙ h, refl), refl)
-say_gives x n msg (outcome.NotSaid (say_error.Illegal f)) e s h = ((s ∙ h.0, subst (λ (z : EndState). Refuses (belief z) z.sends msg f) (sym e) h.1, refl), refl)
+say_gives x n msg (outcome.NotSaid (say_error.Illegal f)) e s h = ((s ∙ h.0, subst (λ (z : EndState). Refuses (belief z) z.sends msg f) (sym e) h.1, refl),
+    refl)
 say_gives x n msg (outcome.NotSaid say_error.Memory) e s h = absurd h
 say_gives x n msg outcome.Handled e s h = absurd h
 say_gives x n msg outcome.Idle e s h = absurd h
@@ -259,20 +276,27 @@ record Said (a b : EndState) (p : M.Pair) (w : Wires) (msg : Message) (o : Outco
 said_wires : Wires → List ℕ → Wires
 said_wires w more = record w { outbox = w.outbox ++ more }
 
-said_now : (a b : EndState) (p : M.Pair) (w : Wires) (msg : Message) → AreMatched a b → Inv a b p w → IsInRange bare msg → M.unsaid_by p.own msg ≡ None → IsLegal (belief p.own.end) p.own.end.sends msg → M.IsSmallNode (M.says p.own msg) → Said a b p w msg outcome.Said
+said_now : (a b : EndState) (p : M.Pair) (w : Wires) (msg : Message) → AreMatched a b → Inv a b p w → IsInRange bare msg → M.unsaid_by p.own msg ≡ None
+    → IsLegal (belief p.own.end) p.own.end.sends msg → M.IsSmallNode (M.says p.own msg) → Said a b p w msg outcome.Said
 unfolding said_node said_wires
 said_now a b p w msg h inv range unsaid_is legal small =
     let e : EndState = p.own.end in
     let l = inv.coming.is in
-    let tests = unsaid_none (is_none e.context || false) (nat_le high_water (M.undelivered p.own)) (is_extended msg) (tells_pieces e msg && is_none e.own.pieces) unsaid_is in
-    let known : e.context ≡ Some (reads a b) = open_context a b e w.feed.stage (drop p.other.handled p.other.sent) p.other.end.sends (total p.other.sent) (length p.other.sent) l.awaited l.behind_all (or_left (is_none e.context) tests.0) in
+    let tests = unsaid_none (is_none e.context || false) (nat_le high_water (M.undelivered p.own)) (is_extended msg)
+        (tells_pieces e msg && is_none e.own.pieces) unsaid_is in
+    let known : e.context ≡ Some (reads a b) = open_context a b e w.feed.stage (drop p.other.handled p.other.sent) p.other.end.sends (total p.other.sent)
+        (length p.other.sent) l.awaited l.behind_all (or_left (is_none e.context) tests.0) in
     let for : IsFor (belief e) (reads b a) e.sends msg = said_for a b e msg h inv.own known range tests.1 tests.2 legal in
     record {
       wires = said_wires w (flat_map (spell (belief e)) (msg ∷ []));
-      same = ap (λ (js : List Item). record { own = said_node (made p w).own msg outcome.Said; other = node_of p.other js w.other_feed w.other_untaken w.other_outbox }) (sym (take-append-le p.own.handled p.own.sent (items.Message msg ∷ []) inv.going.is.within));
+      same = ap (λ (js : List Item). record { own = said_node (made p w).own msg outcome.Said; other = node_of p.other js w.other_feed w.other_untaken
+          w.other_outbox }) (sym (take-append-le p.own.handled p.own.sent (items.Message msg ∷ []) inv.going.is.within));
       inv = record {
-        going = sent a b p.own (record e { sends = order_after e.sends msg }) (msg ∷ []) p.other.end w.other_feed w.other_untaken w.outbox (belief e) inv.going (for, tt) (plain_honest a msg tests.1, tt) refl small;
-        coming = record { is = record { coming = l.coming; behind_all = l.behind_all; start = l.start; count = l.count; within = l.within; unrefused = l.unrefused; partial = l.partial; awaited = still_awaiting e w.feed.stage (order_after e.sends msg) known l.awaited; honest = l.honest }; full = inv.coming.full };
+        going = sent a b p.own (record e { sends = order_after e.sends msg }) (msg ∷ []) p.other.end w.other_feed w.other_untaken w.outbox (belief e)
+            inv.going (for, tt) (plain_honest a msg tests.1, tt) refl small;
+        coming = record { is = record { coming = l.coming; behind_all = l.behind_all; start = l.start; count = l.count; within = l.within;
+            unrefused = l.unrefused; partial = l.partial; awaited = still_awaiting e w.feed.stage (order_after e.sends msg) known l.awaited; honest =
+            l.honest }; full = inv.coming.full };
         own = record { own = inv.own.own; handshake = inv.own.handshake; serves = inv.own.serves };
         other = inv.other;
         knows = record { table = inv.knows.table; id = inv.knows.id; part = inv.knows.part };
@@ -288,7 +312,8 @@ said_now a b p w msg h inv range unsaid_is legal small =
     still_awaiting e (stage.Handshake own) o known w = absurd (let none = w.1 in cc)
     still_awaiting e (stage.Message c p s n) o known w = w
 
-said : (a b : EndState) (p : M.Pair) (w : Wires) (msg : Message) (o : Outcome) → AreMatched a b → Inv a b p w → IsInRange bare msg → M.IsSayOf p.own msg o → M.IsSmallNode (M.after_say p msg o).own → Said a b p w msg o
+said : (a b : EndState) (p : M.Pair) (w : Wires) (msg : Message) (o : Outcome) → AreMatched a b → Inv a b p w → IsInRange bare msg → M.IsSayOf p.own msg o
+    → M.IsSmallNode (M.after_say p msg o).own → Said a b p w msg o
 unfolding said_node
 said a b p w msg outcome.Said h inv range told small = said_now a b p w msg h inv range told.0 told.1 small
 said a b p w msg (outcome.NotSaid e) h inv range told small = record { wires = w; same = refl; inv = inv }
@@ -306,14 +331,16 @@ pub record SaysSo (a b : EndState) (p : M.Pair) (w : Wires) (msg : Message) (o :
   pub same : q ≡ made (M.after_say p msg o) wires
   pub inv : Inv a b (M.after_say p msg o) wires
 
-pub says_so : (a b : EndState) (p : M.Pair) (w : Wires) (msg : Message) (o : Outcome) (q : B.Pair) → IsConfigured a → AreMatched a b → Inv a b p w → IsInRange bare msg → M.IsSmallNode p.other → M.IsSmallNode (M.after_say p msg o).own → B.IsSay (made p w) msg o q → SaysSo a b p w msg o q
+pub says_so : (a b : EndState) (p : M.Pair) (w : Wires) (msg : Message) (o : Outcome) (q : B.Pair) → IsConfigured a → AreMatched a b → Inv a b p w
+    → IsInRange bare msg → M.IsSmallNode p.other → M.IsSmallNode (M.after_say p msg o).own → B.IsSay (made p w) msg o q → SaysSo a b p w msg o q
 says_so a b p w msg o q end h inv range few small is =
     let told : M.IsSayOf p.own msg o = say_told (made p w).own p.own msg o q.own refl (same_unsaid a b p w msg end inv few) is.0 in
     let s : Said a b p w msg o = said a b p w msg o h inv range told small in
     record {
       told = told;
       wires = s.wires;
-      same = ap (λ (x : B.Node). record { own = x; other = q.other }) (say_is (made p w).own msg o q.own is.0) ∙ ap (λ (x : B.Node). record { own = said_node (made p w).own msg o; other = x }) is.1 ∙ s.same;
+      same = ap (λ (x : B.Node). record { own = x; other = q.other }) (say_is (made p w).own msg o q.own is.0)
+          ∙ ap (λ (x : B.Node). record { own = said_node (made p w).own msg o; other = x }) is.1 ∙ s.same;
       inv = s.inv;
     }
 
@@ -323,10 +350,12 @@ pub record CanSay (a b : EndState) (p : M.Pair) (w : Wires) (msg : Message) (o :
   pub say : B.IsSay (made p w) msg o (made (M.after_say p msg o) wires)
   pub inv : Inv a b (M.after_say p msg o) wires
 
-pub can_say : (a b : EndState) (p : M.Pair) (w : Wires) (msg : Message) (o : Outcome) → IsConfigured a → AreMatched a b → Inv a b p w → IsInRange bare msg → M.IsSmallNode p.other → M.IsSmallNode (M.after_say p msg o).own → M.IsSayOf p.own msg o → CanSay a b p w msg o
+pub can_say : (a b : EndState) (p : M.Pair) (w : Wires) (msg : Message) (o : Outcome) → IsConfigured a → AreMatched a b → Inv a b p w → IsInRange bare msg
+    → M.IsSmallNode p.other → M.IsSmallNode (M.after_say p msg o).own → M.IsSayOf p.own msg o → CanSay a b p w msg o
 can_say a b p w msg o end h inv range few small told =
     let s : Said a b p w msg o = said a b p w msg o h inv range told small in
-    let here : B.IsSay (made p w) msg o (record { own = said_node (made p w).own msg o; other = (made p w).other }) = (say_gives (made p w).own p.own msg o refl (same_unsaid a b p w msg end inv few) told, refl) in
+    let here : B.IsSay (made p w) msg o (record { own = said_node (made p w).own msg o; other = (made p w).other }) =
+        (say_gives (made p w).own p.own msg o refl (same_unsaid a b p w msg end inv few) told, refl) in
     record { wires = s.wires; say = subst (λ (q : B.Pair). B.IsSay (made p w) msg o q) s.same here; inv = s.inv }
 
 -- ---- a new connection
@@ -340,7 +369,8 @@ same_back (Some m) (Some n) h = sym h
 pub matched_back : (a b : EndState) → AreMatched a b → AreMatched b a
 matched_back a b h = record { hash = sym h.hash; limit = sym h.limit; rules = sym h.rules; pieces = same_back a.own.pieces b.own.pieces h.pieces }
 
-new_flow : (a b e f : EndState) → IsConfigured a → IsConfigured b → AreMatched a b → IsStill a e → IsStill b f → e.sends ≡ Fresh → f.context ≡ None → f.sends ≡ Fresh → Flow a b (M.first e) f (waiting (stage.Handshake f.own)) [] (hand e.handshake)
+new_flow : (a b e f : EndState) → IsConfigured a → IsConfigured b → AreMatched a b → IsStill a e → IsStill b f → e.sends ≡ Fresh → f.context ≡ None
+    → f.sends ≡ Fresh → Flow a b (M.first e) f (waiting (stage.Handshake f.own)) [] (hand e.handshake)
 new_flow a b e f enda endb h still other fresh closed quiet =
     let hs : IsHandshake e.handshake = subst (λ (x : Handshake). IsHandshake x) (sym still.handshake) enda.handshake in
     let hash : f.own.info_hash ≡ Some e.handshake.info_hash =
@@ -349,7 +379,8 @@ new_flow a b e f enda endb h still other fresh closed quiet =
     record {
       is = record {
         coming = (hand e.handshake, [], sym (append-nil (hand e.handshake)), (hand_faultless f.own e.handshake hs hash, hs, refl), refl);
-        behind_all = ap (λ (o : Own). stage.Message (negotiated o e.handshake.reserved) Fresh 68 1) other.own ∙ ap (λ (r : Reserved). stage.Message (negotiated b.own r) Fresh 68 1) reserved ∙ ap (λ (o : Order). stage.Message (reads b a) o 68 1) (sym fresh);
+        behind_all = ap (λ (o : Own). stage.Message (negotiated o e.handshake.reserved) Fresh 68 1) other.own
+            ∙ ap (λ (r : Reserved). stage.Message (negotiated b.own r) Fresh 68 1) reserved ∙ ap (λ (o : Order). stage.Message (reads b a) o 68 1) (sym fresh);
         start = refl;
         count = refl;
         within = omega arith;
@@ -383,9 +414,11 @@ pub knows_renewed : (b e : EndState) → Knows b e → Knows b (renewed e)
 knows_renewed b e k = record { table = record { entries = tt; few = omega arith }; id = inl refl; part = kept_part (source_of b.part) e.part k.part }
 
 abbrev pub new_wires : EndState → EndState → Wires
-new_wires e f = record { feed = waiting (stage.Handshake e.own); untaken = []; outbox = hand e.handshake; other_feed = waiting (stage.Handshake f.own); other_untaken = []; other_outbox = hand f.handshake }
+new_wires e f = record { feed = waiting (stage.Handshake e.own); untaken = []; outbox = hand e.handshake; other_feed = waiting (stage.Handshake f.own);
+    other_untaken = []; other_outbox = hand f.handshake }
 
-pub new_inv : (a b e f : EndState) → IsConfigured a → IsConfigured b → AreMatched a b → IsStill a e → IsStill b f → Knows b e → Knows a f → e.context ≡ None → e.sends ≡ Fresh → f.context ≡ None → f.sends ≡ Fresh → Inv a b (record { own = M.first e; other = M.first f }) (new_wires e f)
+pub new_inv : (a b e f : EndState) → IsConfigured a → IsConfigured b → AreMatched a b → IsStill a e → IsStill b f → Knows b e → Knows a f → e.context ≡ None
+    → e.sends ≡ Fresh → f.context ≡ None → f.sends ≡ Fresh → Inv a b (record { own = M.first e; other = M.first f }) (new_wires e f)
 new_inv a b e f enda endb h still other knows known closed quiet closed' quiet' = record {
   going = new_flow a b e f enda endb h still other quiet closed' quiet';
   coming = new_flow b a f e endb enda (matched_back a b h) other still quiet' closed quiet;
@@ -401,9 +434,11 @@ limit_within : (a b : EndState) (p : M.Pair) (w : Wires) → IsConfigured a → 
 limit_within a b p w end inv = omega (arith, end.most, ap (λ (o : Own). o.limit) inv.own.own)
 
 -- a message takes no more bytes than the limit allows
-pub say_grows : (a b : EndState) (p : M.Pair) (w : Wires) (msg : Message) (o : Outcome) → IsConfigured a → Inv a b p w → M.IsSayOf p.own msg o → total (M.after_say p msg o).own.sent ≤ total p.own.sent + 8388640
+pub say_grows : (a b : EndState) (p : M.Pair) (w : Wires) (msg : Message) (o : Outcome) → IsConfigured a → Inv a b p w → M.IsSayOf p.own msg o
+    → total (M.after_say p msg o).own.sent ≤ total p.own.sent + 8388640
 say_grows a b p w msg outcome.Said end inv told =
-    omega (arith, total-append p.own.sent (items.Message msg ∷ []), told.1.short, length-spell (belief p.own.end) msg, spell_size (belief p.own.end) msg, limit_within a b p w end inv)
+    omega (arith, total-append p.own.sent (items.Message msg ∷ []), told.1.short, length-spell (belief p.own.end) msg, spell_size (belief p.own.end) msg,
+        limit_within a b p w end inv)
 say_grows a b p w msg (outcome.NotSaid e) end inv told = omega arith
 say_grows a b p w msg outcome.Handled end inv told = omega arith
 say_grows a b p w msg outcome.Idle end inv told = omega arith
@@ -433,7 +468,8 @@ answer_is n msg (outcome.Refused r) h = absurd h
 answer_is n msg (outcome.Delivered k) h = absurd h
 answer_is n msg outcome.Reset h = absurd h
 
-one_answer : (n : M.Node) (msg : Message) (o p : Outcome) → (belief n.end).limit < 2 ^ 32 → IsInRange bare msg → (M.unsaid_by n msg ≡ None → is_extended msg ≡ false) → Answer n msg o → Answer n msg p → o ≡ p
+one_answer : (n : M.Node) (msg : Message) (o p : Outcome) → (belief n.end).limit < 2 ^ 32 → IsInRange bare msg
+    → (M.unsaid_by n msg ≡ None → is_extended msg ≡ false) → Answer n msg o → Answer n msg p → o ≡ p
 one_answer n msg o p lt range plain (said_so none legal e) (said_so none' legal' f) = e ∙ sym f
 one_answer n msg o p lt range plain (said_so none legal e) (illegal none' g refused f) =
     absurd (legal_is_not_refused (belief n.end) n.end.sends msg g lt (plain_range bare (belief n.end) msg (plain none) range) legal refused)
@@ -447,13 +483,16 @@ one_answer n msg o p lt range plain (against x is e) (said_so none legal f) = ab
 one_answer n msg o p lt range plain (against x is e) (illegal none g refused f) = absurd cc
 one_answer n msg o p lt range plain (against x is e) (against y is' f) = let same : x ≡ y = cc in e ∙ ap outcome.NotSaid same ∙ sym f
 
-pub one_say : (a b : EndState) (p : M.Pair) (w : Wires) (msg : Message) (o o' : Outcome) → IsConfigured a → Inv a b p w → IsInRange bare msg → M.IsSayOf p.own msg o → M.IsSayOf p.own msg o' → o ≡ o'
+pub one_say : (a b : EndState) (p : M.Pair) (w : Wires) (msg : Message) (o o' : Outcome) → IsConfigured a → Inv a b p w → IsInRange bare msg
+    → M.IsSayOf p.own msg o → M.IsSayOf p.own msg o' → o ≡ o'
 one_say a b p w msg o o' end inv range h k =
     let e : EndState = p.own.end in
     one_answer p.own msg o o' (omega (arith, limit_within a b p w end inv)) range
-    (λ none. (unsaid_none (is_none e.context || false) (nat_le high_water (M.undelivered p.own)) (is_extended msg) (tells_pieces e msg && is_none e.own.pieces) none).1)
+    (λ none. (unsaid_none (is_none e.context || false) (nat_le high_water (M.undelivered p.own)) (is_extended msg)
+        (tells_pieces e msg && is_none e.own.pieces) none).1)
     (answer_is p.own msg o h) (answer_is p.own msg o' k)
 
 -- what is said in the byte link is said in the message link
-pub say_is_told : (a b : EndState) (p : M.Pair) (w : Wires) (msg : Message) (o : Outcome) (q : B.Pair) → IsConfigured a → Inv a b p w → M.IsSmallNode p.other → B.IsSay (made p w) msg o q → M.IsSayOf p.own msg o
+pub say_is_told : (a b : EndState) (p : M.Pair) (w : Wires) (msg : Message) (o : Outcome) (q : B.Pair) → IsConfigured a → Inv a b p w
+    → M.IsSmallNode p.other → B.IsSay (made p w) msg o q → M.IsSayOf p.own msg o
 say_is_told a b p w msg o q end inv few is = say_told (made p w).own p.own msg o q.own refl (same_unsaid a b p w msg end inv few) is.0

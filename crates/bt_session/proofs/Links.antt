@@ -1,5 +1,6 @@
 -- The laws of the links of two ends.
-use Rattle.std.proofs.Common.{◌≡◌, ℕ, zero, suc, ◌+◌, ◌*◌, ◌^◌, ◌<◌, ◌≤◌, ◌⊎◌, inl, inr, min, Bool, true, false, if◌then◌else◌, List, [], ◌∷◌, ◌++◌, length, take, Option, Some, None, slice_get, refl, sym, ap, subst, ◌∙◌, arith, nat_le}
+use Rattle.std.proofs.Common.{◌≡◌, ℕ, zero, suc, ◌+◌, ◌*◌, ◌^◌, ◌<◌, ◌≤◌, ◌⊎◌, inl, inr, min, Bool, true, false, if◌then◌else◌, List, [], ◌∷◌, ◌++◌, length,
+    take, Option, Some, None, slice_get, refl, sym, ap, subst, ◌∙◌, arith, nat_le}
 use Rattle.std.proofs.lemmas.Bool.{cases_lt}
 use Rattle.std.proofs.lemmas.List.{length-take-le, take_all}
 use Rattle.bt_wire.specs.declared.item.Item.{Item}
@@ -11,7 +12,9 @@ use Rattle.bt_end.specs.Halves.{high_water}
 use Rattle.bt_session.specs.ByteLinks as B
 use Rattle.bt_session.specs.MessageLinks as M
 use Rattle.bt_session.specs.MessageLinks.{Connection}
-use Rattle.bt_session.specs.LinkLaws.{source_of, IsConfigured, IsFirstPart, IsNew, AreMatched, IsWritten, AreWritten, IsHonestRun, SameLink, ByteLinkIsMessageLink, MessageLinkIsByteLink, NothingIsRefused, IsInOrder, AreInOrder, HandledInOrder, FetchesFrom, FetchedIsServed, FewStepsStaySmall, OutcomesAreOne, QueuedMayBeSent}
+use Rattle.bt_session.specs.LinkLaws.{source_of, IsConfigured, IsFirstPart, IsNew, AreMatched, IsWritten, AreWritten, IsHonestRun, SameLink,
+    ByteLinkIsMessageLink, MessageLinkIsByteLink, NothingIsRefused, IsInOrder, AreInOrder, HandledInOrder, FetchesFrom, FetchedIsServed, FewStepsStaySmall,
+    OutcomesAreOne, QueuedMayBeSent}
 use Rattle.bt_metadata.specs.Laws.{HoldsBlocksOf}
 use Rattle.bt_session.specs.declared.link.Outcome.{Outcome}
 use Rattle.bt_session.specs.declared.link.Outcome.TheVariants as outcome
@@ -21,7 +24,8 @@ use Rattle.bt_session.specs.declared.link.Step.{Step}
 use Rattle.bt_session.specs.declared.link.Step.TheVariants as step
 use Rattle.bt_session.proofs.LinkInvariant.{IsPartFor, Knows, Wires, Inv, node_of, made}
 use Rattle.bt_session.proofs.LinkTurns.{TurnsSo, turns_so, Turns, turns, queues_well}
-use Rattle.bt_session.proofs.LinkSteps.{Delivers, delivers, SaysSo, says_so, CanSay, can_say, say_is_told, say_grows, one_say, matched_back, still_renewed, knows_renewed, new_wires, new_inv}
+use Rattle.bt_session.proofs.LinkSteps.{Delivers, delivers, SaysSo, says_so, CanSay, can_say, say_is_told, say_grows, one_say, matched_back, still_renewed,
+    knows_renewed, new_wires, new_inv}
 
 -- ---- sides
 
@@ -34,7 +38,8 @@ link_with l w = record {
 }
 
 abbrev turned : Wires → Wires
-turned w = record { feed = w.other_feed; untaken = w.other_untaken; outbox = w.other_outbox; other_feed = w.feed; other_untaken = w.untaken; other_outbox = w.outbox }
+turned w = record { feed = w.other_feed; untaken = w.other_untaken; outbox = w.other_outbox; other_feed = w.feed; other_untaken = w.untaken;
+    other_outbox = w.outbox }
 
 abbrev wires_at : Side → Wires → Wires
 wires_at Left w = w
@@ -96,33 +101,39 @@ record IsLinkOf (a b : EndState) (l : M.Link) (k : B.Link) : Type 0 where
   pub same : k ≡ link_with l wires
   pub inv : IsInv a b l wires
 
-lifted : (s : Side) (a b : EndState) (l : M.Link) (w v : Wires) (p : M.Pair) (q : B.Pair) (k : B.Link) → k ≡ B.with_pair s (link_with l w) q → q ≡ made p v → Inv (mine s a b) (yours s a b) p v → IsLinkOf a b (M.with_pair s l p) k
+lifted : (s : Side) (a b : EndState) (l : M.Link) (w v : Wires) (p : M.Pair) (q : B.Pair) (k : B.Link) → k ≡ B.with_pair s (link_with l w) q → q ≡ made p v
+    → Inv (mine s a b) (yours s a b) p v → IsLinkOf a b (M.with_pair s l p) k
 lifted s a b l w v p q k e f i = record {
   wires = wires_at s v;
   same = e ∙ ap (λ (x : B.Pair). B.with_pair s (link_with l w) x) f ∙ with_same s l w v p;
   inv = inv_back s a b l p v i;
 }
 
-reset_same : (a b : EndState) (l : M.Link) (w : Wires) (k : B.Link) → Ready a b → IsInv a b l w → k ≡ B.after_reset (link_with l w) → IsLinkOf a b (M.after_reset l) k
+reset_same : (a b : EndState) (l : M.Link) (w : Wires) (k : B.Link) → Ready a b → IsInv a b l w → k ≡ B.after_reset (link_with l w)
+    → IsLinkOf a b (M.after_reset l) k
 reset_same a b l w k r i e = record {
   wires = new_wires (renewed l.left.end) (renewed l.right.end);
   same = e;
-  inv = new_inv a b (renewed l.left.end) (renewed l.right.end) r.own r.other r.matched (still_renewed a l.left.end i.own) (still_renewed b l.right.end i.other) (knows_renewed b l.left.end i.knows) (knows_renewed a l.right.end i.known) refl refl refl refl;
+  inv = new_inv a b (renewed l.left.end) (renewed l.right.end) r.own r.other r.matched (still_renewed a l.left.end i.own)
+      (still_renewed b l.right.end i.other) (knows_renewed b l.left.end i.knows) (knows_renewed a l.right.end i.known) refl refl refl refl;
 }
 
 -- what comes of a step in the byte link comes of it in the message link
-step_follows : (a b : EndState) (l : M.Link) (w : Wires) (s : Step) (o : Outcome) (k : B.Link) → Ready a b → IsInv a b l w → IsWritten s → M.IsSmall l → M.IsSmall (M.after l s o) → B.IsStep (link_with l w) s o k → M.IsOutcome l s o × IsLinkOf a b (M.after l s o) k
+step_follows : (a b : EndState) (l : M.Link) (w : Wires) (s : Step) (o : Outcome) (k : B.Link) → Ready a b → IsInv a b l w → IsWritten s → M.IsSmall l
+    → M.IsSmall (M.after l s o) → B.IsStep (link_with l w) s o k → M.IsOutcome l s o × IsLinkOf a b (M.after l s o) k
 step_follows a b l w (step.Turn s) o k r i written small later is =
     let e = ready_at s a b r in
     let p : M.Pair = M.seen_from s l in
     let turn : B.IsTurn (made p (wires_at s w)) o is.0 = subst (λ (x : B.Pair). B.IsTurn x o is.0) (seen_same s l w) is.1 in
-    let t : TurnsSo (mine s a b) (yours s a b) p o is.0 = turns_so (mine s a b) (yours s a b) p (wires_at s w) o is.0 e.own e.other (inv_at s a b l w i) (small_other s l small) turn in
+    let t : TurnsSo (mine s a b) (yours s a b) p o is.0 = turns_so (mine s a b) (yours s a b) p (wires_at s w) o is.0 e.own e.other (inv_at s a b l w i)
+        (small_other s l small) turn in
     (t.told, lifted s a b l w t.wires (M.after_turn p o) is.0 k is.2 t.same (t.inv (small_own s l (M.after_turn p o) later)))
 step_follows a b l w (step.Say s msg) o k r i written small later is =
     let e = ready_at s a b r in
     let p : M.Pair = M.seen_from s l in
     let say : B.IsSay (made p (wires_at s w)) msg o is.0 = subst (λ (x : B.Pair). B.IsSay x msg o is.0) (seen_same s l w) is.1 in
-    let t : SaysSo (mine s a b) (yours s a b) p (wires_at s w) msg o is.0 = says_so (mine s a b) (yours s a b) p (wires_at s w) msg o is.0 e.own e.matched (inv_at s a b l w i) written (small_other s l small) (small_own s l (M.after_say p msg o) later) say in
+    let t : SaysSo (mine s a b) (yours s a b) p (wires_at s w) msg o is.0 = says_so (mine s a b) (yours s a b) p (wires_at s w) msg o is.0 e.own e.matched
+        (inv_at s a b l w i) written (small_other s l small) (small_own s l (M.after_say p msg o) later) say in
     (t.told, lifted s a b l w t.wires (M.after_say p msg o) is.0 k is.2 t.same t.inv)
 step_follows a b l w (step.Deliver s n) o k r i written small later is =
     let p : M.Pair = M.seen_from s l in
@@ -130,18 +141,23 @@ step_follows a b l w (step.Deliver s n) o k r i written small later is =
     let delivery : B.IsDelivery (made p (wires_at s w)) n o is.0 = subst (λ (x : B.Pair). B.IsDelivery x n o is.0) (seen_same s l w) is.1 in
     let told : o ≡ outcome.Delivered (min n (M.undelivered p.other)) = delivery.0 ∙ sym d.delivery.0 in
     let same : is.0 ≡ made (M.after_deliver p (outcome.Delivered (min n (M.undelivered p.other)))) d.wires = delivery.1 ∙ sym d.delivery.1 in
-    let here : IsLinkOf a b (M.with_pair s l (M.after_deliver p (outcome.Delivered (min n (M.undelivered p.other))))) k = lifted s a b l w d.wires (M.after_deliver p (outcome.Delivered (min n (M.undelivered p.other)))) is.0 k is.2 same d.inv in
+    let here : IsLinkOf a b (M.with_pair s l (M.after_deliver p (outcome.Delivered (min n (M.undelivered p.other))))) k =
+        lifted s a b l w d.wires (M.after_deliver p (outcome.Delivered (min n (M.undelivered p.other)))) is.0 k is.2 same d.inv in
     (told, subst (λ (x : Outcome). IsLinkOf a b (M.with_pair s l (M.after_deliver p x)) k) (sym told) here)
 step_follows a b l w step.Reset o k r i written small later is = (is.0, reset_same a b l w k r i is.1)
 
 -- and the other way round
-step_goes : (a b : EndState) (l : M.Link) (w : Wires) (s : Step) (o : Outcome) → Ready a b → IsInv a b l w → IsWritten s → M.IsSmall l → M.IsSmall (M.after l s o) → M.IsOutcome l s o → (k : B.Link) × B.IsStep (link_with l w) s o k × IsLinkOf a b (M.after l s o) k
+step_goes : (a b : EndState) (l : M.Link) (w : Wires) (s : Step) (o : Outcome) → Ready a b → IsInv a b l w → IsWritten s → M.IsSmall l
+    → M.IsSmall (M.after l s o) → M.IsOutcome l s o → (k : B.Link) × B.IsStep (link_with l w) s o k × IsLinkOf a b (M.after l s o) k
 step_goes a b l w (step.Turn s) o r i written small later told =
     let e = ready_at s a b r in
     let p : M.Pair = M.seen_from s l in
-    let t : Turns (mine s a b) (yours s a b) p (wires_at s w) (M.turn_of p) (M.after_turn p (M.turn_of p)) = turns (mine s a b) (yours s a b) p (wires_at s w) e.own e.other (inv_at s a b l w i) (small_other s l small) in
-    let turn : B.IsTurn (made p (wires_at s w)) o (made (M.after_turn p o) t.wires) = subst (λ (x : Outcome). B.IsTurn (made p (wires_at s w)) x (made (M.after_turn p x) t.wires)) (sym told) t.turn in
-    let inv : M.IsSmallNode (M.after_turn p o).own → Inv (mine s a b) (yours s a b) (M.after_turn p o) t.wires = subst (λ (x : Outcome). M.IsSmallNode (M.after_turn p x).own → Inv (mine s a b) (yours s a b) (M.after_turn p x) t.wires) (sym told) t.inv in
+    let t : Turns (mine s a b) (yours s a b) p (wires_at s w) (M.turn_of p) (M.after_turn p (M.turn_of p)) =
+        turns (mine s a b) (yours s a b) p (wires_at s w) e.own e.other (inv_at s a b l w i) (small_other s l small) in
+    let turn : B.IsTurn (made p (wires_at s w)) o (made (M.after_turn p o) t.wires) =
+        subst (λ (x : Outcome). B.IsTurn (made p (wires_at s w)) x (made (M.after_turn p x) t.wires)) (sym told) t.turn in
+    let inv : M.IsSmallNode (M.after_turn p o).own → Inv (mine s a b) (yours s a b) (M.after_turn p o) t.wires =
+        subst (λ (x : Outcome). M.IsSmallNode (M.after_turn p x).own → Inv (mine s a b) (yours s a b) (M.after_turn p x) t.wires) (sym told) t.inv in
     let k : B.Link = B.with_pair s (link_with l w) (made (M.after_turn p o) t.wires) in (
       k,
       (made (M.after_turn p o) t.wires, subst (λ (x : B.Pair). B.IsTurn x o (made (M.after_turn p o) t.wires)) (sym (seen_same s l w)) turn, refl),
@@ -150,7 +166,8 @@ step_goes a b l w (step.Turn s) o r i written small later told =
 step_goes a b l w (step.Say s msg) o r i written small later told =
     let e = ready_at s a b r in
     let p : M.Pair = M.seen_from s l in
-    let t : CanSay (mine s a b) (yours s a b) p (wires_at s w) msg o = can_say (mine s a b) (yours s a b) p (wires_at s w) msg o e.own e.matched (inv_at s a b l w i) written (small_other s l small) (small_own s l (M.after_say p msg o) later) told in
+    let t : CanSay (mine s a b) (yours s a b) p (wires_at s w) msg o = can_say (mine s a b) (yours s a b) p (wires_at s w) msg o e.own e.matched
+        (inv_at s a b l w i) written (small_other s l small) (small_own s l (M.after_say p msg o) later) told in
     let k : B.Link = B.with_pair s (link_with l w) (made (M.after_say p msg o) t.wires) in (
       k,
       (made (M.after_say p msg o) t.wires, subst (λ (x : B.Pair). B.IsSay x msg o (made (M.after_say p msg o) t.wires)) (sym (seen_same s l w)) t.say, refl),
@@ -161,10 +178,13 @@ step_goes a b l w (step.Deliver s n) o r i written small later told =
     let x : Outcome = outcome.Delivered (min n (M.undelivered p.other)) in
     let d : Delivers (mine s a b) (yours s a b) p (wires_at s w) n = delivers (mine s a b) (yours s a b) p (wires_at s w) n (inv_at s a b l w i) in
     let k : B.Link = B.with_pair s (link_with l w) (made (M.after_deliver p x) d.wires) in
-    let delivery : B.IsDelivery (B.seen_from s (link_with l w)) n x (made (M.after_deliver p x) d.wires) = subst (λ (y : B.Pair). B.IsDelivery y n x (made (M.after_deliver p x) d.wires)) (sym (seen_same s l w)) d.delivery in
-    let here : IsLinkOf a b (M.with_pair s l (M.after_deliver p x)) k = lifted s a b l w d.wires (M.after_deliver p x) (made (M.after_deliver p x) d.wires) k refl refl d.inv in (
+    let delivery : B.IsDelivery (B.seen_from s (link_with l w)) n x (made (M.after_deliver p x) d.wires) =
+        subst (λ (y : B.Pair). B.IsDelivery y n x (made (M.after_deliver p x) d.wires)) (sym (seen_same s l w)) d.delivery in
+    let here : IsLinkOf a b (M.with_pair s l (M.after_deliver p x)) k = lifted s a b l w d.wires (M.after_deliver p x) (made (M.after_deliver p x) d.wires)
+        k refl refl d.inv in (
       k,
-      (made (M.after_deliver p x) d.wires, subst (λ (y : Outcome). B.IsDelivery (B.seen_from s (link_with l w)) n y (made (M.after_deliver p x) d.wires)) (sym told) delivery, refl),
+      (made (M.after_deliver p x) d.wires, subst (λ (y : Outcome). B.IsDelivery (B.seen_from s (link_with l w)) n y (made (M.after_deliver p x) d.wires))
+          (sym told) delivery, refl),
       subst (λ (y : Outcome). IsLinkOf a b (M.with_pair s l (M.after_deliver p y)) k) (sym told) here,
     )
 step_goes a b l w step.Reset o r i written small later told =
@@ -177,7 +197,8 @@ small_now l [] os h = h
 small_now l (s ∷ ss) [] h = h
 small_now l (s ∷ ss) (o ∷ os) h = h.0
 
-steps_follow : (a b : EndState) (ss : List Step) (os : List Outcome) (l : M.Link) (j k : B.Link) → Ready a b → IsLinkOf a b l j → AreWritten ss → M.StaysSmall l ss os → B.AreSteps j ss os k → M.AreOutcomes l ss os × IsLinkOf a b (M.after_all l ss os) k
+steps_follow : (a b : EndState) (ss : List Step) (os : List Outcome) (l : M.Link) (j k : B.Link) → Ready a b → IsLinkOf a b l j → AreWritten ss
+    → M.StaysSmall l ss os → B.AreSteps j ss os k → M.AreOutcomes l ss os × IsLinkOf a b (M.after_all l ss os) k
 steps_follow a b [] [] l j k r h written small is = (tt, record { wires = h.wires; same = is ∙ h.same; inv = h.inv })
 steps_follow a b [] (o ∷ os) l j k r h written small is = absurd is
 steps_follow a b (s ∷ ss) [] l j k r h written small is = absurd is
@@ -187,7 +208,8 @@ steps_follow a b (s ∷ ss) (o ∷ os) l j k r h written small is =
     let more = steps_follow a b ss os (M.after l s o) is.0 k r one.1 written.1 small.1 is.2 in
     ((one.0, more.0), more.1)
 
-steps_go : (a b : EndState) (ss : List Step) (os : List Outcome) (l : M.Link) (j : B.Link) → Ready a b → IsLinkOf a b l j → AreWritten ss → M.StaysSmall l ss os → M.AreOutcomes l ss os → (k : B.Link) × B.AreSteps j ss os k × IsLinkOf a b (M.after_all l ss os) k
+steps_go : (a b : EndState) (ss : List Step) (os : List Outcome) (l : M.Link) (j : B.Link) → Ready a b → IsLinkOf a b l j → AreWritten ss
+    → M.StaysSmall l ss os → M.AreOutcomes l ss os → (k : B.Link) × B.AreSteps j ss os k × IsLinkOf a b (M.after_all l ss os) k
 steps_go a b [] [] l j r h written small told = (j, refl, h)
 steps_go a b [] (o ∷ os) l j r h written small told = absurd told
 steps_go a b (s ∷ ss) [] l j r h written small told = absurd told
@@ -208,15 +230,18 @@ first_part (Fetched metadata) h source = absurd h
 -- an end knows nothing at first
 first_knows : (a b : EndState) → IsNew a → Knows b a
 first_knows a b n =
-    let k : Knows b (unopened a.own a.handshake a.announce a.window a.part) = record { table = record { entries = tt; few = omega arith }; id = inl refl; part = first_part a.part n.part (source_of b.part) } in
+    let k : Knows b (unopened a.own a.handshake a.announce a.window a.part) = record { table = record { entries = tt; few = omega arith }; id = inl refl;
+        part = first_part a.part n.part (source_of b.part) } in
     subst (λ (e : EndState). Knows b e) (sym n.unopened) k
 
 linked_new : (a b : EndState) → IsNew a → IsNew b → AreMatched a b → IsLinkOf a b (M.link_of a b) (B.link_of a b)
 linked_new a b h k m = record {
   wires = new_wires a b;
   same = refl;
-  inv = new_inv a b a b h.is k.is m (record { own = refl; handshake = refl; serves = refl }) (record { own = refl; handshake = refl; serves = refl }) (first_knows a b h) (first_knows b a k)
-      (ap (λ (e : EndState). e.context) h.unopened) (ap (λ (e : EndState). e.sends) h.unopened) (ap (λ (e : EndState). e.context) k.unopened) (ap (λ (e : EndState). e.sends) k.unopened);
+  inv = new_inv a b a b h.is k.is m (record { own = refl; handshake = refl; serves = refl }) (record { own = refl; handshake = refl; serves = refl })
+      (first_knows a b h) (first_knows b a k)
+      (ap (λ (e : EndState). e.context) h.unopened) (ap (λ (e : EndState). e.sends) h.unopened) (ap (λ (e : EndState). e.context) k.unopened)
+          (ap (λ (e : EndState). e.sends) k.unopened);
 }
 
 linked : (a b : EndState) (ss : List Step) (os : List Outcome) → IsHonestRun a b ss os → IsLinkOf a b (M.link_of a b) (B.link_of a b)
@@ -234,7 +259,8 @@ same_link a b l k h = record {
 
 -- ---- the laws
 
-runs : (a b : EndState) (ss : List Step) (os : List Outcome) (k : B.Link) → IsHonestRun a b ss os → B.AreSteps (B.link_of a b) ss os k → M.AreOutcomes (M.link_of a b) ss os × IsLinkOf a b (M.after_all (M.link_of a b) ss os) k
+runs : (a b : EndState) (ss : List Step) (os : List Outcome) (k : B.Link) → IsHonestRun a b ss os → B.AreSteps (B.link_of a b) ss os k
+    → M.AreOutcomes (M.link_of a b) ss os × IsLinkOf a b (M.after_all (M.link_of a b) ss os) k
 runs a b ss os k h is = steps_follow a b ss os (M.link_of a b) (B.link_of a b) k (readied a b ss os h) (linked a b ss os h) h.written h.small is
 
 pub byte_link_is_message_link : ByteLinkIsMessageLink
@@ -328,8 +354,10 @@ pub fetched_is_served : FetchedIsServed
 fetched_is_served a b ss os k h is =
     let r = (runs a b ss os k h is).1 in
     let same = same_link a b (M.after_all (M.link_of a b) ss os) k r in (
-      subst (λ (e : EndState). FetchesFrom (source_of b.part) e.part) (sym same.left) (fetches (source_of b.part) (M.after_all (M.link_of a b) ss os).left.end.part r.inv.knows.part),
-      subst (λ (e : EndState). FetchesFrom (source_of a.part) e.part) (sym same.right) (fetches (source_of a.part) (M.after_all (M.link_of a b) ss os).right.end.part r.inv.known.part),
+      subst (λ (e : EndState). FetchesFrom (source_of b.part) e.part) (sym same.left)
+          (fetches (source_of b.part) (M.after_all (M.link_of a b) ss os).left.end.part r.inv.knows.part),
+      subst (λ (e : EndState). FetchesFrom (source_of a.part) e.part) (sym same.right)
+          (fetches (source_of a.part) (M.after_all (M.link_of a b) ss os).right.end.part r.inv.known.part),
     )
 
 -- ---- bytes that are sent
@@ -343,7 +371,8 @@ room_small : (l : M.Link) (n : ℕ) → HasRoom l n → M.IsSmall l
 room_small l n h = (omega (arith, h.left), omega (arith, h.right))
 
 -- a step of one side
-room_side : (s : Side) (l : M.Link) (p : M.Pair) (n : ℕ) → HasRoom l (suc n) → M.total p.own.sent ≤ M.total (M.seen_from s l).own.sent + 8388640 → M.total p.other.sent ≡ M.total (M.seen_from s l).other.sent → HasRoom (M.with_pair s l p) n
+room_side : (s : Side) (l : M.Link) (p : M.Pair) (n : ℕ) → HasRoom l (suc n) → M.total p.own.sent ≤ M.total (M.seen_from s l).own.sent + 8388640
+    → M.total p.other.sent ≡ M.total (M.seen_from s l).other.sent → HasRoom (M.with_pair s l p) n
 room_side Left l p n h g r = record { left = omega (arith, h.left); right = omega (arith, h.right) }
 room_side Right l p n h g r = record { left = omega (arith, h.left); right = omega (arith, h.right) }
 
@@ -351,15 +380,18 @@ say_rests : (p : M.Pair) (msg : Message) (o : Outcome) → M.total (M.after_say 
 say_rests p msg outcome.Said = refl
 say_rests p msg other = refl
 
-deliver_rests : (p : M.Pair) (o : Outcome) → (M.total (M.after_deliver p o).own.sent ≡ M.total p.own.sent) × (M.total (M.after_deliver p o).other.sent ≡ M.total p.other.sent)
+deliver_rests : (p : M.Pair) (o : Outcome) → (M.total (M.after_deliver p o).own.sent ≡ M.total p.own.sent)
+    × (M.total (M.after_deliver p o).other.sent ≡ M.total p.other.sent)
 deliver_rests p (outcome.Delivered n) = (refl, refl)
 deliver_rests p other = (refl, refl)
 
-room_after : (a b : EndState) (l : M.Link) (w : Wires) (s : Step) (o : Outcome) (n : ℕ) → Ready a b → IsInv a b l w → HasRoom l (suc n) → M.IsOutcome l s o → HasRoom (M.after l s o) n
+room_after : (a b : EndState) (l : M.Link) (w : Wires) (s : Step) (o : Outcome) (n : ℕ) → Ready a b → IsInv a b l w → HasRoom l (suc n) → M.IsOutcome l s o
+    → HasRoom (M.after l s o) n
 room_after a b l w (step.Turn s) o n r i h told =
     let e = ready_at s a b r in
     let p : M.Pair = M.seen_from s l in
-    let t : Turns (mine s a b) (yours s a b) p (wires_at s w) (M.turn_of p) (M.after_turn p (M.turn_of p)) = turns (mine s a b) (yours s a b) p (wires_at s w) e.own e.other (inv_at s a b l w i) (small_other s l (room_small l (suc n) h)) in
+    let t : Turns (mine s a b) (yours s a b) p (wires_at s w) (M.turn_of p) (M.after_turn p (M.turn_of p)) =
+        turns (mine s a b) (yours s a b) p (wires_at s w) e.own e.other (inv_at s a b l w i) (small_other s l (room_small l (suc n) h)) in
     subst (λ (x : Outcome). HasRoom (M.with_pair s l (M.after_turn p x)) n) (sym told) (room_side s l (M.after_turn p (M.turn_of p)) n h t.grows t.rests)
 room_after a b l w (step.Say s msg) o n r i h told =
     let e = ready_at s a b r in
@@ -372,7 +404,8 @@ room_after a b l w (step.Deliver s k) o n r i h told =
 room_after a b l w step.Reset o n r i h told = record { left = omega (arith, h.left); right = omega (arith, h.right) }
 
 -- what comes of a step in the byte link comes of it in the message link, however much was sent
-step_told : (a b : EndState) (l : M.Link) (w : Wires) (s : Step) (o : Outcome) (k : B.Link) → Ready a b → IsInv a b l w → M.IsSmall l → B.IsStep (link_with l w) s o k → M.IsOutcome l s o
+step_told : (a b : EndState) (l : M.Link) (w : Wires) (s : Step) (o : Outcome) (k : B.Link) → Ready a b → IsInv a b l w → M.IsSmall l
+    → B.IsStep (link_with l w) s o k → M.IsOutcome l s o
 step_told a b l w (step.Turn s) o k r i small is =
     let e = ready_at s a b r in
     let p : M.Pair = M.seen_from s l in
@@ -390,7 +423,8 @@ step_told a b l w (step.Deliver s n) o k r i small is =
     delivery.0 ∙ sym d.delivery.0
 step_told a b l w step.Reset o k r i small is = is.0
 
-small_bytes : (a b : EndState) (ss : List Step) (os : List Outcome) (l : M.Link) (j k : B.Link) → Ready a b → IsLinkOf a b l j → AreWritten ss → HasRoom l (length ss) → B.AreSteps j ss os k → M.StaysSmall l ss os
+small_bytes : (a b : EndState) (ss : List Step) (os : List Outcome) (l : M.Link) (j k : B.Link) → Ready a b → IsLinkOf a b l j → AreWritten ss
+    → HasRoom l (length ss) → B.AreSteps j ss os k → M.StaysSmall l ss os
 small_bytes a b [] os l j k r h written room is = room_small l 0 room
 small_bytes a b (s ∷ ss) [] l j k r h written room is = absurd is
 small_bytes a b (s ∷ ss) (o ∷ os) l j k r h written room is =
@@ -401,7 +435,8 @@ small_bytes a b (s ∷ ss) (o ∷ os) l j k r h written room is =
     let one = step_follows a b l h.wires s o is.0 r h.inv written.0 small (room_small (M.after l s o) (length ss) later) first in
     (small, small_bytes a b ss os (M.after l s o) is.0 k r one.1 written.1 later is.2)
 
-small_messages : (a b : EndState) (ss : List Step) (os : List Outcome) (l : M.Link) (j : B.Link) → Ready a b → IsLinkOf a b l j → AreWritten ss → HasRoom l (length ss) → M.AreOutcomes l ss os → M.StaysSmall l ss os
+small_messages : (a b : EndState) (ss : List Step) (os : List Outcome) (l : M.Link) (j : B.Link) → Ready a b → IsLinkOf a b l j → AreWritten ss
+    → HasRoom l (length ss) → M.AreOutcomes l ss os → M.StaysSmall l ss os
 small_messages a b [] os l j r h written room told = room_small l 0 room
 small_messages a b (s ∷ ss) [] l j r h written room told = absurd told
 small_messages a b (s ∷ ss) (o ∷ os) l j r h written room told =
@@ -415,19 +450,24 @@ first_room a b ss few = record { left = omega arith; right = omega arith }
 
 pub few_steps_stay_small : FewStepsStaySmall
 few_steps_stay_small a b ss os h = (
-  λ k is. small_bytes a b ss os (M.link_of a b) (B.link_of a b) k (record { own = h.left.is; other = h.right.is; matched = h.matched }) (linked_new a b h.left h.right h.matched) h.written (first_room a b ss h.few) is,
-  λ told. small_messages a b ss os (M.link_of a b) (B.link_of a b) (record { own = h.left.is; other = h.right.is; matched = h.matched }) (linked_new a b h.left h.right h.matched) h.written (first_room a b ss h.few) told,
+  λ k is. small_bytes a b ss os (M.link_of a b) (B.link_of a b) k (record { own = h.left.is; other = h.right.is; matched = h.matched })
+      (linked_new a b h.left h.right h.matched) h.written (first_room a b ss h.few) is,
+  λ told. small_messages a b ss os (M.link_of a b) (B.link_of a b) (record { own = h.left.is; other = h.right.is; matched = h.matched })
+      (linked_new a b h.left h.right h.matched) h.written (first_room a b ss h.few) told,
 )
 
 -- ---- one outcome
 
-one_outcome : (a b : EndState) (l : M.Link) (w : Wires) (s : Step) (o p : Outcome) → Ready a b → IsInv a b l w → IsWritten s → M.IsOutcome l s o → M.IsOutcome l s p → o ≡ p
+one_outcome : (a b : EndState) (l : M.Link) (w : Wires) (s : Step) (o p : Outcome) → Ready a b → IsInv a b l w → IsWritten s → M.IsOutcome l s o
+    → M.IsOutcome l s p → o ≡ p
 one_outcome a b l w (step.Turn s) o p r i written h k = h ∙ sym k
-one_outcome a b l w (step.Say s msg) o p r i written h k = one_say (mine s a b) (yours s a b) (M.seen_from s l) (wires_at s w) msg o p (ready_at s a b r).own (inv_at s a b l w i) written h k
+one_outcome a b l w (step.Say s msg) o p r i written h k = one_say (mine s a b) (yours s a b) (M.seen_from s l) (wires_at s w) msg o p
+    (ready_at s a b r).own (inv_at s a b l w i) written h k
 one_outcome a b l w (step.Deliver s n) o p r i written h k = h ∙ sym k
 one_outcome a b l w step.Reset o p r i written h k = h ∙ sym k
 
-one_run : (a b : EndState) (ss : List Step) (os ps : List Outcome) (l : M.Link) (j : B.Link) → Ready a b → IsLinkOf a b l j → AreWritten ss → M.StaysSmall l ss os → M.AreOutcomes l ss os → M.AreOutcomes l ss ps → os ≡ ps
+one_run : (a b : EndState) (ss : List Step) (os ps : List Outcome) (l : M.Link) (j : B.Link) → Ready a b → IsLinkOf a b l j → AreWritten ss
+    → M.StaysSmall l ss os → M.AreOutcomes l ss os → M.AreOutcomes l ss ps → os ≡ ps
 one_run a b [] [] [] l j r h written small x y = refl
 one_run a b [] [] (p ∷ ps) l j r h written small x y = absurd y
 one_run a b [] (o ∷ os) ps l j r h written small x y = absurd x
@@ -456,5 +496,6 @@ queued_may_be_sent a b ss os k h is =
     let e : M.Link = M.after_all (M.link_of a b) ss os in
     let few = small_end (M.link_of a b) ss os small in
     let mine_well : B.QueuesWell (link_with e r.wires).left = queues_well a b (M.seen_from Left e) r.wires h.left.is h.right.is r.inv few.1 in
-    let yours_well : B.QueuesWell (link_with e r.wires).right = queues_well b a (M.seen_from Right e) (turned r.wires) h.right.is h.left.is (inv_turned a b (M.seen_from Left e) r.wires r.inv) few.0 in
+    let yours_well : B.QueuesWell (link_with e r.wires).right = queues_well b a (M.seen_from Right e) (turned r.wires) h.right.is h.left.is
+        (inv_turned a b (M.seen_from Left e) r.wires r.inv) few.0 in
     (subst (λ (x : B.Link). B.QueuesWell x.left) (sym r.same) mine_well, subst (λ (x : B.Link). B.QueuesWell x.right) (sym r.same) yours_well)

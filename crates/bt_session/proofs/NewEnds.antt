@@ -1,5 +1,6 @@
 -- An end that is made of a config is a new one.
-use Rattle.std.proofs.Common.{◌≡◌, ℕ, ◌^◌, ◌<◌, Bool, true, false, ◌||◌, ltb, eqb, if◌then◌else◌, List, [], length, Option, Some, None, IfSome, is_none, refl, subst, ap}
+use Rattle.std.proofs.Common.{◌≡◌, ℕ, ◌^◌, ◌<◌, Bool, true, false, ◌||◌, ltb, eqb, if◌then◌else◌, List, [], length, Option, Some, None, IfSome, is_none,
+    refl, subst, ap}
 use Rattle.std.proofs.lemmas.Bool.{ltb-false}
 use Rattle.std.specs.Prelude.{unwrap_or}
 use Rattle.std.specs.Option.{ForSome}
@@ -15,7 +16,8 @@ use Rattle.bt_end.specs.declared.config.EndError.TheVariants.{BadLimit, BadConfi
 use Rattle.bt_end.specs.declared.config.Role.{Role}
 use Rattle.bt_end.specs.declared.config.Role.TheVariants.{Watch, Serve, Fetch}
 
-no_error : (x y z : Bool) → (if x then Some BadLimit else (if y then Some BadConfig else (if z then Some BadSize else None))) ≡ None → (x ≡ false) × (y ≡ false) × (z ≡ false)
+no_error : (x y z : Bool) → (if x then Some BadLimit else (if y then Some BadConfig else (if z then Some BadSize else None))) ≡ None → (x ≡ false)
+    × (y ≡ false) × (z ≡ false)
 no_error true y z e = absurd cc
 no_error false true z e = absurd cc
 no_error false false true e = absurd cc
@@ -34,7 +36,8 @@ sized Fetch e m h = absurd cc
 sized (Serve metadata) e m h =
     let parts = neither (eqb (length metadata.items) 0) (ltb max_metadata (length metadata.items)) e in
     let same : metadata.items ≡ m = cc in
-    let is : IsMetadata metadata.items = record { least = above_zero (length metadata.items) parts.0; most = ltb-false max_metadata (length metadata.items) parts.1 } in
+    let is : IsMetadata metadata.items = record { least = above_zero (length metadata.items) parts.0; most = ltb-false max_metadata (length metadata.items)
+        parts.1 } in
     subst (λ (x : List ℕ). IsMetadata x) same is
 
 first : (role : Role Global) → IsFirstPart (part_for role)
@@ -50,7 +53,8 @@ some_within : (o : Option ℕ) → IfSome o (λ n. n < 256) → ForSome o (λ n.
 some_within (Some m) h n e = let same : m ≡ n = cc in subst (λ (x : ℕ). x < 256) same h
 some_within None h n e = absurd cc
 
-pub new_of : (c : Config Global) → length c.peer_id ≡ 20 → c.own.reserved.0 < 2 ^ 64 → IfSome c.own.info_hash (λ h. length h ≡ 20) → IfSome (metadata_id c.own.reg) (λ n. n < 256) → config_error c ≡ None → IsNew (end_for c)
+pub new_of : (c : Config Global) → length c.peer_id ≡ 20 → c.own.reserved.0 < 2 ^ 64 → IfSome c.own.info_hash (λ h. length h ≡ 20)
+    → IfSome (metadata_id c.own.reg) (λ n. n < 256) → config_error c ≡ None → IsNew (end_for c)
 new_of c peer reserved hash id e =
     let none = no_error (is_bad_limit c.own.limit) (is_none c.own.info_hash) (is_bad_role c.role) e in
     let limits = neither (ltb c.own.limit 32768) (ltb 1048576 c.own.limit) none.0 in
@@ -70,4 +74,5 @@ new_of c peer reserved hash id e =
     }
 
 pub matched_ends : (c d : Config Global) → DoMatch c d → AreMatched (end_for c) (end_for d)
-matched_ends c d h = record { hash = ap (λ (o : Option (List ℕ)). unwrap_or o []) h.alike.hash; limit = h.alike.limit; rules = h.alike.rules; pieces = h.alike.pieces }
+matched_ends c d h = record { hash = ap (λ (o : Option (List ℕ)). unwrap_or o []) h.alike.hash; limit = h.alike.limit; rules = h.alike.rules;
+    pieces = h.alike.pieces }

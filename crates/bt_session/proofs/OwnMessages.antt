@@ -36,7 +36,8 @@ allowed_by : (r : Rules) (e : Ext) → Allows rules.Bep e → Allows r e
 allowed_by rules.Free e h = tt
 allowed_by rules.Bep e h = h
 
-pub own_legal : (d : Context) (o : Order) (e : Ext) → d.ext ≡ true → HasSpelling d.reg e → Allows rules.Bep e → 2 + length (payload_of e) ≤ d.limit → IsLegal d o (m.Extended e)
+pub own_legal : (d : Context) (o : Order) (e : Ext) → d.ext ≡ true → HasSpelling d.reg e → Allows rules.Bep e → 2 + length (payload_of e) ≤ d.limit
+    → IsLegal d o (m.Extended e)
 own_legal d o e agreed shaped allowed short = record {
   shaped = shaped;
   short = omega arith;
@@ -55,7 +56,8 @@ own_legal d o e agreed shaped allowed short = record {
 small : (n : ℕ) → n < 2 ^ 63 → length (decimal n) ≤ 20
 small n lt = length-decimal-le 20 n (omega arith) (omega arith) (omega arith)
 
-pair_length : (k : List ℕ) (n : ℕ) (ps : Pairs) → length k < 64 → n < 2 ^ 63 → length (ben_pairs (pair k (integer (pos n)) ps)) ≤ 43 + length k + length (ben_pairs ps)
+pair_length : (k : List ℕ) (n : ℕ) (ps : Pairs) → length k < 64 → n < 2 ^ 63 → length (ben_pairs (pair k (integer (pos n)) ps)) ≤ 43 + length k + length
+    (ben_pairs ps)
 pair_length k n ps short lt =
     omega (
       arith,
@@ -70,13 +72,16 @@ pair_length k n ps short lt =
 dict_length : (ps : Pairs) → length (ben (dictionary ps)) ≡ 2 + length (ben_pairs ps)
 dict_length ps = omega (arith, length-append (ben_pairs ps) (101 ∷ []))
 
-typed_length : (msg_type piece : ℕ) (ps : Pairs) → msg_type < 2 ^ 63 → piece < 2 ^ 32 → length (ben_pairs (typed msg_type piece ps)) ≤ 99 + length (ben_pairs ps)
+typed_length : (msg_type piece : ℕ) (ps : Pairs) → msg_type < 2 ^ 63 → piece < 2 ^ 32 → length (ben_pairs (typed msg_type piece ps)) ≤ 99 + length
+    (ben_pairs ps)
 typed_length t k ps lt lk =
-    omega (arith, pair_length (codes "msg_type") t (pair (codes "piece") (integer (pos k)) ps) (omega arith) lt, pair_length (codes "piece") k ps (omega arith) (omega arith))
+    omega (arith, pair_length (codes "msg_type") t (pair (codes "piece") (integer (pos k)) ps) (omega arith) lt,
+        pair_length (codes "piece") k ps (omega arith) (omega arith))
 
 message_length : (k : Kind) (rest : List ℕ) → IsMade k → length (payload_of (message_of k rest)) ≤ 160 + length rest
 message_length (kind.Request piece) rest h =
-    omega (arith, length-append (ben (dictionary (message_pairs (kind.Request piece)))) rest, dict_length (message_pairs (kind.Request piece)), typed_length 0 piece no_pairs (omega arith) h)
+    omega (arith, length-append (ben (dictionary (message_pairs (kind.Request piece)))) rest, dict_length (message_pairs (kind.Request piece)),
+        typed_length 0 piece no_pairs (omega arith) h)
 message_length (kind.Data piece total) rest h =
     omega (
       arith,
@@ -86,7 +91,8 @@ message_length (kind.Data piece total) rest h =
       pair_length (codes "total_size") total no_pairs (omega arith) h.2,
     )
 message_length (kind.Reject piece) rest h =
-    omega (arith, length-append (ben (dictionary (message_pairs (kind.Reject piece)))) rest, dict_length (message_pairs (kind.Reject piece)), typed_length 2 piece no_pairs (omega arith) h)
+    omega (arith, length-append (ben (dictionary (message_pairs (kind.Reject piece)))) rest, dict_length (message_pairs (kind.Reject piece)),
+        typed_length 2 piece no_pairs (omega arith) h)
 message_length kind.Other rest h = absurd h
 message_length kind.Malformed rest h = absurd h
 
@@ -112,31 +118,37 @@ fields_length id size h k =
     )
 
 greeting_length : (id size : Option ℕ) → ForSome id (λ n. n < 256) → ForSome size (λ n. n < 2 ^ 63) → length (payload_of (handshake_of id size)) ≤ 160
-greeting_length id size h k = omega (arith, length-append (ben (dictionary (handshake_pairs id size))) [], dict_length (handshake_pairs id size), fields_length id size h k)
+greeting_length id size h k = omega (arith, length-append (ben (dictionary (handshake_pairs id size))) [], dict_length (handshake_pairs id size),
+    fields_length id size h k)
 
 -- ---- for the other end
 
 -- the extended handshake is read under any ids
-pub greeting_for : (c d : Context) (o : Order) (id size : Option ℕ) → c.ext ≡ true → 32768 ≤ c.limit → d.ext ≡ true → 32768 ≤ d.limit → ForSome id (λ n. n < 256) → ForSome size (λ n. n < 2 ^ 63) → IsFor c d o (m.Extended (handshake_of id size))
+pub greeting_for : (c d : Context) (o : Order) (id size : Option ℕ) → c.ext ≡ true → 32768 ≤ c.limit → d.ext ≡ true → 32768 ≤ d.limit
+    → ForSome id (λ n. n < 256) → ForSome size (λ n. n < 2 ^ 63) → IsFor c d o (m.Extended (handshake_of id size))
 greeting_for c d o id size own room agreed least h k =
     let right = handshake-right id size h k in
     record {
-      said = record { in_range = record { id = omega arith; fields = omega arith }; legal = own_legal c o (handshake_of id size) own (refl, right.0) right.1 (omega (arith, greeting_length id size h k)); start = omega arith };
+      said = record { in_range = record { id = omega arith; fields = omega arith }; legal = own_legal c o (handshake_of id size) own (refl, right.0) right.1
+          (omega (arith, greeting_length id size h k)); start = omega arith };
       in_range = record { id = omega arith; fields = omega arith };
       legal = own_legal d o (handshake_of id size) agreed (refl, right.0) right.1 (omega (arith, greeting_length id size h k));
       same = refl;
     }
 
 -- a metadata message is read under the id that the sender names
-pub message_for : (c d : Context) (o : Order) (k : Kind) (rest : List ℕ) (id : ℕ) → c.ext ≡ true → 32768 ≤ c.limit → d.ext ≡ true → 32768 ≤ d.limit → metadata_id c.reg ≡ Some id → metadata_id d.reg ≡ Some id → id < 256 → IsMade k → is_block_ok k (length rest) ≡ true → length rest ≤ 16384 →
+pub message_for : (c d : Context) (o : Order) (k : Kind) (rest : List ℕ) (id : ℕ) → c.ext ≡ true → 32768 ≤ c.limit → d.ext ≡ true → 32768 ≤ d.limit
+    → metadata_id c.reg ≡ Some id → metadata_id d.reg ≡ Some id → id < 256 → IsMade k → is_block_ok k (length rest) ≡ true → length rest ≤ 16384 →
     IsFor c d o (m.Extended (message_of k rest))
 message_for c d o k rest id own room agreed least sender reader lt made ok size =
     let right = message-right k rest made ok in
     record {
-      said = record { in_range = record { id = omega arith; fields = rw sender lt }; legal = own_legal c o (message_of k rest) own (rw sender refl, right.0) right.1 (omega (arith, message_length k rest made)); start = omega arith };
+      said = record { in_range = record { id = omega arith; fields = rw sender lt }; legal = own_legal c o (message_of k rest) own (rw sender refl, right.0)
+          right.1 (omega (arith, message_length k rest made)); start = omega arith };
       in_range = record { id = omega arith; fields = rw reader lt };
       legal = own_legal d o (message_of k rest) agreed (rw reader refl, right.0) right.1 (omega (arith, message_length k rest made));
-      same = ap (λ (o : Option ℕ). be32 (length (20 ∷ unwrap_or o 0 ∷ payload_of (message_of k rest))) ++ 20 ∷ unwrap_or o 0 ∷ payload_of (message_of k rest)) (sender ∙ sym reader);
+      same = ap (λ (o : Option ℕ). be32 (length (20 ∷ unwrap_or o 0 ∷ payload_of (message_of k rest)))
+          ++ 20 ∷ unwrap_or o 0 ∷ payload_of (message_of k rest)) (sender ∙ sym reader);
     }
 
 pub block_length : (metadata : List ℕ) (k : ℕ) → k < block_count (length metadata) → length (block metadata k) ≡ block_len (length metadata) k
@@ -144,7 +156,8 @@ block_length metadata k h =
     length-take block_size (drop (block_size * k) metadata) ∙ ap (min block_size) (length-drop (block_size * k) metadata) ∙ block_len_is (length metadata) k h
 
 -- a block of metadata is right, and no longer than a block may be
-pub block_right : (metadata : List ℕ) (k : ℕ) → k < block_count (length metadata) → (is_block_ok (kind.Data k (length metadata)) (length (block metadata k)) ≡ true) × (length (block metadata k) ≤ 16384)
+pub block_right : (metadata : List ℕ) (k : ℕ) → k < block_count (length metadata) → (is_block_ok (kind.Data k (length metadata)) (length (block metadata k))
+    ≡ true) × (length (block metadata k) ≤ 16384)
 block_right metadata k h = (
   rw (lt-ltb k (block_count (length metadata)) h) (eq-eqb (length (block metadata k)) (block_len (length metadata) k) (block_length metadata k h)),
   omega (arith, length-take block_size (drop (block_size * k) metadata)),

@@ -1,5 +1,6 @@
 -- What a side of the link does is a step of the link.
-use Rattle.std.proofs.Common.{◌≡◌, ℕ, ◌≤◌, ◌||◌, ◌&&◌, min, List, [], ◌∷◌, ◌++◌, length, Result, Ok, Err, IfOk, nat_le, is_none, is_some, refl, sym, ap, subst, ◌∙◌, arith, length-append, ◌+◌, ◌<◌, take, get_or, add-one}
+use Rattle.std.proofs.Common.{◌≡◌, ℕ, ◌≤◌, ◌||◌, ◌&&◌, min, List, [], ◌∷◌, ◌++◌, length, Result, Ok, Err, IfOk, nat_le, is_none, is_some, refl, sym, ap,
+    subst, ◌∙◌, arith, length-append, ◌+◌, ◌<◌, take, get_or, add-one}
 use Rattle.std.proofs.lemmas.List.{length-take-le}
 use Rattle.std.proofs.Math.Seq.{take-suc}
 use Rattle.bt_wire.specs.Messages.{Message}
@@ -41,13 +42,16 @@ Goes n s o m = (l : B.Link) → IsLinkOf n l → (k : B.Link) × B.IsStep l s o 
 abbrev pub Turned : Node → Node → Outcome → Type 0
 Turned n m o = (x : B.Node) → IsNodeOf n x → MayHandle x → (y : B.Node) × B.TurnGives x o y × IsNodeOf m (B.fed y)
 
-pub turn_left : (n : Link) (m : Node) (r : Result Outcome Memory) → IfOk r (λ o. Turned n.left m o) → IfOk r (λ o. Steps n (step.Turn Left) o (record n { left = m }))
+pub turn_left : (n : Link) (m : Node) (r : Result Outcome Memory) → IfOk r (λ o. Turned n.left m o)
+    → IfOk r (λ o. Steps n (step.Turn Left) o (record n { left = m }))
 turn_left n m (Err e) f = tt
 turn_left n m (Ok o) f = λ l h w.
     let t = f l.left h.left w.0 in
-    (record l { left = B.fed t.0 }, (record { own = B.fed t.0; other = l.right }, (t.0, t.1, refl), refl), record { left = t.2; right = h.right; past = h.past })
+    (record l { left = B.fed t.0 }, (record { own = B.fed t.0; other = l.right }, (t.0, t.1, refl), refl),
+        record { left = t.2; right = h.right; past = h.past })
 
-pub turn_right : (n : Link) (m : Node) (r : Result Outcome Memory) → IfOk r (λ o. Turned n.right m o) → IfOk r (λ o. Steps n (step.Turn Right) o (record n { right = m }))
+pub turn_right : (n : Link) (m : Node) (r : Result Outcome Memory) → IfOk r (λ o. Turned n.right m o)
+    → IfOk r (λ o. Steps n (step.Turn Right) o (record n { right = m }))
 turn_right n m (Err e) f = tt
 turn_right n m (Ok o) f = λ l h w.
     let t = f l.right h.right w.1 in
@@ -58,19 +62,22 @@ turn_right n m (Ok o) f = λ l h w.
 pub may_be_recorded : (x : B.Node) (msg : Message) → IsInRange bare msg → B.MayBeRecorded x msg
 may_be_recorded x msg range may =
     let e = x.half.end in
-    let tests = unsaid_none (is_none e.context || is_some (standing x.half.feed)) (nat_le high_water (length x.half.outbox)) (is_extended msg) (tells_pieces e msg && is_none e.own.pieces) may.0 in
+    let tests = unsaid_none (is_none e.context || is_some (standing x.half.feed)) (nat_le high_water (length x.half.outbox)) (is_extended msg)
+        (tells_pieces e msg && is_none e.own.pieces) may.0 in
     record { in_range = plain_range bare (belief e) msg tests.1 range; legal = may.1; start = omega arith }
 
 abbrev pub Said : Node → Node → Message → Outcome → Type 0
 Said n m msg o = (x : B.Node) → IsNodeOf n x → B.MayBeRecorded x msg → (y : B.Node) × B.SayGives x msg o y × IsNodeOf m y
 
-pub say_left : (n : Link) (m : Node) (msg : Message) (r : Result Outcome Memory) → IsInRange bare msg → IfOk r (λ o. Said n.left m msg o) → IfOk r (λ o. Goes n (step.Say Left msg) o (record n { left = m }))
+pub say_left : (n : Link) (m : Node) (msg : Message) (r : Result Outcome Memory) → IsInRange bare msg → IfOk r (λ o. Said n.left m msg o)
+    → IfOk r (λ o. Goes n (step.Say Left msg) o (record n { left = m }))
 say_left n m msg (Err e) range f = tt
 say_left n m msg (Ok o) range f = λ l h.
     let t = f l.left h.left (may_be_recorded l.left msg range) in
     (record l { left = t.0 }, (record { own = t.0; other = l.right }, (t.1, refl), refl), record { left = t.2; right = h.right; past = h.past })
 
-pub say_right : (n : Link) (m : Node) (msg : Message) (r : Result Outcome Memory) → IsInRange bare msg → IfOk r (λ o. Said n.right m msg o) → IfOk r (λ o. Goes n (step.Say Right msg) o (record n { right = m }))
+pub say_right : (n : Link) (m : Node) (msg : Message) (r : Result Outcome Memory) → IsInRange bare msg → IfOk r (λ o. Said n.right m msg o)
+    → IfOk r (λ o. Goes n (step.Say Right msg) o (record n { right = m }))
 say_right n m msg (Err e) range f = tt
 say_right n m msg (Ok o) range f = λ l h.
     let t = f l.right h.right (may_be_recorded l.right msg range) in
@@ -79,26 +86,32 @@ say_right n m msg (Ok o) range f = λ l h.
 -- ---- deliveries
 
 abbrev pub Delivered : Node → Node → ℕ → ℕ → Node → Node → Type 0
-Delivered n other count k m later = (p : B.Pair) → IsNodeOf n p.own → IsNodeOf other p.other → (k ≡ min count (length p.other.half.outbox)) × IsNodeOf m (B.delivers p k).own × IsNodeOf later (B.delivers p k).other
+Delivered n other count k m later = (p : B.Pair) → IsNodeOf n p.own → IsNodeOf other p.other → (k ≡ min count (length p.other.half.outbox))
+    × IsNodeOf m (B.delivers p k).own × IsNodeOf later (B.delivers p k).other
 
-pub deliver_left : (n : Link) (m later : Node) (count k : ℕ) → Delivered n.left n.right count k m later → Goes n (step.Deliver Left count) (outcome.Delivered k) (record n { left = m; right = later })
+pub deliver_left : (n : Link) (m later : Node) (count k : ℕ) → Delivered n.left n.right count k m later
+    → Goes n (step.Deliver Left count) (outcome.Delivered k) (record n { left = m; right = later })
 deliver_left n m later count k f = λ l h.
     let p : B.Pair = record { own = l.left; other = l.right } in
     let t = f p h.left h.right in
-    (record l { left = (B.delivers p k).own; right = (B.delivers p k).other }, (B.delivers p k, (ap outcome.Delivered t.0, ap (λ (j : ℕ). B.delivers p j) t.0), refl), record { left = t.1; right = t.2; past = h.past })
+    (record l { left = (B.delivers p k).own; right = (B.delivers p k).other },
+        (B.delivers p k, (ap outcome.Delivered t.0, ap (λ (j : ℕ). B.delivers p j) t.0), refl), record { left = t.1; right = t.2; past = h.past })
 
-pub deliver_right : (n : Link) (m later : Node) (count k : ℕ) → Delivered n.right n.left count k m later → Goes n (step.Deliver Right count) (outcome.Delivered k) (record n { left = later; right = m })
+pub deliver_right : (n : Link) (m later : Node) (count k : ℕ) → Delivered n.right n.left count k m later
+    → Goes n (step.Deliver Right count) (outcome.Delivered k) (record n { left = later; right = m })
 deliver_right n m later count k f = λ l h.
     let p : B.Pair = record { own = l.right; other = l.left } in
     let t = f p h.right h.left in
-    (record l { left = (B.delivers p k).other; right = (B.delivers p k).own }, (B.delivers p k, (ap outcome.Delivered t.0, ap (λ (j : ℕ). B.delivers p j) t.0), refl), record { left = t.2; right = t.1; past = h.past })
+    (record l { left = (B.delivers p k).other; right = (B.delivers p k).own },
+        (B.delivers p k, (ap outcome.Delivered t.0, ap (λ (j : ℕ). B.delivers p j) t.0), refl), record { left = t.2; right = t.1; past = h.past })
 
 -- ---- connections
 
 pub both : {X : Type 0} (a b c d : X) → a ≡ c → b ≡ d → a ∷ b ∷ [] ≡ c ∷ d ∷ []
 both {X} a b c d e f = ap (λ (x : X). x ∷ b ∷ []) e ∙ ap (λ (x : X). c ∷ x ∷ []) f
 
-pub connections_more : (cs : List Connection) (ds : List M.Connection) (c : Connection) (d : M.Connection) → AreConnectionsOf cs ds → IsConnectionOf c d → AreConnectionsOf (cs ++ c ∷ []) (ds ++ d ∷ [])
+pub connections_more : (cs : List Connection) (ds : List M.Connection) (c : Connection) (d : M.Connection) → AreConnectionsOf cs ds → IsConnectionOf c d
+    → AreConnectionsOf (cs ++ c ∷ []) (ds ++ d ∷ [])
 connections_more [] [] c d h k = (k, tt)
 connections_more [] (e ∷ ds) c d h k = absurd h
 connections_more (b ∷ cs) [] c d h k = absurd h
@@ -106,7 +119,8 @@ connections_more (b ∷ cs) (e ∷ ds) c d h k = (h.0, connections_more cs ds c 
 
 -- ---- one step more
 
-steps_more : (l : B.Link) (ss : List Step) (os : List Outcome) (k : B.Link) (s : Step) (o : Outcome) (next : B.Link) → B.AreSteps l ss os k → B.IsStep k s o next → B.AreSteps l (ss ++ s ∷ []) (os ++ o ∷ []) next
+steps_more : (l : B.Link) (ss : List Step) (os : List Outcome) (k : B.Link) (s : Step) (o : Outcome) (next : B.Link) → B.AreSteps l ss os k
+    → B.IsStep k s o next → B.AreSteps l (ss ++ s ∷ []) (os ++ o ∷ []) next
 steps_more l [] [] k s o next h step = (next, subst (λ (x : B.Link). B.IsStep x s o next) h step, refl)
 steps_more l [] (p ∷ os) k s o next h step = absurd h
 steps_more l (t ∷ ss) [] k s o next h step = absurd h
@@ -144,14 +158,16 @@ say_rests x y msg (outcome.Delivered n) h = absurd h
 say_rests x y msg outcome.Reset h = absurd h
 
 -- a step of one side
-side_counts : (s : Side) (l : B.Link) (q : B.Pair) (n : ℕ) → IsHandled n l → length q.own.handled ≤ length (B.seen_from s l).own.handled + 1 → q.other.handled ≡ (B.seen_from s l).other.handled → IsHandled (n + 1) (B.with_pair s l q)
+side_counts : (s : Side) (l : B.Link) (q : B.Pair) (n : ℕ) → IsHandled n l → length q.own.handled ≤ length (B.seen_from s l).own.handled + 1
+    → q.other.handled ≡ (B.seen_from s l).other.handled → IsHandled (n + 1) (B.with_pair s l q)
 side_counts Left l q n h g r = (omega (arith, h.0, g), omega (arith, h.1, ap (length {A = Item}) r))
 side_counts Right l q n h g r = (omega (arith, h.0, ap (length {A = Item}) r), omega (arith, h.1, g))
 
 step_counts : (l k : B.Link) (s : Step) (o : Outcome) (n : ℕ) → B.IsStep l s o k → IsHandled n l → IsHandled (n + 1) k
 step_counts l k (step.Turn s) o n is h =
     let p : B.Pair = B.seen_from s l in
-    let g : length is.0.own.handled ≤ length p.own.handled + 1 = omega (arith, turn_counts p.own is.1.0 o is.1.1, ap (λ (q : B.Pair). length q.own.handled) is.1.2) in
+    let g : length is.0.own.handled ≤ length p.own.handled + 1 =
+        omega (arith, turn_counts p.own is.1.0 o is.1.1, ap (λ (q : B.Pair). length q.own.handled) is.1.2) in
     subst (λ (x : B.Link). IsHandled (n + 1) x) (sym is.2) (side_counts s l is.0 n h g (ap (λ (q : B.Pair). q.other.handled) is.1.2))
 step_counts l k (step.Say s msg) o n is h =
     let p : B.Pair = B.seen_from s l in
@@ -184,7 +200,8 @@ pub written_at : (i : ℕ) (ss : List Step) (s : Step) → i < length ss → s �
 written_at i ss s lt here so_far is = subst (λ (x : List Step). AreWritten x) (sym (take_more i ss s lt here)) (written_more (take i ss) s so_far is)
 
 -- what is done so far, and the next step
-pub done_at : (i : ℕ) (ss : List Step) (s : Step) (first n m : Link) (os new : List Outcome) (o : Outcome) → i < length ss → length ss ≤ most_steps → s ≡ get_or ss i s → new ≡ os ++ o ∷ [] → AreWritten (take i ss)
+pub done_at : (i : ℕ) (ss : List Step) (s : Step) (first n m : Link) (os new : List Outcome) (o : Outcome) → i < length ss → length ss ≤ most_steps → s
+    ≡ get_or ss i s → new ≡ os ++ o ∷ [] → AreWritten (take i ss)
     → ((a b : EndState) → AreNew a b → IsLinkOf first (B.link_of a b) → (k : B.Link) × B.AreSteps (B.link_of a b) (take i ss) os k × IsLinkOf n k)
     → ((l : B.Link) → IsLinkOf n l → EachMayHandle l → (k : B.Link) × B.IsStep l s o k × IsLinkOf m k)
     → (a b : EndState) → AreNew a b → IsLinkOf first (B.link_of a b) → (k : B.Link) × B.AreSteps (B.link_of a b) (take (i + 1) ss) new k × IsLinkOf m k
@@ -194,7 +211,9 @@ done_at i ss s first n m os new o lt few here pushed written so_far next a b new
     let short : IsShortRun a b (take i ss) = record { left = news.left; right = news.right; matched = news.matched; written = written; few = long } in
     let queues = queued_may_be_sent a b (take i ss) os d.0 short d.1 in
     let counts : IsHandled (0 + length (take i ss)) d.0 = steps_count (B.link_of a b) d.0 (take i ss) os 0 d.1 (omega arith, omega arith) in
-    let may : EachMayHandle d.0 = (record { queues = queues.0; count = omega (arith, counts.0, long) }, record { queues = queues.1; count = omega (arith, counts.1, long) }) in
+    let may : EachMayHandle d.0 = (record { queues = queues.0; count = omega (arith, counts.0, long) },
+        record { queues = queues.1; count = omega (arith, counts.1, long) }) in
     let t = next d.0 d.2 may in
     let more = steps_more (B.link_of a b) (take i ss) os d.0 s o t.0 d.1 t.1 in
-    (t.0, subst (λ (x : List Step). B.AreSteps (B.link_of a b) x new t.0) (sym (take_more i ss s lt here)) (subst (λ (x : List Outcome). B.AreSteps (B.link_of a b) (take i ss ++ s ∷ []) x t.0) (sym pushed) more), t.2)
+    (t.0, subst (λ (x : List Step). B.AreSteps (B.link_of a b) x new t.0) (sym (take_more i ss s lt here))
+        (subst (λ (x : List Outcome). B.AreSteps (B.link_of a b) (take i ss ++ s ∷ []) x t.0) (sym pushed) more), t.2)

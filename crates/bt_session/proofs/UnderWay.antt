@@ -1,5 +1,6 @@
 -- What is under way: bytes that are the spellings of items.
-use Rattle.std.proofs.Common.{◌≡◌, ℕ, zero, suc, ◌+◌, ◌^◌, ◌<◌, ◌≤◌, ◌⊎◌, inl, inr, Bool, true, false, List, [], ◌∷◌, ◌++◌, length, map, take, drop, flat_map, Option, Some, None, slice_get, refl, sym, ap, subst, ◌∙◌, arith, bytes_eq}
+use Rattle.std.proofs.Common.{◌≡◌, ℕ, zero, suc, ◌+◌, ◌^◌, ◌<◌, ◌≤◌, ◌⊎◌, inl, inr, Bool, true, false, List, [], ◌∷◌, ◌++◌, length, map, take, drop,
+    flat_map, Option, Some, None, slice_get, refl, sym, ap, subst, ◌∙◌, arith, bytes_eq}
 use Rattle.std.proofs.lemmas.Bool.{cases_lt, lt-leb}
 use Rattle.std.proofs.lemmas.List.{append-nil, append_assoc, take-append-drop, length-append, take_at, drop_at, take-append-le}
 use Rattle.std.proofs.lemmas.Slice.Eq.{bytes_eq-Decides}
@@ -71,7 +72,8 @@ pub total_parts : (k : ℕ) (is : List Item) → total (take k is) + total (drop
 total_parts k is = sym (total-append (take k is) (drop k is)) ∙ ap total (take-append-drop k is)
 
 -- the item of a number, and what follows it
-pub next_parts : (k : ℕ) (is : List Item) (i : Item) → slice_get is k ≡ Some i → (drop k is ≡ i ∷ drop (k + 1) is) × (total (take (k + 1) is) ≡ total (take k is) + size i) × (k < length is)
+pub next_parts : (k : ℕ) (is : List Item) (i : Item) → slice_get is k ≡ Some i → (drop k is ≡ i ∷ drop (k + 1) is)
+    × (total (take (k + 1) is) ≡ total (take k is) + size i) × (k < length is)
 next_parts k [] i e = absurd cc
 next_parts zero (j ∷ is) i e = let same : j ≡ i = cc in (ap (λ (x : Item). x ∷ is) same, rw same (omega arith), omega arith)
 next_parts (suc k) (j ∷ is) i e =
@@ -101,7 +103,8 @@ pub behind_more : (t : Stage) (is js : List Item) → behind t (is ++ js) ≡ be
 behind_more t [] js = refl
 behind_more t (i ∷ is) js = behind_more (stage_after t (size i) i) is js
 
-pub messages_come : (c d : Context) (o : Order) (s n : ℕ) (xs : List Message) → AreFor c d o xs → s + total (map items.Message xs) < 2 ^ 62 → Coming (stage.Message d o s n) (map items.Message xs) (flat_map (spell c) xs)
+pub messages_come : (c d : Context) (o : Order) (s n : ℕ) (xs : List Message) → AreFor c d o xs → s + total (map items.Message xs) < 2 ^ 62
+    → Coming (stage.Message d o s n) (map items.Message xs) (flat_map (spell c) xs)
 messages_come c d o s n [] h lt = refl
 messages_come c d o s n (x ∷ xs) h lt = (
   spell c x,
@@ -114,25 +117,30 @@ messages_come c d o s n (x ∷ xs) h lt = (
 stage_same : (d : Context) (o : Order) (s t n k : ℕ) → s ≡ t → n ≡ k → stage.Message d o s n ≡ stage.Message d o t k
 stage_same d o s t n k e f = ap (λ (x : ℕ). stage.Message d o x n) e ∙ ap (λ (x : ℕ). stage.Message d o t x) f
 
-pub messages_behind : (d : Context) (o : Order) (s n : ℕ) (xs : List Message) → behind (stage.Message d o s n) (map items.Message xs) ≡ stage.Message d (orders_after o xs) (s + total (map items.Message xs)) (n + length (map items.Message xs))
+pub messages_behind : (d : Context) (o : Order) (s n : ℕ) (xs : List Message) → behind (stage.Message d o s n) (map items.Message xs)
+    ≡ stage.Message d (orders_after o xs) (s + total (map items.Message xs)) (n + length (map items.Message xs))
 messages_behind d o s n [] = stage_same d o s (s + 0) n (n + 0) (omega arith) (omega arith)
 messages_behind d o s n (x ∷ xs) =
     messages_behind d (order_after o x) (s + size (items.Message x)) (n + 1) xs
     ∙ stage_same d (orders_after (order_after o x) xs) _ _ _ _ (omega arith) (omega arith)
 
 -- what follows messages is a message in the same context
-pub behind_message : (d : Context) (o : Order) (s n : ℕ) (is : List Item) (c : Context) (p : Order) (t k : ℕ) → behind (stage.Message d o s n) is ≡ stage.Message c p t k → d ≡ c
+pub behind_message : (d : Context) (o : Order) (s n : ℕ) (is : List Item) (c : Context) (p : Order) (t k : ℕ) → behind (stage.Message d o s n) is
+    ≡ stage.Message c p t k → d ≡ c
 behind_message d o s n [] c p t k e = cc
 behind_message d o s n (items.Message x ∷ is) c p t k e = behind_message d (order_after o x) (s + size (items.Message x)) (n + 1) is c p t k e
 behind_message d o s n (items.Handshake h ∷ is) c p t k e = behind_message d o s n is c p t k e
 
 -- ---- a part of an item is open
 
-hand_early : (own : Own) (b x : List ℕ) (h : Handshake) → b ++ x ≡ hand h → hand_fault own (hand h) ≡ None → (o : Option Refused) → hand_fault own b ≡ o → o ≡ None
+hand_early : (own : Own) (b x : List ℕ) (h : Handshake) → b ++ x ≡ hand h → hand_fault own (hand h) ≡ None → (o : Option Refused) → hand_fault own b ≡ o → o
+    ≡ None
 hand_early own b x h e none None f = refl
-hand_early own b x h e none (Some r) f = absurd (let stays = hand_stays own b x r f in let there : hand_fault own (hand h) ≡ Some r = ap (hand_fault own) (sym e) ∙ stays in cc)
+hand_early own b x h e none (Some r) f = absurd (let stays = hand_stays own b x r f in let there : hand_fault own (hand h)
+    ≡ Some r = ap (hand_fault own) (sym e) ∙ stays in cc)
 
-pub message_early : (c : Context) (o : Order) (s : ℕ) (b x : List ℕ) (msg : Message) → c.limit < 2 ^ 32 → b ++ x ≡ spell c msg → IsSaid c o s msg → (f : Option Refused) → early_fault c o s b ≡ f → f ≡ None
+pub message_early : (c : Context) (o : Order) (s : ℕ) (b x : List ℕ) (msg : Message) → c.limit < 2 ^ 32 → b ++ x ≡ spell c msg → IsSaid c o s msg
+    → (f : Option Refused) → early_fault c o s b ≡ f → f ≡ None
 message_early c o s b x msg lt e said None f = refl
 message_early c o s b x msg lt e said (Some r) f =
     let stays : IsFault c o s (b ++ x) (Some r) = fault_stays c o s b x r (faults.early r f refl) in
@@ -140,7 +148,8 @@ message_early c o s b x msg lt e said (Some r) f =
     let none : IsFault c o s (spell c msg) None = subst (λ (y : List ℕ). IsFault c o s y None) (append-nil (spell c msg)) (fault-spell c o s msg [] lt said) in
     one_fault c o s (spell c msg) (Some r) None here none
 
-message_short : (c : Context) (o : Order) (s : ℕ) (b x : List ℕ) (msg : Message) → c.limit < 2 ^ 32 → b ++ x ≡ spell c msg → IsSaid c o s msg → length b < length (spell c msg) → (w : Bool) → is_whole b ≡ w → w ≡ false
+message_short : (c : Context) (o : Order) (s : ℕ) (b x : List ℕ) (msg : Message) → c.limit < 2 ^ 32 → b ++ x ≡ spell c msg → IsSaid c o s msg
+    → length b < length (spell c msg) → (w : Bool) → is_whole b ≡ w → w ≡ false
 message_short c o s b x msg lt e said short false w = refl
 message_short c o s b x msg lt e said short true w =
     let le = whole_length b w in
@@ -149,11 +158,14 @@ message_short c o s b x msg lt e said short true w =
     let same : said_length (b ++ x) ≡ length (body c msg) = ap said_length (e ∙ sym (append-nil (spell c msg))) ∙ said_m in
     absurd (omega (arith, le, said_b, same, length-spell c msg))
 
-pub open_before : (t : Stage) (b x first : List ℕ) (i : Item) → limit_of t < 2 ^ 32 → IsItem t first i → b ++ x ≡ first → length b < length first → is_closed t b ≡ false
+pub open_before : (t : Stage) (b x first : List ℕ) (i : Item) → limit_of t < 2 ^ 32 → IsItem t first i → b ++ x ≡ first → length b < length first
+    → is_closed t b ≡ false
 open_before (stage.Handshake own) b x first (items.Handshake h) lt p e short =
-    open_by (stage.Handshake own) b (hand_early own b x h (e ∙ p.2) (ap (hand_fault own) (sym p.2) ∙ p.0) (hand_fault own b) refl) (lt-leb 68 (length b) (omega (arith, ap length p.2, hand-length h p.1)))
+    open_by (stage.Handshake own) b (hand_early own b x h (e ∙ p.2) (ap (hand_fault own) (sym p.2) ∙ p.0) (hand_fault own b) refl)
+        (lt-leb 68 (length b) (omega (arith, ap length p.2, hand-length h p.1)))
 open_before (stage.Message c o s n) b x first (items.Message msg) lt p e short =
-    open_by (stage.Message c o s n) b (message_early c o s b x msg lt (e ∙ p.1) p.0 (early_fault c o s b) refl) (message_short c o s b x msg lt (e ∙ p.1) p.0 (omega (arith, ap length p.1)) (is_whole b) refl)
+    open_by (stage.Message c o s n) b (message_early c o s b x msg lt (e ∙ p.1) p.0 (early_fault c o s b) refl)
+        (message_short c o s b x msg lt (e ∙ p.1) p.0 (omega (arith, ap length p.1)) (is_whole b) refl)
 open_before (stage.Handshake own) b x first (items.Message msg) lt p e short = absurd p
 open_before (stage.Message c o s n) b x first (items.Handshake h) lt p e short = absurd p
 
@@ -172,14 +184,16 @@ front_of x y a b le e =
     (drop (length x) y, ap (λ (w : List ℕ). w ++ drop (length x) y) (sym whole) ∙ take-append-drop (length x) y)
 
 -- fewer bytes than the first item has are open
-pub first_open : (t : Stage) (i : Item) (is : List Item) (held more : List ℕ) → limit_of t < 2 ^ 32 → Coming t (i ∷ is) (held ++ more) → length held < size i → is_closed t held ≡ false
+pub first_open : (t : Stage) (i : Item) (is : List Item) (held more : List ℕ) → limit_of t < 2 ^ 32 → Coming t (i ∷ is) (held ++ more)
+    → length held < size i → is_closed t held ≡ false
 first_open t i is held more lt h short =
     let len : length h.0 ≡ size i = item_size t h.0 i h.3 in
     let z = front_of held h.0 more h.1 (omega arith) h.2 in
     open_before t held z.0 h.0 i lt h.3 z.1 (omega arith)
 
 -- where as many bytes came as the first item has, just these are held
-pub first_held : (t : Stage) (i : Item) (is : List Item) (held untaken outbox : List ℕ) → limit_of t < 2 ^ 32 → Coming t (i ∷ is) (held ++ (untaken ++ outbox)) → IsPartial t held → (is_closed t held ≡ true) ⊎ (untaken ≡ [])
+pub first_held : (t : Stage) (i : Item) (is : List Item) (held untaken outbox : List ℕ) → limit_of t < 2 ^ 32
+    → Coming t (i ∷ is) (held ++ (untaken ++ outbox)) → IsPartial t held → (is_closed t held ≡ true) ⊎ (untaken ≡ [])
     → size i ≤ length held + length untaken → IsItem t held i × Coming (stage_after t (size i) i) is (untaken ++ outbox)
 first_held t i is held untaken outbox lt h p full le =
     let len : length h.0 ≡ size i = item_size t h.0 i h.3 in
@@ -187,7 +201,8 @@ first_held t i is held untaken outbox lt h p full le =
       | inl short ↦ absurd (not_short (first_open t i is held (untaken ++ outbox) lt h short) full short)
       | inr l ↦ l
     ] in
-    let front : take (size i) held ≡ h.0 = sym (take-append-le (size i) held (untaken ++ outbox) long) ∙ ap (take (size i)) h.2 ∙ take_at h.0 h.1 (size i) len in
+    let front : take (size i) held ≡ h.0 = sym (take-append-le (size i) held (untaken ++ outbox) long) ∙ ap (take (size i)) h.2
+        ∙ take_at h.0 h.1 (size i) len in
     let not_longer : length held ≤ size i = no_longer t held (size i) p (ap (is_closed t) front ∙ item_closed t h.0 i lt h.3) in
     let parts = both_parts held h.0 (untaken ++ outbox) h.1 (omega arith) h.2 in
     (subst (λ (x : List ℕ). IsItem t x i) (sym parts.0) h.3, subst (λ (x : List ℕ). Coming (stage_after t (size i) i) is x) (sym parts.1) h.4)
@@ -202,7 +217,8 @@ hand_hash : (h : Handshake) → IsHandshake h → take 20 (drop 28 (hand h)) ≡
 hand_hash h p =
     let front : List ℕ = protocol ++ be64 h.reserved.0 in
     let apart : hand h ≡ front ++ (h.info_hash ++ h.peer_id) = append_assoc front h.info_hash h.peer_id in
-    ap (λ (x : List ℕ). take 20 (drop 28 x)) apart ∙ ap (take 20) (drop_at front (h.info_hash ++ h.peer_id) 28 refl) ∙ take_at h.info_hash h.peer_id 20 p.info_hash
+    ap (λ (x : List ℕ). take 20 (drop 28 x)) apart ∙ ap (take 20) (drop_at front (h.info_hash ++ h.peer_id) 28 refl)
+        ∙ take_at h.info_hash h.peer_id 20 p.info_hash
 
 same_bytes : (x : List ℕ) → bytes_eq x x ≡ true
 same_bytes x = grind (arith, bytes_eq-Decides x x)

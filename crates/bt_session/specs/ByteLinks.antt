@@ -142,7 +142,8 @@ MayBeSent c o (x ∷ xs) = IsSaid c o 0 x × MayBeSent c (order_after o x) xs
 
 -- what an end queues at an item that its feed holds may be sent, as it takes the peer to read it
 abbrev pub QueuesWell : Node → Type 0
-QueuesWell x = (item : Item) → IsAnswered x.half (Ok (Some item)) → MayBeSent (belief (react x.half.end item).end) x.half.end.sends (react x.half.end item).queued
+QueuesWell x = (item : Item) → IsAnswered x.half (Ok (Some item)) → MayBeSent (belief (react x.half.end item).end) x.half.end.sends
+    (react x.half.end item).queued
 
 -- a message that an end says may be sent
 abbrev pub MayBeRecorded : Node → Message → Type 0

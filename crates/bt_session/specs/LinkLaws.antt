@@ -97,7 +97,8 @@ ByteLinkIsMessageLink = (a b : EndState) (steps : List Step) (outcomes : List Ou
 -- Outcomes of steps in the message link are outcomes of them in the byte link, with the same ends and connections.
 abbrev pub MessageLinkIsByteLink : Type 0
 MessageLinkIsByteLink = (a b : EndState) (steps : List Step) (outcomes : List Outcome) → IsHonestRun a b steps outcomes
-    → M.AreOutcomes (M.link_of a b) steps outcomes → (k : B.Link) × B.AreSteps (B.link_of a b) steps outcomes k × SameLink (M.after_all (M.link_of a b) steps outcomes) k
+    → M.AreOutcomes (M.link_of a b) steps outcomes → (k : B.Link) × B.AreSteps (B.link_of a b) steps outcomes k
+    × SameLink (M.after_all (M.link_of a b) steps outcomes) k
 
 -- ---- two honest ends never refuse each other
 
@@ -158,4 +159,5 @@ OutcomesAreOne = (a b : EndState) (steps : List Step) (outcomes others : List Ou
 -- whatever an end queues at the next item may be sent, in the context in which it believes the other one to read
 
 abbrev pub QueuedMayBeSent : Type 0
-QueuedMayBeSent = (a b : EndState) (steps : List Step) (outcomes : List Outcome) (k : B.Link) → IsShortRun a b steps → B.AreSteps (B.link_of a b) steps outcomes k → B.QueuesWell k.left × B.QueuesWell k.right
+QueuedMayBeSent = (a b : EndState) (steps : List Step) (outcomes : List Outcome) (k : B.Link) → IsShortRun a b steps
+    → B.AreSteps (B.link_of a b) steps outcomes k → B.QueuesWell k.left × B.QueuesWell k.right

@@ -25,4 +25,5 @@ pub record AreNew (a b : EndState) : Type 0 where
 
 -- the steps were done: from two new ends they have these outcomes, and leave this link
 abbrev pub DoneBy : List Step → Link → List Outcome → Link → Type 0
-DoneBy steps n outcomes m = (a b : EndState) → AreNew a b → IsLinkOf n (B.link_of a b) → (k : B.Link) × B.AreSteps (B.link_of a b) steps outcomes k × IsLinkOf m k
+DoneBy steps n outcomes m = (a b : EndState) → AreNew a b → IsLinkOf n (B.link_of a b) → (k : B.Link) × B.AreSteps (B.link_of a b) steps outcomes k
+    × IsLinkOf m k

@@ -1,5 +1,6 @@
 -- The fields of a line as they are read, and as they are said: the same.
-use Rattle.std.proofs.Common.{◌≡◌, ℕ, ◌<◌, ◌^◌, ◌==◌, true, false, List, [], ◌∷◌, ◌++◌, length, Option, Some, None, Result, Ok, Err, refl, sym, ap, subst, ◌∙◌, arith, inl, inr}
+use Rattle.std.proofs.Common.{◌≡◌, ℕ, ◌<◌, ◌^◌, ◌==◌, true, false, List, [], ◌∷◌, ◌++◌, length, Option, Some, None, Result, Ok, Err, refl, sym, ap, subst,
+    ◌∙◌, arith, inl, inr}
 use Rattle.std.specs.Prelude.{codes, option_map, option_and_then, nat_lt, if◌then◌else◌}
 use Rattle.std.specs.Fmt.{decimal}
 use Rattle.std.specs.Result.{result_ok}
@@ -16,7 +17,8 @@ use Rattle.bt_wire.specs.Messages.{Fields, none, index, part, block, port, field
 use Rattle.bt_wire.specs.Numbers.{be16, be32}
 use Rattle.bt_text.specs.Lines.{spaced}
 use Rattle.bt_text.specs.Script.{SaysBytes, SaysSpaced, SaysFields, shape_of}
-use Rattle.bt_text.specs.ScriptReading.{word_of, behind_word, number_in_word, bytes_in_word, number_behind, after_one, one_more_behind, two_behind, three_behind, closed, bytes_behind, with_bytes, port_in, extended_in, fields_in}
+use Rattle.bt_text.specs.ScriptReading.{word_of, behind_word, number_in_word, bytes_in_word, number_behind, after_one, one_more_behind, two_behind,
+    three_behind, closed, bytes_behind, with_bytes, port_in, extended_in, fields_in}
 use Rattle.bt_text.proofs.ScriptWords.{Stops, word-parts, word_of-append, behind_word-append, decimal_has_no_space, number_in_word-decimal, number_in_word-Some}
 
 -- ---- what an answer comes from
@@ -56,12 +58,14 @@ pub record HasNumber (text : List ℕ) (n : ℕ) (rest : List ℕ) : Type 0 wher
   pub text_is : text ≡ spaced n ++ rest
   pub small : n < 2 ^ 32
 
-number_at : (c : ℕ) (cs : List ℕ) (p : ℕ × List ℕ) → (c == 32) ≡ true → option_map (λ n. (n, behind_word cs)) (number_in_word (word_of cs)) ≡ Some p → HasNumber (c ∷ cs) p.0 p.1
+number_at : (c : ℕ) (cs : List ℕ) (p : ℕ × List ℕ) → (c == 32) ≡ true → option_map (λ n. (n, behind_word cs)) (number_in_word (word_of cs)) ≡ Some p
+    → HasNumber (c ∷ cs) p.0 p.1
 number_at c cs p e h =
     let q = option_map-Some (λ (n : ℕ). (n, behind_word cs)) (number_in_word (word_of cs)) p h in
     let d = number_in_word-Some (word_of cs) q.from q.was in
     let text : c ∷ cs ≡ spaced q.from ++ behind_word cs =
-    ap (λ (x : List ℕ). c ∷ x) (sym (word-parts cs)) ∙ ap (λ (x : List ℕ). c ∷ (x ++ behind_word cs)) d.digits ∙ ap (λ (k : ℕ). k ∷ (decimal q.from ++ behind_word cs)) (is_space c e) in
+    ap (λ (x : List ℕ). c ∷ x) (sym (word-parts cs)) ∙ ap (λ (x : List ℕ). c ∷ (x ++ behind_word cs)) d.digits
+        ∙ ap (λ (k : ℕ). k ∷ (decimal q.from ++ behind_word cs)) (is_space c e) in
     subst (λ (p : ℕ × List ℕ). HasNumber (c ∷ cs) p.0 p.1) q.gives (record { text_is = text; small = d.small })
 
 pub number_behind-Some : (text : List ℕ) (p : ℕ × List ℕ) → number_behind text ≡ Some p → HasNumber text p.0 p.1
@@ -93,7 +97,8 @@ one_more_behind-Some p q h =
     let t = number_behind-Some p.1 m.from m.was in
     subst (λ (q : List ℕ × List ℕ). HasOneMore p q) m.gives (record { number = m.from.0; text = t; bytes = refl })
 
-pub one_more_behind-spaced : (front : List ℕ) (n : ℕ) (t : List ℕ) → n < 2 ^ 32 → Stops t → one_more_behind (pair front (spaced n ++ t)) ≡ Some (pair (front ++ be32 n) t)
+pub one_more_behind-spaced : (front : List ℕ) (n : ℕ) (t : List ℕ) → n < 2 ^ 32 → Stops t → one_more_behind (pair front (spaced n ++ t))
+    ≡ Some (pair (front ++ be32 n) t)
 one_more_behind-spaced front n t lt stops = ap (option_map (after_one front)) (number_behind-spaced n t lt stops)
 
 -- ---- a space and bytes
@@ -298,11 +303,14 @@ two_says : (i b : ℕ) (rest : List ℕ) → i < 2 ^ 32 → b < 2 ^ 32 → Stops
 two_says i b rest li lb stops =
     rw (one_more_behind-spaced [] i (spaced b ++ rest) li refl) (one_more_behind-spaced (be32 i) b rest lb stops)
 
-three_says : (i b l : ℕ) → i < 2 ^ 32 → b < 2 ^ 32 → l < 2 ^ 32 → three_behind (spaced i ++ (spaced b ++ spaced l)) ≡ Some (pair ((be32 i ++ be32 b) ++ be32 l) [])
+three_says : (i b l : ℕ) → i < 2 ^ 32 → b < 2 ^ 32 → l < 2 ^ 32 → three_behind (spaced i ++ (spaced b ++ spaced l))
+    ≡ Some (pair ((be32 i ++ be32 b) ++ be32 l) [])
 three_says i b l li lb ll =
-    rw (two_says i b (spaced l) li lb refl) (ap (λ (x : List ℕ). one_more_behind (pair (be32 i ++ be32 b) x)) (sym (append-nil (spaced l))) ∙ one_more_behind-spaced (be32 i ++ be32 b) l [] ll tt)
+    rw (two_says i b (spaced l) li lb refl) (ap (λ (x : List ℕ). one_more_behind (pair (be32 i ++ be32 b) x)) (sym (append-nil (spaced l)))
+        ∙ one_more_behind-spaced (be32 i ++ be32 b) l [] ll tt)
 
-block_says : (i b : ℕ) (text rest bytes : List ℕ) → i < 2 ^ 32 → b < 2 ^ 32 → text ≡ spaced i ++ (spaced b ++ rest) → SaysSpaced rest bytes → fields_in Block text ≡ Some (spell_fields (block i b bytes))
+block_says : (i b : ℕ) (text rest bytes : List ℕ) → i < 2 ^ 32 → b < 2 ^ 32 → text ≡ spaced i ++ (spaced b ++ rest) → SaysSpaced rest bytes
+    → fields_in Block text ≡ Some (spell_fields (block i b bytes))
 block_says i b text rest bytes li lb e says =
     rw (e, two_says i b rest li lb (Stops-says rest bytes says)) (with_bytes-says (be32 i ++ be32 b) rest bytes says)
 
@@ -327,7 +335,8 @@ said_as (field bits) s text e range says = rw (sym (shape_is Field s e)) (with_b
 said_as (extended n bytes) s text e range says = rw (sym (shape_is Extended s e)) (extended_says n text says.0 bytes range says.1 says.2)
 said_as (payload bytes) s text e range says = absurd cc
 
-pub fields_in-says : (s : Shape) (text : List ℕ) (f : Fields) → shape_of f ≡ Some s → AreInRange f → SaysFields text f → fields_in s text ≡ Some (spell_fields f)
+pub fields_in-says : (s : Shape) (text : List ℕ) (f : Fields) → shape_of f ≡ Some s → AreInRange f → SaysFields text f → fields_in s text
+    ≡ Some (spell_fields f)
 fields_in-says s text f e range says = said_as f s text e range says
 
 -- what follows a name stops it

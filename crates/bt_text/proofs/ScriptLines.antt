@@ -1,5 +1,6 @@
 -- The lines that are read are those that are said, with the same bytes.
-use Rattle.std.proofs.Common.{◌≡◌, ℕ, ◌<◌, ◌^◌, ◌==◌, Bool, true, false, cond, not, ◌&&◌, List, [], ◌∷◌, ◌++◌, length, Some, None, Result, Ok, Err, refl, sym, ap, subst, ◌∙◌, arith, inl, inr}
+use Rattle.std.proofs.Common.{◌≡◌, ℕ, ◌<◌, ◌^◌, ◌==◌, Bool, true, false, cond, not, ◌&&◌, List, [], ◌∷◌, ◌++◌, length, Some, None, Result, Ok, Err, refl,
+    sym, ap, subst, ◌∙◌, arith, inl, inr}
 use Rattle.std.specs.Prelude.{codes, option_map, option_and_then, nat_lt, IfOk}
 use Rattle.std.specs.Int.{w64, from_be_bytes}
 use Rattle.std.specs.List.{list_all, AllPass}
@@ -18,10 +19,13 @@ use Rattle.bt_wire.specs.Ids.{Id, ids, has_meaning}
 use Rattle.bt_wire.specs.Messages.{Fields, spell_fields}
 use Rattle.bt_wire.specs.Numbers.{be32, be64}
 use Rattle.bt_text.specs.Lines.{spaced}
-use Rattle.bt_text.specs.Script.{SaysSpaced, SaysFields, row_named, IsOfRow, Said, keep_alive, known, unknown, Says, framed_by, said_bytes, IsMessageLine, HasHandshakeWords, IsHandshakeLine, IsLine, IsAnswer}
-use Rattle.bt_text.specs.ScriptReading.{word_of, behind_word, number_behind, with_bytes, fields_in, payload_in, unknown_in, row_in_text, message_in, array_behind, peer_in, info_in, handshake_in, bytes_of_parts, closed, line_in, Gives}
+use Rattle.bt_text.specs.Script.{SaysSpaced, SaysFields, row_named, IsOfRow, Said, keep_alive, known, unknown, Says, framed_by, said_bytes, IsMessageLine,
+    HasHandshakeWords, IsHandshakeLine, IsLine, IsAnswer}
+use Rattle.bt_text.specs.ScriptReading.{word_of, behind_word, number_behind, with_bytes, fields_in, payload_in, unknown_in, row_in_text, message_in,
+    array_behind, peer_in, info_in, handshake_in, bytes_of_parts, closed, line_in, Gives}
 use Rattle.bt_text.proofs.ScriptWords.{Stops, has_no_space, word-parts, word_of-append, behind_word-append}
-use Rattle.bt_text.proofs.ScriptFields.{option_map-Some, option_and_then-Some, closed-Some, is_space, number_behind-Some, pair, number_behind-spaced, with_bytes-Some, with_bytes-says, Stops-says, fields_in-Some, fields_in-says, Stops-fields}
+use Rattle.bt_text.proofs.ScriptFields.{option_map-Some, option_and_then-Some, closed-Some, is_space, number_behind-Some, pair, number_behind-spaced,
+    with_bytes-Some, with_bytes-says, Stops-says, fields_in-Some, fields_in-says, Stops-fields}
 
 same_text : (a b : List ℕ) → bytes_eq a b ≡ true → a ≡ b
 same_text a b e = (bytes_eq-Decides a b).0 e
@@ -39,7 +43,8 @@ not_true : (b : Bool) → not b ≡ true → b ≡ false
 not_true true h = absurd cc
 not_true false h = refl
 
-payload_if : (n : ℕ) (text bytes : List ℕ) (small meant : Bool) → nat_lt n 256 ≡ small → has_meaning n ≡ meant → (cond (small && not meant) (option_map (framed_by n) (with_bytes [] text)) None) ≡ Some bytes → HasPayload n text bytes
+payload_if : (n : ℕ) (text bytes : List ℕ) (small meant : Bool) → nat_lt n 256 ≡ small → has_meaning n ≡ meant
+    → (cond (small && not meant) (option_map (framed_by n) (with_bytes [] text)) None) ≡ Some bytes → HasPayload n text bytes
 payload_if n text bytes true false small meaning h =
     let m = option_map-Some (framed_by n) (with_bytes [] text) bytes h in
     let w = with_bytes-Some [] text m.from m.was in
@@ -70,7 +75,8 @@ some_is : (a b : List ℕ) → Some a ≡ Some b → b ≡ a
 some_is a b e = cc e
 
 message_if : (text bytes : List ℕ) (alive named : Bool) → bytes_eq text (codes "keep-alive") ≡ alive → bytes_eq (word_of text) (codes "unknown") ≡ named
-    → (cond alive (Some (be32 0)) (cond named (unknown_in (behind_word text)) (option_and_then (row_in_text (behind_word text)) (row_named (word_of text) ids)))) ≡ Some bytes → IsMessageLine text bytes
+    → (cond alive (Some (be32 0)) (cond named (unknown_in (behind_word text))
+    (option_and_then (row_in_text (behind_word text)) (row_named (word_of text) ids)))) ≡ Some bytes → IsMessageLine text bytes
 message_if text bytes true named a u h = (keep_alive, same_text text (codes "keep-alive") a, some_is (be32 0) bytes h)
 message_if text bytes false true a u h = unknown_read text bytes (same_text (word_of text) (codes "unknown") u) h
 message_if text bytes false false a u h = known_read text bytes h
@@ -84,7 +90,8 @@ message_in-Some text bytes h = message_if text bytes (bytes_eq text (codes "keep
 abbrev is_row_name : List ℕ → Bool
 is_row_name name = has_no_space name && (not (bytes_eq name (codes "unknown")) && not (bytes_eq name (codes "keep-alive")))
 
-row_name_if : (name : List ℕ) (i j : Id) (is : List Id) (b : Bool) → bytes_eq name j.name ≡ b → (row_named name is ≡ Some i → is_row_name name ≡ true) → is_row_name j.name ≡ true → cond b (Some j) (row_named name is) ≡ Some i → is_row_name name ≡ true
+row_name_if : (name : List ℕ) (i j : Id) (is : List Id) (b : Bool) → bytes_eq name j.name ≡ b → (row_named name is ≡ Some i → is_row_name name ≡ true)
+    → is_row_name j.name ≡ true → cond b (Some j) (row_named name is) ≡ Some i → is_row_name name ≡ true
 row_name_if name i j is true e more here h = rw (same_text name j.name e) here
 row_name_if name i j is false e more here h = more h
 
@@ -106,14 +113,16 @@ row_name_is name i h =
     record { free = p.0; no_unknown = not_true _ q.0; no_alive = not_true _ q.1 }
 
 -- where the first word isn't `keep-alive`, the text isn't
-not_alive : (text name : List ℕ) (b : Bool) → word_of text ≡ name → bytes_eq name (codes "keep-alive") ≡ false → bytes_eq text (codes "keep-alive") ≡ b → b ≡ false
+not_alive : (text name : List ℕ) (b : Bool) → word_of text ≡ name → bytes_eq name (codes "keep-alive") ≡ false → bytes_eq text (codes "keep-alive") ≡ b → b
+    ≡ false
 not_alive text name false word other e = refl
 not_alive text name true word other e =
     let whole : text ≡ codes "keep-alive" = same_text text (codes "keep-alive") e in
     let first : name ≡ codes "keep-alive" = sym word ∙ ap word_of whole in
     absurd (let k : true ≡ false = rw first at other in cc k)
 
-known_said : (text name rest : List ℕ) (i : Id) (f : Fields) → text ≡ name ++ rest → IsOfRow name i f → SaysFields rest f → message_in text ≡ Some (framed_by i.number (spell_fields f))
+known_said : (text name rest : List ℕ) (i : Id) (f : Fields) → text ≡ name ++ rest → IsOfRow name i f → SaysFields rest f → message_in text
+    ≡ Some (framed_by i.number (spell_fields f))
 known_said text name rest i f parts row says =
     let n = row_name_is name i row.named in
     let stops = Stops-fields f rest says in
@@ -122,7 +131,8 @@ known_said text name rest i f parts row says =
     let alive : bytes_eq text (codes "keep-alive") ≡ false = not_alive text name _ word n.no_alive refl in
     rw (alive, word, n.no_unknown, row.named, behind, fields_in-says i.kind.shape rest f row.shape row.fields says) refl
 
-unknown_said : (n : ℕ) (rest bytes : List ℕ) → n < 256 → has_meaning n ≡ false → SaysSpaced rest bytes → unknown_in (spaced n ++ rest) ≡ Some (framed_by n bytes)
+unknown_said : (n : ℕ) (rest bytes : List ℕ) → n < 256 → has_meaning n ≡ false → SaysSpaced rest bytes → unknown_in (spaced n ++ rest)
+    ≡ Some (framed_by n bytes)
 unknown_said n rest bytes small meaning says =
     let test : (nat_lt n 256 && not (has_meaning n)) ≡ true = and_from _ _ (lt-ltb n 256 small) (not_from_false (has_meaning n) meaning) in
     rw (number_behind-spaced n rest (omega arith) (Stops-says rest bytes says), test, with_bytes-says [] rest bytes says) refl
@@ -146,15 +156,18 @@ ok_of : {E : Type 0} (r : Result (List ℕ) E) (bytes : List ℕ) → result_ok 
 ok_of (Ok x) bytes h = let e : x ≡ bytes = cc h in ap Ok e
 ok_of (Err e) bytes h = absurd cc
 
-array_at : (n c : ℕ) (cs : List ℕ) (p : List ℕ × List ℕ) → (c == 32) ≡ true → option_map (λ bytes. pair bytes (behind_word cs)) (result_ok (decode_sized (word_of cs) n)) ≡ Some p → HasArray n (c ∷ cs) p.0 p.1
+array_at : (n c : ℕ) (cs : List ℕ) (p : List ℕ × List ℕ) → (c == 32) ≡ true → option_map (λ bytes. pair bytes (behind_word cs))
+    (result_ok (decode_sized (word_of cs) n)) ≡ Some p → HasArray n (c ∷ cs) p.0 p.1
 array_at n c cs p e h =
     let q = option_map-Some (λ (bytes : List ℕ). pair bytes (behind_word cs)) (result_ok (decode_sized (word_of cs) n)) p h in
     let sized = ok_of (decode_sized (word_of cs) n) q.from q.was in
     let len = decode_sized-ok (word_of cs) n q.from sized in
     let decoded : decode_of (word_of cs) ≡ Ok q.from = sym (decode_sized-twice (word_of cs) n len) ∙ sized in
     let is = decode_of-ok (word_of cs) q.from decoded in
-    let text : c ∷ cs ≡ codes " " ++ (word_of cs ++ behind_word cs) = ap (λ (k : ℕ). k ∷ cs) (is_space c e) ∙ ap (λ (x : List ℕ). 32 ∷ x) (sym (word-parts cs)) in
-    subst (λ (p : List ℕ × List ℕ). HasArray n (c ∷ cs) p.0 p.1) q.gives (record { word = word_of cs; text_is = text; decoded = decoded; size = omega (arith, len, is.2); fits = is.3 })
+    let text : c ∷ cs ≡ codes " " ++ (word_of cs ++ behind_word cs) = ap (λ (k : ℕ). k ∷ cs) (is_space c e)
+        ∙ ap (λ (x : List ℕ). 32 ∷ x) (sym (word-parts cs)) in
+    subst (λ (p : List ℕ × List ℕ). HasArray n (c ∷ cs) p.0 p.1) q.gives (record { word = word_of cs; text_is = text; decoded = decoded;
+        size = omega (arith, len, is.2); fits = is.3 })
 
 array_behind-Some : (n : ℕ) (text : List ℕ) (p : List ℕ × List ℕ) → array_behind n text ≡ Some p → HasArray n text p.0 p.1
 array_behind-Some n [] p h = absurd cc
@@ -176,7 +189,8 @@ digits_have_no_space [] h = refl
 digits_have_no_space (c ∷ cs) h =
     rw (no_digit c (c == 32) refl (All-head digit_holds c cs h)) (digits_have_no_space cs (All-tail digit_holds c cs h))
 
-array_behind-says : (n : ℕ) (word bytes rest : List ℕ) → decode_of word ≡ Ok bytes → length bytes ≡ n → Stops rest → array_behind n (codes " " ++ (word ++ rest)) ≡ Some (pair bytes rest)
+array_behind-says : (n : ℕ) (word bytes rest : List ℕ) → decode_of word ≡ Ok bytes → length bytes ≡ n → Stops rest
+    → array_behind n (codes " " ++ (word ++ rest)) ≡ Some (pair bytes rest)
 array_behind-says n word bytes rest decoded size stops =
     let is = decode_of-ok word bytes decoded in
     let free = digits_have_no_space word is.1 in
@@ -233,7 +247,8 @@ handshake_read text rest p parts t =
     let number : be64 h.reserved.0 ≡ t.reserved = be_bytes_8 t.reserved h.reserved.0 t.reserved_read.size t.reserved_read.fits refl in
     let last : t.info_rest ≡ codes " " ++ t.peer_read.word = t.peer_read.text_is ∙ ap (λ (x : List ℕ). 32 ∷ x) (append-nil t.peer_read.word) in
     let words : text ≡ codes "handshake " ++ (t.reserved_read.word ++ (codes " " ++ (t.info_read.word ++ (codes " " ++ t.peer_read.word)))) =
-    parts ∙ ap (λ (x : List ℕ). codes "handshake" ++ x) (t.reserved_read.text_is ∙ ap (λ (x : List ℕ). codes " " ++ (t.reserved_read.word ++ x)) (t.info_read.text_is ∙ ap (λ (x : List ℕ). codes " " ++ (t.info_read.word ++ x)) last)) in
+    parts ∙ ap (λ (x : List ℕ). codes "handshake" ++ x) (t.reserved_read.text_is ∙ ap (λ (x : List ℕ). codes " " ++ (t.reserved_read.word ++ x))
+        (t.info_read.text_is ∙ ap (λ (x : List ℕ). codes " " ++ (t.info_read.word ++ x)) last)) in
     let says : HasHandshakeWords text t.reserved_read.word t.info_read.word t.peer_read.word h = record {
       parts = words;
       reserved_bytes = t.reserved_read.decoded ∙ ap Ok (sym number);
@@ -246,9 +261,11 @@ handshake_read text rest p parts t =
       ap bytes_of_parts (sym t.same) ∙ ap (λ (r : List ℕ). bytes_of_parts (three r t.info t.peer)) (sym number),
     )
 
-handshake_if : (text : List ℕ) (p : Three) (b : Bool) → bytes_eq (word_of text) (codes "handshake") ≡ b → cond b (option_and_then info_in (array_behind 8 (behind_word text))) None ≡ Some p → IsHandshakeLine text (bytes_of_parts p)
+handshake_if : (text : List ℕ) (p : Three) (b : Bool) → bytes_eq (word_of text) (codes "handshake") ≡ b
+    → cond b (option_and_then info_in (array_behind 8 (behind_word text))) None ≡ Some p → IsHandshakeLine text (bytes_of_parts p)
 handshake_if text p true e h =
-    let parts : text ≡ codes "handshake" ++ behind_word text = sym (word-parts text) ∙ ap (λ (x : List ℕ). x ++ behind_word text) (same_text (word_of text) (codes "handshake") e) in
+    let parts : text ≡ codes "handshake" ++ behind_word text = sym (word-parts text) ∙ ap (λ (x : List ℕ). x ++ behind_word text)
+        (same_text (word_of text) (codes "handshake") e) in
     handshake_read text (behind_word text) p parts (three_read (behind_word text) p h)
 handshake_if text p false e h = absurd cc
 
@@ -257,7 +274,8 @@ handshake_in-Some text bytes h =
     let m = option_map-Some bytes_of_parts (handshake_in text) bytes h in
     subst (λ (x : List ℕ). IsHandshakeLine text x) m.gives (handshake_if text m.from (bytes_eq (word_of text) (codes "handshake")) refl m.was)
 
-handshake_said : (reserved info peer : List ℕ) (h : Handshake) → decode_of reserved ≡ Ok (be64 h.reserved.0) → decode_of info ≡ Ok h.info_hash → decode_of peer ≡ Ok h.peer_id → IsHandshake h
+handshake_said : (reserved info peer : List ℕ) (h : Handshake) → decode_of reserved ≡ Ok (be64 h.reserved.0) → decode_of info ≡ Ok h.info_hash
+    → decode_of peer ≡ Ok h.peer_id → IsHandshake h
     → line_in true (codes "handshake " ++ (reserved ++ (codes " " ++ (info ++ (codes " " ++ peer))))) ≡ Some (hand h)
 handshake_said reserved info peer h r i p fits =
     let last : array_behind 20 (codes " " ++ peer) ≡ Some (pair h.peer_id []) =
@@ -282,7 +300,8 @@ answer : (first : Bool) (text bytes : List ℕ) (b : Bool) → Gives (line_in fi
 answer first text bytes true h = line_in-Some first text bytes h
 answer first text bytes false h = λ other line. absurd (let k : None ≡ Some other = sym h ∙ line_in-says first text other line in cc k)
 
-pub read_answer : {E : Type 0} (first : Bool) (text bytes : List ℕ) (r : Result Bool E) → IfOk r (Gives (line_in first text) bytes) → IfOk r (IsAnswer first text bytes)
+pub read_answer : {E : Type 0} (first : Bool) (text bytes : List ℕ) (r : Result Bool E) → IfOk r (Gives (line_in first text) bytes)
+    → IfOk r (IsAnswer first text bytes)
 read_answer first text bytes (Ok b) h = answer first text bytes b h
 read_answer first text bytes (Err e) h = tt
 

@@ -18,7 +18,8 @@ use Rattle.bt_wire.specs.Ids.{Id, id, ids, has_meaning}
 use Rattle.bt_wire.specs.Messages.{Fields, none, index, part, block, port, field, extended, payload, spell_fields, spell, AreInRange, IsShaped, IsInRange}
 use Rattle.bt_wire.specs.Numbers.{be32, be64, AreBytes}
 use Rattle.bt_text.specs.Lines.{spaced, handshake_words}
-use Rattle.bt_text.specs.Script.{hex_or_dash, spaced_hex, script_fields, script_message, SaysBytes, SaysSpaced, SaysFields, shape_of, row_named, framed_by, known, unknown, keep_alive, IsMessageLine, IsHandshakeLine, HasHandshakeWords}
+use Rattle.bt_text.specs.Script.{hex_or_dash, spaced_hex, script_fields, script_message, SaysBytes, SaysSpaced, SaysFields, shape_of, row_named, framed_by,
+    known, unknown, keep_alive, IsMessageLine, IsHandshakeLine, HasHandshakeWords}
 
 says_hex : (bytes : List ℕ) → AreBytes bytes → SaysBytes (hex_or_dash bytes) bytes
 says_hex [] fits = refl
@@ -50,7 +51,8 @@ spelled_framed n fields =
 behind_id : (n : ℕ) (fields : List ℕ) → AreBytes (spelled n fields) → AreBytes fields
 behind_id n fields fits = λ k. fits (suc (suc (suc (suc (suc k)))))
 
-known_line : (i : Id) (f : Fields) → row_named i.name ids ≡ Some i → shape_of f ≡ Some i.kind.shape → AreInRange f → AreBytes (spelled i.number (spell_fields f))
+known_line : (i : Id) (f : Fields) → row_named i.name ids ≡ Some i → shape_of f ≡ Some i.kind.shape → AreInRange f
+    → AreBytes (spelled i.number (spell_fields f))
     → IsMessageLine (i.name ++ script_fields f) (spelled i.number (spell_fields f))
 known_line i f named shape range fits = (
   known i f,
@@ -58,19 +60,24 @@ known_line i f named shape range fits = (
   spelled_framed i.number (spell_fields f),
 )
 
-unknown_line : (n : ℕ) (bytes : List ℕ) → n < 256 → has_meaning n ≡ false → AreBytes (spelled n bytes) → IsMessageLine (codes "unknown" ++ (spaced n ++ spaced_hex bytes)) (spelled n bytes)
-unknown_line n bytes small meaning fits = (unknown n bytes, (spaced_hex bytes, refl, small, meaning, says_spaced bytes (behind_id n bytes fits)), spelled_framed n bytes)
+unknown_line : (n : ℕ) (bytes : List ℕ) → n < 256 → has_meaning n ≡ false → AreBytes (spelled n bytes)
+    → IsMessageLine (codes "unknown" ++ (spaced n ++ spaced_hex bytes)) (spelled n bytes)
+unknown_line n bytes small meaning fits = (unknown n bytes, (spaced_hex bytes, refl, small, meaning, says_spaced bytes (behind_id n bytes fits)),
+    spelled_framed n bytes)
 
-pub message_line : (own : Own) (c : Context) (msg : Message) → c.reg ≡ own.reg → IsShaped c msg → IsInRange c msg → AreBytes (spell c msg) → IsMessageLine (script_message own msg) (spell c msg)
+pub message_line : (own : Own) (c : Context) (msg : Message) → c.reg ≡ own.reg → IsShaped c msg → IsInRange c msg → AreBytes (spell c msg)
+    → IsMessageLine (script_message own msg) (spell c msg)
 message_line own c m.KeepAlive same shaped range fits = (keep_alive, refl, refl)
 message_line own c m.Choke same shaped range fits = known_line (id 0 (codes "choke") Nothing Neither Counted) none refl refl range.fields fits
 message_line own c m.Unchoke same shaped range fits = known_line (id 1 (codes "unchoke") Nothing Neither Counted) none refl refl range.fields fits
 message_line own c m.Interested same shaped range fits = known_line (id 2 (codes "interested") Nothing Neither Counted) none refl refl range.fields fits
 message_line own c m.NotInterested same shaped range fits = known_line (id 3 (codes "not-interested") Nothing Neither Counted) none refl refl range.fields fits
 message_line own c (m.Have i) same shaped range fits = known_line (id 4 (codes "have") Index Neither Counted) (index i) refl refl range.fields fits
-message_line own c (m.Bitfield bits) same shaped range fits = known_line (id 5 (codes "bitfield") Field Neither Opening) (field bits) refl refl range.fields fits
+message_line own c (m.Bitfield bits) same shaped range fits = known_line (id 5 (codes "bitfield") Field Neither Opening) (field bits) refl refl range.fields
+    fits
 message_line own c (m.Request i b l) same shaped range fits = known_line (id 6 (codes "request") Part Neither Counted) (part i b l) refl refl range.fields fits
-message_line own c (m.Piece i b bytes) same shaped range fits = known_line (id 7 (codes "piece") Block Neither Counted) (block i b bytes) refl refl range.fields fits
+message_line own c (m.Piece i b bytes) same shaped range fits = known_line (id 7 (codes "piece") Block Neither Counted) (block i b bytes) refl refl
+    range.fields fits
 message_line own c (m.Cancel i b l) same shaped range fits = known_line (id 8 (codes "cancel") Part Neither Counted) (part i b l) refl refl range.fields fits
 message_line own c (m.Port p) same shaped range fits = known_line (id 9 (codes "port") Port Neither Apart) (port p) refl refl range.fields fits
 message_line own c (m.Suggest i) same shaped range fits = known_line (id 13 (codes "suggest") Index Fast Counted) (index i) refl refl range.fields fits
@@ -79,7 +86,8 @@ message_line own c m.HaveNone same shaped range fits = known_line (id 15 (codes 
 message_line own c (m.Reject i b l) same shaped range fits = known_line (id 16 (codes "reject") Part Fast Counted) (part i b l) refl refl range.fields fits
 message_line own c (m.AllowedFast i) same shaped range fits = known_line (id 17 (codes "allowed-fast") Index Fast Counted) (index i) refl refl range.fields fits
 message_line own c (m.Extended e) same shaped range fits =
-    subst (λ (reg : Registered). IsMessageLine (codes "extended" ++ script_fields (extended (unwrap_or (ext_id reg e) 0) (payload_of e))) (spell c (m.Extended e))) same
+    subst (λ (reg : Registered). IsMessageLine (codes "extended" ++ script_fields (extended (unwrap_or (ext_id reg e) 0) (payload_of e)))
+        (spell c (m.Extended e))) same
     (known_line (id 20 (codes "extended") Extended Extension Apart) (extended (unwrap_or (ext_id c.reg e) 0) (payload_of e)) refl refl range.fields fits)
 message_line own c (m.Unknown n bytes) same shaped range fits = unknown_line n bytes range.id shaped fits
 

@@ -1,5 +1,6 @@
 -- The words of a line: its front up to a space, and the numbers that words say.
-use Rattle.std.proofs.Common.{◌≡◌, ℕ, suc, ◌+◌, ◌-◌, ◌*◌, ◌<◌, ◌≤◌, ◌^◌, ◌==◌, Bool, true, false, ◌&&◌, not, List, [], ◌∷◌, ◌++◌, length, take, drop, get_or, Some, None, Result, Ok, Err, refl, sym, ap, ◌∙◌, arith, inl, inr, cond, zero}
+use Rattle.std.proofs.Common.{◌≡◌, ℕ, suc, ◌+◌, ◌-◌, ◌*◌, ◌<◌, ◌≤◌, ◌^◌, ◌==◌, Bool, true, false, ◌&&◌, not, List, [], ◌∷◌, ◌++◌, length, take, drop,
+    get_or, Some, None, Result, Ok, Err, refl, sym, ap, ◌∙◌, arith, inl, inr, cond, zero}
 use Rattle.std.proofs.lemmas.Bool.{cases_Bool, cases_lt, and_parts, ltb-true, ltb-false, lt-ltb, le-ltb}
 use Rattle.std.proofs.lemmas.Fmt.{digits_decimal, digits_value-decimal, decimal-digits_value, length-decimal-le, decimal_nonempty, first_decimal, decimal_digit}
 use Rattle.std.proofs.lemmas.List.{length-take, get_or-take, take_all}
@@ -175,7 +176,8 @@ IsDecimal-zero w n h e =
 
 -- ---- what digits say
 
-pub small_digits : (w : List ℕ) → AreDigits w → 0 < length w → (get_or w 0 0 ≡ 48 → length w ≡ 1) → digits_value 10 w < 2 ^ 32 → number_in_word w ≡ Some (digits_value 10 w)
+pub small_digits : (w : List ℕ) → AreDigits w → 0 < length w → (get_or w 0 0 ≡ 48 → length w ≡ 1) → digits_value 10 w < 2 ^ 32 → number_in_word w
+    ≡ Some (digits_value 10 w)
 unfolding number_in_word
 small_digits w digits some led lt =
     let same : decimal (digits_value 10 w) ≡ w = decimal-digits_value own w digits some led (omega arith) in
@@ -188,7 +190,8 @@ unfolding number_in_word
 large_digits w le = rw (le-ltb (digits_value 10 w) (2 ^ 32) le) refl
 
 -- one digit more
-pub number_step : (w : List ℕ) (i n : ℕ) → i < length w → IsInRange 48 57 (get_or w i 0) → n ≡ digits_value 10 (take i w) → n * 10 + (get_or w i 0 - 48) ≡ digits_value 10 (take (i + 1) w)
+pub number_step : (w : List ℕ) (i n : ℕ) → i < length w → IsInRange 48 57 (get_or w i 0) → n ≡ digits_value 10 (take i w) → n * 10 + (get_or w i 0 - 48)
+    ≡ digits_value 10 (take (i + 1) w)
 number_step w i n lt digit is =
     let value : digit_value (get_or w i 0) ≡ get_or w i 0 - 48 = digit_is (get_or w i 0) digit in
     sym (digits_value_more 10 w i lt ∙ rw (value, ← is) refl)
@@ -205,18 +208,21 @@ is_none c e digit = grind arith
 pub IsDecimal-other : (w : List ℕ) (n i : ℕ) → IsDecimal w n → i < length w → is_ascii_digit (get_or w i 0) ≡ false → ⊥
 IsDecimal-other w n i h lt e = is_none (get_or w i 0) e (IsDecimal-digits w n h i lt)
 
-pub value_short : (w : List ℕ) (i n : ℕ) → length w ≤ 10 → i ≤ length w → n ≡ digits_value 10 (take i w) → ((k : ℕ) → k < i → IsInRange 48 57 (get_or w k 0)) → n < 10000000000
+pub value_short : (w : List ℕ) (i n : ℕ) → length w ≤ 10 → i ≤ length w → n ≡ digits_value 10 (take i w)
+    → ((k : ℕ) → k < i → IsInRange 48 57 (get_or w k 0)) → n < 10000000000
 value_short w i n short le is digits =
     let len : length (take i w) ≡ i = omega (arith, length-take i w) in
     let all : AreDigits (take i w) = λ k lt. rw (get_or-take i w k 0 (omega (arith, len))) (digits k (omega (arith, len))) in
     omega (arith, is, digits_value_short own (take i w) 10 all (omega (arith, len)))
 
-ok_iff : {E : Type 0} (w : List ℕ) (n : ℕ) (r : Result ℕ E) → (n < 2 ^ 32 → number_in_word w ≡ Some n) → (2 ^ 32 ≤ n → number_in_word w ≡ None) → OkIff r (n < 2 ^ 32) n → result_ok r ≡ number_in_word w
+ok_iff : {E : Type 0} (w : List ℕ) (n : ℕ) (r : Result ℕ E) → (n < 2 ^ 32 → number_in_word w ≡ Some n) → (2 ^ 32 ≤ n → number_in_word w ≡ None)
+    → OkIff r (n < 2 ^ 32) n → result_ok r ≡ number_in_word w
 ok_iff w n (Ok x) small large h = rw h.1 (sym (small h.0))
 ok_iff w n (Err e) small large h = sym (large (elim (cases_lt n (2 ^ 32)) [ inl lt ↦ absurd (h lt) | inr le ↦ le ]))
 
 -- the value of all digits, where no more than one is there or the first isn't 0
-pub read_number : {E : Type 0} (w : List ℕ) (i n : ℕ) (r : Result ℕ E) → (0 < length w) → length w ≤ i → n ≡ digits_value 10 (take i w) → ((k : ℕ) → k < i → IsInRange 48 57 (get_or w k 0)) → (get_or w 0 0 ≡ 48 → 1 < length w → ⊥) → OkIff r (n < 2 ^ 32) n → result_ok r ≡ number_in_word w
+pub read_number : {E : Type 0} (w : List ℕ) (i n : ℕ) (r : Result ℕ E) → (0 < length w) → length w ≤ i → n ≡ digits_value 10 (take i w)
+    → ((k : ℕ) → k < i → IsInRange 48 57 (get_or w k 0)) → (get_or w 0 0 ≡ 48 → 1 < length w → ⊥) → OkIff r (n < 2 ^ 32) n → result_ok r ≡ number_in_word w
 read_number w i n r some le is digits led h =
     let same : n ≡ digits_value 10 w = is ∙ ap (digits_value 10) (take_all i w le) in
     let all : AreDigits w = λ k lt. digits k (omega arith) in

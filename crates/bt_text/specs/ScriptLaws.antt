@@ -17,7 +17,8 @@ LineIsOne = (first : Bool) (text a b : List ℕ) → IsLine first text a → IsL
 
 -- the words of a message are a line, with just the bytes of the message, where the registered ids are the receiver's
 abbrev pub MessageIsLine : Type 0
-MessageIsLine = (own : Own) (c : Context) (m : Message) → c.reg ≡ own.reg → IsShaped c m → IsInRange c m → AreBytes (spell c m) → IsLine false (script_words own (items.Message m)) (spell c m)
+MessageIsLine = (own : Own) (c : Context) (m : Message) → c.reg ≡ own.reg → IsShaped c m → IsInRange c m → AreBytes (spell c m)
+    → IsLine false (script_words own (items.Message m)) (spell c m)
 
 -- the words of a handshake are the first line, with just its bytes
 abbrev pub HandshakeIsLine : Type 0

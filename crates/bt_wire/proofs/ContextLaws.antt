@@ -1,5 +1,6 @@
 -- A legal message stays legal in a context that differs in what it doesn't use; and a message is judged one way.
-use Rattle.std.proofs.Common.{◌≡◌, ℕ, suc, ◌^◌, ◌<◌, ◌≤◌, ◌⊎◌, inl, inr, Bool, true, false, ◌&&◌, ◌||◌, eqb, if◌then◌else◌, List, [], ◌++◌, length, Option, Some, None, refl, sym, ap, subst, ◌∙◌, arith}
+use Rattle.std.proofs.Common.{◌≡◌, ℕ, suc, ◌^◌, ◌<◌, ◌≤◌, ◌⊎◌, inl, inr, Bool, true, false, ◌&&◌, ◌||◌, eqb, if◌then◌else◌, List, [], ◌++◌, length, Option,
+    Some, None, refl, sym, ap, subst, ◌∙◌, arith}
 use Rattle.std.proofs.lemmas.Bool.{le-leb}
 use Rattle.std.proofs.lemmas.List.{append-nil}
 use Rattle.std.specs.Prelude.{IfSome, IsSome, unwrap_or}
@@ -26,12 +27,14 @@ use Rattle.bt_wire.proofs.WindowLaws.{one_fault, fault-spell}
 
 -- ---- the fields are the same
 
-raw_id : (zero own other : Bool) (id : ℕ) → IsSome (if zero || own then None else Some id) → other ≡ false → (if zero || other then None else Some id) ≡ (if zero || own then None else Some id)
+raw_id : (zero own other : Bool) (id : ℕ) → IsSome (if zero || own then None else Some id) → other ≡ false → (if zero || other then None else Some id)
+    ≡ (if zero || own then None else Some id)
 raw_id true own other id h e = absurd cc
 raw_id false true other id h e = absurd cc
 raw_id false false other id h e = rw e refl
 
-same_id : (old new : Registered) (e : Ext) → IsSome (ext_id old e) → (metadata_id new ≡ metadata_id old) ⊎ UsesNoId new (m.Extended e) → ext_id new e ≡ ext_id old e
+same_id : (old new : Registered) (e : Ext) → IsSome (ext_id old e) → (metadata_id new ≡ metadata_id old) ⊎ UsesNoId new (m.Extended e) → ext_id new e
+    ≡ ext_id old e
 same_id old new (ext.Handshake dict rest) h s = refl
 same_id old new (ext.Metadata dict rest) h (inl same) = same
 same_id old new (ext.Metadata dict rest) h (inr other) = absurd other
@@ -86,7 +89,8 @@ record KeepsPieces (p : Option ℕ) (f : Fields) : Type 0 where
 keeps : (c : Context) (msg : Message) (p : Option ℕ) → KeepsPieces c.pieces (fields_of c msg) → PiecesSuit c msg p → KeepsPieces p (fields_of c msg)
 keeps c msg p k (inl same) = subst (λ (o : Option ℕ). KeepsPieces o (fields_of c msg)) (sym same) k
 keeps c msg p k (inr (inl none)) =
-    subst (λ (o : Option ℕ). KeepsPieces o (fields_of c msg)) (sym none) (record { indexed = no_index (index_in (fields_of c msg)); sized = no_size (field_in (fields_of c msg)); spare = no_spare (field_in (fields_of c msg)) })
+    subst (λ (o : Option ℕ). KeepsPieces o (fields_of c msg)) (sym none) (record { indexed = no_index (index_in (fields_of c msg));
+        sized = no_size (field_in (fields_of c msg)); spare = no_spare (field_in (fields_of c msg)) })
 keeps c msg p k (inr (inr plain)) = record {
   indexed = subst (λ (o : Option ℕ). IfSome o (λ index. is_beyond p index ≡ false)) (sym plain.0) tt;
   sized = subst (λ (o : Option (List ℕ)). IfSome o (λ bits. allows (field_size p) (suc (length bits)) ≡ true)) (sym plain.1) tt;
@@ -124,9 +128,11 @@ legal_elsewhere c o msg p r pieces ids h =
 -- ---- one judgement
 
 faultless : (c : Context) (o : Order) (msg : Message) → c.limit < 2 ^ 32 → IsInRange c msg → IsLegal c o msg → IsFault c o 0 (spell c msg) None
-faultless c o msg lt range h = subst (λ (b : List ℕ). IsFault c o 0 b None) (append-nil (spell c msg)) (fault-spell c o 0 msg [] lt (record { in_range = range; legal = h; start = omega arith }))
+faultless c o msg lt range h = subst (λ (b : List ℕ). IsFault c o 0 b None) (append-nil (spell c msg))
+    (fault-spell c o 0 msg [] lt (record { in_range = range; legal = h; start = omega arith }))
 
-legal_or_refused : (c : Context) (o : Order) (msg : Message) (reason : Reason) → c.limit < 2 ^ 32 → IsInRange c msg → IsLegal c o msg → IsRefusedFor c o msg reason → ⊥
+legal_or_refused : (c : Context) (o : Order) (msg : Message) (reason : Reason) → c.limit < 2 ^ 32 → IsInRange c msg → IsLegal c o msg
+    → IsRefusedFor c o msg reason → ⊥
 legal_or_refused c o msg reason lt range h (inl long) = omega (arith, h.short, long.0)
 legal_or_refused c o msg reason lt range h (inr k) =
     let same = one_fault c o 0 (spell c msg) None (Some (record { at = k.1.0; reason = reason })) (faultless c o msg lt range h) k.1.1 in

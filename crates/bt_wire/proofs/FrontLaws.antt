@@ -21,7 +21,8 @@ front_need c o s b n lt e =
     let j : IsJudged c o b (headers.Need n) = judged_at c o b (headers.Need n) e in
     record { none = unfinished (early_header c o s b lt ∙ j.0) j.1 refl; part = j.1 }
 
-pub front_refused : (c : Context) (o : Order) (s : ℕ) (b : List ℕ) (f : Refused) → s < 2 ^ 62 → header_of c o b ≡ headers.Refused f.at f.reason → IsFault c o s b (Some f)
+pub front_refused : (c : Context) (o : Order) (s : ℕ) (b : List ℕ) (f : Refused) → s < 2 ^ 62 → header_of c o b ≡ headers.Refused f.at f.reason
+    → IsFault c o s b (Some f)
 front_refused c o s b f lt e =
     let j : IsJudged c o b (headers.Refused f.at f.reason) = judged_at c o b (headers.Refused f.at f.reason) e in
     early f (early_header c o s b lt ∙ j) refl
@@ -44,18 +45,21 @@ front_whole c o b n e le =
     let all = whole_there b (omega (arith, j.size)) in
     let says = window_says b all in
     let here : take n b ≡ window b = ap (λ (k : ℕ). take k b) j.size in
-    let w : IsWindow c o (window b) = record { long = omega (arith, says.1); exact = omega (arith, says.0, says.1); header = header-window c o b all ∙ j.none } in
+    let w : IsWindow c o (window b) = record { long = omega (arith, says.1); exact = omega (arith, says.0, says.1); header = header-window c o b all
+        ∙ j.none } in
     let P : List ℕ → Type 0 = λ z. header_of c o z ≡ headers.Window (length z) in
     record { whole = all; window = here; header = subst P (sym here) (header-from_window c o (window b) w) }
 
-pub front_read : (c : Context) (o : Order) (s : ℕ) (b : List ℕ) (n : ℕ) (m : Message) → s < 2 ^ 62 → n ≤ length b → IsRead c o (take n b) m → BeginsBy c o s b m n
+pub front_read : (c : Context) (o : Order) (s : ℕ) (b : List ℕ) (n : ℕ) (m : Message) → s < 2 ^ 62 → n ≤ length b → IsRead c o (take n b) m
+    → BeginsBy c o s b m n
 front_read c o s b n m lt le r = record {
   said = record { in_range = r.said.in_range; legal = r.said.legal; start = lt };
   size = sym (ap length r.spelled ∙ length-take-le n b le);
   parts = sym (ap (λ (z : List ℕ). z ++ drop n b) r.spelled ∙ take-append-drop n b);
 }
 
-pub front_fault : (c : Context) (o : Order) (s : ℕ) (b : List ℕ) (n : ℕ) (f : Refused) → s < 2 ^ 62 → IsWhole c o b n → IsFault c o 0 (take n b) (Some f) → IsFault c o s b (Some f)
+pub front_fault : (c : Context) (o : Order) (s : ℕ) (b : List ℕ) (n : ℕ) (f : Refused) → s < 2 ^ 62 → IsWhole c o b n → IsFault c o 0 (take n b) (Some f)
+    → IsFault c o s b (Some f)
 front_fault c o s b n f lt h p =
     let P : List ℕ → Type 0 = λ z. IsFault c o 0 z (Some f) in
     fault-window c o s b (Some f) lt h.whole (subst P h.window p)

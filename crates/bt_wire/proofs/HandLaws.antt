@@ -1,9 +1,11 @@
 -- Handshakes: their faults stay whatever follows, and their bytes are those of one handshake.
-use Rattle.std.proofs.Common.{◌≡◌, ℕ, ◌+◌, ◌^◌, ◌≤◌, ◌<◌, Bool, true, false, cond, eqb, leb, List, [], ◌∷◌, ◌++◌, length, take, drop, Option, Some, None, refl, sym, ap, ◌∙◌, arith, inl, inr}
+use Rattle.std.proofs.Common.{◌≡◌, ℕ, ◌+◌, ◌^◌, ◌≤◌, ◌<◌, Bool, true, false, cond, eqb, leb, List, [], ◌∷◌, ◌++◌, length, take, drop, Option, Some, None,
+    refl, sym, ap, ◌∙◌, arith, inl, inr}
 use Rattle.std.specs.Prelude.{is_some, option_map, unwrap_or}
 use Rattle.std.specs.Int.{w64, from_be_bytes}
 use Rattle.std.proofs.lemmas.Bool.{cases_lt, cases_eq, eq-eqb, ne_eqb, le-leb, lt-leb}
-use Rattle.std.proofs.lemmas.List.{append_assoc, length-append, length-drop, length-take-le, take-append-drop, take-append-le, drop-append-le, append_cancel_left, drop-drop, take_at, drop_at}
+use Rattle.std.proofs.lemmas.List.{append_assoc, length-append, length-drop, length-take-le, take-append-drop, take-append-le, drop-append-le,
+    append_cancel_left, drop-drop, take_at, drop_at}
 use Rattle.std.proofs.lemmas.Nat.{from_be_bytes-to_be_bytes_8}
 use Rattle.bt_wire.specs.declared.context.Own.{Own}
 use Rattle.bt_wire.specs.declared.fault.Reason.TheVariants.{BadProtocol}
@@ -24,7 +26,8 @@ mapped : (o p : Option ℕ) (i : ℕ) → ((j : ℕ) → o ≡ Some j → p ≡ 
 mapped None p i h e = absurd cc
 mapped (Some j) p i h e = rw (h j refl) e
 
-stays_by : (b : Bool) (o p : Option ℕ) (i : ℕ) → ((j : ℕ) → o ≡ Some j → p ≡ Some j) → cond b (option_map (λ k. k + 1) o) (Some 0) ≡ Some i → cond b (option_map (λ k. k + 1) p) (Some 0) ≡ Some i
+stays_by : (b : Bool) (o p : Option ℕ) (i : ℕ) → ((j : ℕ) → o ≡ Some j → p ≡ Some j) → cond b (option_map (λ k. k + 1) o) (Some 0) ≡ Some i
+    → cond b (option_map (λ k. k + 1) p) (Some 0) ≡ Some i
 stays_by true o p i h e = mapped o p i h e
 stays_by false o p i h e = e
 
@@ -45,7 +48,8 @@ hand_same own b x le =
 bad : ℕ → Refused
 bad i = record { at = i; reason = BadProtocol }
 
-protocol_stays : (o p : Option ℕ) (rest : Option Refused) (f : Refused) → ((j : ℕ) → o ≡ Some j → p ≡ Some j) → cond (is_some o) (Some (bad (unwrap_or o 0))) None ≡ Some f → cond (is_some p) (Some (bad (unwrap_or p 0))) rest ≡ Some f
+protocol_stays : (o p : Option ℕ) (rest : Option Refused) (f : Refused) → ((j : ℕ) → o ≡ Some j → p ≡ Some j)
+    → cond (is_some o) (Some (bad (unwrap_or o 0))) None ≡ Some f → cond (is_some p) (Some (bad (unwrap_or p 0))) rest ≡ Some f
 protocol_stays None p rest f h e = absurd cc
 protocol_stays (Some j) p rest f h e = rw (h j refl) e
 
@@ -71,7 +75,8 @@ both_parts a b x y len e = (
 )
 
 pub hand-length : (h : Handshake) → IsHandshake h → length (hand h) ≡ 68
-hand-length h p = omega (arith, p.info_hash, p.peer_id, length-append (protocol ++ be64 h.reserved.0) h.info_hash, length-append (protocol ++ be64 h.reserved.0 ++ h.info_hash) h.peer_id)
+hand-length h p = omega (arith, p.info_hash, p.peer_id, length-append (protocol ++ be64 h.reserved.0) h.info_hash,
+    length-append (protocol ++ be64 h.reserved.0 ++ h.info_hash) h.peer_id)
 
 pub one_handshake : (g h : Handshake) (x y : List ℕ) → IsHandshake g → IsHandshake h → hand g ++ x ≡ hand h ++ y → (g ≡ h) × (x ≡ y)
 one_handshake g h x y p q e =
@@ -117,9 +122,11 @@ joined : (p q r t e d c a b : List ℕ) → b ≡ p ++ a → a ≡ q ++ c → c 
 joined p q r t e d c a b h1 h2 h3 h4 = rw (h1, h2, h3, h4) (sym (simp append_assoc))
 
 next_part : (n k : ℕ) (b part : List ℕ) → part ≡ take n (drop k b) → drop k b ≡ part ++ drop (k + n) b
-next_part n k b part e = sym (take-append-drop n (drop k b)) ∙ ap (λ (x : List ℕ). x ++ drop n (drop k b)) (sym e) ∙ ap (λ (x : List ℕ). part ++ x) (drop-drop n k b)
+next_part n k b part e = sym (take-append-drop n (drop k b)) ∙ ap (λ (x : List ℕ). x ++ drop n (drop k b)) (sym e)
+    ∙ ap (λ (x : List ℕ). part ++ x) (drop-drop n k b)
 
-pub hand_parts : (own : Own) (b : List ℕ) (h : Handshake) → hand_fault own b ≡ None → 68 ≤ length b → h.reserved.0 < 2 ^ 64 → be64 h.reserved.0 ≡ take 8 (drop 20 b) → h.info_hash ≡ take 20 (drop 28 b) → h.peer_id ≡ take 20 (drop 48 b) → IsHandshakeOf b h
+pub hand_parts : (own : Own) (b : List ℕ) (h : Handshake) → hand_fault own b ≡ None → 68 ≤ length b → h.reserved.0 < 2 ^ 64 → be64 h.reserved.0
+    ≡ take 8 (drop 20 b) → h.info_hash ≡ take 20 (drop 28 b) → h.peer_id ≡ take 20 (drop 48 b) → IsHandshakeOf b h
 hand_parts own b h none long small reserved info peer = record {
   fits = record {
     reserved = small;
@@ -127,5 +134,6 @@ hand_parts own b h none long small reserved info peer = record {
     peer_id = ap length peer ∙ length-take-le 20 (drop 48 b) (omega (arith, length-drop 48 b));
   };
   parts = joined protocol (be64 h.reserved.0) h.info_hash h.peer_id (drop 68 b) (drop 48 b) (drop 28 b) (drop 20 b) b
-      (begins_with protocol b (omega arith) (same_protocol own b none)) (next_part 8 20 b (be64 h.reserved.0) reserved) (next_part 20 28 b h.info_hash info) (next_part 20 48 b h.peer_id peer);
+      (begins_with protocol b (omega arith) (same_protocol own b none)) (next_part 8 20 b (be64 h.reserved.0) reserved) (next_part 20 28 b h.info_hash info)
+          (next_part 20 48 b h.peer_id peer);
 }

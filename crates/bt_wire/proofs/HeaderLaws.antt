@@ -1,6 +1,8 @@
 -- What the first five bytes of a message show, whatever follows them.
-use Rattle.std.proofs.Common.{◌≡◌, ◌≢◌, ℕ, ◌+◌, ◌≤◌, ◌<◌, Bool, true, false, cond, eqb, ltb, leb, not, ◌&&◌, List, [], ◌∷◌, ◌++◌, map, length, take, Option, Some, None, refl, sym, ap, subst, ◌∙◌, arith, inl, inr}
-use Rattle.std.proofs.lemmas.Bool.{and_parts, and_left, and_right, cases_eq, cases_Bool, leb-true, leb-false, ltb-true, ltb-false, le-leb, lt-leb, le-ltb, ne_eqb, eq-eqb, not_from_true}
+use Rattle.std.proofs.Common.{◌≡◌, ◌≢◌, ℕ, ◌+◌, ◌≤◌, ◌<◌, Bool, true, false, cond, eqb, ltb, leb, not, ◌&&◌, List, [], ◌∷◌, ◌++◌, map, length, take, Option,
+    Some, None, refl, sym, ap, subst, ◌∙◌, arith, inl, inr}
+use Rattle.std.proofs.lemmas.Bool.{and_parts, and_left, and_right, cases_eq, cases_Bool, leb-true, leb-false, ltb-true, ltb-false, le-leb, lt-leb, le-ltb,
+    ne_eqb, eq-eqb, not_from_true}
 use Rattle.std.proofs.lemmas.List.{length-append, get_or_append_left, get_or-take, length-take-le, take-append-le}
 use Rattle.bt_wire.specs.declared.context.Context.{Context}
 use Rattle.bt_wire.specs.declared.context.Order.{Order}
@@ -51,7 +53,8 @@ none_by_id c o b [] e = tt
 none_by_id c o b (r ∷ rules) e = (and_left (has_id b) (r.condition c o (said_id b) (said_length b)) e, none_by_id c o b rules e)
 
 -- they read the id and the length alone
-pub same_id_rows : (c : Context) (o : Order) (b d : List ℕ) (rules : List IdRule) → has_id b ≡ has_id d → said_id b ≡ said_id d → said_length b ≡ said_length d → map (id_row c o b) rules ≡ map (id_row c o d) rules
+pub same_id_rows : (c : Context) (o : Order) (b d : List ℕ) (rules : List IdRule) → has_id b ≡ has_id d → said_id b ≡ said_id d → said_length b
+    ≡ said_length d → map (id_row c o b) rules ≡ map (id_row c o d) rules
 same_id_rows c o b d [] there id said = refl
 same_id_rows c o b d (r ∷ rules) there id said = rw (there, id, said, same_id_rows c o b d rules there id said) refl
 
@@ -81,11 +84,13 @@ id-append b x le = get_or_append_left b x 0 4 (omega (arith, le))
 has_id-append : (b x : List ℕ) → 5 ≤ length b → has_id (b ++ x) ≡ has_id b
 has_id-append b x le = rw (le-leb 5 (length (b ++ x)) (omega (arith, length-append b x)), le-leb 5 (length b) le, said-append b x (omega arith)) refl
 
-first_by : (judged over over' : Bool) (f g : Refused) (rest rest' : Option Refused) → over' ≡ over → (rest ≡ Some g → rest' ≡ Some g) → cond over (Some f) rest ≡ Some g → cond over' (Some f) rest' ≡ Some g
+first_by : (judged over over' : Bool) (f g : Refused) (rest rest' : Option Refused) → over' ≡ over → (rest ≡ Some g → rest' ≡ Some g)
+    → cond over (Some f) rest ≡ Some g → cond over' (Some f) rest' ≡ Some g
 first_by judged true over' f g rest rest' e k h = rw e h
 first_by judged false over' f g rest rest' e k h = rw e (k h)
 
-long-append : (c : Context) (b x : List ℕ) → 4 ≤ length b → (has_length (b ++ x) && ltb c.limit (said_length (b ++ x))) ≡ (has_length b && ltb c.limit (said_length b))
+long-append : (c : Context) (b x : List ℕ) → 4 ≤ length b → (has_length (b ++ x) && ltb c.limit (said_length (b ++ x)))
+    ≡ (has_length b && ltb c.limit (said_length b))
 long-append c b x le = rw (le-leb 4 (length (b ++ x)) (omega (arith, length-append b x)), le-leb 4 (length b) le, said-append b x le) refl
 
 no_fault_yet : (c : Context) (o : Order) (b : List ℕ) (f : Refused) → has_id b ≡ false → first_fault (map (id_row c o b) id_rules) ≡ Some f → ⊥
@@ -97,10 +102,12 @@ header_stays c o b x f e =
     elim (cases_Bool (has_length b)) [
       | inl there ↦
           let four = leb-true 4 (length b) there in
-          first_by true (has_length b && ltb c.limit (said_length b)) (has_length (b ++ x) && ltb c.limit (said_length (b ++ x))) (record { at = 0; reason = TooLong }) f
+          first_by true (has_length b && ltb c.limit (said_length b)) (has_length (b ++ x) && ltb c.limit (said_length (b ++ x)))
+              (record { at = 0; reason = TooLong }) f
           (first_fault (map (id_row c o b) id_rules)) (first_fault (map (id_row c o (b ++ x)) id_rules)) (long-append c b x four)
           (λ h. elim (cases_Bool (has_id b)) [
-            | inl id ↦ ap first_fault (let five = five_bytes b id in same_id_rows c o (b ++ x) b id_rules (has_id-append b x five) (id-append b x five) (said-append b x four)) ∙ h
+            | inl id ↦ ap first_fault (let five = five_bytes b id in same_id_rows c o (b ++ x) b id_rules (has_id-append b x five) (id-append b x five)
+                (said-append b x four)) ∙ h
             | inr id ↦ absurd (no_fault_yet c o b f id h)
           ]) e
       | inr short ↦ absurd (let none = none_short c o b (leb-false 4 (length b) short) in let bad = sym none ∙ e in cc)
@@ -151,7 +158,8 @@ IsJudged c o b (headers.Need n) = (header_fault c o b ≡ None) × (is_whole b �
 IsJudged c o b (headers.Refused at reason) = header_fault c o b ≡ Some (record { at = at; reason = reason })
 IsJudged c o b (headers.Window n) = IsHeader c o b n
 
-judged_by : (c : Context) (o : Order) (b : List ℕ) (f : Option Refused) → 4 ≤ length b → said_length b ≢ 0 → header_fault c o b ≡ f → IsJudged c o b (header_by f b)
+judged_by : (c : Context) (o : Order) (b : List ℕ) (f : Option Refused) → 4 ≤ length b → said_length b ≢ 0 → header_fault c o b ≡ f
+    → IsJudged c o b (header_by f b)
 judged_by c o b (Some f) long some e = e
 judged_by c o b None long some e =
     elim (cases_Bool (ltb (length b) 5)) [

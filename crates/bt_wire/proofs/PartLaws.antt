@@ -1,5 +1,6 @@
 -- The message that an id and the bytes after it are has this id and these bytes.
-use Rattle.std.proofs.Common.{◌≡◌, ℕ, suc, ◌^◌, ◌≤◌, ◌<◌, true, List, [], ◌∷◌, ◌++◌, length, take, drop, Option, Some, None, refl, sym, ap, subst, ◌∙◌, arith, inl, inr, lit<}
+use Rattle.std.proofs.Common.{◌≡◌, ℕ, suc, ◌^◌, ◌≤◌, ◌<◌, true, List, [], ◌∷◌, ◌++◌, length, take, drop, Option, Some, None, refl, sym, ap, subst, ◌∙◌,
+    arith, inl, inr, lit<}
 use Rattle.std.specs.List.{AllByRecursion}
 use Rattle.std.proofs.lemmas.Bool.{cases_eq, eqb-true, leb-true, eq-eqb, ne_eqb}
 use Rattle.std.proofs.lemmas.List.{nil_from_length, length-drop, drop-drop, take-append-drop, length-take}
@@ -31,9 +32,11 @@ number_first b le fits =
 two_numbers : (b : List ℕ) → 8 ≤ length b → AreBytes b → be32 (number32 b) ++ (be32 (number32 (drop 4 b)) ++ drop 8 b) ≡ b
 two_numbers b le fits =
     let second = number_first (drop 4 b) (omega (arith, length-drop 4 b)) (AreBytes-drop 4 b fits) in
-    ap (λ (x : List ℕ). be32 (number32 b) ++ (be32 (number32 (drop 4 b)) ++ x)) (sym (drop-drop 4 4 b)) ∙ ap (λ (x : List ℕ). be32 (number32 b) ++ x) second ∙ number_first b (omega arith) fits
+    ap (λ (x : List ℕ). be32 (number32 b) ++ (be32 (number32 (drop 4 b)) ++ x)) (sym (drop-drop 4 4 b)) ∙ ap (λ (x : List ℕ). be32 (number32 b) ++ x) second
+        ∙ number_first b (omega arith) fits
 
-read_shape : (c : Context) (s : Shape) (bytes : List ℕ) → (s ≡ Extended → ⊥) → AreBytes bytes → allows (shape_size c s) (suc (length bytes)) ≡ true → IsReading bytes (reading s bytes)
+read_shape : (c : Context) (s : Shape) (bytes : List ℕ) → (s ≡ Extended → ⊥) → AreBytes bytes → allows (shape_size c s) (suc (length bytes)) ≡ true
+    → IsReading bytes (reading s bytes)
 read_shape c Nothing bytes ne fits size = record { spelled = sym (nil_from_length bytes (omega (arith, eqb-true _ 1 size))); in_range = tt }
 read_shape c Index bytes ne fits size = record { spelled = be32-number32 bytes (omega (arith, eqb-true _ 5 size)) fits; in_range = number32-lt bytes fits }
 read_shape c Part bytes ne fits size =
@@ -61,7 +64,8 @@ record IsNamed (c : Context) (n : ℕ) (f : Fields) (msg : Message) : Type 0 whe
 
 -- the message with the row's number and fields of its shape has these
 abbrev IsGood : Id → Type 0
-IsGood i = (i.kind.shape ≡ Extended → ⊥) → (c : Context) (bytes : List ℕ) → IsNamed c i.number (reading i.kind.shape bytes) (known i.number (reading i.kind.shape bytes)) × (i.number < 256)
+IsGood i = (i.kind.shape ≡ Extended → ⊥) → (c : Context) (bytes : List ℕ) → IsNamed c i.number (reading i.kind.shape bytes)
+    (known i.number (reading i.kind.shape bytes)) × (i.number < 256)
 
 all_good : AllByRecursion IsGood ids
 all_good = (
@@ -119,7 +123,10 @@ abbrev IsOnly : Id → Type 0
 IsOnly i = i.kind.shape ≡ Extended → i.number ≡ 20
 
 all_only : AllByRecursion IsOnly ids
-all_only = ((λ e. absurd cc), ((λ e. absurd cc), ((λ e. absurd cc), ((λ e. absurd cc), ((λ e. absurd cc), ((λ e. absurd cc), ((λ e. absurd cc), ((λ e. absurd cc), ((λ e. absurd cc), ((λ e. absurd cc), ((λ e. absurd cc), ((λ e. absurd cc), ((λ e. absurd cc), ((λ e. absurd cc), ((λ e. absurd cc), ((λ e. refl), tt))))))))))))))))
+all_only = ((λ e. absurd cc), ((λ e. absurd cc), ((λ e. absurd cc),
+    ((λ e. absurd cc), ((λ e. absurd cc), ((λ e. absurd cc), ((λ e. absurd cc),
+    ((λ e. absurd cc), ((λ e. absurd cc), ((λ e. absurd cc), ((λ e. absurd cc),
+    ((λ e. absurd cc), ((λ e. absurd cc), ((λ e. absurd cc), ((λ e. absurd cc), ((λ e. refl), tt))))))))))))))))
 
 -- what holds of each row holds of the one that is found
 record IsFound (P : Id → Type 0) (n : ℕ) (i : Id) : Type 0 where
@@ -144,7 +151,8 @@ pub record IsPart (c : Context) (n : ℕ) (bytes : List ℕ) (m : Message) : Typ
   pub shaped : IsShaped c m
   pub in_range : IsInRange c m
 
-part_of_row : (c : Context) (i : Id) (bytes : List ℕ) → (i.kind.shape ≡ Extended → ⊥) → IsGood i → AreBytes bytes → allows (shape_size c i.kind.shape) (suc (length bytes)) ≡ true → IsPart c i.number bytes (known i.number (reading i.kind.shape bytes))
+part_of_row : (c : Context) (i : Id) (bytes : List ℕ) → (i.kind.shape ≡ Extended → ⊥) → IsGood i → AreBytes bytes
+    → allows (shape_size c i.kind.shape) (suc (length bytes)) ≡ true → IsPart c i.number bytes (known i.number (reading i.kind.shape bytes))
 part_of_row c i bytes ne good fits size =
     let f = reading i.kind.shape bytes in
     let msg = known i.number f in
@@ -159,7 +167,8 @@ part_of_row c i bytes ne good fits size =
       in_range = record { id = subst P (sym named.id) (good ne c bytes).1; fields = subst Q (sym named.fields) read.in_range };
     }
 
-part_in : (c : Context) (n : ℕ) (bytes : List ℕ) (o : Option Id) → row_in n ids ≡ o → (n ≡ 20 → ⊥) → n < 2 ^ 8 → AreBytes bytes → allows (size_of c n) (suc (length bytes)) ≡ true → IsPart c n bytes (made n bytes)
+part_in : (c : Context) (n : ℕ) (bytes : List ℕ) (o : Option Id) → row_in n ids ≡ o → (n ≡ 20 → ⊥) → n < 2 ^ 8 → AreBytes bytes
+    → allows (size_of c n) (suc (length bytes)) ≡ true → IsPart c n bytes (made n bytes)
 unfolding made
 part_in c n bytes None e other small fits size =
     let none : kind_of n ≡ None = rw e refl in
@@ -171,7 +180,9 @@ part_in c n bytes (Some i) e other small fits size =
     let some : kind_of n ≡ Some i.kind = rw e refl in
     let P : Option Kind → Type 0 = λ k. IsPart c n bytes (named k n bytes) in
     let Q : ℕ → Type 0 = λ k. IsPart c k bytes (known k (reading i.kind.shape bytes)) in
-    subst P (sym some) (subst Q (sym found.number) (part_of_row c i bytes (λ is. other (found.number ∙ only.holds is)) found.holds fits (sym (rw e refl) ∙ size)))
+    subst P (sym some) (subst Q (sym found.number) (part_of_row c i bytes (λ is. other (found.number ∙ only.holds is)) found.holds fits (sym (rw e refl)
+        ∙ size)))
 
-pub part : (c : Context) (n : ℕ) (bytes : List ℕ) → (n ≡ 20 → ⊥) → n < 2 ^ 8 → AreBytes bytes → allows (size_of c n) (suc (length bytes)) ≡ true → IsPart c n bytes (made n bytes)
+pub part : (c : Context) (n : ℕ) (bytes : List ℕ) → (n ≡ 20 → ⊥) → n < 2 ^ 8 → AreBytes bytes → allows (size_of c n) (suc (length bytes)) ≡ true
+    → IsPart c n bytes (made n bytes)
 part c n bytes other small fits size = part_in c n bytes (row_in n ids) refl other small fits size

@@ -1,5 +1,6 @@
 -- The rules on a message's id and fields, read from its bytes and from its value.
-use Rattle.std.proofs.Common.{◌≡◌, ℕ, suc, ◌+◌, Bool, true, false, cond, not, ◌&&◌, List, [], ◌∷◌, ◌++◌, map, length, drop, Option, Some, None, refl, sym, ap, subst, ◌∙◌, arith}
+use Rattle.std.proofs.Common.{◌≡◌, ℕ, suc, ◌+◌, Bool, true, false, cond, not, ◌&&◌, List, [], ◌∷◌, ◌++◌, map, length, drop, Option, Some, None, refl, sym,
+    ap, subst, ◌∙◌, arith}
 use Rattle.std.specs.Prelude.{is_some, IfSome}
 use Rattle.std.proofs.lemmas.Bool.{le-leb, not-false}
 use Rattle.std.proofs.lemmas.List.{length-append}
@@ -12,10 +13,12 @@ use Rattle.bt_wire.specs.declared.ids.Shape.{Shape}
 use Rattle.bt_wire.specs.Messages.{Message}
 use Rattle.bt_wire.specs.Bitfields.{has_spare}
 use Rattle.bt_wire.specs.Ids.{kind_of, shape_by}
-use Rattle.bt_wire.specs.Messages.{Fields, none, index, part, block, port, field, extended, payload, kind_in, id_of, fields_of, index_in, field_in, is_payload, spell_fields, body, framed, AreInRange}
+use Rattle.bt_wire.specs.Messages.{Fields, none, index, part, block, port, field, extended, payload, kind_in, id_of, fields_of, index_in, field_in,
+    is_payload, spell_fields, body, framed, AreInRange}
 use Rattle.bt_wire.specs.Tables.{row, first_fault}
 use Rattle.bt_wire.specs.Numbers.{be32, number32}
-use Rattle.bt_wire.specs.Faults.{said_length, said_id, has_id, allows, size_by, is_strict, is_agreed, is_late, is_missing, is_beyond, has_index, is_field, id_rules, id_row, field_rows}
+use Rattle.bt_wire.specs.Faults.{said_length, said_id, has_id, allows, size_by, is_strict, is_agreed, is_late, is_missing, is_beyond, has_index, is_field,
+    id_rules, id_row, field_rows}
 use Rattle.bt_wire.specs.Legal.{IsLegal}
 use Rattle.bt_wire.specs.Rules.{broken_by}
 use Rattle.bt_wire.specs.Parts.{broken_field, is_index_beyond, is_field_spare, IsSized}
@@ -25,7 +28,8 @@ use Rattle.bt_wire.proofs.SpellLaws.{shape_in, IsRow}
 -- ---- rules on the id
 
 -- with an id there, the rows are the rules of its kind
-pub rows_broken : (c : Context) (o : Order) (b : List ℕ) → has_id b ≡ true → first_fault (map (id_row c o b) id_rules) ≡ broken_by c o (kind_of (said_id b)) (said_length b)
+pub rows_broken : (c : Context) (o : Order) (b : List ℕ) → has_id b ≡ true → first_fault (map (id_row c o b) id_rules)
+    ≡ broken_by c o (kind_of (said_id b)) (said_length b)
 rows_broken c o b e = rw e refl
 
 -- none is broken
@@ -66,7 +70,8 @@ fields_size : (c : Context) (f : Fields) → IsSized c.pieces f → allows (size
 fields_size c none h = refl
 fields_size c (index i) h = refl
 fields_size c (part i b l) h = refl
-fields_size c (block i b bytes) h = le-leb 9 (suc (length (be32 i ++ (be32 b ++ bytes)))) (omega (arith, length-append (be32 i) (be32 b ++ bytes), length-append (be32 b) bytes))
+fields_size c (block i b bytes) h = le-leb 9 (suc (length (be32 i ++ (be32 b ++ bytes))))
+    (omega (arith, length-append (be32 i) (be32 b ++ bytes), length-append (be32 b) bytes))
 fields_size c (port p) h = refl
 fields_size c (field bits) h = h
 fields_size c (extended n bytes) h = le-leb 2 (suc (suc (length bytes))) (omega arith)
@@ -85,11 +90,13 @@ sized_by c (payload bytes) h = tt
 pub body_length : (c : Context) (m : Message) (n : ℕ) → id_of m ≡ Some n → length (body c m) ≡ suc (length (spell_fields (fields_of c m)))
 body_length c m n e = ap (λ (o : Option ℕ). length (framed o (spell_fields (fields_of c m)))) e
 
-pub legal_unbroken : (c : Context) (o : Order) (m : Message) (n : ℕ) → IsRow c m n → id_of m ≡ Some n → IsLegal c o m → IsUnbroken c o (kind_of n) (length (body c m))
+pub legal_unbroken : (c : Context) (o : Order) (m : Message) (n : ℕ) → IsRow c m n → id_of m ≡ Some n → IsLegal c o m
+    → IsUnbroken c o (kind_of n) (length (body c m))
 legal_unbroken c o m n r e legal =
     let P : Option Kind → Type 0 = λ k. IsUnbroken c o k (length (body c m)) in
     let size : allows (size_by c (shape_by (kind_in m))) (length (body c m)) ≡ true =
-    ap (λ (s : Option Shape). allows (size_by c s) (length (body c m))) r.shape ∙ ap (allows (size_by c (shape_in (fields_of c m)))) (body_length c m n e) ∙ fields_size c (fields_of c m) legal.sized in
+    ap (λ (s : Option Shape). allows (size_by c s) (length (body c m))) r.shape ∙ ap (allows (size_by c (shape_in (fields_of c m)))) (body_length c m n e)
+        ∙ fields_size c (fields_of c m) legal.sized in
     subst P (sym r.kind) (record {
       known = ap (λ (b : Bool). is_strict c && b) (unknown_by (kind_in m) (fields_of c m) r.shape) ∙ legal.known;
       agreed = legal.agreed;
@@ -106,13 +113,15 @@ pub record AreKept (c : Context) (o : Order) (m : Message) : Type 0 where
   pub in_time : (is_strict c && is_late o (kind_in m)) ≡ false
   pub opened : (is_strict c && is_missing c o (kind_in m)) ≡ false
 
-pub unbroken_kept : (c : Context) (o : Order) (m : Message) (n : ℕ) → IsRow c m n → id_of m ≡ Some n → IsUnbroken c o (kind_of n) (length (body c m)) → AreKept c o m
+pub unbroken_kept : (c : Context) (o : Order) (m : Message) (n : ℕ) → IsRow c m n → id_of m ≡ Some n → IsUnbroken c o (kind_of n) (length (body c m))
+    → AreKept c o m
 unbroken_kept c o m n r e h =
     let P : Option Kind → Type 0 = λ k. IsUnbroken c o k (length (body c m)) in
     let u = subst P r.kind h in
     record {
       agreed = u.agreed;
-      sized = sized_by c (fields_of c m) (ap (allows (size_by c (shape_in (fields_of c m)))) (sym (body_length c m n e)) ∙ ap (λ (s : Option Shape). allows (size_by c s) (length (body c m))) (sym r.shape) ∙ u.sized);
+      sized = sized_by c (fields_of c m) (ap (allows (size_by c (shape_in (fields_of c m)))) (sym (body_length c m n e))
+          ∙ ap (λ (s : Option Shape). allows (size_by c s) (length (body c m))) (sym r.shape) ∙ u.sized);
       known = ap (λ (b : Bool). is_strict c && b) (sym (unknown_by (kind_in m) (fields_of c m) r.shape)) ∙ u.known;
       in_time = u.in_time;
       opened = u.opened;
@@ -122,7 +131,8 @@ unbroken_kept c o m n r e h =
 
 -- the rows on the fields' bytes are the rules on the fields
 shape_rows : (c : Context) (n : ℕ) (f : Fields) → AreInRange f
-    → first_fault (row BadIndex 5 true (has_index (shape_in f) && is_beyond c.pieces (number32 (spell_fields f))) ∷ row SpareBits (3 + n) true (is_field (shape_in f) && has_spare c.pieces (spell_fields f)) ∷ [])
+    → first_fault (row BadIndex 5 true (has_index (shape_in f) && is_beyond c.pieces (number32 (spell_fields f))) ∷ row SpareBits (3 + n) true
+    (is_field (shape_in f) && has_spare c.pieces (spell_fields f)) ∷ [])
     ≡ broken_field c.pieces n f
 shape_rows c n none r = refl
 shape_rows c n (index i) r = rw (number32-be32 i [] r) refl
@@ -133,11 +143,15 @@ shape_rows c n (field bits) r = refl
 shape_rows c n (extended k bytes) r = refl
 shape_rows c n (payload bytes) r = refl
 
-pub fields_rows : (c : Context) (w : List ℕ) (f : Fields) → has_id w ≡ true → shape_by (kind_of (said_id w)) ≡ shape_in f → drop 5 w ≡ spell_fields f → AreInRange f → first_fault (field_rows c w) ≡ broken_field c.pieces (said_length w) f
+pub fields_rows : (c : Context) (w : List ℕ) (f : Fields) → has_id w ≡ true → shape_by (kind_of (said_id w)) ≡ shape_in f → drop 5 w ≡ spell_fields f
+    → AreInRange f → first_fault (field_rows c w) ≡ broken_field c.pieces (said_length w) f
 fields_rows c w f there shape bytes range =
-    ap (λ (t : Bool). first_fault (row BadIndex 5 t (has_index (shape_by (kind_of (said_id w))) && is_beyond c.pieces (number32 (drop 5 w))) ∷ row SpareBits (3 + said_length w) t (is_field (shape_by (kind_of (said_id w))) && has_spare c.pieces (drop 5 w)) ∷ [])) there
-    ∙ ap (λ (s : Option Shape). first_fault (row BadIndex 5 true (has_index s && is_beyond c.pieces (number32 (drop 5 w))) ∷ row SpareBits (3 + said_length w) true (is_field s && has_spare c.pieces (drop 5 w)) ∷ [])) shape
-    ∙ ap (λ (x : List ℕ). first_fault (row BadIndex 5 true (has_index (shape_in f) && is_beyond c.pieces (number32 x)) ∷ row SpareBits (3 + said_length w) true (is_field (shape_in f) && has_spare c.pieces x) ∷ [])) bytes
+    ap (λ (t : Bool). first_fault (row BadIndex 5 t (has_index (shape_by (kind_of (said_id w))) && is_beyond c.pieces (number32 (drop 5 w))) ∷ row SpareBits
+        (3 + said_length w) t (is_field (shape_by (kind_of (said_id w))) && has_spare c.pieces (drop 5 w)) ∷ [])) there
+    ∙ ap (λ (s : Option Shape). first_fault (row BadIndex 5 true (has_index s && is_beyond c.pieces (number32 (drop 5 w))) ∷ row SpareBits
+    (3 + said_length w) true (is_field s && has_spare c.pieces (drop 5 w)) ∷ [])) shape
+    ∙ ap (λ (x : List ℕ). first_fault (row BadIndex 5 true (has_index (shape_in f) && is_beyond c.pieces (number32 x)) ∷ row SpareBits (3 + said_length w)
+    true (is_field (shape_in f) && has_spare c.pieces x) ∷ [])) bytes
     ∙ shape_rows c (said_length w) f range
 
 -- a keep-alive has none
@@ -172,5 +186,6 @@ fields_sound pieces n f e =
     let b = passed _ _ _ a.1 in
     record { indexed = beyond_by pieces (index_in f) a.0; spare = spare_by pieces (field_in f) b.0 }
 
-pub sound_fields : (pieces : Option ℕ) (n : ℕ) (f : Fields) → IfSome (index_in f) (λ i. is_beyond pieces i ≡ false) → IfSome (field_in f) (λ bits. has_spare pieces bits ≡ false) → broken_field pieces n f ≡ None
+pub sound_fields : (pieces : Option ℕ) (n : ℕ) (f : Fields) → IfSome (index_in f) (λ i. is_beyond pieces i ≡ false)
+    → IfSome (field_in f) (λ bits. has_spare pieces bits ≡ false) → broken_field pieces n f ≡ None
 sound_fields pieces n f i s = rw (by_beyond pieces (index_in f) i, by_spare pieces (field_in f) s) refl

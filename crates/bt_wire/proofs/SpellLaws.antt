@@ -15,7 +15,8 @@ use Rattle.bt_wire.specs.Messages.{Message}
 use Rattle.bt_wire.specs.declared.message.Message.TheVariants as m
 use Rattle.bt_wire.specs.Numbers.{be32, number32}
 use Rattle.bt_wire.specs.Ids.{kind_of, shape_by}
-use Rattle.bt_wire.specs.Messages.{Fields, none, index, part, block, port, field, extended, payload, kind_in, id_of, fields_of, spell_fields, framed, body, spell, IsShaped, IsInRange}
+use Rattle.bt_wire.specs.Messages.{Fields, none, index, part, block, port, field, extended, payload, kind_in, id_of, fields_of, spell_fields, framed, body,
+    spell, IsShaped, IsInRange}
 use Rattle.bt_wire.specs.Faults.{said_length, said_id, is_whole, window, window_length}
 use Rattle.bt_wire.specs.Legal.{IsSaid}
 use Rattle.bt_wire.specs.Parts.{reading, known, named, made}
@@ -95,7 +96,8 @@ ext_twenty c (m.Unknown n bytes) shaped h = absurd (let known = rw (not_twenty n
 ext_twenty c m.KeepAlive shaped h = absurd cc
 ext_twenty c msg shaped h = absurd (omega (arith, not_twenty _ 20 h))
 
-made-fields : (c : Context) (msg : Message) → ext_of msg ≡ None → IsShaped c msg → IsInRange c msg → body_made (id_of msg) (spell_fields (fields_of c msg)) ≡ msg
+made-fields : (c : Context) (msg : Message) → ext_of msg ≡ None → IsShaped c msg → IsInRange c msg → body_made (id_of msg) (spell_fields (fields_of c msg))
+    ≡ msg
 unfolding body_made made ext_of
 made-fields c (m.Extended e) plain shaped range = absurd cc
 made-fields c (m.Have i) plain shaped range = ap (known 4) (read_index i range.fields)
@@ -132,13 +134,15 @@ some_id (Some n) h = refl
 pub spelled_ext : (reg : Registered) (e : Ext) → HasSpelling reg e → IsExt reg e (unwrap_or (ext_id reg e) 0) (payload_of e)
 spelled_ext reg e h = record { named = some_id (ext_id reg e) h.0; fits = h.1; spelled = refl }
 
-both_ext : (c : Context) (e f : Ext) → HasSpelling c.reg e → HasSpelling c.reg f → body c (m.Extended e) ≡ body c (m.Extended f) → ◌≡◌ {A = Message} (m.Extended e) (m.Extended f)
+both_ext : (c : Context) (e f : Ext) → HasSpelling c.reg e → HasSpelling c.reg f → body c (m.Extended e) ≡ body c (m.Extended f)
+    → ◌≡◌ {A = Message} (m.Extended e) (m.Extended f)
 both_ext c e f he hf h =
     let id : unwrap_or (ext_id c.reg e) 0 ≡ unwrap_or (ext_id c.reg f) 0 = cc in
     let bytes : payload_of e ≡ payload_of f = cc in
     let P : ℕ → Type 0 = λ n. IsExt c.reg e n (payload_of f) in
     let Q : List ℕ → Type 0 = λ p. IsExt c.reg e (unwrap_or (ext_id c.reg e) 0) p in
-    ap m.Extended (same_ext c.reg e f (unwrap_or (ext_id c.reg f) 0) (payload_of f) (subst P id (subst Q bytes (spelled_ext c.reg e he))) (spelled_ext c.reg f hf))
+    ap m.Extended (same_ext c.reg e f (unwrap_or (ext_id c.reg f) 0) (payload_of f) (subst P id (subst Q bytes (spelled_ext c.reg e he)))
+        (spelled_ext c.reg f hf))
 
 -- of two messages with one body of which one is extended
 ext_body : (c : Context) (e : Ext) (k n : Message) → k ≡ m.Extended e → IsShaped c k → IsShaped c n → body c k ≡ body c n → k ≡ n
@@ -150,12 +154,14 @@ ext_body c e k n is ks ns h =
     let hf : HasSpelling c.reg other.0 = subst P other.1 ns in
     is ∙ both_ext c e other.0 he hf (ap (body c) (sym is) ∙ h ∙ ap (body c) other.1) ∙ sym other.1
 
-bodies : (c : Context) (k n : Message) (o p : Option Ext) → ext_of k ≡ o → ext_of n ≡ p → IsShaped c k → IsInRange c k → IsShaped c n → IsInRange c n → body c k ≡ body c n → k ≡ n
+bodies : (c : Context) (k n : Message) (o p : Option Ext) → ext_of k ≡ o → ext_of n ≡ p → IsShaped c k → IsInRange c k → IsShaped c n → IsInRange c n
+    → body c k ≡ body c n → k ≡ n
 bodies c k n (Some e) p hk hn ks kr ns nr h = ext_body c e k n (ext_is k e hk) ks ns h
 bodies c k n None (Some f) hk hn ks kr ns nr h = sym (ext_body c f n k (ext_is n f hn) ns ks (sym h))
 bodies c k n None None hk hn ks kr ns nr h =
     let parts = same_parts (id_of k) (id_of n) (spell_fields (fields_of c k)) (spell_fields (fields_of c n)) h (no_fields c k) (no_fields c n) in
-    sym (made-fields c k hk ks kr) ∙ ap (λ (o : Option ℕ). body_made o (spell_fields (fields_of c k))) parts.id ∙ ap (body_made (id_of n)) parts.fields ∙ made-fields c n hn ns nr
+    sym (made-fields c k hk ks kr) ∙ ap (λ (o : Option ℕ). body_made o (spell_fields (fields_of c k))) parts.id ∙ ap (body_made (id_of n)) parts.fields
+        ∙ made-fields c n hn ns nr
 
 one_body : (c : Context) (k n : Message) → IsShaped c k → IsInRange c k → IsShaped c n → IsInRange c n → body c k ≡ body c n → k ≡ n
 one_body c k n ks kr ns nr h = bodies c k n (ext_of k) (ext_of n) refl refl ks kr ns nr h
@@ -165,7 +171,8 @@ pub fits : (c : Context) (o : Order) (s : ℕ) (m : Message) → c.limit < 2 ^ 3
 fits c o s m lt said = omega (arith, said.legal.short)
 
 -- no spelling begins another
-pub one_spelling : (c : Context) (o p : Order) (s t : ℕ) (m n : Message) (x y : List ℕ) → c.limit < 2 ^ 32 → IsSaid c o s m → IsSaid c p t n → spell c m ++ x ≡ spell c n ++ y → (m ≡ n) × (x ≡ y)
+pub one_spelling : (c : Context) (o p : Order) (s t : ℕ) (m n : Message) (x y : List ℕ) → c.limit < 2 ^ 32 → IsSaid c o s m → IsSaid c p t n → spell c m
+    ++ x ≡ spell c n ++ y → (m ≡ n) × (x ≡ y)
 one_spelling c o p s t m n x y lt q r e =
     let first = spelled_first c m x (fits c o s m lt q) in
     let second = spelled_first c n y (fits c p t n lt r) in

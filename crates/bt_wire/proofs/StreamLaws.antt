@@ -36,13 +36,15 @@ first c o s b m ms r h = record {
   says = h.2.1.2;
 }
 
-said_first : (c : Context) (o : Order) (s : ℕ) (b : List ℕ) (m : Message) (y : List ℕ) → c.limit < 2 ^ 32 → IsSaid c o s m → b ≡ spell c m ++ y → IsFault c o s b None × (is_whole b ≡ true)
+said_first : (c : Context) (o : Order) (s : ℕ) (b : List ℕ) (m : Message) (y : List ℕ) → c.limit < 2 ^ 32 → IsSaid c o s m → b ≡ spell c m ++ y
+    → IsFault c o s b None × (is_whole b ≡ true)
 said_first c o s b m y lt said parts =
     let P : List ℕ → Type 0 = λ z. IsFault c o s z None in
     (subst P (sym parts) (fault-spell c o s m y lt said), ap is_whole parts ∙ (spelled_first c m y (fits c o s m lt said)).whole)
 
 -- nothing is said by bytes where no message is read
-pub nothing_begins : (c : Context) (o : Order) (s : ℕ) (b : List ℕ) (f : Option Refused) → c.limit < 2 ^ 32 → IsStop c o s b f → (ns : List Message) (t : List ℕ) → Begins c o s b ns t → length ns ≤ 0
+pub nothing_begins : (c : Context) (o : Order) (s : ℕ) (b : List ℕ) (f : Option Refused) → c.limit < 2 ^ 32 → IsStop c o s b f
+    → (ns : List Message) (t : List ℕ) → Begins c o s b ns t → length ns ≤ 0
 nothing_begins c o s b f lt stop [] t h = omega arith
 nothing_begins c o s b f lt stop (n ∷ ns) t h =
     let front = first c o s b n ns t h in
@@ -56,7 +58,8 @@ abbrev pub at_rest : (number : ℕ) (o : Order) (s : ℕ) (b : List ℕ) → Opt
 at_rest number o s b f = record { items = []; refusal = refusal_at number s f; number = number; order = o; start = s; tail = b }
 
 -- no message: the bytes are the tail
-pub nothing_said : (c : Context) (o : Order) (s number : ℕ) (b : List ℕ) (f : Option Refused) → c.limit < 2 ^ 32 → IsStop c o s b f → IsOutcome c o s number b (at_rest number o s b f)
+pub nothing_said : (c : Context) (o : Order) (s number : ℕ) (b : List ℕ) (f : Option Refused) → c.limit < 2 ^ 32 → IsStop c o s b f
+    → IsOutcome c o s number b (at_rest number o s b f)
 nothing_said c o s number b f lt stop = record {
   messages = [];
   longest = record { begins = ([], refl, refl); longest = nothing_begins c o s b f lt stop };
@@ -70,7 +73,8 @@ nothing_said c o s number b f lt stop = record {
 }
 
 -- the same list first, and then one that isn't longer
-longest_with : (c : Context) (o : Order) (s : ℕ) (b tail : List ℕ) (m : Message) (ms : List Message) (r : List ℕ) → c.limit < 2 ^ 32 → IsSaid c o s m → b ≡ spell c m ++ tail
+longest_with : (c : Context) (o : Order) (s : ℕ) (b tail : List ℕ) (m : Message) (ms : List Message) (r : List ℕ) → c.limit < 2 ^ 32 → IsSaid c o s m → b
+    ≡ spell c m ++ tail
     → IsLongest c (order_after o m) (s + length (spell c m)) tail ms r → (ns : List Message) (t : List ℕ) → Begins c o s b ns t → length ns ≤ suc (length ms)
 longest_with c o s b tail m ms r lt said parts h [] t k = omega arith
 longest_with c o s b tail m ms r lt said parts h (n ∷ ns) t k =
@@ -80,14 +84,16 @@ longest_with c o s b tail m ms r lt said parts h (n ∷ ns) t k =
     omega (arith, h.longest ns t (front.rest, sym same.1, subst P same.0 front.says))
 
 -- one message, and what comes after it
-pub one_more : (c : Context) (o : Order) (s number : ℕ) (b tail : List ℕ) (m : Message) (v : Outcome) → c.limit < 2 ^ 32 → IsSaid c o s m → b ≡ spell c m ++ tail
+pub one_more : (c : Context) (o : Order) (s number : ℕ) (b tail : List ℕ) (m : Message) (v : Outcome) → c.limit < 2 ^ 32 → IsSaid c o s m → b ≡ spell c m
+    ++ tail
     → IsOutcome c (order_after o m) (s + length (spell c m)) (number + 1) tail v → IsOutcome c o s number b (with_item s (items.Message m) v)
 one_more c o s number b tail m v lt said parts h =
     let begins = h.longest.begins in
     record {
       messages = m ∷ h.messages;
       longest = record {
-        begins = (spell c m ++ begins.0, parts ∙ ap (λ (y : List ℕ). spell c m ++ y) begins.1 ∙ sym (append_assoc (spell c m) begins.0 v.tail), (said, (begins.0, refl, begins.2)));
+        begins = (spell c m ++ begins.0, parts ∙ ap (λ (y : List ℕ). spell c m ++ y) begins.1 ∙ sym (append_assoc (spell c m) begins.0 v.tail),
+            (said, (begins.0, refl, begins.2)));
         longest = longest_with c o s b tail m h.messages v.tail lt said parts h.longest;
       };
       items = ap (λ (xs : List (ℕ × Item)). (s, items.Message m) ∷ xs) h.items;
@@ -107,7 +113,8 @@ record IsFront (ms ns : List Message) (r t : List ℕ) : Type 0 where
   list : ns ≡ ms ++ more
   rest : more ≡ [] → r ≡ t
 
-front_list : (c : Context) (o : Order) (s : ℕ) (ms ns : List Message) (b r t : List ℕ) → c.limit < 2 ^ 32 → Begins c o s b ms r → Begins c o s b ns t → length ms ≤ length ns → IsFront ms ns r t
+front_list : (c : Context) (o : Order) (s : ℕ) (ms ns : List Message) (b r t : List ℕ) → c.limit < 2 ^ 32 → Begins c o s b ms r → Begins c o s b ns t
+    → length ms ≤ length ns → IsFront ms ns r t
 front_list c o s [] ns b r t lt p q le = record {
   more = ns;
   list = refl;
@@ -122,7 +129,8 @@ front_list c o s (m ∷ ms) (n ∷ ns) b r t lt p q le =
     let right = first c o s b n ns t q in
     let same = one_spelling c o o s s n m (right.rest ++ t) (left.rest ++ r) lt right.said left.said (sym right.parts ∙ left.parts) in
     let P : Message → Type 0 = λ x. Says c (order_after o x) (s + length (spell c x)) ns right.rest in
-    let after = front_list c (order_after o m) (s + length (spell c m)) ms ns (left.rest ++ r) r t lt (left.rest, refl, left.says) (right.rest, sym same.1, subst P same.0 right.says) (omega arith) in
+    let after = front_list c (order_after o m) (s + length (spell c m)) ms ns (left.rest ++ r) r t lt (left.rest, refl, left.says) (right.rest, sym same.1,
+        subst P same.0 right.says) (omega arith) in
     record {
       more = after.more;
       list = ap (λ (x : Message). x ∷ ns) same.0 ∙ ap (λ (xs : List Message). m ∷ xs) after.list;
@@ -132,7 +140,8 @@ front_list c o s (m ∷ ms) (n ∷ ns) b r t lt p q le =
 no_more : (ms more : List Message) → length (ms ++ more) ≤ length ms → more ≡ []
 no_more ms more le = nil_from_length more (omega (arith, length-append ms more))
 
-same_outcome : (v w : Outcome) → v.items ≡ w.items → v.refusal ≡ w.refusal → v.number ≡ w.number → v.order ≡ w.order → v.start ≡ w.start → v.tail ≡ w.tail → v ≡ w
+same_outcome : (v w : Outcome) → v.items ≡ w.items → v.refusal ≡ w.refusal → v.number ≡ w.number → v.order ≡ w.order → v.start ≡ w.start → v.tail ≡ w.tail
+    → v ≡ w
 same_outcome v w e f g h i j =
     ap (λ (x : List (ℕ × Item)). record v { items = x }) e
     ∙ ap (λ (x : Option Refusal). record w { refusal = x; number = v.number; order = v.order; start = v.start; tail = v.tail }) f
@@ -141,7 +150,8 @@ same_outcome v w e f g h i j =
     ∙ ap (λ (x : ℕ). record w { start = x; tail = v.tail }) i
     ∙ ap (λ (x : List ℕ). record w { tail = x }) j
 
-pub outcome_only : (c : Context) (o : Order) (s number : ℕ) (b : List ℕ) (v w : Outcome) → c.limit < 2 ^ 32 → IsOutcome c o s number b v → IsOutcome c o s number b w → v ≡ w
+pub outcome_only : (c : Context) (o : Order) (s number : ℕ) (b : List ℕ) (v w : Outcome) → c.limit < 2 ^ 32 → IsOutcome c o s number b v
+    → IsOutcome c o s number b w → v ≡ w
 outcome_only c o s number b v w lt p q =
     let first = p.longest.begins in
     let second = q.longest.begins in
@@ -155,7 +165,8 @@ outcome_only c o s number b v w lt p q =
     let P : List ℕ → Type 0 = λ z. IsFault c w.order w.start z q.fault in
     let Q : ℕ → Type 0 = λ z. IsFault c w.order z v.tail q.fault in
     let R : Order → Type 0 = λ z. IsFault c z v.start v.tail q.fault in
-    let fault : p.fault ≡ q.fault = one_fault c v.order v.start v.tail p.fault q.fault p.is_fault (subst R (sym order) (subst Q (sym start) (subst P (sym tail) q.is_fault))) in
+    let fault : p.fault ≡ q.fault = one_fault c v.order v.start v.tail p.fault q.fault p.is_fault
+        (subst R (sym order) (subst Q (sym start) (subst P (sym tail) q.is_fault))) in
     same_outcome v w (p.items ∙ ap (placed c s) list ∙ sym q.items) (p.refusal ∙ rw (number, start, fault) refl ∙ sym q.refusal) number order start tail
 
 -- ---- whatever follows
@@ -170,10 +181,12 @@ placed-append c s (m ∷ ms) ns =
     (rest.0, ap (λ (xs : List (ℕ × Item)). (s, items.Message m) ∷ xs) rest.1)
 
 -- the items are the first of those of more bytes
-pub items_stay : (c : Context) (o : Order) (s number : ℕ) (b x : List ℕ) (v w : Outcome) → c.limit < 2 ^ 32 → IsOutcome c o s number b v → IsOutcome c o s number (b ++ x) w → (more : List (ℕ × Item)) × (w.items ≡ v.items ++ more)
+pub items_stay : (c : Context) (o : Order) (s number : ℕ) (b x : List ℕ) (v w : Outcome) → c.limit < 2 ^ 32 → IsOutcome c o s number b v
+    → IsOutcome c o s number (b ++ x) w → (more : List (ℕ × Item)) × (w.items ≡ v.items ++ more)
 items_stay c o s number b x v w lt p q =
     let mine = more_bytes c o s b x v.tail p.messages p.longest.begins in
-    let front = front_list c o s p.messages q.messages (b ++ x) (v.tail ++ x) w.tail lt mine q.longest.begins (q.longest.longest p.messages (v.tail ++ x) mine) in
+    let front = front_list c o s p.messages q.messages (b ++ x) (v.tail ++ x) w.tail lt mine q.longest.begins
+        (q.longest.longest p.messages (v.tail ++ x) mine) in
     let rest = placed-append c s p.messages front.more in
     (rest.0, q.items ∙ ap (placed c s) front.list ∙ rest.1 ∙ ap (λ (xs : List (ℕ × Item)). xs ++ rest.0) (sym p.items))
 
@@ -192,9 +205,11 @@ longest_by c o s b y t (m ∷ ms) f lt says parts stop (n ∷ ns) u k =
     let other = first c o s b n ns u k in
     let same = one_spelling c o o s s n m (other.rest ++ u) (mine.rest ++ t) lt other.said mine.said (sym other.parts ∙ mine.parts) in
     let P : Message → Type 0 = λ x. Says c (order_after o x) (s + length (spell c x)) ns other.rest in
-    let at : s + length y ≡ s + length (spell c m) + length mine.rest = omega (arith, ap length (sym parts ∙ mine.parts), length-append y t, length-append (spell c m) (mine.rest ++ t), length-append mine.rest t) in
+    let at : s + length y ≡ s + length (spell c m) + length mine.rest = omega (arith, ap length (sym parts ∙ mine.parts), length-append y t,
+        length-append (spell c m) (mine.rest ++ t), length-append mine.rest t) in
     let Q : ℕ → Type 0 = λ z. IsStop c (orders_after (order_after o m) ms) z t f in
-    let shorter = longest_by c (order_after o m) (s + length (spell c m)) (mine.rest ++ t) mine.rest t ms f lt mine.says refl (subst Q at stop) ns u (other.rest, sym same.1, subst P same.0 other.says) in
+    let shorter = longest_by c (order_after o m) (s + length (spell c m)) (mine.rest ++ t) mine.rest t ms f lt mine.says refl (subst Q at stop) ns u
+        (other.rest, sym same.1, subst P same.0 other.says) in
     omega (arith, shorter)
 
 -- a refusal stays, with the items before it
@@ -202,7 +217,8 @@ some_fault : (number start : ℕ) (f : Option Refused) (r : Refusal) → refusal
 some_fault number start None r e = absurd cc
 some_fault number start (Some g) r e = (g, refl)
 
-pub refusal_stays : (c : Context) (o : Order) (s number : ℕ) (b x : List ℕ) (v : Outcome) (r : Refusal) → c.limit < 2 ^ 32 → IsOutcome c o s number b v → v.refusal ≡ Some r → IsOutcome c o s number (b ++ x) (record v { tail = v.tail ++ x })
+pub refusal_stays : (c : Context) (o : Order) (s number : ℕ) (b x : List ℕ) (v : Outcome) (r : Refusal) → c.limit < 2 ^ 32 → IsOutcome c o s number b v
+    → v.refusal ≡ Some r → IsOutcome c o s number (b ++ x) (record v { tail = v.tail ++ x })
 refusal_stays c o s number b x v r lt h e =
     let found = some_fault v.number v.start h.fault r (sym h.refusal ∙ e) in
     let begins = h.longest.begins in
@@ -211,11 +227,13 @@ refusal_stays c o s number b x v r lt h e =
     let at : v.start ≡ s + length begins.0 = omega (arith, h.start_after, ap length begins.1, length-append begins.0 v.tail) in
     let Q : Order → Type 0 = λ z. IsFault c z v.start (v.tail ++ x) (Some found.0) in
     let R : ℕ → Type 0 = λ z. IsFault c (orders_after o h.messages) z (v.tail ++ x) (Some found.0) in
-    let stop : IsStop c (orders_after o h.messages) (s + length begins.0) (v.tail ++ x) (Some found.0) = record { fault = subst R at (subst Q h.order_after stays); part = λ z. absurd cc } in
+    let stop : IsStop c (orders_after o h.messages) (s + length begins.0) (v.tail ++ x) (Some found.0) =
+        record { fault = subst R at (subst Q h.order_after stays); part = λ z. absurd cc } in
     let parts : b ++ x ≡ begins.0 ++ (v.tail ++ x) = ap (λ (z : List ℕ). z ++ x) begins.1 ∙ append_assoc begins.0 v.tail x in
     record {
       messages = h.messages;
-      longest = record { begins = (begins.0, parts, begins.2); longest = longest_by c o s (b ++ x) begins.0 (v.tail ++ x) h.messages (Some found.0) lt begins.2 parts stop };
+      longest = record { begins = (begins.0, parts, begins.2); longest = longest_by c o s (b ++ x) begins.0 (v.tail ++ x) h.messages (Some found.0) lt
+          begins.2 parts stop };
       items = h.items;
       number_after = h.number_after;
       order_after = h.order_after;

@@ -21,12 +21,14 @@ use Rattle.bt_wire.proofs.VerdictLaws.{by_fault}
 
 -- ---- where no message is read the walk ends
 
-pub refused_here : (c : Context) (o : Order) (s number : ℕ) (b d : List ℕ) (f : Refused) → c.limit < 2 ^ 32 → d ≡ b → IsFault c o s d (Some f) → IsOutcome c o s number b (at_rest number o s b (Some f))
+pub refused_here : (c : Context) (o : Order) (s number : ℕ) (b d : List ℕ) (f : Refused) → c.limit < 2 ^ 32 → d ≡ b → IsFault c o s d (Some f)
+    → IsOutcome c o s number b (at_rest number o s b (Some f))
 refused_here c o s number b d f lt e p =
     let P : List ℕ → Type 0 = λ z. IsFault c o s z (Some f) in
     nothing_said c o s number b (Some f) lt (record { fault = subst P e p; part = λ none. absurd cc })
 
-pub partial_here : (c : Context) (o : Order) (s number : ℕ) (b d : List ℕ) → c.limit < 2 ^ 32 → d ≡ b → IsPartial c o s d → IsOutcome c o s number b (at_rest number o s b None)
+pub partial_here : (c : Context) (o : Order) (s number : ℕ) (b d : List ℕ) → c.limit < 2 ^ 32 → d ≡ b → IsPartial c o s d
+    → IsOutcome c o s number b (at_rest number o s b None)
 partial_here c o s number b d lt e p =
     let P : List ℕ → Type 0 = λ z. IsPartial c o s z in
     let q = subst P e p in
@@ -41,7 +43,8 @@ message_size c o s b m n p = (
   omega (arith, p.size, ap length p.parts, length-append (spell c m) (drop n b)),
 )
 
-pub message_more : (c : Context) (o p : Order) (s number at n : ℕ) (all d : List ℕ) (m : Message) (v : Outcome) → c.limit < 2 ^ 32 → d ≡ drop at all → BeginsBy c o s d m n → p ≡ order_after o m
+pub message_more : (c : Context) (o p : Order) (s number at n : ℕ) (all d : List ℕ) (m : Message) (v : Outcome) → c.limit < 2 ^ 32 → d ≡ drop at all
+    → BeginsBy c o s d m n → p ≡ order_after o m
     → IsOutcome c p (s + n) (number + 1) (drop (at + n) all) v → IsOutcome c o s number (drop at all) (with_item s (items.Message m) v)
 message_more c o p s number at n all d m v lt e q after h =
     let P : List ℕ → Type 0 = λ z. BeginsBy c o s z m n in
@@ -60,7 +63,8 @@ refused_opening own b f e = by_fault own b _ (Some f) e refl
 pub partial_opening : (own : Own) (b : List ℕ) → hand_fault own b ≡ None → length b < 68 → IsVerdict own b (awaiting None b)
 partial_opening own b e short = by_fault own b _ None e ((λ _. refl), (λ long. absurd (omega (arith, long, short))))
 
-pub opening_more : (own : Own) (b : List ℕ) (h : Handshake) (v : Outcome) → hand_fault own b ≡ None → IsHandshakeOf b h → IsOutcome (negotiated own h.reserved) Fresh 68 1 (drop 68 b) v → IsVerdict own b (with_item 0 (items.Handshake h) v)
+pub opening_more : (own : Own) (b : List ℕ) (h : Handshake) (v : Outcome) → hand_fault own b ≡ None → IsHandshakeOf b h
+    → IsOutcome (negotiated own h.reserved) Fresh 68 1 (drop 68 b) v → IsVerdict own b (with_item 0 (items.Handshake h) v)
 opening_more own b h v e p m = by_fault own b _ None e (
   (λ short. absurd (omega (arith, short, ap length p.parts, length-append (hand h) (drop 68 b), hand-length h p.fits))),
   (λ _. record { handshake = h; fits = p.fits; rest = drop 68 b; parts = p.parts; after = v; messages = m; whole = refl }),

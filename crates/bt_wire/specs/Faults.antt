@@ -1,9 +1,11 @@
 -- The faults of the message that begins a byte list, as a table over the bytes.
-use Rattle.std.specs.Prelude.{◌≡◌, ◌==◌, ℕ, ◌+◌, ◌^◌, Bool, true, false, not, ◌&&◌, List, [], ◌∷◌, map, length, take, drop, slice_index, nat_lt, nat_le, Option, Some, None, option_map, if◌then◌else◌}
+use Rattle.std.specs.Prelude.{◌≡◌, ◌==◌, ℕ, ◌+◌, ◌^◌, Bool, true, false, not, ◌&&◌, List, [], ◌∷◌, map, length, take, drop, slice_index, nat_lt, nat_le,
+    Option, Some, None, option_map, if◌then◌else◌}
 use Rattle.bt_wire.specs.declared.context.Context.{Context}
 use Rattle.bt_wire.specs.declared.context.Order.{Order}
 use Rattle.bt_wire.specs.declared.fault.Reason.{Reason}
-use Rattle.bt_wire.specs.declared.fault.Reason.TheVariants.{TooLong, UnknownId, NotNegotiated, WrongLength, BadIndex, SpareBits, Late, Missing, BadBencode, Unsorted, BadField, BadBlock, StreamFull}
+use Rattle.bt_wire.specs.declared.fault.Reason.TheVariants.{TooLong, UnknownId, NotNegotiated, WrongLength, BadIndex, SpareBits, Late, Missing, BadBencode,
+    Unsorted, BadField, BadBlock, StreamFull}
 use Rattle.bt_wire.specs.declared.fault.Refused.{Refused}
 use Rattle.bt_wire.specs.declared.ids.Kind.{Kind}
 use Rattle.bt_wire.specs.declared.ids.Shape.{Shape}
@@ -206,7 +208,8 @@ placed_by (error.BadBlock at) = record { at = payload_at + at; reason = BadBlock
 pub data IsWindowFault (c : Context) (w : List ℕ) (f : Option Refused) : Type 0 where
   in_fields : (g : Refused) → first_fault (field_rows c w) ≡ Some g → f ≡ Some g → IsWindowFault c w f
   in_none : first_fault (field_rows c w) ≡ None → is_extended w ≡ false → f ≡ None → IsWindowFault c w f
-  in_payload : first_fault (field_rows c w) ≡ None → is_extended w ≡ true → (e : Option ViewError) → ext.IsFault c.reg c.rules (said_ext_id w) (said_payload w) e
+  in_payload : first_fault (field_rows c w) ≡ None → is_extended w ≡ true → (e : Option ViewError) → ext.IsFault c.reg c.rules (said_ext_id w)
+      (said_payload w) e
       → f ≡ option_map placed_by e → IsWindowFault c w f
 
 -- the fault, if any, of the message that begins b and starts at s: an early one, or else that of the whole message, once

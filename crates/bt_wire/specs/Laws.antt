@@ -31,7 +31,8 @@ FaultStays = (c : Context) (o : Order) (s : ℕ) (b x : List ℕ) (f : Refused) 
 
 -- where there is a fault, no continuation of the bytes begins with what may be sent, and the bytes begin with none
 abbrev pub FaultIsFinal : Type 0
-FaultIsFinal = (c : Context) (o : Order) (s : ℕ) (b x y : List ℕ) (f : Refused) (m : Message) → c.limit < 2 ^ 32 → IsFault c o s b (Some f) → IsSaid c o s m → b ++ x ≡ spell c m ++ y → ⊥
+FaultIsFinal = (c : Context) (o : Order) (s : ℕ) (b x y : List ℕ) (f : Refused) (m : Message) → c.limit < 2 ^ 32 → IsFault c o s b (Some f) → IsSaid c o s m
+    → b ++ x ≡ spell c m ++ y → ⊥
 
 -- no spelling of what may be sent begins another
 abbrev pub NoneBeginsAnother : Type 0
@@ -44,8 +45,10 @@ VerdictIsOne = (own : Own) (b : List ℕ) (v w : Outcome) → own.limit < 2 ^ 32
 
 -- a refused stream keeps its items and its refusal, whatever follows
 abbrev pub RefusalStays : Type 0
-RefusalStays = (own : Own) (b x : List ℕ) (v : Outcome) → own.limit < 2 ^ 32 → IsVerdict own b v → IsSome v.refusal → IsVerdict own (b ++ x) (record v { tail = v.tail ++ x })
+RefusalStays = (own : Own) (b x : List ℕ) (v : Outcome) → own.limit < 2 ^ 32 → IsVerdict own b v → IsSome v.refusal
+    → IsVerdict own (b ++ x) (record v { tail = v.tail ++ x })
 
 -- a stream keeps its items, whatever follows: the items of more bytes are those, and then others
 abbrev pub ItemsStay : Type 0
-ItemsStay = (own : Own) (b x : List ℕ) (v w : Outcome) → own.limit < 2 ^ 32 → IsVerdict own b v → IsVerdict own (b ++ x) w → (more : List (ℕ × Item)) × (w.items ≡ v.items ++ more)
+ItemsStay = (own : Own) (b x : List ℕ) (v w : Outcome) → own.limit < 2 ^ 32 → IsVerdict own b v → IsVerdict own (b ++ x) w → (more : List (ℕ × Item))
+    × (w.items ≡ v.items ++ more)

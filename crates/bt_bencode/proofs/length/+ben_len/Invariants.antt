@@ -5,7 +5,9 @@ use Rattle.bt_bencode.specs.Views.{trees_of, pairs_of}
 use Rattle.bt_bencode.proofs.length.+ben_len.Given as goal
 
 abbrev pub invariant-all_ben_len-loop-value : goal.invariant-all_ben_len-loop-value
-invariant-all_ben_len-loop-value l = (l.sum < 2 ^ 64) × (min (l.sum + length (ben_all (trees_of (drop l.value-index l.value-items)))) (2 ^ 64 - 1) ≡ min (length (ben_all l.values)) (2 ^ 64 - 1))
+invariant-all_ben_len-loop-value l = (l.sum < 2 ^ 64) × (min (l.sum + length (ben_all (trees_of (drop l.value-index l.value-items)))) (2 ^ 64 - 1)
+    ≡ min (length (ben_all l.values)) (2 ^ 64 - 1))
 
 abbrev pub invariant-pairs_ben_len-loop-key : goal.invariant-pairs_ben_len-loop-key
-invariant-pairs_ben_len-loop-key l = (l.sum < 2 ^ 64) × (min (l.sum + length (ben_pairs (pairs_of (drop l.key-index l.key-items)))) (2 ^ 64 - 1) ≡ min (length (ben_pairs l.pairs)) (2 ^ 64 - 1))
+invariant-pairs_ben_len-loop-key l = (l.sum < 2 ^ 64) × (min (l.sum + length (ben_pairs (pairs_of (drop l.key-index l.key-items)))) (2 ^ 64 - 1)
+    ≡ min (length (ben_pairs l.pairs)) (2 ^ 64 - 1))

@@ -8,7 +8,8 @@ abbrev pub invariant-loop-rest : goal.invariant-loop-rest
 invariant-loop-rest l = record {
   bound : l.value ≤ 2 ^ 63;
   more : NumberGoesOn l.fn.stop l.value l.rest;
-  same : (m : ℕ) (rest : List ℕ) → NumberThen (2 ^ 63) l.fn.stop (IsNumber m rest) l.fn.n l.fn.bytes → NumberThen (2 ^ 63) l.fn.stop (IsNumber m rest) l.value l.rest;
+  same : (m : ℕ) (rest : List ℕ) → NumberThen (2 ^ 63) l.fn.stop (IsNumber m rest) l.fn.n l.fn.bytes → NumberThen (2 ^ 63) l.fn.stop (IsNumber m rest)
+      l.value l.rest;
 }
 
 abbrev pub decreases-loop-rest : goal.decreases-loop-rest

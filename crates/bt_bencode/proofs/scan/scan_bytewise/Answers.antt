@@ -6,15 +6,20 @@ use Rattle.bt_bencode.proofs.scan.scan_bytewise.Goals as goal
 use Rattle.bt_bencode.proofs.scan.scan_bytewise.Goals.{in-Text, in_default+in-Some}
 
 pub returns-in-None-clause-err : goal.returns-in-None-clause-err
-returns-in-None-clause-err c = impossible c.args.payload.now c.loop-at.at (stops c.args.payload.now c.loop-at.at c.loop-at.expect c.loop-at.stack c.loop-at-test.true c.loop-at.invariant.read c.loop-at.invariant.goes_on c.in-None.ensures)
+returns-in-None-clause-err c = impossible c.args.payload.now c.loop-at.at (stops c.args.payload.now c.loop-at.at c.loop-at.expect c.loop-at.stack
+    c.loop-at-test.true c.loop-at.invariant.read c.loop-at.invariant.goes_on c.in-None.ensures)
 
 pub returns-then-is_done-clause-ok : goal.returns-then-is_done-clause-ok
 returns-then-is_done-clause-ok c = elim c.match-expect.branch [
-  | in-Text w ↦ let p = passed c.args.payload.now c.loop-at.at w.in-Text.left w.min-passed.result c.loop-at.expect w.text-expect.result c.loop-at.stack w.in-Text.is w.min-passed.ensures c.loop-at-test.true c.loop-at.invariant.read w.text-expect.ensures in
-      ends c.args.payload.now c.match-expect.at c.match-expect.expect c.match-expect.stack (omega (arith, p.0, w.at-is)) (c.is_done.ensures.0 c.if-is_done.true) (rw (w.at-is, w.expect-is, w.stack-is) p.1)
+  | in-Text w ↦ let p = passed c.args.payload.now c.loop-at.at w.in-Text.left w.min-passed.result c.loop-at.expect w.text-expect.result c.loop-at.stack
+      w.in-Text.is w.min-passed.ensures c.loop-at-test.true c.loop-at.invariant.read w.text-expect.ensures in
+      ends c.args.payload.now c.match-expect.at c.match-expect.expect c.match-expect.stack (omega (arith, p.0, w.at-is))
+          (c.is_done.ensures.0 c.if-is_done.true) (rw (w.at-is, w.expect-is, w.stack-is) p.1)
   | in_default+in-Some w ↦
-      ends c.args.payload.now c.match-expect.at c.match-expect.expect c.match-expect.stack (omega (arith, c.loop-at-test.true, w.at-is)) (c.is_done.ensures.0 c.if-is_done.true)
-      (rw (w.at-is, w.expect-is, w.stack-is) (goes_on c.args.payload.now c.loop-at.at c.loop-at.expect w.in-Some.next c.loop-at.stack w.step.new.stack c.loop-at-test.true c.loop-at.invariant.read w.in-Some.ensures))
+      ends c.args.payload.now c.match-expect.at c.match-expect.expect c.match-expect.stack (omega (arith, c.loop-at-test.true, w.at-is))
+          (c.is_done.ensures.0 c.if-is_done.true)
+      (rw (w.at-is, w.expect-is, w.stack-is) (goes_on c.args.payload.now c.loop-at.at c.loop-at.expect w.in-Some.next c.loop-at.stack w.step.new.stack
+          c.loop-at-test.true c.loop-at.invariant.read w.in-Some.ensures))
 ]
 
 pub loop-at-init : goal.loop-at-init
@@ -26,13 +31,18 @@ loop-at-init c = record {
 
 pub loop-at-preserved : goal.loop-at-preserved
 loop-at-preserved c = elim c.match-expect.branch [
-  | in-Text w ↦ let p = passed c.args.payload.now c.loop-at.at w.in-Text.left w.min-passed.result c.loop-at.expect w.text-expect.result c.loop-at.stack w.in-Text.is w.min-passed.ensures c.loop-at-test.true c.loop-at.invariant.read w.text-expect.ensures in
+  | in-Text w ↦ let p = passed c.args.payload.now c.loop-at.at w.in-Text.left w.min-passed.result c.loop-at.expect w.text-expect.result c.loop-at.stack
+      w.in-Text.is w.min-passed.ensures c.loop-at-test.true c.loop-at.invariant.read w.text-expect.ensures in
       record { within = omega (arith, p.0, w.at-is); read = rw (w.at-is, w.expect-is, w.stack-is) p.1; goes_on = search rules }
   | in_default+in-Some w ↦
-      record { within = omega (arith, c.loop-at-test.true, w.at-is); read = rw (w.at-is, w.expect-is, w.stack-is) (goes_on c.args.payload.now c.loop-at.at c.loop-at.expect w.in-Some.next c.loop-at.stack w.step.new.stack c.loop-at-test.true c.loop-at.invariant.read w.in-Some.ensures); goes_on = search rules }
+      record { within = omega (arith, c.loop-at-test.true, w.at-is); read = rw (w.at-is, w.expect-is, w.stack-is)
+          (goes_on c.args.payload.now c.loop-at.at c.loop-at.expect w.in-Some.next c.loop-at.stack w.step.new.stack c.loop-at-test.true
+          c.loop-at.invariant.read w.in-Some.ensures); goes_on = search rules }
 ]
 
 pub returns-clause-err : goal.returns-clause-err
 returns-clause-err c =
-    let all : take c.loop-at.at c.args.payload.now ≡ c.args.payload.now = whole c.args.payload.now c.loop-at.at c.loop-at-test.false c.loop-at.invariant.within in
-    is_cut c.args.payload.now (cut c.args.payload.now c.loop-at.expect c.loop-at.stack (subst (λ (b : List ℕ). HasRead b c.loop-at.expect c.loop-at.stack) all c.loop-at.invariant.read) c.loop-at.invariant.goes_on)
+    let all : take c.loop-at.at c.args.payload.now ≡ c.args.payload.now = whole c.args.payload.now c.loop-at.at c.loop-at-test.false
+        c.loop-at.invariant.within in
+    is_cut c.args.payload.now (cut c.args.payload.now c.loop-at.expect c.loop-at.stack (subst (λ (b : List ℕ). HasRead b c.loop-at.expect c.loop-at.stack)
+        all c.loop-at.invariant.read) c.loop-at.invariant.goes_on)

@@ -19,11 +19,13 @@ skip_items-loop-rest-preserved t c =
     let shorter : length c.skip_value-rest.result.now < length c.loop-rest.rest.now = c.skip_value-rest.ensures.shorter in
     record {
       within = omega arith;
-      left = λ ts more h is. left_step more c.loop-rest.rest.now c.skip_value-rest.result.now c.loop-rest-test.true c.skip_value-rest.ensures.behind (c.loop-rest.invariant.left ts more h is);
+      left = λ ts more h is. left_step more c.loop-rest.rest.now c.skip_value-rest.result.now c.loop-rest-test.true c.skip_value-rest.ensures.behind
+          (c.loop-rest.invariant.left ts more h is);
     }
 
 pub skip_items-returns-clause-behind : goal.skip_items-returns-clause-behind
-skip_items-returns-clause-behind t c = λ ts more h is. c.behind.ensures ∙ left_over more c.loop-rest.rest.now c.loop-rest-test.false (c.loop-rest.invariant.left ts more h is)
+skip_items-returns-clause-behind t c = λ ts more h is. c.behind.ensures ∙ left_over more c.loop-rest.rest.now c.loop-rest-test.false
+    (c.loop-rest.invariant.left ts more h is)
 
 pub skip_pairs-split_string-requires : goal.skip_pairs-split_string-requires
 skip_pairs-split_string-requires t c =
@@ -37,7 +39,8 @@ skip_pairs-skip_value-rest-requires t c =
     let parts = ap length c.split_string.ensures.split ∙ length-append (ben_string c.split_string.result.0.now) c.split_string.result.1.now in
     let left = c.loop-rest.invariant.left c.requires.0 c.requires.1 c.requires.2 c.requires.3 in
     let pairs : HasPairs c.loop-rest.rest.now = (left.0, c.requires.1, left.1, left.2) in
-    (omega arith, value_behind c.loop-rest.rest.now c.split_string.result.0.now c.split_string.result.1.now pairs c.loop-rest-test.true c.split_string.ensures.short c.split_string.ensures.split)
+    (omega arith, value_behind c.loop-rest.rest.now c.split_string.result.0.now c.split_string.result.1.now pairs c.loop-rest-test.true
+        c.split_string.ensures.short c.split_string.ensures.split)
 
 pub skip_pairs-loop-rest-preserved : goal.skip_pairs-loop-rest-preserved
 skip_pairs-loop-rest-preserved t c =
@@ -46,11 +49,14 @@ skip_pairs-loop-rest-preserved t c =
     let shorter : length c.skip_value-rest.result.now < length c.split_string.result.1.now = c.skip_value-rest.ensures.shorter in
     record {
       within = omega arith;
-      left = λ ps more h is. pairs_left_step c.loop-rest.rest.now c.split_string.result.0.now c.split_string.result.1.now c.split_string.ensures.short c.split_string.ensures.split more c.skip_value-rest.result.now c.loop-rest-test.true c.skip_value-rest.ensures.behind (c.loop-rest.invariant.left ps more h is);
+      left = λ ps more h is. pairs_left_step c.loop-rest.rest.now c.split_string.result.0.now c.split_string.result.1.now c.split_string.ensures.short
+          c.split_string.ensures.split more c.skip_value-rest.result.now c.loop-rest-test.true c.skip_value-rest.ensures.behind
+          (c.loop-rest.invariant.left ps more h is);
     }
 
 pub skip_pairs-returns-clause-behind : goal.skip_pairs-returns-clause-behind
-skip_pairs-returns-clause-behind t c = λ ps more h is. c.behind.ensures ∙ pairs_left_over more c.loop-rest.rest.now c.loop-rest-test.false (c.loop-rest.invariant.left ps more h is)
+skip_pairs-returns-clause-behind t c = λ ps more h is. c.behind.ensures ∙ pairs_left_over more c.loop-rest.rest.now c.loop-rest-test.false
+    (c.loop-rest.invariant.left ps more h is)
 
 pub skip_value-bounds-bytes-0 : goal.skip_value-bounds-bytes-0
 skip_value-bounds-bytes-0 t c = nonempty c.args.bytes.now c.requires
@@ -74,13 +80,17 @@ pub skip_value-split_string-requires : goal.skip_value-split_string-requires
 skip_value-split_string-requires t c = string_there c.args.bytes.now c.requires (λ e. omega arith) (λ e. omega arith) (λ e. omega arith)
 
 pub skip_value-returns-in-105-clause-behind : goal.skip_value-returns-in-105-clause-behind
-skip_value-returns-in-105-clause-behind t c = λ u more h is. (over_integer c.args.bytes.now c.behind.result.now c.read_int.result.1.now c.read_int.result.0 c.in-105.is c.behind.ensures c.read_int.ensures.fits c.read_int.ensures.value u more h is).1
+skip_value-returns-in-105-clause-behind t c = λ u more h is. (over_integer c.args.bytes.now c.behind.result.now c.read_int.result.1.now c.read_int.result.0
+    c.in-105.is c.behind.ensures c.read_int.ensures.fits c.read_int.ensures.value u more h is).1
 
 pub skip_value-returns-in-108-clause-behind : goal.skip_value-returns-in-108-clause-behind
-skip_value-returns-in-108-clause-behind t c = list_skipped c.args.bytes.now c.behind-in-108.result.now c.skip_items.result.now c.in-108.is c.behind-in-108.ensures c.skip_items.ensures.behind
+skip_value-returns-in-108-clause-behind t c = list_skipped c.args.bytes.now c.behind-in-108.result.now c.skip_items.result.now c.in-108.is
+    c.behind-in-108.ensures c.skip_items.ensures.behind
 
 pub skip_value-returns-in-100-clause-behind : goal.skip_value-returns-in-100-clause-behind
-skip_value-returns-in-100-clause-behind t c = dictionary_skipped c.args.bytes.now c.behind-in-100.result.now c.skip_pairs.result.now c.in-100.is c.behind-in-100.ensures c.skip_pairs.ensures.behind
+skip_value-returns-in-100-clause-behind t c = dictionary_skipped c.args.bytes.now c.behind-in-100.result.now c.skip_pairs.result.now c.in-100.is
+    c.behind-in-100.ensures c.skip_pairs.ensures.behind
 
 pub skip_value-returns-in_default-clause-behind : goal.skip_value-returns-in_default-clause-behind
-skip_value-returns-in_default-clause-behind t c = λ u more h is. (over_text c.args.bytes.now c.split_string.result.0.now c.split_string.result.1.now (λ e. omega arith) (λ e. omega arith) (λ e. omega arith) c.split_string.ensures.short c.split_string.ensures.split u more h is).1
+skip_value-returns-in_default-clause-behind t c = λ u more h is. (over_text c.args.bytes.now c.split_string.result.0.now c.split_string.result.1.now
+    (λ e. omega arith) (λ e. omega arith) (λ e. omega arith) c.split_string.ensures.short c.split_string.ensures.split u more h is).1

@@ -16,8 +16,10 @@ loop-rest-preserved c =
     let shorter : length c.skip_value-rest.result.now < length c.loop-rest.rest.now = c.skip_value-rest.ensures.shorter in
     record {
       within = omega arith;
-      left = λ ts more h is. count_step (trees_count ts) c.loop-rest.count more c.loop-rest.rest.now c.skip_value-rest.result.now c.loop-rest-test.true c.skip_value-rest.ensures.behind (c.loop-rest.invariant.left ts more h is);
+      left = λ ts more h is. count_step (trees_count ts) c.loop-rest.count more c.loop-rest.rest.now c.skip_value-rest.result.now c.loop-rest-test.true
+          c.skip_value-rest.ensures.behind (c.loop-rest.invariant.left ts more h is);
     }
 
 pub returns : goal.returns
-returns c = λ ts more h is. count_over (trees_count ts) c.loop-rest.count more c.loop-rest.rest.now c.loop-rest-test.false (c.loop-rest.invariant.left ts more h is)
+returns c = λ ts more h is. count_over (trees_count ts) c.loop-rest.count more c.loop-rest.rest.now c.loop-rest-test.false
+    (c.loop-rest.invariant.left ts more h is)

@@ -16,7 +16,8 @@ pub skip_value-rest-requires : goal.skip_value-rest-requires
 skip_value-rest-requires c =
     let left = c.loop-rest.invariant.left c.requires.0 c.requires.1 c.requires.2 c.requires.3 in
     let pairs : HasPairs c.loop-rest.rest.now = (left.0, c.requires.1, left.1, left.2) in
-    value_behind c.loop-rest.rest.now c.split_string.result.0.now c.split_string.result.1.now pairs c.loop-rest-test.true c.split_string.ensures.short c.split_string.ensures.split
+    value_behind c.loop-rest.rest.now c.split_string.result.0.now c.split_string.result.1.now pairs c.loop-rest-test.true c.split_string.ensures.short
+        c.split_string.ensures.split
 
 pub loop-rest-preserved : goal.loop-rest-preserved
 loop-rest-preserved c =
@@ -25,8 +26,11 @@ loop-rest-preserved c =
     let shorter : length c.skip_value-rest.result.now < length c.split_string.result.1.now = c.skip_value-rest.ensures.shorter in
     record {
       within = omega arith;
-      left = λ ps more h is. pairs_count_step (pairs_count ps) c.loop-rest.count c.loop-rest.rest.now c.split_string.result.0.now c.split_string.result.1.now c.split_string.ensures.short c.split_string.ensures.split more c.skip_value-rest.result.now c.loop-rest-test.true c.skip_value-rest.ensures.behind (c.loop-rest.invariant.left ps more h is);
+      left = λ ps more h is. pairs_count_step (pairs_count ps) c.loop-rest.count c.loop-rest.rest.now c.split_string.result.0.now
+          c.split_string.result.1.now c.split_string.ensures.short c.split_string.ensures.split more c.skip_value-rest.result.now c.loop-rest-test.true
+          c.skip_value-rest.ensures.behind (c.loop-rest.invariant.left ps more h is);
     }
 
 pub returns : goal.returns
-returns c = λ ps more h is. pairs_count_over (pairs_count ps) c.loop-rest.count more c.loop-rest.rest.now c.loop-rest-test.false (c.loop-rest.invariant.left ps more h is)
+returns c = λ ps more h is. pairs_count_over (pairs_count ps) c.loop-rest.count more c.loop-rest.rest.now c.loop-rest-test.false
+    (c.loop-rest.invariant.left ps more h is)

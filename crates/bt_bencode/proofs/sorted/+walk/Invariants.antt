@@ -27,7 +27,8 @@ decreases-walk_items-loop-rest l = length l.rest
 abbrev pub invariant-walk_pairs-loop-rest : goal.invariant-walk_pairs-loop-rest
 invariant-walk_pairs-loop-rest l = record {
   within : length l.rest ≤ length l.fn.bytes;
-  left : (ps : Pairs) (more : List ℕ) → PairsInRange ps → l.fn.bytes ≡ ben_pairs ps ++ 101 ∷ more → PairsLeft ps more (length l.fn.bytes - length l.rest) (option_copied l.last) l.rest;
+  left : (ps : Pairs) (more : List ℕ) → PairsInRange ps → l.fn.bytes ≡ ben_pairs ps ++ 101 ∷ more → PairsLeft ps more (length l.fn.bytes - length l.rest)
+      (option_copied l.last) l.rest;
 }
 
 abbrev pub decreases-walk_pairs-loop-rest : goal.decreases-walk_pairs-loop-rest

@@ -12,5 +12,6 @@ invariant-loop-round g l = record {
   calm : IsCalm (g.C.Connection.seen l.fn.connection).counts (g.C.Connection.seen l.connection).counts;
   undone : is_some (metadata_of l.end.end.part) ≡ false;
   progress : l.limits.sign ≡ sign.Progress → l.watch.progress ≡ progress_of l.end.end.part;
-  mark : IsMark l.limits.sign l.watch.since (moment (g.C.Connection.seen l.fn.connection) l.fn.hearing l.fn.end) (moment (g.C.Connection.seen l.connection) l.hearing l.end);
+  mark : IsMark l.limits.sign l.watch.since (moment (g.C.Connection.seen l.fn.connection) l.fn.hearing l.fn.end)
+      (moment (g.C.Connection.seen l.connection) l.hearing l.end);
 }

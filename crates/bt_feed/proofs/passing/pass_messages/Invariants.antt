@@ -14,7 +14,8 @@ invariant-messages g l = record {
   taken : l.passed.taken ≡ Ok tt;
   quiet : g.S.Sink.failed l.sink ≡ g.S.Sink.failed l.fn.sink;
   moved : (n : ℕ) → (xs : List (ℕ × Item)) × IsHanded g.S.Sink.takes g.S.Sink.misses l.fn.sink xs l.sink l.passed.taken
-      × IsFed (waiting (stages.Message l.fn.context l.fn.order l.fn.start n)) (take l.passed.bytes l.piece) xs (waiting (stages.Message l.fn.context l.passed.order (l.fn.start + l.passed.bytes) (n + l.passed.messages)));
+      × IsFed (waiting (stages.Message l.fn.context l.fn.order l.fn.start n)) (take l.passed.bytes l.piece) xs
+      (waiting (stages.Message l.fn.context l.passed.order (l.fn.start + l.passed.bytes) (n + l.passed.messages)));
 }
 
 abbrev pub decreases-messages : goal.decreases-messages

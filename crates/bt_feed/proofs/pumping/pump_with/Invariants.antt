@@ -11,8 +11,10 @@ invariant-loop-turn g l = record {
   failed : g.R.Source.failed_reads l.reader ≡ g.R.Source.failed_reads l.fn.reader;
   ends : g.R.Source.ends l.reader ≡ g.R.Source.ends l.fn.reader;
   calm : g.S.Sink.failed l.sink ≡ g.S.Sink.failed l.fn.sink;
-  reads : (min (g.R.Source.reads l.fn.reader + l._turn) (2 ^ 64 - 1) ≤ g.R.Source.reads l.reader) × (g.R.Source.reads l.reader ≤ g.R.Source.reads l.fn.reader + l._turn);
+  reads : (min (g.R.Source.reads l.fn.reader + l._turn) (2 ^ 64 - 1) ≤ g.R.Source.reads l.reader)
+      × (g.R.Source.reads l.reader ≤ g.R.Source.reads l.fn.reader + l._turn);
   limit : limit_of l.feed.stage ≤ 1048576;
   waits : is_closed l.feed.stage l.feed.held ≡ false;
-  moved : (bytes : List ℕ) × (xs : List (ℕ × Item)) × Consumes (g.R.Source.left l.fn.reader) (g.R.Source.left l.reader) bytes × Took g.S.Sink.takes l.fn.sink xs l.sink × IsFed l.fn.feed bytes xs l.feed;
+  moved : (bytes : List ℕ) × (xs : List (ℕ × Item)) × Consumes (g.R.Source.left l.fn.reader) (g.R.Source.left l.reader) bytes
+      × Took g.S.Sink.takes l.fn.sink xs l.sink × IsFed l.fn.feed bytes xs l.feed;
 }

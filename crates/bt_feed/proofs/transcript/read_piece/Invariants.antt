@@ -7,7 +7,8 @@ use Rattle.bt_feed.proofs.transcript.read_piece.Given as goal
 abbrev pub invariant-items : goal.invariant-items
 invariant-items l = record {
   within : l.at ≤ length l.piece;
-  reads : (t : Stage) (all later : List ℕ) → Reads t all l.fn.items.items l.fn.feed (l.piece ++ later) → Reads t all l.items.items l.feed (drop l.at l.piece ++ later);
+  reads : (t : Stage) (all later : List ℕ) → Reads t all l.fn.items.items l.fn.feed (l.piece ++ later) → Reads t all l.items.items l.feed (drop l.at l.piece
+      ++ later);
 }
 
 abbrev pub decreases-items : goal.decreases-items

@@ -7,5 +7,6 @@ use Rattle.bt_feed.proofs.transcript.read_pieces.Given as goal
 
 -- the pieces so far are read, and the feed waits
 abbrev pub invariant-loop-piece : goal.invariant-loop-piece
-invariant-loop-piece l = (own : Own) (all : List ℕ) → Reads (stage.Handshake own) all [] l.fn.feed (flat_map (λ piece. piece.items) l.pieces) → is_closed l.fn.feed.stage l.fn.feed.held ≡ false
+invariant-loop-piece l = (own : Own) (all : List ℕ) → Reads (stage.Handshake own) all [] l.fn.feed (flat_map (λ piece. piece.items) l.pieces)
+    → is_closed l.fn.feed.stage l.fn.feed.held ≡ false
     → IsReadTo (stage.Handshake own) all l.items.items l.feed (flat_map (λ piece. piece.items) (drop l.piece-index l.pieces)) None

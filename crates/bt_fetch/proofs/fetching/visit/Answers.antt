@@ -10,5 +10,6 @@ pub returns : goal.returns
 returns g c = record {
   handshake = one_keeps c.args.end.now.end _ _ c.in_ok-reset.ensures.ok c.outgoing.ensures.end c.exchange-stop.ensures.exchanged.made.moved;
   dials = so_ok _ c.outcome_of.result c.dial.ensures;
-  outcome = c.outcome_of.ensures (record { rounds = 4294967296; patience = c.args.wish.now.patience; sign = sign.Progress }) _ _ refl c.exchange-stop.ensures.exchanged.stop;
+  outcome = c.outcome_of.ensures (record { rounds = 4294967296; patience = c.args.wish.now.patience; sign = sign.Progress }) _ _ refl
+      c.exchange-stop.ensures.exchanged.stop;
 }

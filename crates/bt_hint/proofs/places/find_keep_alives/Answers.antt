@@ -34,6 +34,8 @@ messages-preserved c =
             within = λ lt. c.in-Some.ensures.0;
             from = subst (IsReached b) is i.from;
             to = on;
-            zero_bytes = subst (λ (n : ℕ). AreZero b n (c.messages.place + c.in-Some.size)) is (subst (λ (n : ℕ). AreZero b c.messages.start (c.messages.place + n)) (sym four) (more_zero b c.messages.start c.messages.place i.zero_bytes e));
+            zero_bytes = subst (λ (n : ℕ). AreZero b n (c.messages.place + c.in-Some.size)) is
+                (subst (λ (n : ℕ). AreZero b c.messages.start (c.messages.place + n)) (sym four) (more_zero b c.messages.start c.messages.place i.zero_bytes
+                e));
           }
     ]

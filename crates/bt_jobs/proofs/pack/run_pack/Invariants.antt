@@ -11,5 +11,6 @@ invariant-loop-turn g l = record {
   ends : g.R.Source.ends l.reader ≡ g.R.Source.ends l.initial.reader;
   calm : g.W.Target.failed_writes l.writer ≡ g.W.Target.failed_writes l.initial.writer;
   empty : l.out.items ≡ [];
-  run : IsRun l.own (g.R.Source.left l.initial.reader) (g.R.Source.left l.reader) (g.W.Target.held l.initial.writer) (g.W.Target.held l.writer) l.line.items l.feed;
+  run : IsRun l.own (g.R.Source.left l.initial.reader) (g.R.Source.left l.reader) (g.W.Target.held l.initial.writer) (g.W.Target.held l.writer) l.line.items
+      l.feed;
 }

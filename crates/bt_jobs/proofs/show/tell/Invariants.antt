@@ -11,5 +11,6 @@ invariant-loop-turn g l = record {
   failed : g.R.Source.failed_reads l.reader ≡ g.R.Source.failed_reads l.initial.reader;
   ends : g.R.Source.ends l.reader ≡ g.R.Source.ends l.initial.reader;
   calm : g.W.Target.failed_writes l.writer ≡ g.W.Target.failed_writes l.initial.writer;
-  told : IsToldTo (form_of l.initial.printer) l.own (g.R.Source.left l.initial.reader) (g.R.Source.left l.reader) (g.W.Target.held l.initial.writer) (g.W.Target.held l.writer) l.feed l.printer;
+  told : IsToldTo (form_of l.initial.printer) l.own (g.R.Source.left l.initial.reader) (g.R.Source.left l.reader) (g.W.Target.held l.initial.writer)
+      (g.W.Target.held l.writer) l.feed l.printer;
 }

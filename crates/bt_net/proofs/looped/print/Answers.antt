@@ -6,7 +6,9 @@ pub returns-then-not-both-clause-printed : goal.returns-then-not-both-clause-pri
 returns-then-not-both-clause-printed g c = printed_unfetched c.args.both c.args.right.now _ _ c.write_lines.result c.write_lines.ensures.written
 
 pub returns-in_default-clause-printed : goal.returns-in_default-clause-printed
-returns-in_default-clause-printed g c = printed_unfetched c.args.both c.args.right.now _ _ c.write_lines-in_default.result c.write_lines-in_default.ensures.written
+returns-in_default-clause-printed g c = printed_unfetched c.args.both c.args.right.now _ _ c.write_lines-in_default.result
+    c.write_lines-in_default.ensures.written
 
 pub returns-in-Ok-clause-printed : goal.returns-in-Ok-clause-printed
-returns-in-Ok-clause-printed g c = printed_fetched c.args.both c.args.right.now c.in-Some.metadata.now c.as_slice.result.now _ _ c.write_lines-in-Ok.result (sym c.in-Some.ensures.value) (c.as_slice.ensures.value ∙ c.in-Ok.ensures) c.write_lines-in-Ok.ensures.written
+returns-in-Ok-clause-printed g c = printed_fetched c.args.both c.args.right.now c.in-Some.metadata.now c.as_slice.result.now _ _ c.write_lines-in-Ok.result
+    (sym c.in-Some.ensures.value) (c.as_slice.ensures.value ∙ c.in-Ok.ensures) c.write_lines-in-Ok.ensures.written

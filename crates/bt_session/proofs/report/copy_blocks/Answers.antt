@@ -8,11 +8,13 @@ pub pieces-preserved : goal.pieces-preserved
 pieces-preserved c =
     let part : Part = c.args.end.now.end.part in
     record {
-      found = c.in_ok-copy_block.ensures.copied ∙ ap (λ (xs : List (ℕ × List ℕ)). xs ++ numbered c.pieces.piece (fetched_block part c.pieces.piece)) c.pieces.invariant.found ∙ sym (block_more c.pieces.piece part);
+      found = c.in_ok-copy_block.ensures.copied ∙ ap (λ (xs : List (ℕ × List ℕ)). xs ++ numbered c.pieces.piece (fetched_block part c.pieces.piece))
+          c.pieces.invariant.found ∙ sym (block_more c.pieces.piece part);
       fetched = λ later. c.in_ok-copy_block.ensures.assembly;
     }
 
 pub returns : goal.returns
 returns c =
     let last : c.pieces.piece ≡ 4096 = omega (arith, c.pieces-test.false, c.pieces.auto.piece-end) in
-    c.pieces.invariant.found ∙ ap (λ (n : ℕ). blocks_below n c.args.end.now.end.part) last ∙ all_below c.args.end.now.end.part (c.pieces.invariant.fetched (omega (arith, last)))
+    c.pieces.invariant.found ∙ ap (λ (n : ℕ). blocks_below n c.args.end.now.end.part) last
+        ∙ all_below c.args.end.now.end.part (c.pieces.invariant.fetched (omega (arith, last)))

@@ -20,6 +20,7 @@ returns-clause-rest c = λ l h.
     let right_blocks = c.in_ok-copy_blocks-2.ensures ∙ ap (λ (a : HalfState). held_blocks a.end.part) h.right.end in
     record {
       connections = subst (λ (cs : List Connection). AreConnectionsOf cs (l.past ++ B.connection_of l ∷ [])) (sym c.in_ok-keep.ensures) more;
-      blocks = both (blocks_of c.in_ok-copy_blocks.field-0) (blocks_of c.in_ok-copy_blocks-2.field-0) (held_blocks l.left.half.end.part) (held_blocks l.right.half.end.part) left_blocks right_blocks;
+      blocks = both (blocks_of c.in_ok-copy_blocks.field-0) (blocks_of c.in_ok-copy_blocks-2.field-0) (held_blocks l.left.half.end.part)
+          (held_blocks l.right.half.end.part) left_blocks right_blocks;
       ends = both left.end right.end l.left.half l.right.half h.left.end h.right.end;
     }

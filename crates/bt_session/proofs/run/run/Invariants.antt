@@ -9,5 +9,6 @@ use Rattle.bt_session.proofs.run.run.Given as goal
 abbrev pub invariant-steps : goal.invariant-steps
 invariant-steps l = record {
   written : AreWritten (take l.step-index l.steps);
-  done : (a b : EndState) → AreNew a b → IsLinkOf l.fn.link (B.link_of a b) → (k : B.Link) × B.AreSteps (B.link_of a b) (take l.step-index l.steps) l.outcomes.items k × IsLinkOf l.link k;
+  done : (a b : EndState) → AreNew a b → IsLinkOf l.fn.link (B.link_of a b) → (k : B.Link) × B.AreSteps (B.link_of a b) (take l.step-index l.steps)
+      l.outcomes.items k × IsLinkOf l.link k;
 }

@@ -8,7 +8,8 @@ abbrev pub invariant-messages : goal.invariant-messages
 invariant-messages l = record {
   within : l.at ≤ length l.messages;
   moved : l.number ≤ l.at + 1;
-  told : (v : Outcome) → IsOutcome l.context l.order (68 + l.at) l.number (drop l.at l.messages) v → (u : Outcome) × IsOutcome l.context Fresh 68 1 l.messages u;
+  told : (v : Outcome) → IsOutcome l.context l.order (68 + l.at) l.number (drop l.at l.messages) v → (u : Outcome)
+      × IsOutcome l.context Fresh 68 1 l.messages u;
 }
 
 abbrev pub decreases-messages : goal.decreases-messages

@@ -34,7 +34,8 @@ returns-clause-stops g c = λ lt.
     let P : List ℕ → Type 0 = λ b. HasWindow stage (b ++ piece) n × (length b ≤ n) in
     let window = subst P c.as_slice.ensures.value (c.length-length.ensures.window (omega arith)) in
     let closed = window_stops stage buffer piece n c.append_up_to.result window.0 window.1 c.append_up_to.ensures.count lt in
-    ap (λ (t : Stage). is_closed t c.append_up_to.new.buffer.items) (sym c.refresh.ensures.same.stage) ∙ ap (is_closed stage) c.append_up_to.ensures.items ∙ closed
+    ap (λ (t : Stage). is_closed t c.append_up_to.new.buffer.items) (sym c.refresh.ensures.same.stage) ∙ ap (is_closed stage) c.append_up_to.ensures.items
+        ∙ closed
 
 pub returns-clause-sound : goal.returns-clause-sound
 returns-clause-sound g c =
@@ -47,4 +48,6 @@ returns-clause-sound g c =
     let q = record p { wanted = n } in
     let Q : List ℕ → Type 0 = λ b. IsProgress q b in
     subst Q (sym c.append_up_to.ensures.items)
-    (progress_window p q buffer piece n c.append_up_to.result c.refresh.ensures.sound (record { stage = refl; refused = refl; fresh = c.refresh.ensures.same.fresh }) c.refresh.ensures.same.fresh refl window.0 window.1 c.append_up_to.ensures.count)
+    (progress_window p q buffer piece n c.append_up_to.result c.refresh.ensures.sound
+        (record { stage = refl; refused = refl; fresh = c.refresh.ensures.same.fresh }) c.refresh.ensures.same.fresh refl window.0 window.1
+        c.append_up_to.ensures.count)

@@ -8,7 +8,8 @@ use Rattle.bt_feed.proofs.Windows.{window_waits}
 use Rattle.bt_feed.proofs.progress.Progress.find.Goals as goal
 
 pub returns-then-held-self : goal.returns-then-held-self
-returns-then-held-self c = window_waits c.args.self.now.stage c.args.held.now c.args.self.now.wanted (c.requires.wanted c.if-self-gt0.true).0 (omega (arith, c.if-held-self.true))
+returns-then-held-self c = window_waits c.args.self.now.stage c.args.held.now c.args.self.now.wanted (c.requires.wanted c.if-self-gt0.true).0
+    (omega (arith, c.if-held-self.true))
 
 pub returns-in-Err : goal.returns-in-Err
 returns-in-Err c =

@@ -14,7 +14,8 @@ use Rattle.bt_metadata.proofs.assembly.Assembly.ask.Goals as goal
 busy : (ss : List Status) (n : ℕ) → n ≡ count_by asks ss → window ≤ n → (if nat_lt (count_by asks ss) window then position lacks ss else None) ≡ None
 busy ss n e h = ap (λ t. if t then position lacks ss else None) (le-ltb (count_by asks ss) window (omega (arith, e, h)))
 
-free : (ss : List Status) (n : ℕ) → n ≡ count_by asks ss → n < window → (if nat_lt (count_by asks ss) window then position lacks ss else None) ≡ position lacks ss
+free : (ss : List Status) (n : ℕ) → n ≡ count_by asks ss → n < window → (if nat_lt (count_by asks ss) window then position lacks ss else None)
+    ≡ position lacks ss
 free ss n e h = ap (λ t. if t then position lacks ss else None) (lt-ltb (count_by asks ss) window (omega (arith, e, h)))
 
 pub returns-then-count_asked-ge-WINDOW-clause-value : goal.returns-then-count_asked-ge-WINDOW-clause-value

@@ -20,7 +20,8 @@ measured : (n piece count size k : ℕ) → size ≡ n → k ≡ piece → piece
 measured n piece count size k e f l c = same_rest n piece size k e f ∙ block_len_is n piece (subst (λ x. piece < x) c l)
 
 -- what is stored in place of the bytes
-written : (d b now new : List ℕ) (piece k len count : ℕ) → k ≡ piece → piece < count → count ≡ block_count (length d) → length b ≡ min 16384 (length d - 16384 * piece) →
+written : (d b now new : List ℕ) (piece k len count : ℕ) → k ≡ piece → piece < count → count ≡ block_count (length d) → length b
+    ≡ min 16384 (length d - 16384 * piece) →
     now ≡ d → new ≡ paste now (16384 * k) b → len ≡ length d → take len (new ++ drop (length new) d) ≡ paste d (16384 * piece) b
 written d b now new piece k len count e l c n v s z =
     let p : new ≡ paste d (16384 * piece) b = s ∙ ap (λ x. paste x (16384 * k) b) v ∙ ap (λ j. paste d (16384 * j) b) e in
@@ -34,9 +35,11 @@ returns-in_err-k-clause-value g c =
     let total = c.args.total in
     let b = c.args.block.now in
     let o = err_from_is_err_and c.from_residual.result c.from_residual.ensures.1 in
-    let e : error_at c.self.inside.states.items piece ≡ Some c.in_err-k.field-0.0 = ap (λ ss. error_at ss piece) (sym c.deref.ensures.value) ∙ c.in_err-k.ensures in
+    let e : error_at c.self.inside.states.items piece ≡ Some c.in_err-k.field-0.0 = ap (λ ss. error_at ss piece) (sym c.deref.ensures.value)
+        ∙ c.in_err-k.ensures in
     rw (o.1) (ap (λ (a : AssemblyState). data_error a piece total b) (sym c.self.view_is)
-    ∙ refused_is c.self.inside.info_hash c.self.inside.bytes.items b c.self.inside.states.items piece total c.in_err-k.field-0.0 e ∙ ap (λ (x : BlockError). Some x) (sym o.2))
+    ∙ refused_is c.self.inside.info_hash c.self.inside.bytes.items b c.self.inside.states.items piece total c.in_err-k.field-0.0 e
+    ∙ ap (λ (x : BlockError). Some x) (sym o.2))
 
 pub returns-in_err-k-clause-state : goal.returns-in_err-k-clause-state
 returns-in_err-k-clause-state g c =
@@ -73,7 +76,8 @@ returns-then-block-min-clause-value g c =
     let t : total ≡ length d = c.if-total-size.false ∙ l in
     let k : c.in_ok-k.k ≡ piece = c.in_ok-k.ensures.0 in
     let i : piece < length ss = omega (arith, k, c.in_ok-k.ensures.1, ap length c.deref.ensures.value) in
-    let m : c.min.result ≡ block_len (length d) piece = c.min.ensures ∙ measured (length d) piece (length ss) c.len-size.result c.in_ok-k.k l k i c.self.invariant.count in
+    let m : c.min.result ≡ block_len (length d) piece = c.min.ensures ∙ measured (length d) piece (length ss) c.len-size.result c.in_ok-k.k l k i
+        c.self.invariant.count in
     ap (λ (a : AssemblyState). data_error a piece total b) (sym c.self.view_is)
     ∙ wrong_size_is c.self.inside.info_hash d b ss piece total e t (λ n. c.if-block-min.true (n ∙ sym m))
 
@@ -88,7 +92,8 @@ returns-clause-value g c =
     let l : c.len-size.result ≡ length d = c.len-size.ensures ∙ c.self.inside.bytes.ok.0 in
     let k : c.in_ok-k.k ≡ piece = c.in_ok-k.ensures.0 in
     let i : piece < length ss = omega (arith, k, c.in_ok-k.ensures.1, ap length c.deref.ensures.value) in
-    let m : c.min.result ≡ block_len (length d) piece = c.min.ensures ∙ measured (length d) piece (length ss) c.len-size.result c.in_ok-k.k l k i c.self.invariant.count in
+    let m : c.min.result ≡ block_len (length d) piece = c.min.ensures ∙ measured (length d) piece (length ss) c.len-size.result c.in_ok-k.k l k i
+        c.self.invariant.count in
     ap (λ (a : AssemblyState). data_error a piece total b) (sym c.self.view_is)
     ∙ nothing_wrong c.self.inside.info_hash d b ss piece total e (c.if-total-size.false ∙ l) (c.if-block-min.false ∙ m)
 
@@ -104,9 +109,11 @@ returns-clause-state g c =
     let l : c.len-size.result ≡ length d = c.len-size.ensures ∙ c.self.inside.bytes.ok.0 in
     let k : c.in_ok-k.k ≡ piece = c.in_ok-k.ensures.0 in
     let i : piece < length ss = omega (arith, k, c.in_ok-k.ensures.1, ap length c.deref.ensures.value) in
-    let n : length b ≡ min 16384 (length d - 16384 * piece) = c.if-block-min.false ∙ c.min.ensures ∙ same_rest (length d) piece c.len-size.result c.in_ok-k.k l k in
+    let n : length b ≡ min 16384 (length d - 16384 * piece) = c.if-block-min.false ∙ c.min.ensures ∙ same_rest (length d) piece c.len-size.result
+        c.in_ok-k.k l k in
     let m : length b ≡ block_len (length d) piece = n ∙ block_len_is (length d) piece (subst (λ x. piece < x) c.self.invariant.count i) in
-    let w = written d b c.deref_mut.result.now c.store.new.bytes piece c.in_ok-k.k c.self.inside.bytes.len (length ss) k i c.self.invariant.count n c.deref_mut.ensures.value c.store.ensures c.self.inside.bytes.ok.0 in
+    let w = written d b c.deref_mut.result.now c.store.new.bytes piece c.in_ok-k.k c.self.inside.bytes.len (length ss) k i c.self.invariant.count n
+        c.deref_mut.ensures.value c.store.ensures c.self.inside.bytes.ok.0 in
     ap (λ x. state_of h x (set ss c.in_ok-k.k status.Held)) w ∙ ap (λ j. state_of h (paste d (16384 * piece) b) (set ss j status.Held)) k
     ∙ held_is h d b ss piece total i c.self.invariant.count n (nothing_wrong h d b ss piece total e (c.if-total-size.false ∙ l) m)
     ∙ ap (λ (a : AssemblyState). with_data a piece total b) c.self.view_is
@@ -116,7 +123,8 @@ invariant_of-self g c =
     let inside = c.self.inside in
     let j = c.in_ok-k.k in
     let i : j < length inside.states.items = omega (arith, c.in_ok-k.ensures.1, ap length c.deref.ensures.value) in
-    let f : length (take inside.bytes.len (c.store.new.bytes ++ drop (length c.store.new.bytes) inside.bytes.items)) ≡ length inside.bytes.items = sym (length_refill inside.bytes.len inside.bytes.items c.store.new.bytes inside.bytes.ok.0) ∙ inside.bytes.ok.0 in
+    let f : length (take inside.bytes.len (c.store.new.bytes ++ drop (length c.store.new.bytes) inside.bytes.items)) ≡ length inside.bytes.items =
+        sym (length_refill inside.bytes.len inside.bytes.items c.store.new.bytes inside.bytes.ok.0) ∙ inside.bytes.ok.0 in
     record {
       least = omega (arith, f, c.self.invariant.least);
       most = rw f c.self.invariant.most;

@@ -10,7 +10,8 @@ returns c = λ p h k.
       c.feed.ensures (record p.own { untaken = p.own.untaken ++ take n p.other.half.outbox })
           (record {
             end = h.end;
-            untaken = c.in_ok-queue.ensures.ok ∙ ap (λ (b : List ℕ). b ++ take n c.outgoing-waiting.result.now) h.untaken ∙ ap (λ (b : List ℕ). p.own.untaken ++ take n b) out;
+            untaken = c.in_ok-queue.ensures.ok ∙ ap (λ (b : List ℕ). b ++ take n c.outgoing-waiting.result.now) h.untaken
+                ∙ ap (λ (b : List ℕ). p.own.untaken ++ take n b) out;
             sent = h.sent;
             handled = h.handled;
           }),

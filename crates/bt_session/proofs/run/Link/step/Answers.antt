@@ -13,4 +13,5 @@ goes n m s t (Err e) is f = tt
 goes n m s t (Ok o) is f = subst (λ (x : Step). Steps n x o m) (sym is) (λ l h may. f l h)
 
 pub returns-in-Say-clause-done : goal.returns-in-Say-clause-done
-returns-in-Say-clause-done c = goes c.args.self.now c.say.new.self c.args.step.now (step.Say c.in-Say.side c.in-Say.message) c.say.result c.in-Say.is c.say.ensures.done
+returns-in-Say-clause-done c = goes c.args.self.now c.say.new.self c.args.step.now (step.Say c.in-Say.side c.in-Say.message) c.say.result c.in-Say.is
+    c.say.ensures.done
