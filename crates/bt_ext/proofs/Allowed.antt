@@ -45,12 +45,14 @@ pub allowed : (r : Rules) (e : Ext) → fault_of r e ≡ None → Allows r e
 allowed rules.Free e h = tt
 allowed rules.Bep (ext.Handshake v x) h = handshake (tree_of v) h
 allowed rules.Bep (ext.Metadata v x) h = metadata (tree_of v) (length x) h
+allowed rules.Bep (ext.DontHave i) h = tt
 allowed rules.Bep (ext.Raw i x) h = tt
 
 pub faultless : (r : Rules) (e : Ext) → Allows r e → fault_of r e ≡ None
 faultless rules.Free e h = refl
 faultless rules.Bep (ext.Handshake v x) h = rw ((sorted_has_none (tree_of v)).1 h.0, h.1) refl
 faultless rules.Bep (ext.Metadata v x) h = rw ((sorted_has_none (tree_of v)).1 h.0, h.1, h.2) refl
+faultless rules.Bep (ext.DontHave i) h = refl
 faultless rules.Bep (ext.Raw i x) h = refl
 
 pub both : (r : Rules) (e : Ext) → Allows r e ↔ (fault_of r e ≡ None)
@@ -75,6 +77,7 @@ no_reason : (r : Rules) (e : Ext) → reason_of r e ≡ None → fault_of r e �
 no_reason rules.Free e h = refl
 no_reason rules.Bep (ext.Handshake v x) h = one_of_two _ _ h
 no_reason rules.Bep (ext.Metadata v x) h = one_of_three _ _ _ _ h
+no_reason rules.Bep (ext.DontHave i) h = refl
 no_reason rules.Bep (ext.Raw i x) h = refl
 
 pub allowed-no_reason : (r : Rules) (e : Ext) → Allows r e ↔ (reason_of r e ≡ None)

@@ -1,11 +1,11 @@
 -- What the rules ask of an extended payload, and the first of its faults.
-use Rattle.std.specs.Prelude.{◌≡◌, ℕ, List, length, Bool, true, false, not, Option, Some, None, option_and_then, IsTrue, ⊤}
+use Rattle.std.specs.Prelude.{◌≡◌, ◌≢◌, ℕ, List, length, Bool, true, false, not, Option, Some, None, option_and_then, IsTrue, ⊤}
 use Rattle.bt_bencode.specs.Bencoding.{ben, IsPlace}
 use Rattle.bt_bencode.specs.Payloads.{BeginsWithNone}
 use Rattle.bt_bencode.specs.Keys.{unsorted, IsSorted}
 use Rattle.bt_bencode.specs.Trees.{Tree}
 use Rattle.bt_bencode.specs.Views.{tree_of}
-use Rattle.bt_ext.specs.Ids.{needs_dict}
+use Rattle.bt_ext.specs.Ids.{needs_dict, donthave_id}
 use Rattle.bt_ext.specs.Payloads.{IsExt}
 use Rattle.bt_ext.specs.Fields.{has_bad_field}
 use Rattle.bt_ext.specs.Metadata.{kind_of, is_block_ok, is_malformed}
@@ -28,6 +28,7 @@ Allows rules.Free e = ⊤
 Allows rules.Bep (ext.Handshake dict rest) = IsSorted (tree_of dict) × (has_bad_field (tree_of dict) ≡ false)
 Allows rules.Bep (ext.Metadata dict rest) =
     IsSorted (tree_of dict) × (is_malformed (kind_of (tree_of dict)) ≡ false) × (is_block_ok (kind_of (tree_of dict)) (length rest) ≡ true)
+Allows rules.Bep (ext.DontHave index) = ⊤
 Allows rules.Bep (ext.Raw id payload) = ⊤
 
 -- the first of two faults that is there
@@ -60,6 +61,7 @@ abbrev pub fault_of : Rules → Ext → Option ViewError
 fault_of rules.Free e = None
 fault_of rules.Bep (ext.Handshake dict rest) = handshake_fault_of (tree_of dict)
 fault_of rules.Bep (ext.Metadata dict rest) = metadata_fault_of (tree_of dict) (length rest)
+fault_of rules.Bep (ext.DontHave index) = None
 fault_of rules.Bep (ext.Raw id payload) = None
 
 -- the extended id and the payload are those of the value, and the rules allow it
@@ -79,8 +81,14 @@ pub record HasNoDict (reg : Registered) (id : ℕ) (payload : List ℕ) (at : �
   pub none : BeginsWithNone payload
   pub place : IsPlace payload at
 
+-- they are those of no value: the payload has to be a piece index, and hasn't four bytes
+pub record HasWrongLength (reg : Registered) (id : ℕ) (payload : List ℕ) : Type 0 where
+  pub named : donthave_id reg ≡ Some id
+  pub size : length payload ≢ 4
+
 -- why a payload under an id is refused
 abbrev pub Refuses : Registered → Rules → ℕ → List ℕ → ViewError → Type 0
+Refuses reg r id payload error.BadExtLength = HasWrongLength reg id payload
 Refuses reg r id payload (error.BadBencode at) = HasNoDict reg id payload at
 Refuses reg r id payload (error.Unsorted at) = HasFault reg r id payload (error.Unsorted at)
 Refuses reg r id payload error.BadField = HasFault reg r id payload error.BadField
@@ -93,6 +101,7 @@ IsFault reg r id payload (Some fault) = Refuses reg r id payload fault
 
 -- the same errors where memory may be wanting too
 abbrev pub read_error_of : ViewError → ExtError
+read_error_of error.BadExtLength = read_error.BadExtLength
 read_error_of (error.BadBencode at) = read_error.BadBencode at
 read_error_of (error.Unsorted at) = read_error.Unsorted at
 read_error_of error.BadField = read_error.BadField
@@ -100,6 +109,7 @@ read_error_of (error.BadBlock at) = read_error.BadBlock at
 
 -- why no value is read; memory is asked for only for one that is allowed
 abbrev pub RefusesToRead : Registered → Rules → ℕ → List ℕ → ExtError → Type 0
+RefusesToRead reg r id payload read_error.BadExtLength = Refuses reg r id payload error.BadExtLength
 RefusesToRead reg r id payload (read_error.BadBencode at) = Refuses reg r id payload (error.BadBencode at)
 RefusesToRead reg r id payload (read_error.Unsorted at) = Refuses reg r id payload (error.Unsorted at)
 RefusesToRead reg r id payload read_error.BadField = Refuses reg r id payload error.BadField
@@ -108,6 +118,7 @@ RefusesToRead reg r id payload read_error.Memory = (e : Ext) × Reads reg r id p
 
 -- a fault without its place, of a value that has a spelling
 abbrev pub reason_by : ViewError → Option ExtReason
+reason_by error.BadExtLength = None
 reason_by (error.BadBencode at) = None
 reason_by (error.Unsorted at) = Some reason.Unsorted
 reason_by error.BadField = Some reason.BadField

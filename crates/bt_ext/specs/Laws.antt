@@ -1,12 +1,13 @@
 -- Laws of extended payloads and of the table.
-use Rattle.std.specs.Prelude.{◌≡◌, ◌↔◌, ℕ, ◌<◌, ◌^◌, List, [], length, true, codes, Option, None, MatchOption, option_and_then, if◌then◌else◌}
+use Rattle.std.specs.Prelude.{◌≡◌, ◌↔◌, ℕ, ◌<◌, ◌^◌, List, [], ◌++◌, length, true, Option, None, MatchOption, option_and_then, if◌then◌else◌}
 use Rattle.std.specs.Str.{bytes_eq}
 use Rattle.bt_bencode.specs.Trees.{Tree, Pairs}
 use Rattle.bt_bencode.specs.Keys.{value_at}
 use Rattle.std.specs.Option.{ForSome}
+use Rattle.bt_ext.specs.Ids.{HaveBytes, metadata_name, donthave_name, metadata_id, donthave_id}
 use Rattle.bt_ext.specs.Fields.{id_value, size_of}
 use Rattle.bt_ext.specs.Tables.{Entries, IsTable, id_of_name, entered, entered_all, told, told_by, told_of, applied, id_after, before}
-use Rattle.bt_ext.specs.Payloads.{IsExt, HasDict}
+use Rattle.bt_ext.specs.Payloads.{IsExt, HasParts}
 use Rattle.bt_ext.specs.Faults.{Allows, IsFault, fault_of, reason_of}
 use Rattle.bt_ext.specs.Metadata.{kind_of, is_block_ok}
 use Rattle.bt_ext.specs.Made.{IsMade, message_tree, message_of, handshake_tree, handshake_of}
@@ -39,18 +40,19 @@ KindOfMade = (k : Kind) → IsMade k → kind_of (message_tree k) ≡ k
 
 -- a metadata message that an end writes has a spelling, and the rules allow it if its block is right
 abbrev pub MadeMessageIsRight : Type 0
-MadeMessageIsRight = (k : Kind) (rest : List ℕ) → IsMade k → is_block_ok k (length rest) ≡ true → HasDict (message_of k rest)
+MadeMessageIsRight = (k : Kind) (rest : List ℕ) → IsMade k → is_block_ok k (length rest) ≡ true → HasParts (message_of k rest)
     × Allows rules.Bep (message_of k rest)
 
 -- so has an extended handshake that an end writes, and the rules allow it
 abbrev pub MadeHandshakeIsRight : Type 0
-MadeHandshakeIsRight = (id size : Option ℕ) → ForSome id (λ n. n < 256) → ForSome size (λ n. n < 2 ^ 63) → HasDict (handshake_of id size)
-    × Allows rules.Bep (handshake_of id size)
+MadeHandshakeIsRight = (reg : Registered) (size : Option ℕ) → HaveBytes reg → ForSome size (λ n. n < 2 ^ 63) → HasParts (handshake_of reg size)
+    × Allows rules.Bep (handshake_of reg size)
 
--- and it tells the id and the size that it was made of
+-- and it tells the ids and the size that it was made of
 abbrev pub MadeHandshakeTells : Type 0
-MadeHandshakeTells = (id size : Option ℕ) → ForSome id (λ n. n < 256) → (told_of (handshake_tree id size) ≡ told (codes "ut_metadata") id)
-    × (size_of (handshake_tree id size) ≡ size)
+MadeHandshakeTells = (reg : Registered) (size : Option ℕ) → HaveBytes reg
+    → (told_of (handshake_tree reg size) ≡ told donthave_name (donthave_id reg) ++ told metadata_name (metadata_id reg))
+    × (size_of (handshake_tree reg size) ≡ size)
 
 -- entering an id changes what its name has, and no other name's id
 abbrev pub EnteredByName : Type 0

@@ -2,6 +2,8 @@
 use Rattle.std.specs.Prelude.{ℕ, List, [], pos, ◌<◌, ◌^◌, Option, Some, None, codes}
 use Rattle.bt_bencode.specs.Trees.{Tree, integer, dictionary, Pairs, no_pairs, pair}
 use Rattle.bt_bencode.specs.declared.tree.Value.TheVariants as value
+use Rattle.bt_ext.specs.Ids.{metadata_name, donthave_name, metadata_id, donthave_id}
+use Rattle.bt_ext.specs.declared.ids.Registered.{Registered}
 use Rattle.bt_ext.specs.declared.ext.Ext.{Ext}
 use Rattle.bt_ext.specs.declared.ext.Ext.TheVariants as ext
 use Rattle.bt_ext.specs.declared.metadata.Kind.{Kind}
@@ -33,21 +35,25 @@ message_tree k = dictionary (message_pairs k)
 abbrev pub message_of : Kind → List ℕ → Ext
 message_of k rest = ext.Metadata (value.Dict (message_pairs k)) rest
 
--- `m` with the end's own id of `ut_metadata`, if it has one
-abbrev pub m_pairs : Option ℕ → Pairs
-m_pairs None = no_pairs
-m_pairs (Some id) = pair (codes "ut_metadata") (integer (pos id)) no_pairs
+-- a pair of a name and its id, if it has one, before other pairs
+abbrev pub id_pair : List ℕ → Option ℕ → Pairs → Pairs
+id_pair name None ps = ps
+id_pair name (Some id) ps = pair name (integer (pos id)) ps
+
+-- `m` with the ids of `ut_metadata` and `lt_donthave` that there are
+abbrev pub m_pairs : Option ℕ → Option ℕ → Pairs
+m_pairs metadata donthave = id_pair donthave_name donthave (id_pair metadata_name metadata no_pairs)
 
 abbrev pub size_pairs : Option ℕ → Pairs
 size_pairs None = no_pairs
 size_pairs (Some size) = pair (codes "metadata_size") (integer (pos size)) no_pairs
 
--- the dictionary of an end's extended handshake: its id, and the size of the metadata that it serves
-abbrev pub handshake_pairs : Option ℕ → Option ℕ → Pairs
-handshake_pairs id size = pair (codes "m") (dictionary (m_pairs id)) (size_pairs size)
+abbrev pub handshake_pairs : Option ℕ → Option ℕ → Option ℕ → Pairs
+handshake_pairs metadata donthave size = pair (codes "m") (dictionary (m_pairs metadata donthave)) (size_pairs size)
 
-abbrev pub handshake_tree : Option ℕ → Option ℕ → Tree
-handshake_tree id size = dictionary (handshake_pairs id size)
+-- the dictionary of an end's extended handshake: its registered ids, and the size of the metadata that it serves
+abbrev pub handshake_tree : Registered → Option ℕ → Tree
+handshake_tree reg size = dictionary (handshake_pairs (metadata_id reg) (donthave_id reg) size)
 
-abbrev pub handshake_of : Option ℕ → Option ℕ → Ext
-handshake_of id size = ext.Handshake (value.Dict (handshake_pairs id size)) []
+abbrev pub handshake_of : Registered → Option ℕ → Ext
+handshake_of reg size = ext.Handshake (value.Dict (handshake_pairs (metadata_id reg) (donthave_id reg) size)) []

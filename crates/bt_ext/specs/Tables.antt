@@ -5,6 +5,8 @@ use Rattle.std.specs.Str.{bytes_eq}
 use Rattle.bt_bencode.specs.Trees.{Tree, integer, string, list, dictionary, Pairs, no_pairs, pair}
 use Rattle.bt_bencode.specs.Keys.{lookup_of}
 use Rattle.bt_ext.specs.Fields.{id_value}
+use Rattle.bt_ext.specs.Ids.{metadata_name, donthave_name, registered}
+use Rattle.bt_ext.specs.declared.ids.Registered.{Registered}
 
 -- the ids of names, each name once
 abbrev pub Entries : Type 0
@@ -14,6 +16,10 @@ Entries = List (List ℕ × ℕ)
 abbrev pub id_of_name : List ℕ → Entries → Option ℕ
 id_of_name name [] = None
 id_of_name name (e ∷ es) = if bytes_eq e.0 name then Some e.1 else id_of_name name es
+
+-- the ids under which the peer that told them wants extensions
+abbrev pub told_ids : Entries → Registered
+told_ids es = registered (id_of_name metadata_name es) (id_of_name donthave_name es)
 
 -- each name stands once and has at most 255 bytes, and no id is 0
 abbrev pub AreEntries : Entries → Type 0

@@ -4,26 +4,27 @@ ghost use Rattle.std.specs.Prelude.{◌≡◌, ◌≤◌, ◌<◌, ◌+◌, ◌^
 ghost use Rattle.std.specs.Option.{ForSome};
 ghost use Rattle.bt_bencode.specs.Trees.{integer, dictionary, Pairs, no_pairs, pair};
 ghost use Rattle.bt_bencode.specs.Bencoding.{ben, ben_string, ben_pairs};
-ghost use Rattle.bt_ext.specs.Made.{IsMade, typed, m_pairs, size_pairs, message_tree, handshake_tree};
+ghost use Rattle.bt_ext.specs.Ids.{metadata_id, donthave_id};
+ghost use Rattle.bt_ext.specs.Made.{IsMade, typed, id_pair, m_pairs, size_pairs, message_tree, handshake_tree};
 
-use crate::ids::ExtId;
+use crate::ids::{ExtId, Registered};
 use crate::metadata::Kind;
 use bt_bencode::{put_bytes, put_key, put_number};
 
 /// Room for any of them.
-pub type DictText = [u8; 160];
+pub type DictText = [u8; 220];
 
 /// Puts the end of a dictionary at the array's end, and says where it starts.
 fn put_end(text: &mut DictText) -> usize
-    ensures place { result ≡ 159 }
+    ensures place { result ≡ 219 }
     ensures text { drop result text.new ≡ 101 ∷ [] }
 {
-    put_bytes(b"e", text, 160)
+    put_bytes(b"e", text, 220)
 }
 
 /// Puts a pair of a key and a number in front of the place.
 fn put_pair(key: &[u8], n: u64, text: &mut DictText, at: usize) -> usize
-    requires { (43 + length key.now ≤ at) × (at ≤ 160) }
+    requires { (43 + length key.now ≤ at) × (at ≤ 220) }
     ensures room { (result ≤ at) × (at ≤ result + 43 + length key.now) }
     ensures text { drop result text.new ≡ ben_string key.now ++ (ben (integer (pos n)) ++ drop at text.old) }
 {
@@ -33,7 +34,7 @@ fn put_pair(key: &[u8], n: u64, text: &mut DictText, at: usize) -> usize
 
 /// Puts the last pair of a dictionary in front of the place.
 fn put_last(key: &[u8], n: u64, text: &mut DictText, at: usize) -> usize
-    requires { (43 + length key.now ≤ at) × (at ≤ 160) }
+    requires { (43 + length key.now ≤ at) × (at ≤ 220) }
     ensures room { (result ≤ at) × (at ≤ result + 43 + length key.now) }
     ensures text { drop result text.new ≡ ben_pairs (pair key.now (integer (pos n)) no_pairs) ++ drop at text.old }
 {
@@ -42,7 +43,7 @@ fn put_last(key: &[u8], n: u64, text: &mut DictText, at: usize) -> usize
 
 /// Puts the pairs of every metadata message in front of the place, and opens the dictionary.
 fn put_typed(msg_type: u8, piece: u32, text: &mut DictText, at: usize) -> usize
-    requires { (100 ≤ at) × (at ≤ 160) }
+    requires { (100 ≤ at) × (at ≤ 220) }
     ensures room { (result ≤ at) × (at ≤ result + 100) }
     ensures text { (ps : Pairs) → drop at text.old ≡ ben_pairs ps ++ 101 ∷ [] → drop result text.new ≡ 100 ∷ (ben_pairs (typed msg_type piece ps) ++ 101 ∷ []) }
 {
@@ -54,7 +55,7 @@ fn put_typed(msg_type: u8, piece: u32, text: &mut DictText, at: usize) -> usize
 /// Writes the dictionary of a request, a data message or a reject at the array's end, and says where it starts.
 pub fn message_text(kind: Kind, text: &mut DictText) -> usize
     requires { IsMade kind }
-    ensures room { result ≤ 160 }
+    ensures room { result ≤ 220 }
     ensures text { drop result text.new ≡ ben (message_tree kind) }
 {
     let end = put_end(text);
@@ -71,7 +72,7 @@ pub fn message_text(kind: Kind, text: &mut DictText) -> usize
 
 /// Puts the size of served metadata in front of the place, if there is one.
 fn put_size(size: Option<u64>, text: &mut DictText, at: usize) -> usize
-    requires { (60 ≤ at) × (at ≤ 160) }
+    requires { (60 ≤ at) × (at ≤ 220) }
     ensures room { (result ≤ at) × (at ≤ result + 60) }
     ensures text { drop result text.new ≡ ben_pairs (size_pairs size) ++ drop at text.old }
 {
@@ -81,29 +82,39 @@ fn put_size(size: Option<u64>, text: &mut DictText, at: usize) -> usize
     }
 }
 
-/// Puts `m` with an id of `ut_metadata` in front of the place, if there is one.
-fn put_m(id: Option<ExtId>, text: &mut DictText, at: usize) -> usize
-    requires { (60 ≤ at) × (at ≤ 160) }
-    ensures room { (result ≤ at) × (at ≤ result + 60) }
-    ensures text { drop result text.new ≡ ben (dictionary (m_pairs id)) ++ drop at text.old }
+/// Puts a name with its id in front of the place, if it has one.
+fn put_id(name: &[u8], id: Option<ExtId>, text: &mut DictText, at: usize) -> usize
+    requires { (43 + length name.now ≤ at) × (at ≤ 220) }
+    ensures room { (result ≤ at) × (at ≤ result + 43 + length name.now) }
+    ensures text { (ps : Pairs) (rest : List ℕ) → drop at text.old ≡ ben_pairs ps ++ rest → drop result text.new ≡ ben_pairs (id_pair name.now id ps) ++ rest }
+{
+    match id {
+        Some(id) => put_pair(name, u64::from(id.get()), text, at),
+        None => at,
+    }
+}
+
+/// Puts `m` with the registered ids in front of the place.
+fn put_m(reg: Registered, text: &mut DictText, at: usize) -> usize
+    requires { (120 ≤ at) × (at ≤ 220) }
+    ensures room { (result ≤ at) × (at ≤ result + 120) }
+    ensures text { drop result text.new ≡ ben (dictionary (m_pairs (metadata_id reg) (donthave_id reg))) ++ drop at text.old }
 {
     let end = put_bytes(b"e", text, at);
-    let place = match id {
-        Some(id) => put_last(b"ut_metadata", u64::from(id.get()), text, end),
-        None => end,
-    };
+    let place = put_id(b"ut_metadata", reg.metadata(), text, end);
+    let place = put_id(b"lt_donthave", reg.donthave(), text, place);
     put_bytes(b"d", text, place)
 }
 
-/// Writes the dictionary of an end's extended handshake at the array's end, and says where it starts: its id, if it has
-/// one, and the size of the metadata that it serves, if it serves any.
-pub fn handshake_text(id: Option<ExtId>, size: Option<u64>, text: &mut DictText) -> usize
-    ensures room { result ≤ 160 }
-    ensures text { drop result text.new ≡ ben (handshake_tree id size) }
+/// Writes the dictionary of an end's extended handshake at the array's end, and says where it starts: its registered
+/// ids, and the size of the metadata that it serves, if it serves any.
+pub fn handshake_text(reg: Registered, size: Option<u64>, text: &mut DictText) -> usize
+    ensures room { result ≤ 220 }
+    ensures text { drop result text.new ≡ ben (handshake_tree reg size) }
 {
     let end = put_end(text);
     let place = put_size(size, text, end);
-    let place = put_m(id, text, place);
+    let place = put_m(reg, text, place);
     let place = put_key(b"m", text, place);
     put_bytes(b"d", text, place)
 }

@@ -12,6 +12,8 @@ pub enum Ext {
     Handshake { dict: Value, rest: ByteString },
     /// A metadata message (BEP 9): a dictionary, and the block behind it.
     Metadata { dict: Value, rest: ByteString },
+    /// The sender has the piece of this index no more (`lt_donthave`).
+    DontHave(u32),
     /// A message under an id that the receiver didn't register.
     Raw { id: u8, payload: ByteString },
 }
@@ -23,6 +25,8 @@ pub enum ExtView<'a> {
     Handshake { dict: DictRef<'a>, rest: &'a [u8] },
     /// A metadata message (BEP 9): a dictionary, and the block behind it.
     Metadata { dict: DictRef<'a>, rest: &'a [u8] },
+    /// The sender has the piece of this index no more (`lt_donthave`).
+    DontHave(u32),
     /// A message under an id that the receiver didn't register.
     Raw { id: u8, payload: &'a [u8] },
 }
@@ -30,6 +34,9 @@ pub enum ExtView<'a> {
 /// Why a payload is refused. Places are counted from its start.
 #[derive(Clone, Copy, Debug, PartialEq, Eq, Error)]
 pub enum ViewError {
+    /// It has to be a piece index, and hasn't four bytes.
+    #[error("a piece index has four bytes")]
+    BadExtLength,
     /// It has to begin with a dictionary: its first `at` bytes begin a fitting one, and no more of them do.
     #[error("no dictionary goes on at byte {at}")]
     BadBencode { at: usize },
@@ -47,6 +54,9 @@ pub enum ViewError {
 /// Why no value is read. Places are counted from the payload's start.
 #[derive(Clone, Copy, Debug, PartialEq, Eq, Error)]
 pub enum ExtError {
+    /// It has to be a piece index, and hasn't four bytes.
+    #[error("a piece index has four bytes")]
+    BadExtLength,
     /// It has to begin with a dictionary: its first `at` bytes begin a fitting one, and no more of them do.
     #[error("no dictionary goes on at byte {at}")]
     BadBencode { at: usize },
@@ -72,6 +82,7 @@ impl From<ViewError> for ExtError {
 
     fn from(fault: ViewError) -> ExtError {
         match fault {
+            ViewError::BadExtLength => ExtError::BadExtLength,
             ViewError::BadBencode { at } => ExtError::BadBencode { at },
             ViewError::Unsorted { at } => ExtError::Unsorted { at },
             ViewError::BadField => ExtError::BadField,

@@ -1,9 +1,10 @@
 //! Extended ids (BEP 10), the ids that a receiver registers, and its rules.
-ghost use Rattle.std.specs.Prelude.{◌≡◌, ◌<◌, ◌==◌, ◌||◌};
+ghost use Rattle.std.specs.Prelude.{◌≡◌, ◌<◌, ◌==◌, ◌||◌, None, true, false, IfOk, IfErr};
 ghost use Rattle.std.specs.Option.{SomeIff};
-ghost use Rattle.bt_ext.specs.Ids.{registered, metadata_id, is_metadata, needs_dict};
+ghost use Rattle.bt_ext.specs.Ids.{registered, metadata_only, metadata_id, donthave_id, are_same, is_metadata, is_donthave, needs_dict, is_known};
 
 use std::marker::Model;
+use thiserror::Error;
 
 /// What a receiver judges.
 #[derive(Clone, Copy, Debug, PartialEq, Eq)]
@@ -50,23 +51,55 @@ impl ExtId {
     }
 }
 
+/// Two extensions can't have one id.
+#[derive(Clone, Copy, Debug, PartialEq, Eq, Error)]
+#[error("two extensions under one id")]
+pub struct SameId;
+
 /// The ids under which a receiver wants extensions.
 #[derive(Clone, Copy, Debug, PartialEq, Eq)]
 pub struct Registered {
     metadata: Option<ExtId>,
+    donthave: Option<ExtId>,
 }
 
 impl Registered {
-    /// Registers the id of `ut_metadata` (BEP 9), or none.
-    pub fn new(metadata: Option<ExtId>) -> Registered
-        ensures ids { result ≡ registered metadata }
+    /// Registers the ids of `ut_metadata` (BEP 9) and of `lt_donthave`, or none for one of them.
+    ///
+    /// # Errors
+    /// `SameId` where both are there and equal.
+    pub fn new(metadata: Option<ExtId>, donthave: Option<ExtId>) -> Result<Registered, SameId>
+        ensures ids { IfOk result (λ reg. reg ≡ registered metadata donthave) }
+        ensures metadata { IfOk result (λ reg. metadata_id reg ≡ metadata) }
+        ensures donthave { IfOk result (λ reg. donthave_id reg ≡ donthave) }
+        ensures apart { IfOk result (λ _. are_same metadata donthave ≡ false) }
+        ensures same { IfErr result (λ _. are_same metadata donthave ≡ true) }
+    {
+        let mut reg = Registered::metadata_only(metadata);
+        if let Some(id) = donthave {
+            let number = id.get();
+            if reg.is_metadata(number) {
+                return Err(SameId);
+            }
+            reg.donthave = Some(id);
+        }
+        Ok(reg)
+    }
+
+    /// Registers the id of `ut_metadata` (BEP 9) alone, or none.
+    pub fn metadata_only(metadata: Option<ExtId>) -> Registered
+        ensures ids { result ≡ metadata_only metadata }
         ensures metadata { metadata_id result ≡ metadata }
+        ensures donthave { donthave_id result ≡ None }
     {
         if let Some(id) = metadata {
             let number = id.get();
             prove!(number > 0);
         }
-        Registered { metadata }
+        Registered {
+            metadata,
+            donthave: None,
+        }
     }
 
     /// The registered id of `ut_metadata`.
@@ -79,6 +112,19 @@ impl Registered {
         Some(id)
     }
 
+    /// The registered id of `lt_donthave`.
+    pub fn donthave(&self) -> Option<ExtId>
+        ensures { result ≡ donthave_id self.now }
+    {
+        let id = self.donthave?;
+        let number = id.get();
+        if self.is_metadata(number) {
+            None
+        } else {
+            Some(id)
+        }
+    }
+
     /// Whether the id is the registered one of `ut_metadata`.
     pub(crate) fn is_metadata(&self, id: u8) -> bool
         ensures { result ≡ is_metadata self.now id }
@@ -89,10 +135,27 @@ impl Registered {
         }
     }
 
+    /// Whether the id is the registered one of `lt_donthave`.
+    pub(crate) fn is_donthave(&self, id: u8) -> bool
+        ensures { result ≡ is_donthave self.now id }
+    {
+        match self.donthave() {
+            Some(donthave) => donthave.get() == id,
+            None => false,
+        }
+    }
+
     /// Whether a payload under the id begins with a dictionary.
     pub(crate) fn needs_dict(&self, id: u8) -> bool
         ensures { result ≡ needs_dict self.now id }
     {
         id == 0 || self.is_metadata(id)
+    }
+
+    /// Whether a payload under the id has a meaning.
+    pub(crate) fn is_known(&self, id: u8) -> bool
+        ensures { result ≡ is_known self.now id }
+    {
+        self.needs_dict(id) || self.is_donthave(id)
     }
 }

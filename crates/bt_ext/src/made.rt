@@ -2,10 +2,11 @@
 ghost use Rattle.std.specs.Prelude.{◌≡◌, ◌<◌, ◌^◌, [], ◌∷◌, IfOk, pos, codes};
 ghost use Rattle.std.specs.Option.{ForSome};
 ghost use Rattle.bt_bencode.specs.Views.{tree_of};
+ghost use Rattle.bt_ext.specs.Ids.{metadata_id, donthave_id};
 ghost use Rattle.bt_ext.specs.Made.{IsMade, message_tree, m_pairs, handshake_tree};
 
 use crate::bytes::copy_bytes;
-use crate::ids::ExtId;
+use crate::ids::Registered;
 use crate::metadata::Kind;
 use bt_bencode::{ByteString, Pairs, Value};
 use std::alloc::{AllocError, Global};
@@ -51,28 +52,33 @@ pub fn dict_of(alloc: Global, kind: Kind) -> Result<Value, AllocError>
     }
 }
 
-fn m_dict(alloc: Global, id: Option<ExtId>) -> Result<Pairs, AllocError>
-    ensures { IfOk result (λ m. m ≡ m_pairs id) }
+/// `m` with the registered ids.
+fn m_dict(alloc: Global, reg: Registered) -> Result<Pairs, AllocError>
+    ensures { IfOk result (λ m. m ≡ m_pairs (metadata_id reg) (donthave_id reg)) }
 {
     let mut pairs = Vec::new(alloc);
-    if let Some(id) = id {
+    if let Some(id) = reg.donthave() {
+        let pair = numbered(alloc, b"lt_donthave", id.get() as i64)?;
+        pairs.push(pair)?;
+    }
+    if let Some(id) = reg.metadata() {
         let pair = numbered(alloc, b"ut_metadata", id.get() as i64)?;
         pairs.push(pair)?;
     }
     Ok(Pairs::from_vec(pairs))
 }
 
-/// The dictionary of an end's extended handshake: `m` with its own id of `ut_metadata`, if it has one, and the size of
-/// the metadata that it serves, if it serves any.
+/// The dictionary of an end's extended handshake: `m` with its registered ids, and the size of the metadata that it
+/// serves, if it serves any.
 pub fn handshake_dict(
     alloc: Global,
-    id: Option<ExtId>,
+    reg: Registered,
     size: Option<u64>,
 ) -> Result<Value, AllocError>
     requires { ForSome size (λ n. n < 2 ^ 63) }
-    ensures { IfOk result (λ v. tree_of v ≡ handshake_tree id size) }
+    ensures { IfOk result (λ v. tree_of v ≡ handshake_tree reg size) }
 {
-    let m = m_dict(alloc, id)?;
+    let m = m_dict(alloc, reg)?;
     let name = copy_bytes(alloc, b"m")?;
     let mut pairs = Vec::new(alloc);
     pairs.push((name, Value::Dict(m)))?;

@@ -3,7 +3,7 @@ ghost use Rattle.std.specs.Prelude.{◌≡◌, ◌++◌, ◌^◌, ◌-◌, lengt
 ghost use Rattle.bt_bencode.specs.Keys.{unsorted};
 ghost use Rattle.bt_bencode.specs.Bencoding.{ben};
 ghost use Rattle.bt_bencode.specs.Views.{tree_of};
-ghost use Rattle.bt_ext.specs.Payloads.{IsExt, IsDict, HasNoSpelling, HasSpelling, HasDict, ext_id, payload_of};
+ghost use Rattle.bt_ext.specs.Payloads.{IsExt, IsDict, HasNoSpelling, HasSpelling, HasParts, ext_id, payload_of};
 ghost use Rattle.bt_ext.specs.Faults.{reason_of};
 
 use crate::ext::{Ext, ExtReason};
@@ -33,29 +33,37 @@ fn id_of(reg: Registered, value: &Ext) -> Option<u8>
             Some(id) => Some(id.get()),
             None => None,
         },
+        Ext::DontHave(_) => match reg.donthave() {
+            Some(id) => Some(id.get()),
+            None => None,
+        },
         Ext::Raw { id, .. } => {
             let id = *id;
-            if reg.needs_dict(id) { None } else { Some(id) }
+            if reg.is_known(id) { None } else { Some(id) }
         }
     }
 }
 
 /// Whether its dictionary, if its kind has one, is one that fits.
-fn has_dict(value: &Ext) -> bool
-    ensures { IsTrue result ↔ HasDict value.now }
+fn has_parts(value: &Ext) -> bool
+    ensures { IsTrue result ↔ HasParts value.now }
 {
     match value {
         Ext::Handshake { dict, .. } => is_dict(dict),
         Ext::Metadata { dict, .. } => is_dict(dict),
+        Ext::DontHave(index) => {
+            let _index = *index;
+            true
+        }
         Ext::Raw { .. } => true,
     }
 }
 
 /// The extended id of a value that has a spelling of its own.
 fn own_id(reg: Registered, value: &Ext) -> Option<u8>
-    ensures { MatchOption result (HasNoSpelling reg value.now) (λ id. HasDict value.now × (ext_id reg value.now ≡ Some id)) }
+    ensures { MatchOption result (HasNoSpelling reg value.now) (λ id. HasParts value.now × (ext_id reg value.now ≡ Some id)) }
 {
-    if has_dict(value) {
+    if has_parts(value) {
         id_of(reg, value)
     } else {
         None
@@ -68,6 +76,7 @@ fn payload_len(value: &Ext) -> u64
     match value {
         Ext::Handshake { dict, rest } => ben_len(dict).saturating_add(rest.len() as u64),
         Ext::Metadata { dict, rest } => ben_len(dict).saturating_add(rest.len() as u64),
+        Ext::DontHave(_) => 4,
         Ext::Raw { payload, .. } => payload.len() as u64,
     }
 }
@@ -94,19 +103,20 @@ fn spell_dict(alloc: Global, dict: &Value, rest: &ByteString) -> Result<Vec<u8>,
 }
 
 fn spell_payload(alloc: Global, value: &Ext) -> Result<Vec<u8>, SpellError>
-    requires { HasDict value.now }
+    requires { HasParts value.now }
     ensures ok { IfOk result (λ bytes. bytes.items ≡ payload_of value.now) }
     ensures memory { IfErr result (λ e. e ≡ SpellError.Memory) }
 {
     match value {
         Ext::Handshake { dict, rest } => spell_dict(alloc, dict, rest),
         Ext::Metadata { dict, rest } => spell_dict(alloc, dict, rest),
+        Ext::DontHave(index) => Ok(index.to_be_bytes().to_vec(alloc)?),
         Ext::Raw { payload, .. } => Ok(payload.as_slice().to_vec(alloc)?),
     }
 }
 
 /// The extended id and the payload of a value; `OutOfRange` where it has none of its own: its dictionary is none or
-/// doesn't fit, it is raw under an id whose payloads begin with a dictionary, or no id is registered for it.
+/// doesn't fit, it is raw under an id with a meaning, or no id is registered for it.
 pub fn spell_ext(alloc: Global, reg: Registered, value: &Ext) -> Result<(u8, Vec<u8>), SpellError>
     ensures ok { IfOk result (λ x. IsExt reg value.now x.0 x.1.items) }
     ensures out_of_range { (result ≡ Err SpellError.OutOfRange) ↔ HasNoSpelling reg value.now }
@@ -153,6 +163,7 @@ pub fn ext_reason(rules: Rules, value: &Ext) -> Option<ExtReason>
                     Some(ExtReason::BadBlock)
                 }
             }
+            Ext::DontHave(_) => None,
             Ext::Raw { .. } => None,
         },
     }

@@ -3,9 +3,10 @@ ghost use Rattle.std.specs.Prelude.{◌≡◌, ◌<◌, ◌≤◌, [], length, O
 ghost use Rattle.std.specs.Bool.{OnFalse};
 ghost use Rattle.bt_bencode.specs.Trees.{dictionary};
 ghost use Rattle.bt_bencode.specs.Views.{tree_of};
-ghost use Rattle.bt_ext.specs.Tables.{id_of_name, entered, entered_all, applied, IsTable};
+ghost use Rattle.bt_ext.specs.Tables.{id_of_name, told_ids, entered, entered_all, applied, IsTable};
 ghost use Rattle.bt_ext.specs.Holding.{entries_of, HoldsAt};
 
+use crate::ids::{ExtId, Registered};
 use crate::name::Name;
 use crate::told::{told_of, told_of_ref};
 use bt_bencode::{DictRef, Value};
@@ -91,6 +92,27 @@ impl<A: Allocator + Copy> Table<A> {
     {
         let i = place_of(&self.entries, name)?;
         Some(self.entries[i].1)
+    }
+
+    /// The ids under which the peer wants extensions: of `ut_metadata` alone where it told one id for both.
+    pub fn registered(&self) -> Registered
+        ensures { result ≡ told_ids self.now }
+    {
+        let metadata = self.extension_of(b"ut_metadata");
+        let donthave = self.extension_of(b"lt_donthave");
+        match Registered::new(metadata, donthave) {
+            Ok(reg) => reg,
+            Err(_) => Registered::metadata_only(self.extension_of(b"ut_metadata")),
+        }
+    }
+
+    fn extension_of(&self, name: &[u8]) -> Option<ExtId>
+        ensures { result ≡ id_of_name name.now self.now }
+    {
+        match self.id_of(name) {
+            Some(id) => ExtId::new(id),
+            None => None,
+        }
     }
 
     /// A table with the same names and ids.

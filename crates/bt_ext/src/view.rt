@@ -1,10 +1,11 @@
 //! From an extended id and a payload to the value that they are.
-ghost use Rattle.std.specs.Prelude.{◌≡◌, ◌++◌, IfOk, IfErr};
+ghost use Rattle.std.specs.Prelude.{◌≡◌, ◌≢◌, ◌++◌, ◌<◌, ◌^◌, None, length, IfOk, IfErr, IfSome};
 ghost use Rattle.bt_bencode.specs.Trees.{dictionary};
 ghost use Rattle.bt_bencode.specs.Bencoding.{ben, Fits, IsPlace};
 ghost use Rattle.bt_bencode.specs.Payloads.{BeginsWithNone};
-ghost use Rattle.bt_ext.specs.Payloads.{IsExt, seen};
-ghost use Rattle.bt_ext.specs.Faults.{HasNoDict, Reads, Refuses, RefusesToRead, fault_of, handshake_fault_of, metadata_fault_of};
+ghost use Rattle.bt_ext.specs.Payloads.{IsExt, index_bytes, seen};
+ghost use Rattle.bt_ext.specs.declared.ids.Rules.{Rules};
+ghost use Rattle.bt_ext.specs.Faults.{Reads, Refuses, RefusesToRead, fault_of, handshake_fault_of, metadata_fault_of};
 
 use crate::bytes::copy_bytes;
 use crate::ext::{Ext, ExtError, ExtView, ViewError};
@@ -27,17 +28,34 @@ fn split_dict(payload: &[u8]) -> Result<(DictRef<'_>, &[u8]), usize>
     }
 }
 
-/// The value that the id and the payload are, or the place where no dictionary goes on.
-fn shape<'a>(reg: Registered, id: u8, payload: &'a [u8]) -> Result<ExtView<'a>, usize>
-    ensures ok { IfOk result (λ v. IsExt reg (seen v) id payload.now) }
-    ensures err { IfErr result (HasNoDict reg id payload.now) }
+/// The piece index that a payload is, if it has four bytes.
+fn read_index(payload: &[u8]) -> Option<u32>
+    ensures none { result ≡ None → length payload.now ≢ 4 }
+    ensures some { IfSome result (λ index. (index < 2 ^ 32) × (payload.now ≡ index_bytes index)) }
 {
-    if id == 0 {
-        let (dict, rest) = split_dict(payload)?;
-        Ok(ExtView::Handshake { dict, rest })
-    } else if reg.is_metadata(id) {
-        let (dict, rest) = split_dict(payload)?;
-        Ok(ExtView::Metadata { dict, rest })
+    if payload.len() != 4 {
+        return None;
+    }
+    Some(u32::from_be_bytes([payload[0], payload[1], payload[2], payload[3]]))
+}
+
+/// The value that the id and the payload are, or why they are none.
+fn shape<'a>(reg: Registered, id: u8, payload: &'a [u8]) -> Result<ExtView<'a>, ViewError>
+    ensures ok { IfOk result (λ v. IsExt reg (seen v) id payload.now) }
+    ensures err { IfErr result (λ fault. (r : Rules) → Refuses reg r id payload.now fault) }
+{
+    if reg.is_donthave(id) {
+        return match read_index(payload) {
+            Some(index) => Ok(ExtView::DontHave(index)),
+            None => Err(ViewError::BadExtLength),
+        };
+    }
+    if reg.needs_dict(id) {
+        match split_dict(payload) {
+            Ok((dict, rest)) if id == 0 => Ok(ExtView::Handshake { dict, rest }),
+            Ok((dict, rest)) => Ok(ExtView::Metadata { dict, rest }),
+            Err(at) => Err(ViewError::BadBencode { at }),
+        }
     } else {
         Ok(ExtView::Raw { id, payload })
     }
@@ -81,6 +99,7 @@ fn fault_in(rules: Rules, view: &ExtView) -> Option<ViewError>
         Rules::Bep => match view {
             ExtView::Handshake { dict, .. } => handshake_fault(dict),
             ExtView::Metadata { dict, rest } => metadata_fault(dict, rest.len()),
+            ExtView::DontHave(_) => None,
             ExtView::Raw { .. } => None,
         },
     }
@@ -97,7 +116,7 @@ pub fn view_ext<'a>(
     ensures err { IfErr result (Refuses reg rules id payload.now) }
 {
     match shape(reg, id, payload) {
-        Err(at) => Err(ViewError::BadBencode { at }),
+        Err(fault) => Err(fault),
         Ok(view) => match fault_in(rules, &view) {
             None => Ok(view),
             Some(fault) => Err(fault),
@@ -120,6 +139,7 @@ pub fn copy_ext(alloc: Global, view: &ExtView) -> Result<Ext, AllocError>
             let rest = copy_bytes(alloc, rest)?;
             Ok(Ext::Metadata { dict, rest })
         }
+        ExtView::DontHave(index) => Ok(Ext::DontHave(*index)),
         ExtView::Raw { id, payload } => {
             let payload = copy_bytes(alloc, payload)?;
             Ok(Ext::Raw { id: *id, payload })

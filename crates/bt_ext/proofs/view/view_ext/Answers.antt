@@ -1,7 +1,7 @@
 use Rattle.bt_ext.specs.Payloads.{seen}
 use Rattle.bt_ext.proofs.Allowed.{allowed}
 use Rattle.bt_ext.proofs.view.view_ext.Goals as goal
-use Rattle.std.proofs.Common.{sym, ◌∙◌, rules}
+use Rattle.std.proofs.Common.{sym, ◌∙◌}
 
 pub returns-in-None-clause-ok : goal.returns-in-None-clause-ok
 returns-in-None-clause-ok c = record {
@@ -10,4 +10,4 @@ returns-in-None-clause-ok c = record {
 }
 
 pub returns-in-Err-clause-err : goal.returns-in-Err-clause-err
-returns-in-Err-clause-err c = search rules
+returns-in-Err-clause-err c = c.in-Err.ensures.err c.args.rules
