@@ -4,8 +4,8 @@ use Rattle.std.proofs.Common.{◌≡◌, ℕ, suc, ◌^◌, ◌<◌, ◌≤◌, 
 use Rattle.std.proofs.lemmas.Bool.{le-leb}
 use Rattle.std.proofs.lemmas.List.{append-nil}
 use Rattle.std.specs.Prelude.{IfSome, IsSome, unwrap_or}
-use Rattle.bt_ext.specs.Ids.{metadata_id, is_id, is_metadata}
-use Rattle.bt_ext.specs.Payloads.{ext_id, payload_of}
+use Rattle.bt_ext.specs.Ids.{metadata_id, donthave_id, is_id, is_metadata, is_donthave}
+use Rattle.bt_ext.specs.Payloads.{ext_id, index_of, payload_of}
 use Rattle.bt_ext.specs.declared.ext.Ext.{Ext}
 use Rattle.bt_ext.specs.declared.ext.Ext.TheVariants as ext
 use Rattle.bt_ext.specs.declared.ids.Registered.{Registered}
@@ -17,8 +17,8 @@ use Rattle.bt_wire.specs.declared.fault.Fault.TheVariants as fault
 use Rattle.bt_wire.specs.declared.fault.Reason.{Reason}
 use Rattle.bt_wire.specs.declared.fault.Refused.{Refused}
 use Rattle.bt_wire.specs.Bitfields.{has_spare}
-use Rattle.bt_wire.specs.Contexts.{UsesNoId, PiecesSuit, IdsSuit, moved, LegalElsewhere, LegalIsNotRefused, RefusalIsOne}
-use Rattle.bt_wire.specs.Faults.{allows, field_size, is_beyond, is_strict}
+use Rattle.bt_wire.specs.Contexts.{UsesNoMetadataId, UsesNoDontHaveId, piece_in, PiecesSuit, IdsSuit, moved, LegalElsewhere, LegalIsNotRefused, RefusalIsOne}
+use Rattle.bt_wire.specs.Faults.{allows, field_size, is_beyond, is_index_beyond, is_strict}
 use Rattle.bt_wire.specs.Faults.{IsFault}
 use Rattle.bt_wire.specs.Legal.{IsLegal, IsAllowed, IsRefusedFor}
 use Rattle.bt_wire.specs.Messages.{Fields, extended, fields_of, index_in, field_in, is_payload, id_of, framed, spell_fields, spell, IsShaped, IsInRange}
@@ -27,23 +27,38 @@ use Rattle.bt_wire.proofs.WindowLaws.{one_fault, fault-spell}
 
 -- ---- the fields are the same
 
-raw_id : (zero own other : Bool) (id : ℕ) → IsSome (if zero || own then None else Some id) → other ≡ false → (if zero || other then None else Some id)
-    ≡ (if zero || own then None else Some id)
-raw_id true own other id h e = absurd cc
-raw_id false true other id h e = absurd cc
-raw_id false false other id h e = rw e refl
+off : (b : Bool) → (b ≡ false) ⊎ (b ≡ false) → b ≡ false
+off b (inl e) = e
+off b (inr e) = e
 
-same_id : (old new : Registered) (e : Ext) → IsSome (ext_id old e) → (metadata_id new ≡ metadata_id old) ⊎ UsesNoId new (m.Extended e) → ext_id new e
-    ≡ ext_id old e
-same_id old new (ext.Handshake dict rest) h s = refl
-same_id old new (ext.Metadata dict rest) h (inl same) = same
-same_id old new (ext.Metadata dict rest) h (inr other) = absurd other
-same_id old new (ext.Raw id payload) h (inl same) =
-    ap (λ (o : Option ℕ). if eqb id 0 || is_id o id then None else Some id) same
-same_id old new (ext.Raw id payload) h (inr other) = raw_id (eqb id 0) (is_metadata old id) (is_metadata new id) id h other
+-- an id that had no meaning has none where each test gives what it gave, or false
+raw_id : (zero m d m' d' : Bool) (id : ℕ) → IsSome (if (zero || m) || d then None else Some id) → (m' ≡ m) ⊎ (m' ≡ false) → (d' ≡ d) ⊎ (d' ≡ false)
+    → (if (zero || m') || d' then None else Some id) ≡ (if (zero || m) || d then None else Some id)
+raw_id true m d m' d' id h e f = absurd cc
+raw_id false true d m' d' id h e f = absurd cc
+raw_id false false true m' d' id h e f = absurd cc
+raw_id false false false m' d' id h e f = rw (off m' e, off d' f) refl
+
+-- an id's test is the same, or false
+suits : (new old : Option ℕ) (id : ℕ) → (new ≡ old) ⊎ (is_id new id ≡ false) → (is_id new id ≡ is_id old id) ⊎ (is_id new id ≡ false)
+suits new old id (inl same) = inl (ap (λ (o : Option ℕ). is_id o id) same)
+suits new old id (inr other) = inr other
+
+same_or : (a b : Option ℕ) → (a ≡ b) ⊎ ⊥ → a ≡ b
+same_or a b (inl e) = e
+same_or a b (inr h) = absurd h
+
+same_id : (old new : Registered) (e : Ext) → IsSome (ext_id old e) → (metadata_id new ≡ metadata_id old) ⊎ UsesNoMetadataId new (m.Extended e)
+    → (donthave_id new ≡ donthave_id old) ⊎ UsesNoDontHaveId new (m.Extended e) → ext_id new e ≡ ext_id old e
+same_id old new (ext.Handshake dict rest) h s t = refl
+same_id old new (ext.Metadata dict rest) h s t = same_or (metadata_id new) (metadata_id old) s
+same_id old new (ext.DontHave index) h s t = same_or (donthave_id new) (donthave_id old) t
+same_id old new (ext.Raw id payload) h s t =
+    raw_id (eqb id 0) (is_metadata old id) (is_donthave old id) (is_metadata new id) (is_donthave new id) id h
+        (suits (metadata_id new) (metadata_id old) id s) (suits (donthave_id new) (donthave_id old) id t)
 
 same_fields : (c : Context) (msg : Message) (p : Option ℕ) (r : Registered) → IsShaped c msg → IdsSuit c msg r → fields_of (moved c p r) msg ≡ fields_of c msg
-same_fields c (m.Extended e) p r shaped s = ap (λ (o : Option ℕ). extended (unwrap_or o 0) (payload_of e)) (same_id c.reg r e shaped.0 s)
+same_fields c (m.Extended e) p r shaped s = ap (λ (o : Option ℕ). extended (unwrap_or o 0) (payload_of e)) (same_id c.reg r e shaped.0 s.metadata s.donthave)
 same_fields c m.KeepAlive p r shaped s = refl
 same_fields c m.Choke p r shaped s = refl
 same_fields c m.Unchoke p r shaped s = refl
@@ -63,7 +78,7 @@ same_fields c (m.AllowedFast i) p r shaped s = refl
 same_fields c (m.Unknown n bytes) p r shaped s = refl
 
 same_shape : (c : Context) (msg : Message) (p : Option ℕ) (r : Registered) → IsShaped c msg → IdsSuit c msg r → IsShaped (moved c p r) msg
-same_shape c (m.Extended e) p r shaped s = (subst (λ (o : Option ℕ). IsSome o) (sym (same_id c.reg r e shaped.0 s)) shaped.0, shaped.1)
+same_shape c (m.Extended e) p r shaped s = (subst (λ (o : Option ℕ). IsSome o) (sym (same_id c.reg r e shaped.0 s.metadata s.donthave)) shaped.0, shaped.1)
 same_shape c (m.Unknown n bytes) p r shaped s = shaped
 same_shape c other p r shaped s = tt
 
@@ -86,13 +101,29 @@ record KeepsPieces (p : Option ℕ) (f : Fields) : Type 0 where
   sized : IfSome (field_in f) (λ bits. allows (field_size p) (suc (length bits)) ≡ true)
   spare : IfSome (field_in f) (λ bits. has_spare p bits ≡ false)
 
+-- a message without a piece index has none in its fields
+index_by : (c : Context) (msg : Message) → piece_in c msg ≡ None → index_in (fields_of c msg) ≡ None
+index_by c (m.Extended e) h = refl
+index_by c msg h = h
+
+-- the index of an extended value, where the piece count changes so
+none_beyond : (o : Option ℕ) → is_index_beyond None o ≡ false
+none_beyond None = refl
+none_beyond (Some i) = refl
+
+same_beyond : (c : Context) (e : Ext) (p : Option ℕ) → PiecesSuit c (m.Extended e) p → is_index_beyond c.pieces (index_of e) ≡ false
+    → is_index_beyond p (index_of e) ≡ false
+same_beyond c e p (inl same) h = subst (λ (o : Option ℕ). is_index_beyond o (index_of e) ≡ false) (sym same) h
+same_beyond c e p (inr (inl none)) h = subst (λ (o : Option ℕ). is_index_beyond o (index_of e) ≡ false) (sym none) (none_beyond (index_of e))
+same_beyond c e p (inr (inr plain)) h = subst (λ (o : Option ℕ). is_index_beyond p o ≡ false) (sym plain.0) refl
+
 keeps : (c : Context) (msg : Message) (p : Option ℕ) → KeepsPieces c.pieces (fields_of c msg) → PiecesSuit c msg p → KeepsPieces p (fields_of c msg)
 keeps c msg p k (inl same) = subst (λ (o : Option ℕ). KeepsPieces o (fields_of c msg)) (sym same) k
 keeps c msg p k (inr (inl none)) =
     subst (λ (o : Option ℕ). KeepsPieces o (fields_of c msg)) (sym none) (record { indexed = no_index (index_in (fields_of c msg));
         sized = no_size (field_in (fields_of c msg)); spare = no_spare (field_in (fields_of c msg)) })
 keeps c msg p k (inr (inr plain)) = record {
-  indexed = subst (λ (o : Option ℕ). IfSome o (λ index. is_beyond p index ≡ false)) (sym plain.0) tt;
+  indexed = subst (λ (o : Option ℕ). IfSome o (λ index. is_beyond p index ≡ false)) (sym (index_by c msg plain.0)) tt;
   sized = subst (λ (o : Option (List ℕ)). IfSome o (λ bits. allows (field_size p) (suc (length bits)) ≡ true)) (sym plain.1) tt;
   spare = subst (λ (o : Option (List ℕ)). IfSome o (λ bits. has_spare p bits ≡ false)) (sym plain.1) tt;
 }
@@ -116,14 +147,14 @@ legal_elsewhere c o msg p r pieces ids h =
         known = subst (λ (x : Fields). (is_strict c && is_payload x) ≡ false) (sym f) h.known;
         in_time = h.in_time;
         opened = h.opened;
-        allowed = same_allowed msg h.allowed;
+        allowed = same_allowed msg pieces h.allowed;
       },
       same_spelling c msg p r h.shaped ids,
     )
   where
-    same_allowed : (x : Message) → IsAllowed c x → IsAllowed (moved c p r) x
-    same_allowed (m.Extended e) a = a
-    same_allowed other a = tt
+    same_allowed : (x : Message) → PiecesSuit c x p → IsAllowed c x → IsAllowed (moved c p r) x
+    same_allowed (m.Extended e) s a = (a.0, same_beyond c e p s a.1)
+    same_allowed other s a = tt
 
 -- ---- one judgement
 

@@ -84,6 +84,7 @@ unsorted_placed n (Some at) h = h
 
 fault_placed : (r : Rules) (e : Ext) → IsPlaced (length (payload_of e)) (fault_of r e)
 fault_placed rules.Free e = tt
+fault_placed rules.Bep (ext.DontHave index) = tt
 fault_placed rules.Bep (ext.Raw id payload) = tt
 fault_placed rules.Bep (ext.Handshake dict rest) =
     let t = tree_of dict in
@@ -104,6 +105,7 @@ has_placed reg r id p f h =
     omega (arith, le, ap length h.is.spelled)
 
 pub refused_within : (reg : Registered) (r : Rules) (id : ℕ) (p : List ℕ) (f : ViewError) → Refuses reg r id p f → place_in f ≤ length p
+refused_within reg r id p error.BadExtLength h = omega arith
 refused_within reg r id p (error.BadBencode at) h = h.place.within
 refused_within reg r id p (error.Unsorted at) h = has_placed reg r id p (error.Unsorted at) h
 refused_within reg r id p error.BadField h = omega arith
@@ -111,9 +113,10 @@ refused_within reg r id p (error.BadBlock at) h = has_placed reg r id p (error.B
 
 -- ---- the first reason
 
--- a value's fault is none of its bencoding
+-- a value's fault is none of its bencoding or its length
 abbrev pub IsOfValue : Option ViewError → Type 0
 IsOfValue None = ⊤
+IsOfValue (Some error.BadExtLength) = ⊥
 IsOfValue (Some (error.BadBencode at)) = ⊥
 IsOfValue (Some (error.Unsorted at)) = ⊤
 IsOfValue (Some error.BadField) = ⊤
@@ -133,6 +136,7 @@ unsorted_value (Some at) = tt
 
 pub fault_of_value : (r : Rules) (e : Ext) → IsOfValue (fault_of r e)
 fault_of_value rules.Free e = tt
+fault_of_value rules.Bep (ext.DontHave index) = tt
 fault_of_value rules.Bep (ext.Raw id payload) = tt
 fault_of_value rules.Bep (ext.Handshake dict rest) =
     let t = tree_of dict in

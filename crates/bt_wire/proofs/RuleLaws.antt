@@ -17,11 +17,11 @@ use Rattle.bt_wire.specs.Messages.{Fields, none, index, part, block, port, field
     is_payload, spell_fields, body, framed, AreInRange}
 use Rattle.bt_wire.specs.Tables.{row, first_fault}
 use Rattle.bt_wire.specs.Numbers.{be32, number32}
-use Rattle.bt_wire.specs.Faults.{said_length, said_id, has_id, allows, size_by, is_strict, is_agreed, is_late, is_missing, is_beyond, has_index, is_field,
+use Rattle.bt_wire.specs.Faults.{said_length, said_id, has_id, allows, size_by, is_strict, is_agreed, is_late, is_missing, is_beyond, is_index_beyond, has_index, is_field,
     id_rules, id_row, field_rows}
 use Rattle.bt_wire.specs.Legal.{IsLegal}
 use Rattle.bt_wire.specs.Rules.{broken_by}
-use Rattle.bt_wire.specs.Parts.{broken_field, is_index_beyond, is_field_spare, IsSized}
+use Rattle.bt_wire.specs.Parts.{broken_field, is_field_spare, IsSized}
 use Rattle.bt_wire.proofs.NumberLaws.{number32-be32}
 use Rattle.bt_wire.proofs.SpellLaws.{shape_in, IsRow}
 

@@ -1,10 +1,12 @@
 -- Why a value may not be sent.
 use Rattle.std.proofs.Common.{◌≡◌, ℕ, ◌^◌, ◌≤◌, ◌<◌, List, [], ◌++◌, map, length, Option, Some, None, refl, sym, ap, subst, ◌∙◌, arith, inr, true}
 use Rattle.std.proofs.lemmas.List.{append-nil}
-use Rattle.std.specs.Prelude.{MatchOption, option_and_then}
+use Rattle.std.specs.Prelude.{MatchOption, option_and_then, option_map}
 use Rattle.bt_ext.specs.declared.ext.Ext.{Ext}
 use Rattle.bt_ext.specs.declared.ext.ViewError.{ViewError}
 use Rattle.bt_ext.specs.declared.ext.ViewError.TheVariants as error
+use Rattle.bt_ext.specs.declared.ext.ExtReason.{ExtReason}
+use Rattle.bt_ext.specs.declared.ext.ExtReason.TheVariants as reason
 use Rattle.bt_ext.specs.declared.ids.Registered.{Registered}
 use Rattle.bt_ext.specs.declared.ids.Rules.{Rules}
 use Rattle.bt_ext.specs.Payloads.{IsExt, HasSpelling}
@@ -20,17 +22,17 @@ use Rattle.bt_wire.specs.declared.message.Message.TheVariants as m
 use Rattle.bt_wire.specs.Ids.{kind_of}
 use Rattle.bt_wire.specs.Messages.{Fields, id_of, fields_of, body, spell, IsShaped, AreInRange, IsIdInRange, IsInRange}
 use Rattle.bt_wire.specs.Tables.{first_fault}
-use Rattle.bt_wire.specs.Faults.{is_strict, is_whole, has_id, window, id_rules, id_row, header_fault, said_ext_id, said_payload, placed_by, IsWindowFault,
-    in_fields, in_payload, IsFault, early, whole}
+use Rattle.bt_wire.specs.Faults.{is_strict, is_whole, has_id, window, id_rules, id_row, header_fault, said_ext_id, said_payload, placed_by, index_fault,
+    IsWindowFault, in_fields, in_payload, in_bytes, in_index, IsFault, early, whole}
 use Rattle.bt_wire.specs.Legal.{IsLegal, IsAllowed, IsRefusedFor}
 use Rattle.bt_wire.specs.Rules.{broken_any}
-use Rattle.bt_wire.specs.Parts.{broken_field, IsJudged}
+use Rattle.bt_wire.specs.Parts.{broken_field, reason_from, IsJudged, IsJudgedExt, fine, beyond, faulty}
 use Rattle.bt_wire.proofs.RuleLaws.{AreKept, unbroken, unbroken_kept, none_broken, legal_unbroken, fields_sound, sound_fields}
 use Rattle.bt_wire.proofs.RowLaws.{first_fault-none}
 use Rattle.bt_wire.proofs.HeaderLaws.{none_by_id, id_empty}
 use Rattle.bt_wire.proofs.SpellLaws.{said_length-spell, spelled_first, right_row, spelled_ext}
 use Rattle.bt_wire.proofs.ExtLaws.{IsOfValue, fault_of_value}
-use Rattle.bt_wire.proofs.WindowLaws.{early_header, never, no_body, broken-spell, limited-spell, rows-spell, id_spell, extended_rows}
+use Rattle.bt_wire.proofs.WindowLaws.{fine_index, index_fine, early_header, never, no_body, broken-spell, limited-spell, rows-spell, id_spell, extended_rows}
 
 -- ---- what the rules on the id say
 
@@ -114,6 +116,7 @@ refused_fields c o m f shaped range lt short none broken = whole_value c o m (So
 
 value_refused : (reg : Registered) (r : Rules) (e : Ext) (id : ℕ) (p : List ℕ) (f : ViewError) → IsExt reg e id p → fault_of r e ≡ Some f
     → ext.Refuses reg r id p f
+value_refused reg r e id p error.BadExtLength x h = let P : Option ViewError → Type 0 = λ o. IsOfValue o in absurd (subst P h (fault_of_value r e))
 value_refused reg r e id p (error.BadBencode at) x h = let P : Option ViewError → Type 0 = λ o. IsOfValue o in absurd (subst P h (fault_of_value r e))
 value_refused reg r e id p (error.Unsorted at) x h = record { value = e; is = x; faulty = h }
 value_refused reg r e id p error.BadField x h = record { value = e; is = x; faulty = h }
@@ -126,8 +129,18 @@ ext_refused c o e f shaped lt short none h =
     let w = spell c (m.Extended e) in
     let there : has_id w ≡ true = ap has_id (sym (append-nil w)) ∙ id_spell c (m.Extended e) [] 20 lt refl in
     whole_value c o (m.Extended e) (Some (placed_by f)) lt short none
-    (in_payload (extended_rows c w refl) (rw there refl) (Some f) (value_refused c.reg c.rules e (said_ext_id w) (said_payload w) f
-        (spelled_ext c.reg e shaped) h) refl)
+    (in_payload (extended_rows c w refl) (rw there refl) (in_bytes f (value_refused c.reg c.rules e (said_ext_id w) (said_payload w) f
+        (spelled_ext c.reg e shaped) h) refl))
+
+-- an index that isn't below the known piece count
+index_refused : (c : Context) (o : Order) (e : Ext) (f : Refused) → HasSpelling c.reg e → length (body c (m.Extended e)) < 2 ^ 32
+    → length (body c (m.Extended e)) ≤ c.limit → broken_any c o (Some 20) (length (body c (m.Extended e))) ≡ None
+    → Allows c.rules e → index_fault c.pieces e ≡ Some f → IsFault c o 0 (spell c (m.Extended e)) (Some f)
+index_refused c o e f shaped lt short none allowed h =
+    let w = spell c (m.Extended e) in
+    let there : has_id w ≡ true = ap has_id (sym (append-nil w)) ∙ id_spell c (m.Extended e) [] 20 lt refl in
+    whole_value c o (m.Extended e) (Some f) lt short none
+    (in_payload (extended_rows c w refl) (rw there refl) (in_index e (record { is = spelled_ext c.reg e shaped; allowed = allowed }) (sym h)))
 
 -- the rules' answer on a value of which nothing else is wrong
 record IsAnswered (c : Context) (o : Order) (msg : Message) (r : Reason) : Type 0 where
@@ -136,17 +149,27 @@ record IsAnswered (c : Context) (o : Order) (msg : Message) (r : Reason) : Type 
 
 answered : (c : Context) (o : Order) (msg : Message) (r : Reason) → IsShaped c msg → length (body c msg) < 2 ^ 32 → length (body c msg) ≤ c.limit
     → broken_any c o (id_of msg) (length (body c msg)) ≡ None → IsJudged c msg (Some r) → IsAnswered c o msg r
-answered c o (m.Extended e) r shaped lt short none j =
-    let f = j.0 in
-    let P : Reason → Type 0 = λ x. IsFault c o 0 (spell c (m.Extended e)) (Some (record { at = (placed_by f).at; reason = x })) in
+answered c o (m.Extended e) r shaped lt short none (fine a i is) = absurd cc
+answered c o (m.Extended e) r shaped lt short none (beyond f a i is) =
+    let P : Reason → Type 0 = λ x. IsFault c o 0 (spell c (m.Extended e)) (Some (record { at = f.at; reason = x })) in
+    let same : f.reason ≡ r = cc in
     record {
-      illegal = λ legal. absurd (let clean = faultless c.rules e legal.allowed in let bad = sym clean ∙ j.1 in cc);
-      refused = ((placed_by f).at, subst P j.2 (ext_refused c o e f shaped lt short none j.1));
+      illegal = λ legal. absurd (let none = index_fine c.pieces e legal.allowed.1 in let bad = sym none ∙ i in cc);
+      refused = (f.at, subst P same (index_refused c o e f shaped lt short none a i));
+    }
+answered c o (m.Extended e) r shaped lt short none (faulty f h is) =
+    let P : Reason → Type 0 = λ x. IsFault c o 0 (spell c (m.Extended e)) (Some (record { at = (placed_by f).at; reason = x })) in
+    let same : (placed_by f).reason ≡ r = cc in
+    record {
+      illegal = λ legal. absurd (let clean = faultless c.rules e legal.allowed.0 in let bad = sym clean ∙ h in cc);
+      refused = ((placed_by f).at, subst P same (ext_refused c o e f shaped lt short none h));
     }
 answered c o msg r shaped lt short none j = absurd cc
 
 allowed_by : (c : Context) (msg : Message) → IsJudged c msg None → IsAllowed c msg
-allowed_by c (m.Extended e) j = j
+allowed_by c (m.Extended e) (fine a i is) = (a, fine_index c.pieces e i)
+allowed_by c (m.Extended e) (beyond f a i is) = absurd cc
+allowed_by c (m.Extended e) (faulty f h is) = absurd cc
 allowed_by c msg j = tt
 
 pub judged : (c : Context) (o : Order) (msg : Message) (r : Option Reason) → IsShaped c msg → length (body c msg) < 2 ^ 32 → length (body c msg) ≤ c.limit
@@ -158,6 +181,7 @@ judged c o msg (Some r) shaped lt short none fields j = let a = answered c o msg
 -- no reason is given where the rules allow the value
 no_reason : (f : Option ViewError) → IsOfValue f → None ≡ option_and_then reason_by f → f ≡ None
 no_reason None v h = refl
+no_reason (Some error.BadExtLength) v h = absurd v
 no_reason (Some (error.BadBencode at)) v h = absurd v
 no_reason (Some (error.Unsorted at)) v h = absurd cc
 no_reason (Some error.BadField) v h = absurd cc
@@ -165,6 +189,34 @@ no_reason (Some (error.BadBlock at)) v h = absurd cc
 
 pub unrefused : (r : Rules) (e : Ext) → None ≡ reason_of r e → Allows r e
 unrefused r e h = allowed r e (no_reason (fault_of r e) (fault_of_value r e) h)
+
+-- the reason of an index
+index_by : (c : Context) (e : Ext) (r : Option Reason) (o : Option Refused) → Allows c.rules e → index_fault c.pieces e ≡ o
+    → r ≡ option_map (λ (f : Refused). f.reason) o → IsJudgedExt c e r
+index_by c e r None a i h = fine a i h
+index_by c e r (Some f) a i h = beyond f a i h
+
+pub index_judged : (c : Context) (e : Ext) (r : Option Reason) → None ≡ reason_of c.rules e
+    → r ≡ option_map (λ (f : Refused). f.reason) (index_fault c.pieces e) → IsJudgedExt c e r
+index_judged c e r none h = index_by c e r (index_fault c.pieces e) (unrefused c.rules e none) refl h
+
+-- and that of the rules
+judged_by : (c : Context) (e : Ext) (f : Option ViewError) (x : ExtReason) → fault_of c.rules e ≡ f → Some x ≡ option_and_then reason_by f
+    → IsJudgedExt c e (Some (reason_from x))
+judged_by c e None x is h = absurd cc
+judged_by c e (Some error.BadExtLength) x is h = absurd cc
+judged_by c e (Some (error.BadBencode at)) x is h = absurd cc
+judged_by c e (Some (error.Unsorted at)) x is h =
+    let same : x ≡ reason.Unsorted = cc in faulty (error.Unsorted at) is (ap (λ (y : ExtReason). Some (reason_from y)) same)
+judged_by c e (Some error.BadField) x is h =
+    let same : x ≡ reason.BadField = cc in faulty error.BadField is (ap (λ (y : ExtReason). Some (reason_from y)) same)
+judged_by c e (Some (error.BadBlock at)) x is h =
+    let same : x ≡ reason.BadBlock = cc in faulty (error.BadBlock at) is (ap (λ (y : ExtReason). Some (reason_from y)) same)
+
+pub reason_judged : (c : Context) (e : Ext) (x : ExtReason) (r : Reason) → Some x ≡ reason_of c.rules e → r ≡ reason_from x → IsJudgedExt c e (Some r)
+reason_judged c e x r h is =
+    let P : Reason → Type 0 = λ s. IsJudgedExt c e (Some s) in
+    subst P (sym is) (judged_by c e (fault_of c.rules e) x refl h)
 
 -- ---- what calls gave
 

@@ -1,15 +1,16 @@
 -- A window with no fault is the spelling of a message that may be sent, and such a spelling has no fault.
 use Rattle.std.proofs.Common.{◌≡◌, ℕ, suc, ◌^◌, ◌≤◌, ◌<◌, Bool, true, false, eqb, ltb, ◌&&◌, List, [], ◌∷◌, ◌++◌, map, length, drop, Option, Some, None,
-    refl, sym, ap, subst, ◌∙◌, arith, inl, inr}
+    if◌then◌else◌, refl, sym, ap, subst, ◌∙◌, arith, inl, inr}
 use Rattle.std.proofs.lemmas.Bool.{cases_lt, and_cases, and_left, and_right, and_parts, cases_eq, eqb-true, eq-eqb, ne_eqb, leb-true, ltb-false, leb-false,
     le-leb, lt-leb, le-ltb, lt-ltb}
 use Rattle.std.proofs.lemmas.List.{append-nil, length-append, length-drop, length-take-le, take_all, drop_more}
 use Rattle.std.specs.Prelude.{option_map, unwrap_or, IsSome}
 use Rattle.bt_ext.specs.declared.ext.Ext.{Ext}
 use Rattle.bt_ext.specs.declared.ext.ViewError.{ViewError}
-use Rattle.bt_ext.specs.Payloads.{IsExt, HasSpelling, ext_id, payload_of}
+use Rattle.bt_ext.specs.Payloads.{IsExt, HasSpelling, ext_id, index_of, payload_of}
 use Rattle.bt_ext.specs.Faults.{Allows}
 use Rattle.bt_ext.specs.Faults as ext
+use Rattle.bt_ext.proofs.OneExt.{same_ext}
 use Rattle.bt_ext.proofs.OneFault.{one_fault as ext_fault_once}
 use Rattle.bt_wire.specs.declared.context.Context.{Context}
 use Rattle.bt_wire.specs.declared.context.Order.{Order}
@@ -23,7 +24,8 @@ use Rattle.bt_wire.specs.Ids.{kind_of, shape_by}
 use Rattle.bt_wire.specs.Messages.{Fields, id_of, fields_of, framed, spell_fields, body, spell, IsShaped, IsInRange}
 use Rattle.bt_wire.specs.Tables.{first_fault}
 use Rattle.bt_wire.specs.Faults.{said_length, said_id, has_length, has_id, is_whole, window, window_length, allows, size_of, is_strict, id_rules, id_row,
-    header_rows, header_fault, early_fault, field_rows, is_extended, said_ext_id, said_payload, placed_by, IsWindowFault, in_fields, in_none, in_payload,
+    header_rows, header_fault, early_fault, field_rows, is_extended, said_ext_id, said_payload, placed_by, is_index_beyond, index_fault,
+    IsPayloadFault, in_bytes, in_index, IsWindowFault, in_fields, in_none, in_payload,
     IsFault, early, unfinished, whole}
 use Rattle.bt_wire.specs.Legal.{IsLegal, IsAllowed, IsSaid, Refuses}
 use Rattle.bt_wire.specs.Headers.{IsWindow, IsRead}
@@ -203,11 +205,28 @@ extended_there c o w h long e = rw (window_id c o w h long, eq-eqb (said_id w) 2
 
 pub payload_fault : (c : Context) (o : Order) (w : List ℕ) (f : ViewError) → IsWindow c o w → 5 ≤ length w → said_id w ≡ 20
     → ext.Refuses c.reg c.rules (said_ext_id w) (said_payload w) f → IsFault c o 0 w (Some (placed_by f))
-payload_fault c o w f h long e p = in_window c o w (Some (placed_by f)) h (in_payload (extended_rows c w e) (extended_there c o w h long e) (Some f) p refl)
+payload_fault c o w f h long e p = in_window c o w (Some (placed_by f)) h (in_payload (extended_rows c w e) (extended_there c o w h long e)
+    (in_bytes f p refl))
+
+-- an extended value's index has no fault exactly if it is below the known piece count
+none_if : (b : Bool) (f : Refused) → (if b then Some f else None) ≡ None → b ≡ false
+none_if true f e = absurd cc
+none_if false f e = refl
+
+pub fine_index : (pieces : Option ℕ) (v : Ext) → index_fault pieces v ≡ None → is_index_beyond pieces (index_of v) ≡ false
+fine_index pieces v e = none_if _ _ e
+
+pub index_fine : (pieces : Option ℕ) (v : Ext) → is_index_beyond pieces (index_of v) ≡ false → index_fault pieces v ≡ None
+index_fine pieces v e = rw e refl
+
+pub index_found : (c : Context) (o : Order) (w : List ℕ) (v : Ext) (f : Refused) → IsWindow c o w → 5 ≤ length w → said_id w ≡ 20
+    → ext.Reads c.reg c.rules (said_ext_id w) (said_payload w) v → index_fault c.pieces v ≡ Some f → IsFault c o 0 w (Some f)
+index_found c o w v f h long e r i = in_window c o w (Some f) h (in_payload (extended_rows c w e) (extended_there c o w h long e) (in_index v r (sym i)))
 
 pub extended_read : (c : Context) (o : Order) (w : List ℕ) (v : Ext) → AreBytes w → IsWindow c o w → 6 ≤ length w → said_id w ≡ 20
-    → ext.Reads c.reg c.rules (said_ext_id w) (said_payload w) v → IsRead c o w (m.Extended v)
-extended_read c o w v bytes h long e r = fields_read c o w (m.Extended v) h (omega arith) (extended_found c o w v bytes h long e r.is) r.allowed refl
+    → ext.Reads c.reg c.rules (said_ext_id w) (said_payload w) v → index_fault c.pieces v ≡ None → IsRead c o w (m.Extended v)
+extended_read c o w v bytes h long e r i = fields_read c o w (m.Extended v) h (omega arith) (extended_found c o w v bytes h long e r.is)
+    (r.allowed, fine_index c.pieces v i) refl
 
 -- the fault of the fields that a call gave
 pub same_fields : (c : Context) (k n : ℕ) (f : Fields) (a b : Message) (r : Option Refused) → k ≡ n → f ≡ fields_of c a → a ≡ b → r
@@ -239,10 +258,6 @@ no_fault_there c o w h (early g e p) = absurd cc
 no_fault_there c o w h (unfinished e part p) = absurd (let all = whole_there w (omega (arith, h.exact)) in cc)
 no_fault_there c o w h (whole e there p) = let P : List ℕ → Type 0 = λ x. IsWindowFault c x None in subst P (window_same c o w h) p
 
-none_placed : (e : Option ViewError) → None ≡ option_map placed_by e → e ≡ None
-none_placed None h = refl
-none_placed (Some f) h = absurd cc
-
 read_there : (c : Context) (o : Order) (w : List ℕ) → AreBytes w → IsWindow c o w → 5 ≤ length w → IsWindowFault c w None → (m : Message) × IsRead c o w m
 read_there c o w bytes h long (in_fields g e p) = absurd cc
 read_there c o w bytes h long (in_none none not p) =
@@ -250,11 +265,10 @@ read_there c o w bytes h long (in_none none not p) =
     let msg = made (said_id w) (drop 5 w) in
     let f = fields_found c o w bytes h long plain in
     (msg, fields_read c o w msg h long f (plain_allowed c msg (said_id w) f.its_part.id plain) (sym (found_rows c o w msg h long f) ∙ none))
-read_there c o w bytes h long (in_payload none there e p is) =
+read_there c o w bytes h long (in_payload none there (in_bytes e p is)) = absurd cc
+read_there c o w bytes h long (in_payload none there (in_index v r is)) =
     let twenty : said_id w ≡ 20 = eqb-true (said_id w) 20 (and_parts (has_id w) (eqb (said_id w) 20) there).1 in
-    let P : Option ViewError → Type 0 = λ x. ext.IsFault c.reg c.rules (said_ext_id w) (said_payload w) x in
-    let read = subst P (none_placed e is) p in
-    (m.Extended read.0, extended_read c o w read.0 bytes h (extended_long c o w h long twenty) twenty read.1)
+    (m.Extended v, extended_read c o w v bytes h (extended_long c o w h long twenty) twenty r (sym is))
 
 pub window_read : (c : Context) (o : Order) (w : List ℕ) → AreBytes w → IsWindow c o w → IsFault c o 0 w None → (m : Message) × IsRead c o w m
 window_read c o w bytes h none =
@@ -346,12 +360,12 @@ plain_spell c m (Some n) shaped lt plain e =
     absurd (let none = sym plain ∙ bad in cc) in
     and_right (has_id w) (eqb (said_id w) 20) (ne_eqb (said_id w) 20 other)
 
-ext_spell : (c : Context) (e : Ext) → HasSpelling c.reg e → Allows c.rules e → length (body c (m.Extended e)) < 2 ^ 32
+ext_spell : (c : Context) (e : Ext) → HasSpelling c.reg e → IsAllowed c (m.Extended e) → length (body c (m.Extended e)) < 2 ^ 32
     → first_fault (field_rows c (spell c (m.Extended e))) ≡ None → IsWindowFault c (spell c (m.Extended e)) None
 ext_spell c e shaped allowed lt none =
     let w = spell c (m.Extended e) in
     let there : has_id w ≡ true = ap has_id (sym (append-nil w)) ∙ id_spell c (m.Extended e) [] 20 lt refl in
-    in_payload none (rw there refl) None (e, record { is = spelled_ext c.reg e shaped; allowed = allowed }) refl
+    in_payload none (rw there refl) (in_index e (record { is = spelled_ext c.reg e shaped; allowed = allowed.0 }) (sym (index_fine c.pieces e allowed.1)))
 
 quiet_by : (c : Context) (m : Message) (x : Option Ext) → IsShaped c m → IsAllowed c m → length (body c m) < 2 ^ 32 → first_fault (field_rows c (spell c m))
     ≡ None → ext_of m ≡ x → IsWindowFault c (spell c m) None
@@ -376,17 +390,26 @@ fault-spell c o s m r lt said =
 
 -- ---- bytes have one fault, which stays
 
+one_payload_fault : (c : Context) (id : ℕ) (p : List ℕ) (f g : Option Refused) → IsPayloadFault c id p f → IsPayloadFault c id p g → f ≡ g
+one_payload_fault c id p f g (in_bytes a h is) (in_bytes b k also) =
+    is ∙ ap (option_map placed_by) (ext_fault_once c.reg c.rules id p (Some a) (Some b) h k) ∙ sym also
+one_payload_fault c id p f g (in_bytes a h is) (in_index w k also) =
+    absurd (let same = ext_fault_once c.reg c.rules id p (Some a) None h (w, k) in cc)
+one_payload_fault c id p f g (in_index v h is) (in_bytes b k also) =
+    absurd (let same = ext_fault_once c.reg c.rules id p None (Some b) (v, h) k in cc)
+one_payload_fault c id p f g (in_index v h is) (in_index w k also) =
+    is ∙ ap (index_fault c.pieces) (same_ext c.reg v w id p h.is k.is) ∙ sym also
+
 one_window_fault : (c : Context) (w : List ℕ) (f g : Option Refused) → IsWindowFault c w f → IsWindowFault c w g → f ≡ g
 one_window_fault c w f g (in_fields x e p) (in_fields y d q) = cc
 one_window_fault c w f g (in_fields x e p) (in_none d not q) = absurd cc
-one_window_fault c w f g (in_fields x e p) (in_payload d there b k q) = absurd cc
+one_window_fault c w f g (in_fields x e p) (in_payload d there q) = absurd cc
 one_window_fault c w f g (in_none e not p) (in_fields y d q) = absurd cc
 one_window_fault c w f g (in_none e not p) (in_none d not' q) = p ∙ sym q
-one_window_fault c w f g (in_none e not p) (in_payload d there b k q) = absurd cc
-one_window_fault c w f g (in_payload e there a h p) (in_fields y d q) = absurd cc
-one_window_fault c w f g (in_payload e there a h p) (in_none d not q) = absurd cc
-one_window_fault c w f g (in_payload e there a h p) (in_payload d there' b k q) =
-    p ∙ ap (option_map placed_by) (ext_fault_once c.reg c.rules (said_ext_id w) (said_payload w) a b h k) ∙ sym q
+one_window_fault c w f g (in_none e not p) (in_payload d there q) = absurd cc
+one_window_fault c w f g (in_payload e there p) (in_fields y d q) = absurd cc
+one_window_fault c w f g (in_payload e there p) (in_none d not q) = absurd cc
+one_window_fault c w f g (in_payload e there p) (in_payload d there' q) = one_payload_fault c (said_ext_id w) (said_payload w) f g p q
 
 pub one_fault : (c : Context) (o : Order) (s : ℕ) (b : List ℕ) (f g : Option Refused) → IsFault c o s b f → IsFault c o s b g → f ≡ g
 one_fault c o s b f g (early x e p) (early y d q) = cc

@@ -4,7 +4,7 @@ use Rattle.std.specs.Prelude.{◌≡◌, ◌==◌, ℕ, ◌+◌, ◌^◌, Bool, 
 use Rattle.bt_wire.specs.declared.context.Context.{Context}
 use Rattle.bt_wire.specs.declared.context.Order.{Order}
 use Rattle.bt_wire.specs.declared.fault.Reason.{Reason}
-use Rattle.bt_wire.specs.declared.fault.Reason.TheVariants.{TooLong, UnknownId, NotNegotiated, WrongLength, BadIndex, SpareBits, Late, Missing, BadBencode,
+use Rattle.bt_wire.specs.declared.fault.Reason.TheVariants.{TooLong, UnknownId, NotNegotiated, WrongLength, BadIndex, SpareBits, BadExtLength, Late, Missing, BadBencode,
     Unsorted, BadField, BadBlock, StreamFull}
 use Rattle.bt_wire.specs.declared.fault.Refused.{Refused}
 use Rattle.bt_wire.specs.declared.ids.Kind.{Kind}
@@ -17,6 +17,8 @@ use Rattle.bt_ext.specs.declared.ids.Rules.TheVariants.{Free, Bep}
 use Rattle.bt_ext.specs.declared.ext.ViewError.{ViewError}
 use Rattle.bt_ext.specs.declared.ext.ViewError.TheVariants as error
 use Rattle.bt_ext.specs.Faults as ext
+use Rattle.bt_ext.specs.declared.ext.Ext.{Ext}
+use Rattle.bt_ext.specs.Payloads.{index_of}
 use Rattle.bt_wire.specs.declared.context.Order.TheVariants.{Fresh, Past}
 use Rattle.bt_wire.specs.Bitfields.{field_bytes, has_spare}
 use Rattle.bt_wire.specs.Numbers.{number32}
@@ -124,6 +126,11 @@ abbrev pub is_beyond : Option ℕ → ℕ → Bool
 is_beyond None index = false
 is_beyond (Some pieces) index = nat_le pieces index
 
+-- the same of an index that may be there
+abbrev pub is_index_beyond : Option ℕ → Option ℕ → Bool
+is_index_beyond pieces None = false
+is_index_beyond pieces (Some i) = is_beyond pieces i
+
 -- the shapes whose fields begin with a piece index
 abbrev pub has_index : Option Shape → Bool
 has_index None = false
@@ -199,18 +206,27 @@ said_payload w = drop payload_at w
 
 -- the fault of a payload, by its place in the message
 abbrev pub placed_by : ViewError → Refused
+placed_by error.BadExtLength = record { at = payload_at; reason = BadExtLength }
 placed_by (error.BadBencode at) = record { at = payload_at + at; reason = BadBencode }
 placed_by (error.Unsorted at) = record { at = payload_at + at; reason = Unsorted }
 placed_by error.BadField = record { at = payload_at; reason = BadField }
 placed_by (error.BadBlock at) = record { at = payload_at + at; reason = BadBlock }
 
+-- the fault of an extended value that is a piece index: one that isn't below the known piece count
+abbrev pub index_fault : Option ℕ → Ext → Option Refused
+index_fault pieces e = if is_index_beyond pieces (index_of e) then Some (record { at = payload_at; reason = BadIndex }) else None
+
+-- the fault, if any, of an extended payload: it is that of no value that the rules allow, or one of the value's index
+pub data IsPayloadFault (c : Context) (id : ℕ) (payload : List ℕ) (f : Option Refused) : Type 0 where
+  in_bytes : (e : ViewError) → ext.Refuses c.reg c.rules id payload e → f ≡ Some (placed_by e) → IsPayloadFault c id payload f
+  in_index : (v : Ext) → ext.Reads c.reg c.rules id payload v → f ≡ index_fault c.pieces v → IsPayloadFault c id payload f
+
 -- the fault, if any, of the whole message w that has no early one: one of its fields, or else of its extended payload
 pub data IsWindowFault (c : Context) (w : List ℕ) (f : Option Refused) : Type 0 where
   in_fields : (g : Refused) → first_fault (field_rows c w) ≡ Some g → f ≡ Some g → IsWindowFault c w f
   in_none : first_fault (field_rows c w) ≡ None → is_extended w ≡ false → f ≡ None → IsWindowFault c w f
-  in_payload : first_fault (field_rows c w) ≡ None → is_extended w ≡ true → (e : Option ViewError) → ext.IsFault c.reg c.rules (said_ext_id w)
-      (said_payload w) e
-      → f ≡ option_map placed_by e → IsWindowFault c w f
+  in_payload : first_fault (field_rows c w) ≡ None → is_extended w ≡ true → IsPayloadFault c (said_ext_id w) (said_payload w) f
+      → IsWindowFault c w f
 
 -- the fault, if any, of the message that begins b and starts at s: an early one, or else that of the whole message, once
 -- it is there

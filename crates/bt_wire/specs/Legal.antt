@@ -4,6 +4,7 @@ use Rattle.std.specs.Global.{Vec}
 use Rattle.bt_wire.specs.declared.context.Context.{Context}
 use Rattle.bt_wire.specs.declared.context.Order.{Order}
 use Rattle.bt_ext.specs.Faults.{Allows}
+use Rattle.bt_ext.specs.Payloads.{index_of}
 use Rattle.bt_wire.specs.Messages.{Message}
 use Rattle.bt_wire.specs.declared.message.Message.TheVariants as m
 use Rattle.bt_wire.specs.declared.fault.Fault.{Fault}
@@ -14,17 +15,18 @@ use Rattle.bt_wire.specs.declared.fault.EncodeError.{EncodeError}
 use Rattle.bt_wire.specs.declared.fault.EncodeError.TheVariants as encode
 use Rattle.bt_wire.specs.Bitfields.{has_spare}
 use Rattle.bt_wire.specs.Messages.{body, spell, fields_of, kind_in, index_in, field_in, is_payload, IsShaped, IsInRange}
-use Rattle.bt_wire.specs.Faults.{IsFault, allows, field_size, is_agreed, is_beyond, is_strict, is_late, is_missing}
+use Rattle.bt_wire.specs.Faults.{IsFault, allows, field_size, is_agreed, is_beyond, is_index_beyond, is_strict, is_late, is_missing}
 
--- the rules allow an extended value (BEP 3, BEP 9, BEP 10)
+-- the rules allow an extended value (BEP 3, BEP 9, BEP 10), and the piece index that it may be is below the known piece count
 abbrev pub IsAllowed : Context → Message → Type 0
-IsAllowed c (m.Extended e) = Allows c.rules e
+IsAllowed c (m.Extended e) = Allows c.rules e × (is_index_beyond c.pieces (index_of e) ≡ false)
 IsAllowed c msg = ⊤
 
 -- it has a spelling of its own, that isn't above the limit; both ends have agreed on the extension that it needs; where the
 -- piece count is known, its piece index is below it, and a bitfield has a bit for each piece and no other that is 1; and
 -- under the strict rules its id has a meaning, bitfield, have all and have none come first, as they do where the Fast
--- Extension is on, and an extended value's dictionary, fields and block are as the rules want them
+-- Extension is on, and an extended value's dictionary, fields and block are as the rules want them, or its piece index is below
+-- the piece count
 pub record IsLegal (c : Context) (o : Order) (m : Message) : Type 0 where
   pub shaped : IsShaped c m
   pub short : length (body c m) ≤ c.limit

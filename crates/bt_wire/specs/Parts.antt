@@ -10,14 +10,16 @@ use Rattle.bt_wire.specs.Messages.{Message}
 use Rattle.bt_wire.specs.declared.message.Message.TheVariants as m
 use Rattle.bt_ext.specs.Faults.{Allows, fault_of}
 use Rattle.bt_ext.specs.declared.ext.Ext.{Ext}
+use Rattle.bt_ext.specs.declared.ext.ExtReason.{ExtReason}
+use Rattle.bt_ext.specs.declared.ext.ExtReason.TheVariants as reasons
 use Rattle.bt_wire.specs.declared.fault.Reason.{Reason}
-use Rattle.bt_wire.specs.declared.fault.Reason.TheVariants.{BadIndex, SpareBits}
+use Rattle.bt_wire.specs.declared.fault.Reason.TheVariants.{BadIndex, SpareBits, Unsorted, BadField, BadBlock}
 use Rattle.bt_wire.specs.declared.fault.Refused.{Refused}
 use Rattle.bt_wire.specs.Bitfields.{has_spare}
 use Rattle.bt_wire.specs.Numbers.{number16, number32}
 use Rattle.bt_wire.specs.Ids.{kind_of}
 use Rattle.bt_wire.specs.Messages.{Fields, none, index, part, block, port, field, payload, index_in, field_in}
-use Rattle.bt_wire.specs.Faults.{allows, field_size, fields_at, is_beyond, placed_by}
+use Rattle.bt_wire.specs.Faults.{allows, field_size, fields_at, is_index_beyond, placed_by, index_fault}
 
 -- the fields of a shape that bytes are; of an extended message bytes are read apart
 abbrev pub reading : Shape → List ℕ → Fields
@@ -85,10 +87,6 @@ made n bytes = named (kind_of n) n bytes
 
 -- ---- the fault of fields, where the message has this length
 
-abbrev pub is_index_beyond : Option ℕ → Option ℕ → Bool
-is_index_beyond pieces None = false
-is_index_beyond pieces (Some i) = is_beyond pieces i
-
 abbrev pub is_field_spare : Option ℕ → Option (List ℕ) → Bool
 is_field_spare pieces None = false
 is_field_spare pieces (Some bits) = has_spare pieces bits
@@ -105,6 +103,7 @@ IsSized pieces f = IfSome (field_in f) (λ bits. allows (field_size pieces) (suc
 
 -- the place of a payload's fault
 abbrev pub place_in : ViewError → ℕ
+place_in error.BadExtLength = 0
 place_in (error.BadBencode at) = at
 place_in (error.Unsorted at) = at
 place_in error.BadField = 0
@@ -122,10 +121,17 @@ bound_of used =
     else if used == 7 then 2
     else 1
 
--- the rules allow an extended value, or it has a fault for this reason
-abbrev pub IsJudgedExt : Context → Ext → Option Reason → Type 0
-IsJudgedExt c e None = Allows c.rules e
-IsJudgedExt c e (Some reason) = (fault : ViewError) × (fault_of c.rules e ≡ Some fault) × ((placed_by fault).reason ≡ reason)
+-- the reason of a message for that of its extended value
+abbrev pub reason_from : ExtReason → Reason
+reason_from reasons.Unsorted = Unsorted
+reason_from reasons.BadField = BadField
+reason_from reasons.BadBlock = BadBlock
+
+-- the rules allow an extended value with this index, or it has a fault for this reason
+pub data IsJudgedExt (c : Context) (e : Ext) (r : Option Reason) : Type 0 where
+  fine : Allows c.rules e → index_fault c.pieces e ≡ None → r ≡ None → IsJudgedExt c e r
+  beyond : (f : Refused) → Allows c.rules e → index_fault c.pieces e ≡ Some f → r ≡ Some f.reason → IsJudgedExt c e r
+  faulty : (fault : ViewError) → fault_of c.rules e ≡ Some fault → r ≡ Some ((placed_by fault).reason) → IsJudgedExt c e r
 
 abbrev pub IsJudged : Context → Message → Option Reason → Type 0
 IsJudged c (m.Extended e) r = IsJudgedExt c e r

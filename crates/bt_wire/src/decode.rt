@@ -1,6 +1,7 @@
 //! One message read from its bytes. A feed reads its items by it.
 ghost use Rattle.std.specs.Prelude.{◌≡◌, ◌≢◌, ◌<◌, ◌^◌, ◌+◌, ◌∷◌, ◌≤◌, ◌-◌, length, drop, IfOk, IfErr, true, Some};
-ghost use Rattle.bt_wire.specs.Faults.{IsFault, said_id, allows, size_of, placed_by};
+ghost use Rattle.bt_wire.specs.Faults.{IsFault, said_id, allows, size_of, placed_by, index_fault};
+ghost use Rattle.bt_ext.specs.Payloads.{seen};
 ghost use Rattle.bt_wire.specs.Headers.{header_of, IsWindow, IsRead, RefusesWindow};
 ghost use Rattle.bt_wire.specs.declared.context.Context.{Context};
 ghost use Rattle.bt_wire.specs.declared.fault.Header.TheVariants as headers;
@@ -17,14 +18,14 @@ use crate::message::{Message, MessageView};
 use crate::numbers::{number_at_front, port_at_front};
 use crate::slices::behind;
 use bt_bencode::ByteString;
-use bt_ext::{ViewError, copy_ext, view_ext};
+use bt_ext::{ExtView, ViewError, copy_ext, view_ext};
 use std::alloc::{AllocError, Global};
 
 /// Reads the bytes of one message as parts of them, where `judge_header` lets them be a window. It takes no memory.
 ///
 /// # Errors
 /// The first fault of the fields, and its place in the message: `BadIndex` or `SpareBits`, and of an extended message
-/// `BadBencode`, `Unsorted`, `BadField` or `BadBlock`, in this order.
+/// `BadIndex`, `BadExtLength`, `BadBencode`, `Unsorted`, `BadField` or `BadBlock`, in this order.
 #[inline(always)]
 pub fn view_window<'a>(
     context: &Context,
@@ -73,8 +74,24 @@ fn view_extended<'a>(
     ensures err { IfErr result (λ f. IsFault context.now _order 0 window.now (Some f)) }
 {
     match view_ext(context.reg, context.rules, window[5], behind(window, 6)) {
-        Ok(view) => Ok(MessageView::Extended(view)),
+        Ok(view) => match judge_view(context.pieces, &view) {
+            None => Ok(MessageView::Extended(view)),
+            Some(beyond) => Err(beyond),
+        },
         Err(fault) => Err(placed(fault, window.len())),
+    }
+}
+
+/// The fault of an extended value whose piece index isn't below the known piece count.
+fn judge_view(pieces: Option<u32>, view: &ExtView) -> Option<Refused>
+    ensures { result ≡ index_fault pieces (seen view.now) }
+{
+    match (pieces, view) {
+        (Some(pieces), ExtView::DontHave(index)) if *index >= pieces => Some(Refused {
+            at: PAYLOAD_AT,
+            reason: Reason::BadIndex,
+        }),
+        _ => None,
     }
 }
 
@@ -84,6 +101,10 @@ fn placed(fault: ViewError, _length: usize) -> Refused
     ensures { result ≡ placed_by fault }
 {
     match fault {
+        ViewError::BadExtLength => Refused {
+            at: PAYLOAD_AT,
+            reason: Reason::BadExtLength,
+        },
         ViewError::BadBencode { at } => Refused {
             at: PAYLOAD_AT + at as u64,
             reason: Reason::BadBencode,

@@ -1,10 +1,11 @@
 //! What is legal, and the bytes of a legal message. Ends and callers that write messages call it.
-ghost use Rattle.std.specs.Prelude.{◌≡◌, ◌↔◌, ◌+◌, ◌-◌, ◌<◌, ◌≤◌, ◌^◌, ◌∷◌, ◌++◌, min, unwrap_or, IsTrue, IsOk, IfErr, IfOk, OnOk, MatchOption, length as list_length};
+ghost use Rattle.std.specs.Prelude.{◌≡◌, ◌↔◌, ◌+◌, ◌-◌, ◌<◌, ◌≤◌, ◌^◌, ◌∷◌, ◌++◌, min, unwrap_or, option_map, IsTrue, IsOk, IfErr, IfOk, OnOk, MatchOption, length as list_length};
 ghost use Rattle.bt_wire.specs.Numbers.{be32};
 ghost use Rattle.bt_wire.specs.Legal.{IsLegal, IsRefusedFor, Refuses, IsEncoded};
 ghost use Rattle.bt_ext.specs.Payloads.{ext_id, payload_of, HasSpelling};
 ghost use Rattle.bt_wire.specs.Messages.{spell, body, framed, seen, spell_fields, IsShaped};
-ghost use Rattle.bt_wire.specs.Parts.{IsJudged};
+ghost use Rattle.bt_wire.specs.Faults.{index_fault};
+ghost use Rattle.bt_wire.specs.Parts.{IsJudged, IsJudgedExt, reason_from};
 
 use crate::context::{Context, Order};
 use crate::fault::{EncodeError, Fault, Reason, Refused};
@@ -55,7 +56,7 @@ fn shaped_length(context: &Context, message: &Message) -> Option<u64>
 /// # Errors
 /// `Shape` where the value has no spelling of its own, and else the reason for which its spelling is refused: the first
 /// of `TooLong`, `UnknownId`, `NotNegotiated`, `WrongLength`, `Late`, `Missing`, `BadIndex`, `SpareBits`, and of an extended
-/// message `Unsorted`, `BadField` and `BadBlock`.
+/// message `Unsorted`, `BadField`, `BadBlock` and `BadIndex`.
 pub fn legal(context: &Context, order: Order, message: &Message) -> Result<(), Fault>
     ensures exactly { IsOk result ↔ IsLegal context.now order message.now }
     ensures fault { IfErr result (Refuses context.now order message.now) }
@@ -109,12 +110,38 @@ fn judge_extended(context: &Context, message: &Message) -> Option<Reason>
     ensures { IsJudged context.now message.now result }
 {
     match message {
-        Message::Extended(value) => match ext_reason(context.rules, value) {
-            Some(ExtReason::Unsorted) => Some(Reason::Unsorted),
-            Some(ExtReason::BadField) => Some(Reason::BadField),
-            Some(ExtReason::BadBlock) => Some(Reason::BadBlock),
-            None => None,
-        },
+        Message::Extended(value) => judge_ext(context, value),
+        _ => None,
+    }
+}
+
+/// Why the rules don't allow an extended value.
+fn judge_ext(context: &Context, value: &Ext) -> Option<Reason>
+    ensures { IsJudgedExt context.now value.now result }
+{
+    match ext_reason(context.rules, value) {
+        Some(reason) => Some(reason_from(reason)),
+        None => judge_index(context.pieces, value),
+    }
+}
+
+/// The reason of a message for that of its extended value.
+fn reason_from(reason: ExtReason) -> Reason
+    ensures { result ≡ reason_from reason }
+{
+    match reason {
+        ExtReason::Unsorted => Reason::Unsorted,
+        ExtReason::BadField => Reason::BadField,
+        ExtReason::BadBlock => Reason::BadBlock,
+    }
+}
+
+/// Why a piece index isn't below the known piece count, if the value is one.
+fn judge_index(pieces: Option<u32>, value: &Ext) -> Option<Reason>
+    ensures { result ≡ option_map (λ f. f.reason) (index_fault pieces value.now) }
+{
+    match (pieces, value) {
+        (Some(pieces), Ext::DontHave(index)) if *index >= pieces => Some(Reason::BadIndex),
         _ => None,
     }
 }

@@ -43,6 +43,8 @@ pub enum Reason {
     StreamFull,
     /// The stream ends inside its handshake or a message.
     EndInside,
+    /// The extended payload has to be a piece index, and hasn't four bytes.
+    BadExtLength,
 }
 
 impl Reason {
@@ -68,6 +70,7 @@ impl Reason {
             Reason::BadBlock => "BadBlock",
             Reason::StreamFull => "StreamFull",
             Reason::EndInside => "EndInside",
+            Reason::BadExtLength => "BadExtLength",
         }
     }
 }
