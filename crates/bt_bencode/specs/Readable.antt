@@ -1,9 +1,9 @@
 -- What the readers of a checked spelling meet. (For the contracts of functions that are not public.)
-use Rattle.std.specs.Prelude.{◌≡◌, ℕ, ◌+◌, ℤ, ◌≤◌, ◌^◌, List, ◌∷◌, ◌++◌, length, FitsSigned, Option, Some, None, Result, Ok, Err, []}
+use Rattle.std.specs.Prelude.{◌≡◌, ℕ, ℤ, ◌≤◌, ◌^◌, List, ◌∷◌, ◌++◌, length, FitsSigned, Option, Some, None, Result, Ok, Err, []}
 use Rattle.std.specs.Borrow.{Bor}
 use Rattle.std.specs.Int.{w64}
 use Rattle.std.specs.Fmt.{decimal, signed_decimal}
-use Rattle.bt_bencode.specs.Trees.{Tree, Trees, no_trees, tree, Pairs}
+use Rattle.bt_bencode.specs.Trees.{Tree, Trees, Pairs}
 use Rattle.bt_bencode.specs.Bencoding.{ben, ben_all, ben_pairs, ben_string, longest_string, InRange, AllInRange, PairsInRange}
 use Rattle.bt_bencode.specs.Scanner.{NumberThen}
 
@@ -18,11 +18,6 @@ HasItems bytes = (ts : Trees) × (rest : List ℕ) × AllInRange ts × (bytes �
 -- with the further pairs of a dictionary, and its end
 abbrev pub HasPairs : List ℕ → Type 0
 HasPairs bytes = (ps : Pairs) × (rest : List ℕ) × PairsInRange ps × (bytes ≡ ben_pairs ps ++ 101 ∷ rest)
-
--- how many values there are
-abbrev pub trees_count : Trees → ℕ
-trees_count no_trees = 0
-trees_count (tree t ts) = trees_count ts + 1
 
 -- the bytes begin with a byte string
 abbrev pub HasString : List ℕ → Type 0

@@ -32,7 +32,7 @@ impl<'a> DictRef<'a> {
         self.bytes
     }
 
-    /// The dictionary as a value. It takes memory at most once for each string, each list and each dictionary of it.
+    /// The dictionary as a value. It takes memory for each string, each list and each dictionary of it that isn't empty.
     pub fn to_value(&self, alloc: Global) -> Result<Value, AllocError>
         ensures { IfOk result (λ v. v ≡ Value.Dict self.now.tree.0) }
     {

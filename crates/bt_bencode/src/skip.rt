@@ -1,11 +1,11 @@
-//! What follows a value in a checked spelling, how many values or pairs there are, and what stands at a key. It takes
-//! no memory. Skipping a value recurses by its nesting, which is at most 32 in what the public calls hand in.
+//! What follows a value in a checked spelling, and what stands at a key. It takes no memory. Skipping a value recurses
+//! by its nesting, which is at most 32 in what the public calls hand in.
 ghost use Rattle.std.specs.Prelude.{◌≡◌, ℕ, ◌<◌, ◌∷◌, ◌++◌, List, length, option_map};
 ghost use Rattle.bt_bencode.specs.Trees.{Tree, Trees, Pairs};
 ghost use Rattle.bt_bencode.specs.Bencoding.{ben, ben_all, ben_pairs, InRange, AllInRange, PairsInRange};
 ghost use Rattle.bt_bencode.specs.Keys.{value_at};
-ghost use Rattle.bt_bencode.specs.LookUps.{integer_of, string_of, pairs_count};
-ghost use Rattle.bt_bencode.specs.Readable.{FindsValue, HasValue, HasItems, HasPairs, trees_count};
+ghost use Rattle.bt_bencode.specs.LookUps.{integer_of, string_of};
+ghost use Rattle.bt_bencode.specs.Readable.{FindsValue, HasValue, HasItems, HasPairs};
 
 use crate::read::{behind, read_int, split_string};
 
@@ -49,35 +49,6 @@ fn skip_pairs(bytes: &[u8]) -> &[u8]
         rest = skip_value(value);
     }
     behind(rest)
-}
-
-/// How many values of a list stand in front of its `e`.
-pub fn count_items(bytes: &[u8]) -> usize
-    requires { HasItems bytes.now }
-    ensures { (ts : Trees) (more : List ℕ) → AllInRange ts → bytes.now ≡ ben_all ts ++ 101 ∷ more → result ≡ trees_count ts }
-{
-    let mut count = 0;
-    let mut rest = bytes;
-    while rest[0] != b'e' {
-        rest = skip_value(rest);
-        count += 1;
-    }
-    count
-}
-
-/// How many pairs of a dictionary stand in front of its `e`.
-pub fn count_pairs(bytes: &[u8]) -> usize
-    requires { HasPairs bytes.now }
-    ensures { (ps : Pairs) (more : List ℕ) → PairsInRange ps → bytes.now ≡ ben_pairs ps ++ 101 ∷ more → result ≡ pairs_count ps }
-{
-    let mut count = 0;
-    let mut rest = bytes;
-    while rest[0] != b'e' {
-        let (_, value) = split_string(rest);
-        rest = skip_value(value);
-        count += 1;
-    }
-    count
 }
 
 /// The bytes from the value of the first pair with the key on.
