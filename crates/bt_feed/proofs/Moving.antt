@@ -1,18 +1,20 @@
 -- What moves from a source through a feed into a sink.
 use Rattle.std.proofs.Common.{◌≡◌, ℕ, ◌+◌, ◌≤◌, Bool, true, false, if◌then◌else◌, List, [], ◌∷◌, ◌++◌, length, take, drop, Option, Some, None, Result, Ok,
-    Err, refl, sym, ap, subst, ◌∙◌, arith}
+    Err, refl, sym, ap, subst, inl, inr, ◌∙◌, arith}
 use Rattle.std.proofs.lemmas.List.{append-nil, append_assoc, length-drop, take_all, take-append-drop}
 use Rattle.std.proofs.Math.Seq.{take-add}
+use Rattle.std.specs.Io.KnownBytes.{Consumes}
 use Rattle.bt_wire.specs.declared.item.Item.{Item}
 use Rattle.bt_wire.specs.declared.item.Refusal.{Refusal}
 use Rattle.bt_feed.specs.Stages.{start_of, number_of, limit_of, is_closed, IsItem, stage_after, Comes, stopped}
 use Rattle.bt_feed.specs.Feeds.{FeedState, taken, pushed}
 use Rattle.bt_feed.specs.Answers.{IsAnswer, after, finish_of, unless_refused}
 use Rattle.bt_feed.specs.Transcripts.{with_items}
-use Rattle.bt_feed.specs.Pumps.{Took, IsMissed, IsGiven, IsFed, IsPumped, IsPumpEnd, IsEnd, IsPieceEnd, IsVerdictAtEnd, IsEndOf, IsSinkFault}
+use Rattle.bt_feed.specs.Pumps.{Took, IsMissed, IsGiven, IsFed, IsPumped, IsPumpEnd, IsOpenTo, IsEnd, IsPieceEnd, IsVerdictAtEnd, IsEndOf, IsSinkFault}
 use Rattle.bt_feed.specs.Laws.{verdict_at_end}
 use Rattle.bt_feed.specs.Progress.{IsFeed}
 use Rattle.bt_feed.specs.declared.pumping.PumpError.{PumpError}
+use Rattle.bt_feed.specs.declared.sink.SinkFault.{SinkFault}
 use Rattle.bt_feed.specs.declared.pumping.PumpError.TheVariants as error
 use Rattle.bt_feed.specs.declared.stage.Stage.{Stage}
 use Rattle.bt_feed.specs.declared.stage.Stage.TheVariants as stage
@@ -37,20 +39,21 @@ pub took_more : {S : Type 0} (R : S → ℕ × Item → S → Type 0) (a b c : S
     → Took R a (xs ++ x ∷ []) c
 took_more R a b c xs x p q = took_both R a b c xs (x ∷ []) p (c, q, refl)
 
-pub missed_more : {S : Type 0} (takes misses : S → ℕ × Item → S → Type 0) (a b c : S) (xs ys : List (ℕ × Item)) → Took takes a xs b
-    → IsMissed takes misses b ys c → IsMissed takes misses a (xs ++ ys) c
-missed_more takes misses a b c xs ys p q =
+pub missed_more : {S : Type 0} (takes : S → ℕ × Item → S → Type 0) (misses : S → ℕ × Item → SinkFault → S → Type 0) (e : SinkFault) (a b c : S)
+    (xs ys : List (ℕ × Item)) → Took takes a xs b → IsMissed takes misses e b ys c → IsMissed takes misses e a (xs ++ ys) c
+missed_more takes misses e a b c xs ys p q =
     (xs ++ q.0, q.1, q.2, ap (λ (l : List (ℕ × Item)). xs ++ l) q.3 ∙ sym (append_assoc xs q.0 (q.1 ∷ [])), took_both takes a b q.2 xs q.0 p q.4, q.5)
 
-pub given_more : {S : Type 0} (A : Type 0) (takes misses : S → ℕ × Item → S → Type 0) (a b c : S) (xs ys : List (ℕ × Item)) (e : PumpError)
+pub given_more : {S : Type 0} (A : Type 0) (takes : S → ℕ × Item → S → Type 0) (misses : S → ℕ × Item → SinkFault → S → Type 0) (a b c : S)
+    (xs ys : List (ℕ × Item)) (e : PumpError)
     → Took takes a xs b → IsGiven {A = A} takes misses b ys c (Err e) → IsGiven {A = ℕ} takes misses a (xs ++ ys) c (Err e)
 given_more A takes misses a b c xs ys (error.Refused r) p q = took_both takes a b c xs ys p q
 given_more A takes misses a b c xs ys error.ReadFault p q = took_both takes a b c xs ys p q
 given_more A takes misses a b c xs ys error.Turns p q = took_both takes a b c xs ys p q
-given_more A takes misses a b c xs ys (error.Sink e) p q = missed_more takes misses a b c xs ys p q
+given_more A takes misses a b c xs ys (error.Sink e) p q = missed_more takes misses e a b c xs ys p q
 
-pub given_end : {S : Type 0} (takes misses : S → ℕ × Item → S → Type 0) (a b : S) (xs : List (ℕ × Item)) (f : FeedState) (r : Result ℕ PumpError)
-    → IsEndOf f r → Took takes a xs b → IsGiven takes misses a xs b r
+pub given_end : {S : Type 0} (takes : S → ℕ × Item → S → Type 0) (misses : S → ℕ × Item → SinkFault → S → Type 0) (a b : S) (xs : List (ℕ × Item))
+    (f : FeedState) (r : Result ℕ PumpError) → IsEndOf f r → Took takes a xs b → IsGiven takes misses a xs b r
 given_end takes misses a b xs f (Ok n) h p = p
 given_end takes misses a b xs f (Err (error.Refused r)) h p = p
 given_end takes misses a b xs f (Err (error.Sink e)) h p = absurd h.verdict
@@ -168,7 +171,7 @@ ended_refused f g bytes lost xs r m le a =
     let P : Refusal → Type 0 = λ x. Comes g.stage (g.held ++ lost) (stopped g.stage (g.held ++ lost) (Some x)) in
     let comes = subst P (sym a.2) (fault_comes g.stage (g.held ++ lost) a.0 (omega (arith, le)) (fault_more g.stage g.held lost a.0 a.1)) in
     (with_items xs last, pumped f g bytes lost xs last m comes refl refl,
-        (λ e. absurd (no_fault_ends g.stage g.held a.0 a.1 (sym (ap (λ (x : Refusal). x.reason) a.2) ∙ e))), refl)
+        (λ e. absurd (no_fault_ends g.stage g.held a.0 a.1 (sym (ap (λ (x : Refusal). x.reason) a.2) ∙ e))), refl, inr a)
 
 pub ended_open : (f g : FeedState) (bytes : List ℕ) (xs : List (ℕ × Item)) → IsFed f bytes xs g → limit_of g.stage ≤ 1048576 → is_closed g.stage g.held
     ≡ false → (v : Outcome) × IsPumped f bytes [] xs g v × (v.refusal ≡ None)
@@ -178,19 +181,27 @@ ended_open f g bytes xs m le e =
     (with_items xs last, pumped f g bytes [] xs last m (open_comes g.stage (g.held ++ []) (omega (arith, le)) (ap (is_closed g.stage) held ∙ e)) refl refl,
         refl)
 
+-- where a feed waits, nothing that went into it is refused
+pub open_to : (f g : FeedState) (left left' : Option (List ℕ)) (bytes : List ℕ) (xs : List (ℕ × Item)) → IsFed f bytes xs g → limit_of g.stage ≤ 1048576
+    → is_closed g.stage g.held ≡ false → Consumes left left' bytes → IsOpenTo f left left'
+open_to f g left left' bytes xs m le e c =
+    let o = ended_open f g bytes xs m le e in
+    let P : List ℕ → Type 0 = λ b. Comes f.stage (f.held ++ b) o.0 in
+    (bytes, o.0, c, subst P (append-nil bytes) o.1.comes, o.2)
+
 ended_as : (f g : FeedState) (bytes : List ℕ) (xs : List (ℕ × Item)) (r : Result ℕ PumpError) (last : Outcome)
-    → IsPumped f bytes [] xs g (with_items xs last) → IsVerdictAtEnd last r → IsPumpEnd f bytes [] xs g r
-ended_as f g bytes xs (Ok n) last p v = (with_items xs last, p, refl, v)
-ended_as f g bytes xs (Err (error.Refused r)) last p v = (with_items xs last, p, (λ e. refl), v)
-ended_as f g bytes xs (Err (error.Sink e)) last p v = absurd v
-ended_as f g bytes xs (Err error.ReadFault) last p v = absurd v
-ended_as f g bytes xs (Err error.Turns) last p v = absurd v
+    → IsPumped f bytes [] xs g (with_items xs last) → IsVerdictAtEnd last r → IsEnd r → IsPumpEnd f bytes [] xs g r
+ended_as f g bytes xs (Ok n) last p v e = (with_items xs last, p, refl, v)
+ended_as f g bytes xs (Err (error.Refused r)) last p v e = (with_items xs last, p, (λ k. refl), v, inl e)
+ended_as f g bytes xs (Err (error.Sink e)) last p v k = absurd v
+ended_as f g bytes xs (Err error.ReadFault) last p v k = absurd v
+ended_as f g bytes xs (Err error.Turns) last p v k = absurd v
 
 pub ended_last : (f g : FeedState) (bytes : List ℕ) (xs : List (ℕ × Item)) (r : Result ℕ PumpError) → IsFed f bytes xs g → IsEndOf g r
     → IsPumpEnd f bytes [] xs g r
 ended_last f g bytes xs r m h =
     let P : List ℕ → Type 0 = λ b. Comes g.stage b h.last in
-    ended_as f g bytes xs r h.last (pumped f g bytes [] xs h.last m (subst P (sym (append-nil g.held)) h.comes) h.no_items h.number) h.verdict
+    ended_as f g bytes xs r h.last (pumped f g bytes [] xs h.last m (subst P (sym (append-nil g.held)) h.comes) h.no_items h.number) h.verdict h.at_end
 
 -- where a piece stops: what went into the feed, what is lost, and how it ended
 pub record IsStop (f : FeedState) (before piece : List ℕ) (xs : List (ℕ × Item)) (g : FeedState) (e : PumpError) : Type 0 where

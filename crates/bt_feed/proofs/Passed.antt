@@ -70,14 +70,14 @@ passed_more c o o' s n at k count piece rest window xs m e is fed lt le within h
         ((s + at, items.Message m) ∷ []) fed one)))
 
 -- as long as the sink took all
-pub handed_all : {S : Type 0} (takes misses : S → ℕ × Item → S → Type 0) (a b : S) (xs : List (ℕ × Item)) (r : Result (Unit {0}) SinkFault) → r ≡ Ok tt
-    → IsHanded takes misses a xs b r → Took takes a xs b
+pub handed_all : {S : Type 0} (takes : S → ℕ × Item → S → Type 0) (misses : S → ℕ × Item → SinkFault → S → Type 0) (a b : S) (xs : List (ℕ × Item))
+    (r : Result (Unit {0}) SinkFault) → r ≡ Ok tt → IsHanded takes misses a xs b r → Took takes a xs b
 handed_all takes misses a b xs r e h =
     let P : Result (Unit {0}) SinkFault → Type 0 = λ x. IsHanded takes misses a xs b x in
     subst P e h
 
-pub handed_more : {S : Type 0} (takes misses : S → ℕ × Item → S → Type 0) (a b c : S) (xs : List (ℕ × Item)) (x : ℕ × Item)
-    (r : Result (Unit {0}) SinkFault) → r ≡ Ok tt → IsHanded takes misses a xs b r → takes b x c → IsHanded takes misses a (xs ++ x ∷ []) c r
+pub handed_more : {S : Type 0} (takes : S → ℕ × Item → S → Type 0) (misses : S → ℕ × Item → SinkFault → S → Type 0) (a b c : S) (xs : List (ℕ × Item))
+    (x : ℕ × Item) (r : Result (Unit {0}) SinkFault) → r ≡ Ok tt → IsHanded takes misses a xs b r → takes b x c → IsHanded takes misses a (xs ++ x ∷ []) c r
 handed_more takes misses a b c xs x r e h t =
     let P : Result (Unit {0}) SinkFault → Type 0 = λ y. IsHanded takes misses a (xs ++ x ∷ []) c y in
     subst P (sym e) (took_more takes a b c xs x (handed_all takes misses a b xs r e h) t)
@@ -145,16 +145,17 @@ fed_passed f s p piece rest at n xs ys e a b =
     let P : List ℕ → Type 0 = λ l. IsFed f l (xs ++ ys) p in
     subst P (front piece rest at n e) (fed_both f s p (take at piece) (take n rest) xs ys a b)
 
-pub passed_on : {S : Type 0} (takes misses : S → ℕ × Item → S → Type 0) (f s p : FeedState) (a b c : S) (piece rest : List ℕ) (at n : ℕ)
-    (r : Result (Unit {0}) SinkFault) → r ≡ Ok tt → rest ≡ drop at piece
+pub passed_on : {S : Type 0} (takes : S → ℕ × Item → S → Type 0) (misses : S → ℕ × Item → SinkFault → S → Type 0) (f s p : FeedState) (a b c : S)
+    (piece rest : List ℕ) (at n : ℕ) (r : Result (Unit {0}) SinkFault) → r ≡ Ok tt → rest ≡ drop at piece
     → (xs : List (ℕ × Item)) × Took takes a xs b × IsFed f (take at piece) xs s
     → (ys : List (ℕ × Item)) × IsHanded takes misses b ys c r × IsFed s (take n rest) ys p
     → (xs : List (ℕ × Item)) × Took takes a xs c × IsFed f (take (at + n) piece) xs p
 passed_on takes misses f s p a b c piece rest at n r e is x y =
     (x.0 ++ y.0, took_both takes a b c x.0 y.0 x.1 (handed_all takes misses b c y.0 r e y.1), fed_passed f s p piece rest at n x.0 y.0 is x.2 y.2)
 
-pub missed_by : {S : Type 0} (takes misses : S → ℕ × Item → S → Type 0) (a b c : S) (xs ys : List (ℕ × Item)) (r : Result (Unit {0}) SinkFault)
-    (e : SinkFault) → r ≡ Err e → Took takes a xs b → IsHanded takes misses b ys c r → IsMissed takes misses a (xs ++ ys) c
+pub missed_by : {S : Type 0} (takes : S → ℕ × Item → S → Type 0) (misses : S → ℕ × Item → SinkFault → S → Type 0) (a b c : S) (xs ys : List (ℕ × Item))
+    (r : Result (Unit {0}) SinkFault) (e : SinkFault) → r ≡ Err e → Took takes a xs b → IsHanded takes misses b ys c r
+    → IsMissed takes misses e a (xs ++ ys) c
 missed_by takes misses a b c xs ys r e is t h =
     let P : Result (Unit {0}) SinkFault → Type 0 = λ x. IsHanded takes misses b ys c x in
-    missed_more takes misses a b c xs ys t (subst P is h)
+    missed_more takes misses e a b c xs ys t (subst P is h)

@@ -1,5 +1,5 @@
 -- What a pump moves: the bytes of a source through a feed, and its items into a sink.
-use Rattle.std.specs.Prelude.{◌≡◌, ◌≤◌, ℕ, ⊤, false, length, List, [], ◌∷◌, ◌++◌, take, Option, None, Result, Ok, Err}
+use Rattle.std.specs.Prelude.{◌≡◌, ◌⊎◌, ◌≤◌, ℕ, ⊤, false, length, List, [], ◌∷◌, ◌++◌, take, Option, None, Result, Ok, Err}
 use Rattle.std.specs.Io.KnownBytes.{Consumes}
 use Rattle.bt_wire.specs.declared.fault.Reason.TheVariants.{EndInside}
 use Rattle.bt_wire.specs.declared.item.Item.{Item}
@@ -21,17 +21,19 @@ abbrev pub Took : {S : Type 0} → (S → ℕ × Item → S → Type 0) → S �
 Took takes old [] new = new ≡ old
 Took takes old (x ∷ xs) new = (next : _) × takes old x next × Took takes next xs new
 
--- of these items all but the last are taken
-abbrev pub IsMissed : {S : Type 0} → (S → ℕ × Item → S → Type 0) → (S → ℕ × Item → S → Type 0) → S → List (ℕ × Item) → S → Type 0
-IsMissed takes misses old given new = (xs : List (ℕ × Item)) × (x : ℕ × Item) × (last : _) × (given ≡ xs ++ x ∷ []) × Took takes old xs last × misses last x new
+-- of these items all but the last are taken, at which the sink answered this fault
+abbrev pub IsMissed : {S : Type 0} → (S → ℕ × Item → S → Type 0) → (S → ℕ × Item → SinkFault → S → Type 0) → SinkFault → S → List (ℕ × Item) → S → Type 0
+IsMissed takes misses fault old given new =
+    (xs : List (ℕ × Item)) × (x : ℕ × Item) × (last : _) × (given ≡ xs ++ x ∷ []) × Took takes old xs last × misses last x fault new
 
--- a pump gave these items: all of them are taken, or at the sink's fault all but the last
-abbrev pub IsGiven : {S A : Type 0} → (S → ℕ × Item → S → Type 0) → (S → ℕ × Item → S → Type 0) → S → List (ℕ × Item) → S → Result A PumpError → Type 0
+-- a pump gave these items: all of them are taken, or all but the last, and the answer is the fault that the sink answered there
+abbrev pub IsGiven : {S A : Type 0} → (S → ℕ × Item → S → Type 0) → (S → ℕ × Item → SinkFault → S → Type 0) → S → List (ℕ × Item) → S → Result A PumpError
+    → Type 0
 IsGiven takes misses old given new (Ok n) = Took takes old given new
 IsGiven takes misses old given new (Err (error.Refused r)) = Took takes old given new
 IsGiven takes misses old given new (Err error.ReadFault) = Took takes old given new
 IsGiven takes misses old given new (Err error.Turns) = Took takes old given new
-IsGiven takes misses old given new (Err (error.Sink e)) = IsMissed takes misses old given new
+IsGiven takes misses old given new (Err (error.Sink e)) = IsMissed takes misses e old given new
 
 -- ---- bytes through a feed
 
@@ -47,21 +49,26 @@ pub record IsPumped (f : FeedState) (bytes lost : List ℕ) (xs : List (ℕ × I
   pub number : v.number ≡ number_of g.stage
 
 -- After a sink's fault only what went into the feed is known. Otherwise what was read has the outcome v: at its end the answer is the
--- verdict there, and nothing is lost; a refusal is that of the verdict; else nothing is refused or lost.
+-- verdict there, and nothing is lost; a refusal is that of the verdict, and the feed is refused with it, unless it stands only at the
+-- end; else nothing is refused or lost.
 abbrev pub IsPumpEnd : FeedState → List ℕ → List ℕ → List (ℕ × Item) → FeedState → Result ℕ PumpError → Type 0
 IsPumpEnd f bytes lost xs g (Ok n) = (v : Outcome) × IsPumped f bytes lost xs g v × (lost ≡ []) × (verdict_at_end v ≡ Ok n)
 IsPumpEnd f bytes lost xs g (Err (error.Refused r)) = (v : Outcome) × IsPumped f bytes lost xs g v × (r.reason ≡ EndInside → lost ≡ [])
-    × (verdict_at_end v ≡ Err (finish.Refused r))
+    × (verdict_at_end v ≡ Err (finish.Refused r)) × ((r.reason ≡ EndInside) ⊎ IsAnswer g (Err r))
 IsPumpEnd f bytes lost xs g (Err (error.Sink e)) = IsFed f bytes xs g
 IsPumpEnd f bytes lost xs g (Err error.ReadFault) = (v : Outcome) × IsPumped f bytes lost xs g v × (lost ≡ []) × (v.refusal ≡ None)
 IsPumpEnd f bytes lost xs g (Err error.Turns) = (v : Outcome) × IsPumped f bytes lost xs g v × (lost ≡ []) × (v.refusal ≡ None)
 
 -- the source gave some bytes, and others, no more than a read gives, that are lost; these items came of them
-abbrev pub IsPump : {S : Type 0} → (S → ℕ × Item → S → Type 0) → (S → ℕ × Item → S → Type 0) → ℕ → FeedState → Option (List ℕ) → Option (List ℕ) → S → S
-    → FeedState → Result ℕ PumpError → Type 0
+abbrev pub IsPump : {S : Type 0} → (S → ℕ × Item → S → Type 0) → (S → ℕ × Item → SinkFault → S → Type 0) → ℕ → FeedState → Option (List ℕ)
+    → Option (List ℕ) → S → S → FeedState → Result ℕ PumpError → Type 0
 IsPump takes misses read f left left' sink sink' g r =
     (bytes : List ℕ) × (lost : List ℕ) × (xs : List (ℕ × Item)) × Consumes left left' (bytes ++ lost) × IsGiven takes misses sink xs sink' r
         × IsPumpEnd f bytes lost xs g r × (length lost ≤ read)
+
+-- from the one state of the source to the other it gave bytes with which nothing is refused
+abbrev pub IsOpenTo : FeedState → Option (List ℕ) → Option (List ℕ) → Type 0
+IsOpenTo f left left' = (bytes : List ℕ) × (v : Outcome) × Consumes left left' bytes × Comes f.stage (f.held ++ bytes) v × (v.refusal ≡ None)
 
 -- the answer stands only at the stream's end
 abbrev pub IsEnd : Result ℕ PumpError → Type 0
@@ -82,9 +89,10 @@ IsSinkFault (Ok a) = ⊥
 -- ---- for private contracts
 
 -- these items were given: all of them are taken, or at a fault all but the last
-abbrev pub IsHanded : {S : Type 0} → (S → ℕ × Item → S → Type 0) → (S → ℕ × Item → S → Type 0) → S → List (ℕ × Item) → S → Result (Unit {0}) SinkFault → Type 0
+abbrev pub IsHanded : {S : Type 0} → (S → ℕ × Item → S → Type 0) → (S → ℕ × Item → SinkFault → S → Type 0) → S → List (ℕ × Item) → S
+    → Result (Unit {0}) SinkFault → Type 0
 IsHanded takes misses old given new (Ok u) = Took takes old given new
-IsHanded takes misses old given new (Err e) = IsMissed takes misses old given new
+IsHanded takes misses old given new (Err e) = IsMissed takes misses e old given new
 
 -- a piece is read; or its front, and what follows is refused, or the last item isn't taken
 abbrev pub IsPieceEnd : FeedState → List ℕ → List (ℕ × Item) → FeedState → Result (Unit {0}) PumpError → Type 0

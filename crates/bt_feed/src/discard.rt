@@ -26,7 +26,7 @@ impl Sink for Discard {
 
     ghost takes = { λ _ _ _. ⊤ };
 
-    ghost misses = { λ _ _ _. ⊥ };
+    ghost misses = { λ _ _ _ _. ⊥ };
 
     ghost calls = { discarded };
 

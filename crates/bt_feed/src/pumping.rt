@@ -1,9 +1,9 @@
 //! From a source through a feed into a sink.
-ghost use Rattle.std.specs.Prelude.{◌≡◌, ◌+◌, ◌-◌, ◌^◌, ◌≤◌, ◌≢◌, ℕ, List, ◌<◌, min, length, false, Err, OnOk};
+ghost use Rattle.std.specs.Prelude.{◌≡◌, ◌⊎◌, ◌+◌, ◌-◌, ◌^◌, ◌≤◌, ◌≢◌, ℕ, List, ◌<◌, min, length, false, Err, OnOk};
 ghost use Rattle.bt_wire.specs.declared.fault.Reason.TheVariants as reasons;
 ghost use Rattle.bt_wire.specs.declared.item.Item.{Item};
 ghost use Rattle.bt_io.specs.Counts.{Grew};
-ghost use Rattle.bt_feed.specs.Pumps.{IsGiven, IsEnd, IsEndOf, IsPump, IsPieceEnd, IsSinkFault};
+ghost use Rattle.bt_feed.specs.Pumps.{IsGiven, IsEnd, IsEndOf, IsPump, IsOpenTo, IsPieceEnd, IsSinkFault};
 ghost use Rattle.bt_feed.specs.Stages.{limit_of, is_closed};
 
 use crate::feed::Feed;
@@ -79,8 +79,8 @@ fn end<A: Allocator>(feed: &Feed<A>) -> Result<u64, PumpError>
 /// Reads to the end, `max_turns` times at most and each time into the buffer, which isn't empty, and gives the sink each item with
 /// its offset. It answers what the stream comes to there: the offset of its end, or its refusal. It takes no memory itself.
 ///
-/// A refusal, a sink's fault, a failed read and the end stop it at once. Behind a refusal or a sink's fault, what is left of
-/// the piece in the buffer is lost. Behind `Turns` or `ReadFault` nothing is lost, and another call goes on.
+/// A refusal, a sink's fault, a failed read and the end stop it at once: no read follows. After a refusal or a sink's fault,
+/// what is left of the piece in the buffer is lost. After `Turns` or `ReadFault` nothing is lost, and another call goes on.
 pub fn pump_with<R: Source, S: Sink, A: Allocator>(
     reader: &mut R,
     feed: &mut Feed<A>,
@@ -98,6 +98,8 @@ pub fn pump_with<R: Source, S: Sink, A: Allocator>(
     ensures calm { result ≢ Err PumpError.ReadFault → R.failed_reads reader.new ≡ R.failed_reads reader.old }
     ensures sink { IsSinkFault result → Grew (S.failed sink.old) (S.failed sink.new) }
     ensures quiet { (IsSinkFault result → ⊥) → S.failed sink.new ≡ S.failed sink.old }
+    ensures needed { (R.reads reader.new ≡ R.reads reader.old)
+        ⊎ ((before : R) × IsOpenTo feed.old (R.left reader.old) (R.left before) × (R.reads reader.new ≤ R.reads before + 1)) }
 {
     if let Err(error) = pump_piece(feed, sink, &[]) {
         return Err(error);
@@ -132,6 +134,8 @@ pub fn pump<R: Source, S: Sink, A: Allocator>(
     ensures calm { result ≢ Err PumpError.ReadFault → R.failed_reads reader.new ≡ R.failed_reads reader.old }
     ensures sink { IsSinkFault result → Grew (S.failed sink.old) (S.failed sink.new) }
     ensures quiet { (IsSinkFault result → ⊥) → S.failed sink.new ≡ S.failed sink.old }
+    ensures needed { (R.reads reader.new ≡ R.reads reader.old)
+        ⊎ ((before : R) × IsOpenTo feed.old (R.left reader.old) (R.left before) × (R.reads reader.new ≤ R.reads before + 1)) }
 {
     let mut buffer = [0; 4096];
     pump_with(reader, feed, sink, max_turns, &mut buffer)

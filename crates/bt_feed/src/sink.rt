@@ -1,6 +1,7 @@
 //! What takes the items of a stream. A pump gives its items to a `Sink`.
 ghost use Rattle.std.specs.Prelude.{◌≡◌, ℕ, MatchResult, is_err};
 ghost use Rattle.bt_wire.specs.declared.item.Item.{Item};
+ghost use Rattle.bt_feed.specs.declared.sink.SinkFault.{SinkFault};
 ghost use Rattle.bt_io.specs.Counts.{one_more, counted};
 ghost use Rattle.bt_feed.specs.Views.{item_of};
 
@@ -20,11 +21,11 @@ pub enum SinkFault {
 
 /// What takes the items of a stream, in their order.
 pub trait Sink {
-    /// What it is behind an item that it took, which started at this offset.
+    /// What it is after an item that it took, which started at this offset.
     ghost takes: { Self → ℕ × Item → Self → Type 0 };
 
-    /// What it is behind one that it didn't take.
-    ghost misses: { Self → ℕ × Item → Self → Type 0 };
+    /// What it is after one that it didn't take, with the fault that it answered.
+    ghost misses: { Self → ℕ × Item → SinkFault → Self → Type 0 };
 
     /// How many items it was given, and how many of them it didn't take, each up to 2^64 - 1.
     ghost calls: { Self → ℕ };
@@ -33,7 +34,7 @@ pub trait Sink {
 
     /// Takes the item that starts at this offset of the stream.
     fn item(&mut self, at: u64, view: &View<'_>) -> Result<(), SinkFault>
-        ensures items { MatchResult result (λ _. takes self.old (at, item_of view.now) self.new) (λ _. misses self.old (at, item_of view.now) self.new) }
+        ensures items { MatchResult result (λ _. takes self.old (at, item_of view.now) self.new) (λ e. misses self.old (at, item_of view.now) e self.new) }
         ensures calls { calls self.new ≡ one_more (calls self.old) }
         ensures failed { failed self.new ≡ counted (is_err result) (failed self.old) };
 }

@@ -101,7 +101,7 @@ pub turned : (E : Type 0) (b : List ℕ) (xs ys : List (ℕ × Item)) (f g : Fee
     → IsListening b xs f l → Consumes left left' (bytes ++ lost) → Took Hears l ys m → IsPumped f bytes lost ys g v → lost ≡ [] → v.refusal ≡ None
     → IsTurnHeard b xs E left left' g m (Ok k)
 turned E b xs ys f g left left' l m bytes lost v false know unknown r c took p none free =
-    (bytes ++ lost, ys, c, record { read = read_more reader_of_other b xs f g bytes lost ys v none r.read p; heard = heard_more xs ys l m r.heard took;
+    (bytes ++ lost, ys, c, record { read = read_more reader_of_other b xs f g bytes lost ys v none free r.read p; heard = heard_more xs ys l m r.heard took;
         unknown = unknown refl; now = with_items xs v; is = total reader_of_other b xs f g bytes lost ys v r.read p; unrefused = free })
 turned E b xs ys f g left left' l m bytes lost v true know unknown r c took p none free =
     (bytes ++ lost, with_items xs v, c, total reader_of_other b xs f g bytes lost ys v r.read p, heard_all b xs ys f g l m bytes lost v r took p,

@@ -14,7 +14,8 @@ use Rattle.bt_text.specs.declared.ended.PackEnd.{PackEnd}
 use Rattle.bt_text.specs.declared.ended.PackEnd.TheVariants.{Accepted, Refused}
 use Rattle.bt_text.specs.declared.ended.ScriptReason.{ScriptReason}
 use Rattle.bt_text.specs.declared.ended.ToolFault.{ToolFault}
-use Rattle.bt_jobs.specs.Packs.{ended_lines, with_last, AreLines, AreTaken, IsPacked, empty, stopped, accepted, IsEndedLine, IsTimely, AreFrontLines, IsPackRun}
+use Rattle.bt_jobs.specs.Packs.{ended_lines, with_last, AreLines, AreTaken, IsPacked, empty, stopped, accepted, IsEndedLine, IsTimely, AreTakenTo, AreFrontLines,
+    IsPackRun}
 use Rattle.bt_jobs.specs.PackSteps.{IsReadSo, IsPieceRead}
 use Rattle.bt_jobs.specs.Printed.{AppendsFront, IsWrittenOut}
 use Rattle.bt_jobs.proofs.Packing.{taken_so_far}
@@ -46,6 +47,18 @@ run_starts own left held line f le none e =
         packed = record { named = refl; items = []; comes = λ later v k. k; empty = refl; first = refl; count = refl; limit = refl; bound = le };
       }));
     }
+
+pub run_taken : (own : Own) (left left' held held' : Option (List ℕ)) (line : List ℕ) (f : FeedState) → IsRun own left left' held held' line f
+    → AreTakenTo own left left'
+run_taken own left left' held held' line f r =
+    let s = taken_so_far own r.lines r.bytes f r.read.packed in
+    (r.text, r.lines, line, r.consumed, r.read.split, r.bytes, s.0, s.1.taken)
+
+pub nothing_taken : (own : Own) (left : Option (List ℕ)) → own.limit ≤ 1048576 → AreTakenTo own left left
+nothing_taken own left le =
+    let v = left_at (stage.Handshake own) [] None in
+    ([], [], [], Consumes-nil left, record { parts = refl; whole = tt; last = refl }, [], v,
+        record { named = refl; verdict = open_comes (stage.Handshake own) [] (omega (arith, le)) (hand_open own); nothing_left = refl })
 
 -- ---- fronts
 

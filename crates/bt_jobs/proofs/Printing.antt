@@ -19,7 +19,7 @@ use Rattle.bt_feed.specs.declared.view.Finish.TheVariants as finish
 use Rattle.bt_feed.specs.Answers.{unless_refused}
 use Rattle.bt_feed.specs.Feeds.{FeedState}
 use Rattle.bt_feed.specs.Laws.{verdict_at_end}
-use Rattle.bt_feed.specs.Pumps.{Took, IsPumped}
+use Rattle.bt_feed.specs.Pumps.{Took, IsPumped, IsOpenTo}
 use Rattle.bt_feed.specs.Stages.{number_of, stopped, Comes}
 use Rattle.bt_feed.specs.Transcripts.{with_items}
 use Rattle.bt_text.specs.declared.ended.Ended.{Ended}
@@ -32,7 +32,7 @@ use Rattle.std.specs.Prelude.{MatchResult, OnOk}
 use Rattle.bt_jobs.specs.declared.printer.Printer.{Printer}
 use Rattle.bt_text.specs.Lines.{ended_by, ended_as, verdict_line, lines_of}
 use Rattle.bt_jobs.specs.Printed.{texts, text_of, form_of, text_in, Prints, AppendsFront, IsWrittenOut, IsFlushed, MayBeTold, IsAllWritten, IsFrontWritten,
-    Writing, nothing, items_in, checked, prefixed, IsWritten, IsReadTo, IsTurn, verdict_of, all_in}
+    Writing, nothing, items_in, checked, prefixed, IsWritten, IsUnrefused, IsReadTo, IsTurn, verdict_of, all_in}
 
 pub on_ok : {T E : Type 0} (r : Result T E) (P Q : Type 0) → (P → Q) → OnOk r P → OnOk r Q
 on_ok (Ok x) P Q f h = f h
@@ -95,8 +95,8 @@ pub total : (own : Own) (b : List ℕ) (xs : List (ℕ × Item)) (f g : FeedStat
 total own b xs f g bytes lost ys v r p = r.comes (bytes ++ lost) v p.comes
 
 pub read_more : (own : Own) (b : List ℕ) (xs : List (ℕ × Item)) (f g : FeedState) (bytes lost : List ℕ) (ys : List (ℕ × Item)) (v : Outcome) → lost ≡ []
-    → IsReadTo own b xs f → IsPumped f bytes lost ys g v → IsReadTo own (b ++ (bytes ++ lost)) (xs ++ ys) g
-read_more own b xs f g bytes lost ys v none r p = record {
+    → v.refusal ≡ None → IsReadTo own b xs f → IsPumped f bytes lost ys g v → IsReadTo own (b ++ (bytes ++ lost)) (xs ++ ys) g
+read_more own b xs f g bytes lost ys v none free r p = record {
   comes = λ later w k.
       let more : b ++ (bytes ++ later) ≡ (b ++ (bytes ++ lost)) ++ later =
       sym (append_assoc b bytes later) ∙ ap (λ (l : List ℕ). (b ++ l) ++ later) (sym (append-nil bytes) ∙ ap (λ (l : List ℕ). bytes ++ l) (sym none)) in
@@ -106,6 +106,7 @@ read_more own b xs f g bytes lost ys v none r p = record {
   now = with_items xs v;
   is = total own b xs f g bytes lost ys v r p;
   items = ap (λ (l : List (ℕ × Item)). xs ++ l) p.items;
+  unrefused = free;
 }
 
 text_of_turn : (own : Own) (p q : Printer) (ys : List (ℕ × Item)) → text_in p ≡ [] → Took Prints p ys q → text_in q ≡ texts (form_of p) own ys
@@ -132,13 +133,13 @@ nothing_of_turn own form b more xs f held lt stay r w is =
 
 pub goes_on : (own : Own) (b : List ℕ) (xs : List (ℕ × Item)) (f g : FeedState) (left left' held held' : Option (List ℕ)) (p q s : Printer)
     (bytes lost : List ℕ) (ys : List (ℕ × Item)) (v : Outcome) (r : Result (Option Ended) ToolFault)
-    → VerdictIsOne → IsPumpedOn own b xs f g left left' p q bytes lost ys v → lost ≡ [] → IsFlushed {T = Option Ended} None (text_in q) held held'
-    (text_in s) r → form_of s ≡ form_of q → IsTurn (form_of p) own b xs left left' held held' g s r
-goes_on own b xs f g left left' held held' p q s bytes lost ys v (Ok None) one h none flushed form =
+    → VerdictIsOne → IsPumpedOn own b xs f g left left' p q bytes lost ys v → lost ≡ [] → v.refusal ≡ None
+    → IsFlushed {T = Option Ended} None (text_in q) held held' (text_in s) r → form_of s ≡ form_of q → IsTurn (form_of p) own b xs left left' held held' g s r
+goes_on own b xs f g left left' held held' p q s bytes lost ys v (Ok None) one h none free flushed form =
     (bytes ++ lost, ys, h.consumed, subst (Appends held held') (text_of_turn own p q ys h.empty h.took) flushed.1,
-        read_more own b xs f g bytes lost ys v none h.before h.pumped, form ∙ (printed p q ys h.took).0, flushed.2)
-goes_on own b xs f g left left' held held' p q s bytes lost ys v (Ok (Some e)) one h none flushed form = absurd (let no : Some e ≡ None = flushed.0 in cc)
-goes_on own b xs f g left left' held held' p q s bytes lost ys v (Err e) one h none flushed form =
+        read_more own b xs f g bytes lost ys v none free h.before h.pumped, form ∙ (printed p q ys h.took).0, flushed.2)
+goes_on own b xs f g left left' held held' p q s bytes lost ys v (Ok (Some e)) one h none free flushed form = absurd (let no : Some e ≡ None = flushed.0 in cc)
+goes_on own b xs f g left left' held held' p q s bytes lost ys v (Err e) one h none free flushed form =
     (bytes ++ lost, h.consumed, front_of_turn own b xs f g left left' held held' p q bytes lost ys v one h flushed)
 
 pub ends : (own : Own) (b : List ℕ) (xs : List (ℕ × Item)) (f g : FeedState) (left left' held held' : Option (List ℕ)) (p q s : Printer)
@@ -187,6 +188,7 @@ starts own f le e =
       now = stopped (stage.Handshake own) [] None;
       is = open_comes (stage.Handshake own) [] (omega (arith, le)) (hand_open own);
       items = refl;
+      unrefused = refl;
     })
 
 -- what was written before, and a turn more
@@ -203,6 +205,28 @@ pub told_first : (own : Own) (left held : Option (List ℕ)) (f : FeedState) (p 
     ≡ record { stage = stage.Handshake own; held = []; refused = None } → text_in p ≡ [] → IsToldTo (form_of p) own left left held held f p
 told_first own left held f p le e empty =
     record { bytes = []; items = []; consumed = Consumes-nil left; written = Appends-nil held; read = starts own f le e; form_is = refl; empty = empty }
+
+pub told_unrefused : (form : Form) (own : Own) (left left' held held' : Option (List ℕ)) (f : FeedState) (p : Printer)
+    → IsToldTo form own left left' held held' f p → IsUnrefused own left left'
+told_unrefused form own left left' held held' f p t = (t.bytes, t.read.now, t.consumed, t.read.is, t.read.unrefused)
+
+-- where nothing is read
+pub nothing_unrefused : (own : Own) (left : Option (List ℕ)) → own.limit ≤ 1048576 → IsUnrefused own left left
+nothing_unrefused own left le =
+    ([], stopped (stage.Handshake own) [] None, Consumes-nil left, open_comes (stage.Handshake own) [] (omega (arith, le)) (hand_open own), refl)
+
+-- where a pump into a new feed read last
+pub pumped_unrefused : {R : Type 0} (left : R → Option (List ℕ)) (reads : R → ℕ) (own : Own) (f : FeedState) (old new : R) → own.limit ≤ 1048576
+    → f ≡ record { stage = stage.Handshake own; held = []; refused = None }
+    → (reads new ≡ reads old) ⊎ ((before : R) × IsOpenTo f (left old) (left before) × (reads new ≤ reads before + 1))
+    → (before : R) × IsUnrefused own (left old) (left before) × (reads new ≤ reads before + 1)
+pumped_unrefused left reads own f old new le is h =
+    elim h [
+      | inl e ↦ (old, nothing_unrefused own (left old) le, omega (arith, e))
+      | inr o ↦
+          let P : FeedState → Type 0 = λ g. IsOpenTo g (left old) (left o.0) in
+          (o.0, subst P is o.1, o.2)
+    ]
 
 joined : (form : Form) (own : Own) (a b c : Option (List ℕ)) (xs ys : List (ℕ × Item)) → Appends a b (texts form own xs) → Appends b c (texts form own ys)
     → Appends a c (texts form own (xs ++ ys))

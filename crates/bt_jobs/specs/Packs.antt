@@ -108,6 +108,12 @@ abbrev pub IsFrontPacked : Own → List ℕ → Type 0 → Option (List ℕ) →
 IsFrontPacked own text AtEnd held held' =
     (lines : List (List ℕ)) × (b : List ℕ) × (v : Outcome) × AreFrontLines text AtEnd lines × AreTaken own lines b v × AppendsFront held held' b
 
+-- the lines that line feeds end in what was read, from the one state of the source to the other, are taken
+abbrev pub AreTakenTo : Own → Option (List ℕ) → Option (List ℕ) → Type 0
+AreTakenTo own left left' =
+    (text : List ℕ) × (lines : List (List ℕ)) × (rest : List ℕ) × Consumes left left' text × IsSplit text lines rest
+        × (b : List ℕ) × (v : Outcome) × AreTaken own lines b v
+
 -- What was read is a text of these lines: what is written and answered is the result of packing them, or at a fault a prefix is written.
 -- AtEnd says that the text's end was read.
 abbrev pub IsPackRun : Own → Type 0 → Option (List ℕ) → Option (List ℕ) → Option (List ℕ) → Option (List ℕ) → Result PackEnd ToolFault → Type 0

@@ -126,14 +126,19 @@ prefixed p v n = p ++ verdict_line (ended_as v n)
 abbrev pub unpacked : Own → Writing
 unpacked own v n = script own v.items
 
+-- nothing that was read from the one state of the source to the other is refused
+abbrev pub IsUnrefused : Own → Option (List ℕ) → Option (List ℕ) → Type 0
+IsUnrefused own left left' = (b : List ℕ) × (v : Outcome) × Consumes left left' b × IsVerdict own b v × (v.refusal ≡ None)
+
 -- ---- for private contracts: how far a stream is read
 
--- b was read, these are its items, and the feed holds what follows them
+-- b was read and isn't refused, these are its items, and the feed holds what follows them
 pub record IsReadTo (own : Own) (b : List ℕ) (xs : List (ℕ × Item)) (f : FeedState) : Type 0 where
   pub comes : (later : List ℕ) (v : Outcome) → Comes f.stage (f.held ++ later) v → IsVerdict own (b ++ later) (with_items xs v)
   pub now : Outcome
   pub is : IsVerdict own b now
   pub items : now.items ≡ xs
+  pub unrefused : now.refusal ≡ None
 
 -- where the answer of one turn comes from
 abbrev pub IsEndOfTurn : Result (Option Ended) ToolFault → ℕ → ℕ → ℕ → ℕ → ℕ → ℕ → Type 0

@@ -2,7 +2,7 @@
 ghost use Rattle.std.specs.Prelude.{◌≡◌, ◌≢◌, ◌≤◌, ◌+◌, ◌^◌, ◌++◌, Err, IfErr};
 ghost use Rattle.bt_io.specs.Counts.{Grew};
 ghost use Rattle.bt_text.specs.Lines.{verdict_line as verdict_words};
-ghost use Rattle.bt_jobs.specs.Printed.{IsWritten, IsWrittenOut, IsEndOfReads, nothing, checked, prefixed};
+ghost use Rattle.bt_jobs.specs.Printed.{IsWritten, IsWrittenOut, IsUnrefused, IsEndOfReads, nothing, checked, prefixed};
 
 use crate::output::write_out;
 use crate::show::MAX_READS;
@@ -27,6 +27,7 @@ pub fn run_check<R: Source, W: Target>(
     ensures faults { IsEndOfReads result (R.reads reader.old) (R.reads reader.new) (R.failed_reads reader.old) (R.failed_reads reader.new) (R.ends reader.old) (R.ends reader.new) }
     ensures write { result ≡ Err ToolFault.Write → Grew (W.failed_writes writer.old) (W.failed_writes writer.new) }
     ensures reads { R.reads reader.new ≤ R.reads reader.old + 2 ^ 32 }
+    ensures needed { (before : R) × IsUnrefused own.now (R.left reader.old) (R.left before) × (R.reads reader.new ≤ R.reads before + 1) }
     ensures calm { result ≢ Err ToolFault.Read → R.failed_reads reader.new ≡ R.failed_reads reader.old }
 {
     run_check_after(alloc, b"", reader, writer, own)
@@ -48,6 +49,7 @@ pub fn run_check_after<R: Source, W: Target>(
     ensures faults { IsEndOfReads result (R.reads reader.old) (R.reads reader.new) (R.failed_reads reader.old) (R.failed_reads reader.new) (R.ends reader.old) (R.ends reader.new) }
     ensures write { result ≡ Err ToolFault.Write → Grew (W.failed_writes writer.old) (W.failed_writes writer.new) }
     ensures reads { R.reads reader.new ≤ R.reads reader.old + 2 ^ 32 }
+    ensures needed { (before : R) × IsUnrefused own.now (R.left reader.old) (R.left before) × (R.reads reader.new ≤ R.reads before + 1) }
     ensures calm { result ≢ Err ToolFault.Read → R.failed_reads reader.new ≡ R.failed_reads reader.old }
 {
     laws::one_verdict();

@@ -97,7 +97,7 @@ impl Sink for Listener {
 
     ghost takes = { Hears };
 
-    ghost misses = { λ _ _ _. ⊥ };
+    ghost misses = { λ _ _ _ _. ⊥ };
 
     ghost calls = { λ l. l.items };
 

@@ -3,7 +3,7 @@ ghost use Rattle.std.specs.Prelude.{◌≡◌, ◌≢◌, ◌==◌, ◌≤◌, �
 ghost use Rattle.bt_wire.specs.declared.context.Own.{Own as Receiver};
 ghost use Rattle.bt_io.specs.Counts.{Grew};
 ghost use Rattle.bt_feed.specs.Stages.{number_of, start_of};
-ghost use Rattle.bt_jobs.specs.Packs.{IsPackRun};
+ghost use Rattle.bt_jobs.specs.Packs.{IsPackRun, AreTakenTo};
 ghost use Rattle.bt_jobs.specs.PackSteps.{IsPackedTo, IsLineEnd, IsCut, IsReadSo, IsPieceRead, IsHeld, IsScriptEnd};
 
 use crate::output::write_out;
@@ -190,6 +190,7 @@ pub fn run_pack<R: Source, W: Target>(
 ) -> Result<PackEnd, ToolFault>
     requires { (1 ≤ own.now.limit) × (own.now.limit ≤ 1048576) }
     ensures reads { R.reads reader.new ≤ R.reads reader.old + 2 ^ 32 }
+    ensures needed { (before : R) × AreTakenTo own.now (R.left reader.old) (R.left before) × (R.reads reader.new ≤ R.reads before + 1) }
     ensures unfailed { result ≢ Err ToolFault.Read → R.failed_reads reader.new ≡ R.failed_reads reader.old }
     ensures packed { IsPackRun own.now (Grew (R.ends reader.old) (R.ends reader.new)) (R.left reader.old) (R.left reader.new) (W.held writer.old) (W.held writer.new) result }
     ensures read { result ≡ Err ToolFault.Read → Grew (R.failed_reads reader.old) (R.failed_reads reader.new) }

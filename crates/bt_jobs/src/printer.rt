@@ -129,12 +129,13 @@ impl Printer {
 }
 
 impl Sink for Printer {
-    ghost use Rattle.std.specs.Prelude.{⊤};
+    ghost use Rattle.std.specs.Prelude.{◌≡◌};
+    ghost use Rattle.bt_feed.specs.declared.sink.SinkFault.TheVariants as faults;
     ghost use Rattle.bt_jobs.specs.Printed.{Prints};
 
     ghost takes = { Prints };
 
-    ghost misses = { λ _ _ _. ⊤ };
+    ghost misses = { λ _ _ fault _. fault ≡ faults.Memory };
 
     ghost calls = { λ p. p.calls };
 

@@ -5,7 +5,7 @@ ghost use Rattle.bt_wire.specs.declared.item.Item.{Item};
 ghost use Rattle.bt_jobs.specs.declared.printer.Form.TheVariants as shape;
 ghost use Rattle.bt_json.specs.Objects.{lines_of as json_lines_of};
 ghost use Rattle.bt_text.specs.Lines.{lines_of};
-ghost use Rattle.bt_jobs.specs.Printed.{IsWritten, IsReadTo, IsTurn, IsEndOfReads, IsEndOfTurn, form_of, text_in, items_in, all_in, verdict_of, unpacked};
+ghost use Rattle.bt_jobs.specs.Printed.{IsWritten, IsUnrefused, IsReadTo, IsTurn, IsEndOfReads, IsEndOfTurn, form_of, text_in, items_in, all_in, verdict_of, unpacked};
 
 use crate::printer::{Form, Printer};
 use bt_feed::{Feed, PumpError, Source, Target, pump_with};
@@ -60,6 +60,7 @@ fn tell<R: Source, W: Target>(
     ensures told { IsWritten (items_in (form_of printer.old) own.now) (items_in (form_of printer.old) own.now) own.now (Grew (R.ends reader.old) (R.ends reader.new)) (R.left reader.old) (R.left reader.new) (W.held writer.old) (W.held writer.new) result }
     ensures empty { OnOk result (text_in printer.new ≡ []) }
     ensures reads { R.reads reader.new ≤ R.reads reader.old + 2 ^ 32 }
+    ensures needed { (before : R) × IsUnrefused own.now (R.left reader.old) (R.left before) × (R.reads reader.new ≤ R.reads before + 1) }
     ensures unfailed { result ≢ Err ToolFault.Read → R.failed_reads reader.new ≡ R.failed_reads reader.old }
     ensures calm { OnOk result (W.failed_writes writer.new ≡ W.failed_writes writer.old) }
     ensures faults { IsEndOfReads result (R.reads reader.old) (R.reads reader.new) (R.failed_reads reader.old) (R.failed_reads reader.new) (R.ends reader.old) (R.ends reader.new) }
@@ -105,6 +106,7 @@ fn run_form<R: Source, W: Target>(
     requires { (1 ≤ own.now.limit) × (own.now.limit ≤ 1048576) }
     ensures unfailed { result ≢ Err ToolFault.Read → R.failed_reads reader.new ≡ R.failed_reads reader.old }
     ensures reads { R.reads reader.new ≤ R.reads reader.old + 2 ^ 32 }
+    ensures needed { (before : R) × IsUnrefused own.now (R.left reader.old) (R.left before) × (R.reads reader.new ≤ R.reads before + 1) }
     ensures shown { IsWritten (items_in form.now own.now) (all_in form.now own.now) own.now (Grew (R.ends reader.old) (R.ends reader.new)) (R.left reader.old) (R.left reader.new) (W.held writer.old) (W.held writer.new) result }
     ensures faults { IsEndOfReads result (R.reads reader.old) (R.reads reader.new) (R.failed_reads reader.old) (R.failed_reads reader.new) (R.ends reader.old) (R.ends reader.new) }
     ensures write { result ≡ Err ToolFault.Write → Grew (W.failed_writes writer.old) (W.failed_writes writer.new) }
@@ -137,6 +139,7 @@ pub fn run_show<R: Source, W: Target>(
     requires { (1 ≤ own.now.limit) × (own.now.limit ≤ 1048576) }
     ensures unfailed { result ≢ Err ToolFault.Read → R.failed_reads reader.new ≡ R.failed_reads reader.old }
     ensures reads { R.reads reader.new ≤ R.reads reader.old + 2 ^ 32 }
+    ensures needed { (before : R) × IsUnrefused own.now (R.left reader.old) (R.left before) × (R.reads reader.new ≤ R.reads before + 1) }
     ensures shown { IsWritten (items_in shape.Show own.now) (lines_of own.now) own.now (Grew (R.ends reader.old) (R.ends reader.new)) (R.left reader.old) (R.left reader.new) (W.held writer.old) (W.held writer.new) result }
     ensures faults { IsEndOfReads result (R.reads reader.old) (R.reads reader.new) (R.failed_reads reader.old) (R.failed_reads reader.new) (R.ends reader.old) (R.ends reader.new) }
     ensures write { result ≡ Err ToolFault.Write → Grew (W.failed_writes writer.old) (W.failed_writes writer.new) }
@@ -158,6 +161,7 @@ pub fn run_json<R: Source, W: Target>(
     requires { (1 ≤ own.now.limit) × (own.now.limit ≤ 1048576) }
     ensures unfailed { result ≢ Err ToolFault.Read → R.failed_reads reader.new ≡ R.failed_reads reader.old }
     ensures reads { R.reads reader.new ≤ R.reads reader.old + 2 ^ 32 }
+    ensures needed { (before : R) × IsUnrefused own.now (R.left reader.old) (R.left before) × (R.reads reader.new ≤ R.reads before + 1) }
     ensures shown { IsWritten (items_in shape.Json own.now) (json_lines_of own.now) own.now (Grew (R.ends reader.old) (R.ends reader.new)) (R.left reader.old) (R.left reader.new) (W.held writer.old) (W.held writer.new) result }
     ensures faults { IsEndOfReads result (R.reads reader.old) (R.reads reader.new) (R.failed_reads reader.old) (R.failed_reads reader.new) (R.ends reader.old) (R.ends reader.new) }
     ensures write { result ≡ Err ToolFault.Write → Grew (W.failed_writes writer.old) (W.failed_writes writer.new) }
@@ -178,6 +182,7 @@ pub fn run_unpack<R: Source, W: Target>(
     requires { (1 ≤ own.now.limit) × (own.now.limit ≤ 1048576) }
     ensures unfailed { result ≢ Err ToolFault.Read → R.failed_reads reader.new ≡ R.failed_reads reader.old }
     ensures reads { R.reads reader.new ≤ R.reads reader.old + 2 ^ 32 }
+    ensures needed { (before : R) × IsUnrefused own.now (R.left reader.old) (R.left before) × (R.reads reader.new ≤ R.reads before + 1) }
     ensures unpacked { IsWritten (unpacked own.now) (unpacked own.now) own.now (Grew (R.ends reader.old) (R.ends reader.new)) (R.left reader.old) (R.left reader.new) (W.held writer.old) (W.held writer.new) result }
     ensures faults { IsEndOfReads result (R.reads reader.old) (R.reads reader.new) (R.failed_reads reader.old) (R.failed_reads reader.new) (R.ends reader.old) (R.ends reader.new) }
     ensures write { result ≡ Err ToolFault.Write → Grew (W.failed_writes writer.old) (W.failed_writes writer.new) }

@@ -1,10 +1,10 @@
-use Rattle.std.proofs.Common.{◌≡◌, ◌∙◌, ◌++◌, ℕ, [], take, Ok, refl, sym, subst, arith, length-take, rules}
+use Rattle.std.proofs.Common.{◌≡◌, ◌∙◌, ◌++◌, ℕ, [], take, Ok, refl, sym, subst, inl, inr, arith, length-take, rules}
 use Rattle.std.proofs.KnownBytes.{Consumes-nil, Consumes-trans, Consumes-kept}
 use Rattle.std.proofs.lemmas.Bool.{ne_eqb}
 use Rattle.std.proofs.lemmas.List.{append-nil}
 use Rattle.std.specs.Io.KnownBytes.{Consumes}
 use Rattle.bt_feed.specs.Pumps.{IsPieceEnd}
-use Rattle.bt_feed.proofs.Moving.{took_both, given_more, given_end, fed_none, fed_both, stopped_by, not_at_end, ended_open, ended_last, sink_fault}
+use Rattle.bt_feed.proofs.Moving.{took_both, given_more, given_end, fed_none, fed_both, stopped_by, not_at_end, ended_open, open_to, ended_last, sink_fault}
 use Rattle.bt_feed.proofs.pumping.pump_with.Goals as goal
 
 pub returns-in-Err-clause-moved : goal.returns-in-Err-clause-moved
@@ -94,3 +94,30 @@ returns-in-Err-pump_piece-clause-quiet g c = λ h. c.in-Err-pump_piece.ensures.q
 
 pub returns-in-Ok-eq0-clause-read : goal.returns-in-Ok-eq0-clause-read
 returns-in-Ok-eq0-clause-read g c = search rules
+
+pub returns-in-Err-clause-needed : goal.returns-in-Err-clause-needed
+returns-in-Err-clause-needed g c = inl refl
+
+pub returns-in-Ok-eq0-clause-needed : goal.returns-in-Ok-eq0-clause-needed
+returns-in-Ok-eq0-clause-needed g c =
+    let m = c.loop-turn.invariant.moved in
+    inr (c.loop-turn.reader, open_to c.args.feed.now c.loop-turn.feed _ _ m.0 m.1 m.4 c.loop-turn.invariant.limit c.loop-turn.invariant.waits m.2,
+        omega (arith, c.in-Ok-eq0.ensures.reads))
+
+pub returns-in-Err-pump_piece-clause-needed : goal.returns-in-Err-pump_piece-clause-needed
+returns-in-Err-pump_piece-clause-needed g c =
+    let m = c.loop-turn.invariant.moved in
+    inr (c.loop-turn.reader, open_to c.args.feed.now c.loop-turn.feed _ _ m.0 m.1 m.4 c.loop-turn.invariant.limit c.loop-turn.invariant.waits m.2,
+        omega (arith, c.in-Ok.ensures.reads))
+
+pub returns-in-Err-read-clause-needed : goal.returns-in-Err-read-clause-needed
+returns-in-Err-read-clause-needed g c =
+    let m = c.loop-turn.invariant.moved in
+    inr (c.loop-turn.reader, open_to c.args.feed.now c.loop-turn.feed _ _ m.0 m.1 m.4 c.loop-turn.invariant.limit c.loop-turn.invariant.waits m.2,
+        omega (arith, c.in-Err-read.ensures.reads))
+
+pub returns-clause-needed : goal.returns-clause-needed
+returns-clause-needed g c =
+    let m = c.loop-turn.invariant.moved in
+    inr (c.loop-turn.reader, open_to c.args.feed.now c.loop-turn.feed _ _ m.0 m.1 m.4 c.loop-turn.invariant.limit c.loop-turn.invariant.waits m.2,
+        omega arith)

@@ -1,11 +1,11 @@
-use Rattle.std.proofs.Common.{◌≡◌, ◌-◌, ◌++◌, Err, refl, subst}
+use Rattle.std.proofs.Common.{◌≡◌, ◌-◌, ◌++◌, Err, refl, subst, arith}
 use Rattle.bt_feed.specs.declared.pumping.PumpError.{PumpError}
 use Rattle.bt_io.specs.Counts.{Grew}
 use Rattle.bt_feed.specs.Pumps.{IsPumpEnd, IsEnd}
 use Rattle.bt_text.specs.declared.ended.Ended.TheVariants.{Accepted, Refused}
 use Rattle.bt_text.specs.declared.ended.ToolFault.TheVariants as fault
 use Rattle.bt_jobs.specs.Printed.{prefixed}
-use Rattle.bt_jobs.proofs.Printing.{is_accepted, is_refused, nothing_checked, checked_all}
+use Rattle.bt_jobs.proofs.Printing.{is_accepted, is_refused, nothing_checked, checked_all, nothing_unrefused, pumped_unrefused}
 use Rattle.bt_jobs.proofs.check.run_check_after.Goals as goal
 
 pub returns-in-Ok-pump_with-clause-checked : goal.returns-in-Ok-pump_with-clause-checked
@@ -40,3 +40,26 @@ returns-in-Err-ReadFault-clause-checked g c =
 
 pub returns-in-Err-ReadFault-clause-calm : goal.returns-in-Err-ReadFault-clause-calm
 returns-in-Err-ReadFault-clause-calm g c = λ other. absurd (other refl)
+
+pub returns-in-Ok-pump_with-clause-needed : goal.returns-in-Ok-pump_with-clause-needed
+returns-in-Ok-pump_with-clause-needed g c =
+    pumped_unrefused g.R.Source.left g.R.Source.reads c.args.own.now c.in-Ok.feed c.args.reader.now c.pump_with.new.reader c.requires.1 c.in-Ok.ensures.ok
+        c.in-Ok-pump_with.ensures.needed
+
+pub returns-in-Err-Refused-clause-needed : goal.returns-in-Err-Refused-clause-needed
+returns-in-Err-Refused-clause-needed g c =
+    pumped_unrefused g.R.Source.left g.R.Source.reads c.args.own.now c.in-Ok.feed c.args.reader.now c.pump_with.new.reader c.requires.1 c.in-Ok.ensures.ok
+        c.in-Err-Refused.ensures.needed
+
+pub returns-in-Err-Turns-clause-needed : goal.returns-in-Err-Turns-clause-needed
+returns-in-Err-Turns-clause-needed g c =
+    pumped_unrefused g.R.Source.left g.R.Source.reads c.args.own.now c.in-Ok.feed c.args.reader.now c.pump_with.new.reader c.requires.1 c.in-Ok.ensures.ok
+        c.in-Err-Turns.ensures.needed
+
+pub returns-in-Err-ReadFault-clause-needed : goal.returns-in-Err-ReadFault-clause-needed
+returns-in-Err-ReadFault-clause-needed g c =
+    pumped_unrefused g.R.Source.left g.R.Source.reads c.args.own.now c.in-Ok.feed c.args.reader.now c.pump_with.new.reader c.requires.1 c.in-Ok.ensures.ok
+        c.in-Err-ReadFault.ensures.needed
+
+pub returns-in_default-clause-needed : goal.returns-in_default-clause-needed
+returns-in_default-clause-needed g c = (c.args.reader.now, nothing_unrefused c.args.own.now _ c.requires.1, omega arith)

@@ -16,7 +16,7 @@ pub returns-in-Err-Refused-clause-heard : goal.returns-in-Err-Refused-clause-hea
 returns-in-Err-Refused-clause-heard g c = λ b xs r.
     let m = c.in-Err-Refused.ensures.moved in
     let P : PumpError → Type 0 = λ e. IsPumpEnd c.args.feed.now m.0 m.1 m.2 c.pump_with.new.feed (Err e) in
-    let Q : PumpError → Type 0 = λ e. IsGiven {A = ℕ} Hears (λ _ _ _. ⊥) c.args.listener.now m.2 c.pump_with.new.sink (Err e) in
+    let Q : PumpError → Type 0 = λ e. IsGiven {A = ℕ} Hears (λ _ _ _ _. ⊥) c.args.listener.now m.2 c.pump_with.new.sink (Err e) in
     let R : PumpError → Type 0 = λ e. IsEnd (Err e) → Grew (g.R.Source.ends c.args.reader.now) (g.R.Source.ends c.pump_with.new.reader) in
     let end = subst P c.in-Err-Refused.field-0-is m.5 in
     let took = subst Q c.in-Err-Refused.field-0-is m.4 in
@@ -27,7 +27,7 @@ pub returns-in-Err-Turns-clause-heard : goal.returns-in-Err-Turns-clause-heard
 returns-in-Err-Turns-clause-heard g c = λ b xs r.
     let m = c.in-Err-Turns.ensures.moved in
     let P : PumpError → Type 0 = λ e. IsPumpEnd c.args.feed.now m.0 m.1 m.2 c.pump_with.new.feed (Err e) in
-    let Q : PumpError → Type 0 = λ e. IsGiven {A = ℕ} Hears (λ _ _ _. ⊥) c.args.listener.now m.2 c.pump_with.new.sink (Err e) in
+    let Q : PumpError → Type 0 = λ e. IsGiven {A = ℕ} Hears (λ _ _ _ _. ⊥) c.args.listener.now m.2 c.pump_with.new.sink (Err e) in
     let end = subst P c.in-Err-Turns.field-0-is m.5 in
     let took = subst Q c.in-Err-Turns.field-0-is m.4 in
     turned _ b xs m.2 c.args.feed.now c.pump_with.new.feed _ _ c.args.listener.now c.pump_with.new.sink m.0 m.1 end.0 c.knows_all.result

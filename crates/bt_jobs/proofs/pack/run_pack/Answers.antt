@@ -11,7 +11,8 @@ use Rattle.bt_text.specs.declared.ended.ScriptReason.{ScriptReason}
 use Rattle.bt_text.specs.declared.ended.ToolFault.TheVariants as fault
 use Rattle.bt_jobs.specs.Packs.{stopped}
 use Rattle.bt_jobs.specs.PackSteps.{IsReadSo, IsPieceRead}
-use Rattle.bt_jobs.proofs.PackRuns.{timely_at_end, timely_line, run_starts, run_more, run_fails, more_fails, packed_run, nothing_run, no_bytes}
+use Rattle.bt_jobs.proofs.PackRuns.{timely_at_end, timely_line, run_starts, run_more, run_fails, more_fails, packed_run, nothing_run, no_bytes,
+    run_taken, nothing_taken}
 use Rattle.bt_jobs.proofs.pack.run_pack.Goals as goal
 
 pub returns-in_default-clause-packed : goal.returns-in_default-clause-packed
@@ -127,3 +128,47 @@ returns-clause-turns g c = λ _. (omega (arith, c.loop-turn.invariant.reads, c.l
 
 pub returns-in-Err-clause-unfailed : goal.returns-in-Err-clause-unfailed
 returns-in-Err-clause-unfailed g c = λ other. absurd (other refl)
+
+pub returns-in_default-clause-needed : goal.returns-in_default-clause-needed
+returns-in_default-clause-needed g c = (c.args.reader.now, nothing_taken c.args.own.now _ c.requires.1, omega arith)
+
+pub returns-in_default-with_capacity-clause-needed : goal.returns-in_default-with_capacity-clause-needed
+returns-in_default-with_capacity-clause-needed g c = (c.args.reader.now, nothing_taken c.args.own.now _ c.requires.1, omega arith)
+
+pub returns-in_default-with_capacity-2-clause-needed : goal.returns-in_default-with_capacity-2-clause-needed
+returns-in_default-with_capacity-2-clause-needed g c = (c.args.reader.now, nothing_taken c.args.own.now _ c.requires.1, omega arith)
+
+pub returns-in-Ok-end_script-clause-needed : goal.returns-in-Ok-end_script-clause-needed
+returns-in-Ok-end_script-clause-needed g c =
+    (c.loop-turn.reader, run_taken c.args.own.now _ _ _ _ c.loop-turn.line.items c.loop-turn.feed c.loop-turn.invariant.run,
+        omega (arith, c.in-Ok-eq0.ensures.reads))
+
+pub returns-in-Err-end_script-clause-needed : goal.returns-in-Err-end_script-clause-needed
+returns-in-Err-end_script-clause-needed g c =
+    (c.loop-turn.reader, run_taken c.args.own.now _ _ _ _ c.loop-turn.line.items c.loop-turn.feed c.loop-turn.invariant.run,
+        omega (arith, c.in-Ok-eq0.ensures.reads))
+
+pub returns-in-Err-write_out-clause-needed : goal.returns-in-Err-write_out-clause-needed
+returns-in-Err-write_out-clause-needed g c =
+    (c.loop-turn.reader, run_taken c.args.own.now _ _ _ _ c.loop-turn.line.items c.loop-turn.feed c.loop-turn.invariant.run,
+        omega (arith, c.in-Ok-read.ensures.reads))
+
+pub returns-in-Ok-Some-clause-needed : goal.returns-in-Ok-Some-clause-needed
+returns-in-Ok-Some-clause-needed g c =
+    (c.loop-turn.reader, run_taken c.args.own.now _ _ _ _ c.loop-turn.line.items c.loop-turn.feed c.loop-turn.invariant.run,
+        omega (arith, c.in-Ok-read.ensures.reads))
+
+pub returns-in-Err-take_piece-clause-needed : goal.returns-in-Err-take_piece-clause-needed
+returns-in-Err-take_piece-clause-needed g c =
+    (c.loop-turn.reader, run_taken c.args.own.now _ _ _ _ c.loop-turn.line.items c.loop-turn.feed c.loop-turn.invariant.run,
+        omega (arith, c.in-Ok-read.ensures.reads))
+
+pub returns-in-Err-clause-needed : goal.returns-in-Err-clause-needed
+returns-in-Err-clause-needed g c =
+    (c.loop-turn.reader, run_taken c.args.own.now _ _ _ _ c.loop-turn.line.items c.loop-turn.feed c.loop-turn.invariant.run,
+        omega (arith, c.in-Err.ensures.reads))
+
+pub returns-clause-needed : goal.returns-clause-needed
+returns-clause-needed g c =
+    (c.loop-turn.reader, run_taken c.args.own.now _ _ _ _ c.loop-turn.line.items c.loop-turn.feed c.loop-turn.invariant.run,
+        omega arith)

@@ -1,7 +1,7 @@
 use Rattle.std.proofs.Common.{Option, Ok, refl, subst, ◌∙◌, arith}
 use Rattle.bt_text.specs.declared.ended.Ended.{Ended}
 use Rattle.bt_jobs.specs.Printed.{IsTurn, IsEndOfTurn, form_of}
-use Rattle.bt_jobs.proofs.Printing.{told_first, told_more, told_end, told_fault, told_so_far}
+use Rattle.bt_jobs.proofs.Printing.{told_first, told_more, told_end, told_fault, told_so_far, told_unrefused, nothing_unrefused}
 use Rattle.bt_jobs.proofs.show.tell.Goals as goal
 
 pub loop-turn-init : goal.loop-turn-init
@@ -64,3 +64,21 @@ returns-clause-told g c = told_so_far _ _ c.args.own.now _ _ _ _ c.loop-turn.fee
 
 pub returns-clause-faults : goal.returns-clause-faults
 returns-clause-faults g c = (omega (arith, c.loop-turn.invariant.reads, c.loop-turn.auto._turn-end), c.loop-turn.invariant.ends)
+
+pub returns-in-Ok-Some-clause-needed : goal.returns-in-Ok-Some-clause-needed
+returns-in-Ok-Some-clause-needed g c =
+    (c.loop-turn.reader, told_unrefused _ c.args.own.now _ _ _ _ c.loop-turn.feed c.loop-turn.printer c.loop-turn.invariant.told,
+        c.in-Ok-Some.ensures.reads)
+
+pub returns-in-Err-clause-needed : goal.returns-in-Err-clause-needed
+returns-in-Err-clause-needed g c =
+    (c.loop-turn.reader, told_unrefused _ c.args.own.now _ _ _ _ c.loop-turn.feed c.loop-turn.printer c.loop-turn.invariant.told,
+        c.in-Err.ensures.reads)
+
+pub returns-clause-needed : goal.returns-clause-needed
+returns-clause-needed g c =
+    (c.loop-turn.reader, told_unrefused _ c.args.own.now _ _ _ _ c.loop-turn.feed c.loop-turn.printer c.loop-turn.invariant.told,
+        omega arith)
+
+pub returns-in_default-clause-needed : goal.returns-in_default-clause-needed
+returns-in_default-clause-needed g c = (c.args.reader.now, nothing_unrefused c.args.own.now _ c.requires.limit.1, omega arith)

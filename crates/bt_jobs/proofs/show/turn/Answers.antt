@@ -1,6 +1,6 @@
-use Rattle.std.proofs.Common.{◌-◌, ◌++◌, ℕ, Err, refl, subst, arith}
+use Rattle.std.proofs.Common.{◌≡◌, ◌-◌, ◌++◌, ℕ, Err, refl, subst, arith}
 use Rattle.bt_text.specs.declared.ended.Ended.TheVariants.{Accepted, Refused}
-use Rattle.std.specs.Prelude.{⊤}
+use Rattle.bt_feed.specs.declared.sink.SinkFault.TheVariants as faults
 use Rattle.bt_feed.specs.declared.pumping.PumpError.{PumpError}
 use Rattle.bt_feed.specs.Pumps.{IsPumpEnd, IsGiven}
 use Rattle.bt_jobs.specs.Printed.{Prints, form_of}
@@ -23,7 +23,7 @@ pub returns-in-Err-Refused-clause-told : goal.returns-in-Err-Refused-clause-told
 returns-in-Err-Refused-clause-told g c = λ own b xs le r empty.
     let m = c.in-Err-Refused.ensures.moved in
     let P : PumpError → Type 0 = λ e. IsPumpEnd c.args.feed.now m.0 m.1 m.2 c.pump_with.new.feed (Err e) in
-    let Q : PumpError → Type 0 = λ e. IsGiven {A = ℕ} Prints (λ _ _ _. ⊤) c.args.printer.now m.2 c.pump_with.new.sink (Err e) in
+    let Q : PumpError → Type 0 = λ e. IsGiven {A = ℕ} Prints (λ _ _ fault _. fault ≡ faults.Memory) c.args.printer.now m.2 c.pump_with.new.sink (Err e) in
     let end = subst P c.in-Err-Refused.field-0-is m.5 in
     let took = subst Q c.in-Err-Refused.field-0-is m.4 in
     let on : IsPumpedOn own b xs c.args.feed.now c.pump_with.new.feed (g.R.Source.left c.args.reader.now) (g.R.Source.left c.pump_with.new.reader)
@@ -37,7 +37,7 @@ pub returns-in-Err-Turns-clause-told : goal.returns-in-Err-Turns-clause-told
 returns-in-Err-Turns-clause-told g c = λ own b xs le r empty.
     let m = c.in-Err-Turns.ensures.moved in
     let P : PumpError → Type 0 = λ e. IsPumpEnd c.args.feed.now m.0 m.1 m.2 c.pump_with.new.feed (Err e) in
-    let Q : PumpError → Type 0 = λ e. IsGiven {A = ℕ} Prints (λ _ _ _. ⊤) c.args.printer.now m.2 c.pump_with.new.sink (Err e) in
+    let Q : PumpError → Type 0 = λ e. IsGiven {A = ℕ} Prints (λ _ _ fault _. fault ≡ faults.Memory) c.args.printer.now m.2 c.pump_with.new.sink (Err e) in
     let end = subst P c.in-Err-Turns.field-0-is m.5 in
     let took = subst Q c.in-Err-Turns.field-0-is m.4 in
     let on : IsPumpedOn own b xs c.args.feed.now c.pump_with.new.feed (g.R.Source.left c.args.reader.now) (g.R.Source.left c.pump_with.new.reader)
@@ -45,7 +45,7 @@ returns-in-Err-Turns-clause-told g c = λ own b xs le r empty.
     record { limit = omega (arith, le); before = r; consumed = m.3; empty = empty; took = took; pumped = end.1 } in
     goes_on own b xs c.args.feed.now c.pump_with.new.feed _ _ _ _ c.args.printer.now c.pump_with.new.sink c.flush-in-Err-Turns.new.self m.0 m.1 m.2 end.0
         c.flush-in-Err-Turns.result
-    c.one_verdict.ensures.one on end.2 c.flush-in-Err-Turns.ensures.flushed c.flush-in-Err-Turns.ensures.form
+    c.one_verdict.ensures.one on end.2 end.3 c.flush-in-Err-Turns.ensures.flushed c.flush-in-Err-Turns.ensures.form
 
 pub returns-in-Err-ReadFault-clause-told : goal.returns-in-Err-ReadFault-clause-told
 returns-in-Err-ReadFault-clause-told g c = λ own b xs le r empty.
