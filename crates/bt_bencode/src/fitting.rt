@@ -22,7 +22,7 @@ fn fits_in(room: usize, value: &Value) -> bool
 {
     match value {
         Value::Int(n) => {
-            // A number behind a reference is known to be in its type's range once it is read.
+            // What a reference refers to is known to be in its type's range once it is read.
             let _n = *n;
             true
         }

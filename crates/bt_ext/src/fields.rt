@@ -51,7 +51,7 @@ pub fn metadata_size(dict: &Value) -> Option<u64>
     natural(int_at(dict, b"metadata_size"))
 }
 
-/// The same of a checked slice.
+/// Like [`metadata_size`], over a checked slice.
 pub fn metadata_size_ref(dict: &DictRef) -> Option<u64>
     ensures { result ≡ size_of (dictionary dict.now.tree.0) }
 {
@@ -129,7 +129,7 @@ pub fn bad_field(dict: &Value) -> bool
     bad_m(dict) || bad_size(dict)
 }
 
-/// The same of a checked slice.
+/// Like [`bad_field`], over a checked slice.
 pub fn bad_field_ref(dict: &DictRef) -> bool
     ensures { result ≡ has_bad_field (dictionary dict.now.tree.0) }
 {

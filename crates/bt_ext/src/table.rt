@@ -143,7 +143,7 @@ impl<A: Allocator + Copy> Table<A> {
     /// Applies an extended handshake's dictionary: the pairs of its `m`, in order, if that is a dictionary. Of pairs with
     /// one name the first counts. A pair with a name of more than 255 bytes, or with a value that is no integer from 0 to
     /// 255, does nothing. The value 0 removes the name, another replaces the name's id or adds the name, and a new name
-    /// does nothing where 256 names are there. For want of memory the table stays as it was.
+    /// does nothing where 256 names are there. Out of memory, the table stays as it was.
     pub fn apply(&mut self, dict: &Value) -> Result<(), AllocError>
         ensures ok { OnOk result (self.new ≡ applied (tree_of dict.now) self.old) }
         ensures table { IsTable self.new }
@@ -153,7 +153,7 @@ impl<A: Allocator + Copy> Table<A> {
         self.enter_all(&told)
     }
 
-    /// The same of a checked slice.
+    /// Like [`Table::apply`], over a checked slice.
     pub fn apply_ref(&mut self, dict: &DictRef) -> Result<(), AllocError>
         ensures ok { OnOk result (self.new ≡ applied (dictionary dict.now.tree.0) self.old) }
         ensures table { IsTable self.new }

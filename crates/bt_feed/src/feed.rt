@@ -19,8 +19,8 @@ pub enum FeedError {
     /// The limit isn't 1 to 1,048,576.
     #[error("the limit isn't 1 to 1,048,576")]
     BadLimit,
-    /// The stream starts behind offset 2^62.
-    #[error("the stream starts behind offset 2^62")]
+    /// The stream starts after offset 2^62.
+    #[error("the stream starts after offset 2^62")]
     BadBase,
     #[error("out of memory")]
     Memory,
@@ -83,7 +83,7 @@ impl<A: Allocator> Feed<A> {
         })
     }
 
-    /// A feed for the messages behind a handshake, from this offset of the stream on.
+    /// A feed for the messages after a handshake, from this offset of the stream on.
     pub fn new_at(alloc: A, context: Context, order: Order, base: u64) -> Result<Feed<A>, FeedError>
         ensures ok { IfOk result (λ feed. feed ≡ record { stage = Stage.Message context order base 1; held = []; refused = None }) }
         ensures limit { IsErrOf result FeedError.BadLimit ↔ ((context.limit ≡ 0) ⊎ (1048576 < context.limit)) }
@@ -115,7 +115,7 @@ impl<A: Allocator> Feed<A> {
         self.progress.stage.start()
     }
 
-    /// The present item's number: 0 for the handshake, k for the k-th message behind it.
+    /// The present item's number: 0 for the handshake, k for the k-th message after it.
     pub fn number(&self) -> u64
         ensures value { result ≡ number_of self.now.stage }
         ensures feed { IsFeed self.now }
@@ -187,7 +187,7 @@ impl<A: Allocator> Feed<A> {
         self.progress.refusal(self.buffer.as_slice())
     }
 
-    /// What the stream comes to that ends here: the offset, or a refusal, or `Untaken` where a whole item is held that `take`
+    /// The verdict if the stream ends here: the offset, or a refusal, or `Untaken` where a whole item is held that `take`
     /// hasn't judged.
     pub fn finish(&self) -> Result<u64, Finish>
         ensures { result ≡ finish_of self.now }

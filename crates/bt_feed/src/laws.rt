@@ -33,7 +33,7 @@ pub fn one_answer()
     ensures { AnswerIsOne }
 {}
 
-/// What the bytes come to that a feed holds, and those that follow.
+/// The outcome of the bytes that a feed holds and those that follow.
 pub fn outcomes()
     ensures item { ItemComes }
     ensures fault { FaultComes }

@@ -20,10 +20,10 @@ pub enum SinkFault {
 
 /// What takes the items of a stream, in their order.
 pub trait Sink {
-    /// What it is behind an item that it took, which started at this offset.
+    /// What it is after an item that it took, which started at this offset.
     ghost takes: { Self → ℕ × Item → Self → Type 0 };
 
-    /// What it is behind one that it didn't take.
+    /// What it is after one that it didn't take.
     ghost misses: { Self → ℕ × Item → Self → Type 0 };
 
     /// How many items it was given, and how many of them it didn't take, each up to 2^64 - 1.

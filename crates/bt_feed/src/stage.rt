@@ -88,7 +88,7 @@ impl Stage {
         }
     }
 
-    /// Moves on behind an item of so many bytes.
+    /// Moves on to what follows an item of `size` bytes.
     #[inline(always)]
     pub(crate) fn advance(&mut self, view: &View, size: usize)
         requires start { start_of self.old + size < 2 ^ 64 }

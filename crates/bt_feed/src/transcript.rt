@@ -73,9 +73,9 @@ fn read_pieces(alloc: Global, mut feed: Feed, pieces: &[Vec<u8>]) -> Result<Tran
 
 /// Reads a stream that comes in these pieces: the answer is that for the joined bytes.
 pub fn read_all(alloc: Global, own: Own, pieces: &[Vec<u8>]) -> Result<Transcript, FeedError>
-    // It is what the joined bytes come to,
+    // It is a transcript of the joined bytes,
     ensures verdict { IfOk result (λ t. IsTranscript own (flat_map (λ piece. piece.items) pieces.now) t.items.items t.refused t.rest) }
-    // and they come to nothing else.
+    // and they have no other.
     ensures only { IfOk result (λ t. (items : List (ℕ × Item)) (refused : Option Refusal) (rest : ℕ)
         → IsTranscript own (flat_map (λ piece. piece.items) pieces.now) items refused rest
         → (t.items.items ≡ items) × (t.refused ≡ refused) × (t.rest ≡ rest)) }

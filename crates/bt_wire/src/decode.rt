@@ -51,7 +51,7 @@ pub fn view_window<'a>(
     }
 }
 
-/// The id behind the length.
+/// The id after the length.
 #[inline(always)]
 fn id_at(window: &[u8]) -> u8
     requires { 5 ≤ length window.now }

@@ -8,7 +8,7 @@ use crate::fault::{Header, Reason, Refused};
 use crate::header::judge_header;
 use crate::message::MessageView;
 
-/// What the bytes at the front of a stream come to: a fault, less than a message, or a message and its length.
+/// What a stream begins with: a fault, less than a message, or a message and its length.
 #[derive(Drop)]
 pub enum Front<'a> {
     Refused(Refused),

@@ -75,7 +75,7 @@ fn has_other_hash(own: &Own, hash: &[u8]) -> bool
     }
 }
 
-/// What the bytes at the front of a stream come to: a fault, less than a handshake, or a handshake.
+/// What a stream begins with: a fault, less than a handshake, or a handshake.
 #[derive(Clone, Copy)]
 pub enum Opening {
     Refused(Refused),

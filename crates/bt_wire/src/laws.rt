@@ -36,7 +36,7 @@ pub fn each_has_a_verdict(own: &Own, stream: &[u8])
     }
 }
 
-/// The messages behind a handshake come to an outcome.
+/// The messages after a handshake have an outcome.
 fn walk(context: &Context, messages: &[u8])
     ensures { (v : Outcome) × IsOutcome context.now Order.Fresh 68 1 messages.now v }
 {
