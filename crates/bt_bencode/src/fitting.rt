@@ -7,8 +7,10 @@ ghost use Rattle.bt_bencode.specs.Views.{tree_of};
 use crate::tree::{Pairs, Value, Values};
 use crate::{MAX_NESTING, MAX_STRING};
 
-/// Whether strings and keys have at most `MAX_STRING` bytes, and lists and dictionaries nest at most `MAX_NESTING`
-/// deep, the outermost counted 1. It takes no memory.
+/// Whether a value's strings are short enough, and its nesting flat enough.
+///
+/// Strings and keys have at most `MAX_STRING` bytes, and lists and dictionaries nest at most `MAX_NESTING` deep, the
+/// outermost counted 1. It takes no memory.
 pub fn fits(value: &Value) -> bool
     ensures { IsTrue result ↔ Fits (tree_of value.now) }
 {

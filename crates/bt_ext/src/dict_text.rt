@@ -51,7 +51,9 @@ fn put_typed(msg_type: u8, piece: u32, text: &mut DictText, at: usize) -> usize
     put_bytes(b"d", text, place)
 }
 
-/// Writes the dictionary of a request, a data message or a reject at the array's end, and says where it starts.
+/// Writes the dictionary of a metadata message at the array's end.
+///
+/// The message is a request, data or a reject. Returns where the dictionary starts.
 pub fn message_text(kind: Kind, text: &mut DictText) -> usize
     requires { IsMade kind }
     ensures room { result ≤ 160 }
@@ -95,8 +97,10 @@ fn put_m(id: Option<ExtId>, text: &mut DictText, at: usize) -> usize
     put_bytes(b"d", text, place)
 }
 
-/// Writes the dictionary of an end's extended handshake at the array's end, and says where it starts: its id, if it has
-/// one, and the size of the metadata that it serves, if it serves any.
+/// Writes the dictionary of an end's extended handshake at the array's end.
+///
+/// It has the end's id, if the end has one, and the size of the metadata that it serves, if it serves any. Returns where
+/// the dictionary starts.
 pub fn handshake_text(id: Option<ExtId>, size: Option<u64>, text: &mut DictText) -> usize
     ensures room { result ≤ 160 }
     ensures text { drop result text.new ≡ ben (handshake_tree id size) }

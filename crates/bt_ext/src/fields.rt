@@ -43,8 +43,9 @@ fn natural(value: Option<i64>) -> Option<u64>
     u64::try_from(n).ok()
 }
 
-/// The size of the metadata that an extended handshake tells (BEP 9): the first pair `metadata_size`, where it is an
-/// integer of at least 0.
+/// The size of the metadata that an extended handshake announces (BEP 9).
+///
+/// It is the value of the first pair `metadata_size`, if that is an integer of at least 0.
 pub fn metadata_size(dict: &Value) -> Option<u64>
     ensures { result ≡ size_of (tree_of dict.now) }
 {

@@ -62,8 +62,10 @@ fn m_dict(alloc: Global, id: Option<ExtId>) -> Result<Pairs, AllocError>
     Ok(Pairs::from_vec(pairs))
 }
 
-/// The dictionary of an end's extended handshake: `m` with its own id of `ut_metadata`, if it has one, and the size of
-/// the metadata that it serves, if it serves any.
+/// The dictionary of an end's extended handshake.
+///
+/// It has `m` with the end's own id of `ut_metadata`, if the end has one, and the size of the metadata that the end
+/// serves, if it serves any.
 pub fn handshake_dict(
     alloc: Global,
     id: Option<ExtId>,

@@ -76,8 +76,10 @@ fn end<A: Allocator>(feed: &Feed<A>) -> Result<u64, PumpError>
     }
 }
 
-/// Reads to the end, `max_turns` times at most and each time into the buffer, which isn't empty, and gives the sink each item with
-/// its offset. It answers the verdict there: the offset of the stream's end, or its refusal. It takes no memory itself.
+/// Reads to the end, and gives the sink each item with its offset.
+///
+/// It reads `max_turns` times at most, each time into the buffer, which isn't empty. It returns the offset of the stream's
+/// end. It takes no memory itself.
 ///
 /// A refusal, a sink's fault, a failed read and the end stop it at once. After a refusal or a sink's fault, what is left of
 /// the piece in the buffer is lost. After `Turns` or `ReadFault` nothing is lost, and another call goes on.

@@ -20,7 +20,9 @@ use bt_bencode::ByteString;
 use bt_ext::{ViewError, copy_ext, view_ext};
 use std::alloc::{AllocError, Global};
 
-/// Reads the bytes of one message as parts of them, where `judge_header` lets them be a window. It takes no memory.
+/// Reads the bytes of one message as parts of them.
+///
+/// `judge_header` has let the bytes be a window. The call takes no memory.
 ///
 /// # Errors
 /// The first fault of the fields, and its place in the message: `BadIndex` or `SpareBits`, and of an extended message

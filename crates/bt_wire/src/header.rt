@@ -192,7 +192,9 @@ fn refused(at: u64, reason: Reason) -> Option<Refused>
     Some(Refused { at, reason })
 }
 
-/// Judges a message by its first five bytes, or by fewer where fewer are there (BEP 3, "peer protocol").
+/// Judges a message by its first five bytes, or by fewer where fewer are there.
+///
+/// See BEP 3, "peer protocol".
 #[tactic(auto, unfolding(crate::specs::Headers::header_of, crate::specs::Faults::header_fault))]
 #[inline(always)]
 pub fn judge_header(context: &Context, order: Order, head: &[u8]) -> Header
