@@ -40,8 +40,7 @@ impl<'a> DictRef<'a> {
         Ok(value)
     }
 
-    /// The least offset at which the spelling of a key starts that isn't above the key before it in its dictionary, at
-    /// any depth.
+    /// The offset of the first key, at any depth, that isn't above the key before it.
     pub fn first_unsorted(&self) -> Option<usize>
         ensures { result ≡ unsorted (dictionary self.now.tree.0) }
     {
@@ -55,7 +54,7 @@ impl<'a> DictRef<'a> {
         self.value_behind(key).is_some()
     }
 
-    /// The integer of the first pair with the key; `None` where its value is of another kind.
+    /// The integer of the first pair with the key. `None`: its value is of another kind.
     pub fn lookup_int(&self, key: &[u8]) -> Option<i64>
         ensures { result ≡ option_and_then integer_of (value_at key.now self.now.tree.0) }
     {
@@ -65,7 +64,7 @@ impl<'a> DictRef<'a> {
         }
     }
 
-    /// The bytes of the first pair with the key; `None` where its value is of another kind.
+    /// The bytes of the first pair with the key. `None`: its value is of another kind.
     pub fn lookup_bytes(&self, key: &[u8]) -> Option<&'a [u8]>
         ensures { option_map (λ s. s.now) result ≡ option_and_then string_of (value_at key.now self.now.tree.0) }
     {
@@ -75,7 +74,9 @@ impl<'a> DictRef<'a> {
         }
     }
 
-    /// The dictionary of the first pair with the key; `None` where its value is of another kind.
+    /// The dictionary of the first pair with the key.
+    ///
+    /// `None`: there is no such pair, or its value is of another kind.
     pub fn lookup_dict(&self, key: &[u8]) -> Option<DictRef<'a>>
         ensures { option_map (λ d. d.tree.0) result ≡ option_and_then dictionary_of (value_at key.now self.now.tree.0) }
     {
@@ -106,8 +107,9 @@ impl<'a> DictRef<'a> {
     }
 }
 
-/// The dictionary that the payload begins with (BEP 3, "bencoding"), and its length in bytes. What follows isn't looked
-/// at, and each byte is passed once.
+/// The dictionary that the payload begins with, and its length in bytes.
+///
+/// See BEP 3, "bencoding". What follows the dictionary isn't looked at, and each byte is passed once.
 ///
 /// # Errors
 /// `Impossible` with the place of the first byte with which no fitting dictionary goes on, `Cut` where the whole payload

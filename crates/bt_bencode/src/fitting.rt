@@ -7,8 +7,10 @@ ghost use Rattle.bt_bencode.specs.Views.{tree_of};
 use crate::tree::{Pairs, Value, Values};
 use crate::{MAX_NESTING, MAX_STRING};
 
-/// Whether strings and keys have at most `MAX_STRING` bytes, and lists and dictionaries nest at most `MAX_NESTING`
-/// deep, the outermost counted 1. It takes no memory.
+/// Whether a value's strings are short enough, and its nesting flat enough.
+///
+/// Strings and keys have at most `MAX_STRING` bytes, and lists and dictionaries nest at most `MAX_NESTING` deep, the
+/// outermost counted 1. It takes no memory.
 pub fn fits(value: &Value) -> bool
     ensures { IsTrue result ↔ Fits (tree_of value.now) }
 {
@@ -22,7 +24,7 @@ fn fits_in(room: usize, value: &Value) -> bool
 {
     match value {
         Value::Int(n) => {
-            // A number behind a reference is known to be in its type's range once it is read.
+            // What a reference refers to is known to be in its type's range once it is read.
             let _n = *n;
             true
         }

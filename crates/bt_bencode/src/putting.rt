@@ -27,7 +27,9 @@ fn put_digits(n: u64, text: &mut [u8], at: usize) -> usize
     write_digits(n, text, at)
 }
 
-/// Puts the spelling of an integer in front of the place, which has 22 bytes before it, and says where it starts.
+/// Puts the spelling of an integer in front of the place, and says where it starts.
+///
+/// There are at least 22 bytes before the place.
 pub fn put_number(n: u64, text: &mut [u8], at: usize) -> usize
     requires { (22 ≤ at) × (at ≤ length text.old) }
     ensures room { (result ≤ at) × (at ≤ result + 22) }
@@ -39,7 +41,9 @@ pub fn put_number(n: u64, text: &mut [u8], at: usize) -> usize
     put_bytes(b"i", text, place)
 }
 
-/// Puts the spelling of a key in front of the place, which has 21 bytes and the key's before it, and says where it starts.
+/// Puts the spelling of a key in front of the place, and says where it starts.
+///
+/// There are at least the key's bytes and 21 more before the place.
 pub fn put_key(key: &[u8], text: &mut [u8], at: usize) -> usize
     requires { (21 + length key.now ≤ at) × (at ≤ length text.old) }
     ensures room { (result ≤ at) × (at ≤ result + 21 + length key.now) }

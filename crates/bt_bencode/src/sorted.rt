@@ -11,8 +11,10 @@ use crate::read::{behind, read_int, split_string};
 use crate::tree::{Pairs, Value, Values};
 use std::cmp::Ordering;
 
-/// Whether in each dictionary, at any depth, each key is above the one before it (BEP 3: keys "appear in sorted order
-/// (sorted as raw strings)"). It takes no memory, and recurses by the value's nesting.
+/// Whether the keys of each dictionary, at any depth, are sorted.
+///
+/// BEP 3: keys "appear in sorted order (sorted as raw strings)", so each is above the one before it. It takes no memory,
+/// and recurses by the value's nesting.
 #[cycle(is_sorted)]
 pub fn is_sorted(value: &Value) -> bool
     ensures { IsTrue result ↔ IsSorted (tree_of value.now) }
@@ -134,8 +136,9 @@ fn walk_pairs(bytes: &[u8]) -> Result<&[u8], usize>
     Ok(behind(rest))
 }
 
-/// For a payload that begins with a fitting dictionary: the least offset at which the spelling of a key starts that
-/// isn't above the key before it in its dictionary, at any depth. It takes no memory.
+/// The offset of the first key, at any depth, that isn't above the key before it.
+///
+/// The payload begins with a fitting dictionary. It takes no memory.
 pub fn first_unsorted(payload: &[u8]) -> Option<usize>
     requires { (ps : PairsOfTrees) × (n : ℕ) × BeginsWith payload.now ps n }
     ensures { (ps : PairsOfTrees) (n : ℕ) → BeginsWith payload.now ps n → result ≡ unsorted (dictionary ps) }

@@ -89,7 +89,7 @@ fn push_pairs(out: &mut Vec<u8>, pairs: &Pairs) -> Result<(), AllocError>
     Ok(())
 }
 
-/// The one spelling of a value (BEP 3, "bencoding"), in one allocation of its length.
+/// The one spelling of a value, in one allocation of its length (BEP 3).
 ///
 /// # Errors
 /// `OutOfRange` exactly where the value doesn't fit, `Memory` where the room was refused.

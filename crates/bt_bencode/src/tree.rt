@@ -59,7 +59,9 @@ impl Model for Values {
     ghost size_decreases = { λ a h. trees_fall a.values.items };
 }
 
-/// The pairs of a dictionary in the order in which they are written, seen as pairs of a key and a tree.
+/// The pairs of a dictionary in the order in which they are written.
+///
+/// A clause sees them as pairs of a key and a tree.
 #[cycle(value)]
 #[derive(Debug, Drop)]
 pub struct Pairs {

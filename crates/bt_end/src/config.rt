@@ -9,7 +9,9 @@ use std::alloc::{Allocator, Global};
 use std::marker::Model;
 use thiserror::Error;
 
-/// What an end says of its pieces after the handshakes, where both ends know the Fast Extension (BEP 6).
+/// What an end says of its pieces after the handshakes (BEP 6).
+///
+/// It says it if both ends know the Fast Extension.
 #[derive(Clone, Copy, PartialEq, Eq, Debug)]
 pub enum Announce {
     /// Nothing.
@@ -31,8 +33,9 @@ pub enum Role<A: Allocator = Global> {
     Fetch,
 }
 
-/// How many blocks an end asks for at once, 1 to `WINDOW`: some peers answer one request at a time, others are slow with one.
-/// A clause sees the number.
+/// How many blocks an end asks for at once, 1 to `WINDOW`.
+///
+/// Some peers answer one request at a time, others are slow with one. A clause sees the number.
 #[derive(Clone, Copy, Debug, PartialEq, Eq)]
 pub struct Window {
     blocks: u8,

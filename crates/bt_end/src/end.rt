@@ -220,7 +220,9 @@ impl<A: Allocator + Copy> End<A> {
         Ok(End { feed, reactor })
     }
 
-    /// Takes bytes from the peer, up to the end of the present item or the byte with which it is refused, and says how many.
+    /// Takes bytes from the peer, and says how many.
+    ///
+    /// It takes them up to the end of the present item, or the byte with which that is refused.
     pub fn receive(&mut self, bytes: &[u8]) -> usize
         ensures taken { result ≡ taken self.old.feed bytes.now }
         ensures end { self.new ≡ received self.old bytes.now }
@@ -229,7 +231,9 @@ impl<A: Allocator + Copy> End<A> {
         self.feed.push(bytes)
     }
 
-    /// The bytes that are to be sent: fewer than `HIGH_WATER`, and one message of the limit's length more.
+    /// The bytes that are to be sent.
+    ///
+    /// They are fewer than `HIGH_WATER`, and one message of the limit's length more.
     pub fn outgoing(&self) -> &[u8]
         ensures value { result.now ≡ self.now.outbox }
         ensures bound { length result.now < high_water + self.now.end.own.limit + 4 }
@@ -260,7 +264,9 @@ impl<A: Allocator + Copy> End<A> {
         self.reactor.outbox.drain(writer, max)
     }
 
-    /// The metadata that was fetched: 1 to `MAX_METADATA` bytes, whose SHA-1 is the info hash.
+    /// The metadata that was fetched.
+    ///
+    /// It has 1 to `MAX_METADATA` bytes, and its SHA-1 is the info hash.
     pub fn metadata(&self) -> Option<&[u8]>
         ensures value { shown_slice result ≡ metadata_of self.now.end.part }
         ensures right { IfSome result (λ m. sha1 m.now ≡ self.now.end.handshake.info_hash) }
@@ -269,7 +275,7 @@ impl<A: Allocator + Copy> End<A> {
         self.reactor.part.metadata()
     }
 
-    /// The block of this number, where it is held and not all of the metadata is there yet.
+    /// The block `piece`, if it is held and not all of the metadata is there yet.
     pub fn block(&self, piece: u32) -> Option<&[u8]>
         ensures value { option_copied result ≡ fetched_block self.now.end.part piece }
         ensures assembly { IsFetched self.now.end.part }
@@ -349,15 +355,18 @@ impl<A: Allocator + Copy> End<A> {
         self.reactor.window = window;
     }
 
-    /// How often, on this connection, the blocks that came were those of other metadata: each block was held, and their SHA-1
-    /// wasn't the info hash. The fetch then started over. The count stays at 2^64 - 1.
+    /// How often, on this connection, the blocks were those of other metadata.
+    ///
+    /// Each block was held then, and their SHA-1 wasn't the info hash. The fetch started over. The count stays at 2^64 - 1.
     pub fn mismatches(&self) -> u64
         ensures { result ≡ self.now.end.mismatches }
     {
         self.reactor.mismatches
     }
 
-    /// How far the fetch has come: `None` where no size is known, or nothing is fetched. An end that is done holds all blocks.
+    /// How far the fetch has come.
+    ///
+    /// `None`: no size is known, or nothing is fetched. An end that is done holds all blocks.
     pub fn progress(&self) -> Option<Progress>
         ensures value { result ≡ progress_of self.now.end.part }
         ensures bounds { IfSome result (λ p. (0 < p.size) × (p.size ≤ max_metadata) × (p.held ≤ p.blocks)) }
@@ -365,9 +374,9 @@ impl<A: Allocator + Copy> End<A> {
         self.reactor.part.progress()
     }
 
-    /// Whether it fetches, and no block can come any more on this connection, whatever the peer sends.
+    /// Whether it fetches, and no block can come any more on this connection.
     ///
-    /// So it is where the end has no id of its own for metadata messages, where not both ends know the Extension Protocol
+    /// None can come, whatever the peer sends, where the end has no id of its own for metadata messages, where not both ends know the Extension Protocol
     /// (BEP 10), and where each block that isn't held was rejected. A peer that announced no id for metadata messages can
     /// announce one later, so that alone isn't hopeless.
     pub fn is_hopeless(&self) -> bool

@@ -1,7 +1,7 @@
 //! Laws over the definitions alone: each is the contract of a function that does nothing.
 ghost use Rattle.bt_end.specs.Laws.{FetchedIsFinished, DoneStays, RefusalStays, BeliefIsPeerContext};
 
-/// What an end fetches has the size that the peer announced, and the info hash as its SHA-1.
+/// Fetched metadata has the announced size, and its SHA-1 is the info hash.
 pub fn fetched_is_finished()
     ensures { FetchedIsFinished }
 {}

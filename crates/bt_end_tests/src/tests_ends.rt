@@ -325,7 +325,7 @@ fn false_blocks(rt: HostRuntime) -> Result<(), Fail> {
     Ok(())
 }
 
-/// Requests for the blocks 0 to 8, behind their ids.
+/// Requests for the blocks 0 to 8, after their ids.
 const REQUESTS: [&[u8; 25]; 9] = [
     b"d8:msg_typei0e5:piecei0ee",
     b"d8:msg_typei0e5:piecei1ee",
@@ -347,7 +347,7 @@ fn requests(alloc: Global, count: usize) -> Result<Vec<u8>, AllocError> {
     Ok(bytes)
 }
 
-/// Whether just the requests for the first blocks stand behind the handshakes.
+/// Whether just the requests for the first blocks follow the handshakes.
 fn asks_for(alloc: Global, end: &End, count: usize) -> Result<bool, AllocError> {
     let requests = requests(alloc, count)?;
     Ok(end.outgoing().get(98..) == Some(requests.as_slice()))

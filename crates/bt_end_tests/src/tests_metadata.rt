@@ -42,7 +42,7 @@ const STEPS: [Step; 14] = [
     Step::Ask(Some(1)),
 ];
 
-/// The steps one after the other, on an assembly that fills its heap: any request for memory behind `new` would be refused.
+/// The steps one after the other, on an assembly that fills its heap: any request for memory after `new` would be refused.
 #[test]
 fn steps_of_an_assembly(rt: HostRuntime) -> Result<(), Fail> {
     let heap = LocalHeap::new(rt.alloc(), 16_408)?;

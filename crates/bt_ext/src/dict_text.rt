@@ -52,7 +52,9 @@ fn put_typed(msg_type: u8, piece: u32, text: &mut DictText, at: usize) -> usize
     put_bytes(b"d", text, place)
 }
 
-/// Writes the dictionary of a request, a data message or a reject at the array's end, and says where it starts.
+/// Writes the dictionary of a metadata message at the array's end.
+///
+/// The message is a request, data or a reject. Returns where the dictionary starts.
 pub fn message_text(kind: Kind, text: &mut DictText) -> usize
     requires { IsMade kind }
     ensures room { result ≤ 220 }
@@ -106,8 +108,10 @@ fn put_m(reg: Registered, text: &mut DictText, at: usize) -> usize
     put_bytes(b"d", text, place)
 }
 
-/// Writes the dictionary of an end's extended handshake at the array's end, and says where it starts: its registered
-/// ids, and the size of the metadata that it serves, if it serves any.
+/// Writes the dictionary of an end's extended handshake at the array's end.
+///
+/// It has the end's registered ids, and the size of the metadata that it serves, if it serves any. Returns where the
+/// dictionary starts.
 pub fn handshake_text(reg: Registered, size: Option<u64>, text: &mut DictText) -> usize
     ensures room { result ≤ 220 }
     ensures text { drop result text.new ≡ ben (handshake_tree reg size) }

@@ -8,9 +8,9 @@ use thiserror::Error;
 /// An extended payload.
 #[derive(Debug, Drop)]
 pub enum Ext {
-    /// The extended handshake (BEP 10): a dictionary, and bytes behind it.
+    /// The extended handshake (BEP 10): a dictionary, and the bytes after it.
     Handshake { dict: Value, rest: ByteString },
-    /// A metadata message (BEP 9): a dictionary, and the block behind it.
+    /// A metadata message (BEP 9): a dictionary, and the block after it.
     Metadata { dict: Value, rest: ByteString },
     /// The sender has the piece of this index no more (`lt_donthave`).
     DontHave(u32),
@@ -21,9 +21,9 @@ pub enum Ext {
 /// An extended payload as parts of the slice that it was read from.
 #[derive(Clone, Copy)]
 pub enum ExtView<'a> {
-    /// The extended handshake (BEP 10): a dictionary, and bytes behind it.
+    /// The extended handshake (BEP 10): a dictionary, and the bytes after it.
     Handshake { dict: DictRef<'a>, rest: &'a [u8] },
-    /// A metadata message (BEP 9): a dictionary, and the block behind it.
+    /// A metadata message (BEP 9): a dictionary, and the block after it.
     Metadata { dict: DictRef<'a>, rest: &'a [u8] },
     /// The sender has the piece of this index no more (`lt_donthave`).
     DontHave(u32),
@@ -109,6 +109,6 @@ pub enum ExtReason {
     Unsorted,
     /// A field is of the wrong kind.
     BadField,
-    /// The block behind the dictionary has the wrong length.
+    /// The block after the dictionary has the wrong length.
     BadBlock,
 }

@@ -43,15 +43,16 @@ fn natural(value: Option<i64>) -> Option<u64>
     u64::try_from(n).ok()
 }
 
-/// The size of the metadata that an extended handshake tells (BEP 9): the first pair `metadata_size`, where it is an
-/// integer of at least 0.
+/// The size of the metadata that an extended handshake announces (BEP 9).
+///
+/// It is the value of the first pair `metadata_size`, if that is an integer of at least 0.
 pub fn metadata_size(dict: &Value) -> Option<u64>
     ensures { result ≡ size_of (tree_of dict.now) }
 {
     natural(int_at(dict, b"metadata_size"))
 }
 
-/// The same of a checked slice.
+/// Like [`metadata_size`], over a checked slice.
 pub fn metadata_size_ref(dict: &DictRef) -> Option<u64>
     ensures { result ≡ size_of (dictionary dict.now.tree.0) }
 {
@@ -129,7 +130,7 @@ pub fn bad_field(dict: &Value) -> bool
     bad_m(dict) || bad_size(dict)
 }
 
-/// The same of a checked slice.
+/// Like [`bad_field`], over a checked slice.
 pub fn bad_field_ref(dict: &DictRef) -> bool
     ensures { result ≡ has_bad_field (dictionary dict.now.tree.0) }
 {

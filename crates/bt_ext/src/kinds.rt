@@ -51,7 +51,7 @@ pub fn kind(dict: &Value) -> Kind
     )
 }
 
-/// The same of a checked slice.
+/// Like [`kind`], over a checked slice.
 pub fn kind_ref(dict: &DictRef) -> Kind
     ensures { result ≡ kind_of (dictionary dict.now.tree.0) }
 {

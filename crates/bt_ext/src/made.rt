@@ -68,7 +68,9 @@ fn m_dict(alloc: Global, reg: Registered) -> Result<Pairs, AllocError>
     Ok(Pairs::from_vec(pairs))
 }
 
-/// The dictionary of an end's extended handshake: `m` with its registered ids, and the size of the metadata that it
+/// The dictionary of an end's extended handshake.
+///
+/// It has `m` with the end's registered ids, if there are any, and the size of the metadata that the end
 /// serves, if it serves any.
 pub fn handshake_dict(
     alloc: Global,

@@ -27,9 +27,9 @@ pub fn is_malformed(kind: Kind) -> bool
     matches!(kind, Kind::Malformed)
 }
 
-/// Whether so many bytes may follow the dictionary of a message of this kind. A data message's piece is one of the
-/// metadata's blocks and has its length, 16,384 bytes or in the last block what is left; a request and a reject have
-/// nothing behind their dictionary.
+/// Whether `rest_len` bytes may follow the dictionary of a message of this kind. A data message's piece is one of the
+/// metadata's blocks and has its length, 16,384 bytes or in the last block what is left; nothing follows the dictionary
+/// of a request or a reject.
 pub fn block_ok(kind: Kind, rest_len: usize) -> bool
     ensures { result ≡ is_block_ok kind rest_len }
 {

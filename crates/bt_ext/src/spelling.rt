@@ -81,7 +81,9 @@ fn payload_len(value: &Ext) -> u64
     }
 }
 
-/// The length of the payload of a value that has a spelling of its own, at most 2^64 - 1. It takes no memory.
+/// The length of the payload of a value that has a spelling of its own.
+///
+/// It is at most 2^64 - 1. The call takes no memory.
 pub fn ext_len(reg: Registered, value: &Ext) -> Option<u64>
     ensures { MatchOption result (HasNoSpelling reg value.now)
         (λ n. HasSpelling reg value.now × (n ≡ min (length (payload_of value.now)) (2 ^ 64 - 1))) }
@@ -115,8 +117,11 @@ fn spell_payload(alloc: Global, value: &Ext) -> Result<Vec<u8>, SpellError>
     }
 }
 
-/// The extended id and the payload of a value; `OutOfRange` where it has none of its own: its dictionary is none or
-/// doesn't fit, it is raw under an id with a meaning, or no id is registered for it.
+/// The extended id and the payload of a value.
+///
+/// # Errors
+/// `OutOfRange` if the value has no spelling of its own: its dictionary is none or doesn't fit, it is raw under an id
+/// with a meaning, or no id is registered for it.
 pub fn spell_ext(alloc: Global, reg: Registered, value: &Ext) -> Result<(u8, Vec<u8>), SpellError>
     ensures ok { IfOk result (λ x. IsExt reg value.now x.0 x.1.items) }
     ensures out_of_range { (result ≡ Err SpellError.OutOfRange) ↔ HasNoSpelling reg value.now }
@@ -135,7 +140,9 @@ fn is_unsorted(dict: &Value) -> bool
     !is_sorted(dict)
 }
 
-/// The first reason for which the rules refuse a value that has a spelling of its own. It takes no memory.
+/// The first reason for which the rules refuse a value.
+///
+/// The value has a spelling of its own. The call takes no memory.
 pub fn ext_reason(rules: Rules, value: &Ext) -> Option<ExtReason>
     ensures { result ≡ reason_of rules value.now }
 {

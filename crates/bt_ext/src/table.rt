@@ -162,10 +162,14 @@ impl<A: Allocator + Copy> Table<A> {
         Ok(())
     }
 
-    /// Applies an extended handshake's dictionary: the pairs of its `m`, in order, if that is a dictionary. Of pairs with
-    /// one name the first counts. A pair with a name of more than 255 bytes, or with a value that is no integer from 0 to
-    /// 255, does nothing. The value 0 removes the name, another replaces the name's id or adds the name, and a new name
-    /// does nothing where 256 names are there. For want of memory the table stays as it was.
+    /// Applies the pairs of `m` in an extended handshake's dictionary, in order.
+    ///
+    /// Where `m` is no dictionary, nothing changes. Of pairs with one name the first counts. A pair with a name of more
+    /// than 255 bytes, or with a value that is no integer from 0 to 255, does nothing. The value 0 removes the name.
+    /// Another value replaces the name's id, or adds the name if fewer than 256 names are there.
+    ///
+    /// # Errors
+    /// `AllocError` if memory was refused. The table is then as before.
     pub fn apply(&mut self, dict: &Value) -> Result<(), AllocError>
         ensures ok { OnOk result (self.new ≡ applied (tree_of dict.now) self.old) }
         ensures table { IsTable self.new }
@@ -175,7 +179,7 @@ impl<A: Allocator + Copy> Table<A> {
         self.enter_all(&told)
     }
 
-    /// The same of a checked slice.
+    /// Like [`Table::apply`], over a checked slice.
     pub fn apply_ref(&mut self, dict: &DictRef) -> Result<(), AllocError>
         ensures ok { OnOk result (self.new ≡ applied (dictionary dict.now.tree.0) self.old) }
         ensures table { IsTable self.new }

@@ -98,7 +98,7 @@ pub fn told_of<'a, A: Allocator + Copy>(
     }
 }
 
-/// The same of a checked slice.
+/// Like [`told_of`], over a checked slice.
 pub fn told_of_ref<'a, A: Allocator + Copy>(
     alloc: A,
     dict: &DictRef<'a>,

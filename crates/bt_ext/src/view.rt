@@ -105,7 +105,9 @@ fn fault_in(rules: Rules, view: &ExtView) -> Option<ViewError>
     }
 }
 
-/// Reads an extended payload as parts of it, under the ids and the rules of the receiver. It takes no memory.
+/// Reads an extended payload as parts of it.
+///
+/// It is read under the ids and the rules of the receiver. The call takes no memory.
 pub fn view_ext<'a>(
     reg: Registered,
     rules: Rules,

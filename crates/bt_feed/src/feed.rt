@@ -19,8 +19,8 @@ pub enum FeedError {
     /// The limit isn't 1 to 1,048,576.
     #[error("the limit isn't 1 to 1,048,576")]
     BadLimit,
-    /// The stream starts behind offset 2^62.
-    #[error("the stream starts behind offset 2^62")]
+    /// The stream starts after offset 2^62.
+    #[error("the stream starts after offset 2^62")]
     BadBase,
     #[error("out of memory")]
     Memory,
@@ -36,7 +36,9 @@ impl From<AllocError> for FeedError {
     }
 }
 
-/// A stream that comes in any pieces: what it awaits, and the bytes of that which have come. The buffer is reserved once.
+/// A stream that comes in any pieces: what it awaits, and the bytes it holds.
+///
+/// The buffer is reserved once.
 #[derive(Drop)]
 pub struct Feed<A: Allocator = Global> {
     progress: Progress,
@@ -83,7 +85,7 @@ impl<A: Allocator> Feed<A> {
         })
     }
 
-    /// A feed for the messages behind a handshake, from this offset of the stream on.
+    /// A feed for the messages after a handshake, from this offset of the stream on.
     pub fn new_at(alloc: A, context: Context, order: Order, base: u64) -> Result<Feed<A>, FeedError>
         ensures ok { IfOk result (λ feed. feed ≡ record { stage = Stage.Message context order base 1; held = []; refused = None }) }
         ensures limit { IsErrOf result FeedError.BadLimit ↔ ((context.limit ≡ 0) ⊎ (1048576 < context.limit)) }
@@ -115,7 +117,7 @@ impl<A: Allocator> Feed<A> {
         self.progress.stage.start()
     }
 
-    /// The present item's number: 0 for the handshake, k for the k-th message behind it.
+    /// The present item's number: 0 for the handshake, k for the k-th message after it.
     pub fn number(&self) -> u64
         ensures value { result ≡ number_of self.now.stage }
         ensures feed { IsFeed self.now }
@@ -130,8 +132,10 @@ impl<A: Allocator> Feed<A> {
         self.progress.held(self.buffer.as_slice()).len()
     }
 
-    /// Takes bytes up to the end of the present item, or up to the byte with which it is refused, and says how many: none
-    /// while a whole item is held, and none after a refusal. It takes no memory.
+    /// Takes bytes up to the end of the present item, and says how many.
+    ///
+    /// It takes them up to the byte with which the item is refused, if it is. It takes none while a whole item is held,
+    /// and none after a refusal. The call takes no memory.
     #[inline(always)]
     pub fn push(&mut self, piece: &[u8]) -> usize
         ensures taken { result ≡ taken self.old piece.now }
@@ -180,15 +184,19 @@ impl<A: Allocator> Feed<A> {
         self.progress.answer(self.buffer.as_slice())
     }
 
-    /// The refusal that stands: the one that `take` gave, or that of bytes that no others can make an item.
+    /// The refusal that stands, if one does.
+    ///
+    /// It is the one that `take` gave, or that of held bytes that begin no item.
     pub fn refusal(&self) -> Option<Refusal>
         ensures { result ≡ standing self.now }
     {
         self.progress.refusal(self.buffer.as_slice())
     }
 
-    /// What the stream comes to that ends here: the offset, or a refusal, or `Untaken` where a whole item is held that `take`
-    /// hasn't judged.
+    /// The verdict if the stream ends here: the offset of its end, or a refusal.
+    ///
+    /// # Errors
+    /// The refusal, or `Untaken` if a whole item is held that `take` hasn't judged.
     pub fn finish(&self) -> Result<u64, Finish>
         ensures { result ≡ finish_of self.now }
     {

@@ -12,8 +12,9 @@ pub fn ended_is_closed()
     ensures stays { ClosedStays }
 {}
 
-/// Bytes that go on no further than where they are closed have ended there: they are the spelling of an item that is legal
-/// there, or have a fault. The function finds which, and keeps nothing.
+/// Bytes that are closed are the spelling of a legal item, or have a fault.
+///
+/// So it is where they go on no further than where they are closed. The function finds which, and keeps nothing.
 pub fn closed_has_ended(stage: &Stage, held: &[u8])
     requires limit { limit_of stage.now ≤ 1048576 }
     requires partial { IsPartial stage.now held.now }
@@ -22,7 +23,9 @@ pub fn closed_has_ended(stage: &Stage, held: &[u8])
     let _ = stage.judge(held);
 }
 
-/// A push takes the least number of bytes with which the item is closed, and pieces may be cut anywhere.
+/// A push takes the fewest bytes with which the item is closed.
+///
+/// Pieces may be cut anywhere.
 pub fn pushes()
     ensures least { TakenIsLeast }
     ensures join { PushesJoin }
@@ -33,7 +36,7 @@ pub fn one_answer()
     ensures { AnswerIsOne }
 {}
 
-/// What the bytes come to that a feed holds, and those that follow.
+/// The outcome of the bytes that a feed holds and those that follow.
 pub fn outcomes()
     ensures item { ItemComes }
     ensures fault { FaultComes }

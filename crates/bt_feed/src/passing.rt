@@ -12,7 +12,7 @@ use crate::stage::END;
 use crate::view::View;
 use bt_wire::{Context, Header, Order, judge_header, next_of_view, view_window};
 
-/// How many messages were handed on, how many bytes they have, the order behind them, and whether the sink took them all.
+/// How many messages were handed on, how many bytes they have, the order after them, and whether the sink took them all.
 #[derive(Drop)]
 pub struct Passed {
     pub messages: u64,

@@ -236,7 +236,7 @@ impl Progress {
         }
     }
 
-    /// What the feed answers, and moves on behind it.
+    /// What the feed answers, and moves on to what follows it.
     #[inline(always)]
     pub fn give<'a>(&mut self, buffer: &'a [u8]) -> Result<Option<View<'a>>, TakeError>
         requires { IsProgress self.old buffer.now }

@@ -63,7 +63,7 @@ fn pump_piece<S: Sink, A: Allocator>(
     }
 }
 
-/// What a stream comes to that ends here, where no whole item is held.
+/// The verdict if the stream ends here, where no whole item is held.
 fn end<A: Allocator>(feed: &Feed<A>) -> Result<u64, PumpError>
     requires { is_closed feed.now.stage feed.now.held ≡ false }
     ensures end { IsEndOf feed.now result }
@@ -76,11 +76,14 @@ fn end<A: Allocator>(feed: &Feed<A>) -> Result<u64, PumpError>
     }
 }
 
-/// Reads to the end, `max_turns` times at most and each time into the buffer, which isn't empty, and gives the sink each item with
-/// its offset. It answers what the stream comes to there: the offset of its end, or its refusal. It takes no memory itself.
+/// Reads to the end, and gives the sink each item with its offset.
 ///
-/// A refusal, a sink's fault, a failed read and the end stop it at once: no read follows. After a refusal or a sink's fault,
-/// what is left of the piece in the buffer is lost. After `Turns` or `ReadFault` nothing is lost, and another call goes on.
+/// It reads `max_turns` times at most, each time into the buffer, which isn't empty. It returns the offset of the stream's
+/// end. It takes no memory itself.
+///
+/// A refusal, a sink's fault, a failed read and the end stop it at once: no read follows. After a refusal or a sink's
+/// fault, what is left of the piece in the buffer is lost. After `Turns` or `ReadFault` nothing is lost, and another call
+/// goes on.
 pub fn pump_with<R: Source, S: Sink, A: Allocator>(
     reader: &mut R,
     feed: &mut Feed<A>,
@@ -118,7 +121,7 @@ pub fn pump_with<R: Source, S: Sink, A: Allocator>(
     Err(PumpError::Turns)
 }
 
-/// The same with reads of at most 4,096 bytes.
+/// Like [`pump_with`], with reads of at most 4,096 bytes.
 pub fn pump<R: Source, S: Sink, A: Allocator>(
     reader: &mut R,
     feed: &mut Feed<A>,

@@ -14,7 +14,7 @@ use bt_wire::{
 /// A message starts below this offset.
 pub(crate) const END: u64 = 1 << 62;
 
-/// What a feed awaits: the handshake, or a message of this number from this offset of the stream on.
+/// What a feed awaits: the handshake, or the message `number` from `start` on.
 #[derive(Clone, Copy, PartialEq, Eq)]
 pub enum Stage {
     Handshake(Own),
@@ -88,7 +88,7 @@ impl Stage {
         }
     }
 
-    /// Moves on behind an item of so many bytes.
+    /// Moves on to what follows an item of `size` bytes.
     #[inline(always)]
     pub(crate) fn advance(&mut self, view: &View, size: usize)
         requires start { start_of self.old + size < 2 ^ 64 }

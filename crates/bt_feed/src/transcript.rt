@@ -15,8 +15,9 @@ use crate::view::{refusal_in, to_item};
 use bt_wire::{Item, Own, Refusal};
 use std::alloc::{AllocError, Global};
 
-/// What is read of a stream: its items with their offsets, the refusal of what follows them, and how many bytes of an
-/// unfinished or a refused item are held.
+/// What is read of a stream: its items with their offsets, and what follows them.
+///
+/// That is a refusal, or nothing; and how many bytes of an unfinished or a refused item are held.
 #[derive(Drop)]
 pub struct Transcript {
     pub items: Vec<(u64, Item)>,
@@ -71,11 +72,11 @@ fn read_pieces(alloc: Global, mut feed: Feed, pieces: &[Vec<u8>]) -> Result<Tran
     })
 }
 
-/// Reads a stream that comes in these pieces: the answer is that for the joined bytes.
+/// Reads a stream that comes in these pieces, as if it came in one.
 pub fn read_all(alloc: Global, own: Own, pieces: &[Vec<u8>]) -> Result<Transcript, FeedError>
-    // It is what the joined bytes come to,
+    // It is a transcript of the joined bytes,
     ensures verdict { IfOk result (λ t. IsTranscript own (flat_map (λ piece. piece.items) pieces.now) t.items.items t.refused t.rest) }
-    // and they come to nothing else.
+    // and they have no other.
     ensures only { IfOk result (λ t. (items : List (ℕ × Item)) (refused : Option Refusal) (rest : ℕ)
         → IsTranscript own (flat_map (λ piece. piece.items) pieces.now) items refused rest
         → (t.items.items ≡ items) × (t.refused ≡ refused) × (t.rest ≡ rest)) }

@@ -49,7 +49,7 @@ impl From<Memory> for FetchError {
 /// Returns how a try ended whose exchange stopped so.
 ///
 /// # Errors
-/// `Memory` if the exchange stopped for want of it.
+/// `Memory` if the exchange ran out of memory.
 fn outcome_of(end: &End, stop: Stop, objection: Option<Objection>) -> Result<Outcome, Memory>
     ensures { (limits : Limits) (old new : Moment) → new.half ≡ end.now → IsStopped limits old new stop → IfOk result (λ outcome. IsOutcome end.now outcome) }
 {

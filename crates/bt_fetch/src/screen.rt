@@ -58,7 +58,7 @@ fn counted(is_counted: bool, count: u64) -> u64
 }
 
 impl<C: Connection + Drop> Screen<C> {
-    /// Returns the connection behind a screen, with no call made.
+    /// Returns the connection that a screen stands before, with no call made.
     pub fn new(inner: C, glimpse: Glimpse, most: u64, size: Option<u64>) -> Screen<C> {
         Screen {
             inner,

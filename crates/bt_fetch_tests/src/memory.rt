@@ -11,7 +11,7 @@ const MILLION: [u8; 20] = [
     0x65, 0x34, 0x01, 0x6f,
 ];
 
-/// What a fetch comes to: its answer, how many bytes were written and how many of them are an `a`, and how the tries ended.
+/// What a fetch results in: its answer, how many bytes were written and how many of them are an `a`, and how the tries ended.
 type Came = (
     Result<usize, FetchError>,
     usize,

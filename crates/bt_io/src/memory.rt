@@ -9,8 +9,9 @@ use crate::failed::Failed;
 use crate::source::Source;
 use crate::target::Target;
 
-/// A source of bytes in memory, which gives at most `most` bytes a call and fails once, at the call `fails_at`, counted
-/// from 1.
+/// A source of bytes in memory, which gives at most `most` bytes a call.
+///
+/// It fails once, at the call `fails_at`, counted from 1.
 #[derive(Drop)]
 pub struct MemSource {
     bytes: Vec<u8>,
@@ -80,8 +81,9 @@ impl Source for MemSource {
     }
 }
 
-/// A target in memory, which takes at most `most` bytes a call and fails once, at the call `fails_at`, counted from 1.
-/// With `most` 0 it takes nothing.
+/// A target in memory, which takes at most `most` bytes a call.
+///
+/// It fails once, at the call `fails_at`, counted from 1. With `most` 0 it takes nothing.
 #[derive(Drop)]
 pub struct MemTarget {
     bytes: Vec<u8>,

@@ -140,7 +140,7 @@ impl<A: Allocator> Outbox<A> {
         }
     }
 
-    /// Makes room for `n` bytes more: a `queue` of at most `n` bytes, as the next call, takes no memory.
+    /// Makes room for `n` bytes more, so that queuing them takes no memory.
     ///
     /// Dropped bytes make no buffer grow: where the room is `n` bytes and as many as are held, the buffer stays. One that
     /// grows has at most four times the bytes that are held, and `n`.
@@ -191,7 +191,9 @@ impl<A: Allocator> Outbox<A> {
         }
     }
 
-    /// Writes at most `max` bytes from the front, and drops those that were taken, also at a fault. It takes no memory.
+    /// Writes at most `max` bytes from the front, and drops those that were taken.
+    ///
+    /// It drops them also at a fault. The call takes no memory.
     pub fn drain<W: Target>(&mut self, writer: &mut W, max: usize) -> Result<usize, WriteFault>
         ensures count { IfOk result (λ n. n ≡ min max (length self.old.bytes)) }
         ensures sends { IfOk result (λ n. Sends self.old self.new (W.held writer.old) (W.held writer.new) n) }

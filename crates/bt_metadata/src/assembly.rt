@@ -244,7 +244,7 @@ impl<A: Allocator> Assembly<A> {
         count_held(&self.states)
     }
 
-    /// Whether each block is held or rejected: none can come any more on this connection.
+    /// Whether each block is held or rejected, so that no more can come.
     pub fn is_settled(&self) -> bool
         ensures { result ≡ list_all is_settled self.now.slots }
     {
@@ -264,7 +264,9 @@ impl<A: Allocator> Assembly<A> {
         Some(&self.bytes[at..(at + BLOCK).min(self.bytes.len())])
     }
 
-    /// The least block that isn't held, asked or rejected, which is asked from then on: none while `WINDOW` are asked.
+    /// The least block that isn't held, asked or rejected. It is asked from then on.
+    ///
+    /// There is none while `WINDOW` blocks are asked.
     pub fn ask(&mut self) -> Option<u32>
         ensures value { result ≡ ask_of self.old.slots }
         ensures state { self.new ≡ with_slots self.old (asking result self.old.slots) }
@@ -277,8 +279,10 @@ impl<A: Allocator> Assembly<A> {
         Some(k as u32)
     }
 
-    /// Holds a block that was asked for, where the message tells the right size of the metadata and the block has its length.
-    /// What is wrong is judged in the order of `BlockError`, and changes nothing.
+    /// Holds a block that was asked for.
+    ///
+    /// # Errors
+    /// What is wrong, judged in the order of `BlockError`: nothing changes then.
     pub fn data(&mut self, piece: u32, total: u64, block: &[u8]) -> Result<(), BlockError>
         ensures value { MatchResult result (λ _. data_error self.old piece total block.now ≡ None) (λ e. data_error self.old piece total block.now ≡ Some e) }
         ensures state { self.new ≡ with_data self.old piece total block.now }

@@ -59,7 +59,7 @@ impl<A: Allocator> Server<A> {
         self.metadata.len() as u64
     }
 
-    /// The answer to a request for a block: the block where there is one, else a reject.
+    /// The answer to a request for a block: the block, or a reject if there is none.
     pub fn answer(&self, piece: u32) -> Reply<'_>
         ensures reply { IsReply self.now piece result }
         ensures bounds { IsBounded result }

@@ -2,10 +2,10 @@
 use bt_wire::{Reason, Refusal};
 use thiserror::Error;
 
-/// How a stream ended: accepted, with its messages (the handshake not counted) and its bytes, or refused.
+/// How a stream ended: accepted, or refused.
 #[derive(Clone, Copy, PartialEq, Eq, Debug)]
 pub enum Ended {
-    /// The stream is accepted.
+    /// The stream is accepted, with its messages (the handshake not counted) and its bytes.
     Accepted { messages: u64, bytes: u64 },
     /// The stream is refused.
     Refused(Refusal),

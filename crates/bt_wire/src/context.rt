@@ -19,8 +19,9 @@ pub struct Own {
     pub reg: Registered,
     /// The rules by which the receiver judges.
     pub rules: Rules,
-    /// The greatest length in bytes that a message may have, its four bytes of length not counted. A feed wants 1 to
-    /// 1,048,576.
+    /// The greatest length prefix that a message may have, in bytes.
+    ///
+    /// A feed wants 1 to 1,048,576.
     pub limit: u32,
 }
 
@@ -37,8 +38,9 @@ pub struct Context {
     pub reg: Registered,
     /// The rules by which the receiver judges.
     pub rules: Rules,
-    /// The greatest length in bytes that a message may have, its four bytes of length not counted. A feed wants 1 to
-    /// 1,048,576.
+    /// The greatest length prefix that a message may have, in bytes.
+    ///
+    /// A feed wants 1 to 1,048,576.
     pub limit: u32,
 }
 

@@ -21,7 +21,9 @@ use bt_bencode::ByteString;
 use bt_ext::{ExtView, ViewError, copy_ext, view_ext};
 use std::alloc::{AllocError, Global};
 
-/// Reads the bytes of one message as parts of them, where `judge_header` lets them be a window. It takes no memory.
+/// Reads the bytes of one message as parts of them.
+///
+/// `judge_header` has let the bytes be a window. The call takes no memory.
 ///
 /// # Errors
 /// The first fault of the fields, and its place in the message: `BadIndex` or `SpareBits`, and of an extended message
@@ -52,7 +54,7 @@ pub fn view_window<'a>(
     }
 }
 
-/// The id behind the length.
+/// The id after the length.
 #[inline(always)]
 fn id_at(window: &[u8]) -> u8
     requires { 5 ≤ length window.now }

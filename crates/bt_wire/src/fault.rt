@@ -97,7 +97,7 @@ pub(crate) const FIELDS_AT: u64 = 5;
 /// Where an extended payload begins: after the extended id.
 pub(crate) const PAYLOAD_AT: u64 = 6;
 
-/// A fault of bytes: why, and where, counted from the start of the message or of the handshake.
+/// Why bytes are refused, and where.
 #[derive(Clone, Copy, PartialEq, Eq, Debug, Error)]
 #[error("{reason} at {at}")]
 pub struct Refused {

@@ -33,7 +33,7 @@ pub enum Fields<'a> {
     Port(u16),
     /// A bit for each piece.
     Field(&'a [u8]),
-    /// The bytes behind an id without a meaning.
+    /// The bytes after an id without a meaning.
     Payload(&'a [u8]),
 }
 
@@ -58,7 +58,7 @@ fn judge_fields(pieces: Option<u32>, length: u32, fields: &Fields) -> Option<Ref
     }
 }
 
-/// The same of a message; an extended one has no such fields.
+/// Like [`judge_fields`], over a message. An extended message has no such fields.
 pub fn judge_message(context: &Context, length: u32, message: &Message) -> Option<Refused>
     requires { IsSized context.now.pieces (fields_of context.now message.now) }
     ensures value { result ≡ broken_field context.now.pieces length (fields_of context.now message.now) }
@@ -70,7 +70,7 @@ pub fn judge_message(context: &Context, length: u32, message: &Message) -> Optio
     }
 }
 
-/// The same of the bytes behind an id, where a message with this id may have so many. The message has this length.
+/// Like [`judge_fields`], over the bytes that follow the id of a message whose length prefix is `length`.
 #[inline(always)]
 pub fn judge_bytes(context: &Context, id: u8, length: u32, bytes: &[u8]) -> Option<Refused>
     requires { allows (size_of context.now id) (list_length bytes.now + 1) ≡ true }

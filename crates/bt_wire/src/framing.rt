@@ -4,9 +4,10 @@ ghost use Rattle.bt_wire.specs.Numbers.{be32};
 
 use std::alloc::{AllocError, Global};
 
-/// The bytes of a message with this id and these fields (BEP 3, "peer messages"): the length of both in four bytes, the
-/// id and the fields. Nothing is judged, and the id may be any. The fields have fewer than 2^32 - 1 bytes, so that the
-/// length fits.
+/// The bytes of a message with this id and these fields (BEP 3, "peer messages").
+///
+/// They are the length of both in four bytes, the id and the fields. Nothing is judged, and the id may be any. The
+/// fields have fewer than 2^32 - 1 bytes, so that the length fits.
 pub fn frame(alloc: Global, id: u8, fields: &[u8]) -> Result<Vec<u8>, AllocError>
     requires { length fields.now < 2 ^ 32 - 1 }
     ensures { IfOk result (λ bytes. bytes.items ≡ be32 (1 + length fields.now) ++ id ∷ fields.now) }

@@ -8,7 +8,7 @@ use crate::fault::{Header, Reason, Refused};
 use crate::header::judge_header;
 use crate::message::MessageView;
 
-/// What the bytes at the front of a stream come to: a fault, less than a message, or a message and its length.
+/// What a stream begins with: a fault, less than a message, or a message and its length.
 #[derive(Drop)]
 pub enum Front<'a> {
     Refused(Refused),
@@ -19,7 +19,9 @@ pub enum Front<'a> {
 /// A message starts below this offset.
 pub const END: u64 = 1 << 62;
 
-/// Reads the message at the front of the bytes, which starts at this offset of its stream. It takes no memory.
+/// Reads the message that the bytes begin with.
+///
+/// It starts at the offset `start` of its stream. The call takes no memory.
 #[inline(always)]
 pub fn read_front<'a>(context: &Context, order: Order, start: u64, bytes: &'a [u8]) -> Front<'a>
     ensures { IsFront context.now order start bytes.now result }

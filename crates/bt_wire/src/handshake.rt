@@ -31,8 +31,10 @@ pub fn spell_handshake(handshake: &Handshake) -> [u8; 68]
     bytes
 }
 
-/// The fault of the bytes of a handshake, as many as are there, and its place: the least byte that differs from the
-/// fixed ones, or the info hash, once 48 bytes are there, where it isn't the wanted one.
+/// The fault of the bytes of a handshake, as many as are there, and its place.
+///
+/// The fault is the first byte that differs from the fixed ones; or the info hash, once 48 bytes are there, if it isn't
+/// the wanted one.
 #[tactic(auto, unfolding(crate::specs::Handshakes::hand_fault))]
 pub fn judge_handshake(own: &Own, bytes: &[u8]) -> Option<Refused>
     ensures { result ≡ hand_fault own.now bytes.now }
@@ -75,7 +77,7 @@ fn has_other_hash(own: &Own, hash: &[u8]) -> bool
     }
 }
 
-/// What the bytes at the front of a stream come to: a fault, less than a handshake, or a handshake.
+/// What a stream begins with: a fault, less than a handshake, or a handshake.
 #[derive(Clone, Copy)]
 pub enum Opening {
     Refused(Refused),

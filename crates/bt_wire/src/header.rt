@@ -67,7 +67,7 @@ fn is_strict(context: &Context) -> bool
     }
 }
 
-/// Whether a bitfield, have all or have none comes behind a message that counts (BEP 3, BEP 6).
+/// Whether a bitfield, have all or have none comes after a message that counts (BEP 3, BEP 6).
 #[inline(always)]
 fn is_late(order: Order, kind: Option<Kind>) -> bool
     ensures { result ≡ comes_late order kind }
@@ -150,7 +150,7 @@ fn judge_id(context: &Context, order: Order, id: u8, length: u32) -> Option<Refu
     judge_kind(context, order, kind, length)
 }
 
-/// The same of a message of this kind.
+/// Like [`judge_id`], over the kind that the id has.
 #[cold]
 #[inline(never)]
 fn judge_kind(context: &Context, order: Order, kind: Option<Kind>, length: u32) -> Option<Refused>
@@ -175,7 +175,7 @@ fn judge_kind(context: &Context, order: Order, kind: Option<Kind>, length: u32) 
     None
 }
 
-/// The same of a message with this id, or of a keep-alive, which has none.
+/// Like [`judge_id`], also over a keep-alive, which has no id.
 pub fn judge_any_id(context: &Context, order: Order, id: Option<u8>, length: u32) -> Option<Refused>
     ensures { result ≡ broken_any context.now order id length }
 {
@@ -192,7 +192,9 @@ fn refused(at: u64, reason: Reason) -> Option<Refused>
     Some(Refused { at, reason })
 }
 
-/// Judges a message by its first five bytes, or by fewer where fewer are there (BEP 3, "peer protocol").
+/// Judges a message by its first five bytes, or by fewer where fewer are there.
+///
+/// See BEP 3, "peer protocol".
 #[tactic(auto, unfolding(crate::specs::Headers::header_of, crate::specs::Faults::header_fault))]
 #[inline(always)]
 pub fn judge_header(context: &Context, order: Order, head: &[u8]) -> Header

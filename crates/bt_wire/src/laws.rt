@@ -9,7 +9,7 @@ use crate::handshake::{Opening, read_opening};
 use crate::order::next_of_view as next;
 use crate::slices::behind;
 
-/// What may be sent has no fault, and a whole window with no fault is what may be sent: never both, and one of the two.
+/// A whole window has a fault, or it may be sent: never both.
 pub fn legal_or_fault()
     ensures legal { LegalHasNoFault }
     ensures faultless { FaultlessIsLegal }
@@ -36,7 +36,7 @@ pub fn each_has_a_verdict(own: &Own, stream: &[u8])
     }
 }
 
-/// The messages behind a handshake come to an outcome.
+/// The messages after a handshake have an outcome.
 fn walk(context: &Context, messages: &[u8])
     ensures { (v : Outcome) × IsOutcome context.now Order.Fresh 68 1 messages.now v }
 {
@@ -65,8 +65,10 @@ pub fn one_verdict()
     ensures items { ItemsStay }
 {}
 
-/// A legal message stays legal, with the same spelling, where the receiver's context differs in what it doesn't use; and a
-/// message is legal or refused for one fault, and never both.
+/// A message is legal or refused for one fault, and never both.
+///
+/// A legal message stays legal, with the same spelling, where the receiver's context differs in what the message doesn't
+/// use.
 pub fn legal_elsewhere()
     ensures stays { LegalElsewhere }
     ensures apart { LegalIsNotRefused }

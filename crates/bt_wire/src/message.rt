@@ -7,9 +7,10 @@ use crate::fields::Fields;
 use bt_bencode::ByteString;
 use bt_ext::{Ext, ExtView};
 
-/// What follows the handshake (BEP 3, "peer messages"; BEP 5; BEP 6; BEP 10), over its bytes `B` and extended payload `E`.
+/// A message, over its bytes `B` and its extended payload `E`.
 ///
-/// `index` is a piece's, `begin` and `length` are bytes within it. A message whose id isn't known is kept with its payload.
+/// See BEP 3, "peer messages", BEP 5, BEP 6 and BEP 10. `index` is a piece's, `begin` and `length` are bytes within it. A
+/// message whose id isn't known is kept with its payload.
 #[derive(Debug, Drop)]
 pub enum Message<B = ByteString, E = Ext> {
     KeepAlive,
@@ -68,7 +69,7 @@ impl<B, E> Message<B, E> {
 }
 
 impl Message {
-    /// What follows the id, but of an extended message, whose payload is read and written apart.
+    /// The fields after the id. An extended message has none: its payload is read and written apart.
     pub fn fields(&self) -> Option<Fields<'_>>
         ensures value { MatchOption result (IsExtended self.now) (λ f. (c : Context) → seen f ≡ fields_of c self.now) }
         ensures in_range { IfSome result (λ f. AreInRange (seen f)) }

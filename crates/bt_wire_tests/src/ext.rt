@@ -35,7 +35,7 @@ fn read(alloc: Global, id: u8, payload: &[u8]) -> Result<Ext, Fail> {
     Ok(value)
 }
 
-/// The same, viewed and then copied.
+/// Like the calls above, viewed and then copied.
 fn copied(alloc: Global, id: u8, payload: &[u8]) -> Result<Ext, Fail> {
     let view = view_ext(ids(), Rules::Free, id, payload)
         .ok()
