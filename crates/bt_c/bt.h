@@ -166,6 +166,20 @@ uint32_t bt_reader_next(bt_reader *reader, const uint8_t *bytes, size_t n, bt_it
  * unfinished, and BT_REFUSED for BT_END_INSIDE if something is. */
 uint32_t bt_reader_finish(bt_reader *reader, const uint8_t *bytes, size_t n, bt_item *item);
 
+/* How many items a batch has, and how many bytes they have together. */
+typedef struct bt_batch {
+    size_t count;
+    size_t used;
+} bt_batch;
+
+/* Reads as many items as the array has room for, as calls of bt_reader_next in a row do, and quicker where messages are small.
+ * The first batch->count of items are read, in order. The next call wants the bytes after the first batch->used ones.
+ * BT_ITEM: the array is full; call again (with room 0 nothing is read, so give room for one at least).
+ * BT_MORE: all whole items are read; the bytes that are left and some more are wanted.
+ * BT_REFUSED: items[batch->count] says where and why. The reader stands after the items that were read.
+ * What was in the array after that stays as it was. */
+uint32_t bt_reader_batch(bt_reader *reader, const uint8_t *bytes, size_t n, bt_item *items, size_t room, bt_batch *batch);
+
 /* ---- a feed: pieces of any size, over memory that the caller lends ---- */
 
 /* A reader, and which bytes of the lent memory were pushed and not read: those from `from` up to `to`. */
@@ -320,6 +334,7 @@ BT_ASSERT(sizeof(bt_own) == 40, "bt_own");
 BT_ASSERT(sizeof(bt_extended) == 32, "bt_extended");
 BT_ASSERT(sizeof(bt_item) == 88, "bt_item");
 BT_ASSERT(sizeof(bt_reader) == 56, "bt_reader");
+BT_ASSERT(sizeof(bt_batch) == 16, "bt_batch");
 BT_ASSERT(sizeof(bt_feed) == 72, "bt_feed");
 BT_ASSERT(sizeof(bt_verdict) == 24, "bt_verdict");
 BT_ASSERT(sizeof(bt_handshake) == 48, "bt_handshake");

@@ -1,11 +1,11 @@
 -- What calls in a row read of a stream, and its verdict.
-use Rattle.std.specs.Prelude.{◌≡◌, ℕ, ◌-◌, ◌<◌, ◌^◌, false, List, [], ◌∷◌, length, drop, min, Option, Some, None}
+use Rattle.std.specs.Prelude.{◌≡◌, ◌≢◌, ℕ, ◌+◌, ◌-◌, ◌<◌, ◌≤◌, ◌^◌, false, List, [], ◌∷◌, length, take, drop, min, Option, Some, None}
 use Rattle.bt_wire.specs.declared.fault.Refused.{Refused}
 use Rattle.bt_wire.specs.declared.item.Item.{Item}
 use Rattle.bt_wire.specs.declared.item.Refusal.{Refusal}
 use Rattle.bt_wire.specs.Streams.{Outcome, IsVerdict, refusal_at, refusal_at_end}
 use Rattle.bt_c.specs.Readers.{own_of, is_on, reason_number}
-use Rattle.bt_c.specs.Steps.{Gives, Lacks, HasFault, start_of}
+use Rattle.bt_c.specs.Steps.{Steps, Gives, Lacks, HasFault, start_of}
 use Rattle.bt_c.specs.declared.check.BtVerdict.{BtVerdict}
 use Rattle.bt_c.specs.declared.reader.BtReader.{BtReader}
 use Rattle.bt_c.specs.declared.item.BtItem.{BtItem}
@@ -15,6 +15,20 @@ use Rattle.bt_c.specs.declared.item.BtItem.{BtItem}
 abbrev pub Reads : BtReader → List ℕ → List (ℕ × Item) → BtReader → List ℕ → Type 0
 Reads r b [] s c = (s ≡ r) × (c ≡ b)
 Reads r b (x ∷ xs) s c = (t : BtReader) × (i : BtItem) × (i.start ≡ x.0) × Gives r b t i x.1 × Reads t (drop i.size b) xs s c
+
+-- the same by the items' structs: each call answers 1 and shows one of them
+abbrev pub Nexts : BtReader → List ℕ → List BtItem → BtReader → List ℕ → Type 0
+Nexts r b [] s c = (s ≡ r) × (c ≡ b)
+Nexts r b (i ∷ is) s c = (t : BtReader) × Steps r b t i 1 × Nexts t (drop i.size b) is s c
+
+-- a batch from the bytes b into the array `old`, which becomes `new`, with the answer n: its first items are those of calls in a
+-- row, which leave the reader s and all bytes but the first `used`. They fill the array, and the answer is 1; or the call after
+-- them gives no item, and the answer is its answer. What it shows is the next item, and the rest stays as it was.
+pub record IsBatch (r : BtReader) (b : List ℕ) (s : BtReader) (old new : List BtItem) (count used n : ℕ) : Type 0 where
+  pub within : used ≤ length b
+  pub given : Nexts r b (take count new) s (drop used b)
+  pub full : n ≡ 1 → (count ≡ length old) × (length new ≡ length old)
+  pub last : n ≢ 1 → (i : BtItem) × Steps s (drop used b) s i n × (drop count new ≡ i ∷ drop (count + 1) old)
 
 -- no item follows: the bytes have a fault, or aren't a whole item
 abbrev pub Stops : BtReader → List ℕ → Option Refused → Type 0

@@ -7,6 +7,7 @@ ghost use Rattle.bt_c.specs.Runs.{ShowsVerdict};
 use crate::item::{BtItem, bare};
 use crate::reader::{BtReader, END, ITEM, last_item};
 use crate::receiver::BtOwn;
+use crate::slices::behind;
 
 /// The verdict on a stream.
 #[repr(C)]
@@ -55,14 +56,6 @@ fn fresh(own: &BtOwn) -> BtReader
         past: 0,
         start: 0,
     }
-}
-
-/// The bytes from the n-th on.
-fn behind(bytes: &[u8], n: usize) -> &[u8]
-    requires { n ≤ length bytes.now }
-    ensures { result.now ≡ drop n bytes.now }
-{
-    &bytes[n..]
 }
 
 /// The verdict after `count` items, by the answer of the last call.

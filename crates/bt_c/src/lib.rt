@@ -2,6 +2,7 @@
 //! bytes that the caller holds. `bt.h` says each call to C. Nothing here takes memory.
 #![tactic(auto)]
 
+mod batch;
 mod check;
 mod extended;
 mod feed;
@@ -10,8 +11,10 @@ pub mod laws;
 mod names;
 mod reader;
 mod receiver;
+mod slices;
 mod writing;
 
+pub use batch::{BtBatch, bt_reader_batch};
 pub use check::{BtVerdict, bt_check};
 pub use extended::BtExtended;
 pub use feed::{BtFeed, bt_feed_finish, bt_feed_init, bt_feed_next, bt_feed_push};

@@ -11,7 +11,7 @@ ghost use Rattle.bt_c.specs.declared.item.BtItem.{BtItem};
 ghost use Rattle.bt_ext.specs.declared.metadata.Kind.{Kind};
 ghost use Rattle.bt_c.specs.Writing.{handshake_of as handshake_by, peer_context, head_by, rest_of, message_bytes, DoesNotFit, Writes, made_kind, IsExtendedItem};
 
-use crate::item::{BtItem, bare};
+use crate::item::{BtItem, bare, shape_of};
 use crate::reader::{BtReader, flag_of, next_item};
 use crate::receiver::{BtOwn, id_of, own_of};
 use bt_bencode::put_bytes;
@@ -143,22 +143,6 @@ fn rest_length(message: &BtItem, front: &[u8], back: &[u8]) -> u64
         return 0;
     }
     1 + head_length(shape_of(message.id)) as u64 + front.len() as u64 + back.len() as u64
-}
-
-/// The shape of a message's fields.
-fn shape_of(id: u16) -> Option<Shape>
-    ensures { result ≡ shape_by (kind_of id) }
-{
-    match id {
-        0 | 1 | 2 | 3 | 14 | 15 => Some(Shape::Nothing),
-        4 | 13 | 17 => Some(Shape::Index),
-        5 => Some(Shape::Field),
-        6 | 8 | 16 => Some(Shape::Part),
-        7 => Some(Shape::Block),
-        9 => Some(Shape::Port),
-        20 => Some(Shape::Extended),
-        _ => None,
-    }
 }
 
 /// How many bytes the numbers of a shape have.

@@ -1,0 +1,47 @@
+//! Many items in one call.
+ghost use Rattle.std.specs.Prelude.{◌≡◌};
+ghost use Rattle.bt_c.specs.Runs.{IsBatch};
+
+use crate::item::BtItem;
+use crate::reader::{BtReader, ITEM, context_of, next_by};
+use crate::slices::behind;
+
+/// How many items a batch has, and how many bytes they have.
+#[repr(C)]
+#[derive(Clone, Copy)]
+pub struct BtBatch {
+    pub count: usize,
+    pub used: usize,
+}
+
+/// Reads the items that the bytes begin with into the array, as calls of [`bt_reader_next`](crate::bt_reader_next) in a row do.
+///
+/// Returns 1 where the array is full. Else it returns what the call after these items returns, which shows a refusal in the
+/// next item of the array.
+#[unsafe(no_mangle)]
+pub extern "C" fn bt_reader_batch(
+    reader: &mut BtReader,
+    bytes: &[u8],
+    items: &mut [BtItem],
+    batch: &mut BtBatch,
+) -> u32
+    ensures { IsBatch reader.old bytes.now reader.new items.old items.new batch.new.count batch.new.used result }
+{
+    let mut context = context_of(reader);
+    let mut count = 0usize;
+    let mut used = 0usize;
+    'items: loop {
+        if count == items.len() {
+            *batch = BtBatch { count, used };
+            return ITEM;
+        }
+        let item = &mut items[count];
+        let answer = next_by(reader, &mut context, behind(bytes, used), item);
+        if answer != ITEM {
+            *batch = BtBatch { count, used };
+            return answer;
+        }
+        used += item.size;
+        count += 1;
+    }
+}
