@@ -5,3 +5,4 @@ pub mod ScriptLines
 pub mod ScriptText
 pub mod ScriptSpoken
 pub mod ScriptBounds
+mod Misfits

@@ -2,4 +2,5 @@ pub mod Lines
 pub mod Script
 pub mod ScriptReading
 pub mod ScriptLaws
+pub mod Misfits
 pub mod Shown

@@ -34,7 +34,7 @@ use hex::FromHex;
 use std::alloc::AllocError;
 
 #[inline(always)]
-fn is(text: &[u8], word: &[u8]) -> bool
+pub(crate) fn is(text: &[u8], word: &[u8]) -> bool
     ensures { result ≡ bytes_eq text.now word.now }
 {
     text == word
@@ -48,7 +48,7 @@ fn first_space(text: &[u8]) -> Option<usize>
 }
 
 /// Splits the text before its first space.
-fn split_word(text: &[u8]) -> (&[u8], &[u8])
+pub(crate) fn split_word(text: &[u8]) -> (&[u8], &[u8])
     ensures word { result.0.now ≡ word_of text.now }
     ensures rest { result.1.now ≡ behind_word text.now }
     ensures short { length result.1.now ≤ length text.now }
@@ -285,7 +285,7 @@ fn put_unknown(text: &[u8], bytes: &mut Vec<u8>) -> Result<bool, AllocError>
 }
 
 /// Returns the id of a name, and the shape of its fields.
-fn row_of(name: &[u8]) -> Option<(u8, Shape)>
+pub(crate) fn row_of(name: &[u8]) -> Option<(u8, Shape)>
     ensures { result ≡ option_map (λ i. (i.number, i.kind.shape)) (row_named name.now ids) }
 {
     if is(name, b"choke") {

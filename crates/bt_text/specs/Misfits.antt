@@ -1,0 +1,76 @@
+-- The first word of a script's line that can't stand in its place.
+use Rattle.std.specs.Prelude.{◌≡◌, ℕ, ◌+◌, Bool, true, false, List, [], ◌∷◌, ◌++◌, length, codes, decimal, None}
+use Rattle.bt_wire.specs.Ids.{ids}
+use Rattle.bt_text.specs.Script.{row_named, IsLine}
+use Rattle.bt_text.specs.ScriptReading.{word_of}
+use Rattle.bt_text.specs.declared.script.misfit.Expected.{Expected}
+use Rattle.bt_text.specs.declared.script.misfit.Expected.TheVariants.{Handshake, Name, Reserved, InfoHash, PeerId, Number, Port, Byte, FreeId, Bytes, End}
+use Rattle.bt_text.specs.declared.script.misfit.Misfit.{Misfit}
+
+-- ---- what is expected in a place
+
+-- a word that may stand where this is expected
+abbrev pub sample : Expected → List ℕ
+sample Handshake = codes "handshake"
+sample Name = codes "choke"
+sample Reserved = codes "0000000000000000"
+sample InfoHash = codes "0000000000000000000000000000000000000000"
+sample PeerId = codes "0000000000000000000000000000000000000000"
+sample Number = codes "0"
+sample Port = codes "0"
+sample Byte = codes "0"
+sample FreeId = codes "10"
+sample Bytes = codes "-"
+sample End = []
+
+-- such words, each after a space
+abbrev pub samples : List Expected → List ℕ
+samples [] = []
+samples (e ∷ es) = codes " " ++ (sample e ++ samples es)
+
+abbrev pub expected_words : Expected → List ℕ
+expected_words Handshake = codes "the word handshake"
+expected_words Name = codes "the name of a message"
+expected_words Reserved = codes "the reserved bytes, 16 hex digits"
+expected_words InfoHash = codes "the info hash, 40 hex digits"
+expected_words PeerId = codes "the peer id, 40 hex digits"
+expected_words Number = codes "a number from 0 to 4294967295"
+expected_words Port = codes "a number from 0 to 65535"
+expected_words Byte = codes "a number from 0 to 255"
+expected_words FreeId = codes "a number from 0 to 255 that is the id of no message"
+expected_words Bytes = codes "bytes in hex, two digits each, or -"
+expected_words End = codes "the end of the line"
+
+-- ---- the first word that can't stand
+
+-- the words `front`, and after them samples of what is expected, are a line
+abbrev pub IsCompleted : Bool → List ℕ → List Expected → Type 0
+IsCompleted first front es = (bytes : List ℕ) × IsLine first (front ++ samples es) bytes
+
+-- whether they are
+abbrev pub IsCompletedOr : Bool → List ℕ → List Expected → Bool → Type 0
+IsCompletedOr first front es true = IsCompleted first front es
+IsCompletedOr first front es false = IsCompleted first front es → ⊥
+
+-- no line has this name
+abbrev pub IsNoName : Bool → List ℕ → Type 0
+IsNoName true name = name ≡ codes "handshake" → ⊥
+IsNoName false name = (row_named name ids ≡ None) × (name ≡ codes "keep-alive" → ⊥) × (name ≡ codes "unknown" → ⊥)
+
+-- In column `m.column`, counted from 1, stands the first word that can't stand there. The words before it make a line with a sample
+-- of what is expected there and of what follows; with the word itself and samples of what follows they don't. If a word is missing,
+-- the text only begins a line. If a word is too many, the words before it are a line.
+pub data IsMisfit (first : Bool) (text : List ℕ) (m : Misfit) : Type 0 where
+  no_name : IsNoName first (word_of text) → m.column ≡ 1 → IsMisfit first text m
+  wrong_word : (front : List ℕ) → (rest : List ℕ) → (after : List Expected) → text ≡ front ++ (codes " " ++ rest)
+      → IsCompleted first front (m.expected ∷ after) → (IsCompleted first (front ++ (codes " " ++ word_of rest)) after → ⊥)
+      → m.column ≡ length front + 2 → IsMisfit first text m
+  missing : (after : List Expected) → IsCompleted first text (m.expected ∷ after) → m.column ≡ length text + 1 → IsMisfit first text m
+  too_many : (front : List ℕ) → (rest : List ℕ) → text ≡ front ++ (codes " " ++ rest) → IsCompleted first front [] → m.expected ≡ End
+      → m.column ≡ length front + 2 → IsMisfit first text m
+
+-- ---- its line
+
+abbrev pub misfit_line : ℕ → Misfit → List ℕ
+misfit_line number m = codes "hint: line " ++ (decimal number ++ (codes ", column " ++ (decimal m.column ++ (codes ": expected "
+    ++ (expected_words m.expected ++ codes "\n")))))

@@ -1,0 +1,240 @@
+//! The first word of a script's line that can't stand in its place, and what is expected there. The hints of `pack` call it.
+ghost use Rattle.std.specs.Prelude.{◌≡◌, ◌++◌, decimal, false, None, IfSome, OnOk};
+ghost use Rattle.bt_text.specs.Misfits.{sample as sample_of, samples, expected_words as words_of, IsCompleted, IsCompletedOr, IsNoName, IsMisfit, misfit_line as line_of};
+
+use crate::script::reading::{is, read_line, row_of, split_word};
+use bt_wire::Shape;
+use itoa::write_digits;
+use std::alloc::{AllocError, Global};
+
+/// What is expected in a place of a line.
+#[derive(Clone, Copy, PartialEq, Eq, Debug)]
+pub enum Expected {
+    /// The word `handshake`.
+    Handshake,
+    /// The name of a message.
+    Name,
+    /// The reserved bytes of a handshake.
+    Reserved,
+    /// The info hash of a handshake.
+    InfoHash,
+    /// The peer id of a handshake.
+    PeerId,
+    /// A number of 32 bits.
+    Number,
+    /// A port.
+    Port,
+    /// An extended id.
+    Byte,
+    /// An id that has no meaning.
+    FreeId,
+    /// Bytes in hex, or `-` for none.
+    Bytes,
+    /// The end of the line.
+    End,
+}
+
+/// A place of a line, and what is expected there.
+#[derive(Clone, Copy, PartialEq, Eq, Debug)]
+pub struct Misfit {
+    /// The column, counted from 1.
+    pub column: u64,
+    /// What is expected there.
+    pub expected: Expected,
+}
+
+/// Returns a word that may stand where this is expected.
+fn sample(expected: Expected) -> &'static [u8]
+    ensures { result.now ≡ sample_of expected }
+{
+    match expected {
+        Expected::Handshake => b"handshake",
+        Expected::Name => b"choke",
+        Expected::Reserved => b"0000000000000000",
+        Expected::InfoHash | Expected::PeerId => b"0000000000000000000000000000000000000000",
+        Expected::Number | Expected::Port | Expected::Byte => b"0",
+        Expected::FreeId => b"10",
+        Expected::Bytes => b"-",
+        Expected::End => b"",
+    }
+}
+
+/// Appends samples of what is expected, each after a space.
+fn push_samples(expected: &[Expected], line: &mut Vec<u8>) -> Result<(), AllocError>
+    ensures { OnOk result (line.new.items ≡ line.old.items ++ samples expected.now) }
+{
+    match expected.split_first() {
+        None => Ok(()),
+        Some((next, after)) => {
+            line.push(b' ')?;
+            line.extend_from_slice(sample(*next))?;
+            push_samples(after, line)
+        }
+    }
+}
+
+/// Returns whether these words, with samples of what is expected after them, are a line; `None` without memory.
+fn is_completed(alloc: Global, front: &[u8], expected: &[Expected], first: bool) -> Option<bool>
+    ensures { IfSome result (IsCompletedOr first front.now expected.now) }
+{
+    let mut line = Vec::from_slice(alloc, front).ok()?;
+    push_samples(expected, &mut line).ok()?;
+    if line.len() as u64 >= 1 << 32 {
+        return None;
+    }
+    let mut bytes = Vec::new(alloc);
+    read_line(line.as_slice(), first, &mut bytes).ok()
+}
+
+/// Returns what is expected after the name of a message, by the shape of its fields.
+fn words_of_shape(shape: Shape) -> &'static [Expected] {
+    match shape {
+        Shape::Nothing => &[],
+        Shape::Index => &[Expected::Number],
+        Shape::Part => &[Expected::Number, Expected::Number, Expected::Number],
+        Shape::Block => &[Expected::Number, Expected::Number, Expected::Bytes],
+        Shape::Port => &[Expected::Port],
+        Shape::Field => &[Expected::Bytes],
+        Shape::Extended => &[Expected::Byte, Expected::Bytes],
+    }
+}
+
+/// Returns what is expected after the name of a message; `None` where no message has it.
+fn words_of_message(name: &[u8]) -> Option<&'static [Expected]>
+    ensures { result ≡ None → IsNoName false name.now }
+{
+    if is(name, b"keep-alive") {
+        return Some(&[]);
+    }
+    if is(name, b"unknown") {
+        return Some(&[Expected::FreeId, Expected::Bytes]);
+    }
+    let (_, shape) = row_of(name)?;
+    Some(words_of_shape(shape))
+}
+
+/// Returns what is expected after a line's name; `None` where no such line has it.
+fn words_after(name: &[u8], first: bool) -> Option<&'static [Expected]>
+    ensures { result ≡ None → IsNoName first name.now }
+{
+    if !first {
+        return words_of_message(name);
+    }
+    if is(name, b"handshake") {
+        Some(&[Expected::Reserved, Expected::InfoHash, Expected::PeerId])
+    } else {
+        None
+    }
+}
+
+/// Goes on through a line whose first words are `front`, and of which `text` follows.
+fn follow(
+    alloc: Global,
+    front: &mut Vec<u8>,
+    text: &[u8],
+    expected: &[Expected],
+    first: bool,
+) -> Option<Misfit>
+    requires { IsCompleted first front.old.items expected.now }
+    ensures { IfSome result (IsMisfit first (front.old.items ++ text.now)) }
+{
+    let mut rest = text;
+    for k in 0..expected.len() {
+        let column = front.len() as u64 + 1;
+        let Some((space, tail)) = rest.split_first() else {
+            return Some(Misfit {
+                column,
+                expected: expected[k],
+            });
+        };
+        if *space != b' ' {
+            return None;
+        }
+        let (word, next) = split_word(tail);
+        front.push(b' ').ok()?;
+        front.extend_from_slice(word).ok()?;
+        if !is_completed(alloc, front.as_slice(), &expected[k + 1..], first)? {
+            return Some(Misfit {
+                column: column + 1,
+                expected: expected[k],
+            });
+        }
+        rest = next;
+    }
+    let (space, _) = rest.split_first()?;
+    if *space != b' ' {
+        return None;
+    }
+    Some(Misfit {
+        column: front.len() as u64 + 2,
+        expected: Expected::End,
+    })
+}
+
+/// Returns the first word of a line that can't stand in its place, by what is expected there.
+///
+/// `first` says that the line is the first of its script. `None` where the text is a line, and without memory.
+pub fn find_misfit(alloc: Global, text: &[u8], first: bool) -> Option<Misfit>
+    ensures { IfSome result (IsMisfit first text.now) }
+{
+    let (name, rest) = split_word(text);
+    let Some(expected) = words_after(name, first) else {
+        return Some(Misfit {
+            column: 1,
+            expected: if first {
+                Expected::Handshake
+            } else {
+                Expected::Name
+            },
+        });
+    };
+    let mut front = Vec::from_slice(alloc, name).ok()?;
+    if !is_completed(alloc, front.as_slice(), expected, first)? {
+        return None;
+    }
+    follow(alloc, &mut front, rest, expected, first)
+}
+
+/// Returns the words for what is expected.
+fn expected_words(expected: Expected) -> &'static [u8]
+    ensures { result.now ≡ words_of expected }
+{
+    match expected {
+        Expected::Handshake => b"the word handshake",
+        Expected::Name => b"the name of a message",
+        Expected::Reserved => b"the reserved bytes, 16 hex digits",
+        Expected::InfoHash => b"the info hash, 40 hex digits",
+        Expected::PeerId => b"the peer id, 40 hex digits",
+        Expected::Number => b"a number from 0 to 4294967295",
+        Expected::Port => b"a number from 0 to 65535",
+        Expected::Byte => b"a number from 0 to 255",
+        Expected::FreeId => b"a number from 0 to 255 that is the id of no message",
+        Expected::Bytes => b"bytes in hex, two digits each, or -",
+        Expected::End => b"the end of the line",
+    }
+}
+
+/// Appends a text and a number.
+fn push_numbered(text: &[u8], n: u64, line: &mut Vec<u8>) -> Result<(), AllocError>
+    ensures { OnOk result (line.new.items ≡ line.old.items ++ (text.now ++ decimal n)) }
+{
+    let mut digits = [0u8; 20];
+    let place = write_digits(n, &mut digits, 20);
+    line.extend_from_slice(text)?;
+    line.extend_from_slice(&digits[place..])
+}
+
+/// Appends the line that says where the line `number` of a script has its misfit, and what is expected there.
+///
+/// # Errors
+/// `AllocError` if the growth of the text was refused.
+pub fn push_misfit_line(number: u64, misfit: Misfit, line: &mut Vec<u8>) -> Result<(), AllocError>
+    ensures { OnOk result (line.new.items ≡ line.old.items ++ line_of number misfit) }
+{
+    push_numbered(b"hint: line ", number, line)?;
+    push_numbered(b", column ", misfit.column, line)?;
+    line.extend_from_slice(b": expected ")?;
+    line.extend_from_slice(expected_words(misfit.expected))?;
+    line.push(b'\n')?;
+    Ok(())
+}
