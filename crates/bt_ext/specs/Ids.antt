@@ -1,5 +1,5 @@
 -- Extended ids (BEP 10): 0 is the extended handshake's, and a receiver tells the others.
-use Rattle.std.specs.Prelude.{ℕ, ◌<◌, Bool, false, ◌==◌, ◌||◌, List, Option, Some, None, option_and_then, if◌then◌else◌, codes}
+use Rattle.std.specs.Prelude.{ℕ, ◌<◌, Bool, false, ◌==◌, ◌||◌, List, Option, Some, None, option_and_then, nat_lt, if◌then◌else◌, codes}
 use Rattle.std.specs.Option.{ForSome}
 use Rattle.bt_ext.specs.declared.ids.Registered.{Registered}
 
@@ -23,6 +23,10 @@ is_id (Some n) id = n == id
 abbrev pub apart_from : Option ℕ → ℕ → Option ℕ
 apart_from other id = if is_id other id then None else Some id
 
+-- an id of one byte, unless it is the other one
+abbrev pub byte_apart : Option ℕ → ℕ → Option ℕ
+byte_apart other id = if is_id other id || nat_lt 255 id then None else Some id
+
 -- two ids are there, and they are equal
 abbrev pub are_same : Option ℕ → Option ℕ → Bool
 are_same metadata None = false
@@ -30,7 +34,7 @@ are_same metadata (Some donthave) = is_id metadata donthave
 
 -- the ids of a receiver that wants `ut_metadata` and `lt_donthave` under these; the second doesn't count where they are equal
 abbrev pub registered : Option ℕ → Option ℕ → Registered
-registered metadata donthave = record { metadata = metadata; donthave = option_and_then (apart_from metadata) donthave }
+registered metadata donthave = record { metadata = metadata; donthave = option_and_then (byte_apart metadata) donthave }
 
 -- the ids of a receiver that wants `ut_metadata` alone, or nothing
 abbrev pub metadata_only : Option ℕ → Registered

@@ -153,7 +153,7 @@ impl Registered {
     }
 
     /// Whether a payload under the id has a meaning.
-    pub(crate) fn is_known(&self, id: u8) -> bool
+    pub fn is_known(&self, id: u8) -> bool
         ensures { result ≡ is_known self.now id }
     {
         self.needs_dict(id) || self.is_donthave(id)

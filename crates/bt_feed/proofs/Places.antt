@@ -14,10 +14,10 @@ use Rattle.bt_wire.specs.Headers.{IsWindow}
 use Rattle.bt_wire.specs.Parts.{place_in}
 use Rattle.bt_ext.specs.declared.ext.ViewError.{ViewError}
 use Rattle.bt_ext.specs.declared.ext.ViewError.TheVariants as error
-use Rattle.bt_ext.specs.Faults as ext
 use Rattle.bt_wire.specs.Tables.{first_fault}
 use Rattle.bt_wire.specs.Faults.{said_length, said_id, has_length, has_id, window, window_length, IdRule, id_rules, id_row, allows, size_of, header_fault,
-    is_extended, said_ext_id, said_payload, placed_by, IsWindowFault, in_fields, in_none, in_payload, IsFault, early, unfinished, whole}
+    is_extended, said_ext_id, said_payload, placed_by,
+    IsPayloadFault, in_bytes, in_index, IsWindowFault, in_fields, in_none, in_payload, IsFault, early, unfinished, whole}
 use Rattle.bt_wire.proofs.HeaderLaws.{five_bytes, whole_length, header-window}
 use Rattle.bt_wire.proofs.ExtLaws.{refused_within}
 use Rattle.bt_wire.proofs.WindowLaws.{early_full, early_header, no_early, sized, window_says}
@@ -59,6 +59,7 @@ header_within c o b f e =
     ]
 
 placed_at : (x : ViewError) → (placed_by x).at ≡ 6 + place_in x
+placed_at error.BadExtLength = refl
 placed_at (error.BadBencode at) = refl
 placed_at (error.Unsorted at) = refl
 placed_at error.BadField = refl
@@ -72,12 +73,18 @@ extended_long c o w h e =
     let two : leb 2 (said_length w) ≡ true = subst P (eqb-true (said_id w) 20 parts.1) (sized c o w h (five_bytes w parts.0)) in
     omega (arith, leb-true 2 (said_length w) two, h.exact)
 
-payload_within : (c : Context) (w : List ℕ) (x : Option ViewError) (f : Refused) → 6 ≤ length w → ext.IsFault c.reg c.rules (said_ext_id w) (said_payload w)
-    x → Some f ≡ option_map placed_by x → f.at ≤ length w
-payload_within c w None f le h e = absurd cc
-payload_within c w (Some x) f le h e =
+-- the fault of an index, if there is one
+pub beyond : (b : Bool) (f g : Refused) → Some f ≡ cond b (Some g) None → f ≡ g
+beyond true f g e = cc
+beyond false f g e = absurd cc
+
+payload_within : (c : Context) (w : List ℕ) (f : Refused) → 6 ≤ length w → IsPayloadFault c (said_ext_id w) (said_payload w) (Some f) → f.at ≤ length w
+payload_within c w f le (in_bytes x h e) =
     let here : f ≡ placed_by x = cc in
     omega (arith, ap (λ (r : Refused). r.at) here, placed_at x, refused_within c.reg c.rules (said_ext_id w) (said_payload w) x h, length-drop 6 w)
+payload_within c w f le (in_index v h e) =
+    let here : f ≡ record { at = 6; reason = BadIndex } = beyond _ f (record { at = 6; reason = BadIndex }) e in
+    omega (arith, ap (λ (r : Refused). r.at) here)
 
 window_within : (c : Context) (o : Order) (w : List ℕ) (f : Refused) → IsWindow c o w → IsWindowFault c w (Some f) → f.at ≤ length w
 window_within c o w f h (in_fields g e p) =
@@ -92,7 +99,7 @@ window_within c o w f h (in_fields g e p) =
       ]
     ]
 window_within c o w f h (in_none e part p) = absurd cc
-window_within c o w f h (in_payload e is x fault p) = payload_within c w x f (extended_long c o w h is) fault p
+window_within c o w f h (in_payload e is p) = payload_within c w f (extended_long c o w h is) p
 
 pub fault_within : (c : Context) (o : Order) (s : ℕ) (b : List ℕ) (f : Refused) → IsFault c o s b (Some f) → f.at ≤ length b
 fault_within c o s b f (early g e p) =

@@ -1,6 +1,6 @@
 -- No bytes have a fault for ending: only a stream's end has.
 use Rattle.std.proofs.Common.{◌≡◌, ℕ, cond, Bool, true, false, List, [], ◌∷◌, ◌&&◌, Option, Some, None, refl, sym, ap, subst, ◌∙◌}
-use Rattle.std.specs.Prelude.{not, is_some, option_map}
+use Rattle.std.specs.Prelude.{not, is_some}
 use Rattle.std.proofs.lemmas.Bool.{and_parts}
 use Rattle.bt_ext.specs.declared.ext.ViewError.{ViewError}
 use Rattle.bt_ext.specs.declared.ext.ViewError.TheVariants as error
@@ -8,15 +8,17 @@ use Rattle.bt_wire.specs.declared.context.Context.{Context}
 use Rattle.bt_wire.specs.declared.context.Order.{Order}
 use Rattle.bt_wire.specs.declared.context.Own.{Own}
 use Rattle.bt_wire.specs.declared.fault.Reason.{Reason}
-use Rattle.bt_wire.specs.declared.fault.Reason.TheVariants.{EndInside}
+use Rattle.bt_wire.specs.declared.fault.Reason.TheVariants.{BadIndex, EndInside}
 use Rattle.bt_wire.specs.declared.fault.Refused.{Refused}
-use Rattle.bt_wire.specs.Faults.{IsFault, early, unfinished, whole, IsWindowFault, in_fields, in_none, in_payload, placed_by, header_rows, header_fault,
-    field_rows}
+use Rattle.bt_wire.specs.Faults.{IsFault, early, unfinished, whole,
+    IsPayloadFault, in_bytes, in_index, IsWindowFault, in_fields, in_none, in_payload, placed_by,
+    header_rows, header_fault, field_rows}
 use Rattle.bt_wire.specs.Handshakes.{protocol, hand_fault, first_difference}
 use Rattle.bt_wire.specs.Tables.{Row, counts, first_fault}
 use Rattle.bt_feed.specs.declared.stage.Stage.{Stage}
 use Rattle.bt_feed.specs.declared.stage.Stage.TheVariants as stage
 use Rattle.bt_feed.specs.Stages.{HasFault}
+use Rattle.bt_feed.proofs.Places.{beyond}
 
 is_end : Reason → Bool
 is_end EndInside = true
@@ -49,21 +51,24 @@ header_no_end c o b g e = first_no_end (header_rows c o b) g refl e
 
 placed_no_end : (f : ViewError) → is_end (placed_by f).reason ≡ false
 unfolding is_end
+placed_no_end error.BadExtLength = refl
 placed_no_end (error.BadBencode at) = refl
 placed_no_end (error.Unsorted at) = refl
 placed_no_end error.BadField = refl
 placed_no_end (error.BadBlock at) = refl
 
-payload_no_end : (o : Option ViewError) (g : Refused) → Some g ≡ option_map placed_by o → is_end g.reason ≡ false
-payload_no_end None g e = absurd cc
-payload_no_end (Some f) g e = let same : g ≡ placed_by f = cc in subst (λ (r : Refused). is_end r.reason ≡ false) (sym same) (placed_no_end f)
+payload_no_end : (c : Context) (id : ℕ) (p : List ℕ) (g : Refused) → IsPayloadFault c id p (Some g) → is_end g.reason ≡ false
+unfolding is_end
+payload_no_end c id p g (in_bytes f h e) = let same : g ≡ placed_by f = cc in subst (λ (r : Refused). is_end r.reason ≡ false) (sym same) (placed_no_end f)
+payload_no_end c id p g (in_index v h e) =
+    let same = beyond _ g (record { at = 6; reason = BadIndex }) e in subst (λ (r : Refused). is_end r.reason ≡ false) (sym same) refl
 
 window_no_end : (c : Context) (w : List ℕ) (f : Refused) → IsWindowFault c w (Some f) → is_end f.reason ≡ false
 unfolding no_ends is_end
 window_no_end c w f (in_fields g e same) = let is : f ≡ g = cc in subst (λ (r : Refused). is_end r.reason ≡ false) (sym is)
     (first_no_end (field_rows c w) g refl e)
 window_no_end c w f (in_none e plain same) = absurd cc
-window_no_end c w f (in_payload e ext v h same) = payload_no_end v f same
+window_no_end c w f (in_payload e there p) = payload_no_end c _ _ f p
 
 message_no_end : (c : Context) (o : Order) (s : ℕ) (b : List ℕ) (f : Refused) → IsFault c o s b (Some f) → is_end f.reason ≡ false
 unfolding is_end

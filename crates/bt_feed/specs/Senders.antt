@@ -1,20 +1,18 @@
 -- What a sender takes its peer to be.
-use Rattle.std.specs.Prelude.{codes}
-use Rattle.bt_ext.specs.Ids.{registered}
-use Rattle.bt_ext.specs.Tables.{Entries, id_of_name}
+use Rattle.bt_ext.specs.Tables.{Entries, told_ids}
 use Rattle.bt_wire.specs.declared.context.Context.{Context}
 use Rattle.bt_wire.specs.declared.context.Own.{Own}
 use Rattle.bt_wire.specs.declared.reserved.Reserved.{Reserved}
 use Rattle.bt_wire.specs.Handshakes.{negotiated}
 
 -- the context in which a peer receives that agreed on `agreed` and told `table`: the sender's own piece count, rules and limit,
--- and the peer's id of `ut_metadata` (BEP 10)
+-- and the peer's ids of extensions (BEP 10)
 abbrev pub believed : Own → Context → Entries → Context
 believed own agreed table = record {
   fast = agreed.fast;
   ext = agreed.ext;
   pieces = own.pieces;
-  reg = registered (id_of_name (codes "ut_metadata") table);
+  reg = told_ids table;
   rules = own.rules;
   limit = own.limit;
 }

@@ -2,24 +2,20 @@
 ghost use Rattle.std.specs.Prelude.{◌≡◌};
 ghost use Rattle.bt_feed.specs.Senders.{peer_context};
 
-use bt_ext::{ExtId, Registered, Table};
+use bt_ext::Table;
 use bt_wire::{Context, Own, Reserved, negotiate};
 use std::alloc::Allocator;
 
 /// The context that a sender takes its peer to receive in.
 ///
 /// `own` describes the sender, `theirs` is from the peer's handshake, and `table` has what the peer's extended
-/// handshakes told. Where the peer told no id for `ut_metadata`, the context has none.
+/// handshakes told. The context has the ids that the peer told: of an extension that it told none for, none.
 ///
 /// What is sent is judged in this context; what is received is judged in that of [`negotiate`].
 pub fn peer_context<A: Allocator + Copy>(own: &Own, theirs: Reserved, table: &Table<A>) -> Context
     ensures { result ≡ peer_context own.now theirs table.now }
 {
-    let id = match table.id_of(b"ut_metadata") {
-        Some(id) => ExtId::new(id),
-        None => None,
-    };
     let mut context = negotiate(own, theirs);
-    context.reg = Registered::new(id);
+    context.reg = table.registered();
     context
 }
