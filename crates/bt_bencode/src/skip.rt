@@ -4,8 +4,9 @@ ghost use Rattle.std.specs.Prelude.{◌≡◌, ℕ, ◌<◌, ◌∷◌, ◌++◌
 ghost use Rattle.bt_bencode.specs.Trees.{Tree, Trees, Pairs};
 ghost use Rattle.bt_bencode.specs.Bencoding.{ben, ben_all, ben_pairs, InRange, AllInRange, PairsInRange};
 ghost use Rattle.bt_bencode.specs.Keys.{value_at};
-ghost use Rattle.bt_bencode.specs.LookUps.{integer_of, string_of};
-ghost use Rattle.bt_bencode.specs.Readable.{FindsValue, HasValue, HasItems, HasPairs};
+ghost use Rattle.std.specs.Str.{bytes_eq};
+ghost use Rattle.bt_bencode.specs.LookUps.{integer_of, string_of, inner_integer};
+ghost use Rattle.bt_bencode.specs.Readable.{FindsValue, HasValue, HasItems, HasPairs, first_found};
 
 use crate::read::{behind, read_int, split_string};
 
@@ -65,6 +66,61 @@ pub fn find<'a>(pairs: &'a [u8], key: &[u8]) -> Option<&'a [u8]>
         rest = skip_value(value);
     }
     None
+}
+
+/// What was found for the key before, or else the value of a pair with this name, where that is the key.
+#[inline(always)]
+fn found_at<'a>(
+    before: Option<&'a [u8]>,
+    name: &[u8],
+    key: &[u8],
+    value: &'a [u8],
+) -> Option<&'a [u8]>
+    ensures { result ≡ first_found before.entry (bytes_eq name.now key.now) value.entry }
+{
+    match before {
+        Some(_) => before,
+        None => { if name == key { Some(value) } else { None } }
+    }
+}
+
+/// The bytes from the values of the first pairs with the two keys on, in one walk.
+pub fn find_two<'a>(
+    pairs: &'a [u8],
+    first: &[u8],
+    second: &[u8],
+) -> (Option<&'a [u8]>, Option<&'a [u8]>)
+    requires { HasPairs pairs.now }
+    ensures first { (ps : Pairs) (more : List ℕ) → PairsInRange ps → pairs.now ≡ ben_pairs ps ++ 101 ∷ more → FindsValue result.0 (value_at first.now ps) }
+    ensures second { (ps : Pairs) (more : List ℕ) → PairsInRange ps → pairs.now ≡ ben_pairs ps ++ 101 ∷ more → FindsValue result.1 (value_at second.now ps) }
+{
+    let mut rest = pairs;
+    let mut one: Option<&'a [u8]> = None;
+    let mut two: Option<&'a [u8]> = None;
+    while rest[0] != b'e' {
+        let (name, value) = split_string(rest);
+        one = found_at(one, name, first, value);
+        two = found_at(two, name, second, value);
+        if one.is_some() && two.is_some() {
+            return (one, two);
+        }
+        rest = skip_value(value);
+    }
+    (one, two)
+}
+
+/// The integer at the key in the value in front, if that is a dictionary.
+pub fn inner_int(value: &[u8], key: &[u8]) -> Option<i64>
+    requires { HasValue value.now }
+    ensures { (t : Tree) (more : List ℕ) → InRange t → value.now ≡ ben t ++ more → result ≡ inner_integer key.now t }
+{
+    if value[0] != b'd' {
+        return None;
+    }
+    match find(behind(value), key) {
+        None => None,
+        Some(inner) => int_in(inner),
+    }
 }
 
 /// The value in front, if it is an integer, and what follows it.
