@@ -1,4 +1,4 @@
-use Rattle.std.proofs.Common.{◌≡◌, ◌-◌, ◌++◌, Err, refl, subst}
+use Rattle.std.proofs.Common.{◌-◌, ◌++◌, Err, refl, subst}
 use Rattle.bt_feed.specs.declared.pumping.PumpError.{PumpError}
 use Rattle.bt_io.specs.Counts.{Grew}
 use Rattle.bt_feed.specs.Pumps.{IsPumpEnd, IsEnd}
