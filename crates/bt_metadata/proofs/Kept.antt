@@ -1,6 +1,5 @@
 -- What each call leaves of an assembly is one.
-use Rattle.std.proofs.Common.{◌≡◌, ℕ, zero, suc, ◌+◌, ◌<◌, ◌≤◌, ◌⊎◌, inl, inr, Bool, true, false, cond, leb, ltb, if◌then◌else◌, List, [], ◌∷◌, length, set,
-    map, replicate, count_by, fold, position, eqb, Option, Some, None, slice_get, refl, sym, ap, subst, ◌∙◌, arith, add-zero}
+use Rattle.std.proofs.Common.{◌≡◌, ℕ, zero, suc, ◌+◌, ◌<◌, ◌≤◌, ◌⊎◌, inl, inr, Bool, true, false, cond, leb, ltb, if◌then◌else◌, List, [], ◌∷◌, length, set, map, replicate, count_by, fold, position, eqb, Option, Some, None, slice_get, refl, sym, ap, ◌∙◌, arith, add-zero}
 use Rattle.std.proofs.lemmas.Bool.{leb-false, ltb-true}
 use Rattle.std.proofs.lemmas.Bool.Decides.{nat_tests}
 use Rattle.std.proofs.lemmas.List.{length-set, length-replicate, length-map}
