@@ -49,6 +49,10 @@ class _Item(C.Structure):
                 ("id", C.c_uint16), ("extended_id", C.c_uint8), ("reason", C.c_uint8), ("extended", _Extended)]
 
 
+class _Batch(C.Structure):
+    _fields_ = [("count", C.c_size_t), ("used", C.c_size_t)]
+
+
 class _Feed(C.Structure):
     _fields_ = [("reader", _Reader), ("from_", C.c_size_t), ("to", C.c_size_t)]
 
@@ -74,6 +78,7 @@ def _load():
         ("bt_reader_init", None, [to(_Reader), to(_Own)]),
         ("bt_reader_next", C.c_uint32, [to(_Reader), bytes_, size, to(_Item)]),
         ("bt_reader_finish", C.c_uint32, [to(_Reader), bytes_, size, to(_Item)]),
+        ("bt_reader_batch", C.c_uint32, [to(_Reader), bytes_, size, to(_Item), size, to(_Batch)]),
         ("bt_feed_init", None, [to(_Feed), to(_Own)]),
         ("bt_feed_push", size, [to(_Feed), bytes_, size, bytes_, size]),
         ("bt_feed_next", C.c_uint32, [to(_Feed), bytes_, size, to(_Item)]),
@@ -103,6 +108,17 @@ def _name(call, of):
     text = C.create_string_buffer(24)
     call(of, text, 24)
     return text.value.decode()
+
+
+_names = {}
+
+
+def _item_name(item):
+    """The name of an item, which its id says, and the kind of an extended message."""
+    key = (item.id, item.extended.kind if item.id == EXTENDED else 0)
+    if key not in _names:
+        _names[key] = _name(_bt.bt_item_name, C.byref(item))
+    return _names[key]
 
 
 class Refused(ValueError):
@@ -141,7 +157,7 @@ class Item:
         for slot in self.__slots__:
             setattr(self, slot, None)
         self.start, self.id, self.data = item.start, item.id, data
-        self.name = _name(_bt.bt_item_name, C.byref(item))
+        self.name = _item_name(item)
         if item.id in (HAVE, SUGGEST, ALLOWED_FAST, REQUEST, CANCEL, REJECT, PIECE):
             self.index = item.index
         if item.id in (REQUEST, CANCEL, REJECT, PIECE):
@@ -224,17 +240,19 @@ class Feed:
 
 def read(data, own=None):
     """Yields the items of a whole stream. Raises Refused where it is refused."""
-    reader, item, data, at, count = _Reader(), _Item(), bytes(data), 0, 0
+    reader, items, batch, data, at, count = _Reader(), (_Item * 64)(), _Batch(), bytes(data), 0, 0
     _bt.bt_reader_init(reader, (own or Own())._c)
-    base = C.cast(C.c_char_p(data), C.c_void_p).value
-    while True:
-        answer = _bt.bt_reader_finish(reader, base + at, len(data) - at, item)
-        if answer == REFUSED:
-            raise Refused(item.start + item.size, item.reason, count)
-        if answer != ITEM:
-            return
-        start, at, count = at, at + item.size, count + 1
-        yield Item(item, data[start:at])
+    base, answer = C.cast(C.c_char_p(data), C.c_void_p).value, ITEM
+    while answer == ITEM:
+        answer = _bt.bt_reader_batch(reader, base + at, len(data) - at, items, len(items), batch)
+        for item in items[:batch.count]:
+            start, at, count = at, at + item.size, count + 1
+            yield Item(item, data[start:at])
+    last = items[batch.count] if answer == REFUSED else items[0]
+    if answer == MORE:
+        answer = _bt.bt_reader_finish(reader, base + at, len(data) - at, last)
+    if answer == REFUSED:
+        raise Refused(last.start + last.size, last.reason, count)
 
 
 def check(data, own=None):

@@ -6,6 +6,7 @@
  */
 #include "bt.h"
 
+#include <stddef.h>
 #include <stdio.h>
 #include <stdlib.h>
 #include <string.h>
@@ -155,6 +156,56 @@ static void read_one(uint8_t *in) {
     CHECK(!memcmp(&after.own, &before.own, sizeof after.own) && !after.opened && !after.start);
 }
 
+static int same_items(const bt_item *a, const bt_item *b) {
+    return !memcmp(a, b, offsetof(bt_item, reason) + 1) && !memcmp(&a->extended, &b->extended, sizeof a->extended);
+}
+
+/* A batch gives what calls in a row give, and leaves the rest of the array. */
+static void batch_one(uint8_t *in, uint8_t *held) {
+    static bt_item was[MOST / sizeof(bt_item)];
+    size_t n = random_size(), room = below(8) ? below(4) : below(MOST / sizeof(bt_item) + 1), count = 0, used = 0;
+    uint8_t *bytes = place(in, n);
+    bt_item *items = (bt_item *)(void *)place(held, room * sizeof *items);
+    fill_stream(bytes, n);
+    for (size_t i = 0; i < room; i++)
+        items[i] = was[i] = random_item();
+    bt_reader before = random_reader(), after = before;
+    bt_batch batch;
+    fill(&batch, sizeof batch);
+    uint32_t answer = bt_reader_batch(&after, bytes, n, items, room, &batch), last = BT_ITEM;
+    for (; count < room; count++) {
+        bt_item item = was[count];
+        last = bt_reader_next(&before, n ? bytes + used : bytes, n - used, &item);
+        CHECK(same_items(&item, &items[count]));
+        if (last != BT_ITEM)
+            break;
+        used += item.size;
+    }
+    CHECK(answer == last && batch.count == count && batch.used == used && !memcmp(&after, &before, sizeof after));
+    for (size_t i = count + 1; i < room; i++)
+        CHECK(same_items(&items[i], &was[i]));
+}
+
+/* Lengths that no memory has, where no more of it is read or written than is there. */
+static void huge_one(uint8_t *in, uint8_t *held) {
+    bt_reader reader = random_reader();
+    bt_item items[3];
+    bt_batch batch;
+    reader.opened = 1;
+    reader.start = below(1000);
+    memset(in, 0, MOST);
+    CHECK(bt_reader_batch(&reader, in, SIZE_MAX, items, 3, &batch) == BT_ITEM && batch.count == 3 && batch.used == 12);
+    CHECK(bt_reader_next(&reader, in, SIZE_MAX, items) == BT_ITEM && items[0].id == BT_KEEP_ALIVE && items[0].size == 4);
+    CHECK(bt_reader_finish(&reader, in, SIZE_MAX, items) == BT_ITEM && items[0].size == 4);
+    CHECK(bt_reader_batch(&reader, NULL, 0, items, SIZE_MAX, &batch) == BT_MORE && batch.count == 0 && batch.used == 0);
+    CHECK(bt_reader_batch(&reader, in, 8, NULL, 0, &batch) == BT_ITEM && batch.count == 0 && batch.used == 0);
+    bt_feed feed;
+    bt_feed_init(&feed, &reader.own);
+    feed.to = below(100);
+    size_t old = feed.to, room = 100 + below(MOST - 100);
+    CHECK(bt_feed_push(&feed, held, room, in, SIZE_MAX) == room - old && feed.to == room);
+}
+
 static void feed_one(uint8_t *in, uint8_t *held) {
     size_t n = random_size(), room = random_size();
     uint8_t *bytes = place(in, n), *buffer = place(held, room);
@@ -237,6 +288,9 @@ int main(int argc, char **argv) {
     uint8_t *in = pages(), *held = pages();
     for (unsigned long i = 0; i < count; i++) {
         read_one(in);
+        batch_one(in, held);
+        if (i % 100 == 0)
+            huge_one(in, held);
         feed_one(in, held);
         write_one(in, held);
         name_one(held);

@@ -4,8 +4,9 @@ use Rattle.bt_wire.specs.declared.fault.Refused.{Refused}
 use Rattle.bt_wire.specs.declared.item.Item.{Item}
 use Rattle.bt_wire.specs.declared.item.Refusal.{Refusal}
 use Rattle.bt_wire.specs.Streams.{Outcome, IsVerdict, refusal_at, refusal_at_end}
-use Rattle.bt_c.specs.Readers.{own_of, is_on, reason_number}
-use Rattle.bt_c.specs.Steps.{Steps, Gives, Lacks, HasFault, start_of}
+use Rattle.bt_wire.specs.Messages.{Message, fields_of}
+use Rattle.bt_c.specs.Readers.{own_of, context_of, is_on, kept, reason_number}
+use Rattle.bt_c.specs.Steps.{Steps, Gives, Goes, Lacks, HasFault, start_of}
 use Rattle.bt_c.specs.declared.check.BtVerdict.{BtVerdict}
 use Rattle.bt_c.specs.declared.reader.BtReader.{BtReader}
 use Rattle.bt_c.specs.declared.item.BtItem.{BtItem}
@@ -15,6 +16,11 @@ use Rattle.bt_c.specs.declared.item.BtItem.{BtItem}
 abbrev pub Reads : BtReader → List ℕ → List (ℕ × Item) → BtReader → List ℕ → Type 0
 Reads r b [] s c = (s ≡ r) × (c ≡ b)
 Reads r b (x ∷ xs) s c = (t : BtReader) × (i : BtItem) × (i.start ≡ x.0) × Gives r b t i x.1 × Reads t (drop i.size b) xs s c
+
+-- of the item.size bytes of a message the last item.body ones are those that it keeps
+abbrev pub BodiesAreLast : Type 0
+BodiesAreLast = (r s : BtReader) (b : List ℕ) (i : BtItem) (msg : Message) → Goes r b s i msg
+    → (i.body ≤ i.size) × (drop (i.size - i.body) (take i.size b) ≡ kept (fields_of (context_of r) msg))
 
 -- the same by the items' structs: each call answers 1 and shows one of them
 abbrev pub Nexts : BtReader → List ℕ → List BtItem → BtReader → List ℕ → Type 0

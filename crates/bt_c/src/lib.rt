@@ -9,6 +9,7 @@ mod feed;
 mod item;
 pub mod laws;
 mod names;
+mod quick;
 mod reader;
 mod receiver;
 mod slices;

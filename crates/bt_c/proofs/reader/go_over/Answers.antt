@@ -1,7 +1,7 @@
 use Rattle.std.proofs.Common.{refl, ◌∙◌}
 use Rattle.bt_wire.specs.Messages.{message_of}
 use Rattle.bt_c.specs.Steps.{GoesOver}
-use Rattle.bt_c.proofs.reader.go_over_view.Goals as goal
+use Rattle.bt_c.proofs.reader.go_over.Goals as goal
 
 pub returns-in-Err-clause-over : goal.returns-in-Err-clause-over
 returns-in-Err-clause-over c = GoesOver.refused c.in-Err.fault c.in-Err.ensures.err c.refused.ensures refl
