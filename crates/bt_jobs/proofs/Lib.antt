@@ -4,4 +4,5 @@ mod PackText
 mod PackPieces
 mod PackRuns
 mod PackLaws
+mod PackHints
 mod Hearing

@@ -22,7 +22,7 @@ fn first_feed(text: &[u8]) -> Option<usize>
 }
 
 /// Returns the text's first line, and what follows its line feed.
-fn split_line(text: &[u8]) -> Option<(&[u8], &[u8])>
+pub(crate) fn split_line(text: &[u8]) -> Option<(&[u8], &[u8])>
     ensures cut { IsCut text.now (option_map (λ p. (p.0.now, p.1.now)) result) }
     ensures shorter { IfSome result (λ p. length p.1.now < length text.now) }
 {

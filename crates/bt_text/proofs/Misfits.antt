@@ -1,11 +1,11 @@
 -- Walking through a line of a script, word by word.
-use Rattle.std.proofs.Common.{◌≡◌, ℕ, ◌+◌, ◌<◌, ◌≤◌, Bool, true, false, not, List, [], ◌∷◌, ◌++◌, length, drop, get_or, refl, sym, ap, subst, ◌∙◌, arith}
+use Rattle.std.proofs.Common.{◌≡◌, ℕ, ◌+◌, ◌<◌, ◌≤◌, Bool, true, false, List, [], ◌∷◌, ◌++◌, length, drop, get_or, refl, sym, ap, subst, ◌∙◌, arith}
+use Rattle.std.specs.Prelude.{codes}
 use Rattle.std.proofs.lemmas.List.{append-nil, append_assoc, nil_from_length, drop_all, drop_more}
 use Rattle.bt_text.specs.ScriptReading.{word_of, behind_word}
 use Rattle.bt_text.specs.Misfits.{IsCompleted, IsCompletedOr, IsMisfit, wrong_word, missing, too_many}
 use Rattle.bt_text.specs.declared.script.misfit.Expected.{Expected}
 use Rattle.bt_text.specs.declared.script.misfit.Expected.TheVariants.{End}
-use Rattle.bt_text.specs.declared.script.misfit.Misfit.{Misfit}
 use Rattle.bt_text.proofs.ScriptWords.{word-parts}
 
 pub not_completed : (first : Bool) (front : List ℕ) (es : List Expected) (is : Bool) → is ≡ false → IsCompletedOr first front es is
@@ -27,7 +27,7 @@ missing_word first text front rest es k column d within whole none completed at 
     let same : front ≡ text = sym (append-nil front) ∙ ap (λ (x : List ℕ). front ++ x) (sym (nil_from_length rest none)) ∙ whole in
     let here = subst (λ (l : List Expected). IsCompleted first front l) (drop_more es k d within) completed in
     missing (drop (k + 1) es) (subst (λ (l : List ℕ). IsCompleted first l (get_or es k d ∷ drop (k + 1) es)) same here)
-        (ap (λ (n : ℕ). n + 1) (at ∙ ap (λ (l : List ℕ). length l) same))
+    (ap (λ (n : ℕ). n + 1) (at ∙ ap (λ (l : List ℕ). length l) same))
 
 pub wrong : (first : Bool) (text front rest tail new : List ℕ) (space : ℕ) (es : List Expected) (k column : ℕ) (d : Expected) → k < length es
     → front ++ rest ≡ text → rest ≡ space ∷ tail → space ≡ 32 → IsCompleted first front (drop k es) → new ≡ (front ++ (32 ∷ [])) ++ word_of tail
@@ -37,7 +37,7 @@ wrong first text front rest tail new space es k column d within whole r s comple
     let here = subst (λ (l : List Expected). IsCompleted first front l) (drop_more es k d within) completed in
     let same : new ≡ front ++ (32 ∷ word_of tail) = n ∙ append_assoc front (32 ∷ []) (word_of tail) in
     wrong_word front tail (drop (k + 1) es) (sym whole ∙ after_space front rest tail space r s) here
-        (subst (λ (l : List ℕ). IsCompleted first l (drop (k + 1) es) → ⊥) same broken) (omega (arith, at))
+    (subst (λ (l : List ℕ). IsCompleted first l (drop (k + 1) es) → ⊥) same broken) (omega (arith, at))
 
 pub one_more : (text front rest tail new next : List ℕ) (space : ℕ) → front ++ rest ≡ text → rest ≡ space ∷ tail → space ≡ 32
     → new ≡ (front ++ (32 ∷ [])) ++ word_of tail → next ≡ behind_word tail → new ++ next ≡ text
@@ -51,4 +51,10 @@ pub more_words : (first : Bool) (text front rest tail : List ℕ) (space : ℕ) 
     → IsMisfit first text (record { column = column + 2; expected = End })
 more_words first text front rest tail space es k column ended whole r s completed at =
     too_many front tail (sym whole ∙ after_space front rest tail space r s) (subst (λ (l : List Expected). IsCompleted first front l) (drop_all k es ended) completed) refl
-        (omega (arith, at))
+    (omega (arith, at))
+
+pub block_parts : (text name one two three four index begin block : List ℕ) → name ++ one ≡ text → name ≡ codes "piece" → one ≡ codes " " ++ (index ++ two)
+    → two ≡ codes " " ++ (begin ++ three) → three ≡ codes " " ++ (block ++ four) → four ≡ []
+    → text ≡ codes "piece" ++ (codes " " ++ (index ++ (codes " " ++ (begin ++ (codes " " ++ block)))))
+block_parts text name one two three four index begin block whole n a b c d =
+    sym whole ∙ (rw n (rw a (rw b (rw c (rw d (rw (append-nil block) refl))))))

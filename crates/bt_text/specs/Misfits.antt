@@ -1,5 +1,7 @@
 -- The first word of a script's line that can't stand in its place.
-use Rattle.std.specs.Prelude.{◌≡◌, ℕ, ◌+◌, Bool, true, false, List, [], ◌∷◌, ◌++◌, length, codes, decimal, None}
+use Rattle.std.specs.Prelude.{◌≡◌, ◌==◌, ◌⊎◌, if◌then◌else◌, ℕ, ◌+◌, Bool, true, false, List, [], ◌∷◌, ◌++◌, length, codes, decimal, None}
+use Rattle.std.specs.Char.{is_ascii_digit}
+use Rattle.std.specs.List.{AllPass}
 use Rattle.bt_wire.specs.Ids.{ids}
 use Rattle.bt_text.specs.Script.{row_named, IsLine}
 use Rattle.bt_text.specs.ScriptReading.{word_of}
@@ -74,3 +76,24 @@ pub data IsMisfit (first : Bool) (text : List ℕ) (m : Misfit) : Type 0 where
 abbrev pub misfit_line : ℕ → Misfit → List ℕ
 misfit_line number m = codes "hint: line " ++ (decimal number ++ (codes ", column " ++ (decimal m.column ++ (codes ": expected "
     ++ (expected_words m.expected ++ codes "\n")))))
+
+-- ---- a block that may be meant as a length
+
+-- two, four, six or eight decimal digits
+pub record IsShortNumber (word : List ℕ) : Type 0 where
+  pub digits : AllPass is_ascii_digit word
+  pub size : (length word ≡ 2) ⊎ ((length word ≡ 4) ⊎ ((length word ≡ 6) ⊎ (length word ≡ 8)))
+
+-- the line of a piece whose block has such digits of hex
+abbrev pub IsDecimalBlock : List ℕ → List ℕ → Type 0
+IsDecimalBlock text block =
+    (index : List ℕ) × (begin : List ℕ) × (text ≡ codes "piece" ++ (codes " " ++ (index ++ (codes " " ++ (begin ++ (codes " " ++ block))))))
+    × IsShortNumber block
+
+abbrev pub block_size : ℕ → List ℕ
+block_size n =
+    if n == 2 then codes "one byte" else if n == 4 then codes "two bytes" else if n == 6 then codes "three bytes" else codes "four bytes"
+
+abbrev pub block_line : ℕ → List ℕ → List ℕ
+block_line number block = codes "hint: line " ++ (decimal number ++ (codes ": piece INDEX BEGIN HEX: \"" ++ (block ++ (codes "\" is "
+    ++ (block_size (length block) ++ codes " of a block; a request has a length\n")))))

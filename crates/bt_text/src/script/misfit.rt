@@ -1,6 +1,6 @@
 //! The first word of a script's line that can't stand in its place, and what is expected there. The hints of `pack` call it.
-ghost use Rattle.std.specs.Prelude.{◌≡◌, ◌++◌, decimal, false, None, IfSome, OnOk};
-ghost use Rattle.bt_text.specs.Misfits.{sample as sample_of, samples, expected_words as words_of, IsCompleted, IsCompletedOr, IsNoName, IsMisfit, misfit_line as line_of};
+ghost use Rattle.std.specs.Prelude.{◌≡◌, ◌++◌, codes, decimal, length, false, true, None, IfSome, OnOk};
+ghost use Rattle.bt_text.specs.Misfits.{sample as sample_of, samples, expected_words as words_of, IsCompleted, IsCompletedOr, IsNoName, IsMisfit, misfit_line as line_of, IsShortNumber, IsDecimalBlock, block_size as size_of_block, block_line as block_line_of};
 
 use crate::script::reading::{is, read_line, row_of, split_word};
 use bt_wire::Shape;
@@ -236,5 +236,69 @@ pub fn push_misfit_line(number: u64, misfit: Misfit, line: &mut Vec<u8>) -> Resu
     line.extend_from_slice(b": expected ")?;
     line.extend_from_slice(expected_words(misfit.expected))?;
     line.push(b'\n')?;
+    Ok(())
+}
+
+/// Reads a space and a word, and returns the word and what follows it.
+fn next_word(text: &[u8]) -> Option<(&[u8], &[u8])>
+    ensures { IfSome result (λ p. text.now ≡ codes " " ++ (p.0.now ++ p.1.now)) }
+{
+    let (space, words) = text.split_first()?;
+    if *space != b' ' {
+        return None;
+    }
+    Some(split_word(words))
+}
+
+/// Returns whether these are at most eight decimal digits, two for each byte.
+fn is_short_number(word: &[u8]) -> bool
+    ensures { result ≡ true → IsShortNumber word.now }
+{
+    matches!(word.len(), 2 | 4 | 6 | 8) && word.iter().all(|byte| byte.is_ascii_digit())
+}
+
+/// Returns the hex of a short block that has decimal digits alone, as a length has them; `None` for another line.
+pub fn decimal_block(text: &[u8]) -> Option<&[u8]>
+    ensures { IfSome result (λ block. IsDecimalBlock text.now block.now) }
+{
+    let (name, rest) = split_word(text);
+    if !is(name, b"piece") {
+        return None;
+    }
+    let (_, rest) = next_word(rest)?;
+    let (_, rest) = next_word(rest)?;
+    let (block, rest) = next_word(rest)?;
+    if rest.is_empty() && is_short_number(block) {
+        Some(block)
+    } else {
+        None
+    }
+}
+
+/// Returns the words for how many bytes these digits of hex say.
+fn block_size(block: &[u8]) -> &'static [u8]
+    ensures { result.now ≡ size_of_block (length block.now) }
+{
+    match block.len() {
+        2 => b"one byte",
+        4 => b"two bytes",
+        6 => b"three bytes",
+        _ => b"four bytes",
+    }
+}
+
+/// Appends the line that says of the line `number` of a script that its decimal digits are a block, and no length.
+///
+/// # Errors
+/// `AllocError` if the growth of the text was refused.
+pub fn push_block_line(number: u64, block: &[u8], line: &mut Vec<u8>) -> Result<(), AllocError>
+    ensures { OnOk result (line.new.items ≡ line.old.items ++ block_line_of number block.now) }
+{
+    push_numbered(b"hint: line ", number, line)?;
+    line.extend_from_slice(b": piece INDEX BEGIN HEX: \"")?;
+    line.extend_from_slice(block)?;
+    line.extend_from_slice(b"\" is ")?;
+    line.extend_from_slice(block_size(block))?;
+    line.extend_from_slice(b" of a block; a request has a length\n")?;
     Ok(())
 }

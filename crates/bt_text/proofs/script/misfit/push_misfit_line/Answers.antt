@@ -9,6 +9,6 @@ regrouped o a n b k d w e = simp append_assoc
 pub returns : goal.returns
 returns c =
     rw c.in_ok-push.ensures.items (rw c.in_ok-extend_from_slice-2.ensures.items (rw c.expected_words.ensures
-        (rw c.in_ok-extend_from_slice.ensures.items (rw c.in_ok-push_numbered-2.ensures (rw c.in_ok-push_numbered.ensures
-        (regrouped c.args.line.now.items (codes "hint: line ") (decimal c.args.number) (codes ", column ") (decimal c.args.misfit.column)
-        (codes ": expected ") (expected_words c.args.misfit.expected) (codes "\n")))))))
+    (rw c.in_ok-extend_from_slice.ensures.items (rw c.in_ok-push_numbered-2.ensures (rw c.in_ok-push_numbered.ensures
+    (regrouped c.args.line.now.items (codes "hint: line ") (decimal c.args.number) (codes ", column ") (decimal c.args.misfit.column)
+    (codes ": expected ") (expected_words c.args.misfit.expected) (codes "\n")))))))

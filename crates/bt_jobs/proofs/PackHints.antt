@@ -1,0 +1,46 @@
+-- Lines of a script, by their number.
+use Rattle.std.proofs.Common.{◌≡◌, ℕ, ◌+◌, false, List, [], ◌∷◌, ◌++◌, length, Some, refl, sym, ap, ◌∙◌, arith, length-append}
+use Rattle.std.proofs.lemmas.List.{append-nil, append_assoc}
+use Rattle.bt_text.specs.Script.{has_feed}
+use Rattle.bt_jobs.specs.Packs.{ended_lines, AreWhole}
+use Rattle.bt_jobs.specs.PackHints.{IsLineAt}
+use Rattle.bt_jobs.specs.PackSteps.{IsCut}
+use Rattle.bt_jobs.proofs.PackText.{ended_more, whole_both}
+
+-- the lines before the one with this number are passed, and the rest follows them
+pub record IsPassed (number : ℕ) (text rest : List ℕ) : Type 0 where
+  pub before : List (List ℕ)
+  pub parts : text ≡ ended_lines before ++ rest
+  pub whole : AreWhole before
+  pub count : number ≡ length before + 1
+
+pub none_passed : (text : List ℕ) → IsPassed 1 text text
+none_passed text = record { before = []; parts = refl; whole = tt; count = refl }
+
+pub one_passed : (number : ℕ) (text rest front behind : List ℕ) → IsPassed number text rest → IsCut rest (Some (front, behind))
+    → IsPassed (number + 1) text behind
+one_passed number text rest front behind h cut = record {
+  before = h.before ++ front ∷ [];
+  parts = h.parts ∙ ap (λ (t : List ℕ). ended_lines h.before ++ t) (cut.0 ∙ sym (append_assoc front (10 ∷ []) behind))
+      ∙ sym (append_assoc (ended_lines h.before) (front ++ 10 ∷ []) behind) ∙ ap (λ (t : List ℕ). t ++ behind) (sym (ended_more h.before front));
+  whole = whole_both h.before (front ∷ []) h.whole (cut.1, tt);
+  count = omega (arith, h.count, length-append h.before (front ∷ []));
+}
+
+pub line_cut : (number : ℕ) (text rest front behind : List ℕ) → IsPassed number text rest → IsCut rest (Some (front, behind)) → IsLineAt number text front
+line_cut number text rest front behind h cut = record {
+  before = h.before;
+  rest = 10 ∷ behind;
+  parts = h.parts ∙ ap (λ (t : List ℕ). ended_lines h.before ++ t) cut.0;
+  whole = h.whole;
+  count = h.count;
+}
+
+pub line_left : (number : ℕ) (text rest : List ℕ) → IsPassed number text rest → IsLineAt number text rest
+line_left number text rest h = record {
+  before = h.before;
+  rest = [];
+  parts = h.parts ∙ ap (λ (t : List ℕ). ended_lines h.before ++ t) (sym (append-nil rest));
+  whole = h.whole;
+  count = h.count;
+}
