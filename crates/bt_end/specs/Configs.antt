@@ -8,7 +8,7 @@ use Rattle.bt_end.specs.declared.config.Config.{Config}
 use Rattle.bt_end.specs.declared.config.EndError.{EndError}
 use Rattle.bt_end.specs.declared.config.EndError.TheVariants.{BadLimit, BadConfig, BadSize, Memory}
 use Rattle.bt_end.specs.declared.config.Role.{Role}
-use Rattle.bt_end.specs.declared.config.Role.TheVariants.{Watch, Serve, Fetch}
+use Rattle.bt_end.specs.declared.config.Role.TheVariants.{Watch, Serve, Share, Fetch}
 
 -- its messages have at most 32,768 to 1,048,576 bytes
 abbrev pub is_bad_limit : ℕ → Bool
@@ -19,6 +19,7 @@ is_bad_size size = size == 0 || nat_lt max_metadata size
 
 abbrev pub is_bad_role : {A : Type 0} → Role A → Bool
 is_bad_role (Serve metadata) = is_bad_size (length metadata.items)
+is_bad_role (Share metadata) = is_bad_size (length metadata.value.items)
 is_bad_role r = false
 
 -- why no end is made, for another cause than memory
@@ -30,6 +31,7 @@ config_error c =
 abbrev pub part_for : {A : Type 0} → Role A → Part
 part_for Watch = Watching
 part_for (Serve metadata) = Serving metadata.items
+part_for (Share metadata) = Serving metadata.value.items
 part_for Fetch = Awaiting
 
 -- its own reserved bits and info hash, and its peer id

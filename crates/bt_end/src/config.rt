@@ -7,6 +7,7 @@ use bt_metadata::WINDOW;
 use bt_wire::Own;
 use std::alloc::{Allocator, Global};
 use std::marker::Model;
+use std::rc::Rc;
 use thiserror::Error;
 
 /// What an end says of its pieces after the handshakes (BEP 6).
@@ -29,6 +30,8 @@ pub enum Role<A: Allocator = Global> {
     Watch,
     /// It serves this metadata, of 1 to `MAX_METADATA` bytes.
     Serve(Vec<u8, A>),
+    /// It serves this metadata, of 1 to `MAX_METADATA` bytes, which other ends serve too.
+    Share(Rc<Vec<u8, A>, A>),
     /// It fetches it.
     Fetch,
 }

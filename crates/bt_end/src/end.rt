@@ -168,6 +168,7 @@ fn part_for<A: Allocator>(role: Role<A>) -> Result<Part<A>, BadSize>
     match role {
         Role::Watch => Ok(Part::Watching),
         Role::Serve(metadata) => Ok(Part::Serving(Server::new(metadata)?)),
+        Role::Share(metadata) => Ok(Part::Serving(Server::shared(metadata)?)),
         Role::Fetch => Ok(Part::Awaiting),
     }
 }

@@ -27,7 +27,7 @@ use Rattle.bt_exchange.proofs.Moves.{moment, moved_none, moved_both, made_none, 
 -- ---- the clock
 
 -- reading the clock moves nothing
-abbrev moved_clock : (m : Moment) (t : ℕ) → IsMoved m (moment (at_time t m.seen) m.pending m.half)
+abbrev pub moved_clock : (m : Moment) (t : ℕ) → IsMoved m (moment (at_time t m.seen) m.pending m.half)
 moved_clock m t = record {
   got = [];
   heard = [];
@@ -58,18 +58,18 @@ step_end old new r none a = no_items old new a.made.moved (a.items ∙ none)
 seen_calm : (s t : Seen) → t ≡ s → IsCalm s.counts t.counts
 seen_calm s t e = record { ends = ap (λ (x : Seen). x.counts.ends) e; failed = ap (λ (x : Seen). x.counts.failed) e }
 
-step_calm : (old new : Moment) (st : Step) → IsStep old new (Ok st) → IsCalm old.seen.counts new.seen.counts
+pub step_calm : (old new : Moment) (st : Step) → IsStep old new (Ok st) → IsCalm old.seen.counts new.seen.counts
 step_calm old new step.Moved h = h
 step_calm old new step.Waited h = h.0
 step_calm old new step.Handled h = seen_calm old.seen new.seen h
 step_calm old new step.Held h = seen_calm old.seen new.seen h
 
-calm_both : (a b c : Counts) → IsCalm a b → IsCalm b c → IsCalm a c
+pub calm_both : (a b c : Counts) → IsCalm a b → IsCalm b c → IsCalm a c
 calm_both a b c p q = record { ends = q.ends ∙ p.ends; failed = q.failed ∙ p.failed }
 
 -- ---- a fault, after calm
 
-fault_after : (a b c : Counts) (h : HalfState) (e : Stop) → IsCalm a b → IsFault b c h e → IsFault a c h e
+pub fault_after : (a b c : Counts) (h : HalfState) (e : Stop) → IsCalm a b → IsFault b c h e → IsFault a c h e
 fault_after a b c h stop.Closed k f = (subst (λ (x : ℕ). Grew x c.ends) k.ends f.0, f.1 ∙ k.failed)
 fault_after a b c h stop.Failed k f = (subst (λ (x : ℕ). Grew x c.failed) k.failed f.0, f.1 ∙ k.ends)
 fault_after a b c h (stop.Refused r) k f = (calm_both a b c k f.0, f.1)
@@ -194,7 +194,7 @@ quiet_both sign.Progress a b c p q e f = f ∙ e
 pub mark_here : (s : Sign) (t : ℕ) (start new : Moment) → IsMoved start new → new.seen.counts.clock ≡ t → IsMark s t start new
 mark_here s t start new m e = record { since = new; before = m; after = moved_none new; quiet = quiet_none s new; clock = e }
 
-mark_on : (s : Sign) (t : ℕ) (start old new : Moment) (p : IsMoved old new) → IsMark s t start old → IsQuiet s old new p → IsMark s t start new
+pub mark_on : (s : Sign) (t : ℕ) (start old new : Moment) (p : IsMoved old new) → IsMark s t start old → IsQuiet s old new p → IsMark s t start new
 mark_on s t start old new p m q = record {
   since = m.since;
   before = m.before;
@@ -213,7 +213,7 @@ quiet_step sign.Progress step.Moved old new a p b = ap (λ (x : EndState). progr
 quiet_step sign.Progress step.Waited old new a p b = ap (λ (x : EndState). progress_of x.part) (step_end old new (Ok step.Waited) refl a)
 quiet_step sign.Progress step.Held old new a p b = ap (λ (x : EndState). progress_of x.part) (step_end old new (Ok step.Held) refl a)
 
-quiet_clock : (s : Sign) (m : Moment) (t : ℕ) → IsQuiet s m (moment (at_time t m.seen) m.pending m.half) (moved_clock m t)
+pub quiet_clock : (s : Sign) (m : Moment) (t : ℕ) → IsQuiet s m (moment (at_time t m.seen) m.pending m.half) (moved_clock m t)
 quiet_clock sign.Bytes m t = (refl, refl)
 quiet_clock sign.Progress m t = refl
 

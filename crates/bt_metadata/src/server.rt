@@ -2,10 +2,12 @@
 ghost use Rattle.std.specs.Prelude.{◌≡◌, ◌⊎◌, ◌↔◌, ◌<◌, ◌≤◌, length, IfOk, IsErr};
 ghost use Rattle.bt_metadata.specs.Blocks.{max_metadata};
 ghost use Rattle.bt_metadata.specs.Replies.{IsReply, IsBounded};
+ghost use Rattle.bt_metadata.specs.Served.{stored};
 
 use crate::assembly::{BLOCK, MAX_METADATA};
 use std::alloc::{Allocator, Global};
 use std::marker::Model;
+use std::rc::Rc;
 use thiserror::Error;
 
 /// Metadata of this size isn't served: it isn't 1 to 67,108,864.
@@ -22,19 +24,40 @@ pub enum Reply<'a> {
     Reject,
 }
 
+/// Where the metadata of a server is kept.
+#[derive(Drop)]
+enum Store<A: Allocator> {
+    /// By the server alone.
+    Own(Vec<u8, A>),
+    /// By several servers.
+    Shared(Rc<Vec<u8, A>, A>),
+}
+
+impl<A: Allocator> Store<A> {
+    /// The metadata.
+    fn bytes(&self) -> &[u8]
+        ensures { result.now ≡ stored self.now }
+    {
+        match self {
+            Store::Own(metadata) => metadata.as_slice(),
+            Store::Shared(metadata) => Rc::as_ref(metadata).as_slice(),
+        }
+    }
+}
+
 /// Metadata that is served, seen as its bytes.
 #[derive(Drop)]
 pub struct Server<A: Allocator = Global> {
-    metadata: Vec<u8, A>,
+    store: Store<A>,
 }
 
 impl<A: Allocator> Model for Server<A> {
     ghost use Rattle.std.specs.Prelude.{List, ℕ};
-    ghost use Rattle.bt_metadata.specs.Served.{IsServed};
+    ghost use Rattle.bt_metadata.specs.Served.{IsServed, stored};
 
     ghost Value = { List ℕ };
 
-    ghost view = { λ s. s.metadata.items };
+    ghost view = { λ s. stored s.store };
 
     ghost invariant = { IsServed };
 }
@@ -48,7 +71,23 @@ impl<A: Allocator> Server<A> {
         if metadata.is_empty() || metadata.len() > MAX_METADATA {
             return Err(BadSize);
         }
-        Ok(Server { metadata })
+        Ok(Server {
+            store: Store::Own(metadata),
+        })
+    }
+
+    /// A server of metadata that others serve too, which has 1 to `MAX_METADATA` bytes. It takes no memory.
+    pub fn shared(metadata: Rc<Vec<u8, A>, A>) -> Result<Server<A>, BadSize>
+        ensures ok { IfOk result (λ server. server ≡ metadata.value.items) }
+        ensures size { IsErr result ↔ ((length metadata.value.items ≡ 0) ⊎ (max_metadata < length metadata.value.items)) }
+    {
+        let size = Rc::as_ref(&metadata).len();
+        if size == 0 || size > MAX_METADATA {
+            return Err(BadSize);
+        }
+        Ok(Server {
+            store: Store::Shared(metadata),
+        })
     }
 
     /// The size of the metadata in bytes, 1 to `MAX_METADATA`.
@@ -56,7 +95,7 @@ impl<A: Allocator> Server<A> {
         ensures value { result ≡ length self.now }
         ensures bounds { (0 < result) × (result ≤ max_metadata) }
     {
-        self.metadata.len() as u64
+        self.store.bytes().len() as u64
     }
 
     /// The answer to a request for a block: the block, or a reject if there is none.
@@ -65,13 +104,14 @@ impl<A: Allocator> Server<A> {
         ensures bounds { IsBounded result }
     {
         let at = BLOCK * piece as usize;
-        let size = self.metadata.len();
+        let metadata = self.store.bytes();
+        let size = metadata.len();
         if at >= size {
             return Reply::Reject;
         }
         Reply::Data {
             total: size as u64,
-            block: &self.metadata[at..(at + BLOCK).min(size)],
+            block: &metadata[at..(at + BLOCK).min(size)],
         }
     }
 }

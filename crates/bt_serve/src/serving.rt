@@ -1,9 +1,12 @@
 //! The loop over all connections that are served.
+ghost use Rattle.bt_serve.specs.Guests.{IsHospitality};
+
 use crate::door::{Door, Parting};
 use crate::guest::{Guest, Hospitality, Pace};
 use bt_exchange::Connection;
 use bt_io::Memory;
 use std::alloc::Global;
+use std::rc::Rc;
 
 /// The connections that are served at the moment, each with its name.
 type Guests<D> = Vec<(Guest<<D as Door>::Link>, <D as Door>::Name)>;
@@ -12,10 +15,12 @@ type Guests<D> = Vec<(Guest<<D as Door>::Link>, <D as Door>::Name)>;
 fn let_in<D: Door>(
     alloc: Global,
     hospitality: &Hospitality,
-    metadata: &[u8],
+    metadata: &Rc<Vec<u8>>,
     door: &mut D,
     guests: &mut Guests<D>,
-) -> Result<bool, Memory> {
+) -> Result<bool, Memory>
+    requires { IsHospitality hospitality.now }
+{
     let Some((link, name)) = door.enter() else {
         return Ok(false);
     };
@@ -71,11 +76,13 @@ fn tend_all<D: Door>(patience: u64, door: &mut D, guests: &mut Guests<D>) -> (u6
 pub fn serve<D: Door>(
     alloc: Global,
     hospitality: &Hospitality,
-    metadata: &[u8],
+    metadata: &Rc<Vec<u8>>,
     connections: Option<u64>,
     at_once: usize,
     door: &mut D,
-) -> Result<(), Memory> {
+) -> Result<(), Memory>
+    requires { IsHospitality hospitality.now }
+{
     let mut guests: Guests<D> = Vec::new(alloc);
     let mut entered = 0u64;
     let mut left = 0u64;

@@ -14,7 +14,7 @@ use Rattle.bt_session.specs.Reports.{DoMatch}
 use Rattle.bt_end.specs.declared.config.Config.{Config}
 use Rattle.bt_end.specs.declared.config.EndError.TheVariants.{BadLimit, BadConfig, BadSize}
 use Rattle.bt_end.specs.declared.config.Role.{Role}
-use Rattle.bt_end.specs.declared.config.Role.TheVariants.{Watch, Serve, Fetch}
+use Rattle.bt_end.specs.declared.config.Role.TheVariants.{Watch, Serve, Share, Fetch}
 
 no_error : (x y z : Bool) → (if x then Some BadLimit else (if y then Some BadConfig else (if z then Some BadSize else None))) ≡ None → (x ≡ false)
     × (y ≡ false) × (z ≡ false)
@@ -30,19 +30,25 @@ neither false y e = (refl, e)
 above_zero : (n : ℕ) → eqb n 0 ≡ false → 0 < n
 above_zero n e = above_0 n e
 
+sized_items : (items : List ℕ) → (eqb (length items) 0 || ltb max_metadata (length items)) ≡ false → IsMetadata items
+sized_items items e =
+    let parts = neither (eqb (length items) 0) (ltb max_metadata (length items)) e in
+    record { least = above_zero (length items) parts.0; most = ltb-false max_metadata (length items) parts.1 }
+
 sized : (role : Role Global) → is_bad_role role ≡ false → ForSome (source_of (part_for role)) (λ metadata. IsMetadata metadata)
 sized Watch e m h = absurd cc
 sized Fetch e m h = absurd cc
 sized (Serve metadata) e m h =
-    let parts = neither (eqb (length metadata.items) 0) (ltb max_metadata (length metadata.items)) e in
     let same : metadata.items ≡ m = cc in
-    let is : IsMetadata metadata.items = record { least = above_zero (length metadata.items) parts.0; most = ltb-false max_metadata (length metadata.items)
-        parts.1 } in
-    subst (λ (x : List ℕ). IsMetadata x) same is
+    subst (λ (x : List ℕ). IsMetadata x) same (sized_items metadata.items e)
+sized (Share metadata) e m h =
+    let same : metadata.value.items ≡ m = cc in
+    subst (λ (x : List ℕ). IsMetadata x) same (sized_items metadata.value.items e)
 
 first : (role : Role Global) → IsFirstPart (part_for role)
 first Watch = tt
 first (Serve metadata) = tt
+first (Share metadata) = tt
 first Fetch = tt
 
 hash_length : (o : Option (List ℕ)) → is_none o ≡ false → IfSome o (λ h. length h ≡ 20) → (o ≡ Some (unwrap_or o [])) × (length (unwrap_or o []) ≡ 20)

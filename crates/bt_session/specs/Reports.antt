@@ -16,7 +16,7 @@ use Rattle.bt_session.specs.declared.link.Step.{Step}
 use Rattle.bt_end.specs.declared.config.Config.{Config}
 use Rattle.bt_end.specs.declared.config.EndError.TheVariants as end_error
 use Rattle.bt_end.specs.declared.config.Role.{Role}
-use Rattle.bt_end.specs.declared.config.Role.TheVariants.{Serve}
+use Rattle.bt_end.specs.declared.config.Role.TheVariants.{Serve, Share}
 use Rattle.bt_session.specs.declared.report.LinkError.{LinkError}
 use Rattle.bt_session.specs.declared.report.LinkError.TheVariants as error
 use Rattle.bt_session.specs.declared.report.LinkReport.{LinkReport}
@@ -81,6 +81,7 @@ pub record IsRun (a b : EndState) (steps : List Step) (r : LinkReport) : Type 0 
 -- metadata that is to be served has the info hash as its SHA-1
 abbrev pub IsRightFor : Role Global → Option (List ℕ) → Type 0
 IsRightFor (Serve metadata) (Some hash) = sha1 metadata.items ≡ hash
+IsRightFor (Share metadata) (Some hash) = sha1 metadata.value.items ≡ hash
 IsRightFor role hash = ⊤
 
 -- two receivers want the same

@@ -24,6 +24,7 @@ fn is_other(config: &Config) -> bool
 {
     match (&config.role, config.own.info_hash) {
         (Role::Serve(metadata), Some(hash)) => sha1::Sha1::digest(metadata.as_slice()) != hash,
+        (Role::Share(metadata), Some(hash)) => sha1::Sha1::digest(metadata.as_slice()) != hash,
         _ => false,
     }
 }

@@ -1,5 +1,5 @@
-use Rattle.std.proofs.Common.{◌≡◌, ℕ, ◌+◌, ◌-◌, ◌*◌, ◌<◌, ◌≤◌, List, length, take, drop, min, ap, subst, ◌∙◌, arith, length-drop}
-use Rattle.std.proofs.lemmas.List.{take_min, length-take}
+use Rattle.std.proofs.Common.{◌≡◌, ℕ, ◌+◌, ◌-◌, ◌*◌, ◌<◌, List, length, take, drop, min, ap, subst, ◌∙◌, arith, length-drop}
+use Rattle.std.proofs.lemmas.List.{take_min}
 use Rattle.bt_ext.specs.Metadata.{block_count}
 use Rattle.bt_metadata.specs.Blocks.{block}
 use Rattle.bt_metadata.proofs.server.Server.answer.Goals as goal
@@ -15,26 +15,12 @@ exists n piece h = omega arith
 
 pub returns-clause-reply : goal.returns-clause-reply
 returns-clause-reply g c =
-    let d = c.self.inside.metadata.items in
+    let d = c.bytes-metadata.result.now in
     let at : ℕ = 16384 * c.args.piece in
-    let v = c.self.view_is in
-    let l : c.len-size.result ≡ length d = c.len-size.ensures ∙ c.self.inside.metadata.ok.0 in
-    let h : at < length d = omega (arith, l, c.if-at-size.false) in
-    let m = c.min.ensures ∙ ap (min (at + 16384)) l in (
+    let v : d ≡ c.args.self.now = c.bytes-metadata.ensures ∙ c.self.view_is in
+    let h : at < length d = omega (arith, c.if-at-size.false) in
+    let m : c.min.result ≡ min (at + 16384) (length d) = c.min.ensures in (
       subst (λ x. c.args.piece < block_count (length x)) v (exists (length d) c.args.piece h),
-      l ∙ ap length v,
-      ap (λ x. take (c.min.result - at) (drop at x)) c.deref.ensures.value ∙ cut d at c.min.result h m ∙ ap (λ x. block x c.args.piece) v,
-    )
-
-short : (n : ℕ) (xs : List ℕ) → n ≤ 16384 → length (take n xs) ≤ 16384
-short n xs h = omega (arith, length-take n xs, h)
-
-pub returns-clause-bounds : goal.returns-clause-bounds
-returns-clause-bounds g c =
-    let d = c.self.inside.metadata.items in
-    let at : ℕ = 16384 * c.args.piece in
-    let l : c.len-size.result ≡ length d = c.len-size.ensures ∙ c.self.inside.metadata.ok.0 in (
-      omega (arith, l, c.self.invariant.least),
-      omega (arith, l, c.self.invariant.most),
-      short (c.min.result - at) (drop at c.deref.result.now) (omega (arith, c.min.ensures)),
+      ap length v,
+      cut d at c.min.result h m ∙ ap (λ x. block x c.args.piece) v,
     )
