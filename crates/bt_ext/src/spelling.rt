@@ -143,19 +143,24 @@ fn append_dict(out: &mut Vec<u8>, dict: &Value, rest: &ByteString) -> Result<(),
     out.extend_from_slice(rest.as_slice())
 }
 
-/// Appends the payload of a value that has a spelling of its own. With room for it no memory is taken.
+/// Appends the payload of a value that has a spelling of its own.
+///
+/// With room for it no memory is taken.
 fn append_payload(out: &mut Vec<u8>, value: &Ext) -> Result<(), AllocError>
-    requires { HasDict value.now }
+    requires { HasParts value.now }
     ensures { OnOk result (out.new.items ≡ out.old.items ++ payload_of value.now) }
 {
     match value {
         Ext::Handshake { dict, rest } => append_dict(out, dict, rest),
         Ext::Metadata { dict, rest } => append_dict(out, dict, rest),
+        Ext::DontHave(index) => out.extend_from_slice(&index.to_be_bytes()),
         Ext::Raw { payload, .. } => out.extend_from_slice(payload.as_slice()),
     }
 }
 
-/// Appends the extended id and the payload of a value that has a spelling of its own. With room for them no memory is taken.
+/// Appends the extended id and the payload of a value.
+///
+/// The value has a spelling of its own. With room for both no memory is taken.
 pub fn append_ext(out: &mut Vec<u8>, reg: Registered, value: &Ext) -> Result<(), AllocError>
     requires { HasSpelling reg value.now }
     ensures { OnOk result (out.new.items ≡ out.old.items ++ (unwrap_or (ext_id reg value.now) 0 ∷ payload_of value.now)) }
