@@ -7,5 +7,6 @@ pub mod MadeRight
 pub mod Names
 pub mod OneExt
 pub mod OneFault
+pub mod PeerIds
 pub mod Sorted
 pub mod Telling

@@ -18,7 +18,7 @@ id_of_name name [] = None
 id_of_name name (e ∷ es) = if bytes_eq e.0 name then Some e.1 else id_of_name name es
 
 -- the ids under which the peer that told them wants extensions
-abbrev pub told_ids : Entries → Registered
+unfoldable pub told_ids : Entries → Registered
 told_ids es = registered (id_of_name metadata_name es) (id_of_name donthave_name es)
 
 -- each name stands once and has at most 255 bytes, and no id is 0

@@ -86,6 +86,20 @@ impl Registered {
         Ok(reg)
     }
 
+    /// Registers both ids, or that of `ut_metadata` alone where they are equal.
+    pub fn preferring_metadata(metadata: Option<ExtId>, donthave: Option<ExtId>) -> Registered
+        ensures { result ≡ registered metadata donthave }
+    {
+        let mut reg = Registered::metadata_only(metadata);
+        if let Some(id) = donthave {
+            let number = id.get();
+            if !reg.is_metadata(number) {
+                reg.donthave = Some(id);
+            }
+        }
+        reg
+    }
+
     /// Registers the id of `ut_metadata` (BEP 9) alone, or none.
     pub fn metadata_only(metadata: Option<ExtId>) -> Registered
         ensures ids { result ≡ metadata_only metadata }

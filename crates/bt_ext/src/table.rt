@@ -95,15 +95,13 @@ impl<A: Allocator + Copy> Table<A> {
     }
 
     /// The ids under which the peer wants extensions: of `ut_metadata` alone where it told one id for both.
+    #[tactic(auto, unfolding(crate::specs::Tables::told_ids))]
     pub fn registered(&self) -> Registered
         ensures { result ≡ told_ids self.now }
     {
         let metadata = self.extension_of(b"ut_metadata");
         let donthave = self.extension_of(b"lt_donthave");
-        match Registered::new(metadata, donthave) {
-            Ok(reg) => reg,
-            Err(_) => Registered::metadata_only(self.extension_of(b"ut_metadata")),
-        }
+        Registered::preferring_metadata(metadata, donthave)
     }
 
     fn extension_of(&self, name: &[u8]) -> Option<ExtId>

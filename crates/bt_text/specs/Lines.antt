@@ -81,6 +81,10 @@ told_in m = byte_of (int_at (codes "ut_metadata") (dictionary m))
 abbrev pub told_id : Tree → Option ℕ
 told_id t = option_and_then told_in (option_and_then dictionary_of (lookup_of (codes "m") t))
 
+-- the same of any name
+abbrev pub told_as : List ℕ → Tree → Option ℕ
+told_as name t = option_and_then (λ m. byte_of (int_at name (dictionary m))) (option_and_then dictionary_of (lookup_of (codes "m") t))
+
 abbrev pub kind_words : Kind → Tree → List ℕ → List ℕ
 kind_words (kinds.Request piece) t rest = codes "metadata-request" ++ spaced piece
 kind_words (kinds.Data piece total) t rest = codes "metadata-data" ++ (spaced piece ++ (spaced total ++ spaced (length rest)))
@@ -93,6 +97,7 @@ ext_words (ext.Handshake dict rest) =
     codes "ext-handshake" ++ (lengths (tree_of dict) rest ++ (codes " size="
         ++ (or_dash (size_of (tree_of dict)) ++ (codes " ut_metadata=" ++ or_dash (told_id (tree_of dict))))))
 ext_words (ext.Metadata dict rest) = kind_words (kind_of (tree_of dict)) (tree_of dict) rest
+ext_words (ext.DontHave i) = codes "donthave" ++ spaced i
 ext_words (ext.Raw id bytes) = codes "extended" ++ (spaced id ++ spaced (length bytes))
 
 -- ---- an item's line

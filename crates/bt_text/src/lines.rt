@@ -202,6 +202,7 @@ fn payload_words(payload: &ExtView, line: &mut Line, at: usize) -> usize
     match payload {
         ExtView::Handshake { dict, rest } => handshake_words(dict, rest.len(), line, at),
         ExtView::Metadata { dict, rest } => metadata_words(dict, rest.len(), line, at),
+        ExtView::DontHave(index) => name_and_one(b"donthave", u64::from(*index), line, at),
         ExtView::Raw { id, payload } => {
             name_and_two(b"extended", u64::from(*id), payload.len() as u64, line, at)
         }

@@ -157,6 +157,7 @@ fn write_payload<W: fmt::Write>(f: &mut fmt::Formatter<W>, payload: &Ext) -> fmt
             )
         }
         Ext::Metadata { dict, rest } => write_metadata(f, dict, rest.len()),
+        Ext::DontHave(index) => write!(f, "donthave {index}"),
         Ext::Raw { id, payload } => write!(f, "extended {id} {}", payload.len()),
     }
 }

@@ -105,10 +105,14 @@ fn extended_id(reg: Registered, payload: &ExtView) -> u8
             Some(id) => id.get(),
             None => 0,
         },
-        ExtView::Raw { id, .. } => match reg.metadata() {
-            Some(metadata) if metadata.get() == *id => 0,
-            _ => *id,
+        ExtView::DontHave(_) => match reg.donthave() {
+            Some(donthave) => donthave.get(),
+            None => 0,
         },
+        ExtView::Raw { id, .. } => {
+            let id = *id;
+            if reg.is_known(id) { 0 } else { id }
+        }
     }
 }
 
@@ -124,6 +128,9 @@ fn push_extended(reg: Registered, payload: &ExtView, text: &mut Vec<u8>) -> Resu
         ExtView::Metadata { dict, rest } => {
             push_payload(b"extended", id, dict.spelled(), rest, text)
         }
+        ExtView::DontHave(index) => {
+            push_payload(b"extended", id, b"", &index.to_be_bytes(), text)
+        }
         ExtView::Raw { payload, .. } => push_payload(b"extended", id, b"", payload, text),
     }
 }
@@ -137,6 +144,7 @@ fn kept(view: &MessageView) -> usize {
             + rest.len(),
         MessageView::Extended(ExtView::Metadata { dict, rest }) => dict.spelled().len()
             + rest.len(),
+        MessageView::Extended(ExtView::DontHave(_)) => 4,
         MessageView::Extended(ExtView::Raw { payload, .. }) => payload.len(),
         MessageView::Unknown { payload, .. } => payload.len(),
         _ => 0,
