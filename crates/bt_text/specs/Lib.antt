@@ -3,3 +3,4 @@ pub mod Script
 pub mod ScriptReading
 pub mod ScriptLaws
 pub mod Shown
+pub mod Splitting
