@@ -28,15 +28,11 @@ use Rattle.bt_text.specs.declared.ended.ToolFault.{ToolFault}
 use Rattle.bt_jobs.specs.declared.printer.Form.{Form}
 use Rattle.bt_feed.proofs.Coming.{open_comes}
 use Rattle.bt_feed.proofs.Reading.{hand_open}
-use Rattle.std.specs.Prelude.{MatchResult, OnOk}
+use Rattle.std.specs.Prelude.{MatchResult}
 use Rattle.bt_jobs.specs.declared.printer.Printer.{Printer}
 use Rattle.bt_text.specs.Lines.{ended_by, ended_as, verdict_line, lines_of}
 use Rattle.bt_jobs.specs.Printed.{texts, text_of, form_of, text_in, Prints, AppendsFront, IsWrittenOut, IsFlushed, MayBeTold, IsAllWritten, IsFrontWritten,
     Writing, nothing, items_in, checked, prefixed, IsWritten, IsUnrefused, IsReadTo, IsTurn, verdict_of, all_in}
-
-pub on_ok : {T E : Type 0} (r : Result T E) (P Q : Type 0) → (P → Q) → OnOk r P → OnOk r Q
-on_ok (Ok x) P Q f h = f h
-on_ok (Err e) P Q f h = tt
 
 -- ---- the text of items
 

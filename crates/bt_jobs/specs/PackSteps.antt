@@ -1,5 +1,5 @@
 -- For private contracts alone: how far a script is packed.
-use Rattle.std.specs.Prelude.{◌≡◌, ◌==◌, ℕ, ◌+◌, ◌*◌, ◌≤◌, ◌<◌, Bool, true, false, if◌then◌else◌, List, [], ◌∷◌, ◌++◌, length, Option, Some, None}
+use Rattle.std.specs.Prelude.{◌≡◌, ℕ, ◌+◌, ◌*◌, ◌≤◌, ◌<◌, Bool, true, false, List, [], ◌∷◌, ◌++◌, length, Option, Some, None}
 use Rattle.bt_feed.specs.declared.stage.Stage.{Stage}
 use Rattle.bt_feed.specs.declared.stage.Stage.TheVariants as stage
 use Rattle.bt_feed.specs.Feeds.{FeedState}
@@ -9,7 +9,6 @@ use Rattle.bt_wire.specs.declared.context.Own.{Own}
 use Rattle.bt_wire.specs.declared.item.Item.{Item}
 use Rattle.bt_wire.specs.Streams.{Outcome, IsVerdict}
 use Rattle.bt_text.specs.declared.ended.ScriptReason.{ScriptReason}
-use Rattle.bt_text.specs.Script.{has_feed}
 use Rattle.bt_jobs.specs.Packs.{IsSplit, IsEndedLine, AreLines, AreNamed, AreTaken, IsNotTaken, IsStop, IsPacked, is_none}
 use Rattle.bt_text.specs.declared.ended.PackEnd.{PackEnd}
 
@@ -45,20 +44,6 @@ IsPieceRead own text lines b held g out out' None = (more : List (List ℕ)) × 
     held g
 IsPieceRead own text lines b held g out out' (Some reason) = (x : List ℕ) × (out' ≡ out ++ x)
     × ((all : List (List ℕ)) × AreLines text all × IsStop own all (b ++ x) (number_of g.stage + 1) reason) × IsEndedLine own.limit text (number_of g.stage + 1)
-
--- the text's first line and what follows its line feed
-abbrev pub IsCut : List ℕ → Option (List ℕ × List ℕ) → Type 0
-IsCut text None = has_feed text ≡ false
-IsCut text (Some p) = (text ≡ p.0 ++ 10 ∷ p.1) × (has_feed p.0 ≡ false)
-
--- the text up to its first line feed, and from there on
-abbrev pub front_of : List ℕ → List ℕ
-front_of [] = []
-front_of (c ∷ cs) = if c == 10 then [] else c ∷ front_of cs
-
-abbrev pub back_of : List ℕ → List ℕ
-back_of [] = []
-back_of (c ∷ cs) = if c == 10 then c ∷ cs else back_of cs
 
 -- the bytes follow those of the present line, or it is too long with them and as it was
 abbrev pub IsHeld : ℕ → List ℕ → List ℕ → List ℕ → Bool → Type 0

@@ -1,38 +1,19 @@
 //! `pack`: the bytes that a script's lines name, as long as they are a stream's items. The command line calls it.
-ghost use Rattle.std.specs.Prelude.{◌≡◌, ◌≢◌, ◌==◌, ◌≤◌, ◌<◌, ◌++◌, ℕ, List, [], None, length, position, option_map, min, ◌+◌, ◌-◌, ◌^◌, IfOk, IfErr, IfSome, Err};
+ghost use Rattle.std.specs.Prelude.{◌≡◌, ◌≢◌, ◌≤◌, ◌++◌, ℕ, List, [], None, min, ◌+◌, ◌-◌, ◌^◌, IfOk, Err};
 ghost use Rattle.bt_wire.specs.declared.context.Own.{Own as Receiver};
 ghost use Rattle.bt_io.specs.Counts.{Grew};
 ghost use Rattle.bt_feed.specs.Stages.{number_of, start_of};
 ghost use Rattle.bt_jobs.specs.Packs.{IsPackRun, AreTakenTo};
-ghost use Rattle.bt_jobs.specs.PackSteps.{IsPackedTo, IsLineEnd, IsCut, IsReadSo, IsPieceRead, IsHeld, IsScriptEnd};
+ghost use Rattle.bt_jobs.specs.PackSteps.{IsPackedTo, IsLineEnd, IsReadSo, IsPieceRead, IsHeld, IsScriptEnd};
 
 use crate::output::write_out;
 use crate::show::MAX_READS;
 use bt_feed::{Feed, Source, Target, refusal_in};
 use bt_text::ended::{PackEnd, ScriptReason, ToolFault};
 use bt_text::script::reading::read_line;
+use bt_text::splitting::split_line;
 use bt_wire::Own;
 use std::alloc::{AllocError, Global};
-
-/// Returns the place of the first line feed.
-fn first_feed(text: &[u8]) -> Option<usize>
-    ensures { result ≡ position (λ c. c == 10) text.now }
-{
-    text.iter().position(|byte| *byte == b'\n')
-}
-
-/// Returns the text's first line, and what follows its line feed.
-pub(crate) fn split_line(text: &[u8]) -> Option<(&[u8], &[u8])>
-    ensures cut { IsCut text.now (option_map (λ p. (p.0.now, p.1.now)) result) }
-    ensures shorter { IfSome result (λ p. length p.1.now < length text.now) }
-{
-    let end = first_feed(text).unwrap_or(text.len());
-    let (front, back) = text.split_at(end);
-    match back.split_first() {
-        Some((_, behind)) => Some((front, behind)),
-        None => None,
-    }
-}
 
 /// Takes a line, which stands without its line feed, and adds the bytes that it names; or returns why it isn't taken.
 fn take_line(

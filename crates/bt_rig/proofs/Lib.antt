@@ -1,5 +1,4 @@
 pub mod Sayings
-pub mod Cutting
 pub mod Reading
 pub mod Texts
 pub mod Running

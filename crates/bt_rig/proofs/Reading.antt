@@ -1,16 +1,15 @@
 -- The lines of a script that are read one after the other.
-use Rattle.std.proofs.Common.{◌≡◌, ℕ, ◌+◌, ◌<◌, ◌≤◌, ◌^◌, Bool, true, false, List, [], ◌∷◌, ◌++◌, length, Option, Some, None, refl, sym, ap, subst, ◌∙◌, arith}
+use Rattle.std.proofs.Common.{◌≡◌, ℕ, ◌+◌, ◌≤◌, true, false, List, [], ◌∷◌, ◌++◌, length, Option, Some, None, refl, sym, ap, subst, ◌∙◌, arith}
 use Rattle.std.proofs.lemmas.List.{append-nil, append_assoc, length-append}
-use Rattle.std.proofs.lemmas.Grind.{flat_map-append}
 use Rattle.bt_text.specs.Script.{has_feed}
+use Rattle.bt_text.specs.Splitting.{IsCut}
 use Rattle.bt_session.specs.declared.link.Side.{Side}
 use Rattle.bt_session.specs.declared.link.Step.{Step}
 use Rattle.bt_rig.specs.declared.entry.Entry.{Entry}
 use Rattle.bt_rig.specs.declared.entry.Entry.TheVariants.{Set, Do}
 use Rattle.bt_rig.specs.declared.entry.Setting.{Setting}
 use Rattle.bt_rig.specs.Entries.{Says, IsReading}
-use Rattle.bt_rig.specs.Scripts.{Draft, start, is_skipped, with_side, with_step, Takes, skips, sets, does, AreTaken, IsTaken, AreWhole, ended_lines, IsCut,
-    IsTail, HasLine, IsScript, IsWrongAt}
+use Rattle.bt_rig.specs.Scripts.{Draft, start, is_skipped, Takes, skips, sets, does, AreTaken, IsTaken, AreWhole, ended_lines, HasLine, IsScript, IsWrongAt}
 
 -- ---- a line
 

@@ -1,8 +1,8 @@
 -- What comes of a script.
-use Rattle.std.proofs.Common.{◌≡◌, ℕ, ◌<◌, ◌≤◌, List, [], ◌++◌, length, Option, Some, Result, Ok, Err, refl, subst}
+use Rattle.std.proofs.Common.{◌≡◌, ℕ, List, Option, Some, Result, Ok, Err, subst}
 use Rattle.std.specs.Prelude.{MatchResult}
 use Rattle.std.specs.Global.{Vec}
-use Rattle.std.specs.Io.KnownBytes.{Consumes, Appends}
+use Rattle.std.specs.Io.KnownBytes.{Consumes}
 use Rattle.bt_session.specs.declared.report.LinkReport.{LinkReport}
 use Rattle.bt_text.specs.declared.ended.ToolFault.{ToolFault}
 use Rattle.bt_text.specs.declared.ended.ToolFault.TheVariants.{Read, Write, Memory, Turns, Net}
@@ -11,7 +11,7 @@ use Rattle.bt_rig.specs.declared.run.RigEnd.{RigEnd}
 use Rattle.bt_rig.specs.declared.run.RigEnd.TheVariants.{Ran, Syntax, Size, Unrun}
 use Rattle.bt_rig.specs.Scripts.{draft_of, IsScript, IsWrongAt}
 use Rattle.bt_rig.specs.Shown.{report_lines}
-use Rattle.bt_rig.specs.Runs.{IsInput, IsWritten, IsPrinted, IsRunOf, IsFinished, IsEnd, IsTimely, IsTextRun, IsRigRun}
+use Rattle.bt_rig.specs.Runs.{IsInput, IsWritten, IsPrinted, IsRunOf, IsFinished, IsTimely, IsTextRun, IsRigRun}
 
 pub printed_so : (r : LinkReport) (h k : Option (List ℕ)) (F : Type 0) (x : Result RigEnd ToolFault) → IsWritten (report_lines r) h k F x → IsPrinted r h k F x
 printed_so r h k F (Ok Ran) w = w

@@ -1,6 +1,5 @@
 -- The message of a line, and what a line says.
-use Rattle.std.proofs.Common.{◌≡◌, ℕ, ◌<◌, ◌≤◌, ◌⊎◌, Bool, true, false, List, [], ◌∷◌, ◌++◌, length, Option, Some, None, Result, Ok, Err, refl, sym, ap,
-    subst, ◌∙◌, arith, inl, inr}
+use Rattle.std.proofs.Common.{◌≡◌, ℕ, ◌⊎◌, Bool, true, false, List, [], ◌++◌, Option, Some, None, Result, Ok, Err, sym, ap, subst, ◌∙◌, arith, inl, inr}
 use Rattle.std.specs.Prelude.{IfOk, codes, option_map, option_and_then, if◌then◌else◌}
 use Rattle.std.specs.Str.{bytes_eq}
 use Rattle.std.proofs.lemmas.List.{append-nil}
@@ -10,7 +9,6 @@ use Rattle.bt_wire.specs.Messages.{Message}
 use Rattle.bt_wire.specs.Faults.{IsFault, is_whole}
 use Rattle.bt_wire.specs.Fronts.{IsPartial}
 use Rattle.bt_wire.specs.Laws.{FaultIsFinal}
-use Rattle.bt_wire.specs.Legal.{IsSaid}
 use Rattle.bt_wire.specs.Messages.{spell}
 use Rattle.bt_wire.proofs.SpellLaws.{spelled_first}
 use Rattle.bt_session.specs.declared.link.Side.{Side}

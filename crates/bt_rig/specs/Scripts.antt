@@ -1,6 +1,6 @@
 -- The script of a link: settings of two ends, and then steps.
 use Rattle.std.specs.Global.{Global}
-use Rattle.std.specs.Prelude.{◌≡◌, ℕ, ◌+◌, ◌==◌, Bool, true, false, List, [], ◌∷◌, ◌++◌, length, codes, Option, Some, None, ⊤}
+use Rattle.std.specs.Prelude.{◌≡◌, ℕ, ◌+◌, ◌==◌, Bool, true, false, List, [], ◌∷◌, ◌++◌, length, codes, Some, None, ⊤}
 use Rattle.std.specs.List.{flat_map}
 use Rattle.sha1.specs.Sha1.{sha1}
 use Rattle.bt_ext.specs.declared.ids.Rules.TheVariants.{Bep}
@@ -135,11 +135,6 @@ pub record HasLine (text : List ℕ) (before : List (List ℕ)) (line tail : Lis
   pub whole : AreWhole before
   pub last : has_feed line ≡ false
   pub ends : IsTail tail
-
--- where a text's first line ends: what stands before the line feed and after it
-abbrev pub IsCut : List ℕ → Option (List ℕ × List ℕ) → Type 0
-IsCut text None = has_feed text ≡ false
-IsCut text (Some p) = (text ≡ p.0 ++ 10 ∷ p.1) × (has_feed p.0 ≡ false)
 
 -- ---- a whole script
 

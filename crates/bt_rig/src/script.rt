@@ -1,10 +1,11 @@
 //! The script of a link: what its lines say of two ends, and the steps of their run.
-ghost use Rattle.std.specs.Prelude.{◌≡◌, ◌<◌, ◌^◌, ◌≤◌, ◌==◌, ℕ, length, option_map, IfOk, IfSome, OnOk, MatchResult, position};
-ghost use Rattle.bt_rig.specs.Scripts.{setup_of, draft_of, start, default_setup, with_setting, with_side, with_step, IsTaken, IsScript, IsWrongAt, IsCut, is_skipped};
+ghost use Rattle.std.specs.Prelude.{◌≡◌, ◌<◌, ◌^◌, ◌≤◌, ℕ, length, IfOk, OnOk, MatchResult};
+ghost use Rattle.bt_rig.specs.Scripts.{setup_of, draft_of, start, default_setup, with_setting, with_side, with_step, IsTaken, IsScript, IsWrongAt, is_skipped};
 
 use crate::entry::{Entry, Setting, read_entry};
 use bt_ext::{ExtId, Registered, Rules};
 use bt_session::{Announce, Config, Role, Side, Step, Window};
+use bt_text::splitting::split_line;
 use bt_wire::{Own, Reserved};
 use sha1::Sha1;
 use std::alloc::{AllocError, Global};
@@ -123,27 +124,6 @@ impl Script {
             }
             None => Ok(false),
         }
-    }
-}
-
-/// The place of the first line feed.
-fn first_feed(text: &[u8]) -> Option<usize>
-    ensures { result ≡ position (λ c. c == 10) text.now }
-{
-    text.iter().position(|byte| *byte == b'\n')
-}
-
-/// The text's first line, and what follows its line feed; `None` where the text has no line feed.
-fn split_line(text: &[u8]) -> Option<(&[u8], &[u8])>
-    ensures cut { IsCut text.now (option_map (λ p. (p.0.now, p.1.now)) result) }
-    ensures shorter { IfSome result (λ p. length p.1.now < length text.now) }
-    ensures short { IfSome result (λ p. length p.0.now ≤ length text.now) }
-{
-    let end = first_feed(text).unwrap_or(text.len());
-    let (front, back) = text.split_at(end);
-    match back.split_first() {
-        Some((_, after)) => Some((front, after)),
-        None => None,
     }
 }
 

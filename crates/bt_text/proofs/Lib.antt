@@ -1,3 +1,4 @@
+pub mod FirstLine
 pub mod ScriptWords
 pub mod ScriptBytes
 pub mod ScriptFields

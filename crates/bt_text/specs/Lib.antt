@@ -4,3 +4,4 @@ pub mod ScriptReading
 pub mod ScriptLaws
 pub mod Misfits
 pub mod Shown
+pub mod Splitting

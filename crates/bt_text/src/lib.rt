@@ -4,6 +4,7 @@
 //! - [`script`]: the line of an item with all of its bytes, written and read.
 //! - [`ended`]: how a command ends.
 //! - [`shown`]: items of one's own as text, and the names of ids.
+//! - [`splitting`]: the lines of a text.
 //!
 //! The commands of `bt_jobs` and the command line of `bt_cli` stand on it.
 #![tactic(auto)]
@@ -12,3 +13,4 @@ pub mod ended;
 pub mod lines;
 pub mod script;
 pub mod shown;
+pub mod splitting;

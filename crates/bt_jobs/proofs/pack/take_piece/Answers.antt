@@ -1,4 +1,4 @@
-use Rattle.std.proofs.Common.{◌++◌, Bool, List, ℕ, Option, Some, None, refl, sym, subst, arith}
+use Rattle.std.proofs.Common.{◌++◌, Bool, List, ℕ, Option, refl, sym, subst, arith}
 use Rattle.bt_jobs.specs.PackSteps.{IsLineEnd, IsHeld}
 use Rattle.bt_text.specs.declared.ended.ScriptReason.{ScriptReason}
 use Rattle.bt_jobs.proofs.PackPieces.{IsDone, too_long, nothing_done, all_done, line_done, line_stops, rest_stops}

@@ -2,7 +2,7 @@ use Rattle.std.proofs.Common.{◌++◌, ℕ, List, ap, sym, ◌∙◌}
 use Rattle.bt_feed.specs.Views.{item_of}
 use Rattle.bt_feed.specs.declared.view.View.{View}
 use Rattle.bt_text.specs.Lines.{line as line_of}
-use Rattle.bt_jobs.proofs.Printing.{on_ok}
+use Rattle.bt_json.proofs.FieldLaws.{on_ok}
 use Rattle.bt_jobs.proofs.printer.push_item.Goals as goal
 
 pub returns-in-Handshake : goal.returns-in-Handshake

@@ -2,7 +2,7 @@ use Rattle.std.proofs.Common.{◌++◌, ap, sym, ◌∙◌}
 use Rattle.bt_feed.specs.Views.{item_of}
 use Rattle.bt_feed.specs.declared.view.View.{View}
 use Rattle.bt_json.specs.Objects.{line as object_of}
-use Rattle.bt_jobs.proofs.Printing.{on_ok}
+use Rattle.bt_json.proofs.FieldLaws.{on_ok}
 use Rattle.bt_jobs.proofs.printer.push_object.Goals as goal
 
 pub returns-in-Handshake : goal.returns-in-Handshake

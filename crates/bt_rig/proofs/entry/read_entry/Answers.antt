@@ -1,9 +1,7 @@
-use Rattle.std.proofs.Common.{◌≡◌, ℕ, List, Option, Some, None, ap, subst, sym, ◌∙◌}
+use Rattle.std.proofs.Common.{Option, subst, sym}
 use Rattle.bt_wire.specs.Messages.{Message}
-use Rattle.bt_text.specs.ScriptReading.{seen}
-use Rattle.bt_session.specs.declared.link.Side.{Side}
-use Rattle.bt_rig.specs.Entries.{IsMessageReading, said_in}
-use Rattle.bt_rig.proofs.Sayings.{nothing_said, plain_so}
+use Rattle.bt_rig.specs.Entries.{IsMessageReading}
+use Rattle.bt_rig.proofs.Sayings.{nothing_said}
 use Rattle.bt_rig.proofs.entry.read_entry.Goals as goal
 
 pub returns-in-None-2 : goal.returns-in-None-2

@@ -1,4 +1,3 @@
-use Rattle.std.proofs.Common.{length, ap, ◌∙◌, ℕ, List, Option, ◌++◌}
 use Rattle.std.specs.Prelude.{codes}
 use Rattle.bt_text.specs.Lines.{or_dash}
 use Rattle.bt_rig.specs.Shown.{lengths}

@@ -1,6 +1,5 @@
 use Rattle.std.proofs.Common.{ℕ, Ok, ◌∙◌}
 use Rattle.std.specs.Prelude.{codes, decimal}
-use Rattle.bt_wire.specs.Reasons.{reason_name}
 use Rattle.bt_rig.proofs.Texts.{six_parts}
 use Rattle.bt_rig.proofs.report.push_refusal.Goals as goal
 

@@ -7,7 +7,7 @@ use Rattle.std.proofs.lemmas.Bool.{cases_Bool, ltb-false, eqb-true}
 use Rattle.std.proofs.lemmas.List.{append-nil}
 use Rattle.std.proofs.lemmas.List.Sums.{prefix_len-le-length}
 use Rattle.bt_text.specs.Script.{has_feed}
-use Rattle.bt_rig.specs.Scripts.{IsCut}
+use Rattle.bt_text.specs.Splitting.{IsCut}
 
 -- the text up to its first line feed
 abbrev pub front_of : List ℕ → List ℕ

@@ -1,8 +1,8 @@
 use Rattle.std.proofs.Common.{◌≡◌}
 use Rattle.std.proofs.lemmas.List.{nil_from_length}
-use Rattle.bt_rig.proofs.Cutting.{front_of, back_of}
-use Rattle.bt_rig.proofs.Cutting.{take-front, drop-back, front_end, cut_none, cut_some}
-use Rattle.bt_rig.proofs.script.split_line.Goals as goal
+use Rattle.bt_text.proofs.FirstLine.{front_of, back_of}
+use Rattle.bt_text.proofs.FirstLine.{take-front, drop-back, front_end, cut_none, cut_some}
+use Rattle.bt_text.proofs.splitting.split_line.Goals as goal
 
 pub returns-in-None-clause-cut : goal.returns-in-None-clause-cut
 returns-in-None-clause-cut c =
