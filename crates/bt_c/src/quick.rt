@@ -1,6 +1,5 @@
 //! The messages that come most, found by their first five bytes in few steps. The reader asks here first.
-ghost use Rattle.std.specs.Prelude.{◌≡◌, ◌≢◌, ◌≤◌, true, None, IfSome, length};
-ghost use Rattle.bt_wire.specs.Faults.{said_id};
+ghost use Rattle.std.specs.Prelude.{◌≡◌, true, None, IfSome};
 ghost use Rattle.bt_wire.specs.Headers.{header_of};
 ghost use Rattle.bt_wire.specs.Ids.{kind_of};
 ghost use Rattle.bt_wire.specs.Rules.{broken_by};
@@ -10,11 +9,10 @@ use crate::item::number_at;
 use bt_ext::Rules;
 use bt_wire::{Context, Order};
 
-/// True only if the message isn't extended and no rule on the id and the length is broken; false says nothing.
+/// True only if no rule on the id and the length is broken; false says nothing.
 #[inline(always)]
 fn is_quick(context: &Context, order: Order, id: u8, length: u32) -> bool
-    ensures rules { result ≡ true → broken_by context.now order (kind_of id) length ≡ None }
-    ensures plain { result ≡ true → id ≢ 20 }
+    ensures { result ≡ true → broken_by context.now order (kind_of id) length ≡ None }
 {
     if matches!(context.rules, Rules::Bep) && matches!(order, Order::Fresh) {
         return false;
@@ -27,6 +25,7 @@ fn is_quick(context: &Context, order: Order, id: u8, length: u32) -> bool
         9 => length == 3,
         13 | 17 => context.fast && length == 5,
         16 => context.fast && length == 13,
+        20 => context.ext && length >= 2,
         _ => false,
     }
 }
@@ -35,8 +34,7 @@ fn is_quick(context: &Context, order: Order, id: u8, length: u32) -> bool
 #[tactic(auto, unfolding(bt_wire::specs::Headers::header_of, bt_wire::specs::Faults::header_fault))]
 #[inline(always)]
 pub fn quick_size(context: &Context, order: Order, bytes: &[u8]) -> Option<u64>
-    ensures header { IfSome result (λ n. header_of context.now order bytes.now ≡ headers.Window n) }
-    ensures plain { IfSome result (λ n. 5 ≤ n → said_id bytes.now ≢ 20) }
+    ensures { IfSome result (λ n. header_of context.now order bytes.now ≡ headers.Window n) }
 {
     if bytes.len() < 5 {
         return None;

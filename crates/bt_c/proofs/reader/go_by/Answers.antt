@@ -9,7 +9,7 @@ use Rattle.bt_c.proofs.reader.go_by.Goals as goal
 pub go_quickly-requires-clause-window : goal.go_quickly-requires-clause-window
 go_quickly-requires-clause-window c =
     let P : List ℕ → Type 0 = λ z. header_of c.args.context.now c.order_of-order.result z ≡ headers.Window (length z) in
-    subst P (sym c.first.ensures) (front_whole c.args.context.now c.order_of-order.result c.args.bytes.now c.in-Some.size c.in-Some.ensures.header
+    subst P (sym c.first.ensures) (front_whole c.args.context.now c.order_of-order.result c.args.bytes.now c.in-Some.size c.in-Some.ensures
     c.if-size-bytes.true).header
 
 pub returns-then-size-bytes-clause-step : goal.returns-then-size-bytes-clause-step
@@ -19,4 +19,4 @@ returns-then-size-bytes-clause-step c = λ opened.
     let P : List ℕ → Type 0 = λ z. GoesOver context order r z c.go_quickly.new.reader c.go_quickly.new.item c.go_quickly.result in
     over_opened r c.go_quickly.new.reader b c.go_quickly.new.item n c.go_quickly.result context order opened c.requires.context c.order_of-order.ensures
     c.if-reader-lt-FULL.true c.if-size-bytes.true
-    (front_whole context order b n c.in-Some.ensures.header c.if-size-bytes.true) (subst P c.first.ensures c.go_quickly.ensures.over)
+    (front_whole context order b n c.in-Some.ensures c.if-size-bytes.true) (subst P c.first.ensures c.go_quickly.ensures.over)
