@@ -1,0 +1,237 @@
+#!/usr/bin/env python3
+"""Refuses each request for memory, and fails each read and each write, of each command in turn.
+
+usage: tests/faults.py [PROGRAM]
+
+PROGRAM is the built program, or else the script `bt_tool` at the top of the repository. It is run over a `malloc`, a `read` and a
+`write` that count their calls and refuse or fail the Nth, for N = 1, 2, .. until a run makes fewer. What is wanted follows from
+docs/FORMAT.md: at a fault a prefix of what the command writes is written, standard error has the fault's line alone, and the
+status is 3; otherwise nothing differs. `fetch` and `serve` aren't run here. Without a C compiler, as `cc`, nothing is run.
+"""
+import os
+import shutil
+import subprocess
+import sys
+import tempfile
+
+from statuses import FETCH, FETCHED, HAND, HASH, HAVE_9, JSON_HAND, LINE, ROOT, TWO, NO_STEPS
+
+# A run makes far fewer calls.
+MOST = 20_000
+
+CALLS = """
+#define _GNU_SOURCE
+#include <dlfcn.h>
+#include <errno.h>
+#include <fcntl.h>
+#include <stdlib.h>
+#include <sys/socket.h>
+#include <unistd.h>
+
+extern void *__libc_malloc(size_t);
+extern void *__libc_calloc(size_t, size_t);
+extern void *__libc_realloc(void *, size_t);
+extern void *__libc_memalign(size_t, size_t);
+
+enum { MEMORY, READ, WRITE, WIRE, KINDS };
+static const char *const names[KINDS] = { "MEMORY", "READ", "WRITE", "WIRE" };
+static long wanted[KINDS], calls[KINDS], most[2];
+static int ready;
+
+static long number_in(const char *name) {
+    const char *text = getenv(name);
+    return text ? atol(text) : 0;
+}
+
+__attribute__((constructor)) static void begin(void) {
+    for (int kind = 0; kind < KINDS; kind++) wanted[kind] = number_in(names[kind]);
+    most[0] = number_in("READ_MOST");
+    most[1] = number_in("WRITE_MOST");
+    ready = 1;
+}
+
+/* leaves a file where the call that was to fail was made */
+__attribute__((destructor)) static void end(void) {
+    const char *made = getenv("MADE");
+    for (int kind = 0; kind < KINDS; kind++)
+        if (made && wanted[kind] && calls[kind] >= wanted[kind]) close(open(made, O_CREAT | O_WRONLY, 0600));
+}
+
+static int fails(int kind) { return ready && ++calls[kind] == wanted[kind]; }
+
+static size_t at_most(size_t size, int way) { return most[way] && size > (size_t)most[way] ? (size_t)most[way] : size; }
+
+void *malloc(size_t size) { return fails(MEMORY) ? 0 : __libc_malloc(size); }
+
+void *calloc(size_t count, size_t size) { return fails(MEMORY) ? 0 : __libc_calloc(count, size); }
+
+void *realloc(void *old, size_t size) { return fails(MEMORY) ? 0 : __libc_realloc(old, size); }
+
+void *aligned_alloc(size_t align, size_t size) { return fails(MEMORY) ? 0 : __libc_memalign(align, size); }
+
+int posix_memalign(void **made, size_t align, size_t size) {
+    void *found = fails(MEMORY) ? 0 : __libc_memalign(align, size);
+    if (!found) return ENOMEM;
+    *made = found;
+    return 0;
+}
+
+static ssize_t failed(void) {
+    errno = EIO;
+    return -1;
+}
+
+static int is_socket(int device) {
+    int kind;
+    socklen_t size = sizeof kind;
+    int kept = errno, answer = getsockopt(device, SOL_SOCKET, SO_TYPE, &kind, &size) == 0;
+    errno = kept;
+    return answer;
+}
+
+ssize_t read(int device, void *into, size_t size) {
+    static ssize_t (*next)(int, void *, size_t);
+    if (!next) next = (ssize_t (*)(int, void *, size_t))dlsym(RTLD_NEXT, "read");
+    if (is_socket(device)) return fails(WIRE) ? failed() : next(device, into, size);
+    return fails(READ) ? failed() : next(device, into, at_most(size, 0));
+}
+
+ssize_t write(int device, const void *from, size_t size) {
+    static ssize_t (*next)(int, const void *, size_t);
+    if (!next) next = (ssize_t (*)(int, const void *, size_t))dlsym(RTLD_NEXT, "write");
+    if (is_socket(device)) return fails(WIRE) ? failed() : next(device, from, size);
+    if (device == 2) return next(device, from, size);
+    return fails(WRITE) ? failed() : next(device, from, at_most(size, 1));
+}
+
+ssize_t recv(int device, void *into, size_t size, int flags) {
+    static ssize_t (*next)(int, void *, size_t, int);
+    if (!next) next = (ssize_t (*)(int, void *, size_t, int))dlsym(RTLD_NEXT, "recv");
+    return fails(WIRE) ? failed() : next(device, into, size, flags);
+}
+
+ssize_t send(int device, const void *from, size_t size, int flags) {
+    static ssize_t (*next)(int, const void *, size_t, int);
+    if (!next) next = (ssize_t (*)(int, const void *, size_t, int))dlsym(RTLD_NEXT, "send");
+    return fails(WIRE) ? failed() : next(device, from, size, flags);
+}
+"""
+
+STREAM = HAND + bytes(4) + HAVE_9
+VERDICT = b"ok messages=2 bytes=81\n"
+SCRIPT = LINE + b"keep-alive\nhave 9\n"
+LOOPED = b"fetched bytes=3 sha1=%s\nleft sent=3 handled=3\nright sent=3 handled=3\n" % HASH.encode()
+
+# Words, standard input, what is written, and how much of it once the first bytes are read: where each part's cause ends.
+COMMANDS = [
+    ("show", STREAM, [(68, b"0 " + LINE), (72, b"68 keep-alive\n"), (81, b"72 have 9\n"), (None, VERDICT)]),
+    ("show --json", STREAM, [(68, JSON_HAND), (72, b'{"offset":68,"item":"keep-alive"}\n'),
+                             (81, b'{"offset":72,"item":"have","index":9}\n'), (None, b'{"verdict":"ok","messages":2,"bytes":81}\n')]),
+    ("check --rules free", STREAM, [(None, VERDICT)]),
+    ("unpack", STREAM, [(68, LINE), (72, b"keep-alive\n"), (81, b"have 9\n")]),
+    ("pack", SCRIPT, [(len(LINE), HAND), (len(LINE) + 11, bytes(4)), (len(SCRIPT), HAVE_9)]),
+    ("link", TWO, [(None, NO_STEPS)]),
+    ("link", FETCH, [(None, FETCHED)]),
+    ("loop", b"abc", [(None, LOOPED)]),
+]
+
+
+class Runner:
+    """Runs the program over the calls above."""
+
+    def __init__(self, program, work):
+        self.program, self.made, self.runs = program, os.path.join(work, "made"), 0
+        self.library = os.path.join(work, "calls.so")
+        subprocess.run([shutil.which("cc"), "-shared", "-fPIC", "-x", "c", "-o", self.library, "-", "-ldl"], input=CALLS.encode(),
+                       check=True)
+
+    def run(self, words, given, **failing):
+        """Standard output, standard error, the status, and whether the call that was to fail was made."""
+        self.runs += 1
+        environment = {name: str(number) for name, number in failing.items()}
+        ended = subprocess.run([self.program, *words.split()], input=given, capture_output=True, timeout=60,
+                               env={"LD_PRELOAD": self.library, "MADE": self.made, **environment})
+        was_made = os.path.exists(self.made)
+        if was_made:
+            os.remove(self.made)
+        return (ended.stdout, ended.stderr, ended.returncode), was_made
+
+    def in_turn(self, words, given, kind, **further):
+        """The answer where the Nth call of this kind fails, for each N."""
+        for number in range(1, MOST):
+            answer, was_made = self.run(words, given, **{kind: number}, **further)
+            yield number, answer, was_made
+            if not was_made:
+                return
+        raise RuntimeError("a run of %s makes %d calls" % (words, MOST))
+
+
+def whole(parts):
+    return b"".join(text for _, text in parts)
+
+
+def after(parts, n):
+    """What is written once n bytes are read, and not the end."""
+    return b"".join(text for end, text in parts if end is not None and end <= n)
+
+
+def memory(runner, words, given, parts):
+    """Each request for memory is refused."""
+    ample = whole(parts)
+    for number, answer, was_made in runner.in_turn(words, given, "MEMORY"):
+        out, errors, status = answer
+        is_fault = (errors, status) == (b"fault: memory\n", 3) and ample.startswith(out)
+        if answer != (ample, b"", 0) and not (was_made and is_fault):
+            yield "memory: request %d: %r" % (number, answer)
+
+
+def reads(runner, words, given, parts):
+    """Each read fails, of 7 bytes a read: what the bytes before it complete is written."""
+    for most in (1, 7):
+        for number, answer, was_made in runner.in_turn(words, given, "READ", READ_MOST=most):
+            fault = (after(parts, most * (number - 1)), b"fault: read\n", 3)
+            if answer != (fault if was_made else (whole(parts), b"", 0)):
+                yield "read %d of %d bytes: %r" % (number, most, answer)
+
+
+def writes(runner, words, given, parts):
+    """Each write fails, of one byte a write: exactly the bytes before it are written; and of any length."""
+    ample = whole(parts)
+    for number, answer, was_made in runner.in_turn(words, given, "WRITE", WRITE_MOST=1):
+        if answer != ((ample[:number - 1], b"fault: write\n", 3) if was_made else (ample, b"", 0)):
+            yield "write %d of one byte: %r" % (number, answer)
+    for number, (out, errors, status), was_made in runner.in_turn(words, given, "WRITE", READ_MOST=9):
+        if not was_made:
+            is_right = (out, errors, status) == (ample, b"", 0)
+        else:
+            is_right = ample.startswith(out) and out != ample and (errors, status) == (b"fault: write\n", 3)
+        if not is_right:
+            yield "write %d: %r" % (number, (out, errors, status))
+
+
+def wires(runner, words, given, parts):
+    """Each call of a socket fails."""
+    for number, answer, was_made in runner.in_turn(words, given, "WIRE"):
+        if answer != ((b"", b"fault: net\n", 3) if was_made else (whole(parts), b"", 0)):
+            yield "call %d of the connection: %r" % (number, answer)
+
+
+def main():
+    program = os.path.abspath(sys.argv[1] if len(sys.argv) > 1 else os.path.join(ROOT, "bt_tool"))
+    if shutil.which("cc") is None:
+        print("faults: not run, since there is no cc")
+        return 0
+    wrong = 0
+    with tempfile.TemporaryDirectory() as work:
+        runner = Runner(program, work)
+        for words, given, parts in COMMANDS:
+            for device in (memory, reads, writes) + ((wires,) if words == "loop" else ()):
+                for line in device(runner, words, given, parts):
+                    wrong += 1
+                    print("faults: wrong: bt_tool %s: %s" % (words, line))
+    print("faults: %s %d runs" % ("failed: %d wrong of" % wrong if wrong else "ok:", runner.runs))
+    return 1 if wrong else 0
+
+
+if __name__ == "__main__":
+    sys.exit(main())

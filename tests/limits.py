@@ -1,0 +1,291 @@
+#!/usr/bin/env python3
+"""Runs each command under limits: broken standard streams, slow and lost readers, little memory, a small stack, few descriptors.
+
+usage: tests/limits.py [PROGRAM]
+
+PROGRAM is the built program, or else the script `bt_tool` at the top of the repository. Each part of `PARTS` checks a row of the
+table "Under limits" of docs/FORMAT.md, and says which. What is wanted follows from the rules for faults there.
+"""
+import fcntl
+import os
+import resource
+import subprocess
+import sys
+import tempfile
+import time
+
+from faults import COMMANDS, HAND, LINE, whole
+from statuses import HASH, ROOT
+
+HAVES = 60_000
+# A stream of some hundred thousand bytes, its script, and what is written of it.
+LONG = HAND + b"".join(b"\0\0\0\x05\x04" + number.to_bytes(4, "big") for number in range(HAVES))
+SHOWN = b"0 " + LINE + b"".join(b"%d have %d\n" % (68 + 9 * number, number) for number in range(HAVES)) \
+    + b"ok messages=%d bytes=%d\n" % (HAVES, len(LONG))
+SCRIPT = LINE + b"".join(b"have %d\n" % number for number in range(HAVES))
+LONG_COMMANDS = [("show", LONG, SHOWN), ("unpack", LONG, SCRIPT), ("pack", SCRIPT, LONG)]
+
+# A fault at the last byte, and what is written at once.
+REFUSED = [
+    ("show", HAND + b"\xff\xff\xff\xff", (b"0 " + LINE + b"refused message=1 at=68 TooLong\n", b"", 1)),
+    ("show --json", HAND[:5] + b"O", (b'{"verdict":"refused","message":0,"offset":5,"reason":"BadProtocol"}\n', b"", 1)),
+    ("check", HAND + b"\0\0\0\x01\x01", (b"refused message=1 at=72 Missing\n", b"", 1)),
+    ("unpack", HAND + b"\0\0\0\x04\x04", (LINE, b"refused message=1 at=68 WrongLength\n", 1)),
+    ("pack", LINE + b"have 09\n", (HAND, b"refused line=2 Syntax\n", 1)),
+    ("pack --limit 1", LINE + b"unknown 10 " + 1000 * b"0", (HAND, b"refused line=2 Syntax\n", 1)),
+]
+
+READ, WRITE, MEMORY, NET = [(b"", b"fault: %s\n" % name, 3) for name in (b"read", b"write", b"memory", b"net")]
+# A port of this machine that nobody listens on.
+DIALS = "fetch %s 127.0.0.1:9" % HASH
+
+
+class Program:
+    """The program, and how it is run."""
+
+    def __init__(self, path):
+        self.path, self.runs = path, 0
+
+    def run(self, words, given=None, before=None, out=subprocess.PIPE, errors=subprocess.PIPE, source=None):
+        """Standard output, standard error and the status; nothing for an output that isn't a pipe of this script."""
+        self.runs += 1
+        how = {"stdin": source} if given is None and source is not None else {"input": given or b""}
+        ended = subprocess.run([self.path, *words.split()], stdout=out, stderr=errors, preexec_fn=before, timeout=60, **how)
+        return ended.stdout or b"", ended.stderr or b"", ended.returncode
+
+    def start(self, words, **how):
+        self.runs += 1
+        return subprocess.Popen([self.path, *words.split()], **how)
+
+
+def closed(device):
+    return lambda: os.close(device)
+
+
+def limited(what, size):
+    return lambda: resource.setrlimit(what, (size, size))
+
+
+def unlike(words, found, wanted):
+    return [] if found == wanted else ["%s: %.300r, not %.300r" % (words, found, wanted)]
+
+
+def accepted(parts):
+    return whole(parts), b"", 0
+
+
+# ---- the parts
+
+def standard_input(program):
+    """standard input is closed, a folder, open for writing alone, or empty and doesn't block"""
+    wrong = []
+    for words, _, _ in COMMANDS:
+        wrong += unlike(words + " <&-", program.run(words, before=closed(0)), READ)
+        folder, written = os.open(ROOT, os.O_RDONLY), os.open("/dev/null", os.O_WRONLY)
+        reader, writer = os.pipe()
+        os.set_blocking(reader, False)
+        for name, device in (("a folder", folder), ("/dev/null for writing", written), ("no data yet", reader)):
+            wrong += unlike("%s of %s" % (words, name), program.run(words, source=device), READ)
+        for device in (folder, written, reader, writer):
+            os.close(device)
+    wrong += unlike(DIALS + " <&-", program.run(DIALS, before=closed(0)), (b"", b"127.0.0.1:9 unreachable\n", 1))
+    return wrong
+
+
+def standard_output(program):
+    """standard output is closed, full, or open for reading alone"""
+    wrong = []
+    for words, given, _ in COMMANDS + [("--help", b"", []), ("--version", b"", [])]:
+        wrong += unlike(words + " >&-", program.run(words, given, before=closed(1)), WRITE)
+        for name, mode in (("/dev/full", os.O_WRONLY), ("/dev/null", os.O_RDONLY)):
+            device = os.open(name, mode)
+            wrong += unlike("%s >%s" % (words, name), program.run(words, given, out=device), WRITE)
+            os.close(device)
+    return wrong
+
+
+def full_pipe(program):
+    """standard output is a full pipe that doesn't block"""
+    wrong = []
+    for words, given, wanted in LONG_COMMANDS:
+        reader, writer = os.pipe()
+        os.set_blocking(writer, False)
+        _, errors, status = program.run(words, given, out=writer)
+        os.close(writer)
+        with open(reader, "rb") as file:
+            found = file.read()
+        is_prefix = wanted.startswith(found) and len(found) < len(wanted)
+        wrong += unlike(words + " into a full pipe", (is_prefix, errors, status), (True, b"fault: write\n", 3))
+    return wrong
+
+
+def standard_error(program):
+    """standard error is closed or full"""
+    wrong = []
+    rows = [(words, given, accepted(parts)) for words, given, parts in COMMANDS] + REFUSED
+    for words, given, (out, _, status) in rows + [(DIALS, b"", (b"", b"", 1))]:
+        full = os.open("/dev/full", os.O_WRONLY)
+        for name, found in (("2>&-", program.run(words, given, before=closed(2))),
+                            ("2>/dev/full", program.run(words, given, errors=full))):
+            wrong += unlike("%s %s" % (words, name), found, (out, b"", status))
+        os.close(full)
+    return wrong
+
+
+def lost_reader(program):
+    """the reader of the output reads some, waits, and goes"""
+    wrong = []
+    for words, given, wanted in LONG_COMMANDS:
+        with tempfile.TemporaryFile() as file:
+            file.write(given)
+            file.seek(0)
+            running = program.start(words, stdin=file, stdout=subprocess.PIPE, stderr=subprocess.PIPE)
+            found = running.stdout.read(100)
+            time.sleep(0.1)
+            still = running.poll() is None
+            running.stdout.close()
+            errors = running.stderr.read()
+            running.stderr.close()
+            wrong += unlike(words + " | head -c 100", (found, still, errors, running.wait(timeout=20)), (wanted[:100], True, b"", 141))
+    return wrong
+
+
+def slow_writer(program):
+    """the input comes one byte at a time"""
+    wrong = []
+    for words, given, parts in COMMANDS:
+        reader, writer = os.pipe()
+        running = program.start(words, stdin=reader, stdout=subprocess.PIPE, stderr=subprocess.PIPE)
+        os.close(reader)
+        for byte in given[:200]:
+            os.write(writer, bytes([byte]))
+            time.sleep(0.0002)
+        os.write(writer, given[200:])
+        os.close(writer)
+        out, errors = running.communicate(timeout=20)
+        wrong += unlike(words + ", byte for byte", (out, errors, running.returncode), accepted(parts))
+    return wrong
+
+
+def open_input(program):
+    """the input is refused, and stays open"""
+    wrong = []
+    for words, given, wanted in REFUSED:
+        reader, writer = os.pipe()
+        os.write(writer, given)
+        try:
+            running = program.start(words, stdin=reader, stdout=subprocess.PIPE, stderr=subprocess.PIPE)
+            out, errors = running.communicate(timeout=20)
+            wrong += unlike(words + ", whose input stays open", (out, errors, running.returncode), wanted)
+        except subprocess.TimeoutExpired:
+            running.kill()
+            running.communicate()
+            wrong.append(words + " reads on after a refusal")
+        os.close(reader)
+        os.close(writer)
+    return wrong
+
+
+def shown_at_once(program):
+    """the input stays open after an item"""
+    wrong = []
+    for words, given, wanted in (("show", HAND + bytes(4), b"0 " + LINE + b"68 keep-alive\n"), ("unpack", HAND, LINE),
+                                 ("pack", LINE, HAND)):
+        reader, writer = os.pipe()
+        running = program.start(words, stdin=reader, stdout=subprocess.PIPE)
+        os.close(reader)
+        found = b""
+        for byte in given:
+            os.write(writer, bytes([byte]))
+        fcntl.fcntl(running.stdout, fcntl.F_SETFL, os.O_NONBLOCK)
+        last = time.monotonic() + 20
+        while len(found) < len(wanted) and time.monotonic() < last:
+            found += running.stdout.read(len(wanted)) or b""
+            time.sleep(0.001)
+        wrong += unlike(words + " of an input that stays open", found, wanted)
+        os.close(writer)
+        running.communicate(timeout=20)
+    return wrong
+
+
+def descriptors(program):
+    """four descriptors at most"""
+    wrong = []
+    few = limited(resource.RLIMIT_NOFILE, 4)
+    with tempfile.NamedTemporaryFile() as file:
+        file.write(HAND)
+        file.flush()
+        name = file.name
+        lines = ("%s: ok messages=0 bytes=68\n" % name).encode()
+        wrong += unlike("check FILE FILE", program.run("check %s %s" % (name, name), before=few), (2 * lines, b"", 0))
+    for words, given, parts in COMMANDS:
+        wrong += unlike(words, program.run(words, given, before=few), NET if words == "loop" else accepted(parts))
+    wrong += unlike("--help", program.run("--help", before=few), program.run("--help"))
+    return wrong
+
+
+def scanned(program, what, sizes, ends):
+    """Each command under each of these limits answers as ever, or ends so; and both are seen."""
+    wrong = []
+    for words, given, parts in COMMANDS:
+        seen = set()
+        for size in sizes:
+            found = program.run(words, given, before=limited(what, size * 1024))
+            how = "ample" if found == accepted(parts) else next((name for name, is_end in ends.items() if is_end(found)), None)
+            seen.add(how)
+            if how is None:
+                wrong.append("%s under %d KiB: %.300r" % (words, size, found))
+        if "ample" not in seen or len(seen) < 2:
+            wrong.append("%s under %d to %d KiB: %s alone" % (words, sizes[0], sizes[-1], seen))
+    return wrong
+
+
+def is_unloaded(found):
+    return found[0] == b"" and found[2] == 127 and b"loading shared libraries" in found[1]
+
+
+def is_overflow(found):
+    """The system ended it, before it wrote anything: the stack can't grow."""
+    return found == (b"", b"", -11)
+
+
+def address_space(program):
+    """little address space"""
+    sizes = range(2_048, 16_384, 128)
+    return scanned(program, resource.RLIMIT_AS, sizes,
+                   {"memory": lambda found: found == MEMORY, "unloaded": is_unloaded, "overflow": is_overflow})
+
+
+def stack(program):
+    """a small stack"""
+    wrong = scanned(program, resource.RLIMIT_STACK, range(32, 513, 32), {"overflow": is_overflow})
+    for words, given, parts in COMMANDS:
+        found = program.run(words, given, before=limited(resource.RLIMIT_STACK, 512 * 1024))
+        wrong += unlike(words + " under 512 KiB of stack", found, accepted(parts))
+    return wrong
+
+
+PARTS = [standard_input, standard_output, full_pipe, standard_error, lost_reader, slow_writer, open_input, shown_at_once,
+         descriptors, address_space, stack]
+
+
+def unlisted():
+    """The parts whose row isn't in the table of docs/FORMAT.md."""
+    with open(os.path.join(ROOT, "docs/FORMAT.md")) as file:
+        text = file.read()
+    return [part.__doc__ for part in PARTS if "\n| %s |" % part.__doc__ not in text]
+
+
+def main():
+    program = Program(os.path.abspath(sys.argv[1] if len(sys.argv) > 1 else os.path.join(ROOT, "bt_tool")))
+    wrong = ["no row in docs/FORMAT.md: " + row for row in unlisted()]
+    for part in PARTS:
+        wrong += ["%s: bt_tool %s" % (part.__doc__, line) for line in part(program)]
+    for line in wrong:
+        print("limits: wrong: " + line)
+    print("limits: %s %d runs" % ("failed: %d wrong of" % len(wrong) if wrong else "ok:", program.runs))
+    return 1 if wrong else 0
+
+
+if __name__ == "__main__":
+    sys.exit(main())
