@@ -8,7 +8,24 @@ use Rattle.bt_wire.specs.declared.ids.Kind.{Kind}
 use Rattle.bt_wire.specs.declared.ids.Shape.{Shape}
 use Rattle.bt_wire.specs.declared.ids.Shape.TheVariants.{Index, Part, Block}
 use Rattle.bt_wire.specs.declared.message.Message.TheVariants as m
-use Rattle.bt_wire.specs.Messages.{Message, Fields, index, part, block, port, id_of, fields_of, spell_fields, framed, body, spell, IsInRange, counts_by, kind_in, order_after}
+use Rattle.bt_wire.specs.Messages.{
+  Message,
+  Fields,
+  index,
+  part,
+  block,
+  port,
+  id_of,
+  fields_of,
+  spell_fields,
+  framed,
+  body,
+  spell,
+  IsInRange,
+  counts_by,
+  kind_in,
+  order_after,
+}
 use Rattle.bt_wire.specs.Numbers.{be32}
 use Rattle.bt_wire.specs.Ids.{kind_of, shape_by}
 use Rattle.bt_wire.specs.Faults.{said_id}
@@ -52,7 +69,8 @@ with_id c msg w (Some n) e spelled long = (n, refl)
 without_id : (c : Context) (msg : Message) (w : List ℕ) (k : Option ℕ) → id_of msg ≡ k → spell c msg ≡ w → length w < 5 → k ≡ None
 without_id c msg w None e spelled short = refl
 without_id c msg w (Some n) e spelled short =
-    let size : length (body c msg) ≡ suc (length (spell_fields (fields_of c msg))) = ap (λ (o : Option ℕ). length (framed o (spell_fields (fields_of c msg)))) e in
+    let size : length (body c msg) ≡ suc (length (spell_fields (fields_of c msg))) =
+    ap (λ (o : Option ℕ). length (framed o (spell_fields (fields_of c msg)))) e in
     absurd (omega (arith, size, length-spell c msg, ap length spelled, short))
 
 other_id : (c : Context) (i : BtItem) (msg : Message) → (id_of msg ≡ Some 20 → ⊥) → ShowsExtended i msg
