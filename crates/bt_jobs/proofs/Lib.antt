@@ -1,6 +1,7 @@
 mod Printing
 mod Packing
 mod PackText
+mod FirstFeed
 mod PackPieces
 mod PackRuns
 mod PackLaws

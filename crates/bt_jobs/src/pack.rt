@@ -12,13 +12,14 @@ use bt_feed::{Feed, Source, Target, refusal_in};
 use bt_text::ended::{PackEnd, ScriptReason, ToolFault};
 use bt_text::script::reading::read_line;
 use bt_wire::Own;
+use memchr::memchr;
 use std::alloc::{AllocError, Global};
 
 /// Returns the place of the first line feed.
 fn first_feed(text: &[u8]) -> Option<usize>
     ensures { result ≡ position (λ c. c == 10) text.now }
 {
-    text.iter().position(|byte| *byte == b'\n')
+    memchr(b'\n', text)
 }
 
 /// Returns the text's first line, and what follows its line feed.
