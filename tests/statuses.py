@@ -36,6 +36,14 @@ JSON_HAND = (b'{"offset":0,"item":"handshake","reserved":"0000000000100005","inf
 REQUEST = b"d8:msg_typei0e5:piecei0ee"
 MISTAKE = Parts(b"error: ", b"Usage: bt_tool ")
 
+NUMBER = "a number from 0 to 4294967295"
+
+
+def syntax(line, column, expected):
+    """What `pack` says of a line that is none."""
+    return b"refused line=%d Syntax\nhint: line %d, column %d: expected %s\n" % (line, line, column, expected.encode())
+
+
 # Words, standard input, standard output, standard error, exit status. Words are a list where one is empty or has a space.
 ROWS = [
     # streams
@@ -105,10 +113,10 @@ ROWS = [
     ("pack", LINE, HAND, b"", 0),
     ("pack", LINE + b"keep-alive\nhave 9", HAND + bytes.fromhex("00000000 00000005 04 00000009"), b"", 0),
     ("pack", LINE + b"extended 3 " + REQUEST.hex().encode(), HAND + bytes.fromhex("0000001b1403") + REQUEST, b"", 0),
-    ("pack", LINE + b"have 09\n", HAND, b"refused line=2 Syntax\n", 1),
-    ("pack", LINE + b"unknown 9 -\n", HAND, b"refused line=2 Syntax\n", 1),
-    ("pack", b"", b"", b"refused line=1 Syntax\n", 1),
-    ("pack", b"choke\n", b"", b"refused line=1 Syntax\n", 1),
+    ("pack", LINE + b"have 09\n", HAND, syntax(2, 6, NUMBER), 1),
+    ("pack", LINE + b"unknown 9 -\n", HAND, syntax(2, 9, "a number from 0 to 255 that is the id of no message"), 1),
+    ("pack", b"", b"", syntax(1, 1, "the word handshake"), 1),
+    ("pack", b"choke\n", b"", syntax(1, 1, "the word handshake"), 1),
     ("pack --pieces 10", LINE + b"have 10\n", HAND, b"refused line=2 BadIndex\n", 1),
     ("pack", LINE + b"extended 0 -\n", HAND, b"refused line=2 BadBencode\n", 1),
     ("pack --info-hash " + 40 * "0", LINE, b"", b"refused line=1 WrongInfoHash\n", 1),
@@ -118,15 +126,33 @@ ROWS = [
     ("pack --pieces 10", LINE + b"extended 3 " + REQUEST.hex().encode() + b"\n", HAND + bytes.fromhex("0000001b1403") + REQUEST,
      b"", 0),
     ("pack --pieces 10", LINE + b"piece 1 2 ABcd\n", HAND + bytes.fromhex("0000000b 07 00000001 00000002 abcd"), b"", 0),
-    ("pack --pieces 10", LINE + b"have 09\n", HAND, b"refused line=2 Syntax\n", 1),
-    ("pack --pieces 10", LINE + b"unknown 9 -\n", HAND, b"refused line=2 Syntax\n", 1),
-    ("pack --pieces 10", LINE + b"have  9\n", HAND, b"refused line=2 Syntax\n", 1),
-    ("pack --pieces 10", LINE + b"\n", HAND, b"refused line=2 Syntax\n", 1),
-    ("pack --pieces 10", LINE + b"choke\n\nchoke\n", HAND + bytes.fromhex("00000001 00"), b"refused line=3 Syntax\n", 1),
+    ("pack --pieces 10", LINE + b"have 09\n", HAND, syntax(2, 6, NUMBER), 1),
+    ("pack --pieces 10", LINE + b"unknown 9 -\n", HAND, syntax(2, 9, "a number from 0 to 255 that is the id of no message"), 1),
+    ("pack --pieces 10", LINE + b"have  9\n", HAND, syntax(2, 6, NUMBER), 1),
+    ("pack --pieces 10", LINE + b"\n", HAND, syntax(2, 1, "the name of a message"), 1),
+    ("pack --pieces 10", LINE + b"choke\n\nchoke\n", HAND + bytes.fromhex("00000001 00"), syntax(3, 1, "the name of a message"), 1),
     ("pack --pieces 10", LINE + b"extended 0 -\n", HAND, b"refused line=2 BadBencode\n", 1),
-    ("pack --pieces 10", LINE + LINE, HAND, b"refused line=2 Syntax\n", 1),
-    ("pack", b"\n", b"", b"refused line=1 Syntax\n", 1),
-    ("pack", b"handshake\n", b"", b"refused line=1 Syntax\n", 1),
+    ("pack --pieces 10", LINE + LINE, HAND, syntax(2, 1, "the name of a message"), 1),
+    ("pack", b"\n", b"", syntax(1, 1, "the word handshake"), 1),
+    ("pack", b"handshake\n", b"", syntax(1, 10, "the reserved bytes, 16 hex digits"), 1),
+    ("pack", b"handshake 0000000000100005 a9\n", b"", syntax(1, 28, "the info hash, 40 hex digits"), 1),
+    ("pack", LINE[:-1] + b" \n", b"", syntax(1, 110, "the end of the line"), 1),
+    ("pack", LINE + b"request 0 0\n", HAND, syntax(2, 12, NUMBER), 1),
+    ("pack", LINE + b"request 0 0 16384 \n", HAND, syntax(2, 19, "the end of the line"), 1),
+    ("pack", LINE + b"have 9\r\n", HAND, syntax(2, 6, NUMBER), 1),
+    ("pack", LINE + b"have 4294967296\n", HAND, syntax(2, 6, NUMBER), 1),
+    ("pack", LINE + b"port 65536\n", HAND, syntax(2, 6, "a number from 0 to 65535"), 1),
+    ("pack", LINE + b"extended 256 -\n", HAND, syntax(2, 10, "a number from 0 to 255"), 1),
+    ("pack", LINE + b"bitfield\n", HAND, syntax(2, 9, "bytes in hex, two digits each, or -"), 1),
+    ("pack", LINE + b"keep-alive 1", HAND, syntax(2, 12, "the end of the line"), 1),
+    # a line after the first 65,536 bytes has no column
+    ("pack", LINE + 13000 * b"choke\n" + b"chok\n", HAND + 13000 * bytes.fromhex("00000001 00"), b"refused line=13002 Syntax\n", 1),
+    # digits of a block that may be meant as a length
+    ("pack", LINE + b"piece 0 0 16384\n", HAND, syntax(2, 11, "bytes in hex, two digits each, or -"), 1),
+    ("pack", LINE + b"choke\npiece 0 0 4096\n", HAND + bytes.fromhex("00000001 00 0000000b 07 00000000 00000000 4096"),
+     b'hint: line 3: piece INDEX BEGIN HEX: "4096" is two bytes of a block; a request has a length\n', 0),
+    ("pack", LINE + b"piece 0 0 ab\n", HAND + bytes.fromhex("0000000a 07 00000000 00000000 ab"), b"", 0),
+    ("pack", LINE + b"piece 0 0 0123456789\n", HAND + bytes.fromhex("0000000e 07 00000000 00000000 0123456789"), b"", 0),
     # a line of twice the limit and 256 characters is judged by what it says, a longer one isn't
     ("pack --limit 1", LINE + b"piece 0 0 " + 248 * b"0", HAND, b"refused line=2 TooLong\n", 1),
     ("pack --limit 1", LINE + b"unknown 10 " + 248 * b"0", HAND, b"refused line=2 Syntax\n", 1),
@@ -198,11 +224,11 @@ LINK_ROWS = [
     ("link", b"", b"", b"refused config BadConfig\n", 1),
     ("link", TWO + b"turn left\nturn up\nturn right\n", b"", b"refused line=4 Syntax\n", 1),
     ("link", TWO + b"reset\nleft pieces 1\n", b"", b"refused line=4 Syntax\n", 1),
-    ("link", b"# a comment\n\nleft window 9\n", b"", b"refused line=3 Syntax\n", 1),
-    ("link", TWO + b"say left have 09\n", b"", b"refused line=3 Syntax\n", 1),
-    ("link", TWO + b"say left bitfield\n", b"", b"refused line=3 Syntax\n", 1),
-    ("link", TWO + b"deliver left 4294967296\n", b"", b"refused line=3 Syntax\n", 1),
-    ("link", TWO + b"turn left ", b"", b"refused line=3 Syntax\n", 1),
+    ("link", b"# a comment\n\nleft window 9\n", b"", syntax(3, 1, "the name of a message"), 1),
+    ("link", TWO + b"say left have 09\n", b"", syntax(3, 1, "the name of a message"), 1),
+    ("link", TWO + b"say left bitfield\n", b"", syntax(3, 1, "the name of a message"), 1),
+    ("link", TWO + b"deliver left 4294967296\n", b"", syntax(3, 1, "the name of a message"), 1),
+    ("link", TWO + b"turn left ", b"", syntax(3, 1, "the name of a message"), 1),
     ("link", FOLDER, b"", b"fault: read\n", 3),
     ("link", TWO, FULL, b"fault: write\n", 3),
 ]

@@ -1,14 +1,15 @@
-//! The hint that standard error gets after a refused stream. The program's `main` calls it after a job.
+//! The hint that standard error gets after a refused stream, or after a script. The program's `main` calls it after a job.
 ghost use Rattle.std.specs.Prelude.{IfSome};
 ghost use Rattle.bt_cli.specs.Hinting.{IsHinted, IsHintText};
 
 use crate::run::{JobEnd, say};
 use bt_feed::Target;
-use bt_hint::{hint_line, hint_of};
+use bt_hint::{WINDOW, hint_line, hint_of};
+use bt_jobs::pack_hint;
 use bt_text::ended::Ended;
 use std::alloc::Global;
 
-/// Returns the line of the hint that the first bytes of a refused stream give; `None` where they give none, and without memory.
+/// Returns the line of the hint that the input's first bytes give; `None` where they give none, and without memory.
 fn hint_text(alloc: Global, end: JobEnd, window: &[u8]) -> Option<Vec<u8>>
     ensures { IfSome result (λ line. IsHintText end window.now line.items) }
 {
@@ -17,11 +18,12 @@ fn hint_text(alloc: Global, end: JobEnd, window: &[u8]) -> Option<Vec<u8>>
             let hint = hint_of(window, refusal.at)?;
             hint_line(alloc, hint).ok()
         }
+        JobEnd::Script(Ok(end)) => pack_hint(alloc, end, window, window.len() < WINDOW),
         _ => None,
     }
 }
 
-/// Writes on standard error the hint that the first bytes of the input give, if they give one and a stream is refused.
+/// Writes on standard error the hint that the input's first bytes give, if they give one: of a refused stream, or of a script.
 pub fn say_hint<E: Target>(alloc: Global, end: JobEnd, window: &[u8], errors: &mut E)
     ensures { IsHinted end window.now (E.held errors.old) (E.held errors.new) (E.failed_writes errors.old) (E.failed_writes errors.new) }
 {

@@ -1,4 +1,5 @@
 pub mod FirstLine
+mod FirstFeed
 pub mod ScriptWords
 pub mod ScriptBytes
 pub mod ScriptFields

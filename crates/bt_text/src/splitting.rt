@@ -2,11 +2,13 @@
 ghost use Rattle.std.specs.Prelude.{◌≡◌, ◌==◌, ◌<◌, ◌≤◌, position, length, option_map, IfSome};
 ghost use Rattle.bt_text.specs.Splitting.{IsCut};
 
+use memchr::memchr;
+
 /// Returns the place of the first line feed.
 fn first_feed(text: &[u8]) -> Option<usize>
     ensures { result ≡ position (λ c. c == 10) text.now }
 {
-    text.iter().position(|byte| *byte == b'\n')
+    memchr(b'\n', text)
 }
 
 /// Returns the text's first line, and what follows its line feed.
