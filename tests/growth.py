@@ -1,11 +1,11 @@
 #!/usr/bin/env python3
-"""Refuses each request for memory of a fetch in turn, and wants the report of ample memory, or that memory was refused.
+"""Refuses each request for memory in turn, and wants what comes with ample memory, or that memory was refused.
 
-usage: tests/growth.py [TESTS]
+usage: tests/growth.py [CRATE..]
 
-TESTS is the built tests of crates/bt_session_tests, or else those that the gate or `rt test` left in its folder `out`. One of
-them accepts these two answers alone. It is run over a `malloc` that refuses the Nth request, for N = 1, 2, .. until a run makes
-fewer requests. Without a C compiler, as `cc`, nothing is run.
+CRATE is a crate of TESTS, or else each of them is tried. Its built tests are those that the gate or `rt test` left in its folder
+`out`. A test of the table accepts these two answers alone. It is run over a `malloc` that refuses the Nth request, for N = 1, 2, ..
+until a run makes fewer requests. Without a C compiler, as `cc`, nothing is run.
 """
 import os
 import shutil
@@ -14,8 +14,11 @@ import sys
 import tempfile
 
 ROOT = os.path.dirname(os.path.dirname(os.path.abspath(__file__)))
-BUILT = os.path.join(ROOT, "crates/bt_session_tests/out/bt_session_tests_tests")
-TEST = "growth::memory_is_refused_or_nothing_differs"
+TESTS = [
+    ("bt_session_tests", "growth::memory_is_refused_or_nothing_differs"),
+    ("bt_fetch_tests", "failing::memory_is_refused_or_all_is_written"),
+    ("bt_fetch_tests", "guests::memory_is_refused_or_all_are_served"),
+]
 # A run makes far fewer requests.
 MOST = 10_000
 
@@ -47,27 +50,36 @@ __attribute__((destructor)) static void end(void) {
 """
 
 
+def refuse_each(library, made, crate, test):
+    """Refuses each request of a test, and returns how many these were; None where an answer is another one."""
+    built = os.path.join(ROOT, "crates", crate, "out", crate + "_tests")
+    for n in range(1, MOST):
+        words = {"LD_PRELOAD": library, "REFUSED": str(n), "MADE": made}
+        run = subprocess.run([built, test], env=words, capture_output=True, timeout=60)
+        if run.returncode != 0:
+            print(f"growth: {test}: another answer where request {n} is refused:\n{run.stdout.decode()}{run.stderr.decode()}")
+            return None
+        if not os.path.exists(made):
+            return n - 1
+        os.remove(made)
+    print(f"growth: {test}: a run makes {MOST} requests")
+    return None
+
+
 def main():
-    tests = sys.argv[1] if len(sys.argv) > 1 else BUILT
     compiler = shutil.which("cc")
     if compiler is None:
         print("growth: not run, since there is no cc")
         return 0
+    wanted = sys.argv[1:] or [crate for crate, _ in TESTS]
     with tempfile.TemporaryDirectory() as work:
         library, made = os.path.join(work, "refusing.so"), os.path.join(work, "made")
         subprocess.run([compiler, "-shared", "-fPIC", "-x", "c", "-o", library, "-"], input=MALLOC.encode(), check=True)
-        for n in range(1, MOST):
-            words = {"LD_PRELOAD": library, "REFUSED": str(n), "MADE": made}
-            run = subprocess.run([os.path.abspath(tests), TEST], env=words, capture_output=True, timeout=60)
-            if run.returncode != 0:
-                print(f"growth: another answer where request {n} is refused:\n{run.stdout.decode()}{run.stderr.decode()}")
-                return 1
-            if not os.path.exists(made):
-                print(f"growth: ok, {n - 1} requests refused")
-                return 0
-            os.remove(made)
-    print(f"growth: a run makes {MOST} requests")
-    return 1
+        refused = [refuse_each(library, made, crate, test) for crate, test in TESTS if crate in wanted]
+    if None in refused:
+        return 1
+    print(f"growth: ok, {sum(refused)} requests refused")
+    return 0
 
 
 if __name__ == "__main__":

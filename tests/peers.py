@@ -9,6 +9,7 @@ the first address, and the exit status. It was worked out from docs/FETCH.md. te
 """
 import hashlib
 import os
+import pty
 import socket
 import struct
 import subprocess
@@ -371,6 +372,39 @@ def single(program):
     return differs("bytewise", done, SMALL, "%s fetched\n" % peer.address, 0), 1
 
 
+def shown(program):
+    """On a terminal the progress of a fetch is a line that is rewritten, and cleared at the end."""
+    peer = Peer(honest)
+    near, far = pty.openpty()
+    done = subprocess.run([program, "fetch", HASH.hex(), peer.address], stdin=subprocess.DEVNULL, stdout=subprocess.PIPE, stderr=far,
+                          timeout=60)
+    os.close(far)
+    text = b""
+    try:
+        while True:
+            text += os.read(near, 65536)
+    except OSError:
+        os.close(near)
+    peer.close()
+    name = peer.address.encode()
+    expected = b"".join(b"\rfetching %d of 4 blocks from %s" % (held, name) for held in range(4)) + b"\r\x1b[K" + name + b" fetched\r\n"
+    return same("shown", done.stdout, INFO) + same("progress", text, expected), 2
+
+
+def unread(program):
+    """Where nobody reads the output, `loop` and `fetch` end as `show` does."""
+    failed = 0
+    peer = Peer(honest)
+    for words, given, errors in ((["loop"], INFO, ""), (["fetch", HASH.hex(), peer.address], b"", "%s fetched\n" % peer.address)):
+        near, far = os.pipe()
+        os.close(near)
+        done = subprocess.run([program] + words, input=given, stdout=far, stderr=subprocess.PIPE, timeout=60)
+        os.close(far)
+        failed += same("unread %s" % words[0], "%d %s" % (done.returncode, done.stderr.decode()), "141 " + errors)
+    peer.close()
+    return failed, 2
+
+
 class Server:
     """Runs `serve`, and reads its lines."""
 
@@ -456,7 +490,7 @@ def serving(program):
 def main(words):
     program = program_of(words)
     failed = count = 0
-    for part in (hostile, kept, single, serving):
+    for part in (hostile, kept, single, shown, unread, serving):
         more, tried = part(program)
         failed += more
         count += tried

@@ -65,7 +65,7 @@ abbrev pub IsLimited : Asked → Type 0
 IsLimited (Run r) = HasLimit r.own
 IsLimited (Link files) = Unit {0}
 IsLimited (Fetch job) = IsWish job.wish
-IsLimited (Serve job) = Unit {0}
+IsLimited (Serve job) = HasLoopLimit job.limit
 IsLimited (Loop rules limit) = HasLoopLimit limit
 IsLimited (Told notice text) = Unit {0}
 

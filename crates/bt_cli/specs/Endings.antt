@@ -7,7 +7,9 @@ use Rattle.bt_rig.specs.declared.run.RigEnd.{RigEnd}
 use Rattle.bt_rig.specs.Runs.{status_of as rig_status}
 use Rattle.bt_cli.specs.declared.commands.Job.{Job}
 use Rattle.bt_cli.specs.declared.run.JobEnd.{JobEnd}
-use Rattle.bt_cli.specs.Runs.{complaint, exit_status_of, fault_in, link_complaint}
+use Rattle.bt_net.specs.declared.looped.LoopEnd.{LoopEnd}
+use Rattle.bt_net.specs.Loops.{status_of as looped_status}
+use Rattle.bt_cli.specs.Runs.{complaint, exit_status_of, fault_in, link_complaint, loop_complaint}
 
 -- nobody reads what the program writes, and a write failed
 abbrev pub is_cut : Bool → ToolFault → Bool
@@ -49,6 +51,16 @@ link_words gone prefix (Err f) = fault_words gone prefix f
 abbrev pub link_status : Bool → Result RigEnd ToolFault → ℕ
 link_status gone (Ok end) = rig_status (Ok end)
 link_status gone (Err f) = fault_status gone f
+
+-- ---- the end of `loop`
+
+abbrev pub loop_words : Bool → Result LoopEnd ToolFault → List ℕ
+loop_words gone (Ok end) = loop_complaint (Ok end)
+loop_words gone (Err f) = fault_words gone [] f
+
+abbrev pub loop_status : Bool → Result LoopEnd ToolFault → ℕ
+loop_status gone (Ok end) = looped_status (Ok end)
+loop_status gone (Err f) = fault_status gone f
 
 -- ---- a text's end
 

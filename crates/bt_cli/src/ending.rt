@@ -5,13 +5,15 @@
 //! shell do.
 ghost use Rattle.std.specs.Prelude.{◌≡◌, ◌++◌};
 ghost use Rattle.bt_cli.specs.Runs.{IsSaid, fault_in};
-ghost use Rattle.bt_cli.specs.Endings.{fault_status, fault_words, job_status, job_words, link_status as link_status_by_rule, link_words, text_status, text_words};
+ghost use Rattle.bt_cli.specs.Endings.{fault_status, fault_words, job_status, job_words, link_status as link_status_by_rule, link_words, loop_status as loop_status_by_rule, loop_words, text_status, text_words};
 
 use crate::commands::Job;
 use crate::link::report_link;
+use crate::looped::report_loop;
 use crate::run::{JobEnd, exit_status, report, say};
 use bt_feed::Target;
 use bt_jobs::output::write_out;
+use bt_net::{LoopEnd, status as loop_status};
 use bt_rig::{RigEnd, status as link_status};
 use bt_text::ended::ToolFault;
 use bt_text::lines::fault_line;
@@ -90,6 +92,20 @@ pub fn end_link<E: Target>(
             link_status(&end)
         }
         Err(fault) => end_by_fault(fault, prefix, is_gone, errors),
+    }
+}
+
+/// Says what the end of a loop has to say on standard error, and returns the exit status.
+pub fn end_loop<E: Target>(end: Result<LoopEnd, ToolFault>, is_gone: bool, errors: &mut E) -> u8
+    ensures said { IsSaid (loop_words is_gone end) (E.held errors.old) (E.held errors.new) (E.failed_writes errors.old) (E.failed_writes errors.new) }
+    ensures status { result ≡ loop_status_by_rule is_gone end }
+{
+    match end {
+        Ok(_) => {
+            report_loop(end, errors);
+            loop_status(&end)
+        }
+        Err(fault) => end_by_fault(fault, b"", is_gone, errors),
     }
 }
 

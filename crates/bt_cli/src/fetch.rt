@@ -4,16 +4,18 @@ ghost use Rattle.std.specs.Prelude.{◌≡◌, ◌≤◌, Err, IfOk, IfSome};
 ghost use Rattle.bt_io.specs.Counts.{Grew};
 ghost use Rattle.bt_fetch.specs.Fetches.{IsWritten};
 ghost use Rattle.bt_fetch.specs.Wishes.{IsWish};
-ghost use Rattle.bt_cli.specs.Fetches.{fetch_status};
+ghost use Rattle.bt_cli.specs.Fetches.{fetch_status, fetch_words};
+ghost use Rattle.bt_cli.specs.Runs.{IsSaid};
 
+use crate::ending::end_by_fault;
 use crate::run::say;
 use crate::values::number_within;
-use bt_end::Window;
+use bt_end::{Progress, Window};
 use bt_ext::Rules;
 use bt_feed::Target;
 use bt_fetch::{FetchError, Outcome, Report, TcpDial, Wish, fetch};
 use bt_text::ended::{Ended, ToolFault};
-use bt_text::lines::{fault_line, verdict_line};
+use bt_text::lines::verdict_line;
 use clap::ArgMatches;
 use hex::FromHex;
 use std::alloc::{AllocError, Global};
@@ -171,11 +173,22 @@ pub fn fetch_asked(alloc: Global, options: &ArgMatches<'_>) -> Result<FetchJob, 
     })
 }
 
-/// Says on standard error how each connection ended.
+/// Goes back to the beginning of a terminal's line.
+const BACK: &[u8] = b"\r";
+
+/// Goes back to the beginning of a terminal's line, and clears it.
+const CLEAR: &[u8] = b"\r\x1b[K";
+
+/// Says on standard error how each connection goes, where that is a terminal, and how it ended.
 #[derive(Drop)]
 struct Lines<'a, E: Target> {
+    alloc: Global,
     names: &'a [String],
     errors: &'a mut E,
+    /// Standard error is a terminal.
+    is_terminal: bool,
+    /// A line that is to be cleared stands there.
+    is_shown: bool,
 }
 
 /// Returns the line of a connection's end, but for the address; nothing for a refusal, and where the address is tried again
@@ -204,7 +217,25 @@ impl<'a, E: Target> Lines<'a, E> {
 }
 
 impl<'a, E: Target> Report for Lines<'a, E> {
+    fn came(&mut self, address: usize, progress: Progress) {
+        if !self.is_terminal {
+            return;
+        }
+        let (held, blocks) = (progress.held, progress.blocks);
+        let Ok(text) = format!(in self.alloc; "fetching {held} of {blocks} blocks from ") else {
+            return;
+        };
+        self.is_shown = true;
+        say(BACK, self.errors);
+        say(text.as_str().as_bytes(), self.errors);
+        self.say_line(address, b"");
+    }
+
     fn ended(&mut self, address: usize, outcome: Outcome) {
+        if self.is_shown {
+            self.is_shown = false;
+            say(CLEAR, self.errors);
+        }
         if let Outcome::Refused(refusal) = outcome {
             let mut line = [0; 160];
             let place = verdict_line(Ended::Refused(refusal), &mut line);
@@ -233,13 +264,15 @@ pub fn drawn_peer_id<R: RandomSource>(random: &R) -> [u8; 20] {
     peer_id
 }
 
-/// Fetches what is asked for over TCP, and says on `errors` how each connection ended.
+/// Fetches what is asked for over TCP, and says on `errors` how each connection ended, and how far it came where `errors` is a
+/// terminal.
 pub fn run_fetch<R: Net + Clock + RandomSource, W: Target, E: Target>(
     rt: &R,
     alloc: Global,
     job: &FetchJob,
     writer: &mut W,
     errors: &mut E,
+    is_terminal: bool,
 ) -> Result<usize, FetchError>
     requires { IsWish job.now.wish }
     ensures written { IsWritten job.now.torrent job.now.wish.info_hash (W.held writer.old) (W.held writer.new) result }
@@ -249,8 +282,11 @@ pub fn run_fetch<R: Net + Clock + RandomSource, W: Target, E: Target>(
     wish.peer_id = drawn_peer_id(rt);
     let mut dial = TcpDial::new(rt, job.addresses.as_slice());
     let mut report = Lines {
+        alloc,
         names: job.names.as_slice(),
         errors,
+        is_terminal,
+        is_shown: false,
     };
     fetch(
         alloc,
@@ -264,19 +300,22 @@ pub fn run_fetch<R: Net + Clock + RandomSource, W: Target, E: Target>(
 }
 
 /// Says on standard error what kept a fetch from its work, if anything did, and returns the exit status.
-pub fn end_fetch<E: Target>(fetched: Result<usize, FetchError>, errors: &mut E) -> u8
-    ensures { result ≡ fetch_status fetched }
+///
+/// `is_gone` says that a write failed since nobody reads the output.
+pub fn end_fetch<E: Target>(fetched: Result<usize, FetchError>, is_gone: bool, errors: &mut E) -> u8
+    ensures said { IsSaid (fetch_words is_gone fetched) (E.held errors.old) (E.held errors.new) (E.failed_writes errors.old) (E.failed_writes errors.new) }
+    ensures status { result ≡ fetch_status is_gone fetched }
 {
     match fetched {
-        Ok(_) => 0,
-        Err(FetchError::NotFetched) => 1,
-        Err(FetchError::Write) => {
-            say(fault_line(ToolFault::Write), errors);
-            3
+        Ok(_) => {
+            say(b"", errors);
+            0
         }
-        Err(FetchError::Memory) => {
-            say(fault_line(ToolFault::Memory), errors);
-            3
+        Err(FetchError::NotFetched) => {
+            say(b"", errors);
+            1
         }
+        Err(FetchError::Write) => end_by_fault(ToolFault::Write, b"", is_gone, errors),
+        Err(FetchError::Memory) => end_by_fault(ToolFault::Memory, b"", is_gone, errors),
     }
 }

@@ -1,10 +1,13 @@
 //! The command `serve`: what its words ask for, the service, its lines, and the exit status. The module `options` and the
 //! program's `main` call it.
+ghost use Rattle.std.specs.Prelude.{IfOk};
+ghost use Rattle.bt_cli.specs.Commands.{HasLoopLimit};
+
 use crate::fetch::{DEFAULT_LIMIT, DEFAULT_PATIENCE, Mistake, drawn_peer_id, number_or, rules_in};
 use crate::run::say;
 use bt_ext::Rules;
 use bt_feed::Target;
-use bt_serve::{Ending, Farewell, Hospitality, Parting, TcpDoor, info_in, listen, serve};
+use bt_serve::{Ending, Farewell, Hospitality, Parting, TcpDoor, into_info, listen, serve};
 use bt_text::ended::{Ended, ToolFault};
 use bt_text::lines::{fault_line, verdict_line};
 use clap::ArgMatches;
@@ -14,6 +17,7 @@ use std::fs::{self, Files};
 use std::io;
 use std::net::{Net, SocketAddr};
 use std::random::RandomSource;
+use std::rc::Rc;
 use std::time::Clock;
 
 /// Where a server listens where no address is given: a free port of 127.0.0.1.
@@ -62,7 +66,9 @@ fn connections_in(text: Option<&str>) -> Option<Option<u64>> {
 ///
 /// # Errors
 /// The first option or word that has no meaning, or `Memory`.
-pub fn serve_asked(alloc: Global, options: &ArgMatches<'_>) -> Result<ServeJob, Mistake> {
+pub fn serve_asked(alloc: Global, options: &ArgMatches<'_>) -> Result<ServeJob, Mistake>
+    ensures { IfOk result (λ job. HasLoopLimit job.limit) }
+{
     let listen = options.get_str("listen").unwrap_or(DEFAULT_LISTEN);
     let Ok(listen) = listen.parse::<SocketAddr>() else {
         return Err(Mistake::Text("'--listen' takes IP:PORT or [IPv6]:PORT"));
@@ -157,10 +163,13 @@ fn serve_over_tcp<R: Net + Clock + RandomSource, W: Target>(
     rt: &R,
     alloc: Global,
     job: &ServeJob,
-    metadata: &[u8],
+    metadata: &Rc<Vec<u8>>,
     writer: &mut W,
-) -> Service {
-    let info_hash = hash_of(metadata);
+) -> Service
+    requires { HasLoopLimit job.now.limit }
+{
+    let bytes = Rc::as_ref(metadata).as_slice();
+    let info_hash = hash_of(bytes);
     let hospitality = Hospitality {
         info_hash,
         peer_id: drawn_peer_id(rt),
@@ -171,7 +180,7 @@ fn serve_over_tcp<R: Net + Clock + RandomSource, W: Target>(
     let Ok((listener, address)) = listen(rt, job.listen) else {
         return Service::Fault(ToolFault::Net);
     };
-    if announce(alloc, &info_hash, metadata.len(), address, writer).is_err() {
+    if announce(alloc, &info_hash, bytes.len(), address, writer).is_err() {
         return Service::Fault(ToolFault::Memory);
     }
     let mut door = TcpDoor::new(rt, listener, Lines { alloc, writer });
@@ -194,16 +203,21 @@ pub fn run_serve<R: Net + Clock + RandomSource + Files + AllocGlobal, W: Target>
     alloc: Global,
     job: &ServeJob,
     writer: &mut W,
-) -> Service {
-    let bytes = match fs::read(rt, job.file.as_str()) {
+) -> Service
+    requires { HasLoopLimit job.now.limit }
+{
+    let file = match fs::read(rt, job.file.as_str()) {
         Ok(bytes) => bytes,
         Err(error) => return fault_of(&error),
     };
-    match info_in(bytes.as_slice()) {
-        Some(metadata) if metadata.len() <= MOST => {
-            serve_over_tcp(rt, alloc, job, metadata, writer)
-        }
-        _ => Service::RefusedFile,
+    let metadata = match into_info(alloc, file) {
+        Ok(Some(metadata)) if metadata.len() <= MOST => metadata,
+        Ok(_) => return Service::RefusedFile,
+        Err(_) => return Service::Fault(ToolFault::Memory),
+    };
+    match Rc::new(alloc, metadata) {
+        Ok(shared) => serve_over_tcp(rt, alloc, job, &shared, writer),
+        Err(_) => Service::Fault(ToolFault::Memory),
     }
 }
 

@@ -15,6 +15,6 @@ pub use connection::Connection;
 pub use hearing::Hearing;
 pub use mem_wire::MemWire;
 pub use stream::Stream;
-pub use talking::{Limits, Sign, Step, Stop, advance, exchange};
+pub use talking::{Limits, Sign, Step, Stop, Witness, advance, exchange};
 pub use tcp::{TcpWire, open_tcp};
 pub use wire::{Side, Wire, WireFault};

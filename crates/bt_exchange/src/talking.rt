@@ -169,13 +169,20 @@ fn is_alive<A: Allocator + Copy>(
     }
 }
 
+/// Is told of each sign of life, as of the progress of a fetch.
+pub trait Witness {
+    /// The fetch has come this far; `None` where no size is known.
+    fn came(&mut self, progress: Option<Progress>);
+}
+
 /// Makes a step, and keeps watch.
-fn round<C: Connection, A: Allocator + Copy>(
+fn round<C: Connection, A: Allocator + Copy, W: Witness>(
     connection: &mut C,
     end: &mut End<A>,
     hearing: &mut Hearing<A>,
     limits: Limits,
     watch: Watch,
+    witness: &mut W,
 ) -> Result<Watch, Stop>
     requires progress { limits.sign ≡ Sign.Progress → watch.progress ≡ progress_of end.old.end.part }
     requires undone { is_some (metadata_of end.old.end.part) ≡ false }
@@ -197,9 +204,11 @@ fn round<C: Connection, A: Allocator + Copy>(
     }
     let now = connection.now();
     if is_alive(limits.sign, step, watch.progress, end) {
+        let progress = end.progress();
+        witness.came(progress);
         return Ok(Watch {
             since: now,
-            progress: end.progress(),
+            progress,
         });
     }
     if now >= watch.since && now - watch.since >= limits.patience {
@@ -209,12 +218,13 @@ fn round<C: Connection, A: Allocator + Copy>(
 }
 
 /// Makes steps until the metadata is there, or no more of it can come, the connection ends, fails or is silent, what comes is
-/// refused, or as many steps were made as may be.
-pub fn exchange<C: Connection, A: Allocator + Copy>(
+/// refused, or as many steps were made as may be. `witness` is told of each sign of life.
+pub fn exchange<C: Connection, A: Allocator + Copy, W: Witness>(
     connection: &mut C,
     end: &mut End<A>,
     hearing: &mut Hearing<A>,
     limits: Limits,
+    witness: &mut W,
 ) -> Stop
     ensures exchanged { IsExchanged limits (record { seen = C.seen connection.old; pending = hearing.old; half = end.old })
         (record { seen = C.seen connection.new; pending = hearing.new; half = end.new }) result }
@@ -228,7 +238,7 @@ pub fn exchange<C: Connection, A: Allocator + Copy>(
         progress: end.progress(),
     };
     for _round in 0..limits.rounds {
-        match round(connection, end, hearing, limits, watch) {
+        match round(connection, end, hearing, limits, watch, witness) {
             Ok(next) => watch = next,
             Err(stop) => return stop,
         }

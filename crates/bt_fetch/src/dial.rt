@@ -2,7 +2,8 @@
 ghost use Rattle.std.specs.Prelude.{◌≡◌};
 ghost use Rattle.bt_io.specs.Counts.{one_more};
 
-use bt_exchange::Connection;
+use bt_end::Progress;
+use bt_exchange::{Connection, Witness};
 use bt_wire::Refusal;
 
 /// How a try at an address ended.
@@ -48,8 +49,33 @@ pub trait Dial {
         ensures { dials self.new ≡ dials self.old };
 }
 
-/// Is told how each try ended.
+/// Is told how each try goes and how it ended.
 pub trait Report {
+    /// The try at the address of this number has come this far.
+    fn came(&mut self, address: usize, progress: Progress);
+
     /// The try at the address of this number ended.
     fn ended(&mut self, address: usize, outcome: Outcome);
+}
+
+/// A report of the try at one address.
+#[derive(Drop)]
+pub struct Told<'a, T: Report> {
+    report: &'a mut T,
+    address: usize,
+}
+
+impl<'a, T: Report> Told<'a, T> {
+    /// Returns the report of the try at this address.
+    pub fn new(report: &'a mut T, address: usize) -> Told<'a, T> {
+        Told { report, address }
+    }
+}
+
+impl<'a, T: Report> Witness for Told<'a, T> {
+    fn came(&mut self, progress: Option<Progress>) {
+        if let Some(progress) = progress {
+            self.report.came(self.address, progress);
+        }
+    }
 }

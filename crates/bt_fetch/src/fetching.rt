@@ -9,7 +9,7 @@ ghost use Rattle.bt_exchange.specs.Stops.{IsStopped};
 ghost use Rattle.bt_fetch.specs.Outcomes.{IsOutcome};
 ghost use Rattle.bt_fetch.specs.Fetches.{file_of, IsWritten};
 
-use crate::dial::{Dial, Outcome, Report};
+use crate::dial::{Dial, Outcome, Report, Told};
 use crate::glimpse::Glimpse;
 use crate::screen::{Objection, Screen};
 use crate::wish::{Wish, fetching_end, first_window, own_of};
@@ -72,12 +72,13 @@ fn outcome_of(end: &End, stop: Stop, objection: Option<Objection>) -> Result<Out
 ///
 /// # Errors
 /// `Memory` if a buffer of the new connection, or of what came over it, is refused.
-fn visit<D: Dial>(
+fn visit<D: Dial, T: Report>(
     alloc: Global,
     wish: &Wish,
     address: usize,
     is_wide: bool,
     dial: &mut D,
+    report: &mut T,
     end: &mut End,
     hearing: &mut Hearing,
 ) -> Result<Outcome, Memory>
@@ -103,7 +104,8 @@ fn visit<D: Dial>(
         wish.most,
         size,
     );
-    let stop = exchange(&mut screen, end, hearing, limits);
+    let mut told = Told::new(report, address);
+    let stop = exchange(&mut screen, end, hearing, limits, &mut told);
     outcome_of(end, stop, screen.objection())
 }
 
@@ -149,7 +151,7 @@ fn attempt<D: Dial, T: Report>(
 {
     end.set_window(window);
     let is_wide = wish.window.is_none() && window.get() > 1;
-    let outcome = visit(alloc, wish, address, is_wide, dial, end, hearing)?;
+    let outcome = visit(alloc, wish, address, is_wide, dial, report, end, hearing)?;
     report.ended(address, outcome);
     let next = next_of(is_wide, end, outcome);
     if next == Next::Leave {

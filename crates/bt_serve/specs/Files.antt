@@ -1,6 +1,7 @@
 -- The file that is served: a .torrent, or the info dictionary of one (BEP 3, "metainfo files").
 use Rattle.std.specs.Prelude.{◌≡◌, ℕ, ℤ, List, length, Option, Some, None, codes, option_and_then, ⊤}
 use Rattle.std.specs.Borrow.{Bor}
+use Rattle.std.specs.Global.{Vec}
 use Rattle.bt_bencode.specs.Trees.{Pairs}
 use Rattle.bt_bencode.specs.Bencoding.{BeginsWith, Spells}
 use Rattle.bt_bencode.specs.Keys.{value_at}
@@ -30,3 +31,7 @@ pub record IsInfo (file info : List ℕ) : Type 0 where
 abbrev pub IsInfoIn : List ℕ → Option (Bor (List ℕ)) → Type 0
 IsInfoIn file (Some info) = IsInfo file info.now
 IsInfoIn file None = (info : List ℕ) → IsInfo file info → ⊥
+
+abbrev pub IsInfoKept : List ℕ → Option (Vec ℕ) → Type 0
+IsInfoKept file (Some info) = IsInfo file info.items
+IsInfoKept file None = (info : List ℕ) → IsInfo file info → ⊥

@@ -1,8 +1,9 @@
 //! The file that is served: a .torrent, or an info dictionary (BEP 3, "metainfo files").
-ghost use Rattle.std.specs.Prelude.{option_map};
-ghost use Rattle.bt_serve.specs.Files.{IsFoundIn, IsInfoIn};
+ghost use Rattle.std.specs.Prelude.{◌≡◌, ◌+◌, ◌≤◌, drop, take, length, option_map, IfOk, IfSome};
+ghost use Rattle.bt_serve.specs.Files.{IsFoundIn, IsInfoIn, IsInfoKept};
 
 use bt_bencode::{DictRef, check};
+use std::alloc::{AllocError, Global};
 
 /// Returns the info dictionary in the dictionary that a file is.
 fn info_of<'a>(file: &'a [u8], dict: &DictRef<'a>) -> Option<&'a [u8]>
@@ -30,4 +31,54 @@ pub fn info_in(file: &[u8]) -> Option<&[u8]>
         return None;
     }
     info_of(file, &dict)
+}
+
+/// Returns the place at which a part of the bytes stands first.
+fn place_of(bytes: &[u8], part: &[u8]) -> Option<usize>
+    ensures within { IfSome result (λ at. at + length part.now ≤ length bytes.now) }
+    ensures found { IfSome result (λ at. take (length part.now) (drop at bytes.now) ≡ part.now) }
+{
+    for at in 0..bytes.len() {
+        let rest = &bytes[at..];
+        if rest.len() < part.len() {
+            return None;
+        }
+        if &rest[..part.len()] == part {
+            return Some(at);
+        }
+    }
+    None
+}
+
+/// Leaves n bytes of the file alone, from this place on.
+fn cut_out(file: &mut Vec<u8>, at: usize, n: usize)
+    requires { at + n ≤ length file.old.items }
+    ensures { file.new.items ≡ take n (drop at file.old.items) }
+{
+    file.copy_within(at..at + n, 0);
+    file.truncate(n);
+}
+
+/// Returns the info dictionary of a file, as [`info_in`] does, in the memory of the file.
+///
+/// # Errors
+/// Out of memory, if the info dictionary isn't found again in the file and a copy of it is refused.
+pub fn into_info(alloc: Global, file: Vec<u8>) -> Result<Option<Vec<u8>>, AllocError>
+    ensures { IfOk result (λ info. IsInfoKept file.items info) }
+{
+    let mut file = file;
+    let (place, size) = match info_in(file.as_slice()) {
+        None => return Ok(None),
+        Some(info) => (place_of(file.as_slice(), info), info.len()),
+    };
+    if let Some(at) = place {
+        cut_out(&mut file, at, size);
+        return Ok(Some(file));
+    }
+    let Some(info) = info_in(file.as_slice()) else {
+        return Ok(None);
+    };
+    let mut copy = Vec::new(alloc);
+    copy.extend_from_slice(info)?;
+    Ok(Some(copy))
 }

@@ -26,12 +26,14 @@ fn main(rt: HostRuntime) -> ExitCode {
     let stderr = rt.stderr();
     let is_gone = Cell::new(false);
     let is_terminal = rt.stdin().is_terminal();
+    let is_watched = stderr.is_terminal();
     let mut program = Program::new(
         &rt,
         io::writer(&rt),
         io::writer(&stderr),
         &is_gone,
         is_terminal,
+        is_watched,
     );
     let status = match words(&rt) {
         Ok(words) => match asked(rt.alloc(), &words) {

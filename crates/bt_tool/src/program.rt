@@ -5,10 +5,9 @@ ghost use Rattle.bt_fetch.specs.Wishes.{IsWish};
 
 use crate::piped::Piped;
 use bt_cli::commands::{Asked, Job, Notice, Request};
-use bt_cli::ending::{end_by_fault, end_job, end_link, end_text};
+use bt_cli::ending::{end_by_fault, end_job, end_link, end_loop, end_text};
 use bt_cli::fetch::{FetchJob, end_fetch, run_fetch};
 use bt_cli::hints::say_hint;
-use bt_cli::looped::run_looped;
 use bt_cli::notice::refuse_words;
 use bt_cli::options::{is_input, no_handshake};
 use bt_cli::other::receiver_by;
@@ -20,7 +19,7 @@ use bt_feed::Host;
 use bt_hint::Kept;
 use bt_jobs::output::write_out;
 use bt_jobs::{OtherError, run_check_after};
-use bt_net::status as loop_status;
+use bt_net::run_loop;
 use bt_rig::run_rig;
 use bt_text::ended::ToolFault;
 use bt_wire::Own;
@@ -57,6 +56,8 @@ pub struct Program<'a, R, W, E> {
     is_gone: &'a Cell<bool>,
     /// Standard input is a terminal.
     is_terminal: bool,
+    /// Standard error is a terminal.
+    is_watched: bool,
 }
 
 /// An input: standard input, or a file.
@@ -75,6 +76,7 @@ impl<'a, R: Files + Input + Net + Clock + RandomSource + AllocGlobal, W: Write, 
         errors: E,
         is_gone: &'a Cell<bool>,
         is_terminal: bool,
+        is_watched: bool,
     ) -> Program<'a, R, W, E> {
         let writer = Host::new(Piped::new(writer, is_gone));
         let errors = Host::new(errors);
@@ -84,6 +86,7 @@ impl<'a, R: Files + Input + Net + Clock + RandomSource + AllocGlobal, W: Write, 
             errors,
             is_gone,
             is_terminal,
+            is_watched,
         }
     }
 
@@ -274,16 +277,15 @@ impl<'a, R: Files + Input + Net + Clock + RandomSource + AllocGlobal, W: Write, 
         let Some(mut reader) = self.open("-", METADATA_AWAITED) else {
             return self.fail(ToolFault::Read);
         };
-        let end = run_looped(
+        let end = run_loop(
             self.host.alloc(),
             &mut reader,
             &mut self.writer,
-            &mut self.errors,
             &mut wire,
             rules,
             limit,
         );
-        loop_status(&end)
+        end_loop(end, self.is_gone.get(), &mut self.errors)
     }
 
     /// Fetches metadata from peers, and returns the exit status.
@@ -291,12 +293,21 @@ impl<'a, R: Files + Input + Net + Clock + RandomSource + AllocGlobal, W: Write, 
         requires { IsWish job.now.wish }
     {
         let alloc = self.host.alloc();
-        let fetched = run_fetch(self.host, alloc, job, &mut self.writer, &mut self.errors);
-        end_fetch(fetched, &mut self.errors)
+        let fetched = run_fetch(
+            self.host,
+            alloc,
+            job,
+            &mut self.writer,
+            &mut self.errors,
+            self.is_watched,
+        );
+        end_fetch(fetched, self.is_gone.get(), &mut self.errors)
     }
 
     /// Serves metadata to peers, and returns the exit status.
-    fn serve(&mut self, job: &ServeJob) -> u8 {
+    fn serve(&mut self, job: &ServeJob) -> u8
+        requires { HasLoopLimit job.now.limit }
+    {
         let service = run_serve(self.host, self.host.alloc(), job, &mut self.writer);
         end_serve(service, &mut self.errors)
     }

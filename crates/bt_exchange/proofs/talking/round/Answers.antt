@@ -14,7 +14,7 @@ returns-then-is_alive-clause-watched g c = λ start mark calm. (
   round_calm start (moment (g.C.Connection.seen c.args.connection.now) c.args.hearing.now c.args.end.now)
       (moment (g.C.Connection.seen c.advance.new.connection) c.advance.new.hearing c.advance.new.end) (g.C.Connection.seen c.now-now.new.self) c.in-Ok.step
       c.now-now.result calm c.in-Ok.ensures c.now-now.ensures,
-  λ e. c.progress.ensures.value,
+  λ e. c.progress-progress.ensures.value,
   mark_alive c.args.limits.sign start (moment (g.C.Connection.seen c.args.connection.now) c.args.hearing.now c.args.end.now)
       (moment (g.C.Connection.seen c.advance.new.connection) c.advance.new.hearing c.advance.new.end) (g.C.Connection.seen c.now-now.new.self) c.in-Ok.step
       c.now-now.result c.args.watch.since mark c.in-Ok.ensures c.now-now.ensures,

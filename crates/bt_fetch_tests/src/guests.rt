@@ -1,0 +1,195 @@
+//! Serving over connections in memory, of which calls fail, and where memory is refused.
+use crate::peers::end_of;
+use bt_end::{End, Role};
+use bt_exchange::Connection;
+use bt_ext::Rules;
+use bt_io::{Failed, Memory};
+use bt_serve::{Door, Ending, Hospitality, Parting, serve};
+use std::alloc::Global;
+use std::cell::Cell;
+use std::rc::Rc;
+use std::test::Fail;
+
+/// The SHA-1 of `abc` (FIPS 180-4).
+const ABC: [u8; 20] = [
+    0xa9, 0x99, 0x3e, 0x36, 0x47, 0x06, 0x81, 0x6a, 0xba, 0x3e, 0x25, 0x71, 0x78, 0x50, 0xc2, 0x6c,
+    0x9c, 0xd0, 0xd8, 0x9d,
+];
+
+/// An end that fetches, as the other side of a connection that moves at most 7 bytes a call, fails at the call `fails_at`, and
+/// is closed once the end has the metadata.
+#[derive(Drop)]
+struct Leech<'a> {
+    end: End,
+    fetched: &'a Cell<u64>,
+    fails_at: Option<u64>,
+    calls: u64,
+    ends: u64,
+    failed: u64,
+    time: u64,
+}
+
+impl<'a> Connection for Leech<'a> {
+    ghost use Rattle.std.specs.Prelude.{None};
+
+    ghost seen = { λ s. record {
+      coming = None;
+      gone = None;
+      counts = record { calls = s.calls; ends = s.ends; failed = s.failed; clock = s.time };
+    } };
+
+    fn read(&mut self, into: &mut [u8]) -> Result<Option<usize>, Failed> {
+        self.calls = self.calls.saturating_add(1);
+        if self.fails_at == Some(self.calls) {
+            self.failed = self.failed.saturating_add(1);
+            return Err(Failed);
+        }
+        let out = self.end.outgoing();
+        let count = out.len().min(into.len()).min(7);
+        into[..count].copy_from_slice(&out[..count]);
+        self.end.sent(count);
+        if count > 0 {
+            return Ok(Some(count));
+        }
+        if self.end.metadata().is_none() {
+            return Ok(None);
+        }
+        if !into.is_empty() {
+            self.ends = self.ends.saturating_add(1);
+            self.fetched.set(self.fetched.get().saturating_add(1));
+        }
+        Ok(Some(0))
+    }
+
+    fn write(&mut self, from: &[u8]) -> Result<Option<usize>, Failed> {
+        self.calls = self.calls.saturating_add(1);
+        if self.fails_at == Some(self.calls) {
+            self.failed = self.failed.saturating_add(1);
+            return Err(Failed);
+        }
+        let count = from.len().min(7);
+        let (used, _) = self.end.handle(&from[..count]);
+        if used == 0 {
+            return Ok(None);
+        }
+        Ok(Some(used))
+    }
+
+    fn now(&mut self) -> u64 {
+        self.time = self.calls / 16;
+        self.time
+    }
+}
+
+/// Lets in two connections. The first one fails at a call.
+#[derive(Drop)]
+struct Two<'a> {
+    alloc: Global,
+    fetched: &'a Cell<u64>,
+    fails_at: Option<u64>,
+    entered: u64,
+    partings: [Option<Parting>; 2],
+}
+
+impl<'a> Door for Two<'a> {
+    type Link = Leech<'a>;
+
+    type Name = u64;
+
+    fn enter(&mut self) -> Option<(Leech<'a>, u64)> {
+        let number = self.entered;
+        let end = end_of(self.alloc, ABC, Role::Fetch)?;
+        self.entered = number.saturating_add(1);
+        let leech = Leech {
+            end,
+            fetched: self.fetched,
+            fails_at: if number == 0 { self.fails_at } else { None },
+            calls: 0,
+            ends: 0,
+            failed: 0,
+            time: 0,
+        };
+        Some((leech, number))
+    }
+
+    fn rest(&mut self) {}
+
+    fn ended(&mut self, name: u64, parting: Parting) {
+        if name < 2 {
+            self.partings[name as usize] = Some(parting);
+        }
+    }
+}
+
+/// A service of two connections: its answer, how many ends fetched, and how the connections ended.
+type Came = (Result<(), Memory>, u64, [Option<Parting>; 2]);
+
+/// Serves `abc` to two ends.
+fn served(alloc: Global, fails_at: Option<u64>) -> Result<Came, Memory> {
+    let hospitality = Hospitality {
+        info_hash: ABC,
+        peer_id: [48; 20],
+        rules: Rules::Bep,
+        limit: 32_768,
+        patience: 60,
+    };
+    let Ok(bytes) = b"abc".to_vec(alloc) else {
+        return Err(Memory);
+    };
+    let Ok(metadata) = Rc::new(alloc, bytes) else {
+        return Err(Memory);
+    };
+    let fetched = Cell::new(0);
+    let mut door = Two {
+        alloc,
+        fetched: &fetched,
+        fails_at,
+        entered: 0,
+        partings: [None; 2],
+    };
+    let answer = serve(alloc, &hospitality, &metadata, Some(2), 2, &mut door);
+    Ok((answer, fetched.get(), door.partings))
+}
+
+/// How a connection ends that was served: the handshake, the extended handshake, have none and a block were sent, and the
+/// handshake, the extended handshake, have none and a request were handled.
+const WHOLE: Option<Parting> = Some(Parting {
+    ending: Ending::Closed,
+    sent: 4,
+    handled: 4,
+});
+
+/// Where a call of the first connection fails, that one ends, and the second one is served.
+#[test]
+fn each_call_fails(rt: HostRuntime) -> Result<(), Fail> {
+    for call in 1..10_000 {
+        let Ok((answer, fetched, partings)) = served(rt.alloc(), Some(call)) else {
+            break;
+        };
+        assert_eq!(rt; answer, Ok(()));
+        assert_eq!(rt; partings[1], WHOLE);
+        if fetched == 2 {
+            assert_eq!(rt; partings[0], WHOLE);
+            assert!(rt; call > 20);
+            return Ok(());
+        }
+        assert_eq!(rt; fetched, 1);
+        assert!(rt; matches!(partings[0], Some(Parting { ending: Ending::Closed, .. })));
+    }
+    assert!(rt; false);
+    Ok(())
+}
+
+/// Where memory is refused the service ends so, or each end that wasn't refused it is served. `tests/growth.py` refuses it.
+#[test]
+fn memory_is_refused_or_all_are_served(rt: HostRuntime) -> Result<(), Fail> {
+    if let Ok((answer, fetched, partings)) = served(rt.alloc(), None) {
+        let whole = partings.iter().filter(|parting| **parting == WHOLE).count();
+        assert_eq!(rt; whole as u64, fetched);
+        match answer {
+            Ok(()) => assert!(rt; fetched > 0),
+            Err(_) => assert!(rt; fetched < 2),
+        }
+    }
+    Ok(())
+}
