@@ -5,6 +5,7 @@ use Rattle.std.proofs.lemmas.Bool.{ne_eqb}
 use Rattle.std.proofs.lemmas.List.{append-nil}
 use Rattle.std.specs.Prelude.{option_and_then, option_map, unwrap_or}
 use Rattle.bt_bencode.specs.Bencoding.{ben}
+use Rattle.bt_ext.proofs.PeerIds.{metadata-told}
 use Rattle.bt_ext.specs.Ids.{extension_id, metadata_id}
 use Rattle.bt_ext.specs.Made.{message_of, message_tree}
 use Rattle.bt_ext.specs.Payloads.{payload_of}
@@ -48,7 +49,7 @@ an_id id h = let above : eqb id 0 ≡ false = ne_eqb id 0 (omega arith) in rw ab
 
 pub request_bytes : (e : EndState) (id k : ℕ) → 0 < id → peer_id e ≡ Some id → spell (belief e) (request_for k)
     ≡ framed id (ben (message_tree (kind.Request k)) ++ [])
-request_bytes e id k h is = message_bytes (belief e) (kind.Request k) [] id (ap (option_and_then extension_id) is ∙ an_id id h)
+request_bytes e id k h is = message_bytes (belief e) (kind.Request k) [] id (metadata-told e.table ∙ ap (option_and_then extension_id) is ∙ an_id id h)
 
 -- ---- requests that are queued so far, n at most
 
@@ -58,8 +59,8 @@ pub record IsAsking {A : Type 0} (old now : Reactor A) (n : ℕ) : Type 0 where
       ≡ with_all_asked (all_wanted window old.window (part_of old.part)) (part_of old.part)
   pub bytes : now.outbox.bytes ++ spelled (end_of old) (map request_for (all_wanted (window - n) old.window (part_of now.part)))
       ≡ old.outbox.bytes ++ spelled (end_of old) (map request_for (all_wanted window old.window (part_of old.part)))
-  pub bound : length now.outbox.bytes ≤ length old.outbox.bytes + 166 * n
-  pub room : old.outbox.room ≤ now.outbox.room + 166 * n
+  pub bound : length now.outbox.bytes ≤ length old.outbox.bytes + 226 * n
+  pub room : old.outbox.room ≤ now.outbox.room + 226 * n
 
 pub none_queued : {A : Type 0} → (old : Reactor A) → IsAsking old old 0
 none_queued old = record { end = refl; part = refl; bytes = refl; bound = omega arith; room = omega arith }
@@ -69,8 +70,8 @@ pub record IsRequested {A : Type 0} (now new : Reactor A) (id k : ℕ) : Type 0 
   pub end : end_of new ≡ with_part (end_of now) (part_of new.part)
   pub part : part_of new.part ≡ with_asked (Some k) (part_of now.part)
   pub bytes : new.outbox.bytes ≡ now.outbox.bytes ++ framed id (ben (message_tree (kind.Request k)) ++ [])
-  pub bound : length new.outbox.bytes ≤ length now.outbox.bytes + 166
-  pub room : now.outbox.room ≤ new.outbox.room + 166
+  pub bound : length new.outbox.bytes ≤ length now.outbox.bytes + 226
+  pub room : now.outbox.room ≤ new.outbox.room + 226
 
 pub one_queued : {A : Type 0} → (old now new : Reactor A) (n id k : ℕ) → n < window → 0 < id → peer_id (end_of old) ≡ Some id → IsAsking old now n
     → wanted old.window (part_of now.part) ≡ Some k → IsRequested now new id k → IsAsking old new (n + 1)

@@ -101,6 +101,7 @@ extended_had e d (ext.Handshake dict rest) i h =
     let x = learnt e (tree_of dict) in inl (begun_fetched (assembly_of e.handshake.info_hash e.part (size_of (tree_of dict))) e.part d
         (asked_had x d (may_ask x) h))
 extended_had e d (ext.Metadata dict rest) i h = kind_had e d (kind_of (tree_of dict)) rest i h
+extended_had e d (ext.DontHave index) i h = inl h
 extended_had e d (ext.Raw id payload) i h = inl h
 
 message_had : (e : EndState) (d : List ℕ) (msg : Message) → IsPartOf e.handshake.info_hash e.part → (at_message e msg).end.part ≡ Fetched d

@@ -5,5 +5,6 @@ pub mod Calls
 pub mod Sayings
 pub mod Fetches
 pub mod Finishing
+pub mod Greeting
 pub mod Refusals
 pub mod Handling

@@ -155,6 +155,7 @@ extended_keeps e (ext.Handshake dict rest) i =
     let k = asked_keeps (learnt e (tree_of dict)) (begun_part e.handshake.info_hash e.part (size_of (tree_of dict)) i) in
     record { own = k.own; handshake = k.handshake; part = k.part }
 extended_keeps e (ext.Metadata dict rest) i = kind_keeps e (kind_of (tree_of dict)) rest i
+extended_keeps e (ext.DontHave index) i = same e i
 extended_keeps e (ext.Raw id payload) i = same e i
 
 message_keeps : (e : EndState) (msg : Message) → IsPartOf e.handshake.info_hash e.part → Keeps e (at_message e msg).end
@@ -207,6 +208,7 @@ done_extended e d (ext.Handshake dict rest) h =
     let hash = e.handshake.info_hash in
     done_asked_by x d (may_ask x) (ap (λ (p : Part). begun (assembly_of hash p (size_of (tree_of dict))) p) h)
 done_extended e d (ext.Metadata dict rest) h = done_kind e d (kind_of (tree_of dict)) rest h
+done_extended e d (ext.DontHave index) h = h
 done_extended e d (ext.Raw id payload) h = h
 
 done_message : (e : EndState) (d : List ℕ) (msg : Message) → IsDone e d → IsDone (at_message e msg).end d

@@ -1,19 +1,24 @@
 -- What an end says.
 use Rattle.std.proofs.Common.{◌≡◌, ℕ, ◌+◌, ◌≤◌, Bool, true, false, ◌||◌, ◌&&◌, if◌then◌else◌, nat_le, List, [], ◌∷◌, ◌++◌, length, Option, None, Some,
     Result, Ok, Err, refl, sym, ap, subst, ◌∙◌, arith, inl, inr, length-append, append-nil}
-use Rattle.std.specs.Prelude.{is_some, is_none}
+use Rattle.std.specs.Prelude.{is_some, is_none, unwrap_or}
+use Rattle.bt_ext.specs.Ids.{donthave_id}
+use Rattle.bt_ext.specs.Payloads.{index_bytes}
+use Rattle.bt_ext.specs.declared.ext.Ext.TheVariants as ext
 use Rattle.bt_wire.specs.declared.context.Context.{Context}
 use Rattle.bt_wire.specs.declared.context.Order.{Order}
 use Rattle.bt_wire.specs.Messages.{Message}
 use Rattle.bt_wire.specs.Legal.{IsLegal}
 use Rattle.bt_wire.specs.Messages.{body, spell}
+use Rattle.bt_wire.specs.declared.message.Message.TheVariants as m
 use Rattle.bt_wire.specs.Numbers.{be32}
 use Rattle.bt_feed.specs.Answers.{standing}
 use Rattle.bt_end.specs.Ends.{EndState, belief, queueing}
-use Rattle.bt_end.specs.Halves.{HalfState, high_water, unsaid, is_extended, tells_pieces, reacted, IsSaid}
+use Rattle.bt_end.specs.Halves.{HalfState, high_water, unsaid, is_own_made, tells_pieces, reacted, IsSaid}
 use Rattle.bt_end.specs.declared.end.SayError.{SayError}
 use Rattle.bt_end.specs.declared.end.SayError.TheVariants as say_error
 use Rattle.bt_end.specs.Reactors.{end_of, IsSame, IsPut, IsSpoken}
+use Rattle.bt_end.specs.Parts.{framed}
 use Rattle.bt_end.specs.Wholes.{half_of}
 use Rattle.bt_end.specs.declared.end.End.TheInside.{Inside}
 use Rattle.bt_end.specs.declared.reactor.Reactor.{Reactor}
@@ -23,6 +28,26 @@ pub length_put : (old new : List ℕ) (c : Context) (o : Order) (msg : Message) 
     → length new ≤ length old + (4 + c.limit)
 length_put old new c o msg e h =
     omega (arith, ap (length {A = ℕ}) e, length-append old (spell c msg), length-append (be32 (length (body c msg))) (body c msg), h.short)
+
+-- a message that takes back a piece, under an id that the peer told
+taken_bytes : (c : Context) (id i : ℕ) → donthave_id c.reg ≡ Some id → spell c (m.Extended (ext.DontHave i)) ≡ framed id (index_bytes i)
+taken_bytes c id i is =
+    let long : length (20 ∷ id ∷ index_bytes i) ≡ 2 + length (index_bytes i) = omega arith in
+    ap (λ (o : Option ℕ). be32 (length (20 ∷ unwrap_or o 0 ∷ index_bytes i)) ++ 20 ∷ unwrap_or o 0 ∷ index_bytes i) is
+    ∙ ap (λ (n : ℕ). be32 n ++ 20 ∷ id ∷ index_bytes i) long
+
+pub taken_back : {A : Type 0} → (old new : Reactor A) (id i : ℕ) → end_of new ≡ end_of old
+    → new.outbox.bytes ≡ old.outbox.bytes ++ framed id (index_bytes i) → donthave_id (belief (end_of old)).reg ≡ Some id
+    → IsLegal (belief (end_of old)) old.sends (m.Extended (ext.DontHave i)) → IsPut old new (m.Extended (ext.DontHave i))
+taken_back old new id i same bytes is legal =
+    let c : Context = belief (end_of old) in
+    let queued = bytes ∙ ap (λ (xs : List ℕ). old.outbox.bytes ++ xs) (sym (taken_bytes c id i is)) in
+    record {
+      end = same;
+      queued = queued;
+      legal = legal;
+      bound = length_put old.outbox.bytes new.outbox.bytes c old.sends (m.Extended (ext.DontHave i)) queued legal;
+    }
 
 -- ---- why nothing is said
 
@@ -46,7 +71,7 @@ unjudged_by false false false true = refl
 unjudged_by false false false false = refl
 
 unjudged : (e : EndState) (refused : Bool) (n : ℕ) (msg : Message) → is_judged (unsaid e refused n msg) ≡ false
-unjudged e refused n msg = unjudged_by (is_none e.context || refused) (nat_le high_water n) (is_extended msg) (tells_pieces e msg && is_none e.own.pieces)
+unjudged e refused n msg = unjudged_by (is_none e.context || refused) (nat_le high_water n) (is_own_made msg) (tells_pieces e msg && is_none e.own.pieces)
 
 -- ---- the clauses
 

@@ -6,8 +6,8 @@ use Rattle.std.specs.Str.{bytes_eq}
 use Rattle.sha1.specs.Sha1.{sha1}
 use Rattle.bt_bencode.specs.Trees.{Tree}
 use Rattle.bt_bencode.specs.Views.{tree_of}
-use Rattle.bt_ext.specs.Ids.{registered, metadata_id}
-use Rattle.bt_ext.specs.Tables.{Entries, id_of_name, applied}
+use Rattle.bt_ext.specs.Ids.{metadata_id}
+use Rattle.bt_ext.specs.Tables.{Entries, id_of_name, told_ids, applied}
 use Rattle.bt_ext.specs.Fields.{size_of}
 use Rattle.bt_ext.specs.Metadata.{kind_of, block_count}
 use Rattle.bt_ext.specs.Made.{message_of, handshake_of}
@@ -78,13 +78,13 @@ no_extension = record { 0 = 0 }
 abbrev pub agreed : EndState → Context
 agreed e = unwrap_or e.context (negotiated e.own no_extension)
 
--- The context that it takes the peer to receive in: what both agreed on, its own piece count, rules and limit, and the peer's id.
+-- The context that it takes the peer to receive in: what both agreed on, its own piece count, rules and limit, and the peer's ids.
 abbrev pub belief : EndState → Context
 belief e = record {
   fast = (agreed e).fast;
   ext = (agreed e).ext;
   pieces = e.own.pieces;
-  reg = registered (peer_id e);
+  reg = told_ids e.table;
   rules = e.own.rules;
   limit = e.own.limit;
 }
@@ -124,7 +124,7 @@ announced Nothing = m.HaveNone ∷ []
 -- Extension
 abbrev pub greeting : EndState → Context → List Message
 greeting e c =
-    (if c.ext then m.Extended (handshake_of (metadata_id e.own.reg) (served_size e.part)) ∷ [] else []) ++ (if c.fast then announced e.announce else [])
+    (if c.ext then m.Extended (handshake_of e.own.reg (served_size e.part)) ∷ [] else []) ++ (if c.fast then announced e.announce else [])
 
 abbrev pub opened : EndState → Context → EndState
 opened e c = record e { context = Some c; receives = Fresh }
@@ -239,6 +239,7 @@ by_kind e k rest = quiet e
 abbrev pub at_extended : EndState → Ext → Reaction
 at_extended e (ext.Handshake dict rest) = then_asked (learnt e (tree_of dict))
 at_extended e (ext.Metadata dict rest) = by_kind e (kind_of (tree_of dict)) rest
+at_extended e (ext.DontHave index) = quiet e
 at_extended e (ext.Raw id payload) = quiet e
 
 abbrev pub at_message : EndState → Message → Reaction

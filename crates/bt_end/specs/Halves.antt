@@ -10,7 +10,8 @@ use Rattle.bt_wire.specs.Messages.{Message}
 use Rattle.bt_wire.specs.declared.message.Message.TheVariants as m
 use Rattle.bt_wire.specs.Handshakes.{hand}
 use Rattle.bt_wire.specs.Legal.{IsLegal, Refuses}
-use Rattle.bt_wire.specs.Messages.{fields_of, index_in, field_in}
+use Rattle.bt_wire.specs.Contexts.{piece_in}
+use Rattle.bt_wire.specs.Messages.{fields_of, field_in}
 use Rattle.bt_feed.specs.declared.stage.Stage.TheVariants as stage
 use Rattle.bt_feed.specs.Answers.{IsAnswer, after, standing}
 use Rattle.bt_feed.specs.Feeds.{FeedState, taken, pushed, waiting}
@@ -67,6 +68,7 @@ is_busy a = is_ready a.feed && nat_le high_water (length a.outbox)
 
 -- memory is taken for messages that may be queued, the table and an assembly alone
 abbrev pub extended_takes_memory : Ext → Bool
+extended_takes_memory (ext.DontHave index) = false
 extended_takes_memory (ext.Raw id payload) = false
 extended_takes_memory x = true
 
@@ -115,21 +117,23 @@ IsStop (Err turn_error.Memory) b = (item : Item) × IsAnswer b.feed (Ok (Some it
 
 -- ---- sayings
 
-abbrev pub is_extended : Message → Bool
-is_extended (m.Extended x) = true
-is_extended other = false
+-- an end makes it itself: each extended message, but one that takes back a piece
+abbrev pub is_own_made : Message → Bool
+is_own_made (m.Extended (ext.DontHave index)) = false
+is_own_made (m.Extended x) = true
+is_own_made other = false
 
 -- it has a piece index, or is a bitfield
 abbrev pub tells_pieces : EndState → Message → Bool
-tells_pieces e msg = is_some (index_in (fields_of (belief e) msg)) || is_some (field_in (fields_of (belief e) msg))
+tells_pieces e msg = is_some (piece_in (belief e) msg) || is_some (field_in (fields_of (belief e) msg))
 
 -- Why an end says nothing, however the peer would judge the message: no handshake was handled, or what comes is refused; too many
--- bytes wait to be sent; an end makes extended messages itself; it doesn't know the piece count.
+-- bytes wait to be sent; an end makes such messages itself; it doesn't know the piece count.
 abbrev pub unsaid : EndState → Bool → ℕ → Message → Option SayError
 unsaid e refused waiting msg =
     if is_none e.context || refused then Some say_error.NotOpen else
     (if nat_le high_water waiting then Some say_error.Busy else
-    (if is_extended msg then Some say_error.Extended else
+    (if is_own_made msg then Some say_error.Extended else
     (if tells_pieces e msg && is_none e.own.pieces then Some say_error.PiecesUnknown else None)))
 
 abbrev pub unsaid_by : HalfState → Message → Option SayError

@@ -65,7 +65,7 @@ IsPlan e item plan = ⊤
 pub record IsReacted {A : Type 0} (old new : Reactor A) (r : Reaction) : Type 0 where
   pub end : end_of new ≡ r.end
   pub queued : new.outbox.bytes ≡ old.outbox.bytes ++ spelled r.end r.queued
-  pub bound : length new.outbox.bytes ≤ length old.outbox.bytes + 16550
+  pub bound : length new.outbox.bytes ≤ length old.outbox.bytes + 16610
 
 -- ---- sayings
 

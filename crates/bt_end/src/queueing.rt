@@ -2,19 +2,20 @@
 ghost use Rattle.std.specs.Prelude.{◌≡◌, ℕ, ◌+◌, ◌-◌, ◌<◌, ◌≤◌, ◌^◌, ◌++◌, ◌∷◌, [], List, length, length as list_length, OnOk, OnErr};
 ghost use Rattle.std.specs.Option.{ForSome};
 ghost use Rattle.bt_bencode.specs.Bencoding.{ben};
+ghost use Rattle.bt_ext.specs.Payloads.{index_bytes};
 ghost use Rattle.bt_ext.specs.Made.{IsMade, message_tree, handshake_tree};
 ghost use Rattle.bt_wire.specs.Messages.{framed as framed_by, seen, spell_fields};
 ghost use Rattle.bt_wire.specs.Numbers.{be32};
 ghost use Rattle.bt_end.specs.Parts.{framed};
 
-use bt_ext::{DictText, ExtId, Kind, handshake_text, message_text};
+use bt_ext::{DictText, Kind, Registered, handshake_text, message_text};
 use bt_feed::{Memory, Outbox};
 use bt_wire::Fields;
 use std::alloc::Allocator;
 
 /// As many bytes as a message with a block may have, and its dictionary as `DictText` has it: more than any message that an
 /// end makes.
-pub const ROOM: usize = 16_550;
+pub const ROOM: usize = 16_610;
 
 /// Appends bytes to those that are to be sent.
 pub fn put<A: Allocator>(outbox: &mut Outbox<A>, bytes: &[u8])
@@ -30,7 +31,7 @@ pub fn put<A: Allocator>(outbox: &mut Outbox<A>, bytes: &[u8])
 
 /// Puts an extended message of a dictionary and the bytes after it.
 fn put_extended<A: Allocator>(outbox: &mut Outbox<A>, id: u8, dict: &[u8], rest: &[u8])
-    requires dict { length dict.now ≤ 160 }
+    requires dict { length dict.now ≤ 220 }
     requires rest { length rest.now ≤ 16384 }
     requires room { 6 + length dict.now + length rest.now ≤ outbox.old.room }
     ensures bytes { outbox.new.bytes ≡ outbox.old.bytes ++ framed id (dict.now ++ rest.now) }
@@ -48,26 +49,36 @@ fn put_extended<A: Allocator>(outbox: &mut Outbox<A>, id: u8, dict: &[u8], rest:
 pub fn put_message<A: Allocator>(outbox: &mut Outbox<A>, id: u8, kind: Kind, rest: &[u8])
     requires kind { IsMade kind }
     requires rest { length rest.now ≤ 16384 }
-    requires room { 166 + length rest.now ≤ outbox.old.room }
+    requires room { 226 + length rest.now ≤ outbox.old.room }
     ensures bytes { outbox.new.bytes ≡ outbox.old.bytes ++ framed id (ben (message_tree kind) ++ rest.now) }
-    ensures bound { length outbox.new.bytes ≤ length outbox.old.bytes + (166 + length rest.now) }
-    ensures room { outbox.old.room ≤ outbox.new.room + (166 + length rest.now) }
+    ensures bound { length outbox.new.bytes ≤ length outbox.old.bytes + (226 + length rest.now) }
+    ensures room { outbox.old.room ≤ outbox.new.room + (226 + length rest.now) }
 {
-    let mut text: DictText = [0; 160];
+    let mut text: DictText = [0; 220];
     let start = message_text(kind, &mut text);
     put_extended(outbox, id, &text[start..], rest);
 }
 
-/// Puts an extended handshake, with the end's own id, if it has one, and the size of metadata that it serves, if it serves any.
-pub fn put_handshake<A: Allocator>(outbox: &mut Outbox<A>, id: Option<ExtId>, size: Option<u64>)
-    requires room { 166 ≤ outbox.old.room }
-    ensures bytes { outbox.new.bytes ≡ outbox.old.bytes ++ framed 0 (ben (handshake_tree id size) ++ []) }
-    ensures bound { length outbox.new.bytes ≤ length outbox.old.bytes + 166 }
-    ensures room { outbox.old.room ≤ outbox.new.room + 166 }
+/// Puts an extended handshake, with the end's registered ids and the size of metadata that it serves, if it serves any.
+pub fn put_handshake<A: Allocator>(outbox: &mut Outbox<A>, reg: Registered, size: Option<u64>)
+    requires room { 226 ≤ outbox.old.room }
+    ensures bytes { outbox.new.bytes ≡ outbox.old.bytes ++ framed 0 (ben (handshake_tree reg size) ++ []) }
+    ensures bound { length outbox.new.bytes ≤ length outbox.old.bytes + 226 }
+    ensures room { outbox.old.room ≤ outbox.new.room + 226 }
 {
-    let mut text: DictText = [0; 160];
-    let start = handshake_text(id, size, &mut text);
+    let mut text: DictText = [0; 220];
+    let start = handshake_text(reg, size, &mut text);
     put_extended(outbox, 0, &text[start..], &[]);
+}
+
+/// Makes room for a message that takes back a piece, under the peer's id, and puts it there.
+pub fn put_donthave<A: Allocator>(outbox: &mut Outbox<A>, id: u8, index: u32) -> Result<(), Memory>
+    ensures ok { OnOk result (outbox.new.bytes ≡ outbox.old.bytes ++ framed id (index_bytes index)) }
+    ensures err { OnErr result (outbox.new.bytes ≡ outbox.old.bytes) }
+{
+    outbox.reserve(10)?;
+    put_extended(outbox, id, &index.to_be_bytes(), &[]);
+    Ok(())
 }
 
 /// Puts two numbers and what follows them.

@@ -4,9 +4,11 @@ ghost use Rattle.bt_bencode.specs.Trees.{dictionary};
 ghost use Rattle.bt_ext.specs.Payloads.{seen};
 ghost use Rattle.bt_feed.specs.Views.{item_of};
 ghost use Rattle.bt_wire.specs.Legal.{IsLegal};
-ghost use Rattle.bt_wire.specs.Messages.{body};
+ghost use Rattle.bt_wire.specs.Messages.{IsExtended, body};
+ghost use Rattle.bt_wire.specs.declared.message.Message.TheVariants as messages;
+ghost use Rattle.bt_ext.specs.declared.ext.Ext.TheVariants as ext;
 ghost use Rattle.bt_end.specs.Ends.{agreed, belief, unopened, renewed, announced, queueing, greeted, peer_id, all_wanted, requesting, then_asked, replied, one_more, block_taken, by_kind, at_extended, react, is_hopeless};
-ghost use Rattle.bt_end.specs.Halves.{extended_takes_memory, takes_memory, is_extended, tells_pieces, unsaid};
+ghost use Rattle.bt_end.specs.Halves.{extended_takes_memory, takes_memory, is_own_made, tells_pieces, unsaid};
 ghost use Rattle.bt_metadata.specs.Blocks.{window};
 ghost use Rattle.bt_end.specs.Parts.{part_of};
 ghost use Rattle.bt_end.specs.Reactors.{end_of, learned, IsPlan, IsPlanOf, IsLesson, IsReacted, IsQueued, IsSpoken, dict_in};
@@ -14,9 +16,9 @@ ghost use Rattle.bt_end.specs.Reactors.{end_of, learned, IsPlan, IsPlanOf, IsLes
 use crate::config::{Announce, Window};
 use crate::end::{HIGH_WATER, SayError};
 use crate::part::Part;
-use crate::queueing::{ROOM, put, put_handshake, put_message, put_plain};
+use crate::queueing::{ROOM, put, put_donthave, put_handshake, put_message, put_plain};
 use bt_bencode::DictRef;
-use bt_ext::{ExtId, ExtView, Kind, Registered, Table, kind_ref, metadata_size_ref};
+use bt_ext::{Ext, ExtView, Kind, Table, kind_ref, metadata_size_ref};
 use bt_feed::{Memory, Outbox, View};
 use bt_metadata::{Assembly, Reply, WINDOW};
 use bt_wire::{
@@ -64,7 +66,7 @@ fn takes_memory(view: &View) -> bool
 {
     match view {
         View::Handshake(_) => true,
-        View::Message(MessageView::Extended(ExtView::Raw { .. })) => false,
+        View::Message(MessageView::Extended(ExtView::DontHave(_) | ExtView::Raw { .. })) => false,
         View::Message(MessageView::Extended(_)) => true,
         View::Message(_) => false,
     }
@@ -145,16 +147,16 @@ impl<A: Allocator + Copy> Reactor<A> {
 
     /// Opens the end, and queues what is said first.
     fn greet(&mut self, context: Context)
-        requires room { 16550 ≤ self.old.outbox.room }
+        requires room { 16610 ≤ self.old.outbox.room }
         ensures { IsReacted self.old self.new (greeted (end_of self.old) context) }
     {
         let Context { ext, fast, .. } = context;
         self.context = Some(context);
         self.receives = Order::Fresh;
         if ext {
-            let id = self.own.reg.metadata();
+            let reg = self.own.reg;
             let size = self.part.served_size();
-            put_handshake(&mut self.outbox, id, size);
+            put_handshake(&mut self.outbox, reg, size);
         }
         if fast {
             self.announce();
@@ -164,7 +166,7 @@ impl<A: Allocator + Copy> Reactor<A> {
     /// Queues requests for the blocks to ask for, under the peer's id.
     fn request(&mut self, id: u8)
         requires id { (0 < id) × (peer_id (end_of self.old) ≡ Some id) }
-        requires room { 16550 ≤ self.old.outbox.room }
+        requires room { 16610 ≤ self.old.outbox.room }
         ensures { IsReacted self.old self.new (requesting (end_of self.old) (all_wanted window self.old.window (part_of self.old.part))) }
     {
         'requests: for _request in 0..WINDOW {
@@ -177,7 +179,7 @@ impl<A: Allocator + Copy> Reactor<A> {
 
     /// Queues requests, as long as there is a block to ask for.
     fn ask(&mut self)
-        requires room { 16550 ≤ self.old.outbox.room }
+        requires room { 16610 ≤ self.old.outbox.room }
         ensures { IsReacted self.old self.new (then_asked (end_of self.old)) }
     {
         if self.own.reg.metadata().is_none() {
@@ -190,8 +192,9 @@ impl<A: Allocator + Copy> Reactor<A> {
     }
 
     /// Queues the answer to a request.
+    #[tactic(auto, unfolding(bt_ext::specs::Tables::told_ids))]
     fn reply(&mut self, piece: u32)
-        requires room { 16550 ≤ self.old.outbox.room }
+        requires room { 16610 ≤ self.old.outbox.room }
         ensures { IsReacted self.old self.new (replied (end_of self.old) piece) }
     {
         let Some(id) = self.peer_id() else {
@@ -228,7 +231,7 @@ impl<A: Allocator + Copy> Reactor<A> {
     }
 
     fn handle_metadata(&mut self, kind: Kind, block: &[u8])
-        requires room { 16550 ≤ self.old.outbox.room }
+        requires room { 16610 ≤ self.old.outbox.room }
         ensures { IsReacted self.old self.new (by_kind (end_of self.old) kind block.now) }
     {
         match kind {
@@ -247,7 +250,7 @@ impl<A: Allocator + Copy> Reactor<A> {
 
     fn handle_extended(&mut self, ext: &ExtView, plan: Plan<A>)
         requires plan { IsPlanOf (end_of self.old) (seen ext.now) plan }
-        requires room { extended_takes_memory (seen ext.now) ≡ true → 16550 ≤ self.old.outbox.room }
+        requires room { extended_takes_memory (seen ext.now) ≡ true → 16610 ≤ self.old.outbox.room }
         ensures { IsReacted self.old self.new (at_extended (end_of self.old) (seen ext.now)) }
     {
         match ext {
@@ -258,6 +261,7 @@ impl<A: Allocator + Copy> Reactor<A> {
                 self.ask();
             }
             ExtView::Metadata { dict, rest } => self.handle_metadata(kind_ref(dict), rest),
+            ExtView::DontHave(_) => {}
             ExtView::Raw { .. } => {}
         }
     }
@@ -285,7 +289,7 @@ impl<A: Allocator + Copy> Reactor<A> {
     /// Takes the memory for what handling an item will need. The end isn't changed.
     pub fn plan(&mut self, view: &View) -> Result<Plan<A>, Memory>
         ensures ok { IfOk result (λ plan. IsPlan (end_of self.old) (item_of view.now) plan) }
-        ensures room { IfOk result (λ plan. takes_memory (item_of view.now) ≡ true → 16550 ≤ self.new.outbox.room) }
+        ensures room { IfOk result (λ plan. takes_memory (item_of view.now) ≡ true → 16610 ≤ self.new.outbox.room) }
         ensures end { end_of self.new ≡ end_of self.old }
         ensures bytes { self.new.outbox.bytes ≡ self.old.outbox.bytes }
         ensures memory { OnErr result (takes_memory (item_of view.now) ≡ true) }
@@ -302,7 +306,7 @@ impl<A: Allocator + Copy> Reactor<A> {
     /// Handles an item, for which memory was taken. It takes none.
     pub fn handle(&mut self, view: &View, plan: Plan<A>)
         requires plan { IsPlan (end_of self.old) (item_of view.now) plan }
-        requires room { takes_memory (item_of view.now) ≡ true → 16550 ≤ self.old.outbox.room }
+        requires room { takes_memory (item_of view.now) ≡ true → 16610 ≤ self.old.outbox.room }
         ensures { IsReacted self.old self.new (react (end_of self.old) (item_of view.now)) }
     {
         match view {
@@ -333,16 +337,12 @@ impl<A: Allocator + Copy> Reactor<A> {
     pub fn belief(&self) -> Context
         ensures { result ≡ belief (end_of self.now) }
     {
-        let id = match self.peer_id() {
-            Some(id) => ExtId::new(id),
-            None => None,
-        };
         let Context { fast, ext, .. } = self.agreed();
         Context {
             fast,
             ext,
             pieces: self.own.pieces,
-            reg: Registered::new(id),
+            reg: self.table.registered(),
             rules: self.own.rules,
             limit: self.own.limit,
         }
@@ -360,7 +360,8 @@ impl<A: Allocator + Copy> Reactor<A> {
             | Message::Cancel { .. }
             | Message::Suggest(_)
             | Message::Reject { .. }
-            | Message::AllowedFast(_) => true,
+            | Message::AllowedFast(_)
+            | Message::Extended(Ext::DontHave(_)) => true,
             _ => false,
         }
     }
@@ -373,7 +374,7 @@ impl<A: Allocator + Copy> Reactor<A> {
             Some(SayError::NotOpen)
         } else if self.outbox.bytes().len() >= HIGH_WATER {
             Some(SayError::Busy)
-        } else if is_extended(message) {
+        } else if is_own_made(message) {
             Some(SayError::Extended)
         } else if self.tells_pieces(message) && self.own.pieces.is_none() {
             Some(SayError::PiecesUnknown)
@@ -382,15 +383,43 @@ impl<A: Allocator + Copy> Reactor<A> {
         }
     }
 
-    /// Puts a message of this length, which may be sent and isn't extended, into the outbox.
+    /// Puts a message that takes back a piece, and may be sent, into the outbox.
+    fn take_back(&mut self, index: u32) -> Result<(), SayError>
+        requires { IsLegal (belief (end_of self.old)) self.old.sends (messages.Extended (ext.DontHave index)) }
+        ensures { IsQueued self.old (messages.Extended (ext.DontHave index)) result self.new }
+    {
+        let belief = self.belief();
+        let Some(id) = belief.reg.donthave() else {
+            unreachable!();
+        };
+        match put_donthave(&mut self.outbox, id.get(), index) {
+            Ok(()) => Ok(()),
+            Err(_) => Err(SayError::Memory),
+        }
+    }
+
+    /// Puts an extended message that an end doesn't make itself, and that may be sent, into the outbox.
+    fn put_extended(&mut self, message: &Message) -> Result<(), SayError>
+        requires extended { IsExtended message.now }
+        requires other { is_own_made message.now ≡ false }
+        requires legal { IsLegal (belief (end_of self.old)) self.old.sends message.now }
+        ensures { IsQueued self.old message.now result self.new }
+    {
+        match message {
+            Message::Extended(Ext::DontHave(index)) => self.take_back(*index),
+            _ => unreachable!(),
+        }
+    }
+
+    /// Puts a message of this length, which may be sent and which an end doesn't make itself, into the outbox.
     fn put(&mut self, message: &Message, length: u32) -> Result<(), SayError>
-        requires plain { is_extended message.now ≡ false }
+        requires other { is_own_made message.now ≡ false }
         requires legal { IsLegal (belief (end_of self.old)) self.old.sends message.now }
         requires size { length ≡ list_length (body (belief (end_of self.old)) message.now) }
         ensures { IsQueued self.old message.now result self.new }
     {
         let Some(fields) = message.fields() else {
-            unreachable!();
+            return self.put_extended(message);
         };
         if put_plain(&mut self.outbox, length, message.id(), &fields).is_err() {
             return Err(SayError::Memory);
@@ -399,9 +428,9 @@ impl<A: Allocator + Copy> Reactor<A> {
         Ok(())
     }
 
-    /// Queues a message that the peer, as the end takes it to be, wouldn't refuse, and that isn't extended.
+    /// Queues a message that the peer, as the end takes it to be, wouldn't refuse, and that an end doesn't make itself.
     fn queue(&mut self, message: &Message) -> Result<(), SayError>
-        requires { is_extended message.now ≡ false }
+        requires { is_own_made message.now ≡ false }
         ensures { IsQueued self.old message.now result self.new }
     {
         match legal_length(&self.belief(), self.sends, message) {
@@ -447,11 +476,12 @@ impl<A: Allocator + Copy> Reactor<A> {
     }
 }
 
-/// Whether it is a message of the Extension Protocol.
-fn is_extended(message: &Message) -> bool
-    ensures { result ≡ is_extended message.now }
+/// Whether an end makes it itself: a message of the Extension Protocol, but one that takes back a piece.
+fn is_own_made(message: &Message) -> bool
+    ensures { result ≡ is_own_made message.now }
 {
     match message {
+        Message::Extended(Ext::DontHave(_)) => false,
         Message::Extended(_) => true,
         _ => false,
     }
