@@ -15,4 +15,4 @@ same_id (Some (list ts)) = refl
 same_id (Some (dictionary ps)) = refl
 
 pub returns-clause-id : goal.returns-clause-id
-returns-clause-id c = c.byte_in.ensures ∙ ap byte_of c.lookup_ints.ensures.inner ∙ same_id (value_at (codes "m") c.args.dict.now.tree.0)
+returns-clause-id c = c.byte_in.ensures ∙ ap byte_of c.lookup_ints-id.ensures.inner ∙ same_id (value_at (codes "m") c.args.dict.now.tree.0)
