@@ -1,7 +1,7 @@
 -- Worked examples of the message link, against the definitions alone.
 use Rattle.std.proofs.Common.{◌≡◌, ℕ, List, [], ◌∷◌, length, map, take, replicate, Option, Some, None, refl}
 use Rattle.std.specs.Fmt.{digits}
-use Rattle.bt_ext.specs.Ids.{registered}
+use Rattle.bt_ext.specs.Ids.{metadata_only}
 use Rattle.bt_ext.specs.declared.ids.Rules.TheVariants as rules
 use Rattle.bt_wire.specs.declared.context.Own.{Own}
 use Rattle.bt_wire.specs.declared.handshake.Handshake.{Handshake}
@@ -18,7 +18,7 @@ hash : List ℕ
 hash = 169 ∷ 153 ∷ 62 ∷ 54 ∷ 71 ∷ 6 ∷ 129 ∷ 106 ∷ 186 ∷ 62 ∷ 37 ∷ 113 ∷ 120 ∷ 80 ∷ 194 ∷ 108 ∷ 156 ∷ 208 ∷ 216 ∷ 157 ∷ []
 
 abbrev own : Option ℕ → Own
-own id = record { reserved = record { 0 = 1048581 }; info_hash = Some hash; pieces = None; reg = registered id; rules = rules.Free; limit = 262144 }
+own id = record { reserved = record { 0 = 1048581 }; info_hash = Some hash; pieces = None; reg = metadata_only id; rules = rules.Free; limit = 262144 }
 
 abbrev hand : Own → Handshake
 hand o = record { reserved = o.reserved; info_hash = hash; peer_id = replicate 20 65 }

@@ -1,11 +1,13 @@
 -- What is so of the link of two ends all along: what is under way from one end to the other, and what each knows of the
 -- other. The ends were made as a and b.
 use Rattle.std.proofs.Common.{◌≡◌, ℕ, ◌+◌, ◌^◌, ◌<◌, ◌≤◌, ◌⊎◌, true, List, [], ◌∷◌, ◌++◌, length, take, drop, Option, Some, None}
-use Rattle.bt_ext.specs.Ids.{metadata_id}
+use Rattle.bt_ext.specs.Ids.{donthave_name, metadata_id, donthave_id}
 use Rattle.bt_ext.specs.Made.{message_of, handshake_of}
 use Rattle.bt_ext.specs.Metadata.{block_count}
-use Rattle.bt_ext.specs.Tables.{IsTable}
+use Rattle.bt_ext.specs.Tables.{IsTable, id_of_name}
 use Rattle.bt_ext.specs.declared.ext.Ext.{Ext}
+use Rattle.bt_ext.specs.declared.ext.Ext.TheVariants as ext
+use Rattle.bt_ext.specs.declared.ids.Registered.{Registered}
 use Rattle.bt_ext.specs.declared.metadata.Kind.TheVariants as kind
 use Rattle.bt_wire.specs.declared.context.Context.{Context}
 use Rattle.bt_wire.specs.declared.context.Order.{Order}
@@ -59,24 +61,26 @@ IsPartFor source Awaiting = Unit {0}
 IsPartFor source (Fetching a) = (metadata : List ℕ) × (source ≡ Some metadata) × IsFetch metadata a
 IsPartFor source (Fetched metadata) = source ≡ Some metadata
 
--- the end e knows b by its own id alone
+-- the end e knows b by its own ids alone
 pub record Knows (b e : EndState) : Type 0 where
   pub table : IsTable e.table
   pub id : (peer_id e ≡ None) ⊎ (peer_id e ≡ metadata_id b.own.reg)
+  pub donthave : (id_of_name donthave_name e.table ≡ None) ⊎ (id_of_name donthave_name e.table ≡ donthave_id b.own.reg)
   pub part : IsPartFor (source_of b.part) e.part
 
 -- ---- what an end sends
 
--- the extended messages of an end with this id, that serves this or nothing
-pub data IsOwn (id : Option ℕ) (source : Option (List ℕ)) (size : Option ℕ) (e : Ext) : Type 0 where
-  greeting : e ≡ handshake_of id size → IsOwn id source size e
-  request : (k : ℕ) → k < 2 ^ 32 → e ≡ message_of (kind.Request k) [] → IsOwn id source size e
+-- the extended messages of an end with these ids, that serves this or nothing
+pub data IsOwn (reg : Registered) (source : Option (List ℕ)) (size : Option ℕ) (e : Ext) : Type 0 where
+  greeting : e ≡ handshake_of reg size → IsOwn reg source size e
+  request : (k : ℕ) → k < 2 ^ 32 → e ≡ message_of (kind.Request k) [] → IsOwn reg source size e
   data_of : (metadata : List ℕ) (k : ℕ) → source ≡ Some metadata → k < block_count (length metadata) → e ≡ message_of (kind.Data k (length metadata))
-      (block metadata k) → IsOwn id source size e
-  reject : (k : ℕ) → k < 2 ^ 32 → e ≡ message_of (kind.Reject k) [] → IsOwn id source size e
+      (block metadata k) → IsOwn reg source size e
+  reject : (k : ℕ) → k < 2 ^ 32 → e ≡ message_of (kind.Reject k) [] → IsOwn reg source size e
+  taken_back : (i : ℕ) → e ≡ ext.DontHave i → IsOwn reg source size e
 
 abbrev pub IsHonestMessage : EndState → Message → Type 0
-IsHonestMessage a (m.Extended e) = IsOwn (metadata_id a.own.reg) (source_of a.part) (served_size a.part) e
+IsHonestMessage a (m.Extended e) = IsOwn a.own.reg (source_of a.part) (served_size a.part) e
 IsHonestMessage a other = Unit {0}
 
 abbrev pub IsHonest : EndState → Item → Type 0

@@ -10,16 +10,19 @@ use Rattle.std.specs.Str.{bytes_eq}
 use Rattle.sha1.specs.Sha1.{sha1}
 use Rattle.bt_bencode.specs.Trees.{Tree}
 use Rattle.bt_ext.specs.Fields.{size_of}
-use Rattle.bt_ext.specs.Ids.{metadata_id, extension_id}
+use Rattle.bt_ext.specs.Ids.{HaveBytes, metadata_name, donthave_name, metadata_id, donthave_id, extension_id}
 use Rattle.bt_ext.specs.Made.{IsMade, message_of, handshake_of, handshake_tree}
 use Rattle.bt_ext.specs.Metadata.{block_count, is_block_ok}
-use Rattle.bt_ext.specs.Tables.{Entries, IsTable, id_of_name, entered, entered_all, told, id_after}
+use Rattle.bt_ext.specs.Tables.{Entries, IsTable, id_of_name, entered, entered_all, told, told_of, id_after}
 use Rattle.bt_ext.specs.declared.ext.Ext.{Ext}
+use Rattle.bt_ext.specs.declared.ids.Registered.{Registered}
 use Rattle.bt_ext.specs.declared.metadata.Kind.{Kind}
 use Rattle.bt_ext.specs.declared.metadata.Kind.TheVariants as kind
 use Rattle.bt_ext.proofs.MadeKinds.{kind_made}
 use Rattle.bt_ext.proofs.MadeRight.{handshake-tells}
 use Rattle.bt_ext.proofs.ByName.{entered-name, table-applied}
+use Rattle.bt_ext.proofs.Entries.{table-entered}
+use Rattle.bt_ext.proofs.PeerIds.{metadata-told}
 use Rattle.bt_wire.specs.declared.context.Context.{Context}
 use Rattle.bt_wire.specs.declared.context.Order.{Order}
 use Rattle.bt_wire.specs.declared.context.Order.TheVariants.{Fresh}
@@ -41,7 +44,7 @@ use Rattle.bt_end.specs.Ends.{EndState, Reaction, Part, Watching, Serving, Await
     with_block, block_taken, with_refused, with_part, by_kind, at_extended, announced, greeting as greeting_of, opened, greeted}
 use Rattle.bt_session.proofs.AssemblyLaws.{asks_within, asked_fetch, data_fetch, reject_fetch, started_fetch}
 use Rattle.bt_session.specs.LinkLaws.{source_of, IsMetadata, IsConfigured}
-use Rattle.bt_session.proofs.LinkInvariant.{IsStill, reads, IsPartFor, IsFetch, Knows, IsOwn, greeting, request, data_of, reject, IsHonestMessage,
+use Rattle.bt_session.proofs.LinkInvariant.{IsStill, reads, IsPartFor, IsFetch, Knows, IsOwn, greeting, request, data_of, reject, taken_back, IsHonestMessage,
     AreHonest, IsFor, AreFor}
 use Rattle.bt_metadata.proofs.LawProofs.{whole_is_served}
 use Rattle.bt_session.proofs.OwnMessages.{message_for, greeting_for, block_right}
@@ -74,7 +77,7 @@ queueing_reacts a b e c xs h all own few = record {
   context = h.context;
   sends = refl;
   queued = all;
-  knows = record { table = h.knows.table; id = h.knows.id; part = h.knows.part };
+  knows = record { table = h.knows.table; id = h.knows.id; donthave = h.knows.donthave; part = h.knows.part };
   honest = own;
   few = few;
 }
@@ -99,7 +102,7 @@ known_id b e n k h =
     ]
 
 believed_id : (b e : EndState) (n : ℕ) → Knows b e → peer_id e ≡ Some n → metadata_id (belief e).reg ≡ Some n
-believed_id b e n k h = ap (option_and_then extension_id) h ∙ above_zero b.own.reg.metadata n (known_id b e n k h)
+believed_id b e n k h = metadata-told e.table ∙ ap (option_and_then extension_id) h ∙ above_zero b.own.reg.metadata n (known_id b e n k h)
 
 one_queued : (a b e : EndState) (c : Context) (k : Kind) (rest : List ℕ) (peer : ℕ) → IsOpen a b c e → IsConfigured b → (reads b a).ext ≡ true → peer_id e
     ≡ Some peer → IsMade k → is_block_ok k (length rest) ≡ true → length rest ≤ 16384
@@ -108,7 +111,7 @@ one_queued a b e c k rest peer h end agreed is made ok size own =
     let reader : metadata_id b.own.reg ≡ Some peer = known_id b e peer h.knows is in
     queueing_reacts a b e c (m.Extended (message_of k rest) ∷ []) h
     (message_for (belief e) (reads b a) e.sends k rest peer (ap (λ (o : Option Context). (unwrap_or o (negotiated e.own no_extension)).ext) h.context
-        ∙ h.ext ∙ agreed) h.least agreed end.least (believed_id b e peer h.knows is) reader (end.id peer reader) made ok size, tt)
+        ∙ h.ext ∙ agreed) h.least agreed end.least (believed_id b e peer h.knows is) reader (end.ids.metadata peer reader) made ok size, tt)
     (own, tt) (omega arith)
 
 -- ---- asking
@@ -118,7 +121,7 @@ with_part_open : (a b e : EndState) (c : Context) (p : Part) → IsOpen a b c e 
 with_part_open a b e c p h same for = record {
   still = record { own = h.still.own; handshake = h.still.handshake; serves = same };
   context = h.context;
-  knows = record { table = h.knows.table; id = h.knows.id; part = for };
+  knows = record { table = h.knows.table; id = h.knows.id; donthave = h.knows.donthave; part = for };
   ext = h.ext;
   least = h.least;
 }
@@ -127,7 +130,7 @@ counted_open : (a b e : EndState) (c : Context) (n : ℕ) → IsOpen a b c e →
 counted_open a b e c n h = record {
   still = record { own = h.still.own; handshake = h.still.handshake; serves = h.still.serves };
   context = h.context;
-  knows = record { table = h.knows.table; id = h.knows.id; part = h.knows.part };
+  knows = record { table = h.knows.table; id = h.knows.id; donthave = h.knows.donthave; part = h.knows.part };
   ext = h.ext;
   least = h.least;
 }
@@ -201,7 +204,7 @@ requests_react a b e c h end agreed peer is ks asks =
     let ext : (belief e).ext ≡ true = ap (λ (o : Option Context). (unwrap_or o (negotiated e.own no_extension)).ext) h.context ∙ h.ext ∙ agreed in
     queueing_reacts a b (with_part e p) c (map request_for ks) (with_part_open a b e c p h (asks.serves ∙ h.still.serves) asks.for)
     (requests_for (belief (with_part e p)) (reads b a) e.sends peer ext h.least agreed end.least (believed_id b e peer h.knows is) reader
-        (end.id peer reader) ks asks.small)
+        (end.ids.metadata peer reader) ks asks.small)
     (requests_own a ks asks.small) (omega (arith, length-map ks request_for, asks.few))
 
 some_there : (x : Bool) (o : Option ℕ) → (x && is_some o) ≡ true → (n : ℕ) × (o ≡ Some n)
@@ -221,9 +224,6 @@ asked_reacts a b e c h end agreed = asked_by a b e c h end agreed (may_ask e) re
 
 -- ---- an extended handshake
 
-abbrev id_in : Entries → Option ℕ
-id_in es = id_of_name (codes "ut_metadata") es
-
 -- entering an id leaves a name with what it had, with none or with this one
 after_by : (name : List ℕ) (n : ℕ) (es : Entries) → (id_after name n es ≡ None) ⊎ ((id_after name n es ≡ Some n) ⊎ (id_after name n es ≡ id_of_name name es))
 after_by name n es =
@@ -237,21 +237,61 @@ after_by name n es =
     by_long false false true = inr (inl refl)
     by_long false false false = inl refl
 
-told_id : (id : Option ℕ) (es : Entries) → IsTable es → (id_in es ≡ None) ⊎ (id_in es ≡ id) → (id_in (entered_all (told (codes "ut_metadata") id) es)
-    ≡ None) ⊎ (id_in (entered_all (told (codes "ut_metadata") id) es) ≡ id)
-told_id None es table h = h
-told_id (Some n) es table h =
-    let e = entered-name (codes "ut_metadata") (codes "ut_metadata") n es table in
-    elim (after_by (codes "ut_metadata") n es) [
+-- a name has no id, or this one
+abbrev HasNoneOr : List ℕ → Option ℕ → Entries → Type 0
+HasNoneOr name id es = (id_of_name name es ≡ None) ⊎ (id_of_name name es ≡ id)
+
+told_id : (name : List ℕ) (id : Option ℕ) (es : Entries) → bytes_eq name name ≡ true → IsTable es → HasNoneOr name id es
+    → HasNoneOr name id (entered_all (told name id) es)
+told_id name None es itself table h = h
+told_id name (Some n) es itself table h =
+    let e : id_of_name name (entered name n es) ≡ id_after name n es = entered-name name name n es table ∙ rw itself refl in
+    elim (after_by name n es) [
       | inl none ↦ inl (e ∙ none)
       | inr (inl this) ↦ inr (e ∙ this)
-      | inr (inr kept) ↦ by_old n es (e ∙ kept) h
+      | inr (inr kept) ↦ by_old (e ∙ kept) h
     ]
   where
-    by_old : (n : ℕ) (es : Entries) → id_in (entered (codes "ut_metadata") n es) ≡ id_in es → (id_in es ≡ None) ⊎ (id_in es ≡ Some n)
-        → (id_in (entered (codes "ut_metadata") n es) ≡ None) ⊎ (id_in (entered (codes "ut_metadata") n es) ≡ Some n)
-    by_old n es e (inl h) = inl (e ∙ h)
-    by_old n es e (inr h) = inr (e ∙ h)
+    by_old : id_of_name name (entered name n es) ≡ id_of_name name es → HasNoneOr name (Some n) es → HasNoneOr name (Some n) (entered name n es)
+    by_old e (inl h) = inl (e ∙ h)
+    by_old e (inr h) = inr (e ∙ h)
+
+-- what another name has stays
+told_other : (name other : List ℕ) (o id : Option ℕ) (es : Entries) → bytes_eq name other ≡ false → IsTable es → HasNoneOr other id es
+    → HasNoneOr other id (entered_all (told name o) es)
+told_other name other None id es apart table h = h
+told_other name other (Some n) id es apart table h =
+    let e : id_of_name other (entered name n es) ≡ id_of_name other es = entered-name name other n es table ∙ rw apart refl in
+    by_old e h
+  where
+    by_old : id_of_name other (entered name n es) ≡ id_of_name other es → HasNoneOr other id es → HasNoneOr other id (entered name n es)
+    by_old e (inl h) = inl (e ∙ h)
+    by_old e (inr h) = inr (e ∙ h)
+
+told_table : (name : List ℕ) (o : Option ℕ) (es : Entries) → IsTable es → IsTable (entered_all (told name o) es)
+told_table name None es table = table
+told_table name (Some n) es table = table-entered name n es table
+
+both_entered : (donthave metadata : Option ℕ) (es : Entries) → entered_all (told donthave_name donthave ++ told metadata_name metadata) es
+    ≡ entered_all (told metadata_name metadata) (entered_all (told donthave_name donthave) es)
+both_entered None metadata es = refl
+both_entered (Some n) metadata es = refl
+
+-- after both were told
+record AreTold (reg : Registered) (es : Entries) : Type 0 where
+  id : HasNoneOr metadata_name (metadata_id reg) es
+  donthave : HasNoneOr donthave_name (donthave_id reg) es
+
+both_told : (reg : Registered) (es : Entries) → IsTable es → AreTold reg es
+    → AreTold reg (entered_all (told donthave_name (donthave_id reg) ++ told metadata_name (metadata_id reg)) es)
+both_told reg es table h =
+    let first : Entries = entered_all (told donthave_name (donthave_id reg)) es in
+    let there : IsTable first = told_table donthave_name (donthave_id reg) es table in
+    subst (λ (x : Entries). AreTold reg x) (sym (both_entered (donthave_id reg) (metadata_id reg) es)) (record {
+      id = told_id metadata_name (metadata_id reg) first refl there (told_other donthave_name metadata_name (donthave_id reg) (metadata_id reg) es refl table h.id);
+      donthave = told_other metadata_name donthave_name (metadata_id reg) (donthave_id reg) first refl there
+          (told_id donthave_name (donthave_id reg) es refl table h.donthave);
+    })
 
 -- a size that is told is that of the metadata that is served
 started_for : (hash metadata : List ℕ) (n : ℕ) (source : Option (List ℕ)) → IsMetadata metadata → n ≡ length metadata → source ≡ Some metadata
@@ -290,19 +330,22 @@ begun_served hash Awaiting (Some n) = by_room (nat_lt 0 n && nat_le n max_metada
     by_room false = refl
 
 greeting_reacts : (a b e : EndState) (c : Context) → IsOpen a b c e → IsConfigured b → (reads b a).ext ≡ true
-    → Reacts a b e.sends c (then_asked (learnt e (handshake_tree (metadata_id b.own.reg) (served_size b.part))))
+    → Reacts a b e.sends c (then_asked (learnt e (handshake_tree b.own.reg (served_size b.part))))
 greeting_reacts a b e c h end agreed =
-    let id = metadata_id b.own.reg in
+    let reg : Registered = b.own.reg in
     let size = served_size b.part in
-    let t : Tree = handshake_tree id size in
-    let tells = handshake-tells id size end.id in
-    let ids = told_id id e.table h.knows.table h.knows.id in
+    let t : Tree = handshake_tree reg size in
+    let tells = handshake-tells reg size end.ids in
+    let both : AreTold reg (entered_all (told_of t) e.table) =
+        subst (λ (told : Entries). AreTold reg (entered_all told e.table)) (sym tells.0)
+        (both_told reg e.table h.knows.table (record { id = h.knows.id; donthave = h.knows.donthave })) in
     asked_reacts a b (learnt e t) c (record {
       still = record { own = h.still.own; handshake = h.still.handshake; serves = begun_served e.handshake.info_hash e.part (size_of t) ∙ h.still.serves };
       context = h.context;
       knows = record {
         table = table-applied t e.table h.knows.table;
-        id = subst (λ (told : Entries). (id_in (entered_all told e.table) ≡ None) ⊎ (id_in (entered_all told e.table) ≡ id)) (sym tells.0) ids;
+        id = both.id;
+        donthave = both.donthave;
         part = begun_part e.handshake.info_hash b e.part end h.knows.part (size_of t) tells.1;
       };
       ext = h.ext;
@@ -397,7 +440,7 @@ reply_by a b e c k h own end agreed few (Some peer) is = reply_right a b e c k p
 -- ---- an extended message
 
 pub extended_reacts : (a b e : EndState) (c : Context) (x : Ext) → IsOpen a b c e → IsConfigured a → IsConfigured b → (reads b a).ext ≡ true
-    → IsOwn (metadata_id b.own.reg) (source_of b.part) (served_size b.part) x → Reacts a b e.sends c (at_extended e x)
+    → IsOwn b.own.reg (source_of b.part) (served_size b.part) x → Reacts a b e.sends c (at_extended e x)
 extended_reacts a b e c x h own end agreed (greeting is) =
     subst (λ (y : Ext). Reacts a b e.sends c (at_extended e y)) (sym is) (greeting_reacts a b e c h end agreed)
 extended_reacts a b e c x h own end agreed (request k few is) =
@@ -415,6 +458,8 @@ extended_reacts a b e c x h own end agreed (data_of metadata k serves lt is) =
         (data_part b e.part metadata k end serves lt h.knows.part))) end agreed in
     subst (λ (y : Ext). Reacts a b e.sends c (at_extended e y)) (sym is) (subst (λ (j : Kind). Reacts a b e.sends c (by_kind e j (block metadata k)))
         (sym (kind_made (kind.Data k (length metadata)) made)) r)
+extended_reacts a b e c x h own end agreed (taken_back i is) =
+    subst (λ (y : Ext). Reacts a b e.sends c (at_extended e y)) (sym is) (quiet_reacts a b e c h)
 extended_reacts a b e c x h own end agreed (reject k few is) =
     let part : Part = with_refused k e.part in
     let r : Reacts a b e.sends c (by_kind e (kind.Reject k) []) =
@@ -453,13 +498,13 @@ size_within None h n e = absurd cc
 size_within (Some metadata) h n e = let sized : IsMetadata metadata = h metadata refl in let same : length metadata ≡ n = cc in omega (arith, sized.most)
 
 greets : (a b e : EndState) (c : Context) → IsStill a e → IsConfigured a → IsConfigured b → c.ext ≡ true → 32768 ≤ c.limit → (reads b a).ext ≡ true
-    → IsFor c (reads b a) Fresh (m.Extended (handshake_of (metadata_id e.own.reg) (served_size e.part)))
+    → IsFor c (reads b a) Fresh (m.Extended (handshake_of e.own.reg (served_size e.part)))
 greets a b e c still own end known room agreed =
-    let ids : ForSome (metadata_id e.own.reg) (λ n. n < 256) = subst (λ (o : Own). ForSome (metadata_id o.reg) (λ n. n < 256)) (sym still.own) own.id in
+    let ids : HaveBytes e.own.reg = subst (λ (o : Own). HaveBytes o.reg) (sym still.own) own.ids in
     let sizes : ForSome (served_size e.part) (λ n. n < 2 ^ 63) =
     subst (λ (o : Option ℕ). ForSome o (λ n. n < 2 ^ 63)) (sym (size_same e.part a.part still.serves ∙ size_of_served a.part))
         (size_within (source_of a.part) own.serves) in
-    greeting_for c (reads b a) Fresh (metadata_id e.own.reg) (served_size e.part) known room agreed end.least ids sizes
+    greeting_for c (reads b a) Fresh e.own.reg (served_size e.part) known room agreed end.least ids sizes
 
 opening_said : (d : Context) (msg : Message) → d.fast ≡ true → 32768 ≤ d.limit → (msg ≡ m.HaveAll) ⊎ (msg ≡ m.HaveNone) → IsSaid d Fresh 0 msg
 opening_said d msg fast least (inl e) = subst (λ (x : Message). IsSaid d Fresh 0 x) (sym e) (record { in_range = record { id = omega arith; fields = tt };
@@ -493,17 +538,17 @@ announces_own a announce.Nothing true = (tt, tt)
 
 greeting_all : (a b e : EndState) (c : Context) → IsStill a e → IsConfigured a → IsConfigured b → 32768 ≤ c.limit → (known fast : Bool) → known ≡ c.ext
     → fast ≡ c.fast → known ≡ (reads b a).ext → fast ≡ (reads b a).fast
-    → AreFor c (reads b a) Fresh ((if known then m.Extended (handshake_of (metadata_id e.own.reg) (served_size e.part)) ∷ [] else [])
+    → AreFor c (reads b a) Fresh ((if known then m.Extended (handshake_of e.own.reg (served_size e.part)) ∷ [] else [])
     ++ (if fast then announced e.announce else []))
 greeting_all a b e c still own end room true fast x y k f = (greets a b e c still own end (sym x) room (sym k), announces c (reads b a) e.announce fast y
     room f end.least)
 greeting_all a b e c still own end room false fast x y k f = announces c (reads b a) e.announce fast y room f end.least
 
 greeting_own : (a e : EndState) → IsStill a e → (known fast : Bool)
-    → AreHonest a (map items.Message ((if known then m.Extended (handshake_of (metadata_id e.own.reg) (served_size e.part)) ∷ [] else [])
+    → AreHonest a (map items.Message ((if known then m.Extended (handshake_of e.own.reg (served_size e.part)) ∷ [] else [])
     ++ (if fast then announced e.announce else [])))
 greeting_own a e still true fast =
-    (greeting (ap (λ (o : Own). handshake_of (metadata_id o.reg) (served_size e.part)) still.own ∙ ap (handshake_of (metadata_id a.own.reg))
+    (greeting (ap (λ (o : Own). handshake_of o.reg (served_size e.part)) still.own ∙ ap (handshake_of a.own.reg)
         (size_same e.part a.part still.serves)), announces_own a e.announce fast)
 greeting_own a e still false fast = announces_own a e.announce fast
 
@@ -513,7 +558,7 @@ announced_few announce.Silent true = omega arith
 announced_few announce.All true = omega arith
 announced_few announce.Nothing true = omega arith
 
-greeting_few : (a e : EndState) (known fast : Bool) → length ((if known then m.Extended (handshake_of (metadata_id e.own.reg) (served_size e.part)) ∷ []
+greeting_few : (a e : EndState) (known fast : Bool) → length ((if known then m.Extended (handshake_of e.own.reg (served_size e.part)) ∷ []
     else []) ++ (if fast then announced e.announce else [])) ≤ 8
 greeting_few a e true fast = omega (arith, announced_few e.announce fast)
 greeting_few a e false fast = omega (arith, announced_few e.announce fast)
@@ -527,7 +572,7 @@ greeted_reacts a b e c still knows fresh own end ext fast =
     let ready : IsOpen a b c o = record {
       still = record { own = still.own; handshake = still.handshake; serves = still.serves };
       context = refl;
-      knows = record { table = knows.table; id = knows.id; part = knows.part };
+      knows = record { table = knows.table; id = knows.id; donthave = knows.donthave; part = knows.part };
       ext = ext;
       least = least;
     } in

@@ -1,10 +1,13 @@
 -- A delivery, a saying and a new connection of the byte link are those of the message link.
-use Rattle.std.proofs.Common.{◌≡◌, ℕ, ◌+◌, ◌^◌, ◌<◌, ◌≤◌, inl, inr, min, Bool, true, false, ◌&&◌, ◌||◌, if◌then◌else◌, List, [], ◌∷◌, ◌++◌, length, take,
+use Rattle.std.proofs.Common.{◌≡◌, ℕ, ◌+◌, ◌^◌, ◌<◌, ◌≤◌, ◌⊎◌, inl, inr, min, Bool, true, false, ◌&&◌, ◌||◌, if◌then◌else◌, List, [], ◌∷◌, ◌++◌, length, take,
     drop, flat_map, Option, Some, None, slice_get, refl, sym, ap, subst, ◌∙◌, arith, is_none, is_some, option_map, nat_le}
-use Rattle.std.specs.Prelude.{unwrap_or}
-use Rattle.std.proofs.lemmas.Bool.{cases_lt}
+use Rattle.std.specs.Prelude.{unwrap_or, option_and_then, nat_lt, IsSome, ◌==◌}
+use Rattle.std.proofs.lemmas.Bool.{cases_lt, ltb-false}
 use Rattle.std.proofs.lemmas.List.{append-nil, take-append-le}
-use Rattle.bt_ext.specs.declared.ids.Registered.{Registered}
+use Rattle.bt_ext.specs.Ids.{donthave_name, registered, extension_id, is_id, apart_from, donthave_id}
+use Rattle.bt_ext.specs.Tables.{id_of_name}
+use Rattle.bt_ext.proofs.PeerIds.{donthave-told}
+use Rattle.bt_ext.specs.declared.ext.Ext.TheVariants as ext
 use Rattle.bt_ext.specs.declared.ids.Rules.{Rules}
 use Rattle.bt_wire.specs.declared.context.Context.{Context}
 use Rattle.bt_wire.specs.declared.context.Order.{Order}
@@ -20,15 +23,15 @@ use Rattle.bt_wire.specs.declared.message.Message.TheVariants as m
 use Rattle.bt_wire.specs.declared.reserved.Reserved.{Reserved}
 use Rattle.bt_wire.specs.Handshakes.{negotiated, hand, IsHandshake}
 use Rattle.bt_wire.specs.Legal.{IsLegal, Refuses}
-use Rattle.bt_wire.specs.Messages.{Fields, fields_of, index_in, field_in, order_after, spell, IsInRange, AreInRange}
+use Rattle.bt_wire.specs.Messages.{fields_of, field_in, order_after, spell, IsShaped, IsInRange}
 use Rattle.bt_feed.specs.Answers.{standing, or_else}
 use Rattle.bt_feed.specs.Feeds.{FeedState, taken, pushed, waiting}
 use Rattle.bt_feed.specs.Stages.{early, refusal_of}
 use Rattle.bt_feed.specs.declared.stage.Stage.{Stage}
 use Rattle.bt_feed.specs.declared.stage.Stage.TheVariants as stage
 use Rattle.bt_feed.proofs.Closed.{open_parts}
-use Rattle.bt_end.specs.Ends.{EndState, Part, Watching, Serving, Awaiting, Fetching, Fetched, belief, queueing, no_extension, renewed, part_kept}
-use Rattle.bt_end.specs.Halves.{high_water, unsaid, unsaid_by, is_extended, tells_pieces, reacted}
+use Rattle.bt_end.specs.Ends.{EndState, Part, Watching, Serving, Awaiting, Fetching, Fetched, peer_id, belief, queueing, no_extension, renewed, part_kept}
+use Rattle.bt_end.specs.Halves.{high_water, unsaid, unsaid_by, is_own_made, tells_pieces, reacted}
 use Rattle.bt_session.specs.ByteLinks as B
 use Rattle.bt_session.specs.MessageLinks as M
 use Rattle.bt_session.specs.MessageLinks.{size, total, bare}
@@ -38,12 +41,12 @@ use Rattle.bt_session.specs.declared.link.Outcome.{Outcome}
 use Rattle.bt_session.specs.declared.link.Outcome.TheVariants as outcome
 use Rattle.bt_session.proofs.AssemblyLaws.{disconnected_fetch}
 use Rattle.bt_session.proofs.UnderWay.{behind_message, next_parts, none_left, first_open, first_held, hand_faultless, total-append, spell_size}
-use Rattle.bt_wire.specs.Contexts.{UsesNoId, PiecesSuit, moved}
+use Rattle.bt_wire.specs.Contexts.{IdsSuit, piece_in, PiecesSuit, moved}
 use Rattle.bt_wire.proofs.ContextLaws.{legal_elsewhere, legal_is_not_refused, refusal_is_one}
 use Rattle.bt_wire.proofs.SpellLaws.{length-spell}
 use Rattle.bt_wire.specs.declared.fault.Fault.{Fault}
 use Rattle.bt_session.specs.LinkLaws.{source_of, IsConfigured, AreMatched, SamePieces}
-use Rattle.bt_session.proofs.LinkInvariant.{IsStill, reads, IsPartFor, Knows, IsHonestMessage, IsFor, Coming, behind, IsAwaiting, Flow, Wires, Inv, node_of,
+use Rattle.bt_session.proofs.LinkInvariant.{IsStill, reads, IsPartFor, Knows, IsHonestMessage, taken_back, IsFor, Coming, behind, IsAwaiting, Flow, Wires, Inv, node_of,
     made}
 use Rattle.bt_session.proofs.LinkMoves.{fed, undelivered_is, delivered, sent, limited, no_bytes}
 use Rattle.bt_session.proofs.LinkReactions.{agreed_ext, agreed_fast}
@@ -134,36 +137,99 @@ unsaid_none false false true pieces e = absurd cc
 unsaid_none false false false true e = absurd cc
 unsaid_none false false false false e = (refl, refl, refl)
 
-plain_id : (r : Registered) (msg : Message) → is_extended msg ≡ false → UsesNoId r msg
-plain_id r (m.Extended e) h = absurd cc
-plain_id r other h = tt
+-- ---- the ids of a message that an end may say
 
-plain_fields : (c d : Context) (msg : Message) → is_extended msg ≡ false → fields_of c msg ≡ fields_of d msg
-plain_fields c d (m.Extended e) h = absurd cc
-plain_fields c d m.KeepAlive h = refl
-plain_fields c d m.Choke h = refl
-plain_fields c d m.Unchoke h = refl
-plain_fields c d m.Interested h = refl
-plain_fields c d m.NotInterested h = refl
-plain_fields c d (m.Have i) h = refl
-plain_fields c d (m.Bitfield bits) h = refl
-plain_fields c d (m.Request i b l) h = refl
-plain_fields c d (m.Piece i b bytes) h = refl
-plain_fields c d (m.Cancel i b l) h = refl
-plain_fields c d (m.Port n) h = refl
-plain_fields c d (m.Suggest i) h = refl
-plain_fields c d m.HaveAll h = refl
-plain_fields c d m.HaveNone h = refl
-plain_fields c d (m.Reject i b l) h = refl
-plain_fields c d (m.AllowedFast i) h = refl
-plain_fields c d (m.Unknown n bytes) h = refl
+-- what stays after a test is what was there
+through : (f : Option ℕ → Option ℕ) (b : Bool) (n : ℕ) → f None ≡ None → IsSome (f (if b then None else Some n)) → f (if b then None else Some n) ≡ f (Some n)
+through f true n none h = absurd (let bad = rw none at h in cc)
+through f false n none h = refl
 
-pub plain_range : (c d : Context) (msg : Message) → is_extended msg ≡ false → IsInRange c msg → IsInRange d msg
-plain_range c d msg h r = record { id = r.id; fields = subst (λ (f : Fields). AreInRange f) (plain_fields c d msg h) r.fields }
+-- the id of `lt_donthave` that counts is the one that was told
+told_back : (metadata donthave : Option ℕ) → IsSome (donthave_id (registered metadata donthave)) → donthave_id (registered metadata donthave) ≡ donthave
+told_back metadata None h = absurd cc
+told_back metadata (Some n) h =
+    let id : Option ℕ = option_and_then extension_id metadata in
+    let first = through (λ (o : Option ℕ). option_and_then (apart_from id) (option_and_then extension_id o)) (is_id metadata n || nat_lt 255 n) n refl h in
+    let there : IsSome (option_and_then (apart_from id) (option_and_then extension_id (Some n))) = subst (λ (o : Option ℕ). IsSome o) first h in
+    let second = through (λ (o : Option ℕ). option_and_then (apart_from id) o) (n == 0) n refl there in
+    let still : IsSome (apart_from id n) = subst (λ (o : Option ℕ). IsSome o) second there in
+    first ∙ second ∙ through (λ (o : Option ℕ). o) (is_id id n) n refl still
 
-plain_honest : (a : EndState) (msg : Message) → is_extended msg ≡ false → IsHonestMessage a msg
-plain_honest a (m.Extended e) h = absurd cc
-plain_honest a other h = tt
+-- and a byte
+told_small : (metadata : Option ℕ) (n : ℕ) (b : Bool) → (is_id metadata n || nat_lt 255 n) ≡ b
+    → IsSome (option_and_then (apart_from (option_and_then extension_id metadata)) (option_and_then extension_id (if b then None else Some n))) → n < 256
+told_small metadata n true e h = absurd cc
+told_small metadata n false e h = omega (arith, ltb-false 255 n (right_off (is_id metadata n) (nat_lt 255 n) e))
+  where
+    right_off : (x y : Bool) → (x || y) ≡ false → y ≡ false
+    right_off true y e = absurd cc
+    right_off false y e = e
+
+told_byte : (metadata donthave : Option ℕ) → unwrap_or (donthave_id (registered metadata donthave)) 0 < 256
+told_byte metadata donthave = by_id (donthave_id (registered metadata donthave)) refl
+  where
+    by_some : (o : Option ℕ) (n : ℕ) → o ≡ donthave → donthave_id (registered metadata o) ≡ Some n → n < 256
+    by_some None n is e = absurd cc
+    by_some (Some k) n is e =
+        let there : IsSome (donthave_id (registered metadata (Some k))) = subst (λ (o : Option ℕ). IsSome o) (sym e) refl in
+        let same : Some n ≡ Some k = sym e ∙ told_back metadata (Some k) there in
+        let equal : n ≡ k = cc in
+        subst (λ (i : ℕ). i < 256) (sym equal) (told_small metadata k (is_id metadata k || nat_lt 255 k) refl there)
+
+    by_id : (o : Option ℕ) → donthave_id (registered metadata donthave) ≡ o → unwrap_or o 0 < 256
+    by_id None e = omega arith
+    by_id (Some n) e = by_some donthave n refl e
+
+-- the id that an end knows is the other's
+known_back : (b e : EndState) → Knows b e → IsSome (donthave_id (belief e).reg) → donthave_id b.own.reg ≡ donthave_id (belief e).reg
+known_back b e k h =
+    let is = donthave-told e.table in
+    let there : IsSome (donthave_id (registered (peer_id e) (id_of_name donthave_name e.table))) = subst (λ (o : Option ℕ). IsSome o) is h in
+    let back : donthave_id (belief e).reg ≡ id_of_name donthave_name e.table = is ∙ told_back (peer_id e) (id_of_name donthave_name e.table) there in
+    elim k.donthave [
+      | inl none ↦ absurd (let bad = subst (λ (o : Option ℕ). IsSome o) (back ∙ none) h in cc)
+      | inr same ↦ sym (back ∙ same)
+    ]
+
+-- what it may say has, with the other's ids, the same id
+ids_suit : (b e : EndState) (msg : Message) → Knows b e → is_own_made msg ≡ false → IsShaped (belief e) msg → IdsSuit (belief e) msg b.own.reg
+ids_suit b e (m.Extended (ext.DontHave i)) k h shaped = record { metadata = inr tt; donthave = inl (known_back b e k shaped.0) }
+ids_suit b e (m.Extended x) k h shaped = absurd cc
+ids_suit b e other k h shaped = record { metadata = inr tt; donthave = inr tt }
+
+-- the id of a message that takes back a piece is a byte
+HasByte : Context → Message → Type 0
+HasByte c (m.Extended (ext.DontHave i)) = unwrap_or (donthave_id c.reg) 0 < 256
+HasByte c other = Unit {0}
+
+said_range : (c d : Context) (msg : Message) → is_own_made msg ≡ false → HasByte d msg → IsInRange c msg → IsInRange d msg
+unfolding HasByte
+said_range c d (m.Extended (ext.DontHave i)) h byte r = record { id = omega arith; fields = byte }
+said_range c d (m.Extended x) h byte r = absurd cc
+said_range c d other h byte r = record { id = r.id; fields = r.fields }
+
+belief_byte : (e : EndState) (msg : Message) → HasByte (belief e) msg
+unfolding HasByte
+belief_byte e (m.Extended (ext.DontHave i)) =
+    subst (λ (o : Option ℕ). unwrap_or o 0 < 256) (sym (donthave-told e.table)) (told_byte (peer_id e) (id_of_name donthave_name e.table))
+belief_byte e other = tt
+
+other_byte : (c d : Context) (msg : Message) → IdsSuit c msg d.reg → HasByte c msg → HasByte d msg
+unfolding HasByte
+other_byte c d (m.Extended (ext.DontHave i)) suits h = by_id suits.donthave
+  where
+    by_id : (donthave_id d.reg ≡ donthave_id c.reg) ⊎ ⊥ → unwrap_or (donthave_id d.reg) 0 < 256
+    by_id (inl same) = subst (λ (o : Option ℕ). unwrap_or o 0 < 256) (sym same) h
+    by_id (inr bad) = absurd bad
+other_byte c d other suits h = tt
+
+pub belief_range : (e : EndState) (msg : Message) → is_own_made msg ≡ false → IsInRange bare msg → IsInRange (belief e) msg
+belief_range e msg h r = said_range bare (belief e) msg h (belief_byte e msg) r
+
+own_honest : (a : EndState) (msg : Message) → is_own_made msg ≡ false → IsHonestMessage a msg
+own_honest a (m.Extended (ext.DontHave i)) h = taken_back i refl
+own_honest a (m.Extended x) h = absurd cc
+own_honest a other h = tt
 
 -- the context of an open end
 open_context : (a b : EndState) (e : EndState) (t : Stage) (is : List Item) (o : Order) (s n : ℕ) → IsAwaiting e t → behind t is
@@ -183,10 +249,10 @@ reads_moved a b e h still known =
     ∙ ap (λ (n : ℕ). record (reads b a) { limit = n }) h.limit
 
 pieces_by : (c : Context) (msg : Message) (x y : Option ℕ) → c.pieces ≡ x → SamePieces x y
-    → ((is_some (index_in (fields_of c msg)) || is_some (field_in (fields_of c msg))) && is_none x) ≡ false → PiecesSuit c msg y
+    → ((is_some (piece_in c msg) || is_some (field_in (fields_of c msg))) && is_none x) ≡ false → PiecesSuit c msg y
 pieces_by c msg x None is same known = inr (inl refl)
 pieces_by c msg (Some j) (Some n) is same known = inl (ap Some (sym same) ∙ sym is)
-pieces_by c msg None (Some n) is same known = inr (inr (neither (index_in (fields_of c msg)) (field_in (fields_of c msg)) known))
+pieces_by c msg None (Some n) is same known = inr (inr (neither (piece_in c msg) (field_in (fields_of c msg)) known))
   where
     neither : (i : Option ℕ) (f : Option (List ℕ)) → ((is_some i || is_some f) && true) ≡ false → (i ≡ None) × (f ≡ None)
     neither None None e = (refl, refl)
@@ -194,17 +260,19 @@ pieces_by c msg None (Some n) is same known = inr (inr (neither (index_in (field
     neither (Some i) f e = absurd cc
 
 -- what it says is legal where the other reads it
-said_for : (a b e : EndState) (msg : Message) → AreMatched a b → IsStill a e → e.context ≡ Some (reads a b) → IsInRange bare msg → is_extended msg ≡ false
+said_for : (a b e : EndState) (msg : Message) → AreMatched a b → IsStill a e → Knows b e → e.context ≡ Some (reads a b) → IsInRange bare msg
+    → is_own_made msg ≡ false
     → (tells_pieces e msg && is_none e.own.pieces) ≡ false → IsLegal (belief e) e.sends msg → IsFor (belief e) (reads b a) e.sends msg
-said_for a b e msg h still known range plain pieces legal =
+said_for a b e msg h still knows known range other pieces legal =
     let counted : (belief e).pieces ≡ a.own.pieces = ap (λ (o : Own). o.pieces) still.own in
     let tells : (tells_pieces e msg && is_none a.own.pieces) ≡ false = ap (λ (o : Own). tells_pieces e msg && is_none o.pieces) (sym still.own) ∙ pieces in
     let suits : PiecesSuit (belief e) msg b.own.pieces = pieces_by (belief e) msg a.own.pieces b.own.pieces counted h.pieces tells in
-    let there = legal_elsewhere (belief e) e.sends msg b.own.pieces b.own.reg suits (inr (plain_id b.own.reg msg plain)) legal in
+    let ids : IdsSuit (belief e) msg b.own.reg = ids_suit b e msg knows other legal.shaped in
+    let there = legal_elsewhere (belief e) e.sends msg b.own.pieces b.own.reg suits ids legal in
     let same : moved (belief e) b.own.pieces b.own.reg ≡ reads b a = reads_moved a b e h still known in
     record {
-      said = record { in_range = plain_range bare (belief e) msg plain range; legal = legal; start = omega arith };
-      in_range = plain_range bare (reads b a) msg plain range;
+      said = record { in_range = belief_range e msg other range; legal = legal; start = omega arith };
+      in_range = said_range bare (reads b a) msg other (other_byte (belief e) (reads b a) msg ids (belief_byte e msg)) range;
       legal = subst (λ (c : Context). IsLegal c e.sends msg) same there.0;
       same = sym there.1 ∙ ap (λ (c : Context). spell c msg) same;
     }
@@ -282,24 +350,24 @@ unfolding said_node said_wires
 said_now a b p w msg h inv range unsaid_is legal small =
     let e : EndState = p.own.end in
     let l = inv.coming.is in
-    let tests = unsaid_none (is_none e.context || false) (nat_le high_water (M.undelivered p.own)) (is_extended msg)
+    let tests = unsaid_none (is_none e.context || false) (nat_le high_water (M.undelivered p.own)) (is_own_made msg)
         (tells_pieces e msg && is_none e.own.pieces) unsaid_is in
     let known : e.context ≡ Some (reads a b) = open_context a b e w.feed.stage (drop p.other.handled p.other.sent) p.other.end.sends (total p.other.sent)
         (length p.other.sent) l.awaited l.behind_all (or_left (is_none e.context) tests.0) in
-    let for : IsFor (belief e) (reads b a) e.sends msg = said_for a b e msg h inv.own known range tests.1 tests.2 legal in
+    let for : IsFor (belief e) (reads b a) e.sends msg = said_for a b e msg h inv.own inv.knows known range tests.1 tests.2 legal in
     record {
       wires = said_wires w (flat_map (spell (belief e)) (msg ∷ []));
       same = ap (λ (js : List Item). record { own = said_node (made p w).own msg outcome.Said; other = node_of p.other js w.other_feed w.other_untaken
           w.other_outbox }) (sym (take-append-le p.own.handled p.own.sent (items.Message msg ∷ []) inv.going.is.within));
       inv = record {
         going = sent a b p.own (record e { sends = order_after e.sends msg }) (msg ∷ []) p.other.end w.other_feed w.other_untaken w.outbox (belief e)
-            inv.going (for, tt) (plain_honest a msg tests.1, tt) refl small;
+            inv.going (for, tt) (own_honest a msg tests.1, tt) refl small;
         coming = record { is = record { coming = l.coming; behind_all = l.behind_all; start = l.start; count = l.count; within = l.within;
             unrefused = l.unrefused; partial = l.partial; awaited = still_awaiting e w.feed.stage (order_after e.sends msg) known l.awaited; honest =
             l.honest }; full = inv.coming.full };
         own = record { own = inv.own.own; handshake = inv.own.handshake; serves = inv.own.serves };
         other = inv.other;
-        knows = record { table = inv.knows.table; id = inv.knows.id; part = inv.knows.part };
+        knows = record { table = inv.knows.table; id = inv.knows.id; donthave = inv.knows.donthave; part = inv.knows.part };
         known = inv.known;
       };
     }
@@ -411,7 +479,7 @@ pub still_renewed : (a e : EndState) → IsStill a e → IsStill a (renewed e)
 still_renewed a e s = record { own = s.own; handshake = s.handshake; serves = kept_source e.part ∙ s.serves }
 
 pub knows_renewed : (b e : EndState) → Knows b e → Knows b (renewed e)
-knows_renewed b e k = record { table = record { entries = tt; few = omega arith }; id = inl refl; part = kept_part (source_of b.part) e.part k.part }
+knows_renewed b e k = record { table = record { entries = tt; few = omega arith }; id = inl refl; donthave = inl refl; part = kept_part (source_of b.part) e.part k.part }
 
 abbrev pub new_wires : EndState → EndState → Wires
 new_wires e f = record { feed = waiting (stage.Handshake e.own); untaken = []; outbox = hand e.handshake; other_feed = waiting (stage.Handshake f.own);
@@ -469,13 +537,13 @@ answer_is n msg (outcome.Delivered k) h = absurd h
 answer_is n msg outcome.Reset h = absurd h
 
 one_answer : (n : M.Node) (msg : Message) (o p : Outcome) → (belief n.end).limit < 2 ^ 32 → IsInRange bare msg
-    → (M.unsaid_by n msg ≡ None → is_extended msg ≡ false) → Answer n msg o → Answer n msg p → o ≡ p
+    → (M.unsaid_by n msg ≡ None → is_own_made msg ≡ false) → Answer n msg o → Answer n msg p → o ≡ p
 one_answer n msg o p lt range plain (said_so none legal e) (said_so none' legal' f) = e ∙ sym f
 one_answer n msg o p lt range plain (said_so none legal e) (illegal none' g refused f) =
-    absurd (legal_is_not_refused (belief n.end) n.end.sends msg g lt (plain_range bare (belief n.end) msg (plain none) range) legal refused)
+    absurd (legal_is_not_refused (belief n.end) n.end.sends msg g lt (belief_range n.end msg (plain none) range) legal refused)
 one_answer n msg o p lt range plain (said_so none legal e) (against x is f) = absurd cc
 one_answer n msg o p lt range plain (illegal none g refused e) (said_so none' legal f) =
-    absurd (legal_is_not_refused (belief n.end) n.end.sends msg g lt (plain_range bare (belief n.end) msg (plain none) range) legal refused)
+    absurd (legal_is_not_refused (belief n.end) n.end.sends msg g lt (belief_range n.end msg (plain none) range) legal refused)
 one_answer n msg o p lt range plain (illegal none g refused e) (illegal none' h refused' f) =
     e ∙ ap (λ (x : Fault). outcome.NotSaid (say_error.Illegal x)) (refusal_is_one (belief n.end) n.end.sends msg g h refused refused') ∙ sym f
 one_answer n msg o p lt range plain (illegal none g refused e) (against x is f) = absurd cc
@@ -488,7 +556,7 @@ pub one_say : (a b : EndState) (p : M.Pair) (w : Wires) (msg : Message) (o o' : 
 one_say a b p w msg o o' end inv range h k =
     let e : EndState = p.own.end in
     one_answer p.own msg o o' (omega (arith, limit_within a b p w end inv)) range
-    (λ none. (unsaid_none (is_none e.context || false) (nat_le high_water (M.undelivered p.own)) (is_extended msg)
+    (λ none. (unsaid_none (is_none e.context || false) (nat_le high_water (M.undelivered p.own)) (is_own_made msg)
         (tells_pieces e msg && is_none e.own.pieces) none).1)
     (answer_is p.own msg o h) (answer_is p.own msg o' k)
 

@@ -76,7 +76,7 @@ handles_item a b e (stage.Message c p k j) held (items.Message msg) is o s n end
     let ready : IsOpen a b c e' = record {
       still = record { own = still.own; handshake = still.handshake; serves = still.serves };
       context = w;
-      knows = record { table = knows.table; id = knows.id; part = knows.part };
+      knows = record { table = knows.table; id = knows.id; donthave = knows.donthave; part = knows.part };
       ext = ap (λ (x : Context). x.ext) same ∙ agreed_ext a b;
       least = subst (λ (x : Own). 32768 ≤ x.limit) (sym still.own) enda.least;
     } in

@@ -230,7 +230,7 @@ first_part (Fetched metadata) h source = absurd h
 -- an end knows nothing at first
 first_knows : (a b : EndState) → IsNew a → Knows b a
 first_knows a b n =
-    let k : Knows b (unopened a.own a.handshake a.announce a.window a.part) = record { table = record { entries = tt; few = omega arith }; id = inl refl;
+    let k : Knows b (unopened a.own a.handshake a.announce a.window a.part) = record { table = record { entries = tt; few = omega arith }; id = inl refl; donthave = inl refl;
         part = first_part a.part n.part (source_of b.part) } in
     subst (λ (e : EndState). Knows b e) (sym n.unopened) k
 

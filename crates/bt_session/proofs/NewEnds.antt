@@ -6,7 +6,7 @@ use Rattle.std.specs.Prelude.{unwrap_or}
 use Rattle.std.specs.Option.{ForSome}
 use Rattle.std.specs.Global.{Global}
 use Rattle.bt_ext.proofs.Entries.{above_0}
-use Rattle.bt_ext.specs.Ids.{metadata_id}
+use Rattle.bt_ext.specs.Ids.{metadata_id, donthave_id}
 use Rattle.bt_metadata.specs.Blocks.{max_metadata}
 use Rattle.bt_end.specs.Configs.{config_error, is_bad_limit, is_bad_role, end_for, part_for}
 use Rattle.bt_session.specs.LinkLaws.{source_of, IsMetadata, IsFirstPart, IsNew, AreMatched}
@@ -60,8 +60,8 @@ some_within (Some m) h n e = let same : m ≡ n = cc in subst (λ (x : ℕ). x <
 some_within None h n e = absurd cc
 
 pub new_of : (c : Config Global) → length c.peer_id ≡ 20 → c.own.reserved.0 < 2 ^ 64 → IfSome c.own.info_hash (λ h. length h ≡ 20)
-    → IfSome (metadata_id c.own.reg) (λ n. n < 256) → config_error c ≡ None → IsNew (end_for c)
-new_of c peer reserved hash id e =
+    → IfSome (metadata_id c.own.reg) (λ n. n < 256) → IfSome (donthave_id c.own.reg) (λ n. n < 256) → config_error c ≡ None → IsNew (end_for c)
+new_of c peer reserved hash metadata donthave e =
     let none = no_error (is_bad_limit c.own.limit) (is_none c.own.info_hash) (is_bad_role c.role) e in
     let limits = neither (ltb c.own.limit 32768) (ltb 1048576 c.own.limit) none.0 in
     let h = hash_length c.own.info_hash none.1 hash in
@@ -72,7 +72,7 @@ new_of c peer reserved hash id e =
         reserved = refl;
         least = ltb-false c.own.limit 32768 limits.0;
         most = ltb-false 1048576 c.own.limit limits.1;
-        id = some_within (metadata_id c.own.reg) id;
+        ids = record { metadata = some_within (metadata_id c.own.reg) metadata; donthave = some_within (donthave_id c.own.reg) donthave };
         serves = sized c.role none.2;
       };
       unopened = refl;

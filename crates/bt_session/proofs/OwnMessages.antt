@@ -9,11 +9,12 @@ use Rattle.std.specs.Fmt.{decimal}
 use Rattle.bt_bencode.specs.Trees.{integer, dictionary, Pairs, no_pairs, pair}
 use Rattle.bt_bencode.specs.Bencoding.{ben, ben_pairs}
 use Rattle.bt_ext.specs.Faults.{Allows}
-use Rattle.bt_ext.specs.Ids.{metadata_id}
-use Rattle.bt_ext.specs.Made.{IsMade, message_of, handshake_of, message_pairs, handshake_pairs, m_pairs, size_pairs, typed}
+use Rattle.bt_ext.specs.Ids.{HaveBytes, metadata_name, donthave_name, metadata_id, donthave_id}
+use Rattle.bt_ext.specs.Made.{IsMade, message_of, handshake_of, message_pairs, handshake_pairs, id_pair, m_pairs, size_pairs, typed}
 use Rattle.bt_ext.specs.Metadata.{block_count, block_len, is_block_ok}
-use Rattle.bt_ext.specs.Payloads.{HasSpelling, payload_of}
+use Rattle.bt_ext.specs.Payloads.{HasSpelling, index_of, payload_of}
 use Rattle.bt_ext.specs.declared.ext.Ext.{Ext}
+use Rattle.bt_ext.specs.declared.ids.Registered.{Registered}
 use Rattle.bt_ext.specs.declared.ids.Rules.{Rules}
 use Rattle.bt_ext.specs.declared.ids.Rules.TheVariants as rules
 use Rattle.bt_ext.specs.declared.metadata.Kind.{Kind}
@@ -36,9 +37,9 @@ allowed_by : (r : Rules) (e : Ext) → Allows rules.Bep e → Allows r e
 allowed_by rules.Free e h = tt
 allowed_by rules.Bep e h = h
 
-pub own_legal : (d : Context) (o : Order) (e : Ext) → d.ext ≡ true → HasSpelling d.reg e → Allows rules.Bep e → 2 + length (payload_of e) ≤ d.limit
-    → IsLegal d o (m.Extended e)
-own_legal d o e agreed shaped allowed short = record {
+pub own_legal : (d : Context) (o : Order) (e : Ext) → d.ext ≡ true → HasSpelling d.reg e → Allows rules.Bep e → index_of e ≡ None
+    → 2 + length (payload_of e) ≤ d.limit → IsLegal d o (m.Extended e)
+own_legal d o e agreed shaped allowed none short = record {
   shaped = shaped;
   short = omega arith;
   agreed = agreed;
@@ -48,7 +49,7 @@ own_legal d o e agreed shaped allowed short = record {
   known = never (is_strict d);
   in_time = never (is_strict d);
   opened = never (is_strict d);
-  allowed = allowed_by d.rules e allowed;
+  allowed = (allowed_by d.rules e allowed, rw none refl);
 }
 
 -- ---- how long their dictionaries are
@@ -100,39 +101,47 @@ sizes_length : (size : Option ℕ) → ForSome size (λ n. n < 2 ^ 63) → lengt
 sizes_length None h = omega arith
 sizes_length (Some n) h = omega (arith, pair_length (codes "metadata_size") n no_pairs (omega arith) (h n refl))
 
-ids_length : (id : Option ℕ) → ForSome id (λ n. n < 256) → length (ben_pairs (m_pairs id)) ≤ 54
-ids_length None h = omega arith
-ids_length (Some n) h = let b = h n refl in omega (arith, pair_length (codes "ut_metadata") n no_pairs (omega arith) (omega arith))
+id_length : (name : List ℕ) (id : Option ℕ) (ps : Pairs) → length name < 64 → ForSome id (λ n. n < 256)
+    → length (ben_pairs (id_pair name id ps)) ≤ 43 + length name + length (ben_pairs ps)
+id_length name None ps short h = omega arith
+id_length name (Some n) ps short h = let b = h n refl in omega (arith, pair_length name n ps short (omega arith))
 
-fields_length : (id size : Option ℕ) → ForSome id (λ n. n < 256) → ForSome size (λ n. n < 2 ^ 63) → length (ben_pairs (handshake_pairs id size)) ≤ 140
-fields_length id size h k =
+ids_length : (metadata donthave : Option ℕ) → ForSome metadata (λ n. n < 256) → ForSome donthave (λ n. n < 256)
+    → length (ben_pairs (m_pairs metadata donthave)) ≤ 108
+ids_length metadata donthave h k = omega (arith, id_length donthave_name donthave (id_pair metadata_name metadata no_pairs) (omega arith) k,
+    id_length metadata_name metadata no_pairs (omega arith) h)
+
+fields_length : (metadata donthave size : Option ℕ) → ForSome metadata (λ n. n < 256) → ForSome donthave (λ n. n < 256) → ForSome size (λ n. n < 2 ^ 63)
+    → length (ben_pairs (handshake_pairs metadata donthave size)) ≤ 200
+fields_length metadata donthave size h i k =
     omega (
       arith,
-      length-append (decimal 1 ++ 58 ∷ codes "m") (ben (dictionary (m_pairs id)) ++ ben_pairs (size_pairs size)),
+      length-append (decimal 1 ++ 58 ∷ codes "m") (ben (dictionary (m_pairs metadata donthave)) ++ ben_pairs (size_pairs size)),
       length-append (decimal 1) (58 ∷ codes "m"),
       small 1 (omega arith),
-      length-append (ben (dictionary (m_pairs id))) (ben_pairs (size_pairs size)),
-      dict_length (m_pairs id),
-      ids_length id h,
+      length-append (ben (dictionary (m_pairs metadata donthave))) (ben_pairs (size_pairs size)),
+      dict_length (m_pairs metadata donthave),
+      ids_length metadata donthave h i,
       sizes_length size k,
     )
 
-greeting_length : (id size : Option ℕ) → ForSome id (λ n. n < 256) → ForSome size (λ n. n < 2 ^ 63) → length (payload_of (handshake_of id size)) ≤ 160
-greeting_length id size h k = omega (arith, length-append (ben (dictionary (handshake_pairs id size))) [], dict_length (handshake_pairs id size),
-    fields_length id size h k)
+greeting_length : (reg : Registered) (size : Option ℕ) → HaveBytes reg → ForSome size (λ n. n < 2 ^ 63) → length (payload_of (handshake_of reg size)) ≤ 220
+greeting_length reg size h k =
+    let ps : Pairs = handshake_pairs (metadata_id reg) (donthave_id reg) size in
+    omega (arith, length-append (ben (dictionary ps)) [], dict_length ps, fields_length (metadata_id reg) (donthave_id reg) size h.metadata h.donthave k)
 
 -- ---- for the other end
 
 -- the extended handshake is read under any ids
-pub greeting_for : (c d : Context) (o : Order) (id size : Option ℕ) → c.ext ≡ true → 32768 ≤ c.limit → d.ext ≡ true → 32768 ≤ d.limit
-    → ForSome id (λ n. n < 256) → ForSome size (λ n. n < 2 ^ 63) → IsFor c d o (m.Extended (handshake_of id size))
-greeting_for c d o id size own room agreed least h k =
-    let right = handshake-right id size h k in
+pub greeting_for : (c d : Context) (o : Order) (reg : Registered) (size : Option ℕ) → c.ext ≡ true → 32768 ≤ c.limit → d.ext ≡ true → 32768 ≤ d.limit
+    → HaveBytes reg → ForSome size (λ n. n < 2 ^ 63) → IsFor c d o (m.Extended (handshake_of reg size))
+greeting_for c d o reg size own room agreed least h k =
+    let right = handshake-right reg size h k in
     record {
-      said = record { in_range = record { id = omega arith; fields = omega arith }; legal = own_legal c o (handshake_of id size) own (refl, right.0) right.1
-          (omega (arith, greeting_length id size h k)); start = omega arith };
+      said = record { in_range = record { id = omega arith; fields = omega arith }; legal = own_legal c o (handshake_of reg size) own (refl, right.0) right.1
+          refl (omega (arith, greeting_length reg size h k)); start = omega arith };
       in_range = record { id = omega arith; fields = omega arith };
-      legal = own_legal d o (handshake_of id size) agreed (refl, right.0) right.1 (omega (arith, greeting_length id size h k));
+      legal = own_legal d o (handshake_of reg size) agreed (refl, right.0) right.1 refl (omega (arith, greeting_length reg size h k));
       same = refl;
     }
 
@@ -144,9 +153,9 @@ message_for c d o k rest id own room agreed least sender reader lt made ok size 
     let right = message-right k rest made ok in
     record {
       said = record { in_range = record { id = omega arith; fields = rw sender lt }; legal = own_legal c o (message_of k rest) own (rw sender refl, right.0)
-          right.1 (omega (arith, message_length k rest made)); start = omega arith };
+          right.1 refl (omega (arith, message_length k rest made)); start = omega arith };
       in_range = record { id = omega arith; fields = rw reader lt };
-      legal = own_legal d o (message_of k rest) agreed (rw reader refl, right.0) right.1 (omega (arith, message_length k rest made));
+      legal = own_legal d o (message_of k rest) agreed (rw reader refl, right.0) right.1 refl (omega (arith, message_length k rest made));
       same = ap (λ (o : Option ℕ). be32 (length (20 ∷ unwrap_or o 0 ∷ payload_of (message_of k rest)))
           ++ 20 ∷ unwrap_or o 0 ∷ payload_of (message_of k rest)) (sender ∙ sym reader);
     }

@@ -10,7 +10,7 @@ use Rattle.bt_io.specs.declared.outbox.Memory.{Memory}
 use Rattle.bt_end.specs.Ends.{EndState, belief}
 use Rattle.bt_session.specs.LinkLaws.{IsWritten, AreWritten, IsShortRun, most_steps}
 use Rattle.bt_session.proofs.Links.{queued_may_be_sent}
-use Rattle.bt_end.specs.Halves.{high_water, is_extended, tells_pieces}
+use Rattle.bt_end.specs.Halves.{high_water, is_own_made, tells_pieces}
 use Rattle.bt_session.specs.ByteLinks as B
 use Rattle.bt_session.specs.MessageLinks as M
 use Rattle.bt_session.specs.MessageLinks.{bare}
@@ -28,7 +28,7 @@ use Rattle.bt_session.specs.declared.link.Step.TheVariants as step
 use Rattle.bt_session.specs.declared.node.Node.{Node}
 use Rattle.bt_session.specs.declared.run.Connection.{Connection}
 use Rattle.bt_session.specs.declared.run.Link.{Link}
-use Rattle.bt_session.proofs.LinkSteps.{unsaid_none, plain_range}
+use Rattle.bt_session.proofs.LinkSteps.{unsaid_none, belief_range}
 
 -- what a step of the link n gives, and leaves as m
 abbrev pub Steps : Link → Step → Outcome → Link → Type 0
@@ -62,9 +62,9 @@ turn_right n m (Ok o) f = λ l h w.
 pub may_be_recorded : (x : B.Node) (msg : Message) → IsInRange bare msg → B.MayBeRecorded x msg
 may_be_recorded x msg range may =
     let e = x.half.end in
-    let tests = unsaid_none (is_none e.context || is_some (standing x.half.feed)) (nat_le high_water (length x.half.outbox)) (is_extended msg)
+    let tests = unsaid_none (is_none e.context || is_some (standing x.half.feed)) (nat_le high_water (length x.half.outbox)) (is_own_made msg)
         (tells_pieces e msg && is_none e.own.pieces) may.0 in
-    record { in_range = plain_range bare (belief e) msg tests.1 range; legal = may.1; start = omega arith }
+    record { in_range = belief_range e msg tests.1 range; legal = may.1; start = omega arith }
 
 abbrev pub Said : Node → Node → Message → Outcome → Type 0
 Said n m msg o = (x : B.Node) → IsNodeOf n x → B.MayBeRecorded x msg → (y : B.Node) × B.SayGives x msg o y × IsNodeOf m y

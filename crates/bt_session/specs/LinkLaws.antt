@@ -1,7 +1,7 @@
 -- Laws of the links of two ends: with honest ends the byte link does what the message link does.
 use Rattle.std.specs.Prelude.{◌≡◌, ℕ, ◌<◌, ◌≤◌, List, [], ◌∷◌, length, take, slice_get, Option, Some, None, ⊤}
 use Rattle.std.specs.Option.{ForSome}
-use Rattle.bt_ext.specs.Ids.{metadata_id}
+use Rattle.bt_ext.specs.Ids.{HaveBytes}
 use Rattle.bt_wire.specs.declared.item.Refusal.{Refusal}
 use Rattle.bt_wire.specs.Handshakes.{IsHandshake}
 use Rattle.bt_wire.specs.Messages.{IsInRange}
@@ -35,7 +35,7 @@ pub record IsConfigured (a : EndState) : Type 0 where
   pub reserved : a.handshake.reserved ≡ a.own.reserved
   pub least : 32768 ≤ a.own.limit
   pub most : a.own.limit ≤ 1048576
-  pub id : ForSome (metadata_id a.own.reg) (λ n. n < 256)
+  pub ids : HaveBytes a.own.reg
   pub serves : ForSome (source_of a.part) (λ metadata. IsMetadata metadata)
 
 abbrev pub IsFirstPart : Part → Type 0

@@ -1,6 +1,7 @@
 -- The link of two ends that hands over values: it decodes nothing and refuses nothing.
 use Rattle.std.specs.Prelude.{◌≡◌, ℕ, ◌+◌, ◌-◌, ◌<◌, ◌^◌, false, nat_le, min, if◌then◌else◌, List, [], ◌∷◌, ◌++◌, length, map, take, slice_get, Option,
     Some, None, ⊤}
+use Rattle.bt_ext.specs.Ids.{metadata_only}
 use Rattle.bt_ext.specs.declared.ids.Rules.TheVariants.{Free}
 use Rattle.bt_wire.specs.declared.context.Context.{Context}
 use Rattle.bt_wire.specs.declared.item.Item.{Item}
@@ -23,7 +24,7 @@ use Rattle.bt_session.specs.declared.link.Outcome.TheVariants as outcome
 
 -- a context to spell in where only the length counts: no context changes it
 abbrev pub bare : Context
-bare = record { fast = false; ext = false; pieces = None; reg = record { metadata = None }; rules = Free; limit = 0 }
+bare = record { fast = false; ext = false; pieces = None; reg = metadata_only None; rules = Free; limit = 0 }
 
 -- how many bytes an item has
 abbrev pub size : Item → ℕ

@@ -1,6 +1,6 @@
 //! Facts about numbers and lengths that the types of values hold: for the contracts of a run alone.
 ghost use Rattle.std.specs.Prelude.{◌≡◌, ◌<◌, ◌^◌, None, length, IfSome};
-ghost use Rattle.bt_ext.specs.Ids.{metadata_id};
+ghost use Rattle.bt_ext.specs.Ids.{metadata_id, donthave_id};
 ghost use Rattle.bt_wire.specs.Messages.{IsInRange, AreInRange, IsIdInRange, fields_of, id_of};
 ghost use Rattle.bt_end.specs.Configs.{end_for, config_error};
 ghost use Rattle.bt_session.specs.LinkLaws.{IsNew};
@@ -80,11 +80,20 @@ fn is_wide(reserved: &Reserved)
     let _bits = reserved.0;
 }
 
-/// An extension's id is a byte.
-fn has_byte(registered: &Registered)
+/// The id of `ut_metadata` is a byte.
+fn has_metadata_byte(registered: &Registered)
     ensures { IfSome (metadata_id registered.now) (λ n. n < 256) }
 {
     if let Some(id) = registered.metadata() {
+        let _id = id.get();
+    }
+}
+
+/// The id of `lt_donthave` is a byte.
+fn has_donthave_byte(registered: &Registered)
+    ensures { IfSome (donthave_id registered.now) (λ n. n < 256) }
+{
+    if let Some(id) = registered.donthave() {
         let _id = id.get();
     }
 }
@@ -96,5 +105,6 @@ pub fn is_new(config: &Config)
     is_twenty(&config.peer_id);
     is_wide(&config.own.reserved);
     has_length(&config.own.info_hash);
-    has_byte(&config.own.reg);
+    has_metadata_byte(&config.own.reg);
+    has_donthave_byte(&config.own.reg);
 }
