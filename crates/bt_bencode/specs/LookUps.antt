@@ -1,7 +1,8 @@
 -- What look-ups in a dictionary find (BEP 3, "bencoding").
-use Rattle.std.specs.Prelude.{◌≡◌, ℕ, ◌+◌, ℤ, List, Option, Some, None}
+use Rattle.std.specs.Prelude.{◌≡◌, ℕ, ◌+◌, ℤ, List, Option, Some, None, option_and_then}
 use Rattle.std.specs.Borrow.{Bor}
 use Rattle.bt_bencode.specs.Trees.{Tree, integer, string, list, dictionary, Pairs, no_pairs, pair}
+use Rattle.bt_bencode.specs.Keys.{value_at}
 
 -- the value as an integer, if it is one
 abbrev pub integer_of : Tree → Option ℤ
@@ -23,6 +24,10 @@ dictionary_of (integer z) = None
 dictionary_of (string s) = None
 dictionary_of (list ts) = None
 dictionary_of (dictionary ps) = Some ps
+
+-- the integer at the key in the value, if that is a dictionary
+abbrev pub inner_integer : List ℕ → Tree → Option ℤ
+inner_integer key t = option_and_then (λ ps. option_and_then integer_of (value_at key ps)) (dictionary_of t)
 
 -- What a step over the pairs gives: the key and its integer, or none at the end; and the pairs that are left.
 abbrev pub GivesPair : Pairs → Option (Bor (List ℕ) × Option ℤ) → Pairs → Type 0

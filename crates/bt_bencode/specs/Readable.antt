@@ -1,9 +1,10 @@
 -- What the readers of a checked spelling meet. (For the contracts of functions that are not public.)
-use Rattle.std.specs.Prelude.{◌≡◌, ℕ, ◌+◌, ℤ, ◌≤◌, ◌^◌, List, ◌∷◌, ◌++◌, length, FitsSigned, Option, Some, None, Result, Ok, Err, []}
+use Rattle.std.specs.Prelude.{◌≡◌, ℕ, ℤ, ◌≤◌, ◌^◌, List, ◌∷◌, ◌++◌, length, FitsSigned, Option, Some, None, Result, Ok, Err, [],
+    Bool, if◌then◌else◌}
 use Rattle.std.specs.Borrow.{Bor}
 use Rattle.std.specs.Int.{w64}
 use Rattle.std.specs.Fmt.{decimal, signed_decimal}
-use Rattle.bt_bencode.specs.Trees.{Tree, Trees, no_trees, tree, Pairs}
+use Rattle.bt_bencode.specs.Trees.{Tree, Trees, Pairs}
 use Rattle.bt_bencode.specs.Bencoding.{ben, ben_all, ben_pairs, ben_string, longest_string, InRange, AllInRange, PairsInRange}
 use Rattle.bt_bencode.specs.Scanner.{NumberThen}
 
@@ -18,11 +19,6 @@ HasItems bytes = (ts : Trees) × (rest : List ℕ) × AllInRange ts × (bytes �
 -- with the further pairs of a dictionary, and its end
 abbrev pub HasPairs : List ℕ → Type 0
 HasPairs bytes = (ps : Pairs) × (rest : List ℕ) × PairsInRange ps × (bytes ≡ ben_pairs ps ++ 101 ∷ rest)
-
--- how many values there are
-abbrev pub trees_count : Trees → ℕ
-trees_count no_trees = 0
-trees_count (tree t ts) = trees_count ts + 1
 
 -- the bytes begin with a byte string
 abbrev pub HasString : List ℕ → Type 0
@@ -53,6 +49,11 @@ Walks (Err n) more offset = offset ≡ Some n
 abbrev pub FindsValue : Option (Bor (List ℕ)) → Option Tree → Type 0
 FindsValue None o = o ≡ None
 FindsValue (Some bytes) o = (t : Tree) × (rest : List ℕ) × (o ≡ Some t) × InRange t × (bytes.now ≡ ben t ++ rest)
+
+-- what was found before, or else these bytes, where they are at the key
+abbrev pub first_found : Option (Bor (List ℕ)) → Bool → Bor (List ℕ) → Option (Bor (List ℕ))
+first_found (Some before) here bytes = Some before
+first_found None here bytes = if here then Some bytes else None
 
 -- the bytes spell the pairs, and the end of their dictionary
 pub record SpellsPairs (ps : Pairs) (bytes : List ℕ) : Type 0 where

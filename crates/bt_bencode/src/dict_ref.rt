@@ -3,14 +3,14 @@ ghost use Rattle.std.specs.Prelude.{◌≡◌, IfOk, IfErr, IfSome, option_map, 
 ghost use Rattle.bt_bencode.specs.Trees.{dictionary};
 ghost use Rattle.bt_bencode.specs.Bencoding.{BeginsWith, Fits, Spells, IsSpelling};
 ghost use Rattle.bt_bencode.specs.Keys.{value_at, unsorted};
-ghost use Rattle.bt_bencode.specs.LookUps.{integer_of, string_of, dictionary_of};
+ghost use Rattle.bt_bencode.specs.LookUps.{integer_of, string_of, dictionary_of, inner_integer};
 ghost use Rattle.bt_bencode.specs.Payloads.{Refuses};
 ghost use Rattle.bt_bencode.specs.Readable.{FindsValue, HasValue, ArePairs};
 ghost use Rattle.bt_bencode.specs.OneSpelling.{IsSpelling-prop, ArePairs-prop};
 
 use crate::read::{behind, read_value, split_string};
 use crate::scan::{Bad, scan};
-use crate::skip::{find, int_in, split_int, text_in};
+use crate::skip::{find, find_two, inner_int, int_in, split_int, text_in};
 use crate::sorted::first_unsorted;
 use crate::tree::Value;
 use std::alloc::{AllocError, Global};
@@ -32,7 +32,7 @@ impl<'a> DictRef<'a> {
         self.bytes
     }
 
-    /// The dictionary as a value. It takes memory at most once for each string, each list and each dictionary of it.
+    /// The dictionary as a value. It takes memory for each string, each list and each dictionary of it that isn't empty.
     pub fn to_value(&self, alloc: Global) -> Result<Value, AllocError>
         ensures { IfOk result (λ v. v ≡ Value.Dict self.now.tree.0) }
     {
@@ -62,6 +62,23 @@ impl<'a> DictRef<'a> {
         match self.value_behind(key) {
             None => None,
             Some(value) => int_in(value),
+        }
+    }
+
+    /// The integer at `inner` in the dictionary at `outer`, and the integer at `key`, in one walk: those that
+    /// [`DictRef::lookup_dict`] and [`DictRef::lookup_int`] find.
+    pub fn lookup_ints(&self, outer: &[u8], inner: &[u8], key: &[u8]) -> (Option<i64>, Option<i64>)
+        ensures inner { result.0 ≡ option_and_then (inner_integer inner.now) (value_at outer.now self.now.tree.0) }
+        ensures own { result.1 ≡ option_and_then integer_of (value_at key.now self.now.tree.0) }
+    {
+        let (nested, own) = find_two(behind(self.spelled()), outer, key);
+        let nested = match nested {
+            None => None,
+            Some(value) => inner_int(value, inner),
+        };
+        match own {
+            None => (nested, None),
+            Some(value) => (nested, int_in(value)),
         }
     }
 

@@ -1,11 +1,12 @@
-//! What follows a value in a checked spelling, how many values or pairs there are, and what stands at a key. It takes
-//! no memory. Skipping a value recurses by its nesting, which is at most 32 in what the public calls hand in.
+//! What follows a value in a checked spelling, and what stands at a key. It takes no memory. Skipping a value recurses
+//! by its nesting, which is at most 32 in what the public calls hand in.
 ghost use Rattle.std.specs.Prelude.{◌≡◌, ℕ, ◌<◌, ◌∷◌, ◌++◌, List, length, option_map};
 ghost use Rattle.bt_bencode.specs.Trees.{Tree, Trees, Pairs};
 ghost use Rattle.bt_bencode.specs.Bencoding.{ben, ben_all, ben_pairs, InRange, AllInRange, PairsInRange};
 ghost use Rattle.bt_bencode.specs.Keys.{value_at};
-ghost use Rattle.bt_bencode.specs.LookUps.{integer_of, string_of, pairs_count};
-ghost use Rattle.bt_bencode.specs.Readable.{FindsValue, HasValue, HasItems, HasPairs, trees_count};
+ghost use Rattle.std.specs.Str.{bytes_eq};
+ghost use Rattle.bt_bencode.specs.LookUps.{integer_of, string_of, inner_integer};
+ghost use Rattle.bt_bencode.specs.Readable.{FindsValue, HasValue, HasItems, HasPairs, first_found};
 
 use crate::read::{behind, read_int, split_string};
 
@@ -51,35 +52,6 @@ fn skip_pairs(bytes: &[u8]) -> &[u8]
     behind(rest)
 }
 
-/// How many values of a list stand in front of its `e`.
-pub fn count_items(bytes: &[u8]) -> usize
-    requires { HasItems bytes.now }
-    ensures { (ts : Trees) (more : List ℕ) → AllInRange ts → bytes.now ≡ ben_all ts ++ 101 ∷ more → result ≡ trees_count ts }
-{
-    let mut count = 0;
-    let mut rest = bytes;
-    while rest[0] != b'e' {
-        rest = skip_value(rest);
-        count += 1;
-    }
-    count
-}
-
-/// How many pairs of a dictionary stand in front of its `e`.
-pub fn count_pairs(bytes: &[u8]) -> usize
-    requires { HasPairs bytes.now }
-    ensures { (ps : Pairs) (more : List ℕ) → PairsInRange ps → bytes.now ≡ ben_pairs ps ++ 101 ∷ more → result ≡ pairs_count ps }
-{
-    let mut count = 0;
-    let mut rest = bytes;
-    while rest[0] != b'e' {
-        let (_, value) = split_string(rest);
-        rest = skip_value(value);
-        count += 1;
-    }
-    count
-}
-
 /// The bytes from the value of the first pair with the key on.
 pub fn find<'a>(pairs: &'a [u8], key: &[u8]) -> Option<&'a [u8]>
     requires { HasPairs pairs.now }
@@ -94,6 +66,61 @@ pub fn find<'a>(pairs: &'a [u8], key: &[u8]) -> Option<&'a [u8]>
         rest = skip_value(value);
     }
     None
+}
+
+/// What was found for the key before, or else the value of a pair with this name, where that is the key.
+#[inline(always)]
+fn found_at<'a>(
+    before: Option<&'a [u8]>,
+    name: &[u8],
+    key: &[u8],
+    value: &'a [u8],
+) -> Option<&'a [u8]>
+    ensures { result ≡ first_found before.entry (bytes_eq name.now key.now) value.entry }
+{
+    match before {
+        Some(_) => before,
+        None => { if name == key { Some(value) } else { None } }
+    }
+}
+
+/// The bytes from the values of the first pairs with the two keys on, in one walk.
+pub fn find_two<'a>(
+    pairs: &'a [u8],
+    first: &[u8],
+    second: &[u8],
+) -> (Option<&'a [u8]>, Option<&'a [u8]>)
+    requires { HasPairs pairs.now }
+    ensures first { (ps : Pairs) (more : List ℕ) → PairsInRange ps → pairs.now ≡ ben_pairs ps ++ 101 ∷ more → FindsValue result.0 (value_at first.now ps) }
+    ensures second { (ps : Pairs) (more : List ℕ) → PairsInRange ps → pairs.now ≡ ben_pairs ps ++ 101 ∷ more → FindsValue result.1 (value_at second.now ps) }
+{
+    let mut rest = pairs;
+    let mut one: Option<&'a [u8]> = None;
+    let mut two: Option<&'a [u8]> = None;
+    while rest[0] != b'e' {
+        let (name, value) = split_string(rest);
+        one = found_at(one, name, first, value);
+        two = found_at(two, name, second, value);
+        if one.is_some() && two.is_some() {
+            return (one, two);
+        }
+        rest = skip_value(value);
+    }
+    (one, two)
+}
+
+/// The integer at the key in the value in front, if that is a dictionary.
+pub fn inner_int(value: &[u8], key: &[u8]) -> Option<i64>
+    requires { HasValue value.now }
+    ensures { (t : Tree) (more : List ℕ) → InRange t → value.now ≡ ben t ++ more → result ≡ inner_integer key.now t }
+{
+    if value[0] != b'd' {
+        return None;
+    }
+    match find(behind(value), key) {
+        None => None,
+        Some(inner) => int_in(inner),
+    }
 }
 
 /// The value in front, if it is an integer, and what follows it.

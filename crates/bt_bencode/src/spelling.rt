@@ -106,3 +106,11 @@ pub fn spell(alloc: Global, value: &Value) -> Result<Vec<u8>, SpellError>
     push_value(&mut out, value)?;
     Ok(out)
 }
+
+/// Appends the spelling of a value that fits. With room for it no memory is taken.
+pub fn append_value(out: &mut Vec<u8>, value: &Value) -> Result<(), AllocError>
+    requires { Fits (tree_of value.now) }
+    ensures { OnOk result (out.new.items ≡ out.old.items ++ ben (tree_of value.now)) }
+{
+    push_value(out, value)
+}

@@ -1,0 +1,59 @@
+use Rattle.std.proofs.Common.{◌∙◌, is_some, refl, sym, ap}
+use Rattle.std.specs.Str.{bytes_eq}
+use Rattle.bt_bencode.specs.Readable.{HasPairs}
+use Rattle.bt_bencode.proofs.Heads.{key_there, value_behind}
+use Rattle.bt_bencode.proofs.Skips.{sought_left, sought_step, sought_found, sought_end}
+use Rattle.bt_bencode.proofs.skip.find_two.Goals as goal
+
+pub split_string-requires : goal.split_string-requires
+split_string-requires c =
+    let left = sought_left c.args.first.now c.requires.0 c.requires.1 c.loop-rest.rest.now c.loop-rest.one
+    (c.loop-rest.invariant.first c.requires.0 c.requires.1 c.requires.2 c.requires.3) in
+    let pairs : HasPairs c.loop-rest.rest.now = (left.0, c.requires.1, left.1, left.2) in
+    key_there c.loop-rest.rest.now pairs c.loop-rest-test.true
+
+pub skip_value-rest-requires : goal.skip_value-rest-requires
+skip_value-rest-requires c =
+    let left = sought_left c.args.first.now c.requires.0 c.requires.1 c.loop-rest.rest.now c.loop-rest.one
+    (c.loop-rest.invariant.first c.requires.0 c.requires.1 c.requires.2 c.requires.3) in
+    let pairs : HasPairs c.loop-rest.rest.now = (left.0, c.requires.1, left.1, left.2) in
+    value_behind c.loop-rest.rest.now c.split_string.result.0.now c.split_string.result.1.now pairs c.loop-rest-test.true c.split_string.ensures.short
+    c.split_string.ensures.split
+
+pub returns-then-is_some-2-clause-first : goal.returns-then-is_some-2-clause-first
+returns-then-is_some-2-clause-first c = λ ps more h is.
+    let key = c.split_string.result.0.now in
+    let rest = c.loop-rest.rest.now in
+    rw c.found_at-one.ensures (sought_found c.args.first.now ps more rest key c.split_string.result.1 c.split_string.ensures.short
+    c.split_string.ensures.split c.loop-rest.one (bytes_eq key c.args.first.now) refl c.loop-rest-test.true (c.loop-rest.invariant.first ps more h is)
+    (ap is_some (sym c.found_at-one.ensures) ∙ sym c.is_some.ensures ∙ c.if-is_some.true))
+
+pub returns-then-is_some-2-clause-second : goal.returns-then-is_some-2-clause-second
+returns-then-is_some-2-clause-second c = λ ps more h is.
+    let key = c.split_string.result.0.now in
+    let rest = c.loop-rest.rest.now in
+    rw c.found_at-two.ensures (sought_found c.args.second.now ps more rest key c.split_string.result.1 c.split_string.ensures.short
+    c.split_string.ensures.split c.loop-rest.two (bytes_eq key c.args.second.now) refl c.loop-rest-test.true (c.loop-rest.invariant.second ps more h is)
+    (ap is_some (sym c.found_at-two.ensures) ∙ sym c.is_some-then-is_some.ensures ∙ c.if-is_some-2.true))
+
+pub loop-rest-preserved : goal.loop-rest-preserved
+loop-rest-preserved c =
+    let key = c.split_string.result.0.now in
+    let rest = c.loop-rest.rest.now in
+    let next = c.skip_value-rest.result.now in
+    record {
+      first = λ ps more h is. rw c.found_at-one.ensures (sought_step c.args.first.now ps more rest key c.split_string.result.1 c.split_string.ensures.short
+          c.split_string.ensures.split next c.loop-rest.one (bytes_eq key c.args.first.now) refl c.loop-rest-test.true c.skip_value-rest.ensures.behind
+          (c.loop-rest.invariant.first ps more h is));
+      second = λ ps more h is. rw c.found_at-two.ensures (sought_step c.args.second.now ps more rest key c.split_string.result.1
+          c.split_string.ensures.short c.split_string.ensures.split next c.loop-rest.two (bytes_eq key c.args.second.now) refl c.loop-rest-test.true
+          c.skip_value-rest.ensures.behind (c.loop-rest.invariant.second ps more h is));
+    }
+
+pub returns-clause-first : goal.returns-clause-first
+returns-clause-first c = λ ps more h is. sought_end c.args.first.now ps more c.loop-rest.rest.now c.loop-rest.one c.loop-rest-test.false
+    (c.loop-rest.invariant.first ps more h is)
+
+pub returns-clause-second : goal.returns-clause-second
+returns-clause-second c = λ ps more h is. sought_end c.args.second.now ps more c.loop-rest.rest.now c.loop-rest.two c.loop-rest-test.false
+    (c.loop-rest.invariant.second ps more h is)
