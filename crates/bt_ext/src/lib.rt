@@ -23,6 +23,6 @@ pub use ids::{ExtId, Registered, Rules};
 pub use kinds::{kind, kind_ref};
 pub use made::{dict_of, handshake_dict};
 pub use metadata::{Kind, block_ok};
-pub use spelling::{ext_len, ext_reason, spell_ext};
+pub use spelling::{append_ext, ext_len, ext_reason, spell_ext};
 pub use table::Table;
 pub use view::{copy_ext, read_ext, view_ext};

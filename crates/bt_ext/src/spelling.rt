@@ -1,5 +1,5 @@
 //! What a value is written as, and why rules refuse it.
-ghost use Rattle.std.specs.Prelude.{◌≡◌, ◌++◌, ◌^◌, ◌-◌, length, min, ◌≤◌, Some, Err, IfOk, IfErr, IsTrue, ◌↔◌, is_some, MatchOption};
+ghost use Rattle.std.specs.Prelude.{◌≡◌, ◌++◌, ◌^◌, ◌-◌, length, min, ◌≤◌, Some, Err, IfOk, IfErr, IsTrue, ◌↔◌, is_some, MatchOption, OnOk, ◌∷◌, unwrap_or};
 ghost use Rattle.bt_bencode.specs.Keys.{unsorted};
 ghost use Rattle.bt_bencode.specs.Bencoding.{ben};
 ghost use Rattle.bt_bencode.specs.Views.{tree_of};
@@ -11,8 +11,8 @@ use crate::fields::bad_field;
 use crate::ids::{Registered, Rules};
 use crate::kinds::kind;
 use crate::metadata::{block_ok, is_malformed};
-use bt_bencode::{ByteString, SpellError, Value, ben_len, fits, is_sorted, spell};
-use std::alloc::Global;
+use bt_bencode::{ByteString, SpellError, Value, append_value, ben_len, fits, is_sorted, spell};
+use std::alloc::{AllocError, Global};
 
 fn is_dict(dict: &Value) -> bool
     ensures { IsTrue result ↔ IsDict dict.now }
@@ -117,6 +117,36 @@ pub fn spell_ext(alloc: Global, reg: Registered, value: &Ext) -> Result<(u8, Vec
     };
     let payload = spell_payload(alloc, value)?;
     Ok((id, payload))
+}
+
+/// Appends a dictionary and what follows it.
+fn append_dict(out: &mut Vec<u8>, dict: &Value, rest: &ByteString) -> Result<(), AllocError>
+    requires { IsDict dict.now }
+    ensures { OnOk result (out.new.items ≡ out.old.items ++ (ben (tree_of dict.now) ++ rest.now)) }
+{
+    append_value(out, dict)?;
+    out.extend_from_slice(rest.as_slice())
+}
+
+/// Appends the payload of a value that has a spelling of its own. With room for it no memory is taken.
+fn append_payload(out: &mut Vec<u8>, value: &Ext) -> Result<(), AllocError>
+    requires { HasDict value.now }
+    ensures { OnOk result (out.new.items ≡ out.old.items ++ payload_of value.now) }
+{
+    match value {
+        Ext::Handshake { dict, rest } => append_dict(out, dict, rest),
+        Ext::Metadata { dict, rest } => append_dict(out, dict, rest),
+        Ext::Raw { payload, .. } => out.extend_from_slice(payload.as_slice()),
+    }
+}
+
+/// Appends the extended id and the payload of a value that has a spelling of its own. With room for them no memory is taken.
+pub fn append_ext(out: &mut Vec<u8>, reg: Registered, value: &Ext) -> Result<(), AllocError>
+    requires { HasSpelling reg value.now }
+    ensures { OnOk result (out.new.items ≡ out.old.items ++ (unwrap_or (ext_id reg value.now) 0 ∷ payload_of value.now)) }
+{
+    out.push(id_of(reg, value).unwrap_or(0))?;
+    append_payload(out, value)
 }
 
 fn is_unsorted(dict: &Value) -> bool

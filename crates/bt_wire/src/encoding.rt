@@ -12,7 +12,7 @@ use crate::fields::{Fields, judge_message};
 use crate::header::judge_any_id;
 use crate::ids::{EXTENDED, kind_of};
 use crate::message::Message;
-use bt_ext::{Ext, ExtReason, Registered, ext_len, ext_reason, spell_ext};
+use bt_ext::{Ext, ExtReason, Registered, append_ext, ext_len, ext_reason};
 use std::alloc::{AllocError, Global};
 
 /// How many bytes the fields have.
@@ -150,13 +150,12 @@ fn spelled(
 {
     let mut bytes = Vec::with_capacity(alloc, 4 + length as usize)?;
     bytes.extend_from_slice(&length.to_be_bytes())?;
-    push_body(alloc, &mut bytes, context, message)?;
+    push_body(&mut bytes, context, message)?;
     Ok(bytes)
 }
 
 /// Appends the id and the fields.
 fn push_body(
-    alloc: Global,
     bytes: &mut Vec<u8>,
     context: &Context,
     message: &Message,
@@ -167,7 +166,7 @@ fn push_body(
     match message.fields() {
         Some(fields) => push_plain(bytes, message.id(), &fields),
         None => match message {
-            Message::Extended(value) => push_extended(alloc, bytes, context.reg, value),
+            Message::Extended(value) => push_extended(bytes, context.reg, value),
             _ => Ok(()),
         },
     }
@@ -187,24 +186,12 @@ fn push_plain(bytes: &mut Vec<u8>, id: Option<u8>, fields: &Fields) -> Result<()
 }
 
 /// Appends the ids and the payload of an extended message.
-fn push_extended(
-    alloc: Global,
-    bytes: &mut Vec<u8>,
-    reg: Registered,
-    value: &Ext,
-) -> Result<(), AllocError>
+fn push_extended(bytes: &mut Vec<u8>, reg: Registered, value: &Ext) -> Result<(), AllocError>
     requires { HasSpelling reg value.now }
     ensures { OnOk result (bytes.new.items ≡ bytes.old.items ++ (20 ∷ (unwrap_or (ext_id reg value.now) 0 ∷ payload_of value.now))) }
 {
-    match spell_ext(alloc, reg, value) {
-        Ok((id, payload)) => {
-            bytes.push(EXTENDED)?;
-            bytes.push(id)?;
-            bytes.extend_from_slice(&payload)?;
-            Ok(())
-        }
-        Err(_) => Err(AllocError),
-    }
+    bytes.push(EXTENDED)?;
+    append_ext(bytes, reg, value)
 }
 
 /// Appends the bytes of the fields.
