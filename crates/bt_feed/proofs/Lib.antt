@@ -10,5 +10,6 @@ pub mod FeedLaws
 pub mod Places
 pub mod Moving
 pub mod Stepping
+mod Lent
 mod Passed
 mod Reasons

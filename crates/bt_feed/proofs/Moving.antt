@@ -70,6 +70,12 @@ fed_both f m g a b xs ys p q = record {
       subst P (sym (append_assoc a b later)) (subst Q (sym (append_assoc xs ys v.items)) (p.comes (b ++ later) (with_items ys v) (q.comes later v k)));
 }
 
+-- bytes alone went in
+pub fed_on : (f m g : FeedState) (a b : List ℕ) (xs : List (ℕ × Item)) → IsFed f a xs m → IsFed m b [] g → IsFed f (a ++ b) xs g
+fed_on f m g a b xs p q =
+    let P : List (ℕ × Item) → Type 0 = λ zs. IsFed f (a ++ b) zs g in
+    subst P (append-nil xs) (fed_both f m g a b xs [] p q)
+
 -- a push moves bytes alone
 fed_push : (f p : FeedState) (rest : List ℕ) (n : ℕ) → n ≡ taken f rest → p ≡ pushed f rest → IsFed f (take n rest) [] p
 fed_push f p rest n count is =

@@ -11,3 +11,4 @@ pub mod Pumps
 pub mod Items
 pub mod Senders
 pub mod Errors
+pub mod Buffers

@@ -1,6 +1,6 @@
 -- What a pump moves: the bytes of a source through a feed, and its items into a sink.
 use Rattle.std.specs.Prelude.{◌≡◌, ◌≤◌, ℕ, ⊤, false, length, List, [], ◌∷◌, ◌++◌, take, Option, None, Result, Ok, Err}
-use Rattle.std.specs.Io.KnownBytes.{Consumes}
+use Rattle.std.specs.Io.KnownBytes.{Consumes, Keeps}
 use Rattle.bt_wire.specs.declared.fault.Reason.TheVariants.{EndInside}
 use Rattle.bt_wire.specs.declared.item.Item.{Item}
 use Rattle.bt_wire.specs.Streams.{Outcome}
@@ -9,7 +9,8 @@ use Rattle.bt_feed.specs.declared.pumping.PumpError.TheVariants as error
 use Rattle.bt_feed.specs.declared.sink.SinkFault.{SinkFault}
 use Rattle.bt_feed.specs.declared.view.Finish.TheVariants as finish
 use Rattle.bt_feed.specs.Stages.{number_of, is_closed, Comes}
-use Rattle.bt_feed.specs.Feeds.{FeedState}
+use Rattle.bt_io.specs.declared.failed.Failed.{Failed}
+use Rattle.bt_feed.specs.Feeds.{FeedState, with_bytes}
 use Rattle.bt_feed.specs.Laws.{verdict_at_end}
 use Rattle.bt_feed.specs.Answers.{IsAnswer}
 use Rattle.bt_feed.specs.Transcripts.{with_items}
@@ -93,6 +94,20 @@ IsPieceEnd f piece xs g (Err (error.Refused r)) = (n : ℕ) × IsFed f (take n p
 IsPieceEnd f piece xs g (Err (error.Sink e)) = (n : ℕ) × IsFed f (take n piece) xs g
 IsPieceEnd f piece xs g (Err error.ReadFault) = ⊥
 IsPieceEnd f piece xs g (Err error.Turns) = ⊥
+
+-- bytes were read and went into the feed, all of them; or none, where the read failed
+abbrev pub IsRead : FeedState → FeedState → Option (List ℕ) → Option (List ℕ) → Result ℕ Failed → Type 0
+IsRead f g left left' (Ok n) = (bytes : List ℕ) × (length bytes ≡ n) × (g ≡ with_bytes f bytes) × Consumes left left' bytes
+IsRead f g left left' (Err e) = (g ≡ f) × Keeps left left'
+
+-- bytes were read: some went into the feed, and what follows them is this piece
+abbrev pub IsReadOn : FeedState → FeedState → Option (List ℕ) → Option (List ℕ) → List ℕ → Type 0
+IsReadOn f g left left' piece = (bytes : List ℕ) × IsFed f bytes [] g × Consumes left left' (bytes ++ piece)
+
+-- how many bytes came
+abbrev pub came : Result (ℕ × ℕ) Failed → Result ℕ Failed
+came (Ok x) = Ok x.0
+came (Err e) = Err e
 
 -- the answer is the verdict at the stream's end
 abbrev pub IsVerdictAtEnd : Outcome → Result ℕ PumpError → Type 0

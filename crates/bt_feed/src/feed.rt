@@ -1,10 +1,12 @@
 //! A feed: bytes of a stream go in, in any pieces, and its items come out. Pumps and ends call it.
-ghost use Rattle.std.specs.Prelude.{◌≡◌, ◌+◌, ◌<◌, ◌≤◌, ◌^◌, ◌⊎◌, ◌↔◌, ℕ, List, [], length, take, None, Err, IfOk, IfSome, IsErrOf, OnOk, OnErr};
+ghost use Rattle.std.specs.Prelude.{◌≡◌, ◌+◌, ◌<◌, ◌≤◌, ◌^◌, ◌⊎◌, ◌↔◌, ℕ, List, [], length, take, None, Err, IfOk, IfSome, IsErrOf, OnOk, OnErr, is_err};
 
+use crate::buffer::Buffer;
 use crate::progress::Progress;
 use crate::sink::{Sink, SinkFault};
 use crate::stage::{END, Stage};
 use crate::view::{Finish, TakeError, View};
+use bt_io::{Failed, Source};
 use bt_wire::{Context, Order, Own, Refusal};
 use std::alloc::{AllocError, Allocator, Global};
 use std::marker::Model;
@@ -40,7 +42,7 @@ impl From<AllocError> for FeedError {
 #[derive(Drop)]
 pub struct Feed<A: Allocator = Global> {
     progress: Progress,
-    buffer: Vec<u8, A>,
+    buffer: Buffer<A>,
 }
 
 impl<A: Allocator> Model for Feed<A> {
@@ -58,8 +60,8 @@ impl<A: Allocator> Model for Feed<A> {
 ghost use Rattle.bt_feed.specs.Stages.{limit_of, start_of, number_of, capacity_of, is_closed};
 ghost use Rattle.bt_feed.specs.Feeds.{taken, pushed};
 ghost use Rattle.bt_wire.specs.declared.item.Item.{Item};
-ghost use Rattle.bt_io.specs.Counts.{Grew};
-ghost use Rattle.bt_feed.specs.Pumps.{IsHanded, IsFed};
+ghost use Rattle.bt_io.specs.Counts.{Grew, one_more, counted, is_end};
+ghost use Rattle.bt_feed.specs.Pumps.{IsHanded, IsFed, IsRead};
 ghost use Rattle.bt_feed.specs.Views.{shown};
 ghost use Rattle.bt_feed.specs.Progress.{IsPartial, IsFeed};
 ghost use Rattle.bt_feed.specs.Answers.{IsAnswer, after, standing, finish_of};
@@ -79,7 +81,7 @@ impl<A: Allocator> Feed<A> {
         }
         Ok(Feed {
             progress: Progress::new(Stage::Handshake(own)),
-            buffer: Vec::with_capacity(alloc, (own.limit as usize + 4).max(68))?,
+            buffer: Buffer::with_capacity(alloc, (own.limit as usize + 4).max(68))?,
         })
     }
 
@@ -102,7 +104,7 @@ impl<A: Allocator> Feed<A> {
                 start: base,
                 number: 1,
             }),
-            buffer: Vec::with_capacity(alloc, (context.limit as usize + 4).max(68))?,
+            buffer: Buffer::with_capacity(alloc, (context.limit as usize + 4).max(68))?,
         })
     }
 
@@ -159,6 +161,18 @@ impl<A: Allocator> Feed<A> {
         ensures limit { limit_of self.new.stage ≤ 1048576 }
     {
         self.progress.pass(self.buffer.as_slice(), sink, piece)
+    }
+
+    /// Reads bytes of a message that is held in part straight to those that are held, where many of them are still to come.
+    #[inline(always)]
+    pub(crate) fn read<R: Source>(&mut self, reader: &mut R) -> Option<Result<usize, Failed>>
+        ensures none { result ≡ None → (self.new ≡ self.old) × (reader.new ≡ reader.old) }
+        ensures read { IfSome result (λ r. IsRead self.old self.new (R.left reader.old) (R.left reader.new) r) }
+        ensures reads { IfSome result (λ _. R.reads reader.new ≡ one_more (R.reads reader.old)) }
+        ensures failed { IfSome result (λ r. R.failed_reads reader.new ≡ counted (is_err r) (R.failed_reads reader.old)) }
+        ensures ends { IfSome result (λ r. R.ends reader.new ≡ counted (is_end r 1) (R.ends reader.old)) }
+    {
+        self.progress.read(&mut self.buffer, reader)
     }
 
     /// The next item, where it is whole: its bytes are held no more from then on. A refusal is given again for ever after.

@@ -1,6 +1,7 @@
 //! A feed: the items of a stream whose bytes come in any pieces, over one buffer that is reserved once.
 #![tactic(auto)]
 
+mod buffer;
 mod discard;
 mod feed;
 mod items;

@@ -1,19 +1,21 @@
 //! How far a feed is with the item that it awaits.
-ghost use Rattle.std.specs.Prelude.{◌≡◌, ◌+◌, ◌-◌, ◌<◌, ◌≤◌, ◌⊎◌, ◌++◌, false, true, List, ℕ, length, take, min, vec_capacity, None, Err, IfSome, OnOk, OnErr};
+ghost use Rattle.std.specs.Prelude.{◌≡◌, ◌+◌, ◌-◌, ◌<◌, ◌≤◌, ◌⊎◌, ◌++◌, false, true, List, ℕ, length, take, min, None, Err, IfSome, OnOk, OnErr, is_err};
 ghost use Rattle.bt_wire.specs.declared.item.Item.{Item};
-ghost use Rattle.bt_io.specs.Counts.{Grew};
-ghost use Rattle.bt_feed.specs.Pumps.{IsHanded, IsFed};
+ghost use Rattle.bt_io.specs.Counts.{Grew, one_more, counted, is_end};
+ghost use Rattle.bt_feed.specs.Pumps.{IsHanded, IsFed, IsRead};
 ghost use Rattle.bt_feed.specs.Stages.{limit_of, capacity_of, is_closed};
 ghost use Rattle.bt_feed.specs.Feeds.{held_of, state_of};
 ghost use Rattle.bt_feed.specs.Views.{shown};
 ghost use Rattle.bt_feed.specs.Answers.{IsAnswer, IsFound, after, standing, finish_of};
 ghost use Rattle.bt_feed.specs.Progress.{IsPartial, HasWindow, Fills, IsProgress, IsSameItem};
 
+use crate::buffer::Buffer;
 use crate::passing::pass_messages;
 use crate::sink::{Sink, SinkFault};
 use crate::slices::behind;
 use crate::stage::{Goal, Stage};
 use crate::view::{Finish, TakeError, View};
+use bt_io::{Failed, Source};
 use bt_wire::{Reason, Refusal, Refused, view_window};
 use std::alloc::Allocator;
 
@@ -29,20 +31,20 @@ pub struct Progress {
     pub refused: Option<Refusal>,
 }
 
+/// So many bytes that are still to come are read straight into the buffer.
+const MANY: usize = 32_768;
+
 /// Appends bytes up to a length within the capacity, and says how many.
 #[inline(always)]
-fn append_up_to<A: Allocator>(buffer: &mut Vec<u8, A>, goal: usize, bytes: &[u8]) -> usize
+fn append_up_to<A: Allocator>(buffer: &mut Buffer<A>, goal: usize, bytes: &[u8]) -> usize
     requires held { length buffer.old.items ≤ goal }
-    requires room { goal ≤ vec_capacity buffer.old }
+    requires room { goal ≤ buffer.old.capacity }
     ensures count { result ≡ min (goal - length buffer.old.items) (length bytes.now) }
     ensures items { buffer.new.items ≡ buffer.old.items ++ take result bytes.now }
-    ensures capacity { vec_capacity buffer.old ≤ vec_capacity buffer.new }
+    ensures capacity { buffer.old.capacity ≤ buffer.new.capacity }
 {
     let count = (goal - buffer.len()).min(bytes.len());
-    match buffer.extend_from_slice(&bytes[..count]) {
-        Ok(()) => {}
-        Err(_) => unreachable!(),
-    }
+    buffer.append(&bytes[..count]);
     count
 }
 
@@ -68,15 +70,15 @@ impl Progress {
     }
 
     /// Appends to the buffer up to the next place where bytes are judged, and says how many.
-    fn step<A: Allocator>(&mut self, buffer: &mut Vec<u8, A>, piece: &[u8]) -> usize
+    fn step<A: Allocator>(&mut self, buffer: &mut Buffer<A>, piece: &[u8]) -> usize
         requires sound { IsProgress self.old buffer.old.items }
-        requires room { capacity_of self.old.stage ≤ vec_capacity buffer.old }
+        requires room { capacity_of self.old.stage ≤ buffer.old.capacity }
         requires fresh { self.old.spent ≡ false }
         requires unjudged { self.old.wanted ≡ 0 }
         ensures fills { Fills self.old.stage buffer.old.items piece.now buffer.new.items result }
         ensures stops { (result ≡ 0) ⊎ (0 < self.new.wanted) → result < length piece.now → is_closed self.old.stage buffer.new.items ≡ true }
         ensures sound { IsProgress self.new buffer.new.items }
-        ensures room { vec_capacity buffer.old ≤ vec_capacity buffer.new }
+        ensures room { buffer.old.capacity ≤ buffer.new.capacity }
         ensures same { IsSameItem self.old self.new }
     {
         match self.stage.next_goal(buffer.as_slice()) {
@@ -92,15 +94,15 @@ impl Progress {
     /// Appends to the buffer until the item is closed, or all, where its header isn't judged yet.
     #[cold]
     #[inline(never)]
-    fn fill_by_steps<A: Allocator>(&mut self, buffer: &mut Vec<u8, A>, piece: &[u8]) -> usize
+    fn fill_by_steps<A: Allocator>(&mut self, buffer: &mut Buffer<A>, piece: &[u8]) -> usize
         requires sound { IsProgress self.old buffer.old.items }
-        requires room { capacity_of self.old.stage ≤ vec_capacity buffer.old }
+        requires room { capacity_of self.old.stage ≤ buffer.old.capacity }
         requires fresh { self.old.spent ≡ false }
         requires unjudged { self.old.wanted ≡ 0 }
         ensures fills { Fills self.old.stage buffer.old.items piece.now buffer.new.items result }
         ensures stops { result < length piece.now → is_closed self.old.stage buffer.new.items ≡ true }
         ensures sound { IsProgress self.new buffer.new.items }
-        ensures room { vec_capacity buffer.old ≤ vec_capacity buffer.new }
+        ensures room { buffer.old.capacity ≤ buffer.new.capacity }
         ensures same { IsSameItem self.old self.new }
     {
         let mut at = 0;
@@ -115,11 +117,11 @@ impl Progress {
 
     /// Lets the bytes of a taken item go.
     #[inline(always)]
-    fn refresh<A: Allocator>(&mut self, buffer: &mut Vec<u8, A>)
+    fn refresh<A: Allocator>(&mut self, buffer: &mut Buffer<A>)
         requires sound { IsProgress self.old buffer.old.items }
         ensures held { buffer.new.items ≡ held_of self.old buffer.old.items }
         ensures sound { IsProgress self.new buffer.new.items }
-        ensures room { vec_capacity buffer.old ≤ vec_capacity buffer.new }
+        ensures room { buffer.old.capacity ≤ buffer.new.capacity }
         ensures same { IsSameItem self.old self.new }
     {
         if self.spent {
@@ -146,13 +148,13 @@ impl Progress {
 
     /// Appends to the buffer until the item is closed, or all.
     #[inline(always)]
-    pub fn fill<A: Allocator>(&mut self, buffer: &mut Vec<u8, A>, piece: &[u8]) -> usize
+    pub fn fill<A: Allocator>(&mut self, buffer: &mut Buffer<A>, piece: &[u8]) -> usize
         requires sound { IsProgress self.old buffer.old.items }
-        requires room { capacity_of self.old.stage ≤ vec_capacity buffer.old }
+        requires room { capacity_of self.old.stage ≤ buffer.old.capacity }
         ensures fills { Fills self.old.stage (held_of self.old buffer.old.items) piece.now buffer.new.items result }
         ensures stops { result < length piece.now → is_closed self.old.stage buffer.new.items ≡ true }
         ensures sound { IsProgress self.new buffer.new.items }
-        ensures room { vec_capacity buffer.old ≤ vec_capacity buffer.new }
+        ensures room { buffer.old.capacity ≤ buffer.new.capacity }
         ensures same { IsSameItem self.old self.new }
     {
         self.refresh(buffer);
@@ -162,6 +164,30 @@ impl Progress {
         }
         self.wanted = length;
         append_up_to(buffer, length, piece)
+    }
+
+    /// Reads bytes of the present message straight into the buffer, where many of them are still to come.
+    #[inline(always)]
+    pub fn read<R: Source, A: Allocator>(
+        &self,
+        buffer: &mut Buffer<A>,
+        reader: &mut R,
+    ) -> Option<Result<usize, Failed>>
+        requires sound { IsProgress self.now buffer.old.items }
+        requires room { capacity_of self.now.stage ≤ buffer.old.capacity }
+        ensures none { result ≡ None → (buffer.new ≡ buffer.old) × (reader.new ≡ reader.old) }
+        ensures read { IfSome result (λ r. IsRead (state_of self.now buffer.old.items) (state_of self.now buffer.new.items)
+            (R.left reader.old) (R.left reader.new) r) }
+        ensures reads { IfSome result (λ _. R.reads reader.new ≡ one_more (R.reads reader.old)) }
+        ensures failed { IfSome result (λ r. R.failed_reads reader.new ≡ counted (is_err r) (R.failed_reads reader.old)) }
+        ensures ends { IfSome result (λ r. R.ends reader.new ≡ counted (is_end r 1) (R.ends reader.old)) }
+        ensures sound { IsProgress self.now buffer.new.items }
+        ensures room { buffer.old.capacity ≤ buffer.new.capacity }
+    {
+        if self.spent || self.wanted < buffer.len() + MANY {
+            return None;
+        }
+        Some(buffer.read(reader, self.wanted))
     }
 
     /// Gives the sink the whole messages at the front of a piece, where nothing is held or refused, and says how many bytes they

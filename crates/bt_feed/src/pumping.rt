@@ -2,15 +2,17 @@
 ghost use Rattle.std.specs.Prelude.{◌≡◌, ◌+◌, ◌-◌, ◌^◌, ◌≤◌, ◌≢◌, ℕ, List, ◌<◌, min, length, false, Err, OnOk};
 ghost use Rattle.bt_wire.specs.declared.fault.Reason.TheVariants as reasons;
 ghost use Rattle.bt_wire.specs.declared.item.Item.{Item};
-ghost use Rattle.bt_io.specs.Counts.{Grew};
-ghost use Rattle.bt_feed.specs.Pumps.{IsGiven, IsEnd, IsEndOf, IsPump, IsPieceEnd, IsSinkFault};
+ghost use Rattle.std.specs.Prelude.{[], take, IfOk, OnErr, is_err};
+ghost use Rattle.std.specs.Io.KnownBytes.{Consumes, Keeps};
+ghost use Rattle.bt_io.specs.Counts.{Grew, one_more, counted, is_end};
+ghost use Rattle.bt_feed.specs.Pumps.{IsGiven, IsEnd, IsEndOf, IsPump, IsPieceEnd, IsSinkFault, IsReadOn, came};
 ghost use Rattle.bt_feed.specs.Stages.{limit_of, is_closed};
 
 use crate::feed::Feed;
 use crate::sink::{Sink, SinkFault};
 use crate::slices::behind;
 use crate::view::{Finish, refusal_in};
-use bt_io::Source;
+use bt_io::{Failed, Source};
 use bt_wire::Refusal;
 use std::alloc::Allocator;
 use thiserror::Error;
@@ -76,8 +78,37 @@ fn end<A: Allocator>(feed: &Feed<A>) -> Result<u64, PumpError>
     }
 }
 
-/// Reads to the end, `max_turns` times at most and each time into the buffer, which isn't empty, and gives the sink each item with
-/// its offset. It answers what the stream comes to there: the offset of its end, or its refusal. It takes no memory itself.
+/// Reads once: right into the feed, where it holds a part of a long message, and else into the buffer. It says how many bytes
+/// came, and how many of them are in the buffer.
+#[inline(always)]
+fn read_once<R: Source, A: Allocator>(
+    reader: &mut R,
+    feed: &mut Feed<A>,
+    buffer: &mut [u8],
+) -> Result<(usize, usize), Failed>
+    requires { 0 < length buffer.old }
+    ensures some { IfOk result (λ x. (x.1 ≤ length buffer.new) × (length buffer.new ≡ length buffer.old)
+        × IsReadOn feed.old feed.new (R.left reader.old) (R.left reader.new) (take x.1 buffer.new)) }
+    ensures none { IfOk result (λ x. x.0 ≡ 0 → (feed.new ≡ feed.old) × Consumes (R.left reader.old) (R.left reader.new) []) }
+    ensures err { OnErr result ((feed.new ≡ feed.old) × Keeps (R.left reader.old) (R.left reader.new)) }
+    ensures reads { R.reads reader.new ≡ one_more (R.reads reader.old) }
+    ensures failed { R.failed_reads reader.new ≡ counted (is_err result) (R.failed_reads reader.old) }
+    ensures ends { R.ends reader.new ≡ counted (is_end (came result) 1) (R.ends reader.old) }
+{
+    match feed.read(reader) {
+        Some(Ok(count)) => Ok((count, 0)),
+        Some(Err(failed)) => Err(failed),
+        None => {
+            let count = reader.read(buffer)?;
+            Ok((count, count))
+        }
+    }
+}
+
+/// Reads to the end, `max_turns` times at most, and gives the sink each item with its offset. It answers what the stream comes
+/// to there: the offset of its end, or its refusal. It takes no memory itself.
+///
+/// A read is into the buffer, which isn't empty; or right into the feed, where many bytes of a message are still to come.
 ///
 /// A refusal, a sink's fault, a failed read and the end stop it at once. Behind a refusal or a sink's fault, what is left of
 /// the piece in the buffer is lost. Behind `Turns` or `ReadFault` nothing is lost, and another call goes on.
@@ -103,9 +134,9 @@ pub fn pump_with<R: Source, S: Sink, A: Allocator>(
         return Err(error);
     }
     for _turn in 0..max_turns {
-        match reader.read(buffer) {
-            Ok(0) => return end(feed),
-            Ok(count) => {
+        match read_once(reader, feed, buffer) {
+            Ok((0, _)) => return end(feed),
+            Ok((_, count)) => {
                 if let Err(error) = pump_piece(feed, sink, &buffer[..count]) {
                     return Err(error);
                 }

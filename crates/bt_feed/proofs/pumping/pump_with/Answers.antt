@@ -1,10 +1,12 @@
-use Rattle.std.proofs.Common.{◌≡◌, ◌∙◌, ◌++◌, ℕ, [], take, Ok, refl, sym, subst, arith, length-take, rules}
+use Rattle.std.proofs.Common.{◌≡◌, ◌∙◌, ◌++◌, ℕ, [], take, Ok, Err, refl, sym, subst, arith, append_assoc, length-take, rules}
 use Rattle.std.proofs.KnownBytes.{Consumes-nil, Consumes-trans, Consumes-kept}
 use Rattle.std.proofs.lemmas.Bool.{ne_eqb}
 use Rattle.std.proofs.lemmas.List.{append-nil}
 use Rattle.std.specs.Io.KnownBytes.{Consumes}
-use Rattle.bt_feed.specs.Pumps.{IsPieceEnd}
-use Rattle.bt_feed.proofs.Moving.{took_both, given_more, given_end, fed_none, fed_both, stopped_by, not_at_end, ended_open, ended_last, sink_fault}
+use Rattle.bt_feed.specs.Feeds.{FeedState}
+use Rattle.bt_feed.specs.declared.pumping.PumpError.TheVariants as error
+use Rattle.bt_feed.specs.Pumps.{IsFed, IsPumpEnd, IsPieceEnd}
+use Rattle.bt_feed.proofs.Moving.{took_both, given_more, given_end, fed_none, fed_both, fed_on, stopped_by, not_at_end, ended_open, ended_last, sink_fault}
 use Rattle.bt_feed.proofs.pumping.pump_with.Goals as goal
 
 pub returns-in-Err-clause-moved : goal.returns-in-Err-clause-moved
@@ -19,62 +21,70 @@ returns-in-Err-clause-moved g c =
 pub returns-in-Err-clause-end : goal.returns-in-Err-clause-end
 returns-in-Err-clause-end g c = λ e. let p = c.in-Err.ensures.items in absurd (not_at_end c.args.feed.now c.pump_piece.new.feed [] p.0 c.in-Err.error p.2 e)
 
-pub returns-in-Ok-eq0-clause-moved : goal.returns-in-Ok-eq0-clause-moved
-returns-in-Ok-eq0-clause-moved g c =
+pub returns-in-Ok-eq0-default-clause-moved : goal.returns-in-Ok-eq0-default-clause-moved
+returns-in-Ok-eq0-default-clause-moved g c =
     let m = c.loop-turn.invariant.moved in
-    let none : c.in-Ok-eq0.field-0 ≡ 0 = omega (arith, c.in-Ok-eq0.field-0-test) in
-    let P : ℕ → Type 0 = λ k. Consumes (g.R.Source.left c.loop-turn.reader) (g.R.Source.left c.read.new.self) (take k c.read.new.into) in
-    (m.0, [], m.1, Consumes-trans _ _ _ m.0 [] m.2 (subst P none c.in-Ok-eq0.ensures.bytes.0), given_end g.S.Sink.takes g.S.Sink.misses _ _ m.1
-        c.loop-turn.feed c.end.result c.end.ensures.end m.3, ended_last c.args.feed.now c.loop-turn.feed m.0 m.1 c.end.result m.4 c.end.ensures.end,
-        omega arith)
+    let none = c.in-Ok-eq0-default.ensures.none c.in-Ok-eq0-default.field-0-0-test in
+    let feed = c.read_once.new.feed in
+    let P : FeedState → Type 0 = λ f. IsFed c.args.feed.now m.0 m.1 f in
+    (m.0, [], m.1, Consumes-trans _ _ _ m.0 [] m.2 none.1, given_end g.S.Sink.takes g.S.Sink.misses _ _ m.1 feed c.end.result c.end.ensures.end m.3,
+        ended_last c.args.feed.now feed m.0 m.1 c.end.result (subst P (sym none.0) m.4) c.end.ensures.end, omega arith)
 
-pub returns-in-Ok-eq0-clause-inside : goal.returns-in-Ok-eq0-clause-inside
-returns-in-Ok-eq0-clause-inside g c = λ h. absurd (h c.end.ensures.end.at_end)
+pub returns-in-Ok-eq0-default-clause-inside : goal.returns-in-Ok-eq0-default-clause-inside
+returns-in-Ok-eq0-default-clause-inside g c = λ h. absurd (h c.end.ensures.end.at_end)
 
 pub returns-in-Err-pump_piece-clause-moved : goal.returns-in-Err-pump_piece-clause-moved
 returns-in-Err-pump_piece-clause-moved g c =
     let m = c.loop-turn.invariant.moved in
+    let w = c.in-Ok.ensures.some.2 in
     let p = c.in-Err-pump_piece.ensures.items in
-    let piece = take c.in-Ok.count c.read.new.into in
-    let stop = stopped_by c.args.feed.now c.loop-turn.feed c.pump_piece-in-Ok.new.feed m.0 piece m.1 p.0 c.in-Err-pump_piece.error m.4
+    let piece = take c.in-Ok.count c.read_once.new.buffer in
+    let fed = fed_on c.args.feed.now c.loop-turn.feed c.read_once.new.feed m.0 w.0 m.1 m.4 w.1 in
+    let stop = stopped_by c.args.feed.now c.read_once.new.feed c.pump_piece-in-Ok.new.feed (m.0 ++ w.0) piece m.1 p.0 c.in-Err-pump_piece.error fed
         c.in-Err-pump_piece.ensures.limit p.2 in
     let left = g.R.Source.left c.args.reader.now in
-    let left' = g.R.Source.left c.read.new.self in
-    (stop.bytes, stop.lost, m.1 ++ p.0, subst (Consumes left left') stop.parts (Consumes-trans _ _ _ m.0 piece m.2 c.in-Ok.ensures.bytes.0),
-        given_more (Unit {0}) g.S.Sink.takes g.S.Sink.misses _ _ _ m.1 p.0 c.in-Err-pump_piece.error m.3 p.1, stop.end,
-        omega (arith, stop.few, length-take c.in-Ok.count c.read.new.into))
+    let left' = g.R.Source.left c.read_once.new.reader in
+    (stop.bytes, stop.lost, m.1 ++ p.0, subst (Consumes left left') (sym (append_assoc m.0 w.0 piece) ∙ stop.parts)
+        (Consumes-trans _ _ _ m.0 (w.0 ++ piece) m.2 w.2), given_more (Unit {0}) g.S.Sink.takes g.S.Sink.misses _ _ _ m.1 p.0 c.in-Err-pump_piece.error m.3
+        p.1, stop.end, omega (arith, stop.few, length-take c.in-Ok.count c.read_once.new.buffer, c.in-Ok.ensures.some.1, c.loop-turn.invariant.size))
 
 pub returns-in-Err-pump_piece-clause-end : goal.returns-in-Err-pump_piece-clause-end
 returns-in-Err-pump_piece-clause-end g c = λ e.
     let p = c.in-Err-pump_piece.ensures.items in
-    absurd (not_at_end c.loop-turn.feed c.pump_piece-in-Ok.new.feed (take c.in-Ok.count c.read.new.into) p.0 c.in-Err-pump_piece.error p.2 e)
+    absurd (not_at_end c.read_once.new.feed c.pump_piece-in-Ok.new.feed (take c.in-Ok.count c.read_once.new.buffer) p.0 c.in-Err-pump_piece.error p.2 e)
 
-pub returns-in-Err-read-clause-moved : goal.returns-in-Err-read-clause-moved
-returns-in-Err-read-clause-moved g c =
+pub returns-in-Err-read_once-clause-moved : goal.returns-in-Err-read_once-clause-moved
+returns-in-Err-read_once-clause-moved g c =
     let m = c.loop-turn.invariant.moved in
+    let feed = c.read_once.new.feed in
+    let same = c.in-Err-read_once.ensures.err.0 in
     let o = ended_open c.args.feed.now c.loop-turn.feed m.0 m.1 m.4 c.loop-turn.invariant.limit c.loop-turn.invariant.waits in
     let left = g.R.Source.left c.args.reader.now in
-    let left' = g.R.Source.left c.read.new.self in
-    (m.0, [], m.1, subst (Consumes left left') (sym (append-nil m.0)) (Consumes-kept _ _ _ m.0 m.2 c.in-Err-read.ensures.bytes), m.3, (o.0, o.1, refl, o.2),
-        omega arith)
+    let left' = g.R.Source.left c.read_once.new.reader in
+    let P : FeedState → Type 0 = λ f. IsPumpEnd c.args.feed.now m.0 [] m.1 f (Err error.ReadFault) in
+    (m.0, [], m.1, subst (Consumes left left') (sym (append-nil m.0)) (Consumes-kept _ _ _ m.0 m.2 c.in-Err-read_once.ensures.err.1), m.3,
+        subst P (sym same) (o.0, o.1, refl, o.2), omega arith)
 
 pub loop-turn-preserved : goal.loop-turn-preserved
 loop-turn-preserved g c =
     let m = c.loop-turn.invariant.moved in
-    let piece = take c.in-Ok.count c.read.new.into in
-    let done : IsPieceEnd c.loop-turn.feed piece c.in_default-pump_piece.ensures.items.0 c.pump_piece-in-Ok.new.feed (Ok c.in_default-pump_piece.field-0) =
-        c.in_default-pump_piece.ensures.items.2 in
+    let w = c.in-Ok.ensures.some.2 in
+    let piece = take c.in-Ok.count c.read_once.new.buffer in
+    let done : IsPieceEnd c.read_once.new.feed piece c.in_default-pump_piece.ensures.items.0 c.pump_piece-in-Ok.new.feed
+        (Ok c.in_default-pump_piece.field-0) = c.in_default-pump_piece.ensures.items.2 in
     let xs = c.in_default-pump_piece.ensures.items.0 in
+    let fed = fed_on c.args.feed.now c.loop-turn.feed c.read_once.new.feed m.0 w.0 m.1 m.4 w.1 in
     record {
       failed = c.in-Ok.ensures.failed ∙ c.loop-turn.invariant.failed;
-      ends = rw (ne_eqb c.in-Ok.count 0 c.in-Ok.count-test.1) at c.in-Ok.ensures.ends ∙ c.loop-turn.invariant.ends;
+      ends = rw (ne_eqb c.in-Ok.field-0-0 0 c.in-Ok.field-0-0-test.1) at c.in-Ok.ensures.ends ∙ c.loop-turn.invariant.ends;
       calm = c.in_default-pump_piece.ensures.quiet (λ h. h) ∙ c.loop-turn.invariant.calm;
       reads = omega (arith, c.in-Ok.ensures.reads, c.loop-turn.invariant.reads);
       limit = c.in_default-pump_piece.ensures.limit;
       waits = done.1;
-      moved = (m.0 ++ piece, m.1 ++ xs, Consumes-trans _ _ _ m.0 piece m.2 c.in-Ok.ensures.bytes.0,
-          took_both _ _ _ _ m.1 xs m.3 c.in_default-pump_piece.ensures.items.1, fed_both c.args.feed.now c.loop-turn.feed c.pump_piece-in-Ok.new.feed m.0
-          piece m.1 xs m.4 done.0);
+      size = c.in-Ok.ensures.some.1 ∙ c.loop-turn.invariant.size;
+      moved = ((m.0 ++ w.0) ++ piece, m.1 ++ xs, subst (Consumes _ _) (sym (append_assoc m.0 w.0 piece)) (Consumes-trans _ _ _ m.0 (w.0 ++ piece) m.2 w.2),
+          took_both _ _ _ _ m.1 xs m.3 c.in_default-pump_piece.ensures.items.1, fed_both c.args.feed.now c.read_once.new.feed c.pump_piece-in-Ok.new.feed
+          (m.0 ++ w.0) piece m.1 xs fed done.0);
     }
 
 pub returns-clause-moved : goal.returns-clause-moved
@@ -92,5 +102,5 @@ pub returns-in-Err-pump_piece-clause-quiet : goal.returns-in-Err-pump_piece-clau
 returns-in-Err-pump_piece-clause-quiet g c = λ h. c.in-Err-pump_piece.ensures.quiet (λ k. h (sink_fault c.in-Err-pump_piece.error k))
     ∙ c.loop-turn.invariant.calm
 
-pub returns-in-Ok-eq0-clause-read : goal.returns-in-Ok-eq0-clause-read
-returns-in-Ok-eq0-clause-read g c = search rules
+pub returns-in-Ok-eq0-default-clause-read : goal.returns-in-Ok-eq0-default-clause-read
+returns-in-Ok-eq0-default-clause-read g c = search rules

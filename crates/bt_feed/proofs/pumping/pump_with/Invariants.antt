@@ -1,4 +1,4 @@
-use Rattle.std.proofs.Common.{◌≡◌, ◌+◌, ◌-◌, ◌^◌, ◌≤◌, ℕ, List, min, false}
+use Rattle.std.proofs.Common.{◌≡◌, ◌+◌, ◌-◌, ◌^◌, ◌≤◌, ℕ, List, length, min, false}
 use Rattle.std.specs.Io.KnownBytes.{Consumes}
 use Rattle.bt_wire.specs.declared.item.Item.{Item}
 use Rattle.bt_feed.specs.Stages.{limit_of, is_closed}
@@ -14,6 +14,7 @@ invariant-loop-turn g l = record {
   reads : (min (g.R.Source.reads l.fn.reader + l._turn) (2 ^ 64 - 1) ≤ g.R.Source.reads l.reader)
       × (g.R.Source.reads l.reader ≤ g.R.Source.reads l.fn.reader + l._turn);
   limit : limit_of l.feed.stage ≤ 1048576;
+  size : length l.buffer ≡ length l.fn.buffer;
   waits : is_closed l.feed.stage l.feed.held ≡ false;
   moved : (bytes : List ℕ) × (xs : List (ℕ × Item)) × Consumes (g.R.Source.left l.fn.reader) (g.R.Source.left l.reader) bytes
       × Took g.S.Sink.takes l.fn.sink xs l.sink × IsFed l.fn.feed bytes xs l.feed;

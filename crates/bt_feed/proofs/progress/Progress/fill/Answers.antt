@@ -18,7 +18,7 @@ returns-clause-fills g c =
     let piece = c.args.piece.now in
     let n = c.length-length.result in
     let P : List ℕ → Type 0 = λ b. HasWindow stage (b ++ piece) n × (length b ≤ n) in
-    let window = subst P c.as_slice.ensures.value (c.length-length.ensures.window (omega arith)) in
+    let window = subst P c.as_slice.ensures (c.length-length.ensures.window (omega arith)) in
     let f = window_fills stage buffer piece n c.append_up_to.result window.0 window.1 c.append_up_to.ensures.count in
     let Q : List ℕ → Type 0 = λ b. Fills stage buffer piece b c.append_up_to.result in
     let R : List ℕ → Type 0 = λ b. Fills stage b piece c.append_up_to.new.buffer.items c.append_up_to.result in
@@ -32,7 +32,7 @@ returns-clause-stops g c = λ lt.
     let piece = c.args.piece.now in
     let n = c.length-length.result in
     let P : List ℕ → Type 0 = λ b. HasWindow stage (b ++ piece) n × (length b ≤ n) in
-    let window = subst P c.as_slice.ensures.value (c.length-length.ensures.window (omega arith)) in
+    let window = subst P c.as_slice.ensures (c.length-length.ensures.window (omega arith)) in
     let closed = window_stops stage buffer piece n c.append_up_to.result window.0 window.1 c.append_up_to.ensures.count lt in
     ap (λ (t : Stage). is_closed t c.append_up_to.new.buffer.items) (sym c.refresh.ensures.same.stage) ∙ ap (is_closed stage) c.append_up_to.ensures.items
         ∙ closed
@@ -44,7 +44,7 @@ returns-clause-sound g c =
     let piece = c.args.piece.now in
     let n = c.length-length.result in
     let P : List ℕ → Type 0 = λ b. HasWindow p.stage (b ++ piece) n × (length b ≤ n) in
-    let window = subst P c.as_slice.ensures.value (c.length-length.ensures.window (omega arith)) in
+    let window = subst P c.as_slice.ensures (c.length-length.ensures.window (omega arith)) in
     let q = record p { wanted = n } in
     let Q : List ℕ → Type 0 = λ b. IsProgress q b in
     subst Q (sym c.append_up_to.ensures.items)

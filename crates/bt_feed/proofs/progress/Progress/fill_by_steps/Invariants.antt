@@ -1,4 +1,4 @@
-use Rattle.std.proofs.Common.{◌≡◌, ◌≤◌, ◌-◌, length, vec_capacity}
+use Rattle.std.proofs.Common.{◌≡◌, ◌≤◌, ◌-◌, length}
 use Rattle.bt_feed.specs.Progress.{IsProgress, IsSameItem, Fills}
 use Rattle.bt_feed.proofs.progress.Progress.fill_by_steps.Given as goal
 
@@ -6,7 +6,7 @@ abbrev pub invariant-steps : goal.invariant-steps
 invariant-steps g l = record {
   fills : Fills l.fn.self.stage l.fn.buffer.items l.piece l.buffer.items l.at;
   sound : IsProgress l.self l.buffer.items;
-  room : vec_capacity l.fn.buffer ≤ vec_capacity l.buffer;
+  room : l.fn.buffer.capacity ≤ l.buffer.capacity;
   same : IsSameItem l.fn.self l.self;
   unjudged : l.self.wanted ≡ 0;
 }

@@ -1,0 +1,115 @@
+//! The bytes that a feed holds, in memory that is reserved once. A source can put bytes right after them.
+ghost use Rattle.std.specs.Prelude.{◌≡◌, ℕ, List, ◌+◌, ◌<◌, ◌≤◌, [], ◌++◌, length, OnErr, IfOk, is_err, replicate, vec_len, vec_capacity};
+ghost use Rattle.std.specs.Io.KnownBytes.{Consumes, Keeps};
+ghost use Rattle.bt_io.specs.Counts.{one_more, counted, is_end};
+
+use bt_io::{Failed, Source};
+use std::alloc::{AllocError, Allocator};
+use std::marker::Model;
+
+/// The bytes that are held. Those after them are kept from before, so that they can be lent without being filled again.
+#[derive(Drop)]
+pub struct Buffer<A: Allocator> {
+    bytes: Vec<u8, A>,
+    /// How many bytes at the front are held.
+    size: usize,
+}
+
+impl<A: Allocator> Model for Buffer<A> {
+    ghost use Rattle.std.specs.Prelude.{take, vec_len, vec_capacity, ◌≤◌};
+    ghost use Rattle.bt_feed.specs.Buffers.{Room};
+
+    ghost Value = { Room };
+
+    ghost view = { λ b. record { items = take b.size b.bytes.items; capacity = vec_capacity b.bytes } };
+
+    ghost invariant = { λ b. b.size ≤ vec_len b.bytes };
+}
+
+/// Puts zeros after the bytes, so that they are at least `goal`.
+fn lengthen<A: Allocator>(bytes: &mut Vec<u8, A>, goal: usize)
+    requires { goal ≤ vec_capacity bytes.old }
+    ensures items { (n : ℕ) × (bytes.new.items ≡ bytes.old.items ++ replicate n 0) }
+    ensures len { (goal ≤ vec_len bytes.new) × (vec_len bytes.old ≤ vec_len bytes.new) }
+    ensures capacity { vec_capacity bytes.old ≤ vec_capacity bytes.new }
+{
+    if bytes.len() >= goal {
+        return;
+    }
+    match bytes.resize(goal, 0) {
+        Ok(()) => {}
+        Err(_) => unreachable!(),
+    }
+}
+
+impl<A: Allocator> Buffer<A> {
+    /// Nothing is held, and there is room for `n` bytes.
+    pub fn with_capacity(alloc: A, n: usize) -> Result<Buffer<A>, AllocError>
+        ensures { IfOk result (λ b. (b.items ≡ []) × (n ≤ b.capacity)) }
+    {
+        Ok(Buffer {
+            bytes: Vec::with_capacity(alloc, n)?,
+            size: 0,
+        })
+    }
+
+    /// The bytes that are held.
+    #[inline(always)]
+    pub fn as_slice(&self) -> &[u8]
+        ensures { result.now ≡ self.now.items }
+    {
+        &self.bytes.as_slice()[..self.size]
+    }
+
+    /// How many bytes are held.
+    #[inline(always)]
+    pub fn len(&self) -> usize
+        ensures { result ≡ length self.now.items }
+    {
+        self.size
+    }
+
+    /// Lets all bytes go.
+    #[inline(always)]
+    pub fn clear(&mut self)
+        ensures items { self.new.items ≡ [] }
+        ensures capacity { self.new.capacity ≡ self.old.capacity }
+    {
+        self.size = 0;
+    }
+
+    /// Puts bytes after those that are held.
+    #[inline(always)]
+    pub fn append(&mut self, bytes: &[u8])
+        requires { length self.old.items + length bytes.now ≤ self.old.capacity }
+        ensures items { self.new.items ≡ self.old.items ++ bytes.now }
+        ensures capacity { self.old.capacity ≤ self.new.capacity }
+    {
+        let over = (self.bytes.len() - self.size).min(bytes.len());
+        self.bytes[self.size..self.size + over].copy_from_slice(&bytes[..over]);
+        match self.bytes.extend_from_slice(&bytes[over..]) {
+            Ok(()) => {}
+            Err(_) => unreachable!(),
+        }
+        self.size += bytes.len();
+    }
+
+    /// Reads bytes right after those that are held, so that at most `goal` bytes are held then, and says how many came.
+    pub fn read<R: Source>(&mut self, reader: &mut R, goal: usize) -> Result<usize, Failed>
+        requires room { goal ≤ self.old.capacity }
+        requires some { length self.old.items < goal }
+        ensures within { length self.new.items ≤ goal }
+        ensures capacity { self.old.capacity ≤ self.new.capacity }
+        ensures read { IfOk result (λ n. (bytes : List ℕ) × (length bytes ≡ n) × (self.new.items ≡ self.old.items ++ bytes)
+            × Consumes (R.left reader.old) (R.left reader.new) bytes) }
+        ensures err { OnErr result ((self.new.items ≡ self.old.items) × Keeps (R.left reader.old) (R.left reader.new)) }
+        ensures reads { R.reads reader.new ≡ one_more (R.reads reader.old) }
+        ensures failed { R.failed_reads reader.new ≡ counted (is_err result) (R.failed_reads reader.old) }
+        ensures ends { R.ends reader.new ≡ counted (is_end result 1) (R.ends reader.old) }
+    {
+        lengthen(&mut self.bytes, goal);
+        let count = reader.read(&mut self.bytes[self.size..goal])?;
+        self.size += count;
+        Ok(count)
+    }
+}
