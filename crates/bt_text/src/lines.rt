@@ -6,6 +6,8 @@ ghost use Rattle.hex.specs.Hex.{encode_lower};
 ghost use Rattle.bt_bencode.specs.Bencoding.{ben};
 ghost use Rattle.bt_bencode.specs.Trees.{dictionary};
 ghost use Rattle.bt_bencode.specs.declared.tree.Value.TheVariants as value;
+ghost use Rattle.std.specs.Prelude.{option_and_then};
+ghost use Rattle.bt_ext.specs.Fields.{byte_of, natural, size_of};
 ghost use Rattle.bt_ext.specs.Payloads.{seen as seen_ext};
 ghost use Rattle.bt_ext.specs.declared.ext.Ext.TheVariants as ext;
 ghost use Rattle.bt_wire.specs.Messages.{message_of};
@@ -15,7 +17,7 @@ ghost use Rattle.bt_text.specs.Lines.{spaced, or_dash, told_id, ext_words, messa
 
 use crate::ended::{Ended, ScriptReason, ToolFault};
 use bt_bencode::DictRef;
-use bt_ext::{ExtView, Kind, kind_ref, metadata_size_ref};
+use bt_ext::{ExtView, Kind, kind_ref};
 use bt_wire::{Handshake, MessageView};
 use itoa::write_digits;
 use std::alloc::AllocError;
@@ -122,6 +124,30 @@ pub fn told_metadata(dict: &DictRef) -> Option<u64>
     Some(u64::from(id))
 }
 
+/// Returns a number of one byte.
+fn byte_in(number: Option<i64>) -> Option<u64>
+    ensures { result ≡ byte_of number }
+{
+    let id = u8::try_from(number?).ok()?;
+    Some(u64::from(id))
+}
+
+/// Returns a number of at least 0.
+fn natural_in(number: Option<i64>) -> Option<u64>
+    ensures { result ≡ option_and_then natural number }
+{
+    u64::try_from(number?).ok()
+}
+
+/// Returns the id of `ut_metadata` and the size of the metadata that an extended handshake announces, in one walk.
+fn announced(dict: &DictRef) -> (Option<u64>, Option<u64>)
+    ensures id { result.0 ≡ told_id (dictionary dict.now.tree.0) }
+    ensures size { result.1 ≡ size_of (dictionary dict.now.tree.0) }
+{
+    let (id, size) = dict.lookup_ints(b"m", b"ut_metadata", b"metadata_size");
+    (byte_in(id), natural_in(size))
+}
+
 /// Returns the length of the dictionary's spelling.
 fn dict_length(dict: &DictRef) -> u64
     ensures { result ≡ length (ben (dictionary dict.now.tree.0)) }
@@ -135,9 +161,10 @@ fn handshake_words(dict: &DictRef, rest: usize, line: &mut Line, at: usize) -> u
     ensures room { (result ≤ at) × (at ≤ result + 114) }
     ensures text { (bytes : List ℕ) → length bytes ≡ rest → drop result line.new ≡ ext_words (ext.Handshake (value.Dict dict.now.tree.0) bytes) ++ drop at line.old }
 {
-    let place = number_or_dash(told_metadata(dict), line, at);
+    let (id, size) = announced(dict);
+    let place = number_or_dash(id, line, at);
     let place = word(b" ut_metadata=", line, place);
-    let place = number_or_dash(metadata_size_ref(dict), line, place);
+    let place = number_or_dash(size, line, place);
     let place = word(b" size=", line, place);
     name_and_two(
         b"ext-handshake",
