@@ -34,6 +34,8 @@ LINE = ("handshake 0000000000100005 %s %s\n" % (HASH, PEER.hex())).encode()
 JSON_HAND = (b'{"offset":0,"item":"handshake","reserved":"0000000000100005","info_hash":"%s","peer_id":"%s","peer_id_text":"%s"}\n'
              % (HASH.encode(), PEER.hex().encode(), PEER))
 REQUEST = b"d8:msg_typei0e5:piecei0ee"
+# A piece message of which much comes after the first read.
+LONG = bytes.fromhex("00030d49 07 00000001 00000000") + bytes(200000)
 MISTAKE = Parts(b"error: ", b"Usage: bt_tool ")
 
 NUMBER = "a number from 0 to 4294967295"
@@ -64,6 +66,10 @@ ROWS = [
     ("show --info-hash " + 40 * "0", HAND, b"refused message=0 at=28 WrongInfoHash\n", b"", 1),
     ("show", HAND + bytes(4) + HAVE_9, b"0 " + LINE + b"68 keep-alive\n72 have 9\nok messages=2 bytes=81\n", b"", 0),
     ("show", HAND + bytes.fromhex("00000003 05 ffc0"), b"0 " + LINE + b"68 bitfield 2\nok messages=1 bytes=75\n", b"", 0),
+    ("show", HAND + LONG + LONG + HAVE_9,
+     b"0 " + LINE + b"68 piece 1 0 200000\n200081 piece 1 0 200000\n400094 have 9\nok messages=3 bytes=400103\n", b"", 0),
+    ("show", HAND + LONG[:-1], b"0 " + LINE + b"refused message=1 at=200080 EndInside\n", b"", 1),
+    ("unpack", HAND + LONG, LINE + b"piece 1 0 " + 400000 * b"0" + b"\n", b"", 0),
     ("show", HAND + bytes.fromhex("00040001"), b"0 " + LINE + b"refused message=1 at=68 TooLong\n", b"", 1),
     ("show", HAND + bytes.fromhex("00040000"), b"0 " + LINE + b"refused message=1 at=72 EndInside\n", b"", 1),
     ("show", HAND + bytes.fromhex("ffffffff"), b"0 " + LINE + b"refused message=1 at=68 TooLong\n", b"", 1),
