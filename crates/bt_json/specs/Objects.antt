@@ -93,6 +93,7 @@ announced_fields t =
 abbrev pub ext_fields : Ext → List Token
 ext_fields (ext.Handshake dict rest) = kind_field (codes "ext-handshake") ++ (size_fields (tree_of dict) rest ++ announced_fields (tree_of dict))
 ext_fields (ext.Metadata dict rest) = metadata_fields (kind_of (tree_of dict)) (tree_of dict) rest
+ext_fields (ext.DontHave i) = kind_field (codes "donthave") ++ a_number (codes "index") i
 ext_fields (ext.Raw id bytes) = kind_field (codes "extended") ++ (a_number (codes "id") id ++ a_number (codes "bytes") (length bytes))
 
 abbrev pub message_fields : Own → Message → List Token

@@ -118,6 +118,7 @@ fn put_ext(payload: &ExtView, out: &mut Writer) -> Result<(), AllocError>
     match payload {
         ExtView::Handshake { dict, rest } => put_ext_handshake(dict, rest, out),
         ExtView::Metadata { dict, rest } => put_metadata(dict, rest, out),
+        ExtView::DontHave(index) => kind_and_one("donthave", "index", u64::from(*index), out),
         ExtView::Raw { id, payload } => kind_and_payload("extended", *id, payload, out),
     }
 }
