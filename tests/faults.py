@@ -31,7 +31,6 @@ CALLS = """
 extern void *__libc_malloc(size_t);
 extern void *__libc_calloc(size_t, size_t);
 extern void *__libc_realloc(void *, size_t);
-extern void *__libc_memalign(size_t, size_t);
 
 enum { MEMORY, READ, WRITE, WIRE, KINDS };
 static const char *const names[KINDS] = { "MEMORY", "READ", "WRITE", "WIRE" };
@@ -66,15 +65,6 @@ void *malloc(size_t size) { return fails(MEMORY) ? 0 : __libc_malloc(size); }
 void *calloc(size_t count, size_t size) { return fails(MEMORY) ? 0 : __libc_calloc(count, size); }
 
 void *realloc(void *old, size_t size) { return fails(MEMORY) ? 0 : __libc_realloc(old, size); }
-
-void *aligned_alloc(size_t align, size_t size) { return fails(MEMORY) ? 0 : __libc_memalign(align, size); }
-
-int posix_memalign(void **made, size_t align, size_t size) {
-    void *found = fails(MEMORY) ? 0 : __libc_memalign(align, size);
-    if (!found) return ENOMEM;
-    *made = found;
-    return 0;
-}
 
 static ssize_t failed(void) {
     errno = EIO;
