@@ -31,7 +31,6 @@ CALLS = """
 extern void *__libc_malloc(size_t);
 extern void *__libc_calloc(size_t, size_t);
 extern void *__libc_realloc(void *, size_t);
-extern void *__libc_memalign(size_t, size_t);
 
 enum { MEMORY, READ, WRITE, WIRE, KINDS };
 static const char *const names[KINDS] = { "MEMORY", "READ", "WRITE", "WIRE" };
@@ -66,15 +65,6 @@ void *malloc(size_t size) { return fails(MEMORY) ? 0 : __libc_malloc(size); }
 void *calloc(size_t count, size_t size) { return fails(MEMORY) ? 0 : __libc_calloc(count, size); }
 
 void *realloc(void *old, size_t size) { return fails(MEMORY) ? 0 : __libc_realloc(old, size); }
-
-void *aligned_alloc(size_t align, size_t size) { return fails(MEMORY) ? 0 : __libc_memalign(align, size); }
-
-int posix_memalign(void **made, size_t align, size_t size) {
-    void *found = fails(MEMORY) ? 0 : __libc_memalign(align, size);
-    if (!found) return ENOMEM;
-    *made = found;
-    return 0;
-}
 
 static ssize_t failed(void) {
     errno = EIO;
@@ -140,7 +130,7 @@ class Runner:
     """Runs the program over the calls above."""
 
     def __init__(self, program, work):
-        self.program, self.made, self.runs = program, os.path.join(work, "made"), 0
+        self.program, self.work, self.made, self.runs = program, work, os.path.join(work, "made"), 0
         self.library = os.path.join(work, "calls.so")
         subprocess.run([shutil.which("cc"), "-shared", "-fPIC", "-x", "c", "-o", self.library, "-", "-ldl"], input=CALLS.encode(),
                        check=True)
@@ -149,7 +139,7 @@ class Runner:
         """Standard output, standard error, the status, and whether the call that was to fail was made."""
         self.runs += 1
         environment = {name: str(number) for name, number in failing.items()}
-        ended = subprocess.run([self.program, *words.split()], input=given, capture_output=True, timeout=60,
+        ended = subprocess.run([self.program, *words.split()], input=given, capture_output=True, timeout=60, cwd=self.work,
                                env={"LD_PRELOAD": self.library, "MADE": self.made, **environment})
         was_made = os.path.exists(self.made)
         if was_made:
@@ -216,6 +206,47 @@ def wires(runner, words, given, parts):
             yield "call %d of the connection: %r" % (number, answer)
 
 
+def prefixes(lines):
+    """Each beginning of these lines, as whole lines."""
+    return [b"".join(lines[:count]) for count in range(len(lines) + 1)]
+
+
+def two_files(runner):
+    """The calls of a `check` of two files fail in turn: the other file still has its line."""
+    words = "check --rules free a b"
+    for name in "ab":
+        with open(os.path.join(runner.work, name), "wb") as file:
+            file.write(STREAM)
+    first, second = b"a: " + VERDICT, b"b: " + VERDICT
+    ample = (first + second, b"", 0)
+    # A file takes two reads: its bytes and its end.
+    for number, answer, was_made in runner.in_turn(words, b"", "READ"):
+        fault = (second, b"a: fault: read\n", 3) if number <= 2 else (first, b"b: fault: read\n", 3)
+        if answer != (fault if was_made else ample):
+            yield "%s: read %d: %r" % (words, number, answer)
+    for number, answer, was_made in runner.in_turn(words, b"", "MEMORY"):
+        is_fault = answer in [(out, b"fault: memory\n", 3) for out in (b"", first, second)]
+        if answer != ample and not (was_made and is_fault):
+            yield "%s: request %d: %r" % (words, number, answer)
+    for number, answer, was_made in runner.in_turn(words, b"", "WRITE", WRITE_MOST=1):
+        if answer != ((ample[0][:number - 1], b"fault: write\n", 3) if was_made else ample):
+            yield "%s: write %d: %r" % (words, number, answer)
+
+
+def two_directions(runner):
+    """The calls of a `show` with its other direction fail in turn; the files are those of `two_files`."""
+    words = "show --other b a"
+    lines = [b"0 " + LINE, b"68 keep-alive\n", b"72 have 9\n"]
+    ample = (b"".join(lines) + VERDICT, b"", 0)
+    for kind, faults in (("READ", (b"a: fault: read\n", b"b: fault: read\n")), ("MEMORY", (b"fault: memory\n",))):
+        for number, answer, was_made in runner.in_turn(words, b"", kind):
+            out, errors, status = answer
+            is_fault = out in prefixes(lines) and errors in faults and status == 3 and (out == b"" or errors[:1] != b"b")
+            # A request may be refused whose answer nothing rests on.
+            if not (was_made and is_fault) and (answer != ample or was_made and kind == "READ"):
+                yield "%s: %s %d: %r" % (words, kind, number, answer)
+
+
 def main():
     program = os.path.abspath(sys.argv[1] if len(sys.argv) > 1 else os.path.join(ROOT, "bt_tool"))
     if shutil.which("cc") is None:
@@ -229,6 +260,10 @@ def main():
                 for line in device(runner, words, given, parts):
                     wrong += 1
                     print("faults: wrong: bt_tool %s: %s" % (words, line))
+        for files in (two_files, two_directions):
+            for line in files(runner):
+                wrong += 1
+                print("faults: wrong: bt_tool " + line)
     print("faults: %s %d runs" % ("failed: %d wrong of" % wrong if wrong else "ok:", runner.runs))
     return 1 if wrong else 0
 

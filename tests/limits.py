@@ -220,6 +220,7 @@ def descriptors(program):
         wrong += unlike("check FILE FILE", program.run("check %s %s" % (name, name), before=few), (2 * lines, b"", 0))
     for words, given, parts in COMMANDS:
         wrong += unlike(words, program.run(words, given, before=few), NET if words == "loop" else accepted(parts))
+        wrong += unlike(words, program.run(words, given, before=limited(resource.RLIMIT_NOFILE, 6)), accepted(parts))
     wrong += unlike("--help", program.run("--help", before=few), program.run("--help"))
     return wrong
 
