@@ -16,8 +16,9 @@ pub returns-then-size-bytes-clause-step : goal.returns-then-size-bytes-clause-st
 returns-then-size-bytes-clause-step c = λ opened.
     let context = c.args.context.now in let order = c.order_of-order.result in let r = c.args.reader.now in let b = c.args.bytes.now in
     let n = c.in-Some.size in
-    let P : List ℕ → Type 0 = λ z. GoesOver context order r z c.go_quickly-answer.new.reader c.go_quickly-answer.new.item c.go_quickly-answer.result in
-    over_opened r c.go_quickly-answer.new.reader b c.go_quickly-answer.new.item n c.go_quickly-answer.result context order opened c.requires.context c.order_of-order.ensures
+    let s = c.go_quickly-answer.new.reader in let i = c.go_quickly-answer.new.item in let k = c.go_quickly-answer.result in
+    let P : List ℕ → Type 0 = λ z. GoesOver context order r z s i k in
+    over_opened r s b i n k context order opened c.requires.context c.order_of-order.ensures
     c.if-reader-lt-FULL.true c.if-size-bytes.true
     (front_whole context order b n c.in-Some.ensures c.if-size-bytes.true) (subst P c.first-window.ensures c.go_quickly-answer.ensures.over)
 
