@@ -71,6 +71,12 @@ fault_opened r b i f c o opened k e p shows =
     Steps.refused f (HasFault.message opened (subst (λ z. IsFault z (order_in r.past) r.start b (Some f)) k
     (subst (λ z. IsFault c z r.start b (Some f)) e p))) (refused_opened r i f opened shows) refl
 
+-- an item of the bytes w has their length
+pub over_size : (c : Context) (o : Order) (r : BtReader) (w : List ℕ) (s : BtReader) (i : BtItem) (n : ℕ) → GoesOver c o r w s i n → n ≡ 1
+    → length w ≡ i.size
+over_size c o r w s i _ (GoesOver.item msg read size id start shows extended order same) e = sym size
+over_size c o r w s i _ (GoesOver.refused f fault shows same) e = absurd (omega (arith, e))
+
 -- the first n bytes are a message
 pub over_opened : (r s : BtReader) (b : List ℕ) (i : BtItem) (n k : ℕ) (c : Context) (o : Order) → is_on r.opened ≡ true → c ≡ context_of r → o
     ≡ order_in r.past → r.start < 2 ^ 62 → n ≤ length b → IsWhole c o b n

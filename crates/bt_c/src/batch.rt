@@ -36,12 +36,12 @@ pub extern "C" fn bt_reader_batch(
             return ITEM;
         }
         let item = &mut items[count];
-        let answer = next_by(reader, &mut context, behind(bytes, used), item);
+        let (answer, size) = next_by(reader, &mut context, behind(bytes, used), item);
         if answer != ITEM {
             *batch = BtBatch { count, used };
             return answer;
         }
-        used += item.size;
+        used += size;
         count += 1;
     }
 }
