@@ -15,4 +15,4 @@ returns-in_ok-ok-in-Refused-default-Syntax c =
     let said : c.push_misfit_line.new.line.items ≡ misfit_line at.number found.misfit = search rules in
     let is : c.args.end ≡ Refused at.number Syntax = search rules in
     subst (λ (end : PackEnd). IsPackHint end c.args.text.now c.push_misfit_line.new.line.items) (sym is)
-        (line.line.now, found.misfit, line.ensures, found.ensures, said)
+    (line.line.now, found.misfit, line.ensures, found.ensures, said)
