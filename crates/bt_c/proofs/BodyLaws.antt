@@ -3,24 +3,8 @@ use Rattle.std.proofs.Common.{◌≡◌, ℕ, ◌+◌, ◌-◌, List, [], ◌∷
 use Rattle.std.proofs.lemmas.List.{append_assoc, append-nil, length-append, take_at, drop_at}
 use Rattle.bt_wire.specs.declared.context.Context.{Context}
 use Rattle.bt_wire.specs.declared.message.Message.TheVariants as m
-use Rattle.bt_wire.specs.Messages.{
-  Message,
-  Fields,
-  none,
-  index,
-  part,
-  block,
-  port,
-  field,
-  extended,
-  payload,
-  id_of,
-  fields_of,
-  spell_fields,
-  framed,
-  body,
-  spell,
-}
+use Rattle.bt_wire.specs.Messages.{Message, Fields, none, index, part, block, port, field, extended, payload, id_of, fields_of, spell_fields, framed, body}
+use Rattle.bt_wire.specs.Messages.{spell}
 use Rattle.bt_wire.specs.Numbers.{be16, be32}
 use Rattle.bt_c.specs.Readers.{context_of, kept, Shows}
 use Rattle.bt_c.specs.Runs.{BodiesAreLast}

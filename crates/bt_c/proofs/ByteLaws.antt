@@ -8,24 +8,8 @@ use Rattle.bt_wire.specs.declared.ids.Kind.{Kind}
 use Rattle.bt_wire.specs.declared.ids.Shape.{Shape}
 use Rattle.bt_wire.specs.declared.ids.Shape.TheVariants.{Index, Part, Block}
 use Rattle.bt_wire.specs.declared.message.Message.TheVariants as m
-use Rattle.bt_wire.specs.Messages.{
-  Message,
-  Fields,
-  index,
-  part,
-  block,
-  port,
-  id_of,
-  fields_of,
-  spell_fields,
-  framed,
-  body,
-  spell,
-  IsInRange,
-  counts_by,
-  kind_in,
-  order_after,
-}
+use Rattle.bt_wire.specs.Messages.{Message, Fields, index, part, block, port, id_of, fields_of, spell_fields, framed, body, spell, IsInRange, counts_by}
+use Rattle.bt_wire.specs.Messages.{kind_in, order_after}
 use Rattle.bt_wire.specs.Numbers.{be32}
 use Rattle.bt_wire.specs.Ids.{kind_of, shape_by}
 use Rattle.bt_wire.specs.Faults.{said_id}

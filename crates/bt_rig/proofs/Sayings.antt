@@ -17,8 +17,8 @@ use Rattle.bt_text.specs.Script.{IsLine, IsAnswer}
 use Rattle.bt_text.specs.ScriptLaws.{LineIsOne}
 use Rattle.bt_rig.specs.declared.entry.Entry.{Entry}
 use Rattle.bt_rig.specs.declared.entry.Entry.TheVariants.{Set, Do}
-use Rattle.bt_rig.specs.Entries.{lenient, IsMessage, IsMessageReading, IsSpelledBy, Says, IsReading, side_of, sided_of, delivery_of, setting_in, entry_by,
-    entry_in, cut_of, said_in}
+use Rattle.bt_rig.specs.Entries.{lenient, IsMessage, IsMessageReading, IsSpelledBy, Says, IsReading, side_of, sided_of, delivery_of, setting_in, entry_by}
+use Rattle.bt_rig.specs.Entries.{entry_in, cut_of, said_in}
 
 -- ---- the message of bytes
 
