@@ -4,6 +4,7 @@ use Rattle.std.proofs.Common.{◌∙◌, arith, inl, inr}
 use Rattle.std.specs.Prelude.{IsSome, ok_or, if◌then◌else◌}
 use Rattle.std.proofs.KnownBytes.{Consumes-nil, Consumes-trans}
 use Rattle.std.specs.Io.KnownBytes.{Consumes}
+use Rattle.bt_ext.specs.Ids.{metadata_name, donthave_name}
 use Rattle.bt_wire.specs.declared.fault.Reason.TheVariants.{EndInside}
 use Rattle.bt_wire.specs.declared.item.Item.{Item}
 use Rattle.bt_wire.specs.declared.item.Refusal.{Refusal}
@@ -26,8 +27,8 @@ use Rattle.bt_jobs.specs.declared.other.Announced.{Announced}
 use Rattle.bt_jobs.specs.declared.other.Listener.{Listener}
 use Rattle.bt_jobs.specs.declared.other.OtherError.{OtherError}
 use Rattle.bt_jobs.specs.declared.other.OtherError.TheVariants.{NoHandshake, Fault}
-use Rattle.bt_jobs.specs.Others.{or_else, first_of, reserved_of, id_of, announced, own_of_other, reader_of_other, IsSaidBy, IsSaidIn, IsLearnt, IsHeard}
-use Rattle.bt_jobs.specs.Others.{Hears, IsListening, IsSettled, IsTurnHeard, IsFaultOfOther, IsOpenAfter}
+use Rattle.bt_jobs.specs.Others.{or_else, first_of, reserved_of, id_of, first_id, IsUnknown, announced, own_of_other, reader_of_other, IsSaidBy, IsSaidIn}
+use Rattle.bt_jobs.specs.Others.{IsLearnt, IsHeard, Hears, IsListening, IsSettled, IsTurnHeard, IsFaultOfOther, IsOpenAfter}
 use Rattle.bt_jobs.proofs.Printing.{total, read_more, starts, refused_by}
 
 -- ---- the first value in items
@@ -51,38 +52,48 @@ first_both f (x ∷ xs) ys = ap (λ o. or_else (f x.1) o) (first_both f xs ys) �
 -- ---- a listener
 
 hears : (l m : Listener) (xs : List (ℕ × Item)) → Took Hears l xs m → (m.reserved ≡ or_else l.reserved (first_of reserved_of xs))
-    × (m.metadata ≡ or_else l.metadata (first_of id_of xs))
-hears l m [] h = (ap (λ (k : Listener). k.reserved) h ∙ sym (or_none l.reserved), ap (λ (k : Listener). k.metadata) h ∙ sym (or_none l.metadata))
+    × (m.metadata ≡ or_else l.metadata (first_id metadata_name xs)) × (m.donthave ≡ or_else l.donthave (first_id donthave_name xs))
+hears l m [] h = (
+  ap (λ (k : Listener). k.reserved) h ∙ sym (or_none l.reserved),
+  ap (λ (k : Listener). k.metadata) h ∙ sym (or_none l.metadata),
+  ap (λ (k : Listener). k.donthave) h ∙ sym (or_none l.donthave),
+)
 hears l m (x ∷ xs) h =
     let rest = hears h.0 m xs h.2 in (
       rest.0 ∙ ap (λ (o : Option Reserved). or_else o (first_of reserved_of xs)) h.1.0 ∙ or_both l.reserved (reserved_of x.1) (first_of reserved_of xs),
-      rest.1 ∙ ap (λ (o : Option ℕ). or_else o (first_of id_of xs)) h.1.1 ∙ or_both l.metadata (id_of x.1) (first_of id_of xs),
+      rest.1 ∙ ap (λ (o : Option ℕ). or_else o (first_id metadata_name xs)) h.1.1 ∙ or_both l.metadata (id_of metadata_name x.1) (first_id metadata_name xs),
+      rest.2 ∙ ap (λ (o : Option ℕ). or_else o (first_id donthave_name xs)) h.1.2 ∙ or_both l.donthave (id_of donthave_name x.1) (first_id donthave_name xs),
     )
 
 heard_more : (xs ys : List (ℕ × Item)) (l m : Listener) → IsHeard xs l → Took Hears l ys m → IsHeard (xs ++ ys) m
 heard_more xs ys l m h took =
     let more = hears l m ys took in (
       more.0 ∙ ap (λ (o : Option Reserved). or_else o (first_of reserved_of ys)) h.0 ∙ sym (first_both reserved_of xs ys),
-      more.1 ∙ ap (λ (o : Option ℕ). or_else o (first_of id_of ys)) h.1 ∙ sym (first_both id_of xs ys),
+      more.1 ∙ ap (λ (o : Option ℕ). or_else o (first_id metadata_name ys)) h.1 ∙ sym (first_both (id_of metadata_name) xs ys),
+      more.2 ∙ ap (λ (o : Option ℕ). or_else o (first_id donthave_name ys)) h.2 ∙ sym (first_both (id_of donthave_name) xs ys),
     )
 
--- where both are known, further items change nothing
-heard_still : (xs ys : List (ℕ × Item)) (l : Listener) → IsHeard xs l → IsSome l.reserved → IsSome l.metadata → IsHeard (xs ++ ys) l
-heard_still xs ys l h bits id = (
+-- where all is known, further items change nothing
+heard_still : (xs ys : List (ℕ × Item)) (l : Listener) → IsHeard xs l → IsSome l.reserved → IsSome l.metadata → IsSome l.donthave → IsHeard (xs ++ ys) l
+heard_still xs ys l h bits id other = (
   h.0 ∙ sym (or_known (first_of reserved_of xs) (first_of reserved_of ys) (subst IsSome h.0 bits)) ∙ sym (first_both reserved_of xs ys),
-  h.1 ∙ sym (or_known (first_of id_of xs) (first_of id_of ys) (subst IsSome h.1 id)) ∙ sym (first_both id_of xs ys),
+  h.1 ∙ sym (or_known (first_id metadata_name xs) (first_id metadata_name ys) (subst IsSome h.1 id)) ∙ sym (first_both (id_of metadata_name) xs ys),
+  h.2 ∙ sym (or_known (first_id donthave_name xs) (first_id donthave_name ys) (subst IsSome h.2 other)) ∙ sym (first_both (id_of donthave_name) xs ys),
 )
 
 said_as : (xs : List (ℕ × Item)) (o : Option Announced) → own_of_other xs ≡ o → IsSaidBy xs (ok_or o NoHandshake)
 said_as xs None e = e
 said_as xs (Some a) e = e
 
-said_by : (xs : List (ℕ × Item)) (l : Listener) (r : Result Announced OtherError) → IsHeard xs l → r ≡ ok_or (announced l.reserved l.metadata) NoHandshake
+said_by : (xs : List (ℕ × Item)) (l : Listener) (r : Result Announced OtherError) → IsHeard xs l → r ≡ ok_or (announced l.reserved l.metadata l.donthave)
+    NoHandshake
     → IsSaidBy xs r
 said_by xs l r h is =
-    let same : own_of_other xs ≡ announced l.reserved l.metadata =
-    ap (λ (o : Option Reserved). announced o (first_of id_of xs)) (sym h.0) ∙ ap (λ (o : Option ℕ). announced l.reserved o) (sym h.1) in
-    subst (IsSaidBy xs) (sym is) (said_as xs (announced l.reserved l.metadata) same)
+    let same : own_of_other xs ≡ announced l.reserved l.metadata l.donthave =
+    ap (λ (o : Option Reserved). announced o (first_id metadata_name xs) (first_id donthave_name xs)) (sym h.0)
+    ∙ ap (λ (o : Option ℕ). announced l.reserved o (first_id donthave_name xs)) (sym h.1) ∙ ap (λ (o : Option ℕ). announced l.reserved l.metadata o)
+    (sym h.2) in
+    subst (IsSaidBy xs) (sym is) (said_as xs (announced l.reserved l.metadata l.donthave) same)
 
 -- ---- a turn
 
@@ -97,7 +108,7 @@ ended E b xs ys f g left left' l m bytes lost v r c took p s =
     (bytes ++ lost, with_items xs v, c, total reader_of_other b xs f g bytes lost ys v r.read p, heard_all b xs ys f g l m bytes lost v r took p, inr s)
 
 pub turned : (E : Type 0) (b : List ℕ) (xs ys : List (ℕ × Item)) (f g : FeedState) (left left' : Option (List ℕ)) (l m : Listener) (bytes lost : List ℕ)
-    (v : Outcome) (k : Bool) → (k ≡ true → IsSome m.reserved × IsSome m.metadata) → (k ≡ false → (m.reserved ≡ None) ⊎ (m.metadata ≡ None))
+    (v : Outcome) (k : Bool) → (k ≡ true → IsSome m.reserved × IsSome m.metadata × IsSome m.donthave) → (k ≡ false → IsUnknown m.reserved m.metadata m.donthave)
     → IsListening b xs f l → Consumes left left' (bytes ++ lost) → Took Hears l ys m → IsPumped f bytes lost ys g v → lost ≡ [] → v.refusal ≡ None
     → IsTurnHeard b xs E left left' g m (Ok k)
 turned E b xs ys f g left left' l m bytes lost v false know unknown r c took p none free = (
@@ -173,10 +184,10 @@ listening_more E left0 left left' f g l m t n =
 -- what was heard is the answer
 settled : (D E : Type 0) (b : List ℕ) (v : Outcome) (l : Listener) (r : Result Announced OtherError) → VerdictIsOne → RefusalStays → ItemsStay
     → IsVerdict reader_of_other b v → IsHeard v.items l → IsSettled D l v → (D → E)
-    → r ≡ ok_or (announced l.reserved l.metadata) NoHandshake → ((later : List ℕ) → IsSaidIn (b ++ later) r) ⊎ (E × IsSaidIn b r)
+    → r ≡ ok_or (announced l.reserved l.metadata l.donthave) NoHandshake → ((later : List ℕ) → IsSaidIn (b ++ later) r) ⊎ (E × IsSaidIn b r)
 settled D E b v l r one refused stay is h (inl known) to answer = inl (λ later w isw.
     let s = stay reader_of_other b later v w (omega arith) is isw in
-    subst (λ (xs : List (ℕ × Item)). IsSaidBy xs r) (sym s.1) (said_by (v.items ++ s.0) l r (heard_still v.items s.0 l h known.0 known.1) answer))
+    subst (λ (xs : List (ℕ × Item)). IsSaidBy xs r) (sym s.1) (said_by (v.items ++ s.0) l r (heard_still v.items s.0 l h known.0 known.1 known.2) answer))
 settled D E b v l r one refused stay is h (inr (inl some)) to answer = inl (λ later w isw.
     let same : w ≡ record v { tail = v.tail ++ later } = one reader_of_other (b ++ later) w (record v { tail = v.tail ++ later }) (omega arith) isw
     (refused reader_of_other b later v (omega arith) is some) in
@@ -188,7 +199,8 @@ settled D E b v l r one refused stay is h (inr (inr d)) to answer = inr (
 
 pub learnt : (D E : Type 0) (left0 left left' : Option (List ℕ)) (f g : FeedState) (l m : Listener) (r : Result Announced OtherError) → VerdictIsOne
     → RefusalStays → ItemsStay → (t : IsListeningTo left0 left f l)
-    → IsTurnHeard t.bytes t.items D left left' g m (Ok true) → (D → E) → r ≡ ok_or (announced m.reserved m.metadata) NoHandshake → IsLearnt E left0 left' r
+    → IsTurnHeard t.bytes t.items D left left' g m (Ok true) → (D → E) → r ≡ ok_or (announced m.reserved m.metadata m.donthave) NoHandshake
+    → IsLearnt E left0 left' r
 learnt D E left0 left left' f g l m r one refused stay t n to answer = (
   t.bytes ++ n.0,
   Consumes-trans left0 left left' t.bytes n.0 t.consumed n.2,
@@ -224,10 +236,11 @@ read_failed f reads reads' failed failed' ends ends' e g = subst (λ (x : ToolFa
 
 -- ---- what is read
 
-unknown_items : (xs : List (ℕ × Item)) (l : Listener) → IsHeard xs l → ((l.reserved ≡ None) ⊎ (l.metadata ≡ None)) → (first_of reserved_of xs ≡ None)
-    ⊎ (first_of id_of xs ≡ None)
+unknown_items : (xs : List (ℕ × Item)) (l : Listener) → IsHeard xs l → IsUnknown l.reserved l.metadata l.donthave
+    → IsUnknown (first_of reserved_of xs) (first_id metadata_name xs) (first_id donthave_name xs)
 unknown_items xs l h (inl e) = inl (sym h.0 ∙ e)
-unknown_items xs l h (inr e) = inr (sym h.1 ∙ e)
+unknown_items xs l h (inr (inl e)) = inr (inl (sym h.1 ∙ e))
+unknown_items xs l h (inr (inr e)) = inr (inr (sym h.2 ∙ e))
 
 -- where the listener waits, what was read leaves the answer open
 pub waits : (left left' : Option (List ℕ)) (f : FeedState) (l : Listener) → VerdictIsOne → IsListeningTo left left' f l → IsOpenAfter left left'
@@ -238,7 +251,7 @@ waits left left' f l one t =
       λ v is.
           let same : s.read.now ≡ v = one reader_of_other t.bytes s.read.now v (omega arith) s.read.is is in
           let as_now : v ≡ s.now = one reader_of_other t.bytes v s.now (omega arith) is s.is in
-          let P : List (ℕ × Item) → Type 0 = λ xs. (first_of reserved_of xs ≡ None) ⊎ (first_of id_of xs ≡ None) in (
+          let P : List (ℕ × Item) → Type 0 = λ xs. IsUnknown (first_of reserved_of xs) (first_id metadata_name xs) (first_id donthave_name xs) in (
             subst P (sym s.read.items ∙ ap (λ (w : Outcome). w.items) same) (unknown_items t.items l s.heard s.unknown),
             ap (λ (w : Outcome). w.refusal) as_now ∙ s.unrefused,
           ),
@@ -248,5 +261,5 @@ waits left left' f l one t =
 pub nothing_read : (left : Option (List ℕ)) → VerdictIsOne → IsOpenAfter left left
 nothing_read left one =
     let f : FeedState = record { stage = stage.Handshake reader_of_other; held = []; refused = None } in
-    let l : Listener = record { reserved = None; metadata = None; items = 0 } in
-    waits left left f l one (listening_first left f l refl (refl, refl))
+    let l : Listener = record { reserved = None; metadata = None; donthave = None; items = 0 } in
+    waits left left f l one (listening_first left f l refl (refl, refl, refl))

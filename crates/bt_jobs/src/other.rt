@@ -1,10 +1,11 @@
 //! What the other direction of a connection says of the receiver: `--other` of the command line reads it.
-ghost use Rattle.std.specs.Prelude.{◌≡◌, ◌+◌, ◌-◌, ◌≤◌, ◌^◌, ◌<◌, ℕ, min, List, length, false, Ok, OnOk, IfErr, ok_or};
+ghost use Rattle.std.specs.Prelude.{◌≡◌, ◌+◌, ◌-◌, ◌≤◌, ◌^◌, ◌<◌, ℕ, min, List, length, false, Ok, OnOk, IfErr, ok_or, option_and_then};
 ghost use Rattle.bt_bencode.specs.Trees.{dictionary};
 ghost use Rattle.bt_io.specs.Counts.{Grew};
 ghost use Rattle.bt_wire.specs.declared.item.Item.{Item};
-ghost use Rattle.bt_text.specs.Lines.{told_id};
-ghost use Rattle.bt_jobs.specs.Others.{IsFaultOfOther, IsHeard, IsLearnt, IsListening, IsOpenAfter, IsTurnHeard, announced, reader_of_other as reader_by_rule};
+ghost use Rattle.bt_ext.specs.Ids.{extension_id};
+ghost use Rattle.bt_text.specs.Lines.{told_as};
+ghost use Rattle.bt_jobs.specs.Others.{IsFaultOfOther, IsUnknown, IsHeard, IsLearnt, IsListening, IsOpenAfter, IsTurnHeard, announced, reader_of_other as reader_by_rule};
 
 use crate::show::MAX_READS;
 use bt_bencode::DictRef;
@@ -22,6 +23,8 @@ pub struct Announced {
     pub reserved: Reserved,
     /// The id under which it wants `ut_metadata` (BEP 10), by its first extended handshake that names one.
     pub metadata: Option<ExtId>,
+    /// The same of `lt_donthave`.
+    pub donthave: Option<ExtId>,
 }
 
 /// Why a stream says nothing of its sender.
@@ -40,20 +43,31 @@ pub enum OtherError {
 struct Listener {
     reserved: Option<Reserved>,
     metadata: Option<u8>,
+    donthave: Option<u8>,
     items: u64,
 }
 
-/// Returns the id of `ut_metadata` that an extended handshake announces; 0 is none.
-fn announced_id(dict: &DictRef) -> Option<u8>
-    ensures { result ≡ told_id (dictionary dict.now.tree.0) }
+/// Returns the id that an extended handshake announces for a name; 0 is none.
+fn announced_id(dict: &DictRef, name: &[u8]) -> Option<u8>
+    ensures { result ≡ told_as name.now (dictionary dict.now.tree.0) }
 {
     let m = dict.lookup_dict(b"m")?;
-    let id = m.lookup_int(b"ut_metadata")?;
+    let id = m.lookup_int(name)?;
     u8::try_from(id).ok()
 }
 
+/// Returns the id of an extension by its number, of which 0 is none.
+fn extension(id: Option<u8>) -> Option<ExtId>
+    ensures { result ≡ option_and_then extension_id id }
+{
+    match id {
+        Some(id) => ExtId::new(id),
+        None => None,
+    }
+}
+
 impl Listener {
-    ghost use Rattle.std.specs.Prelude.{[], ◌⊎◌, IsSome, None, true, false};
+    ghost use Rattle.std.specs.Prelude.{[], IsSome, true, false};
 
     /// A listener that has heard nothing.
     fn new() -> Listener
@@ -62,16 +76,17 @@ impl Listener {
         Listener {
             reserved: None,
             metadata: None,
+            donthave: None,
             items: 0,
         }
     }
 
     /// Returns whether nothing more has to be heard.
     fn knows_all(&self) -> bool
-        ensures yes { result ≡ true → IsSome self.now.reserved × IsSome self.now.metadata }
-        ensures no { result ≡ false → (self.now.reserved ≡ None) ⊎ (self.now.metadata ≡ None) }
+        ensures yes { result ≡ true → IsSome self.now.reserved × IsSome self.now.metadata × IsSome self.now.donthave }
+        ensures no { result ≡ false → IsUnknown self.now.reserved self.now.metadata self.now.donthave }
     {
-        self.reserved.is_some() && self.metadata.is_some()
+        self.reserved.is_some() && self.metadata.is_some() && self.donthave.is_some()
     }
 
     /// Returns what was heard.
@@ -79,16 +94,18 @@ impl Listener {
     /// # Errors
     /// `NoHandshake` if there was none.
     fn answer(&self) -> Result<Announced, OtherError>
-        ensures { result ≡ ok_or (announced self.now.reserved self.now.metadata) OtherError.NoHandshake }
+        ensures { result ≡ ok_or (announced self.now.reserved self.now.metadata self.now.donthave) OtherError.NoHandshake }
     {
         let Some(reserved) = self.reserved else {
             return Err(OtherError::NoHandshake);
         };
-        let metadata = match self.metadata {
-            Some(id) => ExtId::new(id),
-            None => None,
-        };
-        Ok(Announced { reserved, metadata })
+        let metadata = extension(self.metadata);
+        let donthave = extension(self.donthave);
+        Ok(Announced {
+            reserved,
+            metadata,
+            donthave,
+        })
     }
 }
 
@@ -113,7 +130,10 @@ impl Sink for Listener {
             }
             View::Message(MessageView::Extended(ExtView::Handshake { dict, rest: _ })) => {
                 if self.metadata.is_none() {
-                    self.metadata = announced_id(dict);
+                    self.metadata = announced_id(dict, b"ut_metadata");
+                }
+                if self.donthave.is_none() {
+                    self.donthave = announced_id(dict, b"lt_donthave");
                 }
             }
             View::Message(_) => {}
@@ -130,7 +150,7 @@ fn reader_of_other() -> Own
         reserved: Reserved(0x10_0005),
         info_hash: None,
         pieces: None,
-        reg: Registered::new(None),
+        reg: Registered::metadata_only(None),
         rules: Rules::Free,
         limit: 1_048_576,
     }
@@ -160,7 +180,7 @@ fn turn<R: Source>(
     }
 }
 
-/// Returns what the stream that `reader` gives says of its sender. It reads until both are known, to the stream's end, or to
+/// Returns what the stream that `reader` gives says of its sender. It reads until all is known, to the stream's end, or to
 /// its refusal.
 ///
 /// # Errors

@@ -7,7 +7,7 @@ use Rattle.std.specs.Str.{bytes_eq}
 use Rattle.hex.specs.Hex.{decode_sized}
 use Rattle.bt_ext.specs.declared.ids.Rules.{Rules}
 use Rattle.bt_ext.specs.declared.ids.Rules.TheVariants.{Free, Bep}
-use Rattle.bt_ext.specs.Ids.{extension_id}
+use Rattle.bt_ext.specs.Ids.{extension_id, metadata_only}
 use Rattle.bt_wire.specs.declared.context.Context.{Context}
 use Rattle.bt_wire.specs.declared.context.Order.TheVariants.{Past}
 use Rattle.bt_wire.specs.Messages.{Message}
@@ -75,6 +75,7 @@ numbered_of name n =
     if bytes_eq name (codes "pieces") then Some (settings.Pieces n)
     else if bytes_eq name (codes "limit") then Some (settings.Limit n)
     else if bytes_eq name (codes "metadata-id") then option_map settings.MetadataId (id_of n)
+    else if bytes_eq name (codes "donthave-id") then option_map settings.DonthaveId (id_of n)
     else if bytes_eq name (codes "window") then option_map settings.Window (window_of n)
     else None
 
@@ -119,7 +120,7 @@ entry_in text = if bytes_eq text (codes "reset") then Some (Do steps.Reset) else
 
 -- a context that allows every message that any end's limit does
 abbrev pub lenient : Context
-lenient = record { fast = true; ext = true; pieces = None; reg = record { metadata = None }; rules = Free; limit = 1048576 }
+lenient = record { fast = true; ext = true; pieces = None; reg = metadata_only None; rules = Free; limit = 1048576 }
 
 -- the words are the line of a script that names just the bytes of this message
 pub record IsMessage (words : List ℕ) (m : Message) : Type 0 where

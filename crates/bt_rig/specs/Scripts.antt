@@ -4,7 +4,7 @@ use Rattle.std.specs.Prelude.{◌≡◌, ℕ, ◌+◌, ◌==◌, Bool, true, fal
 use Rattle.std.specs.List.{flat_map}
 use Rattle.sha1.specs.Sha1.{sha1}
 use Rattle.bt_ext.specs.declared.ids.Rules.TheVariants.{Bep}
-use Rattle.bt_ext.specs.Ids.{registered}
+use Rattle.bt_ext.specs.Ids.{registered, metadata_only, metadata_id, donthave_id}
 use Rattle.bt_wire.specs.declared.context.Own.{Own}
 use Rattle.bt_metadata.specs.Blocks.{window}
 use Rattle.bt_end.specs.declared.config.Announce.{Announce}
@@ -37,7 +37,7 @@ setup_of c = record { own = c.own; peer_id = c.peer_id; announce = c.announce; w
 -- the end watches, and its info hash isn't known yet
 abbrev pub default_setup : ℕ → List ℕ → Setup
 default_setup id peer_id = record {
-  own = record { reserved = record { 0 = 0x100005 }; info_hash = None; pieces = None; reg = registered (Some id); rules = Bep; limit = 262144 };
+  own = record { reserved = record { 0 = 0x100005 }; info_hash = None; pieces = None; reg = metadata_only (Some id); rules = Bep; limit = 262144 };
   peer_id = peer_id;
   announce = Silent;
   window = window;
@@ -53,7 +53,7 @@ with_hash s hash = with_own s (record s.own { info_hash = Some hash })
 abbrev pub with_part : Setup → Part → Setup
 with_part s part = record s { part = part }
 
--- an end that serves metadata has its SHA-1 as info hash
+-- an end that serves metadata has its SHA-1 as info hash; an id for `lt_donthave` that is that of `ut_metadata` doesn't count
 abbrev pub with_setting : Setup → Setting → Setup
 with_setting s (settings.Watch hash) = with_part (with_hash s hash) Watching
 with_setting s (settings.Serve metadata) = with_part (with_hash s (sha1 metadata)) (Serving metadata)
@@ -65,7 +65,8 @@ with_setting s (settings.Rules rules) = with_own s (record s.own { rules = rules
 with_setting s (settings.Announce announce) = record s { announce = announce }
 with_setting s (settings.Pieces n) = with_own s (record s.own { pieces = Some n })
 with_setting s (settings.Limit n) = with_own s (record s.own { limit = n })
-with_setting s (settings.MetadataId id) = with_own s (record s.own { reg = registered id })
+with_setting s (settings.MetadataId id) = with_own s (record s.own { reg = registered id (donthave_id s.own.reg) })
+with_setting s (settings.DonthaveId id) = with_own s (record s.own { reg = registered (metadata_id s.own.reg) id })
 with_setting s (settings.Window n) = record s { window = n }
 
 -- ---- what the lines so far say

@@ -56,6 +56,8 @@ pub enum Setting {
     Limit(u32),
     /// The end's id of `ut_metadata` (BEP 9), or none.
     MetadataId(Option<ExtId>),
+    /// The end's id of `lt_donthave`, or none.
+    DonthaveId(Option<ExtId>),
     /// How many blocks a fetching end asks for at once.
     Window(Window),
 }
@@ -230,6 +232,8 @@ fn numbered(name: &[u8], n: u32) -> Option<Setting>
         Some(Setting::Limit(n))
     } else if is(name, b"metadata-id") {
         id(n).map(Setting::MetadataId)
+    } else if is(name, b"donthave-id") {
+        id(n).map(Setting::DonthaveId)
     } else if is(name, b"window") {
         window(n).map(Setting::Window)
     } else {

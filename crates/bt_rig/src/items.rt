@@ -77,6 +77,7 @@ fn push_extended(payload: &Ext, text: &mut Vec<u8>) -> Result<(), AllocError>
     match payload {
         Ext::Handshake { dict, rest } => push_extended_handshake(dict, rest.as_slice(), text),
         Ext::Metadata { dict, rest } => push_metadata(dict, rest.as_slice(), text),
+        Ext::DontHave(index) => push_one(b"donthave", u64::from(*index), text),
         Ext::Raw { id, payload } => {
             push_two(b"extended", u64::from(*id), payload.len() as u64, text)
         }
@@ -183,6 +184,7 @@ fn payload_size(payload: &Ext) -> u64
         Ext::Handshake { dict, rest } | Ext::Metadata { dict, rest } => ben_len(
             dict,
         ).saturating_add(rest.len() as u64),
+        Ext::DontHave(_) => 4,
         Ext::Raw { payload, .. } => payload.len() as u64,
     }
 }

@@ -17,7 +17,7 @@ fn lenient_context() -> Context
         fast: true,
         ext: true,
         pieces: None,
-        reg: Registered::new(None),
+        reg: Registered::metadata_only(None),
         rules: Rules::Free,
         limit: 1_048_576,
     }

@@ -30,7 +30,7 @@ fn default_config(id: Option<ExtId>, peer_id: [u8; 20]) -> Config
             reserved: Reserved(0x10_0005),
             info_hash: None,
             pieces: None,
-            reg: Registered::new(id),
+            reg: Registered::metadata_only(id),
             rules: Rules::Bep,
             limit: 262_144,
         },
@@ -65,7 +65,14 @@ fn change(config: &mut Config, setting: Setting)
         Setting::Announce(announce) => config.announce = announce,
         Setting::Pieces(count) => config.own.pieces = Some(count),
         Setting::Limit(limit) => config.own.limit = limit,
-        Setting::MetadataId(id) => config.own.reg = Registered::new(id),
+        Setting::MetadataId(id) => {
+            let donthave = config.own.reg.donthave();
+            config.own.reg = Registered::preferring_metadata(id, donthave);
+        }
+        Setting::DonthaveId(id) => {
+            let metadata = config.own.reg.metadata();
+            config.own.reg = Registered::preferring_metadata(metadata, id);
+        }
         Setting::Window(window) => config.window = window,
     }
 }
