@@ -13,8 +13,8 @@ lent s n k a into post tail e le h =
     let all = (a ++ (into ++ post)) ++ tail in
     let at : s + n ≡ length a + n = omega (arith, e) in
     take-take (s + n) k all h ∙ ap (λ (i : ℕ). take i all) at ∙ ap (take (length a + n)) (append_assoc a (into ++ post) tail)
-        ∙ take-append-add a ((into ++ post) ++ tail) n
-        ∙ ap (λ (x : List ℕ). a ++ x) (take-append-le n (into ++ post) tail (omega (arith, le, length-append into post)) ∙ take-append-le n into post le)
+    ∙ take-append-add a ((into ++ post) ++ tail) n
+    ∙ ap (λ (x : List ℕ). a ++ x) (take-append-le n (into ++ post) tail (omega (arith, le, length-append into post)) ∙ take-append-le n into post le)
 
 pub grown : {E : Type 0} (X : List ℕ → Type 0) (Y : Type 0) (r : Result ℕ E) (old new : List ℕ)
     → IfOk r (λ n. (bytes : List ℕ) × (length bytes ≡ n) × (new ≡ old ++ bytes) × X bytes) → OnErr r ((new ≡ old) × Y) → (bytes : List ℕ) × (new ≡ old ++ bytes)
@@ -30,4 +30,4 @@ progress_read p old new bytes h fresh some is le =
     let P : List ℕ → Type 0 = λ x. IsProgress p (old ++ x) in
     let Q : List ℕ → Type 0 = λ x. IsProgress p x in
     subst Q (sym is) (subst P (take_all (length bytes) bytes (omega arith)) (progress_window p p old bytes p.wanted (length bytes) h
-        (record { stage = refl; refused = refl; fresh = fresh }) fresh refl window.0 window.1 few))
+    (record { stage = refl; refused = refl; fresh = fresh }) fresh refl window.0 window.1 few))

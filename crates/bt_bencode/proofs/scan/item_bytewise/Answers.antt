@@ -41,8 +41,12 @@ pub loop-at-preserved : goal.loop-at-preserved
 loop-at-preserved c = elim c.match-expect.branch [
   | in-Text w ↦ let p = passed c.args.payload.now c.loop-at.at w.in-Text.left w.min-passed.result c.loop-at.expect w.text-expect.result c.loop-at.stack
       w.in-Text.is w.min-passed.ensures c.loop-at-test.true c.loop-at.invariant.read w.text-expect.ensures in
-      record { after = omega (arith, c.loop-at.invariant.after, w.at-is); within = omega (arith, p.0, w.at-is);
-          read = rw (w.at-is, w.expect-is, w.stack-is) p.1; goes_on = search rules }
+      record {
+        after = omega (arith, c.loop-at.invariant.after, w.at-is);
+        within = omega (arith, p.0, w.at-is);
+        read = rw (w.at-is, w.expect-is, w.stack-is) p.1;
+        goes_on = search rules;
+      }
   | in_default+in-Some w ↦
       record {
         after = omega (arith, c.loop-at.invariant.after, w.at-is);

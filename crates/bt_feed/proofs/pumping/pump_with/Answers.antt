@@ -13,10 +13,17 @@ pub returns-in-Err-clause-moved : goal.returns-in-Err-clause-moved
 returns-in-Err-clause-moved g c =
     let p = c.in-Err.ensures.items in
     let stop = stopped_by c.args.feed.now c.args.feed.now c.pump_piece.new.feed [] [] [] p.0 c.in-Err.error (fed_none c.args.feed.now)
-        c.in-Err.ensures.limit p.2 in
-    let left = g.R.Source.left c.args.reader.now in
-    (stop.bytes, stop.lost, p.0, subst (Consumes left left) stop.parts (Consumes-nil left), given_more (Unit {0}) g.S.Sink.takes g.S.Sink.misses _ _ _ []
-        p.0 c.in-Err.error refl p.1, stop.end, omega (arith, stop.few))
+    c.in-Err.ensures.limit p.2 in
+    let left = g.R.Source.left c.args.reader.now in (
+      stop.bytes,
+      stop.lost,
+      p.0,
+      subst (Consumes left left) stop.parts (Consumes-nil left),
+      given_more (Unit {0}) g.S.Sink.takes g.S.Sink.misses _ _ _ []
+          p.0 c.in-Err.error refl p.1,
+      stop.end,
+      omega (arith, stop.few),
+    )
 
 pub returns-in-Err-clause-end : goal.returns-in-Err-clause-end
 returns-in-Err-clause-end g c = λ e. let p = c.in-Err.ensures.items in absurd (not_at_end c.args.feed.now c.pump_piece.new.feed [] p.0 c.in-Err.error p.2 e)
@@ -26,9 +33,15 @@ returns-in-Ok-eq0-default-clause-moved g c =
     let m = c.loop-turn.invariant.moved in
     let none = c.in-Ok-eq0-default.ensures.none c.in-Ok-eq0-default.field-0-0-test in
     let feed = c.read_once.new.feed in
-    let P : FeedState → Type 0 = λ f. IsFed c.args.feed.now m.0 m.1 f in
-    (m.0, [], m.1, Consumes-trans _ _ _ m.0 [] m.2 none.1, given_end g.S.Sink.takes g.S.Sink.misses _ _ m.1 feed c.end.result c.end.ensures.end m.3,
-        ended_last c.args.feed.now feed m.0 m.1 c.end.result (subst P (sym none.0) m.4) c.end.ensures.end, omega arith)
+    let P : FeedState → Type 0 = λ f. IsFed c.args.feed.now m.0 m.1 f in (
+      m.0,
+      [],
+      m.1,
+      Consumes-trans _ _ _ m.0 [] m.2 none.1,
+      given_end g.S.Sink.takes g.S.Sink.misses _ _ m.1 feed c.end.result c.end.ensures.end m.3,
+      ended_last c.args.feed.now feed m.0 m.1 c.end.result (subst P (sym none.0) m.4) c.end.ensures.end,
+      omega arith,
+    )
 
 pub returns-in-Ok-eq0-default-clause-inside : goal.returns-in-Ok-eq0-default-clause-inside
 returns-in-Ok-eq0-default-clause-inside g c = λ h. absurd (h c.end.ensures.end.at_end)
@@ -41,12 +54,19 @@ returns-in-Err-pump_piece-clause-moved g c =
     let piece = take c.in-Ok.count c.read_once.new.buffer in
     let fed = fed_on c.args.feed.now c.loop-turn.feed c.read_once.new.feed m.0 w.0 m.1 m.4 w.1 in
     let stop = stopped_by c.args.feed.now c.read_once.new.feed c.pump_piece-in-Ok.new.feed (m.0 ++ w.0) piece m.1 p.0 c.in-Err-pump_piece.error fed
-        c.in-Err-pump_piece.ensures.limit p.2 in
+    c.in-Err-pump_piece.ensures.limit p.2 in
     let left = g.R.Source.left c.args.reader.now in
-    let left' = g.R.Source.left c.read_once.new.reader in
-    (stop.bytes, stop.lost, m.1 ++ p.0, subst (Consumes left left') (sym (append_assoc m.0 w.0 piece) ∙ stop.parts)
-        (Consumes-trans _ _ _ m.0 (w.0 ++ piece) m.2 w.2), given_more (Unit {0}) g.S.Sink.takes g.S.Sink.misses _ _ _ m.1 p.0 c.in-Err-pump_piece.error m.3
-        p.1, stop.end, omega (arith, stop.few, length-take c.in-Ok.count c.read_once.new.buffer, c.in-Ok.ensures.some.1, c.loop-turn.invariant.size))
+    let left' = g.R.Source.left c.read_once.new.reader in (
+      stop.bytes,
+      stop.lost,
+      m.1 ++ p.0,
+      subst (Consumes left left') (sym (append_assoc m.0 w.0 piece) ∙ stop.parts)
+          (Consumes-trans _ _ _ m.0 (w.0 ++ piece) m.2 w.2),
+      given_more (Unit {0}) g.S.Sink.takes g.S.Sink.misses _ _ _ m.1 p.0 c.in-Err-pump_piece.error m.3
+          p.1,
+      stop.end,
+      omega (arith, stop.few, length-take c.in-Ok.count c.read_once.new.buffer, c.in-Ok.ensures.some.1, c.loop-turn.invariant.size),
+    )
 
 pub returns-in-Err-pump_piece-clause-end : goal.returns-in-Err-pump_piece-clause-end
 returns-in-Err-pump_piece-clause-end g c = λ e.
@@ -61,9 +81,15 @@ returns-in-Err-read_once-clause-moved g c =
     let o = ended_open c.args.feed.now c.loop-turn.feed m.0 m.1 m.4 c.loop-turn.invariant.limit c.loop-turn.invariant.waits in
     let left = g.R.Source.left c.args.reader.now in
     let left' = g.R.Source.left c.read_once.new.reader in
-    let P : FeedState → Type 0 = λ f. IsPumpEnd c.args.feed.now m.0 [] m.1 f (Err error.ReadFault) in
-    (m.0, [], m.1, subst (Consumes left left') (sym (append-nil m.0)) (Consumes-kept _ _ _ m.0 m.2 c.in-Err-read_once.ensures.err.1), m.3,
-        subst P (sym same) (o.0, o.1, refl, o.2), omega arith)
+    let P : FeedState → Type 0 = λ f. IsPumpEnd c.args.feed.now m.0 [] m.1 f (Err error.ReadFault) in (
+      m.0,
+      [],
+      m.1,
+      subst (Consumes left left') (sym (append-nil m.0)) (Consumes-kept _ _ _ m.0 m.2 c.in-Err-read_once.ensures.err.1),
+      m.3,
+      subst P (sym same) (o.0, o.1, refl, o.2),
+      omega arith,
+    )
 
 pub loop-turn-preserved : goal.loop-turn-preserved
 loop-turn-preserved g c =
@@ -71,7 +97,7 @@ loop-turn-preserved g c =
     let w = c.in-Ok.ensures.some.2 in
     let piece = take c.in-Ok.count c.read_once.new.buffer in
     let done : IsPieceEnd c.read_once.new.feed piece c.in_default-pump_piece.ensures.items.0 c.pump_piece-in-Ok.new.feed
-        (Ok c.in_default-pump_piece.field-0) = c.in_default-pump_piece.ensures.items.2 in
+    (Ok c.in_default-pump_piece.field-0) = c.in_default-pump_piece.ensures.items.2 in
     let xs = c.in_default-pump_piece.ensures.items.0 in
     let fed = fed_on c.args.feed.now c.loop-turn.feed c.read_once.new.feed m.0 w.0 m.1 m.4 w.1 in
     record {
@@ -82,9 +108,14 @@ loop-turn-preserved g c =
       limit = c.in_default-pump_piece.ensures.limit;
       waits = done.1;
       size = c.in-Ok.ensures.some.1 ∙ c.loop-turn.invariant.size;
-      moved = ((m.0 ++ w.0) ++ piece, m.1 ++ xs, subst (Consumes _ _) (sym (append_assoc m.0 w.0 piece)) (Consumes-trans _ _ _ m.0 (w.0 ++ piece) m.2 w.2),
-          took_both _ _ _ _ m.1 xs m.3 c.in_default-pump_piece.ensures.items.1, fed_both c.args.feed.now c.read_once.new.feed c.pump_piece-in-Ok.new.feed
-          (m.0 ++ w.0) piece m.1 xs fed done.0);
+      moved = (
+        (m.0 ++ w.0) ++ piece,
+        m.1 ++ xs,
+        subst (Consumes _ _) (sym (append_assoc m.0 w.0 piece)) (Consumes-trans _ _ _ m.0 (w.0 ++ piece) m.2 w.2),
+        took_both _ _ _ _ m.1 xs m.3 c.in_default-pump_piece.ensures.items.1,
+        fed_both c.args.feed.now c.read_once.new.feed c.pump_piece-in-Ok.new.feed
+            (m.0 ++ w.0) piece m.1 xs fed done.0,
+      );
     }
 
 pub returns-clause-moved : goal.returns-clause-moved
