@@ -155,11 +155,7 @@ fn spelled(
 }
 
 /// Appends the id and the fields.
-fn push_body(
-    bytes: &mut Vec<u8>,
-    context: &Context,
-    message: &Message,
-) -> Result<(), AllocError>
+fn push_body(bytes: &mut Vec<u8>, context: &Context, message: &Message) -> Result<(), AllocError>
     requires { IsShaped context.now message.now }
     ensures { OnOk result (bytes.new.items ≡ bytes.old.items ++ body context.now message.now) }
 {
