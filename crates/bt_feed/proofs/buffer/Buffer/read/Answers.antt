@@ -13,7 +13,8 @@ returns-clause-read g c =
     let within : n ≤ length into = c.in_ok-count.ensures.bound.0 in
     let there : size ≤ length old = omega (arith, c.self.invariant, c.self.inside.bytes.ok.0) in
     let lent_from = c.deref_mut.result.now in
-    let front : length (take size lent_from) ≡ size = length-take-le size lent_from (omega (arith, c.self.invariant, c.deref_mut.ensures.len, c.lengthen.ensures.len.1)) in
+    let front : length (take size lent_from) ≡ size = length-take-le size lent_from
+        (omega (arith, c.self.invariant, c.deref_mut.ensures.len, c.lengthen.ensures.len.1)) in
     let held : take size c.deref_mut.result.now ≡ c.args.self.now.items =
         ap (take size) (c.deref_mut.ensures.value ∙ c.lengthen.ensures.items.1) ∙ take-append-le size old (replicate c.lengthen.ensures.items.0 0) there
         ∙ ap (λ (r : Room). r.items) c.self.view_is in (
