@@ -117,10 +117,15 @@ fn bad_size(dict: &Value) -> bool
 fn bad_size_ref(dict: &DictRef) -> bool
     ensures { result ≡ is_bad_size (value_at (codes "metadata_size") dict.now.tree.0) }
 {
-    match dict.lookup_int(b"metadata_size") {
-        Some(n) => n < 0,
-        None => dict.has(b"metadata_size"),
+    for (key, value) in dict.int_pairs() {
+        if key == b"metadata_size".as_slice() {
+            return match value {
+                Some(n) => n < 0,
+                None => true,
+            };
+        }
     }
+    false
 }
 
 /// Whether an extended handshake's dictionary has a field of the wrong kind.
