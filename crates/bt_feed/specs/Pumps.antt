@@ -64,7 +64,7 @@ abbrev pub IsPump : {S : Type 0} → (S → ℕ × Item → S → Type 0) → (S
     → Option (List ℕ) → S → S → FeedState → Result ℕ PumpError → Type 0
 IsPump takes misses read f left left' sink sink' g r =
     (bytes : List ℕ) × (lost : List ℕ) × (xs : List (ℕ × Item)) × Consumes left left' (bytes ++ lost) × IsGiven takes misses sink xs sink' r
-        × IsPumpEnd f bytes lost xs g r × (length lost ≤ read)
+    × IsPumpEnd f bytes lost xs g r × (length lost ≤ read)
 
 -- from the one state of the source to the other it gave bytes with which nothing is refused
 abbrev pub IsOpenTo : FeedState → Option (List ℕ) → Option (List ℕ) → Type 0
