@@ -14,8 +14,8 @@ use Rattle.bt_text.specs.declared.ended.PackEnd.{PackEnd}
 use Rattle.bt_text.specs.declared.ended.PackEnd.TheVariants.{Accepted, Refused}
 use Rattle.bt_text.specs.declared.ended.ScriptReason.{ScriptReason}
 use Rattle.bt_text.specs.declared.ended.ToolFault.{ToolFault}
-use Rattle.bt_jobs.specs.Packs.{ended_lines, with_last, AreLines, AreTaken, IsPacked, empty, stopped, accepted, IsEndedLine, IsTimely, AreTakenTo, AreFrontLines,
-    IsPackRun}
+use Rattle.bt_jobs.specs.Packs.{ended_lines, with_last, AreLines, AreTaken, IsPacked, empty, stopped, accepted, IsEndedLine,
+    IsTimely, AreTakenTo, AreFrontLines, IsPackRun}
 use Rattle.bt_jobs.specs.PackSteps.{IsReadSo, IsPieceRead}
 use Rattle.bt_jobs.specs.Printed.{AppendsFront, IsWrittenOut}
 use Rattle.bt_jobs.proofs.Packing.{taken_so_far}
