@@ -1,4 +1,6 @@
 //! What a push takes, and what is given of it: the handshake, refusals, and each end.
+ghost use Rattle.std.specs.Prelude.{◌<◌};
+
 use bt_ext::{ExtId, Registered, Rules};
 use bt_feed::{Feed, FeedError, Finish, TakeError, View};
 use bt_wire::{
@@ -289,5 +291,55 @@ fn takes_handshake(feed: &mut Feed) -> bool {
 fn first_item(rt: HostRuntime) -> Result<(), Fail> {
     let mut feed = Feed::new(rt.alloc(), own(262_144))?;
     assert!(rt; push(&mut feed, &hand()) == 68 && takes_handshake(&mut feed));
+    Ok(())
+}
+
+/// Feeds the piece and takes its items, and says how many there were, and the most bytes that were held.
+fn most_held(feed: &mut Feed, piece: &[u8]) -> (u64, usize) {
+    let mut at = 0usize;
+    let mut items = 0u64;
+    let mut most = 0usize;
+    for _ in 0..piece.len() {
+        let Some(rest) = piece.get(at..) else { break };
+        at = at.wrapping_add(push(feed, rest));
+        most = most.max(feed.held());
+        if takes_item(feed) == Some(true) {
+            items = items.wrapping_add(1);
+        }
+    }
+    (items, most)
+}
+
+/// Whether a feed that gets the stream in pieces of this size gives 100,001 items, and holds no more than a handshake.
+fn keeps_little(alloc: Global, stream: &[u8], size: usize) -> Result<bool, Fail>
+    requires { 0 < size }
+{
+    let mut feed = Feed::new(alloc, own(262_144))?;
+    let mut items = 0u64;
+    let mut most = 0;
+    for piece in stream.chunks(size) {
+        let (more, held) = most_held(&mut feed, piece);
+        items = items.wrapping_add(more);
+        most = most.max(held);
+    }
+    Ok(items == 100_001 && most == 68 && finish(&feed) == Ok(400_068))
+}
+
+/// A handshake, and `count` keep-alives.
+fn with_keep_alives(alloc: Global, count: usize) -> Result<Vec<u8>, AllocError> {
+    let mut stream = joined(alloc, b"")?;
+    for _ in 0..count {
+        stream.extend_from_slice(&[0; 4])?;
+    }
+    Ok(stream)
+}
+
+/// 100,000 keep-alives after a handshake.
+#[test]
+fn keep_alives(rt: HostRuntime) -> Result<(), Fail> {
+    let stream = with_keep_alives(rt.alloc(), 100_000)?;
+    for size in [1, 4096] {
+        assert!(rt; keeps_little(rt.alloc(), &stream, size)?, "{size}");
+    }
     Ok(())
 }

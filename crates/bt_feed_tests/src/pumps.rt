@@ -44,7 +44,7 @@ impl Sink for Kept {
 
     ghost takes = { λ _ _ _. ⊤ };
 
-    ghost misses = { λ _ _ _. ⊤ };
+    ghost misses = { λ _ _ _ _. ⊤ };
 
     ghost calls = { λ s. s.calls };
 
