@@ -50,9 +50,8 @@ pub more_words : (first : Bool) (text front rest tail : List ℕ) (space : ℕ) 
     → rest ≡ space ∷ tail → space ≡ 32 → IsCompleted first front (drop k es) → column ≡ length front
     → IsMisfit first text (record { column = column + 2; expected = End })
 more_words first text front rest tail space es k column ended whole r s completed at =
-    too_many front tail (sym whole ∙ after_space front rest tail space r s) (subst (λ (l : List Expected). IsCompleted first front l) (drop_all k es ended)
-    completed)
-    refl
+    let none = subst (λ (l : List Expected). IsCompleted first front l) (drop_all k es ended) completed in
+    too_many front tail (sym whole ∙ after_space front rest tail space r s) none refl
     (omega (arith, at))
 
 pub block_parts : (text name one two three four index begin block : List ℕ) → name ++ one ≡ text → name ≡ codes "piece" → one ≡ codes " " ++ (index ++ two)
