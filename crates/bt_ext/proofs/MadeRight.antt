@@ -23,20 +23,36 @@ number n h = fits_signed_from_abs w64 (pos n) h
 
 -- ---- metadata messages
 message-fits : (k : Kind) → IsMade k → Fits (dictionary (message_pairs k))
-message-fits (kind.Request piece) h = record { in_range = (omega arith, number 0 (omega arith), (omega arith, number piece (omega arith), tt));
-    nested = omega arith }
-message-fits (kind.Data piece total) h = record { in_range = (omega arith, number 1 (omega arith),
-    (omega arith, number piece (omega (arith, h.0)), (omega arith, number total h.2, tt))); nested = omega arith }
-message-fits (kind.Reject piece) h = record { in_range = (omega arith, number 2 (omega arith), (omega arith, number piece (omega arith), tt));
-    nested = omega arith }
+message-fits (kind.Request piece) h = record {
+  in_range = (omega arith, number 0 (omega arith), (omega arith, number piece (omega arith), tt));
+  nested = omega arith;
+}
+message-fits (kind.Data piece total) h = record {
+  in_range = (
+    omega arith,
+    number 1 (omega arith),
+    (omega arith, number piece (omega (arith, h.0)), (omega arith, number total h.2, tt)),
+  );
+  nested = omega arith;
+}
+message-fits (kind.Reject piece) h = record {
+  in_range = (omega arith, number 2 (omega arith), (omega arith, number piece (omega arith), tt));
+  nested = omega arith;
+}
 message-fits kind.Other h = absurd h
 message-fits kind.Malformed h = absurd h
 
 message-allowed : (k : Kind) (rest : List ℕ) → IsMade k → is_block_ok k (length rest) ≡ true → Allows rules.Bep (message_of k rest)
-message-allowed (kind.Request piece) rest h ok = ((refl, tt, (refl, tt, tt)), rw (kind_made (kind.Request piece) h) refl,
-    rw (kind_made (kind.Request piece) h) ok)
-message-allowed (kind.Data piece total) rest h ok = ((refl, tt, (refl, tt, (refl, tt, tt))), rw (kind_made (kind.Data piece total) h) refl,
-    rw (kind_made (kind.Data piece total) h) ok)
+message-allowed (kind.Request piece) rest h ok = (
+  (refl, tt, (refl, tt, tt)),
+  rw (kind_made (kind.Request piece) h) refl,
+  rw (kind_made (kind.Request piece) h) ok,
+)
+message-allowed (kind.Data piece total) rest h ok = (
+  (refl, tt, (refl, tt, (refl, tt, tt))),
+  rw (kind_made (kind.Data piece total) h) refl,
+  rw (kind_made (kind.Data piece total) h) ok,
+)
 message-allowed (kind.Reject piece) rest h ok = ((refl, tt, (refl, tt, tt)), rw (kind_made (kind.Reject piece) h) refl, rw (kind_made (kind.Reject piece) h) ok)
 message-allowed kind.Other rest h ok = absurd h
 message-allowed kind.Malformed rest h ok = absurd h
@@ -53,8 +69,14 @@ handshake-fits : (id size : Option ℕ) → ForSome id (λ n. n < 256) → ForSo
 handshake-fits None None h k = record { in_range = (omega arith, tt, tt); nested = omega arith }
 handshake-fits None (Some n) h k = record { in_range = (omega arith, tt, (omega arith, number n (k n refl), tt)); nested = omega arith }
 handshake-fits (Some i) None h k = let b = h i refl in record { in_range = (omega arith, (omega arith, number i (omega arith), tt), tt); nested = omega arith }
-handshake-fits (Some i) (Some n) h k = let b = h i refl in record { in_range = (omega arith, (omega arith, number i (omega arith), tt),
-    (omega arith, number n (k n refl), tt)); nested = omega arith }
+handshake-fits (Some i) (Some n) h k = let b = h i refl in record {
+  in_range = (
+    omega arith,
+    (omega arith, number i (omega arith), tt),
+    (omega arith, number n (k n refl), tt),
+  );
+  nested = omega arith;
+}
 
 handshake-allowed : (id size : Option ℕ) → ForSome id (λ n. n < 256) → Allows rules.Bep (handshake_of id size)
 handshake-allowed None None h = ((refl, tt, tt), refl)

@@ -174,7 +174,15 @@ fn each_call_fails(rt: HostRuntime) -> Result<(), Fail> {
             return Ok(());
         }
         assert_eq!(rt; fetched, 1);
-        assert!(rt; matches!(partings[0], Some(Parting { ending: Ending::Closed, .. })));
+        assert!(rt;
+            matches!(
+                partings[0],
+                Some(Parting {
+                    ending: Ending::Closed,
+                    ..
+                })
+            )
+        );
     }
     assert!(rt; false);
     Ok(())

@@ -152,7 +152,14 @@ impl Dial for Pair {
     fn dial(&mut self, address: usize) -> Option<Served> {
         self.dials = self.dials.saturating_add(1);
         let fails_at = if address == 0 { self.fails_at } else { None };
-        served(self.alloc, self.info_hash, self.size, 97, self.most, fails_at)
+        served(
+            self.alloc,
+            self.info_hash,
+            self.size,
+            97,
+            self.most,
+            fails_at,
+        )
     }
 
     fn pause(&mut self) {}

@@ -30,7 +30,7 @@ nothing_found file ps n b none info i =
     let same : ps ≡ i.pairs = (one_dictionary file ps i.pairs n (length file) b i.whole).0 in
     let none' : IsFoundIn file i.pairs None = subst (λ (p : Pairs). IsFoundIn file p None) same none in
     not_both file (option_and_then dictionary_of (value_at (codes "info") i.pairs)) (option_and_then integer_of (value_at (codes "piece length") i.pairs)) none'
-        info i.found
+    info i.found
 
 -- its dictionary is all of it
 pub found_or_none : (file : List ℕ) (ps : Pairs) (n : ℕ) → BeginsWith file ps n → length file ≤ n → (o : Option (Bor (List ℕ)))

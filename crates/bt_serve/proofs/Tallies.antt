@@ -1,6 +1,6 @@
 -- The counts of a connection that is served, from step to step.
-use Rattle.std.proofs.Common.{◌≡◌, ◌⊎◌, ℕ, ◌+◌, ◌-◌, ◌^◌, ◌<◌, ◌≤◌, true, false, List, [], ◌∷◌, ◌++◌, length, min, drop, flat_map, Result, Ok, Err, inl, inr, refl, sym, ap,
-    subst, ◌∙◌, arith, length-append, length-drop}
+use Rattle.std.proofs.Common.{◌≡◌, ◌⊎◌, ℕ, ◌+◌, ◌-◌, ◌^◌, ◌<◌, ◌≤◌, true, false, List, [], ◌∷◌, ◌++◌, length, min, drop, flat_map, Result, Ok, Err, inl}
+use Rattle.std.proofs.Common.{inr, refl, sym, ap, subst, ◌∙◌, arith, length-append, length-drop}
 use Rattle.std.proofs.Math.Seq.{drop-append_seam}
 use Rattle.std.proofs.lemmas.List.{append-nil}
 use Rattle.bt_wire.specs.declared.context.Context.{Context}
@@ -57,7 +57,7 @@ tally_on start old new t u k m handled queued =
     let ys = m.course.items in
     let both : length (xs ++ ys) ≡ length xs + length ys = length-append xs ys in
     let all : queued_at start.half.end (xs ++ ys) ≡ queued_at start.half.end xs + queued_at (end_after start.half.end xs) ys =
-        queued_both start.half.end xs ys in
+    queued_both start.half.end xs ys in
     let end : queued_at old.half.end ys ≡ queued_at (end_after start.half.end xs) ys = ap (λ (e : EndState). queued_at e ys) k.moved.course.end in
     record {
       moved = moved_both start old new k.moved m;
@@ -101,17 +101,21 @@ tally_step start old new r t u q n k a =
     let xs = m.course.items in
     let handled : u.handled ≡ capped (t.handled + length xs) = omega (arith, n.handled, a.items) in
     let queued : capped (u.sent + u.queued) ≡ capped ((t.sent + t.queued) + queued_at old.half.end xs) =
-        elim (none_or_one r) [
-          | inl z ↦ omega (arith, n.quiet z, queued_none old.half.end xs (a.items ∙ z))
-          | inr o ↦
-              let count = n.queued o.0 in
-              let same : q ≡ replies old.half.end xs = replied old new m q (a.still o.1).1 n.bytes in
-              let size : length q < 2 ^ 32 = omega (arith, n.bound, ap (length {A = ℕ}) n.bytes,
-                  length-drop (min (length old.half.outbox) (length new.half.outbox)) new.half.outbox) in
-              let one : count.0 ≡ queued_at old.half.end xs = queued_one old.half.end xs count.0 (a.items ∙ o.0)
-                  (subst (λ (l : List ℕ). length l < 2 ^ 32) same size) (subst (λ (l : List ℕ). AreMessages l count.0) same count.1) in
-              omega (arith, count.2, one)
-        ] in
+    elim (none_or_one r) [
+      | inl z ↦ omega (arith, n.quiet z, queued_none old.half.end xs (a.items ∙ z))
+      | inr o ↦
+          let count = n.queued o.0 in
+          let same : q ≡ replies old.half.end xs = replied old new m q (a.still o.1).1 n.bytes in
+          let size : length q < 2 ^ 32 = omega (
+            arith,
+            n.bound,
+            ap (length {A = ℕ}) n.bytes,
+            length-drop (min (length old.half.outbox) (length new.half.outbox)) new.half.outbox,
+          ) in
+          let one : count.0 ≡ queued_at old.half.end xs = queued_one old.half.end xs count.0 (a.items ∙ o.0)
+          (subst (λ (l : List ℕ). length l < 2 ^ 32) same size) (subst (λ (l : List ℕ). AreMessages l count.0) same count.1) in
+          omega (arith, count.2, one)
+    ] in
     tally_on start old new t u k m handled queued
 
 pub stepped_still : (start old new : Moment) (r : Result Step Stop) (since : ℕ) (t u : Tally) (q : List ℕ) → moves r ≡ false → IsNoted old new r t u q

@@ -1,6 +1,6 @@
 -- An end that is made of a config is a new one.
-use Rattle.std.proofs.Common.{◌≡◌, ℕ, ◌^◌, ◌<◌, Bool, true, false, ◌||◌, ltb, eqb, if◌then◌else◌, List, [], length, Option, Some, None, IfSome, is_none,
-    refl, subst, ap}
+use Rattle.std.proofs.Common.{◌≡◌, ℕ, ◌^◌, ◌<◌, Bool, true, false, ◌||◌, ltb, eqb, if◌then◌else◌, List, [], length, Option, Some, None, IfSome, is_none}
+use Rattle.std.proofs.Common.{refl, subst, ap}
 use Rattle.std.proofs.lemmas.Bool.{ltb-false}
 use Rattle.std.specs.Prelude.{unwrap_or}
 use Rattle.std.specs.Option.{ForSome}
@@ -80,5 +80,9 @@ new_of c peer reserved hash id e =
     }
 
 pub matched_ends : (c d : Config Global) → DoMatch c d → AreMatched (end_for c) (end_for d)
-matched_ends c d h = record { hash = ap (λ (o : Option (List ℕ)). unwrap_or o []) h.alike.hash; limit = h.alike.limit; rules = h.alike.rules;
-    pieces = h.alike.pieces }
+matched_ends c d h = record {
+  hash = ap (λ (o : Option (List ℕ)). unwrap_or o []) h.alike.hash;
+  limit = h.alike.limit;
+  rules = h.alike.rules;
+  pieces = h.alike.pieces;
+}

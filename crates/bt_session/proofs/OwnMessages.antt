@@ -75,13 +75,20 @@ dict_length ps = omega (arith, length-append (ben_pairs ps) (101 ∷ []))
 typed_length : (msg_type piece : ℕ) (ps : Pairs) → msg_type < 2 ^ 63 → piece < 2 ^ 32 → length (ben_pairs (typed msg_type piece ps)) ≤ 99 + length
     (ben_pairs ps)
 typed_length t k ps lt lk =
-    omega (arith, pair_length (codes "msg_type") t (pair (codes "piece") (integer (pos k)) ps) (omega arith) lt,
-        pair_length (codes "piece") k ps (omega arith) (omega arith))
+    omega (
+      arith,
+      pair_length (codes "msg_type") t (pair (codes "piece") (integer (pos k)) ps) (omega arith) lt,
+      pair_length (codes "piece") k ps (omega arith) (omega arith),
+    )
 
 message_length : (k : Kind) (rest : List ℕ) → IsMade k → length (payload_of (message_of k rest)) ≤ 160 + length rest
 message_length (kind.Request piece) rest h =
-    omega (arith, length-append (ben (dictionary (message_pairs (kind.Request piece)))) rest, dict_length (message_pairs (kind.Request piece)),
-        typed_length 0 piece no_pairs (omega arith) h)
+    omega (
+      arith,
+      length-append (ben (dictionary (message_pairs (kind.Request piece)))) rest,
+      dict_length (message_pairs (kind.Request piece)),
+      typed_length 0 piece no_pairs (omega arith) h,
+    )
 message_length (kind.Data piece total) rest h =
     omega (
       arith,
@@ -91,8 +98,12 @@ message_length (kind.Data piece total) rest h =
       pair_length (codes "total_size") total no_pairs (omega arith) h.2,
     )
 message_length (kind.Reject piece) rest h =
-    omega (arith, length-append (ben (dictionary (message_pairs (kind.Reject piece)))) rest, dict_length (message_pairs (kind.Reject piece)),
-        typed_length 2 piece no_pairs (omega arith) h)
+    omega (
+      arith,
+      length-append (ben (dictionary (message_pairs (kind.Reject piece)))) rest,
+      dict_length (message_pairs (kind.Reject piece)),
+      typed_length 2 piece no_pairs (omega arith) h,
+    )
 message_length kind.Other rest h = absurd h
 message_length kind.Malformed rest h = absurd h
 
@@ -118,8 +129,12 @@ fields_length id size h k =
     )
 
 greeting_length : (id size : Option ℕ) → ForSome id (λ n. n < 256) → ForSome size (λ n. n < 2 ^ 63) → length (payload_of (handshake_of id size)) ≤ 160
-greeting_length id size h k = omega (arith, length-append (ben (dictionary (handshake_pairs id size))) [], dict_length (handshake_pairs id size),
-    fields_length id size h k)
+greeting_length id size h k = omega (
+  arith,
+  length-append (ben (dictionary (handshake_pairs id size))) [],
+  dict_length (handshake_pairs id size),
+  fields_length id size h k,
+)
 
 -- ---- for the other end
 
@@ -129,8 +144,12 @@ pub greeting_for : (c d : Context) (o : Order) (id size : Option ℕ) → c.ext 
 greeting_for c d o id size own room agreed least h k =
     let right = handshake-right id size h k in
     record {
-      said = record { in_range = record { id = omega arith; fields = omega arith }; legal = own_legal c o (handshake_of id size) own (refl, right.0) right.1
-          (omega (arith, greeting_length id size h k)); start = omega arith };
+      said = record {
+        in_range = record { id = omega arith; fields = omega arith };
+        legal = own_legal c o (handshake_of id size) own (refl, right.0) right.1
+            (omega (arith, greeting_length id size h k));
+        start = omega arith;
+      };
       in_range = record { id = omega arith; fields = omega arith };
       legal = own_legal d o (handshake_of id size) agreed (refl, right.0) right.1 (omega (arith, greeting_length id size h k));
       same = refl;
@@ -143,8 +162,12 @@ pub message_for : (c d : Context) (o : Order) (k : Kind) (rest : List ℕ) (id :
 message_for c d o k rest id own room agreed least sender reader lt made ok size =
     let right = message-right k rest made ok in
     record {
-      said = record { in_range = record { id = omega arith; fields = rw sender lt }; legal = own_legal c o (message_of k rest) own (rw sender refl, right.0)
-          right.1 (omega (arith, message_length k rest made)); start = omega arith };
+      said = record {
+        in_range = record { id = omega arith; fields = rw sender lt };
+        legal = own_legal c o (message_of k rest) own (rw sender refl, right.0)
+            right.1 (omega (arith, message_length k rest made));
+        start = omega arith;
+      };
       in_range = record { id = omega arith; fields = rw reader lt };
       legal = own_legal d o (message_of k rest) agreed (rw reader refl, right.0) right.1 (omega (arith, message_length k rest made));
       same = ap (λ (o : Option ℕ). be32 (length (20 ∷ unwrap_or o 0 ∷ payload_of (message_of k rest)))

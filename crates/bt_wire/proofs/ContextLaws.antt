@@ -1,6 +1,6 @@
 -- A legal message stays legal in a context that differs in what it doesn't use; and a message is judged one way.
-use Rattle.std.proofs.Common.{◌≡◌, ℕ, suc, ◌^◌, ◌<◌, ◌≤◌, ◌⊎◌, inl, inr, Bool, true, false, ◌&&◌, ◌||◌, eqb, if◌then◌else◌, List, [], ◌++◌, length, Option,
-    Some, None, refl, sym, ap, subst, ◌∙◌, arith}
+use Rattle.std.proofs.Common.{◌≡◌, ℕ, suc, ◌^◌, ◌<◌, ◌≤◌, ◌⊎◌, inl, inr, Bool, true, false, ◌&&◌, ◌||◌, eqb, if◌then◌else◌, List, [], ◌++◌, length, Option}
+use Rattle.std.proofs.Common.{Some, None, refl, sym, ap, subst, ◌∙◌, arith}
 use Rattle.std.proofs.lemmas.Bool.{le-leb}
 use Rattle.std.proofs.lemmas.List.{append-nil}
 use Rattle.std.specs.Prelude.{IfSome, IsSome, unwrap_or}
@@ -89,8 +89,11 @@ record KeepsPieces (p : Option ℕ) (f : Fields) : Type 0 where
 keeps : (c : Context) (msg : Message) (p : Option ℕ) → KeepsPieces c.pieces (fields_of c msg) → PiecesSuit c msg p → KeepsPieces p (fields_of c msg)
 keeps c msg p k (inl same) = subst (λ (o : Option ℕ). KeepsPieces o (fields_of c msg)) (sym same) k
 keeps c msg p k (inr (inl none)) =
-    subst (λ (o : Option ℕ). KeepsPieces o (fields_of c msg)) (sym none) (record { indexed = no_index (index_in (fields_of c msg));
-        sized = no_size (field_in (fields_of c msg)); spare = no_spare (field_in (fields_of c msg)) })
+    subst (λ (o : Option ℕ). KeepsPieces o (fields_of c msg)) (sym none) (record {
+      indexed = no_index (index_in (fields_of c msg));
+      sized = no_size (field_in (fields_of c msg));
+      spare = no_spare (field_in (fields_of c msg));
+    })
 keeps c msg p k (inr (inr plain)) = record {
   indexed = subst (λ (o : Option ℕ). IfSome o (λ index. is_beyond p index ≡ false)) (sym plain.0) tt;
   sized = subst (λ (o : Option (List ℕ)). IfSome o (λ bits. allows (field_size p) (suc (length bits)) ≡ true)) (sym plain.1) tt;

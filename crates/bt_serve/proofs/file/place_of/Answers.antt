@@ -9,4 +9,4 @@ returns-then-eq-clause-found c =
     let n = length c.args.bytes.now - c.loop-at.at in
     let all : take n rest ≡ rest = take_all n rest (omega (arith, length-drop c.loop-at.at c.args.bytes.now)) in
     sym (ap (λ (l : List ℕ). take (length c.args.part.now) l) all)
-        ∙ same_text (take (length c.args.part.now) (take n rest)) c.args.part.now (sym c.if-eq.true ∙ c.eq.ensures)
+    ∙ same_text (take (length c.args.part.now) (take n rest)) c.args.part.now (sym c.if-eq.true ∙ c.eq.ensures)

@@ -14,8 +14,7 @@ loop-message-preserved c =
       left = λ e ms is lt.
           let k = i.left e ms is lt in
           let n = one_less e k.0 c.loop-message.rest.now c.after_first.result c.in-Some.after c.in-Some.is c.after_first.ensures.found k.1
-              (omega (arith, lt, i.shorter)) (omega (arith, shorter)) in
-          (
+          (omega (arith, lt, i.shorter)) (omega (arith, shorter)) in (
             n.0,
             n.1,
             omega (arith, k.2, n.2, c.saturating_add-count.ensures, lt, k.3, i.shorter, shorter),

@@ -17,11 +17,11 @@ pub returns-in-Ok-clause-ok : goal.returns-in-Ok-clause-ok
 returns-in-Ok-clause-ok c =
     let P : List ℕ → Type 0 = λ p. Reads c.args.context.now.reg c.args.context.now.rules (said_ext_id c.args.window.now) p (seen c.in-Ok.view) in
     extended_read _ _ _ (seen c.in-Ok.view) (λ i. omega (arith, c.type_inv.window i)) c.requires.whole c.requires.long c.requires.id
-        (subst P c.behind.ensures c.in-Ok.ensures.ok)
+    (subst P c.behind.ensures c.in-Ok.ensures.ok)
 
 pub returns-in-Err-clause-err : goal.returns-in-Err-clause-err
 returns-in-Err-clause-err c =
     let P : List ℕ → Type 0 = λ p. Refuses c.args.context.now.reg c.args.context.now.rules (said_ext_id c.args.window.now) p c.in-Err.fault in
     let Q : Refused → Type 0 = λ f. IsFault c.args.context.now c.args._order 0 c.args.window.now (Some f) in
     subst Q (sym c.placed.ensures) (payload_fault _ _ _ c.in-Err.fault c.requires.whole (omega (arith, c.requires.long)) c.requires.id
-        (subst P c.behind.ensures c.in-Err.ensures.err))
+    (subst P c.behind.ensures c.in-Err.ensures.err))
