@@ -63,7 +63,10 @@ fn each_call_fails(rt: HostRuntime) -> Result<(), Fail> {
             assert!(rt; call > 100);
             return Ok(());
         }
-        assert_eq!(rt; outcomes, [Some(Outcome::Closed), Some(Outcome::Fetched), None, None]);
+        assert_eq!(rt;
+            outcomes,
+            [Some(Outcome::Closed), Some(Outcome::Fetched), None, None]
+        );
     }
     assert!(rt; false);
     Ok(())
