@@ -88,7 +88,8 @@ struct Two<'a> {
     fetched: &'a Cell<u64>,
     fails_at: Option<u64>,
     entered: u64,
-    partings: [Option<Parting>; 2],
+    first: Option<Parting>,
+    second: Option<Parting>,
 }
 
 impl<'a> Door for Two<'a> {
@@ -115,14 +116,22 @@ impl<'a> Door for Two<'a> {
     fn rest(&mut self) {}
 
     fn ended(&mut self, name: u64, parting: Parting) {
-        if name < 2 {
-            self.partings[name as usize] = Some(parting);
+        if name == 0 {
+            self.first = Some(parting);
+        } else {
+            self.second = Some(parting);
         }
     }
 }
 
 /// A service of two connections: its answer, how many ends fetched, and how the connections ended.
-type Came = (Result<(), Memory>, u64, [Option<Parting>; 2]);
+#[derive(Clone, Copy)]
+struct Came {
+    answer: Result<(), Memory>,
+    fetched: u64,
+    first: Option<Parting>,
+    second: Option<Parting>,
+}
 
 /// Serves `abc` to two ends.
 fn served(alloc: Global, fails_at: Option<u64>) -> Result<Came, Memory> {
@@ -145,10 +154,16 @@ fn served(alloc: Global, fails_at: Option<u64>) -> Result<Came, Memory> {
         fetched: &fetched,
         fails_at,
         entered: 0,
-        partings: [None; 2],
+        first: None,
+        second: None,
     };
     let answer = serve(alloc, &hospitality, &metadata, Some(2), 2, &mut door);
-    Ok((answer, fetched.get(), door.partings))
+    Ok(Came {
+        answer,
+        fetched: fetched.get(),
+        first: door.first,
+        second: door.second,
+    })
 }
 
 /// How a connection ends that was served: the handshake, the extended handshake, have none and a block were sent, and the
@@ -163,20 +178,19 @@ const WHOLE: Option<Parting> = Some(Parting {
 #[test]
 fn each_call_fails(rt: HostRuntime) -> Result<(), Fail> {
     for call in 1..10_000 {
-        let Ok((answer, fetched, partings)) = served(rt.alloc(), Some(call)) else {
+        let Ok(came) = served(rt.alloc(), Some(call)) else {
             break;
         };
-        assert_eq!(rt; answer, Ok(()));
-        assert_eq!(rt; partings[1], WHOLE);
-        if fetched == 2 {
-            assert_eq!(rt; partings[0], WHOLE);
+        assert_eq!(rt; (came.answer, came.second), (Ok(()), WHOLE));
+        if came.fetched == 2 {
+            assert_eq!(rt; came.first, WHOLE);
             assert!(rt; call > 20);
             return Ok(());
         }
-        assert_eq!(rt; fetched, 1);
+        assert_eq!(rt; came.fetched, 1);
         assert!(rt;
             matches!(
-                partings[0],
+                came.first,
                 Some(Parting {
                     ending: Ending::Closed,
                     ..
@@ -191,12 +205,12 @@ fn each_call_fails(rt: HostRuntime) -> Result<(), Fail> {
 /// Where memory is refused the service ends so, or each end that wasn't refused it is served. `tests/growth.py` refuses it.
 #[test]
 fn memory_is_refused_or_all_are_served(rt: HostRuntime) -> Result<(), Fail> {
-    if let Ok((answer, fetched, partings)) = served(rt.alloc(), None) {
-        let whole = partings.iter().filter(|parting| **parting == WHOLE).count();
-        assert_eq!(rt; whole as u64, fetched);
-        match answer {
-            Ok(()) => assert!(rt; fetched > 0),
-            Err(_) => assert!(rt; fetched < 2),
+    if let Ok(came) = served(rt.alloc(), None) {
+        let whole = (came.first == WHOLE) as u64 + (came.second == WHOLE) as u64;
+        assert_eq!(rt; whole, came.fetched);
+        match came.answer {
+            Ok(()) => assert!(rt; came.fetched > 0),
+            Err(_) => assert!(rt; came.fetched < 2),
         }
     }
     Ok(())

@@ -85,7 +85,7 @@ pub fn end_of(alloc: Global, info_hash: [u8; 20], role: Role) -> Option<End> {
 }
 
 /// Returns a connection to a peer that serves as many of this byte.
-fn served(
+fn connected_to(
     alloc: Global,
     info_hash: [u8; 20],
     size: usize,
@@ -127,7 +127,7 @@ impl Dial for Peers {
             1 => 98,
             _ => 97,
         };
-        served(self.alloc, self.info_hash, self.size, byte, self.most, None)
+        connected_to(self.alloc, self.info_hash, self.size, byte, self.most, None)
     }
 
     fn pause(&mut self) {}
@@ -152,7 +152,7 @@ impl Dial for Pair {
     fn dial(&mut self, address: usize) -> Option<Served> {
         self.dials = self.dials.saturating_add(1);
         let fails_at = if address == 0 { self.fails_at } else { None };
-        served(
+        connected_to(
             self.alloc,
             self.info_hash,
             self.size,

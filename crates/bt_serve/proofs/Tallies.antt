@@ -3,15 +3,14 @@ use Rattle.std.proofs.Common.{◌≡◌, ◌⊎◌, ℕ, ◌+◌, ◌-◌, ◌^�
 use Rattle.std.proofs.Common.{inr, refl, sym, ap, subst, ◌∙◌, arith, length-append, length-drop}
 use Rattle.std.proofs.Math.Seq.{drop-append_seam}
 use Rattle.std.proofs.lemmas.List.{append-nil}
-use Rattle.bt_wire.specs.declared.context.Context.{Context}
 use Rattle.bt_wire.specs.declared.item.Item.{Item}
-use Rattle.bt_wire.specs.Messages.{Message, spell}
+use Rattle.bt_wire.specs.Messages.{spell}
 use Rattle.bt_end.specs.Ends.{EndState, react, belief}
 use Rattle.bt_end.specs.Halves.{HalfState}
 use Rattle.bt_exchange.specs.Boths.{capped}
 use Rattle.bt_exchange.specs.Connections.{Seen, at_time}
 use Rattle.bt_exchange.specs.Courses.{Moment, IsMoved, end_after, replies}
-use Rattle.bt_exchange.specs.Stops.{IsAdvanced, IsCalm, IsFault, IsMark, IsSilent, is_still, items_of}
+use Rattle.bt_exchange.specs.Stops.{IsAdvanced, IsFault, is_still, items_of}
 use Rattle.bt_exchange.specs.declared.talking.Sign.TheVariants as sign
 use Rattle.bt_exchange.specs.declared.talking.Step.{Step}
 use Rattle.bt_exchange.specs.declared.talking.Step.TheVariants as step

@@ -1,4 +1,4 @@
-use Rattle.std.proofs.Common.{◌≡◌, ◌==◌, ◌^◌, ◌<◌, ℕ, List, length, drop, min, sym, ap, ◌∙◌, arith}
+use Rattle.std.proofs.Common.{◌≡◌, ◌==◌, ℕ, List, length, drop, min, sym, ap, ◌∙◌, arith}
 use Rattle.bt_exchange.proofs.Moves.{moment}
 use Rattle.bt_serve.proofs.Tallies.{IsNoted, stepped_moved, stepped_still}
 use Rattle.bt_serve.proofs.guest.Guest.step.Goals as goal

@@ -5,6 +5,6 @@ use Rattle.bt_serve.proofs.guest.Guest.tend.Given as goal
 
 -- no call failed so far
 abbrev pub invariant-loop-step : goal.invariant-loop-step
-invariant-loop-step g l = (start : Moment) → IsServed start (moment (g.L.Connection.seen l.fn.self.link) l.fn.self.hearing l.fn.self.end) l.fn.self.since
-    l.fn.self.tally
+invariant-loop-step g l = (start : Moment) → IsServed start (moment (g.L.Connection.seen l.fn.self.link) l.fn.self.hearing l.fn.self.end)
+    l.fn.self.since l.fn.self.tally
     → IsServed start (moment (g.L.Connection.seen l.self.link) l.self.hearing l.self.end) l.self.since l.self.tally
