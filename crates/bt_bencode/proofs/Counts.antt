@@ -39,7 +39,7 @@ pub count_over : (total count : ℕ) (more rest : List ℕ) → get_or rest 0 0 
 count_over total count more rest end (no_trees, h, is, n) = omega (arith, n)
 count_over total count more rest end (tree u us, h, is, n) =
     absurd (no_end u (ben_all us ++ 101 ∷ more) (drop 1 rest) h.0 (sym (is ∙ append_assoc (ben u) (ben_all us) (101 ∷ more))
-        ∙ headed rest 101 end (omega arith)))
+    ∙ headed rest 101 end (omega arith)))
 
 module _ (total count : ℕ) (rest key value : List ℕ) (short : length key ≤ longest_string) (split : rest ≡ ben_string key ++ value) where
   pub pairs_count_step : (more next : List ℕ) → get_or rest 0 0 ≢ 101 → ((u : Tree) (m : List ℕ) → InRange u → value ≡ ben u ++ m → next ≡ m)
@@ -56,5 +56,8 @@ pairs_room total count more rest other (pair k u us, h, is, n) = omega (arith, n
 pub pairs_count_over : (total count : ℕ) (more rest : List ℕ) → get_or rest 0 0 ≡ 101 → LeftOfPairs total count more rest → count ≡ total
 pairs_count_over total count more rest end (no_pairs, h, is, n) = omega (arith, n)
 pairs_count_over total count more rest end (pair k u us, h, is, n) =
-    absurd (omega (arith, string_at rest k (ben u ++ (ben_pairs us ++ 101 ∷ more)) 101 h.0 (is ∙ regroup (ben_string k) (ben u) (ben_pairs us) (101 ∷ more))
-        end))
+    absurd (omega (
+      arith,
+      string_at rest k (ben u ++ (ben_pairs us ++ 101 ∷ more)) 101 h.0 (is ∙ regroup (ben_string k) (ben u) (ben_pairs us) (101 ∷ more))
+          end,
+    ))

@@ -1,10 +1,11 @@
 -- Whole byte strings and integers, read at once.
-use Rattle.std.proofs.Common.{◌≡◌, ◌≢◌, inl, inr, ℕ, suc, ◌+◌, ◌-◌, ◌*◌, ◌^◌, ◌<◌, ◌≤◌, List, [], ◌∷◌, ◌++◌, length, get_or, slice_get, Some, take, drop,
-    subst, sym, ◌∙◌, refl, add-one, append_assoc, drop-cons, Option, None, IfSome, MatchOption, arith, length-append, length-take, length-drop}
+use Rattle.std.proofs.Common.{◌≡◌, ◌≢◌, inl, inr, ℕ, suc, ◌+◌, ◌-◌, ◌*◌, ◌^◌, ◌<◌, ◌≤◌, List, [], ◌∷◌, ◌++◌, length, get_or, slice_get, Some, take, drop}
+use Rattle.std.proofs.Common.{subst, sym, ◌∙◌, refl, add-one, append_assoc, drop-cons, Option, None, IfSome, MatchOption, arith, length-append, length-take}
+use Rattle.std.proofs.Common.{length-drop}
 use Rattle.std.proofs.Math.Seq.{drop-append_seam, take-add, drop-drop}
 use Rattle.bt_bencode.specs.Bencoding.{longest_string}
-use Rattle.bt_bencode.specs.Scanner.{IsDigit, NumberThen, TextThen, Rest, AfterString, May, IsLive, Goes, HasRead, Leads, after_string, magnitude_limit,
-    opening}
+use Rattle.bt_bencode.specs.Scanner.{IsDigit, NumberThen, TextThen, Rest, AfterString, May, IsLive, Goes, HasRead, Leads, after_string, magnitude_limit}
+use Rattle.bt_bencode.specs.Scanner.{opening}
 use Rattle.bt_bencode.specs.declared.scan.Container.{Container}
 use Rattle.bt_bencode.specs.declared.scan.Container.TheVariants as container
 use Rattle.bt_bencode.specs.declared.scan.Role.{Role}
@@ -161,7 +162,7 @@ string_goes_on payload at i n so h d some low = record {
   leads = λ part s. leads_on payload (at + 1) i (i + 1) (expect.Length part (get_or payload at 0 - 48)) (expect.Length part n)
       (expect.Length part (n * 10 + (get_or payload i 0 - 48))) s s s (omega (arith, so.behind)) (omega arith) (so.leads part s)
       (leads_byte payload i (expect.Length part n) (expect.Length part (n * 10 + (get_or payload i 0 - 48))) s s h
-          (goes_length s part n (get_or payload i 0) d some (omega arith)));
+      (goes_length s part n (get_or payload i 0) d some (omega arith)));
 }
 
 -- the colon and the text
@@ -184,13 +185,13 @@ module _ (payload : List ℕ) (at i n : ℕ) (so : StringRead payload at i n) (h
   string_value s = leads_on payload at (at + 1) (i + 1 + n) expect.Value (expect.Length role.Item (get_or payload at 0 - 48)) expect.Item s s s
       (omega arith) (omega (arith, so.behind))
       (leads_byte payload at expect.Value (expect.Length role.Item (get_or payload at 0 - 48)) s s (omega (arith, so.behind))
-          (goes_string s (get_or payload at 0) so.first)) (string_behind role.Item s)
+      (goes_string s (get_or payload at 0) so.first)) (string_behind role.Item s)
 
   pub string_key : (s : Stack) → Leads payload at expect.Item (container.Dict ∷ s) (i + 1 + n) expect.Value (container.Dict ∷ s)
   string_key s = leads_on payload at (at + 1) (i + 1 + n) expect.Item (expect.Length role.Key (get_or payload at 0 - 48)) expect.Value (container.Dict ∷ s)
       (container.Dict ∷ s) (container.Dict ∷ s) (omega arith) (omega (arith, so.behind))
       (leads_byte payload at expect.Item (expect.Length role.Key (get_or payload at 0 - 48)) (container.Dict ∷ s) (container.Dict ∷ s)
-          (omega (arith, so.behind)) (goes_key s (get_or payload at 0) (λ e. omega (arith, so.first)) so.first)) (string_behind role.Key (container.Dict ∷ s))
+      (omega (arith, so.behind)) (goes_key s (get_or payload at 0) (λ e. omega (arith, so.first)) so.first)) (string_behind role.Key (container.Dict ∷ s))
 
 -- An integer's first digit stands at `at`; its digits before `i` have the value n.
 pub record DigitsRead (payload : List ℕ) (at i n : ℕ) : Type 0 where
@@ -221,7 +222,7 @@ digits_go_on payload at i n so h d some low = record {
   leads = λ side s. leads_on payload (at + 1) i (i + 1) (expect.Digits side (get_or payload at 0 - 48)) (expect.Digits side n)
       (expect.Digits side (n * 10 + (get_or payload i 0 - 48))) s s s (omega (arith, so.behind)) (omega arith) (so.leads side s)
       (leads_byte payload i (expect.Digits side n) (expect.Digits side (n * 10 + (get_or payload i 0 - 48))) s s h
-          (goes_digits s side n (get_or payload i 0) d some (keeps_limit side (n * 10 + (get_or payload i 0 - 48)) (omega arith))));
+      (goes_digits s side n (get_or payload i 0) d some (keeps_limit side (n * 10 + (get_or payload i 0 - 48)) (omega arith))));
 }
 
 module _ (payload : List ℕ) (at i n : ℕ) (so : DigitsRead payload at i n) (h : i < length payload) (stop : get_or payload i 0 ≡ 101) where
@@ -235,13 +236,13 @@ module _ (payload : List ℕ) (at i n : ℕ) (so : DigitsRead payload at i n) (h
   digits_plus s = leads_on payload at (at + 1) (i + 1) expect.Integer (expect.Digits sign.Plus (get_or payload at 0 - 48)) expect.Item s s s (omega arith)
       (omega (arith, so.behind))
       (leads_byte payload at expect.Integer (expect.Digits sign.Plus (get_or payload at 0 - 48)) s s (omega (arith, so.behind))
-          (goes_first s (get_or payload at 0) so.first)) (digits_behind sign.Plus s)
+      (goes_first s (get_or payload at 0) so.first)) (digits_behind sign.Plus s)
 
   pub digits_minus : (s : Stack) → get_or payload at 0 ≢ 48 → Leads payload at expect.Negative s (i + 1) expect.Item s
   digits_minus s other = leads_on payload at (at + 1) (i + 1) expect.Negative (expect.Digits sign.Minus (get_or payload at 0 - 48)) expect.Item s s s
       (omega arith) (omega (arith, so.behind))
       (leads_byte payload at expect.Negative (expect.Digits sign.Minus (get_or payload at 0 - 48)) s s (omega (arith, so.behind))
-          (goes_first_negative s (get_or payload at 0) so.first other)) (digits_behind sign.Minus s)
+      (goes_first_negative s (get_or payload at 0) so.first other)) (digits_behind sign.Minus s)
 
 module _ (payload : List ℕ) (at end : ℕ) (s : Stack) (h : at < length payload) (before : at < end) where
   -- a `-`, and what follows

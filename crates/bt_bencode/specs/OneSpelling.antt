@@ -40,7 +40,7 @@ dictionary-inj ps qs e = cc
 pub one_spelled : (bytes : List ℕ) (ps qs : Pairs) → Spells ps bytes → Spells qs bytes → ps ≡ qs
 one_spelled bytes ps qs s t =
     dictionary-inj ps qs (same_tree (dictionary ps) (dictionary qs) [] [] s.fits.in_range t.fits.in_range
-        (ap (λ (b : List ℕ). b ++ []) (sym s.spelled ∙ t.spelled))).0
+    (ap (λ (b : List ℕ). b ++ []) (sym s.spelled ∙ t.spelled))).0
 
 pub IsSpelling-prop : (bytes : List ℕ) → IsProp (IsSpelling bytes)
 IsSpelling-prop bytes = λ a b.

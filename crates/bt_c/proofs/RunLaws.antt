@@ -1,6 +1,6 @@
 -- What calls in a row read is what the stream's verdict says.
-use Rattle.std.proofs.Common.{◌≡◌, ◌≢◌, ◌==◌, Bool, min, ◌&&◌, ℕ, ◌+◌, ◌-◌, ◌<◌, ◌≤◌, ◌^◌, true, false, not, List, [], ◌∷◌, ◌++◌, length, drop, Option,
-    Some, None, refl, sym, ap, subst, ◌∙◌, arith}
+use Rattle.std.proofs.Common.{◌≡◌, ◌≢◌, ◌==◌, Bool, min, ◌&&◌, ℕ, ◌+◌, ◌-◌, ◌<◌, ◌≤◌, ◌^◌, true, false, not, List, [], ◌∷◌, ◌++◌, length, drop, Option}
+use Rattle.std.proofs.Common.{Some, None, refl, sym, ap, subst, ◌∙◌, arith}
 use Rattle.std.proofs.lemmas.Grind.{common_steps}
 use Rattle.std.specs.Prelude.{if◌then◌else◌}
 use Rattle.std.proofs.lemmas.List.{length-append}
@@ -119,7 +119,7 @@ opened_run [] r s b c f number lt opened reads stops =
 opened_run ((at, items.Handshake h) ∷ xs) r s b c f number lt opened (t, i, start, gives, reads) stops = absurd (let e = sym opened ∙ gives.0 in cc)
 opened_run ((at, items.Message msg) ∷ xs) r s b c f number lt opened (t, i, start, gives, reads) stops =
     let rest = opened_run xs t s (drop i.size b) c f (number + 1) (limit_after r t b i msg lt gives.1) (opened_after r t b i msg opened gives.1) reads
-        stops in (
+    stops in (
       with_item r.start (items.Message msg) rest.0,
       after_message r t b i msg number rest.0 lt gives.1 rest.1,
       run_more s c f xs number r.start at (items.Message msg) rest.0 (sym gives.1.start ∙ start) rest.2,
@@ -205,7 +205,7 @@ complete : (s : BtReader) (c : List ℕ) (f : Option Refused) (xs : List (ℕ ×
 complete s c f xs v opened run =
     let number : v.number ≡ length xs = omega (arith, run.number_after) in
     ap (λ n. not (n == 0) && (length v.tail == 0)) number ∙ ap (λ (z : List ℕ). not (length xs == 0) && (length z == 0)) run.tail
-        ∙ ap (λ k. k && (length c == 0)) (sym opened)
+    ∙ ap (λ k. k && (length c == 0)) (sym opened)
 
 end_refused : (v : Outcome) (r : Refusal) → v.refusal ≡ Some r → refusal_at_end v ≡ Some r
 end_refused v r e = ap (λ (z : Option Refusal). elim z [ Some q ↦ Some q | None ↦ if is_complete_verdict v then None else Some (end_inside v) ]) e
@@ -228,17 +228,32 @@ checked own s t b c i xs n count x lt reads counted (Ends.refused f fault shows 
     let v = found.0 in
     let told = says.refused (λ e. omega (arith, e)) in
     let r : Refusal = record { message = 0 + length xs; at = start_of s + f.at; reason = f.reason } in
-    let P : Option Refusal → Type 0 = λ o. ShowsEnd x b v 2 o in
-    (v, found.1, subst P (sym (end_refused v r found.2.refusal)) (refl, told.0 ∙ sym counted ∙ omega arith, told.1 ∙ omega (arith, shows.start, shows.at),
-        told.2 ∙ shows.reason))
+    let P : Option Refusal → Type 0 = λ o. ShowsEnd x b v 2 o in (
+      v,
+      found.1,
+      subst P (sym (end_refused v r found.2.refusal)) (
+        refl,
+        told.0 ∙ sym counted ∙ omega arith,
+        told.1 ∙ omega (arith, shows.start, shows.at),
+        told.2 ∙ shows.reason,
+      ),
+    )
 checked own s t b c i xs n count x lt reads counted (Ends.inside lacks unfinished shows same) other says =
     let found = run xs (new_reader own) s b c None lt refl reads lacks in
     let v = found.0 in
     let told = says.refused (λ e. omega (arith, e)) in
     let whole = complete s c None xs v (opened_by xs (new_reader own) s b c refl reads) found.2 ∙ unfinished in
-    let P : Option Refusal → Type 0 = λ o. ShowsEnd x b v 2 o in
-    (v, found.1, subst P (sym (end_open v false found.2.refusal whole)) (refl, omega (arith, told.0, counted, found.2.number_after), told.1
-        ∙ omega (arith, shows.start, shows.at, found.2.start, ap length found.2.tail), told.2 ∙ shows.reason))
+    let P : Option Refusal → Type 0 = λ o. ShowsEnd x b v 2 o in (
+      v,
+      found.1,
+      subst P (sym (end_open v false found.2.refusal whole)) (
+        refl,
+        omega (arith, told.0, counted, found.2.number_after),
+        told.1
+            ∙ omega (arith, shows.start, shows.at, found.2.start, ap length found.2.tail),
+        told.2 ∙ shows.reason,
+      ),
+    )
 checked own s t b c i xs n count x lt reads counted (Ends.end lacks closed same) other says =
     let found = run xs (new_reader own) s b c None lt refl reads lacks in
     let v = found.0 in

@@ -54,7 +54,7 @@ stopped r b s i j n k steps none either end inside = go either where
   go (inl two) =
       let is = inside two in
       subst (λ n. Ends r b s j n) (sym two) (Ends.inside lacks (subst (λ z. is_complete z b ≡ false) same is.0)
-          (subst (λ z. IsInside z (length b) j) same is.1) same)
+      (subst (λ z. IsInside z (length b) j) same is.1) same)
   go (inr three) = subst (λ n. Ends r b s j n) (sym three) (Ends.end lacks (subst (λ z. is_complete z b ≡ true) same (end three)) same)
 
 -- ---- a message
@@ -69,7 +69,7 @@ pub fault_opened : (r : BtReader) (b : List ℕ) (i : BtItem) (f : Refused) (c :
     ≡ order_in r.past → IsFault c o r.start b (Some f) → ShowsFault i r.start f → Steps r b r i 2
 fault_opened r b i f c o opened k e p shows =
     Steps.refused f (HasFault.message opened (subst (λ z. IsFault z (order_in r.past) r.start b (Some f)) k
-        (subst (λ z. IsFault c z r.start b (Some f)) e p))) (refused_opened r i f opened shows) refl
+    (subst (λ z. IsFault c z r.start b (Some f)) e p))) (refused_opened r i f opened shows) refl
 
 -- the first n bytes are a message
 pub over_opened : (r s : BtReader) (b : List ℕ) (i : BtItem) (n k : ℕ) (c : Context) (o : Order) → is_on r.opened ≡ true → c ≡ context_of r → o

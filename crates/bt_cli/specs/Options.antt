@@ -1,6 +1,6 @@
 -- What the options of the command line say of the receiver.
-use Rattle.std.specs.Prelude.{◌≡◌, ◌==◌, ℕ, ◌^◌, ◌&&◌, ◌||◌, not, Bool, false, nat_le, nat_lt, List, [], ◌∷◌, map, string_bytes, is_some, unwrap_or, length,
-    codes, Option, Some, None, option_map, option_and_then, is_none, if◌then◌else◌}
+use Rattle.std.specs.Prelude.{◌≡◌, ◌==◌, ℕ, ◌^◌, ◌&&◌, ◌||◌, not, Bool, false, nat_le, nat_lt, List, [], ◌∷◌, map, string_bytes, is_some, unwrap_or, length}
+use Rattle.std.specs.Prelude.{codes, Option, Some, None, option_map, option_and_then, is_none, if◌then◌else◌}
 use Rattle.std.specs.Int.{w64, from_be_bytes}
 use Rattle.std.specs.Result.{result_ok}
 use Rattle.std.specs.Str.{bytes_eq}

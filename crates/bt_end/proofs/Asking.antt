@@ -1,6 +1,6 @@
 -- Requests that are queued one after the other.
-use Rattle.std.proofs.Common.{◌≡◌, ℕ, zero, suc, ◌+◌, ◌-◌, ◌*◌, ◌<◌, ◌≤◌, false, eqb, List, [], ◌∷◌, ◌++◌, length, append_assoc, map, Option, None, Some,
-    refl, sym, ap, subst, ◌∙◌, arith}
+use Rattle.std.proofs.Common.{◌≡◌, ℕ, zero, suc, ◌+◌, ◌-◌, ◌*◌, ◌<◌, ◌≤◌, false, eqb, List, [], ◌∷◌, ◌++◌, length, append_assoc, map, Option, None, Some}
+use Rattle.std.proofs.Common.{refl, sym, ap, subst, ◌∙◌, arith}
 use Rattle.std.proofs.lemmas.Bool.{ne_eqb}
 use Rattle.std.proofs.lemmas.List.{append-nil}
 use Rattle.std.specs.Prelude.{option_and_then, option_map, unwrap_or}
@@ -17,8 +17,8 @@ use Rattle.bt_wire.specs.declared.context.Order.{Order}
 use Rattle.bt_wire.specs.Messages.{spell}
 use Rattle.bt_wire.specs.Numbers.{be32}
 use Rattle.bt_io.specs.Outbox.{Outgoing}
-use Rattle.bt_end.specs.Ends.{EndState, Part, Watching, Serving, Awaiting, Fetching, Fetched, then_asked, block_taken, by_kind, peer_id, belief, spelled,
-    orders_after, wanted, with_asked, with_part, all_wanted, with_all_asked, request_for, requesting}
+use Rattle.bt_end.specs.Ends.{EndState, Part, Watching, Serving, Awaiting, Fetching, Fetched, then_asked, block_taken, by_kind, peer_id, belief, spelled}
+use Rattle.bt_end.specs.Ends.{orders_after, wanted, with_asked, with_part, all_wanted, with_all_asked, request_for, requesting}
 use Rattle.bt_end.specs.Parts.{framed, part_of}
 use Rattle.bt_metadata.specs.Blocks.{window}
 use Rattle.bt_end.specs.Reactors.{end_of, IsReacted}
@@ -78,12 +78,12 @@ pub one_queued : {A : Type 0} → (old now new : Reactor A) (n id k : ℕ) → n
 one_queued old now new n id k lt above is h next r =
     let p = part_of now.part in
     let rest : all_wanted (window - n) old.window p ≡ k ∷ all_wanted (window - (n + 1)) old.window (with_asked (Some k) p) =
-        next_wanted (window - n) (window - (n + 1)) old.window k p (omega arith) next in
+    next_wanted (window - n) (window - (n + 1)) old.window k p (omega arith) next in
     let later : Part → List ℕ = λ q. all_wanted (window - (n + 1)) old.window q in
     let part_is : with_all_asked (later (part_of new.part)) (part_of new.part) ≡ with_all_asked (all_wanted (window - n) old.window p) p =
     ap (λ q. with_all_asked (later q) q) r.part ∙ sym (ap (λ ks. with_all_asked ks p) rest) in
     let bytes_are : new.outbox.bytes ++ spelled (end_of old) (map request_for (later (part_of new.part))) ≡ now.outbox.bytes
-        ++ spelled (end_of old) (map request_for (all_wanted (window - n) old.window p)) =
+    ++ spelled (end_of old) (map request_for (all_wanted (window - n) old.window p)) =
     ap (λ q. new.outbox.bytes ++ spelled (end_of old) (map request_for (later q))) r.part
     ∙ ap (λ xs. xs ++ spelled (end_of old) (map request_for (later (with_asked (Some k) p)))) (r.bytes
     ∙ ap (λ xs. now.outbox.bytes ++ xs) (sym (request_bytes (end_of old) id k above is)))

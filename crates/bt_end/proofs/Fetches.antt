@@ -1,6 +1,6 @@
 -- What an end has fetched.
-use Rattle.std.proofs.Common.{◌≡◌, ℕ, zero, suc, ◌-◌, ◌*◌, ◌<◌, ◌≤◌, Bool, true, false, List, [], ◌∷◌, length, min, Some, if◌then◌else◌, refl, sym, ap, ◌∙◌,
-    arith, length-append}
+use Rattle.std.proofs.Common.{◌≡◌, ℕ, zero, suc, ◌-◌, ◌*◌, ◌<◌, ◌≤◌, Bool, true, false, List, [], ◌∷◌, length, min, Some, if◌then◌else◌, refl, sym, ap, ◌∙◌}
+use Rattle.std.proofs.Common.{arith, length-append}
 use Rattle.std.specs.Prelude.{slice_get, IfSome}
 use Rattle.std.proofs.lemmas.List.Sums.{count_by-le-length}
 use Rattle.bt_metadata.specs.Blocks.{max_metadata}
@@ -69,7 +69,7 @@ by_digest a m false e f = let b : false ≡ true = ap is_fetched f in absurd cc
 
 by_whole : (a : AssemblyState) (m : List ℕ) (t : Bool) → IsAssembly a → is_whole a ≡ t →
     (if t then (if bytes_eq (sha1 (joined a.slots)) a.info_hash then Fetched (joined a.slots) else Fetching (emptied a)) else Fetching a) ≡ Fetched m
-        → IsFinished a m
+    → IsFinished a m
 unfolding is_fetched
 by_whole a m true i e f =
     let d = by_digest a m (bytes_eq (sha1 (joined a.slots)) a.info_hash) refl f in

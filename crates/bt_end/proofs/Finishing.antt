@@ -17,8 +17,9 @@ use Rattle.bt_metadata.specs.Blocks.{window}
 use Rattle.bt_metadata.specs.Assemblies.{AssemblyState, with_data, data_error, unless_wrong}
 use Rattle.bt_metadata.specs.declared.assembly.BlockError.{BlockError}
 use Rattle.bt_metadata.proofs.Kept.{data_assembly}
-use Rattle.bt_end.specs.Ends.{Part, Watching, Serving, Awaiting, Fetching, Fetched, EndState, peer_id, may_ask, all_wanted, with_asked, with_all_asked,
-    with_part, requesting, quiet, queueing, reply, assembly_of, begun, learnt, with_block, block_taken, with_refused, by_kind, at_extended, at_message, react}
+use Rattle.bt_end.specs.Ends.{Part, Watching, Serving, Awaiting, Fetching, Fetched, EndState, peer_id, may_ask, all_wanted, with_asked, with_all_asked}
+use Rattle.bt_end.specs.Ends.{with_part, requesting, quiet, queueing, reply, assembly_of, begun, learnt, with_block, block_taken, with_refused, by_kind}
+use Rattle.bt_end.specs.Ends.{at_extended, at_message, react}
 use Rattle.bt_end.specs.Laws.{FetchedIsFinished}
 use Rattle.bt_end.specs.Sturdy.{IsPartOf}
 use Rattle.bt_end.proofs.Fetches.{is_fetched, concluded_finished}
@@ -99,7 +100,7 @@ extended_had : (e : EndState) (d : List ℕ) (x : Ext) → IsPartOf e.handshake.
 unfolding HadOrFetched
 extended_had e d (ext.Handshake dict rest) i h =
     let x = learnt e (tree_of dict) in inl (begun_fetched (assembly_of e.handshake.info_hash e.part (size_of (tree_of dict))) e.part d
-        (asked_had x d (may_ask x) h))
+    (asked_had x d (may_ask x) h))
 extended_had e d (ext.Metadata dict rest) i h = kind_had e d (kind_of (tree_of dict)) rest i h
 extended_had e d (ext.DontHave index) i h = inl h
 extended_had e d (ext.Raw id payload) i h = inl h

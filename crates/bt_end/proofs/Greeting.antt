@@ -1,6 +1,6 @@
 -- What an end says first: its extended handshake, and then what is announced.
-use Rattle.std.proofs.Common.{◌≡◌, ℕ, ◌+◌, ◌≤◌, Bool, true, false, if◌then◌else◌, List, [], ◌∷◌, ◌++◌, length, refl, sym, ap, subst, ◌∙◌, arith,
-    length-append, append-nil, append_assoc}
+use Rattle.std.proofs.Common.{◌≡◌, ℕ, ◌+◌, ◌≤◌, Bool, true, false, if◌then◌else◌, List, [], ◌∷◌, ◌++◌, length, refl, sym, ap, subst, ◌∙◌, arith}
+use Rattle.std.proofs.Common.{length-append, append-nil, append_assoc}
 use Rattle.bt_bencode.specs.Bencoding.{ben}
 use Rattle.bt_ext.specs.Made.{handshake_of, handshake_tree}
 use Rattle.bt_ext.specs.Payloads.{payload_of}
@@ -54,14 +54,14 @@ greeted_all old mid new c known ext fast same bytes short r =
     let all : List Message = (if known then first e ∷ [] else []) ++ announced e.announce in
     let greeting : (if c.ext then first e ∷ [] else []) ++ (if c.fast then announced e.announce else []) ≡ all = rw (ext, fast) refl in
     let end : end_of new ≡ record e { sends = orders_after e.sends all } =
-        r.end ∙ ap (λ (s : EndState). record s { sends = orders_after s.sends (announced s.announce) }) same
-        ∙ ap (λ (o : Order). record e { sends = o }) (order_kept e known) in
+    r.end ∙ ap (λ (s : EndState). record s { sends = orders_after s.sends (announced s.announce) }) same
+    ∙ ap (λ (o : Order). record e { sends = o }) (order_kept e known) in
     let after : new.outbox.bytes ≡ mid.outbox.bytes ++ spelled e (announced e.announce) =
-        r.queued ∙ ap (λ (s : EndState). mid.outbox.bytes ++ spelled s (announced s.announce)) same in
+    r.queued ∙ ap (λ (s : EndState). mid.outbox.bytes ++ spelled s (announced s.announce)) same in
     let queued : new.outbox.bytes ≡ old.outbox.bytes ++ spelled e all =
-        after ∙ ap (λ (xs : List ℕ). xs ++ spelled e (announced e.announce)) bytes
-        ∙ append_assoc old.outbox.bytes (introduced known e) (spelled e (announced e.announce))
-        ∙ ap (λ (xs : List ℕ). old.outbox.bytes ++ xs) (all_bytes e known) in
+    after ∙ ap (λ (xs : List ℕ). xs ++ spelled e (announced e.announce)) bytes
+    ∙ append_assoc old.outbox.bytes (introduced known e) (spelled e (announced e.announce))
+    ∙ ap (λ (xs : List ℕ). old.outbox.bytes ++ xs) (all_bytes e known) in
     record {
       end = end ∙ ap (λ (xs : List Message). record e { sends = orders_after e.sends xs }) (sym greeting);
       queued = queued ∙ ap (λ (xs : List Message). old.outbox.bytes ++ spelled e xs) (sym greeting);

@@ -1,6 +1,6 @@
 -- Handling a piece of bytes.
-use Rattle.std.proofs.Common.{◌≡◌, ℕ, ◌+◌, ◌-◌, ◌≤◌, inl, inr, true, false, List, ◌∷◌, length, take, drop, Result, Ok, refl, sym, ap, subst, ◌∙◌, arith,
-    length-drop}
+use Rattle.std.proofs.Common.{◌≡◌, ℕ, ◌+◌, ◌-◌, ◌≤◌, inl, inr, true, false, List, ◌∷◌, length, take, drop, Result, Ok, refl, sym, ap, subst, ◌∙◌, arith}
+use Rattle.std.proofs.Common.{length-drop}
 use Rattle.std.proofs.lemmas.Bool.{cases_lt}
 use Rattle.std.proofs.lemmas.List.{drop-drop, take_all}
 use Rattle.bt_feed.specs.Feeds.{taken}
@@ -29,8 +29,10 @@ goes_on a now next bytes rest n t r e le u h = record {
   within = omega (arith, le, ap (length {A = ℕ}) r, length-drop n bytes, u.within);
   follows = λ k stop b later.
       let same : drop (n + t) bytes ≡ drop (taken now.feed rest) rest = sym (drop-drop t n bytes) ∙ ap (drop t) (sym r) ∙ ap (λ (x : ℕ). drop x rest) e in
-      let one : IsHandled now rest (t + k) stop b = (next ∷ later.0,
-          (h, (k, ap (λ (x : ℕ). x + k) e, subst (λ (x : List ℕ). AreHandled later.0 next x k stop b) same later.1))) in
+      let one : IsHandled now rest (t + k) stop b = (
+        next ∷ later.0,
+        (h, (k, ap (λ (x : ℕ). x + k) e, subst (λ (x : List ℕ). AreHandled later.0 next x k stop b) same later.1)),
+      ) in
       let all = u.follows (t + k) stop b (subst (λ (x : List ℕ). IsHandled now x (t + k) stop b) r one) in
       along a b bytes bytes (n + (t + k)) (n + t + k) stop refl (omega arith) all;
 }

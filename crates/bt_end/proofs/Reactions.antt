@@ -1,6 +1,6 @@
 -- What every reaction of an end keeps.
-use Rattle.std.proofs.Common.{◌≡◌, ℕ, zero, suc, Bool, true, false, List, [], ◌∷◌, Option, None, Some, is_some, option_map, unwrap_or, count_by,
-    if◌then◌else◌, refl, ap, ◌∙◌, nat_lt, nat_le, ◌&&◌, arith}
+use Rattle.std.proofs.Common.{◌≡◌, ℕ, zero, suc, Bool, true, false, List, [], ◌∷◌, Option, None, Some, is_some, option_map, unwrap_or, count_by}
+use Rattle.std.proofs.Common.{if◌then◌else◌, refl, ap, ◌∙◌, nat_lt, nat_le, ◌&&◌, arith}
 use Rattle.std.proofs.lemmas.Bool.Decides.{nat_tests}
 use Rattle.std.proofs.lemmas.Slice.Eq.{bytes_eq-Decides}
 use Rattle.std.specs.Str.{bytes_eq}
@@ -21,9 +21,9 @@ use Rattle.bt_metadata.specs.Blocks.{max_metadata, window}
 use Rattle.bt_metadata.specs.Assemblies.{AssemblyState, is_asked, ask_of, is_whole, joined, emptied, started, with_data, data_error, piece_error, unless_wrong}
 use Rattle.bt_metadata.proofs.Kept.{asked_assembly, data_assembly, reject_assembly, started_assembly, disconnected_assembly}
 use Rattle.bt_metadata.specs.declared.assembly.BlockError.{BlockError}
-use Rattle.bt_end.specs.Ends.{Part, Watching, Serving, Awaiting, Fetching, Fetched, EndState, peer_id, may_ask, wanted, all_wanted, with_asked,
-    with_all_asked, with_part, requesting, then_asked, quiet, queueing, reply, assembly_of, begun, learnt, with_block, block_taken, with_refused, by_kind,
-    at_extended, at_message, react, part_kept}
+use Rattle.bt_end.specs.Ends.{Part, Watching, Serving, Awaiting, Fetching, Fetched, EndState, peer_id, may_ask, wanted, all_wanted, with_asked}
+use Rattle.bt_end.specs.Ends.{with_all_asked, with_part, requesting, then_asked, quiet, queueing, reply, assembly_of, begun, learnt, with_block}
+use Rattle.bt_end.specs.Ends.{block_taken, with_refused, by_kind, at_extended, at_message, react, part_kept}
 use Rattle.bt_end.specs.Laws.{DoneStays}
 use Rattle.bt_end.specs.Sturdy.{IsFetch, IsPartOf}
 use Rattle.bt_end.proofs.Fetches.{whole_length}
@@ -51,7 +51,7 @@ asked_part h most k (Fetched x) i e = i
 
 all_asked_by : (h : List ℕ) (n most : ℕ) (o : Option ℕ) (p : Part) → wanted most p ≡ o → IsPartOf h p →
     ((q : Part) → IsPartOf h q → IsPartOf h (with_all_asked (all_wanted n most q) q))
-        → IsPartOf h (with_all_asked (unwrap_or (option_map (λ k. k ∷ all_wanted n most (with_asked (Some k) p)) o) []) p)
+    → IsPartOf h (with_all_asked (unwrap_or (option_map (λ k. k ∷ all_wanted n most (with_asked (Some k) p)) o) []) p)
 all_asked_by h n most None p e i rest = i
 all_asked_by h n most (Some k) p e i rest = rest (with_asked (Some k) p) (asked_part h most k p i e)
 

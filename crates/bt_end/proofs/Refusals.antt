@@ -1,6 +1,6 @@
 -- An end that refused what came refuses it again.
-use Rattle.std.proofs.Common.{◌≡◌, ℕ, ◌<◌, ◌^◌, Bool, true, false, ◌||◌, List, [], ◌∷◌, ◌++◌, take, Option, None, Some, Result, Ok, Err, refl, sym, ap,
-    subst, ◌∙◌, arith, inr, append-nil, cond, suc}
+use Rattle.std.proofs.Common.{◌≡◌, ℕ, ◌<◌, ◌^◌, Bool, true, false, ◌||◌, List, [], ◌∷◌, ◌++◌, take, Option, None, Some, Result, Ok, Err, refl, sym, ap}
+use Rattle.std.proofs.Common.{subst, ◌∙◌, arith, inr, append-nil, cond, suc}
 use Rattle.std.specs.Prelude.{is_some, is_none}
 use Rattle.bt_wire.specs.declared.item.Item.{Item}
 use Rattle.bt_wire.specs.declared.item.Refusal.{Refusal}
@@ -108,5 +108,5 @@ refuses a r h = record {
 pub refusal_stays : RefusalStays
 refusal_stays a b c r calls fed t cs =
     let h : IsRefused b.feed r = subst (λ (x : HalfState). IsRefused x.feed r) (sym t.1)
-        (record { given = refl; answer = t.0.1; limit = omega (arith, fed.limit) }) in
+    (record { given = refl; answer = t.0.1; limit = omega (arith, fed.limit) }) in
     refuses c r (all_called b c r calls h cs)

@@ -1,6 +1,6 @@
 -- What an end says.
-use Rattle.std.proofs.Common.{◌≡◌, ℕ, ◌+◌, ◌≤◌, Bool, true, false, ◌||◌, ◌&&◌, if◌then◌else◌, nat_le, List, [], ◌∷◌, ◌++◌, length, Option, None, Some,
-    Result, Ok, Err, refl, sym, ap, subst, ◌∙◌, arith, inl, inr, length-append, append-nil}
+use Rattle.std.proofs.Common.{◌≡◌, ℕ, ◌+◌, ◌≤◌, Bool, true, false, ◌||◌, ◌&&◌, if◌then◌else◌, nat_le, List, [], ◌∷◌, ◌++◌, length, Option, None, Some}
+use Rattle.std.proofs.Common.{Result, Ok, Err, refl, sym, ap, subst, ◌∙◌, arith, inl, inr, length-append, append-nil}
 use Rattle.std.specs.Prelude.{is_some, is_none, unwrap_or}
 use Rattle.bt_ext.specs.Ids.{donthave_id}
 use Rattle.bt_ext.specs.Payloads.{index_bytes}
@@ -62,7 +62,7 @@ is_judged (Some say_error.Memory) = true
 
 unjudged_by : (s t u v : Bool) →
     is_judged (if s then Some say_error.NotOpen else (if t then Some say_error.Busy else
-        (if u then Some say_error.Extended else (if v then Some say_error.PiecesUnknown else None)))) ≡ false
+    (if u then Some say_error.Extended else (if v then Some say_error.PiecesUnknown else None)))) ≡ false
 unfolding is_judged
 unjudged_by true t u v = refl
 unjudged_by false true u v = refl
@@ -85,7 +85,7 @@ said_ok old new msg p =
     let bytes = old.reactor.outbox.bytes in
     let one = spell (belief (end_of old.reactor)) msg in
     same_half (end_of new) e old.feed old.feed new.outbox.bytes (bytes ++ (one ++ [])) p.end refl (p.queued
-        ∙ ap (λ (xs : List ℕ). bytes ++ xs) (sym (append-nil one)))
+    ∙ ap (λ (xs : List ℕ). bytes ++ xs) (sym (append-nil one)))
 
 said_inside : {A : Type 0} → (old : Inside A) (msg : Message) (result : Result Unit SayError) (new : Reactor A)
     → IsSpoken old.reactor (is_some (standing old.feed)) msg result new →

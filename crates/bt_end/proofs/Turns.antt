@@ -1,6 +1,6 @@
 -- Turns of an end.
-use Rattle.std.proofs.Common.{◌≡◌, ℕ, ◌<◌, Bool, true, false, ◌&&◌, ◌||◌, nat_le, List, ◌++◌, length, Option, None, Some, Result, Ok, Err, refl, sym, ap,
-    subst, ◌∙◌, arith, inl, inr}
+use Rattle.std.proofs.Common.{◌≡◌, ℕ, ◌<◌, Bool, true, false, ◌&&◌, ◌||◌, nat_le, List, ◌++◌, length, Option, None, Some, Result, Ok, Err, refl, sym, ap}
+use Rattle.std.proofs.Common.{subst, ◌∙◌, arith, inl, inr}
 use Rattle.std.specs.Prelude.{is_some, IfSome}
 use Rattle.std.proofs.lemmas.Bool.{le-leb, cases_lt}
 use Rattle.bt_wire.specs.declared.fault.Refused.{Refused as Fault}
@@ -127,13 +127,16 @@ handled old mid a f new view x v k b o i e h =
     let busy : is_busy (half_of mid) ≡ false = ap is_busy p ∙ b in
     let answer : IsAnswer mid.feed (Ok (Some (item_of view))) = subst (λ (y : Result (Option View) TakeError). IsAnswer mid.feed (shown y)) o i in
     let left : f ≡ after mid.feed (Ok (Some (item_of view))) = e ∙ ap (λ (y : Result (Option View) TakeError). after mid.feed (shown y)) o in
-    subst (λ (y : HalfState). IsTurned y (Ok Handled) (half_of (record { feed = f; reactor = new }))) (p ∙ v) (item_of view, (busy, answer),
-        turned mid f new (item_of view) left h)
+    subst (λ (y : HalfState). IsTurned y (Ok Handled) (half_of (record { feed = f; reactor = new }))) (p ∙ v) (
+      item_of view,
+      (busy, answer),
+      turned mid f new (item_of view) left h,
+    )
 
 pub refused : {A : Type 0} → (old mid : Inside A) (a : HalfState) (f : FeedState) (r : Refusal) (s : HalfState) (x : Result (Option View) TakeError)
     → half_of old ≡ a → IsKept old mid → is_busy (half_of old) ≡ false →
     x ≡ Err (error.Refused r) → IsAnswer mid.feed (shown x) → f ≡ after mid.feed (shown x) → s ≡ half_of (record { feed = f; reactor = mid.reactor })
-        → IsTurned a (Err (turn_error.Refused r)) s
+    → IsTurned a (Err (turn_error.Refused r)) s
 refused old mid a f r s x v k b o i e q =
     let p : half_of mid ≡ half_of old = kept_half old mid k in
     let busy : is_busy (half_of mid) ≡ false = ap is_busy p ∙ b in
@@ -145,7 +148,7 @@ refused old mid a f r s x v k b o i e q =
 pub sturdy : {A : Type 0} → (old mid : Inside A) (f : FeedState) (new : Reactor A) (view : View) (x : Result (Option View) TakeError) → IsKept old mid
     → is_busy (half_of old) ≡ false → IsFeed old.feed → IsEnd (half_of old) →
     x ≡ Ok (Some view) → IsAnswer mid.feed (shown x) → IsReacted mid.reactor new (react (end_of mid.reactor) (item_of view))
-        → IsEnd (half_of (record { feed = f; reactor = new }))
+    → IsEnd (half_of (record { feed = f; reactor = new }))
 sturdy old mid f new view x k b h s o i r =
     let p : half_of mid ≡ half_of old = kept_half old mid k in
     let busy : is_busy (half_of mid) ≡ false = ap is_busy p ∙ b in

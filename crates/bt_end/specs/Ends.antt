@@ -1,6 +1,6 @@
 -- One end of a connection as values (BEP 3, BEP 6, BEP 9, BEP 10): what it is, and what it does at each item that comes.
-use Rattle.std.specs.Prelude.{ℕ, zero, suc, ◌+◌, ◌-◌, ◌^◌, min, not, ◌&&◌, ◌||◌, nat_lt, nat_le, Bool, true, false, if◌then◌else◌, List, [], ◌∷◌, ◌++◌,
-    length, map, count_by, Option, Some, None, is_some, is_none, option_map, unwrap_or, codes}
+use Rattle.std.specs.Prelude.{ℕ, zero, suc, ◌+◌, ◌-◌, ◌^◌, min, not, ◌&&◌, ◌||◌, nat_lt, nat_le, Bool, true, false, if◌then◌else◌, List, [], ◌∷◌, ◌++◌}
+use Rattle.std.specs.Prelude.{length, map, count_by, Option, Some, None, is_some, is_none, option_map, unwrap_or, codes}
 use Rattle.std.specs.List.{flat_map, list_all}
 use Rattle.std.specs.Str.{bytes_eq}
 use Rattle.sha1.specs.Sha1.{sha1}
@@ -28,8 +28,8 @@ use Rattle.bt_wire.specs.declared.reserved.Reserved.{Reserved}
 use Rattle.bt_wire.specs.Handshakes.{negotiated}
 use Rattle.bt_wire.specs.Messages.{order_after, spell}
 use Rattle.bt_metadata.specs.Blocks.{block, max_metadata, window}
-use Rattle.bt_metadata.specs.Assemblies.{AssemblyState, started, is_asked, is_held, is_settled as is_settled_slot, ask_of, asking, with_slots, with_data,
-    with_reject, is_whole, joined, emptied, disconnected, held_block}
+use Rattle.bt_metadata.specs.Assemblies.{AssemblyState, started, is_asked, is_held, is_settled as is_settled_slot, ask_of, asking, with_slots, with_data}
+use Rattle.bt_metadata.specs.Assemblies.{with_reject, is_whole, joined, emptied, disconnected, held_block}
 use Rattle.bt_end.specs.declared.config.Announce.{Announce}
 use Rattle.bt_end.specs.declared.config.Announce.TheVariants.{Silent, All, Nothing}
 use Rattle.bt_end.specs.declared.part.Progress.{Progress}
@@ -188,7 +188,7 @@ learnt e t = record e { table = applied t e.table; part = begun (assembly_of e.h
 abbrev pub served : List ℕ → ℕ → Ext
 served metadata piece =
     if nat_lt piece (block_count (length metadata)) then message_of (kind.Data piece (length metadata)) (block metadata piece) else message_of
-        (kind.Reject piece) []
+    (kind.Reject piece) []
 
 -- the answer to a request
 abbrev pub reply : Part → ℕ → Ext
@@ -255,8 +255,18 @@ react e (items.Message msg) = at_message (record e { receives = order_after e.re
 
 -- an end before its first connection
 abbrev pub unopened : Own → Handshake → Announce → ℕ → Part → EndState
-unopened own h announce window part = record { own = own; handshake = h; announce = announce; window = window; context = None; receives = Fresh;
-    sends = Fresh; table = []; part = part; mismatches = 0 }
+unopened own h announce window part = record {
+  own = own;
+  handshake = h;
+  announce = announce;
+  window = window;
+  context = None;
+  receives = Fresh;
+  sends = Fresh;
+  table = [];
+  part = part;
+  mismatches = 0;
+}
 
 abbrev pub part_kept : Part → Part
 part_kept (Fetching a) = Fetching (disconnected a)

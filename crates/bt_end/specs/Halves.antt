@@ -1,6 +1,6 @@
 -- An end with the bytes that it receives and sends: what each of its calls does.
-use Rattle.std.specs.Prelude.{◌≡◌, ℕ, ◌+◌, ◌≤◌, Bool, true, false, ◌&&◌, ◌||◌, nat_le, if◌then◌else◌, List, [], ◌∷◌, ◌++◌, length, drop, Option, Some, None,
-    is_some, is_none, Result, Ok, Err}
+use Rattle.std.specs.Prelude.{◌≡◌, ℕ, ◌+◌, ◌≤◌, Bool, true, false, ◌&&◌, ◌||◌, nat_le, if◌then◌else◌, List, [], ◌∷◌, ◌++◌, length, drop, Option, Some, None}
+use Rattle.std.specs.Prelude.{is_some, is_none, Result, Ok, Err}
 use Rattle.bt_ext.specs.declared.ext.Ext.{Ext}
 use Rattle.bt_ext.specs.declared.ext.Ext.TheVariants as ext
 use Rattle.bt_wire.specs.declared.item.Item.{Item}
@@ -102,7 +102,7 @@ abbrev pub AreHandled : List HalfState → HalfState → List ℕ → ℕ → Re
 AreHandled [] a bytes n stop b = (n ≡ taken a.feed bytes) × IsTurned (received a bytes) (stopping stop) b
 AreHandled (next ∷ ends) a bytes n stop b =
     IsTurned (received a bytes) (Ok Handled) next × ((rest : ℕ) × (n ≡ taken a.feed bytes + rest) × AreHandled ends next (drop (taken a.feed bytes) bytes)
-        rest stop b)
+    rest stop b)
 
 abbrev pub IsHandled : HalfState → List ℕ → ℕ → Result Unit TurnError → HalfState → Type 0
 IsHandled a bytes n stop b = (ends : List HalfState) × AreHandled ends a bytes n stop b

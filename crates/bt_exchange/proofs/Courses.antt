@@ -60,8 +60,10 @@ course_heard a piece n e =
     subst P (sym e) (
       record {
         items = [];
-        fed = record { comes = λ later v k. let R : List ℕ → Type 0 = λ b. Comes a.feed.stage b v in
-            subst R (append_assoc a.feed.held (take (taken a.feed piece) piece) later) k };
+        fed = record {
+          comes = λ later v k. let R : List ℕ → Type 0 = λ b. Comes a.feed.stage b v in
+              subst R (append_assoc a.feed.held (take (taken a.feed piece) piece) later) k;
+        };
         end = refl;
         bytes = append-nil a.outbox;
       },
@@ -114,5 +116,12 @@ course_round a b c piece n r l e f t =
     let first = course_heard a piece n e in
     let next = course_turned m c r l turned in
     let P : List ℕ → Type 0 = λ h. CourseOf a c h [] (turned_items r) in
-    subst P (append-nil (take n piece)) (course_both a m c (take n piece) [] [] [] first.0 next.0, omega (arith, length-append first.0.items next.0.items,
-        first.1, next.1))
+    subst P (append-nil (take n piece)) (
+      course_both a m c (take n piece) [] [] [] first.0 next.0,
+      omega (
+        arith,
+        length-append first.0.items next.0.items,
+        first.1,
+        next.1,
+      ),
+    )

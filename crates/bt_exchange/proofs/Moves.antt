@@ -1,6 +1,6 @@
 -- What an end and its connection do, put together from their calls.
-use Rattle.std.proofs.Common.{◌≡◌, ◌==◌, ◌+◌, ◌-◌, ◌^◌, ◌<◌, ◌≤◌, ◌&&◌, nat_lt, nat_le, ℕ, zero, suc, Bool, true, false, List, [], ◌∷◌, ◌++◌, length, take,
-    drop, Option, Some, None, Result, Ok, Err, refl, sym, ap, subst, ◌∙◌, arith, length-append, length-drop}
+use Rattle.std.proofs.Common.{◌≡◌, ◌==◌, ◌+◌, ◌-◌, ◌^◌, ◌<◌, ◌≤◌, ◌&&◌, nat_lt, nat_le, ℕ, zero, suc, Bool, true, false, List, [], ◌∷◌, ◌++◌, length, take}
+use Rattle.std.proofs.Common.{drop, Option, Some, None, Result, Ok, Err, refl, sym, ap, subst, ◌∙◌, arith, length-append, length-drop}
 use Rattle.std.proofs.lemmas.List.{append-nil, append_assoc, take-append-drop}
 use Rattle.std.proofs.lemmas.Bool.{and_parts, leb-true}
 use Rattle.std.proofs.KnownBytes.{Consumes-nil, Consumes-trans, Consumes-kept, Appends-nil, Appends-trans, Appends-kept}
@@ -69,7 +69,7 @@ made_none m = record { moved = moved_none m; items = omega arith; calls = λ l. 
 pub made_both : (a b c : Moment) (m n : ℕ) → IsMade m a b → IsMade n b c → IsMade (m + n) a c
 made_both a b c m n p q =
     let both : length (p.moved.course.items ++ q.moved.course.items) ≡ length p.moved.course.items + length q.moved.course.items =
-        length-append p.moved.course.items q.moved.course.items in
+    length-append p.moved.course.items q.moved.course.items in
     record {
       moved = moved_both a b c p.moved q.moved;
       items = omega (arith, both, p.items, q.items);
@@ -93,8 +93,13 @@ advanced_call old new r m none items still c step = record {
     moved = m;
     items = omega (arith, none);
     calls = λ l. omega (arith, called_once old.seen.counts.calls new.seen.counts.calls c l);
-    steps = λ l. omega (arith, called_once old.seen.counts.calls new.seen.counts.calls c l, none, steps_most r,
-        idle_most (length old.half.outbox + length old.pending));
+    steps = λ l. omega (
+      arith,
+      called_once old.seen.counts.calls new.seen.counts.calls c l,
+      none,
+      steps_most r,
+      idle_most (length old.half.outbox + length old.pending),
+    );
   };
   items = none ∙ sym items;
   still = still;
@@ -150,7 +155,7 @@ read_none : (E : Type 0) (s t : Seen) (a : HalfState) (bytes : List ℕ) → Fil
 read_none E s t a bytes h c =
     let P : List ℕ → Type 0 = λ l. IsAdvanced (moment s [] a) (moment t l a) (Ok step.Waited) in
     subst P (sym h.0) (advanced_call (moment s [] a) (moment t [] a) (Ok step.Waited) (reading s t a [] (same_coming s t h.1) h.2) refl refl
-        (λ e. (refl, refl)) (ap (λ (x : Counts). x.calls) c)
+    (λ e. (refl, refl)) (ap (λ (x : Counts). x.calls) c)
     (record { ends = ap (λ (x : Counts). x.ends) c; failed = ap (λ (x : Counts). x.failed) c }, refl))
 
 read_failed : {E : Type 0} (s t : Seen) (a : HalfState) (e : E) (bytes : List ℕ) → Fills s t (Err e) bytes → t.counts ≡ read_counts (Err e) 1 s.counts
@@ -158,7 +163,7 @@ read_failed : {E : Type 0} (s t : Seen) (a : HalfState) (e : E) (bytes : List �
 read_failed s t a e bytes h c =
     let P : List ℕ → Type 0 = λ l. IsAdvanced (moment s [] a) (moment t l a) (Err stop.Failed) in
     subst P (sym h.0) (advanced_call (moment s [] a) (moment t [] a) (Err stop.Failed)
-        (reading s t a [] (Consumes-kept _ _ _ [] (Consumes-nil s.coming) h.1) h.2) refl refl (λ e. absurd cc) (ap (λ (x : Counts). x.calls) c)
+    (reading s t a [] (Consumes-kept _ _ _ [] (Consumes-nil s.coming) h.1) h.2) refl refl (λ e. absurd cc) (ap (λ (x : Counts). x.calls) c)
     (grown s.counts.failed t.counts.failed (ap (λ (x : Counts). x.failed) c), ap (λ (x : Counts). x.ends) c))
 
 filled : {E : Type 0} (s t : Seen) (a : HalfState) (r : Result (Option ℕ) E) (bytes : List ℕ) → Fills s t r bytes → t.counts ≡ read_counts r 1 s.counts
@@ -200,8 +205,15 @@ unsent s t p a w e = record { got = []; heard = []; sent = []; course = course_n
 
 abbrev sending : (s t : Seen) (p : List ℕ) (a : HalfState) (n : ℕ) → Appends s.gone t.gone (take n a.outbox) → t.coming ≡ s.coming
     → IsMoved (moment s p a) (moment t p (without_sent n a))
-sending s t p a n w e = record { got = []; heard = []; sent = take n a.outbox; course = course_sent a n; pending = append-nil p; reads = same_coming s t e;
-    writes = w }
+sending s t p a n w e = record {
+  got = [];
+  heard = [];
+  sent = take n a.outbox;
+  course = course_sent a n;
+  pending = append-nil p;
+  reads = same_coming s t e;
+  writes = w;
+}
 
 some_given : (n : ℕ) → 0 < n → nat_lt 0 n ≡ true
 some_given n l = search (arith, l)
@@ -214,7 +226,7 @@ write_some : (E : Type 0) (s t : Seen) (p : List ℕ) (a : HalfState) (n : ℕ) 
     → IsAdvanced (moment s p a) (moment t p (without_sent n a)) (Ok step.Moved)
 write_some E s t p a n l h c =
     advanced_call (moment s p a) (moment t p (without_sent n a)) (Ok step.Moved) (sending s t p a n h.1 h.2) refl refl (λ e. absurd cc)
-        (ap (λ (x : Counts). x.calls) c)
+    (ap (λ (x : Counts). x.calls) c)
     (record { ends = ap (λ (x : Counts). x.ends) c; failed = healthy s.counts t.counts n (nat_lt 0 (length a.outbox)) l (ap (λ (x : Counts). x.failed) c) })
 
 write_stuck : (E : Type 0) (s t : Seen) (p : List ℕ) (a : HalfState) → 0 < length a.outbox → Writes {E = E} s t (Ok (Some 0)) a.outbox → t.counts
@@ -227,14 +239,14 @@ write_none : (E : Type 0) (s t : Seen) (p : List ℕ) (a : HalfState) → Writes
     ≡ write_counts {E = E} (Ok None) (length a.outbox) s.counts → IsAdvanced (moment s p a) (moment t p a) (Ok step.Waited)
 write_none E s t p a h c =
     advanced_call (moment s p a) (moment t p a) (Ok step.Waited) (unsent s t p a (same_gone s t h.1) h.0) refl refl (λ e. (refl, refl))
-        (ap (λ (x : Counts). x.calls) c)
+    (ap (λ (x : Counts). x.calls) c)
     (record { ends = ap (λ (x : Counts). x.ends) c; failed = ap (λ (x : Counts). x.failed) c }, refl)
 
 write_failed : {E : Type 0} (s t : Seen) (p : List ℕ) (a : HalfState) (e : E) → Writes s t (Err e) a.outbox → t.counts
     ≡ write_counts (Err e) (length a.outbox) s.counts → IsAdvanced (moment s p a) (moment t p a) (Err stop.Failed)
 write_failed s t p a e h c =
     advanced_call (moment s p a) (moment t p a) (Err stop.Failed) (unsent s t p a (Appends-kept _ _ _ [] (Appends-nil s.gone) h.1) h.0) refl refl
-        (λ e. absurd cc) (ap (λ (x : Counts). x.calls) c)
+    (λ e. absurd cc) (ap (λ (x : Counts). x.calls) c)
     (grown s.counts.failed t.counts.failed (ap (λ (x : Counts). x.failed) c), ap (λ (x : Counts). x.ends) c)
 
 written : {E : Type 0} (s t : Seen) (p : List ℕ) (a : HalfState) (r : Result (Option ℕ) E) → 0 < length a.outbox → Writes s t r a.outbox → t.counts
@@ -342,7 +354,7 @@ advanced_turned s p q piece a b c r r' n l out more is e le f rest same h =
     let Q : List ℕ → Type 0 = λ x. IsAdvanced (moment s p a) (moment s x c) (at_turn r') in
     let h' : IsTurned b r' c = subst (λ (x : Result Turn TurnError). IsTurned b x c) same h in
     subst Q (sym rest) (turned s p a b c n r' l out more facts.0 le facts.1 h'
-        (λ busy. not_busy a b c p out facts.1 (subst (λ (x : Result Turn TurnError). IsTurned b x c) busy h')))
+    (λ busy. not_busy a b c p out facts.1 (subst (λ (x : Result Turn TurnError). IsTurned b x c) busy h')))
 
 pub never_busy : (a b c : HalfState) (piece : List ℕ) (r : Result Turn TurnError) → length a.outbox ≡ 0 → b ≡ received a piece → r ≡ Err turn_error.Busy
     → IsTurned b r c → ⊥

@@ -1,6 +1,6 @@
 -- What is seen in a round of an exchange, and in the rounds together.
-use Rattle.std.proofs.Common.{◌≡◌, ◌+◌, ◌<◌, ◌≤◌, ℕ, true, false, List, [], ◌∷◌, ◌++◌, length, is_some, Some, Option, Result, Ok, Err, refl, sym, ap, subst,
-    ◌∙◌, arith}
+use Rattle.std.proofs.Common.{◌≡◌, ◌+◌, ◌<◌, ◌≤◌, ℕ, true, false, List, [], ◌∷◌, ◌++◌, length, is_some, Some, Option, Result, Ok, Err, refl, sym, ap, subst}
+use Rattle.std.proofs.Common.{◌∙◌, arith}
 use Rattle.std.proofs.lemmas.List.{append-nil}
 use Rattle.std.proofs.KnownBytes.{Consumes-nil, Appends-nil}
 use Rattle.bt_wire.specs.declared.item.Item.{Item}
@@ -272,7 +272,7 @@ pub started : (g : Sign) (start : Moment) (s : Seen) (t : ℕ) → s ≡ at_time
     × IsCalm start.seen.counts s.counts × IsMark g t start (moment s start.pending start.half)
 started g start s t e =
     let P : Seen → Type 0 = λ x. IsMade 0 start (moment x start.pending start.half) × IsCalm start.seen.counts x.counts
-        × IsMark g t start (moment x start.pending start.half) in
+    × IsMark g t start (moment x start.pending start.half) in
     let new = moment (at_time t start.seen) start.pending start.half in
     subst P (sym e) (made_clock start (at_time t start.seen) t refl, record { ends = refl; failed = refl }, mark_here g t start new (moved_clock start t) refl)
 

@@ -1,6 +1,6 @@
 -- What a table has under a name after entries were told.
-use Rattle.std.proofs.Common.{◌≡◌, ℕ, ◌==◌, ◌||◌, List, [], ◌∷◌, ◌++◌, length, Bool, true, false, Option, Some, None, option_and_then, MatchOption, is_some,
-    nat_lt, if◌then◌else◌, Result, Ok, Err, OnOk, OnErr, refl, sym, subst, ◌∙◌, codes}
+use Rattle.std.proofs.Common.{◌≡◌, ℕ, ◌==◌, ◌||◌, List, [], ◌∷◌, ◌++◌, length, Bool, true, false, Option, Some, None, option_and_then, MatchOption, is_some}
+use Rattle.std.proofs.Common.{nat_lt, if◌then◌else◌, Result, Ok, Err, OnOk, OnErr, refl, sym, subst, ◌∙◌, codes}
 use Rattle.std.specs.declared.alloc.AllocError.{AllocError}
 use Rattle.std.specs.List.{list_any}
 use Rattle.std.specs.Str.{bytes_eq}
@@ -8,8 +8,8 @@ use Rattle.std.proofs.lemmas.Slice.Eq.{bytes_eq-Decides}
 use Rattle.bt_bencode.specs.Trees.{Tree, integer, string, list, dictionary, Pairs, no_pairs, pair}
 use Rattle.bt_bencode.specs.Keys.{value_at, lookup_of}
 use Rattle.bt_ext.specs.Fields.{id_value}
-use Rattle.bt_ext.specs.Tables.{Entries, AreEntries, IsTable, id_of_name, removed, replaced, entered, entered_all, told, told_by, told_in, told_of, applied,
-    id_after, before}
+use Rattle.bt_ext.specs.Tables.{Entries, AreEntries, IsTable, id_of_name, removed, replaced, entered, entered_all, told, told_by, told_in, told_of, applied}
+use Rattle.bt_ext.specs.Tables.{id_after, before}
 use Rattle.bt_ext.proofs.Entries.{flip, absent, none-append, both_ways, is_none, table-entered}
 
 same_name : (x y : List ℕ) → bytes_eq x y ≡ true → x ≡ y

@@ -1,7 +1,7 @@
 -- Entries of a table: look-ups, and what keeps them a table.
-use Rattle.std.proofs.Common.{◌≡◌, ℕ, zero, suc, ◌+◌, ◌<◌, ◌≤◌, ◌==◌, List, [], ◌∷◌, ◌++◌, length, take, drop, get_or, Bool, true, false, Option, Some,
-    None, is_some, unwrap_or, IfSome, nat_lt, if◌then◌else◌, Result, Ok, Err, OnOk, OnErr, Bor, refl, sym, ap, subst, ◌∙◌, arith, add-one, drop-cons,
-    length-append}
+use Rattle.std.proofs.Common.{◌≡◌, ℕ, zero, suc, ◌+◌, ◌<◌, ◌≤◌, ◌==◌, List, [], ◌∷◌, ◌++◌, length, take, drop, get_or, Bool, true, false, Option, Some}
+use Rattle.std.proofs.Common.{None, is_some, unwrap_or, IfSome, nat_lt, if◌then◌else◌, Result, Ok, Err, OnOk, OnErr, Bor, refl, sym, ap, subst, ◌∙◌, arith}
+use Rattle.std.proofs.Common.{add-one, drop-cons, length-append}
 use Rattle.std.specs.declared.alloc.AllocError.{AllocError}
 use Rattle.std.specs.List.{remove, slice_set}
 use Rattle.std.specs.Bool.{Decides}
@@ -139,8 +139,10 @@ table-entered name id es h =
     (λ there. rw there (record { entries = entries-replaced name id es (above_0 id on) h.entries; few = rw (length-replaced name id es) h.few }))
     (λ new. rw new (both_ways _ (nat_lt (length es) 256)
     (λ room. rw room (let more = length-append es ((name, id) ∷ []) in let few = is_few (length es) room in
-        record { entries = entries-append name id es (short_name (length name) short) (above_0 id on) (is_none (id_of_name name es) new) h.entries;
-        few = omega arith }))
+    record {
+      entries = entries-append name id es (short_name (length name) short) (above_0 id on) (is_none (id_of_name name es) new) h.entries;
+      few = omega arith;
+    }))
     (λ full. rw full h)))))))
 
 -- one more entry that has another name
@@ -157,8 +159,11 @@ none_more name (x ∷ es) (suc i) e lt is other h =
 -- no id of a table is 0
 pub above : (name : List ℕ) (es : Entries) → AreEntries es → IfSome (id_of_name name es) (λ id. 0 < id)
 above name [] h = tt
-above name (e ∷ es) h = elim (bytes_eq e.0 name) as (λ b. IfSome (if b then Some e.1 else id_of_name name es) (λ id. 0 < id)) [ true ↦ h.1 | false ↦
-    above name es h.3 ]
+above name (e ∷ es) h = elim (bytes_eq e.0 name) as (λ b. IfSome (if b then Some e.1 else id_of_name name es) (λ id. 0 < id)) [
+  | true ↦ h.1
+  | false ↦
+      above name es h.3
+]
 
 not_0 : (n : ℕ) → 0 < n → (n == 0) ≡ false
 not_0 n h = grind (arith, common_steps)

@@ -1,6 +1,6 @@
 -- The laws, for the functions of `laws` and for crates above.
-use Rattle.bt_ext.specs.Laws.{OneExt, AllowedHasNoFault, AllowedHasNoReason, OneFault, KindOfMade, MadeMessageIsRight, MadeHandshakeIsRight,
-    MadeHandshakeTells, EnteredByName, FirstPairTells, AppliedByName, TableStays}
+use Rattle.bt_ext.specs.Laws.{OneExt, AllowedHasNoFault, AllowedHasNoReason, OneFault, KindOfMade, MadeMessageIsRight, MadeHandshakeIsRight}
+use Rattle.bt_ext.specs.Laws.{MadeHandshakeTells, EnteredByName, FirstPairTells, AppliedByName, TableStays}
 use Rattle.bt_ext.proofs.OneFault as faults
 use Rattle.bt_ext.proofs.OneExt.{same_ext}
 use Rattle.bt_ext.proofs.Allowed.{both, allowed-no_reason}

@@ -1,31 +1,6 @@
 -- An extended id and its payload are those of one value.
-use Rattle.std.proofs.Common.{
-  ◌≡◌,
-  ℕ,
-  ◌<◌,
-  ◌^◌,
-  ◌||◌,
-  Option,
-  Some,
-  None,
-  option_and_then,
-  Bool,
-  true,
-  false,
-  List,
-  ◌++◌,
-  refl,
-  ap,
-  sym,
-  ◌∙◌,
-  subst,
-  length,
-  length-append,
-  take,
-  arith,
-  ◌==◌,
-  if◌then◌else◌,
-}
+use Rattle.std.proofs.Common.{◌≡◌, ℕ, ◌<◌, ◌^◌, ◌||◌, Option, Some, None, option_and_then, Bool, true, false, List, ◌++◌, refl, ap, sym, ◌∙◌, subst, length}
+use Rattle.std.proofs.Common.{length-append, take, arith, ◌==◌, if◌then◌else◌}
 use Rattle.std.proofs.Math.Seq.{take-append_seam}
 use Rattle.std.proofs.lemmas.Grind.{common_steps}
 use Rattle.bt_bencode.specs.Payloads.{BeginsWithNone}

@@ -1,6 +1,6 @@
 -- What the pairs of `m` tell, step by step.
-use Rattle.std.proofs.Common.{◌≡◌, ℕ, ℤ, suc, ◌+◌, ◌<◌, List, [], ◌∷◌, ◌++◌, length, drop, get_or, Option, Some, if◌then◌else◌, Bor, refl, sym, ap, ◌∙◌,
-    add-one, drop-cons, append_assoc}
+use Rattle.std.proofs.Common.{◌≡◌, ℕ, ℤ, suc, ◌+◌, ◌<◌, List, [], ◌∷◌, ◌++◌, length, drop, get_or, Option, Some, if◌then◌else◌, Bor, refl, sym, ap, ◌∙◌}
+use Rattle.std.proofs.Common.{add-one, drop-cons, append_assoc}
 use Rattle.std.specs.List.{list_any}
 use Rattle.std.specs.Str.{bytes_eq}
 use Rattle.bt_bencode.specs.Trees.{Pairs, no_pairs, pair}

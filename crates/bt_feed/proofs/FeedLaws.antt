@@ -1,6 +1,6 @@
 -- Laws on feeds.
-use Rattle.std.proofs.Common.{◌≡◌, ℕ, suc, ◌+◌, ◌^◌, ◌≤◌, ◌<◌, ◌⊎◌, Bool, true, false, cond, eqb, not, ◌&&◌, List, [], ◌∷◌, ◌++◌, length, take, Option,
-    Some, None, Result, Ok, Err, refl, sym, ap, subst, ◌∙◌, arith, inl, inr}
+use Rattle.std.proofs.Common.{◌≡◌, ℕ, suc, ◌+◌, ◌^◌, ◌≤◌, ◌<◌, ◌⊎◌, Bool, true, false, cond, eqb, not, ◌&&◌, List, [], ◌∷◌, ◌++◌, length, take, Option}
+use Rattle.std.proofs.Common.{Some, None, Result, Ok, Err, refl, sym, ap, subst, ◌∙◌, arith, inl, inr}
 use Rattle.std.proofs.lemmas.Bool.{cases_Bool, cases_eq, eq-eqb, ne_eqb}
 use Rattle.std.proofs.lemmas.List.{append-nil, append_assoc}
 use Rattle.std.specs.Prelude.{option_map}
@@ -62,7 +62,7 @@ open_takes : (closed : List ℕ → Bool) (held : List ℕ) (b : ℕ) (piece : L
 unfolding kept
 open_takes closed held b piece e =
     ap (λ (c : Bool). held ++ take (cond c 0 (suc (taken_by closed (held ++ b ∷ []) piece))) (b ∷ piece)) e
-        ∙ sym (append_assoc held (b ∷ []) (take (taken_by closed (held ++ b ∷ []) piece) piece))
+    ∙ sym (append_assoc held (b ∷ []) (take (taken_by closed (held ++ b ∷ []) piece) piece))
 
 joined : (closed : List ℕ → Bool) (held x y : List ℕ) → kept closed (kept closed held x) y ≡ kept closed held (x ++ y)
 unfolding kept
@@ -143,7 +143,7 @@ open_end : (t : Stage) (b : List ℕ) → IsNumbered t → is_all t b ≡ false 
 open_end (stage.Handshake own) b numbered part = ap (λ (w : Bool). cond w (Err Untaken) (Err (Refused (end_inside (stage.Handshake own) b)))) part
 open_end (stage.Message c o s n) b numbered part =
     ap (λ (w : Bool). cond w (Err Untaken) (cond (eqb (length b) 0) (accepted s) (Err (Refused (end_inside (stage.Message c o s n) b))))) part
-        ∙ message_end s n (length b) numbered (cases_eq (length b) 0)
+    ∙ message_end s n (length b) numbered (cases_eq (length b) 0)
 
 finish_by : (f : FeedState) (v : Outcome) (o : Option Fault) → limit_of f.stage < 2 ^ 32 → IsNumbered f.stage → f.refused ≡ None → early f.stage f.held ≡ o
     → is_all f.stage f.held ≡ false → Comes f.stage f.held v → finish_of f ≡ verdict_at_end v
@@ -151,7 +151,7 @@ finish_by f v (Some g) lt numbered none e part k =
     stands f (Some g) none e ∙ ap verdict_at_end (outcome_one f.stage f.held _ v lt (fault_comes f.stage f.held g lt (early_has f.stage f.held g e)) k)
 finish_by f v None lt numbered none e part k =
     stands f None none e ∙ open_end f.stage f.held numbered part
-        ∙ ap verdict_at_end (outcome_one f.stage f.held _ v lt (open_comes f.stage f.held lt (open_by f.stage f.held e part)) k)
+    ∙ ap verdict_at_end (outcome_one f.stage f.held _ v lt (open_comes f.stage f.held lt (open_by f.stage f.held e part)) k)
 
 pub finish_verdict : (f : FeedState) (v : Outcome) → limit_of f.stage < 2 ^ 32 → IsNumbered f.stage → f.refused ≡ None → is_all f.stage f.held ≡ false
     → Comes f.stage f.held v → finish_of f ≡ verdict_at_end v

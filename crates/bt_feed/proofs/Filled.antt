@@ -1,6 +1,6 @@
 -- Bytes that are appended up to the place where an item is closed.
-use Rattle.std.proofs.Common.{◌≡◌, ℕ, zero, suc, ◌+◌, ◌-◌, ◌≤◌, ◌<◌, ◌⊎◌, Bool, true, false, cond, min, List, [], ◌∷◌, ◌++◌, length, take, drop, Option,
-    Some, None, refl, sym, ap, subst, ◌∙◌, arith, inl, inr}
+use Rattle.std.proofs.Common.{◌≡◌, ℕ, zero, suc, ◌+◌, ◌-◌, ◌≤◌, ◌<◌, ◌⊎◌, Bool, true, false, cond, min, List, [], ◌∷◌, ◌++◌, length, take, drop, Option}
+use Rattle.std.proofs.Common.{Some, None, refl, sym, ap, subst, ◌∙◌, arith, inl, inr}
 use Rattle.std.specs.Prelude.{IfSome}
 use Rattle.std.proofs.Math.Seq.{take-append-add}
 use Rattle.std.proofs.lemmas.Bool.{cases_lt}
@@ -37,7 +37,7 @@ least closed held (b ∷ piece) (suc n) le opens stops =
     let here : closed held ≡ false = ap closed (sym (append-nil held)) ∙ opens 0 (omega arith) in
     let next : (k : ℕ) → (held ++ b ∷ []) ++ take k piece ≡ held ++ (b ∷ take k piece) = λ k. append_assoc held (b ∷ []) (take k piece) in
     let rest = least closed (held ++ b ∷ []) piece n (omega arith) (λ k lt. ap closed (next k) ∙ opens (suc k) (omega arith)) (λ lt. ap closed (next n)
-        ∙ stops (omega arith)) in
+    ∙ stops (omega arith)) in
     ap suc rest ∙ sym (ap (λ (c : Bool). cond c 0 (suc (taken_by closed (held ++ b ∷ []) piece))) here)
 
 pub taken_filled : (t : Stage) (old piece new : List ℕ) (n : ℕ) → Fills t old piece new n → (n < length piece → is_closed t new ≡ true) → n
@@ -63,7 +63,7 @@ fills_more t old piece mid new m n f g = record {
         | inr later ↦
             let at : m + (k - m) ≡ k = omega arith in
             ap (λ (i : ℕ). is_closed t (old ++ take i piece)) (sym at) ∙ ap (is_closed t) (sym (joined old piece mid m (k - m) f.held))
-                ∙ g.opens (k - m) (omega arith)
+            ∙ g.opens (k - m) (omega arith)
       ];
 }
 
@@ -85,7 +85,7 @@ partial_filled t old piece new n p f = record {
             let at : k ≡ length old + j = omega arith in
             let less : j < n = omega (arith, lt, ap length f.held, length-append old (take n piece), length-take-le n piece f.within) in
             ap (is_closed t) (ap (λ (i : ℕ). take i (old ++ take n piece)) at ∙ take-append-add old (take n piece) j
-                ∙ ap (λ (x : List ℕ). old ++ x) (take-take j n piece (omega arith))) ∙ f.opens j less
+            ∙ ap (λ (x : List ℕ). old ++ x) (take-take j n piece (omega arith))) ∙ f.opens j less
       ];
 }
 
@@ -145,7 +145,7 @@ pub window_stops : (t : Stage) (old piece : List ℕ) (n m : ℕ) → HasWindow 
 window_stops t old piece n m h le e lt =
     let at : length old + m ≡ n = omega arith in
     ap (is_closed t) (front old piece m ∙ ap (λ (k : ℕ). take k (old ++ piece)) at)
-        ∙ window_closed t (old ++ piece) n h (omega (arith, length-append old piece))
+    ∙ window_closed t (old ++ piece) n h (omega (arith, length-append old piece))
 
 kept_by : (t : Stage) (old piece : List ℕ) (n m : ℕ) → HasWindow t (old ++ piece) n → length old ≤ n → m ≡ min (n - length old) (length piece)
     → (m < length piece) ⊎ (length piece ≤ m) → HasWindow t (old ++ take m piece) n
@@ -159,8 +159,10 @@ kept_by t old piece n m h le e (inr all) =
 
 pub window_kept : (t : Stage) (old piece : List ℕ) (n m : ℕ) → HasWindow t (old ++ piece) n → length old ≤ n → m ≡ min (n - length old) (length piece)
     → HasWindow t (old ++ take m piece) n × (length (old ++ take m piece) ≤ n)
-window_kept t old piece n m h le e = (kept_by t old piece n m h le e (cases_lt m (length piece)),
-    omega (arith, length-append old (take m piece), length-take m piece))
+window_kept t old piece n m h le e = (
+  kept_by t old piece n m h le e (cases_lt m (length piece)),
+  omega (arith, length-append old (take m piece), length-take m piece),
+)
 
 -- ---- what is known afterwards
 
@@ -182,7 +184,7 @@ refused_filled p q b piece new n h same f =
     let Q : List ℕ → Type 0 = λ x. IsRefusedBy p.stage x q.refused in
     let R : Option Refusal → Type 0 = λ o. IsRefusedBy p.stage (b ++ take n piece) o in
     subst P (sym same.stage) (subst Q (sym (held_fresh q new same.fresh ∙ f.held))
-        (subst R (sym same.refused) (refused_more p.stage b (take n piece) p.refused h)))
+    (subst R (sym same.refused) (refused_more p.stage b (take n piece) p.refused h)))
 
 -- the same item, with the bytes that were appended
 pub progress_filled : (p q : Progress) (buffer piece new : List ℕ) (n : ℕ) → IsProgress p buffer → IsSameItem p q
@@ -216,7 +218,7 @@ progress_until p q buffer piece n m h same fresh unjudged lt short opens e =
     let f = until_fills p.stage buffer piece n m opens (omega arith) e in
     let P : List ℕ → Type 0 = λ x. Fills p.stage x piece (buffer ++ take m piece) m in
     progress_filled p q buffer piece (buffer ++ take m piece) m h same (subst P (sym (held_fresh p buffer fresh)) f)
-        (omega (arith, length-append buffer (take m piece), length-take m piece)) (λ some. absurd (omega arith))
+    (omega (arith, length-append buffer (take m piece), length-take m piece)) (λ some. absurd (omega arith))
 
 pub partial_fresh : (p : Progress) (buffer : List ℕ) → IsProgress p buffer → p.spent ≡ false → IsPartial p.stage buffer
 partial_fresh p buffer h fresh = let P : List ℕ → Type 0 = λ x. IsPartial p.stage x in subst P (held_fresh p buffer fresh) h.partial
@@ -230,8 +232,8 @@ progress_window p q buffer piece n m h same fresh is window le e =
     let P : ℕ → Type 0 = λ w. HasWindow p.stage (buffer ++ take m piece) w × (length (buffer ++ take m piece) ≤ w) in
     let Q : List ℕ → Type 0 = λ x. Fills p.stage x piece (buffer ++ take m piece) m in
     progress_filled p q buffer piece (buffer ++ take m piece) m h same
-        (subst Q (sym (held_fresh p buffer fresh)) (window_fills p.stage buffer piece n m window le e))
-        (omega (arith, kept.1, (window_bound p.stage (buffer ++ piece) n window).1)) (λ some. subst P (sym is) kept)
+    (subst Q (sym (held_fresh p buffer fresh)) (window_fills p.stage buffer piece n m window le e))
+    (omega (arith, kept.1, (window_bound p.stage (buffer ++ piece) n window).1)) (λ some. subst P (sym is) kept)
 
 -- what is known of the header is so with the piece after the bytes
 pub wanted_more : (p : Progress) (buffer piece : List ℕ) → IsProgress p buffer → p.spent ≡ false → 0 < p.wanted

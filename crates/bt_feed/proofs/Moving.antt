@@ -1,6 +1,6 @@
 -- What moves from a source through a feed into a sink.
-use Rattle.std.proofs.Common.{◌≡◌, ℕ, ◌+◌, ◌≤◌, Bool, true, false, if◌then◌else◌, List, [], ◌∷◌, ◌++◌, length, take, drop, Option, Some, None, Result, Ok,
-    Err, refl, sym, ap, subst, ◌∙◌, arith}
+use Rattle.std.proofs.Common.{◌≡◌, ℕ, ◌+◌, ◌≤◌, Bool, true, false, if◌then◌else◌, List, [], ◌∷◌, ◌++◌, length, take, drop, Option, Some, None, Result, Ok}
+use Rattle.std.proofs.Common.{Err, refl, sym, ap, subst, ◌∙◌, arith}
 use Rattle.std.proofs.lemmas.List.{append-nil, append_assoc, length-drop, take_all, take-append-drop}
 use Rattle.std.proofs.Math.Seq.{take-add}
 use Rattle.bt_wire.specs.declared.item.Item.{Item}
@@ -98,7 +98,7 @@ fed_front f s p piece rest at n xs m h =
     let P : List ℕ → Type 0 = λ b. IsFed f b xs p in
     let Q : List (ℕ × Item) → Type 0 = λ zs. IsFed f (take at piece ++ take n rest) zs p in
     subst P (front piece rest at n h.rest_is) (subst Q (append-nil xs) (fed_both f s p (take at piece) (take n rest) xs [] m
-        (fed_push s p rest n h.taken_is h.held_is)))
+    (fed_push s p rest n h.taken_is h.held_is)))
 
 pub fed_item : (f s p g : FeedState) (piece rest : List ℕ) (at n : ℕ) (xs : List (ℕ × Item)) (answer : Result (Option Item) Refusal) (item : Item)
     → IsFed f (take at piece) xs s → IsPushed s p piece rest at n → limit_of p.stage ≤ 1048576
@@ -107,7 +107,7 @@ fed_item f s p g piece rest at n xs answer item m h le e a after_is =
     let P : Result (Option Item) Refusal → Type 0 = λ x. IsAnswer p x in
     let Q : List ℕ → Type 0 = λ b. IsFed f b (xs ++ (start_of p.stage, item) ∷ []) g in
     subst Q (append-nil (take (at + n) piece)) (fed_both f p g (take (at + n) piece) [] xs ((start_of p.stage, item) ∷ [])
-        (fed_front f s p piece rest at n xs m h) (fed_take p g item le (subst P e a) (after_is ∙ ap (after p) e)))
+    (fed_front f s p piece rest at n xs m h) (fed_take p g item le (subst P e a) (after_is ∙ ap (after p) e)))
 
 -- where the feed waits all of the piece is taken
 pub fed_all : (f s p g : FeedState) (piece rest : List ℕ) (at n : ℕ) (xs : List (ℕ × Item)) (answer : Result (Option Item) Refusal) → at ≤ length piece
@@ -166,17 +166,22 @@ pub ended_refused : (f g : FeedState) (bytes lost : List ℕ) (xs : List (ℕ ×
 ended_refused f g bytes lost xs r m le a =
     let last = stopped g.stage (g.held ++ lost) (Some r) in
     let P : Refusal → Type 0 = λ x. Comes g.stage (g.held ++ lost) (stopped g.stage (g.held ++ lost) (Some x)) in
-    let comes = subst P (sym a.2) (fault_comes g.stage (g.held ++ lost) a.0 (omega (arith, le)) (fault_more g.stage g.held lost a.0 a.1)) in
-    (with_items xs last, pumped f g bytes lost xs last m comes refl refl,
-        (λ e. absurd (no_fault_ends g.stage g.held a.0 a.1 (sym (ap (λ (x : Refusal). x.reason) a.2) ∙ e))), refl)
+    let comes = subst P (sym a.2) (fault_comes g.stage (g.held ++ lost) a.0 (omega (arith, le)) (fault_more g.stage g.held lost a.0 a.1)) in (
+      with_items xs last,
+      pumped f g bytes lost xs last m comes refl refl,
+      (λ e. absurd (no_fault_ends g.stage g.held a.0 a.1 (sym (ap (λ (x : Refusal). x.reason) a.2) ∙ e))),
+      refl,
+    )
 
 pub ended_open : (f g : FeedState) (bytes : List ℕ) (xs : List (ℕ × Item)) → IsFed f bytes xs g → limit_of g.stage ≤ 1048576 → is_closed g.stage g.held
     ≡ false → (v : Outcome) × IsPumped f bytes [] xs g v × (v.refusal ≡ None)
 ended_open f g bytes xs m le e =
     let held = append-nil g.held in
-    let last = stopped g.stage (g.held ++ []) None in
-    (with_items xs last, pumped f g bytes [] xs last m (open_comes g.stage (g.held ++ []) (omega (arith, le)) (ap (is_closed g.stage) held ∙ e)) refl refl,
-        refl)
+    let last = stopped g.stage (g.held ++ []) None in (
+      with_items xs last,
+      pumped f g bytes [] xs last m (open_comes g.stage (g.held ++ []) (omega (arith, le)) (ap (is_closed g.stage) held ∙ e)) refl refl,
+      refl,
+    )
 
 ended_as : (f g : FeedState) (bytes : List ℕ) (xs : List (ℕ × Item)) (r : Result ℕ PumpError) (last : Outcome)
     → IsPumped f bytes [] xs g (with_items xs last) → IsVerdictAtEnd last r → IsPumpEnd f bytes [] xs g r
@@ -260,7 +265,7 @@ end_of_open f r h e verdict =
     let last = stopped f.stage f.held None in
     let comes = open_comes f.stage f.held (omega (arith, h.limit)) e in
     let is = verdict last (finish_verdict f last (omega (arith, h.limit)) h.numbered (not_refused f f.refused refl h.refused e)
-        (open_parts f.stage f.held e).1 comes) in
+    (open_parts f.stage f.held e).1 comes) in
     record {
       last = last;
       comes = comes;

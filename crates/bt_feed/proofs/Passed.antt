@@ -1,6 +1,6 @@
 -- The outcome of messages that are handed on where they lie.
-use Rattle.std.proofs.Common.{◌≡◌, ℕ, ◌+◌, ◌-◌, ◌^◌, ◌≤◌, ◌<◌, List, [], ◌∷◌, ◌++◌, length, take, drop, Option, None, Result, Ok, Err, sym, ap, subst, ◌∙◌,
-    arith}
+use Rattle.std.proofs.Common.{◌≡◌, ℕ, ◌+◌, ◌-◌, ◌^◌, ◌≤◌, ◌<◌, List, [], ◌∷◌, ◌++◌, length, take, drop, Option, None, Result, Ok, Err, sym, ap, subst, ◌∙◌}
+use Rattle.std.proofs.Common.{arith}
 use Rattle.std.specs.Prelude.{IfSome}
 use Rattle.std.specs.List.{slice_range}
 use Rattle.std.proofs.lemmas.List.{length-take-le}
@@ -31,8 +31,10 @@ use Rattle.bt_feed.proofs.Windows.{window_taken}
 passed_one : (c : Context) (o : Order) (s n k : ℕ) (rest : List ℕ) (m : Message) → s < 2 ^ 62 → c.limit ≤ 1048576 → k ≤ length rest → IsRead c o (take k rest) m
     → IsFed (waiting (stage.Message c o s n)) (take k rest) ((s, items.Message m) ∷ []) (waiting (stage.Message c (order_after o m) (s + k) (n + 1)))
 passed_one c o s n k rest m lt le within h =
-    let item : IsItem (stage.Message c o s n) (take k rest) (items.Message m) = (record { in_range = h.said.in_range; legal = h.said.legal; start = lt },
-        sym h.spelled) in
+    let item : IsItem (stage.Message c o s n) (take k rest) (items.Message m) = (
+      record { in_range = h.said.in_range; legal = h.said.legal; start = lt },
+      sym h.spelled,
+    ) in
     record {
       comes = λ later v q.
           let P : ℕ → Type 0 = λ size. Comes (stage.Message c (order_after o m) (s + size) (n + 1)) later v in
@@ -67,7 +69,7 @@ passed_more c o o' s n at k count piece rest window xs m e is fed lt le within h
     let Q : ℕ → Type 0 = λ start. IsFed from (take (at + k) piece) ys (waiting (stage.Message c (order_after o' m) start (n + count + 1))) in
     let R : ℕ → Type 0 = λ number. IsFed from (take (at + k) piece) ys (waiting (stage.Message c (order_after o' m) (s + (at + k)) number)) in
     subst R (omega arith) (subst Q (omega arith) (subst P (front piece rest at k e) (fed_both from mid to (take at piece) (take k rest) xs
-        ((s + at, items.Message m) ∷ []) fed one)))
+    ((s + at, items.Message m) ∷ []) fed one)))
 
 -- as long as the sink took all
 pub handed_all : {S : Type 0} (takes misses : S → ℕ × Item → S → Type 0) (a b : S) (xs : List (ℕ × Item)) (r : Result (Unit {0}) SinkFault) → r ≡ Ok tt

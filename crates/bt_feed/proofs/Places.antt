@@ -1,6 +1,6 @@
 -- A fault lies within the bytes, or right after them.
-use Rattle.std.proofs.Common.{◌≡◌, ℕ, suc, ◌+◌, ◌^◌, ◌≤◌, ◌⊎◌, inl, inr, Bool, true, false, cond, eqb, leb, ltb, ◌&&◌, List, [], ◌∷◌, map, length, take,
-    drop, Option, Some, None, refl, sym, ap, subst, ◌∙◌, arith}
+use Rattle.std.proofs.Common.{◌≡◌, ℕ, suc, ◌+◌, ◌^◌, ◌≤◌, ◌⊎◌, inl, inr, Bool, true, false, cond, eqb, leb, ltb, ◌&&◌, List, [], ◌∷◌, map, length, take}
+use Rattle.std.proofs.Common.{drop, Option, Some, None, refl, sym, ap, subst, ◌∙◌, arith}
 use Rattle.std.specs.Prelude.{is_some, option_map, unwrap_or}
 use Rattle.std.proofs.lemmas.Bool.{and_parts, cases_lt, leb-true, eqb-true}
 use Rattle.std.proofs.lemmas.List.{length-take-le, length-drop}
@@ -15,9 +15,9 @@ use Rattle.bt_wire.specs.Parts.{place_in}
 use Rattle.bt_ext.specs.declared.ext.ViewError.{ViewError}
 use Rattle.bt_ext.specs.declared.ext.ViewError.TheVariants as error
 use Rattle.bt_wire.specs.Tables.{first_fault}
-use Rattle.bt_wire.specs.Faults.{said_length, said_id, has_length, has_id, window, window_length, IdRule, id_rules, id_row, allows, size_of, header_fault,
-    is_extended, said_ext_id, said_payload, placed_by,
-    IsPayloadFault, in_bytes, in_index, IsWindowFault, in_fields, in_none, in_payload, IsFault, early, unfinished, whole}
+use Rattle.bt_wire.specs.Faults.{said_length, said_id, has_length, has_id, window, window_length, IdRule, id_rules, id_row, allows, size_of, header_fault}
+use Rattle.bt_wire.specs.Faults.{is_extended, said_ext_id, said_payload, placed_by, IsPayloadFault, in_bytes, in_index, IsWindowFault, in_fields, in_none}
+use Rattle.bt_wire.specs.Faults.{in_payload, IsFault, early, unfinished, whole}
 use Rattle.bt_wire.proofs.HeaderLaws.{five_bytes, whole_length, header-window}
 use Rattle.bt_wire.proofs.ExtLaws.{refused_within}
 use Rattle.bt_wire.proofs.WindowLaws.{early_full, early_header, no_early, sized, window_says}
@@ -45,7 +45,7 @@ id_within c o b [] f within e = absurd cc
 id_within c o b (r ∷ rules) f within e =
     let parts = and_parts (leb r.at 4) (are_within rules) within in
     elim (pick (has_id b) (r.condition c o (said_id b) (said_length b)) (record { at = r.at; reason = r.reason }) f (first_fault (map (id_row c o b) rules))
-        e) [
+    e) [
       | inl here ↦ omega (arith, leb-true r.at 4 parts.0, five_bytes b here.0, ap (λ (x : Refused). x.at) here.1)
       | inr later ↦ id_within c o b rules f parts.1 later
     ]
@@ -114,8 +114,12 @@ fault_within c o s b f (early g e p) =
 fault_within c o s b f (unfinished e part p) = absurd cc
 fault_within c o s b f (whole e all p) =
     let says = window_says b all in
-    let h : IsWindow c o (window b) = record { long = omega (arith, says.1); exact = omega (arith, says.0, says.1); header = header-window c o b all
-        ∙ (no_early c o s b e).1 } in
+    let h : IsWindow c o (window b) = record {
+      long = omega (arith, says.1);
+      exact = omega (arith, says.0, says.1);
+      header = header-window c o b all
+          ∙ (no_early c o s b e).1;
+    } in
     omega (arith, window_within c o (window b) f h p, length-take-le (window_length b) b (whole_length b all), whole_length b all)
 
 -- ---- the handshake's
@@ -148,4 +152,4 @@ pub hand_within : (own : Own) (b : List ℕ) (f : Refused) → hand_fault own b 
 unfolding hand_fault
 hand_within own b f e =
     by_rows (first_difference protocol b) (leb 48 (length b)) (is_other_hash own.info_hash (take 20 (drop 28 b))) (length b) f
-        (λ i h. difference_within protocol b i h) (leb-true 48 (length b)) e
+    (λ i h. difference_within protocol b i h) (leb-true 48 (length b)) e

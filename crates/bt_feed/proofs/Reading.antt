@@ -1,6 +1,6 @@
 -- How far a stream is read, step by step.
-use Rattle.std.proofs.Common.{◌≡◌, ℕ, zero, suc, ◌+◌, ◌^◌, ◌≤◌, ◌<◌, Bool, true, false, cond, List, [], ◌∷◌, ◌++◌, length, take, drop, flat_map, get_or,
-    Option, Some, None, Result, Ok, Err, refl, sym, ap, subst, ◌∙◌, arith, inl, inr}
+use Rattle.std.proofs.Common.{◌≡◌, ℕ, zero, suc, ◌+◌, ◌^◌, ◌≤◌, ◌<◌, Bool, true, false, cond, List, [], ◌∷◌, ◌++◌, length, take, drop, flat_map, get_or}
+use Rattle.std.proofs.Common.{Option, Some, None, Result, Ok, Err, refl, sym, ap, subst, ◌∙◌, arith, inl, inr}
 use Rattle.std.proofs.lemmas.Bool.{cases_lt}
 use Rattle.std.proofs.lemmas.List.{append-nil, append_assoc, length-append, take-append-drop, take-append-le, take_at, drop-drop, drop_all, drop_more}
 use Rattle.bt_wire.specs.declared.context.Own.{Own}
@@ -123,7 +123,7 @@ reads_taken t all xs f g item unread e p r =
       told = λ v k.
           let Q : List (ℕ × Item) → Type 0 = λ ys. Comes t all (record v { items = ys }) in
           subst Q (sym (append_assoc xs ((start_of f.stage, item) ∷ []) v.items))
-              (r.told (with_item (start_of f.stage) item v) (item_comes f.stage f.held unread item v (omega (arith, r.limit)) p k));
+          (r.told (with_item (start_of f.stage) item v) (item_comes f.stage f.held unread item v (omega (arith, r.limit)) p k));
       behind = behind_more t xs f.stage f.held item (start_of f.stage) (length f.held) p r.behind;
       limit = omega (arith, limit_after f.stage (length f.held) item, r.limit);
       partial = nothing_held (stage_after f.stage (length f.held) item);
@@ -198,8 +198,10 @@ step_refused t all xs f p g piece rest later at n answer refusal h e a after_is 
     let unread = drop (at + n) piece ++ later in
     let S : FeedState → Type 0 = λ s. Reads t all xs s unread × IsAnswer s (Err refusal) in
     let same : g ≡ after p (Err refusal) = after_is ∙ ap (after p) e in
-    let both = subst S (sym same) (reads_same t all xs p (after p (Err refusal)) unread refl refl (reads_push t all xs f p piece rest later at n h r),
-        subst P e a) in
+    let both = subst S (sym same) (
+      reads_same t all xs p (after p (Err refusal)) unread refl refl (reads_push t all xs f p piece rest later at n h r),
+      subst P e a,
+    ) in
     (unread, both.0, both.1)
 
 -- ---- the end
@@ -232,14 +234,14 @@ pub transcript_open : (own : Own) (all : List ℕ) (xs : List (ℕ × Item)) (f 
     ≡ false → IsTranscript own all xs None (length f.held)
 transcript_open own all xs f r e =
     assembled own all xs f [] None r (open_comes f.stage (f.held ++ []) (omega (arith, r.limit)) (ap (is_closed f.stage) (append-nil f.held) ∙ e))
-        (λ lt. absurd (omega arith))
+    (λ lt. absurd (omega arith))
 
 pub transcript_refused : (own : Own) (all : List ℕ) (xs : List (ℕ × Item)) (f : FeedState) (unread : List ℕ) (refusal : Refusal)
     → Reads (stage.Handshake own) all xs f unread → IsAnswer f (Err refusal) → IsTranscript own all xs (Some refusal) (length f.held)
 transcript_refused own all xs f unread refusal r a =
     let P : Refusal → Type 0 = λ x. Comes f.stage (f.held ++ unread) (stopped f.stage (f.held ++ unread) (Some x)) in
     assembled own all xs f unread (Some refusal) r (subst P (sym a.2) (fault_comes f.stage (f.held ++ unread) a.0 (omega (arith, r.limit))
-        (fault_more f.stage f.held unread a.0 a.1))) (λ _. fault_closed f.stage f.held a.0 a.1)
+    (fault_more f.stage f.held unread a.0 a.1))) (λ _. fault_closed f.stage f.held a.0 a.1)
 
 -- ---- one transcript
 
@@ -268,7 +270,7 @@ one_transcript own b xs ys r q m n lt a c =
     let P : Outcome → Type 0 = λ v. IsNext (stage.Handshake own) v a.next in
     let next = subst P same a.is_next in
     let stage = one_next (stage.Handshake own) c.verdict.items a.next c.next next.behind c.is_next.behind (next.order ∙ sym c.is_next.order) (next.start
-        ∙ sym c.is_next.start) (next.number ∙ sym c.is_next.number) in (
+    ∙ sym c.is_next.start) (next.number ∙ sym c.is_next.number) in (
       a.same_items ∙ ap (λ (v : Outcome). v.items) same ∙ sym c.same_items,
       a.same_refusal ∙ ap (λ (v : Outcome). v.refusal) same ∙ sym c.same_refusal,
       a.held ∙ ap (λ (v : Outcome). taken_by (is_closed a.next) [] v.tail) same ∙ ap (λ (t : Stage). taken_by (is_closed t) [] c.verdict.tail) stage

@@ -10,9 +10,8 @@ use Rattle.bt_wire.specs.declared.context.Own.{Own}
 use Rattle.bt_wire.specs.declared.fault.Reason.{Reason}
 use Rattle.bt_wire.specs.declared.fault.Reason.TheVariants.{BadIndex, EndInside}
 use Rattle.bt_wire.specs.declared.fault.Refused.{Refused}
-use Rattle.bt_wire.specs.Faults.{IsFault, early, unfinished, whole,
-    IsPayloadFault, in_bytes, in_index, IsWindowFault, in_fields, in_none, in_payload, placed_by,
-    header_rows, header_fault, field_rows}
+use Rattle.bt_wire.specs.Faults.{IsFault, early, unfinished, whole, IsPayloadFault, in_bytes, in_index, IsWindowFault, in_fields, in_none, in_payload}
+use Rattle.bt_wire.specs.Faults.{placed_by, header_rows, header_fault, field_rows}
 use Rattle.bt_wire.specs.Handshakes.{protocol, hand_fault, first_difference}
 use Rattle.bt_wire.specs.Tables.{Row, counts, first_fault}
 use Rattle.bt_feed.specs.declared.stage.Stage.{Stage}

@@ -1,6 +1,6 @@
 -- A header, once judged, says how many bytes the message has, whatever follows.
-use Rattle.std.proofs.Common.{◌≡◌, ℕ, ◌+◌, ◌^◌, ◌≤◌, ◌<◌, Bool, true, false, cond, eqb, leb, ltb, List, [], ◌∷◌, ◌++◌, map, length, take, drop, Option,
-    Some, None, refl, sym, ap, subst, ◌∙◌, arith, inl, inr}
+use Rattle.std.proofs.Common.{◌≡◌, ℕ, ◌+◌, ◌^◌, ◌≤◌, ◌<◌, Bool, true, false, cond, eqb, leb, ltb, List, [], ◌∷◌, ◌++◌, map, length, take, drop, Option}
+use Rattle.std.proofs.Common.{Some, None, refl, sym, ap, subst, ◌∙◌, arith, inl, inr}
 use Rattle.std.proofs.lemmas.Bool.{cases_Bool, cases_lt, cases_eq, eq-eqb, ne_eqb, le-leb, le-ltb, lt-ltb, ltb-true, ltb-false, and_cases, leb-false}
 use Rattle.std.proofs.lemmas.List.{append-nil, length-append, take-append-drop, get_or_append_left, nil_from_length, length-take, length-take-le, take_all}
 use Rattle.bt_wire.specs.declared.context.Context.{Context}
@@ -34,7 +34,7 @@ header_same c o b x le =
     let said : said_length (b ++ x) ≡ said_length b = number32-append b x (omega arith) in
     let id : said_id (b ++ x) ≡ said_id b = get_or_append_left b x 0 4 (omega (arith, le)) in
     let four : leb 4 (length (b ++ x)) ≡ leb 4 (length b) = le-leb 4 (length (b ++ x)) (omega (arith, length-append b x))
-        ∙ sym (le-leb 4 (length b) (omega arith)) in
+    ∙ sym (le-leb 4 (length b) (omega arith)) in
     let five : leb 5 (length (b ++ x)) ≡ leb 5 (length b) = le-leb 5 (length (b ++ x)) (omega (arith, length-append b x)) ∙ sym (le-leb 5 (length b) le) in
     let there : has_id (b ++ x) ≡ has_id b = rw (five, said) refl in
     same_first (row TooLong 0 (has_length (b ++ x)) (ltb c.limit (said_length (b ++ x)))) (row TooLong 0 (has_length b) (ltb c.limit (said_length b)))
@@ -61,8 +61,12 @@ window_stays c o b x n e =
           let here = rw (four, ne_eqb (said_length b) 0 some, j.none) at e in
           let parts = by_need (ltb (length b) 5) (4 + said_length b) n here in
           let five : 5 ≤ length b = ltb-false (length b) 5 parts.0 in
-          rw (four', ne_eqb (said_length (b ++ x)) 0 (λ z. some (sym said ∙ z)), header_same c o b x five ∙ j.none,
-              le-ltb (length (b ++ x)) 5 (omega (arith, length-append b x))) (ap headers.Window (omega (arith, said, j.size)))
+          rw (
+            four',
+            ne_eqb (said_length (b ++ x)) 0 (λ z. some (sym said ∙ z)),
+            header_same c o b x five ∙ j.none,
+            le-ltb (length (b ++ x)) 5 (omega (arith, length-append b x)),
+          ) (ap headers.Window (omega (arith, said, j.size)))
     ]
 
 pub window_size : (c : Context) (o : Order) (b : List ℕ) (n : ℕ) → header_of c o b ≡ headers.Window n → (4 ≤ n) × (n ≤ c.limit + 4)
@@ -132,7 +136,7 @@ need_until c o b x n e lt =
       | inr long ↦
           let j : (header_fault c o b ≡ None) × (is_whole b ≡ false) = judged_at c o b (headers.Need n) e in
           let here : cond (eqb (said_length b) 0) (headers.Window 4) (cond (ltb (length b) 5) (headers.Need 5) (headers.Window (4 + said_length b)))
-              ≡ headers.Need n = rw (le-ltb (length b) 4 long, j.0) at e in
+          ≡ headers.Need n = rw (le-ltb (length b) 4 long, j.0) at e in
           let five = by_window (ltb (length b) 5) (4 + said_length b) n (not_empty (eqb (said_length b) 0) _ n here) in
           let none : x ≡ [] = nil_from_length x (omega (arith, five.1, ltb-true (length b) 5 five.0)) in
           ap (λ (y : List ℕ). header_of c o (b ++ y)) none ∙ ap (header_of c o) (append-nil b) ∙ e
@@ -149,7 +153,7 @@ need_short c o b n e =
       | inr long ↦
           let j : (header_fault c o b ≡ None) × (is_whole b ≡ false) = judged_at c o b (headers.Need n) e in
           let here : cond (eqb (said_length b) 0) (headers.Window 4) (cond (ltb (length b) 5) (headers.Need 5) (headers.Window (4 + said_length b)))
-              ≡ headers.Need n = rw (le-ltb (length b) 4 long, j.0) at e in
+          ≡ headers.Need n = rw (le-ltb (length b) 4 long, j.0) at e in
           let five = by_window (ltb (length b) 5) (4 + said_length b) n (not_empty (eqb (said_length b) 0) _ n here) in
           (omega (arith, five.1, ltb-true (length b) 5 five.0), omega (arith, five.1))
     ]

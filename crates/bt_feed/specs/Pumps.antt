@@ -61,7 +61,7 @@ abbrev pub IsPump : {S : Type 0} → (S → ℕ × Item → S → Type 0) → (S
     → FeedState → Result ℕ PumpError → Type 0
 IsPump takes misses read f left left' sink sink' g r =
     (bytes : List ℕ) × (lost : List ℕ) × (xs : List (ℕ × Item)) × Consumes left left' (bytes ++ lost) × IsGiven takes misses sink xs sink' r
-        × IsPumpEnd f bytes lost xs g r × (length lost ≤ read)
+    × IsPumpEnd f bytes lost xs g r × (length lost ≤ read)
 
 -- the answer stands only at the stream's end
 abbrev pub IsEnd : Result ℕ PumpError → Type 0

@@ -1,6 +1,6 @@
 -- What the first bytes of a stream tell where it is refused.
-use Rattle.std.specs.Prelude.{◌≡◌, ℕ, ◌+◌, ◌-◌, ◌^◌, min, ◌<◌, ◌≤◌, zero, suc, List, [], ◌∷◌, ◌++◌, length, take, drop, slice_index, codes, decimal, Bool,
-    ◌||◌, true, Option, Some, None, if◌then◌else◌}
+use Rattle.std.specs.Prelude.{◌≡◌, ℕ, ◌+◌, ◌-◌, ◌^◌, min, ◌<◌, ◌≤◌, zero, suc, List, [], ◌∷◌, ◌++◌, length, take, drop, slice_index, codes, decimal, Bool}
+use Rattle.std.specs.Prelude.{◌||◌, true, Option, Some, None, if◌then◌else◌}
 use Rattle.std.specs.Int.{w32, from_be_bytes}
 use Rattle.std.specs.List.{starts_with}
 use Rattle.std.specs.Prelude.{nat_eq}
@@ -18,7 +18,7 @@ begins mark bytes = starts_with nat_eq bytes mark
 abbrev pub is_capture : List ℕ → Bool
 is_capture b =
     begins (0xd4 ∷ 0xc3 ∷ 0xb2 ∷ 0xa1 ∷ []) b || (begins (0xa1 ∷ 0xb2 ∷ 0xc3 ∷ 0xd4 ∷ []) b || (begins (0x4d ∷ 0x3c ∷ 0xb2 ∷ 0xa1 ∷ []) b || begins
-        (0xa1 ∷ 0xb2 ∷ 0x3c ∷ 0x4d ∷ []) b))
+    (0xa1 ∷ 0xb2 ∷ 0x3c ∷ 0x4d ∷ []) b))
 
 abbrev pub is_http : List ℕ → Bool
 is_http b = begins (codes "GET ") b || (begins (codes "POST ") b || (begins (codes "HEAD ") b || begins (codes "HTTP/1.") b))
@@ -31,13 +31,13 @@ is_tls b = begins (22 ∷ 3 ∷ 1 ∷ []) b || begins (22 ∷ 3 ∷ 3 ∷ []) b
 abbrev pub is_torrent : List ℕ → Bool
 is_torrent b =
     begins (codes "d8:announce") b || (begins (codes "d13:announce-list") b ||
-        (begins (codes "d7:comment") b || (begins (codes "d10:created by") b || (begins (codes "d13:creation date") b || begins (codes "d4:info") b))))
+    (begins (codes "d7:comment") b || (begins (codes "d10:created by") b || (begins (codes "d13:creation date") b || begins (codes "d4:info") b))))
 
 -- a handshake's first bytes in hex, or the first offset that `xxd` or `hexdump` prints
 abbrev pub is_hex : List ℕ → Bool
 is_hex b =
     begins (codes "13426974546f7272656e74") b || (begins (codes "13426974546F7272656E74") b ||
-        (begins (codes "13 42 69 74") b || (begins (codes "00000000: ") b || begins (codes "00000000  ") b)))
+    (begins (codes "13 42 69 74") b || (begins (codes "00000000: ") b || begins (codes "00000000  ") b)))
 
 abbrev pub is_lines : List ℕ → Bool
 is_lines b = begins (codes "0 handshake ") b || begins (codes "{\"offset\":0,") b

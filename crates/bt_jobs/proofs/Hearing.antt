@@ -1,6 +1,6 @@
 -- What is heard of a stream turn by turn.
-use Rattle.std.proofs.Common.{◌≡◌, ℕ, ◌+◌, ◌⊎◌, Bool, true, false, List, [], ◌∷◌, ◌++◌, length, Option, Some, None, Result, Ok, Err, refl, sym, ap, subst,
-    ◌∙◌, arith, inl, inr}
+use Rattle.std.proofs.Common.{◌≡◌, ℕ, ◌+◌, ◌⊎◌, Bool, true, false, List, [], ◌∷◌, ◌++◌, length, Option, Some, None, Result, Ok, Err, refl, sym, ap, subst}
+use Rattle.std.proofs.Common.{◌∙◌, arith, inl, inr}
 use Rattle.std.specs.Prelude.{IsSome, ok_or, if◌then◌else◌}
 use Rattle.std.proofs.KnownBytes.{Consumes-nil, Consumes-trans}
 use Rattle.std.specs.Io.KnownBytes.{Consumes}
@@ -27,9 +27,8 @@ use Rattle.bt_jobs.specs.declared.other.Announced.{Announced}
 use Rattle.bt_jobs.specs.declared.other.Listener.{Listener}
 use Rattle.bt_jobs.specs.declared.other.OtherError.{OtherError}
 use Rattle.bt_jobs.specs.declared.other.OtherError.TheVariants.{NoHandshake, Fault}
-use Rattle.bt_jobs.specs.Others.{or_else, first_of, reserved_of, id_of, first_id, IsUnknown, announced, own_of_other, reader_of_other, IsSaidBy, IsSaidIn,
-    IsLearnt, IsHeard,
-    Hears, IsListening, IsSettled, IsTurnHeard, IsFaultOfOther, IsOpenAfter}
+use Rattle.bt_jobs.specs.Others.{or_else, first_of, reserved_of, id_of, first_id, IsUnknown, announced, own_of_other, reader_of_other, IsSaidBy, IsSaidIn}
+use Rattle.bt_jobs.specs.Others.{IsLearnt, IsHeard, Hears, IsListening, IsSettled, IsTurnHeard, IsFaultOfOther, IsOpenAfter}
 use Rattle.bt_jobs.proofs.Printing.{total, read_more, starts, refused_by}
 
 -- ---- the first value in items
@@ -54,8 +53,11 @@ first_both f (x ∷ xs) ys = ap (λ o. or_else (f x.1) o) (first_both f xs ys) �
 
 hears : (l m : Listener) (xs : List (ℕ × Item)) → Took Hears l xs m → (m.reserved ≡ or_else l.reserved (first_of reserved_of xs))
     × (m.metadata ≡ or_else l.metadata (first_id metadata_name xs)) × (m.donthave ≡ or_else l.donthave (first_id donthave_name xs))
-hears l m [] h = (ap (λ (k : Listener). k.reserved) h ∙ sym (or_none l.reserved), ap (λ (k : Listener). k.metadata) h ∙ sym (or_none l.metadata),
-    ap (λ (k : Listener). k.donthave) h ∙ sym (or_none l.donthave))
+hears l m [] h = (
+  ap (λ (k : Listener). k.reserved) h ∙ sym (or_none l.reserved),
+  ap (λ (k : Listener). k.metadata) h ∙ sym (or_none l.metadata),
+  ap (λ (k : Listener). k.donthave) h ∙ sym (or_none l.donthave),
+)
 hears l m (x ∷ xs) h =
     let rest = hears h.0 m xs h.2 in (
       rest.0 ∙ ap (λ (o : Option Reserved). or_else o (first_of reserved_of xs)) h.1.0 ∙ or_both l.reserved (reserved_of x.1) (first_of reserved_of xs),
@@ -109,12 +111,27 @@ pub turned : (E : Type 0) (b : List ℕ) (xs ys : List (ℕ × Item)) (f g : Fee
     (v : Outcome) (k : Bool) → (k ≡ true → IsSome m.reserved × IsSome m.metadata × IsSome m.donthave) → (k ≡ false → IsUnknown m.reserved m.metadata m.donthave)
     → IsListening b xs f l → Consumes left left' (bytes ++ lost) → Took Hears l ys m → IsPumped f bytes lost ys g v → lost ≡ [] → v.refusal ≡ None
     → IsTurnHeard b xs E left left' g m (Ok k)
-turned E b xs ys f g left left' l m bytes lost v false know unknown r c took p none free =
-    (bytes ++ lost, ys, c, record { read = read_more reader_of_other b xs f g bytes lost ys v none r.read p; heard = heard_more xs ys l m r.heard took;
-        unknown = unknown refl; now = with_items xs v; is = total reader_of_other b xs f g bytes lost ys v r.read p; unrefused = free })
-turned E b xs ys f g left left' l m bytes lost v true know unknown r c took p none free =
-    (bytes ++ lost, with_items xs v, c, total reader_of_other b xs f g bytes lost ys v r.read p, heard_all b xs ys f g l m bytes lost v r took p,
-        inl (know refl))
+turned E b xs ys f g left left' l m bytes lost v false know unknown r c took p none free = (
+  bytes ++ lost,
+  ys,
+  c,
+  record {
+    read = read_more reader_of_other b xs f g bytes lost ys v none r.read p;
+    heard = heard_more xs ys l m r.heard took;
+    unknown = unknown refl;
+    now = with_items xs v;
+    is = total reader_of_other b xs f g bytes lost ys v r.read p;
+    unrefused = free;
+  },
+)
+turned E b xs ys f g left left' l m bytes lost v true know unknown r c took p none free = (
+  bytes ++ lost,
+  with_items xs v,
+  c,
+  total reader_of_other b xs f g bytes lost ys v r.read p,
+  heard_all b xs ys f g l m bytes lost v r took p,
+  inl (know refl),
+)
 
 refused_inside : (o : Option Refusal) (c : Bool) (e r : Refusal) → (elim o [ Some q ↦ Some q | None ↦ if c then None else Some e ]) ≡ Some r → IsSome o
     ⊎ (r.reason ≡ e.reason)
@@ -138,12 +155,26 @@ pub record IsListeningTo (left left' : Option (List ℕ)) (f : FeedState) (l : L
   pub consumed : Consumes left left' bytes
   pub listening : IsListening bytes items f l
 
-pub listening_first : (left : Option (List ℕ)) (f : FeedState) (l : Listener) → f ≡ record { stage = stage.Handshake reader_of_other; held = [];
-    refused = None } → IsHeard [] l → IsListeningTo left left f l
+pub listening_first : (left : Option (List ℕ)) (f : FeedState) (l : Listener) → f ≡ record {
+  stage = stage.Handshake reader_of_other;
+  held = [];
+  refused = None;
+} → IsHeard [] l → IsListeningTo left left f l
 listening_first left f l e h =
-    record { bytes = []; items = []; consumed = Consumes-nil left; listening = record { read = starts reader_of_other f (omega arith) e; heard = h;
-        unknown = inl h.0; now = stopped (stage.Handshake reader_of_other) [] None; is = open_comes (stage.Handshake reader_of_other) [] (omega arith)
-        (hand_open reader_of_other); unrefused = refl } }
+    record {
+      bytes = [];
+      items = [];
+      consumed = Consumes-nil left;
+      listening = record {
+        read = starts reader_of_other f (omega arith) e;
+        heard = h;
+        unknown = inl h.0;
+        now = stopped (stage.Handshake reader_of_other) [] None;
+        is = open_comes (stage.Handshake reader_of_other) [] (omega arith)
+            (hand_open reader_of_other);
+        unrefused = refl;
+      };
+    }
 
 pub listening_more : (E : Type 0) (left0 left left' : Option (List ℕ)) (f g : FeedState) (l m : Listener) → (t : IsListeningTo left0 left f l)
     → IsTurnHeard t.bytes t.items E left left' g m (Ok false) → IsListeningTo left0 left' g m
@@ -159,7 +190,7 @@ settled D E b v l r one refused stay is h (inl known) to answer = inl (λ later 
     subst (λ (xs : List (ℕ × Item)). IsSaidBy xs r) (sym s.1) (said_by (v.items ++ s.0) l r (heard_still v.items s.0 l h known.0 known.1 known.2) answer))
 settled D E b v l r one refused stay is h (inr (inl some)) to answer = inl (λ later w isw.
     let same : w ≡ record v { tail = v.tail ++ later } = one reader_of_other (b ++ later) w (record v { tail = v.tail ++ later }) (omega arith) isw
-        (refused reader_of_other b later v (omega arith) is some) in
+    (refused reader_of_other b later v (omega arith) is some) in
     subst (λ (u : Outcome). IsSaidBy u.items r) (sym same) (said_by v.items l r h answer))
 settled D E b v l r one refused stay is h (inr (inr d)) to answer = inr (
   to d,
@@ -193,7 +224,7 @@ pub no_fault : (o : Option Announced) (r : Result Announced OtherError) (reads r
     ≡ failed → IsFaultOfOther r reads reads' failed failed' ends ends'
 no_fault o r reads reads' failed failed' ends ends' e calm =
     subst (λ (a : Result Announced OtherError). IsFaultOfOther a reads reads' failed failed' ends ends') (sym e)
-        (answer_has_no_fault o reads reads' failed failed' ends ends' calm)
+    (answer_has_no_fault o reads reads' failed failed' ends ends' calm)
 
 pub grew_since : (a b c : ℕ) → b ≡ a → Grew b c → Grew a c
 grew_since a b c e g = subst (λ (n : ℕ). Grew n c) e g
@@ -220,9 +251,10 @@ waits left left' f l one t =
       λ v is.
           let same : s.read.now ≡ v = one reader_of_other t.bytes s.read.now v (omega arith) s.read.is is in
           let as_now : v ≡ s.now = one reader_of_other t.bytes v s.now (omega arith) is s.is in
-          let P : List (ℕ × Item) → Type 0 = λ xs. IsUnknown (first_of reserved_of xs) (first_id metadata_name xs) (first_id donthave_name xs) in
-          (subst P (sym s.read.items ∙ ap (λ (w : Outcome). w.items) same) (unknown_items t.items l s.heard s.unknown),
-              ap (λ (w : Outcome). w.refusal) as_now ∙ s.unrefused),
+          let P : List (ℕ × Item) → Type 0 = λ xs. IsUnknown (first_of reserved_of xs) (first_id metadata_name xs) (first_id donthave_name xs) in (
+            subst P (sym s.read.items ∙ ap (λ (w : Outcome). w.items) same) (unknown_items t.items l s.heard s.unknown),
+            ap (λ (w : Outcome). w.refusal) as_now ∙ s.unrefused,
+          ),
     )
 
 -- before the first read

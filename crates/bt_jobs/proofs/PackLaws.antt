@@ -1,6 +1,6 @@
 -- A text has its lines alone, the script of an accepted stream packs to that stream, and packing has one answer.
-use Rattle.std.proofs.Common.{◌≡◌, ℕ, zero, suc, ◌+◌, ◌-◌, ◌<◌, ◌≤◌, ◌^◌, ◌==◌, ◌⊎◌, not, Bool, true, false, cond, List, [], ◌∷◌, ◌++◌, length, Option,
-    Some, None, refl, sym, ap, subst, ◌∙◌, arith, inl, inr}
+use Rattle.std.proofs.Common.{◌≡◌, ℕ, zero, suc, ◌+◌, ◌-◌, ◌<◌, ◌≤◌, ◌^◌, ◌==◌, ◌⊎◌, not, Bool, true, false, cond, List, [], ◌∷◌, ◌++◌, length, Option}
+use Rattle.std.proofs.Common.{Some, None, refl, sym, ap, subst, ◌∙◌, arith, inl, inr}
 use Rattle.std.proofs.lemmas.Bool.{cases_lt, and_parts}
 use Rattle.std.proofs.lemmas.List.{append-nil, append_assoc, length-append, nil_from_length}
 use Rattle.std.specs.Prelude.{IsSome}
@@ -24,8 +24,8 @@ use Rattle.bt_text.specs.declared.ended.PackEnd.TheVariants.{Accepted, Refused}
 use Rattle.bt_text.specs.declared.ended.ScriptReason.{ScriptReason}
 use Rattle.bt_text.specs.declared.ended.ScriptReason.TheVariants.{Syntax, Reason}
 use Rattle.bt_text.specs.Script.{has_feed}
-use Rattle.bt_jobs.specs.Packs.{ended_lines, AreWhole, IsSplit, with_last, AreLines, IsNamed, is_none, AreNamed, AreTaken, IsNotTaken, IsStop, IsPacked,
-    empty, stopped, accepted}
+use Rattle.bt_jobs.specs.Packs.{ended_lines, AreWhole, IsSplit, with_last, AreLines, IsNamed, is_none, AreNamed, AreTaken, IsNotTaken, IsStop, IsPacked}
+use Rattle.bt_jobs.specs.Packs.{empty, stopped, accepted}
 use Rattle.bt_text.specs.Script.{script, script_words, Said, keep_alive, known, unknown, said_bytes, IsLine}
 use Rattle.bt_text.proofs.ScriptBounds.{handshake_fits, message_fits}
 use Rattle.bt_text.proofs.ScriptLines.{one_reading}
@@ -175,15 +175,20 @@ accepted_items own b v fits h =
     let c = negotiated own g.reserved in
     let ms = p.messages.messages in
     let parts : v.items ≡ (0, items.Handshake g) ∷ placed c 68 ms = ap (λ (u : Outcome). u.items) p.whole
-        ∙ ap (λ (xs : List (ℕ × Item)). (0, items.Handshake g) ∷ xs) p.messages.items in
+    ∙ ap (λ (xs : List (ℕ × Item)). (0, items.Handshake g) ∷ xs) p.messages.items in
     let all : AreBytes (hand g ++ p.rest) = let P : List ℕ → Type 0 = λ z. AreBytes z in subst P p.parts fits in
     let fit = handshake_fits g p.fits in
     let more = messages_named own c Fresh 68 ms p.rest refl refl (back_fits (hand g) p.rest all) (opened_says own b v p h.nothing_left) in
     let Q : List (ℕ × Item) → Type 0 = λ xs. AreItems own.limit true (lines_in own xs) b in
     subst Q (sym parts) (record {
       whole = (fit.whole, more.whole);
-      named = (hand g, p.rest, record { short = omega (arith, fit.short); line = handshake_line g p.fits (front_fits (hand g) p.rest all) }, p.parts,
-          more.named);
+      named = (
+        hand g,
+        p.rest,
+        record { short = omega (arith, fit.short); line = handshake_line g p.fits (front_fits (hand g) p.rest all) },
+        p.parts,
+        more.named,
+      );
     })
 
 pub script_packs : (own : Own) (b : List ℕ) (v : Outcome) → AreBytes b → IsVerdict own b v → refusal_at_end v ≡ None
@@ -322,7 +327,7 @@ all_items_by None own b v h none =
 none_and_some : (own : Own) (b : List ℕ) (v w : Outcome) → IsOpened own b v → w.items ≡ [] → v.items ≡ w.items → ⊥
 none_and_some own b v w p none same =
     let k : pair 0 (items.Handshake p.handshake) ∷ placed (negotiated own p.handshake.reserved) 68 p.messages.messages ≡ [] = sym (opened_items own b v p)
-        ∙ same ∙ none in
+    ∙ same ∙ none in
     absurd (cc k)
 
 pub items_are_one : (own : Own) (b c : List ℕ) (v w : Outcome) → IsVerdict own b v → IsVerdict own c w → v.tail ≡ [] → w.tail ≡ [] → v.items ≡ w.items → b ≡ c
@@ -424,8 +429,12 @@ same_stop own all b c m n r s p q lt before line =
     let C : List ℕ → Type 0 = λ z. IsNotTaken own (is_none p.before) p.line z q.verdict s in
     let D : Outcome → Type 0 = λ u. IsNotTaken own (is_none p.before) p.line b u s in
     let other = subst D (sym one) (subst C (sym bytes) (subst B (sym line) (subst A (sym before) q.not_taken))) in
-    record { bytes = bytes; number = omega (arith, p.count, q.count, ap length before); reason = reason_is_one own (is_none p.before) p.line b p.verdict r s
-        lt p.not_taken other }
+    record {
+      bytes = bytes;
+      number = omega (arith, p.count, q.count, ap length before);
+      reason = reason_is_one own (is_none p.before) p.line b p.verdict r s
+          lt p.not_taken other;
+    }
 
 stop_by : (own : Own) (all : List (List ℕ)) (b c : List ℕ) (m n : ℕ) (r s : ScriptReason) (p : IsStop own all b m r) (q : IsStop own all c n s)
     → own.limit < 2 ^ 32 → length p.before ≤ length q.before → IsSameStop b c m n r s

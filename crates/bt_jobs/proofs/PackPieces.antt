@@ -1,6 +1,6 @@
 -- A script that is read piece by piece.
-use Rattle.std.proofs.Common.{◌≡◌, ℕ, ◌+◌, ◌-◌, ◌*◌, ◌<◌, false, List, [], ◌∷◌, ◌++◌, length, Some, None, refl, sym, ap, subst, ◌∙◌, arith, inl, inr,
-    length-append}
+use Rattle.std.proofs.Common.{◌≡◌, ℕ, ◌+◌, ◌-◌, ◌*◌, ◌<◌, false, List, [], ◌∷◌, ◌++◌, length, Some, None, refl, sym, ap, subst, ◌∙◌, arith, inl, inr}
+use Rattle.std.proofs.Common.{length-append}
 use Rattle.std.proofs.lemmas.List.{append-nil, append_assoc, nil_from_length}
 use Rattle.bt_feed.specs.Feeds.{FeedState}
 use Rattle.bt_feed.specs.Stages.{start_of, number_of}
@@ -9,8 +9,8 @@ use Rattle.bt_wire.specs.Streams.{Outcome}
 use Rattle.bt_text.specs.declared.ended.ScriptReason.{ScriptReason}
 use Rattle.bt_text.specs.declared.ended.ScriptReason.TheVariants.{Syntax}
 use Rattle.bt_text.specs.Script.{has_feed}
-use Rattle.bt_jobs.specs.Packs.{ended_lines, with_last, IsSplit, IsEndedLine, AreLines, AreTaken, IsNotTaken, IsStop, IsPacked, empty, stopped, accepted,
-    is_none}
+use Rattle.bt_jobs.specs.Packs.{ended_lines, with_last, IsSplit, IsEndedLine, AreLines, AreTaken, IsNotTaken, IsStop, IsPacked, empty, stopped, accepted}
+use Rattle.bt_jobs.specs.Packs.{is_none}
 use Rattle.bt_text.specs.declared.ended.PackEnd.{PackEnd}
 use Rattle.bt_text.specs.declared.ended.PackEnd.TheVariants.{Accepted, Refused}
 use Rattle.bt_jobs.proofs.Printing.{verdict_length}
@@ -78,10 +78,10 @@ stops_at own text front behind line lines b held f number reason h none e count 
     let s = split_of behind in
     let tail : line ++ 10 ∷ behind ≡ ended_lines (line ∷ s.0) ++ s.1 =
     ap (λ (t : List ℕ). line ++ 10 ∷ t) s.2.parts ∙ sym (append_assoc line (10 ∷ []) (ended_lines s.0 ++ s.1))
-        ∙ sym (append_assoc (line ++ 10 ∷ []) (ended_lines s.0) s.1) in
+    ∙ sym (append_assoc (line ++ 10 ∷ []) (ended_lines s.0) s.1) in
     let parts : text ++ (front ++ 10 ∷ behind) ≡ ended_lines (lines ++ line ∷ s.0) ++ s.1 =
     line_parts text held front line behind lines h.split.parts e ∙ ap (λ (t : List ℕ). ended_lines lines ++ t) tail
-        ∙ sym (append_assoc (ended_lines lines) (ended_lines (line ∷ s.0)) s.1)
+    ∙ sym (append_assoc (ended_lines lines) (ended_lines (line ∷ s.0)) s.1)
     ∙ ap (λ (t : List ℕ). t ++ s.1) (sym (ended_both lines (line ∷ s.0))) in
     let split : IsSplit (text ++ (front ++ 10 ∷ behind)) (lines ++ line ∷ s.0) s.1 = record {
       parts = parts;
@@ -144,8 +144,14 @@ nothing_done own text lines b piece held f out h =
     let P : List ℕ → Type 0 = λ t. IsReadSo own t (lines ++ []) (b ++ []) held f in
     let Q : List (List ℕ) → Type 0 = λ l. IsReadSo own text l (b ++ []) held f in
     let R : List ℕ → Type 0 = λ l. IsReadSo own text lines l held f in
-    record { done = []; parts = refl; more = []; named = []; grown = sym (append-nil out);
-        read = subst P (sym (append-nil text)) (subst Q (sym (append-nil lines)) (subst R (sym (append-nil b)) h)) }
+    record {
+      done = [];
+      parts = refl;
+      more = [];
+      named = [];
+      grown = sym (append-nil out);
+      read = subst P (sym (append-nil text)) (subst Q (sym (append-nil lines)) (subst R (sym (append-nil b)) h));
+    }
 
 -- all of the piece
 pub all_done : (own : Own) (text : List ℕ) (lines : List (List ℕ)) (b piece rest held new : List ℕ) (f : FeedState) (out out' : List ℕ)
@@ -182,7 +188,7 @@ pub line_stops : (own : Own) (text : List ℕ) (lines : List (List ℕ)) (b piec
 line_stops own text lines b piece rest held front behind line new f g out mid out' reason d none cut e same count r =
     let stop = stops_at own (text ++ d.done) front behind line (lines ++ d.more) (b ++ d.named) held f (number_of g.stage) reason d.read none e count r in
     let all : (text ++ d.done) ++ (front ++ 10 ∷ behind) ≡ text ++ piece = append_assoc text d.done (front ++ 10 ∷ behind)
-        ∙ ap (λ (l : List ℕ). text ++ l) (ap (λ (l : List ℕ). d.done ++ l) (sym cut) ∙ sym d.parts) in
+    ∙ ap (λ (l : List ℕ). text ++ l) (ap (λ (l : List ℕ). d.done ++ l) (sym cut) ∙ sym d.parts) in
     let P : List ℕ → Type 0 = λ t. AreLines t stop.0 in
     let Q : List ℕ → Type 0 = λ t. IsEndedLine own.limit t (number_of g.stage + 1) in
     (d.named, same ∙ d.grown, (stop.0, subst P all stop.1, stop.2), subst Q all stop.3)
@@ -193,7 +199,7 @@ pub rest_stops : (own : Own) (text : List ℕ) (lines : List (List ℕ)) (b piec
     → IsPieceRead own (text ++ piece) lines b new f out out' (Some reason)
 rest_stops own text lines b piece rest held line new f out out' reason d none e long r =
     let stop = stops_in own (text ++ d.done) rest line (lines ++ d.more) (b ++ d.named) held f (number_of f.stage) reason d.read none e
-        (omega (arith, long)) d.read.packed.count r in
+    (omega (arith, long)) d.read.packed.count r in
     let split = (read_rest own (text ++ d.done) rest (lines ++ d.more) (b ++ d.named) held line f d.read none e).split in
     let all : (text ++ d.done) ++ rest ≡ text ++ piece = append_assoc text d.done rest ∙ ap (λ (l : List ℕ). text ++ l) (sym d.parts) in
     let P : List ℕ → Type 0 = λ t. AreLines t stop.0 in
@@ -246,20 +252,31 @@ end_empty own text lines b line out f e none h some is =
     let P : List ℕ → Type 0 = λ l. IsReadSo own text lines b l f in
     let here = subst P (nil_from_length line none) h in
     let Q : PackEnd → Type 0 = λ x. (all : List (List ℕ)) × AreLines text all × IsPacked own all b x in
-    none_named own text b out out e refl (subst Q (sym is) (all_packed own text lines b f (number_of f.stage - 1) (start_of f.stage) (lines, [], here.split,
-        refl) h.packed (some_by lines (λ z. some (h.packed.count ∙ z))) refl refl))
+    none_named own text b out out e refl (subst Q (sym is) (all_packed own text lines b f (number_of f.stage - 1) (start_of f.stage) (
+      lines,
+      [],
+      here.split,
+      refl,
+    ) h.packed (some_by lines (λ z. some (h.packed.count ∙ z))) refl refl))
 
 pub end_line : (own : Own) (text : List ℕ) (lines : List (List ℕ)) (b line out out' : List ℕ) (f g : FeedState) (e : PackEnd) → 0 < length line
     → IsReadSo own text lines b line f → IsLineEnd own lines b line g out out' None
     → e ≡ Accepted (number_of g.stage - 1) (start_of g.stage) → IsScriptEnd own text b out out' e
 end_line own text lines b line out out' f g e some h end is =
-    let Q : PackEnd → Type 0 = λ x. (all : List (List ℕ)) × AreLines text all × IsPacked own all (b ++ end.0) x in
-    (end.0, end.1, subst Q (sym is) (all_packed own text (lines ++ line ∷ []) (b ++ end.0) g (number_of g.stage - 1) (start_of g.stage) (lines, line,
-        h.split, long_last lines line some) end.2 (some_lines lines line) refl refl))
+    let Q : PackEnd → Type 0 = λ x. (all : List (List ℕ)) × AreLines text all × IsPacked own all (b ++ end.0) x in (
+      end.0,
+      end.1,
+      subst Q (sym is) (all_packed own text (lines ++ line ∷ []) (b ++ end.0) g (number_of g.stage - 1) (start_of g.stage) (
+        lines,
+        line,
+        h.split,
+        long_last lines line some,
+      ) end.2 (some_lines lines line) refl refl),
+    )
 
 pub end_stop : (own : Own) (text : List ℕ) (lines : List (List ℕ)) (b line out out' : List ℕ) (f g : FeedState) (number : ℕ) (reason : ScriptReason)
     → 0 < length line → IsReadSo own text lines b line f → IsLineEnd own lines b line g out out' (Some reason)
     → number ≡ number_of g.stage → IsScriptEnd own text b out out' (Refused (number + 1) reason)
 end_stop own text lines b line out out' f g number reason some h end is =
     none_named own text b out out' (Refused (number + 1) reason) end.0 (stopped_packed own text line lines b f g (number + 1) reason h some
-        (omega (arith, is)) end.1 end.2)
+    (omega (arith, is)) end.1 end.2)

@@ -61,15 +61,31 @@ fails : (E : Type 0) (own : Own) (left left' held held' : Option (List ℕ)) (te
     → IsPackRun own E left left' held held' (Err e)
 fails E own left left' held held' text more lines b line f e read h front =
     let t = lines_of (text ++ more) in
-    let s = taken_so_far own lines b f h.packed in
-    (text ++ more, t.0, read, t.1, (lines, b, s.0, inl (line ++ more, ap (λ (t : List ℕ). t ++ more) h.split.parts
-        ∙ append_assoc (ended_lines lines) line more, h.split.whole), s.1.taken, front))
+    let s = taken_so_far own lines b f h.packed in (
+      text ++ more,
+      t.0,
+      read,
+      t.1,
+      (
+        lines,
+        b,
+        s.0,
+        inl (
+          line ++ more,
+          ap (λ (t : List ℕ). t ++ more) h.split.parts
+              ∙ append_assoc (ended_lines lines) line more,
+          h.split.whole,
+        ),
+        s.1.taken,
+        front,
+      ),
+    )
 
 pub run_fails : (E : Type 0) (own : Own) (left left' left'' held held' : Option (List ℕ)) (line more : List ℕ) (f : FeedState) (e : ToolFault)
     → IsRun own left left' held held' line f → Consumes left' left'' more → IsPackRun own E left left'' held held' (Err e)
 run_fails E own left left' left'' held held' line more f e r read =
     fails E own left left'' held held' r.text more r.lines r.bytes line f e (Consumes-trans left left' left'' r.text more r.consumed read) r.read
-        (all_is_front held held' r.bytes r.written)
+    (all_is_front held held' r.bytes r.written)
 
 -- ---- a turn
 
@@ -95,7 +111,7 @@ pub more_fails : (E : Type 0) (own : Own) (left left' left'' held held' held'' :
 more_fails E own left left' left'' held held' held'' line new piece out out' f g e r read none p front =
     let P : List ℕ → Type 0 = λ t. Consumes left left'' t in
     fails E own left left'' held held'' (r.text ++ piece) [] (r.lines ++ p.0) (r.bytes ++ p.1) new g e
-        (subst P (sym (append-nil (r.text ++ piece))) (Consumes-trans left left' left'' r.text piece r.consumed read)) p.3
+    (subst P (sym (append-nil (r.text ++ piece))) (Consumes-trans left left' left'' r.text piece r.consumed read)) p.3
     (front_behind held held' held'' r.bytes p.1 r.written (subst (AppendsFront held' held'') (out_is out out' p.1 none p.2) front))
 
 -- ---- the end
@@ -105,9 +121,17 @@ taken_of : (E : Type 0) (own : Own) (text : List ℕ) (all : List (List ℕ)) (b
     → IsTimely own.limit text E e → IsPacked own all b e → (lines : List (List ℕ)) × (v : Outcome) × AreFrontLines text E lines × AreTaken own lines b v
 taken_of E own text all b e le lines timely (empty none bytes is) =
     let v = left_at (stage.Handshake own) [] None in
-    let P : List ℕ → Type 0 = λ l. AreTaken own [] l v in
-    ([], v, inl (text, refl, tt), subst P (sym bytes) (record { named = refl; verdict = open_comes (stage.Handshake own) [] (omega (arith, le))
-        (hand_open own); nothing_left = refl }))
+    let P : List ℕ → Type 0 = λ l. AreTaken own [] l v in (
+      [],
+      v,
+      inl (text, refl, tt),
+      subst P (sym bytes) (record {
+        named = refl;
+        verdict = open_comes (stage.Handshake own) [] (omega (arith, le))
+            (hand_open own);
+        nothing_left = refl;
+      }),
+    )
 taken_of E own text all b e le lines timely (stopped number reason stop is) =
     (stop.before, stop.verdict, inl (ended_before text all stop.before stop.behind stop.line lines stop.parts), stop.taken)
 taken_of E own text all b e le lines timely (accepted v some taken is) =
@@ -120,13 +144,35 @@ pub packed_run : (E : Type 0) (own : Own) (left left' held held' held'' : Option
     → IsPackRun own E left left' held held'' r
 packed_run E own left left' held held' held'' text b x out out' all e (Ok d) le read lines packed timely before none grown written =
     let P : PackEnd → Type 0 = λ z. IsPacked own all (b ++ x) z in
-    let T : PackEnd → Type 0 = λ z. IsTimely own.limit text E z in
-    (text, all, read, lines, (b ++ x, subst P (sym written.0) packed, Appends-trans held held' held'' b x before
-        (subst (Appends held' held'') (out_is out out' x none grown) written.1), subst T (sym written.0) timely))
+    let T : PackEnd → Type 0 = λ z. IsTimely own.limit text E z in (
+      text,
+      all,
+      read,
+      lines,
+      (
+        b ++ x,
+        subst P (sym written.0) packed,
+        Appends-trans held held' held'' b x before
+            (subst (Appends held' held'') (out_is out out' x none grown) written.1),
+        subst T (sym written.0) timely,
+      ),
+    )
 packed_run E own left left' held held' held'' text b x out out' all e (Err fault) le read lines packed timely before none grown front =
-    let t = taken_of E own text all (b ++ x) e le lines timely packed in
-    (text, all, read, lines, (t.0, b ++ x, t.1, t.2, t.3, front_behind held held' held'' b x before
-        (subst (AppendsFront held' held'') (out_is out out' x none grown) front)))
+    let t = taken_of E own text all (b ++ x) e le lines timely packed in (
+      text,
+      all,
+      read,
+      lines,
+      (
+        t.0,
+        b ++ x,
+        t.1,
+        t.2,
+        t.3,
+        front_behind held held' held'' b x before
+            (subst (AppendsFront held' held'') (out_is out out' x none grown) front),
+      ),
+    )
 
 pub timely_at_end : (limit : ℕ) (text : List ℕ) (E : Type 0) (e : PackEnd) → E → IsTimely limit text E e
 timely_at_end limit text E (Accepted messages bytes) h = h
@@ -140,10 +186,24 @@ timely_line limit text E e number reason is h =
 
 pub nothing_run : (E : Type 0) (own : Own) (left held : Option (List ℕ)) (e : ToolFault) → own.limit ≤ 1048576 → IsPackRun own E left left held held (Err e)
 nothing_run E own left held e le =
-    let v = left_at (stage.Handshake own) [] None in
-    ([], [], Consumes-nil left, ([], [], record { parts = refl; whole = tt; last = refl }, refl),
-        ([], [], v, inl ([], refl, tt), record { named = refl; verdict = open_comes (stage.Handshake own) [] (omega (arith, le)) (hand_open own);
-        nothing_left = refl }, all_is_front held held [] (Appends-nil held)))
+    let v = left_at (stage.Handshake own) [] None in (
+      [],
+      [],
+      Consumes-nil left,
+      ([], [], record { parts = refl; whole = tt; last = refl }, refl),
+      (
+        [],
+        [],
+        v,
+        inl ([], refl, tt),
+        record {
+          named = refl;
+          verdict = open_comes (stage.Handshake own) [] (omega (arith, le)) (hand_open own);
+          nothing_left = refl;
+        },
+        all_is_front held held [] (Appends-nil held),
+      ),
+    )
 
 pub no_bytes : (a b c : Option (List ℕ)) (text : List ℕ) → Consumes a b text → Consumes b c [] → Consumes a c text
 no_bytes a b c text p q = subst (Consumes a c) (append-nil text) (Consumes-trans a b c text [] p q)

@@ -1,6 +1,6 @@
 -- A text and its lines.
-use Rattle.std.proofs.Common.{◌≡◌, ℕ, suc, ◌+◌, ◌==◌, Bool, true, false, cond, List, [], ◌∷◌, ◌++◌, length, take, drop, Some, None, refl, sym, ap, subst,
-    ◌∙◌, arith, inl, inr}
+use Rattle.std.proofs.Common.{◌≡◌, ℕ, suc, ◌+◌, ◌==◌, Bool, true, false, cond, List, [], ◌∷◌, ◌++◌, length, take, drop, Some, None, refl, sym, ap, subst}
+use Rattle.std.proofs.Common.{◌∙◌, arith, inl, inr}
 use Rattle.std.specs.Prelude.{nat_lt, position, unwrap_or, not, ◌||◌}
 use Rattle.std.specs.List.{position_or_len}
 use Rattle.std.proofs.lemmas.Bool.{cases_Bool, ltb-false, eqb-true}
@@ -120,24 +120,45 @@ ended_before text all before behind line h e =
     let more = before_by h.0 before behind h.1 line (sym h.3 ∙ e) in
     let parts : text ≡ ended_lines before ++ (ended_lines more.0 ++ h.1) =
     s.parts ∙ ap (λ (ls : List (List ℕ)). ended_lines ls ++ h.1) more.1 ∙ ap (λ (t : List ℕ). t ++ h.1) (ended_both before more.0)
-        ∙ append_assoc (ended_lines before) (ended_lines more.0) h.1 in
+    ∙ append_assoc (ended_lines before) (ended_lines more.0) h.1 in
     (ended_lines more.0 ++ h.1, parts, whole_front before more.0 (subst AreWhole more.1 s.whole))
 
 -- every text has its lines
 first_more : (c : ℕ) (cs : List ℕ) (lines : List (List ℕ)) (rest : List ℕ) → (c == 10) ≡ false → IsSplit cs lines rest → (ls : List (List ℕ)) × (r : List ℕ)
     × IsSplit (c ∷ cs) ls r
-first_more c cs [] rest e s = ([], c ∷ rest, record { parts = ap (λ (t : List ℕ). c ∷ t) s.parts; whole = tt; last = ap (λ (b : Bool). b || has_feed rest) e
-    ∙ s.last })
-first_more c cs (l ∷ lines) rest e s =
-    ((c ∷ l) ∷ lines, rest, record { parts = ap (λ (t : List ℕ). c ∷ t) s.parts; whole = (ap (λ (b : Bool). b || has_feed l) e ∙ s.whole.0, s.whole.1);
-        last = s.last })
+first_more c cs [] rest e s = (
+  [],
+  c ∷ rest,
+  record {
+    parts = ap (λ (t : List ℕ). c ∷ t) s.parts;
+    whole = tt;
+    last = ap (λ (b : Bool). b || has_feed rest) e
+        ∙ s.last;
+  },
+)
+first_more c cs (l ∷ lines) rest e s = (
+  (c ∷ l) ∷ lines,
+  rest,
+  record {
+    parts = ap (λ (t : List ℕ). c ∷ t) s.parts;
+    whole = (ap (λ (b : Bool). b || has_feed l) e ∙ s.whole.0, s.whole.1);
+    last = s.last;
+  },
+)
 
 pub split_of : (t : List ℕ) → (ls : List (List ℕ)) × (r : List ℕ) × IsSplit t ls r
 split_of [] = ([], [], record { parts = refl; whole = tt; last = refl })
 split_of (c ∷ cs) =
     let s = split_of cs in
     elim (cases_Bool (c == 10)) [
-      | inl e ↦ ([] ∷ s.0, s.1, record { parts = ap (λ (t : List ℕ). c ∷ t) s.2.parts ∙ ap (λ (k : ℕ). k ∷ (ended_lines s.0 ++ s.1)) (eqb-true c 10 e);
-          whole = (refl, s.2.whole); last = s.2.last })
+      | inl e ↦ (
+        [] ∷ s.0,
+        s.1,
+        record {
+          parts = ap (λ (t : List ℕ). c ∷ t) s.2.parts ∙ ap (λ (k : ℕ). k ∷ (ended_lines s.0 ++ s.1)) (eqb-true c 10 e);
+          whole = (refl, s.2.whole);
+          last = s.2.last;
+        },
+      )
       | inr e ↦ first_more c cs s.0 s.1 e s.2
     ]

@@ -1,6 +1,6 @@
 -- How lines are packed.
-use Rattle.std.proofs.Common.{◌≡◌, ℕ, ◌+◌, ◌*◌, ◌^◌, ◌<◌, ◌≤◌, leb, eqb, Bool, true, false, List, [], ◌∷◌, ◌++◌, length, take, drop, Option, Some, None, Ok,
-    Err, refl, sym, ap, subst, ◌∙◌, arith, inl, inr}
+use Rattle.std.proofs.Common.{◌≡◌, ℕ, ◌+◌, ◌*◌, ◌^◌, ◌<◌, ◌≤◌, leb, eqb, Bool, true, false, List, [], ◌∷◌, ◌++◌, length, take, drop, Option, Some, None, Ok}
+use Rattle.std.proofs.Common.{Err, refl, sym, ap, subst, ◌∙◌, arith, inl, inr}
 use Rattle.std.specs.Prelude.{codes}
 use Rattle.std.proofs.lemmas.Bool.{cases_lt, ne_eqb}
 use Rattle.std.proofs.lemmas.List.{append-nil, append_assoc, length-append, length-take-le, take_all, take-append-drop}
@@ -68,11 +68,26 @@ record IsLast (t : Stage) (e : Outcome) : Type 0 where
   start : e.start ≡ start_of t
 
 by_early : (t : Stage) (o : Option Fault) → limit_of t < 2 ^ 32 → early t [] ≡ o → (e : Outcome) × IsLast t e
-by_early t (Some f) lt e =
-    (stopped t [] (Some (refusal_of t f)), record { comes = fault_comes t [] f lt (early_has t [] f e); tail = refl; items = refl; number = refl;
-        start = refl })
-by_early t None lt e = (stopped t [] None, record { comes = open_comes t [] lt (open_by t [] e (not_all t)); tail = refl; items = refl; number = refl;
-    start = refl })
+by_early t (Some f) lt e = (
+  stopped t [] (Some (refusal_of t f)),
+  record {
+    comes = fault_comes t [] f lt (early_has t [] f e);
+    tail = refl;
+    items = refl;
+    number = refl;
+    start = refl;
+  },
+)
+by_early t None lt e = (
+  stopped t [] None,
+  record {
+    comes = open_comes t [] lt (open_by t [] e (not_all t));
+    tail = refl;
+    items = refl;
+    number = refl;
+    start = refl;
+  },
+)
 
 -- the lines so far are taken
 pub record IsTakenSoFar (own : Own) (lines : List (List ℕ)) (b : List ℕ) (f : FeedState) (xs : List (ℕ × Item)) (v : Outcome) : Type 0 where
@@ -108,8 +123,14 @@ length-fields : (text : List ℕ) (f : Fields) → SaysFields text f → length 
 length-fields text none h = omega arith
 length-fields text (index i) h = omega arith
 length-fields text (part i b l) h = omega arith
-length-fields text (block i b bytes) h = omega (arith, length-spaced_said h.0 bytes h.2, ap length h.1, length-append (spaced i) (spaced b ++ h.0),
-    length-append (spaced b) h.0, length-append (be32 i ++ be32 b) bytes)
+length-fields text (block i b bytes) h = omega (
+  arith,
+  length-spaced_said h.0 bytes h.2,
+  ap length h.1,
+  length-append (spaced i) (spaced b ++ h.0),
+  length-append (spaced b) h.0,
+  length-append (be32 i ++ be32 b) bytes,
+)
 length-fields text (port p) h = omega arith
 length-fields text (field bits) h = omega (arith, length-spaced_said text bits h)
 length-fields text (extended n bytes) h = omega (arith, length-spaced_said h.0 bytes h.2, ap length h.1, length-append (spaced n) h.0)
@@ -122,8 +143,13 @@ said_whole : (text : List ℕ) (s : Said) → length text < 2 ^ 31 → Says text
 said_whole text keep_alive lt h = omega (arith, number32-be32 0 [] (omega arith))
 said_whole text (known i f) lt h = framed_whole i.number (spell_fields f) (omega (arith, length-fields h.1 f h.4, ap length h.2, length-append h.0 h.1))
 said_whole text (unknown n bytes) lt h =
-    framed_whole n bytes (omega (arith, length-spaced_said h.0 bytes h.4, ap length h.1, length-append (codes "unknown") (spaced n ++ h.0),
-        length-append (spaced n) h.0))
+    framed_whole n bytes (omega (
+      arith,
+      length-spaced_said h.0 bytes h.4,
+      ap length h.1,
+      length-append (codes "unknown") (spaced n ++ h.0),
+      length-append (spaced n) h.0,
+    ))
 
 -- all of the item's bytes are there
 abbrev AllThere : Stage → List ℕ → Type 0
@@ -194,7 +220,7 @@ line_taken own lines b text x out out' f p g item lt named h e is after_is grown
     let size : length p.held ≡ length x = ap length (held ∙ whole) in
     let g_is : g ≡ record { stage = stage_after f.stage (length x) item; held = []; refused = p.refused } =
     after_is ∙ ap (λ (k : ℕ). record { stage = stage_after p.stage k item; held = []; refused = p.refused }) size
-        ∙ ap (λ (t : Stage). record { stage = stage_after t (length x) item; held = []; refused = p.refused }) stage_is in
+    ∙ ap (λ (t : Stage). record { stage = stage_after t (length x) item; held = []; refused = p.refused }) stage_is in
     let steps = after_number f.stage x (length x) item item_is in
     let R : FeedState → Type 0 = λ s. IsPackedTo own (lines ++ text ∷ []) (b ++ x) s in (
       x,
@@ -220,7 +246,7 @@ pub line_refused : (own : Own) (lines : List (List ℕ)) (b text x out out' : Li
     → IsAnswer p (Err r) → g ≡ after p (Err r) → out' ≡ out → IsLineEnd own lines b text g out out' (Some (Reason r.reason))
 line_refused own lines b text x out out' f p g r named h e is after_is same =
     let same_number : number_of g.stage ≡ length lines = ap (λ (s : FeedState). number_of s.stage) (after_is) ∙ ap (λ (s : FeedState). number_of s.stage) e
-        ∙ h.count in
+    ∙ h.count in
     let n = taken f x in
     let stage_is : p.stage ≡ f.stage = ap (λ (s : FeedState). s.stage) e in
     let held : p.held ≡ take n x = ap (λ (s : FeedState). s.held) e ∙ ap (λ (l : List ℕ). l ++ take n x) h.empty in

@@ -1,6 +1,6 @@
 -- What is written of a stream turn by turn.
-use Rattle.std.proofs.Common.{◌≡◌, ℕ, ◌+◌, ◌-◌, ◌^◌, ◌<◌, ◌≤◌, ◌⊎◌, List, [], ◌∷◌, ◌++◌, length, Option, Some, None, Result, Ok, Err, refl, sym, ap, subst,
-    ◌∙◌, arith, inl, inr}
+use Rattle.std.proofs.Common.{◌≡◌, ℕ, ◌+◌, ◌-◌, ◌^◌, ◌<◌, ◌≤◌, ◌⊎◌, List, [], ◌∷◌, ◌++◌, length, Option, Some, None, Result, Ok, Err, refl, sym, ap, subst}
+use Rattle.std.proofs.Common.{◌∙◌, arith, inl, inr}
 use Rattle.std.proofs.lemmas.Bool.{cases_lt}
 use Rattle.std.proofs.lemmas.List.{append-nil, append_assoc, length-append}
 use Rattle.std.proofs.lemmas.Grind.{flat_map-append}
@@ -31,8 +31,8 @@ use Rattle.bt_feed.proofs.Reading.{hand_open}
 use Rattle.std.specs.Prelude.{MatchResult, OnOk}
 use Rattle.bt_jobs.specs.declared.printer.Printer.{Printer}
 use Rattle.bt_text.specs.Lines.{ended_by, ended_as, verdict_line, lines_of}
-use Rattle.bt_jobs.specs.Printed.{texts, text_of, form_of, text_in, Prints, AppendsFront, IsWrittenOut, IsFlushed, MayBeTold, IsAllWritten, IsFrontWritten,
-    Writing, nothing, items_in, checked, prefixed, IsWritten, IsReadTo, IsTurn, verdict_of, all_in}
+use Rattle.bt_jobs.specs.Printed.{texts, text_of, form_of, text_in, Prints, AppendsFront, IsWrittenOut, IsFlushed, MayBeTold, IsAllWritten, IsFrontWritten}
+use Rattle.bt_jobs.specs.Printed.{Writing, nothing, items_in, checked, prefixed, IsWritten, IsReadTo, IsTurn, verdict_of, all_in}
 
 pub on_ok : {T E : Type 0} (r : Result T E) (P Q : Type 0) → (P → Q) → OnOk r P → OnOk r Q
 on_ok (Ok x) P Q f h = f h
@@ -50,7 +50,7 @@ printed p q (x ∷ xs) h =
       λ own.
           let more : text_in q ≡ text_in m ++ texts (form_of p) own xs = rest.1 own ∙ ap (λ (f : Form). text_in m ++ texts f own xs) h.1.0 in
           more ∙ ap (λ (t : List ℕ). t ++ texts (form_of p) own xs) (h.1.1 own) ∙ append_assoc (text_in p) (text_of (form_of p) own x)
-              (texts (form_of p) own xs),
+          (texts (form_of p) own xs),
     )
 
 -- ---- the verdict at the end
@@ -62,8 +62,14 @@ length_by None own b v h =
       | inl lt ↦ omega (arith, ap (λ (w : Outcome). w.start + length w.tail) (h.0 lt))
       | inr le ↦
           let o = h.1 le in
-          omega (arith, ap (λ (w : Outcome). w.start + length w.tail) o.whole, o.messages.start_after, ap length o.parts,
-              length-append (hand o.handshake) o.rest, hand-length o.handshake o.fits)
+          omega (
+            arith,
+            ap (λ (w : Outcome). w.start + length w.tail) o.whole,
+            o.messages.start_after,
+            ap length o.parts,
+            length-append (hand o.handshake) o.rest,
+            hand-length o.handshake o.fits,
+          )
     ]
 
 pub verdict_length : (own : Own) (b : List ℕ) (v : Outcome) → IsVerdict own b v → v.start + length v.tail ≡ length b
@@ -118,9 +124,11 @@ front_of_turn : (own : Own) (b : List ℕ) (xs : List (ℕ × Item)) (f g : Feed
     → (w : Outcome) → IsVerdict own (b ++ (bytes ++ lost)) w → (zs : List (ℕ × Item)) × (w.items ≡ xs ++ zs)
     × AppendsFront held held' (texts (form_of p) own zs)
 front_of_turn own b xs f g left left' held held' p q bytes lost ys v one h front w is =
-    let same : w ≡ with_items xs v = one own (b ++ (bytes ++ lost)) w (with_items xs v) h.limit is (total own b xs f g bytes lost ys v h.before h.pumped) in
-    (ys, ap (λ (u : Outcome). u.items) same ∙ ap (λ (l : List (ℕ × Item)). xs ++ l) h.pumped.items,
-        subst (AppendsFront held held') (text_of_turn own p q ys h.empty h.took) front)
+    let same : w ≡ with_items xs v = one own (b ++ (bytes ++ lost)) w (with_items xs v) h.limit is (total own b xs f g bytes lost ys v h.before h.pumped) in (
+      ys,
+      ap (λ (u : Outcome). u.items) same ∙ ap (λ (l : List (ℕ × Item)). xs ++ l) h.pumped.items,
+      subst (AppendsFront held held') (text_of_turn own p q ys h.empty h.took) front,
+    )
 
 -- where nothing of a turn is written
 pub nothing_of_turn : (own : Own) (form : Form) (b more : List ℕ) (xs : List (ℕ × Item)) (f : FeedState) (held : Option (List ℕ)) → own.limit < 2 ^ 32
@@ -134,9 +142,15 @@ pub goes_on : (own : Own) (b : List ℕ) (xs : List (ℕ × Item)) (f g : FeedSt
     (bytes lost : List ℕ) (ys : List (ℕ × Item)) (v : Outcome) (r : Result (Option Ended) ToolFault)
     → VerdictIsOne → IsPumpedOn own b xs f g left left' p q bytes lost ys v → lost ≡ [] → IsFlushed {T = Option Ended} None (text_in q) held held'
     (text_in s) r → form_of s ≡ form_of q → IsTurn (form_of p) own b xs left left' held held' g s r
-goes_on own b xs f g left left' held held' p q s bytes lost ys v (Ok None) one h none flushed form =
-    (bytes ++ lost, ys, h.consumed, subst (Appends held held') (text_of_turn own p q ys h.empty h.took) flushed.1,
-        read_more own b xs f g bytes lost ys v none h.before h.pumped, form ∙ (printed p q ys h.took).0, flushed.2)
+goes_on own b xs f g left left' held held' p q s bytes lost ys v (Ok None) one h none flushed form = (
+  bytes ++ lost,
+  ys,
+  h.consumed,
+  subst (Appends held held') (text_of_turn own p q ys h.empty h.took) flushed.1,
+  read_more own b xs f g bytes lost ys v none h.before h.pumped,
+  form ∙ (printed p q ys h.took).0,
+  flushed.2,
+)
 goes_on own b xs f g left left' held held' p q s bytes lost ys v (Ok (Some e)) one h none flushed form = absurd (let no : Some e ≡ None = flushed.0 in cc)
 goes_on own b xs f g left left' held held' p q s bytes lost ys v (Err e) one h none flushed form =
     (bytes ++ lost, h.consumed, front_of_turn own b xs f g left left' held held' p q bytes lost ys v one h flushed)
@@ -167,7 +181,7 @@ is_accepted v g number messages n e same is less =
     let a = accepted_by (refusal_at_end v) (v.start + length v.tail) n e in
     let count : messages ≡ v.number - 1 = less ∙ ap (λ (k : ℕ). k - 1) (is ∙ sym same) in
     ap (λ (k : ℕ). Accepted k n) count ∙ ap (λ (k : ℕ). Accepted (v.number - 1) k) a.1
-        ∙ ap (λ (o : Option Refusal). ended_by o v.number (v.start + length v.tail)) (sym a.0)
+    ∙ ap (λ (o : Option Refusal). ended_by o v.number (v.start + length v.tail)) (sym a.0)
 
 pub is_refused : (v : Outcome) (r : Refusal) → verdict_at_end v ≡ Err (finish.Refused r) → Refused r ≡ ended_as v (v.start + length v.tail)
 is_refused v r e = ap (λ (o : Option Refusal). ended_by o v.number (v.start + length v.tail))
@@ -232,9 +246,14 @@ told_end form own left0 left left' held0 held held' f g p q e t n =
     let P : Form → Type 0 = λ x. IsTurn x own t.bytes t.items left left' held held' g q (Ok (Some e)) in
     let m = subst P t.form_is n in
     let v = m.4.0 in
-    let Q : List (ℕ × Item) → Type 0 = λ xs. Appends held0 held' (texts form own xs) in
-    ((t.bytes ++ m.0, Consumes-trans left0 left left' t.bytes m.0 t.consumed m.2,
-        (v, m.4.1, subst Q (sym m.4.2) (joined form own held0 held held' t.items m.1 t.written m.3), m.4.3)), m.6)
+    let Q : List (ℕ × Item) → Type 0 = λ xs. Appends held0 held' (texts form own xs) in (
+      (
+        t.bytes ++ m.0,
+        Consumes-trans left0 left left' t.bytes m.0 t.consumed m.2,
+        (v, m.4.1, subst Q (sym m.4.2) (joined form own held0 held held' t.items m.1 t.written m.3), m.4.3),
+      ),
+      m.6,
+    )
 
 -- known bytes that grew, and then by a front
 pub front_behind : (a b c : Option (List ℕ)) (xs ys : List ℕ) → Appends a b xs → AppendsFront b c ys → AppendsFront a c (xs ++ ys)
@@ -259,7 +278,7 @@ told_fault E form own left0 left left' held0 held held' f g p q e t n =
       λ w is.
           let k = m.2 w is in
           let all : texts form own t.items ++ texts form own k.0 ≡ texts form own w.items = sym (texts_both form own t.items k.0)
-              ∙ ap (texts form own) (sym k.1) in
+          ∙ ap (texts form own) (sym k.1) in
           inl (subst (AppendsFront held0 held') all (front_behind held0 held held' (texts form own t.items) (texts form own k.0) t.written k.2)),
     )
 
@@ -306,13 +325,20 @@ pub all_shown : (form : Form) (E : Type 0) (own : Own) (b text left : List ℕ) 
     (λ _. IsFrontWritten (items_in form own) (all_in form own) own E b held held')
 all_shown form E own b text left held mid held' e (Ok d) lt one a is told f =
     let v = a.0 in
-    let line : text ≡ verdict_of form (ended_as v (length b)) = is ∙ ap (verdict_of form) a.3 in
-    (v, a.1, Appends-trans held mid held' (texts form own v.items) (verdict_of form (ended_as v (length b))) a.2 (subst (Appends mid held') line f.1), f.0
-        ∙ a.3)
+    let line : text ≡ verdict_of form (ended_as v (length b)) = is ∙ ap (verdict_of form) a.3 in (
+      v,
+      a.1,
+      Appends-trans held mid held' (texts form own v.items) (verdict_of form (ended_as v (length b))) a.2 (subst (Appends mid held') line f.1),
+      f.0
+          ∙ a.3,
+    )
 all_shown form E own b text left held mid held' e (Err x) lt one a is told f = λ w isw.
     let here = written_by form own b held mid e lt one a w isw in
-    inr (subst (MayBeTold E) here.1 told, front_behind held mid held' (texts form own w.items) (verdict_of form (ended_as w (length b))) here.0
-        (subst (AppendsFront mid held') (is ∙ ap (verdict_of form) here.1) f))
+    inr (
+      subst (MayBeTold E) here.1 told,
+      front_behind held mid held' (texts form own w.items) (verdict_of form (ended_as w (length b))) here.0
+          (subst (AppendsFront mid held') (is ∙ ap (verdict_of form) here.1) f),
+    )
 
 -- ---- the verdict alone
 

@@ -1,7 +1,7 @@
 -- The result of packing a script: its lines, the bytes that they name one after the other, and the first line that
 -- isn't taken.
-use Rattle.std.specs.Prelude.{◌≡◌, ◌==◌, ◌||◌, ◌⊎◌, ℕ, ◌+◌, ◌-◌, ◌*◌, ◌≤◌, ◌<◌, ⊤, Bool, true, false, List, [], ◌∷◌, ◌++◌, length, Option, Some, Result, Ok,
-    Err, MatchResult}
+use Rattle.std.specs.Prelude.{◌≡◌, ◌==◌, ◌||◌, ◌⊎◌, ℕ, ◌+◌, ◌-◌, ◌*◌, ◌≤◌, ◌<◌, ⊤, Bool, true, false, List, [], ◌∷◌, ◌++◌, length, Option, Some, Result, Ok}
+use Rattle.std.specs.Prelude.{Err, MatchResult}
 use Rattle.std.specs.Io.KnownBytes.{Consumes, Appends}
 use Rattle.std.specs.List.{flat_map}
 use Rattle.bt_wire.specs.declared.context.Own.{Own}
@@ -66,7 +66,7 @@ abbrev pub IsNotTaken : Own → Bool → List ℕ → List ℕ → Outcome → S
 IsNotTaken own first text b v Syntax = (x : List ℕ) → IsNamed own.limit first text x → ⊥
 IsNotTaken own first text b v (Reason reason) =
     (x : List ℕ) × IsNamed own.limit first text x × (w : Outcome) × IsVerdict own (b ++ x) w × (w.items ≡ v.items) × (r : Refusal) × (w.refusal ≡ Some r)
-        × (reason ≡ r.reason)
+    × (reason ≡ r.reason)
 
 -- the first of the lines that isn't taken, after those that name b
 pub record IsStop (own : Own) (all : List (List ℕ)) (b : List ℕ) (number : ℕ) (reason : ScriptReason) : Type 0 where
@@ -92,7 +92,7 @@ pub data IsPacked (own : Own) (all : List (List ℕ)) (b : List ℕ) (e : PackEn
 abbrev pub IsEndedLine : ℕ → List ℕ → ℕ → Type 0
 IsEndedLine limit text number =
     (lines : List (List ℕ)) × (rest : List ℕ) × IsSplit text lines rest
-        × ((number ≤ length lines) ⊎ ((number ≡ length lines + 1) × (2 * limit + 256 < length rest)))
+    × ((number ≤ length lines) ⊎ ((number ≡ length lines + 1) × (2 * limit + 256 < length rest)))
 
 -- what the end of the text alone decides is answered only there
 abbrev pub IsTimely : ℕ → List ℕ → Type 0 → PackEnd → Type 0

@@ -93,7 +93,7 @@ IsAllWritten w own b held held' e = (v : Outcome) × IsVerdict own b v × Append
 abbrev pub IsFrontWritten : Writing → Writing → Own → Type 0 → List ℕ → Option (List ℕ) → Option (List ℕ) → Type 0
 IsFrontWritten early all own AtEnd b held held' =
     (v : Outcome) → IsVerdict own b v → AppendsFront held held' (early v (length b))
-        ⊎ (MayBeTold AtEnd (ended_as v (length b)) × AppendsFront held held' (all v (length b)))
+    ⊎ (MayBeTold AtEnd (ended_as v (length b)) × AppendsFront held held' (all v (length b)))
 
 -- What was read is b: all of its text is written, or at a fault a prefix of that, whose verdict isn't early. AtEnd says that
 -- the end was read.
@@ -150,10 +150,10 @@ abbrev pub IsTurn : Form → Own → List ℕ → List (ℕ × Item) → Option 
     → Result (Option Ended) ToolFault → Type 0
 IsTurn f own b xs left left' held held' g p (Ok None) =
     (more : List ℕ) × (ys : List (ℕ × Item)) × Consumes left left' more × Appends held held' (texts f own ys) × IsReadTo own (b ++ more) (xs ++ ys) g
-        × (form_of p ≡ f) × (text_in p ≡ [])
+    × (form_of p ≡ f) × (text_in p ≡ [])
 IsTurn f own b xs left left' held held' g p (Ok (Some e)) =
     (more : List ℕ) × (ys : List (ℕ × Item)) × Consumes left left' more × Appends held held' (texts f own ys)
     × ((v : Outcome) × IsVerdict own (b ++ more) v × (v.items ≡ xs ++ ys) × (e ≡ ended_as v (length (b ++ more)))) × (form_of p ≡ f) × (text_in p ≡ [])
 IsTurn f own b xs left left' held held' g p (Err e) =
     (more : List ℕ) × Consumes left left' more × ((v : Outcome) → IsVerdict own (b ++ more) v → (ys : List (ℕ × Item)) × (v.items ≡ xs ++ ys)
-        × AppendsFront held held' (texts f own ys))
+    × AppendsFront held held' (texts f own ys))

@@ -88,7 +88,7 @@ metadata_fields kinds.Malformed t rest = kind_field (codes "metadata-malformed")
 abbrev pub announced_fields : Tree → List Token
 announced_fields t =
     a_field (codes "metadata_size") (number_or_null (size_of t)) ++ (a_field (codes "ut_metadata") (number_or_null (told_id t))
-        ++ a_field (codes "client") (text_or_null (client_in t)))
+    ++ a_field (codes "client") (text_or_null (client_in t)))
 
 abbrev pub ext_fields : Ext → List Token
 ext_fields (ext.Handshake dict rest) = kind_field (codes "ext-handshake") ++ (size_fields (tree_of dict) rest ++ announced_fields (tree_of dict))
@@ -130,7 +130,7 @@ abbrev pub verdict_fields : Ended → List Token
 verdict_fields (Accepted messages bytes) = a_text (codes "verdict") (codes "ok") ++ (a_number (codes "messages") messages ++ a_number (codes "bytes") bytes)
 verdict_fields (Refused r) =
     a_text (codes "verdict") (codes "refused") ++ (a_number (codes "message") r.message
-        ++ (a_number (codes "offset") r.at ++ a_text (codes "reason") (reason_name r.reason)))
+    ++ (a_number (codes "offset") r.at ++ a_text (codes "reason") (reason_name r.reason)))
 
 abbrev pub verdict_line : Ended → List ℕ
 verdict_line e = object_line (verdict_fields e)

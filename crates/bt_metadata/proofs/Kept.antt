@@ -1,14 +1,15 @@
 -- What each call leaves of an assembly is one.
-use Rattle.std.proofs.Common.{◌≡◌, ℕ, zero, suc, ◌+◌, ◌<◌, ◌≤◌, ◌⊎◌, inl, inr, Bool, true, false, cond, leb, ltb, if◌then◌else◌, List, [], ◌∷◌, length, set,
-    map, replicate, count_by, fold, position, eqb, Option, Some, None, slice_get, refl, sym, ap, subst, ◌∙◌, arith, add-zero}
+use Rattle.std.proofs.Common.{◌≡◌, ℕ, zero, suc, ◌+◌, ◌<◌, ◌≤◌, ◌⊎◌, inl, inr, Bool, true, false, cond, leb, ltb, if◌then◌else◌, List, [], ◌∷◌, length, set}
+use Rattle.std.proofs.Common.{map, replicate, count_by, fold, position, eqb, Option, Some, None, slice_get, refl, sym, ap, subst, ◌∙◌, arith, add-zero}
 use Rattle.std.proofs.lemmas.Bool.{leb-false, ltb-true}
 use Rattle.std.proofs.lemmas.Bool.Decides.{nat_tests}
 use Rattle.std.proofs.lemmas.List.{length-set, length-replicate, length-map}
 use Rattle.std.proofs.lemmas.List.Sums.{sum_by-set}
 use Rattle.std.proofs.lemmas.List.Quantifiers.{position-Some}
 use Rattle.bt_ext.specs.Metadata.{block_count, block_len}
-use Rattle.bt_metadata.specs.Assemblies.{Slot, Lacking, Asked, Rejected, Held, AssemblyState, is_asked, is_lacking, started, ask_of, asking, with_slots,
-    with_data, with_reject, unless_wrong, or_else, data_error, piece_error, size_error, is_asked_in, kept, disconnected}
+use Rattle.bt_metadata.specs.Assemblies.{Slot, Lacking, Asked, Rejected, Held, AssemblyState, is_asked, is_lacking, started, ask_of, asking, with_slots}
+use Rattle.bt_metadata.specs.Assemblies.{with_data, with_reject, unless_wrong, or_else, data_error, piece_error, size_error, is_asked_in, kept}
+use Rattle.bt_metadata.specs.Assemblies.{disconnected}
 use Rattle.bt_metadata.specs.Blocks.{max_metadata, window}
 use Rattle.bt_metadata.specs.Sound.{IsAssembly}
 use Rattle.bt_metadata.specs.declared.assembly.BlockError.{BlockError}

@@ -1,6 +1,6 @@
 -- The laws of served blocks.
-use Rattle.std.proofs.Common.{◌≡◌, ℕ, zero, suc, ◌+◌, ◌*◌, ◌<◌, ◌≤◌, ◌==◌, ◌⊎◌, inl, inr, true, if◌then◌else◌, List, [], ◌∷◌, ◌++◌, length, take, drop, set,
-    min, Option, Some, None, slice_get, refl, sym, ap, subst, ◌∙◌, arith, length-take, length-drop}
+use Rattle.std.proofs.Common.{◌≡◌, ℕ, zero, suc, ◌+◌, ◌*◌, ◌<◌, ◌≤◌, ◌==◌, ◌⊎◌, inl, inr, true, if◌then◌else◌, List, [], ◌∷◌, ◌++◌, length, take, drop, set}
+use Rattle.std.proofs.Common.{min, Option, Some, None, slice_get, refl, sym, ap, subst, ◌∙◌, arith, length-take, length-drop}
 use Rattle.std.specs.List.{list_all}
 use Rattle.std.proofs.lemmas.Bool.{eq-eqb, lt-leb}
 use Rattle.std.proofs.lemmas.Grind.{common_steps}
@@ -9,8 +9,8 @@ use Rattle.bt_ext.specs.Metadata.{block_count, block_len}
 use Rattle.bt_metadata.specs.declared.assembly.BlockError.{BlockError}
 use Rattle.bt_metadata.specs.declared.assembly.BlockError.TheVariants.{PieceRange, NotAsked, WrongTotal, WrongSize}
 use Rattle.bt_metadata.specs.Blocks.{block_size, block}
-use Rattle.bt_metadata.specs.Assemblies.{Slot, Lacking, Asked, Rejected, Held, AssemblyState, is_held, is_asked_in, joined, data_error, piece_error,
-    size_error, or_else, unless_wrong, with_slots}
+use Rattle.bt_metadata.specs.Assemblies.{Slot, Lacking, Asked, Rejected, Held, AssemblyState, is_held, is_asked_in, joined, data_error, piece_error}
+use Rattle.bt_metadata.specs.Assemblies.{size_error, or_else, unless_wrong, with_slots}
 use Rattle.bt_metadata.specs.Laws.{HoldsBlocksOf, WholeIsServed, ServedIsTaken, ServedIsHeld}
 use Rattle.bt_metadata.proofs.Lengths.{count_covers, block_len_is}
 

@@ -1,7 +1,7 @@
 -- The slots of statuses and bytes.
-use Rattle.std.proofs.Common.{◌≡◌, ℕ, zero, suc, ◌+◌, ◌-◌, ◌*◌, ◌<◌, ◌≤◌, ◌⊎◌, inl, inr, true, false, cond, List, [], ◌∷◌, ◌++◌, length, take, drop, set,
-    Some, None, option_and_then, slice_get, map, replicate, count_by, refl, sym, ap, ◌∙◌, arith, append_assoc, length-append, length-take, length-take-le,
-    length-drop, min, add_assoc, position, fold}
+use Rattle.std.proofs.Common.{◌≡◌, ℕ, zero, suc, ◌+◌, ◌-◌, ◌*◌, ◌<◌, ◌≤◌, ◌⊎◌, inl, inr, true, false, cond, List, [], ◌∷◌, ◌++◌, length, take, drop, set}
+use Rattle.std.proofs.Common.{Some, None, option_and_then, slice_get, map, replicate, count_by, refl, sym, ap, ◌∙◌, arith, append_assoc, length-append}
+use Rattle.std.proofs.Common.{length-take, length-take-le, length-drop, min, add_assoc, position, fold}
 use Rattle.std.specs.List.{list_all, position_or_len}
 use Rattle.std.proofs.lemmas.List.{append-nil, take-append-drop, drop-drop}
 use Rattle.std.proofs.Math.Seq.{take-append_seam, drop-append_seam, drop-length}
@@ -111,8 +111,13 @@ abbrev pub paste : List ℕ → ℕ → List ℕ → List ℕ
 paste d at b = take at d ++ b ++ drop (at + length b) d
 
 pub length-paste : (d b : List ℕ) (at : ℕ) → at + length b ≤ length d → length (paste d at b) ≡ length d
-length-paste d b at h = omega (arith, length-append (take at d ++ b) (drop (at + length b) d), length-append (take at d) b,
-    length-take-le at d (omega arith), length-drop (at + length b) d)
+length-paste d b at h = omega (
+  arith,
+  length-append (take at d ++ b) (drop (at + length b) d),
+  length-append (take at d) b,
+  length-take-le at d (omega arith),
+  length-drop (at + length b) d,
+)
 
 take_add : (m n : ℕ) (l : List ℕ) → take (m + n) l ≡ take m l ++ take n (drop m l)
 take_add zero n l = grind (arith, common_steps)
@@ -149,10 +154,10 @@ later_at d b k m =
     let l : length (take block_size d) ≡ block_size = length-take-le block_size d (omega arith) in
     let t : take (block_size + a) d ≡ take block_size d ++ take a (drop block_size d) = take_add block_size a d in
     let z : drop (block_size + a + length b) d ≡ drop (a + length b) (drop block_size d) = ap (λ n. drop n d) (add_assoc block_size a (length b))
-        ∙ sym (drop-drop (a + length b) block_size d) in
+    ∙ sym (drop-drop (a + length b) block_size d) in
     let p : paste d (block_size * suc k) b ≡ take block_size d ++ paste (drop block_size d) a b =
     ap (λ n. take n d ++ b ++ drop (n + length b) d) e ∙ ap (λ x. x ++ b ++ drop (block_size + a + length b) d) t
-        ∙ ap (λ x. (take block_size d ++ take a (drop block_size d)) ++ b ++ x) z
+    ∙ ap (λ x. (take block_size d ++ take a (drop block_size d)) ++ b ++ x) z
     ∙ ap (λ x. x ++ drop (a + length b) (drop block_size d)) (append_assoc (take block_size d) (take a (drop block_size d)) b)
     ∙ append_assoc (take block_size d) (take a (drop block_size d) ++ b) (drop (a + length b) (drop block_size d)) in (
       ap (take block_size) p ∙ ap (λ n. take n (take block_size d ++ paste (drop block_size d) a b)) (sym l)
@@ -169,7 +174,7 @@ hold-slots (s ∷ ss) d b zero l m e =
     let f = front_at d b (omega arith) (cases_lt (length b) block_size) in
     let z : 0 + length b ≡ length b = omega arith in
     ap (λ n. Held (take block_size (b ++ drop n d)) ∷ slots_of ss (drop block_size (b ++ drop n d))) z
-        ∙ ap (λ x. Held x ∷ slots_of ss (drop block_size (b ++ drop (length b) d))) f.0 ∙ ap (λ x. Held b ∷ slots_of ss x) f.1
+    ∙ ap (λ x. Held x ∷ slots_of ss (drop block_size (b ++ drop (length b) d))) f.0 ∙ ap (λ x. Held b ∷ slots_of ss x) f.1
 hold-slots (s ∷ ss) d b (suc k) l m e =
     let f = later_at d b k m in
     let i = hold-slots ss (drop block_size d) b k (omega arith) (omega (arith, length-drop block_size d)) (omega (arith, length-drop block_size d)) in

@@ -1,6 +1,6 @@
 -- The states that statuses and bytes stand for.
-use Rattle.std.proofs.Common.{◌≡◌, ℕ, ◌-◌, ◌*◌, ◌<◌, ◌==◌, if◌then◌else◌, Option, Some, None, List, length, map, replicate, set, count_by, position, nat_lt,
-    min, refl, sym, ap, ◌∙◌, arith}
+use Rattle.std.proofs.Common.{◌≡◌, ℕ, ◌-◌, ◌*◌, ◌<◌, ◌==◌, if◌then◌else◌, Option, Some, None, List, length, map, replicate, set, count_by, position, nat_lt}
+use Rattle.std.proofs.Common.{min, refl, sym, ap, ◌∙◌, arith}
 use Rattle.std.proofs.lemmas.Bool.{ne_eqb, eq-eqb}
 use Rattle.std.proofs.lemmas.List.{length-replicate}
 use Rattle.bt_ext.specs.Metadata.{block_count, block_len}
@@ -9,11 +9,11 @@ use Rattle.bt_metadata.specs.declared.assembly.BlockError.TheVariants.{WrongTota
 use Rattle.bt_metadata.specs.declared.assembly.Status.{Status}
 use Rattle.bt_metadata.specs.declared.assembly.Status.TheVariants as status
 use Rattle.bt_metadata.specs.Blocks.{window}
-use Rattle.bt_metadata.specs.Assemblies.{Slot, Asked, Rejected, Held, is_lacking, with_slots, started, emptied, disconnected, piece_error, size_error,
-    data_error, or_else, unless_wrong, with_reject, with_data, ask_of, asking}
+use Rattle.bt_metadata.specs.Assemblies.{Slot, Asked, Rejected, Held, is_lacking, with_slots, started, emptied, disconnected, piece_error, size_error}
+use Rattle.bt_metadata.specs.Assemblies.{data_error, or_else, unless_wrong, with_reject, with_data, ask_of, asking}
 use Rattle.bt_metadata.specs.Sound.{state_of, slots_of, kept_status, error_at, lacks, asks}
-use Rattle.bt_metadata.proofs.Slots.{length-slots, kept-slots, lacking-slots, asks_at-slots, count_asked-slots, first_lacking-slots, set-slots, hold-slots,
-    paste, length-paste}
+use Rattle.bt_metadata.proofs.Slots.{length-slots, kept-slots, lacking-slots, asks_at-slots, count_asked-slots, first_lacking-slots, set-slots, hold-slots}
+use Rattle.bt_metadata.proofs.Slots.{paste, length-paste}
 use Rattle.bt_metadata.proofs.Lengths.{block_starts}
 
 pub disconnected_is : (h d : List ℕ) (ss : List Status) → state_of h d (map kept_status ss) ≡ disconnected (state_of h d ss)
@@ -30,7 +30,7 @@ pub emptied_is : (h d : List ℕ) (ss : List Status) → length ss ≡ block_cou
     ≡ emptied (state_of h d ss)
 emptied_is h d ss c =
     ap (λ m. state_of h d (replicate m status.Lacking)) c ∙ ap (λ (x : List Slot). with_slots (started h (length d)) x)
-        (lacking-slots (block_count (length d)) d)
+    (lacking-slots (block_count (length d)) d)
 
 -- ---- what is wrong
 
@@ -92,7 +92,7 @@ not_rejected h d ss piece e r =
 pub held_is : (h d b : List ℕ) (ss : List Status) (piece total : ℕ) → piece < length ss → length ss ≡ block_count (length d) → length b
     ≡ min 16384 (length d - 16384 * piece) →
     data_error (state_of h d ss) piece total b ≡ None → state_of h (paste d (16384 * piece) b) (set ss piece status.Held)
-        ≡ with_data (state_of h d ss) piece total b
+    ≡ with_data (state_of h d ss) piece total b
 held_is h d b ss piece total l c n r =
     let a = state_of h d ss in
     let s : 16384 * piece < length d = block_starts (length d) piece (rw (← c) l) in

@@ -1,6 +1,6 @@
 -- Metadata that is put together from its blocks.
-use Rattle.std.specs.Prelude.{◌≡◌, ℕ, ◌==◌, nat_le, nat_lt, Bool, true, false, if◌then◌else◌, List, [], ◌∷◌, ◌++◌, length, map, replicate, count_by,
-    slice_set, slice_get, position, Option, Some, None, option_and_then}
+use Rattle.std.specs.Prelude.{◌≡◌, ℕ, ◌==◌, nat_le, nat_lt, Bool, true, false, if◌then◌else◌, List, [], ◌∷◌, ◌++◌, length, map, replicate, count_by}
+use Rattle.std.specs.Prelude.{slice_set, slice_get, position, Option, Some, None, option_and_then}
 use Rattle.std.specs.List.{list_all}
 use Rattle.sha1.specs.Sha1.{sha1}
 use Rattle.bt_ext.specs.Metadata.{block_count, block_len}

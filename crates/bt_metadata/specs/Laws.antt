@@ -20,7 +20,7 @@ WholeIsServed =
 abbrev pub ServedIsTaken : Type 0
 ServedIsTaken =
     (metadata : List ℕ) (a : AssemblyState) (piece total : ℕ) (b : Bor (List ℕ)) → IsAssembly a → a.size ≡ length metadata
-        → IsReply metadata piece (Data total b) →
+    → IsReply metadata piece (Data total b) →
     is_asked_in (slice_get a.slots piece) ≡ true → data_error a piece total b.now ≡ None
 
 -- and holds the metadata's blocks alone from then on

@@ -24,8 +24,14 @@ use Rattle.bt_net.specs.declared.looped.LoopEnd.TheVariants.{Fetched, Unfetched,
 -- ---- the ends
 
 abbrev pub own_by : Rules → ℕ → List ℕ → ℕ → Own
-own_by rules limit hash id = record { reserved = record { 0 = 1048581 }; info_hash = Some hash; pieces = None; reg = registered (Some id); rules = rules;
-    limit = limit }
+own_by rules limit hash id = record {
+  reserved = record { 0 = 1048581 };
+  info_hash = Some hash;
+  pieces = None;
+  reg = registered (Some id);
+  rules = rules;
+  limit = limit;
+}
 
 abbrev pub handshake_by : List ℕ → List ℕ → Handshake
 handshake_by hash peer_id = record { reserved = record { 0 = 1048581 }; info_hash = hash; peer_id = peer_id }
@@ -125,7 +131,7 @@ IsPrinted b r held held' (Ok Fetched) = (metadata : List ℕ) × (metadata_of r.
 IsPrinted b r held held' (Ok Unfetched) = Appends held held' unfetched_line
 IsPrinted b r held held' (Err fault.Write) =
     (lines : List ℕ) × AppendsPrefix held held' lines × (((metadata : List ℕ) × (metadata_of r.end.part ≡ Some metadata)
-        × (lines ≡ fetched_lines metadata b.left b.right)) ⊎ (lines ≡ unfetched_line))
+    × (lines ≡ fetched_lines metadata b.left b.right)) ⊎ (lines ≡ unfetched_line))
 IsPrinted b r held held' (Err fault.Memory) = held' ≡ held
 IsPrinted b r held held' other = ⊥
 

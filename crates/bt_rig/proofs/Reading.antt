@@ -9,8 +9,8 @@ use Rattle.bt_rig.specs.declared.entry.Entry.{Entry}
 use Rattle.bt_rig.specs.declared.entry.Entry.TheVariants.{Set, Do}
 use Rattle.bt_rig.specs.declared.entry.Setting.{Setting}
 use Rattle.bt_rig.specs.Entries.{Says, IsReading}
-use Rattle.bt_rig.specs.Scripts.{Draft, start, is_skipped, with_side, with_step, Takes, skips, sets, does, AreTaken, IsTaken, AreWhole, ended_lines, IsCut,
-    IsTail, HasLine, IsScript, IsWrongAt}
+use Rattle.bt_rig.specs.Scripts.{Draft, start, is_skipped, with_side, with_step, Takes, skips, sets, does, AreTaken, IsTaken, AreWhole, ended_lines, IsCut}
+use Rattle.bt_rig.specs.Scripts.{IsTail, HasLine, IsScript, IsWrongAt}
 
 -- ---- a line
 
@@ -40,7 +40,7 @@ ended_more : (lines : List (List ℕ)) (line rest : List ℕ) → ended_lines (l
 ended_more [] line rest = simp append_assoc
 ended_more (l ∷ ls) line rest =
     append_assoc (l ++ 10 ∷ []) (ended_lines (ls ++ line ∷ [])) rest ∙ ap (λ (x : List ℕ). (l ++ 10 ∷ []) ++ x) (ended_more ls line rest)
-        ∙ sym (append_assoc (l ++ 10 ∷ []) (ended_lines ls) (line ++ 10 ∷ rest))
+    ∙ sym (append_assoc (l ++ 10 ∷ []) (ended_lines ls) (line ++ 10 ∷ rest))
 
 -- these lines are read, and the rest isn't
 pub record IsReadTo (text rest : List ℕ) (number : ℕ) (d : Draft) : Type 0 where
@@ -81,14 +81,26 @@ wrong_line text rest line after number d h cut wrong = record {
 }
 
 last_line : (text rest : List ℕ) (number : ℕ) (d : Draft) (h : IsReadTo text rest number d) → has_feed rest ≡ false → HasLine text h.before rest []
-last_line text rest number d h none = record { parts = h.parts ∙ ap (λ (x : List ℕ). ended_lines h.before ++ x) (sym (append-nil rest)); whole = h.whole;
-    last = none; ends = tt }
+last_line text rest number d h none = record {
+  parts = h.parts ∙ ap (λ (x : List ℕ). ended_lines h.before ++ x) (sym (append-nil rest));
+  whole = h.whole;
+  last = none;
+  ends = tt;
+}
 
 pub wrong_last : (text rest : List ℕ) (number : ℕ) (d : Draft) → IsReadTo text rest number d → IsCut rest None → ((next : Draft) → Takes d rest next → ⊥)
     → IsWrongAt text number
 wrong_last text rest number d h none wrong =
-    record { before = h.before; line = rest; tail = []; lines = last_line text rest number d h none; draft = d; taken = h.taken; wrong = wrong;
-        count = h.count }
+    record {
+      before = h.before;
+      line = rest;
+      tail = [];
+      lines = last_line text rest number d h none;
+      draft = d;
+      taken = h.taken;
+      wrong = wrong;
+      count = h.count;
+    }
 
 pub all_read : (text rest : List ℕ) (number : ℕ) (d next : Draft) → IsReadTo text rest number d → IsCut rest None → Takes d rest next → IsScript text next
 all_read text rest number d next h none taken =

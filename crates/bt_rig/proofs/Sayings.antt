@@ -1,6 +1,6 @@
 -- The message of a line, and what a line says.
-use Rattle.std.proofs.Common.{◌≡◌, ℕ, ◌<◌, ◌≤◌, ◌⊎◌, Bool, true, false, List, [], ◌∷◌, ◌++◌, length, Option, Some, None, Result, Ok, Err, refl, sym, ap,
-    subst, ◌∙◌, arith, inl, inr}
+use Rattle.std.proofs.Common.{◌≡◌, ℕ, ◌<◌, ◌≤◌, ◌⊎◌, Bool, true, false, List, [], ◌∷◌, ◌++◌, length, Option, Some, None, Result, Ok, Err, refl, sym, ap}
+use Rattle.std.proofs.Common.{subst, ◌∙◌, arith, inl, inr}
 use Rattle.std.specs.Prelude.{IfOk, codes, option_map, option_and_then, if◌then◌else◌}
 use Rattle.std.specs.Str.{bytes_eq}
 use Rattle.std.proofs.lemmas.List.{append-nil}
@@ -19,8 +19,8 @@ use Rattle.bt_text.specs.Script.{IsLine, IsAnswer}
 use Rattle.bt_text.specs.ScriptLaws.{LineIsOne}
 use Rattle.bt_rig.specs.declared.entry.Entry.{Entry}
 use Rattle.bt_rig.specs.declared.entry.Entry.TheVariants.{Set, Do}
-use Rattle.bt_rig.specs.Entries.{lenient, IsMessage, IsMessageReading, IsSpelledBy, Says, IsReading, side_of, sided_of, delivery_of, setting_in, entry_by,
-    entry_in, cut_of, said_in}
+use Rattle.bt_rig.specs.Entries.{lenient, IsMessage, IsMessageReading, IsSpelledBy, Says, IsReading, side_of, sided_of, delivery_of, setting_in, entry_by}
+use Rattle.bt_rig.specs.Entries.{entry_in, cut_of, said_in}
 
 -- ---- the message of bytes
 

@@ -30,7 +30,7 @@ pub items_more : (xs : List Item) (i at next : ℕ) (x : Item) (all text more : 
 items_more xs i at next x all text more lt is place grown h =
     let left = drop (i + 1) xs in
     ap (λ (t : List ℕ). t ++ item_lines next left) grown ∙ ap (λ (n : ℕ). (text ++ (decimal at ++ (codes " " ++ (item_words x ++ codes "\n"))))
-        ++ item_lines n left) place
+    ++ item_lines n left) place
     ∙ line_behind text (decimal at) (codes " ") (item_words x) (codes "\n") (item_lines (capped (at + size x)) left)
     ∙ ap (λ (l : List Item). text ++ item_lines at l) (sym (next_of xs i x lt is)) ∙ h
 
@@ -43,7 +43,7 @@ pub texts_more : {X : Type 0} (f : X → List ℕ) (xs : List X) (i : ℕ) (x : 
     → more ++ flat_map f (drop (i + 1) xs) ≡ all
 texts_more f xs i x all text more lt is grown h =
     ap (λ (t : List ℕ). t ++ flat_map f (drop (i + 1) xs)) grown ∙ append_assoc text (f x) (flat_map f (drop (i + 1) xs))
-        ∙ ap (λ l. text ++ flat_map f l) (sym (next_of xs i x lt is)) ∙ h
+    ∙ ap (λ l. text ++ flat_map f l) (sym (next_of xs i x lt is)) ∙ h
 
 pub texts_end : {X : Type 0} (f : X → List ℕ) (xs : List X) (i : ℕ) (all text : List ℕ) → length xs ≤ i → text ++ flat_map f (drop i xs) ≡ all → text ≡ all
 texts_end f xs i all text le h = sym (append-nil text) ∙ ap (λ l. text ++ flat_map f l) (sym (drop_all i xs le)) ∙ h
@@ -75,4 +75,4 @@ pub connections_more : (xs : List Connection) (i : ℕ) (x : Connection) (all te
 connections_more xs i x all text more lt is grown h =
     let left = connections_lines (i + 1 + 1) (drop (i + 1) xs) in
     ap (λ (t : List ℕ). t ++ left) grown ∙ append_assoc text (connection_lines (i + 1) x) left
-        ∙ ap (λ (l : List Connection). text ++ connections_lines (i + 1) l) (sym (next_of xs i x lt is)) ∙ h
+    ∙ ap (λ (l : List Connection). text ++ connections_lines (i + 1) l) (sym (next_of xs i x lt is)) ∙ h

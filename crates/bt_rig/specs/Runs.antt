@@ -101,7 +101,7 @@ IsTextRun text held held' Unwritten r = MatchResult r (IsEnd text held held') (I
 abbrev pub IsRigRun : Option (List ℕ) → Option (List ℕ) → Option (List ℕ) → Option (List ℕ) → Type 0 → Type 0 → Type 0 → Result RigEnd ToolFault → Type 0
 IsRigRun left left' held held' AtEnd Unread Unwritten r =
     (text : List ℕ) × Consumes left left' text × MatchResult r (λ e. IsEnd text held held' e × IsTimely AtEnd e)
-        (λ f. IsFault text held held' Unread Unwritten f)
+    (λ f. IsFault text held held' Unread Unwritten f)
 
 -- ---- what standard error gets
 

@@ -1,13 +1,13 @@
 -- An assembly that holds blocks of one metadata alone stays such a one, whatever is done to it with that metadata's blocks.
-use Rattle.std.proofs.Common.{◌≡◌, ℕ, zero, suc, ◌+◌, ◌<◌, ◌≤◌, ◌⊎◌, inl, inr, Bool, true, false, cond, leb, ltb, if◌then◌else◌, List, [], ◌∷◌, length, set,
-    map, replicate, count_by, fold, position, Option, Some, None, slice_get, refl, sym, ap, ◌∙◌, arith, add-zero}
+use Rattle.std.proofs.Common.{◌≡◌, ℕ, zero, suc, ◌+◌, ◌<◌, ◌≤◌, ◌⊎◌, inl, inr, Bool, true, false, cond, leb, ltb, if◌then◌else◌, List, [], ◌∷◌, length, set}
+use Rattle.std.proofs.Common.{map, replicate, count_by, fold, position, Option, Some, None, slice_get, refl, sym, ap, ◌∙◌, arith, add-zero}
 use Rattle.std.proofs.lemmas.Bool.{leb-false, ltb-true}
 use Rattle.std.proofs.lemmas.List.{length-set, length-replicate, length-map}
 use Rattle.std.proofs.lemmas.List.Sums.{sum_by-set}
 use Rattle.std.proofs.lemmas.List.Quantifiers.{position-Some}
 use Rattle.bt_ext.specs.Metadata.{block_count, block_len}
-use Rattle.bt_metadata.specs.Assemblies.{Slot, Lacking, Asked, Rejected, Held, AssemblyState, is_asked, is_lacking, started, ask_of, asking, with_slots,
-    with_data, with_reject, unless_wrong, data_error, piece_error, is_asked_in, kept, disconnected}
+use Rattle.bt_metadata.specs.Assemblies.{Slot, Lacking, Asked, Rejected, Held, AssemblyState, is_asked, is_lacking, started, ask_of, asking, with_slots}
+use Rattle.bt_metadata.specs.Assemblies.{with_data, with_reject, unless_wrong, data_error, piece_error, is_asked_in, kept, disconnected}
 use Rattle.bt_metadata.specs.Blocks.{block, window}
 use Rattle.bt_metadata.specs.declared.assembly.BlockError.{BlockError}
 use Rattle.bt_metadata.specs.declared.assembly.BlockError.TheVariants.{PieceRange, NotAsked}
@@ -90,8 +90,12 @@ piece_within ss k false o e h = leb-false (length ss) k e
 pub reject_fetch : (metadata : List ℕ) (a : AssemblyState) (k : ℕ) → IsFetch metadata a → IsFetch metadata (with_reject a k)
 reject_fetch metadata a k f =
     unless_fetch metadata a (with_slots a (set a.slots k Rejected)) (piece_error a k) f
-    (λ none. changed metadata a k Rejected f (omega (arith, slot_count metadata a f, piece_within a.slots k (leb (length a.slots) k)
-        (if is_asked_in (slice_get a.slots k) then None else Some NotAsked) refl none)) (omega (arith, f.is.asked)) (λ b same. absurd cc))
+    (λ none. changed metadata a k Rejected f (omega (
+      arith,
+      slot_count metadata a f,
+      piece_within a.slots k (leb (length a.slots) k)
+          (if is_asked_in (slice_get a.slots k) then None else Some NotAsked) refl none,
+    )) (omega (arith, f.is.asked)) (λ b same. absurd cc))
 
 -- ---- an assembly that starts, or starts over
 

@@ -32,7 +32,7 @@ slot_more k zero (s ∷ ss) =
 slot_more k (suc i) (s ∷ ss) =
     let e : suc k + i ≡ k + suc i = omega arith in
     ap (λ (xs : List (ℕ × List ℕ)). numbered k (block_in s) ++ xs) (slot_more (suc k) i ss
-        ∙ ap (λ (n : ℕ). blocks_from (suc k) (take i ss) ++ numbered n (option_and_then block_in (slice_get ss i))) e)
+    ∙ ap (λ (n : ℕ). blocks_from (suc k) (take i ss) ++ numbered n (option_and_then block_in (slice_get ss i))) e)
     ∙ sym (append_assoc (numbered k (block_in s)) (blocks_from (suc k) (take i ss)) (numbered (k + suc i) (option_and_then block_in (slice_get ss i))))
 
 pub block_more : (i : ℕ) (p : Part) → blocks_below (i + 1) p ≡ blocks_below i p ++ numbered i (fetched_block p i)
@@ -43,7 +43,7 @@ block_more i (Fetching a) =
     let e : 0 + i ≡ i = omega arith in
     let one : i + 1 ≡ suc i = omega arith in
     ap (λ (n : ℕ). blocks_from 0 (take n a.slots)) one ∙ slot_more 0 i a.slots
-        ∙ ap (λ (n : ℕ). blocks_from 0 (take i a.slots) ++ numbered n (option_and_then block_in (slice_get a.slots i))) e
+    ∙ ap (λ (n : ℕ). blocks_from 0 (take i a.slots) ++ numbered n (option_and_then block_in (slice_get a.slots i))) e
 block_more i (Fetched metadata) = refl
 
 -- no more than 4,096

@@ -34,21 +34,41 @@ fetching = unopened (own (Some 9)) (hand (own (Some 9))) announce.Silent 8 Await
 abbrev steps : List Step
 steps =
     step.Deliver Right 68 ∷ step.Turn Right ∷ step.Deliver Left 98 ∷ step.Turn Left ∷ step.Turn Left ∷ step.Deliver Right 49 ∷ step.Turn
-        Right ∷ step.Deliver Left 31 ∷ step.Turn Left ∷ step.Deliver Right 20 ∷ step.Reset
+    Right ∷ step.Deliver Left 31 ∷ step.Turn Left ∷ step.Deliver Right 20 ∷ step.Reset
     ∷ step.Deliver Right 68 ∷ step.Turn Right ∷ step.Deliver Left 98 ∷ step.Turn Left ∷ step.Turn Left ∷ step.Deliver Right 49 ∷ step.Turn
-        Right ∷ step.Deliver Left 31 ∷ step.Turn Left ∷ step.Deliver Right 50 ∷ step.Turn Right ∷ []
+    Right ∷ step.Deliver Left 31 ∷ step.Turn Left ∷ step.Deliver Right 50 ∷ step.Turn Right ∷ []
 
 abbrev outcomes : List Outcome
 outcomes =
     outcome.Delivered 68 ∷ outcome.Handled ∷ outcome.Delivered 98 ∷ outcome.Handled ∷ outcome.Handled ∷ outcome.Delivered
-        49 ∷ outcome.Handled ∷ outcome.Delivered 31 ∷ outcome.Handled ∷ outcome.Delivered 20 ∷ outcome.Reset
+    49 ∷ outcome.Handled ∷ outcome.Delivered 31 ∷ outcome.Handled ∷ outcome.Delivered 20 ∷ outcome.Reset
     ∷ outcome.Delivered 68 ∷ outcome.Handled ∷ outcome.Delivered 98 ∷ outcome.Handled ∷ outcome.Handled ∷ outcome.Delivered
-        49 ∷ outcome.Handled ∷ outcome.Delivered 31 ∷ outcome.Handled ∷ outcome.Delivered 50 ∷ outcome.Handled ∷ []
+    49 ∷ outcome.Handled ∷ outcome.Delivered 31 ∷ outcome.Handled ∷ outcome.Delivered 50 ∷ outcome.Handled ∷ []
 
 two_connections : AreOutcomes (link_of serving fetching) steps outcomes
 unfolding digits hash
-two_connections = (refl, (refl, (refl, (refl, (refl, (refl, (refl,
-    (refl, (refl, (refl, (refl, (refl, (refl, (refl, (refl, (refl, (refl, (refl, (refl, (refl, (refl, (refl, tt))))))))))))))))))))))
+two_connections = (
+  refl,
+  (
+    refl,
+    (
+      refl,
+      (
+        refl,
+        (
+          refl,
+          (
+            refl,
+            (
+              refl,
+              (refl, (refl, (refl, (refl, (refl, (refl, (refl, (refl, (refl, (refl, (refl, (refl, (refl, (refl, (refl, tt))))))))))))))),
+            ),
+          ),
+        ),
+      ),
+    ),
+  ),
+)
 
 abbrev counts : Connection → List ℕ
 counts c = length c.left_sent ∷ length c.right_sent ∷ length c.left_handled ∷ length c.right_handled ∷ []

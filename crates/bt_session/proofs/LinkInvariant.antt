@@ -158,8 +158,12 @@ pub record Inv (a b : EndState) (p : M.Pair) (w : Wires) : Type 0 where
 -- ---- the byte link of these ends
 
 abbrev pub node_of : M.Node → List Item → FeedState → List ℕ → List ℕ → B.Node
-node_of x handled feed untaken outbox = record { half = record { end = x.end; feed = feed; outbox = outbox }; untaken = untaken; sent = x.sent;
-    handled = handled }
+node_of x handled feed untaken outbox = record {
+  half = record { end = x.end; feed = feed; outbox = outbox };
+  untaken = untaken;
+  sent = x.sent;
+  handled = handled;
+}
 
 abbrev pub made : M.Pair → Wires → B.Pair
 made p w = record {

@@ -1,6 +1,6 @@
 -- What is under way stays so: where the feed takes bytes, where more is sent, and where an item is handled.
-use Rattle.std.proofs.Common.{◌≡◌, ℕ, ◌+◌, ◌^◌, ◌<◌, ◌≤◌, ◌⊎◌, inl, inr, true, List, [], ◌∷◌, ◌++◌, length, map, take, drop, flat_map, refl, sym, ap, subst,
-    ◌∙◌, arith}
+use Rattle.std.proofs.Common.{◌≡◌, ℕ, ◌+◌, ◌^◌, ◌<◌, ◌≤◌, ◌⊎◌, inl, inr, true, List, [], ◌∷◌, ◌++◌, length, map, take, drop, flat_map, refl, sym, ap, subst}
+use Rattle.std.proofs.Common.{◌∙◌, arith}
 use Rattle.std.proofs.lemmas.Bool.{cases_lt}
 use Rattle.std.proofs.lemmas.List.{append_assoc, take-append-drop, take-append-le, drop-append-le, drop_all, length-append, length-take-le}
 use Rattle.bt_wire.specs.declared.context.Context.{Context}
@@ -20,8 +20,8 @@ use Rattle.bt_feed.proofs.Reading.{taken_least}
 use Rattle.bt_end.specs.Ends.{EndState, orders_after}
 use Rattle.bt_session.specs.MessageLinks as M
 use Rattle.bt_session.specs.MessageLinks.{size, total}
-use Rattle.bt_session.proofs.UnderWay.{item_size, coming_length, coming_more, behind_more, messages_come, messages_behind, behind_message, total-append,
-    total_parts}
+use Rattle.bt_session.proofs.UnderWay.{item_size, coming_length, coming_more, behind_more, messages_come, messages_behind, behind_message, total-append}
+use Rattle.bt_session.proofs.UnderWay.{total_parts}
 use Rattle.bt_session.specs.LinkLaws.{IsConfigured}
 use Rattle.bt_session.proofs.LinkInvariant.{IsStill, reads, Coming, behind, IsAwaiting, AreFor, AreHonest, Loose, Flow}
 
@@ -44,7 +44,7 @@ fed a b x e f untaken outbox l =
     let parts : take n untaken ++ drop n untaken ≡ untaken = take-append-drop n untaken in
     let bytes : (f.held ++ take n untaken) ++ (drop n untaken ++ outbox) ≡ f.held ++ (untaken ++ outbox) =
     append_assoc f.held (take n untaken) (drop n untaken ++ outbox)
-        ∙ ap (λ (t : List ℕ). f.held ++ t) (sym (append_assoc (take n untaken) (drop n untaken) outbox) ∙ ap (λ (t : List ℕ). t ++ outbox) parts) in
+    ∙ ap (λ (t : List ℕ). f.held ++ t) (sym (append_assoc (take n untaken) (drop n untaken) outbox) ∙ ap (λ (t : List ℕ). t ++ outbox) parts) in
     record {
       is = record {
         coming = subst (λ (y : List ℕ). Coming f.stage (drop x.handled x.sent) y) (sym bytes) l.coming;
@@ -66,8 +66,15 @@ fed a b x e f untaken outbox l =
 pub waiting : (a b : EndState) (x : M.Node) (e : EndState) (f : FeedState) (untaken outbox : List ℕ) → Loose a b x e f untaken outbox
     → length outbox + x.delivered ≡ total x.sent
 waiting a b x e f untaken outbox l =
-    omega (arith, l.count, l.start, coming_length f.stage (drop x.handled x.sent) (f.held ++ (untaken ++ outbox)) l.coming,
-        length-append f.held (untaken ++ outbox), length-append untaken outbox, total_parts x.handled x.sent)
+    omega (
+      arith,
+      l.count,
+      l.start,
+      coming_length f.stage (drop x.handled x.sent) (f.held ++ (untaken ++ outbox)) l.coming,
+      length-append f.held (untaken ++ outbox),
+      length-append untaken outbox,
+      total_parts x.handled x.sent,
+    )
 
 pub undelivered_is : (a b : EndState) (x : M.Node) (e : EndState) (f : FeedState) (untaken outbox : List ℕ) → Loose a b x e f untaken outbox → length outbox
     ≡ M.undelivered x
@@ -110,15 +117,15 @@ sent a b x y xs e f untaken outbox c flow all own order lt =
     let before : take x.handled (x.sent ++ is) ≡ take x.handled x.sent = take-append-le x.handled x.sent is l.within in
     let here : Stage = stage.Message (reads b a) x.end.sends (total x.sent) (length x.sent) in
     let come : Coming here is (flat_map (spell c) xs) = messages_come c (reads b a) x.end.sends (total x.sent) (length x.sent) xs all
-        (omega (arith, lt, total-append x.sent is)) in
+    (omega (arith, lt, total-append x.sent is)) in
     let come_behind : Coming (behind f.stage (drop x.handled x.sent)) is (flat_map (spell c) xs) =
-        subst (λ (t : Stage). Coming t is (flat_map (spell c) xs)) (sym l.behind_all) come in
+    subst (λ (t : Stage). Coming t is (flat_map (spell c) xs)) (sym l.behind_all) come in
     let bytes : f.held ++ (untaken ++ (outbox ++ flat_map (spell c) xs)) ≡ (f.held ++ (untaken ++ outbox)) ++ flat_map (spell c) xs =
     ap (λ (t : List ℕ). f.held ++ t) (sym (append_assoc untaken outbox (flat_map (spell c) xs)))
-        ∙ sym (append_assoc f.held (untaken ++ outbox) (flat_map (spell c) xs)) in
+    ∙ sym (append_assoc f.held (untaken ++ outbox) (flat_map (spell c) xs)) in
     let joined : Coming f.stage (drop x.handled x.sent ++ is) (f.held ++ (untaken ++ (outbox ++ flat_map (spell c) xs))) =
     subst (λ (t : List ℕ). Coming f.stage (drop x.handled x.sent ++ is) t) (sym bytes)
-        (coming_more f.stage (drop x.handled x.sent) is (f.held ++ (untaken ++ outbox)) (flat_map (spell c) xs) l.coming come_behind) in
+    (coming_more f.stage (drop x.handled x.sent) is (f.held ++ (untaken ++ outbox)) (flat_map (spell c) xs) l.coming come_behind) in
     record {
       is = record {
         coming = subst (λ (js : List Item). Coming f.stage js (f.held ++ (untaken ++ (outbox ++ flat_map (spell c) xs)))) (sym later) joined;

@@ -1,7 +1,7 @@
 -- What an end makes of an honest item: what it queues is legal where the other end reads it, and what it knows of the other
 -- stays right.
-use Rattle.std.proofs.Common.{◌≡◌, ℕ, zero, suc, ◌^◌, ◌<◌, ◌≤◌, ◌⊎◌, inl, inr, Bool, true, false, ◌&&◌, eqb, if◌then◌else◌, List, [], ◌∷◌, ◌++◌, length,
-    map, count_by, Option, Some, None, refl, sym, ap, subst, ◌∙◌, arith}
+use Rattle.std.proofs.Common.{◌≡◌, ℕ, zero, suc, ◌^◌, ◌<◌, ◌≤◌, ◌⊎◌, inl, inr, Bool, true, false, ◌&&◌, eqb, if◌then◌else◌, List, [], ◌∷◌, ◌++◌, length}
+use Rattle.std.proofs.Common.{map, count_by, Option, Some, None, refl, sym, ap, subst, ◌∙◌, arith}
 use Rattle.std.proofs.lemmas.Bool.{ltb-true}
 use Rattle.std.proofs.lemmas.List.{length-map}
 use Rattle.std.specs.Option.{ForSome}
@@ -39,13 +39,14 @@ use Rattle.bt_end.specs.declared.config.Announce.{Announce}
 use Rattle.bt_end.specs.declared.config.Announce.TheVariants as announce
 use Rattle.bt_metadata.specs.Assemblies.{AssemblyState, started, is_asked, ask_of, with_data, is_whole, joined, emptied}
 use Rattle.bt_metadata.specs.Blocks.{block, window, max_metadata}
-use Rattle.bt_end.specs.Ends.{EndState, Reaction, Part, Watching, Serving, Awaiting, Fetching, Fetched, served_size, peer_id, belief, no_extension, quiet,
-    queueing, orders_after, may_ask, wanted, with_asked, all_wanted, with_all_asked, request_for, requesting, then_asked, assembly_of, begun, learnt, reply,
-    with_block, block_taken, with_refused, with_part, by_kind, at_extended, announced, greeting as greeting_of, opened, greeted}
+use Rattle.bt_end.specs.Ends.{EndState, Reaction, Part, Watching, Serving, Awaiting, Fetching, Fetched, served_size, peer_id, belief, no_extension, quiet}
+use Rattle.bt_end.specs.Ends.{queueing, orders_after, may_ask, wanted, with_asked, all_wanted, with_all_asked, request_for, requesting, then_asked}
+use Rattle.bt_end.specs.Ends.{assembly_of, begun, learnt, reply, with_block, block_taken, with_refused, with_part, by_kind, at_extended, announced}
+use Rattle.bt_end.specs.Ends.{greeting as greeting_of, opened, greeted}
 use Rattle.bt_session.proofs.AssemblyLaws.{asks_within, asked_fetch, data_fetch, reject_fetch, started_fetch}
 use Rattle.bt_session.specs.LinkLaws.{source_of, IsMetadata, IsConfigured}
-use Rattle.bt_session.proofs.LinkInvariant.{IsStill, reads, IsPartFor, IsFetch, Knows, IsOwn, greeting, request, data_of, reject, taken_back, IsHonestMessage,
-    AreHonest, IsFor, AreFor}
+use Rattle.bt_session.proofs.LinkInvariant.{IsStill, reads, IsPartFor, IsFetch, Knows, IsOwn, greeting, request, data_of, reject, taken_back}
+use Rattle.bt_session.proofs.LinkInvariant.{IsHonestMessage, AreHonest, IsFor, AreFor}
 use Rattle.bt_metadata.proofs.LawProofs.{whole_is_served}
 use Rattle.bt_session.proofs.OwnMessages.{message_for, greeting_for, block_right}
 
@@ -109,9 +110,11 @@ one_queued : (a b e : EndState) (c : Context) (k : Kind) (rest : List ℕ) (peer
     → IsHonestMessage a (m.Extended (message_of k rest)) → Reacts a b e.sends c (queueing e (m.Extended (message_of k rest) ∷ []))
 one_queued a b e c k rest peer h end agreed is made ok size own =
     let reader : metadata_id b.own.reg ≡ Some peer = known_id b e peer h.knows is in
-    queueing_reacts a b e c (m.Extended (message_of k rest) ∷ []) h
-    (message_for (belief e) (reads b a) e.sends k rest peer (ap (λ (o : Option Context). (unwrap_or o (negotiated e.own no_extension)).ext) h.context
-        ∙ h.ext ∙ agreed) h.least agreed end.least (believed_id b e peer h.knows is) reader (end.ids.metadata peer reader) made ok size, tt)
+    queueing_reacts a b e c (m.Extended (message_of k rest) ∷ []) h (
+      message_for (belief e) (reads b a) e.sends k rest peer (ap (λ (o : Option Context). (unwrap_or o (negotiated e.own no_extension)).ext) h.context
+          ∙ h.ext ∙ agreed) h.least agreed end.least (believed_id b e peer h.knows is) reader (end.ids.metadata peer reader) made ok size,
+      tt,
+    )
     (own, tt) (omega arith)
 
 -- ---- asking
@@ -188,9 +191,10 @@ all_asked b (suc n) most p end for = more_asked b n most p end for (λ k next. a
 requests_for : (c d : Context) (o : Order) (id : ℕ) → c.ext ≡ true → 32768 ≤ c.limit → d.ext ≡ true → 32768 ≤ d.limit → metadata_id c.reg ≡ Some id
     → metadata_id d.reg ≡ Some id → id < 256 → (ks : List ℕ) → AreSmall ks → AreFor c d o (map request_for ks)
 requests_for c d o id own room agreed least sender reader lt [] h = tt
-requests_for c d o id own room agreed least sender reader lt (k ∷ ks) h =
-    (message_for c d o (kind.Request k) [] id own room agreed least sender reader lt h.0 refl (omega arith),
-        requests_for c d (order_after o (request_for k)) id own room agreed least sender reader lt ks h.1)
+requests_for c d o id own room agreed least sender reader lt (k ∷ ks) h = (
+  message_for c d o (kind.Request k) [] id own room agreed least sender reader lt h.0 refl (omega arith),
+  requests_for c d (order_after o (request_for k)) id own room agreed least sender reader lt ks h.1,
+)
 
 requests_own : (a : EndState) (ks : List ℕ) → AreSmall ks → AreHonest a (map items.Message (map request_for ks))
 requests_own a [] h = tt
@@ -204,7 +208,7 @@ requests_react a b e c h end agreed peer is ks asks =
     let ext : (belief e).ext ≡ true = ap (λ (o : Option Context). (unwrap_or o (negotiated e.own no_extension)).ext) h.context ∙ h.ext ∙ agreed in
     queueing_reacts a b (with_part e p) c (map request_for ks) (with_part_open a b e c p h (asks.serves ∙ h.still.serves) asks.for)
     (requests_for (belief (with_part e p)) (reads b a) e.sends peer ext h.least agreed end.least (believed_id b e peer h.knows is) reader
-        (end.ids.metadata peer reader) ks asks.small)
+    (end.ids.metadata peer reader) ks asks.small)
     (requests_own a ks asks.small) (omega (arith, length-map ks request_for, asks.few))
 
 some_there : (x : Bool) (o : Option ℕ) → (x && is_some o) ≡ true → (n : ℕ) × (o ≡ Some n)
@@ -288,7 +292,8 @@ both_told reg es table h =
     let first : Entries = entered_all (told donthave_name (donthave_id reg)) es in
     let there : IsTable first = told_table donthave_name (donthave_id reg) es table in
     subst (λ (x : Entries). AreTold reg x) (sym (both_entered (donthave_id reg) (metadata_id reg) es)) (record {
-      id = told_id metadata_name (metadata_id reg) first refl there (told_other donthave_name metadata_name (donthave_id reg) (metadata_id reg) es refl table h.id);
+      id = told_id metadata_name (metadata_id reg) first refl there (told_other donthave_name metadata_name (donthave_id reg) (metadata_id reg) es refl
+          table h.id);
       donthave = told_other metadata_name donthave_name (metadata_id reg) (donthave_id reg) first refl there
           (told_id donthave_name (donthave_id reg) es refl table h.donthave);
     })
@@ -337,8 +342,8 @@ greeting_reacts a b e c h end agreed =
     let t : Tree = handshake_tree reg size in
     let tells = handshake-tells reg size end.ids in
     let both : AreTold reg (entered_all (told_of t) e.table) =
-        subst (λ (told : Entries). AreTold reg (entered_all told e.table)) (sym tells.0)
-        (both_told reg e.table h.knows.table (record { id = h.knows.id; donthave = h.knows.donthave })) in
+    subst (λ (told : Entries). AreTold reg (entered_all told e.table)) (sym tells.0)
+    (both_told reg e.table h.knows.table (record { id = h.knows.id; donthave = h.knows.donthave })) in
     asked_reacts a b (learnt e t) c (record {
       still = record { own = h.still.own; handshake = h.still.handshake; serves = begun_served e.handshake.info_hash e.part (size_of t) ∙ h.still.serves };
       context = h.context;
@@ -379,7 +384,7 @@ data_part b (Fetching s) metadata k end is lt for =
     let f : IsFetch metadata s = subst (λ (m : List ℕ). IsFetch m s) same for.2 in
     let n : AssemblyState = with_data s k (length metadata) (block metadata k) in
     concluded_part metadata (source_of b.part) n is (end.serves metadata is) (data_fetch metadata s k f lt) (is_whole n) refl
-        (bytes_eq (sha1 (joined n.slots)) n.info_hash)
+    (bytes_eq (sha1 (joined n.slots)) n.info_hash)
   where
     some_same : (x y : List ℕ) → Some x ≡ Some y → x ≡ y
     some_same x y e = cc
@@ -422,8 +427,11 @@ reply_right a b e c k peer h own end agreed few is p serves = by_part p serves
         let lt : k < block_count (length metadata) = ltb-true k (block_count (length metadata)) t in
         let right = block_right metadata k lt in
         let sized : IsMetadata metadata = own.serves metadata is_served in
-        one_queued a b e c (kind.Data k (length metadata)) (block metadata k) peer h end agreed is (few, omega (arith, sized.least),
-            omega (arith, sized.most)) right.0 right.1 (data_of metadata k is_served lt refl)
+        one_queued a b e c (kind.Data k (length metadata)) (block metadata k) peer h end agreed is (
+          few,
+          omega (arith, sized.least),
+          omega (arith, sized.most),
+        ) right.0 right.1 (data_of metadata k is_served lt refl)
 
     by_part : (p : Part) → source_of p ≡ source_of a.part → Reacts a b e.sends c (queueing e (m.Extended (reply p k) ∷ []))
     by_part (Serving metadata) is_served = by_count metadata (sym is_served) (nat_lt k (block_count (length metadata))) refl
@@ -446,7 +454,7 @@ extended_reacts a b e c x h own end agreed (greeting is) =
 extended_reacts a b e c x h own end agreed (request k few is) =
     let r : Reacts a b e.sends c (by_kind e (kind.Request k) []) = reply_by a b e c k h own end agreed few (peer_id e) refl in
     subst (λ (y : Ext). Reacts a b e.sends c (at_extended e y)) (sym is) (subst (λ (j : Kind). Reacts a b e.sends c (by_kind e j []))
-        (sym (kind_made (kind.Request k) few)) r)
+    (sym (kind_made (kind.Request k) few)) r)
 extended_reacts a b e c x h own end agreed (data_of metadata k serves lt is) =
     let sized : IsMetadata metadata = end.serves metadata serves in
     let made : IsMade (kind.Data k (length metadata)) = (omega (arith, sized.most, lt), omega (arith, sized.least), omega (arith, sized.most)) in
@@ -455,18 +463,18 @@ extended_reacts a b e c x h own end agreed (data_of metadata k serves lt is) =
     asked_reacts a b (block_taken e k (length metadata) (block metadata k)) c
     (counted_open a b (with_part e part) c (block_taken e k (length metadata) (block metadata k)).mismatches
     (with_part_open a b e c part h (data_served e.part k (length metadata) (block metadata k) ∙ h.still.serves)
-        (data_part b e.part metadata k end serves lt h.knows.part))) end agreed in
+    (data_part b e.part metadata k end serves lt h.knows.part))) end agreed in
     subst (λ (y : Ext). Reacts a b e.sends c (at_extended e y)) (sym is) (subst (λ (j : Kind). Reacts a b e.sends c (by_kind e j (block metadata k)))
-        (sym (kind_made (kind.Data k (length metadata)) made)) r)
+    (sym (kind_made (kind.Data k (length metadata)) made)) r)
 extended_reacts a b e c x h own end agreed (taken_back i is) =
     subst (λ (y : Ext). Reacts a b e.sends c (at_extended e y)) (sym is) (quiet_reacts a b e c h)
 extended_reacts a b e c x h own end agreed (reject k few is) =
     let part : Part = with_refused k e.part in
     let r : Reacts a b e.sends c (by_kind e (kind.Reject k) []) =
     asked_reacts a b (with_part e part) c (with_part_open a b e c part h (reject_served e.part k ∙ h.still.serves) (reject_part b e.part k h.knows.part))
-        end agreed in
+    end agreed in
     subst (λ (y : Ext). Reacts a b e.sends c (at_extended e y)) (sym is) (subst (λ (j : Kind). Reacts a b e.sends c (by_kind e j []))
-        (sym (kind_made (kind.Reject k) few)) r)
+    (sym (kind_made (kind.Reject k) few)) r)
 
 -- ---- the handshake
 
@@ -503,16 +511,42 @@ greets a b e c still own end known room agreed =
     let ids : HaveBytes e.own.reg = subst (λ (o : Own). HaveBytes o.reg) (sym still.own) own.ids in
     let sizes : ForSome (served_size e.part) (λ n. n < 2 ^ 63) =
     subst (λ (o : Option ℕ). ForSome o (λ n. n < 2 ^ 63)) (sym (size_same e.part a.part still.serves ∙ size_of_served a.part))
-        (size_within (source_of a.part) own.serves) in
+    (size_within (source_of a.part) own.serves) in
     greeting_for c (reads b a) Fresh e.own.reg (served_size e.part) known room agreed end.least ids sizes
 
 opening_said : (d : Context) (msg : Message) → d.fast ≡ true → 32768 ≤ d.limit → (msg ≡ m.HaveAll) ⊎ (msg ≡ m.HaveNone) → IsSaid d Fresh 0 msg
-opening_said d msg fast least (inl e) = subst (λ (x : Message). IsSaid d Fresh 0 x) (sym e) (record { in_range = record { id = omega arith; fields = tt };
-    legal = record { shaped = tt; short = omega arith; agreed = fast; indexed = tt; sized = tt; spare = tt; known = never (is_strict d);
-    in_time = never (is_strict d); opened = never (is_strict d); allowed = tt }; start = omega arith })
-opening_said d msg fast least (inr e) = subst (λ (x : Message). IsSaid d Fresh 0 x) (sym e) (record { in_range = record { id = omega arith; fields = tt };
-    legal = record { shaped = tt; short = omega arith; agreed = fast; indexed = tt; sized = tt; spare = tt; known = never (is_strict d);
-    in_time = never (is_strict d); opened = never (is_strict d); allowed = tt }; start = omega arith })
+opening_said d msg fast least (inl e) = subst (λ (x : Message). IsSaid d Fresh 0 x) (sym e) (record {
+  in_range = record { id = omega arith; fields = tt };
+  legal = record {
+    shaped = tt;
+    short = omega arith;
+    agreed = fast;
+    indexed = tt;
+    sized = tt;
+    spare = tt;
+    known = never (is_strict d);
+    in_time = never (is_strict d);
+    opened = never (is_strict d);
+    allowed = tt;
+  };
+  start = omega arith;
+})
+opening_said d msg fast least (inr e) = subst (λ (x : Message). IsSaid d Fresh 0 x) (sym e) (record {
+  in_range = record { id = omega arith; fields = tt };
+  legal = record {
+    shaped = tt;
+    short = omega arith;
+    agreed = fast;
+    indexed = tt;
+    sized = tt;
+    spare = tt;
+    known = never (is_strict d);
+    in_time = never (is_strict d);
+    opened = never (is_strict d);
+    allowed = tt;
+  };
+  start = omega arith;
+})
 
 opening_same : (c d : Context) (msg : Message) → (msg ≡ m.HaveAll) ⊎ (msg ≡ m.HaveNone) → spell c msg ≡ spell d msg
 opening_same c d msg (inl e) = subst (λ (x : Message). spell c x ≡ spell d x) (sym e) refl
@@ -520,8 +554,12 @@ opening_same c d msg (inr e) = subst (λ (x : Message). spell c x ≡ spell d x)
 
 opening_for : (c d : Context) (msg : Message) → c.fast ≡ true → 32768 ≤ c.limit → d.fast ≡ true → 32768 ≤ d.limit → (msg ≡ m.HaveAll) ⊎ (msg ≡ m.HaveNone)
     → IsFor c d Fresh msg
-opening_for c d msg known room fast least e = record { said = opening_said c msg known room e; in_range = (opening_said d msg fast least e).in_range;
-    legal = (opening_said d msg fast least e).legal; same = opening_same c d msg e }
+opening_for c d msg known room fast least e = record {
+  said = opening_said c msg known room e;
+  in_range = (opening_said d msg fast least e).in_range;
+  legal = (opening_said d msg fast least e).legal;
+  same = opening_same c d msg e;
+}
 
 announces : (c d : Context) (w : Announce) (fast : Bool) → fast ≡ c.fast → 32768 ≤ c.limit → fast ≡ d.fast → 32768 ≤ d.limit
     → AreFor c d Fresh (if fast then announced w else [])
@@ -540,16 +578,21 @@ greeting_all : (a b e : EndState) (c : Context) → IsStill a e → IsConfigured
     → fast ≡ c.fast → known ≡ (reads b a).ext → fast ≡ (reads b a).fast
     → AreFor c (reads b a) Fresh ((if known then m.Extended (handshake_of e.own.reg (served_size e.part)) ∷ [] else [])
     ++ (if fast then announced e.announce else []))
-greeting_all a b e c still own end room true fast x y k f = (greets a b e c still own end (sym x) room (sym k), announces c (reads b a) e.announce fast y
-    room f end.least)
+greeting_all a b e c still own end room true fast x y k f = (
+  greets a b e c still own end (sym x) room (sym k),
+  announces c (reads b a) e.announce fast y
+      room f end.least,
+)
 greeting_all a b e c still own end room false fast x y k f = announces c (reads b a) e.announce fast y room f end.least
 
 greeting_own : (a e : EndState) → IsStill a e → (known fast : Bool)
     → AreHonest a (map items.Message ((if known then m.Extended (handshake_of e.own.reg (served_size e.part)) ∷ [] else [])
     ++ (if fast then announced e.announce else [])))
-greeting_own a e still true fast =
-    (greeting (ap (λ (o : Own). handshake_of o.reg (served_size e.part)) still.own ∙ ap (handshake_of a.own.reg)
-        (size_same e.part a.part still.serves)), announces_own a e.announce fast)
+greeting_own a e still true fast = (
+  greeting (ap (λ (o : Own). handshake_of o.reg (served_size e.part)) still.own ∙ ap (handshake_of a.own.reg)
+      (size_same e.part a.part still.serves)),
+  announces_own a e.announce fast,
+)
 greeting_own a e still false fast = announces_own a e.announce fast
 
 announced_few : (w : Announce) (fast : Bool) → length (if fast then announced w else []) ≤ 1
@@ -578,6 +621,6 @@ greeted_reacts a b e c still knows fresh own end ext fast =
     } in
     let all : AreFor (belief o) (reads b a) Fresh (greeting_of o c) = greeting_all a b e (belief o) still own end least c.ext c.fast refl refl ext fast in
     let r : Reacts a b e.sends c (queueing o (greeting_of o c)) = queueing_reacts a b o c (greeting_of o c) ready
-        (subst (λ (w : Order). AreFor (belief o) (reads b a) w (greeting_of o c)) (sym fresh) all) (greeting_own a e still c.ext c.fast)
-        (greeting_few a e c.ext c.fast) in
+    (subst (λ (w : Order). AreFor (belief o) (reads b a) w (greeting_of o c)) (sym fresh) all) (greeting_own a e still c.ext c.fast)
+    (greeting_few a e c.ext c.fast) in
     subst (λ (w : Order). Reacts a b w c (queueing o (greeting_of o c))) fresh r

@@ -1,6 +1,6 @@
 -- A delivery, a saying and a new connection of the byte link are those of the message link.
-use Rattle.std.proofs.Common.{◌≡◌, ℕ, ◌+◌, ◌^◌, ◌<◌, ◌≤◌, ◌⊎◌, inl, inr, min, Bool, true, false, ◌&&◌, ◌||◌, if◌then◌else◌, List, [], ◌∷◌, ◌++◌, length, take,
-    drop, flat_map, Option, Some, None, slice_get, refl, sym, ap, subst, ◌∙◌, arith, is_none, is_some, option_map, nat_le}
+use Rattle.std.proofs.Common.{◌≡◌, ℕ, ◌+◌, ◌^◌, ◌<◌, ◌≤◌, ◌⊎◌, inl, inr, min, Bool, true, false, ◌&&◌, ◌||◌, if◌then◌else◌, List, [], ◌∷◌, ◌++◌, length}
+use Rattle.std.proofs.Common.{take, drop, flat_map, Option, Some, None, slice_get, refl, sym, ap, subst, ◌∙◌, arith, is_none, is_some, option_map, nat_le}
 use Rattle.std.specs.Prelude.{unwrap_or, option_and_then, nat_lt, IsSome, ◌==◌}
 use Rattle.std.proofs.lemmas.Bool.{cases_lt, ltb-false}
 use Rattle.std.proofs.lemmas.List.{append-nil, take-append-le}
@@ -46,8 +46,8 @@ use Rattle.bt_wire.proofs.ContextLaws.{legal_elsewhere, legal_is_not_refused, re
 use Rattle.bt_wire.proofs.SpellLaws.{length-spell}
 use Rattle.bt_wire.specs.declared.fault.Fault.{Fault}
 use Rattle.bt_session.specs.LinkLaws.{source_of, IsConfigured, AreMatched, SamePieces}
-use Rattle.bt_session.proofs.LinkInvariant.{IsStill, reads, IsPartFor, Knows, IsHonestMessage, taken_back, IsFor, Coming, behind, IsAwaiting, Flow, Wires, Inv, node_of,
-    made}
+use Rattle.bt_session.proofs.LinkInvariant.{IsStill, reads, IsPartFor, Knows, IsHonestMessage, taken_back, IsFor, Coming, behind, IsAwaiting, Flow, Wires}
+use Rattle.bt_session.proofs.LinkInvariant.{Inv, node_of, made}
 use Rattle.bt_session.proofs.LinkMoves.{fed, undelivered_is, delivered, sent, limited, no_bytes}
 use Rattle.bt_session.proofs.LinkReactions.{agreed_ext, agreed_fast}
 use Rattle.bt_session.proofs.LinkTurns.{item_early, empty_open}
@@ -96,7 +96,7 @@ early_at a b x e f untaken outbox end still few flow None next =
     let l = flow.is in
     let none : drop x.handled x.sent ≡ [] = none_left x.handled x.sent next in
     let empty : Coming f.stage [] (f.held ++ (untaken ++ outbox)) = subst (λ (js : List Item). Coming f.stage js (f.held ++ (untaken ++ outbox))) none
-        l.coming in
+    l.coming in
     let is : f.stage ≡ stage.Message (reads b a) x.end.sends (total x.sent) (length x.sent) = ap (behind f.stage) (sym none) ∙ l.behind_all in
     (open_parts f.stage f.held (empty_open f.stage f.held (untaken ++ outbox) (reads b a) x.end.sends (total x.sent) (length x.sent) few is empty)).0
 early_at a b x e f untaken outbox end still few flow (Some i) next =
@@ -105,7 +105,7 @@ early_at a b x e f untaken outbox end still few flow (Some i) next =
     let rest : List Item = drop (x.handled + 1) x.sent in
     let lt = limited a b x e f untaken outbox end still l in
     let come : Coming f.stage (i ∷ rest) (f.held ++ (untaken ++ outbox)) = subst (λ (js : List Item). Coming f.stage js (f.held ++ (untaken ++ outbox)))
-        parts.0 l.coming in
+    parts.0 l.coming in
     elim (cases_lt (length f.held) (size i)) [
       | inl short ↦ (open_parts f.stage f.held (first_open f.stage i rest f.held (untaken ++ outbox) lt come short)).0
       | inr long ↦ item_early f.stage f.held i lt (first_held f.stage i rest f.held untaken outbox lt come l.partial flow.full (omega arith)).0
@@ -121,7 +121,7 @@ same_unsaid : (a b : EndState) (p : M.Pair) (w : Wires) (msg : Message) → IsCo
     → unsaid_by (made p w).own.half msg ≡ M.unsaid_by p.own msg
 same_unsaid a b p w msg end inv few =
     let e : early w.feed.stage w.feed.held ≡ None = early_at b a p.other p.own.end w.feed w.untaken w.other_outbox end inv.own few inv.coming
-        (M.next_item p.other) refl in
+    (M.next_item p.other) refl in
     let stands : is_some (standing w.feed) ≡ false = stands_by w.feed.refused w.feed.stage (early w.feed.stage w.feed.held) inv.coming.is.unrefused e in
     ap (λ (refused : Bool). unsaid p.own.end refused (length w.outbox) msg) stands
     ∙ ap (λ (n : ℕ). unsaid p.own.end false n msg) (undelivered_is a b p.own p.other.end w.other_feed w.other_untaken w.outbox inv.going.is)
@@ -240,8 +240,12 @@ open_context a b e (stage.Message c p k j) is o s n w follows known = w ∙ ap S
 -- the context that the other reads in is the believed one, with its own piece count and ids
 reads_moved : (a b e : EndState) → AreMatched a b → IsStill a e → e.context ≡ Some (reads a b) → moved (belief e) b.own.pieces b.own.reg ≡ reads b a
 reads_moved a b e h still known =
-    ap (λ (o : Option Context). record (reads b a) { fast = (unwrap_or o (negotiated e.own no_extension)).fast;
-        ext = (unwrap_or o (negotiated e.own no_extension)).ext; rules = e.own.rules; limit = e.own.limit }) known
+    ap (λ (o : Option Context). record (reads b a) {
+      fast = (unwrap_or o (negotiated e.own no_extension)).fast;
+      ext = (unwrap_or o (negotiated e.own no_extension)).ext;
+      rules = e.own.rules;
+      limit = e.own.limit;
+    }) known
     ∙ ap (λ (x : Bool). record (reads b a) { fast = x; ext = (reads a b).ext; rules = e.own.rules; limit = e.own.limit }) (agreed_fast a b)
     ∙ ap (λ (x : Bool). record (reads b a) { ext = x; rules = e.own.rules; limit = e.own.limit }) (agreed_ext a b)
     ∙ ap (λ (o : Own). record (reads b a) { rules = o.rules; limit = o.limit }) still.own
@@ -325,8 +329,10 @@ say_gives x n msg (outcome.NotSaid say_error.NotOpen) e s h = ((s ∙ h, refl), 
 say_gives x n msg (outcome.NotSaid say_error.Busy) e s h = ((s ∙ h, refl), refl)
 say_gives x n msg (outcome.NotSaid say_error.Extended) e s h = ((s ∙ h, refl), refl)
 say_gives x n msg (outcome.NotSaid say_error.PiecesUnknown) e s h = ((s ∙ h, refl), refl)
-say_gives x n msg (outcome.NotSaid (say_error.Illegal f)) e s h = ((s ∙ h.0, subst (λ (z : EndState). Refuses (belief z) z.sends msg f) (sym e) h.1, refl),
-    refl)
+say_gives x n msg (outcome.NotSaid (say_error.Illegal f)) e s h = (
+  (s ∙ h.0, subst (λ (z : EndState). Refuses (belief z) z.sends msg f) (sym e) h.1, refl),
+  refl,
+)
 say_gives x n msg (outcome.NotSaid say_error.Memory) e s h = absurd h
 say_gives x n msg outcome.Handled e s h = absurd h
 say_gives x n msg outcome.Idle e s h = absurd h
@@ -351,20 +357,35 @@ said_now a b p w msg h inv range unsaid_is legal small =
     let e : EndState = p.own.end in
     let l = inv.coming.is in
     let tests = unsaid_none (is_none e.context || false) (nat_le high_water (M.undelivered p.own)) (is_own_made msg)
-        (tells_pieces e msg && is_none e.own.pieces) unsaid_is in
+    (tells_pieces e msg && is_none e.own.pieces) unsaid_is in
     let known : e.context ≡ Some (reads a b) = open_context a b e w.feed.stage (drop p.other.handled p.other.sent) p.other.end.sends (total p.other.sent)
-        (length p.other.sent) l.awaited l.behind_all (or_left (is_none e.context) tests.0) in
+    (length p.other.sent) l.awaited l.behind_all (or_left (is_none e.context) tests.0) in
     let for : IsFor (belief e) (reads b a) e.sends msg = said_for a b e msg h inv.own inv.knows known range tests.1 tests.2 legal in
     record {
       wires = said_wires w (flat_map (spell (belief e)) (msg ∷ []));
-      same = ap (λ (js : List Item). record { own = said_node (made p w).own msg outcome.Said; other = node_of p.other js w.other_feed w.other_untaken
-          w.other_outbox }) (sym (take-append-le p.own.handled p.own.sent (items.Message msg ∷ []) inv.going.is.within));
+      same = ap (λ (js : List Item). record {
+        own = said_node (made p w).own msg outcome.Said;
+        other = node_of p.other js w.other_feed w.other_untaken
+            w.other_outbox;
+      }) (sym (take-append-le p.own.handled p.own.sent (items.Message msg ∷ []) inv.going.is.within));
       inv = record {
         going = sent a b p.own (record e { sends = order_after e.sends msg }) (msg ∷ []) p.other.end w.other_feed w.other_untaken w.outbox (belief e)
             inv.going (for, tt) (own_honest a msg tests.1, tt) refl small;
-        coming = record { is = record { coming = l.coming; behind_all = l.behind_all; start = l.start; count = l.count; within = l.within;
-            unrefused = l.unrefused; partial = l.partial; awaited = still_awaiting e w.feed.stage (order_after e.sends msg) known l.awaited; honest =
-            l.honest }; full = inv.coming.full };
+        coming = record {
+          is = record {
+            coming = l.coming;
+            behind_all = l.behind_all;
+            start = l.start;
+            count = l.count;
+            within = l.within;
+            unrefused = l.unrefused;
+            partial = l.partial;
+            awaited = still_awaiting e w.feed.stage (order_after e.sends msg) known l.awaited;
+            honest =
+                l.honest;
+          };
+          full = inv.coming.full;
+        };
         own = record { own = inv.own.own; handshake = inv.own.handshake; serves = inv.own.serves };
         other = inv.other;
         knows = record { table = inv.knows.table; id = inv.knows.id; donthave = inv.knows.donthave; part = inv.knows.part };
@@ -423,7 +444,7 @@ pub can_say : (a b : EndState) (p : M.Pair) (w : Wires) (msg : Message) (o : Out
 can_say a b p w msg o end h inv range few small told =
     let s : Said a b p w msg o = said a b p w msg o h inv range told small in
     let here : B.IsSay (made p w) msg o (record { own = said_node (made p w).own msg o; other = (made p w).other }) =
-        (say_gives (made p w).own p.own msg o refl (same_unsaid a b p w msg end inv few) told, refl) in
+    (say_gives (made p w).own p.own msg o refl (same_unsaid a b p w msg end inv few) told, refl) in
     record { wires = s.wires; say = subst (λ (q : B.Pair). B.IsSay (made p w) msg o q) s.same here; inv = s.inv }
 
 -- ---- a new connection
@@ -479,11 +500,22 @@ pub still_renewed : (a e : EndState) → IsStill a e → IsStill a (renewed e)
 still_renewed a e s = record { own = s.own; handshake = s.handshake; serves = kept_source e.part ∙ s.serves }
 
 pub knows_renewed : (b e : EndState) → Knows b e → Knows b (renewed e)
-knows_renewed b e k = record { table = record { entries = tt; few = omega arith }; id = inl refl; donthave = inl refl; part = kept_part (source_of b.part) e.part k.part }
+knows_renewed b e k = record {
+  table = record { entries = tt; few = omega arith };
+  id = inl refl;
+  donthave = inl refl;
+  part = kept_part (source_of b.part) e.part k.part;
+}
 
 abbrev pub new_wires : EndState → EndState → Wires
-new_wires e f = record { feed = waiting (stage.Handshake e.own); untaken = []; outbox = hand e.handshake; other_feed = waiting (stage.Handshake f.own);
-    other_untaken = []; other_outbox = hand f.handshake }
+new_wires e f = record {
+  feed = waiting (stage.Handshake e.own);
+  untaken = [];
+  outbox = hand e.handshake;
+  other_feed = waiting (stage.Handshake f.own);
+  other_untaken = [];
+  other_outbox = hand f.handshake;
+}
 
 pub new_inv : (a b e f : EndState) → IsConfigured a → IsConfigured b → AreMatched a b → IsStill a e → IsStill b f → Knows b e → Knows a f → e.context ≡ None
     → e.sends ≡ Fresh → f.context ≡ None → f.sends ≡ Fresh → Inv a b (record { own = M.first e; other = M.first f }) (new_wires e f)
@@ -505,8 +537,14 @@ limit_within a b p w end inv = omega (arith, end.most, ap (λ (o : Own). o.limit
 pub say_grows : (a b : EndState) (p : M.Pair) (w : Wires) (msg : Message) (o : Outcome) → IsConfigured a → Inv a b p w → M.IsSayOf p.own msg o
     → total (M.after_say p msg o).own.sent ≤ total p.own.sent + 8388640
 say_grows a b p w msg outcome.Said end inv told =
-    omega (arith, total-append p.own.sent (items.Message msg ∷ []), told.1.short, length-spell (belief p.own.end) msg, spell_size (belief p.own.end) msg,
-        limit_within a b p w end inv)
+    omega (
+      arith,
+      total-append p.own.sent (items.Message msg ∷ []),
+      told.1.short,
+      length-spell (belief p.own.end) msg,
+      spell_size (belief p.own.end) msg,
+      limit_within a b p w end inv,
+    )
 say_grows a b p w msg (outcome.NotSaid e) end inv told = omega arith
 say_grows a b p w msg outcome.Handled end inv told = omega arith
 say_grows a b p w msg outcome.Idle end inv told = omega arith
@@ -557,7 +595,7 @@ one_say a b p w msg o o' end inv range h k =
     let e : EndState = p.own.end in
     one_answer p.own msg o o' (omega (arith, limit_within a b p w end inv)) range
     (λ none. (unsaid_none (is_none e.context || false) (nat_le high_water (M.undelivered p.own)) (is_own_made msg)
-        (tells_pieces e msg && is_none e.own.pieces) none).1)
+    (tells_pieces e msg && is_none e.own.pieces) none).1)
     (answer_is p.own msg o h) (answer_is p.own msg o' k)
 
 -- what is said in the byte link is said in the message link

@@ -1,6 +1,7 @@
 -- A turn of the byte link is that of the message link.
-use Rattle.std.proofs.Common.{◌≡◌, ℕ, zero, suc, ◌+◌, ◌*◌, ◌^◌, ◌<◌, ◌≤◌, inl, inr, Bool, true, false, ◌&&◌, if◌then◌else◌, List, [], ◌∷◌, ◌++◌, length,
-    map, take, drop, flat_map, Option, Some, None, slice_get, Result, Ok, Err, refl, sym, ap, subst, ◌∙◌, arith, is_none, is_some, ◌||◌, nat_le}
+use Rattle.std.proofs.Common.{◌≡◌, ℕ, zero, suc, ◌+◌, ◌*◌, ◌^◌, ◌<◌, ◌≤◌, inl, inr, Bool, true, false, ◌&&◌, if◌then◌else◌, List, [], ◌∷◌, ◌++◌, length}
+use Rattle.std.proofs.Common.{map, take, drop, flat_map, Option, Some, None, slice_get, Result, Ok, Err, refl, sym, ap, subst, ◌∙◌, arith, is_none, is_some}
+use Rattle.std.proofs.Common.{◌||◌, nat_le}
 use Rattle.std.proofs.lemmas.Bool.{cases_lt, leb-true, leb-false}
 use Rattle.std.proofs.lemmas.List.{append-nil, take-append-le}
 use Rattle.bt_ext.specs.declared.ext.Ext.{Ext}
@@ -37,8 +38,8 @@ use Rattle.bt_session.specs.declared.link.Outcome.{Outcome}
 use Rattle.bt_session.specs.declared.link.Outcome.TheVariants as outcome
 use Rattle.bt_session.proofs.UnderWay.{item_size, behind_message, next_parts, none_left, first_open, first_held, message_early, total-append, spell_size}
 use Rattle.bt_session.specs.LinkLaws.{IsConfigured}
-use Rattle.bt_session.proofs.LinkInvariant.{IsStill, reads, Knows, IsHonest, IsHonestMessage, AreHonest, Coming, behind, IsAwaiting, AreFor, Wires, Inv,
-    node_of, made}
+use Rattle.bt_session.proofs.LinkInvariant.{IsStill, reads, Knows, IsHonest, IsHonestMessage, AreHonest, Coming, behind, IsAwaiting, AreFor, Wires, Inv}
+use Rattle.bt_session.proofs.LinkInvariant.{node_of, made}
 use Rattle.bt_session.proofs.LinkMoves.{fed, undelivered_is, sent, left, limited}
 use Rattle.bt_session.proofs.LinkReactions.{Reacts, IsOpen, quiet_reacts, extended_reacts, greeted_reacts, agreed_ext, agreed_fast}
 
@@ -60,11 +61,11 @@ handles_item : (a b e : EndState) (t : Stage) (held : List ℕ) (i : Item) (is :
     → Handles a b e t i
 handles_item a b e (stage.Handshake own) held (items.Handshake h) is o s n enda endb still knows item w follows honest =
     let same : negotiated own h.reserved ≡ reads a b = behind_message (negotiated own h.reserved) Fresh (size (items.Handshake h)) 1 is (reads a b) o s n
-        follows in
+    follows in
     let c : Context = negotiated e.own h.reserved in
     let is_c : c ≡ reads a b = ap (λ (x : Own). negotiated x h.reserved) (sym w.0) ∙ same in
     let r : Reacts a b Fresh c (greeted e c) = greeted_reacts a b e c still knows w.2 enda endb (ap (λ (x : Context). x.ext) is_c ∙ agreed_ext a b)
-        (ap (λ (x : Context). x.fast) is_c ∙ agreed_fast a b) in
+    (ap (λ (x : Context). x.fast) is_c ∙ agreed_fast a b) in
     record {
       context = c;
       reacts = subst (λ (p : Order). Reacts a b p c (greeted e c)) (sym w.2) r;
@@ -166,8 +167,11 @@ busies a b p w i inv item lt high = record {
 }
 
 -- the feed after an item
-behind_item : (f : FeedState) (i : Item) → IsItem f.stage f.held i → after_answer f (Ok (Some i)) ≡ record { stage = stage_after f.stage (size i) i;
-    held = []; refused = f.refused }
+behind_item : (f : FeedState) (i : Item) → IsItem f.stage f.held i → after_answer f (Ok (Some i)) ≡ record {
+  stage = stage_after f.stage (size i) i;
+  held = [];
+  refused = f.refused;
+}
 behind_item f i item = ap (λ (n : ℕ). record { stage = stage_after f.stage n i; held = []; refused = f.refused }) (item_size f.stage f.held i item)
 
 take_next : (k : ℕ) (is : List Item) (i : Item) → slice_get is k ≡ Some i → take (k + 1) is ≡ take k is ++ i ∷ []
@@ -194,10 +198,10 @@ handles_next a b p w i rest enda endb inv next item come first later low =
     let e : EndState = p.own.end in
     let parts = next_parts p.other.handled p.other.sent i next in
     let follows : behind w.feed.stage (i ∷ rest) ≡ stage.Message (reads a b) p.other.end.sends (total p.other.sent) (length p.other.sent) =
-        ap (behind w.feed.stage) (sym first) ∙ l.behind_all in
+    ap (behind w.feed.stage) (sym first) ∙ l.behind_all in
     let own : AreHonest b (i ∷ rest) = subst (λ (js : List Item). AreHonest b js) first l.honest in
     let h : Handles a b e w.feed.stage i = handles_item a b e w.feed.stage w.feed.held i rest p.other.end.sends (total p.other.sent) (length p.other.sent)
-        enda endb inv.own inv.knows item l.awaited follows own.0 in
+    enda endb inv.own inv.knows item l.awaited follows own.0 in
     let r : Reaction = react e i in
     let more : List ℕ = flat_map (spell (belief r.end)) r.queued in
     let f : FeedState = record { stage = stage_after w.feed.stage (size i) i; held = []; refused = w.feed.refused } in
@@ -207,14 +211,16 @@ handles_next a b p w i rest enda endb inv next item come first later low =
     let node : FeedState → List Item → B.Node = λ (g : FeedState) (js : List Item). node_of (M.sends p.own r) js g w.untaken (w.outbox ++ more) in
     let same : B0 ≡ node f (take (p.other.handled + 1) p.other.sent) =
     ap (λ (g : FeedState). node g (take p.other.handled p.other.sent ++ i ∷ [])) behind_is
-        ∙ ap (λ (js : List Item). node f js) (sym (take_next p.other.handled p.other.sent i next)) in
+    ∙ ap (λ (js : List Item). node f js) (sym (take_next p.other.handled p.other.sent i next)) in
     record {
       wires = handled_wires w f more;
       turn = (
         B0,
         (i, free, refl),
-        ap (λ (js : List Item). record { own = B.fed (node f (take (p.other.handled + 1) p.other.sent));
-            other = node_of p.other js w.other_feed w.other_untaken w.other_outbox }) (take-append-le p.own.handled p.own.sent (map items.Message r.queued)
+        ap (λ (js : List Item). record {
+          own = B.fed (node f (take (p.other.handled + 1) p.other.sent));
+          other = node_of p.other js w.other_feed w.other_untaken w.other_outbox;
+        }) (take-append-le p.own.handled p.own.sent (map items.Message r.queued)
             inv.going.is.within)
             ∙ ap (λ (x : B.Node). record { own = B.fed x; other = (made p w).other }) (sym same),
       );
@@ -228,8 +234,13 @@ handles_next a b p w i rest enda endb inv next item come first later low =
         knows = h.reacts.knows;
         known = inv.known;
       };
-      grows = omega (arith, total-append p.own.sent (map items.Message r.queued), queued_total (belief r.end) (reads b a) e.sends r.queued endb.most
-          h.reacts.queued, h.reacts.few);
+      grows = omega (
+        arith,
+        total-append p.own.sent (map items.Message r.queued),
+        queued_total (belief r.end) (reads b a) e.sends r.queued endb.most
+            h.reacts.queued,
+        h.reacts.few,
+      );
       rests = refl;
     }
   where
@@ -265,9 +276,9 @@ turn_by_high a b p w i rest enda endb inv next item come first later true high =
     (ap (nat_le high_water) (undelivered_is a b p.own p.other.end w.other_feed w.other_untaken w.outbox inv.going.is) ∙ high)
 turn_by_high a b p w i rest enda endb inv next item come first later false high =
     let low : nat_le high_water (length w.outbox) ≡ false = ap (nat_le high_water) (undelivered_is a b p.own p.other.end w.other_feed w.other_untaken
-        w.outbox inv.going.is) ∙ high in
+    w.outbox inv.going.is) ∙ high in
     subst (λ (x : Option Item). Turns a b p w outcome.Handled (M.handles p x)) (sym next) (handles_next a b p w i rest enda endb inv next item come first
-        later low)
+    later low)
 
 turn_by_there : (a b : EndState) (p : M.Pair) (w : Wires) (i : Item) → IsConfigured a → IsConfigured b → Inv a b p w
     → slice_get p.other.sent p.other.handled ≡ Some i → (there : Bool) → nat_le (total (take (p.other.handled + 1) p.other.sent)) p.other.delivered ≡ there
@@ -278,7 +289,7 @@ turn_by_there a b p w i enda endb inv next there t =
     let parts = next_parts p.other.handled p.other.sent i next in
     let lt = limited b a p.other p.own.end w.feed w.untaken w.other_outbox enda inv.own l in
     let come : Coming w.feed.stage (i ∷ drop (p.other.handled + 1) p.other.sent) (w.feed.held ++ (w.untaken ++ w.other_outbox)) =
-        subst (λ (js : List Item). Coming w.feed.stage js (w.feed.held ++ (w.untaken ++ w.other_outbox))) parts.0 l.coming in
+    subst (λ (js : List Item). Coming w.feed.stage js (w.feed.held ++ (w.untaken ++ w.other_outbox))) parts.0 l.coming in
     by_there there t parts.0 parts.1 lt come
   where
     by_there : (there : Bool) → nat_le (total (take (p.other.handled + 1) p.other.sent)) p.other.delivered ≡ there
@@ -288,14 +299,19 @@ turn_by_there a b p w i enda endb inv next there t =
         → Turns a b p w (if there then (if nat_le high_water (M.undelivered p.own) then outcome.Busy else outcome.Handled) else outcome.Idle)
         (M.after_turn p (if there then (if nat_le high_water (M.undelivered p.own) then outcome.Busy else outcome.Handled) else outcome.Idle))
     by_there false t first more lt come =
-        let short : length w.feed.held < size i = omega (arith, leb-false (total (take (p.other.handled + 1) p.other.sent)) p.other.delivered t, more,
-            inv.coming.is.count, inv.coming.is.start) in
+        let short : length w.feed.held < size i = omega (
+          arith,
+          leb-false (total (take (p.other.handled + 1) p.other.sent)) p.other.delivered t,
+          more,
+          inv.coming.is.count,
+          inv.coming.is.start,
+        ) in
         idles a b p w inv (first_open w.feed.stage i (drop (p.other.handled + 1) p.other.sent) w.feed.held (w.untaken ++ w.other_outbox) lt come short)
     by_there true t first more lt come =
         let long : size i ≤ length w.feed.held + length w.untaken =
-            omega (arith, leb-true (total (take (p.other.handled + 1) p.other.sent)) p.other.delivered t, more, inv.coming.is.count, inv.coming.is.start) in
+        omega (arith, leb-true (total (take (p.other.handled + 1) p.other.sent)) p.other.delivered t, more, inv.coming.is.count, inv.coming.is.start) in
         let h = first_held w.feed.stage i (drop (p.other.handled + 1) p.other.sent) w.feed.held w.untaken w.other_outbox lt come inv.coming.is.partial
-            inv.coming.full long in
+        inv.coming.full long in
         turn_by_high a b p w i (drop (p.other.handled + 1) p.other.sent) enda endb inv next h.0 h.1 first refl (nat_le high_water (M.undelivered p.own)) refl
 
 turn_by_next : (a b : EndState) (p : M.Pair) (w : Wires) → IsConfigured a → IsConfigured b → Inv a b p w → M.IsSmallNode p.other → (next : Option Item)
@@ -304,11 +320,11 @@ turn_by_next a b p w enda endb inv few None next =
     let l = inv.coming.is in
     let none : drop p.other.handled p.other.sent ≡ [] = none_left p.other.handled p.other.sent next in
     let empty : Coming w.feed.stage [] (w.feed.held ++ (w.untaken ++ w.other_outbox)) =
-        subst (λ (js : List Item). Coming w.feed.stage js (w.feed.held ++ (w.untaken ++ w.other_outbox))) none l.coming in
+    subst (λ (js : List Item). Coming w.feed.stage js (w.feed.held ++ (w.untaken ++ w.other_outbox))) none l.coming in
     let is : w.feed.stage ≡ stage.Message (reads a b) p.other.end.sends (total p.other.sent) (length p.other.sent) = ap (behind w.feed.stage) (sym none)
-        ∙ l.behind_all in
+    ∙ l.behind_all in
     idles a b p w inv (empty_open w.feed.stage w.feed.held (w.untaken ++ w.other_outbox) (reads a b) p.other.end.sends (total p.other.sent)
-        (length p.other.sent) few is empty)
+    (length p.other.sent) few is empty)
 turn_by_next a b p w enda endb inv few (Some i) next = turn_by_there a b p w i enda endb inv next (nat_le (total (take (p.other.handled + 1) p.other.sent))
     p.other.delivered) refl
 
@@ -371,7 +387,7 @@ pub turns_so : (a b : EndState) (p : M.Pair) (w : Wires) (o : Outcome) (q : B.Pa
 turns_so a b p w o q enda endb inv few is =
     let t : Turns a b p w (M.turn_of p) (M.after_turn p (M.turn_of p)) = turns a b p w enda endb inv few in
     let one = one_turn (made p w) o (M.turn_of p) q (made (M.after_turn p (M.turn_of p)) t.wires)
-        (limited b a p.other p.own.end w.feed w.untaken w.other_outbox enda inv.own inv.coming.is) is t.turn in
+    (limited b a p.other p.own.end w.feed w.untaken w.other_outbox enda inv.own inv.coming.is) is t.turn in
     record {
       told = one.0;
       wires = t.wires;
@@ -393,11 +409,11 @@ queues_by a b p w None enda endb inv few next i free =
     let l = inv.coming.is in
     let none : drop p.other.handled p.other.sent ≡ [] = none_left p.other.handled p.other.sent next in
     let empty : Coming w.feed.stage [] (w.feed.held ++ (w.untaken ++ w.other_outbox)) =
-        subst (λ (js : List Item). Coming w.feed.stage js (w.feed.held ++ (w.untaken ++ w.other_outbox))) none l.coming in
+    subst (λ (js : List Item). Coming w.feed.stage js (w.feed.held ++ (w.untaken ++ w.other_outbox))) none l.coming in
     let is : w.feed.stage ≡ stage.Message (reads a b) p.other.end.sends (total p.other.sent) (length p.other.sent) = ap (behind w.feed.stage) (sym none)
-        ∙ l.behind_all in
+    ∙ l.behind_all in
     let open_is = empty_open w.feed.stage w.feed.held (w.untaken ++ w.other_outbox) (reads a b) p.other.end.sends (total p.other.sent) (length p.other.sent)
-        few is empty in
+    few is empty in
     let closed = item_closed w.feed.stage w.feed.held i (limited b a p.other p.own.end w.feed w.untaken w.other_outbox enda inv.own l) free.1 in
     absurd cc
 queues_by a b p w (Some j) enda endb inv few next i free =
@@ -406,7 +422,7 @@ queues_by a b p w (Some j) enda endb inv few next i free =
     let parts = next_parts p.other.handled p.other.sent j next in
     let rest : List Item = drop (p.other.handled + 1) p.other.sent in
     let come : Coming w.feed.stage (j ∷ rest) (w.feed.held ++ (w.untaken ++ w.other_outbox)) =
-        subst (λ (js : List Item). Coming w.feed.stage js (w.feed.held ++ (w.untaken ++ w.other_outbox))) parts.0 l.coming in
+    subst (λ (js : List Item). Coming w.feed.stage js (w.feed.held ++ (w.untaken ++ w.other_outbox))) parts.0 l.coming in
     let long : size j ≤ length w.feed.held = elim (cases_lt (length w.feed.held) (size j)) [
       | inl short ↦ absurd (let open_is = first_open w.feed.stage j rest w.feed.held (w.untaken ++ w.other_outbox) lt come short in
           let closed = item_closed w.feed.stage w.feed.held i lt free.1 in cc)
@@ -416,12 +432,12 @@ queues_by a b p w (Some j) enda endb inv few next i free =
     let same : Ok (Some i) ≡ Ok (Some j) = answer_only w.feed (Ok (Some i)) (Ok (Some j)) lt free.1 h.0 in
     let is : j ≡ i = cc in
     let follows : behind w.feed.stage (j ∷ rest) ≡ stage.Message (reads a b) p.other.end.sends (total p.other.sent) (length p.other.sent) =
-        ap (behind w.feed.stage) (sym parts.0) ∙ l.behind_all in
+    ap (behind w.feed.stage) (sym parts.0) ∙ l.behind_all in
     let own : AreHonest b (j ∷ rest) = subst (λ (js : List Item). AreHonest b js) parts.0 l.honest in
     let r : Handles a b p.own.end w.feed.stage j = handles_item a b p.own.end w.feed.stage w.feed.held j rest p.other.end.sends (total p.other.sent)
-        (length p.other.sent) enda endb inv.own inv.knows h.0 l.awaited follows own.0 in
+    (length p.other.sent) enda endb inv.own inv.knows h.0 l.awaited follows own.0 in
     let well : B.MayBeSent (belief (react p.own.end j).end) p.own.end.sends (react p.own.end j).queued = sent_well (belief (react p.own.end j).end)
-        (reads b a) p.own.end.sends (react p.own.end j).queued r.reacts.queued in
+    (reads b a) p.own.end.sends (react p.own.end j).queued r.reacts.queued in
     subst (λ (x : Item). B.MayBeSent (belief (react p.own.end x).end) p.own.end.sends (react p.own.end x).queued) is well
 
 pub queues_well : (a b : EndState) (p : M.Pair) (w : Wires) → IsConfigured a → IsConfigured b → Inv a b p w → M.IsSmallNode p.other

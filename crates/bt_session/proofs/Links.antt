@@ -1,6 +1,6 @@
 -- The laws of the links of two ends.
-use Rattle.std.proofs.Common.{◌≡◌, ℕ, zero, suc, ◌+◌, ◌*◌, ◌^◌, ◌<◌, ◌≤◌, ◌⊎◌, inl, inr, min, Bool, true, false, if◌then◌else◌, List, [], ◌∷◌, ◌++◌, length,
-    take, Option, Some, None, slice_get, refl, sym, ap, subst, ◌∙◌, arith, nat_le}
+use Rattle.std.proofs.Common.{◌≡◌, ℕ, zero, suc, ◌+◌, ◌*◌, ◌^◌, ◌<◌, ◌≤◌, ◌⊎◌, inl, inr, min, Bool, true, false, if◌then◌else◌, List, [], ◌∷◌, ◌++◌, length}
+use Rattle.std.proofs.Common.{take, Option, Some, None, slice_get, refl, sym, ap, subst, ◌∙◌, arith, nat_le}
 use Rattle.std.proofs.lemmas.Bool.{cases_lt}
 use Rattle.std.proofs.lemmas.List.{length-take-le, take_all}
 use Rattle.bt_wire.specs.declared.item.Item.{Item}
@@ -12,9 +12,9 @@ use Rattle.bt_end.specs.Halves.{high_water}
 use Rattle.bt_session.specs.ByteLinks as B
 use Rattle.bt_session.specs.MessageLinks as M
 use Rattle.bt_session.specs.MessageLinks.{Connection}
-use Rattle.bt_session.specs.LinkLaws.{source_of, IsConfigured, IsFirstPart, IsNew, AreMatched, IsWritten, AreWritten, IsHonestRun, SameLink,
-    ByteLinkIsMessageLink, MessageLinkIsByteLink, NothingIsRefused, IsInOrder, AreInOrder, HandledInOrder, FetchesFrom, FetchedIsServed, FewStepsStaySmall,
-    OutcomesAreOne, QueuedMayBeSent}
+use Rattle.bt_session.specs.LinkLaws.{source_of, IsConfigured, IsFirstPart, IsNew, AreMatched, IsWritten, AreWritten, IsHonestRun, SameLink}
+use Rattle.bt_session.specs.LinkLaws.{ByteLinkIsMessageLink, MessageLinkIsByteLink, NothingIsRefused, IsInOrder, AreInOrder, HandledInOrder, FetchesFrom}
+use Rattle.bt_session.specs.LinkLaws.{FetchedIsServed, FewStepsStaySmall, OutcomesAreOne, QueuedMayBeSent}
 use Rattle.bt_metadata.specs.Laws.{HoldsBlocksOf}
 use Rattle.bt_session.specs.declared.link.Outcome.{Outcome}
 use Rattle.bt_session.specs.declared.link.Outcome.TheVariants as outcome
@@ -24,8 +24,8 @@ use Rattle.bt_session.specs.declared.link.Step.{Step}
 use Rattle.bt_session.specs.declared.link.Step.TheVariants as step
 use Rattle.bt_session.proofs.LinkInvariant.{IsPartFor, Knows, Wires, Inv, node_of, made}
 use Rattle.bt_session.proofs.LinkTurns.{TurnsSo, turns_so, Turns, turns, queues_well}
-use Rattle.bt_session.proofs.LinkSteps.{Delivers, delivers, SaysSo, says_so, CanSay, can_say, say_is_told, say_grows, one_say, matched_back, still_renewed,
-    knows_renewed, new_wires, new_inv}
+use Rattle.bt_session.proofs.LinkSteps.{Delivers, delivers, SaysSo, says_so, CanSay, can_say, say_is_told, say_grows, one_say, matched_back, still_renewed}
+use Rattle.bt_session.proofs.LinkSteps.{knows_renewed, new_wires, new_inv}
 
 -- ---- sides
 
@@ -38,8 +38,14 @@ link_with l w = record {
 }
 
 abbrev turned : Wires → Wires
-turned w = record { feed = w.other_feed; untaken = w.other_untaken; outbox = w.other_outbox; other_feed = w.feed; other_untaken = w.untaken;
-    other_outbox = w.outbox }
+turned w = record {
+  feed = w.other_feed;
+  untaken = w.other_untaken;
+  outbox = w.other_outbox;
+  other_feed = w.feed;
+  other_untaken = w.untaken;
+  other_outbox = w.outbox;
+}
 
 abbrev wires_at : Side → Wires → Wires
 wires_at Left w = w
@@ -126,14 +132,14 @@ step_follows a b l w (step.Turn s) o k r i written small later is =
     let p : M.Pair = M.seen_from s l in
     let turn : B.IsTurn (made p (wires_at s w)) o is.0 = subst (λ (x : B.Pair). B.IsTurn x o is.0) (seen_same s l w) is.1 in
     let t : TurnsSo (mine s a b) (yours s a b) p o is.0 = turns_so (mine s a b) (yours s a b) p (wires_at s w) o is.0 e.own e.other (inv_at s a b l w i)
-        (small_other s l small) turn in
+    (small_other s l small) turn in
     (t.told, lifted s a b l w t.wires (M.after_turn p o) is.0 k is.2 t.same (t.inv (small_own s l (M.after_turn p o) later)))
 step_follows a b l w (step.Say s msg) o k r i written small later is =
     let e = ready_at s a b r in
     let p : M.Pair = M.seen_from s l in
     let say : B.IsSay (made p (wires_at s w)) msg o is.0 = subst (λ (x : B.Pair). B.IsSay x msg o is.0) (seen_same s l w) is.1 in
     let t : SaysSo (mine s a b) (yours s a b) p (wires_at s w) msg o is.0 = says_so (mine s a b) (yours s a b) p (wires_at s w) msg o is.0 e.own e.matched
-        (inv_at s a b l w i) written (small_other s l small) (small_own s l (M.after_say p msg o) later) say in
+    (inv_at s a b l w i) written (small_other s l small) (small_own s l (M.after_say p msg o) later) say in
     (t.told, lifted s a b l w t.wires (M.after_say p msg o) is.0 k is.2 t.same t.inv)
 step_follows a b l w (step.Deliver s n) o k r i written small later is =
     let p : M.Pair = M.seen_from s l in
@@ -142,7 +148,7 @@ step_follows a b l w (step.Deliver s n) o k r i written small later is =
     let told : o ≡ outcome.Delivered (min n (M.undelivered p.other)) = delivery.0 ∙ sym d.delivery.0 in
     let same : is.0 ≡ made (M.after_deliver p (outcome.Delivered (min n (M.undelivered p.other)))) d.wires = delivery.1 ∙ sym d.delivery.1 in
     let here : IsLinkOf a b (M.with_pair s l (M.after_deliver p (outcome.Delivered (min n (M.undelivered p.other))))) k =
-        lifted s a b l w d.wires (M.after_deliver p (outcome.Delivered (min n (M.undelivered p.other)))) is.0 k is.2 same d.inv in
+    lifted s a b l w d.wires (M.after_deliver p (outcome.Delivered (min n (M.undelivered p.other)))) is.0 k is.2 same d.inv in
     (told, subst (λ (x : Outcome). IsLinkOf a b (M.with_pair s l (M.after_deliver p x)) k) (sym told) here)
 step_follows a b l w step.Reset o k r i written small later is = (is.0, reset_same a b l w k r i is.1)
 
@@ -153,11 +159,11 @@ step_goes a b l w (step.Turn s) o r i written small later told =
     let e = ready_at s a b r in
     let p : M.Pair = M.seen_from s l in
     let t : Turns (mine s a b) (yours s a b) p (wires_at s w) (M.turn_of p) (M.after_turn p (M.turn_of p)) =
-        turns (mine s a b) (yours s a b) p (wires_at s w) e.own e.other (inv_at s a b l w i) (small_other s l small) in
+    turns (mine s a b) (yours s a b) p (wires_at s w) e.own e.other (inv_at s a b l w i) (small_other s l small) in
     let turn : B.IsTurn (made p (wires_at s w)) o (made (M.after_turn p o) t.wires) =
-        subst (λ (x : Outcome). B.IsTurn (made p (wires_at s w)) x (made (M.after_turn p x) t.wires)) (sym told) t.turn in
+    subst (λ (x : Outcome). B.IsTurn (made p (wires_at s w)) x (made (M.after_turn p x) t.wires)) (sym told) t.turn in
     let inv : M.IsSmallNode (M.after_turn p o).own → Inv (mine s a b) (yours s a b) (M.after_turn p o) t.wires =
-        subst (λ (x : Outcome). M.IsSmallNode (M.after_turn p x).own → Inv (mine s a b) (yours s a b) (M.after_turn p x) t.wires) (sym told) t.inv in
+    subst (λ (x : Outcome). M.IsSmallNode (M.after_turn p x).own → Inv (mine s a b) (yours s a b) (M.after_turn p x) t.wires) (sym told) t.inv in
     let k : B.Link = B.with_pair s (link_with l w) (made (M.after_turn p o) t.wires) in (
       k,
       (made (M.after_turn p o) t.wires, subst (λ (x : B.Pair). B.IsTurn x o (made (M.after_turn p o) t.wires)) (sym (seen_same s l w)) turn, refl),
@@ -167,7 +173,7 @@ step_goes a b l w (step.Say s msg) o r i written small later told =
     let e = ready_at s a b r in
     let p : M.Pair = M.seen_from s l in
     let t : CanSay (mine s a b) (yours s a b) p (wires_at s w) msg o = can_say (mine s a b) (yours s a b) p (wires_at s w) msg o e.own e.matched
-        (inv_at s a b l w i) written (small_other s l small) (small_own s l (M.after_say p msg o) later) told in
+    (inv_at s a b l w i) written (small_other s l small) (small_own s l (M.after_say p msg o) later) told in
     let k : B.Link = B.with_pair s (link_with l w) (made (M.after_say p msg o) t.wires) in (
       k,
       (made (M.after_say p msg o) t.wires, subst (λ (x : B.Pair). B.IsSay x msg o (made (M.after_say p msg o) t.wires)) (sym (seen_same s l w)) t.say, refl),
@@ -179,12 +185,16 @@ step_goes a b l w (step.Deliver s n) o r i written small later told =
     let d : Delivers (mine s a b) (yours s a b) p (wires_at s w) n = delivers (mine s a b) (yours s a b) p (wires_at s w) n (inv_at s a b l w i) in
     let k : B.Link = B.with_pair s (link_with l w) (made (M.after_deliver p x) d.wires) in
     let delivery : B.IsDelivery (B.seen_from s (link_with l w)) n x (made (M.after_deliver p x) d.wires) =
-        subst (λ (y : B.Pair). B.IsDelivery y n x (made (M.after_deliver p x) d.wires)) (sym (seen_same s l w)) d.delivery in
+    subst (λ (y : B.Pair). B.IsDelivery y n x (made (M.after_deliver p x) d.wires)) (sym (seen_same s l w)) d.delivery in
     let here : IsLinkOf a b (M.with_pair s l (M.after_deliver p x)) k = lifted s a b l w d.wires (M.after_deliver p x) (made (M.after_deliver p x) d.wires)
-        k refl refl d.inv in (
+    k refl refl d.inv in (
       k,
-      (made (M.after_deliver p x) d.wires, subst (λ (y : Outcome). B.IsDelivery (B.seen_from s (link_with l w)) n y (made (M.after_deliver p x) d.wires))
-          (sym told) delivery, refl),
+      (
+        made (M.after_deliver p x) d.wires,
+        subst (λ (y : Outcome). B.IsDelivery (B.seen_from s (link_with l w)) n y (made (M.after_deliver p x) d.wires))
+            (sym told) delivery,
+        refl,
+      ),
       subst (λ (y : Outcome). IsLinkOf a b (M.with_pair s l (M.after_deliver p y)) k) (sym told) here,
     )
 step_goes a b l w step.Reset o r i written small later told =
@@ -230,8 +240,12 @@ first_part (Fetched metadata) h source = absurd h
 -- an end knows nothing at first
 first_knows : (a b : EndState) → IsNew a → Knows b a
 first_knows a b n =
-    let k : Knows b (unopened a.own a.handshake a.announce a.window a.part) = record { table = record { entries = tt; few = omega arith }; id = inl refl; donthave = inl refl;
-        part = first_part a.part n.part (source_of b.part) } in
+    let k : Knows b (unopened a.own a.handshake a.announce a.window a.part) = record {
+      table = record { entries = tt; few = omega arith };
+      id = inl refl;
+      donthave = inl refl;
+      part = first_part a.part n.part (source_of b.part);
+    } in
     subst (λ (e : EndState). Knows b e) (sym n.unopened) k
 
 linked_new : (a b : EndState) → IsNew a → IsNew b → AreMatched a b → IsLinkOf a b (M.link_of a b) (B.link_of a b)
@@ -241,7 +255,7 @@ linked_new a b h k m = record {
   inv = new_inv a b a b h.is k.is m (record { own = refl; handshake = refl; serves = refl }) (record { own = refl; handshake = refl; serves = refl })
       (first_knows a b h) (first_knows b a k)
       (ap (λ (e : EndState). e.context) h.unopened) (ap (λ (e : EndState). e.sends) h.unopened) (ap (λ (e : EndState). e.context) k.unopened)
-          (ap (λ (e : EndState). e.sends) k.unopened);
+      (ap (λ (e : EndState). e.sends) k.unopened);
 }
 
 linked : (a b : EndState) (ss : List Step) (os : List Outcome) → IsHonestRun a b ss os → IsLinkOf a b (M.link_of a b) (B.link_of a b)
@@ -391,7 +405,7 @@ room_after a b l w (step.Turn s) o n r i h told =
     let e = ready_at s a b r in
     let p : M.Pair = M.seen_from s l in
     let t : Turns (mine s a b) (yours s a b) p (wires_at s w) (M.turn_of p) (M.after_turn p (M.turn_of p)) =
-        turns (mine s a b) (yours s a b) p (wires_at s w) e.own e.other (inv_at s a b l w i) (small_other s l (room_small l (suc n) h)) in
+    turns (mine s a b) (yours s a b) p (wires_at s w) e.own e.other (inv_at s a b l w i) (small_other s l (room_small l (suc n) h)) in
     subst (λ (x : Outcome). HasRoom (M.with_pair s l (M.after_turn p x)) n) (sym told) (room_side s l (M.after_turn p (M.turn_of p)) n h t.grows t.rests)
 room_after a b l w (step.Say s msg) o n r i h told =
     let e = ready_at s a b r in
@@ -497,5 +511,5 @@ queued_may_be_sent a b ss os k h is =
     let few = small_end (M.link_of a b) ss os small in
     let mine_well : B.QueuesWell (link_with e r.wires).left = queues_well a b (M.seen_from Left e) r.wires h.left.is h.right.is r.inv few.1 in
     let yours_well : B.QueuesWell (link_with e r.wires).right = queues_well b a (M.seen_from Right e) (turned r.wires) h.right.is h.left.is
-        (inv_turned a b (M.seen_from Left e) r.wires r.inv) few.0 in
+    (inv_turned a b (M.seen_from Left e) r.wires r.inv) few.0 in
     (subst (λ (x : B.Link). B.QueuesWell x.left) (sym r.same) mine_well, subst (λ (x : B.Link). B.QueuesWell x.right) (sym r.same) yours_well)

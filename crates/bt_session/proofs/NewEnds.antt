@@ -1,6 +1,6 @@
 -- An end that is made of a config is a new one.
-use Rattle.std.proofs.Common.{◌≡◌, ℕ, ◌^◌, ◌<◌, Bool, true, false, ◌||◌, ltb, eqb, if◌then◌else◌, List, [], length, Option, Some, None, IfSome, is_none,
-    refl, subst, ap}
+use Rattle.std.proofs.Common.{◌≡◌, ℕ, ◌^◌, ◌<◌, Bool, true, false, ◌||◌, ltb, eqb, if◌then◌else◌, List, [], length, Option, Some, None, IfSome, is_none}
+use Rattle.std.proofs.Common.{refl, subst, ap}
 use Rattle.std.proofs.lemmas.Bool.{ltb-false}
 use Rattle.std.specs.Prelude.{unwrap_or}
 use Rattle.std.specs.Option.{ForSome}
@@ -36,8 +36,11 @@ sized Fetch e m h = absurd cc
 sized (Serve metadata) e m h =
     let parts = neither (eqb (length metadata.items) 0) (ltb max_metadata (length metadata.items)) e in
     let same : metadata.items ≡ m = cc in
-    let is : IsMetadata metadata.items = record { least = above_zero (length metadata.items) parts.0; most = ltb-false max_metadata (length metadata.items)
-        parts.1 } in
+    let is : IsMetadata metadata.items = record {
+      least = above_zero (length metadata.items) parts.0;
+      most = ltb-false max_metadata (length metadata.items)
+          parts.1;
+    } in
     subst (λ (x : List ℕ). IsMetadata x) same is
 
 first : (role : Role Global) → IsFirstPart (part_for role)
@@ -74,5 +77,9 @@ new_of c peer reserved hash metadata donthave e =
     }
 
 pub matched_ends : (c d : Config Global) → DoMatch c d → AreMatched (end_for c) (end_for d)
-matched_ends c d h = record { hash = ap (λ (o : Option (List ℕ)). unwrap_or o []) h.alike.hash; limit = h.alike.limit; rules = h.alike.rules;
-    pieces = h.alike.pieces }
+matched_ends c d h = record {
+  hash = ap (λ (o : Option (List ℕ)). unwrap_or o []) h.alike.hash;
+  limit = h.alike.limit;
+  rules = h.alike.rules;
+  pieces = h.alike.pieces;
+}

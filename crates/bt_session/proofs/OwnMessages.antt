@@ -76,13 +76,20 @@ dict_length ps = omega (arith, length-append (ben_pairs ps) (101 ∷ []))
 typed_length : (msg_type piece : ℕ) (ps : Pairs) → msg_type < 2 ^ 63 → piece < 2 ^ 32 → length (ben_pairs (typed msg_type piece ps)) ≤ 99 + length
     (ben_pairs ps)
 typed_length t k ps lt lk =
-    omega (arith, pair_length (codes "msg_type") t (pair (codes "piece") (integer (pos k)) ps) (omega arith) lt,
-        pair_length (codes "piece") k ps (omega arith) (omega arith))
+    omega (
+      arith,
+      pair_length (codes "msg_type") t (pair (codes "piece") (integer (pos k)) ps) (omega arith) lt,
+      pair_length (codes "piece") k ps (omega arith) (omega arith),
+    )
 
 message_length : (k : Kind) (rest : List ℕ) → IsMade k → length (payload_of (message_of k rest)) ≤ 160 + length rest
 message_length (kind.Request piece) rest h =
-    omega (arith, length-append (ben (dictionary (message_pairs (kind.Request piece)))) rest, dict_length (message_pairs (kind.Request piece)),
-        typed_length 0 piece no_pairs (omega arith) h)
+    omega (
+      arith,
+      length-append (ben (dictionary (message_pairs (kind.Request piece)))) rest,
+      dict_length (message_pairs (kind.Request piece)),
+      typed_length 0 piece no_pairs (omega arith) h,
+    )
 message_length (kind.Data piece total) rest h =
     omega (
       arith,
@@ -92,8 +99,12 @@ message_length (kind.Data piece total) rest h =
       pair_length (codes "total_size") total no_pairs (omega arith) h.2,
     )
 message_length (kind.Reject piece) rest h =
-    omega (arith, length-append (ben (dictionary (message_pairs (kind.Reject piece)))) rest, dict_length (message_pairs (kind.Reject piece)),
-        typed_length 2 piece no_pairs (omega arith) h)
+    omega (
+      arith,
+      length-append (ben (dictionary (message_pairs (kind.Reject piece)))) rest,
+      dict_length (message_pairs (kind.Reject piece)),
+      typed_length 2 piece no_pairs (omega arith) h,
+    )
 message_length kind.Other rest h = absurd h
 message_length kind.Malformed rest h = absurd h
 
@@ -108,8 +119,11 @@ id_length name (Some n) ps short h = let b = h n refl in omega (arith, pair_leng
 
 ids_length : (metadata donthave : Option ℕ) → ForSome metadata (λ n. n < 256) → ForSome donthave (λ n. n < 256)
     → length (ben_pairs (m_pairs metadata donthave)) ≤ 108
-ids_length metadata donthave h k = omega (arith, id_length donthave_name donthave (id_pair metadata_name metadata no_pairs) (omega arith) k,
-    id_length metadata_name metadata no_pairs (omega arith) h)
+ids_length metadata donthave h k = omega (
+  arith,
+  id_length donthave_name donthave (id_pair metadata_name metadata no_pairs) (omega arith) k,
+  id_length metadata_name metadata no_pairs (omega arith) h,
+)
 
 fields_length : (metadata donthave size : Option ℕ) → ForSome metadata (λ n. n < 256) → ForSome donthave (λ n. n < 256) → ForSome size (λ n. n < 2 ^ 63)
     → length (ben_pairs (handshake_pairs metadata donthave size)) ≤ 200
@@ -138,8 +152,12 @@ pub greeting_for : (c d : Context) (o : Order) (reg : Registered) (size : Option
 greeting_for c d o reg size own room agreed least h k =
     let right = handshake-right reg size h k in
     record {
-      said = record { in_range = record { id = omega arith; fields = omega arith }; legal = own_legal c o (handshake_of reg size) own (refl, right.0) right.1
-          refl (omega (arith, greeting_length reg size h k)); start = omega arith };
+      said = record {
+        in_range = record { id = omega arith; fields = omega arith };
+        legal = own_legal c o (handshake_of reg size) own (refl, right.0) right.1
+            refl (omega (arith, greeting_length reg size h k));
+        start = omega arith;
+      };
       in_range = record { id = omega arith; fields = omega arith };
       legal = own_legal d o (handshake_of reg size) agreed (refl, right.0) right.1 refl (omega (arith, greeting_length reg size h k));
       same = refl;
@@ -152,8 +170,12 @@ pub message_for : (c d : Context) (o : Order) (k : Kind) (rest : List ℕ) (id :
 message_for c d o k rest id own room agreed least sender reader lt made ok size =
     let right = message-right k rest made ok in
     record {
-      said = record { in_range = record { id = omega arith; fields = rw sender lt }; legal = own_legal c o (message_of k rest) own (rw sender refl, right.0)
-          right.1 refl (omega (arith, message_length k rest made)); start = omega arith };
+      said = record {
+        in_range = record { id = omega arith; fields = rw sender lt };
+        legal = own_legal c o (message_of k rest) own (rw sender refl, right.0)
+            right.1 refl (omega (arith, message_length k rest made));
+        start = omega arith;
+      };
       in_range = record { id = omega arith; fields = rw reader lt };
       legal = own_legal d o (message_of k rest) agreed (rw reader refl, right.0) right.1 refl (omega (arith, message_length k rest made));
       same = ap (λ (o : Option ℕ). be32 (length (20 ∷ unwrap_or o 0 ∷ payload_of (message_of k rest)))

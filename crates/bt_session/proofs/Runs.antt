@@ -1,6 +1,6 @@
 -- What a side of the link does is a step of the link.
-use Rattle.std.proofs.Common.{◌≡◌, ℕ, ◌≤◌, ◌||◌, ◌&&◌, min, List, [], ◌∷◌, ◌++◌, length, Result, Ok, Err, IfOk, nat_le, is_none, is_some, refl, sym, ap,
-    subst, ◌∙◌, arith, length-append, ◌+◌, ◌<◌, take, get_or, add-one}
+use Rattle.std.proofs.Common.{◌≡◌, ℕ, ◌≤◌, ◌||◌, ◌&&◌, min, List, [], ◌∷◌, ◌++◌, length, Result, Ok, Err, IfOk, nat_le, is_none, is_some, refl, sym, ap}
+use Rattle.std.proofs.Common.{subst, ◌∙◌, arith, length-append, ◌+◌, ◌<◌, take, get_or, add-one}
 use Rattle.std.proofs.lemmas.List.{length-take-le}
 use Rattle.std.proofs.Math.Seq.{take-suc}
 use Rattle.bt_wire.specs.Messages.{Message}
@@ -46,9 +46,11 @@ pub turn_left : (n : Link) (m : Node) (r : Result Outcome Memory) → IfOk r (λ
     → IfOk r (λ o. Steps n (step.Turn Left) o (record n { left = m }))
 turn_left n m (Err e) f = tt
 turn_left n m (Ok o) f = λ l h w.
-    let t = f l.left h.left w.0 in
-    (record l { left = B.fed t.0 }, (record { own = B.fed t.0; other = l.right }, (t.0, t.1, refl), refl),
-        record { left = t.2; right = h.right; past = h.past })
+    let t = f l.left h.left w.0 in (
+      record l { left = B.fed t.0 },
+      (record { own = B.fed t.0; other = l.right }, (t.0, t.1, refl), refl),
+      record { left = t.2; right = h.right; past = h.past },
+    )
 
 pub turn_right : (n : Link) (m : Node) (r : Result Outcome Memory) → IfOk r (λ o. Turned n.right m o)
     → IfOk r (λ o. Steps n (step.Turn Right) o (record n { right = m }))
@@ -63,7 +65,7 @@ pub may_be_recorded : (x : B.Node) (msg : Message) → IsInRange bare msg → B.
 may_be_recorded x msg range may =
     let e = x.half.end in
     let tests = unsaid_none (is_none e.context || is_some (standing x.half.feed)) (nat_le high_water (length x.half.outbox)) (is_own_made msg)
-        (tells_pieces e msg && is_none e.own.pieces) may.0 in
+    (tells_pieces e msg && is_none e.own.pieces) may.0 in
     record { in_range = belief_range e msg tests.1 range; legal = may.1; start = omega arith }
 
 abbrev pub Said : Node → Node → Message → Outcome → Type 0
@@ -93,17 +95,21 @@ pub deliver_left : (n : Link) (m later : Node) (count k : ℕ) → Delivered n.l
     → Goes n (step.Deliver Left count) (outcome.Delivered k) (record n { left = m; right = later })
 deliver_left n m later count k f = λ l h.
     let p : B.Pair = record { own = l.left; other = l.right } in
-    let t = f p h.left h.right in
-    (record l { left = (B.delivers p k).own; right = (B.delivers p k).other },
-        (B.delivers p k, (ap outcome.Delivered t.0, ap (λ (j : ℕ). B.delivers p j) t.0), refl), record { left = t.1; right = t.2; past = h.past })
+    let t = f p h.left h.right in (
+      record l { left = (B.delivers p k).own; right = (B.delivers p k).other },
+      (B.delivers p k, (ap outcome.Delivered t.0, ap (λ (j : ℕ). B.delivers p j) t.0), refl),
+      record { left = t.1; right = t.2; past = h.past },
+    )
 
 pub deliver_right : (n : Link) (m later : Node) (count k : ℕ) → Delivered n.right n.left count k m later
     → Goes n (step.Deliver Right count) (outcome.Delivered k) (record n { left = later; right = m })
 deliver_right n m later count k f = λ l h.
     let p : B.Pair = record { own = l.right; other = l.left } in
-    let t = f p h.right h.left in
-    (record l { left = (B.delivers p k).other; right = (B.delivers p k).own },
-        (B.delivers p k, (ap outcome.Delivered t.0, ap (λ (j : ℕ). B.delivers p j) t.0), refl), record { left = t.2; right = t.1; past = h.past })
+    let t = f p h.right h.left in (
+      record l { left = (B.delivers p k).other; right = (B.delivers p k).own },
+      (B.delivers p k, (ap outcome.Delivered t.0, ap (λ (j : ℕ). B.delivers p j) t.0), refl),
+      record { left = t.2; right = t.1; past = h.past },
+    )
 
 -- ---- connections
 
@@ -167,7 +173,7 @@ step_counts : (l k : B.Link) (s : Step) (o : Outcome) (n : ℕ) → B.IsStep l s
 step_counts l k (step.Turn s) o n is h =
     let p : B.Pair = B.seen_from s l in
     let g : length is.0.own.handled ≤ length p.own.handled + 1 =
-        omega (arith, turn_counts p.own is.1.0 o is.1.1, ap (λ (q : B.Pair). length q.own.handled) is.1.2) in
+    omega (arith, turn_counts p.own is.1.0 o is.1.1, ap (λ (q : B.Pair). length q.own.handled) is.1.2) in
     subst (λ (x : B.Link). IsHandled (n + 1) x) (sym is.2) (side_counts s l is.0 n h g (ap (λ (q : B.Pair). q.other.handled) is.1.2))
 step_counts l k (step.Say s msg) o n is h =
     let p : B.Pair = B.seen_from s l in
@@ -211,9 +217,14 @@ done_at i ss s first n m os new o lt few here pushed written so_far next a b new
     let short : IsShortRun a b (take i ss) = record { left = news.left; right = news.right; matched = news.matched; written = written; few = long } in
     let queues = queued_may_be_sent a b (take i ss) os d.0 short d.1 in
     let counts : IsHandled (0 + length (take i ss)) d.0 = steps_count (B.link_of a b) d.0 (take i ss) os 0 d.1 (omega arith, omega arith) in
-    let may : EachMayHandle d.0 = (record { queues = queues.0; count = omega (arith, counts.0, long) },
-        record { queues = queues.1; count = omega (arith, counts.1, long) }) in
+    let may : EachMayHandle d.0 = (
+      record { queues = queues.0; count = omega (arith, counts.0, long) },
+      record { queues = queues.1; count = omega (arith, counts.1, long) },
+    ) in
     let t = next d.0 d.2 may in
-    let more = steps_more (B.link_of a b) (take i ss) os d.0 s o t.0 d.1 t.1 in
-    (t.0, subst (λ (x : List Step). B.AreSteps (B.link_of a b) x new t.0) (sym (take_more i ss s lt here))
-        (subst (λ (x : List Outcome). B.AreSteps (B.link_of a b) (take i ss ++ s ∷ []) x t.0) (sym pushed) more), t.2)
+    let more = steps_more (B.link_of a b) (take i ss) os d.0 s o t.0 d.1 t.1 in (
+      t.0,
+      subst (λ (x : List Step). B.AreSteps (B.link_of a b) x new t.0) (sym (take_more i ss s lt here))
+          (subst (λ (x : List Outcome). B.AreSteps (B.link_of a b) (take i ss ++ s ∷ []) x t.0) (sym pushed) more),
+      t.2,
+    )

@@ -1,6 +1,6 @@
 -- What is under way: bytes that are the spellings of items.
-use Rattle.std.proofs.Common.{◌≡◌, ℕ, zero, suc, ◌+◌, ◌^◌, ◌<◌, ◌≤◌, ◌⊎◌, inl, inr, Bool, true, false, List, [], ◌∷◌, ◌++◌, length, map, take, drop,
-    flat_map, Option, Some, None, slice_get, refl, sym, ap, subst, ◌∙◌, arith, bytes_eq}
+use Rattle.std.proofs.Common.{◌≡◌, ℕ, zero, suc, ◌+◌, ◌^◌, ◌<◌, ◌≤◌, ◌⊎◌, inl, inr, Bool, true, false, List, [], ◌∷◌, ◌++◌, length, map, take, drop}
+use Rattle.std.proofs.Common.{flat_map, Option, Some, None, slice_get, refl, sym, ap, subst, ◌∙◌, arith, bytes_eq}
 use Rattle.std.proofs.lemmas.Bool.{cases_lt, lt-leb}
 use Rattle.std.proofs.lemmas.List.{append-nil, append_assoc, take-append-drop, length-append, take_at, drop_at, take-append-le}
 use Rattle.std.proofs.lemmas.Slice.Eq.{bytes_eq-Decides}
@@ -162,10 +162,10 @@ pub open_before : (t : Stage) (b x first : List ℕ) (i : Item) → limit_of t <
     → is_closed t b ≡ false
 open_before (stage.Handshake own) b x first (items.Handshake h) lt p e short =
     open_by (stage.Handshake own) b (hand_early own b x h (e ∙ p.2) (ap (hand_fault own) (sym p.2) ∙ p.0) (hand_fault own b) refl)
-        (lt-leb 68 (length b) (omega (arith, ap length p.2, hand-length h p.1)))
+    (lt-leb 68 (length b) (omega (arith, ap length p.2, hand-length h p.1)))
 open_before (stage.Message c o s n) b x first (items.Message msg) lt p e short =
     open_by (stage.Message c o s n) b (message_early c o s b x msg lt (e ∙ p.1) p.0 (early_fault c o s b) refl)
-        (message_short c o s b x msg lt (e ∙ p.1) p.0 (omega (arith, ap length p.1)) (is_whole b) refl)
+    (message_short c o s b x msg lt (e ∙ p.1) p.0 (omega (arith, ap length p.1)) (is_whole b) refl)
 open_before (stage.Handshake own) b x first (items.Message msg) lt p e short = absurd p
 open_before (stage.Message c o s n) b x first (items.Handshake h) lt p e short = absurd p
 
@@ -202,7 +202,7 @@ first_held t i is held untaken outbox lt h p full le =
       | inr l ↦ l
     ] in
     let front : take (size i) held ≡ h.0 = sym (take-append-le (size i) held (untaken ++ outbox) long) ∙ ap (take (size i)) h.2
-        ∙ take_at h.0 h.1 (size i) len in
+    ∙ take_at h.0 h.1 (size i) len in
     let not_longer : length held ≤ size i = no_longer t held (size i) p (ap (is_closed t) front ∙ item_closed t h.0 i lt h.3) in
     let parts = both_parts held h.0 (untaken ++ outbox) h.1 (omega arith) h.2 in
     (subst (λ (x : List ℕ). IsItem t x i) (sym parts.0) h.3, subst (λ (x : List ℕ). Coming (stage_after t (size i) i) is x) (sym parts.1) h.4)
@@ -218,7 +218,7 @@ hand_hash h p =
     let front : List ℕ = protocol ++ be64 h.reserved.0 in
     let apart : hand h ≡ front ++ (h.info_hash ++ h.peer_id) = append_assoc front h.info_hash h.peer_id in
     ap (λ (x : List ℕ). take 20 (drop 28 x)) apart ∙ ap (take 20) (drop_at front (h.info_hash ++ h.peer_id) 28 refl)
-        ∙ take_at h.info_hash h.peer_id 20 p.info_hash
+    ∙ take_at h.info_hash h.peer_id 20 p.info_hash
 
 same_bytes : (x : List ℕ) → bytes_eq x x ≡ true
 same_bytes x = grind (arith, bytes_eq-Decides x x)

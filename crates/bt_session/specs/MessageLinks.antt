@@ -1,6 +1,6 @@
 -- The link of two ends that hands over values: it decodes nothing and refuses nothing.
-use Rattle.std.specs.Prelude.{◌≡◌, ℕ, ◌+◌, ◌-◌, ◌<◌, ◌^◌, false, nat_le, min, if◌then◌else◌, List, [], ◌∷◌, ◌++◌, length, map, take, slice_get, Option,
-    Some, None, ⊤}
+use Rattle.std.specs.Prelude.{◌≡◌, ℕ, ◌+◌, ◌-◌, ◌<◌, ◌^◌, false, nat_le, min, if◌then◌else◌, List, [], ◌∷◌, ◌++◌, length, map, take, slice_get, Option}
+use Rattle.std.specs.Prelude.{Some, None, ⊤}
 use Rattle.bt_ext.specs.Ids.{metadata_only}
 use Rattle.bt_ext.specs.declared.ids.Rules.TheVariants.{Free}
 use Rattle.bt_wire.specs.declared.context.Context.{Context}

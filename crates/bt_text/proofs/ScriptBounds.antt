@@ -1,6 +1,6 @@
 -- How long the words of an item are, and that they hold no line feed.
-use Rattle.std.proofs.Common.{◌≡◌, ℕ, zero, suc, ◌+◌, ◌*◌, ◌/◌, ◌%◌, ◌<◌, ◌≤◌, ◌^◌, ◌==◌, ◌||◌, Bool, false, List, [], ◌∷◌, ◌++◌, length, get_or, refl,
-    subst, arith}
+use Rattle.std.proofs.Common.{◌≡◌, ℕ, zero, suc, ◌+◌, ◌*◌, ◌/◌, ◌%◌, ◌<◌, ◌≤◌, ◌^◌, ◌==◌, ◌||◌, Bool, false, List, [], ◌∷◌, ◌++◌, length, get_or, refl}
+use Rattle.std.proofs.Common.{subst, arith}
 use Rattle.std.specs.Prelude.{codes, unwrap_or}
 use Rattle.std.specs.Fmt.{decimal}
 use Rattle.std.specs.Int.{IsInRange as IsBetween}
@@ -63,10 +63,10 @@ fields_have_none none range = refl
 fields_have_none (index i) range = spaced_has_none i range
 fields_have_none (part i b l) range =
     has_feed-append (spaced i) (spaced b ++ spaced l) (spaced_has_none i range.0) (has_feed-append (spaced b) (spaced l) (spaced_has_none b range.1)
-        (spaced_has_none l range.2))
+    (spaced_has_none l range.2))
 fields_have_none (block i b bytes) range =
     has_feed-append (spaced i) (spaced b ++ spaced_hex bytes) (spaced_has_none i range.0)
-        (has_feed-append (spaced b) (spaced_hex bytes) (spaced_has_none b range.1) (dash_has_none bytes))
+    (has_feed-append (spaced b) (spaced_hex bytes) (spaced_has_none b range.1) (dash_has_none bytes))
 fields_have_none (port p) range = spaced_has_none p (omega arith)
 fields_have_none (field bits) range = dash_has_none bits
 fields_have_none (extended n bytes) range = has_feed-append (spaced n) (spaced_hex bytes) (spaced_has_none n (omega arith)) (dash_has_none bytes)
@@ -131,7 +131,7 @@ message_fits own c (m.Reject i b l) same range = named_fits (codes "reject") 16 
 message_fits own c (m.AllowedFast i) same range = named_fits (codes "allowed-fast") 17 (index i) (omega arith) refl range.fields
 message_fits own c (m.Extended e) same range =
     subst (λ (reg : Registered). IsFitLine (codes "extended" ++ script_fields (extended (unwrap_or (ext_id reg e) 0) (payload_of e)))
-        (length (body c (m.Extended e)))) same
+    (length (body c (m.Extended e)))) same
     (named_fits (codes "extended") 20 (extended (unwrap_or (ext_id c.reg e) 0) (payload_of e)) (omega arith) refl range.fields)
 message_fits own c (m.Unknown n bytes) same range = unknown_fits n bytes range.id
 
@@ -146,8 +146,16 @@ handshake_fits h is =
     let i = encode_lower h.info_hash in
     let p = encode_lower h.peer_id in
     record {
-      short = omega (arith, length-append r (codes " " ++ (i ++ (codes " " ++ p))), length-append i (codes " " ++ p), length-hex (be64 h.reserved.0),
-          length-hex h.info_hash, length-hex h.peer_id, is.info_hash, is.peer_id);
+      short = omega (
+        arith,
+        length-append r (codes " " ++ (i ++ (codes " " ++ p))),
+        length-append i (codes " " ++ p),
+        length-hex (be64 h.reserved.0),
+        length-hex h.info_hash,
+        length-hex h.peer_id,
+        is.info_hash,
+        is.peer_id,
+      );
       whole = has_feed-append r (codes " " ++ (i ++ (codes " " ++ p))) (hex_has_none (be64 h.reserved.0))
           (has_feed-append i (codes " " ++ p) (hex_has_none h.info_hash) (hex_has_none h.peer_id));
     }

@@ -1,6 +1,6 @@
 -- The fields of a line as they are read, and as they are said: the same.
-use Rattle.std.proofs.Common.{◌≡◌, ℕ, ◌<◌, ◌^◌, ◌==◌, true, false, List, [], ◌∷◌, ◌++◌, length, Option, Some, None, Result, Ok, Err, refl, sym, ap, subst,
-    ◌∙◌, arith, inl, inr}
+use Rattle.std.proofs.Common.{◌≡◌, ℕ, ◌<◌, ◌^◌, ◌==◌, true, false, List, [], ◌∷◌, ◌++◌, length, Option, Some, None, Result, Ok, Err, refl, sym, ap, subst}
+use Rattle.std.proofs.Common.{◌∙◌, arith, inl, inr}
 use Rattle.std.specs.Prelude.{codes, option_map, option_and_then, nat_lt, if◌then◌else◌}
 use Rattle.std.specs.Fmt.{decimal}
 use Rattle.std.specs.Result.{result_ok}
@@ -17,8 +17,8 @@ use Rattle.bt_wire.specs.Messages.{Fields, none, index, part, block, port, field
 use Rattle.bt_wire.specs.Numbers.{be16, be32}
 use Rattle.bt_text.specs.Lines.{spaced}
 use Rattle.bt_text.specs.Script.{SaysBytes, SaysSpaced, SaysFields, shape_of}
-use Rattle.bt_text.specs.ScriptReading.{word_of, behind_word, number_in_word, bytes_in_word, number_behind, after_one, one_more_behind, two_behind,
-    three_behind, closed, bytes_behind, with_bytes, port_in, extended_in, fields_in}
+use Rattle.bt_text.specs.ScriptReading.{word_of, behind_word, number_in_word, bytes_in_word, number_behind, after_one, one_more_behind, two_behind}
+use Rattle.bt_text.specs.ScriptReading.{three_behind, closed, bytes_behind, with_bytes, port_in, extended_in, fields_in}
 use Rattle.bt_text.proofs.ScriptWords.{Stops, word-parts, word_of-append, behind_word-append, decimal_has_no_space, number_in_word-decimal, number_in_word-Some}
 
 -- ---- what an answer comes from
@@ -65,7 +65,7 @@ number_at c cs p e h =
     let d = number_in_word-Some (word_of cs) q.from q.was in
     let text : c ∷ cs ≡ spaced q.from ++ behind_word cs =
     ap (λ (x : List ℕ). c ∷ x) (sym (word-parts cs)) ∙ ap (λ (x : List ℕ). c ∷ (x ++ behind_word cs)) d.digits
-        ∙ ap (λ (k : ℕ). k ∷ (decimal q.from ++ behind_word cs)) (is_space c e) in
+    ∙ ap (λ (k : ℕ). k ∷ (decimal q.from ++ behind_word cs)) (is_space c e) in
     subst (λ (p : ℕ × List ℕ). HasNumber (c ∷ cs) p.0 p.1) q.gives (record { text_is = text; small = d.small })
 
 pub number_behind-Some : (text : List ℕ) (p : ℕ × List ℕ) → number_behind text ≡ Some p → HasNumber text p.0 p.1
@@ -307,7 +307,7 @@ three_says : (i b l : ℕ) → i < 2 ^ 32 → b < 2 ^ 32 → l < 2 ^ 32 → thre
     ≡ Some (pair ((be32 i ++ be32 b) ++ be32 l) [])
 three_says i b l li lb ll =
     rw (two_says i b (spaced l) li lb refl) (ap (λ (x : List ℕ). one_more_behind (pair (be32 i ++ be32 b) x)) (sym (append-nil (spaced l)))
-        ∙ one_more_behind-spaced (be32 i ++ be32 b) l [] ll tt)
+    ∙ one_more_behind-spaced (be32 i ++ be32 b) l [] ll tt)
 
 block_says : (i b : ℕ) (text rest bytes : List ℕ) → i < 2 ^ 32 → b < 2 ^ 32 → text ≡ spaced i ++ (spaced b ++ rest) → SaysSpaced rest bytes
     → fields_in Block text ≡ Some (spell_fields (block i b bytes))

@@ -1,6 +1,6 @@
 -- The lines that are read are those that are said, with the same bytes.
-use Rattle.std.proofs.Common.{◌≡◌, ℕ, ◌<◌, ◌^◌, ◌==◌, Bool, true, false, cond, not, ◌&&◌, List, [], ◌∷◌, ◌++◌, length, Some, None, Result, Ok, Err, refl,
-    sym, ap, subst, ◌∙◌, arith, inl, inr}
+use Rattle.std.proofs.Common.{◌≡◌, ℕ, ◌<◌, ◌^◌, ◌==◌, Bool, true, false, cond, not, ◌&&◌, List, [], ◌∷◌, ◌++◌, length, Some, None, Result, Ok, Err, refl}
+use Rattle.std.proofs.Common.{sym, ap, subst, ◌∙◌, arith, inl, inr}
 use Rattle.std.specs.Prelude.{codes, option_map, option_and_then, nat_lt, IfOk}
 use Rattle.std.specs.Int.{w64, from_be_bytes}
 use Rattle.std.specs.List.{list_all, AllPass}
@@ -19,13 +19,13 @@ use Rattle.bt_wire.specs.Ids.{Id, ids, has_meaning}
 use Rattle.bt_wire.specs.Messages.{Fields, spell_fields}
 use Rattle.bt_wire.specs.Numbers.{be32, be64}
 use Rattle.bt_text.specs.Lines.{spaced}
-use Rattle.bt_text.specs.Script.{SaysSpaced, SaysFields, row_named, IsOfRow, Said, keep_alive, known, unknown, Says, framed_by, said_bytes, IsMessageLine,
-    HasHandshakeWords, IsHandshakeLine, IsLine, IsAnswer}
-use Rattle.bt_text.specs.ScriptReading.{word_of, behind_word, number_behind, with_bytes, fields_in, payload_in, unknown_in, row_in_text, message_in,
-    array_behind, peer_in, info_in, handshake_in, bytes_of_parts, closed, line_in, Gives}
+use Rattle.bt_text.specs.Script.{SaysSpaced, SaysFields, row_named, IsOfRow, Said, keep_alive, known, unknown, Says, framed_by, said_bytes, IsMessageLine}
+use Rattle.bt_text.specs.Script.{HasHandshakeWords, IsHandshakeLine, IsLine, IsAnswer}
+use Rattle.bt_text.specs.ScriptReading.{word_of, behind_word, number_behind, with_bytes, fields_in, payload_in, unknown_in, row_in_text, message_in}
+use Rattle.bt_text.specs.ScriptReading.{array_behind, peer_in, info_in, handshake_in, bytes_of_parts, closed, line_in, Gives}
 use Rattle.bt_text.proofs.ScriptWords.{Stops, has_no_space, word-parts, word_of-append, behind_word-append}
-use Rattle.bt_text.proofs.ScriptFields.{option_map-Some, option_and_then-Some, closed-Some, is_space, number_behind-Some, pair, number_behind-spaced,
-    with_bytes-Some, with_bytes-says, Stops-says, fields_in-Some, fields_in-says, Stops-fields}
+use Rattle.bt_text.proofs.ScriptFields.{option_map-Some, option_and_then-Some, closed-Some, is_space, number_behind-Some, pair, number_behind-spaced}
+use Rattle.bt_text.proofs.ScriptFields.{with_bytes-Some, with_bytes-says, Stops-says, fields_in-Some, fields_in-says, Stops-fields}
 
 same_text : (a b : List ℕ) → bytes_eq a b ≡ true → a ≡ b
 same_text a b e = (bytes_eq-Decides a b).0 e
@@ -165,9 +165,14 @@ array_at n c cs p e h =
     let decoded : decode_of (word_of cs) ≡ Ok q.from = sym (decode_sized-twice (word_of cs) n len) ∙ sized in
     let is = decode_of-ok (word_of cs) q.from decoded in
     let text : c ∷ cs ≡ codes " " ++ (word_of cs ++ behind_word cs) = ap (λ (k : ℕ). k ∷ cs) (is_space c e)
-        ∙ ap (λ (x : List ℕ). 32 ∷ x) (sym (word-parts cs)) in
-    subst (λ (p : List ℕ × List ℕ). HasArray n (c ∷ cs) p.0 p.1) q.gives (record { word = word_of cs; text_is = text; decoded = decoded;
-        size = omega (arith, len, is.2); fits = is.3 })
+    ∙ ap (λ (x : List ℕ). 32 ∷ x) (sym (word-parts cs)) in
+    subst (λ (p : List ℕ × List ℕ). HasArray n (c ∷ cs) p.0 p.1) q.gives (record {
+      word = word_of cs;
+      text_is = text;
+      decoded = decoded;
+      size = omega (arith, len, is.2);
+      fits = is.3;
+    })
 
 array_behind-Some : (n : ℕ) (text : List ℕ) (p : List ℕ × List ℕ) → array_behind n text ≡ Some p → HasArray n text p.0 p.1
 array_behind-Some n [] p h = absurd cc
@@ -248,7 +253,7 @@ handshake_read text rest p parts t =
     let last : t.info_rest ≡ codes " " ++ t.peer_read.word = t.peer_read.text_is ∙ ap (λ (x : List ℕ). 32 ∷ x) (append-nil t.peer_read.word) in
     let words : text ≡ codes "handshake " ++ (t.reserved_read.word ++ (codes " " ++ (t.info_read.word ++ (codes " " ++ t.peer_read.word)))) =
     parts ∙ ap (λ (x : List ℕ). codes "handshake" ++ x) (t.reserved_read.text_is ∙ ap (λ (x : List ℕ). codes " " ++ (t.reserved_read.word ++ x))
-        (t.info_read.text_is ∙ ap (λ (x : List ℕ). codes " " ++ (t.info_read.word ++ x)) last)) in
+    (t.info_read.text_is ∙ ap (λ (x : List ℕ). codes " " ++ (t.info_read.word ++ x)) last)) in
     let says : HasHandshakeWords text t.reserved_read.word t.info_read.word t.peer_read.word h = record {
       parts = words;
       reserved_bytes = t.reserved_read.decoded ∙ ap Ok (sym number);
@@ -265,7 +270,7 @@ handshake_if : (text : List ℕ) (p : Three) (b : Bool) → bytes_eq (word_of te
     → cond b (option_and_then info_in (array_behind 8 (behind_word text))) None ≡ Some p → IsHandshakeLine text (bytes_of_parts p)
 handshake_if text p true e h =
     let parts : text ≡ codes "handshake" ++ behind_word text = sym (word-parts text) ∙ ap (λ (x : List ℕ). x ++ behind_word text)
-        (same_text (word_of text) (codes "handshake") e) in
+    (same_text (word_of text) (codes "handshake") e) in
     handshake_read text (behind_word text) p parts (three_read (behind_word text) p h)
 handshake_if text p false e h = absurd cc
 

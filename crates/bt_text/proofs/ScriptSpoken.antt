@@ -18,8 +18,8 @@ use Rattle.bt_wire.specs.Ids.{Id, id, ids, has_meaning}
 use Rattle.bt_wire.specs.Messages.{Fields, none, index, part, block, port, field, extended, payload, spell_fields, spell, AreInRange, IsShaped, IsInRange}
 use Rattle.bt_wire.specs.Numbers.{be32, be64, AreBytes}
 use Rattle.bt_text.specs.Lines.{spaced, handshake_words}
-use Rattle.bt_text.specs.Script.{hex_or_dash, spaced_hex, script_fields, script_message, SaysBytes, SaysSpaced, SaysFields, shape_of, row_named, framed_by,
-    known, unknown, keep_alive, IsMessageLine, IsHandshakeLine, HasHandshakeWords}
+use Rattle.bt_text.specs.Script.{hex_or_dash, spaced_hex, script_fields, script_message, SaysBytes, SaysSpaced, SaysFields, shape_of, row_named, framed_by}
+use Rattle.bt_text.specs.Script.{known, unknown, keep_alive, IsMessageLine, IsHandshakeLine, HasHandshakeWords}
 
 says_hex : (bytes : List ℕ) → AreBytes bytes → SaysBytes (hex_or_dash bytes) bytes
 says_hex [] fits = refl
@@ -62,8 +62,11 @@ known_line i f named shape range fits = (
 
 unknown_line : (n : ℕ) (bytes : List ℕ) → n < 256 → has_meaning n ≡ false → AreBytes (spelled n bytes)
     → IsMessageLine (codes "unknown" ++ (spaced n ++ spaced_hex bytes)) (spelled n bytes)
-unknown_line n bytes small meaning fits = (unknown n bytes, (spaced_hex bytes, refl, small, meaning, says_spaced bytes (behind_id n bytes fits)),
-    spelled_framed n bytes)
+unknown_line n bytes small meaning fits = (
+  unknown n bytes,
+  (spaced_hex bytes, refl, small, meaning, says_spaced bytes (behind_id n bytes fits)),
+  spelled_framed n bytes,
+)
 
 pub message_line : (own : Own) (c : Context) (msg : Message) → c.reg ≡ own.reg → IsShaped c msg → IsInRange c msg → AreBytes (spell c msg)
     → IsMessageLine (script_message own msg) (spell c msg)
@@ -87,7 +90,7 @@ message_line own c (m.Reject i b l) same shaped range fits = known_line (id 16 (
 message_line own c (m.AllowedFast i) same shaped range fits = known_line (id 17 (codes "allowed-fast") Index Fast Counted) (index i) refl refl range.fields fits
 message_line own c (m.Extended e) same shaped range fits =
     subst (λ (reg : Registered). IsMessageLine (codes "extended" ++ script_fields (extended (unwrap_or (ext_id reg e) 0) (payload_of e)))
-        (spell c (m.Extended e))) same
+    (spell c (m.Extended e))) same
     (known_line (id 20 (codes "extended") Extended Extension Apart) (extended (unwrap_or (ext_id c.reg e) 0) (payload_of e)) refl refl range.fields fits)
 message_line own c (m.Unknown n bytes) same shaped range fits = unknown_line n bytes range.id shaped fits
 

@@ -20,8 +20,14 @@ pub two_parts : {E : Type 0} (old mid between new front rest : List ℕ) (r : Re
 two_parts old mid between new front rest (Ok x) spaced first some last =
     let hex : hex_or_dash (front ++ rest) ≡ encode_lower front ++ encode_lower rest =
     hex_of (front ++ rest) (omega (arith, some, length-append front rest)) ∙ encode_with-append lower_digits front rest in
-    rw (last, first, spaced, append_assoc (old ++ 32 ∷ []) (encode_lower front) (encode_lower rest),
-        append_assoc old (32 ∷ []) (encode_lower front ++ encode_lower rest), hex) refl
+    rw (
+      last,
+      first,
+      spaced,
+      append_assoc (old ++ 32 ∷ []) (encode_lower front) (encode_lower rest),
+      append_assoc old (32 ∷ []) (encode_lower front ++ encode_lower rest),
+      hex,
+    ) refl
 two_parts old mid between new front rest (Err e) spaced first some last = tt
 
 pub hand_words : (t a r b i p n : List ℕ) → ((((((t ++ a) ++ r) ++ b) ++ i) ++ b) ++ p) ++ n ≡ t ++ ((a ++ (r ++ (b ++ (i ++ (b ++ p))))) ++ n)

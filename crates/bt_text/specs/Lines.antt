@@ -96,7 +96,7 @@ kind_words kinds.Malformed t rest = codes "metadata-malformed" ++ lengths t rest
 abbrev pub ext_words : Ext → List ℕ
 ext_words (ext.Handshake dict rest) =
     codes "ext-handshake" ++ (lengths (tree_of dict) rest ++ (codes " size="
-        ++ (or_dash (size_of (tree_of dict)) ++ (codes " ut_metadata=" ++ or_dash (told_id (tree_of dict))))))
+    ++ (or_dash (size_of (tree_of dict)) ++ (codes " ut_metadata=" ++ or_dash (told_id (tree_of dict))))))
 ext_words (ext.Metadata dict rest) = kind_words (kind_of (tree_of dict)) (tree_of dict) rest
 ext_words (ext.DontHave i) = codes "donthave" ++ spaced i
 ext_words (ext.Raw id bytes) = codes "extended" ++ (spaced id ++ spaced (length bytes))

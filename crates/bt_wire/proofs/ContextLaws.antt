@@ -1,6 +1,6 @@
 -- A legal message stays legal in a context that differs in what it doesn't use; and a message is judged one way.
-use Rattle.std.proofs.Common.{◌≡◌, ℕ, suc, ◌^◌, ◌<◌, ◌≤◌, ◌⊎◌, inl, inr, Bool, true, false, ◌&&◌, ◌||◌, eqb, if◌then◌else◌, List, [], ◌++◌, length, Option,
-    Some, None, refl, sym, ap, subst, ◌∙◌, arith}
+use Rattle.std.proofs.Common.{◌≡◌, ℕ, suc, ◌^◌, ◌<◌, ◌≤◌, ◌⊎◌, inl, inr, Bool, true, false, ◌&&◌, ◌||◌, eqb, if◌then◌else◌, List, [], ◌++◌, length, Option}
+use Rattle.std.proofs.Common.{Some, None, refl, sym, ap, subst, ◌∙◌, arith}
 use Rattle.std.proofs.lemmas.Bool.{le-leb}
 use Rattle.std.proofs.lemmas.List.{append-nil}
 use Rattle.std.specs.Prelude.{IfSome, IsSome, unwrap_or}
@@ -55,7 +55,7 @@ same_id old new (ext.Metadata dict rest) h s t = same_or (metadata_id new) (meta
 same_id old new (ext.DontHave index) h s t = same_or (donthave_id new) (donthave_id old) t
 same_id old new (ext.Raw id payload) h s t =
     raw_id (eqb id 0) (is_metadata old id) (is_donthave old id) (is_metadata new id) (is_donthave new id) id h
-        (suits (metadata_id new) (metadata_id old) id s) (suits (donthave_id new) (donthave_id old) id t)
+    (suits (metadata_id new) (metadata_id old) id s) (suits (donthave_id new) (donthave_id old) id t)
 
 same_fields : (c : Context) (msg : Message) (p : Option ℕ) (r : Registered) → IsShaped c msg → IdsSuit c msg r → fields_of (moved c p r) msg ≡ fields_of c msg
 same_fields c (m.Extended e) p r shaped s = ap (λ (o : Option ℕ). extended (unwrap_or o 0) (payload_of e)) (same_id c.reg r e shaped.0 s.metadata s.donthave)
@@ -120,8 +120,11 @@ same_beyond c e p (inr (inr plain)) h = subst (λ (o : Option ℕ). is_index_bey
 keeps : (c : Context) (msg : Message) (p : Option ℕ) → KeepsPieces c.pieces (fields_of c msg) → PiecesSuit c msg p → KeepsPieces p (fields_of c msg)
 keeps c msg p k (inl same) = subst (λ (o : Option ℕ). KeepsPieces o (fields_of c msg)) (sym same) k
 keeps c msg p k (inr (inl none)) =
-    subst (λ (o : Option ℕ). KeepsPieces o (fields_of c msg)) (sym none) (record { indexed = no_index (index_in (fields_of c msg));
-        sized = no_size (field_in (fields_of c msg)); spare = no_spare (field_in (fields_of c msg)) })
+    subst (λ (o : Option ℕ). KeepsPieces o (fields_of c msg)) (sym none) (record {
+      indexed = no_index (index_in (fields_of c msg));
+      sized = no_size (field_in (fields_of c msg));
+      spare = no_spare (field_in (fields_of c msg));
+    })
 keeps c msg p k (inr (inr plain)) = record {
   indexed = subst (λ (o : Option ℕ). IfSome o (λ index. is_beyond p index ≡ false)) (sym (index_by c msg plain.0)) tt;
   sized = subst (λ (o : Option (List ℕ)). IfSome o (λ bits. allows (field_size p) (suc (length bits)) ≡ true)) (sym plain.1) tt;

@@ -1,6 +1,6 @@
 -- The first place at which two lists differ.
-use Rattle.std.proofs.Common.{◌≡◌, ◌≢◌, ℕ, ◌+◌, ◌≤◌, ◌<◌, cond, eqb, List, [], ◌∷◌, length, drop, get_or, min, Option, Some, None, refl, ap, ◌∙◌, arith,
-    inl, inr}
+use Rattle.std.proofs.Common.{◌≡◌, ◌≢◌, ℕ, ◌+◌, ◌≤◌, ◌<◌, cond, eqb, List, [], ◌∷◌, length, drop, get_or, min, Option, Some, None, refl, ap, ◌∙◌, arith}
+use Rattle.std.proofs.Common.{inl, inr}
 use Rattle.std.specs.Prelude.{option_map}
 use Rattle.std.proofs.lemmas.Bool.{cases_lt, eq-eqb, ne_eqb}
 use Rattle.std.proofs.lemmas.List.{drop_more, drop_all}
@@ -20,14 +20,14 @@ shifted_none (Some k) = ap Some (omega arith)
 
 heads : (xs ys : List ℕ) (i : ℕ) → i < length xs → i < length ys →
     first_difference (drop i xs) (drop i ys) ≡ cond (eqb (get_or xs i 0) (get_or ys i 0))
-        (option_map (λ k. k + 1) (first_difference (drop (i + 1) xs) (drop (i + 1) ys))) (Some 0)
+    (option_map (λ k. k + 1) (first_difference (drop (i + 1) xs) (drop (i + 1) ys))) (Some 0)
 heads xs ys i lx ly = rw (drop_more xs i 0 lx, drop_more ys i 0 ly) refl
 
 pub same_head : (xs ys : List ℕ) (i : ℕ) → i < length xs → i < length ys → get_or xs i 0 ≡ get_or ys i 0
     → shifted i (first_difference (drop i xs) (drop i ys)) ≡ shifted (i + 1) (first_difference (drop (i + 1) xs) (drop (i + 1) ys))
 same_head xs ys i lx ly e =
     ap (shifted i) (heads xs ys i lx ly ∙ rw (eq-eqb (get_or xs i 0) (get_or ys i 0) e) refl)
-        ∙ shifted_more i (first_difference (drop (i + 1) xs) (drop (i + 1) ys))
+    ∙ shifted_more i (first_difference (drop (i + 1) xs) (drop (i + 1) ys))
 
 pub other_head : (xs ys : List ℕ) (i : ℕ) → i < length xs → i < length ys → get_or xs i 0 ≢ get_or ys i 0
     → shifted i (first_difference (drop i xs) (drop i ys)) ≡ Some i

@@ -52,11 +52,11 @@ mutual
   within_pairs last (pair k t ps) =
       let key : ℕ = length (ben_string k) in
       let all : length (ben_pairs (pair k t ps)) ≡ key + (length (ben t) + length (ben_pairs ps)) =
-          omega (arith, length-append (ben_string k) (ben t ++ ben_pairs ps), length-append (ben t) (ben_pairs ps)) in
+      omega (arith, length-append (ben_string k) (ben t ++ ben_pairs ps), length-append (ben t) (ben_pairs ps)) in
       pair_within (is_above last k) _ _ (two_within None (first_of_two (unsorted t) (length (ben t)) (unsorted_pairs (Some k) ps)) key 0
-          (length (ben t) + length (ben_pairs ps)) (length (ben_pairs (pair k t ps))) tt
+      (length (ben t) + length (ben_pairs ps)) (length (ben_pairs (pair k t ps))) tt
       (two_within (unsorted t) (unsorted_pairs (Some k) ps) (length (ben t)) (length (ben t)) (length (ben_pairs ps))
-          (length (ben t) + length (ben_pairs ps)) (within t) (within_pairs (Some k) ps) (omega arith) (omega arith))
+      (length (ben t) + length (ben_pairs ps)) (within t) (within_pairs (Some k) ps) (omega arith) (omega arith))
       (omega arith) (omega (arith, all)))
 
 more : (o : Option ℕ) (a n : ℕ) → Within o a → a ≤ n → Within o n
@@ -90,13 +90,13 @@ fault_placed rules.Bep (ext.Handshake dict rest) =
     let t = tree_of dict in
     let le : length (ben t) ≤ length (ben t ++ rest) = omega (arith, length-append (ben t) rest) in
     first_placed _ (unsorted_fault (unsorted t)) _ (unsorted_placed _ (unsorted t) (more (unsorted t) (length (ben t)) _ (within t) le))
-        (if_placed _ (has_bad_field t) error.BadField (omega arith))
+    (if_placed _ (has_bad_field t) error.BadField (omega arith))
 fault_placed rules.Bep (ext.Metadata dict rest) =
     let t = tree_of dict in
     let le : length (ben t) ≤ length (ben t ++ rest) = omega (arith, length-append (ben t) rest) in
     first_placed _ (unsorted_fault (unsorted t)) _ (unsorted_placed _ (unsorted t) (more (unsorted t) (length (ben t)) _ (within t) le))
     (first_placed _ (fault_if (is_malformed (kind_of t)) error.BadField) _ (if_placed _ (is_malformed (kind_of t)) error.BadField (omega arith))
-        (if_placed _ (not (is_block_ok (kind_of t) (length rest))) (error.BadBlock (length (ben t))) le))
+    (if_placed _ (not (is_block_ok (kind_of t) (length rest))) (error.BadBlock (length (ben t))) le))
 
 has_placed : (reg : Registered) (r : Rules) (id : ℕ) (p : List ℕ) (f : ViewError) → HasFault reg r id p f → place_in f ≤ length p
 has_placed reg r id p f h =
@@ -145,4 +145,4 @@ fault_of_value rules.Bep (ext.Metadata dict rest) =
     let t = tree_of dict in
     first_value (unsorted_fault (unsorted t)) _ (unsorted_value (unsorted t))
     (first_value (fault_if (is_malformed (kind_of t)) error.BadField) _ (if_value (is_malformed (kind_of t)) error.BadField tt)
-        (if_value (not (is_block_ok (kind_of t) (length rest))) (error.BadBlock (length (ben t))) tt))
+    (if_value (not (is_block_ok (kind_of t) (length rest))) (error.BadBlock (length (ben t))) tt))

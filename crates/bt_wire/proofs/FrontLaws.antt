@@ -45,8 +45,12 @@ front_whole c o b n e le =
     let all = whole_there b (omega (arith, j.size)) in
     let says = window_says b all in
     let here : take n b ≡ window b = ap (λ (k : ℕ). take k b) j.size in
-    let w : IsWindow c o (window b) = record { long = omega (arith, says.1); exact = omega (arith, says.0, says.1); header = header-window c o b all
-        ∙ j.none } in
+    let w : IsWindow c o (window b) = record {
+      long = omega (arith, says.1);
+      exact = omega (arith, says.0, says.1);
+      header = header-window c o b all
+          ∙ j.none;
+    } in
     let P : List ℕ → Type 0 = λ z. header_of c o z ≡ headers.Window (length z) in
     record { whole = all; window = here; header = subst P (sym here) (header-from_window c o (window b) w) }
 

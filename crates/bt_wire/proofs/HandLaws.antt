@@ -1,11 +1,11 @@
 -- Handshakes: their faults stay whatever follows, and their bytes are those of one handshake.
-use Rattle.std.proofs.Common.{◌≡◌, ℕ, ◌+◌, ◌^◌, ◌≤◌, ◌<◌, Bool, true, false, cond, eqb, leb, List, [], ◌∷◌, ◌++◌, length, take, drop, Option, Some, None,
-    refl, sym, ap, ◌∙◌, arith, inl, inr}
+use Rattle.std.proofs.Common.{◌≡◌, ℕ, ◌+◌, ◌^◌, ◌≤◌, ◌<◌, Bool, true, false, cond, eqb, leb, List, [], ◌∷◌, ◌++◌, length, take, drop, Option, Some, None}
+use Rattle.std.proofs.Common.{refl, sym, ap, ◌∙◌, arith, inl, inr}
 use Rattle.std.specs.Prelude.{is_some, option_map, unwrap_or}
 use Rattle.std.specs.Int.{w64, from_be_bytes}
 use Rattle.std.proofs.lemmas.Bool.{cases_lt, cases_eq, eq-eqb, ne_eqb, le-leb, lt-leb}
-use Rattle.std.proofs.lemmas.List.{append_assoc, length-append, length-drop, length-take-le, take-append-drop, take-append-le, drop-append-le,
-    append_cancel_left, drop-drop, take_at, drop_at}
+use Rattle.std.proofs.lemmas.List.{append_assoc, length-append, length-drop, length-take-le, take-append-drop, take-append-le, drop-append-le}
+use Rattle.std.proofs.lemmas.List.{append_cancel_left, drop-drop, take_at, drop_at}
 use Rattle.std.proofs.lemmas.Nat.{from_be_bytes-to_be_bytes_8}
 use Rattle.bt_wire.specs.declared.context.Own.{Own}
 use Rattle.bt_wire.specs.declared.fault.Reason.TheVariants.{BadProtocol}
@@ -75,8 +75,13 @@ both_parts a b x y len e = (
 )
 
 pub hand-length : (h : Handshake) → IsHandshake h → length (hand h) ≡ 68
-hand-length h p = omega (arith, p.info_hash, p.peer_id, length-append (protocol ++ be64 h.reserved.0) h.info_hash,
-    length-append (protocol ++ be64 h.reserved.0 ++ h.info_hash) h.peer_id)
+hand-length h p = omega (
+  arith,
+  p.info_hash,
+  p.peer_id,
+  length-append (protocol ++ be64 h.reserved.0) h.info_hash,
+  length-append (protocol ++ be64 h.reserved.0 ++ h.info_hash) h.peer_id,
+)
 
 pub one_handshake : (g h : Handshake) (x y : List ℕ) → IsHandshake g → IsHandshake h → hand g ++ x ≡ hand h ++ y → (g ≡ h) × (x ≡ y)
 one_handshake g h x y p q e =
@@ -135,5 +140,5 @@ hand_parts own b h none long small reserved info peer = record {
   };
   parts = joined protocol (be64 h.reserved.0) h.info_hash h.peer_id (drop 68 b) (drop 48 b) (drop 28 b) (drop 20 b) b
       (begins_with protocol b (omega arith) (same_protocol own b none)) (next_part 8 20 b (be64 h.reserved.0) reserved) (next_part 20 28 b h.info_hash info)
-          (next_part 20 48 b h.peer_id peer);
+      (next_part 20 48 b h.peer_id peer);
 }

@@ -1,8 +1,8 @@
 -- What the first five bytes of a message show, whatever follows them.
-use Rattle.std.proofs.Common.{◌≡◌, ◌≢◌, ℕ, ◌+◌, ◌≤◌, ◌<◌, Bool, true, false, cond, eqb, ltb, leb, not, ◌&&◌, List, [], ◌∷◌, ◌++◌, map, length, take, Option,
-    Some, None, refl, sym, ap, subst, ◌∙◌, arith, inl, inr}
-use Rattle.std.proofs.lemmas.Bool.{and_parts, and_left, and_right, cases_eq, cases_Bool, leb-true, leb-false, ltb-true, ltb-false, le-leb, lt-leb, le-ltb,
-    ne_eqb, eq-eqb, not_from_true}
+use Rattle.std.proofs.Common.{◌≡◌, ◌≢◌, ℕ, ◌+◌, ◌≤◌, ◌<◌, Bool, true, false, cond, eqb, ltb, leb, not, ◌&&◌, List, [], ◌∷◌, ◌++◌, map, length, take, Option}
+use Rattle.std.proofs.Common.{Some, None, refl, sym, ap, subst, ◌∙◌, arith, inl, inr}
+use Rattle.std.proofs.lemmas.Bool.{and_parts, and_left, and_right, cases_eq, cases_Bool, leb-true, leb-false, ltb-true, ltb-false, le-leb, lt-leb, le-ltb}
+use Rattle.std.proofs.lemmas.Bool.{ne_eqb, eq-eqb, not_from_true}
 use Rattle.std.proofs.lemmas.List.{length-append, get_or_append_left, get_or-take, length-take-le, take-append-le}
 use Rattle.bt_wire.specs.declared.context.Context.{Context}
 use Rattle.bt_wire.specs.declared.context.Order.{Order}
@@ -103,7 +103,7 @@ header_stays c o b x f e =
       | inl there ↦
           let four = leb-true 4 (length b) there in
           first_by true (has_length b && ltb c.limit (said_length b)) (has_length (b ++ x) && ltb c.limit (said_length (b ++ x)))
-              (record { at = 0; reason = TooLong }) f
+          (record { at = 0; reason = TooLong }) f
           (first_fault (map (id_row c o b) id_rules)) (first_fault (map (id_row c o (b ++ x)) id_rules)) (long-append c b x four)
           (λ h. elim (cases_Bool (has_id b)) [
             | inl id ↦ ap first_fault (let five = five_bytes b id in same_id_rows c o (b ++ x) b id_rules (has_id-append b x five) (id-append b x five)

@@ -18,8 +18,12 @@ AreBytes-take n bytes h i =
 -- the number is that of the first four bytes
 pub number32-take : (n : ℕ) (b : List ℕ) → 4 ≤ n → number32 (take n b) ≡ number32 b
 unfolding number32
-number32-take n b le = rw (get_or-take n b 0 0 (omega arith), get_or-take n b 1 0 (omega arith), get_or-take n b 2 0 (omega arith),
-    get_or-take n b 3 0 (omega arith)) refl
+number32-take n b le = rw (
+  get_or-take n b 0 0 (omega arith),
+  get_or-take n b 1 0 (omega arith),
+  get_or-take n b 2 0 (omega arith),
+  get_or-take n b 3 0 (omega arith),
+) refl
 
 pub number32-be32 : (n : ℕ) (r : List ℕ) → n < 2 ^ 32 → number32 (be32 n ++ r) ≡ n
 unfolding number32
@@ -39,12 +43,16 @@ header_parts w le fits =
     let front : be32 (number32 w) ≡ take 4 w =
     ap be32 (sym (number32-take 4 w (omega arith))) ∙ be32-number32 (take 4 w) (omega (arith, length-take 4 w)) (AreBytes-take 4 w fits) in
     sym (ap (λ (x : List ℕ). x ++ (get_or w 4 0 ∷ drop 5 w)) front ∙ ap (λ (x : List ℕ). take 4 w ++ x) (sym (drop_more w 4 0 (omega arith)))
-        ∙ take-append-drop 4 w)
+    ∙ take-append-drop 4 w)
 
 pub number32-append : (b r : List ℕ) → 4 ≤ length b → number32 (b ++ r) ≡ number32 b
 unfolding number32
-number32-append b r le = rw (get_or_append_left b r 0 0 (omega arith), get_or_append_left b r 0 1 (omega arith), get_or_append_left b r 0 2 (omega arith),
-    get_or_append_left b r 0 3 (omega arith)) refl
+number32-append b r le = rw (
+  get_or_append_left b r 0 0 (omega arith),
+  get_or_append_left b r 0 1 (omega arith),
+  get_or_append_left b r 0 2 (omega arith),
+  get_or_append_left b r 0 3 (omega arith),
+) refl
 
 pub be16-number16 : (b : List ℕ) → length b ≡ 2 → AreBytes b → be16 (number16 b) ≡ b
 unfolding number16

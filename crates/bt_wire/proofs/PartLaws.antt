@@ -1,6 +1,6 @@
 -- The message that an id and the bytes after it are has this id and these bytes.
-use Rattle.std.proofs.Common.{◌≡◌, ℕ, suc, ◌^◌, ◌≤◌, ◌<◌, true, List, [], ◌∷◌, ◌++◌, length, take, drop, Option, Some, None, refl, sym, ap, subst, ◌∙◌,
-    arith, inl, inr, lit<}
+use Rattle.std.proofs.Common.{◌≡◌, ℕ, suc, ◌^◌, ◌≤◌, ◌<◌, true, List, [], ◌∷◌, ◌++◌, length, take, drop, Option, Some, None, refl, sym, ap, subst, ◌∙◌}
+use Rattle.std.proofs.Common.{arith, inl, inr, lit<}
 use Rattle.std.specs.List.{AllByRecursion}
 use Rattle.std.proofs.lemmas.Bool.{cases_eq, eqb-true, leb-true, eq-eqb, ne_eqb}
 use Rattle.std.proofs.lemmas.List.{nil_from_length, length-drop, drop-drop, take-append-drop, length-take}
@@ -33,7 +33,7 @@ two_numbers : (b : List ℕ) → 8 ≤ length b → AreBytes b → be32 (number3
 two_numbers b le fits =
     let second = number_first (drop 4 b) (omega (arith, length-drop 4 b)) (AreBytes-drop 4 b fits) in
     ap (λ (x : List ℕ). be32 (number32 b) ++ (be32 (number32 (drop 4 b)) ++ x)) (sym (drop-drop 4 4 b)) ∙ ap (λ (x : List ℕ). be32 (number32 b) ++ x) second
-        ∙ number_first b (omega arith) fits
+    ∙ number_first b (omega arith) fits
 
 read_shape : (c : Context) (s : Shape) (bytes : List ℕ) → (s ≡ Extended → ⊥) → AreBytes bytes → allows (shape_size c s) (suc (length bytes)) ≡ true
     → IsReading bytes (reading s bytes)
@@ -123,10 +123,40 @@ abbrev IsOnly : Id → Type 0
 IsOnly i = i.kind.shape ≡ Extended → i.number ≡ 20
 
 all_only : AllByRecursion IsOnly ids
-all_only = ((λ e. absurd cc), ((λ e. absurd cc), ((λ e. absurd cc),
-    ((λ e. absurd cc), ((λ e. absurd cc), ((λ e. absurd cc), ((λ e. absurd cc),
-    ((λ e. absurd cc), ((λ e. absurd cc), ((λ e. absurd cc), ((λ e. absurd cc),
-    ((λ e. absurd cc), ((λ e. absurd cc), ((λ e. absurd cc), ((λ e. absurd cc), ((λ e. refl), tt))))))))))))))))
+all_only = (
+  (λ e. absurd cc),
+  (
+    (λ e. absurd cc),
+    (
+      (λ e. absurd cc),
+      (
+        (λ e. absurd cc),
+        (
+          (λ e. absurd cc),
+          (
+            (λ e. absurd cc),
+            (
+              (λ e. absurd cc),
+              (
+                (λ e. absurd cc),
+                (
+                  (λ e. absurd cc),
+                  (
+                    (λ e. absurd cc),
+                    (
+                      (λ e. absurd cc),
+                      ((λ e. absurd cc), ((λ e. absurd cc), ((λ e. absurd cc), ((λ e. absurd cc), ((λ e. refl), tt))))),
+                    ),
+                  ),
+                ),
+              ),
+            ),
+          ),
+        ),
+      ),
+    ),
+  ),
+)
 
 -- what holds of each row holds of the one that is found
 record IsFound (P : Id → Type 0) (n : ℕ) (i : Id) : Type 0 where
@@ -181,7 +211,7 @@ part_in c n bytes (Some i) e other small fits size =
     let P : Option Kind → Type 0 = λ k. IsPart c n bytes (named k n bytes) in
     let Q : ℕ → Type 0 = λ k. IsPart c k bytes (known k (reading i.kind.shape bytes)) in
     subst P (sym some) (subst Q (sym found.number) (part_of_row c i bytes (λ is. other (found.number ∙ only.holds is)) found.holds fits (sym (rw e refl)
-        ∙ size)))
+    ∙ size)))
 
 pub part : (c : Context) (n : ℕ) (bytes : List ℕ) → (n ≡ 20 → ⊥) → n < 2 ^ 8 → AreBytes bytes → allows (size_of c n) (suc (length bytes)) ≡ true
     → IsPart c n bytes (made n bytes)

@@ -1,6 +1,6 @@
 -- The rules on a message's id and fields, read from its bytes and from its value.
-use Rattle.std.proofs.Common.{◌≡◌, ℕ, suc, ◌+◌, Bool, true, false, cond, not, ◌&&◌, List, [], ◌∷◌, ◌++◌, map, length, drop, Option, Some, None, refl, sym,
-    ap, subst, ◌∙◌, arith}
+use Rattle.std.proofs.Common.{◌≡◌, ℕ, suc, ◌+◌, Bool, true, false, cond, not, ◌&&◌, List, [], ◌∷◌, ◌++◌, map, length, drop, Option, Some, None, refl, sym}
+use Rattle.std.proofs.Common.{ap, subst, ◌∙◌, arith}
 use Rattle.std.specs.Prelude.{is_some, IfSome}
 use Rattle.std.proofs.lemmas.Bool.{le-leb, not-false}
 use Rattle.std.proofs.lemmas.List.{length-append}
@@ -13,12 +13,12 @@ use Rattle.bt_wire.specs.declared.ids.Shape.{Shape}
 use Rattle.bt_wire.specs.Messages.{Message}
 use Rattle.bt_wire.specs.Bitfields.{has_spare}
 use Rattle.bt_wire.specs.Ids.{kind_of, shape_by}
-use Rattle.bt_wire.specs.Messages.{Fields, none, index, part, block, port, field, extended, payload, kind_in, id_of, fields_of, index_in, field_in,
-    is_payload, spell_fields, body, framed, AreInRange}
+use Rattle.bt_wire.specs.Messages.{Fields, none, index, part, block, port, field, extended, payload, kind_in, id_of, fields_of, index_in, field_in}
+use Rattle.bt_wire.specs.Messages.{is_payload, spell_fields, body, framed, AreInRange}
 use Rattle.bt_wire.specs.Tables.{row, first_fault}
 use Rattle.bt_wire.specs.Numbers.{be32, number32}
-use Rattle.bt_wire.specs.Faults.{said_length, said_id, has_id, allows, size_by, is_strict, is_agreed, is_late, is_missing, is_beyond, is_index_beyond, has_index, is_field,
-    id_rules, id_row, field_rows}
+use Rattle.bt_wire.specs.Faults.{said_length, said_id, has_id, allows, size_by, is_strict, is_agreed, is_late, is_missing, is_beyond, is_index_beyond}
+use Rattle.bt_wire.specs.Faults.{has_index, is_field, id_rules, id_row, field_rows}
 use Rattle.bt_wire.specs.Legal.{IsLegal}
 use Rattle.bt_wire.specs.Rules.{broken_by}
 use Rattle.bt_wire.specs.Parts.{broken_field, is_field_spare, IsSized}
@@ -96,7 +96,7 @@ legal_unbroken c o m n r e legal =
     let P : Option Kind → Type 0 = λ k. IsUnbroken c o k (length (body c m)) in
     let size : allows (size_by c (shape_by (kind_in m))) (length (body c m)) ≡ true =
     ap (λ (s : Option Shape). allows (size_by c s) (length (body c m))) r.shape ∙ ap (allows (size_by c (shape_in (fields_of c m)))) (body_length c m n e)
-        ∙ fields_size c (fields_of c m) legal.sized in
+    ∙ fields_size c (fields_of c m) legal.sized in
     subst P (sym r.kind) (record {
       known = ap (λ (b : Bool). is_strict c && b) (unknown_by (kind_in m) (fields_of c m) r.shape) ∙ legal.known;
       agreed = legal.agreed;
@@ -147,7 +147,7 @@ pub fields_rows : (c : Context) (w : List ℕ) (f : Fields) → has_id w ≡ tru
     → AreInRange f → first_fault (field_rows c w) ≡ broken_field c.pieces (said_length w) f
 fields_rows c w f there shape bytes range =
     ap (λ (t : Bool). first_fault (row BadIndex 5 t (has_index (shape_by (kind_of (said_id w))) && is_beyond c.pieces (number32 (drop 5 w))) ∷ row SpareBits
-        (3 + said_length w) t (is_field (shape_by (kind_of (said_id w))) && has_spare c.pieces (drop 5 w)) ∷ [])) there
+    (3 + said_length w) t (is_field (shape_by (kind_of (said_id w))) && has_spare c.pieces (drop 5 w)) ∷ [])) there
     ∙ ap (λ (s : Option Shape). first_fault (row BadIndex 5 true (has_index s && is_beyond c.pieces (number32 (drop 5 w))) ∷ row SpareBits
     (3 + said_length w) true (is_field s && has_spare c.pieces (drop 5 w)) ∷ [])) shape
     ∙ ap (λ (x : List ℕ). first_fault (row BadIndex 5 true (has_index (shape_in f) && is_beyond c.pieces (number32 x)) ∷ row SpareBits (3 + said_length w)

@@ -1,7 +1,7 @@
 -- The bits past the last piece are those of the last byte that are left, and one of them is 1 where the byte's remainder
 -- isn't 0.
-use Rattle.std.proofs.Common.{◌≡◌, ℕ, ◌+◌, ◌-◌, ◌*◌, ◌/◌, ◌%◌, ◌≤◌, ◌<◌, Bool, false, eqb, not, ◌||◌, List, [], ◌∷◌, ◌++◌, length, take, drop, get_or, refl,
-    sym, ap, ◌∙◌, arith, inl, inr}
+use Rattle.std.proofs.Common.{◌≡◌, ℕ, ◌+◌, ◌-◌, ◌*◌, ◌/◌, ◌%◌, ◌≤◌, ◌<◌, Bool, false, eqb, not, ◌||◌, List, [], ◌∷◌, ◌++◌, length, take, drop, get_or, refl}
+use Rattle.std.proofs.Common.{sym, ap, ◌∙◌, arith, inl, inr}
 use Rattle.std.specs.List.{flat_map, list_any}
 use Rattle.std.proofs.lemmas.Bool.{cases_eq, eq-eqb, ne_eqb}
 use Rattle.std.proofs.lemmas.Grind.{flat_map-append}
@@ -91,7 +91,7 @@ spare_left pieces field last len some e =
     let front = take k field in
     let size : length front ≡ k = length-take-le k field (omega arith) in
     let tail : drop k field ≡ last ∷ [] = drop_more field k 0 (omega arith) ∙ ap (λ (x : ℕ). x ∷ drop (k + 1) field) (sym e)
-        ∙ ap (λ (x : List ℕ). last ∷ x) (drop_all (k + 1) field (omega arith)) in
+    ∙ ap (λ (x : List ℕ). last ∷ x) (drop_all (k + 1) field (omega arith)) in
     let parts : field ≡ front ++ (last ∷ []) = sym (take-append-drop k field) ∙ ap (λ (x : List ℕ). front ++ x) tail in
     let bits : flat_map bits_of field ≡ flat_map bits_of front ++ bits_of last = ap (flat_map bits_of) parts ∙ flat_map-append bits_of front (last ∷ []) in
     let r : ℕ = pieces - 8 * k in

@@ -15,8 +15,8 @@ use Rattle.bt_wire.specs.Messages.{Message}
 use Rattle.bt_wire.specs.declared.message.Message.TheVariants as m
 use Rattle.bt_wire.specs.Numbers.{be32, number32}
 use Rattle.bt_wire.specs.Ids.{kind_of, shape_by}
-use Rattle.bt_wire.specs.Messages.{Fields, none, index, part, block, port, field, extended, payload, kind_in, id_of, fields_of, spell_fields, framed, body,
-    spell, IsShaped, IsInRange}
+use Rattle.bt_wire.specs.Messages.{Fields, none, index, part, block, port, field, extended, payload, kind_in, id_of, fields_of, spell_fields, framed, body}
+use Rattle.bt_wire.specs.Messages.{spell, IsShaped, IsInRange}
 use Rattle.bt_wire.specs.Faults.{said_length, said_id, is_whole, window, window_length}
 use Rattle.bt_wire.specs.Legal.{IsSaid}
 use Rattle.bt_wire.specs.Parts.{reading, known, named, made}
@@ -142,7 +142,7 @@ both_ext c e f he hf h =
     let P : ℕ → Type 0 = λ n. IsExt c.reg e n (payload_of f) in
     let Q : List ℕ → Type 0 = λ p. IsExt c.reg e (unwrap_or (ext_id c.reg e) 0) p in
     ap m.Extended (same_ext c.reg e f (unwrap_or (ext_id c.reg f) 0) (payload_of f) (subst P id (subst Q bytes (spelled_ext c.reg e he)))
-        (spelled_ext c.reg f hf))
+    (spelled_ext c.reg f hf))
 
 -- of two messages with one body of which one is extended
 ext_body : (c : Context) (e : Ext) (k n : Message) → k ≡ m.Extended e → IsShaped c k → IsShaped c n → body c k ≡ body c n → k ≡ n
@@ -161,7 +161,7 @@ bodies c k n None (Some f) hk hn ks kr ns nr h = sym (ext_body c f n k (ext_is n
 bodies c k n None None hk hn ks kr ns nr h =
     let parts = same_parts (id_of k) (id_of n) (spell_fields (fields_of c k)) (spell_fields (fields_of c n)) h (no_fields c k) (no_fields c n) in
     sym (made-fields c k hk ks kr) ∙ ap (λ (o : Option ℕ). body_made o (spell_fields (fields_of c k))) parts.id ∙ ap (body_made (id_of n)) parts.fields
-        ∙ made-fields c n hn ns nr
+    ∙ made-fields c n hn ns nr
 
 one_body : (c : Context) (k n : Message) → IsShaped c k → IsInRange c k → IsShaped c n → IsInRange c n → body c k ≡ body c n → k ≡ n
 one_body c k n ks kr ns nr h = bodies c k n (ext_of k) (ext_of n) refl refl ks kr ns nr h

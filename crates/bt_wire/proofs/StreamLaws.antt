@@ -92,8 +92,11 @@ one_more c o s number b tail m v lt said parts h =
     record {
       messages = m ∷ h.messages;
       longest = record {
-        begins = (spell c m ++ begins.0, parts ∙ ap (λ (y : List ℕ). spell c m ++ y) begins.1 ∙ sym (append_assoc (spell c m) begins.0 v.tail),
-            (said, (begins.0, refl, begins.2)));
+        begins = (
+          spell c m ++ begins.0,
+          parts ∙ ap (λ (y : List ℕ). spell c m ++ y) begins.1 ∙ sym (append_assoc (spell c m) begins.0 v.tail),
+          (said, (begins.0, refl, begins.2)),
+        );
         longest = longest_with c o s b tail m h.messages v.tail lt said parts h.longest;
       };
       items = ap (λ (xs : List (ℕ × Item)). (s, items.Message m) ∷ xs) h.items;
@@ -129,8 +132,11 @@ front_list c o s (m ∷ ms) (n ∷ ns) b r t lt p q le =
     let right = first c o s b n ns t q in
     let same = one_spelling c o o s s n m (right.rest ++ t) (left.rest ++ r) lt right.said left.said (sym right.parts ∙ left.parts) in
     let P : Message → Type 0 = λ x. Says c (order_after o x) (s + length (spell c x)) ns right.rest in
-    let after = front_list c (order_after o m) (s + length (spell c m)) ms ns (left.rest ++ r) r t lt (left.rest, refl, left.says) (right.rest, sym same.1,
-        subst P same.0 right.says) (omega arith) in
+    let after = front_list c (order_after o m) (s + length (spell c m)) ms ns (left.rest ++ r) r t lt (left.rest, refl, left.says) (
+      right.rest,
+      sym same.1,
+      subst P same.0 right.says,
+    ) (omega arith) in
     record {
       more = after.more;
       list = ap (λ (x : Message). x ∷ ns) same.0 ∙ ap (λ (xs : List Message). m ∷ xs) after.list;
@@ -166,7 +172,7 @@ outcome_only c o s number b v w lt p q =
     let Q : ℕ → Type 0 = λ z. IsFault c w.order z v.tail q.fault in
     let R : Order → Type 0 = λ z. IsFault c z v.start v.tail q.fault in
     let fault : p.fault ≡ q.fault = one_fault c v.order v.start v.tail p.fault q.fault p.is_fault
-        (subst R (sym order) (subst Q (sym start) (subst P (sym tail) q.is_fault))) in
+    (subst R (sym order) (subst Q (sym start) (subst P (sym tail) q.is_fault))) in
     same_outcome v w (p.items ∙ ap (placed c s) list ∙ sym q.items) (p.refusal ∙ rw (number, start, fault) refl ∙ sym q.refusal) number order start tail
 
 -- ---- whatever follows
@@ -186,7 +192,7 @@ pub items_stay : (c : Context) (o : Order) (s number : ℕ) (b x : List ℕ) (v 
 items_stay c o s number b x v w lt p q =
     let mine = more_bytes c o s b x v.tail p.messages p.longest.begins in
     let front = front_list c o s p.messages q.messages (b ++ x) (v.tail ++ x) w.tail lt mine q.longest.begins
-        (q.longest.longest p.messages (v.tail ++ x) mine) in
+    (q.longest.longest p.messages (v.tail ++ x) mine) in
     let rest = placed-append c s p.messages front.more in
     (rest.0, q.items ∙ ap (placed c s) front.list ∙ rest.1 ∙ ap (λ (xs : List (ℕ × Item)). xs ++ rest.0) (sym p.items))
 
@@ -205,11 +211,16 @@ longest_by c o s b y t (m ∷ ms) f lt says parts stop (n ∷ ns) u k =
     let other = first c o s b n ns u k in
     let same = one_spelling c o o s s n m (other.rest ++ u) (mine.rest ++ t) lt other.said mine.said (sym other.parts ∙ mine.parts) in
     let P : Message → Type 0 = λ x. Says c (order_after o x) (s + length (spell c x)) ns other.rest in
-    let at : s + length y ≡ s + length (spell c m) + length mine.rest = omega (arith, ap length (sym parts ∙ mine.parts), length-append y t,
-        length-append (spell c m) (mine.rest ++ t), length-append mine.rest t) in
+    let at : s + length y ≡ s + length (spell c m) + length mine.rest = omega (
+      arith,
+      ap length (sym parts ∙ mine.parts),
+      length-append y t,
+      length-append (spell c m) (mine.rest ++ t),
+      length-append mine.rest t,
+    ) in
     let Q : ℕ → Type 0 = λ z. IsStop c (orders_after (order_after o m) ms) z t f in
     let shorter = longest_by c (order_after o m) (s + length (spell c m)) (mine.rest ++ t) mine.rest t ms f lt mine.says refl (subst Q at stop) ns u
-        (other.rest, sym same.1, subst P same.0 other.says) in
+    (other.rest, sym same.1, subst P same.0 other.says) in
     omega (arith, shorter)
 
 -- a refusal stays, with the items before it
@@ -228,12 +239,15 @@ refusal_stays c o s number b x v r lt h e =
     let Q : Order → Type 0 = λ z. IsFault c z v.start (v.tail ++ x) (Some found.0) in
     let R : ℕ → Type 0 = λ z. IsFault c (orders_after o h.messages) z (v.tail ++ x) (Some found.0) in
     let stop : IsStop c (orders_after o h.messages) (s + length begins.0) (v.tail ++ x) (Some found.0) =
-        record { fault = subst R at (subst Q h.order_after stays); part = λ z. absurd cc } in
+    record { fault = subst R at (subst Q h.order_after stays); part = λ z. absurd cc } in
     let parts : b ++ x ≡ begins.0 ++ (v.tail ++ x) = ap (λ (z : List ℕ). z ++ x) begins.1 ∙ append_assoc begins.0 v.tail x in
     record {
       messages = h.messages;
-      longest = record { begins = (begins.0, parts, begins.2); longest = longest_by c o s (b ++ x) begins.0 (v.tail ++ x) h.messages (Some found.0) lt
-          begins.2 parts stop };
+      longest = record {
+        begins = (begins.0, parts, begins.2);
+        longest = longest_by c o s (b ++ x) begins.0 (v.tail ++ x) h.messages (Some found.0) lt
+            begins.2 parts stop;
+      };
       items = h.items;
       number_after = h.number_after;
       order_after = h.order_after;

@@ -22,8 +22,8 @@ use Rattle.bt_wire.specs.declared.message.Message.TheVariants as m
 use Rattle.bt_wire.specs.Ids.{kind_of}
 use Rattle.bt_wire.specs.Messages.{Fields, id_of, fields_of, body, spell, IsShaped, AreInRange, IsIdInRange, IsInRange}
 use Rattle.bt_wire.specs.Tables.{first_fault}
-use Rattle.bt_wire.specs.Faults.{is_strict, is_whole, has_id, window, id_rules, id_row, header_fault, said_ext_id, said_payload, placed_by, index_fault,
-    IsWindowFault, in_fields, in_payload, in_bytes, in_index, IsFault, early, whole}
+use Rattle.bt_wire.specs.Faults.{is_strict, is_whole, has_id, window, id_rules, id_row, header_fault, said_ext_id, said_payload, placed_by, index_fault}
+use Rattle.bt_wire.specs.Faults.{IsWindowFault, in_fields, in_payload, in_bytes, in_index, IsFault, early, whole}
 use Rattle.bt_wire.specs.Legal.{IsLegal, IsAllowed, IsRefusedFor}
 use Rattle.bt_wire.specs.Rules.{broken_any}
 use Rattle.bt_wire.specs.Parts.{broken_field, reason_from, IsJudged, IsJudgedExt, fine, beyond, faulty}
@@ -37,8 +37,13 @@ use Rattle.bt_wire.proofs.WindowLaws.{fine_index, index_fine, early_header, neve
 -- ---- what the rules on the id say
 
 keep_alive_kept : (c : Context) (o : Order) (msg : Message) → id_of msg ≡ None → AreKept c o msg
-keep_alive_kept c o m.KeepAlive e = record { agreed = refl; sized = tt; known = never (is_strict c); in_time = never (is_strict c);
-    opened = never (is_strict c) }
+keep_alive_kept c o m.KeepAlive e = record {
+  agreed = refl;
+  sized = tt;
+  known = never (is_strict c);
+  in_time = never (is_strict c);
+  opened = never (is_strict c);
+}
 keep_alive_kept c o msg e = absurd cc
 
 kept_in : (c : Context) (o : Order) (m : Message) (i : Option ℕ) → IsShaped c m → id_of m ≡ i → broken_any c o i (length (body c m)) ≡ None → AreKept c o m
@@ -105,7 +110,7 @@ whole_value c o m f lt short none p =
     let here = append-nil (spell c m) in
     let P : List ℕ → Type 0 = λ x. IsWindowFault c x f in
     whole (early_header c o 0 (spell c m) (omega arith) ∙ header_of_value c o m None lt short none) (ap is_whole (sym here) ∙ first.whole)
-        (subst P (sym (ap window (sym here) ∙ first.window)) p)
+    (subst P (sym (ap window (sym here) ∙ first.window)) p)
 
 pub refused_fields : (c : Context) (o : Order) (m : Message) (f : Refused) → IsShaped c m → IsInRange c m → length (body c m) < 2 ^ 32
     → length (body c m) ≤ c.limit → broken_any c o (id_of m) (length (body c m)) ≡ None
@@ -130,7 +135,7 @@ ext_refused c o e f shaped lt short none h =
     let there : has_id w ≡ true = ap has_id (sym (append-nil w)) ∙ id_spell c (m.Extended e) [] 20 lt refl in
     whole_value c o (m.Extended e) (Some (placed_by f)) lt short none
     (in_payload (extended_rows c w refl) (rw there refl) (in_bytes f (value_refused c.reg c.rules e (said_ext_id w) (said_payload w) f
-        (spelled_ext c.reg e shaped) h) refl))
+    (spelled_ext c.reg e shaped) h) refl))
 
 -- an index that isn't below the known piece count
 index_refused : (c : Context) (o : Order) (e : Ext) (f : Refused) → HasSpelling c.reg e → length (body c (m.Extended e)) < 2 ^ 32

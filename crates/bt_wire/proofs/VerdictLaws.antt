@@ -27,8 +27,12 @@ opened_with own b v h rest fits parts p =
     let same = one_handshake p.handshake h p.rest rest p.fits fits (sym p.parts ∙ parts) in
     let P : Handshake → Type 0 = λ k. IsOutcome (negotiated own k.reserved) Fresh 68 1 rest p.after in
     let Q : List ℕ → Type 0 = λ t. IsOutcome (negotiated own p.handshake.reserved) Fresh 68 1 t p.after in
-    record { after = p.after; messages = subst P same.0 (subst Q same.1 p.messages); whole = p.whole
-        ∙ ap (λ (k : Handshake). with_item 0 (items.Handshake k) p.after) same.0 }
+    record {
+      after = p.after;
+      messages = subst P same.0 (subst Q same.1 p.messages);
+      whole = p.whole
+          ∙ ap (λ (k : Handshake). with_item 0 (items.Handshake k) p.after) same.0;
+    }
 
 only_by : (f : Option Refused) (own : Own) (b : List ℕ) (v w : Outcome) → own.limit < 2 ^ 32 → IsVerdictBy f own b v → IsVerdictBy f own b w → v ≡ w
 only_by (Some f) own b v w lt p q = p ∙ sym q
@@ -100,11 +104,13 @@ items_by None own b x v w lt e p q =
           let P : Option Refused → Type 0 = λ g. IsVerdictBy g own (b ++ x) w in
           let second = (subst P (hand_same own b x (omega arith) ∙ e) q).1 (omega (arith, length-append b x, long)) in
           let parts : b ++ x ≡ hand first.handshake ++ (first.rest ++ x) = ap (λ (z : List ℕ). z ++ x) first.parts
-              ∙ append_assoc (hand first.handshake) first.rest x in
+          ∙ append_assoc (hand first.handshake) first.rest x in
           let other = opened_with own (b ++ x) w first.handshake (first.rest ++ x) first.fits parts second in
-          let more = items_stay (negotiated own first.handshake.reserved) Fresh 68 1 first.rest x first.after other.after lt first.messages other.messages in
-          (more.0, ap (λ (o : Outcome). o.items) other.whole ∙ ap (λ (xs : List (ℕ × Item)). (0, items.Handshake first.handshake) ∷ xs) more.1
-              ∙ ap (λ (xs : List (ℕ × Item)). xs ++ more.0) (sym (ap (λ (o : Outcome). o.items) first.whole)))
+          let more = items_stay (negotiated own first.handshake.reserved) Fresh 68 1 first.rest x first.after other.after lt first.messages other.messages in (
+            more.0,
+            ap (λ (o : Outcome). o.items) other.whole ∙ ap (λ (xs : List (ℕ × Item)). (0, items.Handshake first.handshake) ∷ xs) more.1
+                ∙ ap (λ (xs : List (ℕ × Item)). xs ++ more.0) (sym (ap (λ (o : Outcome). o.items) first.whole)),
+          )
     ]
 
 pub verdict_items : (own : Own) (b x : List ℕ) (v w : Outcome) → own.limit < 2 ^ 32 → IsVerdict own b v → IsVerdict own (b ++ x) w

@@ -1,8 +1,8 @@
 -- A window with no fault is the spelling of a message that may be sent, and such a spelling has no fault.
-use Rattle.std.proofs.Common.{◌≡◌, ℕ, suc, ◌^◌, ◌≤◌, ◌<◌, Bool, true, false, eqb, ltb, ◌&&◌, List, [], ◌∷◌, ◌++◌, map, length, drop, Option, Some, None,
-    if◌then◌else◌, refl, sym, ap, subst, ◌∙◌, arith, inl, inr}
-use Rattle.std.proofs.lemmas.Bool.{cases_lt, and_cases, and_left, and_right, and_parts, cases_eq, eqb-true, eq-eqb, ne_eqb, leb-true, ltb-false, leb-false,
-    le-leb, lt-leb, le-ltb, lt-ltb}
+use Rattle.std.proofs.Common.{◌≡◌, ℕ, suc, ◌^◌, ◌≤◌, ◌<◌, Bool, true, false, eqb, ltb, ◌&&◌, List, [], ◌∷◌, ◌++◌, map, length, drop, Option, Some, None}
+use Rattle.std.proofs.Common.{if◌then◌else◌, refl, sym, ap, subst, ◌∙◌, arith, inl, inr}
+use Rattle.std.proofs.lemmas.Bool.{cases_lt, and_cases, and_left, and_right, and_parts, cases_eq, eqb-true, eq-eqb, ne_eqb, leb-true, ltb-false, leb-false}
+use Rattle.std.proofs.lemmas.Bool.{le-leb, lt-leb, le-ltb, lt-ltb}
 use Rattle.std.proofs.lemmas.List.{append-nil, length-append, length-drop, length-take-le, take_all, drop_more}
 use Rattle.std.specs.Prelude.{option_map, unwrap_or, IsSome}
 use Rattle.bt_ext.specs.declared.ext.Ext.{Ext}
@@ -23,10 +23,10 @@ use Rattle.bt_wire.specs.Numbers.{be32, AreBytes}
 use Rattle.bt_wire.specs.Ids.{kind_of, shape_by}
 use Rattle.bt_wire.specs.Messages.{Fields, id_of, fields_of, framed, spell_fields, body, spell, IsShaped, IsInRange}
 use Rattle.bt_wire.specs.Tables.{first_fault}
-use Rattle.bt_wire.specs.Faults.{said_length, said_id, has_length, has_id, is_whole, window, window_length, allows, size_of, is_strict, id_rules, id_row,
-    header_rows, header_fault, early_fault, field_rows, is_extended, said_ext_id, said_payload, placed_by, is_index_beyond, index_fault,
-    IsPayloadFault, in_bytes, in_index, IsWindowFault, in_fields, in_none, in_payload,
-    IsFault, early, unfinished, whole}
+use Rattle.bt_wire.specs.Faults.{said_length, said_id, has_length, has_id, is_whole, window, window_length, allows, size_of, is_strict, id_rules, id_row}
+use Rattle.bt_wire.specs.Faults.{header_rows, header_fault, early_fault, field_rows, is_extended, said_ext_id, said_payload, placed_by, is_index_beyond}
+use Rattle.bt_wire.specs.Faults.{index_fault, IsPayloadFault, in_bytes, in_index, IsWindowFault, in_fields, in_none, in_payload, IsFault, early, unfinished}
+use Rattle.bt_wire.specs.Faults.{whole}
 use Rattle.bt_wire.specs.Legal.{IsLegal, IsAllowed, IsSaid, Refuses}
 use Rattle.bt_wire.specs.Headers.{IsWindow, IsRead}
 use Rattle.bt_wire.specs.Rules.{broken_by}
@@ -34,12 +34,12 @@ use Rattle.bt_wire.specs.Parts.{made, broken_field}
 use Rattle.bt_wire.proofs.PartLaws.{IsPart, part}
 use Rattle.bt_wire.proofs.NumberLaws.{AreBytes-drop, be32-number32, header_parts, number32-take}
 use Rattle.bt_wire.proofs.RowLaws.{NoneCounts, NoneCounts-from, first_fault-none}
-use Rattle.bt_wire.proofs.HeaderLaws.{none_by_id, id_empty, id_there, length_there, whole_there, whole_length, window-append, whole-append, header_stays,
-    header_keeps, header-window}
-use Rattle.bt_wire.proofs.SpellLaws.{length-spell, said_length-spell, said_id-spell, spelled_first, fits, IsRow, right_row, ext_of, ext_is, ext_twenty,
-    not_twenty, ext_is_of, spelled_ext}
-use Rattle.bt_wire.proofs.RuleLaws.{rows_broken, IsUnbroken, unbroken, none_broken, legal_unbroken, AreKept, unbroken_kept, fields_rows, no_field_rows,
-    fields_sound, sound_fields}
+use Rattle.bt_wire.proofs.HeaderLaws.{none_by_id, id_empty, id_there, length_there, whole_there, whole_length, window-append, whole-append, header_stays}
+use Rattle.bt_wire.proofs.HeaderLaws.{header_keeps, header-window}
+use Rattle.bt_wire.proofs.SpellLaws.{length-spell, said_length-spell, said_id-spell, spelled_first, fits, IsRow, right_row, ext_of, ext_is, ext_twenty}
+use Rattle.bt_wire.proofs.SpellLaws.{not_twenty, ext_is_of, spelled_ext}
+use Rattle.bt_wire.proofs.RuleLaws.{rows_broken, IsUnbroken, unbroken, none_broken, legal_unbroken, AreKept, unbroken_kept, fields_rows, no_field_rows}
+use Rattle.bt_wire.proofs.RuleLaws.{fields_sound, sound_fields}
 
 -- ---- the start
 
@@ -76,7 +76,7 @@ window_id c o w h long = id_there w long (λ e. absurd (omega (arith, e, h.exact
 pub window_unbroken : (c : Context) (o : Order) (w : List ℕ) → IsWindow c o w → 5 ≤ length w → IsUnbroken c o (kind_of (said_id w)) (said_length w)
 window_unbroken c o w h long =
     unbroken c o (kind_of (said_id w)) (said_length w) (sym (rows_broken c o w (window_id c o w h long)) ∙ first_fault-none (map (id_row c o w) id_rules)
-        (none_in_header c o w h.header).1)
+    (none_in_header c o w h.header).1)
 
 pub sized : (c : Context) (o : Order) (w : List ℕ) → IsWindow c o w → 5 ≤ length w → allows (size_of c (said_id w)) (said_length w) ≡ true
 sized c o w h long = (window_unbroken c o w h long).sized
@@ -101,7 +101,7 @@ found_of : (c : Context) (o : Order) (w : List ℕ) (m : Message) → AreBytes w
 found_of c o w m bytes h long p =
     let size : suc (length (drop 5 w)) ≡ said_length w = omega (arith, length-drop 5 w, h.exact) in
     let all : body c m ≡ said_id w ∷ drop 5 w = ap (λ (i : Option ℕ). framed i (spell_fields (fields_of c m))) p.id
-        ∙ ap (λ (x : List ℕ). said_id w ∷ x) p.fields in
+    ∙ ap (λ (x : List ℕ). said_id w ∷ x) p.fields in
     let row = right_row c m (said_id w) p.shaped p.id in
     let len : said_length w ≡ length (body c m) = sym (ap length all ∙ size) in
     let P : ℕ → Type 0 = λ n. IsUnbroken c o (kind_of (said_id w)) n in
@@ -119,7 +119,7 @@ pub fields_found : (c : Context) (o : Order) (w : List ℕ) → AreBytes w → I
 fields_found c o w bytes h long plain =
     let size : suc (length (drop 5 w)) ≡ said_length w = omega (arith, length-drop 5 w, h.exact) in
     found_of c o w (made (said_id w) (drop 5 w)) bytes h long (part c (said_id w) (drop 5 w) plain (bytes 4) (AreBytes-drop 5 w bytes)
-        (ap (allows (size_of c (said_id w))) size ∙ sized c o w h long))
+    (ap (allows (size_of c (said_id w))) size ∙ sized c o w h long))
 
 -- an extended message has at least an extended id
 extended_size : (c : Context) (n k : ℕ) → n ≡ 20 → allows (size_of c n) k ≡ true → 2 ≤ k
@@ -192,8 +192,11 @@ pub window_fault : (c : Context) (o : Order) (w : List ℕ) (m : Message) (f : R
 window_fault c o w m f h long p broken = in_window c o w (Some f) h (in_fields f (found_rows c o w m h long p ∙ broken) refl)
 
 -- an extended message has no such fault, but may have one of its payload
-none_by_two : (b : Bool) (f g : Refused) → first_fault (record { found = f; judged = b; condition = false } ∷ record { found = g; judged = b;
-    condition = false } ∷ []) ≡ None
+none_by_two : (b : Bool) (f g : Refused) → first_fault (record { found = f; judged = b; condition = false } ∷ record {
+  found = g;
+  judged = b;
+  condition = false;
+} ∷ []) ≡ None
 none_by_two true f g = refl
 none_by_two false f g = refl
 
@@ -233,7 +236,7 @@ pub same_fields : (c : Context) (k n : ℕ) (f : Fields) (a b : Message) (r : Op
     ≡ broken_field c.pieces k f → broken_field c.pieces n (fields_of c b) ≡ r
 same_fields c k n f a b r size fields same e =
     ap (λ (i : ℕ). broken_field c.pieces i (fields_of c b)) (sym size) ∙ ap (λ (x : Message). broken_field c.pieces k (fields_of c x)) (sym same)
-        ∙ ap (broken_field c.pieces k) (sym fields) ∙ sym e
+    ∙ ap (broken_field c.pieces k) (sym fields) ∙ sym e
 
 pub never : (b : Bool) → (b && false) ≡ false
 never true = refl
@@ -244,8 +247,18 @@ keep_alive_read c o w bytes h e =
     record {
       said = record {
         in_range = record { id = tt; fields = tt };
-        legal = record { shaped = tt; short = omega arith; agreed = refl; indexed = tt; sized = tt; spare = tt; known = never (is_strict c);
-            in_time = never (is_strict c); opened = never (is_strict c); allowed = tt };
+        legal = record {
+          shaped = tt;
+          short = omega arith;
+          agreed = refl;
+          indexed = tt;
+          sized = tt;
+          spare = tt;
+          known = never (is_strict c);
+          in_time = never (is_strict c);
+          opened = never (is_strict c);
+          allowed = tt;
+        };
         start = omega arith;
       };
       spelled = ap be32 (sym e) ∙ be32-number32 w (omega (arith, h.exact, e)) bytes;
@@ -286,14 +299,14 @@ pub id_spell : (c : Context) (m : Message) (r : List ℕ) (n : ℕ) → length (
 id_spell c m r n lt e =
     let some : length (body c m) ≡ suc (length (spell_fields (fields_of c m))) = ap (λ (o : Option ℕ). length (framed o (spell_fields (fields_of c m)))) e in
     id_there (spell c m ++ r) (omega (arith, length-append (spell c m) r, length-spell c m, some))
-        (λ z. absurd (omega (arith, said_length-spell c m r lt, some, z)))
+    (λ z. absurd (omega (arith, said_length-spell c m r lt, some, z)))
 
 -- the rules on the id of a spelling are those on the value's
 pub broken-spell : (c : Context) (o : Order) (m : Message) (r : List ℕ) (n : ℕ) → length (body c m) < 2 ^ 32 → id_of m ≡ Some n
     → first_fault (map (id_row c o (spell c m ++ r)) id_rules) ≡ broken_by c o (kind_of n) (length (body c m))
 broken-spell c o m r n lt e =
     rows_broken c o (spell c m ++ r) (id_spell c m r n lt e) ∙ ap (λ (i : ℕ). broken_by c o (kind_of i) (said_length (spell c m ++ r)))
-        (said_id-spell c m r n e) ∙ ap (broken_by c o (kind_of n)) (said_length-spell c m r lt)
+    (said_id-spell c m r n e) ∙ ap (broken_by c o (kind_of n)) (said_length-spell c m r lt)
 
 id_part : (c : Context) (o : Order) (m : Message) (r : List ℕ) (i : Option ℕ) → IsLegal c o m → length (body c m) < 2 ^ 32 → id_of m ≡ i
     → first_fault (map (id_row c o (spell c m ++ r)) id_rules) ≡ None
@@ -312,7 +325,7 @@ pub limited-spell : (c : Context) (o : Order) (m : Message) (r : List ℕ) → l
 limited-spell c o m r lt short =
     let w = spell c m ++ r in
     short_header c o w (and_right (has_length w) (ltb c.limit (said_length w))
-        (le-ltb c.limit (said_length w) (omega (arith, said_length-spell c m r lt, short))))
+    (le-ltb c.limit (said_length w) (omega (arith, said_length-spell c m r lt, short))))
 
 pub header-spell : (c : Context) (o : Order) (m : Message) (r : List ℕ) → c.limit < 2 ^ 32 → IsLegal c o m → header_fault c o (spell c m ++ r) ≡ None
 header-spell c o m r lt legal = limited-spell c o m r (omega (arith, legal.short)) legal.short
@@ -336,9 +349,9 @@ rows_by c m (Some n) shaped range lt e =
     let there : has_id w ≡ true = ap has_id (sym (append-nil w)) ∙ id_spell c m [] n lt e in
     let id : said_id w ≡ n = ap said_id (sym (append-nil w)) ∙ said_id-spell c m [] n e in
     let bytes : drop 5 w ≡ spell_fields (fields_of c m) = ap (λ (o : Option ℕ). drop 5 (be32 (length (body c m))
-        ++ framed o (spell_fields (fields_of c m)))) e in
+    ++ framed o (spell_fields (fields_of c m)))) e in
     fields_rows c w (fields_of c m) there (ap (λ (k : ℕ). shape_by (kind_of k)) id ∙ ap shape_by row.kind ∙ row.shape) bytes range.fields
-        ∙ ap (λ (k : ℕ). broken_field c.pieces k (fields_of c m)) says
+    ∙ ap (λ (k : ℕ). broken_field c.pieces k (fields_of c m)) says
 
 pub rows-spell : (c : Context) (m : Message) → IsShaped c m → IsInRange c m → length (body c m) < 2 ^ 32 → first_fault (field_rows c (spell c m))
     ≡ broken_field c.pieces (length (body c m)) (fields_of c m)
@@ -376,7 +389,7 @@ quiet_by c m (Some e) shaped allowed lt none h =
     let Q : Message → Type 0 = λ x. IsAllowed c x in
     let R : Message → Type 0 = λ x. IsWindowFault c (spell c x) None in
     subst R (sym is) (ext_spell c e (subst P is shaped) (subst Q is allowed) (omega (arith, ap (λ (x : Message). length (body c x)) is))
-        (ap (λ (x : Message). first_fault (field_rows c (spell c x))) (sym is) ∙ none))
+    (ap (λ (x : Message). first_fault (field_rows c (spell c x))) (sym is) ∙ none))
 
 pub fault-spell : (c : Context) (o : Order) (s : ℕ) (m : Message) (r : List ℕ) → c.limit < 2 ^ 32 → IsSaid c o s m → IsFault c o s (spell c m ++ r) None
 fault-spell c o s m r lt said =
@@ -386,7 +399,7 @@ fault-spell c o s m r lt said =
     let P : List ℕ → Type 0 = λ x. IsWindowFault c x None in
     whole (early_header c o s (spell c m ++ r) said.start ∙ header-spell c o m r lt said.legal) first.whole
     (subst P (sym first.window) (quiet_by c m (ext_of m) said.legal.shaped said.legal.allowed short (rows-spell c m said.legal.shaped said.in_range short
-        ∙ sound) refl))
+    ∙ sound) refl))
 
 -- ---- bytes have one fault, which stays
 

@@ -1,7 +1,7 @@
 -- What messages are as bytes (BEP 3, "peer messages"; BEP 5; BEP 6; BEP 10).
 use Rattle.std.specs.Borrow.{Bor}
-use Rattle.std.specs.Prelude.{◌≡◌, ℕ, ◌<◌, ◌^◌, Bool, true, false, List, [], ◌∷◌, ◌++◌, length, Option, Some, None, unwrap_or, option_and_then,
-    if◌then◌else◌, ⊤}
+use Rattle.std.specs.Prelude.{◌≡◌, ℕ, ◌<◌, ◌^◌, Bool, true, false, List, [], ◌∷◌, ◌++◌, length, Option, Some, None, unwrap_or, option_and_then}
+use Rattle.std.specs.Prelude.{if◌then◌else◌, ⊤}
 use Rattle.bt_ext.specs.declared.ext.Ext.{Ext}
 use Rattle.bt_ext.specs.declared.ext.ExtView.{ExtView}
 use Rattle.bt_ext.specs.Payloads.{ext_id, payload_of, HasSpelling, seen as ext_of_view}

@@ -36,5 +36,7 @@ loop-rest-preserved c =
     })
 
 pub returns : goal.returns
-returns c = rw c.behind.ensures (record { value = λ m rest h. number_ended _ _ m rest _ c.requires.end c.loop-rest-test.false
-    (c.loop-rest.invariant.same m rest h) })
+returns c = rw c.behind.ensures (record {
+  value = λ m rest h. number_ended _ _ m rest _ c.requires.end c.loop-rest-test.false
+      (c.loop-rest.invariant.same m rest h);
+})

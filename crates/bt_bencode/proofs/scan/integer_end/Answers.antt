@@ -11,6 +11,6 @@ returns-clause-value c =
       | then-payload-at-eq45+else-first-payload+else-payload-first-eq48 w ↦ both_found c.digits_end.result
           (λ end. (c.if-payload-at-eq45.first < end) × (end ≤ length payload)) _ _ c.digits_end.ensures.within c.digits_end.ensures.minus
           (λ end within leads stack. behind_minus payload at end stack (omega arith) (omega (arith, w.first-is, within)) w.if-payload-at-eq45.true
-              (rw w.first-is at (leads stack (rw w.first-is w.if-payload-first-eq48.false))))
+          (rw w.first-is at (leads stack (rw w.first-is w.if-payload-first-eq48.false))))
       | else-payload-at-eq45 w ↦ rw w.first-is at c.digits_end.ensures.plus
     ]

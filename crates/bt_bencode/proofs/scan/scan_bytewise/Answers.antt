@@ -14,12 +14,12 @@ returns-then-is_done-clause-ok c = elim c.match-expect.branch [
   | in-Text w ↦ let p = passed c.args.payload.now c.loop-at.at w.in-Text.left w.min-passed.result c.loop-at.expect w.text-expect.result c.loop-at.stack
       w.in-Text.is w.min-passed.ensures c.loop-at-test.true c.loop-at.invariant.read w.text-expect.ensures in
       ends c.args.payload.now c.match-expect.at c.match-expect.expect c.match-expect.stack (omega (arith, p.0, w.at-is))
-          (c.is_done.ensures.0 c.if-is_done.true) (rw (w.at-is, w.expect-is, w.stack-is) p.1)
+      (c.is_done.ensures.0 c.if-is_done.true) (rw (w.at-is, w.expect-is, w.stack-is) p.1)
   | in_default+in-Some w ↦
       ends c.args.payload.now c.match-expect.at c.match-expect.expect c.match-expect.stack (omega (arith, c.loop-at-test.true, w.at-is))
-          (c.is_done.ensures.0 c.if-is_done.true)
+      (c.is_done.ensures.0 c.if-is_done.true)
       (rw (w.at-is, w.expect-is, w.stack-is) (goes_on c.args.payload.now c.loop-at.at c.loop-at.expect w.in-Some.next c.loop-at.stack w.step.new.stack
-          c.loop-at-test.true c.loop-at.invariant.read w.in-Some.ensures))
+      c.loop-at-test.true c.loop-at.invariant.read w.in-Some.ensures))
 ]
 
 pub loop-at-init : goal.loop-at-init
@@ -35,14 +35,18 @@ loop-at-preserved c = elim c.match-expect.branch [
       w.in-Text.is w.min-passed.ensures c.loop-at-test.true c.loop-at.invariant.read w.text-expect.ensures in
       record { within = omega (arith, p.0, w.at-is); read = rw (w.at-is, w.expect-is, w.stack-is) p.1; goes_on = search rules }
   | in_default+in-Some w ↦
-      record { within = omega (arith, c.loop-at-test.true, w.at-is); read = rw (w.at-is, w.expect-is, w.stack-is)
-          (goes_on c.args.payload.now c.loop-at.at c.loop-at.expect w.in-Some.next c.loop-at.stack w.step.new.stack c.loop-at-test.true
-          c.loop-at.invariant.read w.in-Some.ensures); goes_on = search rules }
+      record {
+        within = omega (arith, c.loop-at-test.true, w.at-is);
+        read = rw (w.at-is, w.expect-is, w.stack-is)
+            (goes_on c.args.payload.now c.loop-at.at c.loop-at.expect w.in-Some.next c.loop-at.stack w.step.new.stack c.loop-at-test.true
+            c.loop-at.invariant.read w.in-Some.ensures);
+        goes_on = search rules;
+      }
 ]
 
 pub returns-clause-err : goal.returns-clause-err
 returns-clause-err c =
     let all : take c.loop-at.at c.args.payload.now ≡ c.args.payload.now = whole c.args.payload.now c.loop-at.at c.loop-at-test.false
-        c.loop-at.invariant.within in
+    c.loop-at.invariant.within in
     is_cut c.args.payload.now (cut c.args.payload.now c.loop-at.expect c.loop-at.stack (subst (λ (b : List ℕ). HasRead b c.loop-at.expect c.loop-at.stack)
-        all c.loop-at.invariant.read) c.loop-at.invariant.goes_on)
+    all c.loop-at.invariant.read) c.loop-at.invariant.goes_on)

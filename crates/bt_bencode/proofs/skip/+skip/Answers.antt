@@ -38,9 +38,11 @@ skip_pairs-skip_value-rest-requires t c =
     let within : length c.loop-rest.rest.now ≤ length c.args.bytes.now = c.loop-rest.invariant.within in
     let parts = ap length c.split_string.ensures.split ∙ length-append (ben_string c.split_string.result.0.now) c.split_string.result.1.now in
     let left = c.loop-rest.invariant.left c.requires.0 c.requires.1 c.requires.2 c.requires.3 in
-    let pairs : HasPairs c.loop-rest.rest.now = (left.0, c.requires.1, left.1, left.2) in
-    (omega arith, value_behind c.loop-rest.rest.now c.split_string.result.0.now c.split_string.result.1.now pairs c.loop-rest-test.true
-        c.split_string.ensures.short c.split_string.ensures.split)
+    let pairs : HasPairs c.loop-rest.rest.now = (left.0, c.requires.1, left.1, left.2) in (
+      omega arith,
+      value_behind c.loop-rest.rest.now c.split_string.result.0.now c.split_string.result.1.now pairs c.loop-rest-test.true
+          c.split_string.ensures.short c.split_string.ensures.split,
+    )
 
 pub skip_pairs-loop-rest-preserved : goal.skip_pairs-loop-rest-preserved
 skip_pairs-loop-rest-preserved t c =

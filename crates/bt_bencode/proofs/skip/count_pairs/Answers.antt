@@ -17,7 +17,7 @@ skip_value-rest-requires c =
     let left = c.loop-rest.invariant.left c.requires.0 c.requires.1 c.requires.2 c.requires.3 in
     let pairs : HasPairs c.loop-rest.rest.now = (left.0, c.requires.1, left.1, left.2) in
     value_behind c.loop-rest.rest.now c.split_string.result.0.now c.split_string.result.1.now pairs c.loop-rest-test.true c.split_string.ensures.short
-        c.split_string.ensures.split
+    c.split_string.ensures.split
 
 pub loop-rest-preserved : goal.loop-rest-preserved
 loop-rest-preserved c =

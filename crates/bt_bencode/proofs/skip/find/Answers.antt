@@ -15,7 +15,7 @@ pub returns-then-eq : goal.returns-then-eq
 returns-then-eq c = λ ps more h is.
     let same : bytes_eq c.split_string.result.0.now c.args.key.now ≡ true = sym c.eq.ensures ∙ c.if-eq.true in
     let f = for_found c.args.key.now ps more c.loop-rest.rest.now c.split_string.result.0.now c.split_string.result.1.now c.split_string.ensures.short
-        c.split_string.ensures.split c.loop-rest-test.true same (c.loop-rest.invariant ps more h is) in
+    c.split_string.ensures.split c.loop-rest-test.true same (c.loop-rest.invariant ps more h is) in
     (f.0, f.1, f.2, f.3, f.4)
 
 pub skip_value-rest-requires : goal.skip_value-rest-requires
@@ -23,14 +23,14 @@ skip_value-rest-requires c =
     let left = c.loop-rest.invariant c.requires.0 c.requires.1 c.requires.2 c.requires.3 in
     let pairs : HasPairs c.loop-rest.rest.now = (left.0, c.requires.1, left.1, left.2) in
     value_behind c.loop-rest.rest.now c.split_string.result.0.now c.split_string.result.1.now pairs c.loop-rest-test.true c.split_string.ensures.short
-        c.split_string.ensures.split
+    c.split_string.ensures.split
 
 pub loop-rest-preserved : goal.loop-rest-preserved
 loop-rest-preserved c = λ ps more h is.
     let differs : bytes_eq c.split_string.result.0.now c.args.key.now ≡ false = sym c.eq.ensures ∙ c.if-eq.false in
     for_step c.args.key.now ps more c.loop-rest.rest.now c.split_string.result.0.now c.split_string.result.1.now c.split_string.ensures.short
-        c.split_string.ensures.split c.skip_value-rest.result.now c.loop-rest-test.true differs c.skip_value-rest.ensures.behind
-        (c.loop-rest.invariant ps more h is)
+    c.split_string.ensures.split c.skip_value-rest.result.now c.loop-rest-test.true differs c.skip_value-rest.ensures.behind
+    (c.loop-rest.invariant ps more h is)
 
 pub returns : goal.returns
 returns c = λ ps more h is. for_none c.args.key.now ps more c.loop-rest.rest.now c.loop-rest-test.false (c.loop-rest.invariant ps more h is)

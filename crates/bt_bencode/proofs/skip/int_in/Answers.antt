@@ -14,4 +14,4 @@ read_int-requires c = rw c.behind.ensures (integer_there c.args.value.now c.requ
 pub returns-then-value-eq105 : goal.returns-then-value-eq105
 returns-then-value-eq105 c = λ t more h is.
     ap (λ (z : ℤ). Some z) (to_z-of_z w64 c.read_int.result.0 c.read_int.ensures.fits) ∙ integer_in c.args.value.now c.behind.result.now
-        c.read_int.result.1.now c.read_int.result.0 t more c.if-value-eq105.true c.behind.ensures c.read_int.ensures.fits c.read_int.ensures.value h is
+    c.read_int.result.1.now c.read_int.result.0 t more c.if-value-eq105.true c.behind.ensures c.read_int.ensures.fits c.read_int.ensures.value h is

@@ -4,16 +4,18 @@ use Rattle.bt_bencode.specs.Bencoding.{ben_string}
 use Rattle.bt_bencode.specs.Keys.{is_above}
 use Rattle.bt_bencode.specs.Readable.{HasPairs}
 use Rattle.bt_bencode.proofs.Heads.{item_there, key_there, value_behind, nonempty, integer_there, items_there, pairs_there, string_there}
-use Rattle.bt_bencode.proofs.Walk.{items_has, items_step, items_found, items_over, pairs_has, pairs_step, pairs_found, key_found, pairs_over, over_integer,
-    over_text, over_list, in_list, over_dictionary, in_dictionary}
+use Rattle.bt_bencode.proofs.Walk.{items_has, items_step, items_found, items_over, pairs_has, pairs_step, pairs_found, key_found, pairs_over, over_integer}
+use Rattle.bt_bencode.proofs.Walk.{over_text, over_list, in_list, over_dictionary, in_dictionary}
 use Rattle.bt_bencode.proofs.sorted.+walk.Goals as goal
 
 pub walk_items-walk_value-requires : goal.walk_items-walk_value-requires
 walk_items-walk_value-requires t c =
     let done : ℕ = length c.args.bytes.now - length c.loop-rest.rest.now in
-    let within : length c.loop-rest.rest.now ≤ length c.args.bytes.now = c.loop-rest.invariant.within in
-    (omega arith, item_there c.loop-rest.rest.now (items_has c.requires.0 c.requires.1 done c.loop-rest.rest.now
-        (c.loop-rest.invariant.left c.requires.0 c.requires.1 c.requires.2 c.requires.3)) c.loop-rest-test.true)
+    let within : length c.loop-rest.rest.now ≤ length c.args.bytes.now = c.loop-rest.invariant.within in (
+      omega arith,
+      item_there c.loop-rest.rest.now (items_has c.requires.0 c.requires.1 done c.loop-rest.rest.now
+          (c.loop-rest.invariant.left c.requires.0 c.requires.1 c.requires.2 c.requires.3)) c.loop-rest-test.true,
+    )
 
 pub walk_items-loop-rest-preserved : goal.walk_items-loop-rest-preserved
 walk_items-loop-rest-preserved t c =
@@ -32,26 +34,26 @@ pub walk_items-returns-in-Err-clause-walks : goal.walk_items-returns-in-Err-clau
 walk_items-returns-in-Err-clause-walks t c =
     let done : ℕ = length c.args.bytes.now - length c.loop-rest.rest.now in
     λ ts more h is. items_found ts more done c.loop-rest.rest.now c.in-Err.n c.loop-rest-test.true c.in-Err.ensures.walks
-        (c.loop-rest.invariant.left ts more h is)
+    (c.loop-rest.invariant.left ts more h is)
 
 pub walk_items-returns-clause-walks : goal.walk_items-returns-clause-walks
 walk_items-returns-clause-walks t c =
     let done : ℕ = length c.args.bytes.now - length c.loop-rest.rest.now in
     λ ts more h is. let w = items_over ts more done c.loop-rest.rest.now c.loop-rest-test.false (c.loop-rest.invariant.left ts more h is) in
-        (w.0, c.behind.ensures ∙ w.1)
+    (w.0, c.behind.ensures ∙ w.1)
 
 pub walk_pairs-split_string-requires : goal.walk_pairs-split_string-requires
 walk_pairs-split_string-requires t c =
     let done : ℕ = length c.args.bytes.now - length c.loop-rest.rest.now in
     key_there c.loop-rest.rest.now (pairs_has c.requires.0 c.requires.1 done (option_copied c.loop-rest.last) c.loop-rest.rest.now
-        (c.loop-rest.invariant.left c.requires.0 c.requires.1 c.requires.2 c.requires.3)) c.loop-rest-test.true
+    (c.loop-rest.invariant.left c.requires.0 c.requires.1 c.requires.2 c.requires.3)) c.loop-rest-test.true
 
 pub walk_pairs-returns-then-not-is_above-clause-walks : goal.walk_pairs-returns-then-not-is_above-clause-walks
 walk_pairs-returns-then-not-is_above-clause-walks t c =
     let done : ℕ = length c.args.bytes.now - length c.loop-rest.rest.now in
     let below : is_above (option_copied c.loop-rest.last) c.split_string.result.0.now ≡ false = sym c.is_above.ensures ∙ c.if-not-is_above.true in
     λ ps more h is. key_found ps more done (option_copied c.loop-rest.last) c.loop-rest.rest.now c.split_string.result.0.now c.split_string.result.1.now
-        c.loop-rest-test.true below c.split_string.ensures.short c.split_string.ensures.split (c.loop-rest.invariant.left ps more h is)
+    c.loop-rest-test.true below c.split_string.ensures.short c.split_string.ensures.split (c.loop-rest.invariant.left ps more h is)
 
 pub walk_pairs-walk_value-requires : goal.walk_pairs-walk_value-requires
 walk_pairs-walk_value-requires t c =
@@ -59,9 +61,11 @@ walk_pairs-walk_value-requires t c =
     let within : length c.loop-rest.rest.now ≤ length c.args.bytes.now = c.loop-rest.invariant.within in
     let parts = ap length c.split_string.ensures.split ∙ length-append (ben_string c.split_string.result.0.now) c.split_string.result.1.now in
     let pairs : HasPairs c.loop-rest.rest.now = pairs_has c.requires.0 c.requires.1 done (option_copied c.loop-rest.last) c.loop-rest.rest.now
-        (c.loop-rest.invariant.left c.requires.0 c.requires.1 c.requires.2 c.requires.3) in
-    (omega arith, value_behind c.loop-rest.rest.now c.split_string.result.0.now c.split_string.result.1.now pairs c.loop-rest-test.true
-        c.split_string.ensures.short c.split_string.ensures.split)
+    (c.loop-rest.invariant.left c.requires.0 c.requires.1 c.requires.2 c.requires.3) in (
+      omega arith,
+      value_behind c.loop-rest.rest.now c.split_string.result.0.now c.split_string.result.1.now pairs c.loop-rest-test.true
+          c.split_string.ensures.short c.split_string.ensures.split,
+    )
 
 pub walk_pairs-loop-rest-preserved : goal.walk_pairs-loop-rest-preserved
 walk_pairs-loop-rest-preserved t c =
@@ -88,14 +92,14 @@ walk_pairs-returns-in-Err-clause-walks t c =
     let count : done + length c.loop-rest.rest.now ≡ done' + length c.split_string.result.1.now = omega arith in
     let above : is_above (option_copied c.loop-rest.last) c.split_string.result.0.now ≡ true = sym c.is_above.ensures ∙ c.if-not-is_above.false in
     λ ps more h is. pairs_found ps more done (option_copied c.loop-rest.last) c.loop-rest.rest.now c.split_string.result.0.now c.split_string.result.1.now
-        c.in-Err.n done' c.loop-rest-test.true above c.split_string.ensures.short c.split_string.ensures.split count c.in-Err.ensures.walks
-        (c.loop-rest.invariant.left ps more h is)
+    c.in-Err.n done' c.loop-rest-test.true above c.split_string.ensures.short c.split_string.ensures.split count c.in-Err.ensures.walks
+    (c.loop-rest.invariant.left ps more h is)
 
 pub walk_pairs-returns-clause-walks : goal.walk_pairs-returns-clause-walks
 walk_pairs-returns-clause-walks t c =
     let done : ℕ = length c.args.bytes.now - length c.loop-rest.rest.now in
     λ ps more h is. let w = pairs_over ps more done (option_copied c.loop-rest.last) c.loop-rest.rest.now c.loop-rest-test.false
-        (c.loop-rest.invariant.left ps more h is) in (w.0, c.behind.ensures ∙ w.1)
+    (c.loop-rest.invariant.left ps more h is) in (w.0, c.behind.ensures ∙ w.1)
 
 pub walk_value-bounds-bytes-0 : goal.walk_value-bounds-bytes-0
 walk_value-bounds-bytes-0 t c = nonempty c.args.bytes.now c.requires

@@ -9,9 +9,9 @@ pub returns-then-answer-ne-ITEM : goal.returns-then-answer-ne-ITEM
 returns-then-answer-ne-ITEM c =
     let so_far = c.items.invariant.reads in
     let ends = subst (λ (b : List ℕ). Ends c.items.reader b c.last_item-answer.new.reader c.last_item-answer.new.item c.last_item-answer.result)
-        c.behind.ensures c.last_item-answer.ensures in
+    c.behind.ensures c.last_item-answer.ensures in
     checked c.args.own.now c.items.reader c.last_item-answer.new.reader c.args.bytes.now (drop c.items.at c.args.bytes.now) c.last_item-answer.new.item
-        so_far.0 c.last_item-answer.result c.items.count c.verdict_of.result
+    so_far.0 c.last_item-answer.result c.items.count c.verdict_of.result
     (omega arith) so_far.1 so_far.2 ends c.if-answer-ne-ITEM.true (record { end = c.verdict_of.ensures.end; refused = c.verdict_of.ensures.refused })
 
 -- the item of an answer 1
@@ -24,8 +24,14 @@ item_size c =
     given_size c.items.reader b t i next.0 next.1
 
 pub overflow_add-at : goal.overflow_add-at
-overflow_add-at c = omega (arith, (item_size c).1, length-drop c.items.at c.args.bytes.now, c.items.invariant.within, ap length c.behind.ensures,
-    c.behind.type_inv.0)
+overflow_add-at c = omega (
+  arith,
+  (item_size c).1,
+  length-drop c.items.at c.args.bytes.now,
+  c.items.invariant.within,
+  ap length c.behind.ensures,
+  c.behind.type_inv.0,
+)
 
 pub items-smaller : goal.items-smaller
 items-smaller c = omega (arith, (item_size c).0, (item_size c).1, length-drop c.items.at c.args.bytes.now, c.items.invariant.within)
@@ -40,6 +46,10 @@ items-preserved c =
     record {
       within = omega (arith, (item_size c).1, length-drop at b, c.items.invariant.within);
       moved = omega (arith, (item_size c).0, c.items.invariant.moved);
-      reads = (so_far.0 ++ (i.start, next.0) ∷ [], subst (λ (z : List ℕ). Reads (new_reader c.args.own.now) b (so_far.0 ++ (i.start, next.0) ∷ []) t z)
-          (drop-drop i.size at b) reads, omega (arith, so_far.2, length-append so_far.0 ((i.start, next.0) ∷ [])));
+      reads = (
+        so_far.0 ++ (i.start, next.0) ∷ [],
+        subst (λ (z : List ℕ). Reads (new_reader c.args.own.now) b (so_far.0 ++ (i.start, next.0) ∷ []) t z)
+            (drop-drop i.size at b) reads,
+        omega (arith, so_far.2, length-append so_far.0 ((i.start, next.0) ∷ [])),
+      );
     }

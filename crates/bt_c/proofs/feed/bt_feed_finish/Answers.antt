@@ -5,4 +5,4 @@ pub returns-then-answer-eq-ITEM-clause-moved : goal.returns-then-answer-eq-ITEM-
 returns-then-answer-eq-ITEM-clause-moved c one =
     let f = c.args.feed.now in
     slide_below f.from f.to c.last_item-answer.new.item.size c.saturating_add-feed.result c.args.buffer.now c.unread_of-bytes.ensures.low
-        c.saturating_add-feed.ensures
+    c.saturating_add-feed.ensures

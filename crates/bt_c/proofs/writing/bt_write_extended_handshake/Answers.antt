@@ -11,8 +11,11 @@ returns c =
     let told = c.write_extended.ensures in
     let id = c.id_of.ensures in let size = c.size_from.ensures in
     let text = c.handshake_text-place.ensures.text ∙ ap (λ k. ben (handshake_tree k c.size_from.result)) id
-        ∙ ap (λ k. ben (handshake_tree (flagged c.args.metadata_id c.args.metadata_id) k)) size in
+    ∙ ap (λ k. ben (handshake_tree (flagged c.args.metadata_id c.args.metadata_id) k)) size in
     let bytes : c.text_from.result.now ++ [] ≡ ben (handshake_tree (flagged c.args.metadata_id c.args.metadata_id) (flagged c.args.has_size c.args.size)) =
-        append-nil c.text_from.result.now ∙ c.text_from.ensures.text ∙ text in
-    (told.0, told.1, subst (λ (b : List ℕ). Writes c.args.peer.now told.0 b c.write_extended.new.peer c.args.out.now c.write_extended.new.out
-        c.write_extended.new.written c.write_extended.result) bytes told.2)
+    append-nil c.text_from.result.now ∙ c.text_from.ensures.text ∙ text in (
+      told.0,
+      told.1,
+      subst (λ (b : List ℕ). Writes c.args.peer.now told.0 b c.write_extended.new.peer c.args.out.now c.write_extended.new.out
+          c.write_extended.new.written c.write_extended.result) bytes told.2,
+    )

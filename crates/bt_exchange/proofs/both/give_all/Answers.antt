@@ -19,10 +19,18 @@ items-preserved g c =
     let turn = rw c.in-Ok-Handled.is at c.in-Ok-Handled.field-0-is in
     let is : c.give-taken.result.1 ≡ Ok Handled = c.in-Ok-Handled.is ∙ ap (λ (t : Turn). Ok t) turn in
     let side : IsSide now next (turned_items c.give-taken.result.1) = side_given now next rest c.give-taken.result.0 c.give-taken.result.1
-        c.give-taken.ensures.feed c.give-taken.ensures.taken c.give-taken.ensures.turned in
+    c.give-taken.ensures.feed c.give-taken.ensures.taken c.give-taken.ensures.turned in
     let one : IsSide now next 1 = subst (λ (x : Result Turn TurnError). IsSide now next (turned_items x)) is side in
-    record { within = omega (arith, c.give-taken.ensures.in_range, c.items.invariant.within, length-take (length bytes - c.items.used)
-        (drop c.items.used bytes)); side = side_both c.args.end.now now next c.items.items 1 _ c.items.invariant.side one c.saturating_add-items.ensures }
+    record {
+      within = omega (
+        arith,
+        c.give-taken.ensures.in_range,
+        c.items.invariant.within,
+        length-take (length bytes - c.items.used)
+            (drop c.items.used bytes),
+      );
+      side = side_both c.args.end.now now next c.items.items 1 _ c.items.invariant.side one c.saturating_add-items.ensures;
+    }
 
 pub returns-in-Ok-Idle : goal.returns-in-Ok-Idle
 returns-in-Ok-Idle g c =
@@ -33,7 +41,7 @@ returns-in-Ok-Idle g c =
     let turn = rw c.in-Ok-Idle.is at c.in-Ok-Idle.field-0-is in
     let is : c.give-taken.result.1 ≡ Ok Idle = c.in-Ok-Idle.is ∙ ap (λ (t : Turn). Ok t) turn in
     let side : IsSide now next (turned_items c.give-taken.result.1) = side_given now next rest c.give-taken.result.0 c.give-taken.result.1
-        c.give-taken.ensures.feed c.give-taken.ensures.taken c.give-taken.ensures.turned in
+    c.give-taken.ensures.feed c.give-taken.ensures.taken c.give-taken.ensures.turned in
     side_and c.args.end.now now next c.items.items c.items.invariant.side (subst (λ (x : Result Turn TurnError). IsSide now next (turned_items x)) is side)
 
 pub returns-in-Err : goal.returns-in-Err
@@ -43,6 +51,6 @@ returns-in-Err g c =
     let bytes = c.args.bytes.now in
     let rest = take (length bytes - c.items.used) (drop c.items.used bytes) in
     let side : IsSide now next (turned_items c.give-taken.result.1) = side_given now next rest c.give-taken.result.0 c.give-taken.result.1
-        c.give-taken.ensures.feed c.give-taken.ensures.taken c.give-taken.ensures.turned in
+    c.give-taken.ensures.feed c.give-taken.ensures.taken c.give-taken.ensures.turned in
     side_and c.args.end.now now next c.items.items c.items.invariant.side (subst (λ (x : Result Turn TurnError). IsSide now next (turned_items x))
-        c.in-Err.is side)
+    c.in-Err.is side)

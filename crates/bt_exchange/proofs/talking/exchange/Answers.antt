@@ -10,7 +10,7 @@ returns-in-Some-clause-exchanged g c = stopped_first c.args.limits (moment (g.C.
 pub loop-round-init : goal.loop-round-init
 loop-round-init g c =
     let s = started c.args.limits.sign (moment (g.C.Connection.seen c.args.connection.now) c.args.hearing.now c.args.end.now)
-        (g.C.Connection.seen c.now.new.self) c.now.result c.now.ensures in
+    (g.C.Connection.seen c.now.new.self) c.now.result c.now.ensures in
     record { made = s.0; calm = s.1; undone = c.in_default.ensures; progress = λ e. c.progress.ensures.value; mark = s.2 }
 
 pub loop-round-preserved : goal.loop-round-preserved
@@ -32,9 +32,9 @@ pub returns-in-Err-clause-exchanged : goal.returns-in-Err-clause-exchanged
 returns-in-Err-clause-exchanged g c =
     let i = c.loop-round.invariant in
     stopped_at c.args.limits (moment (g.C.Connection.seen c.args.connection.now) c.args.hearing.now c.args.end.now)
-        (moment (g.C.Connection.seen c.loop-round.connection) c.loop-round.hearing c.loop-round.end) (moment (g.C.Connection.seen c.round.new.connection)
-        c.round.new.hearing c.round.new.end) c.loop-round._round c.in-Err.ensures.made.0 c.in-Err.stop c.in-Err.ensures.made.2 c.loop-round-test.true i.made
-        c.in-Err.ensures.made.3 (c.in-Err.ensures.watched (moment (g.C.Connection.seen c.args.connection.now) c.args.hearing.now c.args.end.now) i.mark i.calm)
+    (moment (g.C.Connection.seen c.loop-round.connection) c.loop-round.hearing c.loop-round.end) (moment (g.C.Connection.seen c.round.new.connection)
+    c.round.new.hearing c.round.new.end) c.loop-round._round c.in-Err.ensures.made.0 c.in-Err.stop c.in-Err.ensures.made.2 c.loop-round-test.true i.made
+    c.in-Err.ensures.made.3 (c.in-Err.ensures.watched (moment (g.C.Connection.seen c.args.connection.now) c.args.hearing.now c.args.end.now) i.mark i.calm)
 
 pub returns-clause-exchanged : goal.returns-clause-exchanged
 returns-clause-exchanged g c = stopped_last c.args.limits (moment (g.C.Connection.seen c.args.connection.now) c.args.hearing.now c.args.end.now)

@@ -5,9 +5,13 @@ use Rattle.bt_exchange.proofs.Watches.{round_made, round_calm, mark_alive, mark_
 use Rattle.bt_exchange.proofs.talking.round.Goals as goal
 
 pub returns-then-is_alive-clause-made : goal.returns-then-is_alive-clause-made
-returns-then-is_alive-clause-made g c = (1, omega arith, omega arith,
-    round_made (moment (g.C.Connection.seen c.args.connection.now) c.args.hearing.now c.args.end.now) (moment (g.C.Connection.seen c.advance.new.connection)
-    c.advance.new.hearing c.advance.new.end) (g.C.Connection.seen c.now-now.new.self) c.in-Ok.step c.now-now.result c.in-Ok.ensures c.now-now.ensures)
+returns-then-is_alive-clause-made g c = (
+  1,
+  omega arith,
+  omega arith,
+  round_made (moment (g.C.Connection.seen c.args.connection.now) c.args.hearing.now c.args.end.now) (moment (g.C.Connection.seen c.advance.new.connection)
+      c.advance.new.hearing c.advance.new.end) (g.C.Connection.seen c.now-now.new.self) c.in-Ok.step c.now-now.result c.in-Ok.ensures c.now-now.ensures,
+)
 
 pub returns-then-is_alive-clause-watched : goal.returns-then-is_alive-clause-watched
 returns-then-is_alive-clause-watched g c = λ start mark calm. (
@@ -21,9 +25,13 @@ returns-then-is_alive-clause-watched g c = λ start mark calm. (
 )
 
 pub returns-then-now-watch-2-clause-made : goal.returns-then-now-watch-2-clause-made
-returns-then-now-watch-2-clause-made g c = (1, omega arith, omega arith,
-    round_made (moment (g.C.Connection.seen c.args.connection.now) c.args.hearing.now c.args.end.now) (moment (g.C.Connection.seen c.advance.new.connection)
-    c.advance.new.hearing c.advance.new.end) (g.C.Connection.seen c.now-now.new.self) c.in-Ok.step c.now-now.result c.in-Ok.ensures c.now-now.ensures)
+returns-then-now-watch-2-clause-made g c = (
+  1,
+  omega arith,
+  omega arith,
+  round_made (moment (g.C.Connection.seen c.args.connection.now) c.args.hearing.now c.args.end.now) (moment (g.C.Connection.seen c.advance.new.connection)
+      c.advance.new.hearing c.advance.new.end) (g.C.Connection.seen c.now-now.new.self) c.in-Ok.step c.now-now.result c.in-Ok.ensures c.now-now.ensures,
+)
 
 pub returns-then-now-watch-2-clause-watched : goal.returns-then-now-watch-2-clause-watched
 returns-then-now-watch-2-clause-watched g c = λ start mark calm. (
@@ -47,9 +55,14 @@ returns-then-now-watch-2-clause-watched g c = λ start mark calm. (
 )
 
 pub returns-clause-made : goal.returns-clause-made
-returns-clause-made g c = (1, omega arith, omega arith, round_made (moment (g.C.Connection.seen c.args.connection.now) c.args.hearing.now c.args.end.now)
-    (moment (g.C.Connection.seen c.advance.new.connection) c.advance.new.hearing c.advance.new.end) (g.C.Connection.seen c.now-now.new.self) c.in-Ok.step
-    c.now-now.result c.in-Ok.ensures c.now-now.ensures)
+returns-clause-made g c = (
+  1,
+  omega arith,
+  omega arith,
+  round_made (moment (g.C.Connection.seen c.args.connection.now) c.args.hearing.now c.args.end.now)
+      (moment (g.C.Connection.seen c.advance.new.connection) c.advance.new.hearing c.advance.new.end) (g.C.Connection.seen c.now-now.new.self) c.in-Ok.step
+      c.now-now.result c.in-Ok.ensures c.now-now.ensures,
+)
 
 pub returns-clause-watched : goal.returns-clause-watched
 returns-clause-watched g c = λ start mark calm. (

@@ -8,13 +8,13 @@ pub returns-in-Some-clause-ok : goal.returns-in-Some-clause-ok
 returns-in-Some-clause-ok g c =
     let holds = subst (λ (es : Entries). HoldsAt c.args.name.now es (Some c.in-Some.i)) c.deref.ensures.value c.in-Some.ensures in
     c.remove.ensures.items ∙ remove-at c.args.name.now c.args.id c.args.entries.now.items c.in-Some.i c.remove.result (omega arith) c.if-id-eq0.true holds
-        c.remove.ensures.value
+    c.remove.ensures.value
 
 pub returns-in-Some-2-clause-ok : goal.returns-in-Some-2-clause-ok
 returns-in-Some-2-clause-ok g c =
     let holds = subst (λ (es : Entries). HoldsAt c.args.name.now es (Some c.in-Some.i)) c.deref.ensures.value c.in-Some.ensures in
     replace-at c.args.name.now c.args.id c.args.entries.now.items c.in-Some.i c.index_mut.result.now (omega arith) c.if-id-eq0.false holds
-        c.index_mut.ensures.value
+    c.index_mut.ensures.value
 
 pub returns-else-id-ne0-clause-ok : goal.returns-else-id-ne0-clause-ok
 returns-else-id-ne0-clause-ok g c =

@@ -11,19 +11,28 @@ pub items-preserved : goal.items-preserved
 items-preserved g c =
     let p = c.push-at.new.self in
     let h = passed_on g.S.Sink.takes g.S.Sink.misses c.args.feed.now c.items.feed c.pass-passed.new.self _ _ _ c.args.piece.now c.behind.result.now
-        c.items.at c.pass-passed.result.0 c.pass-passed.result.1 c.in_default.is c.behind.ensures c.items.invariant.moved c.pass-passed.ensures.items in
+    c.items.at c.pass-passed.result.0 c.pass-passed.result.1 c.in_default.is c.behind.ensures c.items.invariant.moved c.pass-passed.ensures.items in
     let at = c.items.at + c.pass-passed.result.0 in
     let s = c.pass-passed.new.self in
     let rest = c.behind-in-items.result.now in
     let item : Item = item_of c.in-Ok-Some.view in
     let pushed : IsPushed s c.push-at.new.self c.args.piece.now rest at c.push-at.result =
-        record { rest_is = c.behind-in-items.ensures; taken_is = c.push-at.ensures.taken; held_is = c.push-at.ensures.held;
-        partial = c.push-at.ensures.partial } in
+    record {
+      rest_is = c.behind-in-items.ensures;
+      taken_is = c.push-at.ensures.taken;
+      held_is = c.push-at.ensures.held;
+      partial = c.push-at.ensures.partial;
+    } in
     let one : List (ℕ × Item) = (c.start-start.result, item) ∷ [] in
     let P : ℕ → Type 0 = λ start. IsFed c.args.feed.now (take (at + c.push-at.result) c.args.piece.now) (h.0 ++ (start, item) ∷ [])
-        c.take.follows.lender-at-none in
-    let within : at ≤ length c.args.piece.now = omega (arith, c.items.invariant.within, c.pass-passed.ensures.within, ap (length {A = ℕ}) c.behind.ensures,
-        length-drop c.items.at c.args.piece.now) in
+    c.take.follows.lender-at-none in
+    let within : at ≤ length c.args.piece.now = omega (
+      arith,
+      c.items.invariant.within,
+      c.pass-passed.ensures.within,
+      ap (length {A = ℕ}) c.behind.ensures,
+      length-drop c.items.at c.args.piece.now,
+    ) in
     record {
       within = omega (arith, c.push-at.ensures.in_range, within, ap (length {A = ℕ}) c.behind-in-items.ensures, length-drop at c.args.piece.now);
       quiet = c.in-Ok.ensures.failed ∙ (rw (c.in_default.is) at c.pass-passed.ensures.calm) ∙ c.items.invariant.quiet;
@@ -33,7 +42,7 @@ items-preserved g c =
         subst P (sym c.start-start.ensures.value) (fed_item c.args.feed.now s p c.take.follows.lender-at-none c.args.piece.now rest at c.push-at.result h.0
             (shown c.take.result) item
             h.2 pushed c.start-start.ensures.feed.limit (ap shown (c.in-Ok-Some.is ∙ ap Ok c.in-Ok-Some.field-0-is)) c.take.ensures.value
-                c.take.follows.holds-at-none),
+            c.take.follows.holds-at-none),
       );
     }
 
@@ -41,17 +50,21 @@ pub returns-in-Err-item-clause-items : goal.returns-in-Err-item-clause-items
 returns-in-Err-item-clause-items g c =
     let p = c.push-at.new.self in
     let h = passed_on g.S.Sink.takes g.S.Sink.misses c.args.feed.now c.items.feed c.pass-passed.new.self _ _ _ c.args.piece.now c.behind.result.now
-        c.items.at c.pass-passed.result.0 c.pass-passed.result.1 c.in_default.is c.behind.ensures c.items.invariant.moved c.pass-passed.ensures.items in
+    c.items.at c.pass-passed.result.0 c.pass-passed.result.1 c.in_default.is c.behind.ensures c.items.invariant.moved c.pass-passed.ensures.items in
     let at = c.items.at + c.pass-passed.result.0 in
     let s = c.pass-passed.new.self in
     let rest = c.behind-in-items.result.now in
     let item : Item = item_of c.in-Ok-Some.view in
     let pushed : IsPushed s c.push-at.new.self c.args.piece.now rest at c.push-at.result =
-        record { rest_is = c.behind-in-items.ensures; taken_is = c.push-at.ensures.taken; held_is = c.push-at.ensures.held;
-        partial = c.push-at.ensures.partial } in
+    record {
+      rest_is = c.behind-in-items.ensures;
+      taken_is = c.push-at.ensures.taken;
+      held_is = c.push-at.ensures.held;
+      partial = c.push-at.ensures.partial;
+    } in
     let x : ℕ × Item = (c.start-start.result, item) in
     let P : ℕ → Type 0 = λ start. IsFed c.args.feed.now (take (at + c.push-at.result) c.args.piece.now) (h.0 ++ (start, item) ∷ [])
-        c.take.follows.lender-at-none in (
+    c.take.follows.lender-at-none in (
       h.0 ++ x ∷ [],
       (h.0, x, c.pass-passed.new.sink, refl, h.1, c.in-Err-item.ensures.items),
       (
@@ -59,22 +72,31 @@ returns-in-Err-item-clause-items g c =
         subst P (sym c.start-start.ensures.value) (fed_item c.args.feed.now s p c.take.follows.lender-at-none c.args.piece.now rest at c.push-at.result h.0
             (shown c.take.result) item
             h.2 pushed c.start-start.ensures.feed.limit (ap shown (c.in-Ok-Some.is ∙ ap Ok c.in-Ok-Some.field-0-is)) c.take.ensures.value
-                c.take.follows.holds-at-none),
+            c.take.follows.holds-at-none),
       ),
     )
 
 pub returns-in-Ok-None-clause-items : goal.returns-in-Ok-None-clause-items
 returns-in-Ok-None-clause-items g c =
     let h = passed_on g.S.Sink.takes g.S.Sink.misses c.args.feed.now c.items.feed c.pass-passed.new.self _ _ _ c.args.piece.now c.behind.result.now
-        c.items.at c.pass-passed.result.0 c.pass-passed.result.1 c.in_default.is c.behind.ensures c.items.invariant.moved c.pass-passed.ensures.items in
+    c.items.at c.pass-passed.result.0 c.pass-passed.result.1 c.in_default.is c.behind.ensures c.items.invariant.moved c.pass-passed.ensures.items in
     let at = c.items.at + c.pass-passed.result.0 in
     let s = c.pass-passed.new.self in
     let rest = c.behind-in-items.result.now in
-    let within : at ≤ length c.args.piece.now = omega (arith, c.items.invariant.within, c.pass-passed.ensures.within, ap (length {A = ℕ}) c.behind.ensures,
-        length-drop c.items.at c.args.piece.now) in
+    let within : at ≤ length c.args.piece.now = omega (
+      arith,
+      c.items.invariant.within,
+      c.pass-passed.ensures.within,
+      ap (length {A = ℕ}) c.behind.ensures,
+      length-drop c.items.at c.args.piece.now,
+    ) in
     let pushed : IsPushed s c.push-at.new.self c.args.piece.now rest at c.push-at.result =
-        record { rest_is = c.behind-in-items.ensures; taken_is = c.push-at.ensures.taken; held_is = c.push-at.ensures.held;
-        partial = c.push-at.ensures.partial } in (
+    record {
+      rest_is = c.behind-in-items.ensures;
+      taken_is = c.push-at.ensures.taken;
+      held_is = c.push-at.ensures.held;
+      partial = c.push-at.ensures.partial;
+    } in (
       h.0,
       h.1,
       fed_all c.args.feed.now s c.push-at.new.self c.take.follows.lender-at-none c.args.piece.now rest at c.push-at.result h.0 (shown c.take.result)
@@ -84,15 +106,19 @@ returns-in-Ok-None-clause-items g c =
 pub returns-in-Err-take-clause-items : goal.returns-in-Err-take-clause-items
 returns-in-Err-take-clause-items g c =
     let h = passed_on g.S.Sink.takes g.S.Sink.misses c.args.feed.now c.items.feed c.pass-passed.new.self _ _ _ c.args.piece.now c.behind.result.now
-        c.items.at c.pass-passed.result.0 c.pass-passed.result.1 c.in_default.is c.behind.ensures c.items.invariant.moved c.pass-passed.ensures.items in
+    c.items.at c.pass-passed.result.0 c.pass-passed.result.1 c.in_default.is c.behind.ensures c.items.invariant.moved c.pass-passed.ensures.items in
     let at = c.items.at + c.pass-passed.result.0 in
     let s = c.pass-passed.new.self in
     let rest = c.behind-in-items.result.now in
     let pushed : IsPushed s c.push-at.new.self c.args.piece.now rest at c.push-at.result =
-        record { rest_is = c.behind-in-items.ensures; taken_is = c.push-at.ensures.taken; held_is = c.push-at.ensures.held;
-        partial = c.push-at.ensures.partial } in
+    record {
+      rest_is = c.behind-in-items.ensures;
+      taken_is = c.push-at.ensures.taken;
+      held_is = c.push-at.ensures.held;
+      partial = c.push-at.ensures.partial;
+    } in
     let end = fed_refused c.args.feed.now s c.push-at.new.self c.take.follows.lender-at-none c.args.piece.now rest at c.push-at.result h.0
-        (shown c.take.result) c.refusal_in.result
+    (shown c.take.result) c.refusal_in.result
     h.2 pushed (ap shown (c.in-Err-take.is ∙ ap Err c.refusal_in.ensures)) c.take.ensures.value c.take.follows.holds-at-none in
     (h.0, h.1, (at + c.push-at.result, end.0, end.1))
 
@@ -115,6 +141,9 @@ returns-in-Err-clause-items g c =
     let s = c.pass-passed.new.self in (
       m.0 ++ y.0,
       missed_by g.S.Sink.takes g.S.Sink.misses _ c.items.sink _ m.0 y.0 c.pass-passed.result.1 c.in-Err.fault c.in-Err.is m.1 y.1,
-      (c.items.at + c.pass-passed.result.0, fed_passed c.args.feed.now c.items.feed s c.args.piece.now c.behind.result.now c.items.at c.pass-passed.result.0
-          m.0 y.0 c.behind.ensures m.2 y.2),
+      (
+        c.items.at + c.pass-passed.result.0,
+        fed_passed c.args.feed.now c.items.feed s c.args.piece.now c.behind.result.now c.items.at c.pass-passed.result.0
+            m.0 y.0 c.behind.ensures m.2 y.2,
+      ),
     )

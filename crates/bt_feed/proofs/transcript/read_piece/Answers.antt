@@ -19,7 +19,7 @@ items-preserved c = record {
       (ap shown (c.in-Ok-Some.is ∙ ap Ok c.in-Ok-Some.field-0-is)) c.take.ensures.value c.take.follows.holds-at-none (c.items.invariant.reads t all later r) in
       let more : c.push.new.self.items ≡ xs ++ (start_of p.stage, item) ∷ [] =
       c.in_ok-push-in-Ok-Some.ensures.items ∙ ap (λ (at : ℕ). xs ++ (at, c.in_ok-item-in-Ok-Some.item) ∷ []) c.start-start.ensures.value
-          ∙ ap (λ (i : Item). xs ++ (start_of p.stage, i) ∷ []) c.in_ok-item-in-Ok-Some.ensures.ok in
+      ∙ ap (λ (i : Item). xs ++ (start_of p.stage, i) ∷ []) c.in_ok-item-in-Ok-Some.ensures.ok in
       let P : List (ℕ × Item) → Type 0 = λ ys. Reads t all ys g (drop (c.items.at + c.push-at.result) c.args.piece.now ++ later) in
       subst P (sym more) base;
 }
@@ -27,13 +27,13 @@ items-preserved c = record {
 pub returns-in-Ok-None : goal.returns-in-Ok-None
 returns-in-Ok-None c = λ t all later r.
     step_none t all c.items.items.items c.items.feed c.push-at.new.self c.take.follows.lender-at-none c.args.piece.now c.behind.result.now later c.items.at
-        c.push-at.result (shown c.take.result)
+    c.push-at.result (shown c.take.result)
     (record { rest_is = c.behind.ensures; taken_is = c.push-at.ensures.taken; held_is = c.push-at.ensures.held; partial = c.push-at.ensures.partial })
     (ap shown (c.in-Ok-None.is ∙ ap Ok c.in-Ok-None.field-0-is)) c.take.ensures.value c.take.follows.holds-at-none (c.items.invariant.reads t all later r)
 
 pub returns-in-Err : goal.returns-in-Err
 returns-in-Err c = λ t all later r.
     step_refused t all c.items.items.items c.items.feed c.push-at.new.self c.take.follows.lender-at-none c.args.piece.now c.behind.result.now later
-        c.items.at c.push-at.result (shown c.take.result) c.refusal_in.result
+    c.items.at c.push-at.result (shown c.take.result) c.refusal_in.result
     (record { rest_is = c.behind.ensures; taken_is = c.push-at.ensures.taken; held_is = c.push-at.ensures.held; partial = c.push-at.ensures.partial })
     (ap shown (c.in-Err.is ∙ ap Err c.refusal_in.ensures)) c.take.ensures.value c.take.follows.holds-at-none (c.items.invariant.reads t all later r)

@@ -16,7 +16,7 @@ loop-piece-preserved c = λ own all r e.
     let Q : List ℕ → Type 0 = λ b. Reads (stage.Handshake own) all xs c.loop-piece.feed (b ++ rest) in
     let R : Option Refusal → Type 0 = λ o. IsReadTo (stage.Handshake own) all c.read_piece.new.items.items c.read_piece.new.feed rest o in
     let here = subst P (pieces_more bytes c.args.pieces.now i c.piece-item.result c.loop-piece-test.true c.piece-item.is)
-        (c.loop-piece.invariant own all r e).0 in
+    (c.loop-piece.invariant own all r e).0 in
     subst R c.in_default.is (c.in_ok-refusal.ensures (stage.Handshake own) all rest (subst Q (sym c.deref.ensures.value) here))
 
 pub returns-in-Some : goal.returns-in-Some
@@ -29,7 +29,7 @@ returns-in-Some c = λ own all r e.
     let Q : List ℕ → Type 0 = λ b. Reads (stage.Handshake own) all xs c.loop-piece.feed (b ++ rest) in
     let R : Option Refusal → Type 0 = λ o. IsReadTo (stage.Handshake own) all c.read_piece.new.items.items c.read_piece.new.feed rest o in
     let here = subst P (pieces_more bytes c.args.pieces.now i c.piece-item.result c.loop-piece-test.true c.piece-item.is)
-        (c.loop-piece.invariant own all r e).0 in
+    (c.loop-piece.invariant own all r e).0 in
     let end = subst R c.in-Some.is (c.in_ok-refusal.ensures (stage.Handshake own) all rest (subst Q (sym c.deref.ensures.value) here)) in
     let S : ℕ → Type 0 = λ n. IsTranscript own all c.read_piece.new.items.items (Some c.in-Some.refusal) n in
     subst S (sym c.held.ensures) (transcript_refused own all c.read_piece.new.items.items c.read_piece.new.feed end.0 c.in-Some.refusal end.1 end.2)

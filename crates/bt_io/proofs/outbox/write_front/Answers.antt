@@ -7,8 +7,13 @@ pub loop-done-preserved : goal.loop-done-preserved
 loop-done-preserved g c =
     let bs = c.args.bytes.now in
     record {
-      within = omega (arith, c.in-Ok.ensures.bound, length-take (length bs - c.loop-done.done) (drop c.loop-done.done bs), length-drop c.loop-done.done bs,
-          c.loop-done.invariant.within);
+      within = omega (
+        arith,
+        c.in-Ok.ensures.bound,
+        length-take (length bs - c.loop-done.done) (drop c.loop-done.done bs),
+        length-drop c.loop-done.done bs,
+        c.loop-done.invariant.within,
+      );
       sent = Appends-more _ _ _ bs c.loop-done.done c.in-Ok.count c.loop-done.invariant.sent c.in-Ok.ensures.bytes;
       failed = grind (arith, c.in-Ok.ensures.failed, c.loop-done.invariant.failed);
     }

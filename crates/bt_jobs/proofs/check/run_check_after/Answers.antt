@@ -13,9 +13,9 @@ returns-in-Ok-pump_with-clause-checked g c =
     let m = c.in-Ok-pump_with.ensures.moved in
     let end = m.5 in
     checked_all _ c.args.prefix.now c.args.own.now c.in-Ok.feed _ _ _ _ (m.0 ++ m.1) end.0 (Accepted (c.number-messages.result - 1) c.in-Ok-pump_with.bytes)
-        c.say_after.result c.requires.1 c.one_verdict.ensures.one m.3 c.in-Ok.ensures.ok end.1.comes
+    c.say_after.result c.requires.1 c.one_verdict.ensures.one m.3 c.in-Ok.ensures.ok end.1.comes
     (is_accepted end.0 c.pump_with.new.feed c.number-messages.result _ c.in-Ok-pump_with.bytes end.3 end.1.number c.number-messages.ensures.value refl)
-        (c.in-Ok-pump_with.ensures.end tt) c.say_after.ensures.written
+    (c.in-Ok-pump_with.ensures.end tt) c.say_after.ensures.written
 
 pub returns-in-Err-Refused-clause-checked : goal.returns-in-Err-Refused-clause-checked
 returns-in-Err-Refused-clause-checked g c =
@@ -24,9 +24,9 @@ returns-in-Err-Refused-clause-checked g c =
     let R : PumpError → Type 0 = λ e. IsEnd (Err e) → Grew (g.R.Source.ends c.args.reader.now) (g.R.Source.ends c.pump_with.new.reader) in
     let end = subst P c.in-Err-Refused.field-0-is m.5 in
     checked_all _ c.args.prefix.now c.args.own.now c.in-Ok.feed _ _ _ _ (m.0 ++ m.1) end.0 (Refused c.in-Err-Refused.refusal)
-        c.say_after-in-Err-Refused.result c.requires.1 c.one_verdict.ensures.one m.3 c.in-Ok.ensures.ok end.1.comes
+    c.say_after-in-Err-Refused.result c.requires.1 c.one_verdict.ensures.one m.3 c.in-Ok.ensures.ok end.1.comes
     (is_refused end.0 c.in-Err-Refused.refusal end.3) (subst R c.in-Err-Refused.field-0-is c.in-Err-Refused.ensures.end)
-        c.say_after-in-Err-Refused.ensures.written
+    c.say_after-in-Err-Refused.ensures.written
 
 pub returns-in-Err-Turns-clause-checked : goal.returns-in-Err-Turns-clause-checked
 returns-in-Err-Turns-clause-checked g c =

@@ -22,7 +22,7 @@ pub loop-turn-preserved : goal.loop-turn-preserved
 loop-turn-preserved g c =
     let t = c.loop-turn.invariant.heard in
     let P : Bool → Type 0 = λ k. IsTurnHeard t.bytes t.items (Grew (g.R.Source.ends c.loop-turn.reader) (g.R.Source.ends c.turn.new.reader))
-        (g.R.Source.left c.loop-turn.reader) (g.R.Source.left c.turn.new.reader) c.turn.new.feed c.turn.new.listener (Ok k) in
+    (g.R.Source.left c.loop-turn.reader) (g.R.Source.left c.turn.new.reader) c.turn.new.feed c.turn.new.listener (Ok k) in
     let more = subst P c.in-Ok-false.field-0-test (c.in-Ok-false.ensures.heard t.bytes t.items t.listening) in
     let end = c.in-Ok-false.ensures.turns (ap (λ (k : Bool). Ok k) c.in-Ok-false.field-0-test) in
     record {
@@ -38,10 +38,10 @@ pub returns-in-Ok-true-clause-learnt : goal.returns-in-Ok-true-clause-learnt
 returns-in-Ok-true-clause-learnt g c =
     let t = c.loop-turn.invariant.heard in
     let P : Bool → Type 0 = λ k. IsTurnHeard t.bytes t.items (Grew (g.R.Source.ends c.loop-turn.reader) (g.R.Source.ends c.turn.new.reader))
-        (g.R.Source.left c.loop-turn.reader) (g.R.Source.left c.turn.new.reader) c.turn.new.feed c.turn.new.listener (Ok k) in
+    (g.R.Source.left c.loop-turn.reader) (g.R.Source.left c.turn.new.reader) c.turn.new.feed c.turn.new.listener (Ok k) in
     let end = subst P c.in-Ok-true.field-0-test (c.in-Ok-true.ensures.heard t.bytes t.items t.listening) in
     learnt _ _ _ _ _ c.loop-turn.feed c.turn.new.feed c.loop-turn.listener c.turn.new.listener c.answer.result c.one_verdict.ensures.one
-        c.one_verdict.ensures.refused c.one_verdict.ensures.items t end (grew_since _ _ _ c.loop-turn.invariant.ends) c.answer.ensures
+    c.one_verdict.ensures.refused c.one_verdict.ensures.items t end (grew_since _ _ _ c.loop-turn.invariant.ends) c.answer.ensures
 
 pub returns-in-Ok-true-clause-faults : goal.returns-in-Ok-true-clause-faults
 returns-in-Ok-true-clause-faults g c = no_fault _ c.answer.result _ _ _ _ _ _ c.answer.ensures (c.in-Ok-true.ensures.calm ∙ c.loop-turn.invariant.failed)
@@ -50,7 +50,7 @@ pub returns-in-Err-clause-learnt : goal.returns-in-Err-clause-learnt
 returns-in-Err-clause-learnt g c =
     let t = c.loop-turn.invariant.heard in
     fault_of_turn _ _ _ _ c.loop-turn.feed c.turn.new.feed c.loop-turn.listener c.turn.new.listener c.in-Err.fault t
-        (c.in-Err.ensures.heard t.bytes t.items t.listening)
+    (c.in-Err.ensures.heard t.bytes t.items t.listening)
 
 pub returns-in-Err-clause-faults : goal.returns-in-Err-clause-faults
 returns-in-Err-clause-faults g c = read_failed c.in-Err.fault _ _ _ _ _ _ c.in-Err.ensures.fault.0
@@ -68,16 +68,27 @@ pub returns-in_default-clause-learnt : goal.returns-in_default-clause-learnt
 returns-in_default-clause-learnt g c = not_learnt _ _ _ [] fault.Memory (Consumes-nil _)
 
 pub returns-in-Ok-true-clause-needed : goal.returns-in-Ok-true-clause-needed
-returns-in-Ok-true-clause-needed g c = (c.loop-turn.reader, waits _ _ c.loop-turn.feed c.loop-turn.listener c.one_verdict.ensures.one
-    c.loop-turn.invariant.heard, c.in-Ok-true.ensures.reads)
+returns-in-Ok-true-clause-needed g c = (
+  c.loop-turn.reader,
+  waits _ _ c.loop-turn.feed c.loop-turn.listener c.one_verdict.ensures.one
+      c.loop-turn.invariant.heard,
+  c.in-Ok-true.ensures.reads,
+)
 
 pub returns-in-Err-clause-needed : goal.returns-in-Err-clause-needed
-returns-in-Err-clause-needed g c = (c.loop-turn.reader, waits _ _ c.loop-turn.feed c.loop-turn.listener c.one_verdict.ensures.one
-    c.loop-turn.invariant.heard, c.in-Err.ensures.reads)
+returns-in-Err-clause-needed g c = (
+  c.loop-turn.reader,
+  waits _ _ c.loop-turn.feed c.loop-turn.listener c.one_verdict.ensures.one
+      c.loop-turn.invariant.heard,
+  c.in-Err.ensures.reads,
+)
 
 pub returns-clause-needed : goal.returns-clause-needed
-returns-clause-needed g c = (c.loop-turn.reader, waits _ _ c.loop-turn.feed c.loop-turn.listener c.one_verdict.ensures.one c.loop-turn.invariant.heard,
-    omega arith)
+returns-clause-needed g c = (
+  c.loop-turn.reader,
+  waits _ _ c.loop-turn.feed c.loop-turn.listener c.one_verdict.ensures.one c.loop-turn.invariant.heard,
+  omega arith,
+)
 
 pub returns-in_default-clause-needed : goal.returns-in_default-clause-needed
 returns-in_default-clause-needed g c = (c.args.reader.now, nothing_read _ c.one_verdict.ensures.one, omega arith)

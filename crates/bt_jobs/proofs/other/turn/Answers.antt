@@ -10,7 +10,7 @@ pub returns-in-Ok-clause-heard : goal.returns-in-Ok-clause-heard
 returns-in-Ok-clause-heard g c = λ b xs r.
     let m = c.in-Ok.ensures.moved in
     ended _ b xs m.2 c.args.feed.now c.pump_with.new.feed _ _ c.args.listener.now c.pump_with.new.sink m.0 m.1 m.5.0 r m.3 m.4 m.5.1
-        (inr (c.in-Ok.ensures.end tt))
+    (inr (c.in-Ok.ensures.end tt))
 
 pub returns-in-Err-Refused-clause-heard : goal.returns-in-Err-Refused-clause-heard
 returns-in-Err-Refused-clause-heard g c = λ b xs r.
@@ -31,4 +31,4 @@ returns-in-Err-Turns-clause-heard g c = λ b xs r.
     let end = subst P c.in-Err-Turns.field-0-is m.5 in
     let took = subst Q c.in-Err-Turns.field-0-is m.4 in
     turned _ b xs m.2 c.args.feed.now c.pump_with.new.feed _ _ c.args.listener.now c.pump_with.new.sink m.0 m.1 end.0 c.knows_all.result
-        c.knows_all.ensures.yes c.knows_all.ensures.no r m.3 took end.1 end.2 end.3
+    c.knows_all.ensures.yes c.knows_all.ensures.no r m.3 took end.1 end.2 end.3

@@ -41,32 +41,32 @@ returns-in-Ok-end_script-clause-packed g c =
     let P : ℕ → Type 0 = λ k. Consumes (g.R.Source.left c.loop-turn.reader) (g.R.Source.left c.read.new.self) (take k c.read.new.into) in
     let Q : List ℕ → Type 0 = λ l. IsReadSo c.args.own.now r.text r.lines r.bytes l c.loop-turn.feed in
     let S : List ℕ → Type 0 = λ l. IsWrittenOut c.in-Ok-end_script.end l (g.W.Target.held c.loop-turn.writer) (g.W.Target.held c.write_out.new.writer)
-        c.write_out.result in
+    c.write_out.result in
     let end = c.in-Ok-end_script.ensures c.args.own.now r.text r.lines r.bytes refl (subst Q (sym c.as_slice.ensures.value) r.read) in
     let AtEnd : Type 0 = Grew (g.R.Source.ends c.args.reader.now) (g.R.Source.ends c.read.new.self) in
     let grew : AtEnd = search rules in
     packed_run AtEnd c.args.own.now _ _ _ _ _ r.text r.bytes end.0 c.loop-turn.out.items c.end_script.new.out.items end.2.0 c.in-Ok-end_script.end
-        c.write_out.result c.requires.1 (no_bytes _ _ _ r.text r.consumed (subst P none c.in-Ok-eq0.ensures.bytes.0)) end.2.1 end.2.2
+    c.write_out.result c.requires.1 (no_bytes _ _ _ r.text r.consumed (subst P none c.in-Ok-eq0.ensures.bytes.0)) end.2.1 end.2.2
     (timely_at_end c.args.own.now.limit r.text AtEnd c.in-Ok-end_script.end grew) r.written c.loop-turn.invariant.empty end.1
-        (subst S c.as_slice-in-Ok-end_script.ensures.value c.write_out.ensures.written)
+    (subst S c.as_slice-in-Ok-end_script.ensures.value c.write_out.ensures.written)
 
 pub returns-in-Err-end_script-clause-packed : goal.returns-in-Err-end_script-clause-packed
 returns-in-Err-end_script-clause-packed g c =
     let none : c.in-Ok-eq0.field-0 ≡ 0 = omega (arith, c.in-Ok-eq0.field-0-test) in
     let P : ℕ → Type 0 = λ k. Consumes (g.R.Source.left c.loop-turn.reader) (g.R.Source.left c.read.new.self) (take k c.read.new.into) in
     run_fails _ c.args.own.now _ _ _ _ _ c.loop-turn.line.items [] c.loop-turn.feed fault.Memory c.loop-turn.invariant.run
-        (subst P none c.in-Ok-eq0.ensures.bytes.0)
+    (subst P none c.in-Ok-eq0.ensures.bytes.0)
 
 pub returns-in-Err-write_out-clause-packed : goal.returns-in-Err-write_out-clause-packed
 returns-in-Err-write_out-clause-packed g c =
     let r = c.loop-turn.invariant.run in
     let piece = take c.in-Ok-read.count c.read.new.into in
     let P : Option ScriptReason → Type 0 = λ o. IsPieceRead c.args.own.now (r.text ++ piece) r.lines r.bytes c.take_piece.new.line.items
-        c.take_piece.new.feed c.loop-turn.out.items c.take_piece.new.out.items o in
+    c.take_piece.new.feed c.loop-turn.out.items c.take_piece.new.out.items o in
     let p = subst P c.in-Ok-None.field-0-is (c.in-Ok-None.ensures c.args.own.now r.text r.lines r.bytes refl r.read) in
     let S : List ℕ → Type 0 = λ l. AppendsFront (g.W.Target.held c.loop-turn.writer) (g.W.Target.held c.write_out-in-Ok-None.new.writer) l in
     more_fails _ c.args.own.now _ _ _ _ _ _ c.loop-turn.line.items c.take_piece.new.line.items piece c.loop-turn.out.items c.take_piece.new.out.items
-        c.loop-turn.feed c.take_piece.new.feed c.in-Err-write_out.fault r c.in-Ok-read.ensures.bytes.0
+    c.loop-turn.feed c.take_piece.new.feed c.in-Err-write_out.fault r c.in-Ok-read.ensures.bytes.0
     c.loop-turn.invariant.empty p (subst S c.as_slice-in-Ok-None.ensures.value c.in-Err-write_out.ensures.written)
 
 pub returns-in-Ok-Some-clause-packed : goal.returns-in-Ok-Some-clause-packed
@@ -74,29 +74,29 @@ returns-in-Ok-Some-clause-packed g c =
     let r = c.loop-turn.invariant.run in
     let piece = take c.in-Ok-read.count c.read.new.into in
     let P : Option ScriptReason → Type 0 = λ o. IsPieceRead c.args.own.now (r.text ++ piece) r.lines r.bytes c.take_piece.new.line.items
-        c.take_piece.new.feed c.loop-turn.out.items c.take_piece.new.out.items o in
+    c.take_piece.new.feed c.loop-turn.out.items c.take_piece.new.out.items o in
     let p = subst P c.in-Ok-Some.field-0-is (c.in-Ok-Some.ensures c.args.own.now r.text r.lines r.bytes refl r.read) in
     let e : PackEnd = Refused (c.number-line.result + 1) c.in-Ok-Some.reason in
     let S : List ℕ → Type 0 = λ l. IsWrittenOut e l (g.W.Target.held c.loop-turn.writer) (g.W.Target.held c.write_out-in-Ok-Some.new.writer)
-        c.write_out-in-Ok-Some.result in
+    c.write_out-in-Ok-Some.result in
     let same : e ≡ Refused (number_of c.take_piece.new.feed.stage + 1) c.in-Ok-Some.reason = ap (λ (n : ℕ). Refused (n + 1) c.in-Ok-Some.reason)
-        c.number-line.ensures.value in
+    c.number-line.ensures.value in
     let AtEnd : Type 0 = Grew (g.R.Source.ends c.args.reader.now) (g.R.Source.ends c.read.new.self) in
     packed_run AtEnd c.args.own.now _ _ _ _ _ (r.text ++ piece) r.bytes p.0 c.loop-turn.out.items c.take_piece.new.out.items p.2.0 e
-        c.write_out-in-Ok-Some.result c.requires.1 (Consumes-trans _ _ _ r.text piece r.consumed c.in-Ok-read.ensures.bytes.0) p.2.1
+    c.write_out-in-Ok-Some.result c.requires.1 (Consumes-trans _ _ _ r.text piece r.consumed c.in-Ok-read.ensures.bytes.0) p.2.1
     (stopped (number_of c.take_piece.new.feed.stage + 1) c.in-Ok-Some.reason p.2.2 same) (timely_line c.args.own.now.limit (r.text ++ piece) AtEnd e
-        (number_of c.take_piece.new.feed.stage + 1) c.in-Ok-Some.reason same p.3) r.written c.loop-turn.invariant.empty p.1
-        (subst S c.as_slice-in-Ok-Some.ensures.value c.write_out-in-Ok-Some.ensures.written)
+    (number_of c.take_piece.new.feed.stage + 1) c.in-Ok-Some.reason same p.3) r.written c.loop-turn.invariant.empty p.1
+    (subst S c.as_slice-in-Ok-Some.ensures.value c.write_out-in-Ok-Some.ensures.written)
 
 pub returns-in-Err-take_piece-clause-packed : goal.returns-in-Err-take_piece-clause-packed
 returns-in-Err-take_piece-clause-packed g c =
     run_fails _ c.args.own.now _ _ _ _ _ c.loop-turn.line.items (take c.in-Ok-read.count c.read.new.into) c.loop-turn.feed fault.Memory
-        c.loop-turn.invariant.run c.in-Ok-read.ensures.bytes.0
+    c.loop-turn.invariant.run c.in-Ok-read.ensures.bytes.0
 
 pub returns-in-Err-clause-packed : goal.returns-in-Err-clause-packed
 returns-in-Err-clause-packed g c =
     run_fails _ c.args.own.now _ _ _ _ _ c.loop-turn.line.items [] c.loop-turn.feed fault.Read c.loop-turn.invariant.run
-        (Consumes-kept _ _ _ [] (Consumes-nil _) c.in-Err.ensures.bytes)
+    (Consumes-kept _ _ _ [] (Consumes-nil _) c.in-Err.ensures.bytes)
 
 pub returns-clause-packed : goal.returns-clause-packed
 returns-clause-packed g c = run_fails _ c.args.own.now _ _ _ _ _ c.loop-turn.line.items [] c.loop-turn.feed fault.Turns c.loop-turn.invariant.run
@@ -107,7 +107,7 @@ loop-turn-preserved g c =
     let r = c.loop-turn.invariant.run in
     let piece = take c.in-Ok-read.count c.read.new.into in
     let P : Option ScriptReason → Type 0 = λ o. IsPieceRead c.args.own.now (r.text ++ piece) r.lines r.bytes c.take_piece.new.line.items
-        c.take_piece.new.feed c.loop-turn.out.items c.take_piece.new.out.items o in
+    c.take_piece.new.feed c.loop-turn.out.items c.take_piece.new.out.items o in
     let p = subst P c.in-Ok-None.field-0-is (c.in-Ok-None.ensures c.args.own.now r.text r.lines r.bytes refl r.read) in
     let S : List ℕ → Type 0 = λ l. Appends (g.W.Target.held c.loop-turn.writer) (g.W.Target.held c.write_out-in-Ok-None.new.writer) l in
     record {

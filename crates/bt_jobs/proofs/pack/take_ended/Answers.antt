@@ -10,10 +10,10 @@ use Rattle.bt_jobs.proofs.pack.take_ended.Goals as goal
 pub returns-then-is_empty-clause-taken : goal.returns-then-is_empty-clause-taken
 returns-then-is_empty-clause-taken c =
     let none : c.args.line.now.items ≡ [] = subst (λ (l : List ℕ). l ≡ []) c.as_slice.ensures.value
-        (nil_from_length c.as_slice.result.now (eqb-true (length c.as_slice.result.now) 0 (sym c.is_empty.ensures ∙ c.if-is_empty.true))) in
+    (nil_from_length c.as_slice.result.now (eqb-true (length c.as_slice.result.now) 0 (sym c.is_empty.ensures ∙ c.if-is_empty.true))) in
     let P : List ℕ → Type 0 = λ l. IfOk c.take_line.result (λ answer. (own : Own) (lines : List (List ℕ)) (b : List ℕ) → c.args.limit ≡ own.limit
-        → IsPackedTo own lines b c.args.feed.now → IsLineEnd own lines b (l ++ c.args.text.now) c.take_line.new.feed c.args.out.now.items
-        c.take_line.new.out.items answer) in
+    → IsPackedTo own lines b c.args.feed.now → IsLineEnd own lines b (l ++ c.args.text.now) c.take_line.new.feed c.args.out.now.items
+    c.take_line.new.out.items answer) in
     subst P (sym none) c.take_line.ensures
 
 pub returns-then-not-branch-clause-taken : goal.returns-then-not-branch-clause-taken

@@ -13,7 +13,7 @@ returns-in-None c = λ own text lines b e h.
     let P : Bool → Type 0 = λ o. IsHeld c.args.limit c.lines.line.items c.lines.rest.now c.hold.new.line.items o in
     let held = subst P c.if-not-branch.false c.in_ok-hold-in-None.ensures in
     all_done own text lines b c.args.piece.now c.lines.rest.now c.lines.line.items c.hold.new.line.items c.lines.feed c.args.out.now.items c.lines.out.items
-        d c.in-None.ensures.cut held.0
+    d c.in-None.ensures.cut held.0
 
 pub returns-then-not-branch : goal.returns-then-not-branch
 returns-then-not-branch c = λ own text lines b e h.
@@ -22,7 +22,7 @@ returns-then-not-branch c = λ own text lines b e h.
     let held = subst P c.if-not-branch.true c.in_ok-hold-in-None.ensures in
     let line = c.lines.line.items ++ c.lines.rest.now in
     rest_stops own text lines b c.args.piece.now c.lines.rest.now c.lines.line.items line c.hold.new.line.items c.lines.feed c.args.out.now.items
-        c.lines.out.items _ d c.in-None.ensures.cut refl (omega (arith, held.1, e))
+    c.lines.out.items _ d c.in-None.ensures.cut refl (omega (arith, held.1, e))
     (too_long own (lines ++ d.more) (b ++ d.named) line c.lines.feed d.read.packed (omega (arith, held.1, e)))
 
 pub returns-in-Some-2 : goal.returns-in-Some-2
@@ -30,10 +30,10 @@ returns-in-Some-2 c = λ own text lines b e h.
     let d = c.lines.invariant own text lines b e h in
     let line = c.lines.line.items ++ c.in-Some.front.now in
     let Q : Option ScriptReason → Type 0 = λ o. IsLineEnd own (lines ++ d.more) (b ++ d.named) line c.take_ended.new.feed c.lines.out.items
-        c.take_ended.new.out.items o in
+    c.take_ended.new.out.items o in
     let end = subst Q c.in-Some-2.is (c.in_ok-reason-in-Some.ensures.taken own (lines ++ d.more) (b ++ d.named) e d.read.packed) in
     line_stops own text lines b c.args.piece.now c.lines.rest.now c.lines.line.items c.in-Some.front.now c.in-Some.behind.now line
-        c.take_ended.new.line.items c.lines.feed c.take_ended.new.feed c.args.out.now.items c.lines.out.items c.take_ended.new.out.items c.in-Some-2.reason d
+    c.take_ended.new.line.items c.lines.feed c.take_ended.new.feed c.args.out.now.items c.lines.out.items c.take_ended.new.out.items c.in-Some-2.reason d
     c.in-Some.ensures.cut.1 c.in-Some.ensures.cut.0 refl end.0 end.1 end.2
 
 pub lines-preserved : goal.lines-preserved
@@ -41,11 +41,11 @@ lines-preserved c = λ own text lines b e h.
     let d = c.lines.invariant own text lines b e h in
     let line = c.lines.line.items ++ c.in-Some.front.now in
     let Q : Option ScriptReason → Type 0 = λ o. IsLineEnd own (lines ++ d.more) (b ++ d.named) line c.take_ended.new.feed c.lines.out.items
-        c.take_ended.new.out.items o in
+    c.take_ended.new.out.items o in
     let none = c.in_default.is in
     let end = subst Q none (c.in_ok-reason-in-Some.ensures.taken own (lines ++ d.more) (b ++ d.named) e d.read.packed) in
     let S : List ℕ → Type 0 = λ l. IsDone own text lines b c.args.piece.now c.in-Some.behind.now l c.take_ended.new.feed c.args.out.now.items
-        c.take_ended.new.out.items in
+    c.take_ended.new.out.items in
     subst S (sym (c.in_ok-reason-in-Some.ensures.empty none)) (line_done own text lines b c.args.piece.now c.lines.rest.now c.lines.line.items
-        c.in-Some.front.now c.in-Some.behind.now line c.lines.feed c.take_ended.new.feed c.args.out.now.items c.lines.out.items c.take_ended.new.out.items d
+    c.in-Some.front.now c.in-Some.behind.now line c.lines.feed c.take_ended.new.feed c.args.out.now.items c.lines.out.items c.take_ended.new.out.items d
     c.in-Some.ensures.cut.1 c.in-Some.ensures.cut.0 refl end)

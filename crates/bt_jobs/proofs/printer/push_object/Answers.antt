@@ -8,4 +8,4 @@ use Rattle.bt_jobs.proofs.printer.push_object.Goals as goal
 pub returns-in-Handshake : goal.returns-in-Handshake
 returns-in-Handshake c =
     on_ok c.handshake_line.result _ _ (λ added own. added own ∙ ap (λ (v : View). c.args.text.now.items ++ object_of own (c.args.at, item_of v))
-        (sym c.in-Handshake.is)) c.handshake_line.ensures
+    (sym c.in-Handshake.is)) c.handshake_line.ensures

@@ -8,4 +8,4 @@ use Rattle.bt_jobs.proofs.printer.push_script.Goals as goal
 pub returns-in-Handshake : goal.returns-in-Handshake
 returns-in-Handshake c =
     on_ok c.push_handshake_line.result _ _ (λ added. added c.args.own.now
-        ∙ ap (λ (v : View). c.args.text.now.items ++ script_line c.args.own.now (item_of v)) (sym c.in-Handshake.is)) c.push_handshake_line.ensures
+    ∙ ap (λ (v : View). c.args.text.now.items ++ script_line c.args.own.now (item_of v)) (sym c.in-Handshake.is)) c.push_handshake_line.ensures

@@ -18,11 +18,11 @@ pub loop-turn-preserved : goal.loop-turn-preserved
 loop-turn-preserved g c =
     let t = c.loop-turn.invariant.told in
     let P : Option Ended → Type 0 = λ o. IsTurn (form_of c.loop-turn.printer) c.args.own.now t.bytes t.items (g.R.Source.left c.loop-turn.reader)
-        (g.R.Source.left c.turn.new.reader) (g.W.Target.held c.loop-turn.writer) (g.W.Target.held c.turn.new.writer) c.turn.new.feed c.turn.new.printer
-        (Ok o) in
+    (g.R.Source.left c.turn.new.reader) (g.W.Target.held c.loop-turn.writer) (g.W.Target.held c.turn.new.writer) c.turn.new.feed c.turn.new.printer
+    (Ok o) in
     let Q : Option Ended → Type 0 = λ o. IsEndOfTurn (Ok o) (g.R.Source.reads c.loop-turn.reader) (g.R.Source.reads c.turn.new.reader)
-        (g.R.Source.failed_reads c.loop-turn.reader) (g.R.Source.failed_reads c.turn.new.reader) (g.R.Source.ends c.loop-turn.reader)
-        (g.R.Source.ends c.turn.new.reader) in
+    (g.R.Source.failed_reads c.loop-turn.reader) (g.R.Source.failed_reads c.turn.new.reader) (g.R.Source.ends c.loop-turn.reader)
+    (g.R.Source.ends c.turn.new.reader) in
     let more = subst P c.in-Ok-None.field-0-is (c.in-Ok-None.ensures.told c.args.own.now t.bytes t.items c.requires.limit.1 t.read t.empty) in
     let end = subst Q c.in-Ok-None.field-0-is c.in-Ok-None.ensures.faults in
     record {
@@ -38,8 +38,8 @@ pub returns-in-Ok-Some-clause-told : goal.returns-in-Ok-Some-clause-told
 returns-in-Ok-Some-clause-told g c =
     let t = c.loop-turn.invariant.told in
     let P : Option Ended → Type 0 = λ o. IsTurn (form_of c.loop-turn.printer) c.args.own.now t.bytes t.items (g.R.Source.left c.loop-turn.reader)
-        (g.R.Source.left c.turn.new.reader) (g.W.Target.held c.loop-turn.writer) (g.W.Target.held c.turn.new.writer) c.turn.new.feed c.turn.new.printer
-        (Ok o) in
+    (g.R.Source.left c.turn.new.reader) (g.W.Target.held c.loop-turn.writer) (g.W.Target.held c.turn.new.writer) c.turn.new.feed c.turn.new.printer
+    (Ok o) in
     let end = subst P c.in-Ok-Some.field-0-is (c.in-Ok-Some.ensures.told c.args.own.now t.bytes t.items c.requires.limit.1 t.read t.empty) in
     (told_end _ c.args.own.now _ _ _ _ _ _ c.loop-turn.feed c.turn.new.feed c.loop-turn.printer c.turn.new.printer c.in-Ok-Some.ended t end).0
 
@@ -47,8 +47,8 @@ pub returns-in-Ok-Some-clause-empty : goal.returns-in-Ok-Some-clause-empty
 returns-in-Ok-Some-clause-empty g c =
     let t = c.loop-turn.invariant.told in
     let P : Option Ended → Type 0 = λ o. IsTurn (form_of c.loop-turn.printer) c.args.own.now t.bytes t.items (g.R.Source.left c.loop-turn.reader)
-        (g.R.Source.left c.turn.new.reader) (g.W.Target.held c.loop-turn.writer) (g.W.Target.held c.turn.new.writer) c.turn.new.feed c.turn.new.printer
-        (Ok o) in
+    (g.R.Source.left c.turn.new.reader) (g.W.Target.held c.loop-turn.writer) (g.W.Target.held c.turn.new.writer) c.turn.new.feed c.turn.new.printer
+    (Ok o) in
     let end = subst P c.in-Ok-Some.field-0-is (c.in-Ok-Some.ensures.told c.args.own.now t.bytes t.items c.requires.limit.1 t.read t.empty) in
     (told_end _ c.args.own.now _ _ _ _ _ _ c.loop-turn.feed c.turn.new.feed c.loop-turn.printer c.turn.new.printer c.in-Ok-Some.ended t end).1
 
@@ -56,7 +56,7 @@ pub returns-in-Err-clause-told : goal.returns-in-Err-clause-told
 returns-in-Err-clause-told g c =
     let t = c.loop-turn.invariant.told in
     told_fault _ _ c.args.own.now _ _ _ _ _ _ c.loop-turn.feed c.turn.new.feed c.loop-turn.printer c.turn.new.printer c.in-Err.fault t
-        (c.in-Err.ensures.told c.args.own.now t.bytes t.items c.requires.limit.1 t.read t.empty)
+    (c.in-Err.ensures.told c.args.own.now t.bytes t.items c.requires.limit.1 t.read t.empty)
 
 pub returns-clause-told : goal.returns-clause-told
 returns-clause-told g c = told_so_far _ _ c.args.own.now _ _ _ _ c.loop-turn.feed c.loop-turn.printer c.requires.limit.1 c.one_verdict.ensures.one

@@ -12,12 +12,12 @@ returns-in-Ok-clause-told g c = λ own b xs le r empty.
     let m = c.in-Ok.ensures.moved in
     let end = m.5 in
     let on : IsPumpedOn own b xs c.args.feed.now c.pump_with.new.feed (g.R.Source.left c.args.reader.now) (g.R.Source.left c.pump_with.new.reader)
-        c.args.printer.now c.pump_with.new.sink m.0 m.1 m.2 end.0 =
+    c.args.printer.now c.pump_with.new.sink m.0 m.1 m.2 end.0 =
     record { limit = omega (arith, le); before = r; consumed = m.3; empty = empty; took = m.4; pumped = end.1 } in
     ends own b xs c.args.feed.now c.pump_with.new.feed _ _ _ _ c.args.printer.now c.pump_with.new.sink c.flush.new.self m.0 m.1 m.2 end.0
-        (Accepted (c.number-messages.result - 1) c.in-Ok.bytes) c.flush.result
+    (Accepted (c.number-messages.result - 1) c.in-Ok.bytes) c.flush.result
     c.one_verdict.ensures.one on (is_accepted end.0 c.pump_with.new.feed c.number-messages.result _ c.in-Ok.bytes end.3 end.1.number
-        c.number-messages.ensures.value refl) c.flush.ensures.flushed c.flush.ensures.form
+    c.number-messages.ensures.value refl) c.flush.ensures.flushed c.flush.ensures.form
 
 pub returns-in-Err-Refused-clause-told : goal.returns-in-Err-Refused-clause-told
 returns-in-Err-Refused-clause-told g c = λ own b xs le r empty.
@@ -27,10 +27,10 @@ returns-in-Err-Refused-clause-told g c = λ own b xs le r empty.
     let end = subst P c.in-Err-Refused.field-0-is m.5 in
     let took = subst Q c.in-Err-Refused.field-0-is m.4 in
     let on : IsPumpedOn own b xs c.args.feed.now c.pump_with.new.feed (g.R.Source.left c.args.reader.now) (g.R.Source.left c.pump_with.new.reader)
-        c.args.printer.now c.pump_with.new.sink m.0 m.1 m.2 end.0 =
+    c.args.printer.now c.pump_with.new.sink m.0 m.1 m.2 end.0 =
     record { limit = omega (arith, le); before = r; consumed = m.3; empty = empty; took = took; pumped = end.1 } in
     ends own b xs c.args.feed.now c.pump_with.new.feed _ _ _ _ c.args.printer.now c.pump_with.new.sink c.flush-in-Err-Refused.new.self m.0 m.1 m.2 end.0
-        (Refused c.in-Err-Refused.refusal) c.flush-in-Err-Refused.result
+    (Refused c.in-Err-Refused.refusal) c.flush-in-Err-Refused.result
     c.one_verdict.ensures.one on (is_refused end.0 c.in-Err-Refused.refusal end.3) c.flush-in-Err-Refused.ensures.flushed c.flush-in-Err-Refused.ensures.form
 
 pub returns-in-Err-Turns-clause-told : goal.returns-in-Err-Turns-clause-told
@@ -41,10 +41,10 @@ returns-in-Err-Turns-clause-told g c = λ own b xs le r empty.
     let end = subst P c.in-Err-Turns.field-0-is m.5 in
     let took = subst Q c.in-Err-Turns.field-0-is m.4 in
     let on : IsPumpedOn own b xs c.args.feed.now c.pump_with.new.feed (g.R.Source.left c.args.reader.now) (g.R.Source.left c.pump_with.new.reader)
-        c.args.printer.now c.pump_with.new.sink m.0 m.1 m.2 end.0 =
+    c.args.printer.now c.pump_with.new.sink m.0 m.1 m.2 end.0 =
     record { limit = omega (arith, le); before = r; consumed = m.3; empty = empty; took = took; pumped = end.1 } in
     goes_on own b xs c.args.feed.now c.pump_with.new.feed _ _ _ _ c.args.printer.now c.pump_with.new.sink c.flush-in-Err-Turns.new.self m.0 m.1 m.2 end.0
-        c.flush-in-Err-Turns.result
+    c.flush-in-Err-Turns.result
     c.one_verdict.ensures.one on end.2 c.flush-in-Err-Turns.ensures.flushed c.flush-in-Err-Turns.ensures.form
 
 pub returns-in-Err-ReadFault-clause-told : goal.returns-in-Err-ReadFault-clause-told

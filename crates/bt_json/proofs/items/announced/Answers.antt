@@ -11,7 +11,7 @@ returns-clause-tokens c =
     let t : Tree = dictionary c.args.dict.now.tree.0 in
     on_ok c.text_if.result _ _
     (λ e. rw e (rw c.in_ok-number_if-2.ensures.tokens (rw c.in_ok-number_if.ensures.tokens
-        (rw c.metadata_size_ref.ensures (rw c.told_metadata.ensures (rw c.lookup_bytes.ensures
+    (rw c.metadata_size_ref.ensures (rw c.told_metadata.ensures (rw c.lookup_bytes.ensures
     (three_parts c.args.out.now.tokens (a_field (codes "metadata_size") (number_or_null (size_of t)))
-        (a_field (codes "ut_metadata") (number_or_null (told_id t))) (a_field (codes "client") (text_or_null (client_in t))))))))))
+    (a_field (codes "ut_metadata") (number_or_null (told_id t))) (a_field (codes "client") (text_or_null (client_in t))))))))))
     c.text_if.ensures.tokens

@@ -11,8 +11,8 @@ returns-clause-tokens c =
     let h : Handshake = c.args.handshake.now in
     on_ok c.text_if.result _ _
     (λ e. rw e (rw c.in_ok-hex_text-3.ensures.tokens (rw c.in_ok-hex_text-2.ensures.tokens
-        (rw c.in_ok-hex_text.ensures.tokens (rw c.in_ok-kind.ensures.tokens (rw c.to_be_bytes.ensures
+    (rw c.in_ok-hex_text.ensures.tokens (rw c.in_ok-kind.ensures.tokens (rw c.to_be_bytes.ensures
     (five_parts c.args.out.now.tokens (kind_field (codes "handshake")) (a_text (codes "reserved") (encode_lower (be64 h.reserved.0)))
-        (a_text (codes "info_hash") (encode_lower h.info_hash))
+    (a_text (codes "info_hash") (encode_lower h.info_hash))
     (a_text (codes "peer_id") (encode_lower h.peer_id)) (a_field (codes "peer_id_text") (text_or_null (Some h.peer_id))))))))))
     c.text_if.ensures.tokens

@@ -7,4 +7,4 @@ use Rattle.bt_json.proofs.items.put_message.Goals as goal
 pub returns-in-Interested-clause-tokens : goal.returns-in-Interested-clause-tokens
 returns-in-Interested-clause-tokens c =
     on_ok c.kind-in-Interested.result _ _ (λ e own. rw c.in-Interested.is (rw (append-nil (kind_field (codes "interested"))) e))
-        c.kind-in-Interested.ensures.tokens
+    c.kind-in-Interested.ensures.tokens

@@ -5,6 +5,8 @@ use Rattle.bt_net.proofs.looped.read_metadata.Goals as goal
 pub returns-in-Err-extend_from_slice : goal.returns-in-Err-extend_from_slice
 returns-in-Err-extend_from_slice g c =
     let old = c.reads.metadata.items in
-    let more = take c.in-Ok.count c.read.new.into in
-    (old ++ more, Consumes-trans (g.R.Source.left c.args.reader.now) (g.R.Source.left c.reads.reader) (g.R.Source.left c.read.new.self) old more
-        c.reads.invariant.read c.in-Ok.ensures.bytes.0)
+    let more = take c.in-Ok.count c.read.new.into in (
+      old ++ more,
+      Consumes-trans (g.R.Source.left c.args.reader.now) (g.R.Source.left c.reads.reader) (g.R.Source.left c.read.new.self) old more
+          c.reads.invariant.read c.in-Ok.ensures.bytes.0,
+    )

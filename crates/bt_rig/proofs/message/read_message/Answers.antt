@@ -12,4 +12,4 @@ returns c =
     let bytes = c.read_line.new.bytes.items in
     let P : List ℕ → Type 0 = λ b. IfOk c.spelled.result (IsSpelledBy b) in
     read_so c.args.words.now bytes c.spelled.result c.one_reading.ensures (a_line c.args.words.now bytes c.in_ok-read_line.field-0 c.if-not-branch.false
-        c.in_ok-read_line.ensures) (subst P c.as_slice.ensures.value c.spelled.ensures)
+    c.in_ok-read_line.ensures) (subst P c.as_slice.ensures.value c.spelled.ensures)

@@ -4,6 +4,7 @@ use Rattle.bt_rig.proofs.run.write_all.Goals as goal
 
 pub returns-then-write_front-bytes : goal.returns-then-write_front-bytes
 returns-then-write_front-bytes g c =
-    let n = c.write_front.result in
-    ((take n c.args.bytes.now, drop n c.args.bytes.now, sym (take-append-drop n c.args.bytes.now), c.write_front.ensures.sent),
-        c.write_front.ensures.stopped c.if-write_front-bytes.true)
+    let n = c.write_front.result in (
+      (take n c.args.bytes.now, drop n c.args.bytes.now, sym (take-append-drop n c.args.bytes.now), c.write_front.ensures.sent),
+      c.write_front.ensures.stopped c.if-write_front-bytes.true,
+    )

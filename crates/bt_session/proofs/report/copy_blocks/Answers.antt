@@ -17,4 +17,4 @@ pub returns : goal.returns
 returns c =
     let last : c.pieces.piece ≡ 4096 = omega (arith, c.pieces-test.false, c.pieces.auto.piece-end) in
     c.pieces.invariant.found ∙ ap (λ (n : ℕ). blocks_below n c.args.end.now.end.part) last
-        ∙ all_below c.args.end.now.end.part (c.pieces.invariant.fetched (omega (arith, last)))
+    ∙ all_below c.args.end.now.end.part (c.pieces.invariant.fetched (omega (arith, last)))

@@ -15,7 +15,7 @@ use Rattle.bt_session.proofs.report.run_link.Goals as goal
 pub returns-in-Ok-report-clause-report : goal.returns-in-Ok-report-clause-report
 returns-in-Ok-report-clause-report c =
     let matched : AreMatched (end_for c.args.left) (end_for c.args.right) =
-        matched_ends c.args.left c.args.right (c.is_mismatch.ensures.same c.if-is_mismatch.false) in
+    matched_ends c.args.left c.args.right (c.is_mismatch.ensures.same c.if-is_mismatch.false) in
     let a : EndState = end_for c.args.left in
     let b : EndState = end_for c.args.right in
     let first : Link = record { left = c.in_ok-left.left; right = c.in_ok-right.right; past = c.new.result } in
@@ -24,8 +24,11 @@ returns-in-Ok-report-clause-report c =
       right = c.in_ok-right.ensures.node;
       past = subst (λ (cs : List Connection). AreConnectionsOf cs []) (sym c.new.ensures.items) tt;
     } in
-    let news : AreNew a b = record { left = c.is_new.ensures c.in_ok-left.ensures.made; right = c.is_new-2.ensures c.in_ok-right.ensures.made;
-        matched = matched } in
+    let news : AreNew a b = record {
+      left = c.is_new.ensures c.in_ok-left.ensures.made;
+      right = c.is_new-2.ensures c.in_ok-right.ensures.made;
+      matched = matched;
+    } in
     let t = c.in-Ok.ensures a b news linked in
     record {
       few = omega (arith, c.if-steps-gt-MOST_STEPS.false);

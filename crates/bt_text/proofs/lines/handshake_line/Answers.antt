@@ -10,7 +10,7 @@ regrouped r h p t = simp append_assoc
 pub returns-clause-text : goal.returns-clause-text
 returns-clause-text c = λ own.
     rw c.number.ensures.text (rw c.word-place-4.ensures.text (rw c.hex_word-place-3.ensures.text
-        (rw c.word-place-3.ensures.text (rw c.hex_word-place-2.ensures.text
-        (rw c.word-place-2.ensures.text (rw c.hex_word-place.ensures.text
-        (rw c.word-place.ensures.text (rw (drop_all 160 c.args.line.now (omega arith))
-        (rw c.to_be_bytes.ensures (ap (λ (z : List ℕ). decimal c.args.at ++ z) (regrouped _ _ _ _)))))))))))
+    (rw c.word-place-3.ensures.text (rw c.hex_word-place-2.ensures.text
+    (rw c.word-place-2.ensures.text (rw c.hex_word-place.ensures.text
+    (rw c.word-place.ensures.text (rw (drop_all 160 c.args.line.now (omega arith))
+    (rw c.to_be_bytes.ensures (ap (λ (z : List ℕ). decimal c.args.at ++ z) (regrouped _ _ _ _)))))))))))

@@ -14,8 +14,8 @@ pub returns-clause-text : goal.returns-clause-text
 returns-clause-text c = λ bytes same.
     let t = dictionary c.args.dict.now.tree.0 in
     rw c.name_and_two.ensures.text (rw c.word-place-2.ensures.text
-        (rw c.number_or_dash-place-2.ensures.text (rw c.word-place.ensures.text
-        (rw c.number_or_dash-place.ensures.text (rw c.told_metadata.ensures
-        (rw c.metadata_size_ref.ensures (rw c.dict_length.ensures
-        (rw (← same) (regrouped (spaced (length (ben t))) (spaced (length bytes)) (or_dash (size_of t)) (or_dash (told_id t))
-        (drop c.args.at c.args.line.now))))))))))
+    (rw c.number_or_dash-place-2.ensures.text (rw c.word-place.ensures.text
+    (rw c.number_or_dash-place.ensures.text (rw c.told_metadata.ensures
+    (rw c.metadata_size_ref.ensures (rw c.dict_length.ensures
+    (rw (← same) (regrouped (spaced (length (ben t))) (spaced (length bytes)) (or_dash (size_of t)) (or_dash (told_id t))
+    (drop c.args.at c.args.line.now))))))))))

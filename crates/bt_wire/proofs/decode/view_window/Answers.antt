@@ -31,7 +31,7 @@ pub view_extended-requires-clause-long : goal.view_extended-requires-clause-long
 view_extended-requires-clause-long c =
     let window = IsWindow-from_header _ _ _ c.requires in
     extended_long _ _ _ window (omega (arith, window.exact, c.number_at_front-length.ensures, c.if-length-eq0.false)) (sym c.id_at-id.ensures
-        ∙ c.if-id-eq-EXTENDED.true)
+    ∙ c.if-id-eq-EXTENDED.true)
 
 pub read_fields-view-requires-clause-some : goal.read_fields-view-requires-clause-some
 read_fields-view-requires-clause-some c =
@@ -58,8 +58,13 @@ judge_bytes-requires c =
     let window = IsWindow-from_header _ _ _ c.requires in
     let long : 5 ≤ length c.args.window.now = omega (arith, window.exact, c.number_at_front-length.ensures, c.if-length-eq0.false) in
     let right = sized _ _ _ window long in
-    let size : length c.behind.result.now + 1 ≡ said_length c.args.window.now = omega (arith, window.exact, long, ap (length {A = ℕ}) c.behind.ensures,
-        length-drop 5 c.args.window.now) in
+    let size : length c.behind.result.now + 1 ≡ said_length c.args.window.now = omega (
+      arith,
+      window.exact,
+      long,
+      ap (length {A = ℕ}) c.behind.ensures,
+      length-drop 5 c.args.window.now,
+    ) in
     rw (c.id_at-id.ensures, size) right
 
 pub returns-in-Some-clause-err : goal.returns-in-Some-clause-err
@@ -69,8 +74,8 @@ returns-in-Some-clause-err c =
     let found = fields_found _ _ _ (λ i. omega (arith, c.type_inv.window i)) window long (plain _ _ c.id_at-id.ensures c.if-id-eq-EXTENDED.false) in
     window_fault c.args.context.now c.args.order c.args.window.now _ c.in-Some.refused window long found
     (same_fields c.args.context.now c.number_at_front-length.result (said_length c.args.window.now) _ _ _ _ c.number_at_front-length.ensures
-        (sym (c.read_fields-view.ensures.fields c.args.context.now)) c.read_fields-view.ensures.message
-        (rw (c.id_at-id.ensures, c.behind.ensures) at c.in-Some.ensures))
+    (sym (c.read_fields-view.ensures.fields c.args.context.now)) c.read_fields-view.ensures.message
+    (rw (c.id_at-id.ensures, c.behind.ensures) at c.in-Some.ensures))
 
 pub returns-in-None-clause-ok : goal.returns-in-None-clause-ok
 returns-in-None-clause-ok c =
@@ -80,10 +85,10 @@ returns-in-None-clause-ok c =
     let found = fields_found _ _ _ (λ i. omega (arith, c.type_inv.window i)) window long other in
     let P : Message → Type 0 = λ m. IsRead c.args.context.now c.args.order c.args.window.now m in
     subst P (sym c.read_fields-view.ensures.message) (fields_read c.args.context.now c.args.order c.args.window.now _ window long found
-        (plain_allowed c.args.context.now _ _ found.its_part.id other)
+    (plain_allowed c.args.context.now _ _ found.its_part.id other)
     (same_fields c.args.context.now c.number_at_front-length.result (said_length c.args.window.now) _ _ _ _ c.number_at_front-length.ensures
-        (sym (c.read_fields-view.ensures.fields c.args.context.now)) c.read_fields-view.ensures.message
-        (rw (c.id_at-id.ensures, c.behind.ensures) at c.in-None.ensures)))
+    (sym (c.read_fields-view.ensures.fields c.args.context.now)) c.read_fields-view.ensures.message
+    (rw (c.id_at-id.ensures, c.behind.ensures) at c.in-None.ensures)))
 
 pub returns-in-Some-clause-ok : goal.returns-in-Some-clause-ok
 returns-in-Some-clause-ok c = search rules

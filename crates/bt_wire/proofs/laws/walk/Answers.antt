@@ -23,5 +23,5 @@ messages-preserved c =
       told = λ v h. c.messages.invariant.told _ (message_more c.args.context.now c.messages.order c.next_of_view-order.result (68 + at)
           c.messages.number at c.in-Whole.length all c.behind.result.now _ v (omega arith) c.behind.ensures c.in-Whole.ensures c.next_of_view-order.ensures
           (let P : ℕ → Type 0 = λ s. IsOutcome c.args.context.now c.next_of_view-order.result s (c.messages.number + 1) (drop (at + c.in-Whole.length) all)
-              v in let e : 68 + (at + c.in-Whole.length) ≡ 68 + at + c.in-Whole.length = omega arith in subst P e h));
+          v in let e : 68 + (at + c.in-Whole.length) ≡ 68 + at + c.in-Whole.length = omega arith in subst P e h));
     }

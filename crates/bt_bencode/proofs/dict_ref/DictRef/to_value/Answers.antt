@@ -14,5 +14,5 @@ returns c =
     let front = c.in_ok-value.ensures in
     let whole = sym front.1 ∙ c.spelled.ensures.spelled ∙ sym (append-nil _) in
     let same = same_tree (tree_of c.in_ok-value.value) (dictionary c.args.self.now.tree.0) c.in_ok-value.field-0-1.now [] front.0
-        c.spelled.ensures.fits.in_range whole in
+    c.spelled.ensures.fits.in_range whole in
     same_value c.in_ok-value.value (value.Dict c.args.self.now.tree.0) same.0

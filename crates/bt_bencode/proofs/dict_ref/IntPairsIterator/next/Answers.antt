@@ -16,9 +16,12 @@ split_int-number-requires c = value_behind c.self.inside.rest.now c.split_string
     c.split_string.ensures.split
 
 pub invariant_of-self-inside : goal.invariant_of-self-inside
-invariant_of-self-inside c = (left_after c.self.inside.rest.now c.split_string.result.1.now c.split_int-number.result.1.now c.split_string.result.0.now
-    c.self.inside.pairs.0 c.self.inside.pairs.1 c.if-self-eq101.false c.split_string.ensures.short c.split_string.ensures.split
-    c.split_int-number.ensures.behind, tt)
+invariant_of-self-inside c = (
+  left_after c.self.inside.rest.now c.split_string.result.1.now c.split_int-number.result.1.now c.split_string.result.0.now
+      c.self.inside.pairs.0 c.self.inside.pairs.1 c.if-self-eq101.false c.split_string.ensures.short c.split_string.ensures.split
+      c.split_int-number.ensures.behind,
+  tt,
+)
 
 pub returns-clause-steps : goal.returns-clause-steps
 returns-clause-steps c = pair_given c.self.inside.rest.now c.self.inside.pairs.0 c.args.self.now c.rest-2-1.given.0.0 c.split_string.result.0
@@ -28,7 +31,7 @@ returns-clause-steps c = pair_given c.self.inside.rest.now c.self.inside.pairs.0
 pub returns-clause-goes : goal.returns-clause-goes
 returns-clause-goes c =
     let steps = pair_given c.self.inside.rest.now c.self.inside.pairs.0 c.args.self.now c.rest-2-1.given.0.0 c.split_string.result.0 c.split_string.result.1
-        c.split_int-number.result.0 c.split_int-number.result.1.now c.self.inside.pairs.1 c.self.view_is c.if-self-eq101.false c.split_string.ensures.short
-        c.split_string.ensures.split c.split_int-number.ensures.number c.split_int-number.ensures.behind c.rest-2-1.given.0.1 in
+    c.split_int-number.result.0 c.split_int-number.result.1.now c.self.inside.pairs.1 c.self.view_is c.if-self-eq101.false c.split_string.ensures.short
+    c.split_string.ensures.split c.split_int-number.ensures.number c.split_int-number.ensures.behind c.rest-2-1.given.0.1 in
     let less = fewer c.args.self.now c.rest-2-1.given.0.0 (c.split_string.result.0, c.split_int-number.result.0) steps in
     omega arith

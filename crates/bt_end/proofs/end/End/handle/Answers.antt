@@ -16,7 +16,7 @@ rounds-preserved g c =
     let turn = rw c.in-Ok-Handled.is at c.in-Ok-Handled.field-0-is in
     let is : c.round-taken.result.1 ≡ Ok Handled = c.in-Ok-Handled.is ∙ ap (λ (t : Turn). Ok t) turn in
     goes_on c.args.self.now now next bytes rest c.rounds.used c.round-taken.result.0 (rest_is bytes c.rounds.used) c.round-taken.ensures.taken
-        c.round-taken.ensures.in_range c.rounds.invariant
+    c.round-taken.ensures.in_range c.rounds.invariant
     (subst (λ (x : Result Turn TurnError). IsTurned (received now rest) x next) is c.round-taken.ensures.turned)
 
 pub returns-in-Ok-Idle-clause-used : goal.returns-in-Ok-Idle-clause-used
@@ -28,7 +28,7 @@ returns-in-Ok-Idle-clause-used g c =
     let turn = rw c.in-Ok-Idle.is at c.in-Ok-Idle.field-0-is in
     let is : c.round-taken.result.1 ≡ Ok Idle = c.in-Ok-Idle.is ∙ ap (λ (t : Turn). Ok t) turn in
     idle_used now next bytes rest c.rounds.used c.round-taken.result.0 (rest_is bytes c.rounds.used) c.round-taken.ensures.taken
-        c.round-taken.ensures.in_range c.rounds.invariant.within
+    c.round-taken.ensures.in_range c.rounds.invariant.within
     (subst (λ (x : Result Turn TurnError). IsTurned (received now rest) x next) is c.round-taken.ensures.turned)
 
 pub returns-in-Ok-Idle-clause-handled : goal.returns-in-Ok-Idle-clause-handled

@@ -16,7 +16,7 @@ returns-then-fast g c =
           let bytes = ap (λ (r : Reactor g.row.A.Denot). r.outbox.bytes) w.self-is in
           greeted_all _ c.if-ext.self _ c.args.context true w.if-ext.true c.if-fast.true (ap (λ (r : Reactor g.row.A.Denot). end_of r) w.self-is)
           (bytes ∙ w.put_handshake.ensures.bytes ∙ ap (λ (s : Option ℕ). old.outbox.bytes ++ framed 0 (ben (handshake_tree old.own.reg s) ++ []))
-              w.served_size-size.ensures.value)
+          w.served_size-size.ensures.value)
           (omega (arith, ap (length {A = ℕ}) bytes, w.put_handshake.ensures.bound)) c.announce.ensures
       | else-ext w ↦
           let bytes = ap (λ (r : Reactor g.row.A.Denot). r.outbox.bytes) w.self-is in

@@ -11,7 +11,7 @@ returns-clause-taken g c =
 pub returns-clause-held : goal.returns-clause-held
 returns-clause-held g c =
     pushed_is c.self.inside.progress c.fill.new.self c.self.inside.buffer.items c.args.piece.now _ _ c.fill.ensures.fills c.fill.ensures.stops
-        c.fill.ensures.same
+    c.fill.ensures.same
     ∙ ap (λ (f : FeedState). pushed f c.args.piece.now) c.self.view_is
 
 pub returns-clause-bound : goal.returns-clause-bound

@@ -35,7 +35,7 @@ returns-clause-stops g c = λ lt.
     let window = subst P c.as_slice.ensures.value (c.length-length.ensures.window (omega arith)) in
     let closed = window_stops stage buffer piece n c.append_up_to.result window.0 window.1 c.append_up_to.ensures.count lt in
     ap (λ (t : Stage). is_closed t c.append_up_to.new.buffer.items) (sym c.refresh.ensures.same.stage) ∙ ap (is_closed stage) c.append_up_to.ensures.items
-        ∙ closed
+    ∙ closed
 
 pub returns-clause-sound : goal.returns-clause-sound
 returns-clause-sound g c =
@@ -49,5 +49,5 @@ returns-clause-sound g c =
     let Q : List ℕ → Type 0 = λ b. IsProgress q b in
     subst Q (sym c.append_up_to.ensures.items)
     (progress_window p q buffer piece n c.append_up_to.result c.refresh.ensures.sound
-        (record { stage = refl; refused = refl; fresh = c.refresh.ensures.same.fresh }) c.refresh.ensures.same.fresh refl window.0 window.1
-        c.append_up_to.ensures.count)
+    (record { stage = refl; refused = refl; fresh = c.refresh.ensures.same.fresh }) c.refresh.ensures.same.fresh refl window.0 window.1
+    c.append_up_to.ensures.count)

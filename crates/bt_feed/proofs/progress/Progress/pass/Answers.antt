@@ -12,9 +12,12 @@ returns-clause-items g c =
     let passed = c.pass_messages-passed.result in
     let q = record p { stage = stages.Message c.in-Message.context passed.order (c.in-Message.start + passed.bytes) (c.in-Message.number + passed.messages) } in
     let none : held_of p c.args.buffer.now ≡ [] = nil_from_length _ (omega (arith, ap (length {A = ℕ}) c.held.ensures)) in
-    let moved = c.pass_messages-passed.ensures.items c.in-Message.number in
-    (moved.0, moved.1, fed_waiting p q c.args.buffer.now (take passed.bytes c.args.piece.now) (stages.Message c.in-Message.context c.in-Message.order
-        c.in-Message.start c.in-Message.number) moved.0 c.in-Message.is none none moved.2)
+    let moved = c.pass_messages-passed.ensures.items c.in-Message.number in (
+      moved.0,
+      moved.1,
+      fed_waiting p q c.args.buffer.now (take passed.bytes c.args.piece.now) (stages.Message c.in-Message.context c.in-Message.order
+          c.in-Message.start c.in-Message.number) moved.0 c.in-Message.is none none moved.2,
+    )
 
 pub returns-clause-sound : goal.returns-clause-sound
 returns-clause-sound g c =
@@ -22,5 +25,5 @@ returns-clause-sound g c =
     let none : held_of c.args.self.now c.args.buffer.now ≡ [] = nil_from_length _ (omega (arith, ap (length {A = ℕ}) c.held.ensures)) in
     let calm : c.args.self.now.refused ≡ None = none_from c.args.self.now.refused _ c.is_some.ensures c.if-is_some.false in
     passed_sound c.args.self.now c.args.buffer.now c.in-Message.context c.in-Message.order passed.order c.in-Message.start c.in-Message.number passed.bytes
-        passed.messages c.requires c.in-Message.is none calm
+    passed.messages c.requires c.in-Message.is none calm
     c.pass_messages-passed.ensures.start c.pass_messages-passed.ensures.count

@@ -24,7 +24,7 @@ returns-in-Until-clause-sound g c =
     let Q : List ℕ → Type 0 = λ b. IsProgress p b in
     subst Q (sym c.append_up_to.ensures.items)
     (progress_until p p buffer c.args.piece.now c.in-Until.count c.append_up_to.result c.requires.sound
-        (record { stage = refl; refused = refl; fresh = c.requires.fresh }) c.requires.fresh c.requires.unjudged h.0 h.1 h.2 c.append_up_to.ensures.count)
+    (record { stage = refl; refused = refl; fresh = c.requires.fresh }) c.requires.fresh c.requires.unjudged h.0 h.1 h.2 c.append_up_to.ensures.count)
 
 pub returns-in-Window-clause-fills : goal.returns-in-Window-clause-fills
 returns-in-Window-clause-fills g c =
@@ -35,7 +35,7 @@ returns-in-Window-clause-fills g c =
     let le = window_short stage buffer _ (partial_fresh _ _ c.requires.sound c.requires.fresh) h in
     let Q : List ℕ → Type 0 = λ b. Fills stage buffer c.args.piece.now b c.append_up_to-in-Window.result in
     subst Q (sym c.append_up_to-in-Window.ensures.items) (window_fills stage buffer c.args.piece.now _ _ (window_more stage buffer c.args.piece.now _ h) le
-        c.append_up_to-in-Window.ensures.count)
+    c.append_up_to-in-Window.ensures.count)
 
 pub returns-in-Window-clause-stops : goal.returns-in-Window-clause-stops
 returns-in-Window-clause-stops g c = λ _ lt.
@@ -45,7 +45,7 @@ returns-in-Window-clause-stops g c = λ _ lt.
     let h = subst P c.as_slice.ensures.value c.in-Window.ensures in
     let le = window_short stage buffer _ (partial_fresh _ _ c.requires.sound c.requires.fresh) h in
     ap (is_closed stage) c.append_up_to-in-Window.ensures.items ∙ window_stops stage buffer c.args.piece.now _ _
-        (window_more stage buffer c.args.piece.now _ h) le c.append_up_to-in-Window.ensures.count lt
+    (window_more stage buffer c.args.piece.now _ h) le c.append_up_to-in-Window.ensures.count lt
 
 pub returns-in-Window-clause-sound : goal.returns-in-Window-clause-sound
 returns-in-Window-clause-sound g c =
@@ -58,5 +58,5 @@ returns-in-Window-clause-sound g c =
     let Q : List ℕ → Type 0 = λ b. IsProgress q b in
     subst Q (sym c.append_up_to-in-Window.ensures.items)
     (progress_window p q buffer c.args.piece.now c.in-Window.length c.append_up_to-in-Window.result c.requires.sound
-        (record { stage = refl; refused = refl; fresh = c.requires.fresh }) c.requires.fresh refl (window_more p.stage buffer c.args.piece.now _ h) le
-        c.append_up_to-in-Window.ensures.count)
+    (record { stage = refl; refused = refl; fresh = c.requires.fresh }) c.requires.fresh refl (window_more p.stage buffer c.args.piece.now _ h) le
+    c.append_up_to-in-Window.ensures.count)

@@ -14,4 +14,4 @@ returns-in-Whole-read_front c =
     let Q : Stage → Type 0 = λ t. IsPartial t held in
     let R : Stage → Type 0 = λ t. limit_of t ≤ 1048576 in
     subst P (sym c.in-Message.is) (message_here _ _ _ _ _ held _ (omega (arith, subst R c.in-Message.is c.requires.limit))
-        (subst Q c.in-Message.is c.requires.partial) c.in-Whole-read_front.ensures)
+    (subst Q c.in-Message.is c.requires.partial) c.in-Whole-read_front.ensures)

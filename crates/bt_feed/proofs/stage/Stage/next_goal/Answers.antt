@@ -12,14 +12,14 @@ pub returns-then-held-lt48 : goal.returns-then-held-lt48
 returns-then-held-lt48 c =
     let P : Stage → Type 0 = λ t. IsGoal t c.args.held.now (goals.Until 48) in
     let none : hand_fault c.in-Handshake.own c.args.held.now ≡ None = sym c.judge_handshake.ensures ∙ none_from c.judge_handshake.result _ c.is_some.ensures
-        c.if-held-ge68.false.0 in
+    c.if-held-ge68.false.0 in
     subst P (sym c.in-Handshake.is) (hash_goal _ _ none c.if-held-lt20.false c.if-held-lt48.true)
 
 pub returns-else-held-lt48 : goal.returns-else-held-lt48
 returns-else-held-lt48 c =
     let P : Stage → Type 0 = λ t. IsGoal t c.args.held.now (goals.Until 68) in
     let none : hand_fault c.in-Handshake.own c.args.held.now ≡ None = sym c.judge_handshake.ensures ∙ none_from c.judge_handshake.result _ c.is_some.ensures
-        c.if-held-ge68.false.0 in
+    c.if-held-ge68.false.0 in
     subst P (sym c.in-Handshake.is) (end_goal _ _ none c.if-held-lt48.false c.if-held-ge68.false.1)
 
 pub returns-in-Need : goal.returns-in-Need
@@ -31,4 +31,4 @@ pub returns-in-Refused : goal.returns-in-Refused
 returns-in-Refused c =
     let P : Stage → Type 0 = λ t. IsGoal t c.args.held.now goals.Closed in
     subst P (sym c.in-Message.is) (closed_early (stage.Message c.in-Message.context c.in-Message.order c.in-Message.start c.in-Message.number)
-        c.args.held.now (record { at = c.in-Refused.at; reason = c.in-Refused.reason }) c.in-Refused.ensures)
+    c.args.held.now (record { at = c.in-Refused.at; reason = c.in-Refused.reason }) c.in-Refused.ensures)

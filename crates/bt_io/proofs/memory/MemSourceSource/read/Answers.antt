@@ -10,6 +10,13 @@ returns-clause-bytes c =
     let size : (s.at + n) - s.at ≡ n = omega arith in
     let new : c.copy_from_slice.new.self ≡ take n (drop s.at s.bytes.items) = c.copy_from_slice.ensures.after ∙ rw (c.deref.ensures.value, size) refl in (
       given s.bytes.items c.copy_from_slice.new.self (drop n c.args.into.now) s.at n (omega (arith, length-take n c.args.into.now)) new,
-      λ none room. drop_all (s.at + n) s.bytes.items (omega (arith, s.moves, s.within, length-take n c.args.into.now,
-          length-append c.copy_from_slice.new.self (drop n c.args.into.now), length-drop n c.args.into.now, s.bytes.ok.0)),
+      λ none room. drop_all (s.at + n) s.bytes.items (omega (
+        arith,
+        s.moves,
+        s.within,
+        length-take n c.args.into.now,
+        length-append c.copy_from_slice.new.self (drop n c.args.into.now),
+        length-drop n c.args.into.now,
+        s.bytes.ok.0,
+      )),
     )

@@ -1,5 +1,5 @@
-use Rattle.std.proofs.Common.{◌≡◌, ℕ, ◌+◌, ◌-◌, ◌*◌, ◌<◌, Some, None, true, false, List, length, take, drop, min, slice_get, refl, sym, ap, subst, ◌∙◌,
-    arith, length-drop}
+use Rattle.std.proofs.Common.{◌≡◌, ℕ, ◌+◌, ◌-◌, ◌*◌, ◌<◌, Some, None, true, false, List, length, take, drop, min, slice_get, refl, sym, ap, subst, ◌∙◌}
+use Rattle.std.proofs.Common.{arith, length-drop}
 use Rattle.std.proofs.lemmas.List.{take_min}
 use Rattle.bt_ext.specs.Metadata.{block_count}
 use Rattle.bt_metadata.specs.Assemblies.{AssemblyState, held_block}
@@ -23,9 +23,9 @@ pub returns-then-not-is_held-clause-value : goal.returns-then-not-is_held-clause
 returns-then-not-is_held-clause-value g c =
     let inside = c.self.inside in
     let none : holds_at (slice_get inside.states.items c.args.piece) ≡ false = ap (λ ss. holds_at (slice_get ss c.args.piece)) (sym c.deref.ensures.value)
-        ∙ sym c.is_held.ensures ∙ c.if-not-is_held.true in
+    ∙ sym c.is_held.ensures ∙ c.if-not-is_held.true in
     subst (λ (a : AssemblyState). None ≡ held_block a c.args.piece) c.self.view_is
-        (sym (no_block-slots inside.states.items inside.bytes.items c.args.piece none))
+    (sym (no_block-slots inside.states.items inside.bytes.items c.args.piece none))
 
 pub returns-then-not-is_held-clause-assembly : goal.returns-then-not-is_held-clause-assembly
 returns-then-not-is_held-clause-assembly g c =
@@ -37,7 +37,7 @@ pub slice_bounds-result-count : goal.slice_bounds-result-count
 slice_bounds-result-count g c =
     let inside = c.self.inside in
     let h : 16384 * c.args.piece < length inside.bytes.items = starts inside.states.items c.deref.result.now (length inside.bytes.items) c.args.piece
-        c.deref.ensures.value c.self.invariant.count (sym c.is_held.ensures ∙ c.if-not-is_held.false) in
+    c.deref.ensures.value c.self.invariant.count (sym c.is_held.ensures ∙ c.if-not-is_held.false) in
     omega (arith, h, c.min.ensures, c.len.ensures, inside.bytes.ok.0)
 
 pub returns-clause-value : goal.returns-clause-value
@@ -46,7 +46,7 @@ returns-clause-value g c =
     let d = inside.bytes.items in
     let at : ℕ = 16384 * c.args.piece in
     let held : holds_at (slice_get inside.states.items c.args.piece) ≡ true = ap (λ ss. holds_at (slice_get ss c.args.piece)) (sym c.deref.ensures.value)
-        ∙ sym c.is_held.ensures ∙ c.if-not-is_held.false in
+    ∙ sym c.is_held.ensures ∙ c.if-not-is_held.false in
     let h : at < length d = starts inside.states.items inside.states.items (length d) c.args.piece refl c.self.invariant.count held in
     let l : c.len.result ≡ length d = c.len.ensures ∙ inside.bytes.ok.0 in
     ap (λ (x : List ℕ). Some x) (cut d c.deref-2.result.now at c.min.result c.deref-2.ensures.value h (c.min.ensures ∙ ap (min (at + 16384)) l))

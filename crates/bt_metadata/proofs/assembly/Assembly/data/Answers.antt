@@ -36,7 +36,7 @@ returns-in_err-k-clause-value g c =
     let b = c.args.block.now in
     let o = err_from_is_err_and c.from_residual.result c.from_residual.ensures.1 in
     let e : error_at c.self.inside.states.items piece ≡ Some c.in_err-k.field-0.0 = ap (λ ss. error_at ss piece) (sym c.deref.ensures.value)
-        ∙ c.in_err-k.ensures in
+    ∙ c.in_err-k.ensures in
     rw (o.1) (ap (λ (a : AssemblyState). data_error a piece total b) (sym c.self.view_is)
     ∙ refused_is c.self.inside.info_hash c.self.inside.bytes.items b c.self.inside.states.items piece total c.in_err-k.field-0.0 e
     ∙ ap (λ (x : BlockError). Some x) (sym o.2))
@@ -77,7 +77,7 @@ returns-then-block-min-clause-value g c =
     let k : c.in_ok-k.k ≡ piece = c.in_ok-k.ensures.0 in
     let i : piece < length ss = omega (arith, k, c.in_ok-k.ensures.1, ap length c.deref.ensures.value) in
     let m : c.min.result ≡ block_len (length d) piece = c.min.ensures ∙ measured (length d) piece (length ss) c.len-size.result c.in_ok-k.k l k i
-        c.self.invariant.count in
+    c.self.invariant.count in
     ap (λ (a : AssemblyState). data_error a piece total b) (sym c.self.view_is)
     ∙ wrong_size_is c.self.inside.info_hash d b ss piece total e t (λ n. c.if-block-min.true (n ∙ sym m))
 
@@ -93,7 +93,7 @@ returns-clause-value g c =
     let k : c.in_ok-k.k ≡ piece = c.in_ok-k.ensures.0 in
     let i : piece < length ss = omega (arith, k, c.in_ok-k.ensures.1, ap length c.deref.ensures.value) in
     let m : c.min.result ≡ block_len (length d) piece = c.min.ensures ∙ measured (length d) piece (length ss) c.len-size.result c.in_ok-k.k l k i
-        c.self.invariant.count in
+    c.self.invariant.count in
     ap (λ (a : AssemblyState). data_error a piece total b) (sym c.self.view_is)
     ∙ nothing_wrong c.self.inside.info_hash d b ss piece total e (c.if-total-size.false ∙ l) (c.if-block-min.false ∙ m)
 
@@ -110,10 +110,10 @@ returns-clause-state g c =
     let k : c.in_ok-k.k ≡ piece = c.in_ok-k.ensures.0 in
     let i : piece < length ss = omega (arith, k, c.in_ok-k.ensures.1, ap length c.deref.ensures.value) in
     let n : length b ≡ min 16384 (length d - 16384 * piece) = c.if-block-min.false ∙ c.min.ensures ∙ same_rest (length d) piece c.len-size.result
-        c.in_ok-k.k l k in
+    c.in_ok-k.k l k in
     let m : length b ≡ block_len (length d) piece = n ∙ block_len_is (length d) piece (subst (λ x. piece < x) c.self.invariant.count i) in
     let w = written d b c.deref_mut.result.now c.store.new.bytes piece c.in_ok-k.k c.self.inside.bytes.len (length ss) k i c.self.invariant.count n
-        c.deref_mut.ensures.value c.store.ensures c.self.inside.bytes.ok.0 in
+    c.deref_mut.ensures.value c.store.ensures c.self.inside.bytes.ok.0 in
     ap (λ x. state_of h x (set ss c.in_ok-k.k status.Held)) w ∙ ap (λ j. state_of h (paste d (16384 * piece) b) (set ss j status.Held)) k
     ∙ held_is h d b ss piece total i c.self.invariant.count n (nothing_wrong h d b ss piece total e (c.if-total-size.false ∙ l) m)
     ∙ ap (λ (a : AssemblyState). with_data a piece total b) c.self.view_is
@@ -124,7 +124,7 @@ invariant_of-self g c =
     let j = c.in_ok-k.k in
     let i : j < length inside.states.items = omega (arith, c.in_ok-k.ensures.1, ap length c.deref.ensures.value) in
     let f : length (take inside.bytes.len (c.store.new.bytes ++ drop (length c.store.new.bytes) inside.bytes.items)) ≡ length inside.bytes.items =
-        sym (length_refill inside.bytes.len inside.bytes.items c.store.new.bytes inside.bytes.ok.0) ∙ inside.bytes.ok.0 in
+    sym (length_refill inside.bytes.len inside.bytes.items c.store.new.bytes inside.bytes.ok.0) ∙ inside.bytes.ok.0 in
     record {
       least = omega (arith, f, c.self.invariant.least);
       most = rw f c.self.invariant.most;

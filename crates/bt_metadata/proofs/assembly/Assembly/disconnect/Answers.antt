@@ -23,5 +23,5 @@ invariant_of-self g c =
     let n : length c.forget.new.states ≡ length ss.items = ap length e ∙ length-map ss.items kept_status in
     let w = whole_slice ss.len c.forget.new.states ss.items (ss.ok.0 ∙ sym n) in
     let z : count_by asks (take ss.len (c.forget.new.states ++ drop (length c.forget.new.states) ss.items)) ≡ 0 = ap (count_by asks) (w ∙ e)
-        ∙ count-kept ss.items in
+    ∙ count-kept ss.items in
     record { least = c.self.invariant.least; most = c.self.invariant.most; count = ap length w ∙ n ∙ c.self.invariant.count; asked = omega (arith, z) }

@@ -12,15 +12,15 @@ returns-in_err-place-clause-value g c =
     let piece = c.args.piece in
     let o = err_from_is_err_and c.from_residual.result c.from_residual.ensures.1 in
     let e : error_at c.self.inside.states.items piece ≡ Some c.in_err-place.field-0.0 = ap (λ ss. error_at ss piece) (sym c.deref.ensures.value)
-        ∙ c.in_err-place.ensures in
+    ∙ c.in_err-place.ensures in
     rw (o.1) (ap (λ (a : AssemblyState). piece_error a piece) (sym c.self.view_is) ∙ error_is c.self.inside.info_hash c.self.inside.bytes.items
-        c.self.inside.states.items piece ∙ e ∙ ap (λ (x : BlockError). Some x) (sym o.2))
+    c.self.inside.states.items piece ∙ e ∙ ap (λ (x : BlockError). Some x) (sym o.2))
 
 pub returns-in_err-place-clause-state : goal.returns-in_err-place-clause-state
 returns-in_err-place-clause-state g c =
     let piece = c.args.piece in
     let e : error_at c.self.inside.states.items piece ≡ Some c.in_err-place.field-0.0 = ap (λ ss. error_at ss piece) (sym c.deref.ensures.value)
-        ∙ c.in_err-place.ensures in
+    ∙ c.in_err-place.ensures in
     subst (λ (a : AssemblyState). a ≡ with_reject a piece) c.self.view_is
     (not_rejected c.self.inside.info_hash c.self.inside.bytes.items c.self.inside.states.items piece c.in_err-place.field-0.0 e)
 
@@ -29,7 +29,7 @@ returns-clause-value g c =
     let piece = c.args.piece in
     let e : error_at c.self.inside.states.items piece ≡ None = ap (λ ss. error_at ss piece) (sym c.deref.ensures.value) ∙ c.in_ok-place.ensures.2 in
     ap (λ (a : AssemblyState). piece_error a piece) (sym c.self.view_is) ∙ error_is c.self.inside.info_hash c.self.inside.bytes.items
-        c.self.inside.states.items piece ∙ e
+    c.self.inside.states.items piece ∙ e
 
 pub returns-clause-state : goal.returns-clause-state
 returns-clause-state g c =
@@ -39,4 +39,4 @@ returns-clause-state g c =
     let ss = c.self.inside.states.items in
     let e : error_at ss piece ≡ None = ap (λ ss. error_at ss piece) (sym c.deref.ensures.value) ∙ c.in_ok-place.ensures.2 in
     ap (λ k. state_of h d (set ss k status.Rejected)) c.in_ok-place.ensures.0 ∙ rejected_is h d ss piece e ∙ ap (λ (a : AssemblyState). with_reject a piece)
-        c.self.view_is
+    c.self.view_is

@@ -11,9 +11,9 @@ pub returns-else-not-is_empty : goal.returns-else-not-is_empty
 returns-else-not-is_empty c =
     sets c.in-Some-Set.side c.in-Some-Set.setting (sym c.is_comment.ensures ∙ c.if-is_comment.false)
     (says_set c.args.line.now c.in_ok-side.field-0 c.in-Some-Set.field-0 c.in-Some-Set.side c.in-Some-Set.setting c.in_ok-side.ensures c.in-Some-Set.is
-        c.in-Some-Set.field-0-is)
+    c.in-Some-Set.field-0-is)
     (let none = eqb-true (vec_len c.args.self.now.steps) 0 (sym c.is_empty.ensures ∙ c.if-not-is_empty.false) in nil_from_length c.args.self.now.steps.items
-        (grind arith))
+    (grind arith))
     c.set.ensures
 
 pub returns-in_ok-push-in-Some-Do : goal.returns-in_ok-push-in-Some-Do
@@ -25,4 +25,4 @@ returns-in_ok-push-in-Some-Do c =
 pub returns-in-None : goal.returns-in-None
 returns-in-None c =
     none_taken (draft_of c.args.self.now) c.args.line.now (sym c.is_comment.ensures ∙ c.if-is_comment.false)
-        (subst (IsReading c.args.line.now) c.in-None.is c.in_ok-side.ensures)
+    (subst (IsReading c.args.line.now) c.in-None.is c.in_ok-side.ensures)

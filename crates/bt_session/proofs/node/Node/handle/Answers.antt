@@ -22,11 +22,11 @@ returns-in-Ok c = λ x h well.
     let i : Item = t.0 in
     let r : Reaction = react x.half.end i in
     let before : length c.outgoing-before.result.now ≡ length x.half.outbox = ap (length {A = ℕ}) (c.outgoing-before.ensures.value
-        ∙ ap (λ (a : HalfState). a.outbox) h.end) in
+    ∙ ap (λ (a : HalfState). a.outbox) h.end) in
     let spells : Spells c.belief-context.result c.sending-order.result c.rest-queued.result.now r.queued =
     spells_queued x.half r c.belief-context.result c.sending-order.result (length c.outgoing-before.result.now) c.outgoing.result.now c.rest-queued.result.now
     (c.outgoing.ensures.value ∙ ap (λ (a : HalfState). a.outbox) t.2) (c.belief-context.ensures ∙ ap (λ (a : HalfState). belief a.end) t.2)
-        (c.sending-order.ensures ∙ ap (λ (a : HalfState). a.end.sends) h.end)
+    (c.sending-order.ensures ∙ ap (λ (a : HalfState). a.end.sends) h.end)
     before c.rest-queued.ensures (well.queues i t.1) in (
       B.handles x i,
       (i, t.1, refl),
@@ -47,14 +47,28 @@ stops : (n : Node) (x : B.Node) (a : HalfState) (e : TurnError) (o : Outcome) �
 unfolding Stops
 stops n x a (turn_error.Refused r) o h old is =
     let t : IsTurned x.half (Err (turn_error.Refused r)) a = subst (λ (b : HalfState). IsTurned b (Err (turn_error.Refused r)) a) h.end old in
-    let gives : B.TurnGives x (outcome.Refused r) (B.with_half x a) = (t, refl) in
-    (B.with_half x a, subst (λ (p : Outcome). B.TurnGives x p (B.with_half x a)) (sym is) gives, record { end = refl; untaken = h.untaken; sent = h.sent;
-        handled = h.handled })
+    let gives : B.TurnGives x (outcome.Refused r) (B.with_half x a) = (t, refl) in (
+      B.with_half x a,
+      subst (λ (p : Outcome). B.TurnGives x p (B.with_half x a)) (sym is) gives,
+      record {
+        end = refl;
+        untaken = h.untaken;
+        sent = h.sent;
+        handled = h.handled;
+      },
+    )
 stops n x a turn_error.Busy o h old is =
     let t : IsTurned x.half (Err turn_error.Busy) a = subst (λ (b : HalfState). IsTurned b (Err turn_error.Busy) a) h.end old in
-    let gives : B.TurnGives x outcome.Busy (B.with_half x a) = (t, refl) in
-    (B.with_half x a, subst (λ (p : Outcome). B.TurnGives x p (B.with_half x a)) (sym is) gives, record { end = refl; untaken = h.untaken; sent = h.sent;
-        handled = h.handled })
+    let gives : B.TurnGives x outcome.Busy (B.with_half x a) = (t, refl) in (
+      B.with_half x a,
+      subst (λ (p : Outcome). B.TurnGives x p (B.with_half x a)) (sym is) gives,
+      record {
+        end = refl;
+        untaken = h.untaken;
+        sent = h.sent;
+        handled = h.handled;
+      },
+    )
 stops n x a turn_error.Memory o h old is = absurd is
 
 stopped_by : (n : Node) (a : HalfState) (e : TurnError) (r : Result Outcome Memory) → IsTurned n.end (Err e) a → IfOk r (λ o. IsStop e o)

@@ -16,12 +16,17 @@ returns-in-Ok-record c = λ x h well.
     let now : c.say.new.self ≡ reacted x.half (queueing x.half.end (msg ∷ [])) = said.1 ∙ ap (λ (a : HalfState). reacted a (queueing a.end (msg ∷ []))) h.end in
     let spells : Spells c.belief-context.result c.sending-order.result c.rest-queued.result.now (msg ∷ []) =
     spells_queued x.half (queueing x.half.end (msg ∷ [])) c.belief-context.result c.sending-order.result (length c.outgoing-before.result.now)
-        c.outgoing.result.now c.rest-queued.result.now
+    c.outgoing.result.now c.rest-queued.result.now
     (c.outgoing.ensures.value ∙ ap (λ (a : HalfState). a.outbox) now) (c.belief-context.ensures ∙ ap (λ (a : HalfState). belief a.end) h.end)
-        (c.sending-order.ensures ∙ ap (λ (a : HalfState). a.end.sends) h.end)
+    (c.sending-order.ensures ∙ ap (λ (a : HalfState). a.end.sends) h.end)
     (ap (length {A = ℕ}) (c.outgoing-before.ensures.value ∙ ap (λ (a : HalfState). a.outbox) h.end)) c.rest-queued.ensures (well may, tt) in (
       B.says x msg (reacted x.half (queueing x.half.end (msg ∷ []))),
       ((may, refl), refl),
-      record { end = now; untaken = h.untaken; sent = c.in-Ok-record.ensures (msg ∷ []) spells ∙ ap (λ (js : List Item). js ++ items.Message msg ∷ [])
-          h.sent; handled = h.handled },
+      record {
+        end = now;
+        untaken = h.untaken;
+        sent = c.in-Ok-record.ensures (msg ∷ []) spells ∙ ap (λ (js : List Item). js ++ items.Message msg ∷ [])
+            h.sent;
+        handled = h.handled;
+      },
     )

@@ -16,6 +16,12 @@ returns-in-Ok c = λ l h.
       sent = both u.left_sent.items v.right_sent.items l.left.sent l.right.sent x.0 y.0;
       handled = both u.left_handled v.right_handled (length l.left.handled) (length l.right.handled) x.1 y.1;
     } in
-    let more = connections_more c.args.self.now.past.items l.past connection (B.connection_of l) h.past last in
-    (B.after_reset l, (refl, refl), record { left = x.2; right = y.2;
-        past = subst (λ (cs : List Connection). AreConnectionsOf cs (l.past ++ B.connection_of l ∷ [])) (sym c.in-Ok.ensures) more })
+    let more = connections_more c.args.self.now.past.items l.past connection (B.connection_of l) h.past last in (
+      B.after_reset l,
+      (refl, refl),
+      record {
+        left = x.2;
+        right = y.2;
+        past = subst (λ (cs : List Connection). AreConnectionsOf cs (l.past ++ B.connection_of l ∷ [])) (sym c.in-Ok.ensures) more;
+      },
+    )

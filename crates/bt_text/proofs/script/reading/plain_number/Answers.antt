@@ -1,9 +1,9 @@
 use Rattle.std.proofs.Common.{◌≡◌, ◌<◌, true, false, length, get_or, sym, ◌∙◌, arith, below_more}
-use Rattle.bt_text.proofs.ScriptWords.{number_in_word-None, IsDecimal-nonempty, IsDecimal-short, IsDecimal-zero, number_step, value_short, IsDecimal-other,
-    is_digit, read_number}
+use Rattle.bt_text.proofs.ScriptWords.{number_in_word-None, IsDecimal-nonempty, IsDecimal-short, IsDecimal-zero, number_step, value_short, IsDecimal-other}
+use Rattle.bt_text.proofs.ScriptWords.{is_digit, read_number}
 use Rattle.bt_text.proofs.script.reading.plain_number.Goals as goal
-use Rattle.bt_text.proofs.script.reading.plain_number.Goals.{then-is_empty-via-then-is_empty, then-is_empty-via-else-is_empty+then-word-gt10,
-    then-is_empty-via-else-is_empty+else-word-gt10+then-has_leading_zero}
+use Rattle.bt_text.proofs.script.reading.plain_number.Goals.{then-is_empty-via-then-is_empty, then-is_empty-via-else-is_empty+then-word-gt10}
+use Rattle.bt_text.proofs.script.reading.plain_number.Goals.{then-is_empty-via-else-is_empty+else-word-gt10+then-has_leading_zero}
 
 pub returns-then-is_empty : goal.returns-then-is_empty
 returns-then-is_empty c =
@@ -19,17 +19,20 @@ returns-then-is_empty c =
 pub returns-then-not-is_ascii_digit : goal.returns-then-not-is_ascii_digit
 returns-then-not-is_ascii_digit c =
     sym (number_in_word-None c.args.word.now (λ n h. IsDecimal-other c.args.word.now n c.loop-digit.digit-index h c.loop-digit-test.true
-        (sym c.is_ascii_digit.ensures.value ∙ c.if-not-is_ascii_digit.true)))
+    (sym c.is_ascii_digit.ensures.value ∙ c.if-not-is_ascii_digit.true)))
 
 pub overflow_mul-n : goal.overflow_mul-n
 overflow_mul-n c =
-    omega (arith, value_short c.args.word.now c.loop-digit.digit-index c.loop-digit.n c.if-word-gt10.false c.loop-digit.auto.digit-index-end
-        c.loop-digit.invariant.value c.loop-digit.invariant.digits)
+    omega (
+      arith,
+      value_short c.args.word.now c.loop-digit.digit-index c.loop-digit.n c.if-word-gt10.false c.loop-digit.auto.digit-index-end
+          c.loop-digit.invariant.value c.loop-digit.invariant.digits,
+    )
 
 pub overflow_add-n : goal.overflow_add-n
 overflow_add-n c =
     let short = value_short c.args.word.now c.loop-digit.digit-index c.loop-digit.n c.if-word-gt10.false c.loop-digit.auto.digit-index-end
-        c.loop-digit.invariant.value c.loop-digit.invariant.digits in
+    c.loop-digit.invariant.value c.loop-digit.invariant.digits in
     let digit = is_digit (get_or c.args.word.now c.loop-digit.digit-index 0) (sym c.is_ascii_digit.ensures.value ∙ c.if-not-is_ascii_digit.false) in
     omega (arith, short, digit, c.from.ensures)
 
@@ -49,4 +52,4 @@ returns c =
     let led : get_or c.args.word.now 0 0 ≡ 48 → 1 < length c.args.word.now → ⊥ = λ e more.
     let k : true ≡ false = sym (c.has_leading_zero.ensures.1 (e, more)) ∙ c.if-has_leading_zero.false in cc k in
     c.ok.ensures.value ∙ read_number c.args.word.now c.loop-digit.digit-index c.loop-digit.n c.try_from.result some c.loop-digit-test.false
-        c.loop-digit.invariant.value c.loop-digit.invariant.digits led c.try_from.ensures
+    c.loop-digit.invariant.value c.loop-digit.invariant.digits led c.try_from.ensures

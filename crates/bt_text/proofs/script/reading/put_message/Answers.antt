@@ -5,5 +5,5 @@ use Rattle.bt_text.proofs.script.reading.put_message.Goals as goal
 pub returns-in-Some : goal.returns-in-Some
 returns-in-Some c =
     message_given c.args.text.now c.split_word.result.0.now c.split_word.result.1.now c.in-Some.id c.in-Some.shape c.put_fields.new.bytes.items
-        c.put_fields.result (sym c.is.ensures ∙ c.if-is.false) c.split_word.ensures.word (sym c.is-2.ensures ∙ c.if-is-2.false) c.split_word.ensures.rest
-        c.in-Some.ensures c.put_fields.ensures
+    c.put_fields.result (sym c.is.ensures ∙ c.if-is.false) c.split_word.ensures.word (sym c.is-2.ensures ∙ c.if-is-2.false) c.split_word.ensures.rest
+    c.in-Some.ensures c.put_fields.ensures
