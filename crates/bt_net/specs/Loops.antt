@@ -6,7 +6,7 @@ use Rattle.bt_io.specs.Counts.{Grew}
 use Rattle.sha1.specs.Sha1.{sha1}
 use Rattle.hex.specs.Hex.{encode_lower}
 use Rattle.bt_ext.specs.declared.ids.Rules.{Rules}
-use Rattle.bt_ext.specs.Ids.{registered}
+use Rattle.bt_ext.specs.Ids.{metadata_only}
 use Rattle.bt_wire.specs.declared.context.Own.{Own}
 use Rattle.bt_wire.specs.declared.handshake.Handshake.{Handshake}
 use Rattle.bt_metadata.specs.Blocks.{window, max_metadata}
@@ -24,7 +24,7 @@ use Rattle.bt_net.specs.declared.looped.LoopEnd.TheVariants.{Fetched, Unfetched,
 -- ---- the ends
 
 abbrev pub own_by : Rules → ℕ → List ℕ → ℕ → Own
-own_by rules limit hash id = record { reserved = record { 0 = 1048581 }; info_hash = Some hash; pieces = None; reg = registered (Some id); rules = rules;
+own_by rules limit hash id = record { reserved = record { 0 = 1048581 }; info_hash = Some hash; pieces = None; reg = metadata_only (Some id); rules = rules;
     limit = limit }
 
 abbrev pub handshake_by : List ℕ → List ℕ → Handshake
