@@ -75,7 +75,7 @@ impl Peers {
                 reserved: Reserved(0x10_0004),
                 info_hash: Some(self.info_hash),
                 pieces: None,
-                reg: Registered::new(ExtId::new(9)),
+                reg: Registered::metadata_only(ExtId::new(9)),
                 rules: Rules::Bep,
                 limit: 32_768,
             },
