@@ -297,6 +297,9 @@ MISTAKES = [
     ["show", "--metadata-id", "256"],
     ["show", "--metadata-id", "x"],
     ["show", "--metadata-id", "3", "--metadata-id", "4"],
+    ["show", "--donthave-id", "256"],
+    ["show", "--donthave-id", ""],
+    ["check", "--metadata-id", "4", "--donthave-id", "4"],
     ["show", "--info-hash", "a9993e364706816aba3e25717850c26c9cd0d8"],
     ["show", "--info-hash", "a9993e364706816aba3e25717850c26c9cd0d89d00"],
     ["show", "--info-hash", "g9993e364706816aba3e25717850c26c9cd0d89d"],
@@ -341,6 +344,13 @@ def naming(number):
     return message(b"\x14\0d1:md11:ut_metadatai%deee" % number)
 
 
+def taking(donthave, metadata):
+    """An extended handshake that has these ids for `lt_donthave` and `ut_metadata`."""
+    return message(b"\x14\0d1:md11:lt_donthavei%de11:ut_metadatai%deee" % (donthave, metadata))
+
+
+# A message under 4 that takes back piece 9.
+TAKES_9 = message(b"\x14\x04\0\0\0\x09")
 # Extended messages under 3 and 1 that are no dictionary, and one that is.
 RAW_3, RAW_1, ASKS_1 = message(b"\x14\x03\x01"), message(b"\x14\x01\x01"), message(b"\x14\x01" + REQUEST)
 # Have all, which only a receiver with the Fast Extension (BEP 6) takes.
@@ -406,6 +416,13 @@ FILES = [
     other_row(hand(NO_FAST) + PEX + naming(3), RAW_3, JUDGED, status=1),
     other_row(hand(NO_FAST) + naming(3), RAW_3, KEPT, "--metadata-id 0"),
     other_row(hand(NO_FAST) + naming(1), ASKS_1, [b"68 metadata-request 0", b"ok messages=1 bytes=99"]),
+    # its id of `lt_donthave`, which doesn't count where it is that of `ut_metadata`
+    other_row(hand(NO_FAST) + naming(3) + taking(4, 3), TAKES_9, [b"68 donthave 9", b"ok messages=1 bytes=78"]),
+    other_row(hand(NO_FAST) + taking(4, 4), TAKES_9, JUDGED, status=1),
+    other_row(hand(NO_FAST) + taking(4, 3), TAKES_9, [b"68 extended 4 4", b"ok messages=1 bytes=78"], "--donthave-id 0"),
+    ("unpack --donthave-id 4 a", {"a": HAND + TAKES_9}, b"", LINE + b"extended 4 00000009\n", b"", 0),
+    ("pack --donthave-id 4 a", {"a": LINE + b"extended 4 00000009\n"}, b"", HAND + TAKES_9, b"", 0),
+    ("pack --donthave-id 4 a", {"a": LINE + b"extended 4 000009\n"}, b"", HAND, b"refused line=2 BadExtLength\n", 1),
     # what follows a refusal says nothing, and an unfinished message neither
     other_row(hand(NO_FAST) + bytes.fromhex("00000002 00 00") + naming(3), RAW_3, KEPT),
     other_row(hand(NO_FAST) + naming(3)[:-1], RAW_3, KEPT),
@@ -526,6 +543,12 @@ STREAMS = [
     (FREE, b"\0\0\0\x1c\x14\x03d8:msg_typei2e5:piecei0ee\0", b"68 metadata-reject 0\nok messages=1 bytes=100\n"),
     (BEP, b"\0\0\0\x1c\x14\x03d8:msg_typei2e5:piecei0ee\0", b"refused message=1 at=99 BadBlock\n"),
     (BEP, b"\0\0\0\x0a\x14\0d1:mi1ee", b"refused message=1 at=74 BadField\n"),
+    (FREE + " --donthave-id 4", TAKES_9, b"68 donthave 9\nok messages=1 bytes=78\n"),
+    (BEP + " --donthave-id 4 --metadata-id 0", TAKES_9, b"68 donthave 9\nok messages=1 bytes=78\n"),
+    (FREE + " --donthave-id 4 --pieces 9", TAKES_9, b"refused message=1 at=74 BadIndex\n"),
+    (FREE + " --donthave-id 4", b"\0\0\0\x05\x14\x04\0\0\x09", b"refused message=1 at=74 BadExtLength\n"),
+    (BEP + " --donthave-id 4", b"\0\0\0\x02\x14\x04", b"refused message=1 at=74 BadExtLength\n"),
+    (FREE, TAKES_9, b"68 extended 4 4\nok messages=1 bytes=78\n"),
     (FREE, b"\0\0\0\x0b\x14\0d1:pi-0ee", b"refused message=1 at=80 BadBencode\n"),
     (FREE, b"\0\0\0\x09\x14\0d1:pi1e", b"refused message=1 at=81 BadBencode\n"),
     (FREE, b"\0\0\0\x47\x14\0d1:plllllllllllllllllllllllllllllllleeeeeeeeeeeeeeeeeeeeeeeeeeeeeeeee",

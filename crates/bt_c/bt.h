@@ -92,7 +92,8 @@ enum {
     BT_METADATA_REJECT = 4,     /* piece */
     BT_METADATA_OTHER = 5,      /* a type that BEP 9 doesn't have */
     BT_METADATA_MALFORMED = 6,  /* a key that the type needs is missing or isn't such a number */
-    BT_EXT_RAW = 7              /* an id that the receiver didn't register; body is the raw payload */
+    BT_EXT_RAW = 7,             /* an id that the receiver didn't register; body is the raw payload */
+    BT_DONTHAVE = 8             /* piece; not met, since bt_own has no id of lt_donthave */
 };
 
 /* Values of bt_item.reason. bt_reason_name has their names. */
@@ -112,7 +113,8 @@ enum {
     BT_BAD_FIELD = 13,
     BT_BAD_BLOCK = 14,
     BT_STREAM_FULL = 15,
-    BT_END_INSIDE = 16
+    BT_END_INSIDE = 16,
+    BT_BAD_EXT_LENGTH = 17  /* not met, since bt_own has no id of lt_donthave */
 };
 
 /* What an extended message shows. It is set where the item's id is BT_EXTENDED. */
@@ -137,7 +139,7 @@ typedef struct bt_item {
     uint16_t port;
     uint16_t id;
     uint8_t extended_id;
-    uint8_t reason;     /* 1 to 16 */
+    uint8_t reason;     /* 1 to 17 */
     bt_extended extended;
 } bt_item;
 

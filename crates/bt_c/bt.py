@@ -21,7 +21,7 @@ FAST, DHT, EXTENSIONS = 0x4, 0x1, 0x100000
 CHOKE, UNCHOKE, INTERESTED, NOT_INTERESTED, HAVE, BITFIELD, REQUEST, PIECE, CANCEL, PORT = range(10)
 SUGGEST, HAVE_ALL, HAVE_NONE, REJECT, ALLOWED_FAST, EXTENDED = 13, 14, 15, 16, 17, 20
 KEEP_ALIVE, HANDSHAKE = 256, 257
-EXT_HANDSHAKE, METADATA_REQUEST, METADATA_DATA, METADATA_REJECT, METADATA_OTHER, METADATA_MALFORMED, EXT_RAW = range(1, 8)
+EXT_HANDSHAKE, METADATA_REQUEST, METADATA_DATA, METADATA_REJECT, METADATA_OTHER, METADATA_MALFORMED, EXT_RAW, DONTHAVE = range(1, 9)
 MORE, ITEM, REFUSED, END, UNWRITTEN = range(5)
 ABI = 1
 
@@ -175,7 +175,7 @@ class Item:
 
     def _extend(self, extended_id, extended):
         self.extended_id, self.kind, self.dict_size = extended_id, extended.kind, extended.dict
-        if extended.kind in (METADATA_REQUEST, METADATA_DATA, METADATA_REJECT):
+        if extended.kind in (METADATA_REQUEST, METADATA_DATA, METADATA_REJECT, DONTHAVE):
             self.piece = extended.piece
         if extended.kind == METADATA_DATA:
             self.total_size = extended.total_size

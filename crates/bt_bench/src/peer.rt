@@ -2,13 +2,13 @@
 ghost use Rattle.std.specs.Prelude.{◌≡◌, ◌<◌, ◌≤◌, ◌^◌, length};
 
 use crate::setting::{BLOCK, END_ID, PEER_ID, RESERVED};
-use bt_ext::{DictText, ExtId, Kind, handshake_text, message_text};
+use bt_ext::{DictText, ExtId, Kind, Registered, handshake_text, message_text};
 use bt_wire::{Handshake, Reserved, spell_handshake};
 use std::alloc::{AllocError, Global};
 
 /// Appends an extended message (BEP 10) of a dictionary and the bytes after it.
 fn push_extended(bytes: &mut Vec<u8>, id: u8, dict: &[u8], rest: &[u8]) -> Result<(), AllocError>
-    requires { (length dict.now ≤ 160) × (length rest.now ≤ 16384) }
+    requires { (length dict.now ≤ 220) × (length rest.now ≤ 16384) }
 {
     let length = (2 + dict.len() + rest.len()) as u32;
     bytes.extend_from_slice(&length.to_be_bytes())?;
@@ -29,15 +29,19 @@ pub fn greeting(
         peer_id: *b"-PE0001-PPPPPPPPPPPP",
     };
     let mut bytes = spell_handshake(&handshake).to_vec(alloc)?;
-    let mut text: DictText = [0; 160];
-    let start = handshake_text(ExtId::new(PEER_ID), size, &mut text);
+    let mut text: DictText = [0; 220];
+    let start = handshake_text(
+        Registered::metadata_only(ExtId::new(PEER_ID)),
+        size,
+        &mut text,
+    );
     push_extended(&mut bytes, 0, &text[start..], &[])?;
     Ok(bytes)
 }
 
 /// Appends a request for a block (BEP 9).
 fn push_request(bytes: &mut Vec<u8>, piece: u32) -> Result<(), AllocError> {
-    let mut text: DictText = [0; 160];
+    let mut text: DictText = [0; 220];
     let start = message_text(Kind::Request(piece), &mut text);
     push_extended(bytes, END_ID, &text[start..], &[])
 }
@@ -56,7 +60,7 @@ fn push_data(bytes: &mut Vec<u8>, piece: u32, total: u64, block: &[u8]) -> Resul
     requires total { (0 < total) × (total < 2 ^ 63) }
     requires block { length block.now ≤ 16384 }
 {
-    let mut text: DictText = [0; 160];
+    let mut text: DictText = [0; 220];
     let start = message_text(Kind::Data { piece, total }, &mut text);
     push_extended(bytes, END_ID, &text[start..], block)
 }

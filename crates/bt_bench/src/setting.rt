@@ -43,7 +43,7 @@ pub fn config(info_hash: [u8; 20], limit: u32, role: Role) -> Config {
             reserved: Reserved(RESERVED),
             info_hash: Some(info_hash),
             pieces: None,
-            reg: Registered::new(ExtId::new(END_ID)),
+            reg: Registered::metadata_only(ExtId::new(END_ID)),
             rules: Rules::Bep,
             limit,
         },

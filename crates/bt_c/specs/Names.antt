@@ -10,7 +10,8 @@ extended_name kind =
     (if kind == 3 then codes "metadata-data" else
     (if kind == 4 then codes "metadata-reject" else
     (if kind == 5 then codes "metadata-other" else
-    (if kind == 6 then codes "metadata-malformed" else codes "extended")))))
+    (if kind == 6 then codes "metadata-malformed" else
+    (if kind == 8 then codes "donthave" else codes "extended"))))))
 
 -- an item's, by its id and, of an extended message, its kind
 abbrev pub item_name : ℕ → ℕ → List ℕ

@@ -1,6 +1,6 @@
 -- What is written for a peer, and how it is judged: as the peer reads it.
 use Rattle.std.specs.Prelude.{◌≡◌, ◌==◌, ℕ, ◌<◌, ◌≤◌, ◌^◌, ◌⊎◌, ◌&&◌, nat_lt, List, [], ◌∷◌, ◌++◌, length, drop, Option, Some, None, if◌then◌else◌}
-use Rattle.bt_ext.specs.Ids.{registered}
+use Rattle.bt_ext.specs.Ids.{metadata_only}
 use Rattle.bt_ext.specs.declared.metadata.Kind.{Kind}
 use Rattle.bt_ext.specs.declared.metadata.Kind.TheVariants as kind
 use Rattle.bt_wire.specs.declared.context.Context.{Context}
@@ -23,7 +23,7 @@ handshake_of h = record { reserved = record { 0 = h.reserved }; info_hash = h.in
 
 -- what the peer is taken to judge by: what both ends have agreed on, and own pieces, rules and limit; it has told no id yet
 abbrev pub peer_context : BtOwn → ℕ → Context
-peer_context own reserved = record (negotiated (own_of own) (record { 0 = reserved })) { reg = registered None }
+peer_context own reserved = record (negotiated (own_of own) (record { 0 = reserved })) { reg = metadata_only None }
 
 -- ---- the bytes of a message, by the numbers of an item and the bytes that it keeps
 

@@ -20,9 +20,10 @@ pub struct BtExtended {
     pub metadata_size: u64,
     /// How many bytes of the payload are its dictionary.
     pub dict: usize,
-    /// The piece of a metadata request, data message or reject.
+    /// The piece of a metadata request, data message or reject, or the one that is taken back.
     pub piece: u32,
-    /// 1 the extended handshake, 2 a metadata request, 3 data, 4 a reject, 5 of another type, 6 malformed, 7 raw.
+    /// 1 the extended handshake, 2 a metadata request, 3 data, 4 a reject, 5 of another type, 6 malformed, 7 raw, 8 a piece
+    /// that is taken back (`lt_donthave`).
     pub kind: u8,
     /// The id of `ut_metadata` that an extended handshake tells, where `has_ut_metadata` is on; 0 switches it off.
     pub ut_metadata: u8,
@@ -54,6 +55,10 @@ pub fn extended_of(view: &ExtView) -> BtExtended
     match view {
         ExtView::Handshake { dict, .. } => handshake_of(dict),
         ExtView::Metadata { dict, .. } => metadata_of(dict),
+        ExtView::DontHave(index) => BtExtended {
+            piece: *index,
+            ..plain(8, 0)
+        },
         ExtView::Raw { .. } => plain(7, 0),
     }
 }

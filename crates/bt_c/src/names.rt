@@ -45,6 +45,7 @@ fn reason_at(number: u32) -> Option<Reason>
         14 => Some(Reason::BadBlock),
         15 => Some(Reason::StreamFull),
         16 => Some(Reason::EndInside),
+        17 => Some(Reason::BadExtLength),
         _ => None,
     }
 }
@@ -100,6 +101,7 @@ fn extended_name(kind: u8) -> &'static [u8]
         4 => b"metadata-reject",
         5 => b"metadata-other",
         6 => b"metadata-malformed",
+        8 => b"donthave",
         _ => b"extended",
     }
 }

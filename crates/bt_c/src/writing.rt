@@ -3,6 +3,7 @@
 //! A message is judged by a reader that stands for the peer: it reads what was written.
 ghost use Rattle.std.specs.Prelude.{◌≡◌, ◌≢◌, ◌+◌, ◌-◌, ◌<◌, ◌≤◌, ◌++◌, ◌^◌, length, drop, true, Some, None, MatchOption, IfSome};
 ghost use Rattle.bt_bencode.specs.Bencoding.{ben};
+ghost use Rattle.bt_ext.specs.Ids.{metadata_only};
 ghost use Rattle.bt_ext.specs.Made.{IsMade, message_tree, handshake_tree};
 ghost use Rattle.bt_wire.specs.Handshakes.{hand};
 ghost use Rattle.bt_wire.specs.Ids.{kind_of, shape_by};
@@ -15,7 +16,7 @@ use crate::item::{BtItem, bare, shape_of};
 use crate::reader::{BtReader, flag_of, next_item};
 use crate::receiver::{BtOwn, id_of, own_of};
 use bt_bencode::put_bytes;
-use bt_ext::{DictText, Kind, handshake_text, message_text};
+use bt_ext::{DictText, Kind, Registered, handshake_text, message_text};
 use bt_wire::{Handshake, Reserved, Shape, negotiate, spell_handshake};
 
 /// Nothing is written.
@@ -103,7 +104,7 @@ fn write(
     out: &mut [u8],
     written: &mut BtItem,
 ) -> u32
-    requires { length front.now ≤ 160 }
+    requires { length front.now ≤ 220 }
     ensures { Writes peer.old message.now (front.now ++ back.now) peer.new out.old out.new written.new result }
 {
     match size_of(message, front, back, out.len()) {
@@ -117,7 +118,7 @@ fn write(
 
 /// How many bytes a message has, where it fits.
 fn size_of(message: &BtItem, front: &[u8], back: &[u8], room: usize) -> Option<usize>
-    requires { length front.now ≤ 160 }
+    requires { length front.now ≤ 220 }
     ensures { MatchOption result (DoesNotFit message.now (front.now ++ back.now) room)
         (λ n. (message.now.id ≤ 256) × (n ≡ length (message_bytes message.now (front.now ++ back.now))) × (n ≤ room) × (n < 2 ^ 32 + 4)) }
 {
@@ -135,7 +136,7 @@ fn size_of(message: &BtItem, front: &[u8], back: &[u8], room: usize) -> Option<u
 
 /// How many bytes follow the length.
 fn rest_length(message: &BtItem, front: &[u8], back: &[u8]) -> u64
-    requires { length front.now ≤ 160 }
+    requires { length front.now ≤ 220 }
     ensures value { result ≡ length (rest_of message.now (front.now ++ back.now)) }
     ensures small { result < 2 ^ 64 - 4 }
 {
@@ -226,9 +227,9 @@ fn extended_item(id: u8) -> BtItem
 
 /// The text from the place on.
 fn text_from(text: &DictText, place: usize) -> &[u8]
-    requires { place ≤ 160 }
+    requires { place ≤ 220 }
     ensures text { result.now ≡ drop place text.now }
-    ensures short { length result.now ≤ 160 }
+    ensures short { length result.now ≤ 220 }
 {
     &text[place..]
 }
@@ -242,7 +243,7 @@ fn write_extended(
     out: &mut [u8],
     written: &mut BtItem,
 ) -> u32
-    requires { length dict.now ≤ 160 }
+    requires { length dict.now ≤ 220 }
     ensures { (i : BtItem) × IsExtendedItem id i × Writes peer.old i (dict.now ++ block.now) peer.new out.old out.new written.new result }
 {
     write(peer, &extended_item(id), dict, block, out, written)
@@ -293,7 +294,7 @@ pub extern "C" fn bt_write_metadata(
     match kind_from(kind, piece, total_size) {
         None => UNWRITTEN,
         Some(kind) => {
-            let mut text: DictText = [0; 160];
+            let mut text: DictText = [0; 220];
             let place = message_text(kind, &mut text);
             let id = peer.own.metadata_id;
             write_extended(peer, id, text_from(&text, place), block, out, written)
@@ -315,9 +316,13 @@ pub extern "C" fn bt_write_extended_handshake(
     written: &mut BtItem,
 ) -> u32
     ensures { (i : BtItem) × IsExtendedItem 0 i
-        × Writes peer.old i (ben (handshake_tree (flagged metadata_id metadata_id) (flagged has_size size))) peer.new out.old out.new written.new result }
+        × Writes peer.old i (ben (handshake_tree (metadata_only (flagged metadata_id metadata_id)) (flagged has_size size))) peer.new out.old out.new written.new result }
 {
-    let mut text: DictText = [0; 160];
-    let place = handshake_text(id_of(metadata_id), size_from(has_size, size), &mut text);
+    let mut text: DictText = [0; 220];
+    let place = handshake_text(
+        Registered::metadata_only(id_of(metadata_id)),
+        size_from(has_size, size),
+        &mut text,
+    );
     write_extended(peer, 0, text_from(&text, place), &[], out, written)
 }

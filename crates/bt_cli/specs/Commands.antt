@@ -3,7 +3,7 @@ use Rattle.std.specs.Prelude.{◌≡◌, ℕ, ◌≤◌, List, [], false, Option
 use Rattle.std.specs.Str.{bytes_eq}
 use Rattle.bt_ext.specs.declared.ids.Rules.{Rules}
 use Rattle.bt_ext.specs.declared.ids.Rules.TheVariants.{Free, Bep}
-use Rattle.bt_ext.specs.Ids.{metadata_id}
+use Rattle.bt_ext.specs.Ids.{metadata_only}
 use Rattle.bt_wire.specs.declared.context.Own.{Own}
 use Rattle.clap.specs.declared.error.kind.ErrorKind.{ErrorKind}
 use Rattle.clap.specs.declared.error.kind.ErrorKind.TheVariants as kinds
@@ -50,7 +50,7 @@ default_rules Pack = Free
 abbrev pub IsDefault : Own → Type 0
 IsDefault own =
     (own ≡ record { reserved = record { 0 = 0x100005 }; info_hash = None; pieces = None; reg = own.reg; rules = Free; limit = 262144 })
-    × (metadata_id own.reg ≡ Some 3)
+    × (own.reg ≡ metadata_only (Some 3))
 
 -- a limit that a receiver may have
 abbrev pub HasLimit : Own → Type 0
@@ -80,7 +80,8 @@ HasText kind (Told notice text) = notice ≡ kind
 
 -- `show` of standard input is asked for, with the default receiver
 abbrev pub IsShowByDefault : Asked → Type 0
-IsShowByDefault (Run r) = (r.job ≡ Show) × IsDefault r.own × (r.given ≡ record { reserved = false; metadata_id = false }) × (r.other ≡ None)
+IsShowByDefault (Run r) = (r.job ≡ Show) × IsDefault r.own × (r.given ≡ record { reserved = false; metadata_id = false; donthave_id = false })
+    × (r.other ≡ None)
     × (r.files.items ≡ [])
 IsShowByDefault (Link files) = ⊥
 IsShowByDefault (Fetch job) = ⊥

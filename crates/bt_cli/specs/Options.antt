@@ -12,7 +12,7 @@ use Rattle.clap.specs.Matches.{first_value, matched_of, raw_values}
 use Rattle.hex.specs.Hex.{decode_sized}
 use Rattle.bt_ext.specs.declared.ids.Rules.{Rules}
 use Rattle.bt_ext.specs.declared.ids.Rules.TheVariants.{Free, Bep}
-use Rattle.bt_ext.specs.Ids.{extension_id, metadata_id}
+use Rattle.bt_ext.specs.Ids.{extension_id, metadata_id, donthave_id, are_same}
 use Rattle.bt_wire.specs.declared.context.Own.{Own}
 use Rattle.bt_cli.specs.declared.commands.Given.{Given}
 use Rattle.bt_cli.specs.declared.commands.Job.{Job}
@@ -29,6 +29,7 @@ pub record IsWritten (f : Found) (w : Written) : Type 0 where
   pub reserved : option_map (λ s. s.now) w.reserved ≡ first_value f (codes "reserved")
   pub pieces : option_map (λ s. s.now) w.pieces ≡ first_value f (codes "pieces")
   pub metadata_id : option_map (λ s. s.now) w.metadata_id ≡ first_value f (codes "metadata-id")
+  pub donthave_id : option_map (λ s. s.now) w.donthave_id ≡ first_value f (codes "donthave-id")
   pub info_hash : option_map (λ s. s.now) w.info_hash ≡ first_value f (codes "info-hash")
   pub rules : option_map (λ s. s.now) w.rules ≡ first_value f (codes "rules")
   pub limit : option_map (λ s. s.now) w.limit ≡ first_value f (codes "limit")
@@ -73,6 +74,19 @@ pieces_in t = value_of None (λ s. option_map (λ n. Some n) (number_of s)) t
 abbrev pub metadata_id_in : Option (List ℕ) → Option (Option ℕ)
 metadata_id_in t = value_of (Some 3) (λ s. option_map extension_id (number_in 0 255 s)) t
 
+-- 0 is none
+abbrev pub donthave_id_in : Option (List ℕ) → Option (Option ℕ)
+donthave_id_in t = value_of None (λ s. option_map extension_id (number_in 0 255 s)) t
+
+-- an id for `lt_donthave`, unless it is that of `ut_metadata`
+abbrev pub unless_same : Option ℕ → Option ℕ → Option (Option ℕ)
+unless_same metadata donthave = if are_same metadata donthave then None else Some donthave
+
+-- by the texts of both
+abbrev pub donthave_in : Option (List ℕ) → Option (List ℕ) → Option (Option ℕ)
+donthave_in metadata donthave =
+    option_and_then (λ m. option_and_then (unless_same m) (donthave_id_in donthave)) (metadata_id_in metadata)
+
 abbrev pub info_hash_in : Option (List ℕ) → Option (Option (List ℕ))
 info_hash_in t = value_of None (λ s. option_map (λ h. Some h) (hash_of s)) t
 
@@ -89,13 +103,18 @@ pub record IsReceiver (job : Job) (w : Written) (own : Own) : Type 0 where
   pub reserved : reserved_in (option_map (λ s. s.now) w.reserved) ≡ Some own.reserved.0
   pub pieces : pieces_in (option_map (λ s. s.now) w.pieces) ≡ Some own.pieces
   pub metadata : metadata_id_in (option_map (λ s. s.now) w.metadata_id) ≡ Some (metadata_id own.reg)
+  pub donthave : donthave_in (option_map (λ s. s.now) w.metadata_id) (option_map (λ s. s.now) w.donthave_id) ≡ Some (donthave_id own.reg)
   pub info_hash : info_hash_in (option_map (λ s. s.now) w.info_hash) ≡ Some own.info_hash
   pub rules : rules_in job (option_map (λ s. s.now) w.rules) ≡ Some own.rules
   pub limit : limit_in (option_map (λ s. s.now) w.limit) ≡ Some own.limit
 
 -- what of the receiver is given, by the options that were found
 abbrev pub given_in : Found → Given
-given_in f = record { reserved = is_some (first_value f (codes "reserved")); metadata_id = is_some (first_value f (codes "metadata-id")) }
+given_in f = record {
+  reserved = is_some (first_value f (codes "reserved"));
+  metadata_id = is_some (first_value f (codes "metadata-id"));
+  donthave_id = is_some (first_value f (codes "donthave-id"));
+}
 
 -- the texts of all files that were found
 abbrev pub files_in : Found → List (List ℕ)
@@ -131,11 +150,12 @@ abbrev pub with_command : List (List ℕ) → List (List ℕ)
 with_command [] = []
 with_command (w ∷ ws) = if is_job_option w then codes "show" ∷ w ∷ ws else w ∷ ws
 
--- the option's text is no value of it
+-- the option's text is no value of it; the id of `lt_donthave` is also wrong where it is that of `ut_metadata`
 abbrev pub IsWrong : Job → Written → Setting → Type 0
 IsWrong job w settings.Reserved = reserved_in (option_map (λ s. s.now) w.reserved) ≡ None
 IsWrong job w settings.Pieces = pieces_in (option_map (λ s. s.now) w.pieces) ≡ None
 IsWrong job w settings.MetadataId = metadata_id_in (option_map (λ s. s.now) w.metadata_id) ≡ None
+IsWrong job w settings.DonthaveId = donthave_in (option_map (λ s. s.now) w.metadata_id) (option_map (λ s. s.now) w.donthave_id) ≡ None
 IsWrong job w settings.InfoHash = info_hash_in (option_map (λ s. s.now) w.info_hash) ≡ None
 IsWrong job w settings.Rules = rules_in job (option_map (λ s. s.now) w.rules) ≡ None
 IsWrong job w settings.Limit = limit_in (option_map (λ s. s.now) w.limit) ≡ None
@@ -146,6 +166,7 @@ first_wrong job w =
     if is_none (reserved_in (option_map (λ s. s.now) w.reserved)) then Some settings.Reserved
     else if is_none (pieces_in (option_map (λ s. s.now) w.pieces)) then Some settings.Pieces
     else if is_none (metadata_id_in (option_map (λ s. s.now) w.metadata_id)) then Some settings.MetadataId
+    else if is_none (donthave_in (option_map (λ s. s.now) w.metadata_id) (option_map (λ s. s.now) w.donthave_id)) then Some settings.DonthaveId
     else if is_none (info_hash_in (option_map (λ s. s.now) w.info_hash)) then Some settings.InfoHash
     else if is_none (rules_in job (option_map (λ s. s.now) w.rules)) then Some settings.Rules
     else if is_none (limit_in (option_map (λ s. s.now) w.limit)) then Some settings.Limit

@@ -1,16 +1,20 @@
 -- What the other direction says of the receiver, where no option says it.
 use Rattle.std.specs.Prelude.{◌≡◌, List, ℕ, Option, Result, Ok, Err, if◌then◌else◌}
-use Rattle.bt_ext.specs.Ids.{registered}
+use Rattle.bt_ext.specs.Ids.{registered, metadata_id, donthave_id}
 use Rattle.bt_wire.specs.declared.context.Own.{Own}
 use Rattle.bt_jobs.specs.declared.other.Announced.{Announced}
 use Rattle.bt_jobs.specs.declared.other.OtherError.{OtherError}
 use Rattle.bt_jobs.specs.Others.{IsLearnt}
 use Rattle.bt_cli.specs.declared.commands.Given.{Given}
 
--- what an option gives stays; the rest of what the receiver's own stream says takes the place of the defaults
+-- What an option gives stays; the rest of what the receiver's own stream says takes the place of the defaults. Where the ids of
+-- both extensions are then equal, that of `ut_metadata` alone counts.
 abbrev pub informed : Own → Given → Announced → Own
 informed own given said =
-    record own { reserved = if given.reserved then own.reserved else said.reserved; reg = if given.metadata_id then own.reg else registered said.metadata }
+    record own {
+      reserved = if given.reserved then own.reserved else said.reserved;
+      reg = registered (if given.metadata_id then metadata_id own.reg else said.metadata) (if given.donthave_id then donthave_id own.reg else said.donthave);
+    }
 
 abbrev pub informed_as : Own → Given → Result Announced OtherError → Result Own OtherError
 informed_as own given (Ok said) = Ok (informed own given said)

@@ -50,6 +50,8 @@ pub struct Given {
     pub reserved: bool,
     /// `--metadata-id` is given.
     pub metadata_id: bool,
+    /// `--donthave-id` is given.
+    pub donthave_id: bool,
 }
 
 /// A job, with its receiver and its files.
@@ -129,7 +131,7 @@ pub fn default_rules(job: Job) -> Rules
 /// Returns the receiver where no option is given.
 ///
 /// It has the bits of the Fast Extension, of the DHT and of the Extension Protocol, any info hash, an unknown count of pieces,
-/// `ut_metadata` under id 3, the free rules, and messages of at most 262,144 bytes.
+/// `ut_metadata` under id 3, no id for `lt_donthave`, the free rules, and messages of at most 262,144 bytes.
 pub fn default_own() -> Own
     ensures { IsDefault result }
 {
@@ -137,7 +139,7 @@ pub fn default_own() -> Own
         reserved: Reserved(DEFAULT_RESERVED),
         info_hash: None,
         pieces: None,
-        reg: Registered::new(ExtId::new(DEFAULT_METADATA_ID)),
+        reg: Registered::metadata_only(ExtId::new(DEFAULT_METADATA_ID)),
         rules: default_rules(Job::Show),
         limit: DEFAULT_LIMIT,
     }

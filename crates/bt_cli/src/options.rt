@@ -41,10 +41,11 @@ Commands:
 Options, which describe the receiver of the stream ('link' has none, 'loop' --rules and --limit alone, with
 'bep' and a limit from 32768 on):
       --other <FILE>      The other direction of the connection, which the receiver sent: it gives the
-                          reserved bits and the id of ut_metadata where no option does
+                          reserved bits and the ids of ut_metadata and lt_donthave where no option does
       --reserved <HEX>    The reserved bits that it sent: 16 hex digits [default: 0000000000100005]
       --pieces <N>        The torrent's pieces: 0 to 4294967295 [default: unknown]
       --metadata-id <N>   The id under which it announced ut_metadata: 0 to 255, 0 is none [default: 3]
+      --donthave-id <N>   The id under which it announced lt_donthave: 0 to 255, 0 is none [default: 0]
       --info-hash <HEX>   The one info hash that it accepts: 40 hex digits [default: any]
       --rules <RULES>     'free' judges what every reader has to, 'bep' also what the BEPs ask of
                           a sender [default: free; bep for 'check']
@@ -150,6 +151,7 @@ fn job_command<'a>(alloc: Global, name: &'a str) -> Result<Command<'a>, AllocErr
             .arg(option(alloc, "reserved", "HEX"))?
             .arg(option(alloc, "pieces", "N"))?
             .arg(option(alloc, "metadata-id", "N"))?
+            .arg(option(alloc, "donthave-id", "N"))?
             .arg(option(alloc, "info-hash", "HEX"))?
             .arg(option(alloc, "rules", "RULES"))?
             .arg(option(alloc, "limit", "N"))?
@@ -284,6 +286,7 @@ fn written<'a>(options: &ArgMatches<'a>) -> Written<'a>
         reserved: options.get_str("reserved"),
         pieces: options.get_str("pieces"),
         metadata_id: options.get_str("metadata-id"),
+        donthave_id: options.get_str("donthave-id"),
         info_hash: options.get_str("info-hash"),
         rules: options.get_str("rules"),
         limit: options.get_str("limit"),
@@ -341,6 +344,7 @@ fn given(options: &ArgMatches<'_>) -> Given
     Given {
         reserved: options.get_str("reserved").is_some(),
         metadata_id: options.get_str("metadata-id").is_some(),
+        donthave_id: options.get_str("donthave-id").is_some(),
     }
 }
 
@@ -428,6 +432,7 @@ fn looped(options: &ArgMatches<'_>) -> Result<(Rules, u32), &'static str>
         reserved: None,
         pieces: None,
         metadata_id: None,
+        donthave_id: None,
         info_hash: None,
         rules,
         limit,
@@ -447,6 +452,8 @@ fn expected(setting: Setting) -> &'static str {
         Setting::Reserved => "'--reserved' takes 16 hex digits",
         Setting::Pieces => "'--pieces' takes a number from 0 to 4294967295",
         Setting::MetadataId => "'--metadata-id' takes a number from 0 to 255",
+        Setting::DonthaveId =>
+            "'--donthave-id' takes a number from 0 to 255, other than that of '--metadata-id'",
         Setting::InfoHash => "'--info-hash' takes 40 hex digits",
         Setting::Rules => "'--rules' takes 'free' or 'bep'",
         Setting::Limit => "'--limit' takes a number from 1 to 1048576",
@@ -544,6 +551,7 @@ fn show_by_default(alloc: Global) -> Asked
         given: Given {
             reserved: false,
             metadata_id: false,
+            donthave_id: false,
         },
         other: None,
         files: Vec::new(alloc),

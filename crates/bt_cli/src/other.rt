@@ -1,15 +1,38 @@
 //! The receiver, by what its own stream says of it: `--other`. The program's `main` calls it.
-ghost use Rattle.std.specs.Prelude.{◌≡◌, IfOk};
+ghost use Rattle.std.specs.Prelude.{◌≡◌, IfOk, if◌then◌else◌};
+ghost use Rattle.bt_ext.specs.Ids.{metadata_id, donthave_id};
 ghost use Rattle.bt_io.specs.Counts.{Grew};
 ghost use Rattle.bt_cli.specs.Commands.{HasLimit};
 ghost use Rattle.bt_cli.specs.Others.{IsInformed, informed as informed_by_rule};
 
 use crate::commands::Given;
-use bt_ext::Registered;
+use bt_ext::{ExtId, Registered};
 use bt_feed::Source;
 use bt_jobs::{Announced, OtherError, read_other};
 use bt_wire::Own;
 use std::alloc::Global;
+
+/// Returns the id of `ut_metadata`: the option's, or else what the receiver's own stream says.
+fn metadata_by(own: &Own, given: Given, said: &Announced) -> Option<ExtId>
+    ensures { result ≡ (if given.metadata_id then metadata_id own.now.reg else said.now.metadata) }
+{
+    if given.metadata_id {
+        own.reg.metadata()
+    } else {
+        said.metadata
+    }
+}
+
+/// Returns the id of `lt_donthave`: the option's, or else what the receiver's own stream says.
+fn donthave_by(own: &Own, given: Given, said: &Announced) -> Option<ExtId>
+    ensures { result ≡ (if given.donthave_id then donthave_id own.now.reg else said.now.donthave) }
+{
+    if given.donthave_id {
+        own.reg.donthave()
+    } else {
+        said.donthave
+    }
+}
 
 /// Returns the receiver, with what its own stream says of it in place of the defaults. What an option gives stays.
 fn informed(own: &Own, given: Given, said: &Announced) -> Own
@@ -21,11 +44,10 @@ fn informed(own: &Own, given: Given, said: &Announced) -> Own
         } else {
             said.reserved
         },
-        reg: if given.metadata_id {
-            own.reg
-        } else {
-            Registered::new(said.metadata)
-        },
+        reg: Registered::preferring_metadata(
+            metadata_by(own, given, said),
+            donthave_by(own, given, said),
+        ),
         ..*own
     }
 }

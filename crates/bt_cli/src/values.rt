@@ -1,14 +1,16 @@
 //! The receiver that the options describe, from their texts. The module `options` calls [`own_of`].
-ghost use Rattle.std.specs.Prelude.{◌≡◌, ◌≤◌, ℕ, List, option_map, IfOk, IfErr, MatchResult, Some};
+ghost use Rattle.std.specs.Prelude.{◌≡◌, ◌≤◌, ℕ, List, option_map, option_and_then, IfOk, IfErr, IfSome, MatchResult, Some};
 ghost use Rattle.std.specs.Char.{is_ascii_digit};
 ghost use Rattle.std.specs.List.{list_all};
-ghost use Rattle.bt_ext.specs.Ids.{metadata_id};
+ghost use Rattle.bt_ext.specs.Ids.{metadata_id, donthave_id};
 ghost use Rattle.bt_cli.specs.Options.{
   number_of,
   number_in,
   reserved_in,
   pieces_in,
   metadata_id_in,
+  donthave_id_in,
+  unless_same,
   info_hash_in,
   rules_in,
   limit_in,
@@ -31,6 +33,8 @@ pub struct Written<'a> {
     pub pieces: Option<&'a str>,
     /// `--metadata-id`
     pub metadata_id: Option<&'a str>,
+    /// `--donthave-id`
+    pub donthave_id: Option<&'a str>,
     /// `--info-hash`
     pub info_hash: Option<&'a str>,
     /// `--rules`
@@ -48,6 +52,8 @@ pub enum Setting {
     Pieces,
     /// `--metadata-id`
     MetadataId,
+    /// `--donthave-id`
+    DonthaveId,
     /// `--info-hash`
     InfoHash,
     /// `--rules`
@@ -119,6 +125,25 @@ fn read_metadata_id(text: Option<&str>) -> Option<Option<ExtId>>
     }
 }
 
+/// Returns the id of `--donthave-id`, of which 0 is none.
+fn read_donthave_id(text: Option<&str>) -> Option<Option<ExtId>>
+    ensures { result ≡ donthave_id_in (option_map (λ s. s.now) text.entry) }
+{
+    match text {
+        None => Some(None),
+        Some(digits) => Some(ExtId::new(number_within(digits, 0, 255)? as u8)),
+    }
+}
+
+/// Returns the ids of `ut_metadata` and of `--donthave-id`, if they differ.
+fn read_ids(metadata: Option<ExtId>, text: Option<&str>) -> Option<Registered>
+    ensures metadata { IfSome result (λ reg. metadata_id reg ≡ metadata) }
+    ensures donthave { option_map donthave_id result ≡ option_and_then (unless_same metadata) (donthave_id_in (option_map (λ s. s.now) text.entry)) }
+{
+    let donthave = read_donthave_id(text)?;
+    Registered::new(metadata, donthave).ok()
+}
+
 /// Returns the bytes of `--info-hash`.
 fn read_info_hash(text: Option<&str>) -> Option<Option<[u8; 20]>>
     ensures { result ≡ info_hash_in (option_map (λ s. s.now) text.entry) }
@@ -163,6 +188,7 @@ pub fn own_of(job: Job, written: &Written<'_>) -> Result<Own, Setting>
     let reserved = read_reserved(written.reserved).ok_or(Setting::Reserved)?;
     let pieces = read_pieces(written.pieces).ok_or(Setting::Pieces)?;
     let metadata = read_metadata_id(written.metadata_id).ok_or(Setting::MetadataId)?;
+    let reg = read_ids(metadata, written.donthave_id).ok_or(Setting::DonthaveId)?;
     let info_hash = read_info_hash(written.info_hash).ok_or(Setting::InfoHash)?;
     let rules = read_rules(job, written.rules).ok_or(Setting::Rules)?;
     let limit = read_limit(written.limit).ok_or(Setting::Limit)?;
@@ -170,7 +196,7 @@ pub fn own_of(job: Job, written: &Written<'_>) -> Result<Own, Setting>
         reserved,
         info_hash,
         pieces,
-        reg: Registered::new(metadata),
+        reg,
         rules,
         limit,
     })

@@ -2,7 +2,7 @@
 ghost use Rattle.std.specs.Prelude.{◌<◌, length};
 
 use bt_end::{Announce, Config, End, EndError, Role, SayError, Turn, TurnError, Window};
-use bt_ext::{ExtId, Registered, Rules};
+use bt_ext::{Ext, ExtId, Registered, Rules};
 use bt_feed::MemTarget;
 use bt_wire::{Fault, Handshake, Message, Own, Reason, Refusal, Reserved, frame, spell_handshake};
 use std::alloc::{AllocError, Global};
@@ -20,7 +20,7 @@ fn own(id: u8, rules: Rules) -> Own {
         reserved: Reserved(0x10_0005),
         info_hash: Some(ABC),
         pieces: None,
-        reg: Registered::new(ExtId::new(id)),
+        reg: Registered::metadata_only(ExtId::new(id)),
         rules,
         limit: 262_144,
     }
@@ -241,6 +241,44 @@ fn what_an_end_says(rt: HostRuntime) -> Result<(), Fail> {
         end.outgoing().get(sent..),
         Some(b"\0\0\0\x01\x0f\0\0\0\x01\x01".as_slice())
     );
+    Ok(())
+}
+
+/// An end that registers both extensions and knows the piece count.
+fn of_ten(donthave: u8) -> Result<Own, Fail> {
+    let reg = Registered::new(ExtId::new(3), ExtId::new(donthave)).map_err(|_| "one id")?;
+    Ok(Own {
+        pieces: Some(10),
+        reg,
+        ..own(3, Rules::Bep)
+    })
+}
+
+/// A piece is taken back under the peer's id, once that is known, and by a peer under the own one.
+#[test]
+fn pieces_are_taken_back(rt: HostRuntime) -> Result<(), Fail> {
+    let taken_back = Message::Extended(Ext::DontHave(9));
+    let mut end = End::new(
+        rt.alloc(),
+        config(of_ten(4)?, *b"-BT0001-LLLLLLLLLLLL", Role::Watch),
+    )?;
+    assert!(rt; handles(&mut end, &hand()));
+    let announced = extended(rt.alloc(), 0, b"d1:md11:lt_donthavei4e11:ut_metadatai3eee")?;
+    assert_eq!(rt; end.outgoing().get(68..), Some(announced.as_slice()));
+    let sent = waiting(&end);
+    assert_eq!(rt;
+        say(&mut end, &taken_back),
+        Err(SayError::Illegal(Fault::Shape))
+    );
+    let told = extended(rt.alloc(), 0, b"d1:md11:lt_donthavei5eee")?;
+    assert!(rt; handles(&mut end, told.as_slice()));
+    assert_eq!(rt; say(&mut end, &taken_back), Ok(()));
+    assert_eq!(rt;
+        end.outgoing().get(sent..),
+        Some(b"\0\0\0\x06\x14\x05\0\0\0\x09".as_slice())
+    );
+    assert!(rt; handles(&mut end, b"\0\0\0\x06\x14\x04\0\0\0\x09"));
+    assert_eq!(rt; waiting(&end), sent.saturating_add(10));
     Ok(())
 }
 

@@ -27,7 +27,7 @@ fn config<'a>(id: u8, peer_id: [u8; 20], role: Role<&'a LocalHeap>) -> Config<&'
             reserved: Reserved(0x10_0005),
             info_hash: Some(ABC),
             pieces: None,
-            reg: Registered::new(ExtId::new(id)),
+            reg: Registered::metadata_only(ExtId::new(id)),
             rules: Rules::Bep,
             limit: 32_768,
         },

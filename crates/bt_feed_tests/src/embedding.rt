@@ -144,7 +144,7 @@ fn ids_of_the_peer(rt: HostRuntime) -> Result<(), Fail> {
 fn plain_peer(rt: HostRuntime) {
     let own = own(262_144);
     let context = peer_context(&own, bt_wire::Reserved(0), &Table::new(rt.alloc()));
-    assert!(rt; !context.fast && !context.ext && context.reg == Registered::new(None));
+    assert!(rt; !context.fast && !context.ext && context.reg == Registered::metadata_only(None));
 }
 
 /// Each error of a call is told by the one error.

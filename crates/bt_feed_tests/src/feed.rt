@@ -22,7 +22,7 @@ pub fn own(limit: u32) -> Own {
         reserved: Reserved(RESERVED),
         info_hash: None,
         pieces: None,
-        reg: Registered::new(ExtId::new(3)),
+        reg: Registered::metadata_only(ExtId::new(3)),
         rules: Rules::Free,
         limit,
     }
@@ -33,7 +33,7 @@ fn context(limit: u32) -> Context {
         fast: true,
         ext: true,
         pieces: None,
-        reg: Registered::new(ExtId::new(3)),
+        reg: Registered::metadata_only(ExtId::new(3)),
         rules: Rules::Free,
         limit,
     }

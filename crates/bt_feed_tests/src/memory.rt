@@ -17,7 +17,7 @@ fn own(limit: u32) -> Own {
         reserved: Reserved(0x10_0005),
         info_hash: None,
         pieces: None,
-        reg: Registered::new(ExtId::new(3)),
+        reg: Registered::metadata_only(ExtId::new(3)),
         rules: Rules::Free,
         limit,
     }

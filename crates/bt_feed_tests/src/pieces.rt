@@ -37,7 +37,7 @@ fn own_of((rules, reserved, pieces, id): Receiver, info_hash: Option<[u8; 20]>) 
         reserved: Reserved(reserved),
         info_hash,
         pieces,
-        reg: Registered::new(ExtId::new(id)),
+        reg: Registered::metadata_only(ExtId::new(id)),
         rules,
         limit: 262_144,
     }

@@ -1,6 +1,6 @@
 -- What the end that fetches is made with.
 use Rattle.std.specs.Prelude.{◌≤◌, Some, None}
-use Rattle.bt_ext.specs.Ids.{registered}
+use Rattle.bt_ext.specs.Ids.{metadata_only}
 use Rattle.bt_wire.specs.declared.context.Own.{Own}
 use Rattle.bt_wire.specs.declared.handshake.Handshake.{Handshake}
 use Rattle.bt_fetch.specs.declared.wish.Wish.{Wish}
@@ -15,7 +15,7 @@ own_of w = record {
   reserved = record { 0 = 1048580 };
   info_hash = Some w.info_hash;
   pieces = None;
-  reg = registered (Some 3);
+  reg = metadata_only (Some 3);
   rules = w.rules;
   limit = w.limit;
 }

@@ -40,7 +40,7 @@ pub fn own_of(wish: &Wish) -> Own
         reserved: Reserved(RESERVED),
         info_hash: Some(wish.info_hash),
         pieces: None,
-        reg: Registered::new(ExtId::new(METADATA_ID)),
+        reg: Registered::metadata_only(ExtId::new(METADATA_ID)),
         rules: wish.rules,
         limit: wish.limit,
     }

@@ -244,7 +244,7 @@ fn receivers(rt: HostRuntime) -> Result<(), Fail> {
             reserved: Reserved(reserved),
             info_hash,
             pieces,
-            reg: Registered::new(ExtId::new(id)),
+            reg: Registered::metadata_only(ExtId::new(id)),
             rules,
             limit,
         };
@@ -305,6 +305,7 @@ const fn given(reserved: bool, metadata_id: bool) -> Given {
     Given {
         reserved,
         metadata_id,
+        donthave_id: false,
     }
 }
 

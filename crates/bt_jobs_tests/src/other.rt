@@ -15,6 +15,9 @@ const SEVEN: &[u8] = b"\0\0\0\x1a\x14\0d1:md11:ut_metadatai7eee";
 
 const ZERO: &[u8] = b"\0\0\0\x1a\x14\0d1:md11:ut_metadatai0eee";
 
+/// One with the ids of both extensions.
+const BOTH: &[u8] = b"\0\0\0\x2b\x14\0d1:md11:lt_donthavei5e11:ut_metadatai7eee";
+
 /// Returns what a stream says of its sender, which begins with the first `front` bytes of the handshake.
 fn said(
     alloc: Global,
@@ -30,12 +33,18 @@ fn said(
     Ok(read_other(alloc, &mut reader))
 }
 
-/// The reserved bits of the handshake, with this id of `ut_metadata`.
-fn announced(id: u8) -> Result<Announced, OtherError> {
+/// The reserved bits of the handshake, with these ids of `ut_metadata` and `lt_donthave`.
+fn announced_both(metadata: u8, donthave: u8) -> Result<Announced, OtherError> {
     Ok(Announced {
         reserved: Reserved(0x10_0005),
-        metadata: ExtId::new(id),
+        metadata: ExtId::new(metadata),
+        donthave: ExtId::new(donthave),
     })
+}
+
+/// The same without an id of `lt_donthave`.
+fn announced(id: u8) -> Result<Announced, OtherError> {
+    announced_both(id, 0)
 }
 
 #[test]
@@ -44,7 +53,7 @@ fn other_directions(rt: HostRuntime) -> Result<(), Fail> {
     let read = Err(OtherError::Fault(ToolFault::Read));
     let choke = b"\0\0\0\x01\0".as_slice();
     let too_long = b"\0\x10\0\x01".as_slice();
-    let table: [(usize, &[&[u8]], Device, Result<Announced, OtherError>); 13] = [
+    let table: [(usize, &[&[u8]], Device, Result<Announced, OtherError>); 14] = [
         (0, &[], (100, None), none),
         (67, &[], (100, None), none),
         (0, &[b"BitTorrent protocol"], (100, None), none),
@@ -55,8 +64,9 @@ fn other_directions(rt: HostRuntime) -> Result<(), Fail> {
         (68, &[ZERO, SEVEN], (1000, None), announced(0)),
         (68, &[too_long, SEVEN], (1000, None), announced(0)),
         (68, &[SEVEN, &[0]], (1000, None), announced(7)),
-        // what follows the id isn't read: the second read fails
-        (68, &[SEVEN, choke], (98, Some(2)), announced(7)),
+        (68, &[SEVEN, BOTH], (1000, None), announced_both(7, 5)),
+        // what follows the ids isn't read: the second read fails
+        (68, &[BOTH, choke], (115, Some(2)), announced_both(7, 5)),
         (68, &[SEVEN], (97, Some(2)), read),
         (68, &[SEVEN], (1000, Some(1)), read),
     ];

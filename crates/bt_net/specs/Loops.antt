@@ -6,7 +6,7 @@ use Rattle.bt_io.specs.Counts.{Grew}
 use Rattle.sha1.specs.Sha1.{sha1}
 use Rattle.hex.specs.Hex.{encode_lower}
 use Rattle.bt_ext.specs.declared.ids.Rules.{Rules}
-use Rattle.bt_ext.specs.Ids.{registered}
+use Rattle.bt_ext.specs.Ids.{metadata_only}
 use Rattle.bt_wire.specs.declared.context.Own.{Own}
 use Rattle.bt_wire.specs.declared.handshake.Handshake.{Handshake}
 use Rattle.bt_metadata.specs.Blocks.{window, max_metadata}
@@ -28,7 +28,7 @@ own_by rules limit hash id = record {
   reserved = record { 0 = 1048581 };
   info_hash = Some hash;
   pieces = None;
-  reg = registered (Some id);
+  reg = metadata_only (Some id);
   rules = rules;
   limit = limit;
 }

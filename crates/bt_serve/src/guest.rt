@@ -97,7 +97,7 @@ fn serving_end(
             reserved: Reserved(RESERVED),
             info_hash: Some(hospitality.info_hash),
             pieces: None,
-            reg: Registered::new(ExtId::new(METADATA_ID)),
+            reg: Registered::metadata_only(ExtId::new(METADATA_ID)),
             rules: hospitality.rules,
             limit: hospitality.limit,
         },

@@ -1,6 +1,6 @@
 //! Runs whose ends say messages, or whose fetch isn't done.
 use crate::setting::*;
-use bt_ext::Rules;
+use bt_ext::{Ext, ExtId, Registered, Rules};
 use bt_session::{Announce, Config, LinkReport, Outcome, Role, SayError, Side, Step, run_link};
 use bt_wire::{Fault, Message, Own, Reason};
 use std::alloc::{AllocError, Global};
@@ -55,6 +55,53 @@ fn sayings_are_judged(rt: HostRuntime) -> Result<(), Fail> {
     assert_eq!(rt; report.outcomes.as_slice(), wanted.as_slice());
     assert_eq!(rt; report.connections.len(), 1);
     assert_eq!(rt; counts(report.connections.as_slice().first()), (4, 1, 3, 4));
+    Ok(())
+}
+
+/// An end that knows the piece count, 10, and registers `lt_donthave` alone.
+fn taking_back(peer_id: [u8; 20], id: u8) -> Result<Config, Fail> {
+    let reg = Registered::new(None, ExtId::new(id)).map_err(|_| "one id")?;
+    let own = Own {
+        reg,
+        ..own(0, Rules::Bep, Some(10), 262_144)
+    };
+    Ok(config(own, peer_id, Announce::Silent, Role::Watch))
+}
+
+/// The end takes back piece 9.
+fn take_back(side: Side) -> Step {
+    Step::Say(side, Message::Extended(Ext::DontHave(9)))
+}
+
+/// Each end takes back a piece: not before it knows the other's id, and under that id.
+#[test]
+fn pieces_are_taken_back(rt: HostRuntime) -> Result<(), Fail> {
+    let mut steps = Vec::new(rt.alloc());
+    let mut wanted = Vec::new(rt.alloc());
+    let shape = SayError::Illegal(Fault::Shape);
+    for (step, outcome) in [
+        (Step::Deliver(Side::Left, 68), Outcome::Delivered(68)),
+        (Step::Turn(Side::Left), Outcome::Handled),
+        (take_back(Side::Left), Outcome::NotSaid(shape)),
+        (Step::Deliver(Side::Right, 200), Outcome::Delivered(98)),
+        (Step::Turn(Side::Right), Outcome::Handled),
+        (Step::Turn(Side::Right), Outcome::Handled),
+        (take_back(Side::Right), Outcome::Said),
+        (Step::Deliver(Side::Left, 200), Outcome::Delivered(40)),
+        (Step::Turn(Side::Left), Outcome::Handled),
+        (Step::Turn(Side::Left), Outcome::Handled),
+        (take_back(Side::Left), Outcome::Said),
+        (Step::Deliver(Side::Right, 200), Outcome::Delivered(10)),
+        (Step::Turn(Side::Right), Outcome::Handled),
+        (Step::Turn(Side::Right), Outcome::Idle),
+    ] {
+        steps.push(step)?;
+        wanted.push(outcome)?;
+    }
+    let (left, right) = (taking_back(LEFT, 4)?, taking_back(RIGHT, 5)?);
+    let report = run_link(rt.alloc(), left, right, steps.as_slice())?;
+    assert_eq!(rt; report.outcomes.as_slice(), wanted.as_slice());
+    assert_eq!(rt; counts(report.connections.as_slice().first()), (3, 3, 3, 3));
     Ok(())
 }
 

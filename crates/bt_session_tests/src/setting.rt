@@ -20,7 +20,7 @@ pub fn own(id: u8, rules: Rules, pieces: Option<u32>, limit: u32) -> Own {
         reserved: Reserved(0x10_0005),
         info_hash: Some(ABC),
         pieces,
-        reg: Registered::new(ExtId::new(id)),
+        reg: Registered::metadata_only(ExtId::new(id)),
         rules,
         limit,
     }
@@ -147,7 +147,7 @@ fn spelled(alloc: Global, item: &Item, id: u8, bytes: &mut Vec<u8>) -> Result<()
         fast: true,
         ext: true,
         pieces: None,
-        reg: Registered::new(ExtId::new(id)),
+        reg: Registered::metadata_only(ExtId::new(id)),
         rules: Rules::Free,
         limit: 262_144,
     };

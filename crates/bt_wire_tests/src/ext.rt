@@ -5,7 +5,7 @@ use std::test::Fail;
 
 /// The receiver's ids: `ut_metadata` is 3.
 pub fn ids() -> Registered {
-    Registered::new(ExtId::new(3))
+    Registered::metadata_only(ExtId::new(3))
 }
 
 fn reason(fault: Option<ViewError>) -> Option<ExtReason> {
@@ -19,6 +19,7 @@ fn reason(fault: Option<ViewError>) -> Option<ExtReason> {
 
 fn read_fault(fault: Option<ViewError>) -> Option<ExtError> {
     match fault {
+        Some(ViewError::BadExtLength) => Some(ExtError::BadExtLength),
         Some(ViewError::BadBencode { at }) => Some(ExtError::BadBencode { at }),
         Some(ViewError::Unsorted { at }) => Some(ExtError::Unsorted { at }),
         Some(ViewError::BadField) => Some(ExtError::BadField),

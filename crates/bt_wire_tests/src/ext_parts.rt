@@ -10,6 +10,7 @@ fn parts<'a>(view: &ExtView<'a>) -> (u8, &'a [u8]) {
     match view {
         ExtView::Handshake { rest, .. } => (0, rest),
         ExtView::Metadata { rest, .. } => (1, rest),
+        ExtView::DontHave(_) => (3, b""),
         ExtView::Raw { payload, .. } => (2, payload),
     }
 }
@@ -22,7 +23,7 @@ fn is_viewed(reg: Registered, id: u8, payload: &[u8], wanted: (u8, &[u8])) -> bo
 }
 
 fn no_ids() -> Registered {
-    Registered::new(ExtId::new(0))
+    Registered::metadata_only(ExtId::new(0))
 }
 
 #[test]
@@ -199,7 +200,7 @@ fn values_without_spelling(rt: HostRuntime) -> Result<(), Fail> {
     };
     assert!(rt; is_unspelled(alloc, &ids(), &number));
     let unregistered = metadata(alloc, Vec::new(alloc));
-    assert!(rt; is_unspelled(alloc, &Registered::new(None), &unregistered));
+    assert!(rt; is_unspelled(alloc, &Registered::metadata_only(None), &unregistered));
     let key = ByteString::from_vec(vec![in alloc; 0; 1_048_577]?);
     let mut pairs = Vec::new(alloc);
     pairs.push((key, Value::Int(1)))?;
@@ -249,7 +250,7 @@ fn made_handshakes(rt: HostRuntime) -> Result<(), Fail> {
         (9, None, b"d1:md11:ut_metadatai9eee"),
         (0, None, b"d1:mdee"),
     ] {
-        let value = handshake_dict(alloc, ExtId::new(id), size)?;
+        let value = handshake_dict(alloc, Registered::metadata_only(ExtId::new(id)), size)?;
         assert!(rt; is_spelled(alloc, &value, bytes)?, "{id}");
     }
     Ok(())

@@ -6,6 +6,8 @@ mod bencode;
 #[cfg(test)]
 mod bencode_parts;
 #[cfg(test)]
+mod donthave;
+#[cfg(test)]
 mod ext;
 #[cfg(test)]
 mod ext_parts;

@@ -12,7 +12,7 @@ pub fn agreed(rules: Rules, fast: bool, pieces: Option<u32>) -> Context {
         fast,
         ext: true,
         pieces,
-        reg: Registered::new(None),
+        reg: Registered::metadata_only(None),
         rules,
         limit: LIMIT,
     }
@@ -160,7 +160,11 @@ fn place_of(reason: Reason, whole: usize) -> (usize, u64) {
         Reason::TooLong => (4, 0),
         Reason::WrongLength => (5, 0),
         Reason::BadIndex => (whole, 5),
-        Reason::BadBencode | Reason::Unsorted | Reason::BadField | Reason::BadBlock => (whole, 6),
+        Reason::BadExtLength
+        | Reason::BadBencode
+        | Reason::Unsorted
+        | Reason::BadField
+        | Reason::BadBlock => (whole, 6),
         Reason::SpareBits => (whole, whole.saturating_sub(1) as u64),
         _ => (5, 4),
     }
@@ -505,7 +509,7 @@ fn extended_reasons(rt: HostRuntime) -> Result<(), Fail> {
         let context = Context {
             ext,
             limit,
-            reg: Registered::new(ExtId::new(3)),
+            reg: Registered::metadata_only(ExtId::new(3)),
             ..agreed(rules, true, None)
         };
         let refused = Refused { at, reason };

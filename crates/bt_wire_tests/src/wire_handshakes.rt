@@ -24,7 +24,7 @@ fn receiver(reserved: Reserved, info_hash: Option<[u8; 20]>) -> Own {
         reserved,
         info_hash,
         pieces: Some(10),
-        reg: Registered::new(None),
+        reg: Registered::metadata_only(None),
         rules: Rules::Bep,
         limit: LIMIT,
     }

@@ -15,7 +15,7 @@ fn with_usual_peer(rules: Rules, reserved: u64, pieces: Option<u32>) -> Context 
         reserved: Reserved(reserved),
         info_hash: None,
         pieces,
-        reg: Registered::new(ExtId::new(3)),
+        reg: Registered::metadata_only(ExtId::new(3)),
         rules,
         limit: LIMIT,
     };

@@ -27,7 +27,7 @@ fn fetching(alloc: Global, info_hash: [u8; 20]) -> Result<End, PeerError> {
         reserved: Reserved(Reserved::FAST.0 | Reserved::EXT.0),
         info_hash: Some(info_hash),
         pieces: None,
-        reg: Registered::new(ExtId::new(3)),
+        reg: Registered::metadata_only(ExtId::new(3)),
         rules: Rules::Free,
         limit: 32_768,
     };

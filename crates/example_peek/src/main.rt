@@ -23,7 +23,7 @@ fn own() -> Own {
         reserved: Reserved(Reserved::FAST.0 | Reserved::EXT.0),
         info_hash: Some(*b"\xa9\x99>6G\x06\x81j\xba>%qxP\xc2l\x9c\xd0\xd8\x9d"),
         pieces: Some(1),
-        reg: Registered::new(ExtId::new(3)),
+        reg: Registered::metadata_only(ExtId::new(3)),
         rules: Rules::Free,
         limit: 32_768,
     }

@@ -67,7 +67,7 @@ impl Sender {
             self.send(rt, &Message::HaveAll)?;
         }
         if context.ext {
-            let dict = handshake_dict(alloc, self.own.reg.metadata(), None)?;
+            let dict = handshake_dict(alloc, self.own.reg, None)?;
             let rest = ByteString::from_vec(Vec::new(alloc));
             self.send(rt, &Message::Extended(Ext::Handshake { dict, rest }))?;
         }
