@@ -72,7 +72,7 @@ pub fn end_of(alloc: Global, info_hash: [u8; 20], role: Role) -> Option<End> {
             reserved: Reserved(0x10_0004),
             info_hash: Some(info_hash),
             pieces: None,
-            reg: Registered::new(ExtId::new(9)),
+            reg: Registered::metadata_only(ExtId::new(9)),
             rules: Rules::Bep,
             limit: 32_768,
         },
@@ -115,32 +115,6 @@ pub struct Peers {
     pub dials: u64,
 }
 
-<<<<<<< HEAD
-=======
-impl Peers {
-    /// Returns an end that serves as many of this byte.
-    fn serving(&self, byte: u8) -> Option<End> {
-        let mut metadata = Vec::new(self.alloc);
-        metadata.resize(self.size, byte).ok()?;
-        let config = Config {
-            own: Own {
-                reserved: Reserved(0x10_0004),
-                info_hash: Some(self.info_hash),
-                pieces: None,
-                reg: Registered::metadata_only(ExtId::new(9)),
-                rules: Rules::Bep,
-                limit: 32_768,
-            },
-            peer_id: [45; 20],
-            announce: Announce::Nothing,
-            window: Window::default(),
-            role: Role::Serve(metadata),
-        };
-        End::new(self.alloc, config).ok()
-    }
-}
-
->>>>>>> 074488adeeffb65b1c247f4e2841a00056e4bf52
 impl Dial for Peers {
     type Link = Served;
 
