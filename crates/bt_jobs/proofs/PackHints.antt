@@ -4,7 +4,7 @@ use Rattle.std.proofs.lemmas.List.{append-nil, append_assoc}
 use Rattle.bt_text.specs.Script.{has_feed}
 use Rattle.bt_jobs.specs.Packs.{ended_lines, AreWhole}
 use Rattle.bt_jobs.specs.PackHints.{IsLineAt}
-use Rattle.bt_jobs.specs.PackSteps.{IsCut}
+use Rattle.bt_text.specs.Splitting.{IsCut}
 use Rattle.bt_jobs.proofs.PackText.{ended_more, whole_both}
 
 -- the lines before the one with this number are passed, and the rest follows them

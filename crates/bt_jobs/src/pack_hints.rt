@@ -4,9 +4,9 @@ ghost use Rattle.std.specs.Prelude.{ℕ, List, IfSome};
 ghost use Rattle.bt_text.specs.Misfits.{IsDecimalBlock};
 ghost use Rattle.bt_jobs.specs.PackHints.{IsLineAt, IsPackHint};
 
-use crate::pack::split_line;
 use bt_text::ended::{PackEnd, ScriptReason};
 use bt_text::script::misfit::{decimal_block, find_misfit, push_block_line, push_misfit_line};
+use bt_text::splitting::split_line;
 use std::alloc::Global;
 
 /// Returns the line with this number, counted from 1, if a line feed ends it or `is_all` says that the text ends it.

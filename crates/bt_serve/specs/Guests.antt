@@ -6,7 +6,7 @@ use Rattle.bt_wire.specs.declared.context.Own.{Own}
 use Rattle.bt_wire.specs.declared.handshake.Handshake.{Handshake}
 use Rattle.bt_wire.specs.declared.item.Item.{Item}
 use Rattle.bt_wire.specs.Messages.{Message, spell}
-use Rattle.bt_ext.specs.Ids.{registered}
+use Rattle.bt_ext.specs.Ids.{metadata_only}
 use Rattle.bt_metadata.specs.Blocks.{window}
 use Rattle.bt_end.specs.Ends.{EndState, react, Serving, unopened}
 use Rattle.bt_end.specs.Halves.{HalfState, connected}
@@ -38,7 +38,7 @@ own_of h = record {
   reserved = record { 0 = 1048580 };
   info_hash = Some h.info_hash;
   pieces = None;
-  reg = registered (Some 3);
+  reg = metadata_only (Some 3);
   rules = h.rules;
   limit = h.limit;
 }
