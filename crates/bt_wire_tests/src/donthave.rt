@@ -13,10 +13,8 @@ const TAKEN_BACK: &[u8] = b"\0\0\0\x06\x14\x04\0\0\0\x09";
 const SHORT: &[u8] = b"\0\0\0\x05\x14\x04\0\0\x09";
 
 /// `ut_metadata` is 3, and `lt_donthave` is 4.
-fn both() -> Result<Registered, Fail> {
-    Registered::new(ExtId::new(3), ExtId::new(4))
-        .ok()
-        .ok_or("one id".into())
+fn both() -> Result<Registered, &'static str> {
+    Registered::new(ExtId::new(3), ExtId::new(4)).map_err(|_| "one id")
 }
 
 /// The piece that the bytes take back, if they do, or why they are refused.
@@ -107,6 +105,6 @@ fn written(rt: HostRuntime) -> Result<(), Fail> {
 fn announced(rt: HostRuntime) -> Result<(), Fail> {
     let dict = handshake_dict(rt.alloc(), both()?, None)?;
     let bytes = spell(rt.alloc(), &dict)?;
-    assert!(rt; bytes.as_slice() == b"d1:md11:lt_donthavei4e11:ut_metadatai3eee");
+    assert!(rt; bytes.as_slice() == b"d1:md11:lt_donthavei4e11:ut_metadatai3eee".as_slice());
     Ok(())
 }

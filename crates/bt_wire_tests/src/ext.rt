@@ -238,3 +238,22 @@ fn deepest(rt: HostRuntime) -> Result<(), Fail> {
     assert!(rt; is_accepted(rt.alloc(), 0, &allowed, None)?);
     Ok(())
 }
+
+/// These bytes, and as many letters `e` as make them `length` long.
+pub fn padded(alloc: Global, front: &[u8], length: usize) -> Result<Vec<u8>, AllocError> {
+    let mut bytes = Vec::from_slice(alloc, front)?;
+    for _ in front.len()..length {
+        bytes.push(b'e')?;
+    }
+    Ok(bytes)
+}
+
+/// Payloads that are as long as they may be, whose bytes are copied.
+#[test]
+fn longest_payloads(rt: HostRuntime) -> Result<(), Fail> {
+    for (id, fault) in [(0, None), (3, Some(ViewError::BadField)), (9, None)] {
+        let payload = padded(rt.alloc(), b"de", 1_048_574)?;
+        assert!(rt; is_accepted(rt.alloc(), id, &payload, fault)?, "{id}");
+    }
+    Ok(())
+}

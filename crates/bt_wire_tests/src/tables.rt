@@ -124,6 +124,7 @@ fn many(rt: HostRuntime) -> Result<(), Fail> {
         (1255, b"".as_slice(), b"1254", Some(1)),
         (1256, b"", b"1255", Some(1)),
         (1257, b"", b"1256", None),
+        (9999, b"", b"1255", Some(1)),
         (1256, b"3:newi7e", b"1255", Some(1)),
     ] {
         let mut table = Table::new(alloc);

@@ -1,4 +1,5 @@
 //! Messages as they stand in streams: each is read in its context and order, and written as the same bytes.
+use crate::ext::padded;
 use crate::wire::LIMIT;
 use crate::wire_messages::{decoded, is_encoded, is_window};
 use bt_ext::{Ext, ExtId, Registered, Rules, spell_ext};
@@ -427,6 +428,36 @@ fn extended_rows(rt: HostRuntime) -> Result<(), Fail> {
     ] {
         let window = extended(rt.alloc(), id, dict, after)?;
         assert!(rt; is_answered(rt.alloc(), &window, fault)?, "{name}");
+    }
+    Ok(())
+}
+
+/// What a receiver that takes messages of 1,048,576 bytes has agreed on with a usual peer.
+fn with_highest_limit() -> Context {
+    let context = with_usual_peer(Rules::Free, USUAL, None);
+    Context {
+        limit: 1_048_576,
+        ..context
+    }
+}
+
+/// Messages that are as long as they may be, whose bytes are copied.
+#[test]
+fn longest_messages(rt: HostRuntime) -> Result<(), Fail> {
+    let context = with_highest_limit();
+    for (name, front) in [
+        ("piece", b"\0\x10\0\0\x07\0\0\0\x01\0\0\0\0".as_slice()),
+        ("bitfield", b"\0\x10\0\0\x05"),
+        ("unknown", b"\0\x10\0\0\x63"),
+        ("extended handshake", b"\0\x10\0\0\x14\0de"),
+        ("metadata message", b"\0\x10\0\0\x14\x03de"),
+        ("another extended message", b"\0\x10\0\0\x14\x09"),
+    ] {
+        let window = padded(rt.alloc(), front, 1_048_580)?;
+        assert!(rt;
+            is_round_trip(rt.alloc(), &context, Order::Fresh, &window)?,
+            "{name}"
+        );
     }
     Ok(())
 }
