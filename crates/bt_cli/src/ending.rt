@@ -119,6 +119,6 @@ pub fn end_text<E: Target>(end: Result<(), ToolFault>, is_gone: bool, errors: &m
             say(b"", errors);
             0
         }
-        Err(fault) => end_by_fault(fault, b"", is_gone, errors),
+        Err(failed) => end_by_fault(failed, b"", is_gone, errors),
     }
 }
