@@ -26,12 +26,13 @@ SCRIPT = LINE + b"".join(b"have %d\n" % number for number in range(HAVES))
 LONG_COMMANDS = [("show", LONG, SHOWN), ("unpack", LONG, SCRIPT), ("pack", SCRIPT, LONG)]
 
 # A fault at the last byte, and what is written at once.
+NO_NUMBER = b"refused line=2 Syntax\nhint: line 2, column 6: expected a number from 0 to 4294967295\n"
 REFUSED = [
     ("show", HAND + b"\xff\xff\xff\xff", (b"0 " + LINE + b"refused message=1 at=68 TooLong\n", b"", 1)),
     ("show --json", HAND[:5] + b"O", (b'{"verdict":"refused","message":0,"offset":5,"reason":"BadProtocol"}\n', b"", 1)),
     ("check", HAND + b"\0\0\0\x01\x01", (b"refused message=1 at=72 Missing\n", b"", 1)),
     ("unpack", HAND + b"\0\0\0\x04\x04", (LINE, b"refused message=1 at=68 WrongLength\n", 1)),
-    ("pack", LINE + b"have 09\n", (HAND, b"refused line=2 Syntax\n", 1)),
+    ("pack", LINE + b"have 09\n", (HAND, NO_NUMBER, 1)),
     ("pack --limit 1", LINE + b"unknown 10 " + 1000 * b"0", (HAND, b"refused line=2 Syntax\n", 1)),
 ]
 
@@ -241,8 +242,12 @@ def scanned(program, what, sizes, ends):
     return wrong
 
 
+# What the loader says where there is no room for the program.
+LOADERS = (b"loading shared libraries", b"cannot allocate TLS data structures")
+
+
 def is_unloaded(found):
-    return found[0] == b"" and found[2] == 127 and b"loading shared libraries" in found[1]
+    return found[0] == b"" and found[2] == 127 and any(words in found[1] for words in LOADERS)
 
 
 def is_overflow(found):

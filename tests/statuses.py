@@ -769,7 +769,7 @@ def needs_no_end(program):
         os.mkfifo(pipe)
         running = subprocess.Popen([program, "show", "--other", pipe], stdin=subprocess.PIPE, stdout=subprocess.PIPE)
         with open(pipe, "wb", buffering=0) as file:
-            file.write(hand(NO_FAST) + naming(7))
+            file.write(hand(NO_FAST) + taking(4, 7))
             try:
                 shows = running.communicate(HAND + RAW_3, timeout=20)[0]
             except subprocess.TimeoutExpired:

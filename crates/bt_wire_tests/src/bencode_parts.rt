@@ -177,27 +177,3 @@ fn words(rt: HostRuntime) -> Result<(), Fail> {
     assert!(rt; Bad::Cut.to_string(rt.alloc())?.as_str() == "the dictionary is cut");
     Ok(())
 }
-
-/// Whether each list among the pairs has room for `room` values, and the pairs have room for as many.
-fn has_room(pairs: Pairs, room: usize) -> bool {
-    let pairs = pairs.into_vec();
-    let mut all = pairs.capacity() == room;
-    for (_, value) in pairs {
-        if let Value::List(values) = value {
-            all = all && values.into_vec().capacity() == room;
-        }
-    }
-    all
-}
-
-/// Room is reserved once: a vector that grows has room for more than five.
-#[test]
-fn made_once(rt: HostRuntime) -> Result<(), Fail> {
-    let value = tree(rt.alloc(), b"d0:li1ei2ei3ei4ei5ee0:0:0:0:0:0:0:0:e")?;
-    let has_room = match value {
-        Value::Dict(pairs) => has_room(pairs, 5),
-        _ => false,
-    };
-    assert!(rt; has_room);
-    Ok(())
-}
