@@ -137,7 +137,7 @@ static void check_step(uint32_t answer, const bt_reader *before, const bt_reader
         CHECK(item->id != BT_EXTENDED || (item->extended.dict <= item->body && item->extended.kind >= 1 && item->extended.kind <= 7));
     }
     if (answer == BT_REFUSED)
-        CHECK(item->reason >= 1 && item->reason <= 16 && item->start == (before->opened ? before->start : 0));
+        CHECK(item->reason >= 1 && item->reason <= BT_BAD_EXT_LENGTH && item->start == (before->opened ? before->start : 0));
 }
 
 static void read_one(uint8_t *in) {
@@ -151,7 +151,7 @@ static void read_one(uint8_t *in) {
     check_step(bt_reader_finish(&after, bytes, n, &item), &before, &after, n, &item, 1);
     bt_verdict verdict;
     uint32_t answer = bt_check(&before.own, bytes, n, &verdict);
-    CHECK(answer == BT_END ? verdict.at == n && !verdict.reason : answer == BT_REFUSED && verdict.reason >= 1 && verdict.reason <= 16);
+    CHECK(answer == BT_END ? verdict.at == n && !verdict.reason : answer == BT_REFUSED && verdict.reason >= 1 && verdict.reason <= BT_BAD_EXT_LENGTH);
     bt_reader_init(&after, &before.own);
     CHECK(!memcmp(&after.own, &before.own, sizeof after.own) && !after.opened && !after.start);
 }
@@ -273,7 +273,7 @@ static void name_one(uint8_t *to) {
     fill(text, room);
     uint32_t reason = (uint32_t)(below(2) ? below(20) : rnd());
     size_t n = bt_reason_name(reason, text, room);
-    CHECK((n > 0) == (reason >= 1 && reason <= 16) && (n == 0 || n >= room || strlen(text) == n));
+    CHECK((n > 0) == (reason >= 1 && reason <= BT_BAD_EXT_LENGTH) && (n == 0 || n >= room || strlen(text) == n));
     bt_item item = random_item();
     n = bt_item_name(&item, text, room);
     CHECK(n > 0 && n < BT_NAME_ROOM && (n >= room || strlen(text) == n));
