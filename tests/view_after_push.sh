@@ -43,7 +43,7 @@ fn later_use(rt: HostRuntime) -> Result<(), Fail> {
         fast: false,
         ext: false,
         pieces: None,
-        reg: Registered::new(None),
+        reg: Registered::metadata_only(None),
         rules: Rules::Free,
         limit: 64,
     };
