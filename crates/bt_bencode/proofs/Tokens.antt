@@ -69,15 +69,15 @@ live_after role.Item = tt
 
 -- the colon and the bytes of a string
 module _ (stack : Stack) (part : Role) (n : ℕ) (bytes : List ℕ) (long : length bytes ≡ n) where
-  behind : (r : List ℕ) → drop n (bytes ++ r) ≡ r
-  behind r = subst (λ (k : ℕ). drop k (bytes ++ r) ≡ r) long (drop-append_seam bytes r)
+  following : (r : List ℕ) → drop n (bytes ++ r) ≡ r
+  following r = subst (λ (k : ℕ). drop k (bytes ++ r) ≡ r) long (drop-append_seam bytes r)
 
   pub goes_text_whole : Goes (expect.Length part n) stack (58 ∷ bytes) (after_string part) stack
   goes_text_whole = record {
     live = live_after part;
-    forth = λ r h. after_whole stack part r (subst (AfterString part stack) (behind r) (at_stop longest_string 58 (λ k. TextThen k (AfterString part stack))
+    forth = λ r h. after_whole stack part r (subst (AfterString part stack) (following r) (at_stop longest_string 58 (λ k. TextThen k (AfterString part stack))
         n (omega arith) (bytes ++ r) h).1);
-    back = λ r h. inl (refl, (omega (arith, length-append bytes r), subst (AfterString part stack) (sym (behind r)) (whole_after stack part r h)));
+    back = λ r h. inl (refl, (omega (arith, length-append bytes r), subst (AfterString part stack) (sym (following r)) (whole_after stack part r h)));
   }
 
 pub goes_minus : (stack : Stack) → Goes expect.Integer stack (45 ∷ []) expect.Negative stack
@@ -134,7 +134,7 @@ read_on payload at end e e' s s' low read leads =
 
 -- A byte string begins at `at`; its length is n as far as the bytes before `i` say.
 pub record StringRead (payload : List ℕ) (at i n : ℕ) : Type 0 where
-  pub behind : at < i
+  pub following : at < i
   pub within : i ≤ length payload
   pub first : IsDigit (get_or payload at 0)
   pub leads : (part : Role) (s : Stack) → Goes (expect.Length part (get_or payload at 0 - 48)) s (take (i - (at + 1)) (drop (at + 1) payload))
@@ -147,7 +147,7 @@ nothing payload at e s live = let none : at - at ≡ 0 = omega arith in rw none 
 pub string_starts : (payload : List ℕ) (at : ℕ) → at < length payload → IsDigit (get_or payload at 0)
     → StringRead payload at (at + 1) (get_or payload at 0 - 48)
 string_starts payload at h d = record {
-  behind = omega arith;
+  following = omega arith;
   within = omega arith;
   first = d;
   leads = λ part s. nothing payload (at + 1) (expect.Length part (get_or payload at 0 - 48)) s (omega arith);
@@ -156,11 +156,11 @@ string_starts payload at h d = record {
 pub string_goes_on : (payload : List ℕ) (at i n : ℕ) → StringRead payload at i n → i < length payload → IsDigit (get_or payload i 0) → 0 < n
     → n * 10 + 9 ≤ longest_string → StringRead payload at (i + 1) (n * 10 + (get_or payload i 0 - 48))
 string_goes_on payload at i n so h d some low = record {
-  behind = omega (arith, so.behind);
+  following = omega (arith, so.following);
   within = omega arith;
   first = so.first;
   leads = λ part s. leads_on payload (at + 1) i (i + 1) (expect.Length part (get_or payload at 0 - 48)) (expect.Length part n)
-      (expect.Length part (n * 10 + (get_or payload i 0 - 48))) s s s (omega (arith, so.behind)) (omega arith) (so.leads part s)
+      (expect.Length part (n * 10 + (get_or payload i 0 - 48))) s s s (omega (arith, so.following)) (omega arith) (so.leads part s)
       (leads_byte payload i (expect.Length part n) (expect.Length part (n * 10 + (get_or payload i 0 - 48))) s s h
       (goes_length s part n (get_or payload i 0) d some (omega arith)));
 }
@@ -177,25 +177,25 @@ text_whole payload i n part s h colon room =
 module _ (payload : List ℕ) (at i n : ℕ) (so : StringRead payload at i n) (h : i < length payload) (colon : get_or payload i 0 ≡ 58)
     (room : n ≤ length payload - (i + 1)) where
   -- a string whose first digit has been read
-  string_behind : (part : Role) (s : Stack) → Leads payload (at + 1) (expect.Length part (get_or payload at 0 - 48)) s (i + 1 + n) (after_string part) s
-  string_behind part s = leads_on payload (at + 1) i (i + 1 + n) (expect.Length part (get_or payload at 0 - 48)) (expect.Length part n) (after_string part)
-      s s s (omega (arith, so.behind)) (omega arith) (so.leads part s) (text_whole payload i n part s h colon room)
+  string_after : (part : Role) (s : Stack) → Leads payload (at + 1) (expect.Length part (get_or payload at 0 - 48)) s (i + 1 + n) (after_string part) s
+  string_after part s = leads_on payload (at + 1) i (i + 1 + n) (expect.Length part (get_or payload at 0 - 48)) (expect.Length part n) (after_string part)
+      s s s (omega (arith, so.following)) (omega arith) (so.leads part s) (text_whole payload i n part s h colon room)
 
   pub string_value : (s : Stack) → Leads payload at expect.Value s (i + 1 + n) expect.Item s
   string_value s = leads_on payload at (at + 1) (i + 1 + n) expect.Value (expect.Length role.Item (get_or payload at 0 - 48)) expect.Item s s s
-      (omega arith) (omega (arith, so.behind))
-      (leads_byte payload at expect.Value (expect.Length role.Item (get_or payload at 0 - 48)) s s (omega (arith, so.behind))
-      (goes_string s (get_or payload at 0) so.first)) (string_behind role.Item s)
+      (omega arith) (omega (arith, so.following))
+      (leads_byte payload at expect.Value (expect.Length role.Item (get_or payload at 0 - 48)) s s (omega (arith, so.following))
+      (goes_string s (get_or payload at 0) so.first)) (string_after role.Item s)
 
   pub string_key : (s : Stack) → Leads payload at expect.Item (container.Dict ∷ s) (i + 1 + n) expect.Value (container.Dict ∷ s)
   string_key s = leads_on payload at (at + 1) (i + 1 + n) expect.Item (expect.Length role.Key (get_or payload at 0 - 48)) expect.Value (container.Dict ∷ s)
-      (container.Dict ∷ s) (container.Dict ∷ s) (omega arith) (omega (arith, so.behind))
+      (container.Dict ∷ s) (container.Dict ∷ s) (omega arith) (omega (arith, so.following))
       (leads_byte payload at expect.Item (expect.Length role.Key (get_or payload at 0 - 48)) (container.Dict ∷ s) (container.Dict ∷ s)
-      (omega (arith, so.behind)) (goes_key s (get_or payload at 0) (λ e. omega (arith, so.first)) so.first)) (string_behind role.Key (container.Dict ∷ s))
+      (omega (arith, so.following)) (goes_key s (get_or payload at 0) (λ e. omega (arith, so.first)) so.first)) (string_after role.Key (container.Dict ∷ s))
 
 -- An integer's first digit stands at `at`; its digits before `i` have the value n.
 pub record DigitsRead (payload : List ℕ) (at i n : ℕ) : Type 0 where
-  pub behind : at < i
+  pub following : at < i
   pub within : i ≤ length payload
   pub first : IsDigit (get_or payload at 0)
   pub leads : (side : Sign) (s : Stack) → Goes (expect.Digits side (get_or payload at 0 - 48)) s (take (i - (at + 1)) (drop (at + 1) payload))
@@ -207,7 +207,7 @@ keeps_limit sign.Minus n low = omega arith
 
 pub digits_start : (payload : List ℕ) (at : ℕ) → at < length payload → IsDigit (get_or payload at 0) → DigitsRead payload at (at + 1) (get_or payload at 0 - 48)
 digits_start payload at h d = record {
-  behind = omega arith;
+  following = omega arith;
   within = omega arith;
   first = d;
   leads = λ side s. nothing payload (at + 1) (expect.Digits side (get_or payload at 0 - 48)) s (keeps_limit side (get_or payload at 0 - 48) (omega arith));
@@ -216,43 +216,43 @@ digits_start payload at h d = record {
 pub digits_go_on : (payload : List ℕ) (at i n : ℕ) → DigitsRead payload at i n → i < length payload → IsDigit (get_or payload i 0) → 0 < n
     → n * 10 + 9 < 2 ^ 63 → DigitsRead payload at (i + 1) (n * 10 + (get_or payload i 0 - 48))
 digits_go_on payload at i n so h d some low = record {
-  behind = omega (arith, so.behind);
+  following = omega (arith, so.following);
   within = omega arith;
   first = so.first;
   leads = λ side s. leads_on payload (at + 1) i (i + 1) (expect.Digits side (get_or payload at 0 - 48)) (expect.Digits side n)
-      (expect.Digits side (n * 10 + (get_or payload i 0 - 48))) s s s (omega (arith, so.behind)) (omega arith) (so.leads side s)
+      (expect.Digits side (n * 10 + (get_or payload i 0 - 48))) s s s (omega (arith, so.following)) (omega arith) (so.leads side s)
       (leads_byte payload i (expect.Digits side n) (expect.Digits side (n * 10 + (get_or payload i 0 - 48))) s s h
       (goes_digits s side n (get_or payload i 0) d some (keeps_limit side (n * 10 + (get_or payload i 0 - 48)) (omega arith))));
 }
 
 module _ (payload : List ℕ) (at i n : ℕ) (so : DigitsRead payload at i n) (h : i < length payload) (stop : get_or payload i 0 ≡ 101) where
   -- an integer whose first digit has been read
-  digits_behind : (side : Sign) (s : Stack) → Leads payload (at + 1) (expect.Digits side (get_or payload at 0 - 48)) s (i + 1) expect.Item s
-  digits_behind side s = leads_on payload (at + 1) i (i + 1) (expect.Digits side (get_or payload at 0 - 48)) (expect.Digits side n) expect.Item s s s
-      (omega (arith, so.behind)) (omega arith) (so.leads side s)
+  digits_after : (side : Sign) (s : Stack) → Leads payload (at + 1) (expect.Digits side (get_or payload at 0 - 48)) s (i + 1) expect.Item s
+  digits_after side s = leads_on payload (at + 1) i (i + 1) (expect.Digits side (get_or payload at 0 - 48)) (expect.Digits side n) expect.Item s s s
+      (omega (arith, so.following)) (omega arith) (so.leads side s)
       (leads_byte payload i (expect.Digits side n) expect.Item s s h (rw stop (goes_integer_end s side n)))
 
   pub digits_plus : (s : Stack) → Leads payload at expect.Integer s (i + 1) expect.Item s
   digits_plus s = leads_on payload at (at + 1) (i + 1) expect.Integer (expect.Digits sign.Plus (get_or payload at 0 - 48)) expect.Item s s s (omega arith)
-      (omega (arith, so.behind))
-      (leads_byte payload at expect.Integer (expect.Digits sign.Plus (get_or payload at 0 - 48)) s s (omega (arith, so.behind))
-      (goes_first s (get_or payload at 0) so.first)) (digits_behind sign.Plus s)
+      (omega (arith, so.following))
+      (leads_byte payload at expect.Integer (expect.Digits sign.Plus (get_or payload at 0 - 48)) s s (omega (arith, so.following))
+      (goes_first s (get_or payload at 0) so.first)) (digits_after sign.Plus s)
 
   pub digits_minus : (s : Stack) → get_or payload at 0 ≢ 48 → Leads payload at expect.Negative s (i + 1) expect.Item s
   digits_minus s other = leads_on payload at (at + 1) (i + 1) expect.Negative (expect.Digits sign.Minus (get_or payload at 0 - 48)) expect.Item s s s
-      (omega arith) (omega (arith, so.behind))
-      (leads_byte payload at expect.Negative (expect.Digits sign.Minus (get_or payload at 0 - 48)) s s (omega (arith, so.behind))
-      (goes_first_negative s (get_or payload at 0) so.first other)) (digits_behind sign.Minus s)
+      (omega arith) (omega (arith, so.following))
+      (leads_byte payload at expect.Negative (expect.Digits sign.Minus (get_or payload at 0 - 48)) s s (omega (arith, so.following))
+      (goes_first_negative s (get_or payload at 0) so.first other)) (digits_after sign.Minus s)
 
 module _ (payload : List ℕ) (at end : ℕ) (s : Stack) (h : at < length payload) (before : at < end) where
   -- a `-`, and what follows
-  pub behind_minus : get_or payload at 0 ≡ 45 → Leads payload (at + 1) expect.Negative s end expect.Item s → Leads payload at expect.Integer s end expect.Item s
-  behind_minus is rest = leads_on payload at (at + 1) end expect.Integer expect.Negative expect.Item s s s (omega arith) (omega arith)
+  pub after_minus : get_or payload at 0 ≡ 45 → Leads payload (at + 1) expect.Negative s end expect.Item s → Leads payload at expect.Integer s end expect.Item s
+  after_minus is rest = leads_on payload at (at + 1) end expect.Integer expect.Negative expect.Item s s s (omega arith) (omega arith)
       (leads_byte payload at expect.Integer expect.Negative s s h (rw is (goes_minus s))) rest
 
   -- an `i`, and what follows
-  pub behind_i : get_or payload at 0 ≡ 105 → Leads payload (at + 1) expect.Integer s end expect.Item s → Leads payload at expect.Value s end expect.Item s
-  behind_i is rest = leads_on payload at (at + 1) end expect.Value expect.Integer expect.Item s s s (omega arith) (omega arith)
+  pub after_i : get_or payload at 0 ≡ 105 → Leads payload (at + 1) expect.Integer s end expect.Item s → Leads payload at expect.Value s end expect.Item s
+  after_i is rest = leads_on payload at (at + 1) end expect.Value expect.Integer expect.Item s s s (omega arith) (omega arith)
       (leads_byte payload at expect.Value expect.Integer s s h (goes_integer s (get_or payload at 0) is)) rest
 
   -- where the innermost is a list, an item is a value

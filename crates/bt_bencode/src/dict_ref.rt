@@ -8,7 +8,7 @@ ghost use Rattle.bt_bencode.specs.Payloads.{Refuses};
 ghost use Rattle.bt_bencode.specs.Readable.{FindsValue, HasValue, ArePairs};
 ghost use Rattle.bt_bencode.specs.OneSpelling.{IsSpelling-prop, ArePairs-prop};
 
-use crate::read::{behind, read_value, split_string};
+use crate::read::{following, read_value, split_string};
 use crate::scan::{Bad, scan};
 use crate::skip::{find, find_two, inner_int, int_in, split_int, text_in};
 use crate::sorted::first_unsorted;
@@ -51,14 +51,14 @@ impl<'a> DictRef<'a> {
     pub fn has(&self, key: &[u8]) -> bool
         ensures { result ≡ is_some (value_at key.now self.now.tree.0) }
     {
-        self.value_behind(key).is_some()
+        self.value_after(key).is_some()
     }
 
     /// The integer of the first pair with the key. `None`: its value is of another kind.
     pub fn lookup_int(&self, key: &[u8]) -> Option<i64>
         ensures { result ≡ option_and_then integer_of (value_at key.now self.now.tree.0) }
     {
-        match self.value_behind(key) {
+        match self.value_after(key) {
             None => None,
             Some(value) => int_in(value),
         }
@@ -71,7 +71,7 @@ impl<'a> DictRef<'a> {
         ensures inner { result.0 ≡ option_and_then (inner_integer inner.now) (value_at outer.now self.now.tree.0) }
         ensures own { result.1 ≡ option_and_then integer_of (value_at key.now self.now.tree.0) }
     {
-        let (nested, own) = find_two(behind(self.spelled()), outer, key);
+        let (nested, own) = find_two(following(self.spelled()), outer, key);
         let nested = match nested {
             None => None,
             Some(value) => inner_int(value, inner),
@@ -86,7 +86,7 @@ impl<'a> DictRef<'a> {
     pub fn lookup_bytes(&self, key: &[u8]) -> Option<&'a [u8]>
         ensures { option_map (λ s. s.now) result ≡ option_and_then string_of (value_at key.now self.now.tree.0) }
     {
-        match self.value_behind(key) {
+        match self.value_after(key) {
             None => None,
             Some(value) => text_in(value),
         }
@@ -98,7 +98,7 @@ impl<'a> DictRef<'a> {
     pub fn lookup_dict(&self, key: &[u8]) -> Option<DictRef<'a>>
         ensures { option_map (λ d. d.tree.0) result ≡ option_and_then dictionary_of (value_at key.now self.now.tree.0) }
     {
-        let value = self.value_behind(key)?;
+        let value = self.value_after(key)?;
         match check(value) {
             Ok((found, _)) => Some(found),
             Err(_) => None,
@@ -110,18 +110,18 @@ impl<'a> DictRef<'a> {
         ensures { result ≡ self.now.tree.0 }
     {
         IntPairs {
-            rest: behind(self.spelled()),
+            rest: following(self.spelled()),
         }
     }
 
     /// The bytes from the value of the first pair with the key on.
-    fn value_behind(&self, key: &[u8]) -> Option<&'a [u8]>
+    fn value_after(&self, key: &[u8]) -> Option<&'a [u8]>
         ensures value { FindsValue result (value_at key.now self.now.tree.0) }
         ensures fits { Fits (dictionary self.now.tree.0) }
         ensures whole { IfSome result (λ bytes. HasValue bytes.now) }
     {
         let bytes = self.spelled();
-        find(behind(bytes), key)
+        find(following(bytes), key)
     }
 }
 

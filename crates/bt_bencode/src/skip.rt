@@ -8,19 +8,19 @@ ghost use Rattle.std.specs.Str.{bytes_eq};
 ghost use Rattle.bt_bencode.specs.LookUps.{integer_of, string_of, inner_integer};
 ghost use Rattle.bt_bencode.specs.Readable.{FindsValue, HasValue, HasItems, HasPairs, first_found};
 
-use crate::read::{behind, read_int, split_string};
+use crate::read::{following, read_int, split_string};
 
 /// What follows the value in front.
 #[cycle(skip)]
 pub fn skip_value(bytes: &[u8]) -> &[u8]
     requires { HasValue bytes.now }
-    ensures behind { (t : Tree) (more : List ℕ) → InRange t → bytes.now ≡ ben t ++ more → result.now ≡ more }
+    ensures following { (t : Tree) (more : List ℕ) → InRange t → bytes.now ≡ ben t ++ more → result.now ≡ more }
     ensures shorter { length result.now < length bytes.now }
 {
     match bytes[0] {
-        b'i' => read_int(behind(bytes)).1,
-        b'l' => skip_items(behind(bytes)),
-        b'd' => skip_pairs(behind(bytes)),
+        b'i' => read_int(following(bytes)).1,
+        b'l' => skip_items(following(bytes)),
+        b'd' => skip_pairs(following(bytes)),
         _ => split_string(bytes).1,
     }
 }
@@ -28,20 +28,20 @@ pub fn skip_value(bytes: &[u8]) -> &[u8]
 #[cycle(skip)]
 fn skip_items(bytes: &[u8]) -> &[u8]
     requires { HasItems bytes.now }
-    ensures behind { (ts : Trees) (more : List ℕ) → AllInRange ts → bytes.now ≡ ben_all ts ++ 101 ∷ more → result.now ≡ more }
+    ensures following { (ts : Trees) (more : List ℕ) → AllInRange ts → bytes.now ≡ ben_all ts ++ 101 ∷ more → result.now ≡ more }
     ensures shorter { length result.now < length bytes.now }
 {
     let mut rest = bytes;
     while rest[0] != b'e' {
         rest = skip_value(rest);
     }
-    behind(rest)
+    following(rest)
 }
 
 #[cycle(skip)]
 fn skip_pairs(bytes: &[u8]) -> &[u8]
     requires { HasPairs bytes.now }
-    ensures behind { (ps : Pairs) (more : List ℕ) → PairsInRange ps → bytes.now ≡ ben_pairs ps ++ 101 ∷ more → result.now ≡ more }
+    ensures following { (ps : Pairs) (more : List ℕ) → PairsInRange ps → bytes.now ≡ ben_pairs ps ++ 101 ∷ more → result.now ≡ more }
     ensures shorter { length result.now < length bytes.now }
 {
     let mut rest = bytes;
@@ -49,7 +49,7 @@ fn skip_pairs(bytes: &[u8]) -> &[u8]
         let (_, value) = split_string(rest);
         rest = skip_value(value);
     }
-    behind(rest)
+    following(rest)
 }
 
 /// The bytes from the value of the first pair with the key on.
@@ -117,7 +117,7 @@ pub fn inner_int(value: &[u8], key: &[u8]) -> Option<i64>
     if value[0] != b'd' {
         return None;
     }
-    match find(behind(value), key) {
+    match find(following(value), key) {
         None => None,
         Some(inner) => int_in(inner),
     }
@@ -128,10 +128,10 @@ pub fn inner_int(value: &[u8], key: &[u8]) -> Option<i64>
 pub fn split_int(value: &[u8]) -> (Option<i64>, &[u8])
     requires { HasValue value.now }
     ensures number { (t : Tree) (more : List ℕ) → InRange t → value.now ≡ ben t ++ more → result.0 ≡ integer_of t }
-    ensures behind { (t : Tree) (more : List ℕ) → InRange t → value.now ≡ ben t ++ more → result.1.now ≡ more }
+    ensures following { (t : Tree) (more : List ℕ) → InRange t → value.now ≡ ben t ++ more → result.1.now ≡ more }
 {
     if value[0] == b'i' {
-        let (number, rest) = read_int(behind(value));
+        let (number, rest) = read_int(following(value));
         (Some(number), rest)
     } else {
         (None, skip_value(value))
@@ -145,7 +145,7 @@ pub fn int_in(value: &[u8]) -> Option<i64>
     ensures { (t : Tree) (more : List ℕ) → InRange t → value.now ≡ ben t ++ more → result ≡ integer_of t }
 {
     if value[0] == b'i' {
-        Some(read_int(behind(value)).0)
+        Some(read_int(following(value)).0)
     } else {
         None
     }

@@ -7,7 +7,7 @@ ghost use Rattle.bt_bencode.specs.Keys.{IsSorted, AllAreSorted, PairsAreSorted, 
 ghost use Rattle.bt_bencode.specs.Readable.{HasValue, HasItems, HasPairs, Walks};
 ghost use Rattle.bt_bencode.specs.Views.{tree_of};
 
-use crate::read::{behind, read_int, split_string};
+use crate::read::{following, read_int, split_string};
 use crate::tree::{Pairs, Value, Values};
 use std::cmp::Ordering;
 
@@ -74,14 +74,14 @@ fn walk_value(bytes: &[u8]) -> Result<&[u8], usize>
 {
     match bytes[0] {
         b'i' => {
-            let (_, rest) = read_int(behind(bytes));
+            let (_, rest) = read_int(following(bytes));
             Ok(rest)
         }
-        b'l' => match walk_items(behind(bytes)) {
+        b'l' => match walk_items(following(bytes)) {
             Ok(rest) => Ok(rest),
             Err(n) => Err(n + 1),
         },
-        b'd' => match walk_pairs(behind(bytes)) {
+        b'd' => match walk_pairs(following(bytes)) {
             Ok(rest) => Ok(rest),
             Err(n) => Err(n + 1),
         },
@@ -107,7 +107,7 @@ fn walk_items(bytes: &[u8]) -> Result<&[u8], usize>
             Err(n) => return Err(bytes.len() - rest.len() + n),
         }
     }
-    Ok(behind(rest))
+    Ok(following(rest))
 }
 
 #[cycle(walk)]
@@ -133,7 +133,7 @@ fn walk_pairs(bytes: &[u8]) -> Result<&[u8], usize>
             Err(n) => return Err(bytes.len() - value.len() + n),
         }
     }
-    Ok(behind(rest))
+    Ok(following(rest))
 }
 
 /// The offset of the first key, at any depth, that isn't above the key before it.

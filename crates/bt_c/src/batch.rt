@@ -4,7 +4,7 @@ ghost use Rattle.bt_c.specs.Runs.{IsBatch};
 
 use crate::item::BtItem;
 use crate::reader::{BtReader, ITEM, context_of, next_by};
-use crate::slices::behind;
+use crate::slices::suffix;
 
 /// How many items a batch has, and how many bytes they have.
 #[repr(C)]
@@ -36,7 +36,7 @@ pub extern "C" fn bt_reader_batch(
             return ITEM;
         }
         let item = &mut items[count];
-        let (answer, size) = next_by(reader, &mut context, behind(bytes, used), item);
+        let (answer, size) = next_by(reader, &mut context, suffix(bytes, used), item);
         if answer != ITEM {
             *batch = BtBatch { count, used };
             return answer;

@@ -7,7 +7,7 @@ ghost use Rattle.bt_c.specs.Runs.{ShowsVerdict};
 use crate::item::{BtItem, bare};
 use crate::reader::{BtReader, END, ITEM, last_item};
 use crate::receiver::BtOwn;
-use crate::slices::behind;
+use crate::slices::suffix;
 
 /// The verdict on a stream.
 #[repr(C)]
@@ -34,7 +34,7 @@ pub extern "C" fn bt_check(own: &BtOwn, bytes: &[u8], verdict: &mut BtVerdict) -
     let mut at = 0usize;
     let mut count = 0u64;
     'items: loop {
-        let answer = last_item(&mut reader, behind(bytes, at), &mut item);
+        let answer = last_item(&mut reader, suffix(bytes, at), &mut item);
         if answer != ITEM {
             *verdict = verdict_of(answer, count, bytes.len(), &item);
             return answer;

@@ -16,7 +16,7 @@ use Rattle.bt_feed.specs.Stages.{start_of, number_of, order_of, limit_of, is_clo
 use Rattle.bt_feed.specs.Feeds.{FeedState, taken_by, taken, with_bytes, pushed}
 use Rattle.bt_feed.specs.Answers.{IsAnswer, after}
 use Rattle.bt_feed.specs.Progress.{IsPartial}
-use Rattle.bt_feed.specs.Transcripts.{IsOpenedBy, IsBehind, IsNext, IsTranscript, with_items, Reads, IsReadTo}
+use Rattle.bt_feed.specs.Transcripts.{IsOpenedBy, IsFollowing, IsNext, IsTranscript, with_items, Reads, IsReadTo}
 use Rattle.bt_feed.proofs.Closed.{fault_more, fault_closed}
 use Rattle.bt_feed.proofs.Coming.{item_comes, fault_comes, open_comes}
 use Rattle.bt_feed.proofs.Filled.{least}
@@ -70,13 +70,13 @@ reads_pushed t all xs f g rest later n e p r =
     let bytes : g.held ++ (drop n rest ++ later) ≡ f.held ++ (rest ++ later) =
     ap (λ (b : List ℕ). b ++ (drop n rest ++ later)) held ∙ append_assoc f.held (take n rest) (drop n rest ++ later)
     ∙ ap (λ (b : List ℕ). f.held ++ b) (sym (append_assoc (take n rest) (drop n rest) later) ∙ ap (λ (b : List ℕ). b ++ later) (take-append-drop n rest)) in
-    let Q : Stage → Type 0 = λ u. IsBehind t xs u in
+    let Q : Stage → Type 0 = λ u. IsFollowing t xs u in
     record {
       told = λ v k.
           let P : List ℕ → Type 0 = λ b. Comes f.stage b v in
           let R : Stage → Type 0 = λ u. Comes u (g.held ++ (drop n rest ++ later)) v in
           r.told v (subst P bytes (subst R stage k));
-      behind = subst Q (sym stage) r.behind;
+      following = subst Q (sym stage) r.following;
       limit = omega (arith, ap limit_of stage, r.limit);
       partial = p;
     }
@@ -100,10 +100,10 @@ opened_still (stage.Message d q r k) (items.Message i) (stage.Handshake own') b 
 opened_still (stage.Handshake own) (items.Message m) u b item size p e = absurd e
 opened_still (stage.Message d q r k) (items.Handshake h) u b item size p e = absurd e
 
-behind_more : (t : Stage) (xs : List (ℕ × Item)) (u : Stage) (b : List ℕ) (item : Item) (at size : ℕ) → IsItem u b item → IsBehind t xs u
-    → IsBehind t (xs ++ (at, item) ∷ []) (stage_after u size item)
-behind_more t [] u b item at size p e = let P : Stage → Type 0 = λ w. IsOpenedBy w item (stage_after u size item) in subst P e (opened_by u b item size p)
-behind_more t (x ∷ xs) u b item at size p e = opened_still t x.1 u b item size p e
+following_more : (t : Stage) (xs : List (ℕ × Item)) (u : Stage) (b : List ℕ) (item : Item) (at size : ℕ) → IsItem u b item → IsFollowing t xs u
+    → IsFollowing t (xs ++ (at, item) ∷ []) (stage_after u size item)
+following_more t [] u b item at size p e = let P : Stage → Type 0 = λ w. IsOpenedBy w item (stage_after u size item) in subst P e (opened_by u b item size p)
+following_more t (x ∷ xs) u b item at size p e = opened_still t x.1 u b item size p e
 
 limit_after : (t : Stage) (size : ℕ) (item : Item) → limit_of (stage_after t size item) ≡ limit_of t
 limit_after (stage.Handshake own) size (items.Handshake h) = refl
@@ -124,7 +124,7 @@ reads_taken t all xs f g item unread e p r =
           let Q : List (ℕ × Item) → Type 0 = λ ys. Comes t all (record v { items = ys }) in
           subst Q (sym (append_assoc xs ((start_of f.stage, item) ∷ []) v.items))
           (r.told (with_item (start_of f.stage) item v) (item_comes f.stage f.held unread item v (omega (arith, r.limit)) p k));
-      behind = behind_more t xs f.stage f.held item (start_of f.stage) (length f.held) p r.behind;
+      following = following_more t xs f.stage f.held item (start_of f.stage) (length f.held) p r.following;
       limit = omega (arith, limit_after f.stage (length f.held) item, r.limit);
       partial = nothing_held (stage_after f.stage (length f.held) item);
     })
@@ -133,7 +133,7 @@ reads_taken t all xs f g item unread e p r =
 pub reads_same : (t : Stage) (all : List ℕ) (xs : List (ℕ × Item)) (f g : FeedState) (unread : List ℕ) → g.stage ≡ f.stage → g.held ≡ f.held
     → Reads t all xs f unread → Reads t all xs g unread
 reads_same t all xs f g unread stage held r =
-    let P : Stage → Type 0 = λ u. IsBehind t xs u in
+    let P : Stage → Type 0 = λ u. IsFollowing t xs u in
     let Q : Stage → Type 0 = λ u. IsPartial u g.held in
     let R : List ℕ → Type 0 = λ b. IsPartial f.stage b in
     record {
@@ -141,7 +141,7 @@ reads_same t all xs f g unread stage held r =
           let S : Stage → Type 0 = λ u. Comes u (g.held ++ unread) v in
           let T : List ℕ → Type 0 = λ b. Comes f.stage (b ++ unread) v in
           r.told v (subst T held (subst S stage k));
-      behind = subst P (sym stage) r.behind;
+      following = subst P (sym stage) r.following;
       limit = omega (arith, ap limit_of stage, r.limit);
       partial = subst Q (sym stage) (subst R (sym held) r.partial);
     }
@@ -219,14 +219,14 @@ assembled : (own : Own) (all : List ℕ) (xs : List (ℕ × Item)) (f : FeedStat
     → (0 < length unread → is_closed f.stage f.held ≡ true) → IsTranscript own all xs refusal (length f.held)
 assembled own all xs f unread refusal r comes stops =
     let last = stopped f.stage (f.held ++ unread) refusal in
-    let P : List (ℕ × Item) → Type 0 = λ ys. IsBehind (stage.Handshake own) ys f.stage in
+    let P : List (ℕ × Item) → Type 0 = λ ys. IsFollowing (stage.Handshake own) ys f.stage in
     record {
       verdict = with_items xs last;
       is_verdict = r.told last comes;
       same_items = sym (append-nil xs);
       same_refusal = refl;
       next = f.stage;
-      is_next = record { behind = subst P (sym (append-nil xs)) r.behind; order = refl; start = refl; number = refl };
+      is_next = record { following = subst P (sym (append-nil xs)) r.following; order = refl; start = refl; number = refl };
       held = held_taken f.stage f.held unread r.partial stops;
     }
 
@@ -258,7 +258,7 @@ one_opened (stage.Message a q k i) (items.Message x) (stage.Message c o s n) (st
 one_opened (stage.Handshake own) (items.Message m) u w e f same start number = absurd e
 one_opened (stage.Message a q k i) (items.Handshake h) u w e f same start number = absurd e
 
-one_next : (t : Stage) (xs : List (ℕ × Item)) (u w : Stage) → IsBehind t xs u → IsBehind t xs w → order_of u ≡ order_of w → start_of u ≡ start_of w
+one_next : (t : Stage) (xs : List (ℕ × Item)) (u w : Stage) → IsFollowing t xs u → IsFollowing t xs w → order_of u ≡ order_of w → start_of u ≡ start_of w
     → number_of u ≡ number_of w → u ≡ w
 one_next t [] u w p q o s n = p ∙ sym q
 one_next t (x ∷ xs) u w p q o s n = one_opened t x.1 u w p q o s n
@@ -269,7 +269,7 @@ one_transcript own b xs ys r q m n lt a c =
     let same = verdict_only own b a.verdict c.verdict lt a.is_verdict c.is_verdict in
     let P : Outcome → Type 0 = λ v. IsNext (stage.Handshake own) v a.next in
     let next = subst P same a.is_next in
-    let stage = one_next (stage.Handshake own) c.verdict.items a.next c.next next.behind c.is_next.behind (next.order ∙ sym c.is_next.order) (next.start
+    let stage = one_next (stage.Handshake own) c.verdict.items a.next c.next next.following c.is_next.following (next.order ∙ sym c.is_next.order) (next.start
     ∙ sym c.is_next.start) (next.number ∙ sym c.is_next.number) in (
       a.same_items ∙ ap (λ (v : Outcome). v.items) same ∙ sym c.same_items,
       a.same_refusal ∙ ap (λ (v : Outcome). v.refusal) same ∙ sym c.same_refusal,
@@ -286,7 +286,7 @@ hand_open own = refl
 pub reads_new : (t : Stage) (all : List ℕ) (f : FeedState) → limit_of t ≤ 1048576 → f ≡ record { stage = t; held = []; refused = None } → Reads t all [] f all
 reads_new t all f le e =
     let P : FeedState → Type 0 = λ s. Reads t all [] s all in
-    subst P (sym e) (record { told = λ v k. k; behind = refl; limit = le; partial = nothing_held t })
+    subst P (sym e) (record { told = λ v k. k; following = refl; limit = le; partial = nothing_held t })
 
 pub open_new : (own : Own) (f : FeedState) → f ≡ record { stage = stage.Handshake own; held = []; refused = None } → is_closed f.stage f.held ≡ false
 open_new own f e = let P : FeedState → Type 0 = λ s. is_closed s.stage s.held ≡ false in subst P (sym e) (hand_open own)

@@ -22,13 +22,13 @@ IsOpenedBy (stage.Message c o s n) (items.Handshake h) u = ⊥
 IsOpenedBy (stage.Handshake own) (items.Handshake h) (stage.Handshake own') = ⊥
 IsOpenedBy (stage.Message c o s n) (items.Message m) (stage.Handshake own') = ⊥
 
-abbrev pub IsBehind : Stage → List (ℕ × Item) → Stage → Type 0
-IsBehind t [] u = u ≡ t
-IsBehind t (x ∷ xs) u = IsOpenedBy t x.1 u
+abbrev pub IsFollowing : Stage → List (ℕ × Item) → Stage → Type 0
+IsFollowing t [] u = u ≡ t
+IsFollowing t (x ∷ xs) u = IsOpenedBy t x.1 u
 
 -- from t on, what is awaited where an outcome ends
 pub record IsNext (t : Stage) (v : Outcome) (u : Stage) : Type 0 where
-  pub behind : IsBehind t v.items u
+  pub following : IsFollowing t v.items u
   pub order : order_of u ≡ v.order
   pub start : start_of u ≡ v.start
   pub number : number_of u ≡ v.number
@@ -51,7 +51,7 @@ with_items xs v = record v { items = xs ++ v.items }
 -- from t on, these items are read of all the bytes, and the feed holds what follows them, but for what is unread
 pub record Reads (t : Stage) (all : List ℕ) (items : List (ℕ × Item)) (f : FeedState) (unread : List ℕ) : Type 0 where
   pub told : (v : Outcome) → Comes f.stage (f.held ++ unread) v → Comes t all (with_items items v)
-  pub behind : IsBehind t items f.stage
+  pub following : IsFollowing t items f.stage
   pub limit : limit_of f.stage ≤ 1048576
   pub partial : IsPartial f.stage f.held
 

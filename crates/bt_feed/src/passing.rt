@@ -7,7 +7,7 @@ ghost use Rattle.bt_feed.specs.Pumps.{IsHanded, IsFed};
 ghost use Rattle.bt_feed.specs.Feeds.{waiting};
 
 use crate::sink::{Sink, SinkFault};
-use crate::slices::behind;
+use crate::slices::suffix;
 use crate::stage::END;
 use crate::view::View;
 use bt_wire::{Context, Header, Order, judge_header, next_of_view, view_window};
@@ -52,7 +52,7 @@ pub fn pass_messages<S: Sink>(
         if at >= END {
             return passed;
         }
-        let rest = behind(piece, passed.bytes);
+        let rest = suffix(piece, passed.bytes);
         let Header::Window(length) = judge_header(context, passed.order, rest) else {
             return passed;
         };

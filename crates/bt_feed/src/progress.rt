@@ -12,7 +12,7 @@ ghost use Rattle.bt_feed.specs.Progress.{IsPartial, HasWindow, Fills, IsProgress
 use crate::buffer::Buffer;
 use crate::passing::pass_messages;
 use crate::sink::{Sink, SinkFault};
-use crate::slices::behind;
+use crate::slices::suffix;
 use crate::stage::{Goal, Stage};
 use crate::view::{Finish, TakeError, View};
 use bt_io::{Failed, Source};
@@ -107,7 +107,7 @@ impl Progress {
     {
         let mut at = 0;
         'steps: loop {
-            let more = self.step(buffer, behind(piece, at));
+            let more = self.step(buffer, suffix(piece, at));
             at += more;
             if more == 0 || self.wanted > 0 {
                 return at;

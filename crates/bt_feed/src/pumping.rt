@@ -10,7 +10,7 @@ ghost use Rattle.bt_feed.specs.Stages.{limit_of, is_closed};
 
 use crate::feed::Feed;
 use crate::sink::{Sink, SinkFault};
-use crate::slices::behind;
+use crate::slices::suffix;
 use crate::view::{Finish, refusal_in};
 use bt_io::{Failed, Source};
 use bt_wire::Refusal;
@@ -47,12 +47,12 @@ fn pump_piece<S: Sink, A: Allocator>(
 {
     let mut at = 0;
     'items: loop {
-        let (passed, taken) = feed.pass(sink, behind(piece, at));
+        let (passed, taken) = feed.pass(sink, suffix(piece, at));
         at += passed;
         if let Err(fault) = taken {
             return Err(PumpError::Sink(fault));
         }
-        at += feed.push(behind(piece, at));
+        at += feed.push(suffix(piece, at));
         let start = feed.start();
         match feed.take() {
             Ok(Some(view)) => match sink.item(start, &view) {

@@ -10,7 +10,7 @@ ghost use Rattle.bt_feed.specs.Transcripts.{IsTranscript, Reads, IsReadTo};
 ghost use Rattle.bt_feed.specs.Views.{item_of};
 
 use crate::feed::{Feed, FeedError};
-use crate::slices::behind;
+use crate::slices::suffix;
 use crate::view::{refusal_in, to_item};
 use bt_wire::{Item, Own, Refusal};
 use std::alloc::{AllocError, Global};
@@ -37,7 +37,7 @@ fn read_piece(
 {
     let mut at = 0;
     'items: loop {
-        at += feed.push(behind(piece, at));
+        at += feed.push(suffix(piece, at));
         let start = feed.start();
         match feed.take() {
             Ok(Some(view)) => {

@@ -271,7 +271,7 @@ const ACCEPTED: &[Accepted] = &[
     ("bitfield of no bytes", FREE, b"\0\0\0\x01\x05", &[0, 68]),
     ("unknown", FREE, b"\0\0\0\x01\x63", &[0, 68]),
     (
-        "keep-alive behind",
+        "keep-alive suffix",
         FREE,
         b"\0\0\0\x01\x63\0\0\0\0",
         &[0, 68, 73],
@@ -429,7 +429,7 @@ const REFUSED: &[Refused] = &[
         5,
     ),
     (
-        "short have behind",
+        "short have suffix",
         FREE,
         b"\0\0\0\0\0\0\0\x04\x04",
         &[0, 68],
@@ -509,7 +509,7 @@ const REFUSED: &[Refused] = &[
         5,
     ),
     (
-        "bitfield behind have none",
+        "bitfield suffix have none",
         BEP,
         LATE,
         &[0, 68],
@@ -517,7 +517,7 @@ const REFUSED: &[Refused] = &[
         5,
     ),
     (
-        "bitfield behind unchoke",
+        "bitfield suffix unchoke",
         PLAIN,
         b"\0\0\0\x01\x01\0\0\0\x03\x05\xff\xc0",
         &[0, 68],

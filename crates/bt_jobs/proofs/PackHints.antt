@@ -17,20 +17,20 @@ pub record IsPassed (number : ℕ) (text rest : List ℕ) : Type 0 where
 pub none_passed : (text : List ℕ) → IsPassed 1 text text
 none_passed text = record { before = []; parts = refl; whole = tt; count = refl }
 
-pub one_passed : (number : ℕ) (text rest front behind : List ℕ) → IsPassed number text rest → IsCut rest (Some (front, behind))
-    → IsPassed (number + 1) text behind
-one_passed number text rest front behind h cut = record {
+pub one_passed : (number : ℕ) (text rest front following : List ℕ) → IsPassed number text rest → IsCut rest (Some (front, following))
+    → IsPassed (number + 1) text following
+one_passed number text rest front following h cut = record {
   before = h.before ++ front ∷ [];
-  parts = h.parts ∙ ap (λ (t : List ℕ). ended_lines h.before ++ t) (cut.0 ∙ sym (append_assoc front (10 ∷ []) behind))
-      ∙ sym (append_assoc (ended_lines h.before) (front ++ 10 ∷ []) behind) ∙ ap (λ (t : List ℕ). t ++ behind) (sym (ended_more h.before front));
+  parts = h.parts ∙ ap (λ (t : List ℕ). ended_lines h.before ++ t) (cut.0 ∙ sym (append_assoc front (10 ∷ []) following))
+      ∙ sym (append_assoc (ended_lines h.before) (front ++ 10 ∷ []) following) ∙ ap (λ (t : List ℕ). t ++ following) (sym (ended_more h.before front));
   whole = whole_both h.before (front ∷ []) h.whole (cut.1, tt);
   count = omega (arith, h.count, length-append h.before (front ∷ []));
 }
 
-pub line_cut : (number : ℕ) (text rest front behind : List ℕ) → IsPassed number text rest → IsCut rest (Some (front, behind)) → IsLineAt number text front
-line_cut number text rest front behind h cut = record {
+pub line_cut : (number : ℕ) (text rest front following : List ℕ) → IsPassed number text rest → IsCut rest (Some (front, following)) → IsLineAt number text front
+line_cut number text rest front following h cut = record {
   before = h.before;
-  rest = 10 ∷ behind;
+  rest = 10 ∷ following;
   parts = h.parts ∙ ap (λ (t : List ℕ). ended_lines h.before ++ t) cut.0;
   whole = h.whole;
   count = h.count;

@@ -33,8 +33,8 @@ use Rattle.bt_text.proofs.ScriptSpoken.{handshake_line, message_line}
 
 -- ---- the lines of a text
 
-no_feed_behind : (c : ℕ) (cs : List ℕ) → has_feed (c ∷ cs) ≡ false → has_feed cs ≡ false
-no_feed_behind c cs h = grind arith
+no_feed_after : (c : ℕ) (cs : List ℕ) → has_feed (c ∷ cs) ≡ false → has_feed cs ≡ false
+no_feed_after c cs h = grind arith
 
 a_feed : (x y : List ℕ) → has_feed (x ++ 10 ∷ y) ≡ true
 a_feed [] y = refl
@@ -51,7 +51,7 @@ one_front (c ∷ cs) [] s t h k e = absurd (let first : c ≡ 10 = cc e in grind
 one_front (c ∷ cs) (d ∷ ds) s t h k e =
     let first : c ≡ d = cc e in
     let others : cs ++ 10 ∷ s ≡ ds ++ 10 ∷ t = cc e in
-    let rest = one_front cs ds s t (no_feed_behind c cs h) (no_feed_behind d ds k) others in
+    let rest = one_front cs ds s t (no_feed_after c cs h) (no_feed_after d ds k) others in
     (ap (λ (z : ℕ). z ∷ cs) first ∙ ap (λ (z : List ℕ). d ∷ z) rest.0, rest.1)
 
 first_line : (l : List ℕ) (ls : List (List ℕ)) (r : List ℕ) → ended_lines (l ∷ ls) ++ r ≡ l ++ 10 ∷ (ended_lines ls ++ r)
@@ -217,31 +217,31 @@ named_is_one limit first (l ∷ ls) b c p q =
     p.3 ∙ ap (λ (z : List ℕ). z ++ p.1) x ∙ ap (λ (z : List ℕ). q.0 ++ z) rest ∙ sym q.3
 
 -- whether the line after these may be that of a handshake
-abbrev pub is_first_behind : Bool → List (List ℕ) → Bool
-is_first_behind first [] = first
-is_first_behind first (l ∷ ls) = false
+abbrev pub is_first_after : Bool → List (List ℕ) → Bool
+is_first_after first [] = first
+is_first_after first (l ∷ ls) = false
 
-never_first : (ls : List (List ℕ)) → is_first_behind false ls ≡ false
+never_first : (ls : List (List ℕ)) → is_first_after false ls ≡ false
 never_first [] = refl
 never_first (l ∷ ls) = refl
 
-pub is_first_none : (ls : List (List ℕ)) → is_first_behind true ls ≡ is_none ls
+pub is_first_none : (ls : List (List ℕ)) → is_first_after true ls ≡ is_none ls
 is_first_none [] = refl
 is_first_none (l ∷ ls) = refl
 
 -- the line after those that name b, where all of them name c
-pub record IsBehind (limit : ℕ) (first : Bool) (line b c : List ℕ) : Type 0 where
+pub record IsFollowing (limit : ℕ) (first : Bool) (line b c : List ℕ) : Type 0 where
   pub bytes : List ℕ
   pub rest : List ℕ
   pub named : IsNamed limit first line bytes
   pub parts : c ≡ (b ++ bytes) ++ rest
 
-pub named_behind : (limit : ℕ) (first : Bool) (ls : List (List ℕ)) (line : List ℕ) (more : List (List ℕ)) (b c : List ℕ) → AreNamed limit first ls b
-    → AreNamed limit first (ls ++ line ∷ more) c → IsBehind limit (is_first_behind first ls) line b c
-named_behind limit first [] line more b c p q = record { bytes = q.0; rest = q.1; named = q.2; parts = q.3 ∙ ap (λ (z : List ℕ). (z ++ q.0) ++ q.1) (sym p) }
-named_behind limit first (l ∷ ls) line more b c p q =
+pub named_after : (limit : ℕ) (first : Bool) (ls : List (List ℕ)) (line : List ℕ) (more : List (List ℕ)) (b c : List ℕ) → AreNamed limit first ls b
+    → AreNamed limit first (ls ++ line ∷ more) c → IsFollowing limit (is_first_after first ls) line b c
+named_after limit first [] line more b c p q = record { bytes = q.0; rest = q.1; named = q.2; parts = q.3 ∙ ap (λ (z : List ℕ). (z ++ q.0) ++ q.1) (sym p) }
+named_after limit first (l ∷ ls) line more b c p q =
     let x = one_reading first l q.0 p.0 q.2.line p.2.line in
-    let k = named_behind limit false ls line more p.1 q.1 p.4 q.4 in
+    let k = named_after limit false ls line more p.1 q.1 p.4 q.4 in
     let P : Bool → Type 0 = λ z. IsNamed limit z line k.bytes in
     let joined : p.0 ++ ((p.1 ++ k.bytes) ++ k.rest) ≡ ((p.0 ++ p.1) ++ k.bytes) ++ k.rest =
     sym (append_assoc p.0 (p.1 ++ k.bytes) k.rest) ∙ ap (λ (z : List ℕ). z ++ k.rest) (sym (append_assoc p.0 p.1 k.bytes)) in
@@ -367,11 +367,11 @@ pub stop_is_last : (own : Own) (before : List (List ℕ)) (line : List ℕ) (mor
     → own.limit < 2 ^ 32
     → AreTaken own before b v → IsNotTaken own (is_none before) line b v reason → AreTaken own (before ++ line ∷ more) c w → ⊥
 stop_is_last own before line more b c v w Syntax lt p n q =
-    let k = named_behind own.limit true before line more b c p.named q.named in
+    let k = named_after own.limit true before line more b c p.named q.named in
     let P : Bool → Type 0 = λ z. IsNamed own.limit z line k.bytes in
     n k.bytes (subst P (is_first_none before) k.named)
 stop_is_last own before line more b c v w (Reason reason) lt p n q =
-    let k = named_behind own.limit true before line more b c p.named q.named in
+    let k = named_after own.limit true before line more b c p.named q.named in
     let P : Bool → Type 0 = λ z. IsNamed own.limit z line k.bytes in
     let named = subst P (is_first_none before) k.named in
     let same = one_reading (is_none before) line k.bytes n.0 named.line n.1.line in
@@ -439,7 +439,7 @@ same_stop own all b c m n r s p q lt before line =
 stop_by : (own : Own) (all : List (List ℕ)) (b c : List ℕ) (m n : ℕ) (r s : ScriptReason) (p : IsStop own all b m r) (q : IsStop own all c n s)
     → own.limit < 2 ^ 32 → length p.before ≤ length q.before → IsSameStop b c m n r s
 stop_by own all b c m n r s p q lt le =
-    elim (fronts p.before q.before p.line q.line p.behind q.behind (sym p.parts ∙ q.parts) le) [
+    elim (fronts p.before q.before p.line q.line p.following q.following (sym p.parts ∙ q.parts) le) [
       | inl same ↦ same_stop own all b c m n r s p q lt same.0 same.1
       | inr longer ↦
           let P : List (List ℕ) → Type 0 = λ ls. AreTaken own ls c q.verdict in
@@ -457,7 +457,7 @@ stop_is_one own all b c m n r s lt p q =
 -- ---- the whole result of packing
 
 stop_has_lines : (own : Own) (all : List (List ℕ)) (b : List ℕ) (m : ℕ) (r : ScriptReason) → IsStop own all b m r → all ≡ [] → ⊥
-stop_has_lines own all b m r p none = absurd (omega (arith, ap length (sym p.parts ∙ none), length-append p.before (p.line ∷ p.behind)))
+stop_has_lines own all b m r p none = absurd (omega (arith, ap length (sym p.parts ∙ none), length-append p.before (p.line ∷ p.following)))
 
 some_has_lines : (all : List (List ℕ)) → is_none all ≡ false → all ≡ [] → ⊥
 some_has_lines all some none = let k : true ≡ false = sym (ap is_none none) ∙ some in absurd (cc k)
@@ -466,7 +466,7 @@ stop_takes_none : (own : Own) (all : List (List ℕ)) (b c : List ℕ) (w : Outc
     → AreTaken own all c w → ⊥
 stop_takes_none own all b c w m r lt p q =
     let P : List (List ℕ) → Type 0 = λ ls. AreTaken own ls c w in
-    stop_is_last own p.before p.line p.behind b c p.verdict w r lt p.taken p.not_taken (subst P p.parts q)
+    stop_is_last own p.before p.line p.following b c p.verdict w r lt p.taken p.not_taken (subst P p.parts q)
 
 pub taken_is_one : (own : Own) (all : List (List ℕ)) (b c : List ℕ) (v w : Outcome) → own.limit < 2 ^ 32 → AreTaken own all b v → AreTaken own all c w
     → (b ≡ c) × (v ≡ w)

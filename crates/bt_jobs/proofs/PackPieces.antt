@@ -35,11 +35,11 @@ read_rest own text rest lines b held new f h none e = record {
 -- ---- a line
 
 -- the text up to the line's feed
-line_parts : (text held front line behind : List ℕ) (lines : List (List ℕ)) → text ≡ ended_lines lines ++ held → line ≡ held ++ front → text
-    ++ (front ++ 10 ∷ behind) ≡ ended_lines lines ++ (line ++ 10 ∷ behind)
-line_parts text held front line behind lines e is =
-    ap (λ (t : List ℕ). t ++ (front ++ 10 ∷ behind)) e ∙ append_assoc (ended_lines lines) held (front ++ 10 ∷ behind)
-    ∙ ap (λ (t : List ℕ). ended_lines lines ++ t) (sym (append_assoc held front (10 ∷ behind)) ∙ ap (λ (t : List ℕ). t ++ 10 ∷ behind) (sym is))
+line_parts : (text held front line following : List ℕ) (lines : List (List ℕ)) → text ≡ ended_lines lines ++ held → line ≡ held ++ front → text
+    ++ (front ++ 10 ∷ following) ≡ ended_lines lines ++ (line ++ 10 ∷ following)
+line_parts text held front line following lines e is =
+    ap (λ (t : List ℕ). t ++ (front ++ 10 ∷ following)) e ∙ append_assoc (ended_lines lines) held (front ++ 10 ∷ following)
+    ∙ ap (λ (t : List ℕ). ended_lines lines ++ t) (sym (append_assoc held front (10 ∷ following)) ∙ ap (λ (t : List ℕ). t ++ 10 ∷ following) (sym is))
 
 pub read_line : (own : Own) (text front line x : List ℕ) (lines : List (List ℕ)) (b held : List ℕ) (f g : FeedState) → IsReadSo own text lines b held f
     → has_feed front ≡ false → line ≡ held ++ front
@@ -65,25 +65,25 @@ too_long own lines b line f h lt =
     let s = taken_so_far own lines b f h in
     (s.0, s.1.taken, λ x n. absurd (omega (arith, n.short, lt)))
 
-behind_line : (lines ls : List (List ℕ)) (line rest : List ℕ) → with_last (lines ++ line ∷ ls) rest ≡ lines ++ line ∷ with_last ls rest
-behind_line lines ls line [] = refl
-behind_line lines ls line (c ∷ cs) = append_assoc lines (line ∷ ls) ((c ∷ cs) ∷ [])
+after_line : (lines ls : List (List ℕ)) (line rest : List ℕ) → with_last (lines ++ line ∷ ls) rest ≡ lines ++ line ∷ with_last ls rest
+after_line lines ls line [] = refl
+after_line lines ls line (c ∷ cs) = append_assoc lines (line ∷ ls) ((c ∷ cs) ∷ [])
 
 -- the line is ended, and others may follow
-pub stops_at : (own : Own) (text front behind line : List ℕ) (lines : List (List ℕ)) (b held : List ℕ) (f : FeedState) (number : ℕ) (reason : ScriptReason)
+pub stops_at : (own : Own) (text front following line : List ℕ) (lines : List (List ℕ)) (b held : List ℕ) (f : FeedState) (number : ℕ) (reason : ScriptReason)
     → IsReadSo own text lines b held f → has_feed front ≡ false → line ≡ held ++ front
-    → number ≡ length lines → IsRefused own lines b line reason → (all : List (List ℕ)) × AreLines (text ++ (front ++ 10 ∷ behind)) all
-    × IsStop own all b (number + 1) reason × IsEndedLine own.limit (text ++ (front ++ 10 ∷ behind)) (number + 1)
-stops_at own text front behind line lines b held f number reason h none e count r =
-    let s = split_of behind in
-    let tail : line ++ 10 ∷ behind ≡ ended_lines (line ∷ s.0) ++ s.1 =
+    → number ≡ length lines → IsRefused own lines b line reason → (all : List (List ℕ)) × AreLines (text ++ (front ++ 10 ∷ following)) all
+    × IsStop own all b (number + 1) reason × IsEndedLine own.limit (text ++ (front ++ 10 ∷ following)) (number + 1)
+stops_at own text front following line lines b held f number reason h none e count r =
+    let s = split_of following in
+    let tail : line ++ 10 ∷ following ≡ ended_lines (line ∷ s.0) ++ s.1 =
     ap (λ (t : List ℕ). line ++ 10 ∷ t) s.2.parts ∙ sym (append_assoc line (10 ∷ []) (ended_lines s.0 ++ s.1))
     ∙ sym (append_assoc (line ++ 10 ∷ []) (ended_lines s.0) s.1) in
-    let parts : text ++ (front ++ 10 ∷ behind) ≡ ended_lines (lines ++ line ∷ s.0) ++ s.1 =
-    line_parts text held front line behind lines h.split.parts e ∙ ap (λ (t : List ℕ). ended_lines lines ++ t) tail
+    let parts : text ++ (front ++ 10 ∷ following) ≡ ended_lines (lines ++ line ∷ s.0) ++ s.1 =
+    line_parts text held front line following lines h.split.parts e ∙ ap (λ (t : List ℕ). ended_lines lines ++ t) tail
     ∙ sym (append_assoc (ended_lines lines) (ended_lines (line ∷ s.0)) s.1)
     ∙ ap (λ (t : List ℕ). t ++ s.1) (sym (ended_both lines (line ∷ s.0))) in
-    let split : IsSplit (text ++ (front ++ 10 ∷ behind)) (lines ++ line ∷ s.0) s.1 = record {
+    let split : IsSplit (text ++ (front ++ 10 ∷ following)) (lines ++ line ∷ s.0) s.1 = record {
       parts = parts;
       whole = whole_both lines (line ∷ s.0) h.split.whole (ap has_feed e ∙ has_feed-append held front h.split.last none, s.2.whole);
       last = s.2.last;
@@ -93,8 +93,8 @@ stops_at own text front behind line lines b held f number reason h none e count 
       record {
         before = lines;
         line = line;
-        behind = with_last s.0 s.1;
-        parts = behind_line lines s.0 line s.1;
+        following = with_last s.0 s.1;
+        parts = after_line lines s.0 line s.1;
         verdict = r.0;
         taken = r.1;
         count = omega (arith, count);
@@ -118,7 +118,7 @@ stops_in own text rest line lines b held f number reason h none e some count r =
   record {
     before = lines;
     line = line;
-    behind = [];
+    following = [];
     parts = refl;
     verdict = r.0;
     taken = r.1;
@@ -162,17 +162,17 @@ all_done own text lines b piece rest held new f out out' d none e =
     let P : List ℕ → Type 0 = λ t. IsReadSo own t (lines ++ d.more) (b ++ d.named) new f in
     (d.more, d.named, d.grown, subst P all (read_rest own (text ++ d.done) rest (lines ++ d.more) (b ++ d.named) held new f d.read none e))
 
-pub line_done : (own : Own) (text : List ℕ) (lines : List (List ℕ)) (b piece rest held front behind line : List ℕ) (f g : FeedState) (out mid out' : List ℕ)
-    → (d : IsDone own text lines b piece rest held f out mid) → has_feed front ≡ false → rest ≡ front ++ 10 ∷ behind → line ≡ held ++ front
-    → IsLineEnd own (lines ++ d.more) (b ++ d.named) line g mid out' None → IsDone own text lines b piece behind [] g out out'
-line_done own text lines b piece rest held front behind line f g out mid out' d none cut e end =
+pub line_done : (own : Own) (text : List ℕ) (lines : List (List ℕ)) (b piece rest held front following line : List ℕ) (f g : FeedState) (out mid out' : List ℕ)
+    → (d : IsDone own text lines b piece rest held f out mid) → has_feed front ≡ false → rest ≡ front ++ 10 ∷ following → line ≡ held ++ front
+    → IsLineEnd own (lines ++ d.more) (b ++ d.named) line g mid out' None → IsDone own text lines b piece following [] g out out'
+line_done own text lines b piece rest held front following line f g out mid out' d none cut e end =
     let P : List ℕ → Type 0 = λ t. IsReadSo own t ((lines ++ d.more) ++ line ∷ []) ((b ++ d.named) ++ end.0) [] g in
     let Q : List (List ℕ) → Type 0 = λ l. IsReadSo own (text ++ (d.done ++ (front ++ 10 ∷ []))) l ((b ++ d.named) ++ end.0) [] g in
     let R : List ℕ → Type 0 = λ l. IsReadSo own (text ++ (d.done ++ (front ++ 10 ∷ []))) (lines ++ (d.more ++ line ∷ [])) l [] g in
     record {
       done = d.done ++ (front ++ 10 ∷ []);
-      parts = d.parts ∙ ap (λ (l : List ℕ). d.done ++ l) (cut ∙ sym (append_assoc front (10 ∷ []) behind))
-          ∙ sym (append_assoc d.done (front ++ 10 ∷ []) behind);
+      parts = d.parts ∙ ap (λ (l : List ℕ). d.done ++ l) (cut ∙ sym (append_assoc front (10 ∷ []) following))
+          ∙ sym (append_assoc d.done (front ++ 10 ∷ []) following);
       more = d.more ++ line ∷ [];
       named = d.named ++ end.0;
       grown = end.1 ∙ ap (λ (l : List ℕ). l ++ end.0) d.grown ∙ append_assoc out d.named end.0;
@@ -180,14 +180,14 @@ line_done own text lines b piece rest held front behind line f g out mid out' d 
           (read_line own (text ++ d.done) front line end.0 (lines ++ d.more) (b ++ d.named) held f g d.read none e end.2)));
     }
 
-pub line_stops : (own : Own) (text : List ℕ) (lines : List (List ℕ)) (b piece rest held front behind line new : List ℕ) (f g : FeedState)
+pub line_stops : (own : Own) (text : List ℕ) (lines : List (List ℕ)) (b piece rest held front following line new : List ℕ) (f g : FeedState)
     (out mid out' : List ℕ) (reason : ScriptReason) → (d : IsDone own text lines b piece rest held f out mid) → has_feed front ≡ false → rest ≡ front
-    ++ 10 ∷ behind
+    ++ 10 ∷ following
     → line ≡ held ++ front → out' ≡ mid → number_of g.stage ≡ length (lines ++ d.more) → IsRefused own (lines ++ d.more) (b ++ d.named) line reason
     → IsPieceRead own (text ++ piece) lines b new g out out' (Some reason)
-line_stops own text lines b piece rest held front behind line new f g out mid out' reason d none cut e same count r =
-    let stop = stops_at own (text ++ d.done) front behind line (lines ++ d.more) (b ++ d.named) held f (number_of g.stage) reason d.read none e count r in
-    let all : (text ++ d.done) ++ (front ++ 10 ∷ behind) ≡ text ++ piece = append_assoc text d.done (front ++ 10 ∷ behind)
+line_stops own text lines b piece rest held front following line new f g out mid out' reason d none cut e same count r =
+    let stop = stops_at own (text ++ d.done) front following line (lines ++ d.more) (b ++ d.named) held f (number_of g.stage) reason d.read none e count r in
+    let all : (text ++ d.done) ++ (front ++ 10 ∷ following) ≡ text ++ piece = append_assoc text d.done (front ++ 10 ∷ following)
     ∙ ap (λ (l : List ℕ). text ++ l) (ap (λ (l : List ℕ). d.done ++ l) (sym cut) ∙ sym d.parts) in
     let P : List ℕ → Type 0 = λ t. AreLines t stop.0 in
     let Q : List ℕ → Type 0 = λ t. IsEndedLine own.limit t (number_of g.stage + 1) in

@@ -20,7 +20,7 @@ use Rattle.bt_jobs.specs.PackSteps.{IsReadSo, IsPieceRead}
 use Rattle.bt_jobs.specs.Printed.{AppendsFront, IsWrittenOut}
 use Rattle.bt_jobs.proofs.Packing.{taken_so_far}
 use Rattle.bt_jobs.proofs.PackText.{ended_before, split_of}
-use Rattle.bt_jobs.proofs.Printing.{front_behind, all_is_front}
+use Rattle.bt_jobs.proofs.Printing.{front_after, all_is_front}
 
 -- what was read so far, and written of it
 pub record IsRun (own : Own) (left left' held held' : Option (List ℕ)) (line : List ℕ) (f : FeedState) : Type 0 where
@@ -132,7 +132,7 @@ more_fails E own left left' left'' held held' held'' line new piece out out' f g
     let P : List ℕ → Type 0 = λ t. Consumes left left'' t in
     fails E own left left'' held held'' (r.text ++ piece) [] (r.lines ++ p.0) (r.bytes ++ p.1) new g e
     (subst P (sym (append-nil (r.text ++ piece))) (Consumes-trans left left' left'' r.text piece r.consumed read)) p.3
-    (front_behind held held' held'' r.bytes p.1 r.written (subst (AppendsFront held' held'') (out_is out out' p.1 none p.2) front))
+    (front_after held held' held'' r.bytes p.1 r.written (subst (AppendsFront held' held'') (out_is out out' p.1 none p.2) front))
 
 -- ---- the end
 
@@ -153,7 +153,7 @@ taken_of E own text all b e le lines timely (empty none bytes is) =
       }),
     )
 taken_of E own text all b e le lines timely (stopped number reason stop is) =
-    (stop.before, stop.verdict, inl (ended_before text all stop.before stop.behind stop.line lines stop.parts), stop.taken)
+    (stop.before, stop.verdict, inl (ended_before text all stop.before stop.following stop.line lines stop.parts), stop.taken)
 taken_of E own text all b e le lines timely (accepted v some taken is) =
     let T : PackEnd → Type 0 = λ z. IsTimely own.limit text E z in
     (all, v, inr (subst T is timely, lines), taken)
@@ -189,7 +189,7 @@ packed_run E own left left' held held' held'' text b x out out' all e (Err fault
         t.1,
         t.2,
         t.3,
-        front_behind held held' held'' b x before
+        front_after held held' held'' b x before
             (subst (AppendsFront held' held'') (out_is out out' x none grown) front),
       ),
     )

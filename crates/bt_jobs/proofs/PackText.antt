@@ -27,26 +27,26 @@ whole_front [] more h = tt
 whole_front (l ∷ lines) more h = (h.0, whole_front lines more h.1)
 
 -- the lines before one of a text are ended
-before_last : (lines before behind : List (List ℕ)) (last line : List ℕ) → lines ++ last ∷ [] ≡ before ++ line ∷ behind → (more : List (List ℕ))
+before_last : (lines before following : List (List ℕ)) (last line : List ℕ) → lines ++ last ∷ [] ≡ before ++ line ∷ following → (more : List (List ℕ))
     × (lines ≡ before ++ more)
-before_last lines [] behind last line e = (lines, refl)
-before_last [] (b ∷ before) behind last line e = absurd (omega (arith, ap length e, length-append before (line ∷ behind)))
-before_last (l ∷ lines) (b ∷ before) behind last line e =
+before_last lines [] following last line e = (lines, refl)
+before_last [] (b ∷ before) following last line e = absurd (omega (arith, ap length e, length-append before (line ∷ following)))
+before_last (l ∷ lines) (b ∷ before) following last line e =
     let same : l ≡ b = cc in
-    let rest : lines ++ last ∷ [] ≡ before ++ line ∷ behind = cc in
-    let more = before_last lines before behind last line rest in
+    let rest : lines ++ last ∷ [] ≡ before ++ line ∷ following = cc in
+    let more = before_last lines before following last line rest in
     (more.0, ap (λ (x : List ℕ). x ∷ lines) same ∙ ap (λ (ls : List (List ℕ)). b ∷ ls) more.1)
 
-before_by : (lines before behind : List (List ℕ)) (rest line : List ℕ) → with_last lines rest ≡ before ++ line ∷ behind → (more : List (List ℕ))
+before_by : (lines before following : List (List ℕ)) (rest line : List ℕ) → with_last lines rest ≡ before ++ line ∷ following → (more : List (List ℕ))
     × (lines ≡ before ++ more)
-before_by lines before behind [] line e = (line ∷ behind, e)
-before_by lines before behind (c ∷ cs) line e = before_last lines before behind (c ∷ cs) line e
+before_by lines before following [] line e = (line ∷ following, e)
+before_by lines before following (c ∷ cs) line e = before_last lines before following (c ∷ cs) line e
 
-pub ended_before : (text : List ℕ) (all before behind : List (List ℕ)) (line : List ℕ) → AreLines text all → all ≡ before ++ line ∷ behind → (rest : List ℕ)
+pub ended_before : (text : List ℕ) (all before following : List (List ℕ)) (line : List ℕ) → AreLines text all → all ≡ before ++ line ∷ following → (rest : List ℕ)
     × (text ≡ ended_lines before ++ rest) × AreWhole before
-ended_before text all before behind line h e =
+ended_before text all before following line h e =
     let s = h.2 in
-    let more = before_by h.0 before behind h.1 line (sym h.3 ∙ e) in
+    let more = before_by h.0 before following h.1 line (sym h.3 ∙ e) in
     let parts : text ≡ ended_lines before ++ (ended_lines more.0 ++ h.1) =
     s.parts ∙ ap (λ (ls : List (List ℕ)). ended_lines ls ++ h.1) more.1 ∙ ap (λ (t : List ℕ). t ++ h.1) (ended_both before more.0)
     ∙ append_assoc (ended_lines before) (ended_lines more.0) h.1 in

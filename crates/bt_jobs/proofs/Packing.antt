@@ -36,18 +36,18 @@ use Rattle.bt_jobs.specs.PackSteps.{is_hand, IsPackedTo, IsLineEnd}
 
 -- ---- lines that are named
 
-named_behind : (limit : ℕ) (lines : List (List ℕ)) (b line x : List ℕ) → AreNamed limit false lines b → IsNamed limit false line x
+named_after : (limit : ℕ) (lines : List (List ℕ)) (b line x : List ℕ) → AreNamed limit false lines b → IsNamed limit false line x
     → AreNamed limit false (lines ++ line ∷ []) (b ++ x)
-named_behind limit [] b line x h n = (x, [], n, ap (λ (l : List ℕ). l ++ x) h ∙ sym (append-nil x), refl)
-named_behind limit (l ∷ lines) b line x h n =
-    (h.0, h.1 ++ x, h.2, ap (λ (z : List ℕ). z ++ x) h.3 ∙ append_assoc h.0 h.1 x, named_behind limit lines h.1 line x h.4 n)
+named_after limit [] b line x h n = (x, [], n, ap (λ (l : List ℕ). l ++ x) h ∙ sym (append-nil x), refl)
+named_after limit (l ∷ lines) b line x h n =
+    (h.0, h.1 ++ x, h.2, ap (λ (z : List ℕ). z ++ x) h.3 ∙ append_assoc h.0 h.1 x, named_after limit lines h.1 line x h.4 n)
 
 -- a line more
 named_more : (limit : ℕ) (lines : List (List ℕ)) (b line x : List ℕ) → AreNamed limit true lines b → IsNamed limit (is_none lines) line x
     → AreNamed limit true (lines ++ line ∷ []) (b ++ x)
 named_more limit [] b line x h n = (x, [], n, ap (λ (l : List ℕ). l ++ x) h ∙ sym (append-nil x), refl)
 named_more limit (l ∷ lines) b line x h n =
-    (h.0, h.1 ++ x, h.2, ap (λ (z : List ℕ). z ++ x) h.3 ∙ append_assoc h.0 h.1 x, named_behind limit lines h.1 line x h.4 n)
+    (h.0, h.1 ++ x, h.2, ap (λ (z : List ℕ). z ++ x) h.3 ∙ append_assoc h.0 h.1 x, named_after limit lines h.1 line x h.4 n)
 
 pub some_lines : (lines : List (List ℕ)) (line : List ℕ) → is_none (lines ++ line ∷ []) ≡ false
 some_lines [] line = refl

@@ -276,8 +276,8 @@ told_end form own left0 left left' held0 held held' f g p q e t n =
     )
 
 -- known bytes that grew, and then by a front
-pub front_behind : (a b c : Option (List ℕ)) (xs ys : List ℕ) → Appends a b xs → AppendsFront b c ys → AppendsFront a c (xs ++ ys)
-front_behind a b c xs ys p q = (xs ++ q.0, q.1, ap (λ (l : List ℕ). xs ++ l) q.2 ∙ sym (append_assoc xs q.0 q.1), Appends-trans a b c xs q.0 p q.3)
+pub front_after : (a b c : Option (List ℕ)) (xs ys : List ℕ) → Appends a b xs → AppendsFront b c ys → AppendsFront a c (xs ++ ys)
+front_after a b c xs ys p q = (xs ++ q.0, q.1, ap (λ (l : List ℕ). xs ++ l) q.2 ∙ sym (append_assoc xs q.0 q.1), Appends-trans a b c xs q.0 p q.3)
 
 -- a front, of something longer
 front_of_more : (a b : Option (List ℕ)) (xs ys : List ℕ) → AppendsFront a b xs → AppendsFront a b (xs ++ ys)
@@ -299,7 +299,7 @@ told_fault E form own left0 left left' held0 held held' f g p q e t n =
           let k = m.2 w is in
           let all : texts form own t.items ++ texts form own k.0 ≡ texts form own w.items = sym (texts_both form own t.items k.0)
           ∙ ap (texts form own) (sym k.1) in
-          inl (subst (AppendsFront held0 held') all (front_behind held0 held held' (texts form own t.items) (texts form own k.0) t.written k.2)),
+          inl (subst (AppendsFront held0 held') all (front_after held0 held held' (texts form own t.items) (texts form own k.0) t.written k.2)),
     )
 
 -- after so many turns what is written is a front
@@ -356,7 +356,7 @@ all_shown form E own b text left held mid held' e (Err x) lt one a is told f = �
     let here = written_by form own b held mid e lt one a w isw in
     inr (
       subst (MayBeTold E) here.1 told,
-      front_behind held mid held' (texts form own w.items) (verdict_of form (ended_as w (length b))) here.0
+      front_after held mid held' (texts form own w.items) (verdict_of form (ended_as w (length b))) here.0
           (subst (AppendsFront mid held') (is ∙ ap (verdict_of form) here.1) f),
     )
 
@@ -395,7 +395,7 @@ checked_all E p own f left left' held held' b v e (Err x) le one c new comes end
 pub written_after : (held mid held' : Option (List ℕ)) (p text : List ℕ) (e : Ended) (r : Result Ended ToolFault) → Appends held mid p
     → IsWrittenOut e text mid held' r → IsWrittenOut e (p ++ text) held held' r
 written_after held mid held' p text e (Ok a) first out = (out.0, Appends-trans held mid held' p text first out.1)
-written_after held mid held' p text e (Err f) first out = front_behind held mid held' p text first out
+written_after held mid held' p text e (Err f) first out = front_after held mid held' p text first out
 
 pub prefix_of_both : (held held' : Option (List ℕ)) (p text : List ℕ) → AppendsFront held held' p → AppendsFront held held' (p ++ text)
 prefix_of_both held held' p text h = front_of_more held held' p text h

@@ -72,8 +72,8 @@ IsNotTaken own first text b v (Reason reason) =
 pub record IsStop (own : Own) (all : List (List ℕ)) (b : List ℕ) (number : ℕ) (reason : ScriptReason) : Type 0 where
   pub before : List (List ℕ)
   pub line : List ℕ
-  pub behind : List (List ℕ)
-  pub parts : all ≡ before ++ line ∷ behind
+  pub following : List (List ℕ)
+  pub parts : all ≡ before ++ line ∷ following
   pub verdict : Outcome
   pub taken : AreTaken own before b verdict
   pub count : number ≡ length before + 1
@@ -101,7 +101,7 @@ IsTimely limit text AtEnd (Refused number reason) = IsEndedLine limit text numbe
 
 -- the text begins with these lines, each ended by a line feed; only where the end was read may one that none ends be the last
 abbrev pub AreFrontLines : List ℕ → Type 0 → List (List ℕ) → Type 0
-AreFrontLines text AtEnd lines = ((behind : List ℕ) × (text ≡ ended_lines lines ++ behind) × AreWhole lines) ⊎ (AtEnd × AreLines text lines)
+AreFrontLines text AtEnd lines = ((following : List ℕ) × (text ≡ ended_lines lines ++ following) × AreWhole lines) ⊎ (AtEnd × AreLines text lines)
 
 -- a prefix of the bytes of such lines is written, which are taken
 abbrev pub IsFrontPacked : Own → List ℕ → Type 0 → Option (List ℕ) → Option (List ℕ) → Type 0

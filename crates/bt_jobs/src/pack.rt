@@ -107,11 +107,11 @@ fn take_piece(
                 }
                 return Ok(None);
             }
-            Some((front, behind)) => {
+            Some((front, following)) => {
                 if let Some(reason) = take_ended(feed, line, front, limit, bytes, out)? {
                     return Ok(Some(reason));
                 }
-                rest = behind;
+                rest = following;
             }
         }
     }

@@ -19,8 +19,8 @@ fn line_at(text: &[u8], number: u64, is_all: bool) -> Option<&[u8]>
     }
     let mut rest = text;
     for _line in 1..number {
-        let (_, behind) = split_line(rest)?;
-        rest = behind;
+        let (_, following) = split_line(rest)?;
+        rest = following;
     }
     match split_line(rest) {
         Some((line, _)) => Some(line),
@@ -36,11 +36,11 @@ fn first_decimal(text: &[u8]) -> Option<(u64, &[u8])>
 {
     let mut rest = text;
     for number in 1..=text.len() as u64 {
-        let (line, behind) = split_line(rest)?;
+        let (line, following) = split_line(rest)?;
         if let Some(block) = decimal_block(line) {
             return Some((number, block));
         }
-        rest = behind;
+        rest = following;
     }
     None
 }

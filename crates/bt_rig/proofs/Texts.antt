@@ -21,8 +21,8 @@ five_parts (Err x) t t1 t2 t3 t4 t5 n l s z u v e1 e2 e3 e4 e5 = tt
 pub next_of : {X : Type 0} (xs : List X) (i : ℕ) (x : X) → i < length xs → x ≡ get_or xs i x → drop i xs ≡ x ∷ drop (i + 1) xs
 next_of xs i x lt is = drop_more xs i x lt ∙ ap (λ y. y ∷ drop (i + 1) xs) (sym is)
 
-line_behind : (t d s w f l : List ℕ) → (t ++ (d ++ (s ++ (w ++ f)))) ++ l ≡ t ++ (d ++ (s ++ (w ++ (f ++ l))))
-line_behind t d s w f l = simp append_assoc
+line_then : (t d s w f l : List ℕ) → (t ++ (d ++ (s ++ (w ++ f)))) ++ l ≡ t ++ (d ++ (s ++ (w ++ (f ++ l))))
+line_then t d s w f l = simp append_assoc
 
 pub items_more : (xs : List Item) (i at next : ℕ) (x : Item) (all text more : List ℕ) → i < length xs → x ≡ get_or xs i x → next ≡ capped (at + size x)
     → more ≡ text ++ (decimal at ++ (codes " " ++ (item_words x ++ codes "\n"))) → text ++ item_lines at (drop i xs) ≡ all → more
@@ -31,7 +31,7 @@ items_more xs i at next x all text more lt is place grown h =
     let left = drop (i + 1) xs in
     ap (λ (t : List ℕ). t ++ item_lines next left) grown ∙ ap (λ (n : ℕ). (text ++ (decimal at ++ (codes " " ++ (item_words x ++ codes "\n"))))
     ++ item_lines n left) place
-    ∙ line_behind text (decimal at) (codes " ") (item_words x) (codes "\n") (item_lines (capped (at + size x)) left)
+    ∙ line_then text (decimal at) (codes " ") (item_words x) (codes "\n") (item_lines (capped (at + size x)) left)
     ∙ ap (λ (l : List Item). text ++ item_lines at l) (sym (next_of xs i x lt is)) ∙ h
 
 pub items_end : (xs : List Item) (i at : ℕ) (all text : List ℕ) → length xs ≤ i → text ++ item_lines at (drop i xs) ≡ all → text ≡ all

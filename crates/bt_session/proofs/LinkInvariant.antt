@@ -111,9 +111,9 @@ Coming t [] b = b ≡ []
 Coming t (i ∷ is) b = (first : List ℕ) × (rest : List ℕ) × (b ≡ first ++ rest) × IsItem t first i × Coming (stage_after t (M.size i) i) is rest
 
 -- what is awaited after the items
-abbrev pub behind : Stage → List Item → Stage
-behind t [] = t
-behind t (i ∷ is) = behind (stage_after t (M.size i) i) is
+abbrev pub following : Stage → List Item → Stage
+following t [] = t
+following t (i ∷ is) = following (stage_after t (M.size i) i) is
 
 -- an end that awaits the handshake isn't open
 abbrev pub IsAwaiting : EndState → Stage → Type 0
@@ -123,7 +123,7 @@ IsAwaiting e (stage.Message c o s n) = e.context ≡ Some c
 -- what is under way from the node x to the end e that has this feed, and what was delivered of it
 pub record Loose (a b : EndState) (x : M.Node) (e : EndState) (feed : FeedState) (untaken outbox : List ℕ) : Type 0 where
   pub coming : Coming feed.stage (drop x.handled x.sent) (feed.held ++ (untaken ++ outbox))
-  pub behind_all : behind feed.stage (drop x.handled x.sent) ≡ stage.Message (reads b a) x.end.sends (M.total x.sent) (length x.sent)
+  pub following_all : following feed.stage (drop x.handled x.sent) ≡ stage.Message (reads b a) x.end.sends (M.total x.sent) (length x.sent)
   pub start : start_of feed.stage ≡ M.total (take x.handled x.sent)
   pub count : start_of feed.stage + (length feed.held + length untaken) ≡ x.delivered
   pub within : x.handled ≤ length x.sent

@@ -20,10 +20,10 @@ use Rattle.bt_feed.proofs.Reading.{taken_least}
 use Rattle.bt_end.specs.Ends.{EndState, orders_after}
 use Rattle.bt_session.specs.MessageLinks as M
 use Rattle.bt_session.specs.MessageLinks.{size, total}
-use Rattle.bt_session.proofs.UnderWay.{item_size, coming_length, coming_more, behind_more, messages_come, messages_behind, behind_message, total-append}
+use Rattle.bt_session.proofs.UnderWay.{item_size, coming_length, coming_more, following_more, messages_come, messages_following, following_message, total-append}
 use Rattle.bt_session.proofs.UnderWay.{total_parts}
 use Rattle.bt_session.specs.LinkLaws.{IsConfigured}
-use Rattle.bt_session.proofs.LinkInvariant.{IsStill, reads, Coming, behind, IsAwaiting, AreFor, AreHonest, Loose, Flow}
+use Rattle.bt_session.proofs.LinkInvariant.{IsStill, reads, Coming, following, IsAwaiting, AreFor, AreHonest, Loose, Flow}
 
 -- ---- the feed takes what it may
 
@@ -48,7 +48,7 @@ fed a b x e f untaken outbox l =
     record {
       is = record {
         coming = subst (λ (y : List ℕ). Coming f.stage (drop x.handled x.sent) y) (sym bytes) l.coming;
-        behind_all = l.behind_all;
+        following_all = l.following_all;
         start = l.start;
         count = omega (arith, l.count, length-append f.held (take n untaken), length-append (take n untaken) (drop n untaken), ap length parts);
         within = l.within;
@@ -89,7 +89,7 @@ delivered a b x e f untaken outbox k le l =
     ap (λ (t : List ℕ). f.held ++ t) (append_assoc untaken (take k outbox) (drop k outbox) ∙ ap (λ (t : List ℕ). untaken ++ t) (take-append-drop k outbox)) in
     record {
       coming = subst (λ (y : List ℕ). Coming f.stage (drop x.handled x.sent) y) (sym bytes) l.coming;
-      behind_all = l.behind_all;
+      following_all = l.following_all;
       start = l.start;
       count = omega (arith, l.count, length-append untaken (take k outbox), length-take-le k outbox le);
       within = l.within;
@@ -118,19 +118,19 @@ sent a b x y xs e f untaken outbox c flow all own order lt =
     let here : Stage = stage.Message (reads b a) x.end.sends (total x.sent) (length x.sent) in
     let come : Coming here is (flat_map (spell c) xs) = messages_come c (reads b a) x.end.sends (total x.sent) (length x.sent) xs all
     (omega (arith, lt, total-append x.sent is)) in
-    let come_behind : Coming (behind f.stage (drop x.handled x.sent)) is (flat_map (spell c) xs) =
-    subst (λ (t : Stage). Coming t is (flat_map (spell c) xs)) (sym l.behind_all) come in
+    let come_after : Coming (following f.stage (drop x.handled x.sent)) is (flat_map (spell c) xs) =
+    subst (λ (t : Stage). Coming t is (flat_map (spell c) xs)) (sym l.following_all) come in
     let bytes : f.held ++ (untaken ++ (outbox ++ flat_map (spell c) xs)) ≡ (f.held ++ (untaken ++ outbox)) ++ flat_map (spell c) xs =
     ap (λ (t : List ℕ). f.held ++ t) (sym (append_assoc untaken outbox (flat_map (spell c) xs)))
     ∙ sym (append_assoc f.held (untaken ++ outbox) (flat_map (spell c) xs)) in
     let joined : Coming f.stage (drop x.handled x.sent ++ is) (f.held ++ (untaken ++ (outbox ++ flat_map (spell c) xs))) =
     subst (λ (t : List ℕ). Coming f.stage (drop x.handled x.sent ++ is) t) (sym bytes)
-    (coming_more f.stage (drop x.handled x.sent) is (f.held ++ (untaken ++ outbox)) (flat_map (spell c) xs) l.coming come_behind) in
+    (coming_more f.stage (drop x.handled x.sent) is (f.held ++ (untaken ++ outbox)) (flat_map (spell c) xs) l.coming come_after) in
     record {
       is = record {
         coming = subst (λ (js : List Item). Coming f.stage js (f.held ++ (untaken ++ (outbox ++ flat_map (spell c) xs)))) (sym later) joined;
-        behind_all = ap (behind f.stage) later ∙ behind_more f.stage (drop x.handled x.sent) is ∙ ap (λ (t : Stage). behind t is) l.behind_all
-            ∙ messages_behind (reads b a) x.end.sends (total x.sent) (length x.sent) xs
+        following_all = ap (following f.stage) later ∙ following_more f.stage (drop x.handled x.sent) is ∙ ap (λ (t : Stage). following t is) l.following_all
+            ∙ messages_following (reads b a) x.end.sends (total x.sent) (length x.sent) xs
             ∙ ap (λ (o : Order). stage.Message (reads b a) o (total x.sent + total is) (length x.sent + length is)) (sym order)
             ∙ ap (λ (n : ℕ). stage.Message (reads b a) y.sends n (length x.sent + length is)) (sym (total-append x.sent is))
             ∙ ap (λ (n : ℕ). stage.Message (reads b a) y.sends (total (x.sent ++ is)) n) (sym (length-append x.sent is));
@@ -161,11 +161,11 @@ pub left : (a b : EndState) (x : M.Node) (e y : EndState) (f : FeedState) (untak
     → Loose a b (record x { handled = x.handled + 1 }) y (record { stage = stage_after f.stage (size i) i; held = []; refused = f.refused }) untaken outbox
 left a b x e y f untaken outbox i rest l first later more within item come awaited =
     let t : Stage = stage_after f.stage (size i) i in
-    let here : behind t rest ≡ behind f.stage (drop x.handled x.sent) = ap (behind f.stage) (sym first) in
+    let here : following t rest ≡ following f.stage (drop x.handled x.sent) = ap (following f.stage) (sym first) in
     let own : AreHonest a (i ∷ rest) = subst (λ (js : List Item). AreHonest a js) first l.honest in
     record {
       coming = subst (λ (js : List Item). Coming t js (untaken ++ outbox)) (sym later) come;
-      behind_all = ap (behind t) later ∙ here ∙ l.behind_all;
+      following_all = ap (following t) later ∙ here ∙ l.following_all;
       start = start_after f.stage f.held i (size i) item ∙ ap (λ (n : ℕ). n + size i) l.start ∙ sym more;
       count = omega (arith, l.count, start_after f.stage f.held i (size i) item, item_size f.stage f.held i item);
       within = omega arith;
@@ -177,12 +177,12 @@ left a b x e y f untaken outbox i rest l first later more within item come await
 
 -- ---- the limit
 
-limit_at : (a b : EndState) (e : EndState) (t : Stage) (is : List Item) (o : Order) (s n : ℕ) → IsStill b e → IsAwaiting e t → behind t is
+limit_at : (a b : EndState) (e : EndState) (t : Stage) (is : List Item) (o : Order) (s n : ℕ) → IsStill b e → IsAwaiting e t → following t is
     ≡ stage.Message (reads b a) o s n → limit_of t ≡ b.own.limit
 limit_at a b e (stage.Handshake own) is o s n still w h = ap (λ (x : Own). x.limit) (w.0 ∙ still.own)
-limit_at a b e (stage.Message c p k j) is o s n still w h = ap (λ (x : Context). x.limit) (behind_message c p k j is (reads b a) o s n h)
+limit_at a b e (stage.Message c p k j) is o s n still w h = ap (λ (x : Context). x.limit) (following_message c p k j is (reads b a) o s n h)
 
 pub limited : (a b : EndState) (x : M.Node) (e : EndState) (f : FeedState) (untaken outbox : List ℕ) → IsConfigured b → IsStill b e
     → Loose a b x e f untaken outbox → limit_of f.stage < 2 ^ 32
 limited a b x e f untaken outbox end still l =
-    omega (arith, end.most, limit_at a b e f.stage (drop x.handled x.sent) x.end.sends (total x.sent) (length x.sent) still l.awaited l.behind_all)
+    omega (arith, end.most, limit_at a b e f.stage (drop x.handled x.sent) x.end.sends (total x.sent) (length x.sent) still l.awaited l.following_all)

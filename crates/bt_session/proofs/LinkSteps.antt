@@ -40,13 +40,13 @@ use Rattle.bt_end.specs.declared.end.SayError.TheVariants as say_error
 use Rattle.bt_session.specs.declared.link.Outcome.{Outcome}
 use Rattle.bt_session.specs.declared.link.Outcome.TheVariants as outcome
 use Rattle.bt_session.proofs.AssemblyLaws.{disconnected_fetch}
-use Rattle.bt_session.proofs.UnderWay.{behind_message, next_parts, none_left, first_open, first_held, hand_faultless, total-append, spell_size}
+use Rattle.bt_session.proofs.UnderWay.{following_message, next_parts, none_left, first_open, first_held, hand_faultless, total-append, spell_size}
 use Rattle.bt_wire.specs.Contexts.{IdsSuit, piece_in, PiecesSuit, moved}
 use Rattle.bt_wire.proofs.ContextLaws.{legal_elsewhere, legal_is_not_refused, refusal_is_one}
 use Rattle.bt_wire.proofs.SpellLaws.{length-spell}
 use Rattle.bt_wire.specs.declared.fault.Fault.{Fault}
 use Rattle.bt_session.specs.LinkLaws.{source_of, IsConfigured, AreMatched, SamePieces}
-use Rattle.bt_session.proofs.LinkInvariant.{IsStill, reads, IsPartFor, Knows, IsHonestMessage, taken_back, IsFor, Coming, behind, IsAwaiting, Flow, Wires}
+use Rattle.bt_session.proofs.LinkInvariant.{IsStill, reads, IsPartFor, Knows, IsHonestMessage, taken_back, IsFor, Coming, following, IsAwaiting, Flow, Wires}
 use Rattle.bt_session.proofs.LinkInvariant.{Inv, node_of, made}
 use Rattle.bt_session.proofs.LinkMoves.{fed, undelivered_is, delivered, sent, limited, no_bytes}
 use Rattle.bt_session.proofs.LinkReactions.{agreed_ext, agreed_fast}
@@ -97,7 +97,7 @@ early_at a b x e f untaken outbox end still few flow None next =
     let none : drop x.handled x.sent ≡ [] = none_left x.handled x.sent next in
     let empty : Coming f.stage [] (f.held ++ (untaken ++ outbox)) = subst (λ (js : List Item). Coming f.stage js (f.held ++ (untaken ++ outbox))) none
     l.coming in
-    let is : f.stage ≡ stage.Message (reads b a) x.end.sends (total x.sent) (length x.sent) = ap (behind f.stage) (sym none) ∙ l.behind_all in
+    let is : f.stage ≡ stage.Message (reads b a) x.end.sends (total x.sent) (length x.sent) = ap (following f.stage) (sym none) ∙ l.following_all in
     (open_parts f.stage f.held (empty_open f.stage f.held (untaken ++ outbox) (reads b a) x.end.sends (total x.sent) (length x.sent) few is empty)).0
 early_at a b x e f untaken outbox end still few flow (Some i) next =
     let l = flow.is in
@@ -232,10 +232,10 @@ own_honest a (m.Extended x) h = absurd cc
 own_honest a other h = tt
 
 -- the context of an open end
-open_context : (a b : EndState) (e : EndState) (t : Stage) (is : List Item) (o : Order) (s n : ℕ) → IsAwaiting e t → behind t is
+open_context : (a b : EndState) (e : EndState) (t : Stage) (is : List Item) (o : Order) (s n : ℕ) → IsAwaiting e t → following t is
     ≡ stage.Message (reads a b) o s n → is_none e.context ≡ false → e.context ≡ Some (reads a b)
 open_context a b e (stage.Handshake own) is o s n w follows known = absurd (let none = w.1 in let bad = rw none at known in cc)
-open_context a b e (stage.Message c p k j) is o s n w follows known = w ∙ ap Some (behind_message c p k j is (reads a b) o s n follows)
+open_context a b e (stage.Message c p k j) is o s n w follows known = w ∙ ap Some (following_message c p k j is (reads a b) o s n follows)
 
 -- the context that the other reads in is the believed one, with its own piece count and ids
 reads_moved : (a b e : EndState) → AreMatched a b → IsStill a e → e.context ≡ Some (reads a b) → moved (belief e) b.own.pieces b.own.reg ≡ reads b a
@@ -359,7 +359,7 @@ said_now a b p w msg h inv range unsaid_is legal small =
     let tests = unsaid_none (is_none e.context || false) (nat_le high_water (M.undelivered p.own)) (is_own_made msg)
     (tells_pieces e msg && is_none e.own.pieces) unsaid_is in
     let known : e.context ≡ Some (reads a b) = open_context a b e w.feed.stage (drop p.other.handled p.other.sent) p.other.end.sends (total p.other.sent)
-    (length p.other.sent) l.awaited l.behind_all (or_left (is_none e.context) tests.0) in
+    (length p.other.sent) l.awaited l.following_all (or_left (is_none e.context) tests.0) in
     let for : IsFor (belief e) (reads b a) e.sends msg = said_for a b e msg h inv.own inv.knows known range tests.1 tests.2 legal in
     record {
       wires = said_wires w (flat_map (spell (belief e)) (msg ∷ []));
@@ -374,7 +374,7 @@ said_now a b p w msg h inv range unsaid_is legal small =
         coming = record {
           is = record {
             coming = l.coming;
-            behind_all = l.behind_all;
+            following_all = l.following_all;
             start = l.start;
             count = l.count;
             within = l.within;
@@ -468,7 +468,7 @@ new_flow a b e f enda endb h still other fresh closed quiet =
     record {
       is = record {
         coming = (hand e.handshake, [], sym (append-nil (hand e.handshake)), (hand_faultless f.own e.handshake hs hash, hs, refl), refl);
-        behind_all = ap (λ (o : Own). stage.Message (negotiated o e.handshake.reserved) Fresh 68 1) other.own
+        following_all = ap (λ (o : Own). stage.Message (negotiated o e.handshake.reserved) Fresh 68 1) other.own
             ∙ ap (λ (r : Reserved). stage.Message (negotiated b.own r) Fresh 68 1) reserved ∙ ap (λ (o : Order). stage.Message (reads b a) o 68 1) (sym fresh);
         start = refl;
         count = refl;

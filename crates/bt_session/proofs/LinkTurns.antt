@@ -36,9 +36,9 @@ use Rattle.bt_session.specs.MessageLinks as M
 use Rattle.bt_session.specs.MessageLinks.{size, total}
 use Rattle.bt_session.specs.declared.link.Outcome.{Outcome}
 use Rattle.bt_session.specs.declared.link.Outcome.TheVariants as outcome
-use Rattle.bt_session.proofs.UnderWay.{item_size, behind_message, next_parts, none_left, first_open, first_held, message_early, total-append, spell_size}
+use Rattle.bt_session.proofs.UnderWay.{item_size, following_message, next_parts, none_left, first_open, first_held, message_early, total-append, spell_size}
 use Rattle.bt_session.specs.LinkLaws.{IsConfigured}
-use Rattle.bt_session.proofs.LinkInvariant.{IsStill, reads, Knows, IsHonest, IsHonestMessage, AreHonest, Coming, behind, IsAwaiting, AreFor, Wires, Inv}
+use Rattle.bt_session.proofs.LinkInvariant.{IsStill, reads, Knows, IsHonest, IsHonestMessage, AreHonest, Coming, following, IsAwaiting, AreFor, Wires, Inv}
 use Rattle.bt_session.proofs.LinkInvariant.{node_of, made}
 use Rattle.bt_session.proofs.LinkMoves.{fed, undelivered_is, sent, left, limited}
 use Rattle.bt_session.proofs.LinkReactions.{Reacts, IsOpen, quiet_reacts, extended_reacts, greeted_reacts, agreed_ext, agreed_fast}
@@ -57,10 +57,10 @@ record Handles (a b e : EndState) (t : Stage) (i : Item) : Type 0 where
   pub awaits : IsAwaiting (react e i).end (stage_after t (size i) i)
 
 handles_item : (a b e : EndState) (t : Stage) (held : List ℕ) (i : Item) (is : List Item) (o : Order) (s n : ℕ) → IsConfigured a → IsConfigured b
-    → IsStill a e → Knows b e → IsItem t held i → IsAwaiting e t → behind t (i ∷ is) ≡ stage.Message (reads a b) o s n → IsHonest b i
+    → IsStill a e → Knows b e → IsItem t held i → IsAwaiting e t → following t (i ∷ is) ≡ stage.Message (reads a b) o s n → IsHonest b i
     → Handles a b e t i
 handles_item a b e (stage.Handshake own) held (items.Handshake h) is o s n enda endb still knows item w follows honest =
-    let same : negotiated own h.reserved ≡ reads a b = behind_message (negotiated own h.reserved) Fresh (size (items.Handshake h)) 1 is (reads a b) o s n
+    let same : negotiated own h.reserved ≡ reads a b = following_message (negotiated own h.reserved) Fresh (size (items.Handshake h)) 1 is (reads a b) o s n
     follows in
     let c : Context = negotiated e.own h.reserved in
     let is_c : c ≡ reads a b = ap (λ (x : Own). negotiated x h.reserved) (sym w.0) ∙ same in
@@ -72,7 +72,7 @@ handles_item a b e (stage.Handshake own) held (items.Handshake h) is o s n enda 
       awaits = ap (λ (x : Own). Some (negotiated x h.reserved)) (sym w.0);
     }
 handles_item a b e (stage.Message c p k j) held (items.Message msg) is o s n enda endb still knows item w follows honest =
-    let same : c ≡ reads a b = behind_message c p k j (items.Message msg ∷ is) (reads a b) o s n follows in
+    let same : c ≡ reads a b = following_message c p k j (items.Message msg ∷ is) (reads a b) o s n follows in
     let e' : EndState = record e { receives = order_after e.receives msg } in
     let ready : IsOpen a b c e' = record {
       still = record { own = still.own; handshake = still.handshake; serves = still.serves };
@@ -167,12 +167,12 @@ busies a b p w i inv item lt high = record {
 }
 
 -- the feed after an item
-behind_item : (f : FeedState) (i : Item) → IsItem f.stage f.held i → after_answer f (Ok (Some i)) ≡ record {
+following_item : (f : FeedState) (i : Item) → IsItem f.stage f.held i → after_answer f (Ok (Some i)) ≡ record {
   stage = stage_after f.stage (size i) i;
   held = [];
   refused = f.refused;
 }
-behind_item f i item = ap (λ (n : ℕ). record { stage = stage_after f.stage n i; held = []; refused = f.refused }) (item_size f.stage f.held i item)
+following_item f i item = ap (λ (n : ℕ). record { stage = stage_after f.stage n i; held = []; refused = f.refused }) (item_size f.stage f.held i item)
 
 take_next : (k : ℕ) (is : List Item) (i : Item) → slice_get is k ≡ Some i → take (k + 1) is ≡ take k is ++ i ∷ []
 take_next k [] i e = absurd cc
@@ -197,20 +197,20 @@ handles_next a b p w i rest enda endb inv next item come first later low =
     let l = inv.coming.is in
     let e : EndState = p.own.end in
     let parts = next_parts p.other.handled p.other.sent i next in
-    let follows : behind w.feed.stage (i ∷ rest) ≡ stage.Message (reads a b) p.other.end.sends (total p.other.sent) (length p.other.sent) =
-    ap (behind w.feed.stage) (sym first) ∙ l.behind_all in
+    let follows : following w.feed.stage (i ∷ rest) ≡ stage.Message (reads a b) p.other.end.sends (total p.other.sent) (length p.other.sent) =
+    ap (following w.feed.stage) (sym first) ∙ l.following_all in
     let own : AreHonest b (i ∷ rest) = subst (λ (js : List Item). AreHonest b js) first l.honest in
     let h : Handles a b e w.feed.stage i = handles_item a b e w.feed.stage w.feed.held i rest p.other.end.sends (total p.other.sent) (length p.other.sent)
     enda endb inv.own inv.knows item l.awaited follows own.0 in
     let r : Reaction = react e i in
     let more : List ℕ = flat_map (spell (belief r.end)) r.queued in
     let f : FeedState = record { stage = stage_after w.feed.stage (size i) i; held = []; refused = w.feed.refused } in
-    let behind_is : after_answer w.feed (Ok (Some i)) ≡ f = behind_item w.feed i item in
+    let following_is : after_answer w.feed (Ok (Some i)) ≡ f = following_item w.feed i item in
     let free : IsAnswered (made p w).own.half (Ok (Some i)) = (rw low (and_false (is_ready w.feed)), item) in
     let B0 : B.Node = B.handles (made p w).own i in
     let node : FeedState → List Item → B.Node = λ (g : FeedState) (js : List Item). node_of (M.sends p.own r) js g w.untaken (w.outbox ++ more) in
     let same : B0 ≡ node f (take (p.other.handled + 1) p.other.sent) =
-    ap (λ (g : FeedState). node g (take p.other.handled p.other.sent ++ i ∷ [])) behind_is
+    ap (λ (g : FeedState). node g (take p.other.handled p.other.sent ++ i ∷ [])) following_is
     ∙ ap (λ (js : List Item). node f js) (sym (take_next p.other.handled p.other.sent i next)) in
     record {
       wires = handled_wires w f more;
@@ -321,8 +321,8 @@ turn_by_next a b p w enda endb inv few None next =
     let none : drop p.other.handled p.other.sent ≡ [] = none_left p.other.handled p.other.sent next in
     let empty : Coming w.feed.stage [] (w.feed.held ++ (w.untaken ++ w.other_outbox)) =
     subst (λ (js : List Item). Coming w.feed.stage js (w.feed.held ++ (w.untaken ++ w.other_outbox))) none l.coming in
-    let is : w.feed.stage ≡ stage.Message (reads a b) p.other.end.sends (total p.other.sent) (length p.other.sent) = ap (behind w.feed.stage) (sym none)
-    ∙ l.behind_all in
+    let is : w.feed.stage ≡ stage.Message (reads a b) p.other.end.sends (total p.other.sent) (length p.other.sent) = ap (following w.feed.stage) (sym none)
+    ∙ l.following_all in
     idles a b p w inv (empty_open w.feed.stage w.feed.held (w.untaken ++ w.other_outbox) (reads a b) p.other.end.sends (total p.other.sent)
     (length p.other.sent) few is empty)
 turn_by_next a b p w enda endb inv few (Some i) next = turn_by_there a b p w i enda endb inv next (nat_le (total (take (p.other.handled + 1) p.other.sent))
@@ -339,18 +339,18 @@ outcome_of (Ok (Some i)) = outcome.Handled
 outcome_of (Ok None) = outcome.Idle
 outcome_of (Err r) = outcome.Refused r
 
-node_behind : B.Node → Result (Option Item) Refusal → B.Node
-node_behind x (Ok (Some i)) = B.handles x i
-node_behind x (Ok None) = x
-node_behind x (Err r) = B.with_half x (with_feed x.half (after_answer x.half.feed (Err r)))
+node_after : B.Node → Result (Option Item) Refusal → B.Node
+node_after x (Ok (Some i)) = B.handles x i
+node_after x (Ok None) = x
+node_after x (Err r) = B.with_half x (with_feed x.half (after_answer x.half.feed (Err r)))
 
 -- what a turn does: the end is busy, or its feed answers
 data Gave (x : B.Node) (o : Outcome) (y : B.Node) : Type 0 where
   busy : is_busy x.half ≡ true → o ≡ outcome.Busy → y ≡ x → Gave x o y
-  answered : (r : Result (Option Item) Refusal) → IsAnswered x.half r → o ≡ outcome_of r → y ≡ node_behind x r → Gave x o y
+  answered : (r : Result (Option Item) Refusal) → IsAnswered x.half r → o ≡ outcome_of r → y ≡ node_after x r → Gave x o y
 
 gave : (x : B.Node) (o : Outcome) (y : B.Node) → B.TurnGives x o y → Gave x o y
-unfolding outcome_of node_behind
+unfolding outcome_of node_after
 gave x outcome.Handled y h = answered (Ok (Some h.0)) h.1 refl h.2
 gave x outcome.Idle y h = answered (Ok None) h.0.0 refl (h.1 ∙ ap (B.with_half x) h.0.1)
 gave x outcome.Busy y h = busy h.0.0 refl (h.1 ∙ ap (B.with_half x) h.0.1)
@@ -366,7 +366,7 @@ one_gave x o p y z lt (busy h e f) (answered r k i j) = absurd (let low = k.0 in
 one_gave x o p y z lt (answered r h e f) (busy k i j) = absurd (let low = h.0 in cc)
 one_gave x o p y z lt (answered r h e f) (answered s k i j) =
     let same : r ≡ s = answer_only x.half.feed r s lt h.1 k.1 in
-    (e ∙ ap outcome_of same ∙ sym i, f ∙ ap (node_behind x) same ∙ sym j)
+    (e ∙ ap outcome_of same ∙ sym i, f ∙ ap (node_after x) same ∙ sym j)
 
 pub one_turn : (p : B.Pair) (o o' : Outcome) (q q' : B.Pair) → limit_of p.own.half.feed.stage < 2 ^ 32 → B.IsTurn p o q → B.IsTurn p o' q' → (o ≡ o') × (q ≡ q')
 one_turn p o o' q q' lt h k =
@@ -410,8 +410,8 @@ queues_by a b p w None enda endb inv few next i free =
     let none : drop p.other.handled p.other.sent ≡ [] = none_left p.other.handled p.other.sent next in
     let empty : Coming w.feed.stage [] (w.feed.held ++ (w.untaken ++ w.other_outbox)) =
     subst (λ (js : List Item). Coming w.feed.stage js (w.feed.held ++ (w.untaken ++ w.other_outbox))) none l.coming in
-    let is : w.feed.stage ≡ stage.Message (reads a b) p.other.end.sends (total p.other.sent) (length p.other.sent) = ap (behind w.feed.stage) (sym none)
-    ∙ l.behind_all in
+    let is : w.feed.stage ≡ stage.Message (reads a b) p.other.end.sends (total p.other.sent) (length p.other.sent) = ap (following w.feed.stage) (sym none)
+    ∙ l.following_all in
     let open_is = empty_open w.feed.stage w.feed.held (w.untaken ++ w.other_outbox) (reads a b) p.other.end.sends (total p.other.sent) (length p.other.sent)
     few is empty in
     let closed = item_closed w.feed.stage w.feed.held i (limited b a p.other p.own.end w.feed w.untaken w.other_outbox enda inv.own l) free.1 in
@@ -431,8 +431,8 @@ queues_by a b p w (Some j) enda endb inv few next i free =
     let h = first_held w.feed.stage j rest w.feed.held w.untaken w.other_outbox lt come l.partial inv.coming.full (omega arith) in
     let same : Ok (Some i) ≡ Ok (Some j) = answer_only w.feed (Ok (Some i)) (Ok (Some j)) lt free.1 h.0 in
     let is : j ≡ i = cc in
-    let follows : behind w.feed.stage (j ∷ rest) ≡ stage.Message (reads a b) p.other.end.sends (total p.other.sent) (length p.other.sent) =
-    ap (behind w.feed.stage) (sym parts.0) ∙ l.behind_all in
+    let follows : following w.feed.stage (j ∷ rest) ≡ stage.Message (reads a b) p.other.end.sends (total p.other.sent) (length p.other.sent) =
+    ap (following w.feed.stage) (sym parts.0) ∙ l.following_all in
     let own : AreHonest b (j ∷ rest) = subst (λ (js : List Item). AreHonest b js) parts.0 l.honest in
     let r : Handles a b p.own.end w.feed.stage j = handles_item a b p.own.end w.feed.stage w.feed.held j rest p.other.end.sends (total p.other.sent)
     (length p.other.sent) enda endb inv.own inv.knows h.0 l.awaited follows own.0 in

@@ -31,7 +31,7 @@ use Rattle.bt_feed.specs.declared.stage.Stage.TheVariants as stage
 use Rattle.bt_feed.proofs.Closed.{item_closed, no_longer, open_by}
 use Rattle.bt_end.specs.Ends.{orders_after}
 use Rattle.bt_session.specs.MessageLinks.{bare, size, total}
-use Rattle.bt_session.proofs.LinkInvariant.{Coming, behind, AreFor}
+use Rattle.bt_session.proofs.LinkInvariant.{Coming, following, AreFor}
 
 -- ---- lengths
 
@@ -94,14 +94,14 @@ coming_length t (i ∷ is) b h =
 
 -- ---- more
 
-pub coming_more : (t : Stage) (is js : List Item) (b d : List ℕ) → Coming t is b → Coming (behind t is) js d → Coming t (is ++ js) (b ++ d)
+pub coming_more : (t : Stage) (is js : List Item) (b d : List ℕ) → Coming t is b → Coming (following t is) js d → Coming t (is ++ js) (b ++ d)
 coming_more t [] js b d h k = subst (λ (x : List ℕ). Coming t js (x ++ d)) (sym h) k
 coming_more t (i ∷ is) js b d h k =
     (h.0, h.1 ++ d, ap (λ (x : List ℕ). x ++ d) h.2 ∙ append_assoc h.0 h.1 d, h.3, coming_more (stage_after t (size i) i) is js h.1 d h.4 k)
 
-pub behind_more : (t : Stage) (is js : List Item) → behind t (is ++ js) ≡ behind (behind t is) js
-behind_more t [] js = refl
-behind_more t (i ∷ is) js = behind_more (stage_after t (size i) i) is js
+pub following_more : (t : Stage) (is js : List Item) → following t (is ++ js) ≡ following (following t is) js
+following_more t [] js = refl
+following_more t (i ∷ is) js = following_more (stage_after t (size i) i) is js
 
 pub messages_come : (c d : Context) (o : Order) (s n : ℕ) (xs : List Message) → AreFor c d o xs → s + total (map items.Message xs) < 2 ^ 62
     → Coming (stage.Message d o s n) (map items.Message xs) (flat_map (spell c) xs)
@@ -117,19 +117,19 @@ messages_come c d o s n (x ∷ xs) h lt = (
 stage_same : (d : Context) (o : Order) (s t n k : ℕ) → s ≡ t → n ≡ k → stage.Message d o s n ≡ stage.Message d o t k
 stage_same d o s t n k e f = ap (λ (x : ℕ). stage.Message d o x n) e ∙ ap (λ (x : ℕ). stage.Message d o t x) f
 
-pub messages_behind : (d : Context) (o : Order) (s n : ℕ) (xs : List Message) → behind (stage.Message d o s n) (map items.Message xs)
+pub messages_following : (d : Context) (o : Order) (s n : ℕ) (xs : List Message) → following (stage.Message d o s n) (map items.Message xs)
     ≡ stage.Message d (orders_after o xs) (s + total (map items.Message xs)) (n + length (map items.Message xs))
-messages_behind d o s n [] = stage_same d o s (s + 0) n (n + 0) (omega arith) (omega arith)
-messages_behind d o s n (x ∷ xs) =
-    messages_behind d (order_after o x) (s + size (items.Message x)) (n + 1) xs
+messages_following d o s n [] = stage_same d o s (s + 0) n (n + 0) (omega arith) (omega arith)
+messages_following d o s n (x ∷ xs) =
+    messages_following d (order_after o x) (s + size (items.Message x)) (n + 1) xs
     ∙ stage_same d (orders_after (order_after o x) xs) _ _ _ _ (omega arith) (omega arith)
 
 -- what follows messages is a message in the same context
-pub behind_message : (d : Context) (o : Order) (s n : ℕ) (is : List Item) (c : Context) (p : Order) (t k : ℕ) → behind (stage.Message d o s n) is
+pub following_message : (d : Context) (o : Order) (s n : ℕ) (is : List Item) (c : Context) (p : Order) (t k : ℕ) → following (stage.Message d o s n) is
     ≡ stage.Message c p t k → d ≡ c
-behind_message d o s n [] c p t k e = cc
-behind_message d o s n (items.Message x ∷ is) c p t k e = behind_message d (order_after o x) (s + size (items.Message x)) (n + 1) is c p t k e
-behind_message d o s n (items.Handshake h ∷ is) c p t k e = behind_message d o s n is c p t k e
+following_message d o s n [] c p t k e = cc
+following_message d o s n (items.Message x ∷ is) c p t k e = following_message d (order_after o x) (s + size (items.Message x)) (n + 1) is c p t k e
+following_message d o s n (items.Handshake h ∷ is) c p t k e = following_message d o s n is c p t k e
 
 -- ---- a part of an item is open
 

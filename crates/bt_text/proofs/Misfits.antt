@@ -2,7 +2,7 @@
 use Rattle.std.proofs.Common.{◌≡◌, ℕ, ◌+◌, ◌<◌, ◌≤◌, Bool, true, false, List, [], ◌∷◌, ◌++◌, length, drop, get_or, refl, sym, ap, subst, ◌∙◌, arith}
 use Rattle.std.specs.Prelude.{codes}
 use Rattle.std.proofs.lemmas.List.{append-nil, append_assoc, nil_from_length, drop_all, drop_more}
-use Rattle.bt_text.specs.ScriptReading.{word_of, behind_word}
+use Rattle.bt_text.specs.ScriptReading.{word_of, after_word}
 use Rattle.bt_text.specs.Misfits.{IsCompleted, IsCompletedOr, IsMisfit, wrong_word, missing, too_many}
 use Rattle.bt_text.specs.declared.script.misfit.Expected.{Expected}
 use Rattle.bt_text.specs.declared.script.misfit.Expected.TheVariants.{End}
@@ -40,9 +40,9 @@ wrong first text front rest tail new space es k column d within whole r s comple
     (subst (λ (l : List ℕ). IsCompleted first l (drop (k + 1) es) → ⊥) same broken) (omega (arith, at))
 
 pub one_more : (text front rest tail new next : List ℕ) (space : ℕ) → front ++ rest ≡ text → rest ≡ space ∷ tail → space ≡ 32
-    → new ≡ (front ++ (32 ∷ [])) ++ word_of tail → next ≡ behind_word tail → new ++ next ≡ text
+    → new ≡ (front ++ (32 ∷ [])) ++ word_of tail → next ≡ after_word tail → new ++ next ≡ text
 one_more text front rest tail new next space whole r s n b =
-    rw n (rw b (append_assoc (front ++ (32 ∷ [])) (word_of tail) (behind_word tail)
+    rw n (rw b (append_assoc (front ++ (32 ∷ [])) (word_of tail) (after_word tail)
     ∙ ap (λ (x : List ℕ). (front ++ (32 ∷ [])) ++ x) (word-parts tail) ∙ append_assoc front (32 ∷ []) tail
     ∙ sym (after_space front rest tail space r s) ∙ whole))
 

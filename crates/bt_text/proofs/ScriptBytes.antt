@@ -12,7 +12,7 @@ use Rattle.bt_wire.specs.Numbers.{be32}
 use Rattle.bt_text.specs.Script.{framed_by, row_named}
 use Rattle.bt_wire.specs.declared.ids.Shape.{Shape}
 use Rattle.bt_wire.specs.Ids.{Id, ids}
-use Rattle.bt_text.specs.ScriptReading.{word_of, behind_word, fields_in, row_in_text, message_in, Gives}
+use Rattle.bt_text.specs.ScriptReading.{word_of, after_word, fields_in, row_in_text, message_in, Gives}
 
 framed-append : (id size : ℕ) (numbers bytes : List ℕ) → size ≡ 1 + length numbers + length bytes → (be32 size ++ (id ∷ numbers)) ++ bytes
     ≡ framed_by id (numbers ++ bytes)
@@ -54,14 +54,14 @@ row_given (Some i) text p e =
     ap (λ (p : ℕ × Shape). option_map (framed_by p.0) (fields_in p.1 text)) (sym same)
 
 pub message_given : {E : Type 0} (text name rest : List ℕ) (n : ℕ) (shape : Shape) (new : List ℕ) (r : Result Bool E) → bytes_eq text (codes "keep-alive")
-    ≡ false → name ≡ word_of text → bytes_eq name (codes "unknown") ≡ false → rest ≡ behind_word text
+    ≡ false → name ≡ word_of text → bytes_eq name (codes "unknown") ≡ false → rest ≡ after_word text
     → (let p : ℕ × Shape = (n, shape) in Some p ≡ option_map number_and_shape (row_named name ids))
     → IfOk r (Gives (option_map (framed_by n) (fields_in shape rest)) new) → IfOk r (Gives (message_in text) new)
-message_given text name rest n shape new r other word known behind row h =
+message_given text name rest n shape new r other word known following row h =
     let p : ℕ × Shape = (n, shape) in
     let unknown = rw word at known in
     let row' = rw word at row in
-    let h' = rw behind at h in
-    let is : message_in text ≡ option_map (framed_by n) (fields_in shape (behind_word text)) =
-    rw (other, unknown) (row_given (row_named (word_of text) ids) (behind_word text) p row') in
+    let h' = rw following at h in
+    let is : message_in text ≡ option_map (framed_by n) (fields_in shape (after_word text)) =
+    rw (other, unknown) (row_given (row_named (word_of text) ids) (after_word text) p row') in
     rw is h'

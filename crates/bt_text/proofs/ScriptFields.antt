@@ -17,9 +17,9 @@ use Rattle.bt_wire.specs.Messages.{Fields, none, index, part, block, port, field
 use Rattle.bt_wire.specs.Numbers.{be16, be32}
 use Rattle.bt_text.specs.Lines.{spaced}
 use Rattle.bt_text.specs.Script.{SaysBytes, SaysSpaced, SaysFields, shape_of}
-use Rattle.bt_text.specs.ScriptReading.{word_of, behind_word, number_in_word, bytes_in_word, number_behind, after_one, one_more_behind, two_behind}
-use Rattle.bt_text.specs.ScriptReading.{three_behind, closed, bytes_behind, with_bytes, port_in, extended_in, fields_in}
-use Rattle.bt_text.proofs.ScriptWords.{Stops, word-parts, word_of-append, behind_word-append, decimal_has_no_space, number_in_word-decimal, number_in_word-Some}
+use Rattle.bt_text.specs.ScriptReading.{word_of, after_word, number_in_word, bytes_in_word, number_following, after_one, one_more_after, two_after}
+use Rattle.bt_text.specs.ScriptReading.{three_after, closed, bytes_after, with_bytes, port_in, extended_in, fields_in}
+use Rattle.bt_text.proofs.ScriptWords.{Stops, word-parts, word_of-append, after_word-append, decimal_has_no_space, number_in_word-decimal, number_in_word-Some}
 
 -- ---- what an answer comes from
 
@@ -58,19 +58,19 @@ pub record HasNumber (text : List ℕ) (n : ℕ) (rest : List ℕ) : Type 0 wher
   pub text_is : text ≡ spaced n ++ rest
   pub small : n < 2 ^ 32
 
-number_at : (c : ℕ) (cs : List ℕ) (p : ℕ × List ℕ) → (c == 32) ≡ true → option_map (λ n. (n, behind_word cs)) (number_in_word (word_of cs)) ≡ Some p
+number_at : (c : ℕ) (cs : List ℕ) (p : ℕ × List ℕ) → (c == 32) ≡ true → option_map (λ n. (n, after_word cs)) (number_in_word (word_of cs)) ≡ Some p
     → HasNumber (c ∷ cs) p.0 p.1
 number_at c cs p e h =
-    let q = option_map-Some (λ (n : ℕ). (n, behind_word cs)) (number_in_word (word_of cs)) p h in
+    let q = option_map-Some (λ (n : ℕ). (n, after_word cs)) (number_in_word (word_of cs)) p h in
     let d = number_in_word-Some (word_of cs) q.from q.was in
-    let text : c ∷ cs ≡ spaced q.from ++ behind_word cs =
-    ap (λ (x : List ℕ). c ∷ x) (sym (word-parts cs)) ∙ ap (λ (x : List ℕ). c ∷ (x ++ behind_word cs)) d.digits
-    ∙ ap (λ (k : ℕ). k ∷ (decimal q.from ++ behind_word cs)) (is_space c e) in
+    let text : c ∷ cs ≡ spaced q.from ++ after_word cs =
+    ap (λ (x : List ℕ). c ∷ x) (sym (word-parts cs)) ∙ ap (λ (x : List ℕ). c ∷ (x ++ after_word cs)) d.digits
+    ∙ ap (λ (k : ℕ). k ∷ (decimal q.from ++ after_word cs)) (is_space c e) in
     subst (λ (p : ℕ × List ℕ). HasNumber (c ∷ cs) p.0 p.1) q.gives (record { text_is = text; small = d.small })
 
-pub number_behind-Some : (text : List ℕ) (p : ℕ × List ℕ) → number_behind text ≡ Some p → HasNumber text p.0 p.1
-number_behind-Some [] p h = absurd cc
-number_behind-Some (c ∷ cs) p h =
+pub number_following-Some : (text : List ℕ) (p : ℕ × List ℕ) → number_following text ≡ Some p → HasNumber text p.0 p.1
+number_following-Some [] p h = absurd cc
+number_following-Some (c ∷ cs) p h =
     elim (cases_Bool (c == 32)) [
       | inl e ↦ number_at c cs p e (rw e at h)
       | inr e ↦ absurd (let k = rw e at h in cc k)
@@ -79,10 +79,10 @@ number_behind-Some (c ∷ cs) p h =
 abbrev pub pair : {A : Type 0} → A → List ℕ → A × List ℕ
 pair x t = (x, t)
 
-pub number_behind-spaced : (n : ℕ) (t : List ℕ) → n < 2 ^ 32 → Stops t → number_behind (spaced n ++ t) ≡ Some (pair n t)
-number_behind-spaced n t lt stops =
+pub number_following-spaced : (n : ℕ) (t : List ℕ) → n < 2 ^ 32 → Stops t → number_following (spaced n ++ t) ≡ Some (pair n t)
+number_following-spaced n t lt stops =
     let free = decimal_has_no_space n (omega arith) in
-    rw (word_of-append (decimal n) t free stops, behind_word-append (decimal n) t free stops, number_in_word-decimal n lt) refl
+    rw (word_of-append (decimal n) t free stops, after_word-append (decimal n) t free stops, number_in_word-decimal n lt) refl
 
 -- ---- further numbers as bytes
 
@@ -91,15 +91,15 @@ pub record HasOneMore (p q : List ℕ × List ℕ) : Type 0 where
   pub text : HasNumber p.1 number q.1
   pub bytes : q.0 ≡ p.0 ++ be32 number
 
-pub one_more_behind-Some : (p q : List ℕ × List ℕ) → one_more_behind p ≡ Some q → HasOneMore p q
-one_more_behind-Some p q h =
-    let m = option_map-Some (after_one p.0) (number_behind p.1) q h in
-    let t = number_behind-Some p.1 m.from m.was in
+pub one_more_after-Some : (p q : List ℕ × List ℕ) → one_more_after p ≡ Some q → HasOneMore p q
+one_more_after-Some p q h =
+    let m = option_map-Some (after_one p.0) (number_following p.1) q h in
+    let t = number_following-Some p.1 m.from m.was in
     subst (λ (q : List ℕ × List ℕ). HasOneMore p q) m.gives (record { number = m.from.0; text = t; bytes = refl })
 
-pub one_more_behind-spaced : (front : List ℕ) (n : ℕ) (t : List ℕ) → n < 2 ^ 32 → Stops t → one_more_behind (pair front (spaced n ++ t))
+pub one_more_after-spaced : (front : List ℕ) (n : ℕ) (t : List ℕ) → n < 2 ^ 32 → Stops t → one_more_after (pair front (spaced n ++ t))
     ≡ Some (pair (front ++ be32 n) t)
-one_more_behind-spaced front n t lt stops = ap (option_map (after_one front)) (number_behind-spaced n t lt stops)
+one_more_after-spaced front n t lt stops = ap (option_map (after_one front)) (number_following-spaced n t lt stops)
 
 -- ---- a space and bytes
 
@@ -147,16 +147,16 @@ bytes_in_word-says (c ∷ cs) (b ∷ bs) h =
           rw (e, no, h) refl
     ]
 
-pub bytes_behind-Some : (text bytes : List ℕ) → bytes_behind text ≡ Some bytes → SaysSpaced text bytes
-bytes_behind-Some [] bytes h = absurd cc
-bytes_behind-Some (c ∷ cs) bytes h =
+pub bytes_after-Some : (text bytes : List ℕ) → bytes_after text ≡ Some bytes → SaysSpaced text bytes
+bytes_after-Some [] bytes h = absurd cc
+bytes_after-Some (c ∷ cs) bytes h =
     elim (cases_Bool (c == 32)) [
       | inl e ↦ (cs, ap (λ (k : ℕ). k ∷ cs) (is_space c e), bytes_in_word-Some cs bytes (rw e at h))
       | inr e ↦ absurd (let k = rw e at h in cc k)
     ]
 
-pub bytes_behind-says : (text bytes : List ℕ) → SaysSpaced text bytes → bytes_behind text ≡ Some bytes
-bytes_behind-says text bytes h = rw h.1 (bytes_in_word-says h.0 bytes h.2)
+pub bytes_after-says : (text bytes : List ℕ) → SaysSpaced text bytes → bytes_after text ≡ Some bytes
+bytes_after-says text bytes h = rw h.1 (bytes_in_word-says h.0 bytes h.2)
 
 pub Stops-says : (text bytes : List ℕ) → SaysSpaced text bytes → Stops text
 Stops-says text bytes h = rw h.1 refl
@@ -168,11 +168,11 @@ pub record HasBytes (numbers text all : List ℕ) : Type 0 where
 
 pub with_bytes-Some : (numbers text all : List ℕ) → with_bytes numbers text ≡ Some all → HasBytes numbers text all
 with_bytes-Some numbers text all h =
-    let m = option_map-Some (λ (bytes : List ℕ). numbers ++ bytes) (bytes_behind text) all h in
-    record { bytes = m.from; says = bytes_behind-Some text m.from m.was; same = m.gives }
+    let m = option_map-Some (λ (bytes : List ℕ). numbers ++ bytes) (bytes_after text) all h in
+    record { bytes = m.from; says = bytes_after-Some text m.from m.was; same = m.gives }
 
 pub with_bytes-says : (numbers text bytes : List ℕ) → SaysSpaced text bytes → with_bytes numbers text ≡ Some (numbers ++ bytes)
-with_bytes-says numbers text bytes h = ap (option_map (λ (b : List ℕ). numbers ++ b)) (bytes_behind-says text bytes h)
+with_bytes-says numbers text bytes h = ap (option_map (λ (b : List ℕ). numbers ++ b)) (bytes_after-says text bytes h)
 
 -- ---- the fields of a shape
 
@@ -192,8 +192,8 @@ last text rest n h e = h.text_is ∙ ap (λ (x : List ℕ). spaced n ++ x) e ∙
 
 index_read : (text bytes : List ℕ) → fields_in Index text ≡ Some bytes → SomeFields Index text bytes
 index_read text bytes h =
-    let c = option_and_then-Some (λ (p : ℕ × List ℕ). closed (be32 p.0) p.1) (number_behind text) bytes h in
-    let n = number_behind-Some text c.from c.was in
+    let c = option_and_then-Some (λ (p : ℕ × List ℕ). closed (be32 p.0) p.1) (number_following text) bytes h in
+    let n = number_following-Some text c.from c.was in
     let d = closed-Some (be32 c.from.0) c.from.1 bytes c.gives in
     (index c.from.0, record { shape = refl; in_range = n.small; says = last text c.from.1 c.from.0 n d.empty; spelled = sym d.same })
 
@@ -205,11 +205,11 @@ pub record HasTwo (text : List ℕ) (q : List ℕ × List ℕ) : Type 0 where
   pub text_is : text ≡ spaced first ++ (spaced second ++ q.1)
   pub bytes : q.0 ≡ be32 first ++ be32 second
 
-pub two_behind-Some : (text : List ℕ) (q : List ℕ × List ℕ) → two_behind text ≡ Some q → HasTwo text q
-two_behind-Some text q h =
-    let c = option_and_then-Some one_more_behind (one_more_behind ([], text)) q h in
-    let a = one_more_behind-Some ([], text) c.from c.was in
-    let b = one_more_behind-Some c.from q c.gives in
+pub two_after-Some : (text : List ℕ) (q : List ℕ × List ℕ) → two_after text ≡ Some q → HasTwo text q
+two_after-Some text q h =
+    let c = option_and_then-Some one_more_after (one_more_after ([], text)) q h in
+    let a = one_more_after-Some ([], text) c.from c.was in
+    let b = one_more_after-Some c.from q c.gives in
     record {
       first = a.number;
       second = b.number;
@@ -221,11 +221,11 @@ two_behind-Some text q h =
 
 part_read : (text bytes : List ℕ) → fields_in Part text ≡ Some bytes → SomeFields Part text bytes
 part_read text bytes h =
-    let c = option_and_then-Some (λ (p : List ℕ × List ℕ). closed p.0 p.1) (three_behind text) bytes h in
+    let c = option_and_then-Some (λ (p : List ℕ × List ℕ). closed p.0 p.1) (three_after text) bytes h in
     let d = closed-Some c.from.0 c.from.1 bytes c.gives in
-    let e = option_and_then-Some one_more_behind (two_behind text) c.from c.was in
-    let two = two_behind-Some text e.from e.was in
-    let m = one_more_behind-Some e.from c.from e.gives in (
+    let e = option_and_then-Some one_more_after (two_after text) c.from c.was in
+    let two = two_after-Some text e.from e.was in
+    let m = one_more_after-Some e.from c.from e.gives in (
       part two.first two.second m.number,
       record {
         shape = refl;
@@ -237,8 +237,8 @@ part_read text bytes h =
 
 block_read : (text bytes : List ℕ) → fields_in Block text ≡ Some bytes → SomeFields Block text bytes
 block_read text bytes h =
-    let c = option_and_then-Some (λ (p : List ℕ × List ℕ). with_bytes p.0 p.1) (two_behind text) bytes h in
-    let two = two_behind-Some text c.from c.was in
+    let c = option_and_then-Some (λ (p : List ℕ × List ℕ). with_bytes p.0 p.1) (two_after text) bytes h in
+    let two = two_after-Some text c.from c.was in
     let w = with_bytes-Some c.from.0 c.from.1 bytes c.gives in (
       block two.first two.second w.bytes,
       record {
@@ -258,8 +258,8 @@ port_at p bytes h =
 
 port_read : (text bytes : List ℕ) → fields_in Port text ≡ Some bytes → SomeFields Port text bytes
 port_read text bytes h =
-    let c = option_and_then-Some port_in (number_behind text) bytes h in
-    let n = number_behind-Some text c.from c.was in
+    let c = option_and_then-Some port_in (number_following text) bytes h in
+    let n = number_following-Some text c.from c.was in
     let d = port_at c.from bytes c.gives in
     (port c.from.0, record { shape = refl; in_range = d.0; says = last text c.from.1 c.from.0 n d.1.empty; spelled = sym d.1.same })
 
@@ -277,8 +277,8 @@ extended_at p bytes h =
 
 extended_read : (text bytes : List ℕ) → fields_in Extended text ≡ Some bytes → SomeFields Extended text bytes
 extended_read text bytes h =
-    let c = option_and_then-Some extended_in (number_behind text) bytes h in
-    let n = number_behind-Some text c.from c.was in
+    let c = option_and_then-Some extended_in (number_following text) bytes h in
+    let n = number_following-Some text c.from c.was in
     let d = extended_at c.from bytes c.gives in
     (extended c.from.0 d.1.bytes, record { shape = refl; in_range = d.0; says = (c.from.1, n.text_is, d.1.says); spelled = sym d.1.same })
 
@@ -296,18 +296,18 @@ fields_in-Some Extended text bytes h = extended_read text bytes h
 
 -- ---- what is said is read
 
-closed_one : (n : ℕ) (text : List ℕ) → n < 2 ^ 32 → text ≡ spaced n → number_behind text ≡ Some (pair n [])
-closed_one n text lt e = rw e (ap number_behind (sym (append-nil (spaced n))) ∙ number_behind-spaced n [] lt tt)
+closed_one : (n : ℕ) (text : List ℕ) → n < 2 ^ 32 → text ≡ spaced n → number_following text ≡ Some (pair n [])
+closed_one n text lt e = rw e (ap number_following (sym (append-nil (spaced n))) ∙ number_following-spaced n [] lt tt)
 
-two_says : (i b : ℕ) (rest : List ℕ) → i < 2 ^ 32 → b < 2 ^ 32 → Stops rest → two_behind (spaced i ++ (spaced b ++ rest)) ≡ Some (pair (be32 i ++ be32 b) rest)
+two_says : (i b : ℕ) (rest : List ℕ) → i < 2 ^ 32 → b < 2 ^ 32 → Stops rest → two_after (spaced i ++ (spaced b ++ rest)) ≡ Some (pair (be32 i ++ be32 b) rest)
 two_says i b rest li lb stops =
-    rw (one_more_behind-spaced [] i (spaced b ++ rest) li refl) (one_more_behind-spaced (be32 i) b rest lb stops)
+    rw (one_more_after-spaced [] i (spaced b ++ rest) li refl) (one_more_after-spaced (be32 i) b rest lb stops)
 
-three_says : (i b l : ℕ) → i < 2 ^ 32 → b < 2 ^ 32 → l < 2 ^ 32 → three_behind (spaced i ++ (spaced b ++ spaced l))
+three_says : (i b l : ℕ) → i < 2 ^ 32 → b < 2 ^ 32 → l < 2 ^ 32 → three_after (spaced i ++ (spaced b ++ spaced l))
     ≡ Some (pair ((be32 i ++ be32 b) ++ be32 l) [])
 three_says i b l li lb ll =
-    rw (two_says i b (spaced l) li lb refl) (ap (λ (x : List ℕ). one_more_behind (pair (be32 i ++ be32 b) x)) (sym (append-nil (spaced l)))
-    ∙ one_more_behind-spaced (be32 i ++ be32 b) l [] ll tt)
+    rw (two_says i b (spaced l) li lb refl) (ap (λ (x : List ℕ). one_more_after (pair (be32 i ++ be32 b) x)) (sym (append-nil (spaced l)))
+    ∙ one_more_after-spaced (be32 i ++ be32 b) l [] ll tt)
 
 block_says : (i b : ℕ) (text rest bytes : List ℕ) → i < 2 ^ 32 → b < 2 ^ 32 → text ≡ spaced i ++ (spaced b ++ rest) → SaysSpaced rest bytes
     → fields_in Block text ≡ Some (spell_fields (block i b bytes))
@@ -320,7 +320,7 @@ port_says p text lt e =
 
 extended_says : (n : ℕ) (text rest bytes : List ℕ) → n < 2 ^ 8 → text ≡ spaced n ++ rest → SaysSpaced rest bytes → fields_in Extended text ≡ Some (n ∷ bytes)
 extended_says n text rest bytes lt e says =
-    rw (e, number_behind-spaced n rest (omega arith) (Stops-says rest bytes says), lt-ltb n 256 lt) (with_bytes-says (n ∷ []) rest bytes says)
+    rw (e, number_following-spaced n rest (omega arith) (Stops-says rest bytes says), lt-ltb n 256 lt) (with_bytes-says (n ∷ []) rest bytes says)
 
 shape_is : (s t : Shape) → Some s ≡ Some t → s ≡ t
 shape_is s t e = cc e

@@ -21,10 +21,10 @@ use Rattle.bt_wire.specs.Numbers.{be32, be64}
 use Rattle.bt_text.specs.Lines.{spaced}
 use Rattle.bt_text.specs.Script.{SaysSpaced, SaysFields, row_named, IsOfRow, Said, keep_alive, known, unknown, Says, framed_by, said_bytes, IsMessageLine}
 use Rattle.bt_text.specs.Script.{HasHandshakeWords, IsHandshakeLine, IsLine, IsAnswer}
-use Rattle.bt_text.specs.ScriptReading.{word_of, behind_word, number_behind, with_bytes, fields_in, payload_in, unknown_in, row_in_text, message_in}
-use Rattle.bt_text.specs.ScriptReading.{array_behind, peer_in, info_in, handshake_in, bytes_of_parts, closed, line_in, Gives}
-use Rattle.bt_text.proofs.ScriptWords.{Stops, has_no_space, word-parts, word_of-append, behind_word-append}
-use Rattle.bt_text.proofs.ScriptFields.{option_map-Some, option_and_then-Some, closed-Some, is_space, number_behind-Some, pair, number_behind-spaced}
+use Rattle.bt_text.specs.ScriptReading.{word_of, after_word, number_following, with_bytes, fields_in, payload_in, unknown_in, row_in_text, message_in}
+use Rattle.bt_text.specs.ScriptReading.{array_after, peer_in, info_in, handshake_in, bytes_of_parts, closed, line_in, Gives}
+use Rattle.bt_text.proofs.ScriptWords.{Stops, has_no_space, word-parts, word_of-append, after_word-append}
+use Rattle.bt_text.proofs.ScriptFields.{option_map-Some, option_and_then-Some, closed-Some, is_space, number_following-Some, pair, number_following-spaced}
 use Rattle.bt_text.proofs.ScriptFields.{with_bytes-Some, with_bytes-says, Stops-says, fields_in-Some, fields_in-says, Stops-fields}
 
 same_text : (a b : List ℕ) → bytes_eq a b ≡ true → a ≡ b
@@ -52,22 +52,22 @@ payload_if n text bytes true false small meaning h =
 payload_if n text bytes true true small meaning h = absurd cc
 payload_if n text bytes false meant small meaning h = absurd cc
 
-unknown_read : (text bytes : List ℕ) → word_of text ≡ codes "unknown" → unknown_in (behind_word text) ≡ Some bytes → IsMessageLine text bytes
+unknown_read : (text bytes : List ℕ) → word_of text ≡ codes "unknown" → unknown_in (after_word text) ≡ Some bytes → IsMessageLine text bytes
 unknown_read text bytes name h =
-    let c = option_and_then-Some payload_in (number_behind (behind_word text)) bytes h in
-    let n = number_behind-Some (behind_word text) c.from c.was in
+    let c = option_and_then-Some payload_in (number_following (after_word text)) bytes h in
+    let n = number_following-Some (after_word text) c.from c.was in
     let p = payload_if c.from.0 c.from.1 bytes (nat_lt c.from.0 256) (has_meaning c.from.0) refl refl c.gives in
     let parts : text ≡ codes "unknown" ++ (spaced c.from.0 ++ c.from.1) =
-    sym (word-parts text) ∙ ap (λ (x : List ℕ). x ++ behind_word text) name ∙ ap (λ (x : List ℕ). codes "unknown" ++ x) n.text_is in
+    sym (word-parts text) ∙ ap (λ (x : List ℕ). x ++ after_word text) name ∙ ap (λ (x : List ℕ). codes "unknown" ++ x) n.text_is in
     (unknown c.from.0 p.payload, (c.from.1, parts, p.small, p.unknown_id, p.says), sym p.same)
 
-known_read : (text bytes : List ℕ) → option_and_then (row_in_text (behind_word text)) (row_named (word_of text) ids) ≡ Some bytes → IsMessageLine text bytes
+known_read : (text bytes : List ℕ) → option_and_then (row_in_text (after_word text)) (row_named (word_of text) ids) ≡ Some bytes → IsMessageLine text bytes
 known_read text bytes h =
-    let c = option_and_then-Some (row_in_text (behind_word text)) (row_named (word_of text) ids) bytes h in
-    let m = option_map-Some (framed_by c.from.number) (fields_in c.from.kind.shape (behind_word text)) bytes c.gives in
-    let f = fields_in-Some c.from.kind.shape (behind_word text) m.from m.was in (
+    let c = option_and_then-Some (row_in_text (after_word text)) (row_named (word_of text) ids) bytes h in
+    let m = option_map-Some (framed_by c.from.number) (fields_in c.from.kind.shape (after_word text)) bytes c.gives in
+    let f = fields_in-Some c.from.kind.shape (after_word text) m.from m.was in (
       known c.from f.0,
-      (word_of text, behind_word text, sym (word-parts text), record { named = c.was; shape = f.1.shape; fields = f.1.in_range }, f.1.says),
+      (word_of text, after_word text, sym (word-parts text), record { named = c.was; shape = f.1.shape; fields = f.1.in_range }, f.1.says),
       sym m.gives ∙ ap (framed_by c.from.number) f.1.spelled,
     )
 
@@ -75,8 +75,8 @@ some_is : (a b : List ℕ) → Some a ≡ Some b → b ≡ a
 some_is a b e = cc e
 
 message_if : (text bytes : List ℕ) (alive named : Bool) → bytes_eq text (codes "keep-alive") ≡ alive → bytes_eq (word_of text) (codes "unknown") ≡ named
-    → (cond alive (Some (be32 0)) (cond named (unknown_in (behind_word text))
-    (option_and_then (row_in_text (behind_word text)) (row_named (word_of text) ids)))) ≡ Some bytes → IsMessageLine text bytes
+    → (cond alive (Some (be32 0)) (cond named (unknown_in (after_word text))
+    (option_and_then (row_in_text (after_word text)) (row_named (word_of text) ids)))) ≡ Some bytes → IsMessageLine text bytes
 message_if text bytes true named a u h = (keep_alive, same_text text (codes "keep-alive") a, some_is (be32 0) bytes h)
 message_if text bytes false true a u h = unknown_read text bytes (same_text (word_of text) (codes "unknown") u) h
 message_if text bytes false false a u h = known_read text bytes h
@@ -127,15 +127,15 @@ known_said text name rest i f parts row says =
     let n = row_name_is name i row.named in
     let stops = Stops-fields f rest says in
     let word : word_of text ≡ name = ap word_of parts ∙ word_of-append name rest n.free stops in
-    let behind : behind_word text ≡ rest = ap behind_word parts ∙ behind_word-append name rest n.free stops in
+    let following : after_word text ≡ rest = ap after_word parts ∙ after_word-append name rest n.free stops in
     let alive : bytes_eq text (codes "keep-alive") ≡ false = not_alive text name _ word n.no_alive refl in
-    rw (alive, word, n.no_unknown, row.named, behind, fields_in-says i.kind.shape rest f row.shape row.fields says) refl
+    rw (alive, word, n.no_unknown, row.named, following, fields_in-says i.kind.shape rest f row.shape row.fields says) refl
 
 unknown_said : (n : ℕ) (rest bytes : List ℕ) → n < 256 → has_meaning n ≡ false → SaysSpaced rest bytes → unknown_in (spaced n ++ rest)
     ≡ Some (framed_by n bytes)
 unknown_said n rest bytes small meaning says =
     let test : (nat_lt n 256 && not (has_meaning n)) ≡ true = and_from _ _ (lt-ltb n 256 small) (not_from_false (has_meaning n) meaning) in
-    rw (number_behind-spaced n rest (omega arith) (Stops-says rest bytes says), test, with_bytes-says [] rest bytes says) refl
+    rw (number_following-spaced n rest (omega arith) (Stops-says rest bytes says), test, with_bytes-says [] rest bytes says) refl
 
 pub message_in-says : (text : List ℕ) (s : Said) → Says text s → message_in text ≡ Some (said_bytes s)
 message_in-says text keep_alive says = rw says refl
@@ -156,15 +156,15 @@ ok_of : {E : Type 0} (r : Result (List ℕ) E) (bytes : List ℕ) → result_ok 
 ok_of (Ok x) bytes h = let e : x ≡ bytes = cc h in ap Ok e
 ok_of (Err e) bytes h = absurd cc
 
-array_at : (n c : ℕ) (cs : List ℕ) (p : List ℕ × List ℕ) → (c == 32) ≡ true → option_map (λ bytes. pair bytes (behind_word cs))
+array_at : (n c : ℕ) (cs : List ℕ) (p : List ℕ × List ℕ) → (c == 32) ≡ true → option_map (λ bytes. pair bytes (after_word cs))
     (result_ok (decode_sized (word_of cs) n)) ≡ Some p → HasArray n (c ∷ cs) p.0 p.1
 array_at n c cs p e h =
-    let q = option_map-Some (λ (bytes : List ℕ). pair bytes (behind_word cs)) (result_ok (decode_sized (word_of cs) n)) p h in
+    let q = option_map-Some (λ (bytes : List ℕ). pair bytes (after_word cs)) (result_ok (decode_sized (word_of cs) n)) p h in
     let sized = ok_of (decode_sized (word_of cs) n) q.from q.was in
     let len = decode_sized-ok (word_of cs) n q.from sized in
     let decoded : decode_of (word_of cs) ≡ Ok q.from = sym (decode_sized-twice (word_of cs) n len) ∙ sized in
     let is = decode_of-ok (word_of cs) q.from decoded in
-    let text : c ∷ cs ≡ codes " " ++ (word_of cs ++ behind_word cs) = ap (λ (k : ℕ). k ∷ cs) (is_space c e)
+    let text : c ∷ cs ≡ codes " " ++ (word_of cs ++ after_word cs) = ap (λ (k : ℕ). k ∷ cs) (is_space c e)
     ∙ ap (λ (x : List ℕ). 32 ∷ x) (sym (word-parts cs)) in
     subst (λ (p : List ℕ × List ℕ). HasArray n (c ∷ cs) p.0 p.1) q.gives (record {
       word = word_of cs;
@@ -174,9 +174,9 @@ array_at n c cs p e h =
       fits = is.3;
     })
 
-array_behind-Some : (n : ℕ) (text : List ℕ) (p : List ℕ × List ℕ) → array_behind n text ≡ Some p → HasArray n text p.0 p.1
-array_behind-Some n [] p h = absurd cc
-array_behind-Some n (c ∷ cs) p h =
+array_after-Some : (n : ℕ) (text : List ℕ) (p : List ℕ × List ℕ) → array_after n text ≡ Some p → HasArray n text p.0 p.1
+array_after-Some n [] p h = absurd cc
+array_after-Some n (c ∷ cs) p h =
     elim (cases_Bool (c == 32)) [
       | inl e ↦ array_at n c cs p e (rw e at h)
       | inr e ↦ absurd (let k = rw e at h in cc k)
@@ -194,13 +194,13 @@ digits_have_no_space [] h = refl
 digits_have_no_space (c ∷ cs) h =
     rw (no_digit c (c == 32) refl (All-head digit_holds c cs h)) (digits_have_no_space cs (All-tail digit_holds c cs h))
 
-array_behind-says : (n : ℕ) (word bytes rest : List ℕ) → decode_of word ≡ Ok bytes → length bytes ≡ n → Stops rest
-    → array_behind n (codes " " ++ (word ++ rest)) ≡ Some (pair bytes rest)
-array_behind-says n word bytes rest decoded size stops =
+array_after-says : (n : ℕ) (word bytes rest : List ℕ) → decode_of word ≡ Ok bytes → length bytes ≡ n → Stops rest
+    → array_after n (codes " " ++ (word ++ rest)) ≡ Some (pair bytes rest)
+array_after-says n word bytes rest decoded size stops =
     let is = decode_of-ok word bytes decoded in
     let free = digits_have_no_space word is.1 in
     let sized : decode_sized word n ≡ Ok bytes = decode_sized-twice word n (omega (arith, is.2, size)) ∙ decoded in
-    rw (word_of-append word rest free stops, behind_word-append word rest free stops, sized) refl
+    rw (word_of-append word rest free stops, after_word-append word rest free stops, sized) refl
 
 number_lt : (b : List ℕ) → IsBytes b → from_be_bytes w64 b < 2 ^ 64
 number_lt b fits = omega (arith, fits 0, fits 1, fits 2, fits 3, fits 4, fits 5, fits 6, fits 7)
@@ -227,11 +227,11 @@ record HasThree (text : List ℕ) (p : Three) : Type 0 where
   peer_read : HasArray 20 info_rest peer []
   same : three reserved info peer ≡ p
 
-three_read : (text : List ℕ) (p : Three) → option_and_then info_in (array_behind 8 text) ≡ Some p → HasThree text p
+three_read : (text : List ℕ) (p : Three) → option_and_then info_in (array_after 8 text) ≡ Some p → HasThree text p
 three_read text p h =
-    let a = option_and_then-Some info_in (array_behind 8 text) p h in
-    let b = option_and_then-Some (peer_in a.from.0) (array_behind 20 a.from.1) p a.gives in
-    let c = option_and_then-Some (λ (q : List ℕ × List ℕ). closed (three a.from.0 b.from.0 q.0) q.1) (array_behind 20 b.from.1) p b.gives in
+    let a = option_and_then-Some info_in (array_after 8 text) p h in
+    let b = option_and_then-Some (peer_in a.from.0) (array_after 20 a.from.1) p a.gives in
+    let c = option_and_then-Some (λ (q : List ℕ × List ℕ). closed (three a.from.0 b.from.0 q.0) q.1) (array_after 20 b.from.1) p b.gives in
     let d = closed-Some (three a.from.0 b.from.0 c.from.0) c.from.1 p c.gives in
     record {
       reserved = a.from.0;
@@ -239,9 +239,9 @@ three_read text p h =
       peer = c.from.0;
       reserved_rest = a.from.1;
       info_rest = b.from.1;
-      reserved_read = array_behind-Some 8 text a.from a.was;
-      info_read = array_behind-Some 20 a.from.1 b.from b.was;
-      peer_read = subst (λ (rest : List ℕ). HasArray 20 b.from.1 c.from.0 rest) d.empty (array_behind-Some 20 b.from.1 c.from c.was);
+      reserved_read = array_after-Some 8 text a.from a.was;
+      info_read = array_after-Some 20 a.from.1 b.from b.was;
+      peer_read = subst (λ (rest : List ℕ). HasArray 20 b.from.1 c.from.0 rest) d.empty (array_after-Some 20 b.from.1 c.from c.was);
       same = d.same;
     }
 
@@ -267,11 +267,11 @@ handshake_read text rest p parts t =
     )
 
 handshake_if : (text : List ℕ) (p : Three) (b : Bool) → bytes_eq (word_of text) (codes "handshake") ≡ b
-    → cond b (option_and_then info_in (array_behind 8 (behind_word text))) None ≡ Some p → IsHandshakeLine text (bytes_of_parts p)
+    → cond b (option_and_then info_in (array_after 8 (after_word text))) None ≡ Some p → IsHandshakeLine text (bytes_of_parts p)
 handshake_if text p true e h =
-    let parts : text ≡ codes "handshake" ++ behind_word text = sym (word-parts text) ∙ ap (λ (x : List ℕ). x ++ behind_word text)
+    let parts : text ≡ codes "handshake" ++ after_word text = sym (word-parts text) ∙ ap (λ (x : List ℕ). x ++ after_word text)
     (same_text (word_of text) (codes "handshake") e) in
-    handshake_read text (behind_word text) p parts (three_read (behind_word text) p h)
+    handshake_read text (after_word text) p parts (three_read (after_word text) p h)
 handshake_if text p false e h = absurd cc
 
 handshake_in-Some : (text bytes : List ℕ) → line_in true text ≡ Some bytes → IsHandshakeLine text bytes
@@ -283,10 +283,10 @@ handshake_said : (reserved info peer : List ℕ) (h : Handshake) → decode_of r
     → decode_of peer ≡ Ok h.peer_id → IsHandshake h
     → line_in true (codes "handshake " ++ (reserved ++ (codes " " ++ (info ++ (codes " " ++ peer))))) ≡ Some (hand h)
 handshake_said reserved info peer h r i p fits =
-    let last : array_behind 20 (codes " " ++ peer) ≡ Some (pair h.peer_id []) =
-    ap (λ (x : List ℕ). array_behind 20 (codes " " ++ x)) (sym (append-nil peer)) ∙ array_behind-says 20 peer h.peer_id [] p fits.peer_id tt in
-    let middle = array_behind-says 20 info h.info_hash (codes " " ++ peer) i fits.info_hash refl in
-    let first = array_behind-says 8 reserved (be64 h.reserved.0) (codes " " ++ (info ++ (codes " " ++ peer))) r refl refl in
+    let last : array_after 20 (codes " " ++ peer) ≡ Some (pair h.peer_id []) =
+    ap (λ (x : List ℕ). array_after 20 (codes " " ++ x)) (sym (append-nil peer)) ∙ array_after-says 20 peer h.peer_id [] p fits.peer_id tt in
+    let middle = array_after-says 20 info h.info_hash (codes " " ++ peer) i fits.info_hash refl in
+    let first = array_after-says 8 reserved (be64 h.reserved.0) (codes " " ++ (info ++ (codes " " ++ peer))) r refl refl in
     rw (first, middle, last) refl
 
 -- ---- a line

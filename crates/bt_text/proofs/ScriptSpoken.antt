@@ -48,15 +48,15 @@ spelled_framed n fields =
     let one_more : suc (length fields) ≡ 1 + length fields = omega arith in
     ap (λ (k : ℕ). be32 k ++ (n ∷ fields)) one_more
 
-behind_id : (n : ℕ) (fields : List ℕ) → AreBytes (spelled n fields) → AreBytes fields
-behind_id n fields fits = λ k. fits (suc (suc (suc (suc (suc k)))))
+after_id : (n : ℕ) (fields : List ℕ) → AreBytes (spelled n fields) → AreBytes fields
+after_id n fields fits = λ k. fits (suc (suc (suc (suc (suc k)))))
 
 known_line : (i : Id) (f : Fields) → row_named i.name ids ≡ Some i → shape_of f ≡ Some i.kind.shape → AreInRange f
     → AreBytes (spelled i.number (spell_fields f))
     → IsMessageLine (i.name ++ script_fields f) (spelled i.number (spell_fields f))
 known_line i f named shape range fits = (
   known i f,
-  (i.name, script_fields f, refl, record { named = named; shape = shape; fields = range }, says_fields f (behind_id i.number (spell_fields f) fits)),
+  (i.name, script_fields f, refl, record { named = named; shape = shape; fields = range }, says_fields f (after_id i.number (spell_fields f) fits)),
   spelled_framed i.number (spell_fields f),
 )
 
@@ -64,7 +64,7 @@ unknown_line : (n : ℕ) (bytes : List ℕ) → n < 256 → has_meaning n ≡ fa
     → IsMessageLine (codes "unknown" ++ (spaced n ++ spaced_hex bytes)) (spelled n bytes)
 unknown_line n bytes small meaning fits = (
   unknown n bytes,
-  (spaced_hex bytes, refl, small, meaning, says_spaced bytes (behind_id n bytes fits)),
+  (spaced_hex bytes, refl, small, meaning, says_spaced bytes (after_id n bytes fits)),
   spelled_framed n bytes,
 )
 

@@ -16,7 +16,7 @@ use Rattle.std.specs.Result.{OkIff, result_ok}
 use Rattle.std.specs.Prelude.{nat_lt, position, unwrap_or, ⊤}
 use Rattle.std.specs.Str.{bytes_eq}
 use Rattle.std.specs.Str.Parse.{digits_value}
-use Rattle.bt_text.specs.ScriptReading.{word_of, behind_word, number_in_word}
+use Rattle.bt_text.specs.ScriptReading.{word_of, after_word, number_in_word}
 
 abbrev pub is_space : ℕ → Bool
 is_space c = c == 32
@@ -32,7 +32,7 @@ take-word (c ∷ cs) =
           rw e (ap (λ (k : ℕ). take k (c ∷ cs)) more ∙ ap (λ (x : List ℕ). c ∷ x) (take-word cs))
     ]
 
-pub drop-word : (t : List ℕ) → drop (position_or_len is_space t) t ≡ behind_word t
+pub drop-word : (t : List ℕ) → drop (position_or_len is_space t) t ≡ after_word t
 drop-word [] = refl
 drop-word (c ∷ cs) =
     elim (cases_Bool (c == 32)) [
@@ -52,7 +52,7 @@ word_end t =
     let n = position_or_len is_space t in
     end_by (nat_lt n (length t)) n (length t) (λ e. omega (arith, ltb-false n (length t) e, prefix_len-le-length (λ c. not (is_space c)) t))
 
-pub word-parts : (t : List ℕ) → word_of t ++ behind_word t ≡ t
+pub word-parts : (t : List ℕ) → word_of t ++ after_word t ≡ t
 word-parts [] = refl
 word-parts (c ∷ cs) =
     elim (cases_Bool (c == 32)) [
@@ -83,13 +83,13 @@ word_of-append (c ∷ cs) t h stops =
     let e : (c == 32) ≡ false = not_space (c == 32) p.0 in
     rw e (ap (λ (x : List ℕ). c ∷ x) (word_of-append cs t p.1 stops))
 
-pub behind_word-append : (w t : List ℕ) → has_no_space w ≡ true → Stops t → behind_word (w ++ t) ≡ t
-behind_word-append [] [] h stops = refl
-behind_word-append [] (c ∷ cs) h stops = rw stops refl
-behind_word-append (c ∷ cs) t h stops =
+pub after_word-append : (w t : List ℕ) → has_no_space w ≡ true → Stops t → after_word (w ++ t) ≡ t
+after_word-append [] [] h stops = refl
+after_word-append [] (c ∷ cs) h stops = rw stops refl
+after_word-append (c ∷ cs) t h stops =
     let p = and_parts (not (c == 32)) (has_no_space cs) h in
     let e : (c == 32) ≡ false = not_space (c == 32) p.0 in
-    rw e (behind_word-append cs t p.1 stops)
+    rw e (after_word-append cs t p.1 stops)
 
 -- ---- numbers
 

@@ -23,9 +23,9 @@ word_of [] = []
 word_of (c ∷ cs) = if c == 32 then [] else c ∷ word_of cs
 
 -- and from there on
-abbrev pub behind_word : List ℕ → List ℕ
-behind_word [] = []
-behind_word (c ∷ cs) = if c == 32 then c ∷ cs else behind_word cs
+abbrev pub after_word : List ℕ → List ℕ
+after_word [] = []
+after_word (c ∷ cs) = if c == 32 then c ∷ cs else after_word cs
 
 -- the number below 2 ^ 32 whose digits the word is
 unfoldable pub number_in_word : List ℕ → Option ℕ
@@ -37,22 +37,22 @@ bytes_in_word w = if bytes_eq w (codes "-") then Some [] else if length w == 0 t
 
 -- ---- numbers, each after a space, as bytes, and what follows them
 
-abbrev pub number_behind : List ℕ → Option (ℕ × List ℕ)
-number_behind [] = None
-number_behind (c ∷ cs) = if c == 32 then option_map (λ n. (n, behind_word cs)) (number_in_word (word_of cs)) else None
+abbrev pub number_following : List ℕ → Option (ℕ × List ℕ)
+number_following [] = None
+number_following (c ∷ cs) = if c == 32 then option_map (λ n. (n, after_word cs)) (number_in_word (word_of cs)) else None
 
 abbrev pub after_one : List ℕ → ℕ × List ℕ → List ℕ × List ℕ
 after_one front p = (front ++ be32 p.0, p.1)
 
 -- as many of these bytes as there are, and one number more
-abbrev pub one_more_behind : List ℕ × List ℕ → Option (List ℕ × List ℕ)
-one_more_behind p = option_map (after_one p.0) (number_behind p.1)
+abbrev pub one_more_after : List ℕ × List ℕ → Option (List ℕ × List ℕ)
+one_more_after p = option_map (after_one p.0) (number_following p.1)
 
-abbrev pub two_behind : List ℕ → Option (List ℕ × List ℕ)
-two_behind text = option_and_then one_more_behind (one_more_behind ([], text))
+abbrev pub two_after : List ℕ → Option (List ℕ × List ℕ)
+two_after text = option_and_then one_more_after (one_more_after ([], text))
 
-abbrev pub three_behind : List ℕ → Option (List ℕ × List ℕ)
-three_behind text = option_and_then one_more_behind (two_behind text)
+abbrev pub three_after : List ℕ → Option (List ℕ × List ℕ)
+three_after text = option_and_then one_more_after (two_after text)
 
 -- ---- fields
 
@@ -61,13 +61,13 @@ abbrev pub closed : {A : Type 0} → A → List ℕ → Option A
 closed x [] = Some x
 closed x (c ∷ cs) = None
 
-abbrev pub bytes_behind : List ℕ → Option (List ℕ)
-bytes_behind [] = None
-bytes_behind (c ∷ cs) = if c == 32 then bytes_in_word cs else None
+abbrev pub bytes_after : List ℕ → Option (List ℕ)
+bytes_after [] = None
+bytes_after (c ∷ cs) = if c == 32 then bytes_in_word cs else None
 
 -- the bytes after a space follow the numbers
 abbrev pub with_bytes : List ℕ → List ℕ → Option (List ℕ)
-with_bytes numbers text = option_map (λ bytes. numbers ++ bytes) (bytes_behind text)
+with_bytes numbers text = option_map (λ bytes. numbers ++ bytes) (bytes_after text)
 
 abbrev pub port_in : ℕ × List ℕ → Option (List ℕ)
 port_in p = if nat_lt p.0 65536 then closed (be16 p.0) p.1 else None
@@ -78,12 +78,12 @@ extended_in p = if nat_lt p.0 256 then with_bytes (p.0 ∷ []) p.1 else None
 -- the bytes of the fields of this shape
 abbrev pub fields_in : Shape → List ℕ → Option (List ℕ)
 fields_in Nothing text = closed [] text
-fields_in Index text = option_and_then (λ p. closed (be32 p.0) p.1) (number_behind text)
-fields_in Part text = option_and_then (λ p. closed p.0 p.1) (three_behind text)
-fields_in Block text = option_and_then (λ p. with_bytes p.0 p.1) (two_behind text)
-fields_in Port text = option_and_then port_in (number_behind text)
+fields_in Index text = option_and_then (λ p. closed (be32 p.0) p.1) (number_following text)
+fields_in Part text = option_and_then (λ p. closed p.0 p.1) (three_after text)
+fields_in Block text = option_and_then (λ p. with_bytes p.0 p.1) (two_after text)
+fields_in Port text = option_and_then port_in (number_following text)
 fields_in Field text = with_bytes [] text
-fields_in Extended text = option_and_then extended_in (number_behind text)
+fields_in Extended text = option_and_then extended_in (number_following text)
 
 -- ---- a message
 
@@ -91,7 +91,7 @@ abbrev pub payload_in : ℕ × List ℕ → Option (List ℕ)
 payload_in p = if nat_lt p.0 256 && not (has_meaning p.0) then option_map (framed_by p.0) (with_bytes [] p.1) else None
 
 abbrev pub unknown_in : List ℕ → Option (List ℕ)
-unknown_in text = option_and_then payload_in (number_behind text)
+unknown_in text = option_and_then payload_in (number_following text)
 
 abbrev pub row_in_text : List ℕ → Id → Option (List ℕ)
 row_in_text text i = option_map (framed_by i.number) (fields_in i.kind.shape text)
@@ -99,28 +99,28 @@ row_in_text text i = option_map (framed_by i.number) (fields_in i.kind.shape tex
 abbrev pub message_in : List ℕ → Option (List ℕ)
 message_in text =
     if bytes_eq text (codes "keep-alive") then Some (be32 0)
-    else if bytes_eq (word_of text) (codes "unknown") then unknown_in (behind_word text)
-    else option_and_then (row_in_text (behind_word text)) (row_named (word_of text) ids)
+    else if bytes_eq (word_of text) (codes "unknown") then unknown_in (after_word text)
+    else option_and_then (row_in_text (after_word text)) (row_named (word_of text) ids)
 
 -- ---- a handshake
 
 -- the n bytes of hex digits after a space, and what follows them
-abbrev pub array_behind : ℕ → List ℕ → Option (List ℕ × List ℕ)
-array_behind n [] = None
-array_behind n (c ∷ cs) = if c == 32 then option_map (λ bytes. (bytes, behind_word cs)) (result_ok (decode_sized (word_of cs) n)) else None
+abbrev pub array_after : ℕ → List ℕ → Option (List ℕ × List ℕ)
+array_after n [] = None
+array_after n (c ∷ cs) = if c == 32 then option_map (λ bytes. (bytes, after_word cs)) (result_ok (decode_sized (word_of cs) n)) else None
 
 -- its reserved bytes, info hash and peer id
 abbrev pub parts_of : Handshake → List ℕ × List ℕ × List ℕ
 parts_of h = (be64 h.reserved.0, h.info_hash, h.peer_id)
 
 abbrev pub peer_in : List ℕ → List ℕ × List ℕ → Option (List ℕ × List ℕ × List ℕ)
-peer_in reserved p = option_and_then (λ q. closed (reserved, p.0, q.0) q.1) (array_behind 20 p.1)
+peer_in reserved p = option_and_then (λ q. closed (reserved, p.0, q.0) q.1) (array_after 20 p.1)
 
 abbrev pub info_in : List ℕ × List ℕ → Option (List ℕ × List ℕ × List ℕ)
-info_in p = option_and_then (peer_in p.0) (array_behind 20 p.1)
+info_in p = option_and_then (peer_in p.0) (array_after 20 p.1)
 
 abbrev pub handshake_in : List ℕ → Option (List ℕ × List ℕ × List ℕ)
-handshake_in text = if bytes_eq (word_of text) (codes "handshake") then option_and_then info_in (array_behind 8 (behind_word text)) else None
+handshake_in text = if bytes_eq (word_of text) (codes "handshake") then option_and_then info_in (array_after 8 (after_word text)) else None
 
 abbrev pub bytes_of_parts : List ℕ × List ℕ × List ℕ → List ℕ
 bytes_of_parts p = protocol ++ p.0 ++ p.1 ++ p.2

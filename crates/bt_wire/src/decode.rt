@@ -16,7 +16,7 @@ use crate::fields::judge_bytes;
 use crate::ids::EXTENDED;
 use crate::message::{Message, MessageView};
 use crate::numbers::{number_at_front, port_at_front};
-use crate::slices::behind;
+use crate::slices::suffix;
 use bt_bencode::ByteString;
 use bt_ext::{ExtView, ViewError, copy_ext, view_ext};
 use std::alloc::{AllocError, Global};
@@ -48,7 +48,7 @@ pub fn view_window<'a>(
     }
     let view = read_fields(window);
     // Judged by the bytes, so that a view that nobody reads needn't be made.
-    match judge_bytes(context, id, length, behind(window, 5)) {
+    match judge_bytes(context, id, length, suffix(window, 5)) {
         Some(refused) => Err(refused),
         None => Ok(view),
     }
@@ -75,7 +75,7 @@ fn view_extended<'a>(
     ensures ok { IfOk result (λ v. IsRead context.now _order window.now (message_of v)) }
     ensures err { IfErr result (λ f. IsFault context.now _order 0 window.now (Some f)) }
 {
-    match view_ext(context.reg, context.rules, window[5], behind(window, 6)) {
+    match view_ext(context.reg, context.rules, window[5], suffix(window, 6)) {
         Ok(view) => match judge_view(context.pieces, &view) {
             None => Ok(MessageView::Extended(view)),
             Some(beyond) => Err(beyond),
@@ -136,7 +136,7 @@ fn read_fields<'a>(window: &'a [u8]) -> MessageView<'a>
     ensures message { message_of result ≡ made (said_id window.now) (drop 5 window.now) }
     ensures fields { (c : Context) → fields_of c (message_of result) ≡ reading_by (shape_by (kind_at (said_id window.now))) (drop 5 window.now) }
 {
-    let fields = behind(window, 5);
+    let fields = suffix(window, 5);
     match window[4] {
         0 => MessageView::Choke,
         1 => MessageView::Unchoke,
@@ -154,8 +154,8 @@ fn read_fields<'a>(window: &'a [u8]) -> MessageView<'a>
         }
         7 => MessageView::Piece {
             index: number_at_front(fields),
-            begin: number_at_front(behind(fields, 4)),
-            block: behind(fields, 8),
+            begin: number_at_front(suffix(fields, 4)),
+            block: suffix(fields, 8),
         },
         8 => {
             let (index, begin, length) = part_of(fields);
@@ -195,8 +195,8 @@ fn part_of(fields: &[u8]) -> (u32, u32, u32)
 {
     (
         number_at_front(fields),
-        number_at_front(behind(fields, 4)),
-        number_at_front(behind(fields, 8)),
+        number_at_front(suffix(fields, 4)),
+        number_at_front(suffix(fields, 8)),
     )
 }
 

@@ -7,7 +7,7 @@ use crate::context::{Context, Order, Own, negotiate};
 use crate::front::{Front, read_front};
 use crate::handshake::{Opening, read_opening};
 use crate::order::next_of_view as next;
-use crate::slices::behind;
+use crate::slices::suffix;
 
 /// A whole window has a fault, or it may be sent: never both.
 pub fn legal_or_fault()
@@ -31,7 +31,7 @@ pub fn each_has_a_verdict(own: &Own, stream: &[u8])
         Opening::Refused(_) => {}
         Opening::Partial => {}
         Opening::Whole(handshake) => {
-            walk(&negotiate(own, handshake.reserved), behind(stream, 68));
+            walk(&negotiate(own, handshake.reserved), suffix(stream, 68));
         }
     }
 }
@@ -45,7 +45,7 @@ fn walk(context: &Context, messages: &[u8])
     let mut at: usize = 0;
     let mut number: u64 = 1;
     'messages: loop {
-        let front = read_front(context, order, 68 + at as u64, behind(messages, at));
+        let front = read_front(context, order, 68 + at as u64, suffix(messages, at));
         match front {
             Front::Whole(message, length) => {
                 order = next(order, &message);

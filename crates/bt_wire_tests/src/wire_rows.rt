@@ -88,9 +88,9 @@ fn accepted_rows(rt: HostRuntime) -> Result<(), Fail> {
         ("unknown", free, fresh, b"\0\0\0\x01\x63"),
         ("keep-alive first", bep, fresh, b"\0\0\0\0"),
         ("have none first", bep, fresh, b"\0\0\0\x01\x0f"),
-        ("unchoke behind it", bep, past, b"\0\0\0\x01\x01"),
+        ("unchoke suffix it", bep, past, b"\0\0\0\x01\x01"),
         ("have none", free, fresh, b"\0\0\0\x01\x0f"),
-        ("bitfield behind it", free, past, b"\0\0\0\x03\x05\xff\xc0"),
+        ("bitfield suffix it", free, past, b"\0\0\0\x03\x05\xff\xc0"),
         ("unchoke first", plain_bep, fresh, b"\0\0\0\x01\x01"),
         (
             "extended handshake",
@@ -171,7 +171,7 @@ fn accepted_rows(rt: HostRuntime) -> Result<(), Fail> {
             b"\0\0\0\x1b\x14\x03d8:msg_typei7e5:piecei0ee",
         ),
         (
-            "reject with a byte behind",
+            "reject with a byte suffix",
             free,
             fresh,
             b"\0\0\0\x1c\x14\x03d8:msg_typei2e5:piecei0ee\0",
@@ -280,7 +280,7 @@ fn extended_rows(rt: HostRuntime) -> Result<(), Fail> {
             0,
             None,
         ),
-        ("bytes behind", 0, b"de", 3, None),
+        ("bytes suffix", 0, b"de", 3, None),
         (
             "switched off",
             0,
@@ -395,7 +395,7 @@ fn extended_rows(rt: HostRuntime) -> Result<(), Fail> {
             field,
         ),
         (
-            "request with bytes behind",
+            "request with bytes suffix",
             3,
             b"d8:msg_typei0e5:piecei0ee",
             1,

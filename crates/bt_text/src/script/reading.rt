@@ -10,18 +10,18 @@ ghost use Rattle.bt_wire.specs.Ids.{ids, has_meaning as is_known};
 ghost use Rattle.bt_text.specs.Script.{row_named, framed_by, IsAnswer};
 ghost use Rattle.bt_text.specs.ScriptReading.{
   word_of,
-  behind_word,
+  after_word,
   number_in_word,
   bytes_in_word,
-  number_behind as number_read,
-  two_behind,
-  three_behind,
+  number_following as number_read,
+  two_after,
+  three_after,
   closed,
   with_bytes,
   fields_in,
   unknown_in,
   message_in,
-  array_behind as array_read,
+  array_after as array_read,
   handshake_in,
   parts_of,
   line_in,
@@ -50,7 +50,7 @@ fn first_space(text: &[u8]) -> Option<usize>
 /// Splits the text before its first space.
 pub(crate) fn split_word(text: &[u8]) -> (&[u8], &[u8])
     ensures word { result.0.now ≡ word_of text.now }
-    ensures rest { result.1.now ≡ behind_word text.now }
+    ensures rest { result.1.now ≡ after_word text.now }
     ensures short { length result.1.now ≤ length text.now }
 {
     let end = first_space(text).unwrap_or(text.len());
@@ -82,7 +82,7 @@ pub fn plain_number(word: &[u8]) -> Option<u32>
 }
 
 /// Reads a space and a number, and returns the number and what follows it.
-fn number_behind(text: &[u8]) -> Option<(u32, &[u8])>
+fn number_following(text: &[u8]) -> Option<(u32, &[u8])>
     ensures value { seen result ≡ number_read text.now }
     ensures short { IfSome result (λ p. length p.1.now ≤ length text.now) }
 {
@@ -97,11 +97,11 @@ fn number_behind(text: &[u8]) -> Option<(u32, &[u8])>
 
 /// Reads two numbers, each after a space, and returns their bytes and what follows them.
 fn two_numbers(text: &[u8]) -> Option<([u8; 8], &[u8])>
-    ensures value { seen result ≡ two_behind text.now }
+    ensures value { seen result ≡ two_after text.now }
     ensures short { IfSome result (λ p. length p.1.now ≤ length text.now) }
 {
-    let (first, rest) = number_behind(text)?;
-    let (second, rest) = number_behind(rest)?;
+    let (first, rest) = number_following(text)?;
+    let (second, rest) = number_following(rest)?;
     let mut numbers = [0u8; 8];
     numbers[..4].copy_from_slice(&first.to_be_bytes());
     numbers[4..].copy_from_slice(&second.to_be_bytes());
@@ -110,10 +110,10 @@ fn two_numbers(text: &[u8]) -> Option<([u8; 8], &[u8])>
 
 /// Reads three numbers, each after a space, and returns their bytes and what follows them.
 fn three_numbers(text: &[u8]) -> Option<([u8; 12], &[u8])>
-    ensures { seen result ≡ three_behind text.now }
+    ensures { seen result ≡ three_after text.now }
 {
     let (two, rest) = two_numbers(text)?;
-    let (third, rest) = number_behind(rest)?;
+    let (third, rest) = number_following(rest)?;
     let mut numbers = [0u8; 12];
     numbers[..8].copy_from_slice(&two);
     numbers[8..].copy_from_slice(&third.to_be_bytes());
@@ -226,7 +226,7 @@ fn put_fields(shape: Shape, id: u8, text: &[u8], bytes: &mut Vec<u8>) -> Result<
 {
     match shape {
         Shape::Nothing => put_numbers(id, b"", text, bytes),
-        Shape::Index => match number_behind(text) {
+        Shape::Index => match number_following(text) {
             Some((index, rest)) => put_numbers(id, &index.to_be_bytes(), rest, bytes),
             None => Ok(false),
         },
@@ -242,7 +242,7 @@ fn put_fields(shape: Shape, id: u8, text: &[u8], bytes: &mut Vec<u8>) -> Result<
 fn put_port(id: u8, text: &[u8], bytes: &mut Vec<u8>) -> Result<bool, AllocError>
     ensures { IfOk result (Gives (option_map (framed_by id) (fields_in Shape.Port text.now)) bytes.new.items) }
 {
-    match number_behind(text) {
+    match number_following(text) {
         Some((port, rest)) if port < 65_536 => {
             put_numbers(id, &(port as u16).to_be_bytes(), rest, bytes)
         }
@@ -255,7 +255,7 @@ fn put_extended(id: u8, text: &[u8], bytes: &mut Vec<u8>) -> Result<bool, AllocE
     requires { length text.now < 2 ^ 32 }
     ensures { IfOk result (Gives (option_map (framed_by id) (fields_in Shape.Extended text.now)) bytes.new.items) }
 {
-    match number_behind(text) {
+    match number_following(text) {
         Some((extended, rest)) if extended < 256 => put_bytes(id, &[extended as u8], rest, bytes),
         _ => Ok(false),
     }
@@ -276,7 +276,7 @@ fn put_unknown(text: &[u8], bytes: &mut Vec<u8>) -> Result<bool, AllocError>
     requires { length text.now < 2 ^ 32 }
     ensures { IfOk result (Gives (unknown_in text.now) bytes.new.items) }
 {
-    match number_behind(text) {
+    match number_following(text) {
         Some((id, rest)) if id < 256 && !has_meaning(id as u8) => {
             put_bytes(id as u8, b"", rest, bytes)
         }
@@ -346,7 +346,7 @@ fn put_message(text: &[u8], bytes: &mut Vec<u8>) -> Result<bool, AllocError>
 }
 
 /// Reads a space and the hex digits of `N` bytes, of either case, and returns the bytes and what follows them.
-fn array_behind<const N: usize>(text: &[u8]) -> Option<([u8; N], &[u8])>
+fn array_after<const N: usize>(text: &[u8]) -> Option<([u8; N], &[u8])>
     ensures { seen result ≡ array_read N text.now }
 {
     let (space, digits) = text.split_first()?;
@@ -376,9 +376,9 @@ fn read_handshake(text: &[u8]) -> Option<Handshake>
     if !is(name, b"handshake") {
         return None;
     }
-    let (reserved, rest) = array_behind::<8>(rest)?;
-    let (info_hash, rest) = array_behind::<20>(rest)?;
-    let (peer_id, rest) = array_behind::<20>(rest)?;
+    let (reserved, rest) = array_after::<8>(rest)?;
+    let (info_hash, rest) = array_after::<20>(rest)?;
+    let (peer_id, rest) = array_after::<20>(rest)?;
     if !rest.is_empty() {
         return None;
     }

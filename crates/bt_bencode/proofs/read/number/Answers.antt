@@ -20,23 +20,23 @@ overflow_sub-value c = (digit_goes _ _ _ c.loop-rest-test.true c.loop-rest.invar
 pub overflow_add-value : goal.overflow_add-value
 overflow_add-value c = let d = digit_goes _ _ _ c.loop-rest-test.true c.loop-rest.invariant.more in omega (arith, d.1)
 
-pub behind-rest-requires : goal.behind-rest-requires
-behind-rest-requires c = number_there _ _ _ c.loop-rest.invariant.more
+pub following-rest-requires : goal.following-rest-requires
+following-rest-requires c = number_there _ _ _ c.loop-rest.invariant.more
 
 pub loop-rest-smaller : goal.loop-rest-smaller
-loop-rest-smaller c = tail_shorter _ _ (number_there _ _ _ c.loop-rest.invariant.more) c.behind-rest.ensures
+loop-rest-smaller c = tail_shorter _ _ (number_there _ _ _ c.loop-rest.invariant.more) c.following-rest.ensures
 
 pub loop-rest-preserved : goal.loop-rest-preserved
 loop-rest-preserved c =
     let d = digit_goes _ _ _ c.loop-rest-test.true c.loop-rest.invariant.more in
-    rw c.behind-rest.ensures (record {
+    rw c.following-rest.ensures (record {
       bound = d.1;
       more = d.2;
       same = λ m rest h. (digit_more _ _ m rest _ c.loop-rest-test.true (c.loop-rest.invariant.same m rest h)).2;
     })
 
 pub returns : goal.returns
-returns c = rw c.behind.ensures (record {
+returns c = rw c.following.ensures (record {
   value = λ m rest h. number_ended _ _ m rest _ c.requires.end c.loop-rest-test.false
       (c.loop-rest.invariant.same m rest h);
 })

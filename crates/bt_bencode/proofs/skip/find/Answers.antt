@@ -1,7 +1,7 @@
 use Rattle.std.proofs.Common.{◌≡◌, ◌∙◌, sym, true, false}
 use Rattle.std.specs.Str.{bytes_eq}
 use Rattle.bt_bencode.specs.Readable.{HasPairs}
-use Rattle.bt_bencode.proofs.Heads.{key_there, value_behind}
+use Rattle.bt_bencode.proofs.Heads.{key_there, value_after}
 use Rattle.bt_bencode.proofs.Skips.{for_step, for_found, for_none}
 use Rattle.bt_bencode.proofs.skip.find.Goals as goal
 
@@ -22,14 +22,14 @@ pub skip_value-rest-requires : goal.skip_value-rest-requires
 skip_value-rest-requires c =
     let left = c.loop-rest.invariant c.requires.0 c.requires.1 c.requires.2 c.requires.3 in
     let pairs : HasPairs c.loop-rest.rest.now = (left.0, c.requires.1, left.1, left.2) in
-    value_behind c.loop-rest.rest.now c.split_string.result.0.now c.split_string.result.1.now pairs c.loop-rest-test.true c.split_string.ensures.short
+    value_after c.loop-rest.rest.now c.split_string.result.0.now c.split_string.result.1.now pairs c.loop-rest-test.true c.split_string.ensures.short
     c.split_string.ensures.split
 
 pub loop-rest-preserved : goal.loop-rest-preserved
 loop-rest-preserved c = λ ps more h is.
     let differs : bytes_eq c.split_string.result.0.now c.args.key.now ≡ false = sym c.eq.ensures ∙ c.if-eq.false in
     for_step c.args.key.now ps more c.loop-rest.rest.now c.split_string.result.0.now c.split_string.result.1.now c.split_string.ensures.short
-    c.split_string.ensures.split c.skip_value-rest.result.now c.loop-rest-test.true differs c.skip_value-rest.ensures.behind
+    c.split_string.ensures.split c.skip_value-rest.result.now c.loop-rest-test.true differs c.skip_value-rest.ensures.following
     (c.loop-rest.invariant ps more h is)
 
 pub returns : goal.returns

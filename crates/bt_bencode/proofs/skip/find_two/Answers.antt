@@ -1,7 +1,7 @@
 use Rattle.std.proofs.Common.{◌∙◌, is_some, refl, sym, ap}
 use Rattle.std.specs.Str.{bytes_eq}
 use Rattle.bt_bencode.specs.Readable.{HasPairs}
-use Rattle.bt_bencode.proofs.Heads.{key_there, value_behind}
+use Rattle.bt_bencode.proofs.Heads.{key_there, value_after}
 use Rattle.bt_bencode.proofs.Skips.{sought_left, sought_step, sought_found, sought_end}
 use Rattle.bt_bencode.proofs.skip.find_two.Goals as goal
 
@@ -17,7 +17,7 @@ skip_value-rest-requires c =
     let left = sought_left c.args.first.now c.requires.0 c.requires.1 c.loop-rest.rest.now c.loop-rest.one
     (c.loop-rest.invariant.first c.requires.0 c.requires.1 c.requires.2 c.requires.3) in
     let pairs : HasPairs c.loop-rest.rest.now = (left.0, c.requires.1, left.1, left.2) in
-    value_behind c.loop-rest.rest.now c.split_string.result.0.now c.split_string.result.1.now pairs c.loop-rest-test.true c.split_string.ensures.short
+    value_after c.loop-rest.rest.now c.split_string.result.0.now c.split_string.result.1.now pairs c.loop-rest-test.true c.split_string.ensures.short
     c.split_string.ensures.split
 
 pub returns-then-is_some-2-clause-first : goal.returns-then-is_some-2-clause-first
@@ -43,11 +43,11 @@ loop-rest-preserved c =
     let next = c.skip_value-rest.result.now in
     record {
       first = λ ps more h is. rw c.found_at-one.ensures (sought_step c.args.first.now ps more rest key c.split_string.result.1 c.split_string.ensures.short
-          c.split_string.ensures.split next c.loop-rest.one (bytes_eq key c.args.first.now) refl c.loop-rest-test.true c.skip_value-rest.ensures.behind
+          c.split_string.ensures.split next c.loop-rest.one (bytes_eq key c.args.first.now) refl c.loop-rest-test.true c.skip_value-rest.ensures.following
           (c.loop-rest.invariant.first ps more h is));
       second = λ ps more h is. rw c.found_at-two.ensures (sought_step c.args.second.now ps more rest key c.split_string.result.1
           c.split_string.ensures.short c.split_string.ensures.split next c.loop-rest.two (bytes_eq key c.args.second.now) refl c.loop-rest-test.true
-          c.skip_value-rest.ensures.behind (c.loop-rest.invariant.second ps more h is));
+          c.skip_value-rest.ensures.following (c.loop-rest.invariant.second ps more h is));
     }
 
 pub returns-clause-first : goal.returns-clause-first

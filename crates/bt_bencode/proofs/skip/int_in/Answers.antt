@@ -9,9 +9,9 @@ pub bounds-value-0 : goal.bounds-value-0
 bounds-value-0 c = nonempty c.args.value.now c.requires
 
 pub read_int-requires : goal.read_int-requires
-read_int-requires c = rw c.behind.ensures (integer_there c.args.value.now c.requires c.if-value-eq105.true)
+read_int-requires c = rw c.following.ensures (integer_there c.args.value.now c.requires c.if-value-eq105.true)
 
 pub returns-then-value-eq105 : goal.returns-then-value-eq105
 returns-then-value-eq105 c = λ t more h is.
-    ap (λ (z : ℤ). Some z) (to_z-of_z w64 c.read_int.result.0 c.read_int.ensures.fits) ∙ integer_in c.args.value.now c.behind.result.now
-    c.read_int.result.1.now c.read_int.result.0 t more c.if-value-eq105.true c.behind.ensures c.read_int.ensures.fits c.read_int.ensures.value h is
+    ap (λ (z : ℤ). Some z) (to_z-of_z w64 c.read_int.result.0 c.read_int.ensures.fits) ∙ integer_in c.args.value.now c.following.result.now
+    c.read_int.result.1.now c.read_int.result.0 t more c.if-value-eq105.true c.following.ensures c.read_int.ensures.fits c.read_int.ensures.value h is

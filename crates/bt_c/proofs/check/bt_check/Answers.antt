@@ -9,7 +9,7 @@ pub returns-then-answer-ne-ITEM : goal.returns-then-answer-ne-ITEM
 returns-then-answer-ne-ITEM c =
     let so_far = c.items.invariant.reads in
     let ends = subst (λ (b : List ℕ). Ends c.items.reader b c.last_item-answer.new.reader c.last_item-answer.new.item c.last_item-answer.result)
-    c.behind.ensures c.last_item-answer.ensures in
+    c.suffix.ensures c.last_item-answer.ensures in
     checked c.args.own.now c.items.reader c.last_item-answer.new.reader c.args.bytes.now (drop c.items.at c.args.bytes.now) c.last_item-answer.new.item
     so_far.0 c.last_item-answer.result c.items.count c.verdict_of.result
     (omega arith) so_far.1 so_far.2 ends c.if-answer-ne-ITEM.true (record { end = c.verdict_of.ensures.end; refused = c.verdict_of.ensures.refused })
@@ -19,7 +19,7 @@ item_size : (c : goal.Else-answer-ne-ITEM) → (4 ≤ c.last_item-answer.new.ite
     × (c.last_item-answer.new.item.size ≤ length (drop c.items.at c.args.bytes.now))
 item_size c =
     let b = drop c.items.at c.args.bytes.now in let i = c.last_item-answer.new.item in let t = c.last_item-answer.new.reader in
-    let ends = subst (λ (z : List ℕ). Ends c.items.reader z t i c.last_item-answer.result) c.behind.ensures c.last_item-answer.ensures in
+    let ends = subst (λ (z : List ℕ). Ends c.items.reader z t i c.last_item-answer.result) c.suffix.ensures c.last_item-answer.ensures in
     let next = given c.items.reader b t i c.last_item-answer.result ends c.if-answer-ne-ITEM.false in
     given_size c.items.reader b t i next.0 next.1
 
@@ -29,8 +29,8 @@ overflow_add-at c = omega (
   (item_size c).1,
   length-drop c.items.at c.args.bytes.now,
   c.items.invariant.within,
-  ap length c.behind.ensures,
-  c.behind.type_inv.0,
+  ap length c.suffix.ensures,
+  c.suffix.type_inv.0,
 )
 
 pub items-smaller : goal.items-smaller
@@ -40,7 +40,7 @@ pub items-preserved : goal.items-preserved
 items-preserved c =
     let so_far = c.items.invariant.reads in let b = c.args.bytes.now in let at = c.items.at in
     let i = c.last_item-answer.new.item in let t = c.last_item-answer.new.reader in
-    let ends = subst (λ (z : List ℕ). Ends c.items.reader z t i c.last_item-answer.result) c.behind.ensures c.last_item-answer.ensures in
+    let ends = subst (λ (z : List ℕ). Ends c.items.reader z t i c.last_item-answer.result) c.suffix.ensures c.last_item-answer.ensures in
     let next = given c.items.reader (drop at b) t i c.last_item-answer.result ends c.if-answer-ne-ITEM.false in
     let reads = reads_more so_far.0 (new_reader c.args.own.now) c.items.reader t b (drop at b) i next.0 so_far.1 next.1 in
     record {

@@ -18,16 +18,16 @@ messages-init g c = record {
 
 pub view_window-requires : goal.view_window-requires
 view_window-requires g c =
-    window_there c.args.context.now c.messages.passed.order c.behind-rest.result.now c.in-Some.window.now c.in-Window.length (sym c.in-Window.ensures)
-    c.in-Some.ensures.lookup.0.1 (front_range c.behind-rest.result.now c.in-Some.window.now c.in-Window.length c.in-Some.ensures.lookup.0.2)
+    window_there c.args.context.now c.messages.passed.order c.suffix-rest.result.now c.in-Some.window.now c.in-Window.length (sym c.in-Window.ensures)
+    c.in-Some.ensures.lookup.0.1 (front_range c.suffix-rest.result.now c.in-Some.window.now c.in-Window.length c.in-Some.ensures.lookup.0.2)
 
 pub returns-in-Err-clause-items : goal.returns-in-Err-clause-items
 returns-in-Err-clause-items g c = λ n.
     let h = c.messages.invariant.moved n in
     let x : ℕ × Item = (c.args.start + c.messages.passed.bytes, items.Message (message_of c.in-Ok.message)) in
     let fed = passed_more c.args.context.now c.args.order c.messages.passed.order c.args.start n c.messages.passed.bytes c.in-Window.length
-    c.messages.passed.messages c.args.piece.now c.behind-rest.result.now c.in-Some.window.now h.0
-    (message_of c.in-Ok.message) c.behind-rest.ensures (front_range c.behind-rest.result.now c.in-Some.window.now c.in-Window.length
+    c.messages.passed.messages c.args.piece.now c.suffix-rest.result.now c.in-Some.window.now h.0
+    (message_of c.in-Ok.message) c.suffix-rest.ensures (front_range c.suffix-rest.result.now c.in-Some.window.now c.in-Window.length
     c.in-Some.ensures.lookup.0.2) h.2 c.if-at-ge-END.false c.requires.limit c.in-Some.ensures.lookup.0.1 c.in-Ok.ensures.ok in (
       h.0 ++ x ∷ [],
       (h.0, x, c.messages.sink, refl, handed_all _ g.S.Sink.misses _ _ h.0 _ c.messages.invariant.taken h.1, c.in-Err.ensures.items),
@@ -36,9 +36,9 @@ returns-in-Err-clause-items g c = λ n.
 
 pub messages-preserved : goal.messages-preserved
 messages-preserved g c =
-    let size = window_size c.args.context.now c.messages.passed.order c.behind-rest.result.now c.in-Window.length (sym c.in-Window.ensures) in
+    let size = window_size c.args.context.now c.messages.passed.order c.suffix-rest.result.now c.in-Window.length (sym c.in-Window.ensures) in
     record {
-      within = omega (arith, c.in-Some.ensures.lookup.0.1, ap (length {A = ℕ}) c.behind-rest.ensures, length-drop c.messages.passed.bytes c.args.piece.now);
+      within = omega (arith, c.in-Some.ensures.lookup.0.1, ap (length {A = ℕ}) c.suffix-rest.ensures, length-drop c.messages.passed.bytes c.args.piece.now);
       start = omega (arith, c.if-at-ge-END.false, size.1, c.requires.limit);
       count = omega (arith, c.messages.invariant.count, size.0);
       taken = c.messages.invariant.taken;
@@ -47,8 +47,8 @@ messages-preserved g c =
           let h = c.messages.invariant.moved n in
           let x : ℕ × Item = (c.args.start + c.messages.passed.bytes, items.Message (message_of c.in-Ok.message)) in
           let fed = passed_more c.args.context.now c.args.order c.messages.passed.order c.args.start n c.messages.passed.bytes c.in-Window.length
-          c.messages.passed.messages c.args.piece.now c.behind-rest.result.now c.in-Some.window.now h.0
-          (message_of c.in-Ok.message) c.behind-rest.ensures (front_range c.behind-rest.result.now c.in-Some.window.now c.in-Window.length
+          c.messages.passed.messages c.args.piece.now c.suffix-rest.result.now c.in-Some.window.now h.0
+          (message_of c.in-Ok.message) c.suffix-rest.ensures (front_range c.suffix-rest.result.now c.in-Some.window.now c.in-Window.length
           c.in-Some.ensures.lookup.0.2) h.2 c.if-at-ge-END.false c.requires.limit c.in-Some.ensures.lookup.0.1 c.in-Ok.ensures.ok in (
             h.0 ++ x ∷ [],
             handed_more _ g.S.Sink.misses _ _ _ h.0 x _ c.messages.invariant.taken h.1 c.in_default-item.ensures.items,

@@ -10,15 +10,15 @@ use Rattle.bt_feed.proofs.pumping.pump_piece.Goals as goal
 pub items-preserved : goal.items-preserved
 items-preserved g c =
     let p = c.push-at.new.self in
-    let h = passed_on g.S.Sink.takes g.S.Sink.misses c.args.feed.now c.items.feed c.pass-passed.new.self _ _ _ c.args.piece.now c.behind.result.now
-    c.items.at c.pass-passed.result.0 c.pass-passed.result.1 c.in_default.is c.behind.ensures c.items.invariant.moved c.pass-passed.ensures.items in
+    let h = passed_on g.S.Sink.takes g.S.Sink.misses c.args.feed.now c.items.feed c.pass-passed.new.self _ _ _ c.args.piece.now c.suffix.result.now
+    c.items.at c.pass-passed.result.0 c.pass-passed.result.1 c.in_default.is c.suffix.ensures c.items.invariant.moved c.pass-passed.ensures.items in
     let at = c.items.at + c.pass-passed.result.0 in
     let s = c.pass-passed.new.self in
-    let rest = c.behind-in-items.result.now in
+    let rest = c.suffix-in-items.result.now in
     let item : Item = item_of c.in-Ok-Some.view in
     let pushed : IsPushed s c.push-at.new.self c.args.piece.now rest at c.push-at.result =
     record {
-      rest_is = c.behind-in-items.ensures;
+      rest_is = c.suffix-in-items.ensures;
       taken_is = c.push-at.ensures.taken;
       held_is = c.push-at.ensures.held;
       partial = c.push-at.ensures.partial;
@@ -30,11 +30,11 @@ items-preserved g c =
       arith,
       c.items.invariant.within,
       c.pass-passed.ensures.within,
-      ap (length {A = ℕ}) c.behind.ensures,
+      ap (length {A = ℕ}) c.suffix.ensures,
       length-drop c.items.at c.args.piece.now,
     ) in
     record {
-      within = omega (arith, c.push-at.ensures.in_range, within, ap (length {A = ℕ}) c.behind-in-items.ensures, length-drop at c.args.piece.now);
+      within = omega (arith, c.push-at.ensures.in_range, within, ap (length {A = ℕ}) c.suffix-in-items.ensures, length-drop at c.args.piece.now);
       quiet = c.in-Ok.ensures.failed ∙ (rw (c.in_default.is) at c.pass-passed.ensures.calm) ∙ c.items.invariant.quiet;
       moved = (
         h.0 ++ one,
@@ -49,15 +49,15 @@ items-preserved g c =
 pub returns-in-Err-item-clause-items : goal.returns-in-Err-item-clause-items
 returns-in-Err-item-clause-items g c =
     let p = c.push-at.new.self in
-    let h = passed_on g.S.Sink.takes g.S.Sink.misses c.args.feed.now c.items.feed c.pass-passed.new.self _ _ _ c.args.piece.now c.behind.result.now
-    c.items.at c.pass-passed.result.0 c.pass-passed.result.1 c.in_default.is c.behind.ensures c.items.invariant.moved c.pass-passed.ensures.items in
+    let h = passed_on g.S.Sink.takes g.S.Sink.misses c.args.feed.now c.items.feed c.pass-passed.new.self _ _ _ c.args.piece.now c.suffix.result.now
+    c.items.at c.pass-passed.result.0 c.pass-passed.result.1 c.in_default.is c.suffix.ensures c.items.invariant.moved c.pass-passed.ensures.items in
     let at = c.items.at + c.pass-passed.result.0 in
     let s = c.pass-passed.new.self in
-    let rest = c.behind-in-items.result.now in
+    let rest = c.suffix-in-items.result.now in
     let item : Item = item_of c.in-Ok-Some.view in
     let pushed : IsPushed s c.push-at.new.self c.args.piece.now rest at c.push-at.result =
     record {
-      rest_is = c.behind-in-items.ensures;
+      rest_is = c.suffix-in-items.ensures;
       taken_is = c.push-at.ensures.taken;
       held_is = c.push-at.ensures.held;
       partial = c.push-at.ensures.partial;
@@ -78,21 +78,21 @@ returns-in-Err-item-clause-items g c =
 
 pub returns-in-Ok-None-clause-items : goal.returns-in-Ok-None-clause-items
 returns-in-Ok-None-clause-items g c =
-    let h = passed_on g.S.Sink.takes g.S.Sink.misses c.args.feed.now c.items.feed c.pass-passed.new.self _ _ _ c.args.piece.now c.behind.result.now
-    c.items.at c.pass-passed.result.0 c.pass-passed.result.1 c.in_default.is c.behind.ensures c.items.invariant.moved c.pass-passed.ensures.items in
+    let h = passed_on g.S.Sink.takes g.S.Sink.misses c.args.feed.now c.items.feed c.pass-passed.new.self _ _ _ c.args.piece.now c.suffix.result.now
+    c.items.at c.pass-passed.result.0 c.pass-passed.result.1 c.in_default.is c.suffix.ensures c.items.invariant.moved c.pass-passed.ensures.items in
     let at = c.items.at + c.pass-passed.result.0 in
     let s = c.pass-passed.new.self in
-    let rest = c.behind-in-items.result.now in
+    let rest = c.suffix-in-items.result.now in
     let within : at ≤ length c.args.piece.now = omega (
       arith,
       c.items.invariant.within,
       c.pass-passed.ensures.within,
-      ap (length {A = ℕ}) c.behind.ensures,
+      ap (length {A = ℕ}) c.suffix.ensures,
       length-drop c.items.at c.args.piece.now,
     ) in
     let pushed : IsPushed s c.push-at.new.self c.args.piece.now rest at c.push-at.result =
     record {
-      rest_is = c.behind-in-items.ensures;
+      rest_is = c.suffix-in-items.ensures;
       taken_is = c.push-at.ensures.taken;
       held_is = c.push-at.ensures.held;
       partial = c.push-at.ensures.partial;
@@ -105,14 +105,14 @@ returns-in-Ok-None-clause-items g c =
 
 pub returns-in-Err-take-clause-items : goal.returns-in-Err-take-clause-items
 returns-in-Err-take-clause-items g c =
-    let h = passed_on g.S.Sink.takes g.S.Sink.misses c.args.feed.now c.items.feed c.pass-passed.new.self _ _ _ c.args.piece.now c.behind.result.now
-    c.items.at c.pass-passed.result.0 c.pass-passed.result.1 c.in_default.is c.behind.ensures c.items.invariant.moved c.pass-passed.ensures.items in
+    let h = passed_on g.S.Sink.takes g.S.Sink.misses c.args.feed.now c.items.feed c.pass-passed.new.self _ _ _ c.args.piece.now c.suffix.result.now
+    c.items.at c.pass-passed.result.0 c.pass-passed.result.1 c.in_default.is c.suffix.ensures c.items.invariant.moved c.pass-passed.ensures.items in
     let at = c.items.at + c.pass-passed.result.0 in
     let s = c.pass-passed.new.self in
-    let rest = c.behind-in-items.result.now in
+    let rest = c.suffix-in-items.result.now in
     let pushed : IsPushed s c.push-at.new.self c.args.piece.now rest at c.push-at.result =
     record {
-      rest_is = c.behind-in-items.ensures;
+      rest_is = c.suffix-in-items.ensures;
       taken_is = c.push-at.ensures.taken;
       held_is = c.push-at.ensures.held;
       partial = c.push-at.ensures.partial;
@@ -143,7 +143,7 @@ returns-in-Err-clause-items g c =
       missed_by g.S.Sink.takes g.S.Sink.misses _ c.items.sink _ m.0 y.0 c.pass-passed.result.1 c.in-Err.fault c.in-Err.is m.1 y.1,
       (
         c.items.at + c.pass-passed.result.0,
-        fed_passed c.args.feed.now c.items.feed s c.args.piece.now c.behind.result.now c.items.at c.pass-passed.result.0
-            m.0 y.0 c.behind.ensures m.2 y.2,
+        fed_passed c.args.feed.now c.items.feed s c.args.piece.now c.suffix.result.now c.items.at c.pass-passed.result.0
+            m.0 y.0 c.suffix.ensures m.2 y.2,
       ),
     )

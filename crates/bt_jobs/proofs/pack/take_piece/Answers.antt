@@ -32,7 +32,7 @@ returns-in-Some-2 c = λ own text lines b e h.
     let Q : Option ScriptReason → Type 0 = λ o. IsLineEnd own (lines ++ d.more) (b ++ d.named) line c.take_ended.new.feed c.lines.out.items
     c.take_ended.new.out.items o in
     let end = subst Q c.in-Some-2.is (c.in_ok-reason-in-Some.ensures.taken own (lines ++ d.more) (b ++ d.named) e d.read.packed) in
-    line_stops own text lines b c.args.piece.now c.lines.rest.now c.lines.line.items c.in-Some.front.now c.in-Some.behind.now line
+    line_stops own text lines b c.args.piece.now c.lines.rest.now c.lines.line.items c.in-Some.front.now c.in-Some.following.now line
     c.take_ended.new.line.items c.lines.feed c.take_ended.new.feed c.args.out.now.items c.lines.out.items c.take_ended.new.out.items c.in-Some-2.reason d
     c.in-Some.ensures.cut.1 c.in-Some.ensures.cut.0 refl end.0 end.1 end.2
 
@@ -44,8 +44,8 @@ lines-preserved c = λ own text lines b e h.
     c.take_ended.new.out.items o in
     let none = c.in_default.is in
     let end = subst Q none (c.in_ok-reason-in-Some.ensures.taken own (lines ++ d.more) (b ++ d.named) e d.read.packed) in
-    let S : List ℕ → Type 0 = λ l. IsDone own text lines b c.args.piece.now c.in-Some.behind.now l c.take_ended.new.feed c.args.out.now.items
+    let S : List ℕ → Type 0 = λ l. IsDone own text lines b c.args.piece.now c.in-Some.following.now l c.take_ended.new.feed c.args.out.now.items
     c.take_ended.new.out.items in
     subst S (sym (c.in_ok-reason-in-Some.ensures.empty none)) (line_done own text lines b c.args.piece.now c.lines.rest.now c.lines.line.items
-    c.in-Some.front.now c.in-Some.behind.now line c.lines.feed c.take_ended.new.feed c.args.out.now.items c.lines.out.items c.take_ended.new.out.items d
+    c.in-Some.front.now c.in-Some.following.now line c.lines.feed c.take_ended.new.feed c.args.out.now.items c.lines.out.items c.take_ended.new.out.items d
     c.in-Some.ensures.cut.1 c.in-Some.ensures.cut.0 refl end)

@@ -48,8 +48,8 @@ read_fields-view-requires-clause-sized c =
 pub read_fields-view-requires-clause-plain : goal.read_fields-view-requires-clause-plain
 read_fields-view-requires-clause-plain c = plain _ _ c.id_at-id.ensures c.if-id-eq-EXTENDED.false
 
-pub behind-requires : goal.behind-requires
-behind-requires c =
+pub suffix-requires : goal.suffix-requires
+suffix-requires c =
     let window = IsWindow-from_header _ _ _ c.requires in
     omega (arith, window.exact, c.number_at_front-length.ensures, c.if-length-eq0.false)
 
@@ -58,11 +58,11 @@ judge_bytes-requires c =
     let window = IsWindow-from_header _ _ _ c.requires in
     let long : 5 ≤ length c.args.window.now = omega (arith, window.exact, c.number_at_front-length.ensures, c.if-length-eq0.false) in
     let right = sized _ _ _ window long in
-    let size : length c.behind.result.now + 1 ≡ said_length c.args.window.now = omega (
+    let size : length c.suffix.result.now + 1 ≡ said_length c.args.window.now = omega (
       arith,
       window.exact,
       long,
-      ap (length {A = ℕ}) c.behind.ensures,
+      ap (length {A = ℕ}) c.suffix.ensures,
       length-drop 5 c.args.window.now,
     ) in
     rw (c.id_at-id.ensures, size) right
@@ -75,7 +75,7 @@ returns-in-Some-clause-err c =
     window_fault c.args.context.now c.args.order c.args.window.now _ c.in-Some.refused window long found
     (same_fields c.args.context.now c.number_at_front-length.result (said_length c.args.window.now) _ _ _ _ c.number_at_front-length.ensures
     (sym (c.read_fields-view.ensures.fields c.args.context.now)) c.read_fields-view.ensures.message
-    (rw (c.id_at-id.ensures, c.behind.ensures) at c.in-Some.ensures))
+    (rw (c.id_at-id.ensures, c.suffix.ensures) at c.in-Some.ensures))
 
 pub returns-in-None-clause-ok : goal.returns-in-None-clause-ok
 returns-in-None-clause-ok c =
@@ -88,7 +88,7 @@ returns-in-None-clause-ok c =
     (plain_allowed c.args.context.now _ _ found.its_part.id other)
     (same_fields c.args.context.now c.number_at_front-length.result (said_length c.args.window.now) _ _ _ _ c.number_at_front-length.ensures
     (sym (c.read_fields-view.ensures.fields c.args.context.now)) c.read_fields-view.ensures.message
-    (rw (c.id_at-id.ensures, c.behind.ensures) at c.in-None.ensures)))
+    (rw (c.id_at-id.ensures, c.suffix.ensures) at c.in-None.ensures)))
 
 pub returns-in-Some-clause-ok : goal.returns-in-Some-clause-ok
 returns-in-Some-clause-ok c = search rules

@@ -16,4 +16,4 @@ returns-in-Whole c =
     let v = c.walk.ensures.0 in
     let P : Context → Type 0 = λ k. IsOutcome k Fresh 68 1 (drop 68 c.args.stream.now) v in
     let Q : List ℕ → Type 0 = λ b. IsOutcome c.negotiate.result Fresh 68 1 b v in
-    (_, opening_more _ _ _ v c.in-Whole.ensures.0 c.in-Whole.ensures.1 (subst P c.negotiate.ensures (subst Q c.behind.ensures c.walk.ensures.1)))
+    (_, opening_more _ _ _ v c.in-Whole.ensures.0 c.in-Whole.ensures.1 (subst P c.negotiate.ensures (subst Q c.suffix.ensures c.walk.ensures.1)))
