@@ -4,3 +4,4 @@ pub mod LinkLaws
 pub mod Nodes
 pub mod Reports
 pub mod Runs
+pub mod FetchLaws
