@@ -1,5 +1,6 @@
 -- What the devices of std and of memory tell: their bytes and their counts.
 use Rattle.std.specs.Prelude.{ℕ, List, drop, Option}
+use Rattle.bt_io.specs.Seen.{SourceSeen, TargetSeen}
 use Rattle.bt_io.specs.declared.host.Host.{Host}
 use Rattle.bt_io.specs.declared.memory.MemSource.{MemSource}
 use Rattle.bt_io.specs.declared.memory.MemTarget.{MemTarget}
@@ -12,6 +13,12 @@ pub record Counts : Type 0 where
 
 abbrev pub no_calls : Counts
 no_calls = record { calls = 0; failed = 0; ends = 0 }
+
+abbrev pub source_seen : Option (List ℕ) → Counts → SourceSeen
+source_seen left c = record { left = left; reads = c.calls; failed = c.failed; ends = c.ends }
+
+abbrev pub target_seen : Option (List ℕ) → Counts → TargetSeen
+target_seen held c = record { held = held; writes = c.calls; failed = c.failed }
 
 -- ---- std's readers and writers
 

@@ -1,3 +1,4 @@
 pub mod Counts
+pub mod Seen
 pub mod Devices
 pub mod Outbox

@@ -1,6 +1,7 @@
 -- An outbox: what it holds, and what goes from its front to a target.
-use Rattle.std.specs.Prelude.{◌≡◌, ℕ, ◌+◌, ◌-◌, ◌≤◌, List, length, take, drop, Option}
+use Rattle.std.specs.Prelude.{◌≡◌, ℕ, ◌+◌, ◌-◌, ◌≤◌, List, length, take, drop}
 use Rattle.std.specs.Io.KnownBytes.{Appends}
+use Rattle.bt_io.specs.Seen.{TargetSeen}
 
 -- the bytes, and how many more surely find room
 pub record Outgoing : Type 0 where
@@ -16,7 +17,7 @@ abbrev pub without_front : ℕ → Outgoing → Outgoing
 without_front n o = record { bytes = drop n o.bytes; room = o.room + n }
 
 -- the target took the first n bytes and no others, and just these are gone
-pub record Sends (old new : Outgoing) (before after : Option (List ℕ)) (n : ℕ) : Type 0 where
+pub record Sends (old new : Outgoing) (before after : TargetSeen) (n : ℕ) : Type 0 where
   pub within : n ≤ length old.bytes
-  pub sent : Appends before after (take n old.bytes)
+  pub sent : Appends before.held after.held (take n old.bytes)
   pub left : new ≡ without_front n old

@@ -1,6 +1,6 @@
 //! A reader or a writer of std as a device. The program wraps its standard input and output so.
 ghost use Rattle.std.specs.Prelude.{◌≡◌};
-ghost use Rattle.bt_io.specs.Devices.{host_device, host_counts, no_calls};
+ghost use Rattle.bt_io.specs.Devices.{host_device, host_counts, no_calls, source_seen, target_seen};
 
 use crate::counts::counted;
 use crate::failed::Failed;
@@ -33,13 +33,7 @@ impl<T> Host<T> {
 }
 
 impl<T: Read> Source for Host<T> {
-    ghost left = { λ h. T.remaining (host_device h) };
-
-    ghost reads = { λ h. (host_counts h).calls };
-
-    ghost failed_reads = { λ h. (host_counts h).failed };
-
-    ghost ends = { λ h. (host_counts h).ends };
+    ghost seen = { λ h. source_seen (T.remaining (host_device h)) (host_counts h) };
 
     fn read(&mut self, into: &mut [u8]) -> Result<usize, Failed> {
         self.calls = self.calls.saturating_add(1);
@@ -57,11 +51,7 @@ impl<T: Read> Source for Host<T> {
 }
 
 impl<T: Write> Target for Host<T> {
-    ghost held = { λ h. T.contents (host_device h) };
-
-    ghost writes = { λ h. (host_counts h).calls };
-
-    ghost failed_writes = { λ h. (host_counts h).failed };
+    ghost seen = { λ h. target_seen (T.contents (host_device h)) (host_counts h) };
 
     fn write(&mut self, from: &[u8]) -> Result<usize, Failed> {
         self.calls = self.calls.saturating_add(1);

@@ -49,15 +49,9 @@ impl MemSource {
 }
 
 impl Source for MemSource {
-    ghost use Rattle.bt_io.specs.Devices.{source_left, source_most, source_fails_at, source_counts};
+    ghost use Rattle.bt_io.specs.Devices.{source_left, source_most, source_fails_at, source_counts, source_seen};
 
-    ghost left = { λ s. Some (source_left s) };
-
-    ghost reads = { λ s. (source_counts s).calls };
-
-    ghost failed_reads = { λ s. (source_counts s).failed };
-
-    ghost ends = { λ s. (source_counts s).ends };
+    ghost seen = { λ s. source_seen (Some (source_left s)) (source_counts s) };
 
     fn read(&mut self, into: &mut [u8]) -> Result<usize, Failed>
         ensures bound { ReadsAtMost result into.new }
@@ -121,13 +115,9 @@ impl MemTarget {
 }
 
 impl Target for MemTarget {
-    ghost use Rattle.bt_io.specs.Devices.{target_held, target_most, target_fails_at, target_counts};
+    ghost use Rattle.bt_io.specs.Devices.{target_held, target_most, target_fails_at, target_counts, target_seen};
 
-    ghost held = { λ t. Some (target_held t) };
-
-    ghost writes = { λ t. (target_counts t).calls };
-
-    ghost failed_writes = { λ t. (target_counts t).failed };
+    ghost seen = { λ t. target_seen (Some (target_held t)) (target_counts t) };
 
     fn write(&mut self, from: &[u8]) -> Result<usize, Failed>
         ensures bound { WritesAtMost result from.now }

@@ -1,7 +1,7 @@
 //! What is to be sent.
 ghost use Rattle.std.specs.Prelude.{◌≡◌, ℕ, ◌+◌, ◌-◌, ◌*◌, ◌<◌, ◌≤◌, [], ◌++◌, length, take, drop, min, max, IfOk, OnOk, OnErr, IsOk, vec_len, vec_capacity};
 ghost use Rattle.std.specs.Io.KnownBytes.{Appends};
-ghost use Rattle.bt_io.specs.Counts.{Grew};
+ghost use Rattle.bt_io.specs.Seen.{WriteFailed};
 ghost use Rattle.bt_io.specs.Outbox.{without_front, Sends};
 
 use crate::target::Target;
@@ -113,9 +113,9 @@ fn make_room<A: Allocator>(
 /// Writes the bytes until all are taken or a write fails, and says how many were taken.
 pub fn write_front<W: Target>(writer: &mut W, bytes: &[u8]) -> usize
     ensures within { result ≤ length bytes.now }
-    ensures sent { Appends (W.held writer.old) (W.held writer.new) (take result bytes.now) }
-    ensures stopped { result < length bytes.now → Grew (W.failed_writes writer.old) (W.failed_writes writer.new) }
-    ensures whole { result ≡ length bytes.now → W.failed_writes writer.new ≡ W.failed_writes writer.old }
+    ensures sent { Appends (W.seen writer.old).held (W.seen writer.new).held (take result bytes.now) }
+    ensures stopped { result < length bytes.now → WriteFailed (W.seen writer.old) (W.seen writer.new) }
+    ensures whole { result ≡ length bytes.now → (W.seen writer.new).failed ≡ (W.seen writer.old).failed }
 {
     let mut done = 0;
     while done < bytes.len() {
@@ -196,11 +196,11 @@ impl<A: Allocator> Outbox<A> {
     /// It drops them also at a fault. The call takes no memory.
     pub fn drain<W: Target>(&mut self, writer: &mut W, max: usize) -> Result<usize, WriteFault>
         ensures count { IfOk result (λ n. n ≡ min max (length self.old.bytes)) }
-        ensures sends { IfOk result (λ n. Sends self.old self.new (W.held writer.old) (W.held writer.new) n) }
+        ensures sends { IfOk result (λ n. Sends self.old self.new (W.seen writer.old) (W.seen writer.new) n) }
         ensures stops { OnErr result ((n : ℕ) × (n < min max (length self.old.bytes))
-            × Sends self.old self.new (W.held writer.old) (W.held writer.new) n) }
-        ensures failed { OnErr result (Grew (W.failed_writes writer.old) (W.failed_writes writer.new)) }
-        ensures whole { OnOk result (W.failed_writes writer.new ≡ W.failed_writes writer.old) }
+            × Sends self.old self.new (W.seen writer.old) (W.seen writer.new) n) }
+        ensures failed { OnErr result (WriteFailed (W.seen writer.old) (W.seen writer.new)) }
+        ensures whole { OnOk result ((W.seen writer.new).failed ≡ (W.seen writer.old).failed) }
     {
         let bytes = self.bytes();
         let wanted = max.min(bytes.len());

@@ -5,8 +5,8 @@ use Rattle.bt_io.proofs.outbox.write_front.Given as goal
 abbrev pub invariant-loop-done : goal.invariant-loop-done
 invariant-loop-done g l = record {
   within : l.done ≤ length l.bytes;
-  sent : Appends (g.W.Target.held l.initial.writer) (g.W.Target.held l.writer) (take l.done l.bytes);
-  failed : g.W.Target.failed_writes l.writer ≡ g.W.Target.failed_writes l.initial.writer;
+  sent : Appends (g.W.Target.seen l.initial.writer).held (g.W.Target.seen l.writer).held (take l.done l.bytes);
+  failed : (g.W.Target.seen l.writer).failed ≡ (g.W.Target.seen l.initial.writer).failed;
 }
 
 abbrev pub decreases-loop-done : goal.decreases-loop-done
