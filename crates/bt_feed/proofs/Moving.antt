@@ -4,6 +4,7 @@ use Rattle.std.proofs.Common.{Err, refl, sym, ap, subst, inl, inr, ◌∙◌, ar
 use Rattle.std.proofs.lemmas.List.{append-nil, append_assoc, length-drop, take_all, take-append-drop}
 use Rattle.std.proofs.Math.Seq.{take-add}
 use Rattle.std.specs.Io.KnownBytes.{Consumes}
+use Rattle.bt_io.specs.Seen.{SourceSeen}
 use Rattle.bt_wire.specs.declared.item.Item.{Item}
 use Rattle.bt_wire.specs.declared.item.Refusal.{Refusal}
 use Rattle.bt_feed.specs.Stages.{start_of, number_of, limit_of, is_closed, IsItem, stage_after, Comes, stopped}
@@ -194,9 +195,9 @@ ended_open f g bytes xs m le e =
     )
 
 -- where a feed waits, nothing that went into it is refused
-pub open_to : (f g : FeedState) (left left' : Option (List ℕ)) (bytes : List ℕ) (xs : List (ℕ × Item)) → IsFed f bytes xs g → limit_of g.stage ≤ 1048576
-    → is_closed g.stage g.held ≡ false → Consumes left left' bytes → IsOpenTo f left left'
-open_to f g left left' bytes xs m le e c =
+pub open_to : (f g : FeedState) (a b : SourceSeen) (bytes : List ℕ) (xs : List (ℕ × Item)) → IsFed f bytes xs g → limit_of g.stage ≤ 1048576
+    → is_closed g.stage g.held ≡ false → Consumes a.left b.left bytes → IsOpenTo f a b
+open_to f g a b bytes xs m le e c =
     let o = ended_open f g bytes xs m le e in
     let P : List ℕ → Type 0 = λ b. Comes f.stage (f.held ++ b) o.0 in
     (bytes, o.0, c, subst P (append-nil bytes) o.1.comes, o.2)

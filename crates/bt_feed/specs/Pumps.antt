@@ -1,5 +1,5 @@
 -- What a pump moves: the bytes of a source through a feed, and its items into a sink.
-use Rattle.std.specs.Prelude.{◌≡◌, ◌⊎◌, ◌≤◌, ℕ, ⊤, false, length, List, [], ◌∷◌, ◌++◌, take, Option, None, Result, Ok, Err}
+use Rattle.std.specs.Prelude.{◌≡◌, ◌⊎◌, ◌≤◌, ℕ, ⊤, false, length, List, [], ◌∷◌, ◌++◌, take, None, Result, Ok, Err}
 use Rattle.std.specs.Io.KnownBytes.{Consumes, Keeps}
 use Rattle.bt_wire.specs.declared.fault.Reason.TheVariants.{EndInside}
 use Rattle.bt_wire.specs.declared.item.Item.{Item}
@@ -9,6 +9,7 @@ use Rattle.bt_feed.specs.declared.pumping.PumpError.TheVariants as error
 use Rattle.bt_feed.specs.declared.sink.SinkFault.{SinkFault}
 use Rattle.bt_feed.specs.declared.view.Finish.TheVariants as finish
 use Rattle.bt_feed.specs.Stages.{number_of, is_closed, Comes}
+use Rattle.bt_io.specs.Seen.{SourceSeen}
 use Rattle.bt_io.specs.declared.failed.Failed.{Failed}
 use Rattle.bt_feed.specs.Feeds.{FeedState, with_bytes}
 use Rattle.bt_feed.specs.Laws.{verdict_at_end}
@@ -60,16 +61,26 @@ IsPumpEnd f bytes lost xs g (Err (error.Sink e)) = IsFed f bytes xs g
 IsPumpEnd f bytes lost xs g (Err error.ReadFault) = (v : Outcome) × IsPumped f bytes lost xs g v × (lost ≡ []) × (v.refusal ≡ None)
 IsPumpEnd f bytes lost xs g (Err error.Turns) = (v : Outcome) × IsPumped f bytes lost xs g v × (lost ≡ []) × (v.refusal ≡ None)
 
+-- what a pump works on: what is seen of its source, its feed and its sink
+pub record PumpState (S : Type 0) : Type 0 where
+  pub source : SourceSeen
+  pub feed : FeedState
+  pub sink : S
+
+abbrev pub pump_state : {S : Type 0} → SourceSeen → FeedState → S → PumpState S
+pump_state source feed sink = record { source = source; feed = feed; sink = sink }
+
 -- the source gave some bytes, and others, no more than a read gives, that are lost; these items came of them
-abbrev pub IsPump : {S : Type 0} → (S → ℕ × Item → S → Type 0) → (S → ℕ × Item → SinkFault → S → Type 0) → ℕ → FeedState → Option (List ℕ)
-    → Option (List ℕ) → S → S → FeedState → Result ℕ PumpError → Type 0
-IsPump takes misses read f left left' sink sink' g r =
-    (bytes : List ℕ) × (lost : List ℕ) × (xs : List (ℕ × Item)) × Consumes left left' (bytes ++ lost) × IsGiven takes misses sink xs sink' r
-    × IsPumpEnd f bytes lost xs g r × (length lost ≤ read)
+abbrev pub IsPump : {S : Type 0} → (S → ℕ × Item → S → Type 0) → (S → ℕ × Item → SinkFault → S → Type 0) → ℕ → PumpState S → PumpState S
+    → Result ℕ PumpError → Type 0
+IsPump takes misses read before after r =
+    (bytes : List ℕ) × (lost : List ℕ) × (xs : List (ℕ × Item)) × Consumes before.source.left after.source.left (bytes ++ lost)
+    × IsGiven takes misses before.sink xs after.sink r × IsPumpEnd before.feed bytes lost xs after.feed r × (length lost ≤ read)
 
 -- from the one state of the source to the other it gave bytes with which nothing is refused
-abbrev pub IsOpenTo : FeedState → Option (List ℕ) → Option (List ℕ) → Type 0
-IsOpenTo f left left' = (bytes : List ℕ) × (v : Outcome) × Consumes left left' bytes × Comes f.stage (f.held ++ bytes) v × (v.refusal ≡ None)
+abbrev pub IsOpenTo : FeedState → SourceSeen → SourceSeen → Type 0
+IsOpenTo f before after =
+    (bytes : List ℕ) × (v : Outcome) × Consumes before.left after.left bytes × Comes f.stage (f.held ++ bytes) v × (v.refusal ≡ None)
 
 -- the answer stands only at the stream's end
 abbrev pub IsEnd : Result ℕ PumpError → Type 0
@@ -104,13 +115,13 @@ IsPieceEnd f piece xs g (Err error.ReadFault) = ⊥
 IsPieceEnd f piece xs g (Err error.Turns) = ⊥
 
 -- bytes were read and went into the feed, all of them; or none, where the read failed
-abbrev pub IsRead : FeedState → FeedState → Option (List ℕ) → Option (List ℕ) → Result ℕ Failed → Type 0
-IsRead f g left left' (Ok n) = (bytes : List ℕ) × (length bytes ≡ n) × (g ≡ with_bytes f bytes) × Consumes left left' bytes
-IsRead f g left left' (Err e) = (g ≡ f) × Keeps left left'
+abbrev pub IsRead : FeedState → FeedState → SourceSeen → SourceSeen → Result ℕ Failed → Type 0
+IsRead f g before after (Ok n) = (bytes : List ℕ) × (length bytes ≡ n) × (g ≡ with_bytes f bytes) × Consumes before.left after.left bytes
+IsRead f g before after (Err e) = (g ≡ f) × Keeps before.left after.left
 
 -- bytes were read: some went into the feed, and what follows them is this piece
-abbrev pub IsReadOn : FeedState → FeedState → Option (List ℕ) → Option (List ℕ) → List ℕ → Type 0
-IsReadOn f g left left' piece = (bytes : List ℕ) × IsFed f bytes [] g × Consumes left left' (bytes ++ piece)
+abbrev pub IsReadOn : FeedState → FeedState → SourceSeen → SourceSeen → List ℕ → Type 0
+IsReadOn f g before after piece = (bytes : List ℕ) × IsFed f bytes [] g × Consumes before.left after.left (bytes ++ piece)
 
 -- how many bytes came
 abbrev pub came : Result (ℕ × ℕ) Failed → Result ℕ Failed

@@ -101,11 +101,11 @@ impl<A: Allocator> Buffer<A> {
         ensures within { length self.new.items ≤ goal }
         ensures capacity { self.old.capacity ≤ self.new.capacity }
         ensures read { IfOk result (λ n. (bytes : List ℕ) × (length bytes ≡ n) × (self.new.items ≡ self.old.items ++ bytes)
-            × Consumes (R.left reader.old) (R.left reader.new) bytes) }
-        ensures err { OnErr result ((self.new.items ≡ self.old.items) × Keeps (R.left reader.old) (R.left reader.new)) }
-        ensures reads { R.reads reader.new ≡ one_more (R.reads reader.old) }
-        ensures failed { R.failed_reads reader.new ≡ counted (is_err result) (R.failed_reads reader.old) }
-        ensures ends { R.ends reader.new ≡ counted (is_end result 1) (R.ends reader.old) }
+            × Consumes (R.seen reader.old).left (R.seen reader.new).left bytes) }
+        ensures err { OnErr result ((self.new.items ≡ self.old.items) × Keeps (R.seen reader.old).left (R.seen reader.new).left) }
+        ensures reads { (R.seen reader.new).reads ≡ one_more (R.seen reader.old).reads }
+        ensures failed { (R.seen reader.new).failed ≡ counted (is_err result) (R.seen reader.old).failed }
+        ensures ends { (R.seen reader.new).ends ≡ counted (is_end result 1) (R.seen reader.old).ends }
     {
         lengthen(&mut self.bytes, goal);
         let count = reader.read(&mut self.bytes[self.size..goal])?;

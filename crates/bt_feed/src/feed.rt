@@ -171,10 +171,10 @@ impl<A: Allocator> Feed<A> {
     #[inline(always)]
     pub(crate) fn read<R: Source>(&mut self, reader: &mut R) -> Option<Result<usize, Failed>>
         ensures none { result ≡ None → (self.new ≡ self.old) × (reader.new ≡ reader.old) }
-        ensures read { IfSome result (λ r. IsRead self.old self.new (R.left reader.old) (R.left reader.new) r) }
-        ensures reads { IfSome result (λ _. R.reads reader.new ≡ one_more (R.reads reader.old)) }
-        ensures failed { IfSome result (λ r. R.failed_reads reader.new ≡ counted (is_err r) (R.failed_reads reader.old)) }
-        ensures ends { IfSome result (λ r. R.ends reader.new ≡ counted (is_end r 1) (R.ends reader.old)) }
+        ensures read { IfSome result (λ r. IsRead self.old self.new (R.seen reader.old) (R.seen reader.new) r) }
+        ensures reads { IfSome result (λ _. (R.seen reader.new).reads ≡ one_more (R.seen reader.old).reads) }
+        ensures failed { IfSome result (λ r. (R.seen reader.new).failed ≡ counted (is_err r) (R.seen reader.old).failed) }
+        ensures ends { IfSome result (λ r. (R.seen reader.new).ends ≡ counted (is_end r 1) (R.seen reader.old).ends) }
     {
         self.progress.read(&mut self.buffer, reader)
     }

@@ -177,10 +177,10 @@ impl Progress {
         requires room { capacity_of self.now.stage ≤ buffer.old.capacity }
         ensures none { result ≡ None → (buffer.new ≡ buffer.old) × (reader.new ≡ reader.old) }
         ensures read { IfSome result (λ r. IsRead (state_of self.now buffer.old.items) (state_of self.now buffer.new.items)
-            (R.left reader.old) (R.left reader.new) r) }
-        ensures reads { IfSome result (λ _. R.reads reader.new ≡ one_more (R.reads reader.old)) }
-        ensures failed { IfSome result (λ r. R.failed_reads reader.new ≡ counted (is_err r) (R.failed_reads reader.old)) }
-        ensures ends { IfSome result (λ r. R.ends reader.new ≡ counted (is_end r 1) (R.ends reader.old)) }
+            (R.seen reader.old) (R.seen reader.new) r) }
+        ensures reads { IfSome result (λ _. (R.seen reader.new).reads ≡ one_more (R.seen reader.old).reads) }
+        ensures failed { IfSome result (λ r. (R.seen reader.new).failed ≡ counted (is_err r) (R.seen reader.old).failed) }
+        ensures ends { IfSome result (λ r. (R.seen reader.new).ends ≡ counted (is_end r 1) (R.seen reader.old).ends) }
         ensures sound { IsProgress self.now buffer.new.items }
         ensures room { buffer.old.capacity ≤ buffer.new.capacity }
     {

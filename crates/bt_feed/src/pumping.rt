@@ -5,7 +5,8 @@ ghost use Rattle.std.specs.Io.KnownBytes.{Consumes, Keeps};
 ghost use Rattle.bt_wire.specs.declared.fault.Reason.TheVariants as reasons;
 ghost use Rattle.bt_wire.specs.declared.item.Item.{Item};
 ghost use Rattle.bt_io.specs.Counts.{Grew, one_more, counted, is_end};
-ghost use Rattle.bt_feed.specs.Pumps.{IsGiven, IsEnd, IsEndOf, IsPump, IsOpenTo, IsPieceEnd, IsSinkFault, IsReadOn, came};
+ghost use Rattle.bt_io.specs.Seen.{EndRead, ReadFailed};
+ghost use Rattle.bt_feed.specs.Pumps.{IsGiven, IsEnd, IsEndOf, IsPump, pump_state, IsOpenTo, IsPieceEnd, IsSinkFault, IsReadOn, came};
 ghost use Rattle.bt_feed.specs.Stages.{limit_of, is_closed};
 
 use crate::feed::Feed;
@@ -89,12 +90,12 @@ fn read_once<R: Source, A: Allocator>(
 ) -> Result<(usize, usize), Failed>
     requires { 0 < length buffer.old }
     ensures some { IfOk result (λ x. (x.1 ≤ length buffer.new) × (length buffer.new ≡ length buffer.old)
-        × IsReadOn feed.old feed.new (R.left reader.old) (R.left reader.new) (take x.1 buffer.new)) }
-    ensures none { IfOk result (λ x. x.0 ≡ 0 → (feed.new ≡ feed.old) × Consumes (R.left reader.old) (R.left reader.new) []) }
-    ensures err { OnErr result ((feed.new ≡ feed.old) × Keeps (R.left reader.old) (R.left reader.new)) }
-    ensures reads { R.reads reader.new ≡ one_more (R.reads reader.old) }
-    ensures failed { R.failed_reads reader.new ≡ counted (is_err result) (R.failed_reads reader.old) }
-    ensures ends { R.ends reader.new ≡ counted (is_end (came result) 1) (R.ends reader.old) }
+        × IsReadOn feed.old feed.new (R.seen reader.old) (R.seen reader.new) (take x.1 buffer.new)) }
+    ensures none { IfOk result (λ x. x.0 ≡ 0 → (feed.new ≡ feed.old) × Consumes (R.seen reader.old).left (R.seen reader.new).left []) }
+    ensures err { OnErr result ((feed.new ≡ feed.old) × Keeps (R.seen reader.old).left (R.seen reader.new).left) }
+    ensures reads { (R.seen reader.new).reads ≡ one_more (R.seen reader.old).reads }
+    ensures failed { (R.seen reader.new).failed ≡ counted (is_err result) (R.seen reader.old).failed }
+    ensures ends { (R.seen reader.new).ends ≡ counted (is_end (came result) 1) (R.seen reader.old).ends }
 {
     match feed.read(reader) {
         Some(Ok(count)) => Ok((count, 0)),
@@ -122,17 +123,17 @@ pub fn pump_with<R: Source, S: Sink, A: Allocator>(
     buffer: &mut [u8],
 ) -> Result<u64, PumpError>
     requires { 0 < length buffer.old }
-    ensures moved { IsPump S.takes S.misses (length buffer.old) feed.old (R.left reader.old) (R.left reader.new) sink.old sink.new feed.new result }
-    ensures reads { R.reads reader.new ≤ R.reads reader.old + max_turns }
-    ensures turns { result ≡ Err PumpError.Turns → min (R.reads reader.old + max_turns) (2 ^ 64 - 1) ≤ R.reads reader.new }
-    ensures end { IsEnd result → Grew (R.ends reader.old) (R.ends reader.new) }
-    ensures inside { (IsEnd result → ⊥) → R.ends reader.new ≡ R.ends reader.old }
-    ensures read { result ≡ Err PumpError.ReadFault → Grew (R.failed_reads reader.old) (R.failed_reads reader.new) }
-    ensures calm { result ≢ Err PumpError.ReadFault → R.failed_reads reader.new ≡ R.failed_reads reader.old }
+    ensures moved { IsPump S.takes S.misses (length buffer.old) (pump_state (R.seen reader.old) feed.old sink.old) (pump_state (R.seen reader.new) feed.new sink.new) result }
+    ensures reads { (R.seen reader.new).reads ≤ (R.seen reader.old).reads + max_turns }
+    ensures turns { result ≡ Err PumpError.Turns → min ((R.seen reader.old).reads + max_turns) (2 ^ 64 - 1) ≤ (R.seen reader.new).reads }
+    ensures end { IsEnd result → EndRead (R.seen reader.old) (R.seen reader.new) }
+    ensures inside { (IsEnd result → ⊥) → (R.seen reader.new).ends ≡ (R.seen reader.old).ends }
+    ensures read { result ≡ Err PumpError.ReadFault → ReadFailed (R.seen reader.old) (R.seen reader.new) }
+    ensures calm { result ≢ Err PumpError.ReadFault → (R.seen reader.new).failed ≡ (R.seen reader.old).failed }
     ensures sink { IsSinkFault result → Grew (S.failed sink.old) (S.failed sink.new) }
     ensures quiet { (IsSinkFault result → ⊥) → S.failed sink.new ≡ S.failed sink.old }
-    ensures needed { (R.reads reader.new ≡ R.reads reader.old)
-        ⊎ ((before : R) × IsOpenTo feed.old (R.left reader.old) (R.left before) × (R.reads reader.new ≤ R.reads before + 1)) }
+    ensures needed { ((R.seen reader.new).reads ≡ (R.seen reader.old).reads)
+        ⊎ ((before : R) × IsOpenTo feed.old (R.seen reader.old) (R.seen before) × ((R.seen reader.new).reads ≤ (R.seen before).reads + 1)) }
 {
     if let Err(error) = pump_piece(feed, sink, &[]) {
         return Err(error);
@@ -158,17 +159,17 @@ pub fn pump<R: Source, S: Sink, A: Allocator>(
     sink: &mut S,
     max_turns: u64,
 ) -> Result<u64, PumpError>
-    ensures moved { IsPump S.takes S.misses 4096 feed.old (R.left reader.old) (R.left reader.new) sink.old sink.new feed.new result }
-    ensures reads { R.reads reader.new ≤ R.reads reader.old + max_turns }
-    ensures turns { result ≡ Err PumpError.Turns → min (R.reads reader.old + max_turns) (2 ^ 64 - 1) ≤ R.reads reader.new }
-    ensures end { IsEnd result → Grew (R.ends reader.old) (R.ends reader.new) }
-    ensures inside { (IsEnd result → ⊥) → R.ends reader.new ≡ R.ends reader.old }
-    ensures read { result ≡ Err PumpError.ReadFault → Grew (R.failed_reads reader.old) (R.failed_reads reader.new) }
-    ensures calm { result ≢ Err PumpError.ReadFault → R.failed_reads reader.new ≡ R.failed_reads reader.old }
+    ensures moved { IsPump S.takes S.misses 4096 (pump_state (R.seen reader.old) feed.old sink.old) (pump_state (R.seen reader.new) feed.new sink.new) result }
+    ensures reads { (R.seen reader.new).reads ≤ (R.seen reader.old).reads + max_turns }
+    ensures turns { result ≡ Err PumpError.Turns → min ((R.seen reader.old).reads + max_turns) (2 ^ 64 - 1) ≤ (R.seen reader.new).reads }
+    ensures end { IsEnd result → EndRead (R.seen reader.old) (R.seen reader.new) }
+    ensures inside { (IsEnd result → ⊥) → (R.seen reader.new).ends ≡ (R.seen reader.old).ends }
+    ensures read { result ≡ Err PumpError.ReadFault → ReadFailed (R.seen reader.old) (R.seen reader.new) }
+    ensures calm { result ≢ Err PumpError.ReadFault → (R.seen reader.new).failed ≡ (R.seen reader.old).failed }
     ensures sink { IsSinkFault result → Grew (S.failed sink.old) (S.failed sink.new) }
     ensures quiet { (IsSinkFault result → ⊥) → S.failed sink.new ≡ S.failed sink.old }
-    ensures needed { (R.reads reader.new ≡ R.reads reader.old)
-        ⊎ ((before : R) × IsOpenTo feed.old (R.left reader.old) (R.left before) × (R.reads reader.new ≤ R.reads before + 1)) }
+    ensures needed { ((R.seen reader.new).reads ≡ (R.seen reader.old).reads)
+        ⊎ ((before : R) × IsOpenTo feed.old (R.seen reader.old) (R.seen before) × ((R.seen reader.new).reads ≤ (R.seen before).reads + 1)) }
 {
     let mut buffer = [0; 4096];
     pump_with(reader, feed, sink, max_turns, &mut buffer)

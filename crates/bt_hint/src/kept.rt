@@ -50,13 +50,7 @@ impl<R> Kept<R> {
 }
 
 impl<R: Source> Source for Kept<R> {
-    ghost left = { λ k. R.left (source_of k) };
-
-    ghost reads = { λ k. R.reads (source_of k) };
-
-    ghost failed_reads = { λ k. R.failed_reads (source_of k) };
-
-    ghost ends = { λ k. R.ends (source_of k) };
+    ghost seen = { λ k. R.seen (source_of k) };
 
     fn read(&mut self, into: &mut [u8]) -> Result<usize, Failed> {
         let answer = self.source.read(into);

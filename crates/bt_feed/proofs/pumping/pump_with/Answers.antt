@@ -15,7 +15,7 @@ returns-in-Err-clause-moved g c =
     let p = c.in-Err.ensures.items in
     let stop = stopped_by c.args.feed.now c.args.feed.now c.pump_piece.new.feed [] [] [] p.0 c.in-Err.error (fed_none c.args.feed.now)
     c.in-Err.ensures.limit p.2 in
-    let left = g.R.Source.left c.args.reader.now in (
+    let left = (g.R.Source.seen c.args.reader.now).left in (
       stop.bytes,
       stop.lost,
       p.0,
@@ -56,8 +56,8 @@ returns-in-Err-pump_piece-clause-moved g c =
     let fed = fed_on c.args.feed.now c.loop-turn.feed c.read_once.new.feed m.0 w.0 m.1 m.4 w.1 in
     let stop = stopped_by c.args.feed.now c.read_once.new.feed c.pump_piece-in-Ok.new.feed (m.0 ++ w.0) piece m.1 p.0 c.in-Err-pump_piece.error fed
     c.in-Err-pump_piece.ensures.limit p.2 in
-    let left = g.R.Source.left c.args.reader.now in
-    let left' = g.R.Source.left c.read_once.new.reader in (
+    let left = (g.R.Source.seen c.args.reader.now).left in
+    let left' = (g.R.Source.seen c.read_once.new.reader).left in (
       stop.bytes,
       stop.lost,
       m.1 ++ p.0,
@@ -80,8 +80,8 @@ returns-in-Err-read_once-clause-moved g c =
     let feed = c.read_once.new.feed in
     let same = c.in-Err-read_once.ensures.err.0 in
     let o = ended_open c.args.feed.now c.loop-turn.feed m.0 m.1 m.4 c.loop-turn.invariant.limit c.loop-turn.invariant.waits in
-    let left = g.R.Source.left c.args.reader.now in
-    let left' = g.R.Source.left c.read_once.new.reader in
+    let left = (g.R.Source.seen c.args.reader.now).left in
+    let left' = (g.R.Source.seen c.read_once.new.reader).left in
     let P : FeedState → Type 0 = λ f. IsPumpEnd c.args.feed.now m.0 [] m.1 f (Err error.ReadFault) in (
       m.0,
       [],
@@ -123,8 +123,8 @@ pub returns-clause-moved : goal.returns-clause-moved
 returns-clause-moved g c =
     let m = c.loop-turn.invariant.moved in
     let o = ended_open c.args.feed.now c.loop-turn.feed m.0 m.1 m.4 c.loop-turn.invariant.limit c.loop-turn.invariant.waits in
-    let left = g.R.Source.left c.args.reader.now in
-    let left' = g.R.Source.left c.loop-turn.reader in
+    let left = (g.R.Source.seen c.args.reader.now).left in
+    let left' = (g.R.Source.seen c.loop-turn.reader).left in
     (m.0, [], m.1, subst (Consumes left left') (sym (append-nil m.0)) m.2, m.3, (o.0, o.1, refl, o.2), omega arith)
 
 pub returns-in-Err-clause-quiet : goal.returns-in-Err-clause-quiet
@@ -145,7 +145,8 @@ returns-in-Ok-eq0-default-clause-needed g c =
     let m = c.loop-turn.invariant.moved in
     inr (
       c.loop-turn.reader,
-      open_to c.args.feed.now c.loop-turn.feed _ _ m.0 m.1 m.4 c.loop-turn.invariant.limit c.loop-turn.invariant.waits m.2,
+      open_to c.args.feed.now c.loop-turn.feed (g.R.Source.seen c.args.reader.now) (g.R.Source.seen c.loop-turn.reader) m.0 m.1 m.4
+          c.loop-turn.invariant.limit c.loop-turn.invariant.waits m.2,
       omega (arith, c.in-Ok-eq0-default.ensures.reads),
     )
 
@@ -154,7 +155,8 @@ returns-in-Err-pump_piece-clause-needed g c =
     let m = c.loop-turn.invariant.moved in
     inr (
       c.loop-turn.reader,
-      open_to c.args.feed.now c.loop-turn.feed _ _ m.0 m.1 m.4 c.loop-turn.invariant.limit c.loop-turn.invariant.waits m.2,
+      open_to c.args.feed.now c.loop-turn.feed (g.R.Source.seen c.args.reader.now) (g.R.Source.seen c.loop-turn.reader) m.0 m.1 m.4
+          c.loop-turn.invariant.limit c.loop-turn.invariant.waits m.2,
       omega (arith, c.in-Ok.ensures.reads),
     )
 
@@ -163,7 +165,8 @@ returns-in-Err-read_once-clause-needed g c =
     let m = c.loop-turn.invariant.moved in
     inr (
       c.loop-turn.reader,
-      open_to c.args.feed.now c.loop-turn.feed _ _ m.0 m.1 m.4 c.loop-turn.invariant.limit c.loop-turn.invariant.waits m.2,
+      open_to c.args.feed.now c.loop-turn.feed (g.R.Source.seen c.args.reader.now) (g.R.Source.seen c.loop-turn.reader) m.0 m.1 m.4
+          c.loop-turn.invariant.limit c.loop-turn.invariant.waits m.2,
       omega (arith, c.in-Err-read_once.ensures.reads),
     )
 
@@ -172,6 +175,7 @@ returns-clause-needed g c =
     let m = c.loop-turn.invariant.moved in
     inr (
       c.loop-turn.reader,
-      open_to c.args.feed.now c.loop-turn.feed _ _ m.0 m.1 m.4 c.loop-turn.invariant.limit c.loop-turn.invariant.waits m.2,
+      open_to c.args.feed.now c.loop-turn.feed (g.R.Source.seen c.args.reader.now) (g.R.Source.seen c.loop-turn.reader) m.0 m.1 m.4
+          c.loop-turn.invariant.limit c.loop-turn.invariant.waits m.2,
       omega arith,
     )

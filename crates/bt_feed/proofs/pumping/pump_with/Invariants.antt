@@ -8,14 +8,14 @@ use Rattle.bt_feed.proofs.pumping.pump_with.Given as goal
 -- what was read so far went into the feed, which waits
 abbrev pub invariant-loop-turn : goal.invariant-loop-turn
 invariant-loop-turn g l = record {
-  failed : g.R.Source.failed_reads l.reader ≡ g.R.Source.failed_reads l.fn.reader;
-  ends : g.R.Source.ends l.reader ≡ g.R.Source.ends l.fn.reader;
+  failed : (g.R.Source.seen l.reader).failed ≡ (g.R.Source.seen l.fn.reader).failed;
+  ends : (g.R.Source.seen l.reader).ends ≡ (g.R.Source.seen l.fn.reader).ends;
   calm : g.S.Sink.failed l.sink ≡ g.S.Sink.failed l.fn.sink;
-  reads : (min (g.R.Source.reads l.fn.reader + l._turn) (2 ^ 64 - 1) ≤ g.R.Source.reads l.reader)
-      × (g.R.Source.reads l.reader ≤ g.R.Source.reads l.fn.reader + l._turn);
+  reads : (min ((g.R.Source.seen l.fn.reader).reads + l._turn) (2 ^ 64 - 1) ≤ (g.R.Source.seen l.reader).reads)
+      × ((g.R.Source.seen l.reader).reads ≤ (g.R.Source.seen l.fn.reader).reads + l._turn);
   limit : limit_of l.feed.stage ≤ 1048576;
   size : length l.buffer ≡ length l.fn.buffer;
   waits : is_closed l.feed.stage l.feed.held ≡ false;
-  moved : (bytes : List ℕ) × (xs : List (ℕ × Item)) × Consumes (g.R.Source.left l.fn.reader) (g.R.Source.left l.reader) bytes
+  moved : (bytes : List ℕ) × (xs : List (ℕ × Item)) × Consumes (g.R.Source.seen l.fn.reader).left (g.R.Source.seen l.reader).left bytes
       × Took g.S.Sink.takes l.fn.sink xs l.sink × IsFed l.fn.feed bytes xs l.feed;
 }

@@ -11,8 +11,8 @@ read-requires-clause-room g c =
 
 pub returns-clause-sound : goal.returns-clause-sound
 returns-clause-sound g c =
-    let left = g.R.Source.left c.args.reader.now in
-    let left' = g.R.Source.left c.read.new.reader in
+    let left = (g.R.Source.seen c.args.reader.now).left in
+    let left' = (g.R.Source.seen c.read.new.reader).left in
     let h = grown (λ (bytes : List ℕ). Consumes left left' bytes) (Keeps left left') c.read.result c.args.buffer.now.items c.read.new.self.items
     c.read.ensures.read c.read.ensures.err in
     progress_read c.args.self.now c.args.buffer.now.items c.read.new.self.items h.0 c.requires.sound c.if-self.false (omega (arith, c.if-self-len.false)) h.1
