@@ -23,6 +23,8 @@ use Rattle.bt_feed.proofs.Reading.{hand_open}
 use Rattle.bt_text.specs.declared.ended.ToolFault.{ToolFault}
 use Rattle.bt_text.specs.declared.ended.ToolFault.TheVariants as faults
 use Rattle.bt_io.specs.Counts.{Grew}
+use Rattle.bt_io.specs.Seen.{SourceSeen, EndRead, ReadFailed}
+use Rattle.bt_jobs.specs.Printed.{so_far}
 use Rattle.bt_jobs.specs.declared.other.Announced.{Announced}
 use Rattle.bt_jobs.specs.declared.other.Listener.{Listener}
 use Rattle.bt_jobs.specs.declared.other.OtherError.{OtherError}
@@ -101,17 +103,17 @@ heard_all : (b : List ℕ) (xs ys : List (ℕ × Item)) (f g : FeedState) (l m :
     → Took Hears l ys m → IsPumped f bytes lost ys g v → IsHeard (xs ++ v.items) m
 heard_all b xs ys f g l m bytes lost v r took p = subst (λ (zs : List (ℕ × Item)). IsHeard (xs ++ zs) m) (sym p.items) (heard_more xs ys l m r.heard took)
 
-pub ended : (E : Type 0) (b : List ℕ) (xs ys : List (ℕ × Item)) (f g : FeedState) (left left' : Option (List ℕ)) (l m : Listener) (bytes lost : List ℕ)
-    (v : Outcome) → IsListening b xs f l → Consumes left left' (bytes ++ lost)
-    → Took Hears l ys m → IsPumped f bytes lost ys g v → (IsSome v.refusal ⊎ E) → IsTurnHeard b xs E left left' g m (Ok true)
-ended E b xs ys f g left left' l m bytes lost v r c took p s =
+pub ended : (b : List ℕ) (xs ys : List (ℕ × Item)) (f g : FeedState) (before after : SourceSeen) (l m : Listener) (bytes lost : List ℕ)
+    (v : Outcome) → IsListening b xs f l → Consumes before.left after.left (bytes ++ lost)
+    → Took Hears l ys m → IsPumped f bytes lost ys g v → (IsSome v.refusal ⊎ EndRead before after) → IsTurnHeard (so_far b xs) before after g m (Ok true)
+ended b xs ys f g before after l m bytes lost v r c took p s =
     (bytes ++ lost, with_items xs v, c, total reader_of_other b xs f g bytes lost ys v r.read p, heard_all b xs ys f g l m bytes lost v r took p, inr s)
 
-pub turned : (E : Type 0) (b : List ℕ) (xs ys : List (ℕ × Item)) (f g : FeedState) (left left' : Option (List ℕ)) (l m : Listener) (bytes lost : List ℕ)
+pub turned : (b : List ℕ) (xs ys : List (ℕ × Item)) (f g : FeedState) (before after : SourceSeen) (l m : Listener) (bytes lost : List ℕ)
     (v : Outcome) (k : Bool) → (k ≡ true → IsSome m.reserved × IsSome m.metadata × IsSome m.donthave) → (k ≡ false → IsUnknown m.reserved m.metadata m.donthave)
-    → IsListening b xs f l → Consumes left left' (bytes ++ lost) → Took Hears l ys m → IsPumped f bytes lost ys g v → lost ≡ [] → v.refusal ≡ None
-    → IsTurnHeard b xs E left left' g m (Ok k)
-turned E b xs ys f g left left' l m bytes lost v false know unknown r c took p none free = (
+    → IsListening b xs f l → Consumes before.left after.left (bytes ++ lost) → Took Hears l ys m → IsPumped f bytes lost ys g v → lost ≡ [] → v.refusal ≡ None
+    → IsTurnHeard (so_far b xs) before after g m (Ok k)
+turned b xs ys f g before after l m bytes lost v false know unknown r c took p none free = (
   bytes ++ lost,
   ys,
   c,
@@ -124,7 +126,7 @@ turned E b xs ys f g left left' l m bytes lost v false know unknown r c took p n
     unrefused = free;
   },
 )
-turned E b xs ys f g left left' l m bytes lost v true know unknown r c took p none free = (
+turned b xs ys f g before after l m bytes lost v true know unknown r c took p none free = (
   bytes ++ lost,
   with_items xs v,
   c,
@@ -176,10 +178,14 @@ listening_first left f l e h =
       };
     }
 
-pub listening_more : (E : Type 0) (left0 left left' : Option (List ℕ)) (f g : FeedState) (l m : Listener) → (t : IsListeningTo left0 left f l)
-    → IsTurnHeard t.bytes t.items E left left' g m (Ok false) → IsListeningTo left0 left' g m
-listening_more E left0 left left' f g l m t n =
-    record { bytes = t.bytes ++ n.0; items = t.items ++ n.1; consumed = Consumes-trans left0 left left' t.bytes n.0 t.consumed n.2; listening = n.3 }
+pub listening_more : (left : Option (List ℕ)) (before after : SourceSeen) (f g : FeedState) (l m : Listener) → (t : IsListeningTo left before.left f l)
+    → IsTurnHeard (so_far t.bytes t.items) before after g m (Ok false) → IsListeningTo left after.left g m
+listening_more left before after f g l m t n = record {
+  bytes = t.bytes ++ n.0;
+  items = t.items ++ n.1;
+  consumed = Consumes-trans left before.left after.left t.bytes n.0 t.consumed n.2;
+  listening = n.3;
+}
 
 -- what was heard is the answer
 settled : (D E : Type 0) (b : List ℕ) (v : Outcome) (l : Listener) (r : Result Announced OtherError) → VerdictIsOne → RefusalStays → ItemsStay
@@ -197,42 +203,39 @@ settled D E b v l r one refused stay is h (inr (inr d)) to answer = inr (
   λ w isw. subst (λ (u : Outcome). IsSaidBy u.items r) (one reader_of_other b v w (omega arith) is isw) (said_by v.items l r h answer),
 )
 
-pub learnt : (D E : Type 0) (left0 left left' : Option (List ℕ)) (f g : FeedState) (l m : Listener) (r : Result Announced OtherError) → VerdictIsOne
-    → RefusalStays → ItemsStay → (t : IsListeningTo left0 left f l)
-    → IsTurnHeard t.bytes t.items D left left' g m (Ok true) → (D → E) → r ≡ ok_or (announced m.reserved m.metadata m.donthave) NoHandshake
-    → IsLearnt E left0 left' r
-learnt D E left0 left left' f g l m r one refused stay t n to answer = (
+pub learnt : (start before after : SourceSeen) (f g : FeedState) (l m : Listener) (r : Result Announced OtherError) → VerdictIsOne
+    → RefusalStays → ItemsStay → (t : IsListeningTo start.left before.left f l)
+    → IsTurnHeard (so_far t.bytes t.items) before after g m (Ok true) → (EndRead before after → EndRead start after)
+    → r ≡ ok_or (announced m.reserved m.metadata m.donthave) NoHandshake → IsLearnt start after r
+learnt start before after f g l m r one refused stay t n to answer = (
   t.bytes ++ n.0,
-  Consumes-trans left0 left left' t.bytes n.0 t.consumed n.2,
-  settled D E (t.bytes ++ n.0) n.1 m r one refused stay n.3 n.4 n.5 to answer,
+  Consumes-trans start.left before.left after.left t.bytes n.0 t.consumed n.2,
+  settled (EndRead before after) (EndRead start after) (t.bytes ++ n.0) n.1 m r one refused stay n.3 n.4 n.5 to answer,
 )
 
 -- a fault says nothing
-pub not_learnt : (E : Type 0) (left left' : Option (List ℕ)) (b : List ℕ) (f : ToolFault) → Consumes left left' b → IsLearnt E left left' (Err (Fault f))
-not_learnt E left left' b f c = (b, c, inl (λ later v is. tt))
+pub not_learnt : (before after : SourceSeen) (b : List ℕ) (f : ToolFault) → Consumes before.left after.left b → IsLearnt before after (Err (Fault f))
+not_learnt before after b f c = (b, c, inl (λ later v is. tt))
 
-pub fault_of_turn : (E : Type 0) (left0 left left' : Option (List ℕ)) (f g : FeedState) (l m : Listener) (e : ToolFault)
-    → (t : IsListeningTo left0 left f l) → IsTurnHeard t.bytes t.items E left left' g m (Err e) → IsLearnt E left0 left' (Err (Fault e))
-fault_of_turn E left0 left left' f g l m e t n = not_learnt E left0 left' (t.bytes ++ n.0) e (Consumes-trans left0 left left' t.bytes n.0 t.consumed n.1)
+pub fault_of_turn : (start before after : SourceSeen) (f g : FeedState) (l m : Listener) (e : ToolFault)
+    → (t : IsListeningTo start.left before.left f l) → IsTurnHeard (so_far t.bytes t.items) before after g m (Err e) → IsLearnt start after (Err (Fault e))
+fault_of_turn start before after f g l m e t n =
+    not_learnt start after (t.bytes ++ n.0) e (Consumes-trans start.left before.left after.left t.bytes n.0 t.consumed n.1)
 
-answer_has_no_fault : (o : Option Announced) (reads reads' failed failed' ends ends' : ℕ) → failed' ≡ failed → IsFaultOfOther (ok_or o NoHandshake) reads
-    reads' failed failed' ends ends'
-answer_has_no_fault None reads reads' failed failed' ends ends' calm = calm
-answer_has_no_fault (Some a) reads reads' failed failed' ends ends' calm = calm
+answer_has_no_fault : (o : Option Announced) (before after : SourceSeen) → after.failed ≡ before.failed → IsFaultOfOther (ok_or o NoHandshake) before after
+answer_has_no_fault None before after calm = calm
+answer_has_no_fault (Some a) before after calm = calm
 
-pub no_fault : (o : Option Announced) (r : Result Announced OtherError) (reads reads' failed failed' ends ends' : ℕ) → r ≡ ok_or o NoHandshake → failed'
-    ≡ failed → IsFaultOfOther r reads reads' failed failed' ends ends'
-no_fault o r reads reads' failed failed' ends ends' e calm =
-    subst (λ (a : Result Announced OtherError). IsFaultOfOther a reads reads' failed failed' ends ends') (sym e)
-    (answer_has_no_fault o reads reads' failed failed' ends ends' calm)
+pub no_fault : (o : Option Announced) (r : Result Announced OtherError) (before after : SourceSeen) → r ≡ ok_or o NoHandshake
+    → after.failed ≡ before.failed → IsFaultOfOther r before after
+no_fault o r before after e calm =
+    subst (λ (a : Result Announced OtherError). IsFaultOfOther a before after) (sym e) (answer_has_no_fault o before after calm)
 
 pub grew_since : (a b c : ℕ) → b ≡ a → Grew b c → Grew a c
 grew_since a b c e g = subst (λ (n : ℕ). Grew n c) e g
 
-pub read_failed : (f : ToolFault) (reads reads' failed failed' ends ends' : ℕ) → f ≡ faults.Read → Grew failed failed'
-    → IsFaultOfOther (Err (Fault f)) reads reads' failed failed' ends ends'
-read_failed f reads reads' failed failed' ends ends' e g = subst (λ (x : ToolFault). IsFaultOfOther (Err (Fault x)) reads reads' failed failed' ends ends')
-    (sym e) g
+pub read_failed : (f : ToolFault) (before after : SourceSeen) → f ≡ faults.Read → ReadFailed before after → IsFaultOfOther (Err (Fault f)) before after
+read_failed f before after e g = subst (λ (x : ToolFault). IsFaultOfOther (Err (Fault x)) before after) (sym e) g
 
 -- ---- what is read
 

@@ -14,7 +14,7 @@ use Rattle.bt_jobs.specs.Packs.{is_none}
 use Rattle.bt_text.specs.declared.ended.PackEnd.{PackEnd}
 use Rattle.bt_text.specs.declared.ended.PackEnd.TheVariants.{Accepted, Refused}
 use Rattle.bt_jobs.proofs.Printing.{verdict_length}
-use Rattle.bt_jobs.specs.PackSteps.{IsPackedTo, IsLineEnd, IsReadSo, IsPieceRead, IsScriptEnd}
+use Rattle.bt_jobs.specs.PackSteps.{IsPackedTo, packing, packer, IsLineEnd, IsReadSo, IsPieceRead, IsScriptEnd}
 use Rattle.bt_jobs.proofs.Packing.{taken_so_far, some_lines}
 use Rattle.bt_text.proofs.ScriptBounds.{has_feed-append}
 use Rattle.bt_jobs.proofs.PackText.{ended_more, ended_both, whole_both, split_of}
@@ -156,7 +156,7 @@ nothing_done own text lines b piece held f out h =
 -- all of the piece
 pub all_done : (own : Own) (text : List ℕ) (lines : List (List ℕ)) (b piece rest held new : List ℕ) (f : FeedState) (out out' : List ℕ)
     → IsDone own text lines b piece rest held f out out' → has_feed rest ≡ false → new ≡ held ++ rest
-    → IsPieceRead own (text ++ piece) lines b new f out out' None
+    → IsPieceRead own (text ++ piece) (packing lines b out) (packer new f out') None
 all_done own text lines b piece rest held new f out out' d none e =
     let all : (text ++ d.done) ++ rest ≡ text ++ piece = append_assoc text d.done rest ∙ ap (λ (l : List ℕ). text ++ l) (sym d.parts) in
     let P : List ℕ → Type 0 = λ t. IsReadSo own t (lines ++ d.more) (b ++ d.named) new f in
@@ -164,7 +164,7 @@ all_done own text lines b piece rest held new f out out' d none e =
 
 pub line_done : (own : Own) (text : List ℕ) (lines : List (List ℕ)) (b piece rest held front following line : List ℕ) (f g : FeedState) (out mid out' : List ℕ)
     → (d : IsDone own text lines b piece rest held f out mid) → has_feed front ≡ false → rest ≡ front ++ 10 ∷ following → line ≡ held ++ front
-    → IsLineEnd own (lines ++ d.more) (b ++ d.named) line g mid out' None → IsDone own text lines b piece following [] g out out'
+    → IsLineEnd own (packing (lines ++ d.more) (b ++ d.named) mid) line g out' None → IsDone own text lines b piece following [] g out out'
 line_done own text lines b piece rest held front following line f g out mid out' d none cut e end =
     let P : List ℕ → Type 0 = λ t. IsReadSo own t ((lines ++ d.more) ++ line ∷ []) ((b ++ d.named) ++ end.0) [] g in
     let Q : List (List ℕ) → Type 0 = λ l. IsReadSo own (text ++ (d.done ++ (front ++ 10 ∷ []))) l ((b ++ d.named) ++ end.0) [] g in
@@ -184,7 +184,7 @@ pub line_stops : (own : Own) (text : List ℕ) (lines : List (List ℕ)) (b piec
     (out mid out' : List ℕ) (reason : ScriptReason) → (d : IsDone own text lines b piece rest held f out mid) → has_feed front ≡ false → rest ≡ front
     ++ 10 ∷ following
     → line ≡ held ++ front → out' ≡ mid → number_of g.stage ≡ length (lines ++ d.more) → IsRefused own (lines ++ d.more) (b ++ d.named) line reason
-    → IsPieceRead own (text ++ piece) lines b new g out out' (Some reason)
+    → IsPieceRead own (text ++ piece) (packing lines b out) (packer new g out') (Some reason)
 line_stops own text lines b piece rest held front following line new f g out mid out' reason d none cut e same count r =
     let stop = stops_at own (text ++ d.done) front following line (lines ++ d.more) (b ++ d.named) held f (number_of g.stage) reason d.read none e count r in
     let all : (text ++ d.done) ++ (front ++ 10 ∷ following) ≡ text ++ piece = append_assoc text d.done (front ++ 10 ∷ following)
@@ -196,7 +196,7 @@ line_stops own text lines b piece rest held front following line new f g out mid
 pub rest_stops : (own : Own) (text : List ℕ) (lines : List (List ℕ)) (b piece rest held line new : List ℕ) (f : FeedState) (out out' : List ℕ)
     (reason : ScriptReason) → (d : IsDone own text lines b piece rest held f out out') → has_feed rest ≡ false
     → line ≡ held ++ rest → 2 * own.limit + 256 < length line → IsRefused own (lines ++ d.more) (b ++ d.named) line reason
-    → IsPieceRead own (text ++ piece) lines b new f out out' (Some reason)
+    → IsPieceRead own (text ++ piece) (packing lines b out) (packer new f out') (Some reason)
 rest_stops own text lines b piece rest held line new f out out' reason d none e long r =
     let stop = stops_in own (text ++ d.done) rest line (lines ++ d.more) (b ++ d.named) held f (number_of f.stage) reason d.read none e
     (omega (arith, long)) d.read.packed.count r in
@@ -260,7 +260,7 @@ end_empty own text lines b line out f e none h some is =
     ) h.packed (some_by lines (λ z. some (h.packed.count ∙ z))) refl refl))
 
 pub end_line : (own : Own) (text : List ℕ) (lines : List (List ℕ)) (b line out out' : List ℕ) (f g : FeedState) (e : PackEnd) → 0 < length line
-    → IsReadSo own text lines b line f → IsLineEnd own lines b line g out out' None
+    → IsReadSo own text lines b line f → IsLineEnd own (packing lines b out) line g out' None
     → e ≡ Accepted (number_of g.stage - 1) (start_of g.stage) → IsScriptEnd own text b out out' e
 end_line own text lines b line out out' f g e some h end is =
     let Q : PackEnd → Type 0 = λ x. (all : List (List ℕ)) × AreLines text all × IsPacked own all (b ++ end.0) x in (
@@ -275,7 +275,7 @@ end_line own text lines b line out out' f g e some h end is =
     )
 
 pub end_stop : (own : Own) (text : List ℕ) (lines : List (List ℕ)) (b line out out' : List ℕ) (f g : FeedState) (number : ℕ) (reason : ScriptReason)
-    → 0 < length line → IsReadSo own text lines b line f → IsLineEnd own lines b line g out out' (Some reason)
+    → 0 < length line → IsReadSo own text lines b line f → IsLineEnd own (packing lines b out) line g out' (Some reason)
     → number ≡ number_of g.stage → IsScriptEnd own text b out out' (Refused (number + 1) reason)
 end_stop own text lines b line out out' f g number reason some h end is =
     none_named own text b out out' (Refused (number + 1) reason) end.0 (stopped_packed own text line lines b f g (number + 1) reason h some

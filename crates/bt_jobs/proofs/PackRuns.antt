@@ -1,5 +1,5 @@
 -- A script that is read and packed turn by turn.
-use Rattle.std.proofs.Common.{◌≡◌, ℕ, ◌≤◌, List, [], ◌∷◌, ◌++◌, Option, None, Result, Ok, Err, refl, sym, ap, subst, ◌∙◌, arith, inl, inr}
+use Rattle.std.proofs.Common.{◌≡◌, ℕ, ◌≤◌, List, [], ◌++◌, Option, None, Result, Ok, Err, refl, sym, ap, subst, ◌∙◌, arith, inl, inr}
 use Rattle.std.proofs.lemmas.List.{append-nil, append_assoc}
 use Rattle.std.proofs.KnownBytes.{Appends-nil, Appends-trans, Consumes-nil, Consumes-trans}
 use Rattle.std.specs.Io.KnownBytes.{Consumes, Appends}
@@ -16,8 +16,9 @@ use Rattle.bt_text.specs.declared.ended.ScriptReason.{ScriptReason}
 use Rattle.bt_text.specs.declared.ended.ToolFault.{ToolFault}
 use Rattle.bt_jobs.specs.Packs.{ended_lines, with_last, AreLines, AreTaken, IsPacked, empty, stopped, accepted, IsEndedLine, IsTimely, AreTakenTo}
 use Rattle.bt_jobs.specs.Packs.{AreFrontLines, IsPackRun}
-use Rattle.bt_jobs.specs.PackSteps.{IsReadSo, IsPieceRead}
-use Rattle.bt_jobs.specs.Printed.{AppendsFront, IsWrittenOut}
+use Rattle.bt_jobs.specs.PackSteps.{packing, packer, IsReadSo, IsPieceRead}
+use Rattle.bt_io.specs.Seen.{Devices, EndRead, AppendsPrefix}
+use Rattle.bt_jobs.specs.Printed.{IsWrittenOut}
 use Rattle.bt_jobs.proofs.Packing.{taken_so_far}
 use Rattle.bt_jobs.proofs.PackText.{ended_before, split_of}
 use Rattle.bt_jobs.proofs.Printing.{front_after, all_is_front}
@@ -76,10 +77,10 @@ lines_of text =
     (with_last s.0 s.1, (s.0, s.1, s.2, refl))
 
 -- at a fault a prefix of the bytes that the taken lines name is written
-fails : (E : Type 0) (own : Own) (left left' held held' : Option (List ℕ)) (text more : List ℕ) (lines : List (List ℕ)) (b line : List ℕ) (f : FeedState)
-    (e : ToolFault) → Consumes left left' (text ++ more) → IsReadSo own text lines b line f → AppendsFront held held' b
-    → IsPackRun own E left left' held held' (Err e)
-fails E own left left' held held' text more lines b line f e read h front =
+fails : (own : Own) (before after : Devices) (text more : List ℕ) (lines : List (List ℕ)) (b line : List ℕ) (f : FeedState)
+    (e : ToolFault) → Consumes before.source.left after.source.left (text ++ more) → IsReadSo own text lines b line f
+    → AppendsPrefix before.target.held after.target.held b → IsPackRun own before after (Err e)
+fails own before after text more lines b line f e read h front =
     let t = lines_of (text ++ more) in
     let s = taken_so_far own lines b f h.packed in (
       text ++ more,
@@ -101,11 +102,12 @@ fails E own left left' held held' text more lines b line f e read h front =
       ),
     )
 
-pub run_fails : (E : Type 0) (own : Own) (left left' left'' held held' : Option (List ℕ)) (line more : List ℕ) (f : FeedState) (e : ToolFault)
-    → IsRun own left left' held held' line f → Consumes left' left'' more → IsPackRun own E left left'' held held' (Err e)
-run_fails E own left left' left'' held held' line more f e r read =
-    fails E own left left'' held held' r.text more r.lines r.bytes line f e (Consumes-trans left left' left'' r.text more r.consumed read) r.read
-    (all_is_front held held' r.bytes r.written)
+pub run_fails : (own : Own) (left : Option (List ℕ)) (before after : Devices) (line more : List ℕ) (f : FeedState) (e : ToolFault)
+    → IsRun own before.source.left left before.target.held after.target.held line f → Consumes left after.source.left more
+    → IsPackRun own before after (Err e)
+run_fails own left before after line more f e r read =
+    fails own before after r.text more r.lines r.bytes line f e (Consumes-trans before.source.left left after.source.left r.text more r.consumed read) r.read
+    (all_is_front before.target.held after.target.held r.bytes r.written)
 
 -- ---- a turn
 
@@ -114,7 +116,7 @@ out_is out out' x none e = e ∙ ap (λ (l : List ℕ). l ++ x) none
 
 pub run_more : (own : Own) (left left' left'' held held' held'' : Option (List ℕ)) (line new piece out out' : List ℕ) (f g : FeedState)
     → (r : IsRun own left left' held held' line f) → Consumes left' left'' piece → out ≡ []
-    → IsPieceRead own (r.text ++ piece) r.lines r.bytes new g out out' None → Appends held' held'' out' → IsRun own left left'' held held'' new g
+    → IsPieceRead own (r.text ++ piece) (packing r.lines r.bytes out) (packer new g out') None → Appends held' held'' out' → IsRun own left left'' held held'' new g
 run_more own left left' left'' held held' held'' line new piece out out' f g r read none p written = record {
   text = r.text ++ piece;
   lines = r.lines ++ p.0;
@@ -125,14 +127,16 @@ run_more own left left' left'' held held' held'' line new piece out out' f g r r
 }
 
 -- the text of the piece can't be written
-pub more_fails : (E : Type 0) (own : Own) (left left' left'' held held' held'' : Option (List ℕ)) (line new piece out out' : List ℕ) (f g : FeedState)
-    (e : ToolFault) → (r : IsRun own left left' held held' line f) → Consumes left' left'' piece → out ≡ []
-    → IsPieceRead own (r.text ++ piece) r.lines r.bytes new g out out' None → AppendsFront held' held'' out' → IsPackRun own E left left'' held held'' (Err e)
-more_fails E own left left' left'' held held' held'' line new piece out out' f g e r read none p front =
-    let P : List ℕ → Type 0 = λ t. Consumes left left'' t in
-    fails E own left left'' held held'' (r.text ++ piece) [] (r.lines ++ p.0) (r.bytes ++ p.1) new g e
-    (subst P (sym (append-nil (r.text ++ piece))) (Consumes-trans left left' left'' r.text piece r.consumed read)) p.3
-    (front_after held held' held'' r.bytes p.1 r.written (subst (AppendsFront held' held'') (out_is out out' p.1 none p.2) front))
+pub more_fails : (own : Own) (left held : Option (List ℕ)) (before after : Devices) (line new piece out out' : List ℕ) (f g : FeedState)
+    (e : ToolFault) → (r : IsRun own before.source.left left before.target.held held line f) → Consumes left after.source.left piece → out ≡ []
+    → IsPieceRead own (r.text ++ piece) (packing r.lines r.bytes out) (packer new g out') None → AppendsPrefix held after.target.held out'
+    → IsPackRun own before after (Err e)
+more_fails own left held before after line new piece out out' f g e r read none p front =
+    let P : List ℕ → Type 0 = λ t. Consumes before.source.left after.source.left t in
+    fails own before after (r.text ++ piece) [] (r.lines ++ p.0) (r.bytes ++ p.1) new g e
+    (subst P (sym (append-nil (r.text ++ piece))) (Consumes-trans before.source.left left after.source.left r.text piece r.consumed read)) p.3
+    (front_after before.target.held held after.target.held r.bytes p.1 r.written
+    (subst (AppendsPrefix held after.target.held) (out_is out out' p.1 none p.2) front))
 
 -- ---- the end
 
@@ -158,13 +162,13 @@ taken_of E own text all b e le lines timely (accepted v some taken is) =
     let T : PackEnd → Type 0 = λ z. IsTimely own.limit text E z in
     (all, v, inr (subst T is timely, lines), taken)
 
-pub packed_run : (E : Type 0) (own : Own) (left left' held held' held'' : Option (List ℕ)) (text b x out out' : List ℕ) (all : List (List ℕ)) (e : PackEnd)
-    (r : Result PackEnd ToolFault) → own.limit ≤ 1048576 → Consumes left left' text → AreLines text all → IsPacked own all (b ++ x) e
-    → IsTimely own.limit text E e → Appends held held' b → out ≡ [] → out' ≡ out ++ x → IsWrittenOut e out' held' held'' r
-    → IsPackRun own E left left' held held'' r
-packed_run E own left left' held held' held'' text b x out out' all e (Ok d) le read lines packed timely before none grown written =
+pub packed_run : (own : Own) (held : Option (List ℕ)) (before after : Devices) (text b x out out' : List ℕ) (all : List (List ℕ)) (e : PackEnd)
+    (r : Result PackEnd ToolFault) → own.limit ≤ 1048576 → Consumes before.source.left after.source.left text → AreLines text all
+    → IsPacked own all (b ++ x) e → IsTimely own.limit text (EndRead before.source after.source) e → Appends before.target.held held b → out ≡ []
+    → out' ≡ out ++ x → IsWrittenOut e out' held after.target.held r → IsPackRun own before after r
+packed_run own held before after text b x out out' all e (Ok d) le read lines packed timely first none grown written =
     let P : PackEnd → Type 0 = λ z. IsPacked own all (b ++ x) z in
-    let T : PackEnd → Type 0 = λ z. IsTimely own.limit text E z in (
+    let T : PackEnd → Type 0 = λ z. IsTimely own.limit text (EndRead before.source after.source) z in (
       text,
       all,
       read,
@@ -172,13 +176,13 @@ packed_run E own left left' held held' held'' text b x out out' all e (Ok d) le 
       (
         b ++ x,
         subst P (sym written.0) packed,
-        Appends-trans held held' held'' b x before
-            (subst (Appends held' held'') (out_is out out' x none grown) written.1),
+        Appends-trans before.target.held held after.target.held b x first
+            (subst (Appends held after.target.held) (out_is out out' x none grown) written.1),
         subst T (sym written.0) timely,
       ),
     )
-packed_run E own left left' held held' held'' text b x out out' all e (Err fault) le read lines packed timely before none grown front =
-    let t = taken_of E own text all (b ++ x) e le lines timely packed in (
+packed_run own held before after text b x out out' all e (Err fault) le read lines packed timely first none grown front =
+    let t = taken_of (EndRead before.source after.source) own text all (b ++ x) e le lines timely packed in (
       text,
       all,
       read,
@@ -189,8 +193,8 @@ packed_run E own left left' held held' held'' text b x out out' all e (Err fault
         t.1,
         t.2,
         t.3,
-        front_after held held' held'' b x before
-            (subst (AppendsFront held' held'') (out_is out out' x none grown) front),
+        front_after before.target.held held after.target.held b x first
+            (subst (AppendsPrefix held after.target.held) (out_is out out' x none grown) front),
       ),
     )
 
@@ -204,12 +208,12 @@ timely_line limit text E e number reason is h =
     let P : PackEnd → Type 0 = λ x. IsTimely limit text E x in
     subst P (sym is) (inl h)
 
-pub nothing_run : (E : Type 0) (own : Own) (left held : Option (List ℕ)) (e : ToolFault) → own.limit ≤ 1048576 → IsPackRun own E left left held held (Err e)
-nothing_run E own left held e le =
+pub nothing_run : (own : Own) (d : Devices) (e : ToolFault) → own.limit ≤ 1048576 → IsPackRun own d d (Err e)
+nothing_run own d e le =
     let v = left_at (stage.Handshake own) [] None in (
       [],
       [],
-      Consumes-nil left,
+      Consumes-nil d.source.left,
       ([], [], record { parts = refl; whole = tt; last = refl }, refl),
       (
         [],
@@ -221,7 +225,7 @@ nothing_run E own left held e le =
           verdict = open_comes (stage.Handshake own) [] (omega (arith, le)) (hand_open own);
           nothing_left = refl;
         },
-        all_is_front held held [] (Appends-nil held),
+        all_is_front d.target.held d.target.held [] (Appends-nil d.target.held),
       ),
     )
 

@@ -32,7 +32,7 @@ use Rattle.bt_text.specs.Lines.{spaced}
 use Rattle.bt_text.specs.Script.{IsLine, IsAnswer as IsReadAs, Said, keep_alive, known, unknown, Says, said_bytes, framed_by, SaysFields, SaysSpaced, SaysBytes}
 use Rattle.bt_text.specs.declared.ended.ScriptReason.TheVariants.{Reason}
 use Rattle.bt_jobs.specs.Packs.{IsNamed, AreNamed, AreTaken, is_none}
-use Rattle.bt_jobs.specs.PackSteps.{is_hand, IsPackedTo, IsLineEnd}
+use Rattle.bt_jobs.specs.PackSteps.{is_hand, IsPackedTo, packing, IsLineEnd}
 
 -- ---- lines that are named
 
@@ -205,7 +205,7 @@ after_number (stage.Message c o s n) b size (items.Handshake h) p = absurd p
 
 pub line_taken : (own : Own) (lines : List (List ℕ)) (b text x out out' : List ℕ) (f p g : FeedState) (item : Item) → length text < 2 ^ 31
     → IsNamed own.limit (is_none lines) text x → IsPackedTo own lines b f → p ≡ pushed f x
-    → IsAnswer p (Ok (Some item)) → g ≡ after p (Ok (Some item)) → out' ≡ out ++ x → IsLineEnd own lines b text g out out' None
+    → IsAnswer p (Ok (Some item)) → g ≡ after p (Ok (Some item)) → out' ≡ out ++ x → IsLineEnd own (packing lines b out) text g out' None
 line_taken own lines b text x out out' f p g item lt named h e is after_is grown =
     let n = taken f x in
     let least = taken_least (is_closed f.stage) f.held x in
@@ -243,7 +243,7 @@ line_taken own lines b text x out out' f p g item lt named h e is after_is grown
 
 pub line_refused : (own : Own) (lines : List (List ℕ)) (b text x out out' : List ℕ) (f p g : FeedState) (r : Refusal)
     → IsNamed own.limit (is_none lines) text x → IsPackedTo own lines b f → p ≡ pushed f x
-    → IsAnswer p (Err r) → g ≡ after p (Err r) → out' ≡ out → IsLineEnd own lines b text g out out' (Some (Reason r.reason))
+    → IsAnswer p (Err r) → g ≡ after p (Err r) → out' ≡ out → IsLineEnd own (packing lines b out) text g out' (Some (Reason r.reason))
 line_refused own lines b text x out out' f p g r named h e is after_is same =
     let same_number : number_of g.stage ≡ length lines = ap (λ (s : FeedState). number_of s.stage) (after_is) ∙ ap (λ (s : FeedState). number_of s.stage) e
     ∙ h.count in

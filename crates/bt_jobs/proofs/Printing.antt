@@ -25,14 +25,16 @@ use Rattle.bt_feed.specs.Transcripts.{with_items}
 use Rattle.bt_text.specs.declared.ended.Ended.{Ended}
 use Rattle.bt_text.specs.declared.ended.Ended.TheVariants.{Accepted, Refused}
 use Rattle.bt_text.specs.declared.ended.ToolFault.{ToolFault}
+use Rattle.bt_text.specs.declared.ended.ToolFault.TheVariants as faults
 use Rattle.bt_jobs.specs.declared.printer.Form.{Form}
 use Rattle.bt_feed.proofs.Coming.{open_comes}
 use Rattle.bt_feed.proofs.Reading.{hand_open}
-use Rattle.std.specs.Prelude.{MatchResult}
+use Rattle.std.specs.Prelude.{MatchResult, IfErr}
 use Rattle.bt_jobs.specs.declared.printer.Printer.{Printer}
-use Rattle.bt_text.specs.Lines.{ended_by, ended_as, verdict_line, lines_of}
-use Rattle.bt_jobs.specs.Printed.{texts, text_of, form_of, text_in, Prints, AppendsFront, IsWrittenOut, IsFlushed, MayBeTold, IsAllWritten, IsFrontWritten}
-use Rattle.bt_jobs.specs.Printed.{Writing, nothing, items_in, checked, prefixed, IsWritten, IsUnrefused, IsReadTo, IsTurn, verdict_of, all_in}
+use Rattle.bt_text.specs.Lines.{ended_by, ended_as, verdict_line}
+use Rattle.bt_io.specs.Seen.{SourceSeen, TargetSeen, Devices, devices, EndRead, AppendsPrefix}
+use Rattle.bt_jobs.specs.Printed.{texts, text_of, form_of, text_in, Prints, IsWrittenOut, IsFlushed, MayBeTold, IsEndOfReads, IsAllWritten, IsFrontWritten}
+use Rattle.bt_jobs.specs.Printed.{Writing, nothing, items_in, prefixed, IsWritten, IsUnrefused, IsReadTo, so_far, turn_end, IsTurn, verdict_of, all_in}
 
 -- ---- the text of items
 
@@ -117,60 +119,62 @@ text_of_turn own p q ys empty took = (printed p q ys took).1 own ∙ ap (λ (t :
 -- at a fault a prefix of the text of these items is written in this turn
 front_of_turn : (own : Own) (b : List ℕ) (xs : List (ℕ × Item)) (f g : FeedState) (left left' held held' : Option (List ℕ)) (p q : Printer)
     (bytes lost : List ℕ) (ys : List (ℕ × Item)) (v : Outcome) → VerdictIsOne
-    → IsPumpedOn own b xs f g left left' p q bytes lost ys v → AppendsFront held held' (text_in q)
+    → IsPumpedOn own b xs f g left left' p q bytes lost ys v → AppendsPrefix held held' (text_in q)
     → (w : Outcome) → IsVerdict own (b ++ (bytes ++ lost)) w → (zs : List (ℕ × Item)) × (w.items ≡ xs ++ zs)
-    × AppendsFront held held' (texts (form_of p) own zs)
+    × AppendsPrefix held held' (texts (form_of p) own zs)
 front_of_turn own b xs f g left left' held held' p q bytes lost ys v one h front w is =
     let same : w ≡ with_items xs v = one own (b ++ (bytes ++ lost)) w (with_items xs v) h.limit is (total own b xs f g bytes lost ys v h.before h.pumped) in (
       ys,
       ap (λ (u : Outcome). u.items) same ∙ ap (λ (l : List (ℕ × Item)). xs ++ l) h.pumped.items,
-      subst (AppendsFront held held') (text_of_turn own p q ys h.empty h.took) front,
+      subst (AppendsPrefix held held') (text_of_turn own p q ys h.empty h.took) front,
     )
 
 -- where nothing of a turn is written
 pub nothing_of_turn : (own : Own) (form : Form) (b more : List ℕ) (xs : List (ℕ × Item)) (f : FeedState) (held : Option (List ℕ)) → own.limit < 2 ^ 32
     → ItemsStay → IsReadTo own b xs f
-    → (w : Outcome) → IsVerdict own (b ++ more) w → (zs : List (ℕ × Item)) × (w.items ≡ xs ++ zs) × AppendsFront held held (texts form own zs)
+    → (w : Outcome) → IsVerdict own (b ++ more) w → (zs : List (ℕ × Item)) × (w.items ≡ xs ++ zs) × AppendsPrefix held held (texts form own zs)
 nothing_of_turn own form b more xs f held lt stay r w is =
     let s = stay own b more r.now w lt r.is is in
     (s.0, s.1 ∙ ap (λ (l : List (ℕ × Item)). l ++ s.0) r.items, ([], texts form own s.0, refl, Appends-nil held))
 
-pub goes_on : (own : Own) (b : List ℕ) (xs : List (ℕ × Item)) (f g : FeedState) (left left' held held' : Option (List ℕ)) (p q s : Printer)
+pub goes_on : (own : Own) (b : List ℕ) (xs : List (ℕ × Item)) (f g : FeedState) (before after : Devices) (p q s : Printer)
     (bytes lost : List ℕ) (ys : List (ℕ × Item)) (v : Outcome) (r : Result (Option Ended) ToolFault)
-    → VerdictIsOne → IsPumpedOn own b xs f g left left' p q bytes lost ys v → lost ≡ [] → v.refusal ≡ None
-    → IsFlushed {T = Option Ended} None (text_in q) held held' (text_in s) r → form_of s ≡ form_of q → IsTurn (form_of p) own b xs left left' held held' g s r
-goes_on own b xs f g left left' held held' p q s bytes lost ys v (Ok None) one h none free flushed form = (
+    → VerdictIsOne → IsPumpedOn own b xs f g before.source.left after.source.left p q bytes lost ys v → lost ≡ [] → v.refusal ≡ None
+    → IsFlushed {T = Option Ended} None (text_in q) before.target.held after.target.held (text_in s) r → form_of s ≡ form_of q
+    → IsTurn (form_of p) own (so_far b xs) before (turn_end after g s) r
+goes_on own b xs f g before after p q s bytes lost ys v (Ok None) one h none free flushed form = (
   bytes ++ lost,
   ys,
   h.consumed,
-  subst (Appends held held') (text_of_turn own p q ys h.empty h.took) flushed.1,
+  subst (Appends before.target.held after.target.held) (text_of_turn own p q ys h.empty h.took) flushed.1,
   read_more own b xs f g bytes lost ys v none free h.before h.pumped,
   form ∙ (printed p q ys h.took).0,
   flushed.2,
 )
-goes_on own b xs f g left left' held held' p q s bytes lost ys v (Ok (Some e)) one h none free flushed form = absurd (let no : Some e ≡ None = flushed.0 in cc)
-goes_on own b xs f g left left' held held' p q s bytes lost ys v (Err e) one h none free flushed form =
-    (bytes ++ lost, h.consumed, front_of_turn own b xs f g left left' held held' p q bytes lost ys v one h flushed)
+goes_on own b xs f g before after p q s bytes lost ys v (Ok (Some e)) one h none free flushed form = absurd (let no : Some e ≡ None = flushed.0 in cc)
+goes_on own b xs f g before after p q s bytes lost ys v (Err e) one h none free flushed form =
+    (bytes ++ lost, h.consumed, front_of_turn own b xs f g _ _ before.target.held after.target.held p q bytes lost ys v one h flushed)
 
-pub ends : (own : Own) (b : List ℕ) (xs : List (ℕ × Item)) (f g : FeedState) (left left' held held' : Option (List ℕ)) (p q s : Printer)
+pub ends : (own : Own) (b : List ℕ) (xs : List (ℕ × Item)) (f g : FeedState) (before after : Devices) (p q s : Printer)
     (bytes lost : List ℕ) (ys : List (ℕ × Item)) (v : Outcome) (ended : Ended) (r : Result (Option Ended) ToolFault)
-    → VerdictIsOne → IsPumpedOn own b xs f g left left' p q bytes lost ys v → ended ≡ ended_as v (v.start + length v.tail)
-    → IsFlushed (Some ended) (text_in q) held held' (text_in s) r → form_of s ≡ form_of q → IsTurn (form_of p) own b xs left left' held held' g s r
-ends own b xs f g left left' held held' p q s bytes lost ys v ended (Ok (Some e)) one h is flushed form =
+    → VerdictIsOne → IsPumpedOn own b xs f g before.source.left after.source.left p q bytes lost ys v → ended ≡ ended_as v (v.start + length v.tail)
+    → IsFlushed (Some ended) (text_in q) before.target.held after.target.held (text_in s) r → form_of s ≡ form_of q
+    → IsTurn (form_of p) own (so_far b xs) before (turn_end after g s) r
+ends own b xs f g before after p q s bytes lost ys v ended (Ok (Some e)) one h is flushed form =
     let all = total own b xs f g bytes lost ys v h.before h.pumped in
     let same : e ≡ ended = let some : Some e ≡ Some ended = flushed.0 in cc in
     let size : v.start + length v.tail ≡ length (b ++ (bytes ++ lost)) = verdict_length own (b ++ (bytes ++ lost)) (with_items xs v) all in (
       bytes ++ lost,
       ys,
       h.consumed,
-      subst (Appends held held') (text_of_turn own p q ys h.empty h.took) flushed.1,
+      subst (Appends before.target.held after.target.held) (text_of_turn own p q ys h.empty h.took) flushed.1,
       (with_items xs v, all, ap (λ (l : List (ℕ × Item)). xs ++ l) h.pumped.items, same ∙ is ∙ ap (λ (n : ℕ). ended_as v n) size),
       form ∙ (printed p q ys h.took).0,
       flushed.2,
     )
-ends own b xs f g left left' held held' p q s bytes lost ys v ended (Ok None) one h is flushed form = absurd (let no : None ≡ Some ended = flushed.0 in cc)
-ends own b xs f g left left' held held' p q s bytes lost ys v ended (Err e) one h is flushed form =
-    (bytes ++ lost, h.consumed, front_of_turn own b xs f g left left' held held' p q bytes lost ys v one h flushed)
+ends own b xs f g before after p q s bytes lost ys v ended (Ok None) one h is flushed form = absurd (let no : None ≡ Some ended = flushed.0 in cc)
+ends own b xs f g before after p q s bytes lost ys v ended (Err e) one h is flushed form =
+    (bytes ++ lost, h.consumed, front_of_turn own b xs f g _ _ before.target.held after.target.held p q bytes lost ys v one h flushed)
 
 pub is_accepted : (v : Outcome) (g : FeedState) (number messages n : ℕ) → verdict_at_end v ≡ Ok n → v.number ≡ number_of g.stage → number
     ≡ number_of g.stage → messages ≡ number - 1 → Accepted messages n ≡ ended_as v (v.start + length v.tail)
@@ -226,15 +230,15 @@ nothing_unrefused own left le =
     ([], stopped (stage.Handshake own) [] None, Consumes-nil left, open_comes (stage.Handshake own) [] (omega (arith, le)) (hand_open own), refl)
 
 -- where a pump into a new feed read last
-pub pumped_unrefused : {R : Type 0} (left : R → Option (List ℕ)) (reads : R → ℕ) (own : Own) (f : FeedState) (old new : R) → own.limit ≤ 1048576
+pub pumped_unrefused : {R : Type 0} (seen : R → SourceSeen) (own : Own) (f : FeedState) (old new : R) → own.limit ≤ 1048576
     → f ≡ record { stage = stage.Handshake own; held = []; refused = None }
-    → (reads new ≡ reads old) ⊎ ((before : R) × IsOpenTo f (left old) (left before) × (reads new ≤ reads before + 1))
-    → (before : R) × IsUnrefused own (left old) (left before) × (reads new ≤ reads before + 1)
-pumped_unrefused left reads own f old new le is h =
+    → ((seen new).reads ≡ (seen old).reads) ⊎ ((before : R) × IsOpenTo f (seen old) (seen before) × ((seen new).reads ≤ (seen before).reads + 1))
+    → (before : R) × IsUnrefused own (seen old).left (seen before).left × ((seen new).reads ≤ (seen before).reads + 1)
+pumped_unrefused seen own f old new le is h =
     elim h [
-      | inl e ↦ (old, nothing_unrefused own (left old) le, omega (arith, e))
+      | inl e ↦ (old, nothing_unrefused own (seen old).left le, omega (arith, e))
       | inr o ↦
-          let P : FeedState → Type 0 = λ g. IsOpenTo g (left old) (left o.0) in
+          let P : FeedState → Type 0 = λ g. IsOpenTo g (seen old) (seen o.0) in
           (o.0, subst P is o.1, o.2)
     ]
 
@@ -242,76 +246,79 @@ joined : (form : Form) (own : Own) (a b c : Option (List ℕ)) (xs ys : List (�
     → Appends a c (texts form own (xs ++ ys))
 joined form own a b c xs ys p q = subst (Appends a c) (sym (texts_both form own xs ys)) (Appends-trans a b c (texts form own xs) (texts form own ys) p q)
 
-pub told_more : (form : Form) (own : Own) (left0 left left' held0 held held' : Option (List ℕ)) (f g : FeedState) (p q : Printer)
-    → (t : IsToldTo form own left0 left held0 held f p)
-    → IsTurn (form_of p) own t.bytes t.items left left' held held' g q (Ok None) → IsToldTo form own left0 left' held0 held' g q
-told_more form own left0 left left' held0 held held' f g p q t n =
-    let P : Form → Type 0 = λ x. IsTurn x own t.bytes t.items left left' held held' g q (Ok None) in
+pub told_more : (form : Form) (own : Own) (left held : Option (List ℕ)) (before after : Devices) (f g : FeedState) (p q : Printer)
+    → (t : IsToldTo form own left before.source.left held before.target.held f p)
+    → IsTurn (form_of p) own (so_far t.bytes t.items) before (turn_end after g q) (Ok None)
+    → IsToldTo form own left after.source.left held after.target.held g q
+told_more form own left held before after f g p q t n =
+    let P : Form → Type 0 = λ x. IsTurn x own (so_far t.bytes t.items) before (turn_end after g q) (Ok None) in
     let m = subst P t.form_is n in
     record {
       bytes = t.bytes ++ m.0;
       items = t.items ++ m.1;
-      consumed = Consumes-trans left0 left left' t.bytes m.0 t.consumed m.2;
-      written = joined form own held0 held held' t.items m.1 t.written m.3;
+      consumed = Consumes-trans left before.source.left after.source.left t.bytes m.0 t.consumed m.2;
+      written = joined form own held before.target.held after.target.held t.items m.1 t.written m.3;
       read = m.4;
       form_is = m.5;
       empty = m.6;
     }
 
-pub told_end : (form : Form) (own : Own) (left0 left left' held0 held held' : Option (List ℕ)) (f g : FeedState) (p q : Printer) (e : Ended)
-    → (t : IsToldTo form own left0 left held0 held f p)
-    → IsTurn (form_of p) own t.bytes t.items left left' held held' g q (Ok (Some e))
-    → ((b : List ℕ) × Consumes left0 left' b × IsAllWritten (items_in form own) own b held0 held' e) × (text_in q ≡ [])
-told_end form own left0 left left' held0 held held' f g p q e t n =
-    let P : Form → Type 0 = λ x. IsTurn x own t.bytes t.items left left' held held' g q (Ok (Some e)) in
+pub told_end : (form : Form) (own : Own) (left held : Option (List ℕ)) (before after : Devices) (f g : FeedState) (p q : Printer) (e : Ended)
+    → (t : IsToldTo form own left before.source.left held before.target.held f p)
+    → IsTurn (form_of p) own (so_far t.bytes t.items) before (turn_end after g q) (Ok (Some e))
+    → ((b : List ℕ) × Consumes left after.source.left b × IsAllWritten (items_in form own) own b held after.target.held e) × (text_in q ≡ [])
+told_end form own left held before after f g p q e t n =
+    let P : Form → Type 0 = λ x. IsTurn x own (so_far t.bytes t.items) before (turn_end after g q) (Ok (Some e)) in
     let m = subst P t.form_is n in
     let v = m.4.0 in
-    let Q : List (ℕ × Item) → Type 0 = λ xs. Appends held0 held' (texts form own xs) in (
+    let Q : List (ℕ × Item) → Type 0 = λ xs. Appends held after.target.held (texts form own xs) in (
       (
         t.bytes ++ m.0,
-        Consumes-trans left0 left left' t.bytes m.0 t.consumed m.2,
-        (v, m.4.1, subst Q (sym m.4.2) (joined form own held0 held held' t.items m.1 t.written m.3), m.4.3),
+        Consumes-trans left before.source.left after.source.left t.bytes m.0 t.consumed m.2,
+        (v, m.4.1, subst Q (sym m.4.2) (joined form own held before.target.held after.target.held t.items m.1 t.written m.3), m.4.3),
       ),
       m.6,
     )
 
 -- known bytes that grew, and then by a front
-pub front_after : (a b c : Option (List ℕ)) (xs ys : List ℕ) → Appends a b xs → AppendsFront b c ys → AppendsFront a c (xs ++ ys)
+pub front_after : (a b c : Option (List ℕ)) (xs ys : List ℕ) → Appends a b xs → AppendsPrefix b c ys → AppendsPrefix a c (xs ++ ys)
 front_after a b c xs ys p q = (xs ++ q.0, q.1, ap (λ (l : List ℕ). xs ++ l) q.2 ∙ sym (append_assoc xs q.0 q.1), Appends-trans a b c xs q.0 p q.3)
 
 -- a front, of something longer
-front_of_more : (a b : Option (List ℕ)) (xs ys : List ℕ) → AppendsFront a b xs → AppendsFront a b (xs ++ ys)
+front_of_more : (a b : Option (List ℕ)) (xs ys : List ℕ) → AppendsPrefix a b xs → AppendsPrefix a b (xs ++ ys)
 front_of_more a b xs ys p = (p.0, p.1 ++ ys, ap (λ (l : List ℕ). l ++ ys) p.2 ∙ append_assoc p.0 p.1 ys, p.3)
 
-pub all_is_front : (a b : Option (List ℕ)) (xs : List ℕ) → Appends a b xs → AppendsFront a b xs
+pub all_is_front : (a b : Option (List ℕ)) (xs : List ℕ) → Appends a b xs → AppendsPrefix a b xs
 all_is_front a b xs p = (xs, [], sym (append-nil xs), p)
 
-pub told_fault : (E : Type 0) (form : Form) (own : Own) (left0 left left' held0 held held' : Option (List ℕ)) (f g : FeedState) (p q : Printer)
-    (e : ToolFault) → (t : IsToldTo form own left0 left held0 held f p)
-    → IsTurn (form_of p) own t.bytes t.items left left' held held' g q (Err e) → (b : List ℕ) × Consumes left0 left' b
-    × IsFrontWritten (items_in form own) (items_in form own) own E b held0 held'
-told_fault E form own left0 left left' held0 held held' f g p q e t n =
-    let P : Form → Type 0 = λ x. IsTurn x own t.bytes t.items left left' held held' g q (Err e) in
+pub told_fault : (form : Form) (own : Own) (start before after : Devices) (f g : FeedState) (p q : Printer)
+    (e : ToolFault) → (t : IsToldTo form own start.source.left before.source.left start.target.held before.target.held f p)
+    → IsTurn (form_of p) own (so_far t.bytes t.items) before (turn_end after g q) (Err e)
+    → (b : List ℕ) × Consumes start.source.left after.source.left b × IsFrontWritten (items_in form own) (items_in form own) own b start after
+told_fault form own start before after f g p q e t n =
+    let P : Form → Type 0 = λ x. IsTurn x own (so_far t.bytes t.items) before (turn_end after g q) (Err e) in
     let m = subst P t.form_is n in (
       t.bytes ++ m.0,
-      Consumes-trans left0 left left' t.bytes m.0 t.consumed m.1,
+      Consumes-trans start.source.left before.source.left after.source.left t.bytes m.0 t.consumed m.1,
       λ w is.
           let k = m.2 w is in
           let all : texts form own t.items ++ texts form own k.0 ≡ texts form own w.items = sym (texts_both form own t.items k.0)
           ∙ ap (texts form own) (sym k.1) in
-          inl (subst (AppendsFront held0 held') all (front_after held0 held held' (texts form own t.items) (texts form own k.0) t.written k.2)),
+          inl (subst (AppendsPrefix start.target.held after.target.held) all (front_after start.target.held before.target.held after.target.held
+          (texts form own t.items) (texts form own k.0) t.written k.2)),
     )
 
 -- after so many turns what is written is a front
-pub told_so_far : (E : Type 0) (form : Form) (own : Own) (left left' held held' : Option (List ℕ)) (f : FeedState) (p : Printer) → own.limit ≤ 1048576
-    → VerdictIsOne → IsToldTo form own left left' held held' f p
-    → (b : List ℕ) × Consumes left left' b × IsFrontWritten (items_in form own) (items_in form own) own E b held held'
-told_so_far E form own left left' held held' f p le one t = (
+pub told_so_far : (form : Form) (own : Own) (before after : Devices) (f : FeedState) (p : Printer) → own.limit ≤ 1048576
+    → VerdictIsOne → IsToldTo form own before.source.left after.source.left before.target.held after.target.held f p
+    → (b : List ℕ) × Consumes before.source.left after.source.left b × IsFrontWritten (items_in form own) (items_in form own) own b before after
+told_so_far form own before after f p le one t = (
   t.bytes,
   t.consumed,
   λ w is.
       let same : t.items ≡ w.items = sym t.read.items ∙ ap (λ (v : Outcome). v.items) (one own t.bytes t.read.now w (omega (arith, le)) t.read.is is) in
-      inl (subst (λ xs. AppendsFront held held' (texts form own xs)) same (all_is_front held held' (texts form own t.items) t.written)),
+      inl (subst (λ xs. AppendsPrefix before.target.held after.target.held (texts form own xs)) same
+      (all_is_front before.target.held after.target.held (texts form own t.items) t.written)),
 )
 
 -- ---- the verdict's line
@@ -320,10 +327,10 @@ either_front : (E P : Type 0) → P ⊎ (E × P) → P
 either_front E P (inl p) = p
 either_front E P (inr p) = p.1
 
-pub front_shown : (form : Form) (E : Type 0) (own : Own) (b : List ℕ) (held held' : Option (List ℕ))
-    → IsFrontWritten (items_in form own) (items_in form own) own E b held held' → IsFrontWritten (items_in form own) (all_in form own) own E b held held'
-front_shown form E own b held held' h = λ w is. inl (either_front (MayBeTold E (ended_as w (length b))) (AppendsFront held held' (texts form own w.items))
-    (h w is))
+pub front_shown : (form : Form) (own : Own) (b : List ℕ) (before after : Devices)
+    → IsFrontWritten (items_in form own) (items_in form own) own b before after → IsFrontWritten (items_in form own) (all_in form own) own b before after
+front_shown form own b before after h = λ w is. inl (either_front (MayBeTold (EndRead before.source after.source) (ended_as w (length b)))
+    (AppendsPrefix before.target.held after.target.held (texts form own w.items)) (h w is))
 
 -- the same outcome
 written_by : (form : Form) (own : Own) (b : List ℕ) (held held' : Option (List ℕ)) (e : Ended) → own.limit < 2 ^ 32 → VerdictIsOne
@@ -333,62 +340,74 @@ written_by form own b held held' e lt one a w is =
     let same = one own b a.0 w lt a.1 is in
     subst (λ (v : Outcome). Appends held held' (texts form own v.items) × (e ≡ ended_as v (length b))) same (a.2, a.3)
 
-pub front_shown_all : (form : Form) (E : Type 0) (own : Own) (b : List ℕ) (held held' : Option (List ℕ)) (e : Ended) → own.limit < 2 ^ 32 → VerdictIsOne
-    → IsAllWritten (items_in form own) own b held held' e → IsFrontWritten (items_in form own) (all_in form own) own E b held held'
-front_shown_all form E own b held held' e lt one a = λ w is.
-    let here = written_by form own b held held' e lt one a w is in
-    inl (all_is_front held held' (texts form own w.items) here.0)
+pub front_shown_all : (form : Form) (own : Own) (b : List ℕ) (before after : Devices) (e : Ended) → own.limit < 2 ^ 32 → VerdictIsOne
+    → IsAllWritten (items_in form own) own b before.target.held after.target.held e → IsFrontWritten (items_in form own) (all_in form own) own b before after
+front_shown_all form own b before after e lt one a = λ w is.
+    let here = written_by form own b before.target.held after.target.held e lt one a w is in
+    inl (all_is_front before.target.held after.target.held (texts form own w.items) here.0)
 
-pub all_shown : (form : Form) (E : Type 0) (own : Own) (b text left : List ℕ) (held mid held' : Option (List ℕ)) (e : Ended) (r : Result Ended ToolFault)
-    → own.limit < 2 ^ 32 → VerdictIsOne → IsAllWritten (items_in form own) own b held mid e
-    → text ≡ verdict_of form e → MayBeTold E e → IsFlushed e text mid held' left r → MatchResult r (IsAllWritten (all_in form own) own b held held')
-    (λ _. IsFrontWritten (items_in form own) (all_in form own) own E b held held')
-all_shown form E own b text left held mid held' e (Ok d) lt one a is told f =
+pub all_shown : (form : Form) (own : Own) (b text left : List ℕ) (before after : Devices) (mid : Option (List ℕ)) (e : Ended) (r : Result Ended ToolFault)
+    → own.limit < 2 ^ 32 → VerdictIsOne → IsAllWritten (items_in form own) own b before.target.held mid e
+    → text ≡ verdict_of form e → MayBeTold (EndRead before.source after.source) e → IsFlushed e text mid after.target.held left r
+    → MatchResult r (IsAllWritten (all_in form own) own b before.target.held after.target.held)
+    (λ _. IsFrontWritten (items_in form own) (all_in form own) own b before after)
+all_shown form own b text left before after mid e (Ok d) lt one a is told f =
     let v = a.0 in
     let line : text ≡ verdict_of form (ended_as v (length b)) = is ∙ ap (verdict_of form) a.3 in (
       v,
       a.1,
-      Appends-trans held mid held' (texts form own v.items) (verdict_of form (ended_as v (length b))) a.2 (subst (Appends mid held') line f.1),
+      Appends-trans before.target.held mid after.target.held (texts form own v.items) (verdict_of form (ended_as v (length b))) a.2
+          (subst (Appends mid after.target.held) line f.1),
       f.0
           ∙ a.3,
     )
-all_shown form E own b text left held mid held' e (Err x) lt one a is told f = λ w isw.
-    let here = written_by form own b held mid e lt one a w isw in
+all_shown form own b text left before after mid e (Err x) lt one a is told f = λ w isw.
+    let here = written_by form own b before.target.held mid e lt one a w isw in
     inr (
-      subst (MayBeTold E) here.1 told,
-      front_after held mid held' (texts form own w.items) (verdict_of form (ended_as w (length b))) here.0
-          (subst (AppendsFront mid held') (is ∙ ap (verdict_of form) here.1) f),
+      subst (MayBeTold (EndRead before.source after.source)) here.1 told,
+      front_after before.target.held mid after.target.held (texts form own w.items) (verdict_of form (ended_as w (length b))) here.0
+          (subst (AppendsPrefix mid after.target.held) (is ∙ ap (verdict_of form) here.1) f),
     )
 
 -- ---- the verdict alone
 
 -- nothing is written
-pub nothing_checked : (E : Type 0) (w : Writing) (own : Own) (left left' held : Option (List ℕ)) (b : List ℕ) (f : ToolFault) → Consumes left left' b
-    → IsWritten nothing w own E left left' held held (Err f)
-nothing_checked E w own left left' held b f c = (b, c, λ v is. inl ([], [], refl, Appends-nil held))
+pub nothing_checked : (w : Writing) (own : Own) (before after : SourceSeen) (target : TargetSeen) (b : List ℕ) (f : ToolFault)
+    → Consumes before.left after.left b → IsWritten nothing w own (devices before target) (devices after target) (Err f)
+nothing_checked w own before after target b f c = (b, c, λ v is. inl ([], [], refl, Appends-nil target.held))
 
 -- what was fed to a new feed has the outcome v, whose verdict is to be written
-pub checked_all : (E : Type 0) (p : List ℕ) (own : Own) (f : FeedState) (left left' held held' : Option (List ℕ)) (b : List ℕ) (v : Outcome) (e : Ended)
-    (r : Result Ended ToolFault) → own.limit ≤ 1048576 → VerdictIsOne → Consumes left left' b
+pub checked_all : (p : List ℕ) (own : Own) (f : FeedState) (before after : Devices) (b : List ℕ) (v : Outcome) (e : Ended)
+    (r : Result Ended ToolFault) → own.limit ≤ 1048576 → VerdictIsOne → Consumes before.source.left after.source.left b
     → f ≡ record { stage = stage.Handshake own; held = []; refused = None } → Comes f.stage (f.held ++ b) v → e ≡ ended_as v (v.start + length v.tail)
-    → MayBeTold E e → IsWrittenOut e (p ++ verdict_line e) held held' r → IsWritten nothing (prefixed p) own E left left' held held' r
-checked_all E p own f left left' held held' b v e (Ok a) le one c new comes ended told out =
+    → MayBeTold (EndRead before.source after.source) e → IsWrittenOut e (p ++ verdict_line e) before.target.held after.target.held r
+    → IsWritten nothing (prefixed p) own before after r
+checked_all p own f before after b v e (Ok a) le one c new comes ended told out =
     let F : FeedState → Type 0 = λ g. Comes g.stage (g.held ++ b) v in
     let is : IsVerdict own b v = subst F new comes in
     let same : e ≡ ended_as v (length b) = ended ∙ ap (λ (n : ℕ). ended_as v n) (verdict_length own b v is) in
-    let P : Ended → Type 0 = λ x. Appends held held' (p ++ verdict_line x) in
+    let P : Ended → Type 0 = λ x. Appends before.target.held after.target.held (p ++ verdict_line x) in
     (b, c, (v, is, subst P same out.1, out.0 ∙ same))
-checked_all E p own f left left' held held' b v e (Err x) le one c new comes ended told out =
+checked_all p own f before after b v e (Err x) le one c new comes ended told out =
     let F : FeedState → Type 0 = λ g. Comes g.stage (g.held ++ b) v in
     let is : IsVerdict own b v = subst F new comes in
     let same : e ≡ ended_as v (length b) = ended ∙ ap (λ (n : ℕ). ended_as v n) (verdict_length own b v is) in (
       b,
       c,
       λ w isw.
-          let P : Ended → Type 0 = λ x. MayBeTold E x × AppendsFront held held' (p ++ verdict_line x) in
-          let Q : Outcome → Type 0 = λ u. MayBeTold E (ended_as u (length b)) × AppendsFront held held' (p ++ verdict_line (ended_as u (length b))) in
+          let P : Ended → Type 0 = λ x. MayBeTold (EndRead before.source after.source) x
+          × AppendsPrefix before.target.held after.target.held (p ++ verdict_line x) in
+          let Q : Outcome → Type 0 = λ u. MayBeTold (EndRead before.source after.source) (ended_as u (length b))
+          × AppendsPrefix before.target.held after.target.held (p ++ verdict_line (ended_as u (length b))) in
           inr (subst Q (one own b v w (omega (arith, le)) is isw) (subst P same (told, out))),
     )
+
+-- the answer is this verdict, which may be told, or a write failed
+pub end_of_said : (e : Ended) (text : List ℕ) (held held' : Option (List ℕ)) (F : Type 0) (before after : SourceSeen) (r : Result Ended ToolFault)
+    → MayBeTold (EndRead before after) e → IsWrittenOut e text held held' r → IfErr r (λ f. (f ≡ faults.Write) × F) → IsEndOfReads r before after
+end_of_said e text held held' F before after (Ok a) told out fault = subst (MayBeTold (EndRead before after)) (sym out.0) told
+end_of_said e text held held' F before after (Err x) told out fault =
+    subst (λ (f : ToolFault). IsEndOfReads (Err f) before after) (sym fault.0) tt
 
 -- ---- a prefix before a line
 
@@ -397,5 +416,5 @@ pub written_after : (held mid held' : Option (List ℕ)) (p text : List ℕ) (e 
 written_after held mid held' p text e (Ok a) first out = (out.0, Appends-trans held mid held' p text first out.1)
 written_after held mid held' p text e (Err f) first out = front_after held mid held' p text first out
 
-pub prefix_of_both : (held held' : Option (List ℕ)) (p text : List ℕ) → AppendsFront held held' p → AppendsFront held held' (p ++ text)
+pub prefix_of_both : (held held' : Option (List ℕ)) (p text : List ℕ) → AppendsPrefix held held' p → AppendsPrefix held held' (p ++ text)
 prefix_of_both held held' p text h = front_of_more held held' p text h

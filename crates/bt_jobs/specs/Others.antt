@@ -15,7 +15,7 @@ use Rattle.bt_wire.specs.declared.message.Message.TheVariants as message
 use Rattle.bt_wire.specs.declared.reserved.Reserved.{Reserved}
 use Rattle.bt_wire.specs.Streams.{Outcome, IsVerdict}
 use Rattle.bt_feed.specs.Feeds.{FeedState}
-use Rattle.bt_io.specs.Counts.{Grew}
+use Rattle.bt_io.specs.Seen.{SourceSeen, EndRead, ReadFailed}
 use Rattle.bt_text.specs.declared.ended.ToolFault.{ToolFault}
 use Rattle.bt_text.specs.declared.ended.ToolFault.TheVariants as fault
 use Rattle.bt_text.specs.Lines.{told_as}
@@ -23,7 +23,7 @@ use Rattle.bt_jobs.specs.declared.other.Announced.{Announced}
 use Rattle.bt_jobs.specs.declared.other.Listener.{Listener}
 use Rattle.bt_jobs.specs.declared.other.OtherError.{OtherError}
 use Rattle.bt_jobs.specs.declared.other.OtherError.TheVariants as errors
-use Rattle.bt_jobs.specs.Printed.{IsReadTo}
+use Rattle.bt_jobs.specs.Printed.{IsReadTo, SoFar}
 
 -- ---- what items say
 
@@ -87,8 +87,9 @@ abbrev pub IsSaidIn : List ℕ → Result Announced OtherError → Type 0
 IsSaidIn b r = (v : Outcome) → IsVerdict reader_of_other b v → IsSaidBy v.items r
 
 -- b was read. The answer is what the items of b and of whatever follows say; or the end was read, and it is what those of b say.
-abbrev pub IsLearnt : Type 0 → Option (List ℕ) → Option (List ℕ) → Result Announced OtherError → Type 0
-IsLearnt AtEnd left left' r = (b : List ℕ) × Consumes left left' b × (((later : List ℕ) → IsSaidIn (b ++ later) r) ⊎ (AtEnd × IsSaidIn b r))
+abbrev pub IsLearnt : SourceSeen → SourceSeen → Result Announced OtherError → Type 0
+IsLearnt before after r =
+    (b : List ℕ) × Consumes before.left after.left b × (((later : List ℕ) → IsSaidIn (b ++ later) r) ⊎ (EndRead before after × IsSaidIn b r))
 
 -- one of these isn't known
 abbrev pub IsUnknown : Option Reserved → Option ℕ → Option ℕ → Type 0
@@ -104,14 +105,14 @@ IsOpen b =
 abbrev pub IsOpenAfter : Option (List ℕ) → Option (List ℕ) → Type 0
 IsOpenAfter left left' = (b : List ℕ) × Consumes left left' b × IsOpen b
 
--- Where a fault comes from, by the source's counts: from a read that failed, or from so many reads without the end
-abbrev pub IsFaultOfOther : Result Announced OtherError → ℕ → ℕ → ℕ → ℕ → ℕ → ℕ → Type 0
-IsFaultOfOther (Ok a) reads reads' failed failed' ends ends' = failed' ≡ failed
-IsFaultOfOther (Err errors.NoHandshake) reads reads' failed failed' ends ends' = failed' ≡ failed
-IsFaultOfOther (Err (errors.Fault fault.Read)) reads reads' failed failed' ends ends' = Grew failed failed'
-IsFaultOfOther (Err (errors.Fault fault.Turns)) reads reads' failed failed' ends ends' = (min (reads + 2 ^ 32) (2 ^ 64 - 1) ≤ reads') × (ends' ≡ ends)
-IsFaultOfOther (Err (errors.Fault fault.Memory)) reads reads' failed failed' ends ends' = failed' ≡ failed
-IsFaultOfOther (Err (errors.Fault f)) reads reads' failed failed' ends ends' = ⊥
+-- where a fault comes from, by what is seen of the source: from a read that failed, or from so many reads without the end
+abbrev pub IsFaultOfOther : Result Announced OtherError → SourceSeen → SourceSeen → Type 0
+IsFaultOfOther (Ok a) before after = after.failed ≡ before.failed
+IsFaultOfOther (Err errors.NoHandshake) before after = after.failed ≡ before.failed
+IsFaultOfOther (Err (errors.Fault fault.Read)) before after = ReadFailed before after
+IsFaultOfOther (Err (errors.Fault fault.Turns)) before after = (min (before.reads + 2 ^ 32) (2 ^ 64 - 1) ≤ after.reads) × (after.ends ≡ before.ends)
+IsFaultOfOther (Err (errors.Fault fault.Memory)) before after = after.failed ≡ before.failed
+IsFaultOfOther (Err (errors.Fault f)) before after = ⊥
 
 -- ---- for private contracts
 
@@ -140,8 +141,10 @@ abbrev pub IsSettled : Type 0 → Listener → Outcome → Type 0
 IsSettled AtEnd l v = (IsSome l.reserved × IsSome l.metadata × IsSome l.donthave) ⊎ (IsSome v.refusal ⊎ AtEnd)
 
 -- a turn read some bytes more: what they say was heard, and may be settled
-abbrev pub IsTurnHeard : List ℕ → List (ℕ × Item) → Type 0 → Option (List ℕ) → Option (List ℕ) → FeedState → Listener → Result Bool ToolFault → Type 0
-IsTurnHeard b xs AtEnd left left' g l (Ok false) = (more : List ℕ) × (ys : List (ℕ × Item)) × Consumes left left' more × IsListening (b ++ more) (xs ++ ys) g l
-IsTurnHeard b xs AtEnd left left' g l (Ok true) =
-    (more : List ℕ) × (v : Outcome) × Consumes left left' more × IsVerdict reader_of_other (b ++ more) v × IsHeard v.items l × IsSettled AtEnd l v
-IsTurnHeard b xs AtEnd left left' g l (Err f) = (more : List ℕ) × Consumes left left' more
+abbrev pub IsTurnHeard : SoFar → SourceSeen → SourceSeen → FeedState → Listener → Result Bool ToolFault → Type 0
+IsTurnHeard so before after g l (Ok false) =
+    (more : List ℕ) × (ys : List (ℕ × Item)) × Consumes before.left after.left more × IsListening (so.bytes ++ more) (so.items ++ ys) g l
+IsTurnHeard so before after g l (Ok true) =
+    (more : List ℕ) × (v : Outcome) × Consumes before.left after.left more × IsVerdict reader_of_other (so.bytes ++ more) v × IsHeard v.items l
+    × IsSettled (EndRead before after) l v
+IsTurnHeard so before after g l (Err f) = (more : List ℕ) × Consumes before.left after.left more

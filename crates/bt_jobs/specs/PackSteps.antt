@@ -27,11 +27,29 @@ pub record IsPackedTo (own : Own) (lines : List (List ℕ)) (b : List ℕ) (f : 
   pub limit : limit_of f.stage ≡ own.limit
   pub bound : own.limit ≤ 1048576
 
+-- the lines that are taken, the bytes that they name, and those of them that aren't written yet
+pub record Packing : Type 0 where
+  pub lines : List (List ℕ)
+  pub bytes : List ℕ
+  pub out : List ℕ
+
+abbrev pub packing : List (List ℕ) → List ℕ → List ℕ → Packing
+packing lines bytes out = record { lines = lines; bytes = bytes; out = out }
+
+-- what a packer has: the first part of the present line, its feed, and the bytes that aren't written yet
+pub record Packer : Type 0 where
+  pub line : List ℕ
+  pub feed : FeedState
+  pub out : List ℕ
+
+abbrev pub packer : List ℕ → FeedState → List ℕ → Packer
+packer line feed out = record { line = line; feed = feed; out = out }
+
 -- a line is taken, and its bytes are put after the others; or it isn't
-abbrev pub IsLineEnd : Own → List (List ℕ) → List ℕ → List ℕ → FeedState → List ℕ → List ℕ → Option ScriptReason → Type 0
-IsLineEnd own lines b text g out out' None = (x : List ℕ) × (out' ≡ out ++ x) × IsPackedTo own (lines ++ text ∷ []) (b ++ x) g
-IsLineEnd own lines b text g out out' (Some reason) = (out' ≡ out) × (number_of g.stage ≡ length lines)
-    × ((v : Outcome) × AreTaken own lines b v × IsNotTaken own (is_none lines) text b v reason)
+abbrev pub IsLineEnd : Own → Packing → List ℕ → FeedState → List ℕ → Option ScriptReason → Type 0
+IsLineEnd own p text g out None = (x : List ℕ) × (out ≡ p.out ++ x) × IsPackedTo own (p.lines ++ text ∷ []) (p.bytes ++ x) g
+IsLineEnd own p text g out (Some reason) = (out ≡ p.out) × (number_of g.stage ≡ length p.lines)
+    × ((v : Outcome) × AreTaken own p.lines p.bytes v × IsNotTaken own (is_none p.lines) text p.bytes v reason)
 
 -- what was read is these lines, which are taken, and the first part of the next
 pub record IsReadSo (own : Own) (text : List ℕ) (lines : List (List ℕ)) (b held : List ℕ) (f : FeedState) : Type 0 where
@@ -39,11 +57,12 @@ pub record IsReadSo (own : Own) (text : List ℕ) (lines : List (List ℕ)) (b h
   pub packed : IsPackedTo own lines b f
 
 -- a piece of the script is read, or it has a line that isn't taken
-abbrev pub IsPieceRead : Own → List ℕ → List (List ℕ) → List ℕ → List ℕ → FeedState → List ℕ → List ℕ → Option ScriptReason → Type 0
-IsPieceRead own text lines b held g out out' None = (more : List (List ℕ)) × (x : List ℕ) × (out' ≡ out ++ x) × IsReadSo own text (lines ++ more) (b ++ x)
-    held g
-IsPieceRead own text lines b held g out out' (Some reason) = (x : List ℕ) × (out' ≡ out ++ x)
-    × ((all : List (List ℕ)) × AreLines text all × IsStop own all (b ++ x) (number_of g.stage + 1) reason) × IsEndedLine own.limit text (number_of g.stage + 1)
+abbrev pub IsPieceRead : Own → List ℕ → Packing → Packer → Option ScriptReason → Type 0
+IsPieceRead own text p q None = (more : List (List ℕ)) × (x : List ℕ) × (q.out ≡ p.out ++ x)
+    × IsReadSo own text (p.lines ++ more) (p.bytes ++ x) q.line q.feed
+IsPieceRead own text p q (Some reason) = (x : List ℕ) × (q.out ≡ p.out ++ x)
+    × ((all : List (List ℕ)) × AreLines text all × IsStop own all (p.bytes ++ x) (number_of q.feed.stage + 1) reason)
+    × IsEndedLine own.limit text (number_of q.feed.stage + 1)
 
 -- the bytes follow those of the present line, or it is too long with them and as it was
 abbrev pub IsHeld : ℕ → List ℕ → List ℕ → List ℕ → Bool → Type 0

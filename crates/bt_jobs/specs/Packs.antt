@@ -1,7 +1,7 @@
 -- The result of packing a script: its lines, the bytes that they name one after the other, and the first line that
 -- isn't taken.
-use Rattle.std.specs.Prelude.{◌≡◌, ◌==◌, ◌||◌, ◌⊎◌, ℕ, ◌+◌, ◌-◌, ◌*◌, ◌≤◌, ◌<◌, ⊤, Bool, true, false, List, [], ◌∷◌, ◌++◌, length, Option, Some, Result, Ok}
-use Rattle.std.specs.Prelude.{Err, MatchResult}
+use Rattle.std.specs.Prelude.{◌≡◌, ◌⊎◌, ℕ, ◌+◌, ◌-◌, ◌*◌, ◌≤◌, ◌<◌, ⊤, Bool, true, false, List, [], ◌∷◌, ◌++◌, length, Option, Some, Result}
+use Rattle.std.specs.Prelude.{MatchResult}
 use Rattle.std.specs.Io.KnownBytes.{Consumes, Appends}
 use Rattle.std.specs.List.{flat_map}
 use Rattle.bt_wire.specs.declared.context.Own.{Own}
@@ -12,7 +12,7 @@ use Rattle.bt_text.specs.declared.ended.PackEnd.TheVariants.{Accepted, Refused}
 use Rattle.bt_text.specs.declared.ended.ScriptReason.{ScriptReason}
 use Rattle.bt_text.specs.declared.ended.ScriptReason.TheVariants.{Syntax, Reason}
 use Rattle.bt_text.specs.declared.ended.ToolFault.{ToolFault}
-use Rattle.bt_jobs.specs.Printed.{AppendsFront}
+use Rattle.bt_io.specs.Seen.{Devices, EndRead, AppendsPrefix}
 use Rattle.bt_text.specs.Script.{IsLine, has_feed}
 
 -- ---- the lines of a text
@@ -104,9 +104,10 @@ abbrev pub AreFrontLines : List ℕ → Type 0 → List (List ℕ) → Type 0
 AreFrontLines text AtEnd lines = ((following : List ℕ) × (text ≡ ended_lines lines ++ following) × AreWhole lines) ⊎ (AtEnd × AreLines text lines)
 
 -- a prefix of the bytes of such lines is written, which are taken
-abbrev pub IsFrontPacked : Own → List ℕ → Type 0 → Option (List ℕ) → Option (List ℕ) → Type 0
-IsFrontPacked own text AtEnd held held' =
-    (lines : List (List ℕ)) × (b : List ℕ) × (v : Outcome) × AreFrontLines text AtEnd lines × AreTaken own lines b v × AppendsFront held held' b
+abbrev pub IsFrontPacked : Own → List ℕ → Devices → Devices → Type 0
+IsFrontPacked own text before after =
+    (lines : List (List ℕ)) × (b : List ℕ) × (v : Outcome) × AreFrontLines text (EndRead before.source after.source) lines × AreTaken own lines b v
+    × AppendsPrefix before.target.held after.target.held b
 
 -- the lines that line feeds end in what was read, from the one state of the source to the other, are taken
 abbrev pub AreTakenTo : Own → Option (List ℕ) → Option (List ℕ) → Type 0
@@ -114,10 +115,9 @@ AreTakenTo own left left' =
     (text : List ℕ) × (lines : List (List ℕ)) × (rest : List ℕ) × Consumes left left' text × IsSplit text lines rest
     × (b : List ℕ) × (v : Outcome) × AreTaken own lines b v
 
--- What was read is a text of these lines: what is written and answered is the result of packing them, or at a fault a prefix is written.
--- AtEnd says that the text's end was read.
-abbrev pub IsPackRun : Own → Type 0 → Option (List ℕ) → Option (List ℕ) → Option (List ℕ) → Option (List ℕ) → Result PackEnd ToolFault → Type 0
-IsPackRun own AtEnd left left' held held' r =
-    (text : List ℕ) × (all : List (List ℕ)) × Consumes left left' text × AreLines text all
-    × MatchResult r (λ e. (b : List ℕ) × IsPacked own all b e × Appends held held' b × IsTimely own.limit text AtEnd e)
-    (λ _. IsFrontPacked own text AtEnd held held')
+-- what was read is a text of these lines: what is written and answered is the result of packing them, or at a fault a prefix is written
+abbrev pub IsPackRun : Own → Devices → Devices → Result PackEnd ToolFault → Type 0
+IsPackRun own before after r =
+    (text : List ℕ) × (all : List (List ℕ)) × Consumes before.source.left after.source.left text × AreLines text all
+    × MatchResult r (λ e. (b : List ℕ) × IsPacked own all b e × Appends before.target.held after.target.held b
+    × IsTimely own.limit text (EndRead before.source after.source) e) (λ _. IsFrontPacked own text before after)

@@ -13,7 +13,7 @@ use Rattle.bt_text.specs.declared.ended.Ended.{Ended}
 use Rattle.bt_text.specs.declared.ended.Ended.TheVariants.{Accepted, Refused}
 use Rattle.bt_text.specs.declared.ended.ToolFault.{ToolFault}
 use Rattle.bt_text.specs.declared.ended.ToolFault.TheVariants as fault
-use Rattle.bt_io.specs.Counts.{Grew}
+use Rattle.bt_io.specs.Seen.{SourceSeen, Devices, EndRead, ReadFailed, AppendsPrefix}
 use Rattle.bt_jobs.specs.declared.printer.Form.{Form}
 use Rattle.bt_jobs.specs.declared.printer.Form.TheVariants as form
 use Rattle.bt_jobs.specs.declared.printer.Printer.{Printer}
@@ -50,19 +50,15 @@ Prints old x new = (form_of new ≡ form_of old) × ((own : Own) → text_in new
 
 -- ---- known bytes
 
--- they grow by a prefix of bs
-abbrev pub AppendsFront : Option (List ℕ) → Option (List ℕ) → List ℕ → Type 0
-AppendsFront old new bs = (front : List ℕ) × (back : List ℕ) × (bs ≡ front ++ back) × Appends old new front
-
 -- all of the bytes are written, or at a fault a prefix of them
 abbrev pub IsWrittenOut : {T : Type 0} → T → List ℕ → Option (List ℕ) → Option (List ℕ) → Result T ToolFault → Type 0
 IsWrittenOut answer bytes held held' (Ok a) = (a ≡ answer) × Appends held held' bytes
-IsWrittenOut answer bytes held held' (Err e) = AppendsFront held held' bytes
+IsWrittenOut answer bytes held held' (Err e) = AppendsPrefix held held' bytes
 
 -- all of the text is written and none is left, or at a fault a prefix of it is written
 abbrev pub IsFlushed : {T : Type 0} → T → List ℕ → Option (List ℕ) → Option (List ℕ) → List ℕ → Result T ToolFault → Type 0
 IsFlushed answer text held held' left (Ok a) = (a ≡ answer) × Appends held held' text × (left ≡ [])
-IsFlushed answer text held held' left (Err e) = AppendsFront held held' text
+IsFlushed answer text held held' left (Err e) = AppendsPrefix held held' text
 
 -- ---- commands
 
@@ -71,15 +67,15 @@ abbrev pub MayBeTold : Type 0 → Ended → Type 0
 MayBeTold AtEnd (Accepted messages bytes) = AtEnd
 MayBeTold AtEnd (Refused r) = r.reason ≡ EndInside → AtEnd
 
--- Where a command's answer comes from, by its reader's counts: a verdict that stands only at the stream's end from a read that
+-- Where a command's answer comes from, by what is seen of its reader: a verdict that stands only at the stream's end from a read that
 -- gave it, and a fault of reading from a read that failed or from so many reads
-abbrev pub IsEndOfReads : Result Ended ToolFault → ℕ → ℕ → ℕ → ℕ → ℕ → ℕ → Type 0
-IsEndOfReads (Ok e) reads reads' failed failed' ends ends' = MayBeTold (Grew ends ends') e
-IsEndOfReads (Err fault.Read) reads reads' failed failed' ends ends' = Grew failed failed'
-IsEndOfReads (Err fault.Turns) reads reads' failed failed' ends ends' = (min (reads + 2 ^ 32) (2 ^ 64 - 1) ≤ reads') × (ends' ≡ ends)
-IsEndOfReads (Err fault.Write) reads reads' failed failed' ends ends' = ⊤
-IsEndOfReads (Err fault.Memory) reads reads' failed failed' ends ends' = ⊤
-IsEndOfReads (Err fault.Net) reads reads' failed failed' ends ends' = ⊥
+abbrev pub IsEndOfReads : Result Ended ToolFault → SourceSeen → SourceSeen → Type 0
+IsEndOfReads (Ok e) before after = MayBeTold (EndRead before after) e
+IsEndOfReads (Err fault.Read) before after = ReadFailed before after
+IsEndOfReads (Err fault.Turns) before after = (min (before.reads + 2 ^ 32) (2 ^ 64 - 1) ≤ after.reads) × (after.ends ≡ before.ends)
+IsEndOfReads (Err fault.Write) before after = ⊤
+IsEndOfReads (Err fault.Memory) before after = ⊤
+IsEndOfReads (Err fault.Net) before after = ⊥
 
 -- what a command writes for a stream of n bytes with the outcome v
 abbrev pub Writing : Type 0
@@ -90,17 +86,17 @@ abbrev pub IsAllWritten : Writing → Own → List ℕ → Option (List ℕ) →
 IsAllWritten w own b held held' e = (v : Outcome) × IsVerdict own b v × Appends held held' (w v (length b)) × (e ≡ ended_as v (length b))
 
 -- A prefix of what is early is written. Only where the verdict may be written is it a prefix of all.
-abbrev pub IsFrontWritten : Writing → Writing → Own → Type 0 → List ℕ → Option (List ℕ) → Option (List ℕ) → Type 0
-IsFrontWritten early all own AtEnd b held held' =
-    (v : Outcome) → IsVerdict own b v → AppendsFront held held' (early v (length b))
-    ⊎ (MayBeTold AtEnd (ended_as v (length b)) × AppendsFront held held' (all v (length b)))
+abbrev pub IsFrontWritten : Writing → Writing → Own → List ℕ → Devices → Devices → Type 0
+IsFrontWritten early all own b before after =
+    (v : Outcome) → IsVerdict own b v → AppendsPrefix before.target.held after.target.held (early v (length b))
+    ⊎ (MayBeTold (EndRead before.source after.source) (ended_as v (length b))
+    × AppendsPrefix before.target.held after.target.held (all v (length b)))
 
--- What was read is b: all of its text is written, or at a fault a prefix of that, whose verdict isn't early. AtEnd says that
--- the end was read.
-abbrev pub IsWritten : Writing → Writing → Own → Type 0 → Option (List ℕ) → Option (List ℕ) → Option (List ℕ) → Option (List ℕ) → Result Ended ToolFault
-    → Type 0
-IsWritten early all own AtEnd left left' held held' r =
-    (b : List ℕ) × Consumes left left' b × MatchResult r (IsAllWritten all own b held held') (λ _. IsFrontWritten early all own AtEnd b held held')
+-- what was read is b: all of its text is written, or at a fault a prefix of that, whose verdict isn't early
+abbrev pub IsWritten : Writing → Writing → Own → Devices → Devices → Result Ended ToolFault → Type 0
+IsWritten early all own before after r =
+    (b : List ℕ) × Consumes before.source.left after.source.left b
+    × MatchResult r (IsAllWritten all own b before.target.held after.target.held) (λ _. IsFrontWritten early all own b before after)
 
 -- nothing
 abbrev pub nothing : Writing
@@ -141,24 +137,44 @@ pub record IsReadTo (own : Own) (b : List ℕ) (xs : List (ℕ × Item)) (f : Fe
   pub unrefused : now.refusal ≡ None
 
 -- where the answer of one turn comes from
-abbrev pub IsEndOfTurn : Result (Option Ended) ToolFault → ℕ → ℕ → ℕ → ℕ → ℕ → ℕ → Type 0
-IsEndOfTurn (Ok None) reads reads' failed failed' ends ends' = (min (reads + 1) (2 ^ 64 - 1) ≤ reads') × (failed' ≡ failed) × (ends' ≡ ends)
-IsEndOfTurn (Ok (Some e)) reads reads' failed failed' ends ends' = IsEndOfReads (Ok e) reads reads' failed failed' ends ends'
-IsEndOfTurn (Err fault.Turns) reads reads' failed failed' ends ends' = ⊥
-IsEndOfTurn (Err fault.Read) reads reads' failed failed' ends ends' = Grew failed failed'
-IsEndOfTurn (Err fault.Write) reads reads' failed failed' ends ends' = ⊤
-IsEndOfTurn (Err fault.Memory) reads reads' failed failed' ends ends' = ⊤
-IsEndOfTurn (Err fault.Net) reads reads' failed failed' ends ends' = ⊥
+abbrev pub IsEndOfTurn : Result (Option Ended) ToolFault → SourceSeen → SourceSeen → Type 0
+IsEndOfTurn (Ok None) before after = (min (before.reads + 1) (2 ^ 64 - 1) ≤ after.reads) × (after.failed ≡ before.failed) × (after.ends ≡ before.ends)
+IsEndOfTurn (Ok (Some e)) before after = IsEndOfReads (Ok e) before after
+IsEndOfTurn (Err fault.Turns) before after = ⊥
+IsEndOfTurn (Err fault.Read) before after = ReadFailed before after
+IsEndOfTurn (Err fault.Write) before after = ⊤
+IsEndOfTurn (Err fault.Memory) before after = ⊤
+IsEndOfTurn (Err fault.Net) before after = ⊥
+
+-- the bytes that were read before a turn, and their items
+pub record SoFar : Type 0 where
+  pub bytes : List ℕ
+  pub items : List (ℕ × Item)
+
+abbrev pub so_far : List ℕ → List (ℕ × Item) → SoFar
+so_far bytes items = record { bytes = bytes; items = items }
+
+-- what a turn leaves
+pub record TurnEnd : Type 0 where
+  pub devices : Devices
+  pub feed : FeedState
+  pub printer : Printer
+
+abbrev pub turn_end : Devices → FeedState → Printer → TurnEnd
+turn_end devices feed printer = record { devices = devices; feed = feed; printer = printer }
 
 -- a turn read some bytes more: it goes on after the text of some items more, or all is written, or at a fault a prefix
-abbrev pub IsTurn : Form → Own → List ℕ → List (ℕ × Item) → Option (List ℕ) → Option (List ℕ) → Option (List ℕ) → Option (List ℕ) → FeedState → Printer
-    → Result (Option Ended) ToolFault → Type 0
-IsTurn f own b xs left left' held held' g p (Ok None) =
-    (more : List ℕ) × (ys : List (ℕ × Item)) × Consumes left left' more × Appends held held' (texts f own ys) × IsReadTo own (b ++ more) (xs ++ ys) g
-    × (form_of p ≡ f) × (text_in p ≡ [])
-IsTurn f own b xs left left' held held' g p (Ok (Some e)) =
-    (more : List ℕ) × (ys : List (ℕ × Item)) × Consumes left left' more × Appends held held' (texts f own ys)
-    × ((v : Outcome) × IsVerdict own (b ++ more) v × (v.items ≡ xs ++ ys) × (e ≡ ended_as v (length (b ++ more)))) × (form_of p ≡ f) × (text_in p ≡ [])
-IsTurn f own b xs left left' held held' g p (Err e) =
-    (more : List ℕ) × Consumes left left' more × ((v : Outcome) → IsVerdict own (b ++ more) v → (ys : List (ℕ × Item)) × (v.items ≡ xs ++ ys)
-    × AppendsFront held held' (texts f own ys))
+abbrev pub IsTurn : Form → Own → SoFar → Devices → TurnEnd → Result (Option Ended) ToolFault → Type 0
+IsTurn f own so before after (Ok None) =
+    (more : List ℕ) × (ys : List (ℕ × Item)) × Consumes before.source.left after.devices.source.left more
+    × Appends before.target.held after.devices.target.held (texts f own ys) × IsReadTo own (so.bytes ++ more) (so.items ++ ys) after.feed
+    × (form_of after.printer ≡ f) × (text_in after.printer ≡ [])
+IsTurn f own so before after (Ok (Some e)) =
+    (more : List ℕ) × (ys : List (ℕ × Item)) × Consumes before.source.left after.devices.source.left more
+    × Appends before.target.held after.devices.target.held (texts f own ys)
+    × ((v : Outcome) × IsVerdict own (so.bytes ++ more) v × (v.items ≡ so.items ++ ys) × (e ≡ ended_as v (length (so.bytes ++ more))))
+    × (form_of after.printer ≡ f) × (text_in after.printer ≡ [])
+IsTurn f own so before after (Err e) =
+    (more : List ℕ) × Consumes before.source.left after.devices.source.left more
+    × ((v : Outcome) → IsVerdict own (so.bytes ++ more) v → (ys : List (ℕ × Item)) × (v.items ≡ so.items ++ ys)
+    × AppendsPrefix before.target.held after.devices.target.held (texts f own ys))

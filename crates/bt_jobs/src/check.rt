@@ -1,6 +1,6 @@
 //! `check`: the verdict of a stream alone, or with the stream's name. The command line calls it.
 ghost use Rattle.std.specs.Prelude.{◌≡◌, ◌≢◌, ◌≤◌, ◌+◌, ◌^◌, ◌++◌, Err, IfErr};
-ghost use Rattle.bt_io.specs.Counts.{Grew};
+ghost use Rattle.bt_io.specs.Seen.{devices, WriteFailed};
 ghost use Rattle.bt_text.specs.Lines.{verdict_line as verdict_words};
 ghost use Rattle.bt_jobs.specs.Printed.{IsWritten, IsWrittenOut, IsUnrefused, IsEndOfReads, nothing, checked, prefixed};
 
@@ -23,12 +23,12 @@ pub fn run_check<R: Source, W: Target>(
     own: &Own,
 ) -> Result<Ended, ToolFault>
     requires { (1 ≤ own.now.limit) × (own.now.limit ≤ 1048576) }
-    ensures checked { IsWritten nothing checked own.now (Grew (R.ends reader.old) (R.ends reader.new)) (R.left reader.old) (R.left reader.new) (W.held writer.old) (W.held writer.new) result }
-    ensures faults { IsEndOfReads result (R.reads reader.old) (R.reads reader.new) (R.failed_reads reader.old) (R.failed_reads reader.new) (R.ends reader.old) (R.ends reader.new) }
-    ensures write { result ≡ Err ToolFault.Write → Grew (W.failed_writes writer.old) (W.failed_writes writer.new) }
-    ensures reads { R.reads reader.new ≤ R.reads reader.old + 2 ^ 32 }
-    ensures needed { (before : R) × IsUnrefused own.now (R.left reader.old) (R.left before) × (R.reads reader.new ≤ R.reads before + 1) }
-    ensures calm { result ≢ Err ToolFault.Read → R.failed_reads reader.new ≡ R.failed_reads reader.old }
+    ensures checked { IsWritten nothing checked own.now (devices (R.seen reader.old) (W.seen writer.old)) (devices (R.seen reader.new) (W.seen writer.new)) result }
+    ensures faults { IsEndOfReads result (R.seen reader.old) (R.seen reader.new) }
+    ensures write { result ≡ Err ToolFault.Write → WriteFailed (W.seen writer.old) (W.seen writer.new) }
+    ensures reads { (R.seen reader.new).reads ≤ (R.seen reader.old).reads + 2 ^ 32 }
+    ensures needed { (before : R) × IsUnrefused own.now (R.seen reader.old).left (R.seen before).left × ((R.seen reader.new).reads ≤ (R.seen before).reads + 1) }
+    ensures calm { result ≢ Err ToolFault.Read → (R.seen reader.new).failed ≡ (R.seen reader.old).failed }
 {
     run_check_after(alloc, b"", reader, writer, own)
 }
@@ -45,12 +45,12 @@ pub fn run_check_after<R: Source, W: Target>(
     own: &Own,
 ) -> Result<Ended, ToolFault>
     requires { (1 ≤ own.now.limit) × (own.now.limit ≤ 1048576) }
-    ensures checked { IsWritten nothing (prefixed prefix.now) own.now (Grew (R.ends reader.old) (R.ends reader.new)) (R.left reader.old) (R.left reader.new) (W.held writer.old) (W.held writer.new) result }
-    ensures faults { IsEndOfReads result (R.reads reader.old) (R.reads reader.new) (R.failed_reads reader.old) (R.failed_reads reader.new) (R.ends reader.old) (R.ends reader.new) }
-    ensures write { result ≡ Err ToolFault.Write → Grew (W.failed_writes writer.old) (W.failed_writes writer.new) }
-    ensures reads { R.reads reader.new ≤ R.reads reader.old + 2 ^ 32 }
-    ensures needed { (before : R) × IsUnrefused own.now (R.left reader.old) (R.left before) × (R.reads reader.new ≤ R.reads before + 1) }
-    ensures calm { result ≢ Err ToolFault.Read → R.failed_reads reader.new ≡ R.failed_reads reader.old }
+    ensures checked { IsWritten nothing (prefixed prefix.now) own.now (devices (R.seen reader.old) (W.seen writer.old)) (devices (R.seen reader.new) (W.seen writer.new)) result }
+    ensures faults { IsEndOfReads result (R.seen reader.old) (R.seen reader.new) }
+    ensures write { result ≡ Err ToolFault.Write → WriteFailed (W.seen writer.old) (W.seen writer.new) }
+    ensures reads { (R.seen reader.new).reads ≤ (R.seen reader.old).reads + 2 ^ 32 }
+    ensures needed { (before : R) × IsUnrefused own.now (R.seen reader.old).left (R.seen before).left × ((R.seen reader.new).reads ≤ (R.seen before).reads + 1) }
+    ensures calm { result ≢ Err ToolFault.Read → (R.seen reader.new).failed ≡ (R.seen reader.old).failed }
 {
     laws::one_verdict();
     let Ok(mut feed) = Feed::new(alloc, *own) else {
@@ -77,8 +77,8 @@ pub fn run_check_after<R: Source, W: Target>(
 
 /// Writes the verdict's line, and returns the verdict.
 fn say<W: Target>(writer: &mut W, ended: Ended) -> Result<Ended, ToolFault>
-    ensures written { IsWrittenOut ended (verdict_words ended) (W.held writer.old) (W.held writer.new) result }
-    ensures fault { IfErr result (λ fault. (fault ≡ ToolFault.Write) × Grew (W.failed_writes writer.old) (W.failed_writes writer.new)) }
+    ensures written { IsWrittenOut ended (verdict_words ended) (W.seen writer.old).held (W.seen writer.new).held result }
+    ensures fault { IfErr result (λ fault. (fault ≡ ToolFault.Write) × WriteFailed (W.seen writer.old) (W.seen writer.new)) }
 {
     let mut line = [0; 160];
     let place = verdict_line(ended, &mut line);
@@ -87,8 +87,8 @@ fn say<W: Target>(writer: &mut W, ended: Ended) -> Result<Ended, ToolFault>
 
 /// Writes `prefix` and the verdict's line, and returns the verdict.
 fn say_after<W: Target>(prefix: &[u8], writer: &mut W, ended: Ended) -> Result<Ended, ToolFault>
-    ensures written { IsWrittenOut ended (prefix.now ++ verdict_words ended) (W.held writer.old) (W.held writer.new) result }
-    ensures fault { IfErr result (λ fault. (fault ≡ ToolFault.Write) × Grew (W.failed_writes writer.old) (W.failed_writes writer.new)) }
+    ensures written { IsWrittenOut ended (prefix.now ++ verdict_words ended) (W.seen writer.old).held (W.seen writer.new).held result }
+    ensures fault { IfErr result (λ fault. (fault ≡ ToolFault.Write) × WriteFailed (W.seen writer.old) (W.seen writer.new)) }
 {
     match write_out(writer, prefix, ()) {
         Ok(()) => say(writer, ended),

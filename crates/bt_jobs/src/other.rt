@@ -1,7 +1,8 @@
 //! What the other direction of a connection says of the receiver: `--other` of the command line reads it.
 ghost use Rattle.std.specs.Prelude.{◌≡◌, ◌+◌, ◌-◌, ◌≤◌, ◌^◌, ◌<◌, ℕ, min, List, length, false, Ok, OnOk, IfErr, ok_or, option_and_then};
 ghost use Rattle.bt_bencode.specs.Trees.{dictionary};
-ghost use Rattle.bt_io.specs.Counts.{Grew};
+ghost use Rattle.bt_io.specs.Seen.{ReadFailed};
+ghost use Rattle.bt_jobs.specs.Printed.{so_far};
 ghost use Rattle.bt_wire.specs.declared.item.Item.{Item};
 ghost use Rattle.bt_ext.specs.Ids.{extension_id};
 ghost use Rattle.bt_text.specs.Lines.{told_as};
@@ -165,11 +166,11 @@ fn turn<R: Source>(
 ) -> Result<bool, ToolFault>
     requires { 0 < length buffer.old }
     ensures heard { (b : List ℕ) (xs : List (ℕ × Item)) → IsListening b xs feed.old listener.old
-        → IsTurnHeard b xs (Grew (R.ends reader.old) (R.ends reader.new)) (R.left reader.old) (R.left reader.new) feed.new listener.new result }
-    ensures reads { R.reads reader.new ≤ R.reads reader.old + 1 }
-    ensures turns { result ≡ Ok false → (min (R.reads reader.old + 1) (2 ^ 64 - 1) ≤ R.reads reader.new) × (R.ends reader.new ≡ R.ends reader.old) }
-    ensures fault { IfErr result (λ fault. (fault ≡ ToolFault.Read) × Grew (R.failed_reads reader.old) (R.failed_reads reader.new)) }
-    ensures calm { OnOk result (R.failed_reads reader.new ≡ R.failed_reads reader.old) }
+        → IsTurnHeard (so_far b xs) (R.seen reader.old) (R.seen reader.new) feed.new listener.new result }
+    ensures reads { (R.seen reader.new).reads ≤ (R.seen reader.old).reads + 1 }
+    ensures turns { result ≡ Ok false → (min ((R.seen reader.old).reads + 1) (2 ^ 64 - 1) ≤ (R.seen reader.new).reads) × ((R.seen reader.new).ends ≡ (R.seen reader.old).ends) }
+    ensures fault { IfErr result (λ fault. (fault ≡ ToolFault.Read) × ReadFailed (R.seen reader.old) (R.seen reader.new)) }
+    ensures calm { OnOk result ((R.seen reader.new).failed ≡ (R.seen reader.old).failed) }
 {
     match pump_with(reader, feed, listener, 1, buffer) {
         Ok(_) => Ok(true),
@@ -187,10 +188,10 @@ fn turn<R: Source>(
 /// - `NoHandshake` if the stream doesn't begin with a whole handshake.
 /// - `Fault(Read)` if a read failed, `Fault(Memory)` if a growth was refused, `Fault(Turns)` after 4,294,967,296 reads.
 pub fn read_other<R: Source>(alloc: Global, reader: &mut R) -> Result<Announced, OtherError>
-    ensures learnt { IsLearnt (Grew (R.ends reader.old) (R.ends reader.new)) (R.left reader.old) (R.left reader.new) result }
-    ensures faults { IsFaultOfOther result (R.reads reader.old) (R.reads reader.new) (R.failed_reads reader.old) (R.failed_reads reader.new) (R.ends reader.old) (R.ends reader.new) }
-    ensures reads { R.reads reader.new ≤ R.reads reader.old + 2 ^ 32 }
-    ensures needed { (before : R) × IsOpenAfter (R.left reader.old) (R.left before) × (R.reads reader.new ≤ R.reads before + 1) }
+    ensures learnt { IsLearnt (R.seen reader.old) (R.seen reader.new) result }
+    ensures faults { IsFaultOfOther result (R.seen reader.old) (R.seen reader.new) }
+    ensures reads { (R.seen reader.new).reads ≤ (R.seen reader.old).reads + 2 ^ 32 }
+    ensures needed { (before : R) × IsOpenAfter (R.seen reader.old).left (R.seen before).left × ((R.seen reader.new).reads ≤ (R.seen before).reads + 1) }
 {
     laws::one_verdict();
     let Ok(mut feed) = Feed::new(alloc, reader_of_other()) else {

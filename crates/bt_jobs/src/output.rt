@@ -1,6 +1,6 @@
 //! Writing all of some bytes. The commands and the printer write with it.
 ghost use Rattle.std.specs.Prelude.{◌≡◌, OnOk, OnErr, IfErr};
-ghost use Rattle.bt_io.specs.Counts.{Grew};
+ghost use Rattle.bt_io.specs.Seen.{WriteFailed};
 ghost use Rattle.bt_jobs.specs.Printed.{IsWrittenOut};
 
 use bt_feed::{Target, write_front};
@@ -15,9 +15,9 @@ pub fn write_out<W: Target, T: Drop>(
     bytes: &[u8],
     answer: T,
 ) -> Result<T, ToolFault>
-    ensures written { IsWrittenOut answer bytes.now (W.held writer.old) (W.held writer.new) result }
-    ensures failed { OnErr result (Grew (W.failed_writes writer.old) (W.failed_writes writer.new)) }
-    ensures calm { OnOk result (W.failed_writes writer.new ≡ W.failed_writes writer.old) }
+    ensures written { IsWrittenOut answer bytes.now (W.seen writer.old).held (W.seen writer.new).held result }
+    ensures failed { OnErr result (WriteFailed (W.seen writer.old) (W.seen writer.new)) }
+    ensures calm { OnOk result ((W.seen writer.new).failed ≡ (W.seen writer.old).failed) }
     ensures fault { IfErr result (λ fault. fault ≡ ToolFault.Write) }
 {
     if write_front(writer, bytes) < bytes.len() {

@@ -1,10 +1,10 @@
 //! `pack`: the bytes that a script's lines name, as long as they are a stream's items. The command line calls it.
 ghost use Rattle.std.specs.Prelude.{◌≡◌, ◌≢◌, ◌≤◌, ◌++◌, ℕ, List, [], None, min, ◌+◌, ◌-◌, ◌^◌, IfOk, Err};
 ghost use Rattle.bt_wire.specs.declared.context.Own.{Own as Receiver};
-ghost use Rattle.bt_io.specs.Counts.{Grew};
+ghost use Rattle.bt_io.specs.Seen.{devices, ReadFailed, WriteFailed};
 ghost use Rattle.bt_feed.specs.Stages.{number_of, start_of};
 ghost use Rattle.bt_jobs.specs.Packs.{IsPackRun, AreTakenTo};
-ghost use Rattle.bt_jobs.specs.PackSteps.{IsPackedTo, IsLineEnd, IsReadSo, IsPieceRead, IsHeld, IsScriptEnd};
+ghost use Rattle.bt_jobs.specs.PackSteps.{IsPackedTo, packing, packer, IsLineEnd, IsReadSo, IsPieceRead, IsHeld, IsScriptEnd};
 
 use crate::output::write_out;
 use crate::show::MAX_READS;
@@ -25,7 +25,7 @@ fn take_line(
 ) -> Result<Option<ScriptReason>, AllocError>
     requires { limit ≤ 1048576 }
     ensures { IfOk result (λ answer. (own : Receiver) (lines : List (List ℕ)) (b : List ℕ) → limit ≡ own.limit → IsPackedTo own lines b feed.old
-        → IsLineEnd own lines b text.now feed.new out.old.items out.new.items answer) }
+        → IsLineEnd own (packing lines b out.old.items) text.now feed.new out.new.items answer) }
 {
     let first = feed.number() == 0;
     if text.len() as u64 > 2 * u64::from(limit) + 256 {
@@ -71,7 +71,7 @@ fn take_ended(
 ) -> Result<Option<ScriptReason>, AllocError>
     requires { limit ≤ 1048576 }
     ensures taken { IfOk result (λ answer. (own : Receiver) (lines : List (List ℕ)) (b : List ℕ) → limit ≡ own.limit → IsPackedTo own lines b feed.old
-        → IsLineEnd own lines b (line.old.items ++ text.now) feed.new out.old.items out.new.items answer) }
+        → IsLineEnd own (packing lines b out.old.items) (line.old.items ++ text.now) feed.new out.new.items answer) }
     ensures empty { IfOk result (λ answer. answer ≡ None → line.new.items ≡ []) }
 {
     if line.as_slice().is_empty() {
@@ -96,7 +96,7 @@ fn take_piece(
 ) -> Result<Option<ScriptReason>, AllocError>
     requires { limit ≤ 1048576 }
     ensures { IfOk result (λ answer. (own : Receiver) (text : List ℕ) (lines : List (List ℕ)) (b : List ℕ) → limit ≡ own.limit → IsReadSo own text lines b line.old.items feed.old
-        → IsPieceRead own (text ++ piece.now) lines b line.new.items feed.new out.old.items out.new.items answer) }
+        → IsPieceRead own (text ++ piece.now) (packing lines b out.old.items) (packer line.new.items feed.new out.new.items) answer) }
 {
     let mut rest = piece;
     'lines: loop {
@@ -170,14 +170,14 @@ pub fn run_pack<R: Source, W: Target>(
     own: &Own,
 ) -> Result<PackEnd, ToolFault>
     requires { (1 ≤ own.now.limit) × (own.now.limit ≤ 1048576) }
-    ensures reads { R.reads reader.new ≤ R.reads reader.old + 2 ^ 32 }
-    ensures needed { (before : R) × AreTakenTo own.now (R.left reader.old) (R.left before) × (R.reads reader.new ≤ R.reads before + 1) }
-    ensures unfailed { result ≢ Err ToolFault.Read → R.failed_reads reader.new ≡ R.failed_reads reader.old }
-    ensures packed { IsPackRun own.now (Grew (R.ends reader.old) (R.ends reader.new)) (R.left reader.old) (R.left reader.new) (W.held writer.old) (W.held writer.new) result }
-    ensures read { result ≡ Err ToolFault.Read → Grew (R.failed_reads reader.old) (R.failed_reads reader.new) }
-    ensures write { result ≡ Err ToolFault.Write → Grew (W.failed_writes writer.old) (W.failed_writes writer.new) }
+    ensures reads { (R.seen reader.new).reads ≤ (R.seen reader.old).reads + 2 ^ 32 }
+    ensures needed { (before : R) × AreTakenTo own.now (R.seen reader.old).left (R.seen before).left × ((R.seen reader.new).reads ≤ (R.seen before).reads + 1) }
+    ensures unfailed { result ≢ Err ToolFault.Read → (R.seen reader.new).failed ≡ (R.seen reader.old).failed }
+    ensures packed { IsPackRun own.now (devices (R.seen reader.old) (W.seen writer.old)) (devices (R.seen reader.new) (W.seen writer.new)) result }
+    ensures read { result ≡ Err ToolFault.Read → ReadFailed (R.seen reader.old) (R.seen reader.new) }
+    ensures write { result ≡ Err ToolFault.Write → WriteFailed (W.seen writer.old) (W.seen writer.new) }
     ensures turns { result ≡ Err ToolFault.Turns
-        → (min (R.reads reader.old + 2 ^ 32) (2 ^ 64 - 1) ≤ R.reads reader.new) × (R.ends reader.new ≡ R.ends reader.old) }
+        → (min ((R.seen reader.old).reads + 2 ^ 32) (2 ^ 64 - 1) ≤ (R.seen reader.new).reads) × ((R.seen reader.new).ends ≡ (R.seen reader.old).ends) }
     ensures local { result ≢ Err ToolFault.Net }
 {
     let Ok(mut feed) = Feed::new(alloc, *own) else {

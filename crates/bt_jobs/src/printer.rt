@@ -1,7 +1,7 @@
 //! The text of a stream's items, until it is written. `show` and `unpack` give it to the pump as their sink.
 ghost use Rattle.std.specs.Prelude.{◌≡◌, ℕ, List, [], ◌++◌, OnOk, OnErr, IfErr};
 ghost use Rattle.std.specs.Io.KnownBytes.{Appends};
-ghost use Rattle.bt_io.specs.Counts.{Grew};
+ghost use Rattle.bt_io.specs.Seen.{WriteFailed};
 ghost use Rattle.bt_feed.specs.Views.{item_of};
 ghost use Rattle.bt_wire.specs.declared.context.Own.{Own as Receiver};
 ghost use Rattle.bt_text.specs.Script.{script_line};
@@ -112,9 +112,9 @@ impl Printer {
     /// # Errors
     /// `Write` if a write failed or took nothing. A prefix of the text is written then.
     pub fn flush<W: Target, T: Drop>(&mut self, writer: &mut W, answer: T) -> Result<T, ToolFault>
-        ensures flushed { IsFlushed answer (text_in self.old) (W.held writer.old) (W.held writer.new) (text_in self.new) result }
-        ensures failed { OnErr result (Grew (W.failed_writes writer.old) (W.failed_writes writer.new)) }
-        ensures calm { OnOk result (W.failed_writes writer.new ≡ W.failed_writes writer.old) }
+        ensures flushed { IsFlushed answer (text_in self.old) (W.seen writer.old).held (W.seen writer.new).held (text_in self.new) result }
+        ensures failed { OnErr result (WriteFailed (W.seen writer.old) (W.seen writer.new)) }
+        ensures calm { OnOk result ((W.seen writer.new).failed ≡ (W.seen writer.old).failed) }
         ensures form { form_of self.new ≡ form_of self.old }
         ensures fault { IfErr result (λ fault. fault ≡ ToolFault.Write) }
     {

@@ -1,11 +1,11 @@
 //! `show`, `show --json` and `unpack`: the text of a stream's items, and its verdict. The command line calls them.
 ghost use Rattle.std.specs.Prelude.{◌≡◌, ◌≢◌, ◌+◌, ◌-◌, ◌≤◌, ◌^◌, ◌<◌, ℕ, List, [], ◌++◌, length, OnOk, Err};
-ghost use Rattle.bt_io.specs.Counts.{Grew};
+ghost use Rattle.bt_io.specs.Seen.{devices, WriteFailed};
 ghost use Rattle.bt_wire.specs.declared.item.Item.{Item};
 ghost use Rattle.bt_jobs.specs.declared.printer.Form.TheVariants as shape;
 ghost use Rattle.bt_json.specs.Objects.{lines_of as json_lines_of};
 ghost use Rattle.bt_text.specs.Lines.{lines_of};
-ghost use Rattle.bt_jobs.specs.Printed.{IsWritten, IsUnrefused, IsReadTo, IsTurn, IsEndOfReads, IsEndOfTurn, form_of, text_in, items_in, all_in, verdict_of, unpacked};
+ghost use Rattle.bt_jobs.specs.Printed.{IsWritten, IsUnrefused, IsReadTo, so_far, turn_end, IsTurn, IsEndOfReads, IsEndOfTurn, form_of, text_in, items_in, all_in, verdict_of, unpacked};
 
 use crate::printer::{Form, Printer};
 use bt_feed::{Feed, PumpError, Source, Target, pump_with};
@@ -26,13 +26,14 @@ fn turn<R: Source, W: Target>(
     buffer: &mut [u8],
 ) -> Result<Option<Ended>, ToolFault>
     requires { 0 < length buffer.old }
-    ensures faults { IsEndOfTurn result (R.reads reader.old) (R.reads reader.new) (R.failed_reads reader.old) (R.failed_reads reader.new) (R.ends reader.old) (R.ends reader.new) }
-    ensures write { result ≡ Err ToolFault.Write → Grew (W.failed_writes writer.old) (W.failed_writes writer.new) }
-    ensures calm { OnOk result (W.failed_writes writer.new ≡ W.failed_writes writer.old) }
-    ensures reads { R.reads reader.new ≤ R.reads reader.old + 1 }
-    ensures unfailed { result ≢ Err ToolFault.Read → R.failed_reads reader.new ≡ R.failed_reads reader.old }
+    ensures faults { IsEndOfTurn result (R.seen reader.old) (R.seen reader.new) }
+    ensures write { result ≡ Err ToolFault.Write → WriteFailed (W.seen writer.old) (W.seen writer.new) }
+    ensures calm { OnOk result ((W.seen writer.new).failed ≡ (W.seen writer.old).failed) }
+    ensures reads { (R.seen reader.new).reads ≤ (R.seen reader.old).reads + 1 }
+    ensures unfailed { result ≢ Err ToolFault.Read → (R.seen reader.new).failed ≡ (R.seen reader.old).failed }
     ensures told { (own : Own) (b : List ℕ) (xs : List (ℕ × Item)) → own.limit ≤ 1048576 → IsReadTo own b xs feed.old → text_in printer.old ≡ []
-        → IsTurn (form_of printer.old) own b xs (R.left reader.old) (R.left reader.new) (W.held writer.old) (W.held writer.new) feed.new printer.new result }
+        → IsTurn (form_of printer.old) own (so_far b xs) (devices (R.seen reader.old) (W.seen writer.old))
+        (turn_end (devices (R.seen reader.new) (W.seen writer.new)) feed.new printer.new) result }
 {
     laws::one_verdict();
     match pump_with(reader, feed, printer, 1, buffer) {
@@ -57,14 +58,14 @@ fn tell<R: Source, W: Target>(
 ) -> Result<Ended, ToolFault>
     requires limit { (1 ≤ own.now.limit) × (own.now.limit ≤ 1048576) }
     requires empty { text_in printer.old ≡ [] }
-    ensures told { IsWritten (items_in (form_of printer.old) own.now) (items_in (form_of printer.old) own.now) own.now (Grew (R.ends reader.old) (R.ends reader.new)) (R.left reader.old) (R.left reader.new) (W.held writer.old) (W.held writer.new) result }
+    ensures told { IsWritten (items_in (form_of printer.old) own.now) (items_in (form_of printer.old) own.now) own.now (devices (R.seen reader.old) (W.seen writer.old)) (devices (R.seen reader.new) (W.seen writer.new)) result }
     ensures empty { OnOk result (text_in printer.new ≡ []) }
-    ensures reads { R.reads reader.new ≤ R.reads reader.old + 2 ^ 32 }
-    ensures needed { (before : R) × IsUnrefused own.now (R.left reader.old) (R.left before) × (R.reads reader.new ≤ R.reads before + 1) }
-    ensures unfailed { result ≢ Err ToolFault.Read → R.failed_reads reader.new ≡ R.failed_reads reader.old }
-    ensures calm { OnOk result (W.failed_writes writer.new ≡ W.failed_writes writer.old) }
-    ensures faults { IsEndOfReads result (R.reads reader.old) (R.reads reader.new) (R.failed_reads reader.old) (R.failed_reads reader.new) (R.ends reader.old) (R.ends reader.new) }
-    ensures write { result ≡ Err ToolFault.Write → Grew (W.failed_writes writer.old) (W.failed_writes writer.new) }
+    ensures reads { (R.seen reader.new).reads ≤ (R.seen reader.old).reads + 2 ^ 32 }
+    ensures needed { (before : R) × IsUnrefused own.now (R.seen reader.old).left (R.seen before).left × ((R.seen reader.new).reads ≤ (R.seen before).reads + 1) }
+    ensures unfailed { result ≢ Err ToolFault.Read → (R.seen reader.new).failed ≡ (R.seen reader.old).failed }
+    ensures calm { OnOk result ((W.seen writer.new).failed ≡ (W.seen writer.old).failed) }
+    ensures faults { IsEndOfReads result (R.seen reader.old) (R.seen reader.new) }
+    ensures write { result ≡ Err ToolFault.Write → WriteFailed (W.seen writer.old) (W.seen writer.new) }
 {
     laws::one_verdict();
     let Ok(mut feed) = Feed::new(alloc, *own) else {
@@ -104,12 +105,12 @@ fn run_form<R: Source, W: Target>(
     own: &Own,
 ) -> Result<Ended, ToolFault>
     requires { (1 ≤ own.now.limit) × (own.now.limit ≤ 1048576) }
-    ensures unfailed { result ≢ Err ToolFault.Read → R.failed_reads reader.new ≡ R.failed_reads reader.old }
-    ensures reads { R.reads reader.new ≤ R.reads reader.old + 2 ^ 32 }
-    ensures needed { (before : R) × IsUnrefused own.now (R.left reader.old) (R.left before) × (R.reads reader.new ≤ R.reads before + 1) }
-    ensures shown { IsWritten (items_in form.now own.now) (all_in form.now own.now) own.now (Grew (R.ends reader.old) (R.ends reader.new)) (R.left reader.old) (R.left reader.new) (W.held writer.old) (W.held writer.new) result }
-    ensures faults { IsEndOfReads result (R.reads reader.old) (R.reads reader.new) (R.failed_reads reader.old) (R.failed_reads reader.new) (R.ends reader.old) (R.ends reader.new) }
-    ensures write { result ≡ Err ToolFault.Write → Grew (W.failed_writes writer.old) (W.failed_writes writer.new) }
+    ensures unfailed { result ≢ Err ToolFault.Read → (R.seen reader.new).failed ≡ (R.seen reader.old).failed }
+    ensures reads { (R.seen reader.new).reads ≤ (R.seen reader.old).reads + 2 ^ 32 }
+    ensures needed { (before : R) × IsUnrefused own.now (R.seen reader.old).left (R.seen before).left × ((R.seen reader.new).reads ≤ (R.seen before).reads + 1) }
+    ensures shown { IsWritten (items_in form.now own.now) (all_in form.now own.now) own.now (devices (R.seen reader.old) (W.seen writer.old)) (devices (R.seen reader.new) (W.seen writer.new)) result }
+    ensures faults { IsEndOfReads result (R.seen reader.old) (R.seen reader.new) }
+    ensures write { result ≡ Err ToolFault.Write → WriteFailed (W.seen writer.old) (W.seen writer.new) }
 {
     laws::one_verdict();
     let mut printer = Printer::new(alloc, *form);
@@ -137,12 +138,12 @@ pub fn run_show<R: Source, W: Target>(
     own: &Own,
 ) -> Result<Ended, ToolFault>
     requires { (1 ≤ own.now.limit) × (own.now.limit ≤ 1048576) }
-    ensures unfailed { result ≢ Err ToolFault.Read → R.failed_reads reader.new ≡ R.failed_reads reader.old }
-    ensures reads { R.reads reader.new ≤ R.reads reader.old + 2 ^ 32 }
-    ensures needed { (before : R) × IsUnrefused own.now (R.left reader.old) (R.left before) × (R.reads reader.new ≤ R.reads before + 1) }
-    ensures shown { IsWritten (items_in shape.Show own.now) (lines_of own.now) own.now (Grew (R.ends reader.old) (R.ends reader.new)) (R.left reader.old) (R.left reader.new) (W.held writer.old) (W.held writer.new) result }
-    ensures faults { IsEndOfReads result (R.reads reader.old) (R.reads reader.new) (R.failed_reads reader.old) (R.failed_reads reader.new) (R.ends reader.old) (R.ends reader.new) }
-    ensures write { result ≡ Err ToolFault.Write → Grew (W.failed_writes writer.old) (W.failed_writes writer.new) }
+    ensures unfailed { result ≢ Err ToolFault.Read → (R.seen reader.new).failed ≡ (R.seen reader.old).failed }
+    ensures reads { (R.seen reader.new).reads ≤ (R.seen reader.old).reads + 2 ^ 32 }
+    ensures needed { (before : R) × IsUnrefused own.now (R.seen reader.old).left (R.seen before).left × ((R.seen reader.new).reads ≤ (R.seen before).reads + 1) }
+    ensures shown { IsWritten (items_in shape.Show own.now) (lines_of own.now) own.now (devices (R.seen reader.old) (W.seen writer.old)) (devices (R.seen reader.new) (W.seen writer.new)) result }
+    ensures faults { IsEndOfReads result (R.seen reader.old) (R.seen reader.new) }
+    ensures write { result ≡ Err ToolFault.Write → WriteFailed (W.seen writer.old) (W.seen writer.new) }
 {
     run_form(alloc, &Form::Show, reader, writer, own)
 }
@@ -159,12 +160,12 @@ pub fn run_json<R: Source, W: Target>(
     own: &Own,
 ) -> Result<Ended, ToolFault>
     requires { (1 ≤ own.now.limit) × (own.now.limit ≤ 1048576) }
-    ensures unfailed { result ≢ Err ToolFault.Read → R.failed_reads reader.new ≡ R.failed_reads reader.old }
-    ensures reads { R.reads reader.new ≤ R.reads reader.old + 2 ^ 32 }
-    ensures needed { (before : R) × IsUnrefused own.now (R.left reader.old) (R.left before) × (R.reads reader.new ≤ R.reads before + 1) }
-    ensures shown { IsWritten (items_in shape.Json own.now) (json_lines_of own.now) own.now (Grew (R.ends reader.old) (R.ends reader.new)) (R.left reader.old) (R.left reader.new) (W.held writer.old) (W.held writer.new) result }
-    ensures faults { IsEndOfReads result (R.reads reader.old) (R.reads reader.new) (R.failed_reads reader.old) (R.failed_reads reader.new) (R.ends reader.old) (R.ends reader.new) }
-    ensures write { result ≡ Err ToolFault.Write → Grew (W.failed_writes writer.old) (W.failed_writes writer.new) }
+    ensures unfailed { result ≢ Err ToolFault.Read → (R.seen reader.new).failed ≡ (R.seen reader.old).failed }
+    ensures reads { (R.seen reader.new).reads ≤ (R.seen reader.old).reads + 2 ^ 32 }
+    ensures needed { (before : R) × IsUnrefused own.now (R.seen reader.old).left (R.seen before).left × ((R.seen reader.new).reads ≤ (R.seen before).reads + 1) }
+    ensures shown { IsWritten (items_in shape.Json own.now) (json_lines_of own.now) own.now (devices (R.seen reader.old) (W.seen writer.old)) (devices (R.seen reader.new) (W.seen writer.new)) result }
+    ensures faults { IsEndOfReads result (R.seen reader.old) (R.seen reader.new) }
+    ensures write { result ≡ Err ToolFault.Write → WriteFailed (W.seen writer.old) (W.seen writer.new) }
 {
     run_form(alloc, &Form::Json, reader, writer, own)
 }
@@ -180,12 +181,12 @@ pub fn run_unpack<R: Source, W: Target>(
     own: &Own,
 ) -> Result<Ended, ToolFault>
     requires { (1 ≤ own.now.limit) × (own.now.limit ≤ 1048576) }
-    ensures unfailed { result ≢ Err ToolFault.Read → R.failed_reads reader.new ≡ R.failed_reads reader.old }
-    ensures reads { R.reads reader.new ≤ R.reads reader.old + 2 ^ 32 }
-    ensures needed { (before : R) × IsUnrefused own.now (R.left reader.old) (R.left before) × (R.reads reader.new ≤ R.reads before + 1) }
-    ensures unpacked { IsWritten (unpacked own.now) (unpacked own.now) own.now (Grew (R.ends reader.old) (R.ends reader.new)) (R.left reader.old) (R.left reader.new) (W.held writer.old) (W.held writer.new) result }
-    ensures faults { IsEndOfReads result (R.reads reader.old) (R.reads reader.new) (R.failed_reads reader.old) (R.failed_reads reader.new) (R.ends reader.old) (R.ends reader.new) }
-    ensures write { result ≡ Err ToolFault.Write → Grew (W.failed_writes writer.old) (W.failed_writes writer.new) }
+    ensures unfailed { result ≢ Err ToolFault.Read → (R.seen reader.new).failed ≡ (R.seen reader.old).failed }
+    ensures reads { (R.seen reader.new).reads ≤ (R.seen reader.old).reads + 2 ^ 32 }
+    ensures needed { (before : R) × IsUnrefused own.now (R.seen reader.old).left (R.seen before).left × ((R.seen reader.new).reads ≤ (R.seen before).reads + 1) }
+    ensures unpacked { IsWritten (unpacked own.now) (unpacked own.now) own.now (devices (R.seen reader.old) (W.seen writer.old)) (devices (R.seen reader.new) (W.seen writer.new)) result }
+    ensures faults { IsEndOfReads result (R.seen reader.old) (R.seen reader.new) }
+    ensures write { result ≡ Err ToolFault.Write → WriteFailed (W.seen writer.old) (W.seen writer.new) }
 {
     let mut printer = Printer::new(alloc, Form::Unpack(*own));
     tell(alloc, reader, &mut printer, writer, own)

@@ -1,18 +1,21 @@
-use Rattle.std.proofs.Common.{◌≡◌, ◌-◌, ◌++◌, Err, refl, subst, arith}
+use Rattle.std.proofs.Common.{◌-◌, ◌++◌, [], Err, refl, subst, arith}
+use Rattle.std.proofs.KnownBytes.{Consumes-nil}
 use Rattle.bt_feed.specs.declared.pumping.PumpError.{PumpError}
-use Rattle.bt_io.specs.Counts.{Grew}
+use Rattle.bt_io.specs.Seen.{devices, EndRead}
 use Rattle.bt_feed.specs.Pumps.{IsPumpEnd, IsEnd}
 use Rattle.bt_text.specs.declared.ended.Ended.TheVariants.{Accepted, Refused}
 use Rattle.bt_text.specs.declared.ended.ToolFault.TheVariants as fault
 use Rattle.bt_jobs.specs.Printed.{prefixed}
-use Rattle.bt_jobs.proofs.Printing.{is_accepted, is_refused, nothing_checked, checked_all, nothing_unrefused, pumped_unrefused}
+use Rattle.bt_jobs.proofs.Printing.{is_accepted, is_refused, nothing_checked, checked_all, end_of_said, nothing_unrefused, pumped_unrefused}
 use Rattle.bt_jobs.proofs.check.run_check_after.Goals as goal
 
 pub returns-in-Ok-pump_with-clause-checked : goal.returns-in-Ok-pump_with-clause-checked
 returns-in-Ok-pump_with-clause-checked g c =
     let m = c.in-Ok-pump_with.ensures.moved in
     let end = m.5 in
-    checked_all _ c.args.prefix.now c.args.own.now c.in-Ok.feed _ _ _ _ (m.0 ++ m.1) end.0 (Accepted (c.number-messages.result - 1) c.in-Ok-pump_with.bytes)
+    checked_all c.args.prefix.now c.args.own.now c.in-Ok.feed (devices (g.R.Source.seen c.args.reader.now) (g.W.Target.seen c.args.writer.now))
+    (devices (g.R.Source.seen c.pump_with.new.reader) (g.W.Target.seen c.say_after.new.writer)) (m.0 ++ m.1) end.0
+    (Accepted (c.number-messages.result - 1) c.in-Ok-pump_with.bytes)
     c.say_after.result c.requires.1 c.one_verdict.ensures.one m.3 c.in-Ok.ensures.ok end.1.comes
     (is_accepted end.0 c.pump_with.new.feed c.number-messages.result _ c.in-Ok-pump_with.bytes end.3 end.1.number c.number-messages.ensures.value refl)
     (c.in-Ok-pump_with.ensures.end tt) c.say_after.ensures.written
@@ -21,9 +24,10 @@ pub returns-in-Err-Refused-clause-checked : goal.returns-in-Err-Refused-clause-c
 returns-in-Err-Refused-clause-checked g c =
     let m = c.in-Err-Refused.ensures.moved in
     let P : PumpError → Type 0 = λ e. IsPumpEnd c.in-Ok.feed m.0 m.1 m.2 c.pump_with.new.feed (Err e) in
-    let R : PumpError → Type 0 = λ e. IsEnd (Err e) → Grew (g.R.Source.ends c.args.reader.now) (g.R.Source.ends c.pump_with.new.reader) in
+    let R : PumpError → Type 0 = λ e. IsEnd (Err e) → EndRead (g.R.Source.seen c.args.reader.now) (g.R.Source.seen c.pump_with.new.reader) in
     let end = subst P c.in-Err-Refused.field-0-is m.5 in
-    checked_all _ c.args.prefix.now c.args.own.now c.in-Ok.feed _ _ _ _ (m.0 ++ m.1) end.0 (Refused c.in-Err-Refused.refusal)
+    checked_all c.args.prefix.now c.args.own.now c.in-Ok.feed (devices (g.R.Source.seen c.args.reader.now) (g.W.Target.seen c.args.writer.now))
+    (devices (g.R.Source.seen c.pump_with.new.reader) (g.W.Target.seen c.say_after-in-Err-Refused.new.writer)) (m.0 ++ m.1) end.0 (Refused c.in-Err-Refused.refusal)
     c.say_after-in-Err-Refused.result c.requires.1 c.one_verdict.ensures.one m.3 c.in-Ok.ensures.ok end.1.comes
     (is_refused end.0 c.in-Err-Refused.refusal end.3) (subst R c.in-Err-Refused.field-0-is c.in-Err-Refused.ensures.end)
     c.say_after-in-Err-Refused.ensures.written
@@ -31,35 +35,48 @@ returns-in-Err-Refused-clause-checked g c =
 pub returns-in-Err-Turns-clause-checked : goal.returns-in-Err-Turns-clause-checked
 returns-in-Err-Turns-clause-checked g c =
     let m = c.in-Err-Turns.ensures.moved in
-    nothing_checked _ (prefixed c.args.prefix.now) c.args.own.now _ _ _ (m.0 ++ m.1) fault.Turns m.3
+    nothing_checked (prefixed c.args.prefix.now) c.args.own.now (g.R.Source.seen c.args.reader.now) (g.R.Source.seen c.pump_with.new.reader)
+    (g.W.Target.seen c.args.writer.now) (m.0 ++ m.1) fault.Turns m.3
 
 pub returns-in-Err-ReadFault-clause-checked : goal.returns-in-Err-ReadFault-clause-checked
 returns-in-Err-ReadFault-clause-checked g c =
     let m = c.in-Err-ReadFault.ensures.moved in
-    nothing_checked _ (prefixed c.args.prefix.now) c.args.own.now _ _ _ (m.0 ++ m.1) fault.Read m.3
+    nothing_checked (prefixed c.args.prefix.now) c.args.own.now (g.R.Source.seen c.args.reader.now) (g.R.Source.seen c.pump_with.new.reader)
+    (g.W.Target.seen c.args.writer.now) (m.0 ++ m.1) fault.Read m.3
 
 pub returns-in-Err-ReadFault-clause-calm : goal.returns-in-Err-ReadFault-clause-calm
 returns-in-Err-ReadFault-clause-calm g c = λ other. absurd (other refl)
 
 pub returns-in-Ok-pump_with-clause-needed : goal.returns-in-Ok-pump_with-clause-needed
 returns-in-Ok-pump_with-clause-needed g c =
-    pumped_unrefused g.R.Source.left g.R.Source.reads c.args.own.now c.in-Ok.feed c.args.reader.now c.pump_with.new.reader c.requires.1 c.in-Ok.ensures.ok
+    pumped_unrefused g.R.Source.seen c.args.own.now c.in-Ok.feed c.args.reader.now c.pump_with.new.reader c.requires.1 c.in-Ok.ensures.ok
     c.in-Ok-pump_with.ensures.needed
 
 pub returns-in-Err-Refused-clause-needed : goal.returns-in-Err-Refused-clause-needed
 returns-in-Err-Refused-clause-needed g c =
-    pumped_unrefused g.R.Source.left g.R.Source.reads c.args.own.now c.in-Ok.feed c.args.reader.now c.pump_with.new.reader c.requires.1 c.in-Ok.ensures.ok
+    pumped_unrefused g.R.Source.seen c.args.own.now c.in-Ok.feed c.args.reader.now c.pump_with.new.reader c.requires.1 c.in-Ok.ensures.ok
     c.in-Err-Refused.ensures.needed
 
 pub returns-in-Err-Turns-clause-needed : goal.returns-in-Err-Turns-clause-needed
 returns-in-Err-Turns-clause-needed g c =
-    pumped_unrefused g.R.Source.left g.R.Source.reads c.args.own.now c.in-Ok.feed c.args.reader.now c.pump_with.new.reader c.requires.1 c.in-Ok.ensures.ok
+    pumped_unrefused g.R.Source.seen c.args.own.now c.in-Ok.feed c.args.reader.now c.pump_with.new.reader c.requires.1 c.in-Ok.ensures.ok
     c.in-Err-Turns.ensures.needed
 
 pub returns-in-Err-ReadFault-clause-needed : goal.returns-in-Err-ReadFault-clause-needed
 returns-in-Err-ReadFault-clause-needed g c =
-    pumped_unrefused g.R.Source.left g.R.Source.reads c.args.own.now c.in-Ok.feed c.args.reader.now c.pump_with.new.reader c.requires.1 c.in-Ok.ensures.ok
+    pumped_unrefused g.R.Source.seen c.args.own.now c.in-Ok.feed c.args.reader.now c.pump_with.new.reader c.requires.1 c.in-Ok.ensures.ok
     c.in-Err-ReadFault.ensures.needed
 
 pub returns-in_default-clause-needed : goal.returns-in_default-clause-needed
 returns-in_default-clause-needed g c = (c.args.reader.now, nothing_unrefused c.args.own.now _ c.requires.1, omega arith)
+
+pub returns-in_default-clause-checked : goal.returns-in_default-clause-checked
+returns-in_default-clause-checked g c = nothing_checked (prefixed c.args.prefix.now) c.args.own.now (g.R.Source.seen c.args.reader.now)
+    (g.R.Source.seen c.args.reader.now) (g.W.Target.seen c.args.writer.now) [] fault.Memory (Consumes-nil _)
+
+pub returns-in-Err-Refused-clause-faults : goal.returns-in-Err-Refused-clause-faults
+returns-in-Err-Refused-clause-faults g c =
+    let R : PumpError → Type 0 = λ e. IsEnd (Err e) → EndRead (g.R.Source.seen c.args.reader.now) (g.R.Source.seen c.pump_with.new.reader) in
+    end_of_said (Refused c.in-Err-Refused.refusal) _ _ _ _ (g.R.Source.seen c.args.reader.now) (g.R.Source.seen c.pump_with.new.reader)
+    c.say_after-in-Err-Refused.result (subst R c.in-Err-Refused.field-0-is c.in-Err-Refused.ensures.end) c.say_after-in-Err-Refused.ensures.written
+    c.say_after-in-Err-Refused.ensures.fault

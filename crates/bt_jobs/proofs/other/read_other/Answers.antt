@@ -1,9 +1,9 @@
 use Rattle.std.proofs.Common.{Bool, Ok, [], refl, subst, ap, ◌∙◌, arith}
 use Rattle.std.proofs.KnownBytes.{Consumes-nil}
-use Rattle.bt_io.specs.Counts.{Grew}
 use Rattle.std.proofs.Common.{None}
 use Rattle.bt_feed.specs.declared.stage.Stage.TheVariants as stage
 use Rattle.bt_text.specs.declared.ended.ToolFault.TheVariants as fault
+use Rattle.bt_jobs.specs.Printed.{so_far}
 use Rattle.bt_jobs.specs.Others.{IsTurnHeard}
 use Rattle.bt_jobs.proofs.Hearing.{listening_first, listening_more, learnt, not_learnt, fault_of_turn, no_fault, read_failed, grew_since, waits, nothing_read}
 use Rattle.bt_jobs.proofs.other.read_other.Goals as goal
@@ -21,8 +21,8 @@ loop-turn-init g c = record {
 pub loop-turn-preserved : goal.loop-turn-preserved
 loop-turn-preserved g c =
     let t = c.loop-turn.invariant.heard in
-    let P : Bool → Type 0 = λ k. IsTurnHeard t.bytes t.items (Grew (g.R.Source.ends c.loop-turn.reader) (g.R.Source.ends c.turn.new.reader))
-    (g.R.Source.left c.loop-turn.reader) (g.R.Source.left c.turn.new.reader) c.turn.new.feed c.turn.new.listener (Ok k) in
+    let P : Bool → Type 0 = λ k. IsTurnHeard (so_far t.bytes t.items) (g.R.Source.seen c.loop-turn.reader) (g.R.Source.seen c.turn.new.reader)
+    c.turn.new.feed c.turn.new.listener (Ok k) in
     let more = subst P c.in-Ok-false.field-0-test (c.in-Ok-false.ensures.heard t.bytes t.items t.listening) in
     let end = c.in-Ok-false.ensures.turns (ap (λ (k : Bool). Ok k) c.in-Ok-false.field-0-test) in
     record {
@@ -30,42 +30,42 @@ loop-turn-preserved g c =
       most = omega (arith, c.in-Ok-false.ensures.reads, c.loop-turn.invariant.most);
       failed = c.in-Ok-false.ensures.calm ∙ c.loop-turn.invariant.failed;
       ends = end.1 ∙ c.loop-turn.invariant.ends;
-      heard = listening_more (Grew (g.R.Source.ends c.loop-turn.reader) (g.R.Source.ends c.turn.new.reader)) _ _ _ c.loop-turn.feed c.turn.new.feed
+      heard = listening_more _ (g.R.Source.seen c.loop-turn.reader) (g.R.Source.seen c.turn.new.reader) c.loop-turn.feed c.turn.new.feed
           c.loop-turn.listener c.turn.new.listener t more;
     }
 
 pub returns-in-Ok-true-clause-learnt : goal.returns-in-Ok-true-clause-learnt
 returns-in-Ok-true-clause-learnt g c =
     let t = c.loop-turn.invariant.heard in
-    let P : Bool → Type 0 = λ k. IsTurnHeard t.bytes t.items (Grew (g.R.Source.ends c.loop-turn.reader) (g.R.Source.ends c.turn.new.reader))
-    (g.R.Source.left c.loop-turn.reader) (g.R.Source.left c.turn.new.reader) c.turn.new.feed c.turn.new.listener (Ok k) in
+    let P : Bool → Type 0 = λ k. IsTurnHeard (so_far t.bytes t.items) (g.R.Source.seen c.loop-turn.reader) (g.R.Source.seen c.turn.new.reader)
+    c.turn.new.feed c.turn.new.listener (Ok k) in
     let end = subst P c.in-Ok-true.field-0-test (c.in-Ok-true.ensures.heard t.bytes t.items t.listening) in
-    learnt _ _ _ _ _ c.loop-turn.feed c.turn.new.feed c.loop-turn.listener c.turn.new.listener c.answer.result c.one_verdict.ensures.one
+    learnt (g.R.Source.seen c.args.reader.now) (g.R.Source.seen c.loop-turn.reader) (g.R.Source.seen c.turn.new.reader) c.loop-turn.feed c.turn.new.feed c.loop-turn.listener c.turn.new.listener c.answer.result c.one_verdict.ensures.one
     c.one_verdict.ensures.refused c.one_verdict.ensures.items t end (grew_since _ _ _ c.loop-turn.invariant.ends) c.answer.ensures
 
 pub returns-in-Ok-true-clause-faults : goal.returns-in-Ok-true-clause-faults
-returns-in-Ok-true-clause-faults g c = no_fault _ c.answer.result _ _ _ _ _ _ c.answer.ensures (c.in-Ok-true.ensures.calm ∙ c.loop-turn.invariant.failed)
+returns-in-Ok-true-clause-faults g c = no_fault _ c.answer.result (g.R.Source.seen c.args.reader.now) (g.R.Source.seen c.turn.new.reader) c.answer.ensures (c.in-Ok-true.ensures.calm ∙ c.loop-turn.invariant.failed)
 
 pub returns-in-Err-clause-learnt : goal.returns-in-Err-clause-learnt
 returns-in-Err-clause-learnt g c =
     let t = c.loop-turn.invariant.heard in
-    fault_of_turn _ _ _ _ c.loop-turn.feed c.turn.new.feed c.loop-turn.listener c.turn.new.listener c.in-Err.fault t
+    fault_of_turn (g.R.Source.seen c.args.reader.now) (g.R.Source.seen c.loop-turn.reader) (g.R.Source.seen c.turn.new.reader) c.loop-turn.feed c.turn.new.feed c.loop-turn.listener c.turn.new.listener c.in-Err.fault t
     (c.in-Err.ensures.heard t.bytes t.items t.listening)
 
 pub returns-in-Err-clause-faults : goal.returns-in-Err-clause-faults
-returns-in-Err-clause-faults g c = read_failed c.in-Err.fault _ _ _ _ _ _ c.in-Err.ensures.fault.0
+returns-in-Err-clause-faults g c = read_failed c.in-Err.fault (g.R.Source.seen c.args.reader.now) (g.R.Source.seen c.turn.new.reader) c.in-Err.ensures.fault.0
     (grew_since _ _ _ c.loop-turn.invariant.failed c.in-Err.ensures.fault.1)
 
 pub returns-clause-learnt : goal.returns-clause-learnt
 returns-clause-learnt g c =
     let t = c.loop-turn.invariant.heard in
-    not_learnt _ _ _ t.bytes fault.Turns t.consumed
+    not_learnt (g.R.Source.seen c.args.reader.now) (g.R.Source.seen c.loop-turn.reader) t.bytes fault.Turns t.consumed
 
 pub returns-clause-faults : goal.returns-clause-faults
 returns-clause-faults g c = (omega (arith, c.loop-turn.invariant.reads, c.loop-turn.auto._turn-end), c.loop-turn.invariant.ends)
 
 pub returns-in_default-clause-learnt : goal.returns-in_default-clause-learnt
-returns-in_default-clause-learnt g c = not_learnt _ _ _ [] fault.Memory (Consumes-nil _)
+returns-in_default-clause-learnt g c = not_learnt (g.R.Source.seen c.args.reader.now) (g.R.Source.seen c.args.reader.now) [] fault.Memory (Consumes-nil _)
 
 pub returns-in-Ok-true-clause-needed : goal.returns-in-Ok-true-clause-needed
 returns-in-Ok-true-clause-needed g c = (

@@ -1,5 +1,5 @@
 use Rattle.std.proofs.Common.{◌∙◌, Option, subst, arith}
-use Rattle.bt_jobs.specs.PackSteps.{IsLineEnd}
+use Rattle.bt_jobs.specs.PackSteps.{packing, IsLineEnd}
 use Rattle.bt_text.specs.declared.ended.ScriptReason.{ScriptReason}
 use Rattle.bt_jobs.proofs.PackPieces.{end_empty, end_line, end_stop}
 use Rattle.bt_jobs.proofs.pack.end_script.Goals as goal
@@ -11,14 +11,16 @@ returns-then-line-eq0 c = λ own text lines b e h.
 
 pub returns-in-Ok-None : goal.returns-in-Ok-None
 returns-in-Ok-None c = λ own text lines b e h.
-    let P : Option ScriptReason → Type 0 = λ o. IsLineEnd own lines b c.args.line.now c.take_line.new.feed c.args.out.now.items c.take_line.new.out.items o in
+    let P : Option ScriptReason → Type 0 = λ o. IsLineEnd own (packing lines b c.args.out.now.items) c.args.line.now c.take_line.new.feed
+    c.take_line.new.out.items o in
     let end = subst P c.in-Ok-None.field-0-is (c.in-Ok-None.ensures own lines b e h.packed) in
     end_line own text lines b c.args.line.now c.args.out.now.items c.take_line.new.out.items c.args.feed.now c.take_line.new.feed c.counts-in-Ok-None.result
     (omega (arith, c.if-line-eq0.false)) h end c.counts-in-Ok-None.ensures
 
 pub returns-in-Ok-Some : goal.returns-in-Ok-Some
 returns-in-Ok-Some c = λ own text lines b e h.
-    let P : Option ScriptReason → Type 0 = λ o. IsLineEnd own lines b c.args.line.now c.take_line.new.feed c.args.out.now.items c.take_line.new.out.items o in
+    let P : Option ScriptReason → Type 0 = λ o. IsLineEnd own (packing lines b c.args.out.now.items) c.args.line.now c.take_line.new.feed
+    c.take_line.new.out.items o in
     let end = subst P c.in-Ok-Some.field-0-is (c.in-Ok-Some.ensures own lines b e h.packed) in
     end_stop own text lines b c.args.line.now c.args.out.now.items c.take_line.new.out.items c.args.feed.now c.take_line.new.feed c.number-in-Ok-Some.result
     c.in-Ok-Some.reason (omega (arith, c.if-line-eq0.false)) h end c.number-in-Ok-Some.ensures.value

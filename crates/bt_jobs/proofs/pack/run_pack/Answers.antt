@@ -2,27 +2,30 @@ use Rattle.std.proofs.Common.{rules, ◌≡◌, ◌∙◌, ◌++◌, ◌+◌, �
 use Rattle.std.proofs.KnownBytes.{Consumes-nil, Consumes-kept, Consumes-trans}
 use Rattle.std.proofs.lemmas.Bool.{ne_eqb}
 use Rattle.std.specs.Io.KnownBytes.{Consumes, Appends}
-use Rattle.bt_jobs.specs.Printed.{AppendsFront, IsWrittenOut}
-use Rattle.bt_io.specs.Counts.{Grew}
+use Rattle.bt_io.specs.Seen.{devices, EndRead, AppendsPrefix}
+use Rattle.bt_jobs.specs.Printed.{IsWrittenOut}
 use Rattle.bt_feed.specs.Stages.{number_of}
 use Rattle.bt_text.specs.declared.ended.PackEnd.{PackEnd}
 use Rattle.bt_text.specs.declared.ended.PackEnd.TheVariants.{Refused}
 use Rattle.bt_text.specs.declared.ended.ScriptReason.{ScriptReason}
 use Rattle.bt_text.specs.declared.ended.ToolFault.TheVariants as fault
 use Rattle.bt_jobs.specs.Packs.{stopped}
-use Rattle.bt_jobs.specs.PackSteps.{IsReadSo, IsPieceRead}
+use Rattle.bt_jobs.specs.PackSteps.{packing, packer, IsReadSo, IsPieceRead}
 use Rattle.bt_jobs.proofs.PackRuns.{timely_at_end, timely_line, run_starts, run_more, run_fails, more_fails, packed_run, nothing_run, no_bytes, run_taken}
 use Rattle.bt_jobs.proofs.PackRuns.{nothing_taken}
 use Rattle.bt_jobs.proofs.pack.run_pack.Goals as goal
 
 pub returns-in_default-clause-packed : goal.returns-in_default-clause-packed
-returns-in_default-clause-packed g c = nothing_run _ c.args.own.now _ _ fault.Memory c.requires.1
+returns-in_default-clause-packed g c = nothing_run c.args.own.now (devices (g.R.Source.seen c.args.reader.now) (g.W.Target.seen c.args.writer.now))
+    fault.Memory c.requires.1
 
 pub returns-in_default-with_capacity-clause-packed : goal.returns-in_default-with_capacity-clause-packed
-returns-in_default-with_capacity-clause-packed g c = nothing_run _ c.args.own.now _ _ fault.Memory c.requires.1
+returns-in_default-with_capacity-clause-packed g c = nothing_run c.args.own.now (devices (g.R.Source.seen c.args.reader.now) (g.W.Target.seen c.args.writer.now))
+    fault.Memory c.requires.1
 
 pub returns-in_default-with_capacity-2-clause-packed : goal.returns-in_default-with_capacity-2-clause-packed
-returns-in_default-with_capacity-2-clause-packed g c = nothing_run _ c.args.own.now _ _ fault.Memory c.requires.1
+returns-in_default-with_capacity-2-clause-packed g c = nothing_run c.args.own.now (devices (g.R.Source.seen c.args.reader.now) (g.W.Target.seen c.args.writer.now))
+    fault.Memory c.requires.1
 
 pub loop-turn-init : goal.loop-turn-init
 loop-turn-init g c = record {
@@ -39,14 +42,15 @@ pub returns-in-Ok-end_script-clause-packed : goal.returns-in-Ok-end_script-claus
 returns-in-Ok-end_script-clause-packed g c =
     let r = c.loop-turn.invariant.run in
     let none : c.in-Ok-eq0.field-0 ≡ 0 = omega (arith, c.in-Ok-eq0.field-0-test) in
-    let P : ℕ → Type 0 = λ k. Consumes (g.R.Source.left c.loop-turn.reader) (g.R.Source.left c.read.new.self) (take k c.read.new.into) in
+    let P : ℕ → Type 0 = λ k. Consumes (g.R.Source.seen c.loop-turn.reader).left (g.R.Source.seen c.read.new.self).left (take k c.read.new.into) in
     let Q : List ℕ → Type 0 = λ l. IsReadSo c.args.own.now r.text r.lines r.bytes l c.loop-turn.feed in
-    let S : List ℕ → Type 0 = λ l. IsWrittenOut c.in-Ok-end_script.end l (g.W.Target.held c.loop-turn.writer) (g.W.Target.held c.write_out.new.writer)
+    let S : List ℕ → Type 0 = λ l. IsWrittenOut c.in-Ok-end_script.end l (g.W.Target.seen c.loop-turn.writer).held (g.W.Target.seen c.write_out.new.writer).held
     c.write_out.result in
     let end = c.in-Ok-end_script.ensures c.args.own.now r.text r.lines r.bytes refl (subst Q (sym c.as_slice.ensures.value) r.read) in
-    let AtEnd : Type 0 = Grew (g.R.Source.ends c.args.reader.now) (g.R.Source.ends c.read.new.self) in
+    let AtEnd : Type 0 = EndRead (g.R.Source.seen c.args.reader.now) (g.R.Source.seen c.read.new.self) in
     let grew : AtEnd = search rules in
-    packed_run AtEnd c.args.own.now _ _ _ _ _ r.text r.bytes end.0 c.loop-turn.out.items c.end_script.new.out.items end.2.0 c.in-Ok-end_script.end
+    packed_run c.args.own.now _ (devices (g.R.Source.seen c.args.reader.now) (g.W.Target.seen c.args.writer.now))
+    (devices (g.R.Source.seen c.read.new.self) (g.W.Target.seen c.write_out.new.writer)) r.text r.bytes end.0 c.loop-turn.out.items c.end_script.new.out.items end.2.0 c.in-Ok-end_script.end
     c.write_out.result c.requires.1 (no_bytes _ _ _ r.text r.consumed (subst P none c.in-Ok-eq0.ensures.bytes.0)) end.2.1 end.2.2
     (timely_at_end c.args.own.now.limit r.text AtEnd c.in-Ok-end_script.end grew) r.written c.loop-turn.invariant.empty end.1
     (subst S c.as_slice-in-Ok-end_script.ensures.value c.write_out.ensures.written)
@@ -54,19 +58,23 @@ returns-in-Ok-end_script-clause-packed g c =
 pub returns-in-Err-end_script-clause-packed : goal.returns-in-Err-end_script-clause-packed
 returns-in-Err-end_script-clause-packed g c =
     let none : c.in-Ok-eq0.field-0 ≡ 0 = omega (arith, c.in-Ok-eq0.field-0-test) in
-    let P : ℕ → Type 0 = λ k. Consumes (g.R.Source.left c.loop-turn.reader) (g.R.Source.left c.read.new.self) (take k c.read.new.into) in
-    run_fails _ c.args.own.now _ _ _ _ _ c.loop-turn.line.items [] c.loop-turn.feed fault.Memory c.loop-turn.invariant.run
+    let P : ℕ → Type 0 = λ k. Consumes (g.R.Source.seen c.loop-turn.reader).left (g.R.Source.seen c.read.new.self).left (take k c.read.new.into) in
+    run_fails c.args.own.now _ (devices (g.R.Source.seen c.args.reader.now) (g.W.Target.seen c.args.writer.now))
+    (devices (g.R.Source.seen c.read.new.self) (g.W.Target.seen c.loop-turn.writer))
+    c.loop-turn.line.items [] c.loop-turn.feed fault.Memory c.loop-turn.invariant.run
     (subst P none c.in-Ok-eq0.ensures.bytes.0)
 
 pub returns-in-Err-write_out-clause-packed : goal.returns-in-Err-write_out-clause-packed
 returns-in-Err-write_out-clause-packed g c =
     let r = c.loop-turn.invariant.run in
     let piece = take c.in-Ok-read.count c.read.new.into in
-    let P : Option ScriptReason → Type 0 = λ o. IsPieceRead c.args.own.now (r.text ++ piece) r.lines r.bytes c.take_piece.new.line.items
-    c.take_piece.new.feed c.loop-turn.out.items c.take_piece.new.out.items o in
+    let P : Option ScriptReason → Type 0 = λ o. IsPieceRead c.args.own.now (r.text ++ piece)
+    (packing r.lines r.bytes c.loop-turn.out.items) (packer c.take_piece.new.line.items c.take_piece.new.feed c.take_piece.new.out.items) o in
     let p = subst P c.in-Ok-None.field-0-is (c.in-Ok-None.ensures c.args.own.now r.text r.lines r.bytes refl r.read) in
-    let S : List ℕ → Type 0 = λ l. AppendsFront (g.W.Target.held c.loop-turn.writer) (g.W.Target.held c.write_out-in-Ok-None.new.writer) l in
-    more_fails _ c.args.own.now _ _ _ _ _ _ c.loop-turn.line.items c.take_piece.new.line.items piece c.loop-turn.out.items c.take_piece.new.out.items
+    let S : List ℕ → Type 0 = λ l. AppendsPrefix (g.W.Target.seen c.loop-turn.writer).held (g.W.Target.seen c.write_out-in-Ok-None.new.writer).held l in
+    more_fails c.args.own.now _ _ (devices (g.R.Source.seen c.args.reader.now) (g.W.Target.seen c.args.writer.now))
+    (devices (g.R.Source.seen c.read.new.self) (g.W.Target.seen c.write_out-in-Ok-None.new.writer))
+    c.loop-turn.line.items c.take_piece.new.line.items piece c.loop-turn.out.items c.take_piece.new.out.items
     c.loop-turn.feed c.take_piece.new.feed c.in-Err-write_out.fault r c.in-Ok-read.ensures.bytes.0
     c.loop-turn.invariant.empty p (subst S c.as_slice-in-Ok-None.ensures.value c.in-Err-write_out.ensures.written)
 
@@ -74,16 +82,17 @@ pub returns-in-Ok-Some-clause-packed : goal.returns-in-Ok-Some-clause-packed
 returns-in-Ok-Some-clause-packed g c =
     let r = c.loop-turn.invariant.run in
     let piece = take c.in-Ok-read.count c.read.new.into in
-    let P : Option ScriptReason → Type 0 = λ o. IsPieceRead c.args.own.now (r.text ++ piece) r.lines r.bytes c.take_piece.new.line.items
-    c.take_piece.new.feed c.loop-turn.out.items c.take_piece.new.out.items o in
+    let P : Option ScriptReason → Type 0 = λ o. IsPieceRead c.args.own.now (r.text ++ piece)
+    (packing r.lines r.bytes c.loop-turn.out.items) (packer c.take_piece.new.line.items c.take_piece.new.feed c.take_piece.new.out.items) o in
     let p = subst P c.in-Ok-Some.field-0-is (c.in-Ok-Some.ensures c.args.own.now r.text r.lines r.bytes refl r.read) in
     let e : PackEnd = Refused (c.number-line.result + 1) c.in-Ok-Some.reason in
-    let S : List ℕ → Type 0 = λ l. IsWrittenOut e l (g.W.Target.held c.loop-turn.writer) (g.W.Target.held c.write_out-in-Ok-Some.new.writer)
+    let S : List ℕ → Type 0 = λ l. IsWrittenOut e l (g.W.Target.seen c.loop-turn.writer).held (g.W.Target.seen c.write_out-in-Ok-Some.new.writer).held
     c.write_out-in-Ok-Some.result in
     let same : e ≡ Refused (number_of c.take_piece.new.feed.stage + 1) c.in-Ok-Some.reason = ap (λ (n : ℕ). Refused (n + 1) c.in-Ok-Some.reason)
     c.number-line.ensures.value in
-    let AtEnd : Type 0 = Grew (g.R.Source.ends c.args.reader.now) (g.R.Source.ends c.read.new.self) in
-    packed_run AtEnd c.args.own.now _ _ _ _ _ (r.text ++ piece) r.bytes p.0 c.loop-turn.out.items c.take_piece.new.out.items p.2.0 e
+    let AtEnd : Type 0 = EndRead (g.R.Source.seen c.args.reader.now) (g.R.Source.seen c.read.new.self) in
+    packed_run c.args.own.now _ (devices (g.R.Source.seen c.args.reader.now) (g.W.Target.seen c.args.writer.now))
+    (devices (g.R.Source.seen c.read.new.self) (g.W.Target.seen c.write_out-in-Ok-Some.new.writer)) (r.text ++ piece) r.bytes p.0 c.loop-turn.out.items c.take_piece.new.out.items p.2.0 e
     c.write_out-in-Ok-Some.result c.requires.1 (Consumes-trans _ _ _ r.text piece r.consumed c.in-Ok-read.ensures.bytes.0) p.2.1
     (stopped (number_of c.take_piece.new.feed.stage + 1) c.in-Ok-Some.reason p.2.2 same) (timely_line c.args.own.now.limit (r.text ++ piece) AtEnd e
     (number_of c.take_piece.new.feed.stage + 1) c.in-Ok-Some.reason same p.3) r.written c.loop-turn.invariant.empty p.1
@@ -91,26 +100,32 @@ returns-in-Ok-Some-clause-packed g c =
 
 pub returns-in-Err-take_piece-clause-packed : goal.returns-in-Err-take_piece-clause-packed
 returns-in-Err-take_piece-clause-packed g c =
-    run_fails _ c.args.own.now _ _ _ _ _ c.loop-turn.line.items (take c.in-Ok-read.count c.read.new.into) c.loop-turn.feed fault.Memory
+    run_fails c.args.own.now _ (devices (g.R.Source.seen c.args.reader.now) (g.W.Target.seen c.args.writer.now))
+    (devices (g.R.Source.seen c.read.new.self) (g.W.Target.seen c.loop-turn.writer))
+    c.loop-turn.line.items (take c.in-Ok-read.count c.read.new.into) c.loop-turn.feed fault.Memory
     c.loop-turn.invariant.run c.in-Ok-read.ensures.bytes.0
 
 pub returns-in-Err-clause-packed : goal.returns-in-Err-clause-packed
 returns-in-Err-clause-packed g c =
-    run_fails _ c.args.own.now _ _ _ _ _ c.loop-turn.line.items [] c.loop-turn.feed fault.Read c.loop-turn.invariant.run
+    run_fails c.args.own.now _ (devices (g.R.Source.seen c.args.reader.now) (g.W.Target.seen c.args.writer.now))
+    (devices (g.R.Source.seen c.read.new.self) (g.W.Target.seen c.loop-turn.writer))
+    c.loop-turn.line.items [] c.loop-turn.feed fault.Read c.loop-turn.invariant.run
     (Consumes-kept _ _ _ [] (Consumes-nil _) c.in-Err.ensures.bytes)
 
 pub returns-clause-packed : goal.returns-clause-packed
-returns-clause-packed g c = run_fails _ c.args.own.now _ _ _ _ _ c.loop-turn.line.items [] c.loop-turn.feed fault.Turns c.loop-turn.invariant.run
+returns-clause-packed g c = run_fails c.args.own.now _ (devices (g.R.Source.seen c.args.reader.now) (g.W.Target.seen c.args.writer.now))
+    (devices (g.R.Source.seen c.loop-turn.reader) (g.W.Target.seen c.loop-turn.writer))
+    c.loop-turn.line.items [] c.loop-turn.feed fault.Turns c.loop-turn.invariant.run
     (Consumes-nil _)
 
 pub loop-turn-preserved : goal.loop-turn-preserved
 loop-turn-preserved g c =
     let r = c.loop-turn.invariant.run in
     let piece = take c.in-Ok-read.count c.read.new.into in
-    let P : Option ScriptReason → Type 0 = λ o. IsPieceRead c.args.own.now (r.text ++ piece) r.lines r.bytes c.take_piece.new.line.items
-    c.take_piece.new.feed c.loop-turn.out.items c.take_piece.new.out.items o in
+    let P : Option ScriptReason → Type 0 = λ o. IsPieceRead c.args.own.now (r.text ++ piece)
+    (packing r.lines r.bytes c.loop-turn.out.items) (packer c.take_piece.new.line.items c.take_piece.new.feed c.take_piece.new.out.items) o in
     let p = subst P c.in-Ok-None.field-0-is (c.in-Ok-None.ensures c.args.own.now r.text r.lines r.bytes refl r.read) in
-    let S : List ℕ → Type 0 = λ l. Appends (g.W.Target.held c.loop-turn.writer) (g.W.Target.held c.write_out-in-Ok-None.new.writer) l in
+    let S : List ℕ → Type 0 = λ l. Appends (g.W.Target.seen c.loop-turn.writer).held (g.W.Target.seen c.write_out-in-Ok-None.new.writer).held l in
     record {
       reads = omega (arith, c.in-Ok-read.ensures.reads, c.loop-turn.invariant.reads);
       most = omega (arith, c.in-Ok-read.ensures.reads, c.loop-turn.invariant.most);

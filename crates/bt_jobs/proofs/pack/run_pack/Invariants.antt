@@ -5,12 +5,12 @@ use Rattle.bt_jobs.proofs.pack.run_pack.Given as goal
 -- the bytes of the lines so far are written
 abbrev pub invariant-loop-turn : goal.invariant-loop-turn
 invariant-loop-turn g l = record {
-  reads : min (g.R.Source.reads l.initial.reader + l._turn) (2 ^ 64 - 1) ≤ g.R.Source.reads l.reader;
-  most : g.R.Source.reads l.reader ≤ g.R.Source.reads l.initial.reader + l._turn;
-  failed : g.R.Source.failed_reads l.reader ≡ g.R.Source.failed_reads l.initial.reader;
-  ends : g.R.Source.ends l.reader ≡ g.R.Source.ends l.initial.reader;
-  calm : g.W.Target.failed_writes l.writer ≡ g.W.Target.failed_writes l.initial.writer;
+  reads : min ((g.R.Source.seen l.initial.reader).reads + l._turn) (2 ^ 64 - 1) ≤ (g.R.Source.seen l.reader).reads;
+  most : (g.R.Source.seen l.reader).reads ≤ (g.R.Source.seen l.initial.reader).reads + l._turn;
+  failed : (g.R.Source.seen l.reader).failed ≡ (g.R.Source.seen l.initial.reader).failed;
+  ends : (g.R.Source.seen l.reader).ends ≡ (g.R.Source.seen l.initial.reader).ends;
+  calm : (g.W.Target.seen l.writer).failed ≡ (g.W.Target.seen l.initial.writer).failed;
   empty : l.out.items ≡ [];
-  run : IsRun l.own (g.R.Source.left l.initial.reader) (g.R.Source.left l.reader) (g.W.Target.held l.initial.writer) (g.W.Target.held l.writer) l.line.items
+  run : IsRun l.own (g.R.Source.seen l.initial.reader).left (g.R.Source.seen l.reader).left (g.W.Target.seen l.initial.writer).held (g.W.Target.seen l.writer).held l.line.items
       l.feed;
 }

@@ -3,7 +3,7 @@ use Rattle.std.proofs.lemmas.Bool.{eqb-true}
 use Rattle.std.proofs.lemmas.List.{nil_from_length}
 use Rattle.std.specs.Prelude.{IfOk}
 use Rattle.bt_wire.specs.declared.context.Own.{Own}
-use Rattle.bt_jobs.specs.PackSteps.{IsPackedTo, IsLineEnd, IsHeld}
+use Rattle.bt_jobs.specs.PackSteps.{IsPackedTo, packing, IsLineEnd, IsHeld}
 use Rattle.bt_jobs.proofs.PackPieces.{too_long}
 use Rattle.bt_jobs.proofs.pack.take_ended.Goals as goal
 
@@ -12,7 +12,7 @@ returns-then-is_empty-clause-taken c =
     let none : c.args.line.now.items ≡ [] = subst (λ (l : List ℕ). l ≡ []) c.as_slice.ensures.value
     (nil_from_length c.as_slice.result.now (eqb-true (length c.as_slice.result.now) 0 (sym c.is_empty.ensures ∙ c.if-is_empty.true))) in
     let P : List ℕ → Type 0 = λ l. IfOk c.take_line.result (λ answer. (own : Own) (lines : List (List ℕ)) (b : List ℕ) → c.args.limit ≡ own.limit
-    → IsPackedTo own lines b c.args.feed.now → IsLineEnd own lines b (l ++ c.args.text.now) c.take_line.new.feed c.args.out.now.items
+    → IsPackedTo own lines b c.args.feed.now → IsLineEnd own (packing lines b c.args.out.now.items) (l ++ c.args.text.now) c.take_line.new.feed
     c.take_line.new.out.items answer) in
     subst P (sym none) c.take_line.ensures
 

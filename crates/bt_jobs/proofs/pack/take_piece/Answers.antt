@@ -1,5 +1,5 @@
 use Rattle.std.proofs.Common.{◌++◌, Bool, List, ℕ, Option, refl, sym, subst, arith}
-use Rattle.bt_jobs.specs.PackSteps.{IsLineEnd, IsHeld}
+use Rattle.bt_jobs.specs.PackSteps.{packing, IsLineEnd, IsHeld}
 use Rattle.bt_text.specs.declared.ended.ScriptReason.{ScriptReason}
 use Rattle.bt_jobs.proofs.PackPieces.{IsDone, too_long, nothing_done, all_done, line_done, line_stops, rest_stops}
 use Rattle.bt_jobs.proofs.pack.take_piece.Goals as goal
@@ -29,8 +29,8 @@ pub returns-in-Some-2 : goal.returns-in-Some-2
 returns-in-Some-2 c = λ own text lines b e h.
     let d = c.lines.invariant own text lines b e h in
     let line = c.lines.line.items ++ c.in-Some.front.now in
-    let Q : Option ScriptReason → Type 0 = λ o. IsLineEnd own (lines ++ d.more) (b ++ d.named) line c.take_ended.new.feed c.lines.out.items
-    c.take_ended.new.out.items o in
+    let Q : Option ScriptReason → Type 0 = λ o. IsLineEnd own (packing (lines ++ d.more) (b ++ d.named) c.lines.out.items) line
+    c.take_ended.new.feed c.take_ended.new.out.items o in
     let end = subst Q c.in-Some-2.is (c.in_ok-reason-in-Some.ensures.taken own (lines ++ d.more) (b ++ d.named) e d.read.packed) in
     line_stops own text lines b c.args.piece.now c.lines.rest.now c.lines.line.items c.in-Some.front.now c.in-Some.following.now line
     c.take_ended.new.line.items c.lines.feed c.take_ended.new.feed c.args.out.now.items c.lines.out.items c.take_ended.new.out.items c.in-Some-2.reason d
@@ -40,8 +40,8 @@ pub lines-preserved : goal.lines-preserved
 lines-preserved c = λ own text lines b e h.
     let d = c.lines.invariant own text lines b e h in
     let line = c.lines.line.items ++ c.in-Some.front.now in
-    let Q : Option ScriptReason → Type 0 = λ o. IsLineEnd own (lines ++ d.more) (b ++ d.named) line c.take_ended.new.feed c.lines.out.items
-    c.take_ended.new.out.items o in
+    let Q : Option ScriptReason → Type 0 = λ o. IsLineEnd own (packing (lines ++ d.more) (b ++ d.named) c.lines.out.items) line
+    c.take_ended.new.feed c.take_ended.new.out.items o in
     let none = c.in_default.is in
     let end = subst Q none (c.in_ok-reason-in-Some.ensures.taken own (lines ++ d.more) (b ++ d.named) e d.read.packed) in
     let S : List ℕ → Type 0 = λ l. IsDone own text lines b c.args.piece.now c.in-Some.following.now l c.take_ended.new.feed c.args.out.now.items

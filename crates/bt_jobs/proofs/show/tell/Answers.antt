@@ -1,6 +1,7 @@
 use Rattle.std.proofs.Common.{Option, Ok, refl, subst, ◌∙◌, arith}
 use Rattle.bt_text.specs.declared.ended.Ended.{Ended}
-use Rattle.bt_jobs.specs.Printed.{IsTurn, IsEndOfTurn, form_of}
+use Rattle.bt_io.specs.Seen.{devices}
+use Rattle.bt_jobs.specs.Printed.{so_far, turn_end, IsTurn, IsEndOfTurn, form_of}
 use Rattle.bt_jobs.proofs.Printing.{told_first, told_more, told_end, told_fault, told_so_far, told_unrefused, nothing_unrefused}
 use Rattle.bt_jobs.proofs.show.tell.Goals as goal
 
@@ -17,12 +18,10 @@ loop-turn-init g c = record {
 pub loop-turn-preserved : goal.loop-turn-preserved
 loop-turn-preserved g c =
     let t = c.loop-turn.invariant.told in
-    let P : Option Ended → Type 0 = λ o. IsTurn (form_of c.loop-turn.printer) c.args.own.now t.bytes t.items (g.R.Source.left c.loop-turn.reader)
-    (g.R.Source.left c.turn.new.reader) (g.W.Target.held c.loop-turn.writer) (g.W.Target.held c.turn.new.writer) c.turn.new.feed c.turn.new.printer
-    (Ok o) in
-    let Q : Option Ended → Type 0 = λ o. IsEndOfTurn (Ok o) (g.R.Source.reads c.loop-turn.reader) (g.R.Source.reads c.turn.new.reader)
-    (g.R.Source.failed_reads c.loop-turn.reader) (g.R.Source.failed_reads c.turn.new.reader) (g.R.Source.ends c.loop-turn.reader)
-    (g.R.Source.ends c.turn.new.reader) in
+    let P : Option Ended → Type 0 = λ o. IsTurn (form_of c.loop-turn.printer) c.args.own.now (so_far t.bytes t.items)
+    (devices (g.R.Source.seen c.loop-turn.reader) (g.W.Target.seen c.loop-turn.writer))
+    (turn_end (devices (g.R.Source.seen c.turn.new.reader) (g.W.Target.seen c.turn.new.writer)) c.turn.new.feed c.turn.new.printer) (Ok o) in
+    let Q : Option Ended → Type 0 = λ o. IsEndOfTurn (Ok o) (g.R.Source.seen c.loop-turn.reader) (g.R.Source.seen c.turn.new.reader) in
     let more = subst P c.in-Ok-None.field-0-is (c.in-Ok-None.ensures.told c.args.own.now t.bytes t.items c.requires.limit.1 t.read t.empty) in
     let end = subst Q c.in-Ok-None.field-0-is c.in-Ok-None.ensures.faults in
     record {
@@ -31,35 +30,42 @@ loop-turn-preserved g c =
       failed = end.1 ∙ c.loop-turn.invariant.failed;
       ends = end.2 ∙ c.loop-turn.invariant.ends;
       calm = c.in-Ok-None.ensures.calm ∙ c.loop-turn.invariant.calm;
-      told = told_more _ c.args.own.now _ _ _ _ _ _ c.loop-turn.feed c.turn.new.feed c.loop-turn.printer c.turn.new.printer t more;
+      told = told_more _ c.args.own.now _ _ (devices (g.R.Source.seen c.loop-turn.reader) (g.W.Target.seen c.loop-turn.writer))
+          (devices (g.R.Source.seen c.turn.new.reader) (g.W.Target.seen c.turn.new.writer)) c.loop-turn.feed c.turn.new.feed c.loop-turn.printer c.turn.new.printer t more;
     }
 
 pub returns-in-Ok-Some-clause-told : goal.returns-in-Ok-Some-clause-told
 returns-in-Ok-Some-clause-told g c =
     let t = c.loop-turn.invariant.told in
-    let P : Option Ended → Type 0 = λ o. IsTurn (form_of c.loop-turn.printer) c.args.own.now t.bytes t.items (g.R.Source.left c.loop-turn.reader)
-    (g.R.Source.left c.turn.new.reader) (g.W.Target.held c.loop-turn.writer) (g.W.Target.held c.turn.new.writer) c.turn.new.feed c.turn.new.printer
-    (Ok o) in
+    let P : Option Ended → Type 0 = λ o. IsTurn (form_of c.loop-turn.printer) c.args.own.now (so_far t.bytes t.items)
+    (devices (g.R.Source.seen c.loop-turn.reader) (g.W.Target.seen c.loop-turn.writer))
+    (turn_end (devices (g.R.Source.seen c.turn.new.reader) (g.W.Target.seen c.turn.new.writer)) c.turn.new.feed c.turn.new.printer) (Ok o) in
     let end = subst P c.in-Ok-Some.field-0-is (c.in-Ok-Some.ensures.told c.args.own.now t.bytes t.items c.requires.limit.1 t.read t.empty) in
-    (told_end _ c.args.own.now _ _ _ _ _ _ c.loop-turn.feed c.turn.new.feed c.loop-turn.printer c.turn.new.printer c.in-Ok-Some.ended t end).0
+    (told_end _ c.args.own.now _ _ (devices (g.R.Source.seen c.loop-turn.reader) (g.W.Target.seen c.loop-turn.writer))
+    (devices (g.R.Source.seen c.turn.new.reader) (g.W.Target.seen c.turn.new.writer)) c.loop-turn.feed c.turn.new.feed c.loop-turn.printer c.turn.new.printer c.in-Ok-Some.ended t end).0
 
 pub returns-in-Ok-Some-clause-empty : goal.returns-in-Ok-Some-clause-empty
 returns-in-Ok-Some-clause-empty g c =
     let t = c.loop-turn.invariant.told in
-    let P : Option Ended → Type 0 = λ o. IsTurn (form_of c.loop-turn.printer) c.args.own.now t.bytes t.items (g.R.Source.left c.loop-turn.reader)
-    (g.R.Source.left c.turn.new.reader) (g.W.Target.held c.loop-turn.writer) (g.W.Target.held c.turn.new.writer) c.turn.new.feed c.turn.new.printer
-    (Ok o) in
+    let P : Option Ended → Type 0 = λ o. IsTurn (form_of c.loop-turn.printer) c.args.own.now (so_far t.bytes t.items)
+    (devices (g.R.Source.seen c.loop-turn.reader) (g.W.Target.seen c.loop-turn.writer))
+    (turn_end (devices (g.R.Source.seen c.turn.new.reader) (g.W.Target.seen c.turn.new.writer)) c.turn.new.feed c.turn.new.printer) (Ok o) in
     let end = subst P c.in-Ok-Some.field-0-is (c.in-Ok-Some.ensures.told c.args.own.now t.bytes t.items c.requires.limit.1 t.read t.empty) in
-    (told_end _ c.args.own.now _ _ _ _ _ _ c.loop-turn.feed c.turn.new.feed c.loop-turn.printer c.turn.new.printer c.in-Ok-Some.ended t end).1
+    (told_end _ c.args.own.now _ _ (devices (g.R.Source.seen c.loop-turn.reader) (g.W.Target.seen c.loop-turn.writer))
+    (devices (g.R.Source.seen c.turn.new.reader) (g.W.Target.seen c.turn.new.writer)) c.loop-turn.feed c.turn.new.feed c.loop-turn.printer c.turn.new.printer c.in-Ok-Some.ended t end).1
 
 pub returns-in-Err-clause-told : goal.returns-in-Err-clause-told
 returns-in-Err-clause-told g c =
     let t = c.loop-turn.invariant.told in
-    told_fault _ _ c.args.own.now _ _ _ _ _ _ c.loop-turn.feed c.turn.new.feed c.loop-turn.printer c.turn.new.printer c.in-Err.fault t
+    told_fault _ c.args.own.now (devices (g.R.Source.seen c.args.reader.now) (g.W.Target.seen c.args.writer.now))
+    (devices (g.R.Source.seen c.loop-turn.reader) (g.W.Target.seen c.loop-turn.writer))
+    (devices (g.R.Source.seen c.turn.new.reader) (g.W.Target.seen c.turn.new.writer)) c.loop-turn.feed c.turn.new.feed c.loop-turn.printer
+    c.turn.new.printer c.in-Err.fault t
     (c.in-Err.ensures.told c.args.own.now t.bytes t.items c.requires.limit.1 t.read t.empty)
 
 pub returns-clause-told : goal.returns-clause-told
-returns-clause-told g c = told_so_far _ _ c.args.own.now _ _ _ _ c.loop-turn.feed c.loop-turn.printer c.requires.limit.1 c.one_verdict.ensures.one
+returns-clause-told g c = told_so_far _ c.args.own.now (devices (g.R.Source.seen c.args.reader.now) (g.W.Target.seen c.args.writer.now))
+    (devices (g.R.Source.seen c.loop-turn.reader) (g.W.Target.seen c.loop-turn.writer)) c.loop-turn.feed c.loop-turn.printer c.requires.limit.1 c.one_verdict.ensures.one
     c.loop-turn.invariant.told
 
 pub returns-clause-faults : goal.returns-clause-faults
