@@ -1,9 +1,10 @@
 -- What is so of every end.
-use Rattle.std.specs.Prelude.{◌≡◌, ℕ, ◌+◌, ◌≤◌, ◌<◌, List, length, take, Option, ⊤}
+use Rattle.std.specs.Prelude.{◌≡◌, ℕ, ◌+◌, ◌≤◌, ◌<◌, List, length, take, ⊤}
 use Rattle.bt_metadata.specs.Blocks.{max_metadata}
 use Rattle.bt_metadata.specs.Assemblies.{AssemblyState}
 use Rattle.bt_metadata.specs.Sound.{IsAssembly}
 use Rattle.std.specs.Io.KnownBytes.{Appends}
+use Rattle.bt_io.specs.Seen.{TargetSeen}
 use Rattle.sha1.specs.Sha1.{sha1}
 use Rattle.bt_metadata.specs.Sound.{IsAssembly}
 use Rattle.bt_end.specs.Ends.{Part, Fetching, Fetched}
@@ -37,7 +38,7 @@ pub record IsEnd (a : HalfState) : Type 0 where
   pub part : IsPartOf a.end.handshake.info_hash a.end.part
 
 -- the target took the first n bytes and no others, and just these are gone
-pub record Sends (old new : HalfState) (before after : Option (List ℕ)) (n : ℕ) : Type 0 where
+pub record Sends (old new : HalfState) (before after : TargetSeen) (n : ℕ) : Type 0 where
   pub within : n ≤ length old.outbox
-  pub sent : Appends before after (take n old.outbox)
+  pub sent : Appends before.held after.held (take n old.outbox)
   pub left : new ≡ without_sent n old

@@ -107,7 +107,7 @@ ghost use Rattle.std.specs.Prelude.{◌≡◌, ◌+◌, ◌<◌, ◌≤◌, ◌&
 ghost use Rattle.sha1.specs.Sha1.{sha1};
 ghost use Rattle.bt_feed.specs.Feeds.{taken, waiting};
 ghost use Rattle.bt_feed.specs.Progress.{IsFeed};
-ghost use Rattle.bt_io.specs.Counts.{Grew};
+ghost use Rattle.bt_io.specs.Seen.{WriteFailed};
 ghost use Rattle.bt_metadata.specs.Blocks.{max_metadata};
 ghost use Rattle.bt_wire.specs.Handshakes.{hand};
 ghost use Rattle.bt_end.specs.Ends.{belief, metadata_of, unopened, renewed, progress_of, is_hopeless, fetched_block};
@@ -256,11 +256,11 @@ impl<A: Allocator + Copy> End<A> {
     /// Writes at most `max` of them, from the front, and drops those that were taken, also at a fault.
     pub fn drain<W: Target>(&mut self, writer: &mut W, max: usize) -> Result<usize, WriteFault>
         ensures count { IfOk result (λ n. n ≡ min max (length self.old.outbox)) }
-        ensures sends { IfOk result (λ n. Sends self.old self.new (W.held writer.old) (W.held writer.new) n) }
+        ensures sends { IfOk result (λ n. Sends self.old self.new (W.seen writer.old) (W.seen writer.new) n) }
         ensures stops { OnErr result ((n : ℕ) × (n < min max (length self.old.outbox))
-            × Sends self.old self.new (W.held writer.old) (W.held writer.new) n) }
-        ensures failed { OnErr result (Grew (W.failed_writes writer.old) (W.failed_writes writer.new)) }
-        ensures whole { OnOk result (W.failed_writes writer.new ≡ W.failed_writes writer.old) }
+            × Sends self.old self.new (W.seen writer.old) (W.seen writer.new) n) }
+        ensures failed { OnErr result (WriteFailed (W.seen writer.old) (W.seen writer.new)) }
+        ensures whole { OnOk result ((W.seen writer.new).failed ≡ (W.seen writer.old).failed) }
     {
         self.reactor.outbox.drain(writer, max)
     }
