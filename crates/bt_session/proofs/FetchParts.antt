@@ -1,14 +1,22 @@
 -- The part of an end that fetches from one that serves: which blocks it has asked for, as they are asked for, and as they come.
 use Rattle.std.proofs.Common.{◌≡◌, ℕ, zero, suc, ◌+◌, ◌<◌, ◌≤◌, ◌⊎◌, inl, inr, Bool, true, false, cond, if◌then◌else◌, List, [], ◌∷◌, ◌++◌, length, set}
-use Rattle.std.proofs.Common.{count_by, fold, replicate, position, Option, Some, None, slice_get, refl, sym, ap, subst, ◌∙◌, arith}
+use Rattle.std.proofs.Common.{count_by, replicate, position, Option, Some, None, slice_get, refl, sym, ap, subst, ◌∙◌, arith, leb, ltb, ◌&&◌}
+use Rattle.std.proofs.lemmas.Bool.{lt-ltb, le-leb, and_from, both_ways}
+use Rattle.std.proofs.lemmas.Grind.{common_steps}
+use Rattle.std.proofs.lemmas.List.Folds.{sum_by-replicate}
+use Rattle.std.specs.List.{list_all, position_or_len}
+use Rattle.std.proofs.lemmas.List.{length-set, set_comm}
+use Rattle.std.proofs.lemmas.List.Sums.{sum_by-set, sum_by-cons}
+use Rattle.std.proofs.lemmas.Option.{slice_get_within, get_or_from_slice_get}
 use Rattle.sha1.specs.Sha1.{sha1}
 use Rattle.bt_ext.specs.Metadata.{block_count}
 use Rattle.bt_metadata.specs.Assemblies.{Slot, Lacking, Asked, Rejected, Held, AssemblyState, is_asked, is_lacking, is_held, started, is_whole}
-use Rattle.bt_metadata.specs.Blocks.{block, window}
+use Rattle.bt_metadata.specs.Blocks.{block, window, max_metadata}
 use Rattle.bt_end.specs.Ends.{Part, Watching, Serving, Awaiting, Fetching, Fetched, wanted, with_asked, all_wanted, with_all_asked, assembly_of, begun}
 use Rattle.bt_end.specs.Ends.{with_block, brings_mismatch}
 use Rattle.bt_session.specs.LinkLaws.{IsMetadata}
 use Rattle.bt_session.proofs.LinkInvariant.{IsFetch}
+use Rattle.bt_session.proofs.AssemblyLaws.{slot_count, started_fetch}
 
 -- ---- what is asked
 
@@ -51,12 +59,132 @@ pub record AsksAll (metadata : List ℕ) (w : ℕ) (p : Part) (asked ks : List �
   pub below : AreBelow (block_count (length metadata)) ks
   pub lacks : lacking p ≡ length ks + lacking (with_all_asked ks p)
 
+-- ---- one slot is set
+
+-- how many pass a test
+set_counts : (test : Slot → Bool) (ss : List Slot) (k : ℕ) (x y : Slot) → slice_get ss k ≡ Some x → count_by test (set ss k y) + cond (test x) 1 0
+    ≡ count_by test ss + cond (test y) 1 0
+set_counts test ss k x y h =
+    ap (λ (z : Slot). count_by test (set ss k y) + cond (test z) 1 0) (sym (get_or_from_slice_get ss k x x h))
+    ∙ sum_by-set (λ z. cond (test z) 1 0) ss k y x (slice_get_within ss k x h)
+
+set_here : (ss : List Slot) (k : ℕ) (x y : Slot) → slice_get ss k ≡ Some x → slice_get (set ss k y) k ≡ Some y
+set_here [] k x y h = absurd cc
+set_here (s ∷ ss) zero x y h = refl
+set_here (s ∷ ss) (suc k) x y h = set_here ss k x y h
+
+-- another slot stays
+set_there : (ss : List Slot) (k j : ℕ) (y : Slot) → (k ≡ j → ⊥) → slice_get (set ss k y) j ≡ slice_get ss j
+set_there [] k j y apart = refl
+set_there (s ∷ ss) zero zero y apart = absurd (apart refl)
+set_there (s ∷ ss) zero (suc j) y apart = refl
+set_there (s ∷ ss) (suc k) zero y apart = refl
+set_there (s ∷ ss) (suc k) (suc j) y apart = set_there ss k j y (λ e. apart (ap suc e))
+
+still_unrejected : (ss : List Slot) (k j : ℕ) (y : Slot) → (y ≡ Rejected → ⊥) → slice_get (set ss k y) j ≡ Some Rejected → slice_get ss j ≡ Some Rejected
+still_unrejected [] k j y not h = h
+still_unrejected (s ∷ ss) zero zero y not h = absurd (not cc)
+still_unrejected (s ∷ ss) zero (suc j) y not h = h
+still_unrejected (s ∷ ss) (suc k) zero y not h = h
+still_unrejected (s ∷ ss) (suc k) (suc j) y not h = still_unrejected ss k j y not h
+
+-- ---- the slots that are asked
+
+-- an asked slot and a lacking one are two
+are_two : (ss : List Slot) (k j : ℕ) → slice_get ss k ≡ Some Asked → slice_get ss j ≡ Some Lacking → k ≡ j → ⊥
+are_two ss k j h g e = absurd cc
+
+asked_count : (ss : List Slot) (asked : List ℕ) → IsAskedBy ss asked → count_by is_asked ss ≡ length asked
+asked_count ss [] f = f
+asked_count ss (k ∷ ks) f = omega (arith, set_counts is_asked ss k Asked (Held []) f.0, asked_count (set ss k (Held [])) ks (f.1 []))
+
+-- one more is asked
+one_more_asked : (ss : List Slot) (asked : List ℕ) (k : ℕ) → slice_get ss k ≡ Some Lacking → IsAskedBy ss asked → IsAskedBy (set ss k Asked) (asked ++ k ∷ [])
+one_more_asked ss [] k lacks f = (
+  set_here ss k Lacking Asked lacks,
+  λ b. omega (
+    arith,
+    f,
+    set_counts is_asked ss k Lacking Asked lacks,
+    set_counts is_asked (set ss k Asked) k Asked (Held b) (set_here ss k Lacking Asked lacks),
+  ),
+)
+one_more_asked ss (j ∷ js) k lacks f =
+    let two : j ≡ k → ⊥ = are_two ss j k f.0 lacks in (
+      set_there ss k j Asked (λ e. two (sym e)) ∙ f.0,
+      λ b. subst (λ (x : List Slot). IsAskedBy x (js ++ k ∷ [])) (set_comm ss j k (Held b) Asked two)
+          (one_more_asked (set ss j (Held b)) js k (set_there ss j k (Held b) two ∙ lacks) (f.1 b)),
+    )
+
+all_below : (n : ℕ) (ss : List Slot) (asked : List ℕ) → length ss ≡ n → IsAskedBy ss asked → AreBelow n asked
+all_below n ss [] e f = tt
+all_below n ss (k ∷ ks) e f = (
+  omega (arith, e, slice_get_within ss k Asked f.0),
+  all_below n (set ss k (Held [])) ks (length-set ss k (Held []) ∙ e) (f.1 []),
+)
+
+-- ---- each slot is held
+
+whole_asks_none : (ss : List Slot) (k : ℕ) → list_all is_held ss ≡ true → slice_get ss k ≡ Some Asked → ⊥
+whole_asks_none [] k all h = cc
+whole_asks_none (Held b ∷ ss) zero all h = cc
+whole_asks_none (Held b ∷ ss) (suc k) all h = whole_asks_none ss k all h
+whole_asks_none (Lacking ∷ ss) k all h = absurd cc
+whole_asks_none (Asked ∷ ss) k all h = absurd cc
+whole_asks_none (Rejected ∷ ss) k all h = absurd cc
+
+whole_lacks_none : (ss : List Slot) → list_all is_held ss ≡ true → count_by is_lacking ss ≡ 0
+whole_lacks_none [] all = refl
+whole_lacks_none (Held b ∷ ss) all = omega (arith, sum_by-cons (λ x. cond (is_lacking x) 1 0) (Held b) ss, whole_lacks_none ss all)
+whole_lacks_none (Lacking ∷ ss) all = absurd cc
+whole_lacks_none (Asked ∷ ss) all = absurd cc
+whole_lacks_none (Rejected ∷ ss) all = absurd cc
+
+-- where none lacks, is asked or is rejected
+all_held : (ss : List Slot) → ((k : ℕ) → slice_get ss k ≡ Some Rejected → ⊥) → count_by is_asked ss ≡ 0 → length ss ≤ position_or_len is_lacking ss
+    → list_all is_held ss ≡ true
+all_held [] unrejected none past = refl
+all_held (Held b ∷ ss) unrejected none past =
+    all_held ss (λ k h. unrejected (suc k) h) (omega (arith, none, sum_by-cons (λ x. cond (is_asked x) 1 0) (Held b) ss)) (omega (arith, past))
+all_held (Lacking ∷ ss) unrejected none past = absurd (omega (arith, past))
+all_held (Asked ∷ ss) unrejected none past = absurd (omega (arith, none, sum_by-cons (λ x. cond (is_asked x) 1 0) Asked ss))
+all_held (Rejected ∷ ss) unrejected none past = absurd (unrejected 0 refl)
+
 -- ---- the start
+
+no_slot_rejected : (n k : ℕ) → slice_get (replicate n Lacking) k ≡ Some Rejected → ⊥
+no_slot_rejected zero k h = cc
+no_slot_rejected (suc n) zero h = cc
+no_slot_rejected (suc n) (suc k) h = no_slot_rejected n k h
+
+not_all_held : (n : ℕ) → 0 < n → list_all is_held (replicate n Lacking) ≡ false
+not_all_held zero h = absurd (omega (arith, h))
+not_all_held (suc n) h = refl
+
+begins_by : (metadata hash : List ℕ) → IsMetadata metadata → sha1 metadata ≡ hash → (room : Bool) → room ≡ true
+    → IsFetchOf metadata (begun (if room then Some (started hash (length metadata)) else None) Awaiting) []
+    × (lacking (begun (if room then Some (started hash (length metadata)) else None) Awaiting) ≡ block_count (length metadata))
+begins_by metadata hash h e true is =
+    let n : ℕ = block_count (length metadata) in (
+      record {
+        is = started_fetch metadata hash (length metadata) h refl;
+        hash = sym e;
+        unrejected = λ k got. no_slot_rejected n k got;
+        asks = omega (arith, sum_by-replicate (λ x. cond (is_asked x) 1 0) n Lacking);
+        lacks = not_all_held n (omega (arith, h.least));
+      },
+      omega (arith, sum_by-replicate (λ x. cond (is_lacking x) 1 0) n Lacking),
+    )
+begins_by metadata hash h e false is = absurd cc
 
 pub fetch_begins : (metadata hash : List ℕ) → IsMetadata metadata → sha1 metadata ≡ hash
     → IsFetchOf metadata (begun (assembly_of hash Awaiting (Some (length metadata))) Awaiting) []
     × (lacking (begun (assembly_of hash Awaiting (Some (length metadata))) Awaiting) ≡ block_count (length metadata))
-fetch_begins metadata hash h e = ?
+fetch_begins metadata hash h e =
+    let least : ltb 0 (length metadata) ≡ true = lt-ltb 0 (length metadata) h.least in
+    let most : leb (length metadata) max_metadata ≡ true = le-leb (length metadata) max_metadata h.most in
+    begins_by metadata hash h e (ltb 0 (length metadata) && leb (length metadata) max_metadata)
+    (and_from (ltb 0 (length metadata)) (leb (length metadata) max_metadata) least most)
 
 -- ---- blocks that are asked for
 
@@ -66,7 +194,11 @@ fetch_asks metadata w p asked most f few = ?
 
 -- blocks that were asked for are blocks of the metadata
 pub fetch_below : (metadata : List ℕ) (p : Part) (asked : List ℕ) → IsFetchOf metadata p asked → AreBelow (block_count (length metadata)) asked
-fetch_below metadata p asked f = ?
+fetch_below metadata (Fetching s) asked f = all_below (block_count (length metadata)) s.slots asked (slot_count metadata s f.is) f.asks
+fetch_below metadata (Fetched all) asked f = subst (λ (ks : List ℕ). AreBelow (block_count (length metadata)) ks) (sym f.1) tt
+fetch_below metadata Watching asked f = absurd f
+fetch_below metadata (Serving other) asked f = absurd f
+fetch_below metadata Awaiting asked f = absurd f
 
 -- ---- a block that comes
 
@@ -78,6 +210,22 @@ fetch_takes metadata p k ks f = ?
 
 -- ---- the end
 
+none_by : (few fewer : Bool) (o : Option ℕ) → few ≡ true → fewer ≡ true → (if few then (if fewer then o else None) else None) ≡ None → o ≡ None
+none_by true true o few fewer e = e
+none_by true false o few fewer e = absurd cc
+none_by false fewer o few same e = absurd cc
+
+past_all : (ss : List Slot) → position is_lacking ss ≡ None → length ss ≤ position_or_len is_lacking ss
+past_all ss e = grind (arith, common_steps)
+
 -- where no block is under way and none is wanted, the metadata is there
 pub fetch_ends : (metadata : List ℕ) (w : ℕ) (p : Part) → 1 ≤ w → IsFetchOf metadata p [] → wanted w p ≡ None → p ≡ Fetched metadata
-fetch_ends metadata w p least f none = ?
+fetch_ends metadata w (Fetched all) least f none = ap Fetched f.0
+fetch_ends metadata w (Fetching s) least f none =
+    let n : ℕ = count_by is_asked s.slots in
+    let lacks : position is_lacking s.slots ≡ None =
+    none_by (ltb n w) (ltb n window) (position is_lacking s.slots) (lt-ltb n w (omega (arith, f.asks))) (lt-ltb n window (omega (arith, f.asks))) none in
+    absurd (both_ways (is_whole s) f.lacks (all_held s.slots f.unrejected f.asks (past_all s.slots lacks)))
+fetch_ends metadata w Watching least f none = absurd f
+fetch_ends metadata w (Serving other) least f none = absurd f
+fetch_ends metadata w Awaiting least f none = absurd f
