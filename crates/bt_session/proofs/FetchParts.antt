@@ -1,6 +1,8 @@
 -- The part of an end that fetches from one that serves: which blocks it has asked for, as they are asked for, and as they come.
 use Rattle.std.proofs.Common.{◌≡◌, ℕ, zero, suc, ◌+◌, ◌<◌, ◌≤◌, ◌⊎◌, inl, inr, Bool, true, false, cond, if◌then◌else◌, List, [], ◌∷◌, ◌++◌, length, set}
-use Rattle.std.proofs.Common.{count_by, replicate, position, Option, Some, None, slice_get, refl, sym, ap, subst, ◌∙◌, arith, leb, ltb, ◌&&◌}
+use Rattle.std.proofs.Common.{count_by, replicate, position, Option, Some, None, slice_get, refl, sym, ap, subst, ◌∙◌, arith, leb, ltb, ◌&&◌, not, Bor}
+use Rattle.std.specs.Str.{bytes_eq}
+use Rattle.std.proofs.lemmas.Slice.Eq.{bytes_eq-Decides}
 use Rattle.std.proofs.lemmas.Bool.{lt-ltb, le-leb, and_from, both_ways}
 use Rattle.std.proofs.lemmas.Grind.{common_steps}
 use Rattle.std.proofs.lemmas.List.Folds.{sum_by-replicate}
@@ -11,12 +13,15 @@ use Rattle.std.proofs.lemmas.Option.{slice_get_within, get_or_from_slice_get}
 use Rattle.sha1.specs.Sha1.{sha1}
 use Rattle.bt_ext.specs.Metadata.{block_count}
 use Rattle.bt_metadata.specs.Assemblies.{Slot, Lacking, Asked, Rejected, Held, AssemblyState, is_asked, is_lacking, is_held, started, is_whole}
+use Rattle.bt_metadata.specs.Assemblies.{is_asked_in, with_slots, with_data, unless_wrong, joined, emptied}
+use Rattle.bt_metadata.specs.declared.assembly.BlockError.{BlockError}
 use Rattle.bt_metadata.specs.Blocks.{block, window, max_metadata}
 use Rattle.bt_end.specs.Ends.{Part, Watching, Serving, Awaiting, Fetching, Fetched, wanted, with_asked, all_wanted, with_all_asked, assembly_of, begun}
-use Rattle.bt_end.specs.Ends.{with_block, brings_mismatch}
+use Rattle.bt_end.specs.Ends.{with_block, brings_mismatch, concluded, is_mismatch}
 use Rattle.bt_session.specs.LinkLaws.{IsMetadata}
 use Rattle.bt_session.proofs.LinkInvariant.{IsFetch}
-use Rattle.bt_session.proofs.AssemblyLaws.{slot_count, started_fetch}
+use Rattle.bt_session.proofs.AssemblyLaws.{slot_count, started_fetch, data_fetch}
+use Rattle.bt_metadata.proofs.LawProofs.{whole_is_served, served_is_taken}
 
 -- ---- what is asked
 
@@ -202,11 +207,68 @@ fetch_below metadata Awaiting asked f = absurd f
 
 -- ---- a block that comes
 
+-- the slots with this block
+abbrev holding : List ℕ → ℕ → AssemblyState → AssemblyState
+holding metadata k s = with_slots s (set s.slots k (Held (block metadata k)))
+
+is_taken : (metadata : List ℕ) (s : AssemblyState) (k : ℕ) → IsFetch metadata s → k < block_count (length metadata) → slice_get s.slots k ≡ Some Asked
+    → with_data s k (length metadata) (block metadata k) ≡ holding metadata k s
+is_taken metadata s k f lt asks =
+    let b : Bor (List ℕ) = record { ref_ptr = (0, 0); now = block metadata k } in
+    ap (λ (o : Option BlockError). unless_wrong o (holding metadata k s) s)
+    (served_is_taken metadata s k (length metadata) b f.is f.size (lt, refl, refl) (ap is_asked_in asks))
+
+taken_fetch : (metadata : List ℕ) (s : AssemblyState) (k : ℕ) → IsFetch metadata s → k < block_count (length metadata) → slice_get s.slots k ≡ Some Asked
+    → IsFetch metadata (holding metadata k s)
+taken_fetch metadata s k f lt asks = subst (λ (n : AssemblyState). IsFetch metadata n) (is_taken metadata s k f lt asks) (data_fetch metadata s k f lt)
+
+none_follows : (ss : List Slot) (ks : List ℕ) → list_all is_held ss ≡ true → IsAskedBy ss ks → ks ≡ []
+none_follows ss [] all f = refl
+none_follows ss (k ∷ ks) all f = absurd (whole_asks_none ss k all f.0)
+
+itself : (x y z : List ℕ) → x ≡ y → z ≡ sha1 y → bytes_eq (sha1 x) z ≡ true
+itself x y z same hash = (bytes_eq-Decides (sha1 x) z).1 (ap sha1 same ∙ sym hash)
+
+-- an assembly with one more block, by whether each is held now, and whether they are those of the info hash
+takes_by : (metadata : List ℕ) (n : AssemblyState) (ks : List ℕ) (lacks : ℕ) → IsFetch metadata n → n.info_hash ≡ sha1 metadata
+    → ((k : ℕ) → slice_get n.slots k ≡ Some Rejected → ⊥) → IsAskedBy n.slots ks → count_by is_lacking n.slots ≡ lacks → (whole right : Bool)
+    → is_whole n ≡ whole → bytes_eq (sha1 (joined n.slots)) n.info_hash ≡ right
+    → IsFetchOf metadata (if whole then (if right then Fetched (joined n.slots) else Fetching (emptied n)) else Fetching n) ks
+    × (lacking (if whole then (if right then Fetched (joined n.slots) else Fetching (emptied n)) else Fetching n) ≡ lacks)
+    × ((whole && not right) ≡ false)
+takes_by metadata n ks lacks f hash unrejected asks count true true all same =
+    ((whole_is_served metadata n f.is f.size f.holds all, none_follows n.slots ks all asks), sym (whole_lacks_none n.slots all) ∙ count, refl)
+takes_by metadata n ks lacks f hash unrejected asks count true false all same =
+    absurd (both_ways (bytes_eq (sha1 (joined n.slots)) n.info_hash) same
+    (itself (joined n.slots) metadata n.info_hash (whole_is_served metadata n f.is f.size f.holds all) hash))
+takes_by metadata n ks lacks f hash unrejected asks count false right all same =
+    (record { is = f; hash = hash; unrejected = unrejected; asks = asks; lacks = all }, count, refl)
+
+taken_lacks : (ss : List Slot) (k : ℕ) (b : List ℕ) → slice_get ss k ≡ Some Asked → count_by is_lacking (set ss k (Held b)) ≡ count_by is_lacking ss
+taken_lacks ss k b h = omega (arith, set_counts is_lacking ss k Asked (Held b) h)
+
+-- what with_block and brings_mismatch make of an assembly
+takes_with : (metadata : List ℕ) (n : AssemblyState) (ks : List ℕ) (lacks : ℕ) → IsFetch metadata n → n.info_hash ≡ sha1 metadata
+    → ((k : ℕ) → slice_get n.slots k ≡ Some Rejected → ⊥) → IsAskedBy n.slots ks → count_by is_lacking n.slots ≡ lacks
+    → IsFetchOf metadata (concluded n) ks × (lacking (concluded n) ≡ lacks) × (is_mismatch n ≡ false)
+takes_with metadata n ks lacks f hash unrejected asks count =
+    takes_by metadata n ks lacks f hash unrejected asks count (is_whole n) (bytes_eq (sha1 (joined n.slots)) n.info_hash) refl refl
+
 pub fetch_takes : (metadata : List ℕ) (p : Part) (k : ℕ) (ks : List ℕ) → IsFetchOf metadata p (k ∷ ks)
     → IsFetchOf metadata (with_block k (length metadata) (block metadata k) p) ks
     × (lacking (with_block k (length metadata) (block metadata k) p) ≡ lacking p)
     × (brings_mismatch k (length metadata) (block metadata k) p ≡ false)
-fetch_takes metadata p k ks f = ?
+fetch_takes metadata (Fetching s) k ks f =
+    let lt : k < block_count (length metadata) = omega (arith, slice_get_within s.slots k Asked f.asks.0, slot_count metadata s f.is) in
+    subst (λ (n : AssemblyState). IsFetchOf metadata (concluded n) ks × (lacking (concluded n) ≡ count_by is_lacking s.slots) × (is_mismatch n ≡ false))
+    (sym (is_taken metadata s k f.is lt f.asks.0))
+    (takes_with metadata (holding metadata k s) ks (count_by is_lacking s.slots) (taken_fetch metadata s k f.is lt f.asks.0) f.hash
+    (λ j got. f.unrejected j (still_unrejected s.slots k j (Held (block metadata k)) (λ e. cc) got)) (f.asks.1 (block metadata k))
+    (taken_lacks s.slots k (block metadata k) f.asks.0))
+fetch_takes metadata (Fetched all) k ks f = absurd cc
+fetch_takes metadata Watching k ks f = absurd f
+fetch_takes metadata (Serving other) k ks f = absurd f
+fetch_takes metadata Awaiting k ks f = absurd f
 
 -- ---- the end
 
