@@ -1,26 +1,28 @@
 -- The part of an end that fetches from one that serves: which blocks it has asked for, as they are asked for, and as they come.
-use Rattle.std.proofs.Common.{◌≡◌, ℕ, zero, suc, ◌+◌, ◌<◌, ◌≤◌, ◌⊎◌, inl, inr, Bool, true, false, cond, if◌then◌else◌, List, [], ◌∷◌, ◌++◌, length, set}
-use Rattle.std.proofs.Common.{count_by, replicate, position, Option, Some, None, slice_get, refl, sym, ap, subst, ◌∙◌, arith, leb, ltb, ◌&&◌, not, Bor}
+use Rattle.std.proofs.Common.{◌≡◌, ℕ, zero, suc, ◌+◌, ◌<◌, ◌≤◌, Bool, true, false, cond, if◌then◌else◌, List, [], ◌∷◌, ◌++◌, length, set}
+use Rattle.std.proofs.Common.{count_by, replicate, position, Option, Some, None, slice_get, refl, sym, ap, subst, ◌∙◌, arith, leb, ltb, ◌&&◌, not, Bor, get_or, append_assoc}
 use Rattle.std.specs.Str.{bytes_eq}
 use Rattle.std.proofs.lemmas.Slice.Eq.{bytes_eq-Decides}
-use Rattle.std.proofs.lemmas.Bool.{lt-ltb, le-leb, and_from, both_ways}
+use Rattle.std.proofs.lemmas.Bool.{lt-ltb, le-ltb, le-leb, ltb-true, and_from, both_ways, false_from_ne_true}
+use Rattle.std.proofs.lemmas.List.Quantifiers.{position-Some}
+use Rattle.std.specs.Prelude.{unwrap_or, option_map}
 use Rattle.std.proofs.lemmas.Grind.{common_steps}
 use Rattle.std.proofs.lemmas.List.Folds.{sum_by-replicate}
 use Rattle.std.specs.List.{list_all, position_or_len}
-use Rattle.std.proofs.lemmas.List.{length-set, set_comm}
+use Rattle.std.proofs.lemmas.List.{length-set, set_comm, append-nil, length-append}
 use Rattle.std.proofs.lemmas.List.Sums.{sum_by-set, sum_by-cons}
-use Rattle.std.proofs.lemmas.Option.{slice_get_within, get_or_from_slice_get}
+use Rattle.std.proofs.lemmas.Option.{slice_get_within, slice_get-get_or, get_or_from_slice_get}
 use Rattle.sha1.specs.Sha1.{sha1}
 use Rattle.bt_ext.specs.Metadata.{block_count}
 use Rattle.bt_metadata.specs.Assemblies.{Slot, Lacking, Asked, Rejected, Held, AssemblyState, is_asked, is_lacking, is_held, started, is_whole}
-use Rattle.bt_metadata.specs.Assemblies.{is_asked_in, with_slots, with_data, unless_wrong, joined, emptied}
+use Rattle.bt_metadata.specs.Assemblies.{is_asked_in, with_slots, with_data, unless_wrong, joined, emptied, ask_of}
 use Rattle.bt_metadata.specs.declared.assembly.BlockError.{BlockError}
 use Rattle.bt_metadata.specs.Blocks.{block, window, max_metadata}
 use Rattle.bt_end.specs.Ends.{Part, Watching, Serving, Awaiting, Fetching, Fetched, wanted, with_asked, all_wanted, with_all_asked, assembly_of, begun}
 use Rattle.bt_end.specs.Ends.{with_block, brings_mismatch, concluded, is_mismatch}
 use Rattle.bt_session.specs.LinkLaws.{IsMetadata}
 use Rattle.bt_session.proofs.LinkInvariant.{IsFetch}
-use Rattle.bt_session.proofs.AssemblyLaws.{slot_count, started_fetch, data_fetch}
+use Rattle.bt_session.proofs.AssemblyLaws.{slot_count, started_fetch, data_fetch, asked_fetch}
 use Rattle.bt_metadata.proofs.LawProofs.{whole_is_served, served_is_taken}
 
 -- ---- what is asked
@@ -193,9 +195,105 @@ fetch_begins metadata hash h e =
 
 -- ---- blocks that are asked for
 
+is_lacking_slot : (x : Slot) → is_lacking x ≡ true → x ≡ Lacking
+is_lacking_slot Lacking e = refl
+is_lacking_slot Asked e = absurd cc
+is_lacking_slot Rejected e = absurd cc
+is_lacking_slot (Held b) e = absurd cc
+
+-- the block that is wanted is one that lacks
+first_lacking : (ss : List Slot) (k : ℕ) → position is_lacking ss ≡ Some k → slice_get ss k ≡ Some Lacking
+first_lacking ss k e =
+    let p = position-Some is_lacking ss k Lacking e in
+    slice_get-get_or ss k Lacking p.0 ∙ ap Some (is_lacking_slot (get_or ss k Lacking) p.1)
+
+wanted_by : (few : Bool) (o : Option ℕ) (k : ℕ) → (if few then o else None) ≡ Some k → (few ≡ true) × (o ≡ Some k)
+wanted_by true o k e = (refl, e)
+wanted_by false o k e = absurd cc
+
+-- a part with one more block asked for
+record AsksOne (metadata : List ℕ) (w k : ℕ) (p : Part) (asked : List ℕ) : Type 0 where
+  pub is : IsFetchOf metadata (with_asked (Some k) p) (asked ++ k ∷ [])
+  pub few : length asked < w
+  pub below : k < block_count (length metadata)
+  pub lacks : lacking p ≡ 1 + lacking (with_asked (Some k) p)
+
+asks_one : (metadata : List ℕ) (w k : ℕ) (p : Part) (asked : List ℕ) → IsFetchOf metadata p asked → wanted w p ≡ Some k → AsksOne metadata w k p asked
+asks_one metadata w k (Fetching s) asked f e =
+    let n : ℕ = count_by is_asked s.slots in
+    let one = wanted_by (ltb n w) (ask_of s.slots) k e in
+    let first : slice_get s.slots k ≡ Some Lacking = first_lacking s.slots k (wanted_by (ltb n window) (position is_lacking s.slots) k one.1).1 in
+    let here : slice_get (set s.slots k Asked) k ≡ Some Asked = set_here s.slots k Lacking Asked first in
+    record {
+      is = record {
+        is = asked_fetch metadata s k f.is one.1;
+        hash = f.hash;
+        unrejected = λ j got. f.unrejected j (still_unrejected s.slots k j Asked (λ e. cc) got);
+        asks = one_more_asked s.slots asked k first f.asks;
+        lacks = false_from_ne_true (list_all is_held (set s.slots k Asked)) (λ all. whole_asks_none (set s.slots k Asked) k all here);
+      };
+      few = omega (arith, ltb-true n w one.0, asked_count s.slots asked f.asks);
+      below = omega (arith, slice_get_within s.slots k Lacking first, slot_count metadata s f.is);
+      lacks = omega (arith, set_counts is_lacking s.slots k Lacking Asked first);
+    }
+asks_one metadata w k (Fetched all) asked f e = absurd cc
+asks_one metadata w k Watching asked f e = absurd f
+asks_one metadata w k (Serving other) asked f e = absurd f
+asks_one metadata w k Awaiting asked f e = absurd f
+
+-- with as many asked as may be, none is wanted
+none_wanted : (metadata : List ℕ) (w : ℕ) (p : Part) (asked : List ℕ) → IsFetchOf metadata p asked → w ≤ length asked → wanted w p ≡ None
+none_wanted metadata w (Fetching s) asked f full =
+    ap (λ (few : Bool). if few then ask_of s.slots else None)
+    (le-ltb (count_by is_asked s.slots) w (omega (arith, full, asked_count s.slots asked f.asks)))
+none_wanted metadata w (Fetched all) asked f full = refl
+none_wanted metadata w Watching asked f full = absurd f
+none_wanted metadata w (Serving other) asked f full = absurd f
+none_wanted metadata w Awaiting asked f full = absurd f
+
+asks_none : (metadata : List ℕ) (w : ℕ) (p : Part) (asked : List ℕ) → IsFetchOf metadata p asked → length asked ≤ w → wanted w p ≡ None
+    → AsksAll metadata w p asked []
+asks_none metadata w p asked f few none = record {
+  is = subst (λ (xs : List ℕ). IsFetchOf metadata p xs) (sym (append-nil asked)) f;
+  none = none;
+  few = subst (λ (xs : List ℕ). length xs ≤ w) (sym (append-nil asked)) few;
+  below = tt;
+  lacks = omega arith;
+}
+
+asks_then : (metadata : List ℕ) (w k : ℕ) (p : Part) (asked ks : List ℕ) → AsksOne metadata w k p asked
+    → AsksAll metadata w (with_asked (Some k) p) (asked ++ k ∷ []) ks → AsksAll metadata w p asked (k ∷ ks)
+asks_then metadata w k p asked ks one r =
+    let e : (asked ++ k ∷ []) ++ ks ≡ asked ++ k ∷ ks = append_assoc asked (k ∷ []) ks in
+    record {
+      is = subst (λ (xs : List ℕ). IsFetchOf metadata (with_all_asked ks (with_asked (Some k) p)) xs) e r.is;
+      none = r.none;
+      few = subst (λ (xs : List ℕ). length xs ≤ w) e r.few;
+      below = (one.below, r.below);
+      lacks = omega (arith, one.lacks, r.lacks);
+    }
+
+asks_by : (metadata : List ℕ) (w n : ℕ) (p : Part) (asked : List ℕ) → IsFetchOf metadata p asked → length asked ≤ w → w ≤ suc n + length asked
+    → ((k : ℕ) → IsFetchOf metadata (with_asked (Some k) p) (asked ++ k ∷ []) → length (asked ++ k ∷ []) ≤ w → w ≤ n + length (asked ++ k ∷ [])
+    → AsksAll metadata w (with_asked (Some k) p) (asked ++ k ∷ []) (all_wanted n w (with_asked (Some k) p)))
+    → (o : Option ℕ) → wanted w p ≡ o
+    → AsksAll metadata w p asked (unwrap_or (option_map (λ k. k ∷ all_wanted n w (with_asked (Some k) p)) o) [])
+asks_by metadata w n p asked f few room more None is = asks_none metadata w p asked f few is
+asks_by metadata w n p asked f few room more (Some k) is =
+    let one = asks_one metadata w k p asked f is in
+    asks_then metadata w k p asked (all_wanted n w (with_asked (Some k) p)) one
+    (more k one.is (omega (arith, one.few, length-append asked (k ∷ []))) (omega (arith, room, length-append asked (k ∷ []))))
+
+asks_all : (metadata : List ℕ) (w n : ℕ) (p : Part) (asked : List ℕ) → IsFetchOf metadata p asked → length asked ≤ w → w ≤ n + length asked
+    → AsksAll metadata w p asked (all_wanted n w p)
+asks_all metadata w zero p asked f few room =
+    asks_none metadata w p asked f few (none_wanted metadata w p asked f (omega (arith, room)))
+asks_all metadata w (suc n) p asked f few room =
+    asks_by metadata w n p asked f few room (λ k g short next. asks_all metadata w n (with_asked (Some k) p) (asked ++ k ∷ []) g short next) (wanted w p) refl
+
 pub fetch_asks : (metadata : List ℕ) (w : ℕ) (p : Part) (asked : List ℕ) → w ≤ window → IsFetchOf metadata p asked → length asked ≤ w
     → AsksAll metadata w p asked (all_wanted window w p)
-fetch_asks metadata w p asked most f few = ?
+fetch_asks metadata w p asked most f few = asks_all metadata w window p asked f few (omega (arith, most))
 
 -- blocks that were asked for are blocks of the metadata
 pub fetch_below : (metadata : List ℕ) (p : Part) (asked : List ℕ) → IsFetchOf metadata p asked → AreBelow (block_count (length metadata)) asked
