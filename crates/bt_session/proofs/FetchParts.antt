@@ -1,14 +1,15 @@
 -- The part of an end that fetches from one that serves: which blocks it has asked for, as they are asked for, and as they come.
 use Rattle.std.proofs.Common.{◌≡◌, ℕ, zero, suc, ◌+◌, ◌<◌, ◌≤◌, Bool, true, false, cond, if◌then◌else◌, List, [], ◌∷◌, ◌++◌, length, set}
-use Rattle.std.proofs.Common.{count_by, replicate, position, Option, Some, None, slice_get, refl, sym, ap, subst, ◌∙◌, arith, leb, ltb, ◌&&◌, not, Bor, get_or, append_assoc}
+use Rattle.std.proofs.Common.{count_by, replicate, position, Option, Some, None, slice_get, refl, sym, ap, subst, ◌∙◌, arith, leb, ltb, ◌&&◌, not, Bor, get_or}
+use Rattle.std.proofs.Common.{append_assoc}
+use Rattle.std.specs.List.{list_all, position_or_len}
+use Rattle.std.specs.Prelude.{unwrap_or, option_map}
 use Rattle.std.specs.Str.{bytes_eq}
 use Rattle.std.proofs.lemmas.Slice.Eq.{bytes_eq-Decides}
 use Rattle.std.proofs.lemmas.Bool.{lt-ltb, le-ltb, le-leb, ltb-true, and_from, both_ways, false_from_ne_true}
 use Rattle.std.proofs.lemmas.List.Quantifiers.{position-Some}
-use Rattle.std.specs.Prelude.{unwrap_or, option_map}
 use Rattle.std.proofs.lemmas.Grind.{common_steps}
 use Rattle.std.proofs.lemmas.List.Folds.{sum_by-replicate}
-use Rattle.std.specs.List.{list_all, position_or_len}
 use Rattle.std.proofs.lemmas.List.{length-set, set_comm, append-nil, length-append}
 use Rattle.std.proofs.lemmas.List.Sums.{sum_by-set, sum_by-cons}
 use Rattle.std.proofs.lemmas.Option.{slice_get_within, slice_get-get_or, get_or_from_slice_get}
@@ -89,11 +90,11 @@ set_there (s ∷ ss) (suc k) zero y apart = refl
 set_there (s ∷ ss) (suc k) (suc j) y apart = set_there ss k j y (λ e. apart (ap suc e))
 
 still_unrejected : (ss : List Slot) (k j : ℕ) (y : Slot) → (y ≡ Rejected → ⊥) → slice_get (set ss k y) j ≡ Some Rejected → slice_get ss j ≡ Some Rejected
-still_unrejected [] k j y not h = h
-still_unrejected (s ∷ ss) zero zero y not h = absurd (not cc)
-still_unrejected (s ∷ ss) zero (suc j) y not h = h
-still_unrejected (s ∷ ss) (suc k) zero y not h = h
-still_unrejected (s ∷ ss) (suc k) (suc j) y not h = still_unrejected ss k j y not h
+still_unrejected [] k j y apart h = h
+still_unrejected (s ∷ ss) zero zero y apart h = absurd (apart cc)
+still_unrejected (s ∷ ss) zero (suc j) y apart h = h
+still_unrejected (s ∷ ss) (suc k) zero y apart h = h
+still_unrejected (s ∷ ss) (suc k) (suc j) y apart h = still_unrejected ss k j y apart h
 
 -- ---- the slots that are asked
 
@@ -184,6 +185,7 @@ begins_by metadata hash h e true is =
     )
 begins_by metadata hash h e false is = absurd cc
 
+-- an end that awaits a size begins to fetch: nothing is asked for, and each block lacks
 pub fetch_begins : (metadata hash : List ℕ) → IsMetadata metadata → sha1 metadata ≡ hash
     → IsFetchOf metadata (begun (assembly_of hash Awaiting (Some (length metadata))) Awaiting) []
     × (lacking (begun (assembly_of hash Awaiting (Some (length metadata))) Awaiting) ≡ block_count (length metadata))
@@ -291,6 +293,7 @@ asks_all metadata w zero p asked f few room =
 asks_all metadata w (suc n) p asked f few room =
     asks_by metadata w n p asked f few room (λ k g short next. asks_all metadata w n (with_asked (Some k) p) (asked ++ k ∷ []) g short next) (wanted w p) refl
 
+-- a part asks for blocks until none is wanted
 pub fetch_asks : (metadata : List ℕ) (w : ℕ) (p : Part) (asked : List ℕ) → w ≤ window → IsFetchOf metadata p asked → length asked ≤ w
     → AsksAll metadata w p asked (all_wanted window w p)
 fetch_asks metadata w p asked most f few = asks_all metadata w window p asked f few (omega (arith, most))
@@ -352,6 +355,7 @@ takes_with : (metadata : List ℕ) (n : AssemblyState) (ks : List ℕ) (lacks : 
 takes_with metadata n ks lacks f hash unrejected asks count =
     takes_by metadata n ks lacks f hash unrejected asks count (is_whole n) (bytes_eq (sha1 (joined n.slots)) n.info_hash) refl refl
 
+-- the first of the blocks that were asked for comes
 pub fetch_takes : (metadata : List ℕ) (p : Part) (k : ℕ) (ks : List ℕ) → IsFetchOf metadata p (k ∷ ks)
     → IsFetchOf metadata (with_block k (length metadata) (block metadata k) p) ks
     × (lacking (with_block k (length metadata) (block metadata k) p) ≡ lacking p)
