@@ -2,6 +2,7 @@ pub mod LinkInvariant
 pub mod OwnMessages
 pub mod AssemblyLaws
 pub mod LinkReactions
+pub mod FetchParts
 pub mod UnderWay
 pub mod LinkMoves
 pub mod LinkTurns
