@@ -253,7 +253,9 @@ impl<A: Allocator + Copy> End<A> {
         self.reactor.outbox.drop_front(n);
     }
 
-    /// Writes at most `max` of them, from the front, and drops those that were taken, also at a fault.
+    /// Writes at most `max` bytes of the outbox, and drops those that were taken.
+    ///
+    /// It drops them also at a fault.
     pub fn drain<W: Target>(&mut self, writer: &mut W, max: usize) -> Result<usize, WriteFault>
         ensures count { IfOk result (λ n. n ≡ min max (length self.old.outbox)) }
         ensures sends { IfOk result (λ n. Sends self.old self.new (W.held writer.old) (W.held writer.new) n) }

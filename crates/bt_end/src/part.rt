@@ -76,7 +76,9 @@ impl<A: Allocator + Copy> Part<A> {
         }
     }
 
-    /// An assembly for metadata of this size, where one is awaited and the size is one of metadata.
+    /// Makes the assembly for metadata of this size.
+    ///
+    /// `None` where none is awaited or the size isn't one of metadata.
     pub fn assembly(
         &self,
         alloc: A,
@@ -95,7 +97,9 @@ impl<A: Allocator + Copy> Part<A> {
         }
     }
 
-    /// The next block to ask for, which is asked from then on: none while as many are asked as may be at once.
+    /// Asks for the next block, and returns its number.
+    ///
+    /// `None` while as many are asked as may be at once.
     pub fn ask(&mut self, window: Window) -> Option<u32>
         ensures value { result ≡ wanted window (part_of self.old) }
         ensures state { part_of self.new ≡ with_asked result (part_of self.old) }
@@ -106,8 +110,10 @@ impl<A: Allocator + Copy> Part<A> {
         }
     }
 
-    /// Holds a block that was asked for, and says whether the blocks are those of other metadata. The metadata is there when
-    /// each block is held and the SHA-1 is the info hash; where it is another, all starts over.
+    /// Holds a block, and returns whether the blocks are those of other metadata.
+    ///
+    /// The block was asked for. The metadata is there when each block is held and the SHA-1 is the info hash; where it is
+    /// another, all starts over.
     pub fn with_block(self, piece: u32, total: u64, block: &[u8]) -> (Part<A>, bool)
         ensures part { part_of result.0 ≡ with_block piece total block.now (part_of self) }
         ensures mismatch { result.1 ≡ brings_mismatch piece total block.now (part_of self) }
@@ -143,7 +149,9 @@ impl<A: Allocator + Copy> Part<A> {
         }
     }
 
-    /// How far the fetch has come; nothing where no size is known, or nothing is fetched.
+    /// Returns how far the fetch has come.
+    ///
+    /// Nothing where no size is known, or nothing is fetched.
     pub fn progress(&self) -> Option<Progress>
         ensures { result ≡ progress_of (part_of self.now) }
     {

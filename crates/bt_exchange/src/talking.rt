@@ -75,7 +75,9 @@ struct Watch {
     progress: Option<Progress>,
 }
 
-/// Makes one step: a write, where the end has something to send; else a turn, where bytes wait for it; else a read.
+/// Makes one step.
+///
+/// It is a write, where the end has something to send; else a turn, where bytes wait for it; else a read.
 pub fn advance<C: Connection, A: Allocator + Copy>(
     connection: &mut C,
     end: &mut End<A>,
@@ -217,8 +219,10 @@ fn round<C: Connection, A: Allocator + Copy, W: Witness>(
     Ok(watch)
 }
 
-/// Makes steps until the metadata is there, or no more of it can come, the connection ends, fails or is silent, what comes is
-/// refused, or as many steps were made as may be. `witness` is told of each sign of life.
+/// Makes steps until the connection is done or stops.
+///
+/// It is done where the metadata is there. It stops where no more of it can come, the connection ends, fails or is silent,
+/// what comes is refused, or as many steps were made as may be. `witness` is told of each sign of life.
 pub fn exchange<C: Connection, A: Allocator + Copy, W: Witness>(
     connection: &mut C,
     end: &mut End<A>,
