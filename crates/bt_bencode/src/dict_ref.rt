@@ -64,7 +64,9 @@ impl<'a> DictRef<'a> {
         }
     }
 
-    /// The integer at `inner` in the dictionary at `outer`, and the integer at `key`, in one walk.
+    /// Looks up two integers in one walk.
+    ///
+    /// They are the integer at `inner` in the dictionary at `outer`, and the integer at `key`.
     ///
     /// They are those that [`DictRef::lookup_dict`] and [`DictRef::lookup_int`] find.
     pub fn lookup_ints(&self, outer: &[u8], inner: &[u8], key: &[u8]) -> (Option<i64>, Option<i64>)

@@ -14,7 +14,9 @@ pub struct BtBatch {
     pub used: usize,
 }
 
-/// Reads the items that the bytes begin with into the array, as calls of [`bt_reader_next`](crate::bt_reader_next) in a row do.
+/// Reads items into the array, as many as have room.
+///
+/// They are those of calls of [`bt_reader_next`](crate::bt_reader_next) in a row.
 ///
 /// Returns 1 where the array is full. Else it returns what the call after these items returns, which shows a refusal in the
 /// next item of the array.

@@ -13,9 +13,13 @@ use crate::slices::suffix;
 #[repr(C)]
 #[derive(Clone, Copy)]
 pub struct BtVerdict {
-    /// The number of the refused message, 0 for the handshake; of an accepted stream how many messages it has.
+    /// The number of the refused message, 0 for the handshake.
+    ///
+    /// Of an accepted stream how many messages it has.
     pub message: u64,
-    /// Where it is refused, counted from the start of the stream; of an accepted stream how many bytes it has.
+    /// Where it is refused, counted from the start of the stream.
+    ///
+    /// Of an accepted stream how many bytes it has.
     pub at: u64,
     /// 0, or the number of the reason.
     pub reason: u8,

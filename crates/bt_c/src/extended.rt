@@ -16,16 +16,22 @@ use bt_ext::{ExtView, Kind, kind_ref, metadata_size_ref};
 pub struct BtExtended {
     /// The size of a data message's whole metadata.
     pub total_size: u64,
-    /// The size of the metadata that an extended handshake tells, where `has_metadata_size` is on.
+    /// The size of the metadata, where `has_metadata_size` is on.
+    ///
+    /// An extended handshake tells it.
     pub metadata_size: u64,
     /// How many bytes of the payload are its dictionary.
     pub dict: usize,
-    /// The piece of a metadata request, data message or reject, or the one that is taken back.
+    /// The piece of a metadata message, or the one that is taken back.
     pub piece: u32,
+    /// What the extended message is, by number.
+    ///
     /// 1 the extended handshake, 2 a metadata request, 3 data, 4 a reject, 5 of another type, 6 malformed, 7 raw, 8 a piece
     /// that is taken back (`lt_donthave`).
     pub kind: u8,
-    /// The id of `ut_metadata` that an extended handshake tells, where `has_ut_metadata` is on; 0 switches it off.
+    /// The id of `ut_metadata` that is told, where `has_ut_metadata` is on.
+    ///
+    /// An extended handshake tells it; 0 switches it off.
     pub ut_metadata: u8,
     pub has_metadata_size: u8,
     pub has_ut_metadata: u8,

@@ -1,12 +1,14 @@
 //! Laws on the definitions, each the contract of a function that does nothing.
 ghost use Rattle.bt_c.specs.Runs.{BodiesAreLast, ItemsAreTheVerdicts};
 
-/// The items that a reader gives, call after call, are those of the stream's verdict.
+/// The items of calls in a row are those of the stream's verdict.
 pub fn items_are_the_verdicts()
     ensures { ItemsAreTheVerdicts }
 {}
 
-/// The last bytes of a message's item are the bitfield, the block or the payload that it keeps.
+/// The body of a message's item is its last bytes.
+///
+/// They are the bitfield, the block or the payload that it keeps.
 pub fn bodies_are_last()
     ensures { BodiesAreLast }
 {}

@@ -9,7 +9,9 @@ use crate::item::BtItem;
 use bt_bencode::put_bytes;
 use bt_wire::Reason;
 
-/// Writes the name of a reason's number, as `WrongLength`, and a zero after it, where there is room for both.
+/// Writes the name of a reason's number, as `WrongLength`, and a zero after it.
+///
+/// It writes nothing where there is no room for both.
 ///
 /// Returns the length of the name, and 0 for a number that no reason has.
 #[unsafe(no_mangle)]
@@ -50,7 +52,9 @@ fn reason_at(number: u32) -> Option<Reason>
     }
 }
 
-/// Writes the name of an item, as `have` or `metadata-request`, and a zero after it, where there is room for both.
+/// Writes the name of an item, as `have`, and a zero after it.
+///
+/// It writes nothing where there is no room for both.
 ///
 /// Returns the length of the name.
 #[unsafe(no_mangle)]

@@ -30,7 +30,9 @@ fn is_quick(context: &Context, order: Order, id: u8, length: u32) -> bool
     }
 }
 
-/// The length of the message that the bytes begin with, where it is a keep-alive or one of those.
+/// Returns the length of the message that the bytes begin with.
+///
+/// It does so where it is a keep-alive or one of those.
 #[tactic(auto, unfolding(bt_wire::specs::Headers::header_of, bt_wire::specs::Faults::header_fault))]
 #[inline(always)]
 pub fn quick_size(context: &Context, order: Order, bytes: &[u8]) -> Option<u64>

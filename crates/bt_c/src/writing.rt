@@ -58,7 +58,9 @@ pub extern "C" fn bt_write_handshake(handshake: &BtHandshake, out: &mut [u8]) ->
     68
 }
 
-/// Makes the reader that stands for the peer, by own values and the reserved bits of the peer's handshake.
+/// Makes the reader that stands for the peer.
+///
+/// It is made of own values and of the reserved bits of the peer's handshake.
 #[unsafe(no_mangle)]
 pub extern "C" fn bt_writer_init(peer: &mut BtReader, own: &BtOwn, reserved: u64)
     ensures context { context_of peer.new ≡ peer_context own.now reserved }
@@ -78,7 +80,9 @@ pub extern "C" fn bt_writer_init(peer: &mut BtReader, own: &BtOwn, reserved: u64
     peer.own.metadata_id = 0;
 }
 
-/// Writes a message by the numbers of an item and the bytes that it keeps: a bitfield, a block or a payload.
+/// Writes a message by the numbers of an item and the bytes that it keeps.
+///
+/// These are a bitfield, a block or a payload.
 ///
 /// Returns 1 where it may be sent, and then `written` shows it, and 2 where the peer would refuse it, and then `written`
 /// says where and why. Returns 4 where it doesn't fit, and writes nothing.
@@ -269,7 +273,9 @@ fn kind_from(number: u8, piece: u32, total: u64) -> Option<Kind>
     }
 }
 
-/// Writes a metadata message under the id that the peer told: 2 a request, 3 data with its block, 4 a reject.
+/// Writes a metadata message under the id that the peer told.
+///
+/// 2 is a request, 3 data with its block, 4 a reject.
 ///
 /// Returns what [`bt_write`] returns, and 4 also where the peer told no id, for any other number, and for a total size that
 /// isn't 1 to 2^63 - 1.
@@ -302,8 +308,9 @@ pub extern "C" fn bt_write_metadata(
     }
 }
 
-/// Writes the extended handshake: the own id of `ut_metadata`, but for 0, and the size of the metadata that is served, where
-/// `has_size` is on.
+/// Writes the extended handshake.
+///
+/// It has the own id of `ut_metadata`, but for 0, and the size of the metadata that is served, where `has_size` is on.
 ///
 /// Returns what [`bt_write`] returns.
 #[unsafe(no_mangle)]

@@ -8,7 +8,9 @@ use bt_ext::{ExtId, Registered, Rules};
 use bt_text::ended::{Ended, PackEnd, ToolFault};
 use bt_wire::{Own, Reserved};
 
-/// The reserved bits where none are given: those of the Fast Extension, of the DHT and of the Extension Protocol.
+/// The reserved bits where none are given.
+///
+/// They are those of the Fast Extension, of the DHT and of the Extension Protocol.
 pub const DEFAULT_RESERVED: u64 = 0x10_0005;
 
 /// The id of `ut_metadata` where none is given.
@@ -86,7 +88,9 @@ pub enum Asked {
     Told(Notice, String),
 }
 
-/// Returns the exit status after a notice: 0, or 2 where the words are no command line.
+/// Returns the exit status after a notice.
+///
+/// 0, or 2 where the words are no command line.
 pub fn status_of(notice: Notice) -> u8
     ensures { result ≡ notice_status notice }
 {

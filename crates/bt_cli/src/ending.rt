@@ -76,7 +76,7 @@ pub fn end_job<E: Target>(job: Job, end: JobEnd, prefix: &[u8], is_gone: bool, e
     }
 }
 
-/// Says what the end of a link has to say on standard error, and returns the exit status.
+/// Says the end of a link on standard error, and returns the exit status.
 pub fn end_link<E: Target>(
     end: Result<RigEnd, ToolFault>,
     prefix: &[u8],
@@ -95,7 +95,7 @@ pub fn end_link<E: Target>(
     }
 }
 
-/// Says what the end of a loop has to say on standard error, and returns the exit status.
+/// Says the end of a loop on standard error, and returns the exit status.
 pub fn end_loop<E: Target>(end: Result<LoopEnd, ToolFault>, is_gone: bool, errors: &mut E) -> u8
     ensures said { IsSaid (loop_words is_gone end) (E.held errors.old) (E.held errors.new) (E.failed_writes errors.old) (E.failed_writes errors.new) }
     ensures status { result ≡ loop_status_by_rule is_gone end }

@@ -66,7 +66,7 @@ impl From<AllocError> for Mistake {
     }
 }
 
-/// Returns a number of an option, or the one that stands where the option isn't given.
+/// Returns the number of an option, or the default where it isn't given.
 pub fn number_or(text: Option<&str>, low: u32, high: u32, default: u32) -> Option<u32>
     requires { (low ≤ default) × (default ≤ high) }
     ensures { IfSome result (λ n. (low ≤ n) × (n ≤ high)) }
@@ -250,7 +250,9 @@ impl<'a, E: Target> Report for Lines<'a, E> {
     }
 }
 
-/// Returns a peer id of this project's prefix and twelve digits, drawn at random where that can be had.
+/// Returns a peer id of this project's prefix and twelve digits.
+///
+/// The digits are drawn at random where that can be had.
 pub fn drawn_peer_id<R: RandomSource>(random: &R) -> [u8; 20] {
     let mut drawn = [0u8; 12];
     if random.fill_bytes(&mut drawn).is_err() {
@@ -264,8 +266,9 @@ pub fn drawn_peer_id<R: RandomSource>(random: &R) -> [u8; 20] {
     peer_id
 }
 
-/// Fetches what is asked for over TCP, and says on `errors` how each connection ended, and how far it came where `errors` is a
-/// terminal.
+/// Fetches what is asked for over TCP.
+///
+/// It says on `errors` how each connection ended, and how far it came where `errors` is a terminal.
 pub fn run_fetch<R: Net + Clock + RandomSource, W: Target, E: Target>(
     rt: &R,
     alloc: Global,
@@ -299,7 +302,9 @@ pub fn run_fetch<R: Net + Clock + RandomSource, W: Target, E: Target>(
     )
 }
 
-/// Says on standard error what kept a fetch from its work, if anything did, and returns the exit status.
+/// Says what kept a fetch from its work, and returns the exit status.
+///
+/// Nothing is said where nothing kept it.
 ///
 /// `is_gone` says that a write failed since nobody reads the output.
 pub fn end_fetch<E: Target>(fetched: Result<usize, FetchError>, is_gone: bool, errors: &mut E) -> u8

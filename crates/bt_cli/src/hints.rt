@@ -23,7 +23,9 @@ fn hint_text(alloc: Global, end: JobEnd, window: &[u8]) -> Option<Vec<u8>>
     }
 }
 
-/// Writes on standard error the hint that the input's first bytes give, if they give one: of a refused stream, or of a script.
+/// Says on standard error the hint of a refused stream or script.
+///
+/// Nothing is said where the input's first bytes give no hint.
 pub fn say_hint<E: Target>(alloc: Global, end: JobEnd, window: &[u8], errors: &mut E)
     ensures { IsHinted end window.now (E.held errors.old) (E.held errors.new) (E.failed_writes errors.old) (E.failed_writes errors.new) }
 {

@@ -111,7 +111,9 @@ fn option<'a>(alloc: Global, name: &'a str, value: &'a str) -> Arg<'a> {
         .action(ArgAction::Set)
 }
 
-/// Returns what is said where the file of `--other` doesn't begin with a whole handshake.
+/// Returns the notice that a file of `--other` has no handshake.
+///
+/// It doesn't begin with a whole one.
 pub fn no_handshake(alloc: Global, name: &str) -> Result<String, AllocError> {
     format!(in alloc;
         "error: '{name}', the file of '--other', doesn't begin with a whole handshake\n\n{USAGE}"

@@ -24,7 +24,9 @@ pub enum JobEnd {
     Script(Result<PackEnd, ToolFault>),
 }
 
-/// Does a job for the receiver `own`: reads `reader`, and writes the job's output on `writer`.
+/// Does a job for the receiver `own`.
+///
+/// It reads `reader`, and writes the job's output on `writer`.
 pub fn do_job<R: Source, W: Target>(
     alloc: Global,
     job: Job,

@@ -221,7 +221,9 @@ pub fn run_serve<R: Net + Clock + RandomSource + Files + AllocGlobal, W: Target>
     }
 }
 
-/// Says on standard error why a service didn't do its work, if it didn't, and returns the exit status.
+/// Says why a service didn't do its work, and returns the exit status.
+///
+/// Nothing is said where it did.
 pub fn end_serve<E: Target>(service: Service, errors: &mut E) -> u8 {
     match service {
         Service::Done => 0,

@@ -69,7 +69,9 @@ fn are_digits(text: &[u8]) -> bool
     text.iter().all(|byte| byte.is_ascii_digit())
 }
 
-/// Returns the number below 2^32 that decimal digits write, without a sign; leading zeros are allowed.
+/// Returns the number that decimal digits write.
+///
+/// It is below 2^32 and has no sign; leading zeros are allowed.
 #[tactic(auto, using(crate::proofs::Numbers::parsed_number, crate::proofs::Numbers::other_text))]
 pub fn number(text: &str) -> Option<u32>
     ensures { result ≡ number_of text.now }

@@ -1,6 +1,6 @@
 //! One end of a connection.
 use crate::config::{Announce, Config, EndError, Role, Window};
-use crate::part::{Part, Progress};
+use crate::part::{Headway, Part, Progress};
 use crate::reactor::{Plan, Reactor};
 use bt_feed::laws::one_answer;
 use bt_feed::{Feed, Finish, Memory, Outbox, Stage, Target, WriteFault, refusal_in};
@@ -110,7 +110,7 @@ ghost use Rattle.bt_feed.specs.Progress.{IsFeed};
 ghost use Rattle.bt_io.specs.Seen.{WriteFailed};
 ghost use Rattle.bt_metadata.specs.Blocks.{max_metadata};
 ghost use Rattle.bt_wire.specs.Handshakes.{hand};
-ghost use Rattle.bt_end.specs.Ends.{belief, metadata_of, unopened, renewed, progress_of, is_hopeless, fetched_block};
+ghost use Rattle.bt_end.specs.Ends.{belief, metadata_of, unopened, renewed, progress_of, headway_of, is_hopeless, fetched_block};
 ghost use Rattle.bt_end.specs.Halves.{IsTurned, IsSaid, high_water, is_ready, connected, received, without_sent, with_window, IsHandled, IsStop};
 ghost use Rattle.bt_end.specs.Parts.{part_of, shown_slice};
 ghost use Rattle.bt_end.specs.Configs.{part_for, is_bad_role, IsMade};
@@ -253,7 +253,9 @@ impl<A: Allocator + Copy> End<A> {
         self.reactor.outbox.drop_front(n);
     }
 
-    /// Writes at most `max` of them, from the front, and drops those that were taken, also at a fault.
+    /// Writes at most `max` bytes of the outbox, and drops those that were taken.
+    ///
+    /// It drops them also at a fault.
     pub fn drain<W: Target>(&mut self, writer: &mut W, max: usize) -> Result<usize, WriteFault>
         ensures count { IfOk result (λ n. n ≡ min max (length self.old.outbox)) }
         ensures sends { IfOk result (λ n. Sends self.old self.new (W.seen writer.old) (W.seen writer.new) n) }
@@ -373,6 +375,16 @@ impl<A: Allocator + Copy> End<A> {
         ensures bounds { IfSome result (λ p. (0 < p.size) × (p.size ≤ max_metadata) × (p.held ≤ p.blocks)) }
     {
         self.reactor.part.progress()
+    }
+
+    /// Returns how far the connection has come, so that a caller can tell a peer that does nothing for the fetch.
+    ///
+    /// It changes at the peer's handshake, where the peer tells an id for metadata messages, where the size is told, and at each
+    /// block that was asked for and comes or is rejected. Keep-alives, haves and the like change nothing.
+    pub fn headway(&self) -> Headway
+        ensures { result ≡ headway_of self.now.end }
+    {
+        self.reactor.headway()
     }
 
     /// Whether it fetches, and no block can come any more on this connection.

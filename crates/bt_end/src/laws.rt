@@ -16,7 +16,7 @@ pub fn refusal_stays()
     ensures { RefusalStays }
 {}
 
-/// The context of [`End::belief`](crate::End::belief) is that of `bt_feed::peer_context`.
+/// [`End::belief`](crate::End::belief) is the context of `bt_feed::peer_context`.
 pub fn belief_is_peer_context()
     ensures { BeliefIsPeerContext }
 {}

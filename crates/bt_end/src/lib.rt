@@ -14,4 +14,4 @@ mod reactor;
 
 pub use config::{Announce, Config, EndError, Role, Window};
 pub use end::{End, HIGH_WATER, SayError, Turn, TurnError};
-pub use part::Progress;
+pub use part::{Headway, Progress};

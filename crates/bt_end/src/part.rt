@@ -1,7 +1,7 @@
 //! What an end does with metadata.
 ghost use Rattle.std.specs.Prelude.{◌≡◌, ◌<◌, ◌≤◌, option_map, option_copied, IfOk, IfSome};
 ghost use Rattle.bt_metadata.specs.Blocks.{max_metadata};
-ghost use Rattle.bt_end.specs.Ends.{served_size, wanted, with_asked, assembly_of, with_block, brings_mismatch, with_refused, part_kept, metadata_of, progress_of, is_fetching, is_settled, fetched_block};
+ghost use Rattle.bt_end.specs.Ends.{served_size, wanted, with_asked, assembly_of, with_block, brings_mismatch, with_refused, part_kept, metadata_of, progress_of, rejected_of, is_fetching, is_settled, fetched_block};
 ghost use Rattle.bt_end.specs.Sturdy.{IsFetched};
 ghost use Rattle.bt_end.specs.Parts.{part_of, shown_slice, IsReplyOf};
 ghost use Rattle.bt_metadata.specs.Replies.{IsBounded};
@@ -31,6 +31,19 @@ pub struct Progress {
     pub blocks: usize,
     /// How many of them are held.
     pub held: usize,
+}
+
+/// How far a connection of an end has come.
+#[derive(Clone, Copy, PartialEq, Eq, Debug)]
+pub struct Headway {
+    /// Whether the peer's handshake was handled.
+    pub is_open: bool,
+    /// Whether the peer has told an id for metadata messages.
+    pub is_told: bool,
+    /// How far the fetch has come: see [`End::progress`](crate::End::progress).
+    pub progress: Option<Progress>,
+    /// How many blocks the peer rejected.
+    pub rejected: usize,
 }
 
 impl<A: Allocator + Copy> Part<A> {
@@ -76,7 +89,9 @@ impl<A: Allocator + Copy> Part<A> {
         }
     }
 
-    /// An assembly for metadata of this size, where one is awaited and the size is one of metadata.
+    /// Makes the assembly for metadata of this size.
+    ///
+    /// `None` where none is awaited or the size isn't one of metadata.
     pub fn assembly(
         &self,
         alloc: A,
@@ -95,7 +110,9 @@ impl<A: Allocator + Copy> Part<A> {
         }
     }
 
-    /// The next block to ask for, which is asked from then on: none while as many are asked as may be at once.
+    /// Asks for the next block, and returns its number.
+    ///
+    /// `None` while as many are asked as may be at once.
     pub fn ask(&mut self, window: Window) -> Option<u32>
         ensures value { result ≡ wanted window (part_of self.old) }
         ensures state { part_of self.new ≡ with_asked result (part_of self.old) }
@@ -106,8 +123,10 @@ impl<A: Allocator + Copy> Part<A> {
         }
     }
 
-    /// Holds a block that was asked for, and says whether the blocks are those of other metadata. The metadata is there when
-    /// each block is held and the SHA-1 is the info hash; where it is another, all starts over.
+    /// Holds a block, and returns whether the blocks are those of other metadata.
+    ///
+    /// The block was asked for. The metadata is there when each block is held and the SHA-1 is the info hash; where it is
+    /// another, all starts over.
     pub fn with_block(self, piece: u32, total: u64, block: &[u8]) -> (Part<A>, bool)
         ensures part { part_of result.0 ≡ with_block piece total block.now (part_of self) }
         ensures mismatch { result.1 ≡ brings_mismatch piece total block.now (part_of self) }
@@ -143,7 +162,9 @@ impl<A: Allocator + Copy> Part<A> {
         }
     }
 
-    /// How far the fetch has come; nothing where no size is known, or nothing is fetched.
+    /// Returns how far the fetch has come.
+    ///
+    /// Nothing where no size is known, or nothing is fetched.
     pub fn progress(&self) -> Option<Progress>
         ensures { result ≡ progress_of (part_of self.now) }
     {
@@ -159,6 +180,16 @@ impl<A: Allocator + Copy> Part<A> {
                 held: block_count(metadata.len()),
             }),
             _ => None,
+        }
+    }
+
+    /// Returns how many blocks the peer rejected.
+    pub fn rejected(&self) -> usize
+        ensures { result ≡ rejected_of (part_of self.now) }
+    {
+        match self {
+            Part::Fetching(assembly) => assembly.rejected(),
+            _ => 0,
         }
     }
 

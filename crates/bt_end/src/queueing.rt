@@ -59,7 +59,9 @@ pub fn put_message<A: Allocator>(outbox: &mut Outbox<A>, id: u8, kind: Kind, res
     put_extended(outbox, id, &text[start..], rest);
 }
 
-/// Puts an extended handshake, with the end's registered ids and the size of metadata that it serves, if it serves any.
+/// Puts an extended handshake into the outbox.
+///
+/// It has the end's registered ids and the size of metadata that it serves, if it serves any.
 pub fn put_handshake<A: Allocator>(outbox: &mut Outbox<A>, reg: Registered, size: Option<u64>)
     requires room { 226 ≤ outbox.old.room }
     ensures bytes { outbox.new.bytes ≡ outbox.old.bytes ++ framed 0 (ben (handshake_tree reg size) ++ []) }
@@ -71,7 +73,9 @@ pub fn put_handshake<A: Allocator>(outbox: &mut Outbox<A>, reg: Registered, size
     put_extended(outbox, 0, &text[start..], &[]);
 }
 
-/// Makes room for a message that takes back a piece, under the peer's id, and puts it there.
+/// Puts a message that takes back a piece into the outbox.
+///
+/// It makes room for it, and writes it under the peer's id.
 pub fn put_donthave<A: Allocator>(outbox: &mut Outbox<A>, id: u8, index: u32) -> Result<(), Memory>
     ensures ok { OnOk result (outbox.new.bytes ≡ outbox.old.bytes ++ framed id (index_bytes index)) }
     ensures err { OnErr result (outbox.new.bytes ≡ outbox.old.bytes) }

@@ -4,8 +4,8 @@ use Rattle.std.proofs.Common.{◌∙◌, arith}
 use Rattle.std.proofs.lemmas.List.{append-nil}
 use Rattle.std.proofs.KnownBytes.{Consumes-nil, Appends-nil}
 use Rattle.bt_wire.specs.declared.item.Item.{Item}
-use Rattle.bt_end.specs.Ends.{EndState, metadata_of, progress_of}
-use Rattle.bt_end.specs.declared.part.Progress.{Progress}
+use Rattle.bt_end.specs.Ends.{EndState, metadata_of, headway_of}
+use Rattle.bt_end.specs.declared.part.Headway.{Headway}
 use Rattle.bt_exchange.specs.Connections.{Seen, Counts, at_time}
 use Rattle.bt_exchange.specs.Courses.{Moment, IsMoved}
 use Rattle.bt_exchange.specs.Stops.{IsCalm, IsMade, IsAdvanced, IsMark, IsQuiet, IsStep, IsStopped, IsExchanged, items_of, is_still, is_done}
@@ -205,13 +205,13 @@ mark_on s t start old new p m q = record {
 
 -- a step that showed no sign of life
 pub quiet_step : (s : Sign) (st : Step) (old new : Moment) (a : IsAdvanced old new (Ok st))
-    → (s ≡ sign.Progress → st ≡ step.Handled → progress_of old.half.end.part ≡ progress_of new.half.end.part) → (s ≡ sign.Bytes → is_still (Ok st) ≡ true)
+    → (s ≡ sign.Progress → st ≡ step.Handled → headway_of old.half.end ≡ headway_of new.half.end) → (s ≡ sign.Bytes → is_still (Ok st) ≡ true)
     → IsQuiet s old new a.made.moved
 quiet_step sign.Bytes st old new a p b = a.still (b refl)
 quiet_step sign.Progress step.Handled old new a p b = sym (p refl refl)
-quiet_step sign.Progress step.Moved old new a p b = ap (λ (x : EndState). progress_of x.part) (step_end old new (Ok step.Moved) refl a)
-quiet_step sign.Progress step.Waited old new a p b = ap (λ (x : EndState). progress_of x.part) (step_end old new (Ok step.Waited) refl a)
-quiet_step sign.Progress step.Held old new a p b = ap (λ (x : EndState). progress_of x.part) (step_end old new (Ok step.Held) refl a)
+quiet_step sign.Progress step.Moved old new a p b = ap (λ (x : EndState). headway_of x) (step_end old new (Ok step.Moved) refl a)
+quiet_step sign.Progress step.Waited old new a p b = ap (λ (x : EndState). headway_of x) (step_end old new (Ok step.Waited) refl a)
+quiet_step sign.Progress step.Held old new a p b = ap (λ (x : EndState). headway_of x) (step_end old new (Ok step.Held) refl a)
 
 pub quiet_clock : (s : Sign) (m : Moment) (t : ℕ) → IsQuiet s m (moment (at_time t m.seen) m.pending m.half) (moved_clock m t)
 quiet_clock sign.Bytes m t = (refl, refl)
@@ -243,11 +243,11 @@ mark_quiet g start old mid s st t u m a q e =
     let first = mark_on g u start old mid a.made.moved m q in
     subst P (sym e) (mark_on g u start mid (moment (at_time t mid.seen) mid.pending mid.half) (moved_clock mid t) first (quiet_clock g mid t))
 
--- what was known of the progress is still so
-pub progress_on : (g : Sign) (old mid : Moment) (m : IsMoved old mid) (o : Option Progress) → (g ≡ sign.Progress → o ≡ progress_of old.half.end.part)
-    → IsQuiet g old mid m → g ≡ sign.Progress → o ≡ progress_of mid.half.end.part
-progress_on sign.Bytes old mid m o p q e = absurd cc
-progress_on sign.Progress old mid m o p q e = p refl ∙ sym q
+-- what was known of the headway is still so
+pub headway_on : (g : Sign) (old mid : Moment) (m : IsMoved old mid) (o : Headway) → (g ≡ sign.Progress → o ≡ headway_of old.half.end)
+    → IsQuiet g old mid m → g ≡ sign.Progress → o ≡ headway_of mid.half.end
+headway_on sign.Bytes old mid m o p q e = absurd cc
+headway_on sign.Progress old mid m o p q e = p refl ∙ sym q
 
 -- ---- rounds
 

@@ -3,7 +3,7 @@ use Rattle.std.specs.Prelude.{◌≡◌, ℕ, zero, suc, ◌+◌, ◌-◌, ◌*�
 use Rattle.bt_wire.specs.declared.item.Item.{Item}
 use Rattle.bt_io.specs.Counts.{Grew}
 use Rattle.bt_feed.specs.Answers.{IsAnswer}
-use Rattle.bt_end.specs.Ends.{metadata_of, progress_of, is_hopeless}
+use Rattle.bt_end.specs.Ends.{metadata_of, headway_of, is_hopeless}
 use Rattle.bt_end.specs.Halves.{HalfState, takes_memory}
 use Rattle.bt_exchange.specs.Connections.{Counts}
 use Rattle.bt_exchange.specs.Courses.{Moment, IsMoved}
@@ -77,9 +77,9 @@ pub record IsAdvanced (old new : Moment) (result : Result Step Stop) : Type 0 wh
 
 -- ---- many
 
--- no sign of life was seen: no progress of the fetch, or no byte that was moved
+-- no sign of life was seen: the connection came no further, or no byte was moved
 abbrev pub IsQuiet : Sign → (old new : Moment) → IsMoved old new → Type 0
-IsQuiet sign.Progress old new m = progress_of new.half.end.part ≡ progress_of old.half.end.part
+IsQuiet sign.Progress old new m = headway_of new.half.end ≡ headway_of old.half.end
 IsQuiet sign.Bytes old new m = (m.got ≡ []) × (m.sent ≡ [])
 
 -- at this time, by the connection's clock, it was the moment since which all is quiet

@@ -1,6 +1,6 @@
 -- For private contracts: one round of an exchange, and its watch.
 use Rattle.std.specs.Prelude.{◌≡◌, ◌≤◌, Bool, true, false, is_some, Option, Some, None, Result, Ok, Err}
-use Rattle.bt_end.specs.Ends.{EndState, metadata_of, progress_of, is_hopeless}
+use Rattle.bt_end.specs.Ends.{EndState, metadata_of, headway_of, is_hopeless}
 use Rattle.bt_exchange.specs.Courses.{Moment}
 use Rattle.bt_exchange.specs.Stops.{IsCalm, IsMark, IsStopped, is_done}
 use Rattle.bt_exchange.specs.declared.talking.Stop.{Stop}
@@ -23,6 +23,6 @@ is_over (Err e) = is_done e
 
 -- the watch goes on, or the round stopped
 abbrev pub IsWatched : Limits → Moment → Moment → Result Watch Stop → Type 0
-IsWatched limits start new (Ok w) = IsCalm start.seen.counts new.seen.counts × (limits.sign ≡ sign.Progress → w.progress ≡ progress_of new.half.end.part)
+IsWatched limits start new (Ok w) = IsCalm start.seen.counts new.seen.counts × (limits.sign ≡ sign.Progress → w.headway ≡ headway_of new.half.end)
     × IsMark limits.sign w.since start new
 IsWatched limits start new (Err e) = IsStopped limits start new e × (e ≡ stop.Rounds → ⊥)

@@ -221,8 +221,10 @@ fn round<W: Wire, A: Allocator + Copy>(
     })
 }
 
-/// Runs two ends against each other, in rounds of at most 4,096 bytes in each direction, until the right one has the metadata
-/// and nothing is to be sent, or nothing more is moved, or an end refuses what comes.
+/// Runs two ends against each other, in rounds.
+///
+/// A round moves at most 4,096 bytes in each direction. It stops where the right end has the metadata and nothing is to be
+/// sent, or nothing more is moved, or an end refuses what comes.
 ///
 /// # Errors
 /// `Net` where a call of the wire failed or moved nothing, `Rounds` after as many rounds, and `Memory`.

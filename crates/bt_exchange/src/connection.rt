@@ -10,7 +10,9 @@ pub trait Connection {
     /// its calls, and the time that it told last.
     ghost seen: { Self → Seen };
 
-    /// Puts bytes at the front of the given ones, and says how many; `None`: nothing is there yet.
+    /// Reads bytes into the front of `into`, and returns how many.
+    ///
+    /// `None` where nothing is there yet.
     ///
     /// A read of 0 into what isn't empty is the end: the peer closed the connection.
     fn read(&mut self, into: &mut [u8]) -> Result<Option<usize>, Failed>
@@ -18,7 +20,9 @@ pub trait Connection {
         ensures size { length into.new ≡ length into.old }
         ensures counts { (seen self.new).counts ≡ read_counts result (length into.old) (seen self.old).counts };
 
-    /// Takes bytes from the front of the given ones, and says how many; `None`: nothing is taken yet.
+    /// Takes bytes from the front of `from`, and returns how many.
+    ///
+    /// `None` where nothing is taken yet.
     fn write(&mut self, from: &[u8]) -> Result<Option<usize>, Failed>
         ensures bytes { Writes (seen self.old) (seen self.new) result from.now }
         ensures counts { (seen self.new).counts ≡ write_counts result (length from.now) (seen self.old).counts };

@@ -6,7 +6,9 @@ ghost use Rattle.std.specs.Io.KnownBytes.{ReadConsumes, WriteAppends};
 use crate::wire::{Side, Wire, WireFault, counted};
 use std::alloc::Global;
 
-/// A wire of bytes in memory, which moves at most `most` bytes a call and fails once, at the call `fails_at`, counted from 1.
+/// A wire of bytes in memory.
+///
+/// It moves at most `most` bytes a call, and fails once, at the call `fails_at`, counted from 1.
 #[derive(Drop)]
 pub struct MemWire {
     rightwards: Vec<u8>,

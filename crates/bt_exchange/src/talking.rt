@@ -1,7 +1,7 @@
 //! The loop over one connection. Fetching and serving call [`exchange`]; two ends over one wire call [`advance`].
 ghost use Rattle.std.specs.Prelude.{◌≡◌, ◌<◌, ◌≤◌, ℕ, true, false, List, [], length, is_some, Ok};
 ghost use Rattle.bt_feed.specs.Progress.{IsFeed};
-ghost use Rattle.bt_end.specs.Ends.{metadata_of, progress_of};
+ghost use Rattle.bt_end.specs.Ends.{metadata_of, headway_of};
 ghost use Rattle.bt_exchange.specs.Connections.{Seen};
 ghost use Rattle.bt_exchange.specs.Courses.{Moment};
 ghost use Rattle.bt_exchange.specs.Stops.{IsCalm, IsAdvanced, IsMade, IsMark, IsExchanged, is_done, is_still, steps_of};
@@ -9,7 +9,7 @@ ghost use Rattle.bt_exchange.specs.Watches.{IsVerdict, IsWatched, is_over};
 
 use crate::connection::Connection;
 use crate::hearing::Hearing;
-use bt_end::{End, Progress, Turn, TurnError};
+use bt_end::{End, Headway, Progress, Turn, TurnError};
 use bt_wire::Refusal;
 use std::alloc::Allocator;
 
@@ -54,7 +54,7 @@ pub enum Stop {
 pub enum Sign {
     /// Bytes that were read or written.
     Bytes,
-    /// Progress of the fetch: see [`End::progress`].
+    /// The connection came further: see [`End::headway`].
     Progress,
 }
 
@@ -68,14 +68,16 @@ pub struct Limits {
     pub sign: Sign,
 }
 
-/// The time of the last sign of life, and how far the fetch had come.
+/// The time of the last sign of life, and how far the connection had come.
 #[derive(Clone, Copy, PartialEq, Eq, Debug)]
 struct Watch {
     since: u64,
-    progress: Option<Progress>,
+    headway: Headway,
 }
 
-/// Makes one step: a write, where the end has something to send; else a turn, where bytes wait for it; else a read.
+/// Makes one step.
+///
+/// It is a write, where the end has something to send; else a turn, where bytes wait for it; else a read.
 pub fn advance<C: Connection, A: Allocator + Copy>(
     connection: &mut C,
     end: &mut End<A>,
@@ -152,19 +154,19 @@ fn verdict<A: Allocator + Copy>(end: &End<A>) -> Option<Stop>
     }
 }
 
-/// Whether a step showed a sign of life, where the fetch had come this far before it.
+/// Whether a step showed a sign of life, where the connection had come this far before.
 fn is_alive<A: Allocator + Copy>(
     sign: Sign,
     step: Step,
-    before: Option<Progress>,
+    before: Headway,
     end: &End<A>,
 ) -> bool
-    ensures progress { sign ≡ Sign.Progress → step ≡ Step.Handled → result ≡ false → before ≡ progress_of end.now.end.part }
+    ensures headway { sign ≡ Sign.Progress → step ≡ Step.Handled → result ≡ false → before ≡ headway_of end.now.end }
     ensures bytes { sign ≡ Sign.Bytes → result ≡ false → is_still (Ok step) ≡ true }
 {
     match (sign, step) {
         (Sign::Bytes, Step::Moved) => true,
-        (Sign::Progress, Step::Handled) => end.progress() != before,
+        (Sign::Progress, Step::Handled) => end.headway() != before,
         _ => false,
     }
 }
@@ -184,7 +186,7 @@ fn round<C: Connection, A: Allocator + Copy, W: Witness>(
     watch: Watch,
     witness: &mut W,
 ) -> Result<Watch, Stop>
-    requires progress { limits.sign ≡ Sign.Progress → watch.progress ≡ progress_of end.old.end.part }
+    requires headway { limits.sign ≡ Sign.Progress → watch.headway ≡ headway_of end.old.end }
     requires undone { is_some (metadata_of end.old.end.part) ≡ false }
     ensures made { (n : ℕ) × (steps_of result ≤ n) × (n ≤ 1) × IsMade n (record { seen = C.seen connection.old; pending = hearing.old; half = end.old })
         (record { seen = C.seen connection.new; pending = hearing.new; half = end.new }) }
@@ -203,12 +205,12 @@ fn round<C: Connection, A: Allocator + Copy, W: Witness>(
         }
     }
     let now = connection.now();
-    if is_alive(limits.sign, step, watch.progress, end) {
-        let progress = end.progress();
-        witness.came(progress);
+    if is_alive(limits.sign, step, watch.headway, end) {
+        let headway = end.headway();
+        witness.came(headway.progress);
         return Ok(Watch {
             since: now,
-            progress,
+            headway,
         });
     }
     if now >= watch.since && now - watch.since >= limits.patience {
@@ -217,8 +219,10 @@ fn round<C: Connection, A: Allocator + Copy, W: Witness>(
     Ok(watch)
 }
 
-/// Makes steps until the metadata is there, or no more of it can come, the connection ends, fails or is silent, what comes is
-/// refused, or as many steps were made as may be. `witness` is told of each sign of life.
+/// Makes steps until the connection is done or stops.
+///
+/// It is done where the metadata is there. It stops where no more of it can come, the connection ends, fails or is silent,
+/// what comes is refused, or as many steps were made as may be. `witness` is told of each sign of life.
 pub fn exchange<C: Connection, A: Allocator + Copy, W: Witness>(
     connection: &mut C,
     end: &mut End<A>,
@@ -235,7 +239,7 @@ pub fn exchange<C: Connection, A: Allocator + Copy, W: Witness>(
     }
     let mut watch = Watch {
         since: connection.now(),
-        progress: end.progress(),
+        headway: end.headway(),
     };
     for _round in 0..limits.rounds {
         match round(connection, end, hearing, limits, watch, witness) {

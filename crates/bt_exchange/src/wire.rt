@@ -40,7 +40,7 @@ pub trait Wire {
         ensures calls { calls self.new ≡ one_more (calls self.old) }
         ensures failed { failed self.new ≡ raised (is_stuck result (length bytes.now)) (failed self.old) };
 
-    /// Puts bytes that the other side sent at the front of the given ones, and says how many.
+    /// Reads bytes that the other side sent into `into`, and returns how many.
     fn receive(&mut self, at: Side, into: &mut [u8]) -> Result<usize, WireFault>
         ensures bound { ReadsAtMost result into.new }
         ensures bytes { ReadConsumes (on_way self.old (other at)) (on_way self.new (other at)) result into.new }

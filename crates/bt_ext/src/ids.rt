@@ -64,7 +64,9 @@ pub struct Registered {
 }
 
 impl Registered {
-    /// Registers the ids of `ut_metadata` (BEP 9) and of `lt_donthave`, or none for one of them.
+    /// Registers the ids of `ut_metadata` (BEP 9) and of `lt_donthave`.
+    ///
+    /// Either may be missing.
     ///
     /// # Errors
     /// `SameId` where both are there and equal.

@@ -26,7 +26,9 @@ pub fn kind_of_made()
     ensures { KindOfMade }
 {}
 
-/// A metadata message that an end writes has a spelling, and the rules allow it if its block is right.
+/// A metadata message that an end writes has a spelling.
+///
+/// The rules allow it if its block is right.
 pub fn made_message_is_right()
     ensures { MadeMessageIsRight }
 {}
@@ -36,7 +38,9 @@ pub fn made_handshake_is_right()
     ensures { MadeHandshakeIsRight }
 {}
 
-/// An extended handshake that an end writes tells the id and the size that it was made of.
+/// An extended handshake that an end writes reads back.
+///
+/// It tells the id and the size that it was made of.
 pub fn made_handshake_tells()
     ensures { MadeHandshakeTells }
 {}

@@ -94,7 +94,9 @@ impl<A: Allocator + Copy> Table<A> {
         Some(self.entries[i].1)
     }
 
-    /// The ids under which the peer wants extensions: of `ut_metadata` alone where it told one id for both.
+    /// Returns the ids under which the peer wants extensions.
+    ///
+    /// Where it told one id for both, that is the one of `ut_metadata` alone.
     #[tactic(auto, unfolding(crate::specs::Tables::told_ids))]
     pub fn registered(&self) -> Registered
         ensures { result ≡ told_ids self.now }

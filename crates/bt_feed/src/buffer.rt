@@ -94,7 +94,9 @@ impl<A: Allocator> Buffer<A> {
         self.size += bytes.len();
     }
 
-    /// Reads bytes right after those that are held, so that at most `goal` bytes are held then, and says how many came.
+    /// Reads bytes right after those that are held, and returns how many came.
+    ///
+    /// At most `goal` bytes are held then.
     pub fn read<R: Source>(&mut self, reader: &mut R, goal: usize) -> Result<usize, Failed>
         requires room { goal ≤ self.old.capacity }
         requires some { length self.old.items < goal }

@@ -65,7 +65,9 @@ pub struct Items<'a, A: Allocator = Global> {
 }
 
 impl<A: Allocator> Feed<A> {
-    /// The items that a piece completes, each with the offset at which it starts, copied.
+    /// Returns the items that a piece completes, copied.
+    ///
+    /// Each has the offset at which it starts.
     ///
     /// The loop over them takes all bytes of the piece, up to a refusal. What belongs to no whole item is held.
     pub fn items<'a>(&'a mut self, alloc: Global, piece: &'a [u8]) -> Items<'a, A>

@@ -12,7 +12,9 @@ use crate::stage::END;
 use crate::view::View;
 use bt_wire::{Context, Header, Order, judge_header, next_of_view, view_window};
 
-/// How many messages were handed on, how many bytes they have, the order after them, and whether the sink took them all.
+/// What was handed on to a sink.
+///
+/// How many messages, how many bytes they have, the order after them, and whether the sink took them all.
 #[derive(Drop)]
 pub struct Passed {
     pub messages: u64,
@@ -21,8 +23,9 @@ pub struct Passed {
     pub taken: Result<(), SinkFault>,
 }
 
-/// Gives the sink the messages at the front of a piece, from this offset of the stream on, up to one that isn't whole or is
-/// refused.
+/// Gives the sink the messages at the front of a piece.
+///
+/// They begin at this offset of the stream, and go up to one that isn't whole or is refused.
 #[inline(always)]
 pub fn pass_messages<S: Sink>(
     context: &Context,

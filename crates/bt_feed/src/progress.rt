@@ -166,7 +166,9 @@ impl Progress {
         append_up_to(buffer, length, piece)
     }
 
-    /// Reads bytes of the present message straight into the buffer, where many of them are still to come.
+    /// Reads bytes of the present message straight into the buffer.
+    ///
+    /// It does so where many of them are still to come.
     #[inline(always)]
     pub fn read<R: Source, A: Allocator>(
         &self,
@@ -190,8 +192,9 @@ impl Progress {
         Some(buffer.read(reader, self.wanted))
     }
 
-    /// Gives the sink the whole messages at the front of a piece, where nothing is held or refused, and says how many bytes they
-    /// have and whether the sink took them all.
+    /// Gives the sink the whole messages at the front of a piece.
+    ///
+    /// It does so where nothing is held or refused, and returns how many bytes they have and whether the sink took them all.
     #[inline(always)]
     pub fn pass<S: Sink>(
         &mut self,
@@ -291,7 +294,9 @@ impl Progress {
         }
     }
 
-    /// The refusal that was given, or that of a fault that is judged before all of the item is there.
+    /// Returns the refusal that was given, or that of an early fault.
+    ///
+    /// An early fault is judged before all of the item is there.
     #[cold]
     #[inline(never)]
     pub fn refusal(&self, buffer: &[u8]) -> Option<Refusal>

@@ -40,7 +40,9 @@ pub trait Dial {
     /// How often it was asked for a connection, up to 2^64 - 1.
     ghost dials: { Self → ℕ };
 
-    /// Opens a connection to the address of this number, counted from 0; `None` where that fails.
+    /// Opens a connection to the address of this number; `None` where that fails.
+    ///
+    /// Numbers count from 0.
     fn dial(&mut self, address: usize) -> Option<Self::Link>
         ensures { dials self.new ≡ one_more (dials self.old) };
 

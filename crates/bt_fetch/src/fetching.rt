@@ -262,7 +262,9 @@ fn put_out<W: Target>(
     put(file.as_slice(), writer)
 }
 
-/// Fetches metadata from as many addresses as it takes, in turn, and writes its file: the metadata, or a .torrent of it.
+/// Fetches metadata from addresses, and writes its file.
+///
+/// The addresses are tried in turn. The file is the metadata, or a .torrent of it.
 ///
 /// What is held stays from connection to connection, unless a peer tells another size. Nothing is written before all of the
 /// metadata is there, and its SHA-1 is the info hash. It returns how many bytes were written.

@@ -17,7 +17,9 @@ pub enum Objection {
     OneAtATime,
 }
 
-/// A connection whose reads fail from the extended handshake on, where that offers what the fetch can't take.
+/// A connection that fails where the peer offers no metadata that is wanted.
+///
+/// Its reads fail from the extended handshake on, where that offers what the fetch can't take.
 #[derive(Drop)]
 pub struct Screen<C: Connection + Drop> {
     inner: C,

@@ -46,7 +46,7 @@ pub fn own_of(wish: &Wish) -> Own
     }
 }
 
-/// Returns how many blocks are asked for at once on the first connection to an address.
+/// Returns how many blocks are asked for at once on a first connection.
 pub fn first_window(wish: &Wish) -> Window {
     match wish.window {
         Some(window) => window,

@@ -46,7 +46,7 @@ fn inside(bytes: &[u8], at: u64) -> Option<Hint>
     Some(Hint::KeepAlives(start as u64, size as u64))
 }
 
-/// Returns what the first bytes of a stream tell that is refused at the offset `at`.
+/// Returns what the first bytes tell of a stream that is refused at `at`.
 ///
 /// A place is within these bytes, and not after `at`, unless there is no handshake at the start.
 pub fn hint_of(bytes: &[u8], at: u64) -> Option<Hint>

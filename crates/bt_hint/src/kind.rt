@@ -92,7 +92,9 @@ fn is_lines(bytes: &[u8]) -> bool
     begins(bytes, b"0 handshake ") || begins(bytes, b"{\"offset\":0,")
 }
 
-/// Returns the kind of file that begins with these bytes; `None` for a stream and for what isn't known.
+/// Returns the kind of file that begins with these bytes.
+///
+/// `None` for a stream and for what isn't known.
 pub fn kind_of(bytes: &[u8]) -> Option<Kind>
     ensures { result ≡ kind_in bytes.now }
 {

@@ -110,7 +110,7 @@ fn make_room<A: Allocator>(
     Ok(())
 }
 
-/// Writes the bytes until all are taken or a write fails, and says how many were taken.
+/// Writes the bytes until a write fails, and returns how many were taken.
 pub fn write_front<W: Target>(writer: &mut W, bytes: &[u8]) -> usize
     ensures within { result ≤ length bytes.now }
     ensures sent { Appends (W.seen writer.old).held (W.seen writer.new).held (take result bytes.now) }

@@ -12,7 +12,7 @@ use bt_text::lines::verdict_line;
 use bt_wire::{Own, laws};
 use std::alloc::Global;
 
-/// Writes the verdict's line of the stream that `reader` gives, and returns the verdict.
+/// Writes the line of a stream's verdict, and returns the verdict.
 ///
 /// # Errors
 /// Those of `run_show`.
@@ -33,7 +33,7 @@ pub fn run_check<R: Source, W: Target>(
     run_check_after(alloc, b"", reader, writer, own)
 }
 
-/// Writes `prefix` and then the verdict's line of the stream that `reader` gives, and returns the verdict.
+/// Writes `prefix` and then the line of a stream's verdict; returns the verdict.
 ///
 /// # Errors
 /// Those of `run_show`.

@@ -22,7 +22,9 @@ use thiserror::Error;
 pub struct Announced {
     /// The reserved bits of its handshake.
     pub reserved: Reserved,
-    /// The id under which it wants `ut_metadata` (BEP 10), by its first extended handshake that names one.
+    /// The id under which it wants `ut_metadata` (BEP 10).
+    ///
+    /// It is that of its first extended handshake that names one.
     pub metadata: Option<ExtId>,
     /// The same of `lt_donthave`.
     pub donthave: Option<ExtId>,

@@ -158,8 +158,9 @@ fn end_script(
     }
 }
 
-/// Reads a script and writes the bytes that its lines name, up to the first line that isn't taken. It returns the counts of the
-/// stream, or that line and the reason.
+/// Reads a script and writes the bytes that its lines name.
+///
+/// It goes up to the first line that isn't taken. It returns the counts of the stream, or that line and the reason.
 ///
 /// # Errors
 /// Those of `run_show`. A prefix of the bytes of lines that are taken is written then.

@@ -45,7 +45,9 @@ fn first_decimal(text: &[u8]) -> Option<(u64, &[u8])>
     None
 }
 
-/// Returns the line that is said of a script after it is packed; `None` where nothing is, and without memory.
+/// Returns the line that is said of a script after it is packed.
+///
+/// `None` where nothing is said, and where there is no memory for it.
 ///
 /// `text` is the script's begin, and `is_all` says that it is all of it.
 pub fn pack_hint(alloc: Global, end: PackEnd, text: &[u8], is_all: bool) -> Option<Vec<u8>>

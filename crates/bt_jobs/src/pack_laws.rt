@@ -6,7 +6,9 @@ pub fn one_split()
     ensures { LinesAreOne }
 {}
 
-/// A stream that is accepted is what the script of its items packs to, under the same options.
+/// An accepted stream is what the script of its items packs to.
+///
+/// The options are the same.
 pub fn script_packs()
     ensures { ScriptPacks }
 {}

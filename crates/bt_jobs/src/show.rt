@@ -123,8 +123,9 @@ fn run_form<R: Source, W: Target>(
     }
 }
 
-/// Writes a line for each item of the stream that `reader` gives, and then the verdict's line; returns the verdict. The lines
-/// of what was read are written before more is read.
+/// Writes a line for each item and then the verdict's line; returns the verdict.
+///
+/// The lines of what was read are written before more is read.
 ///
 /// # Errors
 /// - `Read` if a read failed.
@@ -148,7 +149,8 @@ pub fn run_show<R: Source, W: Target>(
     run_form(alloc, &Form::Show, reader, writer, own)
 }
 
-/// Writes a JSON object for each item of the stream that `reader` gives, and then one for the verdict; returns the verdict.
+/// Writes a JSON object for each item and for the verdict; returns the verdict.
+///
 /// Each stands on a line of its own. The objects of what was read are written before more is read.
 ///
 /// # Errors
@@ -170,7 +172,9 @@ pub fn run_json<R: Source, W: Target>(
     run_form(alloc, &Form::Json, reader, writer, own)
 }
 
-/// Writes the script of the items of the stream that `reader` gives, up to its end or a refusal; returns the verdict.
+/// Writes the script of a stream's items, and returns the verdict.
+///
+/// The script goes up to the stream's end or a refusal.
 ///
 /// # Errors
 /// Those of `run_show`.

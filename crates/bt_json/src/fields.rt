@@ -49,7 +49,9 @@ pub fn number_if(name: &str, n: Option<u64>, out: &mut Writer) -> Result<(), All
     }
 }
 
-/// Adds a field with the text that bytes are, or null where they are no UTF-8 or there are none.
+/// Adds a field with the text that bytes are.
+///
+/// It is null where they are no UTF-8 or there are none.
 #[tactic(auto, using(crate::proofs::FieldLaws::field_is, crate::proofs::FieldLaws::is_text, crate::proofs::FieldLaws::is_no_text))]
 pub fn text_if(name: &str, bytes: Option<&[u8]>, out: &mut Writer) -> Result<(), AllocError>
     ensures tokens { OnOk result (out.new.tokens ≡ out.old.tokens ++ a_field name.now (text_or_null (option_map (λ s. s.now) bytes.entry))) }

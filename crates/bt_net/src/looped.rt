@@ -188,7 +188,10 @@ fn run_metadata<W: Wire, T: Target>(
     }
 }
 
-/// Reads metadata to the reader's end, serves it at one end of the wire, fetches it at the other, and writes what came of it.
+/// Fetches metadata from an end of its own, over the wire.
+///
+/// It reads the metadata to the reader's end, serves it at one end of the wire, fetches it at the other, and writes what
+/// came of it.
 ///
 /// The left end serves under the id 3, and the right one fetches under the id 9. The wire is used once all is read.
 ///
@@ -217,7 +220,9 @@ pub fn run_loop<R: Source, T: Target, W: Wire>(
     }
 }
 
-/// Returns the exit status of a loop: 0 where it fetched, 1 where it didn't, and 3 for a fault.
+/// Returns the exit status of a loop.
+///
+/// 0 where it fetched, 1 where it didn't, and 3 for a fault.
 pub fn status(end: &Result<LoopEnd, ToolFault>) -> u8
     ensures { result ≡ status_of end.now }
 {

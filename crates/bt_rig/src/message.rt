@@ -40,7 +40,9 @@ fn spelled(alloc: Global, bytes: &[u8]) -> Result<Option<Message>, AllocError>
     }
 }
 
-/// The message whose line in a script these words are; `None` where they are no line, or its bytes are no message.
+/// Returns the message whose line in a script these words are.
+///
+/// `None` where they are no line, or the line's bytes are no message.
 ///
 /// # Errors
 /// `AllocError` where a growth was refused.

@@ -132,7 +132,9 @@ pub fn run_rig<R: Source, W: Target>(
     }
 }
 
-/// Returns the exit status of a run: 0 where the link ran, 1 where the script is refused, and 3 for a fault.
+/// Returns the exit status of a run.
+///
+/// 0 where the link ran, 1 where the script is refused, and 3 for a fault.
 pub fn status(end: &Result<RigEnd, ToolFault>) -> u8
     ensures { result ≡ status_of end.now }
 {

@@ -18,7 +18,9 @@ fn info_of<'a>(file: &'a [u8], dict: &DictRef<'a>) -> Option<&'a [u8]>
     }
 }
 
-/// Returns the info dictionary of a .torrent, or of a file that is one itself; `None` where there is none.
+/// Returns the info dictionary of a file; `None` where there is none.
+///
+/// The file is a .torrent, or an info dictionary itself.
 ///
 /// A .torrent has a dictionary under `info`. An info dictionary has none, and a number under `piece length`.
 pub fn info_in(file: &[u8]) -> Option<&[u8]>
@@ -59,7 +61,9 @@ fn cut_out(file: &mut Vec<u8>, at: usize, n: usize)
     file.truncate(n);
 }
 
-/// Returns the info dictionary of a file, as [`info_in`] does, in the memory of the file.
+/// Returns the info dictionary of a file, in the memory of the file.
+///
+/// It is that of [`info_in`].
 ///
 /// # Errors
 /// Out of memory, if the info dictionary isn't found again in the file and a copy of it is refused.

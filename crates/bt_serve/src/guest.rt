@@ -245,7 +245,9 @@ impl<L: Connection + Drop> Guest<L> {
         }
     }
 
-    /// Makes steps until the peer has to be waited for, or others are to have their turn.
+    /// Makes steps until the peer has to be waited for.
+    ///
+    /// It stops too where others are to have their turn.
     ///
     /// # Errors
     /// How the connection ended.

@@ -69,7 +69,9 @@ fn tend_all<D: Door>(patience: u64, door: &mut D, guests: &mut Guests<D>) -> (u6
     (ended, is_busy)
 }
 
-/// Serves metadata to so many connections, or without end, at most `at_once` of them at the same time.
+/// Serves metadata to so many connections, or without end.
+///
+/// At most `at_once` of them are served at the same time.
 ///
 /// # Errors
 /// `Memory` if the buffers of a connection are refused.

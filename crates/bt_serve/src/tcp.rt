@@ -33,7 +33,9 @@ impl<'a, R: Net + Clock, F: Farewell + Drop> TcpDoor<'a, R, F> {
     }
 }
 
-/// Returns a listener at an address, whose calls don't wait, and the address at which it listens.
+/// Returns a listener at an address, and the address at which it listens.
+///
+/// Its calls don't wait.
 ///
 /// # Errors
 /// The operating system's, where it can't listen there.

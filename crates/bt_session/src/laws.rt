@@ -30,7 +30,9 @@ pub fn one_outcome()
     ensures { OutcomesAreOne }
 {}
 
-/// Each message that an end queues may be sent in the context that it believes the other end to have.
+/// Each message that an end queues may be sent.
+///
+/// The context is the one that it believes the other end to have.
 pub fn queued_may_be_sent()
     ensures { QueuedMayBeSent }
 {}

@@ -45,7 +45,9 @@ pub struct LinkReport {
     pub outcomes: Vec<Outcome>,
     /// One more than there are resets.
     pub connections: Vec<Connection>,
-    /// The blocks that each end holds while it is fetching, with their numbers, in rising order.
+    /// The blocks that each end holds while it fetches.
+    ///
+    /// They come with their numbers, in rising order.
     pub blocks: [Vec<(u32, Vec<u8>)>; 2],
     /// The two ends, as the last step left them.
     pub ends: [End; 2],

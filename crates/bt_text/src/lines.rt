@@ -288,7 +288,7 @@ fn view_words(view: &MessageView, line: &mut Line, at: usize) -> usize
     }
 }
 
-/// Writes the line of a message at the end of the array, and returns where it starts.
+/// Writes a message's line at the end of the array; returns where it starts.
 #[inline(always)]
 pub fn message_line(at: u64, view: &MessageView, line: &mut Line) -> usize
     ensures room { result ≤ 160 }
@@ -300,7 +300,7 @@ pub fn message_line(at: u64, view: &MessageView, line: &mut Line) -> usize
     number(at, line, place)
 }
 
-/// Writes the line of a handshake at the end of the array, and returns where it starts.
+/// Writes a handshake's line at the end of the array; returns where it starts.
 pub fn handshake_line(at: u64, handshake: &Handshake, line: &mut Line) -> usize
     ensures room { result ≤ 160 }
     ensures text { (own : Own) → drop result line.new ≡ line_of own (at, items.Handshake handshake.now) }
@@ -350,7 +350,9 @@ fn script_name_of(reason: ScriptReason) -> &'static [u8]
     }
 }
 
-/// Writes the line for a refused line of a script at the end of the array, and returns where it starts.
+/// Writes the line of a refused line of a script; returns where it starts.
+///
+/// It stands at the end of the array.
 pub fn refused_line(number_of_line: u64, reason: ScriptReason, line: &mut Line) -> usize
     ensures room { result ≤ 160 }
     ensures text { drop result line.new ≡ refused_words number_of_line reason }

@@ -33,7 +33,9 @@ pub fn id_name(id: u8) -> Option<&'static str>
     }
 }
 
-/// What is shown of an item: [`shown`] and [`shown_message`] make it, and `{}` writes it.
+/// What is shown of an item.
+///
+/// [`shown`] and [`shown_message`] make it, and `{}` writes it.
 #[derive(Clone, Copy)]
 pub enum ItemText<'a> {
     Handshake(&'a Handshake),

@@ -4,7 +4,7 @@ use std::cell::Cell;
 use std::io;
 use std::io::{ErrorKind, Write};
 
-/// A writer that notes in `is_gone` that a write failed since nobody reads the other end of a pipe.
+/// A writer that notes in `is_gone` that nobody reads the other end of a pipe.
 #[derive(Drop)]
 pub struct Piped<'a, W> {
     writer: W,

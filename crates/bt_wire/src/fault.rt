@@ -106,7 +106,9 @@ pub struct Refused {
     pub reason: Reason,
 }
 
-/// Why a value isn't legal: it has no spelling of its own, or its spelling is refused.
+/// Why a value isn't legal.
+///
+/// It has no spelling of its own, or its spelling is refused.
 #[derive(Clone, Copy, PartialEq, Eq, Debug, Error)]
 pub enum Fault {
     #[error("the value has no spelling of its own")]
@@ -124,7 +126,9 @@ pub enum EncodeError {
     Memory,
 }
 
-/// Why a window isn't decoded: its fault, at this place of the window, or out of memory.
+/// Why a window isn't decoded.
+///
+/// It has this fault at this place, or there is no memory.
 #[derive(Clone, Copy, PartialEq, Eq, Debug, Error)]
 pub enum DecodeError {
     #[error("{reason} at {at}")]

@@ -70,7 +70,9 @@ pub fn judge_message(context: &Context, length: u32, message: &Message) -> Optio
     }
 }
 
-/// Like [`judge_fields`], over the bytes that follow the id of a message whose length prefix is `length`.
+/// Like [`judge_fields`], over the bytes after the id.
+///
+/// The message has the length prefix `length`.
 #[inline(always)]
 pub fn judge_bytes(context: &Context, id: u8, length: u32, bytes: &[u8]) -> Option<Refused>
     requires { allows (size_of context.now id) (list_length bytes.now + 1) ≡ true }

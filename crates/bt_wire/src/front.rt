@@ -8,7 +8,9 @@ use crate::fault::{Header, Reason, Refused};
 use crate::header::judge_header;
 use crate::message::MessageView;
 
-/// What a stream begins with: a fault, less than a message, or a message and its length.
+/// What a stream begins with.
+///
+/// A fault, less than a message, or a message and its length.
 #[derive(Drop)]
 pub enum Front<'a> {
     Refused(Refused),

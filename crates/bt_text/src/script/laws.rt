@@ -17,7 +17,9 @@ pub fn handshake_is_line()
     ensures { HandshakeIsLine }
 {}
 
-/// The words of a message hold no line feed, and aren't longer than twice its body and 256 bytes.
+/// The words of a message hold no line feed.
+///
+/// They aren't longer than twice its body and 256 bytes.
 pub fn message_fits()
     ensures { MessageFits }
 {}

@@ -171,7 +171,9 @@ fn follow(
     })
 }
 
-/// Returns the first word of a line that can't stand in its place, by what is expected there.
+/// Returns the first word of a line that can't stand there.
+///
+/// It is told by its column and by what is expected in its place.
 ///
 /// `first` says that the line is the first of its script. `None` where the text is a line, and without memory.
 pub fn find_misfit(alloc: Global, text: &[u8], first: bool) -> Option<Misfit>
@@ -224,7 +226,9 @@ fn push_numbered(text: &[u8], n: u64, line: &mut Vec<u8>) -> Result<(), AllocErr
     line.extend_from_slice(&digits[place..])
 }
 
-/// Appends the line that says where the line `number` of a script has its misfit, and what is expected there.
+/// Appends the line that says where a script's line has its misfit.
+///
+/// It names the line's `number` and what is expected there.
 ///
 /// # Errors
 /// `AllocError` if the growth of the text was refused.
@@ -257,7 +261,9 @@ fn is_short_number(word: &[u8]) -> bool
     matches!(word.len(), 2 | 4 | 6 | 8) && word.iter().all(|byte| byte.is_ascii_digit())
 }
 
-/// Returns the hex of a short block that has decimal digits alone, as a length has them; `None` for another line.
+/// Returns the hex of a short block that has decimal digits alone.
+///
+/// A length has such digits. `None` for another line.
 pub fn decimal_block(text: &[u8]) -> Option<&[u8]>
     ensures { IfSome result (λ block. IsDecimalBlock text.now block.now) }
 {
@@ -287,7 +293,9 @@ fn block_size(block: &[u8]) -> &'static [u8]
     }
 }
 
-/// Appends the line that says of the line `number` of a script that its decimal digits are a block, and no length.
+/// Appends the line that says that decimal digits are a block, and no length.
+///
+/// It names the line's `number`.
 ///
 /// # Errors
 /// `AllocError` if the growth of the text was refused.

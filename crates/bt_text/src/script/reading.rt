@@ -389,7 +389,9 @@ fn read_handshake(text: &[u8]) -> Option<Handshake>
     })
 }
 
-/// Reads a line of a script, which stands without its line feed, and puts what it names in `bytes`.
+/// Reads a line of a script, and puts what it names in `bytes`.
+///
+/// The text stands without its line feed.
 ///
 /// The first line of a script names the 68 bytes of a handshake (BEP 3), each other one the length, id and fields of a
 /// message, whether that may be sent or not. It returns false for what is no line; `bytes` is then of no use.

@@ -11,7 +11,7 @@ pub loop-round-init : goal.loop-round-init
 loop-round-init g c =
     let s = started c.args.limits.sign (moment (g.C.Connection.seen c.args.connection.now) c.args.hearing.now c.args.end.now)
     (g.C.Connection.seen c.now.new.self) c.now.result c.now.ensures in
-    record { made = s.0; calm = s.1; undone = c.in_default.ensures; progress = λ e. c.progress.ensures.value; mark = s.2 }
+    record { made = s.0; calm = s.1; undone = c.in_default.ensures; headway = λ e. c.headway.ensures; mark = s.2 }
 
 pub loop-round-preserved : goal.loop-round-preserved
 loop-round-preserved g c =
@@ -24,7 +24,7 @@ loop-round-preserved g c =
           c.in-Ok.ensures.made.3;
       calm = w.0;
       undone = sym c.in-Ok.ensures.done;
-      progress = w.1;
+      headway = w.1;
       mark = w.2;
     }
 

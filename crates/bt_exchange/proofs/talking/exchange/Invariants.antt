@@ -1,5 +1,5 @@
 use Rattle.std.proofs.Common.{◌≡◌, false, is_some}
-use Rattle.bt_end.specs.Ends.{metadata_of, progress_of}
+use Rattle.bt_end.specs.Ends.{metadata_of, headway_of}
 use Rattle.bt_exchange.specs.Stops.{IsCalm, IsMade, IsMark}
 use Rattle.bt_exchange.specs.declared.talking.Sign.TheVariants as sign
 use Rattle.bt_exchange.proofs.Moves.{moment}
@@ -11,7 +11,7 @@ invariant-loop-round g l = record {
   made : IsMade l._round (moment (g.C.Connection.seen l.fn.connection) l.fn.hearing l.fn.end) (moment (g.C.Connection.seen l.connection) l.hearing l.end);
   calm : IsCalm (g.C.Connection.seen l.fn.connection).counts (g.C.Connection.seen l.connection).counts;
   undone : is_some (metadata_of l.end.end.part) ≡ false;
-  progress : l.limits.sign ≡ sign.Progress → l.watch.progress ≡ progress_of l.end.end.part;
+  headway : l.limits.sign ≡ sign.Progress → l.watch.headway ≡ headway_of l.end.end;
   mark : IsMark l.limits.sign l.watch.since (moment (g.C.Connection.seen l.fn.connection) l.fn.hearing l.fn.end)
       (moment (g.C.Connection.seen l.connection) l.hearing l.end);
 }

@@ -1,7 +1,7 @@
 use Rattle.std.proofs.Common.{sym, ap, ◌∙◌, arith}
 use Rattle.bt_exchange.specs.Connections.{Seen}
 use Rattle.bt_exchange.proofs.Moves.{moment}
-use Rattle.bt_exchange.proofs.Watches.{round_made, round_calm, mark_alive, mark_quiet, quiet_step, progress_on, fault_watched, verdict_watched}
+use Rattle.bt_exchange.proofs.Watches.{round_made, round_calm, mark_alive, mark_quiet, quiet_step, headway_on, fault_watched, verdict_watched}
 use Rattle.bt_exchange.proofs.talking.round.Goals as goal
 
 pub returns-then-is_alive-clause-made : goal.returns-then-is_alive-clause-made
@@ -18,7 +18,7 @@ returns-then-is_alive-clause-watched g c = λ start mark calm. (
   round_calm start (moment (g.C.Connection.seen c.args.connection.now) c.args.hearing.now c.args.end.now)
       (moment (g.C.Connection.seen c.advance.new.connection) c.advance.new.hearing c.advance.new.end) (g.C.Connection.seen c.now-now.new.self) c.in-Ok.step
       c.now-now.result calm c.in-Ok.ensures c.now-now.ensures,
-  λ e. c.progress-progress.ensures.value,
+  λ e. c.headway-headway.ensures,
   mark_alive c.args.limits.sign start (moment (g.C.Connection.seen c.args.connection.now) c.args.hearing.now c.args.end.now)
       (moment (g.C.Connection.seen c.advance.new.connection) c.advance.new.hearing c.advance.new.end) (g.C.Connection.seen c.now-now.new.self) c.in-Ok.step
       c.now-now.result c.args.watch.since mark c.in-Ok.ensures c.now-now.ensures,
@@ -46,7 +46,7 @@ returns-then-now-watch-2-clause-watched g c = λ start mark calm. (
           c.in-Ok.step c.now-now.result c.args.watch.since mark c.in-Ok.ensures
           (quiet_step c.args.limits.sign c.in-Ok.step (moment (g.C.Connection.seen c.args.connection.now) c.args.hearing.now c.args.end.now)
           (moment (g.C.Connection.seen c.advance.new.connection) c.advance.new.hearing c.advance.new.end) c.in-Ok.ensures
-          (λ e f. sym (c.requires.progress e) ∙ c.is_alive.ensures.progress e f c.if-is_alive.false) (λ e. c.is_alive.ensures.bytes e c.if-is_alive.false))
+          (λ e f. sym (c.requires.headway e) ∙ c.is_alive.ensures.headway e f c.if-is_alive.false) (λ e. c.is_alive.ensures.bytes e c.if-is_alive.false))
           c.now-now.ensures,
       omega (arith, c.if-now-watch.true, c.if-now-watch-2.true, ap (λ (x : Seen). x.counts.clock) c.now-now.ensures),
     ),
@@ -69,17 +69,17 @@ returns-clause-watched g c = λ start mark calm. (
   round_calm start (moment (g.C.Connection.seen c.args.connection.now) c.args.hearing.now c.args.end.now)
       (moment (g.C.Connection.seen c.advance.new.connection) c.advance.new.hearing c.advance.new.end) (g.C.Connection.seen c.now-now.new.self) c.in-Ok.step
       c.now-now.result calm c.in-Ok.ensures c.now-now.ensures,
-  progress_on c.args.limits.sign (moment (g.C.Connection.seen c.args.connection.now) c.args.hearing.now c.args.end.now)
-      (moment (g.C.Connection.seen c.advance.new.connection) c.advance.new.hearing c.advance.new.end) c.in-Ok.ensures.made.moved c.args.watch.progress
-      c.requires.progress (quiet_step c.args.limits.sign c.in-Ok.step (moment (g.C.Connection.seen c.args.connection.now) c.args.hearing.now c.args.end.now)
-      (moment (g.C.Connection.seen c.advance.new.connection) c.advance.new.hearing c.advance.new.end) c.in-Ok.ensures (λ e f. sym (c.requires.progress e)
-      ∙ c.is_alive.ensures.progress e f c.if-is_alive.false) (λ e. c.is_alive.ensures.bytes e c.if-is_alive.false)),
+  headway_on c.args.limits.sign (moment (g.C.Connection.seen c.args.connection.now) c.args.hearing.now c.args.end.now)
+      (moment (g.C.Connection.seen c.advance.new.connection) c.advance.new.hearing c.advance.new.end) c.in-Ok.ensures.made.moved c.args.watch.headway
+      c.requires.headway (quiet_step c.args.limits.sign c.in-Ok.step (moment (g.C.Connection.seen c.args.connection.now) c.args.hearing.now c.args.end.now)
+      (moment (g.C.Connection.seen c.advance.new.connection) c.advance.new.hearing c.advance.new.end) c.in-Ok.ensures (λ e f. sym (c.requires.headway e)
+      ∙ c.is_alive.ensures.headway e f c.if-is_alive.false) (λ e. c.is_alive.ensures.bytes e c.if-is_alive.false)),
   mark_quiet c.args.limits.sign start (moment (g.C.Connection.seen c.args.connection.now) c.args.hearing.now c.args.end.now)
       (moment (g.C.Connection.seen c.advance.new.connection) c.advance.new.hearing c.advance.new.end) (g.C.Connection.seen c.now-now.new.self) c.in-Ok.step
       c.now-now.result c.args.watch.since mark c.in-Ok.ensures
       (quiet_step c.args.limits.sign c.in-Ok.step (moment (g.C.Connection.seen c.args.connection.now) c.args.hearing.now c.args.end.now)
-      (moment (g.C.Connection.seen c.advance.new.connection) c.advance.new.hearing c.advance.new.end) c.in-Ok.ensures (λ e f. sym (c.requires.progress e)
-      ∙ c.is_alive.ensures.progress e f c.if-is_alive.false) (λ e. c.is_alive.ensures.bytes e c.if-is_alive.false)) c.now-now.ensures,
+      (moment (g.C.Connection.seen c.advance.new.connection) c.advance.new.hearing c.advance.new.end) c.in-Ok.ensures (λ e f. sym (c.requires.headway e)
+      ∙ c.is_alive.ensures.headway e f c.if-is_alive.false) (λ e. c.is_alive.ensures.bytes e c.if-is_alive.false)) c.now-now.ensures,
 )
 
 pub returns-in-Err-clause-watched : goal.returns-in-Err-clause-watched
