@@ -152,15 +152,16 @@ pending_later hand greet true old rest js is h e = e
 
 -- ---- the invariant
 
--- the part of the end that fetches: blocks whose requests were answered, and others whose requests wait, haven't come yet
+-- The part p of the end that fetches. The blocks `answered`, whose requests were answered, haven't come yet, nor the blocks `waiting`, whose
+-- requests are under way. In all, `asked` blocks were asked for.
 abbrev pub PartIs : Heard → List ℕ → EndState → Part → List ℕ → List ℕ → ℕ → Type 0
 PartIs Unheard metadata b p answered waiting asked = (p ≡ Awaiting) × (answered ≡ []) × (waiting ≡ []) × (asked ≡ 0)
 PartIs Opened metadata b p answered waiting asked = (p ≡ Awaiting) × (answered ≡ []) × (waiting ≡ []) × (asked ≡ 0)
 PartIs Known metadata b p answered waiting asked =
     IsAsked metadata b.window p (answered ++ waiting) × (asked + lacking p ≡ block_count (length metadata))
 
--- The end x serves, y fetches. Each has handled so much of what the other sent; notices of theirs are under way; blocks were
--- answered and requests wait, and so many blocks were asked for in all.
+-- The end x serves, the end y fetches. x_stage is what x handled of y's items, and y_stage what y handled of x's. Under way are these
+-- notices, the blocks `answered`, and requests for the blocks `waiting`. In all, y asked for `asked` blocks.
 pub record Sides (metadata : List ℕ) (a b : EndState) (x_stage y_stage : Heard) (x_notices y_notices : List Message) (answered waiting : List ℕ) (asked : ℕ)
     (x y : Node) : Type 0 where
   pub server : IsServer metadata a x_stage x.end
