@@ -2,6 +2,7 @@ pub mod LinkInvariant
 pub mod OwnMessages
 pub mod AssemblyLaws
 pub mod LinkReactions
+pub mod FetchParts
 pub mod UnderWay
 pub mod LinkMoves
 pub mod LinkTurns
@@ -12,3 +13,6 @@ pub mod Recording
 pub mod Runs
 pub mod Blocks
 pub mod NewEnds
+pub mod FetchReactions
+pub mod FetchInvariant
+pub mod FetchRuns
