@@ -3,5 +3,6 @@ pub mod Courses
 pub mod Stops
 pub mod Sides
 pub mod Boths
+pub mod Rounds
 pub mod Watches
 pub mod MemWires

@@ -1,10 +1,13 @@
 //! Two ends over one wire, in rounds. The command `loop` calls it.
-ghost use Rattle.std.specs.Prelude.{◌≡◌, ◌≢◌, true, ◌+◌, ◌≤◌, ◌<◌, ◌^◌, ◌-◌, ◌&&◌, ℕ, not, length, OnOk, OnErr, IfOk};
+ghost use Rattle.std.specs.Prelude.{◌≡◌, ◌≢◌, true, ◌+◌, ◌≤◌, ◌<◌, ◌^◌, ◌-◌, ◌&&◌, ℕ, not, [], length, take, Some, OnOk, OnErr, IfOk};
+ghost use Rattle.std.specs.Io.KnownBytes.{Appends, Consumes};
 ghost use Rattle.bt_io.specs.Counts.{Grew};
 ghost use Rattle.bt_feed.specs.Feeds.{taken};
 ghost use Rattle.bt_feed.specs.Progress.{IsFeed};
-ghost use Rattle.bt_end.specs.Halves.{received, IsTurned};
+ghost use Rattle.bt_end.specs.Halves.{received, IsTurned, IsHandled};
 ghost use Rattle.bt_exchange.specs.Boths.{IsNet, IsRounds, IsSide, IsUpBy, is_fetched as is_fetched_by};
+ghost use Rattle.bt_exchange.specs.Rounds.{IsClear, IsCarried, IsExchanged, IsRun, way_after};
+ghost use Rattle.bt_exchange.specs.Sides.{other};
 
 use crate::wire::{Side, Wire, WireFault};
 use bt_end::{End, Turn, TurnError};
@@ -69,7 +72,9 @@ struct Exchanged {
 }
 
 /// The other side.
-fn across(side: Side) -> Side {
+fn across(side: Side) -> Side
+    ensures { result ≡ other side }
+{
     match side {
         Side::Left => Side::Right,
         Side::Right => Side::Left,
@@ -79,7 +84,9 @@ fn across(side: Side) -> Side {
 /// Sends bytes, and says how many were taken: one at least.
 fn send<W: Wire>(wire: &mut W, from: Side, bytes: &[u8]) -> Result<usize, WireFault>
     requires { 0 < length bytes.now }
-    ensures bound { IfOk result (λ n. n ≤ length bytes.now) }
+    ensures bound { IfOk result (λ n. (0 < n) × (n ≤ length bytes.now)) }
+    ensures bytes { IfOk result (λ n. Appends (W.on_way wire.old from) (W.on_way wire.new from) (take n bytes.now)) }
+    ensures rest { W.on_way wire.new (other from) ≡ W.on_way wire.old (other from) }
     ensures failed { OnErr result (Grew (W.failed wire.old) (W.failed wire.new)) }
     ensures calm { OnOk result (W.failed wire.new ≡ W.failed wire.old) }
     ensures calls { IsUpBy 1 (W.calls wire.old) (W.calls wire.new) }
@@ -92,6 +99,8 @@ fn send<W: Wire>(wire: &mut W, from: Side, bytes: &[u8]) -> Result<usize, WireFa
 
 /// Reads until the buffer is full.
 fn receive_all<W: Wire>(wire: &mut W, at: Side, into: &mut [u8]) -> Result<(), WireFault>
+    ensures bytes { OnOk result (Consumes (W.on_way wire.old (other at)) (W.on_way wire.new (other at)) into.new) }
+    ensures rest { W.on_way wire.new at ≡ W.on_way wire.old at }
     ensures failed { OnErr result (Grew (W.failed wire.old) (W.failed wire.new)) }
     ensures calm { OnOk result (W.failed wire.new ≡ W.failed wire.old) }
     ensures calls { IsUpBy 0 (W.calls wire.old) (W.calls wire.new) }
@@ -121,7 +130,8 @@ fn give<A: Allocator + Copy>(end: &mut End<A>, bytes: &[u8]) -> (usize, Result<T
 
 /// Gives an end the bytes, and has it handle the items in them. It says how many these are, and why it stopped.
 fn give_all<A: Allocator + Copy>(end: &mut End<A>, bytes: &[u8]) -> (u64, Result<(), TurnError>)
-    ensures { IsSide end.old end.new result.0 }
+    ensures side { IsSide end.old end.new result.0 }
+    ensures handled { (used : ℕ) × IsHandled end.old bytes.now used result.1 end.new }
 {
     let mut used = 0;
     let mut items = 0u64;
@@ -133,6 +143,20 @@ fn give_all<A: Allocator + Copy>(end: &mut End<A>, bytes: &[u8]) -> (u64, Result
             Ok(Turn::Idle) => return (items, Ok(())),
             Err(error) => return (items, Err(error)),
         }
+    }
+}
+
+/// What a direction did, by why the receiving end stopped.
+fn way_of(handled: Result<(), TurnError>) -> Result<Way, BothError>
+    ensures way { result ≡ way_after handled }
+    ensures moved { result ≢ Ok Way.Nothing }
+    ensures memory { OnErr result (result ≡ Err BothError.Memory) }
+{
+    match handled {
+        Ok(()) => Ok(Way::All),
+        Err(TurnError::Memory) => Err(BothError::Memory),
+        Err(TurnError::Refused(_)) => Ok(Way::Stopped),
+        Err(TurnError::Busy) => Ok(Way::Stopped),
     }
 }
 
@@ -151,6 +175,9 @@ fn carry<W: Wire, A: Allocator + Copy>(
     ensures moved { IfOk result (λ c. (c.way ≡ Way.Nothing → length sender.old.outbox ≡ 0) × (c.way ≢ Way.Nothing → IsUpBy 1 (W.calls wire.old) (W.calls wire.new))) }
     ensures sender { OnOk result (IsSide sender.old sender.new 0) }
     ensures receiver { IfOk result (λ c. IsSide receiver.old receiver.new c.items) }
+    ensures carried { W.on_way wire.old from ≡ Some [] → IfOk result (λ c. (W.on_way wire.new from ≡ Some [])
+        × IsCarried c.way sender.old receiver.old sender.new receiver.new) }
+    ensures rest { OnOk result (W.on_way wire.new (other from) ≡ W.on_way wire.old (other from)) }
 {
     let outgoing = sender.outgoing();
     if outgoing.is_empty() {
@@ -168,17 +195,9 @@ fn carry<W: Wire, A: Allocator + Copy>(
     let Ok(()) = receive_all(wire, across(from), into) else {
         return Err(BothError::Net);
     };
-    match give_all(receiver, into) {
-        (items, Ok(())) => Ok(Carried {
-            items,
-            way: Way::All,
-        }),
-        (_, Err(TurnError::Memory)) => Err(BothError::Memory),
-        (items, Err(_)) => Ok(Carried {
-            items,
-            way: Way::Stopped,
-        }),
-    }
+    let (items, handled) = give_all(receiver, into);
+    let way = way_of(handled)?;
+    Ok(Carried { items, way })
 }
 
 /// Whether the right end has the metadata, and nothing is to be sent.
@@ -202,6 +221,8 @@ fn round<W: Wire, A: Allocator + Copy>(
     ensures moved { IfOk result (λ r. r.moved ≡ true → IsUpBy 1 (W.calls wire.old) (W.calls wire.new)) }
     ensures left { IfOk result (λ r. IsSide left.old left.new r.left) }
     ensures right { IfOk result (λ r. IsSide right.old right.new r.right) }
+    ensures exchanged { IsClear (W.on_way wire.old) → IfOk result (λ r. IsClear (W.on_way wire.new)
+        × IsExchanged r.stopped r.moved (record { left = left.old; right = right.old }) (record { left = left.new; right = right.new })) }
 {
     let there = carry(wire, Side::Left, left, right, buffer)?;
     if there.way == Way::Stopped {
@@ -239,6 +260,8 @@ pub fn run_both<W: Wire, A: Allocator + Copy>(
     ensures left { IfOk result (λ b. IsSide left.old left.new b.left) }
     ensures right { IfOk result (λ b. IsSide right.old right.new b.right) }
     ensures fetched { IfOk result (λ b. b.fetched ≡ (not b.stopped && is_fetched_by left.new right.new)) }
+    ensures run { IsClear (W.on_way wire.old)
+        → IsRun rounds (record { left = left.old; right = right.old }) (record { left = left.new; right = right.new }) result }
 {
     let mut buffer = [0; PIECE];
     let mut items = (0u64, 0u64);

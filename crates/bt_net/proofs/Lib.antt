@@ -1,1 +1,5 @@
 pub mod Looping
+pub mod Turned
+pub mod Followed
+pub mod Counted
+pub mod Fetching

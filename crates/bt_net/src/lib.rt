@@ -2,6 +2,7 @@
 #![tactic(auto)]
 
 mod ends;
+pub mod laws;
 mod looped;
 
 pub use looped::{LoopEnd, ROUNDS, run_loop, status};

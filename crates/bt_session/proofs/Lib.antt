@@ -13,3 +13,6 @@ pub mod Recording
 pub mod Runs
 pub mod Blocks
 pub mod NewEnds
+pub mod FetchReactions
+pub mod FetchInvariant
+pub mod FetchRuns

@@ -1,11 +1,14 @@
 -- Worked examples of the message link, against the definitions alone.
-use Rattle.std.proofs.Common.{◌≡◌, ℕ, List, [], ◌∷◌, length, map, take, replicate, Option, Some, None, refl}
+use Rattle.std.proofs.Common.{◌≡◌, ℕ, ◌<◌, List, [], ◌∷◌, length, map, take, replicate, Option, Some, None, refl, subst, arith}
 use Rattle.std.specs.Fmt.{digits}
+use Rattle.sha1.specs.Sha1.{sha1, digest_bytes}
 use Rattle.bt_ext.specs.Ids.{metadata_only}
 use Rattle.bt_ext.specs.declared.ids.Rules.TheVariants as rules
 use Rattle.bt_wire.specs.declared.context.Own.{Own}
 use Rattle.bt_wire.specs.declared.handshake.Handshake.{Handshake}
 use Rattle.bt_end.specs.Ends.{EndState, Serving, Awaiting, unopened}
+use Rattle.bt_session.specs.FetchLaws.{IsFetchPair}
+use Rattle.bt_session.specs.LinkLaws.{IsMetadata}
 use Rattle.bt_session.specs.MessageLinks.{link_of, after_all, AreOutcomes, Connection, connections_of}
 use Rattle.bt_end.specs.declared.config.Announce.TheVariants as announce
 use Rattle.bt_session.specs.declared.link.Outcome.{Outcome}
@@ -78,3 +81,68 @@ sent_and_handled : map counts (connections_of (after_all (link_of serving fetchi
     ≡ (3 ∷ 3 ∷ 3 ∷ 2 ∷ []) ∷ (3 ∷ 3 ∷ 3 ∷ 2 ∷ []) ∷ []
 unfolding digits hash
 sent_and_handled = refl
+
+-- ---- a fetch
+
+-- any metadata can be served and fetched
+abbrev known_by : List ℕ → Option ℕ → Own
+known_by metadata id = record (own id) { info_hash = Some (sha1 metadata) }
+
+abbrev hand_for : List ℕ → Handshake
+hand_for metadata = record { reserved = record { 0 = 1048581 }; info_hash = sha1 metadata; peer_id = replicate 20 65 }
+
+abbrev server_of : List ℕ → EndState
+server_of metadata = unopened (known_by metadata (Some 3)) (hand_for metadata) announce.Nothing 8 (Serving metadata)
+
+abbrev fetcher_of : List ℕ → EndState
+fetcher_of metadata = unopened (known_by metadata (Some 9)) (hand_for metadata) announce.Nothing 8 Awaiting
+
+digest_length : (metadata : List ℕ) → length (sha1 metadata) ≡ 20
+unfolding sha1 digest_bytes
+digest_length metadata = refl
+
+same_byte : (n k : ℕ) → n < 256 → Some n ≡ Some k → k < 256
+same_byte n k lt e = let same : n ≡ k = cc in omega (arith, lt)
+
+same_metadata : (metadata other : List ℕ) → IsMetadata metadata → Some metadata ≡ Some other → IsMetadata other
+same_metadata metadata other h e = let same : metadata ≡ other = cc in subst (λ (m : List ℕ). IsMetadata m) same h
+
+fetch_pair : (metadata : List ℕ) → IsMetadata metadata → IsFetchPair metadata (server_of metadata) (fetcher_of metadata)
+fetch_pair metadata sized = record {
+  left = record {
+    is = record {
+      handshake = record { reserved = omega arith; info_hash = digest_length metadata; peer_id = refl };
+      hash = refl;
+      reserved = refl;
+      least = omega arith;
+      most = omega arith;
+      ids = record { metadata = λ k e. same_byte 3 k (omega arith) e; donthave = λ k e. absurd cc };
+      serves = λ m e. same_metadata metadata m sized e;
+    };
+    unopened = refl;
+    part = tt;
+  };
+  right = record {
+    is = record {
+      handshake = record { reserved = omega arith; info_hash = digest_length metadata; peer_id = refl };
+      hash = refl;
+      reserved = refl;
+      least = omega arith;
+      most = omega arith;
+      ids = record { metadata = λ k e. same_byte 9 k (omega arith) e; donthave = λ k e. absurd cc };
+      serves = λ m e. absurd cc;
+    };
+    unopened = refl;
+    part = tt;
+  };
+  matched = record { hash = refl; limit = refl; rules = refl; pieces = tt };
+  serves = refl;
+  awaits = refl;
+  hash = refl;
+  left_extended = refl;
+  right_extended = refl;
+  left_id = refl;
+  right_id = refl;
+  least = omega arith;
+  most = omega arith;
+}

@@ -5,7 +5,7 @@ use Rattle.std.proofs.Common.{map, count_by, Option, Some, None, refl, sym, ap, 
 use Rattle.std.proofs.lemmas.Bool.{ltb-true}
 use Rattle.std.proofs.lemmas.List.{length-map}
 use Rattle.std.specs.Option.{ForSome}
-use Rattle.std.specs.Prelude.{unwrap_or, option_and_then, option_map, codes, nat_lt, nat_le, is_some, ◌||◌}
+use Rattle.std.specs.Prelude.{unwrap_or, option_and_then, option_map, nat_lt, nat_le, is_some, ◌||◌}
 use Rattle.std.specs.Str.{bytes_eq}
 use Rattle.sha1.specs.Sha1.{sha1}
 use Rattle.bt_bencode.specs.Trees.{Tree}

@@ -82,7 +82,7 @@ typed_length t k ps lt lk =
       pair_length (codes "piece") k ps (omega arith) (omega arith),
     )
 
-message_length : (k : Kind) (rest : List ℕ) → IsMade k → length (payload_of (message_of k rest)) ≤ 160 + length rest
+pub message_length : (k : Kind) (rest : List ℕ) → IsMade k → length (payload_of (message_of k rest)) ≤ 160 + length rest
 message_length (kind.Request piece) rest h =
     omega (
       arith,
@@ -139,7 +139,7 @@ fields_length metadata donthave size h i k =
       sizes_length size k,
     )
 
-greeting_length : (reg : Registered) (size : Option ℕ) → HaveBytes reg → ForSome size (λ n. n < 2 ^ 63) → length (payload_of (handshake_of reg size)) ≤ 220
+pub greeting_length : (reg : Registered) (size : Option ℕ) → HaveBytes reg → ForSome size (λ n. n < 2 ^ 63) → length (payload_of (handshake_of reg size)) ≤ 220
 greeting_length reg size h k =
     let ps : Pairs = handshake_pairs (metadata_id reg) (donthave_id reg) size in
     omega (arith, length-append (ben (dictionary ps)) [], dict_length ps, fields_length (metadata_id reg) (donthave_id reg) size h.metadata h.donthave k)

@@ -7,7 +7,7 @@ use Rattle.bt_wire.specs.Messages.{Message}
 use Rattle.bt_wire.specs.Messages.{IsInRange}
 use Rattle.bt_feed.specs.Answers.{standing}
 use Rattle.bt_io.specs.declared.outbox.Memory.{Memory}
-use Rattle.bt_end.specs.Ends.{EndState, belief}
+use Rattle.bt_end.specs.Ends.{EndState}
 use Rattle.bt_session.specs.LinkLaws.{IsWritten, AreWritten, IsShortRun, most_steps}
 use Rattle.bt_session.proofs.Links.{queued_may_be_sent}
 use Rattle.bt_end.specs.Halves.{high_water, is_own_made, tells_pieces}

@@ -1,5 +1,6 @@
 //! Laws of the links of two ends, over the definitions alone.
 ghost use Rattle.bt_session.specs.LinkLaws.{ByteLinkIsMessageLink, MessageLinkIsByteLink, NothingIsRefused, HandledInOrder, FetchedIsServed, FewStepsStaySmall, OutcomesAreOne, QueuedMayBeSent};
+ghost use Rattle.bt_session.specs.FetchLaws.{FetchIsShort, FetchIsWhole, FetchIsFree};
 
 /// Two ends over bytes do what two ends over values do.
 ///
@@ -35,4 +36,14 @@ pub fn one_outcome()
 /// The context is the one that it believes the other end to have.
 pub fn queued_may_be_sent()
     ensures { QueuedMayBeSent }
+{}
+
+/// A fetch from an end that serves ends with the metadata.
+///
+/// The two ends send few bytes. Once each has handled all that the other one sent, the metadata is there; and no turn finds that too
+/// much waits to be sent.
+pub fn fetch_ends()
+    ensures short { FetchIsShort }
+    ensures whole { FetchIsWhole }
+    ensures free { FetchIsFree }
 {}

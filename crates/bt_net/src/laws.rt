@@ -1,0 +1,16 @@
+//! Laws of two ends over a wire, over the definitions alone.
+ghost use Rattle.bt_net.specs.Runs.{RoundsAreSteps, RunFetches};
+
+/// Rounds of two ends over a wire are steps of the byte link of these ends.
+///
+/// So what `bt_session` proves of the link of two ends holds of them.
+pub fn rounds_are_steps()
+    ensures { RoundsAreSteps }
+{}
+
+/// A run of an end that serves metadata and an end that fetches it ends with the metadata.
+///
+/// That is so where the three laws of a fetch over the link hold, which are premises here.
+pub fn run_fetches()
+    ensures { RunFetches }
+{}
