@@ -1,7 +1,8 @@
 //! A fetch over several connections, one after the other.
 ghost use Rattle.std.specs.Prelude.{◌≡◌, ◌+◌, ◌-◌, ◌^◌, ◌<◌, ◌≤◌, ℕ, true, false, Err, length, take, min, is_some, IfOk, OnOk, MatchResult};
 ghost use Rattle.std.specs.Io.KnownBytes.{Appends};
-ghost use Rattle.bt_io.specs.Counts.{Grew, one_more};
+ghost use Rattle.bt_io.specs.Counts.{one_more};
+ghost use Rattle.bt_io.specs.Seen.{WriteFailed};
 ghost use Rattle.bt_end.specs.Ends.{metadata_of};
 ghost use Rattle.bt_fetch.specs.Wishes.{IsWish, handshake_of};
 ghost use Rattle.bt_exchange.specs.Courses.{Moment};
@@ -229,9 +230,9 @@ fn torrent_of(alloc: Global, metadata: &[u8]) -> Result<Vec<u8>, AllocError>
 /// Writes bytes, and returns how many they are.
 fn put<W: Target>(bytes: &[u8], writer: &mut W) -> Result<usize, FetchError>
     ensures written { MatchResult result
-        (λ n. (length bytes.now ≡ n) × Appends (W.held writer.old) (W.held writer.new) bytes.now)
-        (λ e. (e ≡ FetchError.Write) × (n : ℕ) × (n < length bytes.now) × Appends (W.held writer.old) (W.held writer.new) (take n bytes.now)) }
-    ensures fault { result ≡ Err FetchError.Write → Grew (W.failed_writes writer.old) (W.failed_writes writer.new) }
+        (λ n. (length bytes.now ≡ n) × Appends (W.seen writer.old).held (W.seen writer.new).held bytes.now)
+        (λ e. (e ≡ FetchError.Write) × (n : ℕ) × (n < length bytes.now) × Appends (W.seen writer.old).held (W.seen writer.new).held (take n bytes.now)) }
+    ensures fault { result ≡ Err FetchError.Write → WriteFailed (W.seen writer.old) (W.seen writer.new) }
 {
     if write_front(writer, bytes) < bytes.len() {
         return Err(FetchError::Write);
@@ -246,8 +247,8 @@ fn put_out<W: Target>(
     end: &End,
     writer: &mut W,
 ) -> Result<usize, FetchError>
-    ensures written { IsWritten torrent end.now.end.handshake.info_hash (W.held writer.old) (W.held writer.new) result }
-    ensures fault { result ≡ Err FetchError.Write → Grew (W.failed_writes writer.old) (W.failed_writes writer.new) }
+    ensures written { IsWritten torrent end.now.end.handshake.info_hash (W.seen writer.old).held (W.seen writer.new).held result }
+    ensures fault { result ≡ Err FetchError.Write → WriteFailed (W.seen writer.old) (W.seen writer.new) }
     ensures missing { result ≡ Err FetchError.NotFetched → is_some (metadata_of end.now.end.part) ≡ false }
 {
     let Some(metadata) = end.metadata() else {
@@ -281,8 +282,8 @@ pub fn fetch<D: Dial, T: Report, W: Target>(
     writer: &mut W,
 ) -> Result<usize, FetchError>
     requires { IsWish wish.now }
-    ensures written { IsWritten torrent wish.now.info_hash (W.held writer.old) (W.held writer.new) result }
-    ensures fault { result ≡ Err FetchError.Write → Grew (W.failed_writes writer.old) (W.failed_writes writer.new) }
+    ensures written { IsWritten torrent wish.now.info_hash (W.seen writer.old).held (W.seen writer.new).held result }
+    ensures fault { result ≡ Err FetchError.Write → WriteFailed (W.seen writer.old) (W.seen writer.new) }
     ensures tries { result ≡ Err FetchError.NotFetched → min (D.dials dial.old + addresses) (2 ^ 64 - 1) ≤ D.dials dial.new }
 {
     let mut end = fetching_end(alloc, wish)?;

@@ -116,7 +116,8 @@ out_is out out' x none e = e ∙ ap (λ (l : List ℕ). l ++ x) none
 
 pub run_more : (own : Own) (left left' left'' held held' held'' : Option (List ℕ)) (line new piece out out' : List ℕ) (f g : FeedState)
     → (r : IsRun own left left' held held' line f) → Consumes left' left'' piece → out ≡ []
-    → IsPieceRead own (r.text ++ piece) (packing r.lines r.bytes out) (packer new g out') None → Appends held' held'' out' → IsRun own left left'' held held'' new g
+    → IsPieceRead own (r.text ++ piece) (packing r.lines r.bytes out) (packer new g out') None → Appends held' held'' out' → IsRun own left left'' held
+    held'' new g
 run_more own left left' left'' held held' held'' line new piece out out' f g r read none p written = record {
   text = r.text ++ piece;
   lines = r.lines ++ p.0;

@@ -1,6 +1,6 @@
 -- Laws of fields, and of lists that are written part by part.
 use Rattle.std.proofs.Common.{◌≡◌, ◌++◌, ◌∷◌, [], List, ℕ, true, false, refl, append_assoc}
-use Rattle.std.specs.Prelude.{Some, IsUtf8, Result, Ok, Err, OnOk}
+use Rattle.std.specs.Prelude.{Some, IsUtf8}
 use Rattle.std.specs.Str.{is_utf8}
 use Rattle.std.proofs.lemmas.Bool.{false_from_ne_true}
 use Rattle.std.proofs.lemmas.Str.{IsUtf8-from_is_utf8, is_utf8-from_IsUtf8}
@@ -16,10 +16,6 @@ is_text s u = rw (is_utf8-from_IsUtf8 s u) refl
 
 pub is_no_text : (s : List ℕ) → (IsUtf8 s → ⊥) → text_or_null (Some s) ≡ null
 is_no_text s bad = rw (false_from_ne_true (is_utf8 s) (λ e. bad (IsUtf8-from_is_utf8 s e))) refl
-
-pub on_ok : {T E : Type 0} (r : Result T E) (P Q : Type 0) → (P → Q) → OnOk r P → OnOk r Q
-on_ok (Ok x) P Q f h = f h
-on_ok (Err e) P Q f h = tt
 
 pub three_parts : (a b c d : List Token) → ((a ++ b) ++ c) ++ d ≡ a ++ (b ++ (c ++ d))
 three_parts a b c d = simp append_assoc

@@ -2,6 +2,7 @@
 use Rattle.std.specs.Prelude.{◌≡◌, ◌≢◌, ℕ, ◌<◌, ◌≤◌, ⊤, List, [], ◌++◌, length, codes, Option, Some, None, Result, Ok, Err, MatchResult}
 use Rattle.std.specs.Global.{Vec}
 use Rattle.std.specs.Io.KnownBytes.{Consumes, Appends}
+use Rattle.bt_io.specs.Seen.{SourceSeen, TargetSeen, Devices, EndRead, ReadFailed, WriteFailed, AppendsPrefix}
 use Rattle.bt_end.specs.declared.config.EndError.{EndError}
 use Rattle.bt_end.specs.declared.config.EndError.TheVariants as ends
 use Rattle.bt_end.specs.Configs.{end_for}
@@ -26,14 +27,14 @@ most_script = 16777216
 -- ---- reading
 
 -- the whole input was read, or more of it than a script may have; or a read failed, or memory was refused
-abbrev pub IsInput : Option (List ℕ) → Option (List ℕ) → Type 0 → Type 0 → Result (Option (Vec ℕ)) ToolFault → Type 0
-IsInput left left' AtEnd Failed (Ok (Some text)) = Consumes left left' text.items × (length text.items ≤ most_script) × AtEnd
-IsInput left left' AtEnd Failed (Ok None) = (text : List ℕ) × Consumes left left' text × (most_script < length text)
-IsInput left left' AtEnd Failed (Err Read) = (text : List ℕ) × Consumes left left' text × Failed
-IsInput left left' AtEnd Failed (Err Memory) = (text : List ℕ) × Consumes left left' text
-IsInput left left' AtEnd Failed (Err Write) = ⊥
-IsInput left left' AtEnd Failed (Err Turns) = ⊥
-IsInput left left' AtEnd Failed (Err Net) = ⊥
+abbrev pub IsInput : SourceSeen → SourceSeen → Result (Option (Vec ℕ)) ToolFault → Type 0
+IsInput before after (Ok (Some text)) = Consumes before.left after.left text.items × (length text.items ≤ most_script) × EndRead before after
+IsInput before after (Ok None) = (text : List ℕ) × Consumes before.left after.left text × (most_script < length text)
+IsInput before after (Err Read) = (text : List ℕ) × Consumes before.left after.left text × ReadFailed before after
+IsInput before after (Err Memory) = (text : List ℕ) × Consumes before.left after.left text
+IsInput before after (Err Write) = ⊥
+IsInput before after (Err Turns) = ⊥
+IsInput before after (Err Net) = ⊥
 
 -- ---- running
 
@@ -44,30 +45,27 @@ IsRunOf s r = IsRun (end_for s.left) (end_for s.right) s.steps.items r
 abbrev pub IsUnrunOf : Script → LinkError → Type 0
 IsUnrunOf s e = IsUnrun s.left s.right s.steps.items e × (e ≢ errors.Memory)
 
--- the bytes begin with those, and nothing else is written
-abbrev pub AppendsPrefix : Option (List ℕ) → Option (List ℕ) → List ℕ → Type 0
-AppendsPrefix held held' text = (prefix : List ℕ) × (rest : List ℕ) × (text ≡ prefix ++ rest) × Appends held held' prefix
-
 -- the bytes are written, or a prefix of them, where a write failed
-abbrev pub IsWritten : List ℕ → Option (List ℕ) → Option (List ℕ) → Type 0 → Result RigEnd ToolFault → Type 0
-IsWritten bytes held held' Failed (Ok Ran) = Appends held held' bytes
-IsWritten bytes held held' Failed (Err Write) = AppendsPrefix held held' bytes × Failed
-IsWritten bytes held held' Failed other = ⊥
+abbrev pub IsWritten : List ℕ → TargetSeen → TargetSeen → Result RigEnd ToolFault → Type 0
+IsWritten bytes before after (Ok Ran) = Appends before.held after.held bytes
+IsWritten bytes before after (Err Write) = AppendsPrefix before.held after.held bytes × WriteFailed before after
+IsWritten bytes before after other = ⊥
 
 -- the lines of a report are written, or a prefix of them, where a write failed, or nothing
-abbrev pub IsPrinted : LinkReport → Option (List ℕ) → Option (List ℕ) → Type 0 → Result RigEnd ToolFault → Type 0
-IsPrinted r held held' Failed (Ok Ran) = Appends held held' (report_lines r)
-IsPrinted r held held' Failed (Err Write) = AppendsPrefix held held' (report_lines r) × Failed
-IsPrinted r held held' Failed (Err Memory) = held' ≡ held
-IsPrinted r held held' Failed other = ⊥
+abbrev pub IsPrinted : LinkReport → TargetSeen → TargetSeen → Result RigEnd ToolFault → Type 0
+IsPrinted r before after (Ok Ran) = Appends before.held after.held (report_lines r)
+IsPrinted r before after (Err Write) = AppendsPrefix before.held after.held (report_lines r) × WriteFailed before after
+IsPrinted r before after (Err Memory) = after.held ≡ before.held
+IsPrinted r before after other = ⊥
 
 -- what is written of a script: the report of its run; a prefix of that, where a write failed; or nothing
-abbrev pub IsFinished : Script → Option (List ℕ) → Option (List ℕ) → Type 0 → Result RigEnd ToolFault → Type 0
-IsFinished s held held' Failed (Ok Ran) = (r : LinkReport) × IsRunOf s r × Appends held held' (report_lines r)
-IsFinished s held held' Failed (Ok (Unrun e)) = IsUnrunOf s e × (held' ≡ held)
-IsFinished s held held' Failed (Err Write) = (r : LinkReport) × IsRunOf s r × AppendsPrefix held held' (report_lines r) × Failed
-IsFinished s held held' Failed (Err Memory) = held' ≡ held
-IsFinished s held held' Failed other = ⊥
+abbrev pub IsFinished : Script → TargetSeen → TargetSeen → Result RigEnd ToolFault → Type 0
+IsFinished s before after (Ok Ran) = (r : LinkReport) × IsRunOf s r × Appends before.held after.held (report_lines r)
+IsFinished s before after (Ok (Unrun e)) = IsUnrunOf s e × (after.held ≡ before.held)
+IsFinished s before after (Err Write) =
+    (r : LinkReport) × IsRunOf s r × AppendsPrefix before.held after.held (report_lines r) × WriteFailed before after
+IsFinished s before after (Err Memory) = after.held ≡ before.held
+IsFinished s before after other = ⊥
 
 -- ---- all of it
 
@@ -85,23 +83,25 @@ IsTimely AtEnd Size = ⊤
 IsTimely AtEnd other = AtEnd
 
 -- a read or a write failed, or memory was refused; after a failed write a prefix of the report is written, else nothing
-abbrev pub IsFault : List ℕ → Option (List ℕ) → Option (List ℕ) → Type 0 → Type 0 → ToolFault → Type 0
-IsFault text held held' Unread Unwritten Read = (held' ≡ held) × Unread
-IsFault text held held' Unread Unwritten Write =
-    (s : Script) × IsScript text (draft_of s) × (r : LinkReport) × IsRunOf s r × AppendsPrefix held held' (report_lines r) × Unwritten
-IsFault text held held' Unread Unwritten Memory = held' ≡ held
-IsFault text held held' Unread Unwritten Turns = ⊥
-IsFault text held held' Unread Unwritten Net = ⊥
+abbrev pub IsFault : List ℕ → Type 0 → TargetSeen → TargetSeen → ToolFault → Type 0
+IsFault text Unread before after Read = (after.held ≡ before.held) × Unread
+IsFault text Unread before after Write =
+    (s : Script) × IsScript text (draft_of s) × (r : LinkReport) × IsRunOf s r × AppendsPrefix before.held after.held (report_lines r)
+    × WriteFailed before after
+IsFault text Unread before after Memory = after.held ≡ before.held
+IsFault text Unread before after Turns = ⊥
+IsFault text Unread before after Net = ⊥
 
 -- how the program ends on a text, where no read can fail
-abbrev pub IsTextRun : List ℕ → Option (List ℕ) → Option (List ℕ) → Type 0 → Result RigEnd ToolFault → Type 0
-IsTextRun text held held' Unwritten r = MatchResult r (IsEnd text held held') (IsFault text held held' ⊥ Unwritten)
+abbrev pub IsTextRun : List ℕ → TargetSeen → TargetSeen → Result RigEnd ToolFault → Type 0
+IsTextRun text before after r = MatchResult r (IsEnd text before.held after.held) (IsFault text ⊥ before after)
 
 -- what was read is the text, and this comes of it
-abbrev pub IsRigRun : Option (List ℕ) → Option (List ℕ) → Option (List ℕ) → Option (List ℕ) → Type 0 → Type 0 → Type 0 → Result RigEnd ToolFault → Type 0
-IsRigRun left left' held held' AtEnd Unread Unwritten r =
-    (text : List ℕ) × Consumes left left' text × MatchResult r (λ e. IsEnd text held held' e × IsTimely AtEnd e)
-    (λ f. IsFault text held held' Unread Unwritten f)
+abbrev pub IsRigRun : Devices → Devices → Result RigEnd ToolFault → Type 0
+IsRigRun before after r =
+    (text : List ℕ) × Consumes before.source.left after.source.left text
+    × MatchResult r (λ e. IsEnd text before.target.held after.target.held e × IsTimely (EndRead before.source after.source) e)
+    (λ f. IsFault text (ReadFailed before.source after.source) before.target after.target f)
 
 -- ---- what standard error gets
 

@@ -1,6 +1,6 @@
 //! A script that is read, run and reported. The command line calls [`run_rig`].
 ghost use Rattle.std.specs.Prelude.{◌≡◌, ◌<◌, ◌^◌, length, IfOk, IfErr};
-ghost use Rattle.bt_io.specs.Counts.{Grew};
+ghost use Rattle.bt_io.specs.Seen.{devices};
 ghost use Rattle.bt_rig.specs.Runs.{
   IsInput,
   IsRunOf,
@@ -38,7 +38,7 @@ pub enum RigEnd {
 
 /// Reads the whole input, if it isn't too long.
 fn read_input<R: Source>(alloc: Global, reader: &mut R) -> Result<Option<Vec<u8>>, ToolFault>
-    ensures { IsInput (R.left reader.old) (R.left reader.new) (Grew (R.ends reader.old) (R.ends reader.new)) (Grew (R.failed_reads reader.old) (R.failed_reads reader.new)) result }
+    ensures { IsInput (R.seen reader.old) (R.seen reader.new) result }
 {
     let mut text = Vec::new(alloc);
     let mut buffer = [0; 65536];
@@ -71,7 +71,7 @@ fn run_script(alloc: Global, script: Script) -> Result<LinkReport, LinkError>
 
 /// Writes the bytes.
 fn write_all<W: Target>(writer: &mut W, bytes: &[u8]) -> Result<RigEnd, ToolFault>
-    ensures { IsWritten bytes.now (W.held writer.old) (W.held writer.new) (Grew (W.failed_writes writer.old) (W.failed_writes writer.new)) result }
+    ensures { IsWritten bytes.now (W.seen writer.old) (W.seen writer.new) result }
 {
     if write_front(writer, bytes) < bytes.len() {
         return Err(ToolFault::Write);
@@ -81,7 +81,7 @@ fn write_all<W: Target>(writer: &mut W, bytes: &[u8]) -> Result<RigEnd, ToolFaul
 
 /// Writes the lines of a report.
 fn print<W: Target>(alloc: Global, report: &LinkReport, writer: &mut W) -> Result<RigEnd, ToolFault>
-    ensures { IsPrinted report.now (W.held writer.old) (W.held writer.new) (Grew (W.failed_writes writer.old) (W.failed_writes writer.new)) result }
+    ensures { IsPrinted report.now (W.seen writer.old) (W.seen writer.new) result }
 {
     let mut text = Vec::new(alloc);
     match push_report(report, &mut text) {
@@ -92,7 +92,7 @@ fn print<W: Target>(alloc: Global, report: &LinkReport, writer: &mut W) -> Resul
 
 /// Runs the link of a script, and writes its report.
 fn finish<W: Target>(alloc: Global, script: Script, writer: &mut W) -> Result<RigEnd, ToolFault>
-    ensures { IsFinished script (W.held writer.old) (W.held writer.new) (Grew (W.failed_writes writer.old) (W.failed_writes writer.new)) result }
+    ensures { IsFinished script (W.seen writer.old) (W.seen writer.new) result }
 {
     match run_script(alloc, script) {
         Ok(report) => print(alloc, &report, writer),
@@ -104,7 +104,7 @@ fn finish<W: Target>(alloc: Global, script: Script, writer: &mut W) -> Result<Ri
 /// Runs the link of a script, which is given as its text, and writes what came of it.
 fn run_text<W: Target>(alloc: Global, text: &[u8], writer: &mut W) -> Result<RigEnd, ToolFault>
     requires { length text.now < 2 ^ 32 }
-    ensures { IsTextRun text.now (W.held writer.old) (W.held writer.new) (Grew (W.failed_writes writer.old) (W.failed_writes writer.new)) result }
+    ensures { IsTextRun text.now (W.seen writer.old) (W.seen writer.new) result }
 {
     match read_script(alloc, text) {
         Ok(Ok(script)) => finish(alloc, script, writer),
@@ -123,7 +123,7 @@ pub fn run_rig<R: Source, W: Target>(
     reader: &mut R,
     writer: &mut W,
 ) -> Result<RigEnd, ToolFault>
-    ensures { IsRigRun (R.left reader.old) (R.left reader.new) (W.held writer.old) (W.held writer.new) (Grew (R.ends reader.old) (R.ends reader.new)) (Grew (R.failed_reads reader.old) (R.failed_reads reader.new)) (Grew (W.failed_writes writer.old) (W.failed_writes writer.new)) result }
+    ensures { IsRigRun (devices (R.seen reader.old) (W.seen writer.old)) (devices (R.seen reader.new) (W.seen writer.new)) result }
 {
     match read_input(alloc, reader) {
         Ok(Some(text)) => run_text(alloc, text.as_slice(), writer),

@@ -27,7 +27,8 @@ returns-in-Err-Refused-clause-checked g c =
     let R : PumpError → Type 0 = λ e. IsEnd (Err e) → EndRead (g.R.Source.seen c.args.reader.now) (g.R.Source.seen c.pump_with.new.reader) in
     let end = subst P c.in-Err-Refused.field-0-is m.5 in
     checked_all c.args.prefix.now c.args.own.now c.in-Ok.feed (devices (g.R.Source.seen c.args.reader.now) (g.W.Target.seen c.args.writer.now))
-    (devices (g.R.Source.seen c.pump_with.new.reader) (g.W.Target.seen c.say_after-in-Err-Refused.new.writer)) (m.0 ++ m.1) end.0 (Refused c.in-Err-Refused.refusal)
+    (devices (g.R.Source.seen c.pump_with.new.reader) (g.W.Target.seen c.say_after-in-Err-Refused.new.writer)) (m.0 ++ m.1) end.0
+    (Refused c.in-Err-Refused.refusal)
     c.say_after-in-Err-Refused.result c.requires.1 c.one_verdict.ensures.one m.3 c.in-Ok.ensures.ok end.1.comes
     (is_refused end.0 c.in-Err-Refused.refusal end.3) (subst R c.in-Err-Refused.field-0-is c.in-Err-Refused.ensures.end)
     c.say_after-in-Err-Refused.ensures.written

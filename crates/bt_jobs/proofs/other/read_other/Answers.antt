@@ -40,16 +40,19 @@ returns-in-Ok-true-clause-learnt g c =
     let P : Bool → Type 0 = λ k. IsTurnHeard (so_far t.bytes t.items) (g.R.Source.seen c.loop-turn.reader) (g.R.Source.seen c.turn.new.reader)
     c.turn.new.feed c.turn.new.listener (Ok k) in
     let end = subst P c.in-Ok-true.field-0-test (c.in-Ok-true.ensures.heard t.bytes t.items t.listening) in
-    learnt (g.R.Source.seen c.args.reader.now) (g.R.Source.seen c.loop-turn.reader) (g.R.Source.seen c.turn.new.reader) c.loop-turn.feed c.turn.new.feed c.loop-turn.listener c.turn.new.listener c.answer.result c.one_verdict.ensures.one
+    learnt (g.R.Source.seen c.args.reader.now) (g.R.Source.seen c.loop-turn.reader) (g.R.Source.seen c.turn.new.reader) c.loop-turn.feed c.turn.new.feed
+    c.loop-turn.listener c.turn.new.listener c.answer.result c.one_verdict.ensures.one
     c.one_verdict.ensures.refused c.one_verdict.ensures.items t end (grew_since _ _ _ c.loop-turn.invariant.ends) c.answer.ensures
 
 pub returns-in-Ok-true-clause-faults : goal.returns-in-Ok-true-clause-faults
-returns-in-Ok-true-clause-faults g c = no_fault _ c.answer.result (g.R.Source.seen c.args.reader.now) (g.R.Source.seen c.turn.new.reader) c.answer.ensures (c.in-Ok-true.ensures.calm ∙ c.loop-turn.invariant.failed)
+returns-in-Ok-true-clause-faults g c = no_fault _ c.answer.result (g.R.Source.seen c.args.reader.now) (g.R.Source.seen c.turn.new.reader) c.answer.ensures
+    (c.in-Ok-true.ensures.calm ∙ c.loop-turn.invariant.failed)
 
 pub returns-in-Err-clause-learnt : goal.returns-in-Err-clause-learnt
 returns-in-Err-clause-learnt g c =
     let t = c.loop-turn.invariant.heard in
-    fault_of_turn (g.R.Source.seen c.args.reader.now) (g.R.Source.seen c.loop-turn.reader) (g.R.Source.seen c.turn.new.reader) c.loop-turn.feed c.turn.new.feed c.loop-turn.listener c.turn.new.listener c.in-Err.fault t
+    fault_of_turn (g.R.Source.seen c.args.reader.now) (g.R.Source.seen c.loop-turn.reader) (g.R.Source.seen c.turn.new.reader) c.loop-turn.feed
+    c.turn.new.feed c.loop-turn.listener c.turn.new.listener c.in-Err.fault t
     (c.in-Err.ensures.heard t.bytes t.items t.listening)
 
 pub returns-in-Err-clause-faults : goal.returns-in-Err-clause-faults

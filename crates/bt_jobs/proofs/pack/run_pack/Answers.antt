@@ -20,11 +20,13 @@ returns-in_default-clause-packed g c = nothing_run c.args.own.now (devices (g.R.
     fault.Memory c.requires.1
 
 pub returns-in_default-with_capacity-clause-packed : goal.returns-in_default-with_capacity-clause-packed
-returns-in_default-with_capacity-clause-packed g c = nothing_run c.args.own.now (devices (g.R.Source.seen c.args.reader.now) (g.W.Target.seen c.args.writer.now))
+returns-in_default-with_capacity-clause-packed g c = nothing_run c.args.own.now
+    (devices (g.R.Source.seen c.args.reader.now) (g.W.Target.seen c.args.writer.now))
     fault.Memory c.requires.1
 
 pub returns-in_default-with_capacity-2-clause-packed : goal.returns-in_default-with_capacity-2-clause-packed
-returns-in_default-with_capacity-2-clause-packed g c = nothing_run c.args.own.now (devices (g.R.Source.seen c.args.reader.now) (g.W.Target.seen c.args.writer.now))
+returns-in_default-with_capacity-2-clause-packed g c = nothing_run c.args.own.now
+    (devices (g.R.Source.seen c.args.reader.now) (g.W.Target.seen c.args.writer.now))
     fault.Memory c.requires.1
 
 pub loop-turn-init : goal.loop-turn-init
@@ -50,7 +52,8 @@ returns-in-Ok-end_script-clause-packed g c =
     let AtEnd : Type 0 = EndRead (g.R.Source.seen c.args.reader.now) (g.R.Source.seen c.read.new.self) in
     let grew : AtEnd = search rules in
     packed_run c.args.own.now _ (devices (g.R.Source.seen c.args.reader.now) (g.W.Target.seen c.args.writer.now))
-    (devices (g.R.Source.seen c.read.new.self) (g.W.Target.seen c.write_out.new.writer)) r.text r.bytes end.0 c.loop-turn.out.items c.end_script.new.out.items end.2.0 c.in-Ok-end_script.end
+    (devices (g.R.Source.seen c.read.new.self) (g.W.Target.seen c.write_out.new.writer)) r.text r.bytes end.0 c.loop-turn.out.items
+    c.end_script.new.out.items end.2.0 c.in-Ok-end_script.end
     c.write_out.result c.requires.1 (no_bytes _ _ _ r.text r.consumed (subst P none c.in-Ok-eq0.ensures.bytes.0)) end.2.1 end.2.2
     (timely_at_end c.args.own.now.limit r.text AtEnd c.in-Ok-end_script.end grew) r.written c.loop-turn.invariant.empty end.1
     (subst S c.as_slice-in-Ok-end_script.ensures.value c.write_out.ensures.written)
@@ -92,7 +95,8 @@ returns-in-Ok-Some-clause-packed g c =
     c.number-line.ensures.value in
     let AtEnd : Type 0 = EndRead (g.R.Source.seen c.args.reader.now) (g.R.Source.seen c.read.new.self) in
     packed_run c.args.own.now _ (devices (g.R.Source.seen c.args.reader.now) (g.W.Target.seen c.args.writer.now))
-    (devices (g.R.Source.seen c.read.new.self) (g.W.Target.seen c.write_out-in-Ok-Some.new.writer)) (r.text ++ piece) r.bytes p.0 c.loop-turn.out.items c.take_piece.new.out.items p.2.0 e
+    (devices (g.R.Source.seen c.read.new.self) (g.W.Target.seen c.write_out-in-Ok-Some.new.writer)) (r.text ++ piece) r.bytes p.0 c.loop-turn.out.items
+    c.take_piece.new.out.items p.2.0 e
     c.write_out-in-Ok-Some.result c.requires.1 (Consumes-trans _ _ _ r.text piece r.consumed c.in-Ok-read.ensures.bytes.0) p.2.1
     (stopped (number_of c.take_piece.new.feed.stage + 1) c.in-Ok-Some.reason p.2.2 same) (timely_line c.args.own.now.limit (r.text ++ piece) AtEnd e
     (number_of c.take_piece.new.feed.stage + 1) c.in-Ok-Some.reason same p.3) r.written c.loop-turn.invariant.empty p.1

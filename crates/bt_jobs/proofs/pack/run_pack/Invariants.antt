@@ -11,6 +11,7 @@ invariant-loop-turn g l = record {
   ends : (g.R.Source.seen l.reader).ends ≡ (g.R.Source.seen l.initial.reader).ends;
   calm : (g.W.Target.seen l.writer).failed ≡ (g.W.Target.seen l.initial.writer).failed;
   empty : l.out.items ≡ [];
-  run : IsRun l.own (g.R.Source.seen l.initial.reader).left (g.R.Source.seen l.reader).left (g.W.Target.seen l.initial.writer).held (g.W.Target.seen l.writer).held l.line.items
+  run : IsRun l.own (g.R.Source.seen l.initial.reader).left (g.R.Source.seen l.reader).left (g.W.Target.seen l.initial.writer).held
+      (g.W.Target.seen l.writer).held l.line.items
       l.feed;
 }

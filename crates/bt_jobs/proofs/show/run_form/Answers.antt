@@ -10,7 +10,8 @@ use Rattle.bt_jobs.proofs.show.run_form.Goals as goal
 pub returns-in-Ok-push_verdict-clause-shown : goal.returns-in-Ok-push_verdict-clause-shown
 returns-in-Ok-push_verdict-clause-shown g c =
     let P : Form → Type 0 = λ f. (b : List ℕ) × Consumes (g.R.Source.seen c.args.reader.now).left (g.R.Source.seen c.tell.new.reader).left b
-    × IsAllWritten (items_in f c.args.own.now) c.args.own.now b (g.W.Target.seen c.args.writer.now).held (g.W.Target.seen c.tell.new.writer).held c.in-Ok.ended in
+    × IsAllWritten (items_in f c.args.own.now) c.args.own.now b (g.W.Target.seen c.args.writer.now).held (g.W.Target.seen c.tell.new.writer).held
+    c.in-Ok.ended in
     let t = subst P c.new-printer.ensures.form c.in-Ok.ensures.told in
     let text : text_in c.push_verdict.new.printer ≡ verdict_of c.args.form.now c.in-Ok.ended = c.in-Ok-push_verdict.ensures
     ∙ ap (λ (l : List ℕ). l ++ verdict_of c.args.form.now c.in-Ok.ended) c.in-Ok.ensures.empty in (
@@ -25,12 +26,14 @@ returns-in-Ok-push_verdict-clause-shown g c =
 pub returns-in-Ok-clause-shown : goal.returns-in-Ok-clause-shown
 returns-in-Ok-clause-shown g c =
     let P : Form → Type 0 = λ f. (b : List ℕ) × Consumes (g.R.Source.seen c.args.reader.now).left (g.R.Source.seen c.tell.new.reader).left b
-    × IsAllWritten (items_in f c.args.own.now) c.args.own.now b (g.W.Target.seen c.args.writer.now).held (g.W.Target.seen c.tell.new.writer).held c.in-Ok.ended in
+    × IsAllWritten (items_in f c.args.own.now) c.args.own.now b (g.W.Target.seen c.args.writer.now).held (g.W.Target.seen c.tell.new.writer).held
+    c.in-Ok.ended in
     let t = subst P c.new-printer.ensures.form c.in-Ok.ensures.told in (
       t.0,
       t.1,
       front_shown_all c.args.form.now c.args.own.now t.0 (devices (g.R.Source.seen c.args.reader.now) (g.W.Target.seen c.args.writer.now))
-          (devices (g.R.Source.seen c.tell.new.reader) (g.W.Target.seen c.tell.new.writer)) c.in-Ok.ended (omega (arith, c.requires.1)) c.one_verdict.ensures.one t.2,
+          (devices (g.R.Source.seen c.tell.new.reader) (g.W.Target.seen c.tell.new.writer)) c.in-Ok.ended (omega (arith, c.requires.1))
+          c.one_verdict.ensures.one t.2,
     )
 
 pub returns-clause-shown : goal.returns-clause-shown

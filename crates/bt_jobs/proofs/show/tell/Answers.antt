@@ -31,7 +31,8 @@ loop-turn-preserved g c =
       ends = end.2 ∙ c.loop-turn.invariant.ends;
       calm = c.in-Ok-None.ensures.calm ∙ c.loop-turn.invariant.calm;
       told = told_more _ c.args.own.now _ _ (devices (g.R.Source.seen c.loop-turn.reader) (g.W.Target.seen c.loop-turn.writer))
-          (devices (g.R.Source.seen c.turn.new.reader) (g.W.Target.seen c.turn.new.writer)) c.loop-turn.feed c.turn.new.feed c.loop-turn.printer c.turn.new.printer t more;
+          (devices (g.R.Source.seen c.turn.new.reader) (g.W.Target.seen c.turn.new.writer)) c.loop-turn.feed c.turn.new.feed c.loop-turn.printer
+          c.turn.new.printer t more;
     }
 
 pub returns-in-Ok-Some-clause-told : goal.returns-in-Ok-Some-clause-told
@@ -42,7 +43,8 @@ returns-in-Ok-Some-clause-told g c =
     (turn_end (devices (g.R.Source.seen c.turn.new.reader) (g.W.Target.seen c.turn.new.writer)) c.turn.new.feed c.turn.new.printer) (Ok o) in
     let end = subst P c.in-Ok-Some.field-0-is (c.in-Ok-Some.ensures.told c.args.own.now t.bytes t.items c.requires.limit.1 t.read t.empty) in
     (told_end _ c.args.own.now _ _ (devices (g.R.Source.seen c.loop-turn.reader) (g.W.Target.seen c.loop-turn.writer))
-    (devices (g.R.Source.seen c.turn.new.reader) (g.W.Target.seen c.turn.new.writer)) c.loop-turn.feed c.turn.new.feed c.loop-turn.printer c.turn.new.printer c.in-Ok-Some.ended t end).0
+    (devices (g.R.Source.seen c.turn.new.reader) (g.W.Target.seen c.turn.new.writer)) c.loop-turn.feed c.turn.new.feed c.loop-turn.printer
+    c.turn.new.printer c.in-Ok-Some.ended t end).0
 
 pub returns-in-Ok-Some-clause-empty : goal.returns-in-Ok-Some-clause-empty
 returns-in-Ok-Some-clause-empty g c =
@@ -52,7 +54,8 @@ returns-in-Ok-Some-clause-empty g c =
     (turn_end (devices (g.R.Source.seen c.turn.new.reader) (g.W.Target.seen c.turn.new.writer)) c.turn.new.feed c.turn.new.printer) (Ok o) in
     let end = subst P c.in-Ok-Some.field-0-is (c.in-Ok-Some.ensures.told c.args.own.now t.bytes t.items c.requires.limit.1 t.read t.empty) in
     (told_end _ c.args.own.now _ _ (devices (g.R.Source.seen c.loop-turn.reader) (g.W.Target.seen c.loop-turn.writer))
-    (devices (g.R.Source.seen c.turn.new.reader) (g.W.Target.seen c.turn.new.writer)) c.loop-turn.feed c.turn.new.feed c.loop-turn.printer c.turn.new.printer c.in-Ok-Some.ended t end).1
+    (devices (g.R.Source.seen c.turn.new.reader) (g.W.Target.seen c.turn.new.writer)) c.loop-turn.feed c.turn.new.feed c.loop-turn.printer
+    c.turn.new.printer c.in-Ok-Some.ended t end).1
 
 pub returns-in-Err-clause-told : goal.returns-in-Err-clause-told
 returns-in-Err-clause-told g c =
@@ -65,7 +68,8 @@ returns-in-Err-clause-told g c =
 
 pub returns-clause-told : goal.returns-clause-told
 returns-clause-told g c = told_so_far _ c.args.own.now (devices (g.R.Source.seen c.args.reader.now) (g.W.Target.seen c.args.writer.now))
-    (devices (g.R.Source.seen c.loop-turn.reader) (g.W.Target.seen c.loop-turn.writer)) c.loop-turn.feed c.loop-turn.printer c.requires.limit.1 c.one_verdict.ensures.one
+    (devices (g.R.Source.seen c.loop-turn.reader) (g.W.Target.seen c.loop-turn.writer)) c.loop-turn.feed c.loop-turn.printer c.requires.limit.1
+    c.one_verdict.ensures.one
     c.loop-turn.invariant.told
 
 pub returns-clause-faults : goal.returns-clause-faults

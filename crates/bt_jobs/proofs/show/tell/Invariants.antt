@@ -11,6 +11,7 @@ invariant-loop-turn g l = record {
   failed : (g.R.Source.seen l.reader).failed ≡ (g.R.Source.seen l.initial.reader).failed;
   ends : (g.R.Source.seen l.reader).ends ≡ (g.R.Source.seen l.initial.reader).ends;
   calm : (g.W.Target.seen l.writer).failed ≡ (g.W.Target.seen l.initial.writer).failed;
-  told : IsToldTo (form_of l.initial.printer) l.own (g.R.Source.seen l.initial.reader).left (g.R.Source.seen l.reader).left (g.W.Target.seen l.initial.writer).held
+  told : IsToldTo (form_of l.initial.printer) l.own (g.R.Source.seen l.initial.reader).left (g.R.Source.seen l.reader).left
+      (g.W.Target.seen l.initial.writer).held
       (g.W.Target.seen l.writer).held l.feed l.printer;
 }

@@ -16,7 +16,8 @@ returns-in-Ok-clause-told g c = λ own b xs le r empty.
     c.args.printer.now c.pump_with.new.sink m.0 m.1 m.2 end.0 =
     record { limit = omega (arith, le); before = r; consumed = m.3; empty = empty; took = m.4; pumped = end.1 } in
     ends own b xs c.args.feed.now c.pump_with.new.feed (devices (g.R.Source.seen c.args.reader.now) (g.W.Target.seen c.args.writer.now))
-    (devices (g.R.Source.seen c.pump_with.new.reader) (g.W.Target.seen c.flush.new.writer)) c.args.printer.now c.pump_with.new.sink c.flush.new.self m.0 m.1 m.2 end.0
+    (devices (g.R.Source.seen c.pump_with.new.reader) (g.W.Target.seen c.flush.new.writer)) c.args.printer.now c.pump_with.new.sink c.flush.new.self m.0 m.1
+    m.2 end.0
     (Accepted (c.number-messages.result - 1) c.in-Ok.bytes) c.flush.result
     c.one_verdict.ensures.one on (is_accepted end.0 c.pump_with.new.feed c.number-messages.result _ c.in-Ok.bytes end.3 end.1.number
     c.number-messages.ensures.value refl) c.flush.ensures.flushed c.flush.ensures.form

@@ -2,12 +2,12 @@ use Rattle.std.proofs.Common.{◌≡◌, ◌++◌, ◌∙◌, List, ℕ, ap, cod
 use Rattle.json.specs.Token.{Token}
 use Rattle.bt_wire.specs.Messages.{message_of}
 use Rattle.bt_json.specs.Objects.{a_number, message_fields, object_line}
-use Rattle.bt_json.proofs.FieldLaws.{on_ok}
+use Rattle.std.proofs.lemmas.Result.{on_ok_weaker}
 use Rattle.bt_json.proofs.lines.message_line.Goals as goal
 
 pub returns : goal.returns
 returns c =
-    on_ok c.end.result _ _ (λ ended own.
+    on_ok_weaker c.end.result (λ ended own.
     let told : List Token = message_fields own (message_of c.args.view.now) in
     let fields : List Token = a_number (codes "offset") c.args.at ++ told in
     let offset = c.in_ok-number.ensures.tokens ∙ ap (λ (l : List Token). l ++ a_number (codes "offset") c.args.at) c.in_ok-out.ensures.tokens in
