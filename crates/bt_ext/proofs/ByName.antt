@@ -12,7 +12,7 @@ use Rattle.bt_ext.specs.Tables.{Entries, AreEntries, IsTable, id_of_name, remove
 use Rattle.bt_ext.specs.Tables.{id_after, before}
 use Rattle.bt_ext.proofs.Entries.{flip, absent, none-append, both_ways, is_none, table-entered}
 
-same_name : (x y : List ℕ) → bytes_eq x y ≡ true → x ≡ y
+pub same_name : (x y : List ℕ) → bytes_eq x y ≡ true → x ≡ y
 same_name x y h = (bytes_eq-Decides x y).0 h
 
 itself : (x : List ℕ) → bytes_eq x x ≡ true
@@ -57,7 +57,7 @@ by_same name id es h = both_ways _ (nat_lt 255 (length name)) (λ long. rw long 
     (λ new. rw new (both_ways _ (nat_lt (length es) 256) (λ room. rw room (append-name name id es (is_none (id_of_name name es) new)))
     (λ full. rw full (is_none (id_of_name name es) new))))))))
 
-by_other : (name other : List ℕ) (id : ℕ) (es : Entries) → bytes_eq name other ≡ false → id_of_name other (entered name id es) ≡ id_of_name other es
+pub by_other : (name other : List ℕ) (id : ℕ) (es : Entries) → bytes_eq name other ≡ false → id_of_name other (entered name id es) ≡ id_of_name other es
 by_other name other id es h = both_ways _ (nat_lt 255 (length name)) (λ long. rw long refl)
     (λ short. rw short (both_ways _ (id == 0) (λ off. rw off (removed-other name other es h))
     (λ on. rw on (both_ways _ (is_some (id_of_name name es)) (λ there. rw there (replaced-other name other id es h))

@@ -119,7 +119,7 @@ both_ways P false holds fails = fails refl
 short_name : (n : ℕ) → nat_lt 255 n ≡ false → n ≤ 255
 short_name n h = grind (arith, common_steps)
 
-is_few : (n : ℕ) → nat_lt n 256 ≡ true → n < 256
+pub is_few : (n : ℕ) → nat_lt n 256 ≡ true → n < 256
 is_few n h = grind (arith, common_steps)
 
 pub above_0 : (n : ℕ) → (n == 0) ≡ false → 0 < n

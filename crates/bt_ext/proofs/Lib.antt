@@ -4,6 +4,7 @@ pub mod Entries
 pub mod LawProofs
 pub mod MadeKinds
 pub mod MadeRight
+pub mod Marking
 pub mod Names
 pub mod OneExt
 pub mod OneFault

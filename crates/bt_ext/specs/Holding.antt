@@ -1,5 +1,5 @@
 -- How the code holds names and entries while it reads an `m`, for the contracts of functions that are not public.
-use Rattle.std.specs.Prelude.{◌≡◌, ℕ, ◌<◌, List, length, map, take, slice_index_or, true, Option, Some, None, ◌||◌}
+use Rattle.std.specs.Prelude.{◌≡◌, ℕ, ◌+◌, ◌*◌, ◌%◌, ◌<◌, List, [], ◌∷◌, length, map, take, slice_index_or, Bool, true, false, Option, Some, None, ◌||◌}
 use Rattle.std.specs.Borrow.{Bor}
 use Rattle.std.specs.BTreeSet.{BTreeSet}
 use Rattle.std.specs.List.{list_any}
@@ -23,3 +23,15 @@ abbrev pub HoldsAt : List ℕ → Entries → Option ℕ → Type 0
 HoldsAt name es None = id_of_name name es ≡ None
 HoldsAt name es (Some i) =
     (i < length es) × ((e : List ℕ × ℕ) → e ≡ slice_index_or es i e → bytes_eq e.0 name ≡ true) × (id_of_name name (take i es) ≡ None)
+
+-- the mark of a name, one of 2,048, after the mark that the bytes before have
+abbrev pub mark_from : ℕ → List ℕ → ℕ
+mark_from mark [] = mark
+mark_from mark (b ∷ bs) = mark_from ((mark * 31 + b) % 2048) bs
+
+abbrev pub mark_of : List ℕ → ℕ
+mark_of name = mark_from 0 name
+
+-- there are 2,048 marks, and a name whose mark isn't set is none of the entries'
+abbrev pub AreMarks : List Bool → Entries → Type 0
+AreMarks marks es = (length marks ≡ 2048) × ((name : List ℕ) → slice_index_or marks (mark_of name) false ≡ false → id_of_name name es ≡ None)

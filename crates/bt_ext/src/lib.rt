@@ -9,6 +9,7 @@ mod ids;
 mod kinds;
 pub mod laws;
 mod made;
+mod marks;
 mod metadata;
 mod name;
 mod spelling;

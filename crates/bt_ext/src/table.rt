@@ -4,9 +4,10 @@ ghost use Rattle.std.specs.Bool.{OnFalse};
 ghost use Rattle.bt_bencode.specs.Trees.{dictionary};
 ghost use Rattle.bt_bencode.specs.Views.{tree_of};
 ghost use Rattle.bt_ext.specs.Tables.{id_of_name, told_ids, entered, entered_all, applied, IsTable};
-ghost use Rattle.bt_ext.specs.Holding.{entries_of, HoldsAt};
+ghost use Rattle.bt_ext.specs.Holding.{entries_of, AreMarks, HoldsAt};
 
 use crate::ids::{ExtId, Registered};
+use crate::marks::{has_mark, no_marks, set_mark};
 use crate::name::Name;
 use crate::told::{told_of, told_of_ref};
 use bt_bencode::{DictRef, Value};
@@ -147,16 +148,80 @@ impl<A: Allocator + Copy> Table<A> {
         false
     }
 
+    /// Marks of the names.
+    fn marks(&self) -> Result<Vec<bool, A>, AllocError>
+        ensures { IfOk result (λ marks. AreMarks marks.items self.now) }
+    {
+        let mut marks = no_marks(*self.entries.allocator())?;
+        for (name, _) in &self.entries {
+            set_mark(&mut marks, name.as_slice());
+        }
+        Ok(marks)
+    }
+
+    /// Whether an id for a name may change the table. A name without a mark isn't there.
+    fn may_change(&self, marks: &[bool], name: &[u8], id: u8) -> bool
+        requires { AreMarks marks.now self.now }
+        ensures { OnFalse result (entered name.now id self.now ≡ self.now) }
+    {
+        if has_mark(marks, name) {
+            return true;
+        }
+        id != 0 && self.entries.len() < MAX_NAMES
+    }
+
+    /// Takes an id for a name that has a mark or gets one.
+    fn enter_marked(
+        &mut self,
+        marks: &mut Vec<bool, A>,
+        name: &[u8],
+        id: u8,
+    ) -> Result<(), AllocError>
+        requires { AreMarks marks.old.items self.old }
+        ensures ok { OnOk result (self.new ≡ entered name.now id self.old) }
+        ensures marks { OnOk result (AreMarks marks.new.items self.new) }
+    {
+        if self.may_change(marks, name, id) {
+            self.enter(name, id)?;
+            set_mark(marks, name);
+        }
+        Ok(())
+    }
+
+    /// Takes what a short `m` tells.
+    fn enter_few(&mut self, told: &[(&[u8], u8)]) -> Result<(), AllocError>
+        ensures { OnOk result (self.new ≡ entered_all (entries_of told.now) self.old) }
+    {
+        for (name, id) in told {
+            self.enter(name, *id)?;
+        }
+        Ok(())
+    }
+
+    /// Takes what a long `m` tells, most of it of names that the table neither has nor takes.
+    fn enter_many(&mut self, told: &[(&[u8], u8)]) -> Result<(), AllocError>
+        ensures { OnOk result (self.new ≡ entered_all (entries_of told.now) self.old) }
+    {
+        let mut marks = self.marks()?;
+        for (name, id) in told {
+            self.enter_marked(&mut marks, name, *id)?;
+        }
+        Ok(())
+    }
+
     fn enter_all(&mut self, told: &[(&[u8], u8)]) -> Result<(), AllocError>
         ensures ok { OnOk result (self.new ≡ entered_all (entries_of told.now) self.old) }
         ensures memory { OnErr result (self.new ≡ self.old) }
     {
-        if !self.is_changed_by(told) {
+        let is_long = told.len() > MAX_NAMES;
+        if !is_long && !self.is_changed_by(told) {
             return Ok(());
         }
         let mut next = self.copy()?;
-        for (name, id) in told {
-            next.enter(name, *id)?;
+        if is_long {
+            next.enter_many(told)?;
+        } else {
+            next.enter_few(told)?;
         }
         *self = next;
         Ok(())

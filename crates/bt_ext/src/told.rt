@@ -1,7 +1,9 @@
 //! What the `m` of an extended handshake tells (BEP 10).
-ghost use Rattle.std.specs.Prelude.{◌≡◌, ℕ, List, [], ◌++◌, IfOk, OnOk, not, if◌then◌else◌};
+ghost use Rattle.std.specs.Prelude.{◌≡◌, ℕ, List, [], ◌++◌, IfOk, IfSome, OnOk, not, if◌then◌else◌};
 ghost use Rattle.std.specs.List.{list_any};
+ghost use Rattle.std.specs.Option.{option_copied};
 ghost use Rattle.std.specs.Str.{bytes_eq};
+ghost use Rattle.bt_bencode.specs.Keys.{is_above};
 ghost use Rattle.bt_bencode.specs.Trees.{dictionary};
 ghost use Rattle.bt_bencode.specs.Views.{tree_of};
 ghost use Rattle.bt_ext.specs.Tables.{told, told_by, told_of};
@@ -10,6 +12,7 @@ ghost use Rattle.bt_ext.specs.Holding.{entries_of, names_of, AddsName};
 use crate::fields::{byte_of, id_value};
 use bt_bencode::{DictRef, Pairs, Value, lookup};
 use std::alloc::{AllocError, Allocator};
+use std::cmp::Ordering;
 use std::collections::BTreeSet;
 
 /// What the pairs so far told, and their names. The names are in a tree, so that many pairs stay cheap.
@@ -57,7 +60,71 @@ impl<'a, A: Allocator + Copy> Told<'a, A> {
     }
 }
 
-fn told_by<'a, A: Allocator + Copy>(
+/// Whether the name is above the last one, if there is one.
+fn is_above(last: Option<&[u8]>, name: &[u8]) -> bool
+    ensures { result ≡ is_above (option_copied last.entry) name.now }
+{
+    match last {
+        None => true,
+        Some(last) => matches!(last.cmp(name), Ordering::Less),
+    }
+}
+
+/// Adds what a pair with a new name tells.
+fn add_told<'a, A: Allocator>(
+    entries: &mut Vec<(&'a [u8], u8), A>,
+    name: &'a [u8],
+    id: Option<u8>,
+) -> Result<(), AllocError>
+    ensures { OnOk result (entries_of entries.new.items ≡ entries_of entries.old.items ++ told name.now id) }
+{
+    if let Some(id) = id {
+        entries.push((name, id))?;
+    }
+    Ok(())
+}
+
+/// What the pairs tell, if each name is above the one before it, so that none stands twice.
+fn rising<'a, A: Allocator + Copy>(
+    alloc: A,
+    m: &'a Pairs,
+) -> Result<Option<Vec<(&'a [u8], u8), A>>, AllocError>
+    ensures { IfOk result (λ o. IfSome o (λ v. entries_of v.items ≡ told_by [] m.now)) }
+{
+    let mut entries = Vec::new(alloc);
+    let mut last: Option<&'a [u8]> = None;
+    for (name, value) in m.as_slice() {
+        let name = name.as_slice();
+        if !is_above(last, name) {
+            return Ok(None);
+        }
+        add_told(&mut entries, name, id_value(value))?;
+        last = Some(name);
+    }
+    Ok(Some(entries))
+}
+
+/// Like [`rising`], over a checked slice.
+fn rising_ref<'a, A: Allocator + Copy>(
+    alloc: A,
+    m: &DictRef<'a>,
+) -> Result<Option<Vec<(&'a [u8], u8), A>>, AllocError>
+    ensures { IfOk result (λ o. IfSome o (λ v. entries_of v.items ≡ told_by [] m.now.tree.0)) }
+{
+    let mut entries = Vec::new(alloc);
+    let mut last: Option<&'a [u8]> = None;
+    for (name, value) in m.int_pairs() {
+        if !is_above(last, name) {
+            return Ok(None);
+        }
+        add_told(&mut entries, name, byte_of(value))?;
+        last = Some(name);
+    }
+    Ok(Some(entries))
+}
+
+/// What the pairs tell, in any order of their names.
+fn in_any_order<'a, A: Allocator + Copy>(
     alloc: A,
     m: &'a Pairs,
 ) -> Result<Vec<(&'a [u8], u8), A>, AllocError>
@@ -71,7 +138,8 @@ fn told_by<'a, A: Allocator + Copy>(
     Ok(entries)
 }
 
-fn told_by_ref<'a, A: Allocator + Copy>(
+/// Like [`in_any_order`], over a checked slice.
+fn in_any_order_ref<'a, A: Allocator + Copy>(
     alloc: A,
     m: &DictRef<'a>,
 ) -> Result<Vec<(&'a [u8], u8), A>, AllocError>
@@ -83,6 +151,30 @@ fn told_by_ref<'a, A: Allocator + Copy>(
     }
     let Told { names: _, entries } = told;
     Ok(entries)
+}
+
+fn told_by<'a, A: Allocator + Copy>(
+    alloc: A,
+    m: &'a Pairs,
+) -> Result<Vec<(&'a [u8], u8), A>, AllocError>
+    ensures { IfOk result (λ v. entries_of v.items ≡ told_by [] m.now) }
+{
+    match rising(alloc, m)? {
+        Some(entries) => Ok(entries),
+        None => in_any_order(alloc, m),
+    }
+}
+
+fn told_by_ref<'a, A: Allocator + Copy>(
+    alloc: A,
+    m: &DictRef<'a>,
+) -> Result<Vec<(&'a [u8], u8), A>, AllocError>
+    ensures { IfOk result (λ v. entries_of v.items ≡ told_by [] m.now.tree.0) }
+{
+    match rising_ref(alloc, m)? {
+        Some(entries) => Ok(entries),
+        None => in_any_order_ref(alloc, m),
+    }
 }
 
 /// The names and ids that an extended handshake's dictionary tells.

@@ -1,7 +1,7 @@
 use Rattle.std.proofs.Common.{◌∙◌, subst, List, ℕ}
 use Rattle.bt_ext.specs.Holding.{entries_of, names_of, AddsName}
 use Rattle.bt_ext.proofs.Telling.{pairs_step}
-use Rattle.bt_ext.proofs.told.told_by.Goals as goal
+use Rattle.bt_ext.proofs.told.in_any_order.Goals as goal
 
 pub loop-name-preserved : goal.loop-name-preserved
 loop-name-preserved g c =

@@ -1,7 +1,7 @@
 use Rattle.std.proofs.Common.{◌∙◌}
 use Rattle.bt_ext.specs.Holding.{entries_of, names_of}
 use Rattle.bt_ext.proofs.Telling.{ref_step}
-use Rattle.bt_ext.proofs.told.told_by_ref.Goals as goal
+use Rattle.bt_ext.proofs.told.in_any_order_ref.Goals as goal
 
 pub loop-name-preserved : goal.loop-name-preserved
 loop-name-preserved g c =
