@@ -1,4 +1,4 @@
-//! A connection between two sides of one process. `Sided` calls it.
+//! A connection between two sides of one process. [`run_both`](crate::run_both) calls it.
 ghost use Rattle.std.specs.Prelude.{◌≡◌, ℕ, List, Option, length};
 ghost use Rattle.std.specs.Io.{ReadsAtMost, WritesAtMost};
 ghost use Rattle.std.specs.Io.KnownBytes.{ReadConsumes, WriteAppends};
