@@ -99,7 +99,7 @@ IsLooped rules limit text held held' r = (is_bad_size (length text) ≡ false) �
 
 -- ---- a fetch
 
--- It isn't said that the right end lacks the metadata, and as many rounds as may be made are made only where so many bytes may be sent.
+-- `Unfetched` isn't answered, and `Turns` only where both ends may send as many bytes as rounds may be made
 abbrev pub IsFetching : List ℕ → Result LoopEnd ToolFault → Type 0
 IsFetching text (Ok Unfetched) = ⊥
 IsFetching text (Err fault.Turns) = 1048576 ≤ most_bytes (length text)
