@@ -18,7 +18,6 @@ use Rattle.bt_end.specs.Ends.{metadata_of}
 use Rattle.bt_exchange.specs.Boths.{is_fetched}
 use Rattle.bt_exchange.specs.Rounds.{Ends, IsMove, Passes, Halts, IsRound, IsHalt, AreRounds, IsEnded, IsCarried, IsExchanged, way_after}
 use Rattle.bt_exchange.specs.contracts.both.Way.{the_type}
-use Rattle.bt_exchange.specs.declared.both.BothError.{BothError}
 use Rattle.bt_exchange.specs.Sides.{other}
 use Rattle.bt_exchange.specs.declared.both.Way.{Way}
 use Rattle.bt_exchange.specs.declared.both.Way.TheVariants as way

@@ -20,6 +20,7 @@ use Rattle.bt_session.specs.declared.link.Outcome.TheVariants as outcome
 use Rattle.bt_session.specs.declared.link.Side.TheVariants.{Left, Right}
 use Rattle.bt_session.specs.declared.link.Step.{Step}
 use Rattle.bt_session.specs.declared.link.Step.TheVariants as step
+use Rattle.bt_session.proofs.FetchRuns.{fetch_is_short, fetch_is_whole, fetch_is_free}
 use Rattle.bt_session.proofs.Links.{byte_link_is_message_link, nothing_is_refused}
 use Rattle.bt_net.specs.Runs.{begun, delivered, AreStepsTo, RunFetches}
 use Rattle.bt_net.proofs.Counted.{counted, last_steps, last_outcomes, quiet_after}
@@ -213,8 +214,8 @@ ended metadata a b rounds new false short whole free f h =
     (refl, there, fetched_so new.left new.right metadata there h.3 h.4)
 
 pub run_fetches : RunFetches
-run_fetches short whole free metadata a b rounds new (Ok x) f h = ended metadata a b rounds new x.stopped short whole free f h
-run_fetches short whole free metadata a b rounds new (Err both_error.Rounds) f h =
-    few_rounds metadata a b rounds new short f (rounds_are_steps a b rounds new h)
-run_fetches short whole free metadata a b rounds new (Err both_error.Net) f h = tt
-run_fetches short whole free metadata a b rounds new (Err both_error.Memory) f h = tt
+run_fetches metadata a b rounds new (Ok x) f h = ended metadata a b rounds new x.stopped fetch_is_short fetch_is_whole fetch_is_free f h
+run_fetches metadata a b rounds new (Err both_error.Rounds) f h =
+    few_rounds metadata a b rounds new fetch_is_short f (rounds_are_steps a b rounds new h)
+run_fetches metadata a b rounds new (Err both_error.Net) f h = tt
+run_fetches metadata a b rounds new (Err both_error.Memory) f h = tt

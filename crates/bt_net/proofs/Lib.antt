@@ -3,3 +3,5 @@ pub mod Turned
 pub mod Followed
 pub mod Counted
 pub mod Fetching
+pub mod LoopPair
+pub mod LoopFetch

@@ -12,10 +12,11 @@ use Rattle.bt_wire.specs.declared.handshake.Handshake.{Handshake}
 use Rattle.bt_metadata.specs.Blocks.{window, max_metadata}
 use Rattle.bt_end.specs.declared.config.Announce.TheVariants.{Silent}
 use Rattle.bt_end.specs.Configs.{is_bad_size}
-use Rattle.bt_end.specs.Ends.{Serving, Awaiting, unopened, metadata_of}
+use Rattle.bt_end.specs.Ends.{EndState, Serving, Awaiting, unopened, metadata_of}
 use Rattle.bt_end.specs.Halves.{HalfState, connected}
 use Rattle.bt_exchange.specs.Boths.{IsSide, IsUpBy}
 use Rattle.bt_exchange.specs.declared.both.Both.{Both}
+use Rattle.bt_session.specs.FetchLaws.{IsFetchPair, most_bytes}
 use Rattle.bt_text.specs.declared.ended.ToolFault.{ToolFault}
 use Rattle.bt_text.specs.declared.ended.ToolFault.TheVariants as fault
 use Rattle.bt_net.specs.declared.looped.LoopEnd.{LoopEnd}
@@ -96,6 +97,14 @@ IsLooped rules limit text held held' (Err fault.Memory) = held' ≡ held
 IsLooped rules limit text held held' r = (is_bad_size (length text) ≡ false) × IsLinked (left_end rules limit text) (right_end rules limit (sha1 text)) held
     held' r
 
+-- ---- a fetch
+
+-- `Unfetched` isn't answered, and `Turns` only where both ends may send as many bytes as rounds may be made
+abbrev pub IsFetching : List ℕ → Result LoopEnd ToolFault → Type 0
+IsFetching text (Ok Unfetched) = ⊥
+IsFetching text (Err fault.Turns) = 1048576 ≤ most_bytes (length text)
+IsFetching text other = ⊤
+
 -- ---- devices
 
 -- all was read to the end, or it is too long
@@ -118,6 +127,10 @@ IsWireFault failed failed' calls calls' (Err fault.Turns) = (failed' ≡ failed)
 IsWireFault failed failed' calls calls' other = failed' ≡ failed
 
 -- ---- for private contracts
+
+-- what comes of two ends that begin so, where one serves metadata and the other one fetches it
+abbrev pub Fetches : HalfState → HalfState → Result LoopEnd ToolFault → Type 0
+Fetches l r result = (metadata : List ℕ) (a b : EndState) → IsFetchPair metadata a b → l ≡ connected a → r ≡ connected b → IsFetching metadata result
 
 -- what was written of these lines
 abbrev pub IsWrite : List ℕ → LoopEnd → Option (List ℕ) → Option (List ℕ) → Result LoopEnd ToolFault → Type 0

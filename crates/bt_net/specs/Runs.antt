@@ -8,7 +8,7 @@ use Rattle.bt_exchange.specs.declared.both.Both.{Both}
 use Rattle.bt_exchange.specs.declared.both.BothError.{BothError}
 use Rattle.bt_exchange.specs.declared.both.BothError.TheVariants.{Rounds}
 use Rattle.bt_session.specs.ByteLinks as B
-use Rattle.bt_session.specs.FetchLaws.{IsFetchPair, AreMoves, most_bytes, FetchIsShort, FetchIsWhole, FetchIsFree}
+use Rattle.bt_session.specs.FetchLaws.{IsFetchPair, AreMoves, most_bytes}
 use Rattle.bt_session.specs.declared.link.Outcome.{Outcome}
 use Rattle.bt_session.specs.declared.link.Outcome.TheVariants as outcome
 use Rattle.bt_session.specs.declared.link.Step.{Step}
@@ -55,7 +55,7 @@ FetchesIn metadata rounds new (Ok b) =
 FetchesIn metadata rounds new (Err Rounds) = rounds ≤ most_bytes (length metadata)
 FetchesIn metadata rounds new (Err e) = ⊤
 
--- A run of an end that serves metadata and an end that fetches it, where the laws of a fetch hold.
+-- a run of an end that serves metadata and an end that fetches it
 abbrev pub RunFetches : Type 0
-RunFetches = FetchIsShort → FetchIsWhole → FetchIsFree → (metadata : List ℕ) (a b : EndState) (rounds : ℕ) (new : Ends) (result : Result Both BothError)
-    → IsFetchPair metadata a b → IsRun rounds (begun a b) new result → FetchesIn metadata rounds new result
+RunFetches = (metadata : List ℕ) (a b : EndState) (rounds : ℕ) (new : Ends) (result : Result Both BothError) → IsFetchPair metadata a b
+    → IsRun rounds (begun a b) new result → FetchesIn metadata rounds new result

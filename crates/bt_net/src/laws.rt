@@ -10,7 +10,7 @@ pub fn rounds_are_steps()
 
 /// A run of an end that serves metadata and an end that fetches it ends with the metadata.
 ///
-/// That is so where the three laws of a fetch over the link hold, which are premises here.
+/// No end stops it. Where it ends before as many rounds as may be made, the right end has the metadata, and nothing is to be sent.
 pub fn run_fetches()
     ensures { RunFetches }
 {}

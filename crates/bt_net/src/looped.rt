@@ -1,10 +1,13 @@
 //! `loop` on any devices: metadata is read, served by one end, and fetched by another over a wire. The command line calls
 //! [`run_loop`].
-ghost use Rattle.std.specs.Prelude.{◌≡◌, ◌≢◌, ◌≤◌, ◌++◌, codes, decimal, length, Some, Ok, Err, List, ℕ, IfOk, OnOk, OnErr};
+ghost use Rattle.std.specs.Prelude.{◌≡◌, ◌≢◌, ◌≤◌, ◌++◌, true, codes, decimal, length, is_some, Some, Ok, Err, List, ℕ, IfOk, OnOk, OnErr};
 ghost use Rattle.hex.specs.Hex.{encode_lower};
 ghost use Rattle.std.specs.Io.KnownBytes.{Consumes};
 ghost use Rattle.bt_io.specs.Counts.{Grew};
+ghost use Rattle.bt_end.specs.Ends.{metadata_of};
+ghost use Rattle.bt_exchange.specs.Rounds.{IsClear};
 ghost use Rattle.bt_net.specs.Loops.{IsInput, IsLooped, IsLinked, IsPrinted, IsTimely, IsWireFault, IsWrite, count_line, fetched_line, fetched_lines, status_of};
+ghost use Rattle.bt_net.specs.Loops.{Fetches, IsFetching};
 
 use crate::ends::{fetching, serving};
 use bt_end::{End, EndError};
@@ -127,6 +130,7 @@ fn print<T: Target>(
     writer: &mut T,
 ) -> Result<LoopEnd, ToolFault>
     ensures printed { IsPrinted both right.now (T.held writer.old) (T.held writer.new) result }
+    ensures fetched { both.fetched ≡ true → is_some (metadata_of right.now.end.part) ≡ true → result ≢ Ok LoopEnd.Unfetched }
     ensures failed { result ≡ Err ToolFault.Write → Grew (T.failed_writes writer.old) (T.failed_writes writer.new) }
 {
     if !both.fetched {
@@ -150,6 +154,7 @@ fn link<W: Wire, T: Target>(
     writer: &mut T,
 ) -> Result<LoopEnd, ToolFault>
     ensures linked { IsLinked left right (T.held writer.old) (T.held writer.new) result }
+    ensures fetches { IsClear (W.on_way wire.old) → Fetches left right result }
     ensures net { IsWireFault (W.failed wire.old) (W.failed wire.new) (W.calls wire.old) (W.calls wire.new) result }
     ensures failed { result ≡ Err ToolFault.Write → Grew (T.failed_writes writer.old) (T.failed_writes writer.new) }
 {
@@ -172,6 +177,7 @@ fn run_metadata<W: Wire, T: Target>(
 ) -> Result<LoopEnd, ToolFault>
     requires { (32768 ≤ limit) × (limit ≤ 1048576) }
     ensures looped { IsLooped rules limit metadata.items (T.held writer.old) (T.held writer.new) result }
+    ensures fetches { IsClear (W.on_way wire.old) → IsFetching metadata.items result }
     ensures unread { result ≢ Err ToolFault.Read }
     ensures net { IsWireFault (W.failed wire.old) (W.failed wire.new) (W.calls wire.old) (W.calls wire.new) result }
     ensures failed { result ≡ Err ToolFault.Write → Grew (T.failed_writes writer.old) (T.failed_writes writer.new) }
@@ -209,6 +215,7 @@ pub fn run_loop<R: Source, T: Target, W: Wire>(
 ) -> Result<LoopEnd, ToolFault>
     requires { (32768 ≤ limit) × (limit ≤ 1048576) }
     ensures looped { (text : List ℕ) × Consumes (R.left reader.old) (R.left reader.new) text × IsLooped rules limit text (T.held writer.old) (T.held writer.new) result }
+    ensures fetches { (text : List ℕ) × Consumes (R.left reader.old) (R.left reader.new) text × (IsClear (W.on_way wire.old) → IsFetching text result) }
     ensures end { IsTimely (Grew (R.ends reader.old) (R.ends reader.new)) result }
     ensures read { result ≡ Err ToolFault.Read → Grew (R.failed_reads reader.old) (R.failed_reads reader.new) }
     ensures net { IsWireFault (W.failed wire.old) (W.failed wire.new) (W.calls wire.old) (W.calls wire.new) result }

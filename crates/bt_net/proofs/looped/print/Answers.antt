@@ -1,4 +1,5 @@
 use Rattle.std.proofs.Common.{sym, ◌∙◌}
+use Rattle.bt_net.proofs.LoopFetch.{written_fetched}
 use Rattle.bt_net.proofs.Looping.{printed_unfetched, printed_fetched}
 use Rattle.bt_net.proofs.looped.print.Goals as goal
 
@@ -12,3 +13,6 @@ returns-in_default-clause-printed g c = printed_unfetched c.args.both c.args.rig
 pub returns-in-Ok-clause-printed : goal.returns-in-Ok-clause-printed
 returns-in-Ok-clause-printed g c = printed_fetched c.args.both c.args.right.now c.in-Some.metadata.now c.as_slice.result.now _ _ c.write_lines-in-Ok.result
     (sym c.in-Some.ensures.value) (c.as_slice.ensures.value ∙ c.in-Ok.ensures) c.write_lines-in-Ok.ensures.written
+
+pub returns-in-Ok-clause-fetched : goal.returns-in-Ok-clause-fetched
+returns-in-Ok-clause-fetched g c is there = written_fetched c.as_slice.result.now _ _ c.write_lines-in-Ok.result c.write_lines-in-Ok.ensures.written

@@ -1,5 +1,7 @@
-use Rattle.std.proofs.Common.{ap, ◌∙◌}
+use Rattle.std.proofs.Common.{◌≡◌, ap, ◌∙◌}
 use Rattle.sha1.specs.Sha1.{sha1}
+use Rattle.bt_net.specs.Loops.{right_end}
+use Rattle.bt_net.proofs.LoopPair.{serving_end, fetching_end, loop_pair}
 use Rattle.bt_net.proofs.Looping.{looped_so, never_read}
 use Rattle.bt_net.proofs.looped.run_metadata.Goals as goal
 
@@ -11,3 +13,11 @@ returns-in-Ok-fetching-clause-looped g c =
 
 pub returns-in-Ok-fetching-clause-unread : goal.returns-in-Ok-fetching-clause-unread
 returns-in-Ok-fetching-clause-unread g c = never_read _ _ _ _ _ c.link.ensures.linked
+
+pub returns-in-Ok-fetching-clause-fetches : goal.returns-in-Ok-fetching-clause-fetches
+returns-in-Ok-fetching-clause-fetches g c clear =
+    let text = c.args.metadata.items in
+    let same : c.digest-hash.result ≡ sha1 text = c.digest-hash.ensures ∙ ap sha1 c.as_slice.ensures.value in
+    let pair = loop_pair c.args.rules c.args.limit text c.requires.0 c.requires.1 c.in-Ok.ensures.size in
+    c.link.ensures.fetches clear text (serving_end c.args.rules c.args.limit text) (fetching_end c.args.rules c.args.limit (sha1 text)) pair
+    c.in-Ok.ensures.end (c.in-Ok-fetching.ensures ∙ ap (right_end c.args.rules c.args.limit) same)
