@@ -3,9 +3,9 @@
 ghost use Rattle.std.specs.Prelude.{◌≡◌, ◌≢◌, ◌≤◌, ◌++◌, true, codes, decimal, length, is_some, Some, Ok, Err, List, ℕ, IfOk, OnOk, OnErr};
 ghost use Rattle.hex.specs.Hex.{encode_lower};
 ghost use Rattle.std.specs.Io.KnownBytes.{Consumes};
-ghost use Rattle.bt_io.specs.Counts.{Grew};
 ghost use Rattle.bt_end.specs.Ends.{metadata_of};
 ghost use Rattle.bt_exchange.specs.Rounds.{IsClear};
+ghost use Rattle.bt_io.specs.Seen.{EndRead, ReadFailed, WriteFailed};
 ghost use Rattle.bt_net.specs.Loops.{IsInput, IsLooped, IsLinked, IsPrinted, IsTimely, IsWireFault, IsWrite, count_line, fetched_line, fetched_lines, status_of};
 ghost use Rattle.bt_net.specs.Loops.{Fetches, IsFetching};
 
@@ -36,7 +36,7 @@ pub enum LoopEnd {
 
 /// Reads to the end, or until it is more than metadata may be.
 fn read_metadata<R: Source>(alloc: Global, reader: &mut R) -> Result<Vec<u8>, ToolFault>
-    ensures { IsInput (R.left reader.old) (R.left reader.new) (Grew (R.ends reader.old) (R.ends reader.new)) (Grew (R.failed_reads reader.old) (R.failed_reads reader.new)) result }
+    ensures { IsInput (R.seen reader.old).left (R.seen reader.new).left (EndRead (R.seen reader.old) (R.seen reader.new)) (ReadFailed (R.seen reader.old) (R.seen reader.new)) result }
 {
     let mut metadata = Vec::new(alloc);
     let mut buffer = [0; 65536];
@@ -113,8 +113,8 @@ fn lines_of(alloc: Global, metadata: &[u8], left: u64, right: u64) -> Result<Vec
 
 /// Writes all of the lines.
 fn write_lines<T: Target>(writer: &mut T, lines: &[u8], end: LoopEnd) -> Result<LoopEnd, ToolFault>
-    ensures written { IsWrite lines.now end (T.held writer.old) (T.held writer.new) result }
-    ensures failed { OnErr result (Grew (T.failed_writes writer.old) (T.failed_writes writer.new)) }
+    ensures written { IsWrite lines.now end (T.seen writer.old).held (T.seen writer.new).held result }
+    ensures failed { OnErr result (WriteFailed (T.seen writer.old) (T.seen writer.new)) }
 {
     if write_front(writer, lines) < lines.len() {
         return Err(ToolFault::Write);
@@ -129,9 +129,9 @@ fn print<T: Target>(
     right: &End,
     writer: &mut T,
 ) -> Result<LoopEnd, ToolFault>
-    ensures printed { IsPrinted both right.now (T.held writer.old) (T.held writer.new) result }
+    ensures printed { IsPrinted both right.now (T.seen writer.old).held (T.seen writer.new).held result }
     ensures fetched { both.fetched ≡ true → is_some (metadata_of right.now.end.part) ≡ true → result ≢ Ok LoopEnd.Unfetched }
-    ensures failed { result ≡ Err ToolFault.Write → Grew (T.failed_writes writer.old) (T.failed_writes writer.new) }
+    ensures failed { result ≡ Err ToolFault.Write → WriteFailed (T.seen writer.old) (T.seen writer.new) }
 {
     if !both.fetched {
         return write_lines(writer, b"unfetched\n", LoopEnd::Unfetched);
@@ -153,10 +153,10 @@ fn link<W: Wire, T: Target>(
     wire: &mut W,
     writer: &mut T,
 ) -> Result<LoopEnd, ToolFault>
-    ensures linked { IsLinked left right (T.held writer.old) (T.held writer.new) result }
+    ensures linked { IsLinked left right (T.seen writer.old).held (T.seen writer.new).held result }
     ensures fetches { IsClear (W.on_way wire.old) → Fetches left right result }
     ensures net { IsWireFault (W.failed wire.old) (W.failed wire.new) (W.calls wire.old) (W.calls wire.new) result }
-    ensures failed { result ≡ Err ToolFault.Write → Grew (T.failed_writes writer.old) (T.failed_writes writer.new) }
+    ensures failed { result ≡ Err ToolFault.Write → WriteFailed (T.seen writer.old) (T.seen writer.new) }
 {
     match run_both(wire, &mut left, &mut right, ROUNDS) {
         Ok(both) => print(alloc, both, &right, writer),
@@ -176,11 +176,11 @@ fn run_metadata<W: Wire, T: Target>(
     limit: u32,
 ) -> Result<LoopEnd, ToolFault>
     requires { (32768 ≤ limit) × (limit ≤ 1048576) }
-    ensures looped { IsLooped rules limit metadata.items (T.held writer.old) (T.held writer.new) result }
+    ensures looped { IsLooped rules limit metadata.items (T.seen writer.old).held (T.seen writer.new).held result }
     ensures fetches { IsClear (W.on_way wire.old) → IsFetching metadata.items result }
     ensures unread { result ≢ Err ToolFault.Read }
     ensures net { IsWireFault (W.failed wire.old) (W.failed wire.new) (W.calls wire.old) (W.calls wire.new) result }
-    ensures failed { result ≡ Err ToolFault.Write → Grew (T.failed_writes writer.old) (T.failed_writes writer.new) }
+    ensures failed { result ≡ Err ToolFault.Write → WriteFailed (T.seen writer.old) (T.seen writer.new) }
 {
     let hash = Sha1::digest(metadata.as_slice());
     let left = match serving(alloc, metadata, rules, limit) {
@@ -214,12 +214,12 @@ pub fn run_loop<R: Source, T: Target, W: Wire>(
     limit: u32,
 ) -> Result<LoopEnd, ToolFault>
     requires { (32768 ≤ limit) × (limit ≤ 1048576) }
-    ensures looped { (text : List ℕ) × Consumes (R.left reader.old) (R.left reader.new) text × IsLooped rules limit text (T.held writer.old) (T.held writer.new) result }
-    ensures fetches { (text : List ℕ) × Consumes (R.left reader.old) (R.left reader.new) text × (IsClear (W.on_way wire.old) → IsFetching text result) }
-    ensures end { IsTimely (Grew (R.ends reader.old) (R.ends reader.new)) result }
-    ensures read { result ≡ Err ToolFault.Read → Grew (R.failed_reads reader.old) (R.failed_reads reader.new) }
+    ensures looped { (text : List ℕ) × Consumes (R.seen reader.old).left (R.seen reader.new).left text × IsLooped rules limit text (T.seen writer.old).held (T.seen writer.new).held result }
+    ensures fetches { (text : List ℕ) × Consumes (R.seen reader.old).left (R.seen reader.new).left text × (IsClear (W.on_way wire.old) → IsFetching text result) }
+    ensures end { IsTimely (EndRead (R.seen reader.old) (R.seen reader.new)) result }
+    ensures read { result ≡ Err ToolFault.Read → ReadFailed (R.seen reader.old) (R.seen reader.new) }
     ensures net { IsWireFault (W.failed wire.old) (W.failed wire.new) (W.calls wire.old) (W.calls wire.new) result }
-    ensures failed { result ≡ Err ToolFault.Write → Grew (T.failed_writes writer.old) (T.failed_writes writer.new) }
+    ensures failed { result ≡ Err ToolFault.Write → WriteFailed (T.seen writer.old) (T.seen writer.new) }
 {
     match read_metadata(alloc, reader) {
         Ok(metadata) => run_metadata(alloc, metadata, writer, wire, rules, limit),

@@ -7,6 +7,6 @@ returns-in-Err-extend_from_slice g c =
     let old = c.reads.metadata.items in
     let more = take c.in-Ok.count c.read.new.into in (
       old ++ more,
-      Consumes-trans (g.R.Source.left c.args.reader.now) (g.R.Source.left c.reads.reader) (g.R.Source.left c.read.new.self) old more
+      Consumes-trans (g.R.Source.seen c.args.reader.now).left (g.R.Source.seen c.reads.reader).left (g.R.Source.seen c.read.new.self).left old more
           c.reads.invariant.read c.in-Ok.ensures.bytes.0,
     )

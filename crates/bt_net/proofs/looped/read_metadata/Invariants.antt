@@ -6,10 +6,10 @@ use Rattle.bt_net.proofs.looped.read_metadata.Given as goal
 -- what was read so far
 abbrev pub invariant-reads : goal.invariant-reads
 invariant-reads g l = record {
-  read : Consumes (g.R.Source.left l.initial.reader) (g.R.Source.left l.reader) l.metadata.items;
+  read : Consumes (g.R.Source.seen l.initial.reader).left (g.R.Source.seen l.reader).left l.metadata.items;
   short : length l.metadata.items ≤ max_metadata;
-  failed : g.R.Source.failed_reads l.reader ≡ g.R.Source.failed_reads l.initial.reader;
-  ends : g.R.Source.ends l.reader ≡ g.R.Source.ends l.initial.reader;
+  failed : (g.R.Source.seen l.reader).failed ≡ (g.R.Source.seen l.initial.reader).failed;
+  ends : (g.R.Source.seen l.reader).ends ≡ (g.R.Source.seen l.initial.reader).ends;
 }
 
 abbrev pub decreases-reads : goal.decreases-reads
