@@ -17,6 +17,11 @@ pub enum Job {
         state: State,
         limit: u32,
     },
+    Names {
+        before: u32,
+        count: u32,
+        rounds: u32,
+    },
 }
 
 /// How many blocks the metadata has, and how often a job is done.
@@ -32,6 +37,7 @@ pub const USAGE: &str = "\
 usage: bt_bench serve|fetch|pair|hash BLOCKS ROUNDS
        bt_bench digest BLOCKS
        bt_bench ends COUNT [new|open|serving|busy|drained|fetching [LIMIT]]
+       bt_bench names BEFORE COUNT ROUNDS
 ";
 
 /// A number of blocks that metadata may have (at most 64 MiB), 1 to 4,096.
@@ -86,6 +92,14 @@ fn ends(words: &[String]) -> Option<Job> {
     })
 }
 
+fn names(words: &[String]) -> Option<Job> {
+    Some(Job::Names {
+        before: number(words.get(1))?,
+        count: number(words.get(2))?,
+        rounds: number(words.get(3))?,
+    })
+}
+
 /// The job that the words ask for; `None` where they are no command line.
 pub fn asked(words: &[String]) -> Option<Job> {
     match words.first()?.as_str() {
@@ -95,6 +109,7 @@ pub fn asked(words: &[String]) -> Option<Job> {
         "hash" => Some(Job::Hash(amount_in(words)?)),
         "digest" => Some(Job::Digest(blocks(words.get(1))?)),
         "ends" => ends(words),
+        "names" => names(words),
         _ => None,
     }
 }

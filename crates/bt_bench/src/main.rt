@@ -4,12 +4,14 @@
 mod command;
 mod jobs;
 mod moving;
+mod names;
 mod peer;
 mod setting;
 
 use crate::command::{Job, USAGE, asked};
 use crate::jobs::{digests, ends, exchange, fetch, hash, serve};
 use crate::moving::Stopped;
+use crate::names::names;
 use std::alloc::Global;
 use std::process::ExitCode;
 use std::rt::Env;
@@ -62,6 +64,14 @@ fn line(alloc: Global, job: Job) -> Result<String, Stopped> {
         } => {
             let ends = ends(alloc, count, state, limit)?;
             Ok(format!(in alloc; "ends={}", ends.len())?)
+        }
+        Job::Names {
+            before,
+            count,
+            rounds,
+        } => {
+            let applied = names(alloc, before, count, rounds)?;
+            Ok(format!(in alloc; "bytes={} known={}", applied.bytes, applied.known)?)
         }
     }
 }
