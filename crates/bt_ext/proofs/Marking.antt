@@ -1,5 +1,5 @@
 -- Marks of a table's names.
-use Rattle.std.proofs.Common.{◌≡◌, ◌≢◌, ◌⊎◌, inl, inr, ℕ, ◌+◌, ◌*◌, ◌%◌, ◌<◌, ◌==◌, List, [], ◌∷◌, length, take, get_or, set, Bool, true, false, None}
+use Rattle.std.proofs.Common.{◌≡◌, ◌≢◌, ◌⊎◌, inl, inr, ℕ, ◌+◌, ◌*◌, ◌%◌, ◌<◌, ◌==◌, List, [], ◌∷◌, length, take, get_or, set, Bool, true, false}
 use Rattle.std.proofs.Common.{nat_lt, refl, sym, ap, subst, ◌∙◌, arith, add-one}
 use Rattle.std.proofs.Math.Dec.{eqb}
 use Rattle.std.proofs.Math.Nat.{mod-lt}
@@ -8,14 +8,14 @@ use Rattle.std.proofs.lemmas.List.{get_or-set_other, get_or-set_same, length-set
 use Rattle.std.specs.Bool.{OnFalse}
 use Rattle.std.specs.List.{slice_set}
 use Rattle.std.specs.Str.{bytes_eq}
-use Rattle.bt_ext.specs.Tables.{Entries, id_of_name, entered}
+use Rattle.bt_ext.specs.Tables.{Entries, entered}
 use Rattle.bt_ext.specs.Holding.{AreMarks, mark_from, mark_of}
 use Rattle.bt_ext.proofs.ByName.{by_other, same_name}
 use Rattle.bt_ext.proofs.Entries.{above_0, both_ways, is_few, none_more, removed-absent}
 
-mark-inside : (mark : ℕ) (bs : List ℕ) → mark < 2048 → mark_from mark bs < 2048
+mark-inside : (mark : ℕ) (bs : List ℕ) → mark < 16384 → mark_from mark bs < 16384
 mark-inside mark [] h = h
-mark-inside mark (b ∷ bs) h = mark-inside ((mark * 31 + b) % 2048) bs (mod-lt (mark * 31 + b) (omega arith))
+mark-inside mark (b ∷ bs) h = mark-inside ((mark * 31 + b) % 16384) bs (mod-lt (mark * 31 + b) (omega arith))
 
 differs : (name other : List ℕ) → (mark_of other ≡ mark_of name → ⊥) → bytes_eq name other ≡ false
 differs name other h = both_ways _ (bytes_eq name other) (λ t. absurd (h (ap mark_of (sym (same_name name other t))))) (λ f. f)
@@ -29,7 +29,7 @@ unset marks m k lt h = by (eqb_tells k m) where
       absurd (let e : true ≡ false = sym (get_or-set_same marks m true false lt) ∙ there in cc)
   by (inr s) = (s.1, sym (get_or-set_other marks m k true false s.1) ∙ h)
 
-within : (marks : List Bool) (name : List ℕ) → length marks ≡ 2048 → mark_of name < length marks
+within : (marks : List Bool) (name : List ℕ) → length marks ≡ 16384 → mark_of name < length marks
 within marks name h = let lt = mark-inside 0 name (omega arith) in omega arith
 
 -- the marks after one more entry

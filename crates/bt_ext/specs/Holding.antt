@@ -24,14 +24,14 @@ HoldsAt name es None = id_of_name name es ≡ None
 HoldsAt name es (Some i) =
     (i < length es) × ((e : List ℕ × ℕ) → e ≡ slice_index_or es i e → bytes_eq e.0 name ≡ true) × (id_of_name name (take i es) ≡ None)
 
--- the mark of a name, one of 2,048, after the mark that the bytes before have
+-- the mark of a name, one of 16,384, after the mark that the bytes before have
 abbrev pub mark_from : ℕ → List ℕ → ℕ
 mark_from mark [] = mark
-mark_from mark (b ∷ bs) = mark_from ((mark * 31 + b) % 2048) bs
+mark_from mark (b ∷ bs) = mark_from ((mark * 31 + b) % 16384) bs
 
 abbrev pub mark_of : List ℕ → ℕ
 mark_of name = mark_from 0 name
 
--- there are 2,048 marks, and a name whose mark isn't set is none of the entries'
+-- there are 16,384 marks, and a name whose mark isn't set is none of the entries'
 abbrev pub AreMarks : List Bool → Entries → Type 0
-AreMarks marks es = (length marks ≡ 2048) × ((name : List ℕ) → slice_index_or marks (mark_of name) false ≡ false → id_of_name name es ≡ None)
+AreMarks marks es = (length marks ≡ 16384) × ((name : List ℕ) → slice_index_or marks (mark_of name) false ≡ false → id_of_name name es ≡ None)

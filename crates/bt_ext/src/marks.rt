@@ -5,13 +5,13 @@ ghost use Rattle.bt_ext.specs.Holding.{mark_of};
 
 use std::alloc::{AllocError, Allocator};
 
-/// How many marks there are. The names of a full table set at most an eighth of them.
-const MARKS: usize = 2048;
+/// How many marks there are. The names of a full table set at most one of 64.
+const MARKS: usize = 16384;
 
 /// The mark of a name.
 fn mark_of(name: &[u8]) -> usize
     ensures value { result ≡ mark_of name.now }
-    ensures inside { result < 2048 }
+    ensures inside { result < 16384 }
 {
     let mut mark = 0;
     for byte in name {
@@ -22,14 +22,14 @@ fn mark_of(name: &[u8]) -> usize
 
 /// Marks of which none is set.
 pub fn no_marks<A: Allocator>(alloc: A) -> Result<Vec<bool, A>, AllocError>
-    ensures { IfOk result (λ marks. length marks.items ≡ 2048) }
+    ensures { IfOk result (λ marks. length marks.items ≡ 16384) }
 {
     vec![in alloc; false; MARKS]
 }
 
 /// Whether the mark of a name is set.
 pub fn has_mark(marks: &[bool], name: &[u8]) -> bool
-    requires { length marks.now ≡ 2048 }
+    requires { length marks.now ≡ 16384 }
     ensures { result ≡ slice_index_or marks.now (mark_of name.now) false }
 {
     marks[mark_of(name)]
@@ -37,7 +37,7 @@ pub fn has_mark(marks: &[bool], name: &[u8]) -> bool
 
 /// Sets the mark of a name.
 pub fn set_mark<A: Allocator>(marks: &mut Vec<bool, A>, name: &[u8])
-    requires { length marks.old.items ≡ 2048 }
+    requires { length marks.old.items ≡ 16384 }
     ensures { marks.new.items ≡ slice_set marks.old.items (mark_of name.now) true }
 {
     marks[mark_of(name)] = true;
