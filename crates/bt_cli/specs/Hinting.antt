@@ -1,6 +1,7 @@
 -- What standard error gets after a refused stream, and after a script, by the first bytes of the input.
-use Rattle.std.specs.Prelude.{◌≡◌, ◌⊎◌, ℕ, List, [], Option, Result, Ok, Err}
+use Rattle.std.specs.Prelude.{◌≡◌, ◌⊎◌, ℕ, List, [], Ok, Err}
 use Rattle.bt_text.specs.declared.ended.Ended.TheVariants as ends
+use Rattle.bt_io.specs.Seen.{TargetSeen}
 use Rattle.bt_hint.specs.declared.finding.Hint.{Hint}
 use Rattle.bt_hint.specs.Hints.{HasMark, hint_line}
 use Rattle.bt_jobs.specs.PackHints.{IsPackHint}
@@ -17,6 +18,5 @@ IsHintText (Script (Ok end)) bytes text = IsPackHint end bytes text
 IsHintText (Script (Err f)) bytes text = ⊥
 
 -- nothing is said, or the line of a hint
-abbrev pub IsHinted : JobEnd → List ℕ → Option (List ℕ) → Option (List ℕ) → ℕ → ℕ → Type 0
-IsHinted end bytes held held' failed failed' =
-    (text : List ℕ) × ((text ≡ []) ⊎ IsHintText end bytes text) × IsSaid text held held' failed failed'
+abbrev pub IsHinted : JobEnd → List ℕ → TargetSeen → TargetSeen → Type 0
+IsHinted end bytes before after = (text : List ℕ) × ((text ≡ []) ⊎ IsHintText end bytes text) × IsSaid text before after

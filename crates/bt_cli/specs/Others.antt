@@ -1,6 +1,7 @@
 -- What the other direction says of the receiver, where no option says it.
-use Rattle.std.specs.Prelude.{◌≡◌, List, ℕ, Option, Result, Ok, Err, if◌then◌else◌}
+use Rattle.std.specs.Prelude.{◌≡◌, Result, Ok, Err, if◌then◌else◌}
 use Rattle.bt_ext.specs.Ids.{registered, metadata_id, donthave_id}
+use Rattle.bt_io.specs.Seen.{SourceSeen}
 use Rattle.bt_wire.specs.declared.context.Own.{Own}
 use Rattle.bt_jobs.specs.declared.other.Announced.{Announced}
 use Rattle.bt_jobs.specs.declared.other.OtherError.{OtherError}
@@ -21,5 +22,5 @@ informed_as own given (Ok said) = Ok (informed own given said)
 informed_as own given (Err e) = Err e
 
 -- the receiver is informed by what was learnt of the other direction
-abbrev pub IsInformed : Own → Given → Type 0 → Option (List ℕ) → Option (List ℕ) → Result Own OtherError → Type 0
-IsInformed own given AtEnd left left' r = (a : Result Announced OtherError) × IsLearnt AtEnd left left' a × (r ≡ informed_as own given a)
+abbrev pub IsInformed : Own → Given → SourceSeen → SourceSeen → Result Own OtherError → Type 0
+IsInformed own given before after r = (a : Result Announced OtherError) × IsLearnt before after a × (r ≡ informed_as own given a)

@@ -2,7 +2,7 @@
 use Rattle.std.specs.Prelude.{◌≡◌, ◌⊎◌, ℕ, ◌+◌, ◌-◌, ◌^◌, ◌≤◌, min, ⊤, List, [], Option, Some, None, Result, Ok, Err, codes}
 use Rattle.std.specs.Io.KnownBytes.{Appends}
 use Rattle.bt_wire.specs.declared.context.Own.{Own}
-use Rattle.bt_io.specs.Counts.{Grew}
+use Rattle.bt_io.specs.Seen.{SourceSeen, TargetSeen, Devices, ReadFailed, WriteFailed, AppendsPrefix}
 use Rattle.bt_text.specs.declared.ended.Ended.TheVariants as ends
 use Rattle.bt_text.specs.declared.ended.PackEnd.TheVariants as packs
 use Rattle.bt_text.specs.declared.ended.ToolFault.{ToolFault}
@@ -10,7 +10,7 @@ use Rattle.bt_text.specs.declared.ended.ToolFault.TheVariants as fault
 use Rattle.bt_text.specs.Lines.{lines_of, verdict_line, refused_line, fault_line}
 use Rattle.bt_json.specs.Objects.{lines_of as json_lines_of}
 use Rattle.bt_jobs.specs.declared.printer.Form.TheVariants as form
-use Rattle.bt_jobs.specs.Printed.{AppendsFront, IsWritten, IsEndOfReads, nothing, items_in, checked, unpacked}
+use Rattle.bt_jobs.specs.Printed.{IsWritten, IsEndOfReads, nothing, items_in, checked, unpacked}
 use Rattle.bt_jobs.specs.Packs.{IsPackRun}
 use Rattle.bt_session.specs.declared.report.LinkError.{LinkError}
 use Rattle.bt_rig.specs.declared.run.RigEnd.{RigEnd}
@@ -26,29 +26,29 @@ use Rattle.bt_cli.specs.Commands.{status_of, pack_status_of}
 
 -- ---- what a job does to its source and its target
 
--- The job's command writes its output for this receiver, and ends so. AtEnd says that the input's end was read.
-abbrev pub IsDone : Job → Own → Type 0 → Option (List ℕ) → Option (List ℕ) → Option (List ℕ) → Option (List ℕ) → JobEnd → Type 0
-IsDone Show own AtEnd left left' held held' (Stream r) = IsWritten (items_in form.Show own) (lines_of own) own AtEnd left left' held held' r
-IsDone Json own AtEnd left left' held held' (Stream r) = IsWritten (items_in form.Json own) (json_lines_of own) own AtEnd left left' held held' r
-IsDone Check own AtEnd left left' held held' (Stream r) = IsWritten nothing checked own AtEnd left left' held held' r
-IsDone Unpack own AtEnd left left' held held' (Stream r) = IsWritten (unpacked own) (unpacked own) own AtEnd left left' held held' r
-IsDone Pack own AtEnd left left' held held' (Stream r) = ⊥
-IsDone Show own AtEnd left left' held held' (Script r) = ⊥
-IsDone Json own AtEnd left left' held held' (Script r) = ⊥
-IsDone Check own AtEnd left left' held held' (Script r) = ⊥
-IsDone Unpack own AtEnd left left' held held' (Script r) = ⊥
-IsDone Pack own AtEnd left left' held held' (Script r) = IsPackRun own AtEnd left left' held held' r
+-- the job's command writes its output for this receiver, and ends so
+abbrev pub IsDone : Job → Own → Devices → Devices → JobEnd → Type 0
+IsDone Show own before after (Stream r) = IsWritten (items_in form.Show own) (lines_of own) own before after r
+IsDone Json own before after (Stream r) = IsWritten (items_in form.Json own) (json_lines_of own) own before after r
+IsDone Check own before after (Stream r) = IsWritten nothing checked own before after r
+IsDone Unpack own before after (Stream r) = IsWritten (unpacked own) (unpacked own) own before after r
+IsDone Pack own before after (Stream r) = ⊥
+IsDone Show own before after (Script r) = ⊥
+IsDone Json own before after (Script r) = ⊥
+IsDone Check own before after (Script r) = ⊥
+IsDone Unpack own before after (Script r) = ⊥
+IsDone Pack own before after (Script r) = IsPackRun own before after r
 
--- Where the end comes from, by the source's counts: a fault of reading from a read that failed or from so many reads, and a
+-- Where the end comes from, by what is seen of the source: a fault of reading from a read that failed or from so many reads, and a
 -- stream's verdict that stands only at its end from a read that gave the end
-abbrev pub IsEndOfInput : JobEnd → ℕ → ℕ → ℕ → ℕ → ℕ → ℕ → Type 0
-IsEndOfInput (Stream r) reads reads' failed failed' ends ends' = IsEndOfReads r reads reads' failed failed' ends ends'
-IsEndOfInput (Script (Ok e)) reads reads' failed failed' ends ends' = ⊤
-IsEndOfInput (Script (Err fault.Read)) reads reads' failed failed' ends ends' = Grew failed failed'
-IsEndOfInput (Script (Err fault.Turns)) reads reads' failed failed' ends ends' = (min (reads + 2 ^ 32) (2 ^ 64 - 1) ≤ reads') × (ends' ≡ ends)
-IsEndOfInput (Script (Err fault.Write)) reads reads' failed failed' ends ends' = ⊤
-IsEndOfInput (Script (Err fault.Memory)) reads reads' failed failed' ends ends' = ⊤
-IsEndOfInput (Script (Err fault.Net)) reads reads' failed failed' ends ends' = ⊥
+abbrev pub IsEndOfInput : JobEnd → SourceSeen → SourceSeen → Type 0
+IsEndOfInput (Stream r) before after = IsEndOfReads r before after
+IsEndOfInput (Script (Ok e)) before after = ⊤
+IsEndOfInput (Script (Err fault.Read)) before after = ReadFailed before after
+IsEndOfInput (Script (Err fault.Turns)) before after = (min (before.reads + 2 ^ 32) (2 ^ 64 - 1) ≤ after.reads) × (after.ends ≡ before.ends)
+IsEndOfInput (Script (Err fault.Write)) before after = ⊤
+IsEndOfInput (Script (Err fault.Memory)) before after = ⊤
+IsEndOfInput (Script (Err fault.Net)) before after = ⊥
 
 abbrev pub fault_in : JobEnd → Option ToolFault
 fault_in (Stream (Ok e)) = None
@@ -88,8 +88,8 @@ abbrev pub unrun_line : LinkError → List ℕ
 unrun_line e = rig_complaint (Unrun e)
 
 -- the text is written, or a prefix of it where a write failed
-abbrev pub IsSaid : List ℕ → Option (List ℕ) → Option (List ℕ) → ℕ → ℕ → Type 0
-IsSaid text held held' failed failed' = Appends held held' text ⊎ (Grew failed failed' × AppendsFront held held' text)
+abbrev pub IsSaid : List ℕ → TargetSeen → TargetSeen → Type 0
+IsSaid text before after = Appends before.held after.held text ⊎ (WriteFailed before after × AppendsPrefix before.held after.held text)
 
 -- ---- the exit status
 

@@ -23,7 +23,7 @@ const CUT: u8 = 141;
 
 /// Writes two texts on standard error, as far as that takes them.
 pub fn say_both<E: Target>(prefix: &[u8], text: &[u8], errors: &mut E)
-    ensures { IsSaid (prefix.now ++ text.now) (E.held errors.old) (E.held errors.new) (E.failed_writes errors.old) (E.failed_writes errors.new) }
+    ensures { IsSaid (prefix.now ++ text.now) (E.seen errors.old) (E.seen errors.new) }
 {
     match write_out(errors, prefix, ()) {
         Ok(()) => say(text, errors),
@@ -33,7 +33,7 @@ pub fn say_both<E: Target>(prefix: &[u8], text: &[u8], errors: &mut E)
 
 /// Says which fault ended the program, and returns the exit status.
 pub fn end_by_fault<E: Target>(fault: ToolFault, prefix: &[u8], is_gone: bool, errors: &mut E) -> u8
-    ensures said { IsSaid (fault_words is_gone prefix.now fault) (E.held errors.old) (E.held errors.new) (E.failed_writes errors.old) (E.failed_writes errors.new) }
+    ensures said { IsSaid (fault_words is_gone prefix.now fault) (E.seen errors.old) (E.seen errors.new) }
     ensures status { result ≡ fault_status is_gone fault }
 {
     match fault {
@@ -64,7 +64,7 @@ fn fault_of(end: JobEnd) -> Option<ToolFault>
 
 /// Says what a job's end has to say on standard error, and returns the exit status.
 pub fn end_job<E: Target>(job: Job, end: JobEnd, prefix: &[u8], is_gone: bool, errors: &mut E) -> u8
-    ensures said { IsSaid (job_words is_gone prefix.now job end) (E.held errors.old) (E.held errors.new) (E.failed_writes errors.old) (E.failed_writes errors.new) }
+    ensures said { IsSaid (job_words is_gone prefix.now job end) (E.seen errors.old) (E.seen errors.new) }
     ensures status { result ≡ job_status is_gone end }
 {
     match fault_of(end) {
@@ -83,7 +83,7 @@ pub fn end_link<E: Target>(
     is_gone: bool,
     errors: &mut E,
 ) -> u8
-    ensures said { IsSaid (link_words is_gone prefix.now end) (E.held errors.old) (E.held errors.new) (E.failed_writes errors.old) (E.failed_writes errors.new) }
+    ensures said { IsSaid (link_words is_gone prefix.now end) (E.seen errors.old) (E.seen errors.new) }
     ensures status { result ≡ link_status_by_rule is_gone end }
 {
     match end {
@@ -97,7 +97,7 @@ pub fn end_link<E: Target>(
 
 /// Says the end of a loop on standard error, and returns the exit status.
 pub fn end_loop<E: Target>(end: Result<LoopEnd, ToolFault>, is_gone: bool, errors: &mut E) -> u8
-    ensures said { IsSaid (loop_words is_gone end) (E.held errors.old) (E.held errors.new) (E.failed_writes errors.old) (E.failed_writes errors.new) }
+    ensures said { IsSaid (loop_words is_gone end) (E.seen errors.old) (E.seen errors.new) }
     ensures status { result ≡ loop_status_by_rule is_gone end }
 {
     match end {
@@ -111,7 +111,7 @@ pub fn end_loop<E: Target>(end: Result<LoopEnd, ToolFault>, is_gone: bool, error
 
 /// Says why a text wasn't printed, where it wasn't, and returns the exit status.
 pub fn end_text<E: Target>(end: Result<(), ToolFault>, is_gone: bool, errors: &mut E) -> u8
-    ensures said { IsSaid (text_words is_gone end) (E.held errors.old) (E.held errors.new) (E.failed_writes errors.old) (E.failed_writes errors.new) }
+    ensures said { IsSaid (text_words is_gone end) (E.seen errors.old) (E.seen errors.new) }
     ensures status { result ≡ text_status is_gone end }
 {
     match end {

@@ -1,7 +1,7 @@
 //! The command `fetch`: what its words ask for, the fetch, its lines on standard error, and the exit status. The module `options`
 //! and the program's `main` call it.
 ghost use Rattle.std.specs.Prelude.{◌≡◌, ◌≤◌, Err, IfOk, IfSome};
-ghost use Rattle.bt_io.specs.Counts.{Grew};
+ghost use Rattle.bt_io.specs.Seen.{WriteFailed};
 ghost use Rattle.bt_fetch.specs.Fetches.{IsWritten};
 ghost use Rattle.bt_fetch.specs.Wishes.{IsWish};
 ghost use Rattle.bt_cli.specs.Fetches.{fetch_status, fetch_words};
@@ -278,8 +278,8 @@ pub fn run_fetch<R: Net + Clock + RandomSource, W: Target, E: Target>(
     is_terminal: bool,
 ) -> Result<usize, FetchError>
     requires { IsWish job.now.wish }
-    ensures written { IsWritten job.now.torrent job.now.wish.info_hash (W.held writer.old) (W.held writer.new) result }
-    ensures fault { result ≡ Err FetchError.Write → Grew (W.failed_writes writer.old) (W.failed_writes writer.new) }
+    ensures written { IsWritten job.now.torrent job.now.wish.info_hash (W.seen writer.old).held (W.seen writer.new).held result }
+    ensures fault { result ≡ Err FetchError.Write → WriteFailed (W.seen writer.old) (W.seen writer.new) }
 {
     let mut wish = job.wish;
     wish.peer_id = drawn_peer_id(rt);
@@ -308,7 +308,7 @@ pub fn run_fetch<R: Net + Clock + RandomSource, W: Target, E: Target>(
 ///
 /// `is_gone` says that a write failed since nobody reads the output.
 pub fn end_fetch<E: Target>(fetched: Result<usize, FetchError>, is_gone: bool, errors: &mut E) -> u8
-    ensures said { IsSaid (fetch_words is_gone fetched) (E.held errors.old) (E.held errors.new) (E.failed_writes errors.old) (E.failed_writes errors.new) }
+    ensures said { IsSaid (fetch_words is_gone fetched) (E.seen errors.old) (E.seen errors.new) }
     ensures status { result ≡ fetch_status is_gone fetched }
 {
     match fetched {

@@ -27,7 +27,7 @@ fn hint_text(alloc: Global, end: JobEnd, window: &[u8]) -> Option<Vec<u8>>
 ///
 /// Nothing is said where the input's first bytes give no hint.
 pub fn say_hint<E: Target>(alloc: Global, end: JobEnd, window: &[u8], errors: &mut E)
-    ensures { IsHinted end window.now (E.held errors.old) (E.held errors.new) (E.failed_writes errors.old) (E.failed_writes errors.new) }
+    ensures { IsHinted end window.now (E.seen errors.old) (E.seen errors.new) }
 {
     match hint_text(alloc, end, window) {
         Some(line) => say(line.as_slice(), errors),

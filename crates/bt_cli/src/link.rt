@@ -26,14 +26,14 @@ fn unrun_line(error: LinkError) -> &'static [u8]
 
 /// Writes on standard error why a link isn't run.
 fn say_unrun<E: Target>(error: LinkError, errors: &mut E)
-    ensures { IsSaid (unrun_words error) (E.held errors.old) (E.held errors.new) (E.failed_writes errors.old) (E.failed_writes errors.new) }
+    ensures { IsSaid (unrun_words error) (E.seen errors.old) (E.seen errors.new) }
 {
     say(unrun_line(error), errors);
 }
 
 /// Writes on standard error what the end of a link has to say there.
 pub(crate) fn report_link<E: Target>(end: Result<RigEnd, ToolFault>, errors: &mut E)
-    ensures { IsSaid (link_complaint end) (E.held errors.old) (E.held errors.new) (E.failed_writes errors.old) (E.failed_writes errors.new) }
+    ensures { IsSaid (link_complaint end) (E.seen errors.old) (E.seen errors.new) }
 {
     match end {
         Ok(RigEnd::Ran) => say(b"", errors),

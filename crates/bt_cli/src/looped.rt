@@ -9,7 +9,7 @@ use bt_text::lines::fault_line;
 
 /// Writes on standard error what the end of a loop has to say there.
 pub(crate) fn report_loop<E: Target>(end: Result<LoopEnd, ToolFault>, errors: &mut E)
-    ensures { IsSaid (loop_complaint end) (E.held errors.old) (E.held errors.new) (E.failed_writes errors.old) (E.failed_writes errors.new) }
+    ensures { IsSaid (loop_complaint end) (E.seen errors.old) (E.seen errors.new) }
 {
     match end {
         Ok(LoopEnd::Fetched | LoopEnd::Unfetched) => say(b"", errors),

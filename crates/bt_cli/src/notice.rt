@@ -8,7 +8,7 @@ use bt_feed::Target;
 
 /// Says what is wrong with the words, and returns the exit status.
 pub fn refuse_words<E: Target>(text: &str, errors: &mut E) -> u8
-    ensures said { IsSaid text.now (E.held errors.old) (E.held errors.new) (E.failed_writes errors.old) (E.failed_writes errors.new) }
+    ensures said { IsSaid text.now (E.seen errors.old) (E.seen errors.new) }
     ensures status { result ≡ 2 }
 {
     say(text.as_bytes(), errors);

@@ -1,7 +1,6 @@
 //! The receiver, by what its own stream says of it: `--other`. The program's `main` calls it.
 ghost use Rattle.std.specs.Prelude.{◌≡◌, IfOk, if◌then◌else◌};
 ghost use Rattle.bt_ext.specs.Ids.{metadata_id, donthave_id};
-ghost use Rattle.bt_io.specs.Counts.{Grew};
 ghost use Rattle.bt_cli.specs.Commands.{HasLimit};
 ghost use Rattle.bt_cli.specs.Others.{IsInformed, informed as informed_by_rule};
 
@@ -63,7 +62,7 @@ pub fn receiver_by<R: Source>(
     reader: &mut R,
 ) -> Result<Own, OtherError>
     requires { HasLimit own.now }
-    ensures informed { IsInformed own.now given (Grew (R.ends reader.old) (R.ends reader.new)) (R.left reader.old) (R.left reader.new) result }
+    ensures informed { IsInformed own.now given (R.seen reader.old) (R.seen reader.new) result }
     ensures limited { IfOk result HasLimit }
 {
     match read_other(alloc, reader) {

@@ -1,7 +1,7 @@
 //! A job on any devices: what it writes, what standard error gets, and the exit status. The program's `main` calls
 //! [`do_job`], and `ending` the others.
 ghost use Rattle.std.specs.Prelude.{◌≡◌, ◌≢◌, ◌≤◌, ◌+◌, ◌^◌, Some};
-ghost use Rattle.bt_io.specs.Counts.{Grew};
+ghost use Rattle.bt_io.specs.Seen.{devices, WriteFailed};
 ghost use Rattle.bt_text.specs.Lines.{verdict_line as verdict_words, refused_line as refused_words};
 ghost use Rattle.bt_cli.specs.Commands.{HasLimit};
 ghost use Rattle.bt_cli.specs.Runs.{IsDone, IsEndOfInput, IsSaid, complaint, exit_status_of, fault_in};
@@ -35,11 +35,11 @@ pub fn do_job<R: Source, W: Target>(
     writer: &mut W,
 ) -> JobEnd
     requires { HasLimit own.now }
-    ensures done { IsDone job own.now (Grew (R.ends reader.old) (R.ends reader.new)) (R.left reader.old) (R.left reader.new) (W.held writer.old) (W.held writer.new) result }
-    ensures input { IsEndOfInput result (R.reads reader.old) (R.reads reader.new) (R.failed_reads reader.old) (R.failed_reads reader.new) (R.ends reader.old) (R.ends reader.new) }
-    ensures write { fault_in result ≡ Some ToolFault.Write → Grew (W.failed_writes writer.old) (W.failed_writes writer.new) }
-    ensures reads { R.reads reader.new ≤ R.reads reader.old + 2 ^ 32 }
-    ensures unfailed { fault_in result ≢ Some ToolFault.Read → R.failed_reads reader.new ≡ R.failed_reads reader.old }
+    ensures done { IsDone job own.now (devices (R.seen reader.old) (W.seen writer.old)) (devices (R.seen reader.new) (W.seen writer.new)) result }
+    ensures input { IsEndOfInput result (R.seen reader.old) (R.seen reader.new) }
+    ensures write { fault_in result ≡ Some ToolFault.Write → WriteFailed (W.seen writer.old) (W.seen writer.new) }
+    ensures reads { (R.seen reader.new).reads ≤ (R.seen reader.old).reads + 2 ^ 32 }
+    ensures unfailed { fault_in result ≢ Some ToolFault.Read → (R.seen reader.new).failed ≡ (R.seen reader.old).failed }
 {
     match job {
         Job::Show => JobEnd::Stream(run_show(alloc, reader, writer, own)),
@@ -52,7 +52,7 @@ pub fn do_job<R: Source, W: Target>(
 
 /// Writes a text on standard error, as far as that takes it.
 pub fn say<E: Target>(text: &[u8], errors: &mut E)
-    ensures { IsSaid text.now (E.held errors.old) (E.held errors.new) (E.failed_writes errors.old) (E.failed_writes errors.new) }
+    ensures { IsSaid text.now (E.seen errors.old) (E.seen errors.new) }
 {
     match write_out(errors, text, ()) {
         Ok(()) => {}
@@ -62,7 +62,7 @@ pub fn say<E: Target>(text: &[u8], errors: &mut E)
 
 /// Writes the verdict's line on standard error.
 fn say_verdict<E: Target>(ended: Ended, errors: &mut E)
-    ensures { IsSaid (verdict_words ended) (E.held errors.old) (E.held errors.new) (E.failed_writes errors.old) (E.failed_writes errors.new) }
+    ensures { IsSaid (verdict_words ended) (E.seen errors.old) (E.seen errors.new) }
 {
     let mut line = [0; 160];
     let place = verdict_line(ended, &mut line);
@@ -71,7 +71,7 @@ fn say_verdict<E: Target>(ended: Ended, errors: &mut E)
 
 /// Writes on standard error which line of a script is refused, and why.
 pub fn say_refused<E: Target>(number: u64, reason: ScriptReason, errors: &mut E)
-    ensures { IsSaid (refused_words number reason) (E.held errors.old) (E.held errors.new) (E.failed_writes errors.old) (E.failed_writes errors.new) }
+    ensures { IsSaid (refused_words number reason) (E.seen errors.old) (E.seen errors.new) }
 {
     let mut line = [0; 160];
     let place = refused_line(number, reason, &mut line);
@@ -80,7 +80,7 @@ pub fn say_refused<E: Target>(number: u64, reason: ScriptReason, errors: &mut E)
 
 /// Writes on standard error what a job's end has to say there.
 pub(crate) fn report<E: Target>(job: Job, end: JobEnd, errors: &mut E)
-    ensures { IsSaid (complaint job end) (E.held errors.old) (E.held errors.new) (E.failed_writes errors.old) (E.failed_writes errors.new) }
+    ensures { IsSaid (complaint job end) (E.seen errors.old) (E.seen errors.new) }
 {
     match (job, end) {
         (_, JobEnd::Stream(Err(fault)) | JobEnd::Script(Err(fault))) => {

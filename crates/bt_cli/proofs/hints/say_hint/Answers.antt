@@ -4,6 +4,5 @@ use Rattle.bt_cli.proofs.hints.say_hint.Goals as goal
 
 pub returns-in-Some : goal.returns-in-Some
 returns-in-Some g c =
-    let P : List ℕ → Type 0 = λ l. IsSaid l (g.E.Target.held c.args.errors.now) (g.E.Target.held c.say.new.errors)
-    (g.E.Target.failed_writes c.args.errors.now) (g.E.Target.failed_writes c.say.new.errors) in
+    let P : List ℕ → Type 0 = λ l. IsSaid l (g.E.Target.seen c.args.errors.now) (g.E.Target.seen c.say.new.errors) in
     (c.in-Some.line.items, inr c.in-Some.ensures, subst P c.as_slice.ensures.value c.say.ensures)

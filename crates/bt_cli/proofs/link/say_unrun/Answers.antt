@@ -4,6 +4,5 @@ use Rattle.bt_cli.proofs.link.say_unrun.Goals as goal
 
 pub returns : goal.returns
 returns g c =
-    subst (λ (text : List ℕ). IsSaid text (g.E.Target.held c.args.errors.now) (g.E.Target.held c.say.new.errors)
-    (g.E.Target.failed_writes c.args.errors.now) (g.E.Target.failed_writes c.say.new.errors))
+    subst (λ (text : List ℕ). IsSaid text (g.E.Target.seen c.args.errors.now) (g.E.Target.seen c.say.new.errors))
     c.unrun_line.ensures c.say.ensures

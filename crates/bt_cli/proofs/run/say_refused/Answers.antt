@@ -5,8 +5,7 @@ use Rattle.bt_cli.proofs.run.say_refused.Goals as goal
 
 pub returns : goal.returns
 returns g c =
-    let P : List ℕ → Type 0 = λ l. IsSaid l (g.E.Target.held c.args.errors.now) (g.E.Target.held c.say.new.errors)
-    (g.E.Target.failed_writes c.args.errors.now) (g.E.Target.failed_writes c.say.new.errors) in
+    let P : List ℕ → Type 0 = λ l. IsSaid l (g.E.Target.seen c.args.errors.now) (g.E.Target.seen c.say.new.errors) in
     let n = c.refused_line-place.result in
     let l = c.refused_line-place.new.line in
     let short : length (drop n l) ≤ 160 - n = omega (arith, length-drop n l, c.refused_line-place.array_long) in
