@@ -1,7 +1,7 @@
 -- The outcome of messages that are handed on where they lie.
 use Rattle.std.proofs.Common.{◌≡◌, ℕ, ◌+◌, ◌-◌, ◌^◌, ◌≤◌, ◌<◌, List, [], ◌∷◌, ◌++◌, length, take, drop, Option, None, Result, Ok, Err, sym, ap, subst, ◌∙◌}
 use Rattle.std.proofs.Common.{arith}
-use Rattle.std.specs.Prelude.{IfSome}
+use Rattle.std.specs.Prelude.{IfSome, MatchResult}
 use Rattle.std.specs.List.{slice_range}
 use Rattle.std.proofs.lemmas.List.{length-take-le}
 use Rattle.bt_wire.specs.declared.context.Context.{Context}
@@ -83,6 +83,19 @@ pub handed_more : {S : Type 0} (takes : S → ℕ × Item → S → Type 0) (mis
 handed_more takes misses a b c xs x r e h t =
     let P : Result (Unit {0}) SinkFault → Type 0 = λ y. IsHanded takes misses a (xs ++ x ∷ []) c y in
     subst P (sym e) (took_more takes a b c xs x (handed_all takes misses a b xs r e h) t)
+
+-- what the answer for one item says
+pub taken_at : {S : Type 0} (takes : S → ℕ × Item → S → Type 0) (misses : S → ℕ × Item → SinkFault → S → Type 0) (a b : S) (x : ℕ × Item)
+    (r : Result (Unit {0}) SinkFault) → r ≡ Ok tt → MatchResult r (λ _. takes a x b) (λ e. misses a x e b) → takes a x b
+taken_at takes misses a b x r is h =
+    let P : Result (Unit {0}) SinkFault → Type 0 = λ y. MatchResult y (λ _. takes a x b) (λ e. misses a x e b) in
+    subst P is h
+
+pub missed_at : {S : Type 0} (takes : S → ℕ × Item → S → Type 0) (misses : S → ℕ × Item → SinkFault → S → Type 0) (a b : S) (x : ℕ × Item)
+    (r : Result (Unit {0}) SinkFault) (e : SinkFault) → r ≡ Err e → MatchResult r (λ _. takes a x b) (λ f. misses a x f b) → misses a x e b
+missed_at takes misses a b x r e is h =
+    let P : Result (Unit {0}) SinkFault → Type 0 = λ y. MatchResult y (λ _. takes a x b) (λ f. misses a x f b) in
+    subst P is h
 
 -- none
 pub passed_none : (c : Context) (o : Order) (s n : ℕ) (piece : List ℕ) → IsFed (waiting (stage.Message c o s n)) (take 0 piece) []

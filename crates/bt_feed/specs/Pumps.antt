@@ -1,8 +1,13 @@
 -- What a pump moves: the bytes of a source through a feed, and its items into a sink.
-use Rattle.std.specs.Prelude.{◌≡◌, ◌⊎◌, ◌≤◌, ℕ, ⊤, false, length, List, [], ◌∷◌, ◌++◌, take, None, Result, Ok, Err}
+use Rattle.std.specs.Prelude.{◌≡◌, ◌⊎◌, ◌≤◌, ℕ, ⊤, false, length, List, [], ◌∷◌, ◌++◌, ◌+◌, take, MatchResult, None, Result, Ok, Err}
 use Rattle.std.specs.Io.KnownBytes.{Consumes, Keeps}
 use Rattle.bt_wire.specs.declared.fault.Reason.TheVariants.{EndInside}
+use Rattle.bt_wire.specs.declared.context.Context.{Context}
+use Rattle.bt_wire.specs.declared.context.Order.{Order}
 use Rattle.bt_wire.specs.declared.item.Item.{Item}
+use Rattle.bt_wire.specs.declared.item.Item.TheVariants as items
+use Rattle.bt_wire.specs.Headers.{IsRead as IsReadAs}
+use Rattle.bt_wire.specs.Messages.{Message, order_after}
 use Rattle.bt_wire.specs.Streams.{Outcome}
 use Rattle.bt_feed.specs.declared.pumping.PumpError.{PumpError}
 use Rattle.bt_feed.specs.declared.pumping.PumpError.TheVariants as error
@@ -105,6 +110,13 @@ abbrev pub IsHanded : {S : Type 0} → (S → ℕ × Item → S → Type 0) → 
     → Result (Unit {0}) SinkFault → Type 0
 IsHanded takes misses old given new (Ok u) = Took takes old given new
 IsHanded takes misses old given new (Err e) = IsMissed takes misses e old given new
+
+-- the first n bytes are a message that leaves the order o', and the sink was given it
+abbrev pub IsPassed : {S : Type 0} → (S → ℕ × Item → S → Type 0) → (S → ℕ × Item → SinkFault → S → Type 0) → Context → Order → ℕ → List ℕ → S → S → ℕ
+    → Order → Result (Unit {0}) SinkFault → Type 0
+IsPassed takes misses c o at rest old new n o' taken =
+    (m : Message) × (4 ≤ n) × (n ≤ length rest) × (n ≤ c.limit + 4) × IsReadAs c o (take n rest) m × (o' ≡ order_after o m)
+    × MatchResult taken (λ _. takes old (at, items.Message m) new) (λ e. misses old (at, items.Message m) e new)
 
 -- a piece is read; or its front, and what follows is refused, or the last item isn't taken
 abbrev pub IsPieceEnd : FeedState → List ℕ → List (ℕ × Item) → FeedState → Result (Unit {0}) PumpError → Type 0

@@ -1,9 +1,9 @@
 //! Whole messages, handed on where they lie in a piece.
-ghost use Rattle.std.specs.Prelude.{◌≡◌, ◌+◌, ◌^◌, ◌≤◌, ℕ, List, length, take, OnOk, OnErr};
+ghost use Rattle.std.specs.Prelude.{◌≡◌, ◌+◌, ◌^◌, ◌≤◌, ◌<◌, ℕ, List, length, take, None, OnOk, OnErr, IfSome, is_err};
 ghost use Rattle.bt_wire.specs.declared.item.Item.{Item};
 ghost use Rattle.bt_feed.specs.declared.stage.Stage.TheVariants as stages;
-ghost use Rattle.bt_io.specs.Counts.{Grew};
-ghost use Rattle.bt_feed.specs.Pumps.{IsHanded, IsFed};
+ghost use Rattle.bt_io.specs.Counts.{Grew, counted};
+ghost use Rattle.bt_feed.specs.Pumps.{IsHanded, IsFed, IsPassed};
 ghost use Rattle.bt_feed.specs.Feeds.{waiting};
 
 use crate::sink::{Sink, SinkFault};
@@ -11,6 +11,15 @@ use crate::slices::suffix;
 use crate::stage::END;
 use crate::view::View;
 use bt_wire::{Context, Header, Order, judge_header, next_of_view, view_window};
+
+/// The id of an extended message (BEP 10).
+const EXTENDED: u8 = 20;
+
+/// The number of the copy of [`pass_one`] for a keep-alive, which has no id.
+const KEEP_ALIVE: u8 = 254;
+
+/// The number of the copy for ids that have no meaning.
+const OTHER: u8 = 255;
 
 /// What was handed on to a sink.
 ///
@@ -21,6 +30,109 @@ pub struct Passed {
     pub bytes: usize,
     pub order: Order,
     pub taken: Result<(), SinkFault>,
+}
+
+/// A message that the sink was given: how many bytes it has, the order after it, and whether the sink took it.
+#[derive(Drop)]
+struct Given {
+    bytes: usize,
+    order: Order,
+    taken: Result<(), SinkFault>,
+}
+
+/// Gives the sink the message at the front of the bytes, which is at this offset of the stream.
+///
+/// `None`: no whole message is there, or it is refused.
+///
+/// `COPY` means nothing. The compiler makes a copy of this function for each number, and inlines it where its one call is. There
+/// the message's id is known, so its kind isn't looked at again.
+#[inline(always)]
+fn pass_one<S: Sink, const COPY: u8>(
+    context: &Context,
+    order: Order,
+    at: u64,
+    sink: &mut S,
+    rest: &[u8],
+) -> Option<Given>
+    ensures none { result ≡ None → sink.new ≡ sink.old }
+    ensures some { IfSome result (λ g. IsPassed S.takes S.misses context.now order at rest.now sink.old sink.new g.bytes g.order g.taken) }
+    ensures failed { IfSome result (λ g. S.failed sink.new ≡ counted (is_err g.taken) (S.failed sink.old)) }
+{
+    let Header::Window(length) = judge_header(context, order, rest) else {
+        return None;
+    };
+    let Some(window) = rest.get(..length as usize) else {
+        return None;
+    };
+    let Ok(message) = view_window(context, order, window) else {
+        return None;
+    };
+    let order = next_of_view(order, &message);
+    let taken = sink.item(at, &View::Message(message));
+    Some(Given {
+        bytes: length as usize,
+        order,
+        taken,
+    })
+}
+
+/// Like [`pass_one`], for what may be an extended message.
+#[inline(never)]
+fn pass_extended<S: Sink>(
+    context: &Context,
+    order: Order,
+    at: u64,
+    sink: &mut S,
+    rest: &[u8],
+) -> Option<Given>
+    ensures none { result ≡ None → sink.new ≡ sink.old }
+    ensures some { IfSome result (λ g. IsPassed S.takes S.misses context.now order at rest.now sink.old sink.new g.bytes g.order g.taken) }
+    ensures failed { IfSome result (λ g. S.failed sink.new ≡ counted (is_err g.taken) (S.failed sink.old)) }
+{
+    pass_one::<S, EXTENDED>(context, order, at, sink, rest)
+}
+
+/// Whether the bytes begin with a keep-alive.
+#[inline(always)]
+fn leads_keep_alive(rest: &[u8]) -> bool {
+    rest.len() >= 4 && u32::from_be_bytes([rest[0], rest[1], rest[2], rest[3]]) == 0
+}
+
+/// Like [`pass_one`], with a copy of it for each id.
+#[inline(always)]
+fn pass_next<S: Sink>(
+    context: &Context,
+    order: Order,
+    at: u64,
+    sink: &mut S,
+    rest: &[u8],
+) -> Option<Given>
+    ensures none { result ≡ None → sink.new ≡ sink.old }
+    ensures some { IfSome result (λ g. IsPassed S.takes S.misses context.now order at rest.now sink.old sink.new g.bytes g.order g.taken) }
+    ensures failed { IfSome result (λ g. S.failed sink.new ≡ counted (is_err g.taken) (S.failed sink.old)) }
+{
+    if leads_keep_alive(rest) {
+        return pass_one::<S, KEEP_ALIVE>(context, order, at, sink, rest);
+    }
+    match rest.get(4) {
+        Some(0) => pass_one::<S, 0>(context, order, at, sink, rest),
+        Some(1) => pass_one::<S, 1>(context, order, at, sink, rest),
+        Some(2) => pass_one::<S, 2>(context, order, at, sink, rest),
+        Some(3) => pass_one::<S, 3>(context, order, at, sink, rest),
+        Some(4) => pass_one::<S, 4>(context, order, at, sink, rest),
+        Some(5) => pass_one::<S, 5>(context, order, at, sink, rest),
+        Some(6) => pass_one::<S, 6>(context, order, at, sink, rest),
+        Some(7) => pass_one::<S, 7>(context, order, at, sink, rest),
+        Some(8) => pass_one::<S, 8>(context, order, at, sink, rest),
+        Some(9) => pass_one::<S, 9>(context, order, at, sink, rest),
+        Some(13) => pass_one::<S, 13>(context, order, at, sink, rest),
+        Some(14) => pass_one::<S, 14>(context, order, at, sink, rest),
+        Some(15) => pass_one::<S, 15>(context, order, at, sink, rest),
+        Some(16) => pass_one::<S, 16>(context, order, at, sink, rest),
+        Some(17) => pass_one::<S, 17>(context, order, at, sink, rest),
+        Some(20) => pass_extended(context, order, at, sink, rest),
+        _ => pass_one::<S, OTHER>(context, order, at, sink, rest),
+    }
 }
 
 /// Gives the sink the messages at the front of a piece.
@@ -56,21 +168,19 @@ pub fn pass_messages<S: Sink>(
             return passed;
         }
         let rest = suffix(piece, passed.bytes);
-        let Header::Window(length) = judge_header(context, passed.order, rest) else {
-            return passed;
+        let given = match pass_next(context, passed.order, at, sink, rest) {
+            Some(given) => given,
+            None => return passed,
         };
-        let Some(window) = rest.get(..length as usize) else {
-            return passed;
-        };
-        let Ok(message) = view_window(context, passed.order, window) else {
-            return passed;
-        };
-        passed.order = next_of_view(passed.order, &message);
-        passed.bytes += length as usize;
+        passed.order = given.order;
+        passed.bytes += given.bytes;
         passed.messages += 1;
-        if let Err(fault) = sink.item(at, &View::Message(message)) {
-            passed.taken = Err(fault);
-            return passed;
+        match given.taken {
+            Ok(()) => {}
+            Err(fault) => {
+                passed.taken = Err(fault);
+                return passed;
+            }
         }
     }
 }
