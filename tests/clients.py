@@ -5,7 +5,8 @@ usage: tests/clients.py [PROGRAM]
 
 PROGRAM is the built program, or else the script `bt_tool` at the top of the repository. Each client serves a torrent's metadata
 to `fetch`, and then gets it from `serve`, as a magnet link whose tracker names the server. What `fetch --torrent` wrote is
-compared with the file, byte by byte, and opened by libtorrent. A client that isn't installed is skipped, and that is said.
+compared with the file, byte by byte, and opened by libtorrent, Transmission and aria2, which say its info hash. rtorrent takes no
+.torrent without a tracker. A client that isn't installed is skipped, and that is said.
 """
 import hashlib
 import http.server
@@ -49,7 +50,7 @@ for _ in range(300):
 sys.exit(0 if torrent.status().has_metadata else 1)
 """
 
-OPEN = "import libtorrent, sys; sys.exit(0 if str(libtorrent.torrent_info(sys.argv[1]).info_hash()) == sys.argv[2] else 1)"
+OPEN = "import libtorrent, sys; print('hash', libtorrent.torrent_info(sys.argv[1]).info_hash())"
 
 
 def free_port():
@@ -134,6 +135,19 @@ def is_installed(client):
     return shutil.which({"transmission": "transmission-cli", "aria2": "aria2c", "rtorrent": "rtorrent"}[client]) is not None
 
 
+def opened(name):
+    """Opens a .torrent with each client that can, and returns the names of those that don't say its info hash."""
+    wrong = []
+    python = python_with_libtorrent()
+    openers = [("libtorrent", [python, "-c", OPEN, name] if python else None, "hash "),
+               ("transmission", shutil.which("transmission-show") and ["transmission-show", name], "  Hash: "),
+               ("aria2", shutil.which("aria2c") and ["aria2c", "-S", name], "Info Hash: ")]
+    for client, words, before in openers:
+        if words and before + HASH not in subprocess.run(words, capture_output=True, text=True).stdout.splitlines():
+            wrong.append(client)
+    return wrong
+
+
 def fetched(program, client, torrent, work):
     """Fetches from a client, as a .torrent."""
     folder = os.path.join(work, "seed-" + client)
@@ -157,9 +171,9 @@ def fetched(program, client, torrent, work):
     name = os.path.join(folder, "fetched.torrent")
     with open(name, "wb") as file:
         file.write(done.stdout)
-    opener = python_with_libtorrent()
-    if opener and subprocess.run([opener, "-c", OPEN, name, HASH]).returncode != 0:
-        print("fetch from %s: libtorrent doesn't open the file" % client)
+    wrong = opened(name)
+    if wrong:
+        print("fetch from %s: not opened by %s" % (client, ", ".join(wrong)))
         return 1
     return 0
 

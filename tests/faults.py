@@ -6,14 +6,17 @@ usage: tests/faults.py [PROGRAM]
 PROGRAM is the built program, or else the script `bt_tool` at the top of the repository. It is run over a `malloc`, a `read` and a
 `write` that count their calls and refuse or fail the Nth, for N = 1, 2, .. until a run makes fewer. What is wanted follows from
 docs/FORMAT.md: at a fault a prefix of what the command writes is written, standard error has the fault's line alone, and the
-status is 3; otherwise nothing differs. `fetch` and `serve` aren't run here. Without a C compiler, as `cc`, nothing is run.
+status is 3; otherwise nothing differs. `fetch` has a peer of tests/peers.py; `serve` isn't run here. Without a C compiler, as
+`cc`, nothing is run.
 """
+import hashlib
 import os
 import shutil
 import subprocess
 import sys
 import tempfile
 
+from peers import INFO, Peer, giving, info_of
 from statuses import FETCH, FETCHED, HAND, HASH, HAVE_9, JSON_HAND, LINE, ROOT, TWO, NO_STEPS
 
 # A run makes far fewer calls.
@@ -247,6 +250,30 @@ def two_directions(runner):
                 yield "%s: %s %d: %r" % (words, kind, number, answer)
 
 
+def fetching(runner):
+    """The calls of a `fetch` fail in turn: each write, each request for memory, and each call of the first connection."""
+    tiny = info_of(100)
+    torrent = b"d4:info" + tiny + b"e"
+    peer = Peer(giving(tiny))
+    words = "fetch --torrent %s %s" % (hashlib.sha1(tiny).hexdigest(), peer.address)
+    fetched = peer.address.encode() + b" fetched\n"
+    for number, answer, was_made in runner.in_turn(words, b"", "WRITE", WRITE_MOST=1):
+        if answer != ((torrent[:number - 1], fetched + b"fault: write\n", 3) if was_made else (torrent, fetched, 0)):
+            yield "%s: write %d: %r" % (words, number, answer)
+    for number, answer, was_made in runner.in_turn(words, b"", "MEMORY"):
+        is_fault = answer in [(b"", errors + b"fault: memory\n", 3) for errors in (b"", fetched)]
+        if answer != (torrent, fetched, 0) and not (was_made and is_fault):
+            yield "%s: request %d: %r" % (words, number, answer)
+    peer.close()
+    peer = Peer(giving(INFO))
+    words = "fetch %s %s %s" % (hashlib.sha1(INFO).hexdigest(), peer.address, peer.address)
+    closed, fetched = (peer.address.encode() + end for end in (b" closed\n", b" fetched\n"))
+    for number, answer, was_made in runner.in_turn(words, b"", "WIRE"):
+        if answer != (INFO, closed + fetched if was_made else fetched, 0):
+            yield "%s: call %d of the connection: %r" % (words, number, answer)
+    peer.close()
+
+
 def main():
     program = os.path.abspath(sys.argv[1] if len(sys.argv) > 1 else os.path.join(ROOT, "bt_tool"))
     if shutil.which("cc") is None:
@@ -260,8 +287,8 @@ def main():
                 for line in device(runner, words, given, parts):
                     wrong += 1
                     print("faults: wrong: bt_tool %s: %s" % (words, line))
-        for files in (two_files, two_directions):
-            for line in files(runner):
+        for part in (two_files, two_directions, fetching):
+            for line in part(runner):
                 wrong += 1
                 print("faults: wrong: bt_tool " + line)
     print("faults: %s %d runs" % ("failed: %d wrong of" % wrong if wrong else "ok:", runner.runs))

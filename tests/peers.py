@@ -126,15 +126,24 @@ class Link:
             pass
 
 
-def greet(link, size=len(INFO), number=2):
+def greet(link, size=len(INFO), number=2, info_hash=HASH):
     link.exactly(68)
-    link.send(handshake(), extended(size, number))
+    link.send(handshake(info_hash=info_hash), extended(size, number))
 
 
 def honest(link, count):
     greet(link)
     while True:
         link.send(data(3, link.request()))
+
+
+def giving(info):
+    """An honest peer that has this metadata."""
+    def talk(link, count):
+        greet(link, len(info), info_hash=hashlib.sha1(info).digest())
+        while True:
+            link.send(data(3, link.request(), info))
+    return talk
 
 
 def silent(link, count):
@@ -358,7 +367,13 @@ def hostile(program):
         for number, address in enumerate(addresses):
             errors = errors.replace("@%d" % number, address)
         names = " ".join("nobody" if talk is NOBODY else talk.__qualname__ for talk in talks)
+        begin = time.monotonic()
         failed += differs("%s %s" % (names, words), run(program, HASH, addresses, words.split()), output, errors, status)
+        took = time.monotonic() - begin
+        if "--patience 2" in words and "silent" in errors and not 1 <= took <= 10:
+            # Whole seconds of the clock are counted, so one that has begun counts.
+            print("%s %s: it took %.1f seconds, and the patience is 2" % (names, words, took))
+            failed += 1
         for peer in peers:
             if peer is not None:
                 peer.close()
@@ -424,6 +439,40 @@ def unread(program):
         failed += same("unread %s" % words[0], "%d %s" % (done.returncode, done.stderr.decode()), "141 " + errors)
     peer.close()
     return failed, 2
+
+
+def unwritten(program):
+    """Where the output is closed, full or open for reading alone, `fetch` says so after it has the metadata."""
+    failed = 0
+    peer = Peer(honest)
+    for name, mode in ((None, 0), ("/dev/full", os.O_WRONLY), ("/dev/null", os.O_RDONLY)):
+        device = os.open(name, mode) if name else None
+        for words in ([], ["--torrent"]):
+            done = subprocess.run([program, "fetch", HASH.hex(), peer.address] + words, stdin=subprocess.DEVNULL, stdout=device,
+                                  stderr=subprocess.PIPE, timeout=60, preexec_fn=None if name else lambda: os.close(1))
+            failed += same("unwritten %s" % name, "%d %s" % (done.returncode, done.stderr.decode()),
+                           "3 %s fetched\nfault: write\n" % peer.address)
+        if name:
+            os.close(device)
+    peer.close()
+    return failed, 6
+
+
+def dialled(program):
+    """A peer that gives each reason to be dialled again is dialled three times, and no more."""
+    def fickle(link, count):
+        link.exactly(68)
+        if count == 1:
+            link.send(handshake()[:48] + b"-lt0D80-000000000000", extended(len(INFO)))
+        else:
+            link.send(handshake(), extended(len(INFO) + count))
+        link.hold()
+    peers = [Peer(half_size), Peer(fickle)]
+    done = run(program, HASH, [peer.address for peer in peers], ["--patience", "2"])
+    for peer in peers:
+        peer.close()
+    return (differs("dialled", done, b"", "%s closed\n%s silent\n" % tuple(peer.address for peer in peers), 1)
+            + same("connections", str([peer.count for peer in peers]), "[1, 3]")), 2
 
 
 class Server:
@@ -511,7 +560,7 @@ def serving(program):
 def main(words):
     program = program_of(words)
     failed = count = 0
-    for part in (hostile, kept, single, shown, unread, serving):
+    for part in (hostile, kept, single, shown, unread, unwritten, dialled, serving):
         more, tried = part(program)
         failed += more
         count += tried
