@@ -27,7 +27,14 @@ returns-in-Err-clause-items g c = λ n.
     c.messages.passed.messages c.args.piece.now c.suffix-rest.result.now (take k c.suffix-rest.result.now) h.0
     p.0 c.suffix-rest.ensures refl h.2 c.if-at-ge-END.false c.requires.limit p.2 p.4 in (
       h.0 ++ x ∷ [],
-      (h.0, x, c.messages.sink, refl, handed_all _ g.S.Sink.misses _ _ h.0 _ c.messages.invariant.taken h.1, missed_at g.S.Sink.takes g.S.Sink.misses _ _ x c.in-Some.given.taken _ c.in-Err.is p.6),
+      (
+        h.0,
+        x,
+        c.messages.sink,
+        refl,
+        handed_all _ g.S.Sink.misses _ _ h.0 _ c.messages.invariant.taken h.1,
+        missed_at g.S.Sink.takes g.S.Sink.misses _ _ x c.in-Some.given.taken _ c.in-Err.is p.6,
+      ),
       rw (p.5) fed,
     )
 
@@ -40,7 +47,8 @@ messages-preserved g c =
       start = omega (arith, c.if-at-ge-END.false, p.3, c.requires.limit);
       count = omega (arith, c.messages.invariant.count, p.1);
       taken = c.messages.invariant.taken;
-      quiet = c.in-Some.ensures.failed ∙ ap (λ (r : Result (Unit {0}) SinkFault). counted (is_err r) (g.S.Sink.failed c.messages.sink)) c.in-Ok.is ∙ c.messages.invariant.quiet;
+      quiet = c.in-Some.ensures.failed
+          ∙ ap (λ (r : Result (Unit {0}) SinkFault). counted (is_err r) (g.S.Sink.failed c.messages.sink)) c.in-Ok.is ∙ c.messages.invariant.quiet;
       moved = λ n.
           let h = c.messages.invariant.moved n in
           let x : ℕ × Item = (c.args.start + c.messages.passed.bytes, items.Message p.0) in
@@ -48,7 +56,8 @@ messages-preserved g c =
           c.messages.passed.messages c.args.piece.now c.suffix-rest.result.now (take k c.suffix-rest.result.now) h.0
           p.0 c.suffix-rest.ensures refl h.2 c.if-at-ge-END.false c.requires.limit p.2 p.4 in (
             h.0 ++ x ∷ [],
-            handed_more _ g.S.Sink.misses _ _ _ h.0 x _ c.messages.invariant.taken h.1 (taken_at g.S.Sink.takes g.S.Sink.misses _ _ x c.in-Some.given.taken c.in-Ok.is p.6),
+            handed_more _ g.S.Sink.misses _ _ _ h.0 x _ c.messages.invariant.taken h.1
+                (taken_at g.S.Sink.takes g.S.Sink.misses _ _ x c.in-Some.given.taken c.in-Ok.is p.6),
             rw (p.5) fed,
           );
     }
