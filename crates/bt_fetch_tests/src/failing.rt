@@ -1,4 +1,6 @@
 //! Fetching where a call of a connection or of the output fails, and where memory is refused.
+ghost use Rattle.bt_fetch.specs.Wishes.{IsWish};
+
 use crate::peers::{Ends, Pair};
 use bt_ext::Rules;
 use bt_fetch::{FetchError, Outcome, Wish, fetch};
@@ -24,7 +26,9 @@ type Came = (
 );
 
 /// The letters are wanted, of their size at most.
-fn wish() -> Wish {
+fn wish() -> Wish
+    ensures { IsWish result }
+{
     Wish {
         info_hash: HASH,
         peer_id: [48; 20],
