@@ -183,15 +183,8 @@ fn serve_over_tcp<R: Net + Clock + RandomSource, W: Target>(
     if announce(alloc, &info_hash, bytes.len(), address, writer).is_err() {
         return Service::Fault(ToolFault::Memory);
     }
-    let mut door = TcpDoor::new(rt, listener, Lines { alloc, writer });
-    match serve(
-        alloc,
-        &hospitality,
-        metadata,
-        job.connections,
-        job.at_once,
-        &mut door,
-    ) {
+    let mut door = TcpDoor::new(rt, listener, Lines { alloc, writer }, job.at_once);
+    match serve(alloc, &hospitality, metadata, job.connections, &mut door) {
         Ok(()) => Service::Done,
         Err(_) => Service::Fault(ToolFault::Memory),
     }

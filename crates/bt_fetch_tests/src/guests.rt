@@ -88,6 +88,7 @@ struct Two<'a> {
     fetched: &'a Cell<u64>,
     fails_at: Option<u64>,
     entered: u64,
+    inside: usize,
     first: Option<Parting>,
     second: Option<Parting>,
 }
@@ -96,6 +97,14 @@ impl<'a> Door for Two<'a> {
     type Link = Leech<'a>;
 
     type Name = u64;
+
+    ghost inside = { λ d. d.inside };
+
+    ghost places = { λ d. 2 };
+
+    fn has_place(&self) -> bool {
+        self.inside < 2
+    }
 
     fn enter(&mut self) -> Option<(Leech<'a>, u64)> {
         let number = self.entered;
@@ -110,12 +119,14 @@ impl<'a> Door for Two<'a> {
             failed: 0,
             time: 0,
         };
+        self.inside += 1;
         Some((leech, number))
     }
 
     fn rest(&mut self) {}
 
     fn ended(&mut self, name: u64, parting: Parting) {
+        self.inside -= 1;
         if name == 0 {
             self.first = Some(parting);
         } else {
@@ -154,10 +165,11 @@ fn served(alloc: Global, fails_at: Option<u64>) -> Result<Came, Memory> {
         fetched: &fetched,
         fails_at,
         entered: 0,
+        inside: 0,
         first: None,
         second: None,
     };
-    let answer = serve(alloc, &hospitality, &metadata, Some(2), 2, &mut door);
+    let answer = serve(alloc, &hospitality, &metadata, Some(2), &mut door);
     Ok(Came {
         answer,
         fetched: fetched.get(),

@@ -1,4 +1,7 @@
 //! Where a server gets its connections from, and who is told how each ended.
+ghost use Rattle.std.specs.Prelude.{◌≡◌, ◌+◌, ◌<◌, nat_lt};
+ghost use Rattle.bt_serve.specs.Doors.{entering};
+
 use crate::guest::Ending;
 use bt_exchange::Connection;
 
@@ -12,19 +15,39 @@ pub struct Parting {
     pub handled: u64,
 }
 
-/// Lets connections in.
+/// Lets connections in, as long as it has a place for them.
 pub trait Door {
+    ghost use Rattle.std.specs.Prelude.{ℕ};
+
     type Link: Connection + Drop;
 
     /// What is told of a connection once it has ended, as an address.
     type Name: Copy + Drop;
 
+    /// How many connections are inside: they entered, and their end wasn't told yet.
+    ghost inside: { Self → ℕ };
+
+    /// How many connections may be inside at the same time.
+    ghost places: { Self → ℕ };
+
+    /// Whether one more connection may be inside.
+    fn has_place(&self) -> bool
+        ensures { result ≡ nat_lt (inside self.now) (places self.now) };
+
     /// Returns a connection that waits to be served; `None` where there is none.
-    fn enter(&mut self) -> Option<(Self::Link, Self::Name)>;
+    fn enter(&mut self) -> Option<(Self::Link, Self::Name)>
+        requires { inside self.old < places self.old }
+        ensures inside { inside self.new ≡ inside self.old + entering result }
+        ensures places { places self.new ≡ places self.old };
 
     /// Waits a moment, since no connection can go on.
-    fn rest(&mut self);
+    fn rest(&mut self)
+        ensures inside { inside self.new ≡ inside self.old }
+        ensures places { places self.new ≡ places self.old };
 
-    /// Is told how a connection ended.
-    fn ended(&mut self, name: Self::Name, parting: Parting);
+    /// Is told how a connection ended that was inside.
+    fn ended(&mut self, name: Self::Name, parting: Parting)
+        requires { 0 < inside self.old }
+        ensures inside { inside self.new + 1 ≡ inside self.old }
+        ensures places { places self.new ≡ places self.old };
 }

@@ -235,7 +235,7 @@ impl<L: Connection + Drop> Guest<L> {
     }
 
     /// Returns how the connection ended, for this reason.
-    fn parting(&self, ending: Ending) -> Parting
+    pub fn parting(&self, ending: Ending) -> Parting
         ensures { result ≡ record { ending = ending; sent = self.now.tally.sent; handled = self.now.tally.handled } }
     {
         Parting {

@@ -1,8 +1,9 @@
 //! The loop over all connections that are served.
+ghost use Rattle.std.specs.Prelude.{◌≡◌, ◌<◌, vec_len};
 ghost use Rattle.bt_serve.specs.Guests.{IsHospitality};
 
 use crate::door::{Door, Parting};
-use crate::guest::{Guest, Hospitality, Pace};
+use crate::guest::{Ending, Guest, Hospitality, Pace};
 use bt_exchange::Connection;
 use bt_io::Memory;
 use std::alloc::Global;
@@ -10,6 +11,13 @@ use std::rc::Rc;
 
 /// The connections that are served at the moment, each with its name.
 type Guests<D> = Vec<(Guest<<D as Door>::Link>, <D as Door>::Name)>;
+
+/// What is told of a connection whose buffers were refused.
+const NOT_SERVED: Parting = Parting {
+    ending: Ending::Closed,
+    sent: 0,
+    handled: 0,
+};
 
 /// Lets a connection in, if one waits. It returns whether one came.
 fn let_in<D: Door>(
@@ -19,13 +27,21 @@ fn let_in<D: Door>(
     door: &mut D,
     guests: &mut Guests<D>,
 ) -> Result<bool, Memory>
-    requires { IsHospitality hospitality.now }
+    requires hospitality { IsHospitality hospitality.now }
+    requires place { D.inside door.old < D.places door.old }
+    requires inside { D.inside door.old ≡ vec_len guests.old }
+    ensures inside { D.inside door.new ≡ vec_len guests.new }
+    ensures places { D.places door.new ≡ D.places door.old }
 {
     let Some((link, name)) = door.enter() else {
         return Ok(false);
     };
-    let guest = Guest::new(alloc, hospitality, metadata, link)?;
+    let Ok(guest) = Guest::new(alloc, hospitality, metadata, link) else {
+        door.ended(name, NOT_SERVED);
+        return Err(Memory);
+    };
     if guests.push((guest, name)).is_err() {
+        door.ended(name, NOT_SERVED);
         return Err(Memory);
     }
     Ok(true)
@@ -46,7 +62,11 @@ fn tend_one<L: Connection + Drop>(patience: u64, guest: &mut Guest<L>) -> Turn {
 }
 
 /// Gives each connection its turn, and drops those that ended. It returns how many ended, and whether one can go on at once.
-fn tend_all<D: Door>(patience: u64, door: &mut D, guests: &mut Guests<D>) -> (u64, bool) {
+fn tend_all<D: Door>(patience: u64, door: &mut D, guests: &mut Guests<D>) -> (u64, bool)
+    requires { D.inside door.old ≡ vec_len guests.old }
+    ensures inside { D.inside door.new ≡ vec_len guests.new }
+    ensures places { D.places door.new ≡ D.places door.old }
+{
     let mut ended = 0u64;
     let mut is_busy = false;
     let mut at = 0;
@@ -69,9 +89,53 @@ fn tend_all<D: Door>(patience: u64, door: &mut D, guests: &mut Guests<D>) -> (u6
     (ended, is_busy)
 }
 
+/// Tells how each connection that is left ended.
+fn part_all<D: Door>(door: &mut D, guests: &mut Guests<D>)
+    requires { D.inside door.old ≡ vec_len guests.old }
+    ensures { D.inside door.new ≡ 0 }
+{
+    while let Some((guest, name)) = guests.pop() {
+        door.ended(name, guest.parting(Ending::Closed));
+    }
+}
+
+/// Serves metadata to so many connections, or without end.
+fn serve_all<D: Door>(
+    alloc: Global,
+    hospitality: &Hospitality,
+    metadata: &Rc<Vec<u8>>,
+    connections: Option<u64>,
+    door: &mut D,
+    guests: &mut Guests<D>,
+) -> Result<(), Memory>
+    requires hospitality { IsHospitality hospitality.now }
+    requires inside { D.inside door.old ≡ vec_len guests.old }
+    ensures { D.inside door.new ≡ vec_len guests.new }
+{
+    let mut entered = 0u64;
+    let mut left = 0u64;
+    for _ in 0..u64::MAX {
+        if connections == Some(left) {
+            return Ok(());
+        }
+        let is_open = door.has_place() && connections != Some(entered);
+        let came = is_open && let_in(alloc, hospitality, metadata, door, guests)?;
+        if came {
+            entered = entered.saturating_add(1);
+        }
+        let (ended, is_busy) = tend_all(hospitality.patience, door, guests);
+        left = left.saturating_add(ended);
+        if !came && !is_busy && ended == 0 {
+            door.rest();
+        }
+    }
+    Ok(())
+}
+
 /// Serves metadata to so many connections, or without end.
 ///
-/// At most `at_once` of them are served at the same time.
+/// At most as many are served at the same time as the door has places. Each connection that entered has ended when it
+/// returns, and the door was told.
 ///
 /// # Errors
 /// `Memory` if the buffers of a connection are refused.
@@ -80,28 +144,14 @@ pub fn serve<D: Door>(
     hospitality: &Hospitality,
     metadata: &Rc<Vec<u8>>,
     connections: Option<u64>,
-    at_once: usize,
     door: &mut D,
 ) -> Result<(), Memory>
-    requires { IsHospitality hospitality.now }
+    requires hospitality { IsHospitality hospitality.now }
+    requires empty { D.inside door.old ≡ 0 }
+    ensures told { D.inside door.new ≡ 0 }
 {
     let mut guests: Guests<D> = Vec::new(alloc);
-    let mut entered = 0u64;
-    let mut left = 0u64;
-    for _ in 0..u64::MAX {
-        if connections == Some(left) {
-            return Ok(());
-        }
-        let is_open = guests.len() < at_once && connections != Some(entered);
-        let came = is_open && let_in(alloc, hospitality, metadata, door, &mut guests)?;
-        if came {
-            entered = entered.saturating_add(1);
-        }
-        let (ended, is_busy) = tend_all(hospitality.patience, door, &mut guests);
-        left = left.saturating_add(ended);
-        if !came && !is_busy && ended == 0 {
-            door.rest();
-        }
-    }
-    Ok(())
+    let served = serve_all(alloc, hospitality, metadata, connections, door, &mut guests);
+    part_all(door, &mut guests);
+    served
 }

@@ -1,4 +1,6 @@
 //! Connections over TCP that are let in by a listener.
+ghost use Rattle.std.specs.Prelude.{◌≡◌};
+
 use crate::door::{Door, Parting};
 use bt_exchange::Stream;
 use std::io;
@@ -20,15 +22,27 @@ pub struct TcpDoor<'a, R: Net + Clock, F: Farewell + Drop> {
     runtime: &'a R,
     listener: R::Listener,
     farewell: F,
+    inside: usize,
+    places: usize,
 }
 
 impl<'a, R: Net + Clock, F: Farewell + Drop> TcpDoor<'a, R, F> {
-    /// Returns a door at this listener, whose calls don't wait.
-    pub fn new(runtime: &'a R, listener: R::Listener, farewell: F) -> TcpDoor<'a, R, F> {
+    /// Returns a door with so many places at this listener, whose calls don't wait.
+    pub fn new(
+        runtime: &'a R,
+        listener: R::Listener,
+        farewell: F,
+        places: usize,
+    ) -> TcpDoor<'a, R, F>
+        ensures inside { ⟦<TcpDoor<'a, R, F> as Door>⟧.inside result ≡ 0 }
+        ensures places { ⟦<TcpDoor<'a, R, F> as Door>⟧.places result ≡ places }
+    {
         TcpDoor {
             runtime,
             listener,
             farewell,
+            inside: 0,
+            places,
         }
     }
 }
@@ -57,9 +71,18 @@ impl<'a, R: Net + Clock, F: Farewell + Drop> Door for TcpDoor<'a, R, F> {
 
     type Name = SocketAddr;
 
+    ghost inside = { λ d. d.inside };
+
+    ghost places = { λ d. d.places };
+
+    fn has_place(&self) -> bool {
+        self.inside < self.places
+    }
+
     fn enter(&mut self) -> Option<(Stream<R::Stream, &'a R>, SocketAddr)> {
         let (stream, peer) = self.listener.accept().ok()?;
         ready(&stream).ok()?;
+        self.inside += 1;
         Some((Stream::new(stream, self.runtime), peer))
     }
 
@@ -68,6 +91,7 @@ impl<'a, R: Net + Clock, F: Farewell + Drop> Door for TcpDoor<'a, R, F> {
     }
 
     fn ended(&mut self, name: SocketAddr, parting: Parting) {
+        self.inside -= 1;
         self.farewell.ended(name, parting);
     }
 }
