@@ -11,13 +11,13 @@ use std::test::Fail;
 
 const RESERVED: u64 = 0x10_0005;
 
-pub const INFO_HASH: [u8; 20] = [
+pub(crate) const INFO_HASH: [u8; 20] = [
     0xa9, 0x99, 0x3e, 0x36, 0x47, 0x06, 0x81, 0x6a, 0xba, 0x3e, 0x25, 0x71, 0x78, 0x50, 0xc2, 0x6c,
     0x9c, 0xd0, 0xd8, 0x9d,
 ];
 
 /// The receiver of the rows, which knows both extensions and judges syntax alone.
-pub fn own(limit: u32) -> Own {
+pub(crate) fn own(limit: u32) -> Own {
     Own {
         reserved: Reserved(RESERVED),
         info_hash: None,
@@ -39,7 +39,7 @@ fn context(limit: u32) -> Context {
     }
 }
 
-pub fn hand() -> [u8; 68] {
+pub(crate) fn hand() -> [u8; 68] {
     spell_handshake(&Handshake {
         reserved: Reserved(RESERVED),
         info_hash: INFO_HASH,
@@ -48,13 +48,13 @@ pub fn hand() -> [u8; 68] {
 }
 
 /// A handshake, and then the bytes `messages`.
-pub fn joined(alloc: Global, messages: &[u8]) -> Result<Vec<u8>, AllocError> {
+pub(crate) fn joined(alloc: Global, messages: &[u8]) -> Result<Vec<u8>, AllocError> {
     let mut bytes = hand().to_vec(alloc)?;
     bytes.extend_from_slice(messages)?;
     Ok(bytes)
 }
 
-pub fn push(feed: &mut Feed, bytes: &[u8]) -> usize {
+pub(crate) fn push(feed: &mut Feed, bytes: &[u8]) -> usize {
     feed.push(bytes)
 }
 
@@ -64,7 +64,7 @@ fn fault_of_look(feed: &Feed) -> Option<TakeError> {
 }
 
 /// How the feed is refused when its item is taken, if it is.
-pub fn fault_of_take(feed: &mut Feed) -> Option<TakeError> {
+pub(crate) fn fault_of_take(feed: &mut Feed) -> Option<TakeError> {
     feed.take().err()
 }
 

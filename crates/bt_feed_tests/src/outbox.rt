@@ -7,23 +7,23 @@ use std::test::Fail;
 const SENT: &[u8; 98] =
     b"!\"#$%&'()*+,-./0123456789:;<=>?@ABCDEFGHIJKLMNOPQRSTUVWXYZ[\\]^_`abcdefghijklmnopqrstuvwxyz{|}~ ABC";
 
-pub fn holds<A: Allocator>(outbox: &Outbox<A>, bytes: &[u8]) -> bool {
+pub(crate) fn holds<A: Allocator>(outbox: &Outbox<A>, bytes: &[u8]) -> bool {
     outbox.bytes() == bytes
 }
 
-pub fn has_taken(target: &MemTarget, bytes: &[u8]) -> bool {
+pub(crate) fn has_taken(target: &MemTarget, bytes: &[u8]) -> bool {
     target.bytes() == bytes
 }
 
-pub fn reserve<A: Allocator>(outbox: &mut Outbox<A>, n: usize) -> Result<(), Memory> {
+pub(crate) fn reserve<A: Allocator>(outbox: &mut Outbox<A>, n: usize) -> Result<(), Memory> {
     outbox.reserve(n)
 }
 
-pub fn queue<A: Allocator>(outbox: &mut Outbox<A>, bytes: &[u8]) -> Result<(), Memory> {
+pub(crate) fn queue<A: Allocator>(outbox: &mut Outbox<A>, bytes: &[u8]) -> Result<(), Memory> {
     outbox.queue(bytes)
 }
 
-pub fn drain<A: Allocator>(
+pub(crate) fn drain<A: Allocator>(
     outbox: &mut Outbox<A>,
     target: &mut MemTarget,
     max: usize,
@@ -32,7 +32,7 @@ pub fn drain<A: Allocator>(
 }
 
 /// A target that takes at most `most` bytes a write and fails at the call `fails_at`, counted from 1.
-pub fn target(alloc: Global, most: usize, fails_at: Option<u64>) -> MemTarget {
+pub(crate) fn target(alloc: Global, most: usize, fails_at: Option<u64>) -> MemTarget {
     MemTarget::new(Vec::new(alloc), most, fails_at)
 }
 

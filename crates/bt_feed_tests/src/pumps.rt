@@ -65,14 +65,14 @@ impl Sink for Kept {
 }
 
 /// The messages of the stream: one of each kind of length.
-pub const MESSAGES: &[u8; 174] =
+pub(crate) const MESSAGES: &[u8; 174] =
     b"\0\0\0\0\0\0\0\x05\x04\0\0\0\x09\0\0\0\x0d\x06\0\0\0\x01\0\0\x40\0\0\0\x40\0\
 \0\0\0\x2d\x14\0d1:md11:ut_metadatai3ee13:metadata_sizei3ee\0\0\0\0\
 \0\0\0\x1b\x14\x03d8:msg_typei0e5:piecei0ee\0\0\0\x01\x63\
 \0\0\0\x2e\x14\x03d8:msg_typei1e5:piecei0e10:total_sizei3eeabc\0\0\0\x01\x0f";
 
 /// Its items, and where each ends.
-pub const ITEMS: [(u64, u8); 10] = [
+pub(crate) const ITEMS: [(u64, u8); 10] = [
     (0, HANDSHAKE),
     (68, KEEP_ALIVE),
     (72, 4),

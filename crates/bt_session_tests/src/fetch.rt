@@ -17,7 +17,7 @@ const RIGHT_SENT: [u8; 129] = *b"\x13BitTorrent protocol\0\0\0\0\0\x10\0\x05\
 \0\0\0\x1b\x14\x03d8:msg_typei0e5:piecei0ee";
 
 /// The report of the fetch whose deliveries are cut into portions of at most this many bytes, with its steps.
-pub fn fetched(alloc: Global, portion: u64) -> Result<(Vec<Step>, LinkReport), Fail> {
+pub(crate) fn fetched(alloc: Global, portion: u64) -> Result<(Vec<Step>, LinkReport), Fail> {
     let steps = steps(alloc, FETCH.as_slice(), portion)?;
     let left = serving(b"abc".to_vec(alloc)?);
     let report = run_link(alloc, left, fetching(), steps.as_slice())?;
@@ -36,7 +36,7 @@ fn metadata(end: &End) -> Option<&[u8]> {
 }
 
 /// Whether the metadata went over on the second of two connections, and nothing else is left.
-pub fn is_fetched(report: &LinkReport) -> bool {
+pub(crate) fn is_fetched(report: &LinkReport) -> bool {
     let connections = report.connections.as_slice();
     connections.len() == 2
         && counts(connections.first()) == (3, 3, 3, 2)

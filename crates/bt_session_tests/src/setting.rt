@@ -5,17 +5,17 @@ use bt_wire::{Context, EncodeError, Item, Order, Own, Reserved, encode, spell_ha
 use std::alloc::{AllocError, Global};
 
 /// The SHA-1 of `abc` (FIPS 180-4).
-pub const ABC: [u8; 20] = [
+pub(crate) const ABC: [u8; 20] = [
     0xa9, 0x99, 0x3e, 0x36, 0x47, 0x06, 0x81, 0x6a, 0xba, 0x3e, 0x25, 0x71, 0x78, 0x50, 0xc2, 0x6c,
     0x9c, 0xd0, 0xd8, 0x9d,
 ];
 
-pub const LEFT: [u8; 20] = *b"-BT0001-LLLLLLLLLLLL";
+pub(crate) const LEFT: [u8; 20] = *b"-BT0001-LLLLLLLLLLLL";
 
-pub const RIGHT: [u8; 20] = *b"-BT0001-RRRRRRRRRRRR";
+pub(crate) const RIGHT: [u8; 20] = *b"-BT0001-RRRRRRRRRRRR";
 
 /// A receiver that knows both extensions, and wants metadata messages under this id.
-pub fn own(id: u8, rules: Rules, pieces: Option<u32>, limit: u32) -> Own {
+pub(crate) fn own(id: u8, rules: Rules, pieces: Option<u32>, limit: u32) -> Own {
     Own {
         reserved: Reserved(0x10_0005),
         info_hash: Some(ABC),
@@ -26,7 +26,7 @@ pub fn own(id: u8, rules: Rules, pieces: Option<u32>, limit: u32) -> Own {
     }
 }
 
-pub fn config(own: Own, peer_id: [u8; 20], announce: Announce, role: Role) -> Config {
+pub(crate) fn config(own: Own, peer_id: [u8; 20], announce: Announce, role: Role) -> Config {
     Config {
         own,
         peer_id,
@@ -37,7 +37,7 @@ pub fn config(own: Own, peer_id: [u8; 20], announce: Announce, role: Role) -> Co
 }
 
 /// The left end, which serves this metadata under the id 3.
-pub fn serving(metadata: Vec<u8>) -> Config {
+pub(crate) fn serving(metadata: Vec<u8>) -> Config {
     config(
         own(3, Rules::Free, None, 262_144),
         LEFT,
@@ -47,7 +47,7 @@ pub fn serving(metadata: Vec<u8>) -> Config {
 }
 
 /// The right end, which fetches under the id 9.
-pub fn fetching() -> Config {
+pub(crate) fn fetching() -> Config {
     config(
         own(9, Rules::Free, None, 262_144),
         RIGHT,
@@ -58,7 +58,7 @@ pub fn fetching() -> Config {
 
 /// A step of a fetch.
 #[derive(Clone, Copy, Debug)]
-pub enum Move {
+pub(crate) enum Move {
     /// Brings n bytes to the end.
     Bring(Side, u64),
     Turn(Side),
@@ -66,7 +66,7 @@ pub enum Move {
 }
 
 /// A fetch that is cut off before its one block has come whole, and then a second connection.
-pub const FETCH: [Move; 22] = [
+pub(crate) const FETCH: [Move; 22] = [
     Move::Bring(Side::Right, 68),
     Move::Turn(Side::Right),
     Move::Bring(Side::Left, 98),
@@ -110,7 +110,7 @@ fn push_portions(
 }
 
 /// The steps of moves, whose bytes are delivered at most `portion` at once.
-pub fn steps(alloc: Global, moves: &[Move], portion: u64) -> Result<Vec<Step>, AllocError> {
+pub(crate) fn steps(alloc: Global, moves: &[Move], portion: u64) -> Result<Vec<Step>, AllocError> {
     let mut steps = Vec::new(alloc);
     for next in moves {
         match next {
@@ -123,7 +123,7 @@ pub fn steps(alloc: Global, moves: &[Move], portion: u64) -> Result<Vec<Step>, A
 }
 
 /// Whether each step that isn't a saying did all that it was to do.
-pub fn all_done(steps: &[Step], outcomes: &[Outcome]) -> bool {
+pub(crate) fn all_done(steps: &[Step], outcomes: &[Outcome]) -> bool {
     steps.len() == outcomes.len()
         && steps.iter().zip(outcomes).all(|(step, outcome)| match (step, outcome) {
             (Step::Turn(_), Outcome::Handled) => true,
@@ -134,7 +134,7 @@ pub fn all_done(steps: &[Step], outcomes: &[Outcome]) -> bool {
 }
 
 /// How many items went over a connection: sent and handled by the left end, and by the right one.
-pub fn counts(connection: Option<&Connection>) -> (usize, u64, usize, u64) {
+pub(crate) fn counts(connection: Option<&Connection>) -> (usize, u64, usize, u64) {
     match connection {
         Some(c) => (c.sent[0].len(), c.handled[0], c.sent[1].len(), c.handled[1]),
         None => (0, 0, 0, 0),
@@ -164,7 +164,7 @@ fn spelled(alloc: Global, item: &Item, id: u8, bytes: &mut Vec<u8>) -> Result<()
 }
 
 /// The bytes of items.
-pub fn stream(alloc: Global, items: &[Item], id: u8) -> Result<Vec<u8>, EncodeError> {
+pub(crate) fn stream(alloc: Global, items: &[Item], id: u8) -> Result<Vec<u8>, EncodeError> {
     let mut bytes = Vec::new(alloc);
     for item in items {
         spelled(alloc, item, id, &mut bytes)?;

@@ -4,7 +4,7 @@ use std::alloc::{AllocError, Global};
 use std::test::Fail;
 
 /// The receiver's ids: `ut_metadata` is 3.
-pub fn ids() -> Registered {
+pub(crate) fn ids() -> Registered {
     Registered::metadata_only(ExtId::new(3))
 }
 
@@ -92,7 +92,7 @@ const REPEATED: &[u8] = b"d1:pi1e1:pi2ee";
 const INNER: &[u8] = b"d1:md1:bi1e1:ai2eee";
 
 /// What libtorrent, Transmission and others send: addresses as byte strings, a time that is below 0, flags.
-pub const LIBTORRENT: &[u8] =
+pub(crate) const LIBTORRENT: &[u8] =
     b"d12:complete_agoi-1e1:md11:lt_donthavei7e10:share_modei8e11:upload_onlyi3e12:ut_holepunchi4e11:ut_metadatai2e6:ut_pexi1ee13:metadata_sizei33236e4:reqqi500e11:upload_onlyi1e1:v17:libtorrent/2.0.9.6:yourip4:\x7f\x00\x00\x01e";
 
 const TRANSMISSION: &[u8] =
@@ -100,9 +100,9 @@ const TRANSMISSION: &[u8] =
 
 const USUAL: &[u8] = b"d1:md11:ut_metadatai2e6:ut_pexi1ee1:pi6881e4:reqqi500e1:v4:teste";
 
-pub const REQUEST: &[u8] = b"d8:msg_typei0e5:piecei0ee";
+pub(crate) const REQUEST: &[u8] = b"d8:msg_typei0e5:piecei0ee";
 
-pub const DATA: &[u8] = b"d8:msg_typei1e5:piecei0e10:total_sizei3eeabc";
+pub(crate) const DATA: &[u8] = b"d8:msg_typei1e5:piecei0e10:total_sizei3eeabc";
 
 #[test]
 fn handshakes(rt: HostRuntime) -> Result<(), Fail> {
@@ -240,7 +240,7 @@ fn deepest(rt: HostRuntime) -> Result<(), Fail> {
 }
 
 /// These bytes, and as many letters `e` as make them `length` long.
-pub fn padded(alloc: Global, front: &[u8], length: usize) -> Result<Vec<u8>, AllocError> {
+pub(crate) fn padded(alloc: Global, front: &[u8], length: usize) -> Result<Vec<u8>, AllocError> {
     let mut bytes = Vec::from_slice(alloc, front)?;
     for _ in front.len()..length {
         bytes.push(b'e')?;

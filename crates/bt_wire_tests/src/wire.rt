@@ -4,10 +4,10 @@ use bt_wire::*;
 use std::alloc::Global;
 use std::test::Fail;
 
-pub const LIMIT: u32 = 262_144;
+pub(crate) const LIMIT: u32 = 262_144;
 
 /// What two ends with the Extension Protocol have agreed on, with the usual limit and no id registered.
-pub fn agreed(rules: Rules, fast: bool, pieces: Option<u32>) -> Context {
+pub(crate) fn agreed(rules: Rules, fast: bool, pieces: Option<u32>) -> Context {
     Context {
         fast,
         ext: true,

@@ -57,12 +57,12 @@ fn parts<'a>(view: &MessageView<'a>) -> Parts<'a> {
 }
 
 /// Whether the header says that the bytes are one whole message.
-pub fn is_window(context: &Context, order: Order, bytes: &[u8]) -> bool {
+pub(crate) fn is_window(context: &Context, order: Order, bytes: &[u8]) -> bool {
     judge_header(context, order, bytes) == Header::Window(bytes.len() as u64)
 }
 
 /// What decoding the window gives; nothing where its header doesn't say that it is one whole message.
-pub fn decoded(
+pub(crate) fn decoded(
     alloc: Global,
     context: &Context,
     order: Order,
@@ -76,7 +76,7 @@ pub fn decoded(
 }
 
 /// Whether the message is written as the bytes.
-pub fn is_encoded(
+pub(crate) fn is_encoded(
     alloc: Global,
     context: &Context,
     order: Order,
