@@ -1,6 +1,6 @@
 use Rattle.std.proofs.Common.{ℕ, List, subst, inr}
-use Rattle.bt_cli.specs.Runs.{IsSaid}
-use Rattle.bt_cli.proofs.hints.say_hint.Goals as goal
+use Rattle.bt_run.specs.Runs.{IsSaid}
+use Rattle.bt_run.proofs.hints.say_hint.Goals as goal
 
 pub returns-in-Some : goal.returns-in-Some
 returns-in-Some g c =

@@ -1,6 +1,6 @@
 //! Texts that are printed in place of a job: what is wrong with the words. The program's `main` calls it.
 ghost use Rattle.std.specs.Prelude.{◌≡◌};
-ghost use Rattle.bt_cli.specs.Runs.{IsSaid};
+ghost use Rattle.bt_run.specs.Runs.{IsSaid};
 
 use crate::commands::{Notice, status_of};
 use crate::run::say;

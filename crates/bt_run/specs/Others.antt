@@ -5,7 +5,7 @@ use Rattle.bt_wire.specs.declared.context.Own.{Own}
 use Rattle.bt_jobs.specs.declared.other.Announced.{Announced}
 use Rattle.bt_jobs.specs.declared.other.OtherError.{OtherError}
 use Rattle.bt_jobs.specs.Others.{IsLearnt}
-use Rattle.bt_cli.specs.declared.commands.Given.{Given}
+use Rattle.bt_run.specs.declared.commands.Given.{Given}
 
 -- What an option gives stays; the rest of what the receiver's own stream says takes the place of the defaults. Where the ids of
 -- both extensions are then equal, that of `ut_metadata` alone counts.

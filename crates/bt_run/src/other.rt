@@ -2,8 +2,8 @@
 ghost use Rattle.std.specs.Prelude.{◌≡◌, IfOk, if◌then◌else◌};
 ghost use Rattle.bt_ext.specs.Ids.{metadata_id, donthave_id};
 ghost use Rattle.bt_io.specs.Counts.{Grew};
-ghost use Rattle.bt_cli.specs.Commands.{HasLimit};
-ghost use Rattle.bt_cli.specs.Others.{IsInformed, informed as informed_by_rule};
+ghost use Rattle.bt_run.specs.Commands.{HasLimit};
+ghost use Rattle.bt_run.specs.Others.{IsInformed, informed as informed_by_rule};
 
 use crate::commands::Given;
 use bt_ext::{ExtId, Registered};

@@ -5,7 +5,7 @@ use Rattle.std.specs.Char.{is_ascii_digit}
 use Rattle.std.specs.List.{list_all}
 use Rattle.std.specs.Result.{result_ok, OkIff}
 use Rattle.std.specs.Str.Parse.{digits_value, ParsesUnsigned}
-use Rattle.bt_cli.specs.Options.{number_of}
+use Rattle.bt_run.specs.Options.{number_of}
 
 own : IsNumeralModel (λ t. list_all is_ascii_digit t ≡ true) (digits_value 10)
 own = numerals_by_value _ (search rules)

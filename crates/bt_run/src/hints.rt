@@ -1,6 +1,6 @@
 //! The hint that standard error gets after a refused stream, or after a script. The program's `main` calls it after a job.
 ghost use Rattle.std.specs.Prelude.{IfSome};
-ghost use Rattle.bt_cli.specs.Hinting.{IsHinted, IsHintText};
+ghost use Rattle.bt_run.specs.Hinting.{IsHinted, IsHintText};
 
 use crate::run::{JobEnd, say};
 use bt_feed::Target;

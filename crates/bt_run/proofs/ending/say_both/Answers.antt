@@ -1,6 +1,6 @@
 use Rattle.std.proofs.Common.{ℕ, List, ◌++◌, ap, ◌∙◌, inr}
 use Rattle.std.proofs.lemmas.List.{append_assoc}
-use Rattle.bt_cli.proofs.ending.say_both.Goals as goal
+use Rattle.bt_run.proofs.ending.say_both.Goals as goal
 
 pub returns-in-Err : goal.returns-in-Err
 returns-in-Err g c =

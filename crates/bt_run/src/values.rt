@@ -1,9 +1,9 @@
-//! The receiver that the options describe, from their texts. The module `options` calls [`own_of`].
+//! The receiver that the options describe, from their texts. `bt_cli` calls [`own_of`].
 ghost use Rattle.std.specs.Prelude.{◌≡◌, ◌≤◌, ℕ, List, option_map, option_and_then, IfOk, IfErr, IfSome, MatchResult, Some};
 ghost use Rattle.std.specs.Char.{is_ascii_digit};
 ghost use Rattle.std.specs.List.{list_all};
 ghost use Rattle.bt_ext.specs.Ids.{metadata_id, donthave_id};
-ghost use Rattle.bt_cli.specs.Options.{
+ghost use Rattle.bt_run.specs.Options.{
   number_of,
   number_in,
   reserved_in,

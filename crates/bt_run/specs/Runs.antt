@@ -12,17 +12,11 @@ use Rattle.bt_json.specs.Objects.{lines_of as json_lines_of}
 use Rattle.bt_jobs.specs.declared.printer.Form.TheVariants as form
 use Rattle.bt_jobs.specs.Printed.{AppendsFront, IsWritten, IsEndOfReads, nothing, items_in, checked, unpacked}
 use Rattle.bt_jobs.specs.Packs.{IsPackRun}
-use Rattle.bt_session.specs.declared.report.LinkError.{LinkError}
-use Rattle.bt_rig.specs.declared.run.RigEnd.{RigEnd}
-use Rattle.bt_rig.specs.declared.run.RigEnd.TheVariants.{Unrun}
-use Rattle.bt_rig.specs.Runs.{complaint as rig_complaint}
-use Rattle.bt_net.specs.declared.looped.LoopEnd.{LoopEnd}
-use Rattle.bt_net.specs.declared.looped.LoopEnd.TheVariants.{Fetched, Unfetched, BadSize}
-use Rattle.bt_cli.specs.declared.commands.Job.{Job}
-use Rattle.bt_cli.specs.declared.commands.Job.TheVariants.{Show, Json, Check, Unpack, Pack}
-use Rattle.bt_cli.specs.declared.run.JobEnd.{JobEnd}
-use Rattle.bt_cli.specs.declared.run.JobEnd.TheVariants.{Stream, Script}
-use Rattle.bt_cli.specs.Commands.{status_of, pack_status_of}
+use Rattle.bt_run.specs.declared.commands.Job.{Job}
+use Rattle.bt_run.specs.declared.commands.Job.TheVariants.{Show, Json, Check, Unpack, Pack}
+use Rattle.bt_run.specs.declared.run.JobEnd.{JobEnd}
+use Rattle.bt_run.specs.declared.run.JobEnd.TheVariants.{Stream, Script}
+use Rattle.bt_run.specs.Commands.{status_of, pack_status_of}
 
 -- ---- what a job does to its source and its target
 
@@ -70,22 +64,6 @@ complaint Pack (Stream (Ok (ends.Refused r))) = []
 complaint job (Stream (Ok (ends.Accepted messages bytes))) = []
 complaint job (Script (Ok (packs.Refused number reason))) = refused_line number reason
 complaint job (Script (Ok (packs.Accepted messages bytes))) = []
-
--- A fault of `link` has its line, and so has what it doesn't run.
-abbrev pub link_complaint : Result RigEnd ToolFault → List ℕ
-link_complaint (Ok end) = rig_complaint end
-link_complaint (Err f) = fault_line f
-
--- A fault of `loop` has its line, and so has metadata of a wrong size.
-abbrev pub loop_complaint : Result LoopEnd ToolFault → List ℕ
-loop_complaint (Ok Fetched) = []
-loop_complaint (Ok Unfetched) = []
-loop_complaint (Ok BadSize) = codes "refused size\n"
-loop_complaint (Err f) = fault_line f
-
--- why a link isn't run
-abbrev pub unrun_line : LinkError → List ℕ
-unrun_line e = rig_complaint (Unrun e)
 
 -- the text is written, or a prefix of it where a write failed
 abbrev pub IsSaid : List ℕ → Option (List ℕ) → Option (List ℕ) → ℕ → ℕ → Type 0

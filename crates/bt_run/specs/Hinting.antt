@@ -4,9 +4,9 @@ use Rattle.bt_text.specs.declared.ended.Ended.TheVariants as ends
 use Rattle.bt_hint.specs.declared.finding.Hint.{Hint}
 use Rattle.bt_hint.specs.Hints.{HasMark, hint_line}
 use Rattle.bt_jobs.specs.PackHints.{IsPackHint}
-use Rattle.bt_cli.specs.declared.run.JobEnd.{JobEnd}
-use Rattle.bt_cli.specs.declared.run.JobEnd.TheVariants.{Stream, Script}
-use Rattle.bt_cli.specs.Runs.{IsSaid}
+use Rattle.bt_run.specs.declared.run.JobEnd.{JobEnd}
+use Rattle.bt_run.specs.declared.run.JobEnd.TheVariants.{Stream, Script}
+use Rattle.bt_run.specs.Runs.{IsSaid}
 
 -- the text is the line of a hint: for a refused stream of one whose mark the bytes have, and for a script of what its lines show
 abbrev pub IsHintText : JobEnd → List ℕ → List ℕ → Type 0

@@ -3,8 +3,8 @@
 ghost use Rattle.std.specs.Prelude.{◌≡◌, ◌≢◌, ◌≤◌, ◌+◌, ◌^◌, Some};
 ghost use Rattle.bt_io.specs.Counts.{Grew};
 ghost use Rattle.bt_text.specs.Lines.{verdict_line as verdict_words, refused_line as refused_words};
-ghost use Rattle.bt_cli.specs.Commands.{HasLimit};
-ghost use Rattle.bt_cli.specs.Runs.{IsDone, IsEndOfInput, IsSaid, complaint, exit_status_of, fault_in};
+ghost use Rattle.bt_run.specs.Commands.{HasLimit};
+ghost use Rattle.bt_run.specs.Runs.{IsDone, IsEndOfInput, IsSaid, complaint, exit_status_of, fault_in};
 
 use crate::commands::{Job, pack_status, status};
 use bt_feed::{Source, Target};
