@@ -3,7 +3,7 @@ use Rattle.std.specs.Prelude.{ℕ, Bool, List, [], Result, Ok, Err}
 use Rattle.bt_text.specs.declared.ended.ToolFault.TheVariants as fault
 use Rattle.bt_fetch.specs.declared.fetching.FetchError.{FetchError}
 use Rattle.bt_fetch.specs.declared.fetching.FetchError.TheVariants.{NotFetched, Write, Memory}
-use Rattle.bt_cli.specs.Endings.{fault_status, fault_words}
+use Rattle.bt_run.specs.Endings.{fault_status, fault_words}
 
 -- a fault has its line, but for an output that nobody reads
 abbrev pub fetch_words : Bool → Result ℕ FetchError → List ℕ

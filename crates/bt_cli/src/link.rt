@@ -1,10 +1,11 @@
 //! The command `link`: what standard error gets of its end. The module `ending` calls it.
 ghost use Rattle.std.specs.Prelude.{◌≡◌};
-ghost use Rattle.bt_cli.specs.Runs.{IsSaid, link_complaint, unrun_line as unrun_words};
+ghost use Rattle.bt_run.specs.Runs.{IsSaid};
+ghost use Rattle.bt_cli.specs.Endings.{link_complaint, unrun_line as unrun_words};
 
-use crate::run::{say, say_refused};
 use bt_feed::Target;
 use bt_rig::RigEnd;
+use bt_run::run::{say, say_refused};
 use bt_session::{EndError, LinkError};
 use bt_text::ended::{ScriptReason, ToolFault};
 use bt_text::lines::fault_line;

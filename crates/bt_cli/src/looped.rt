@@ -1,9 +1,10 @@
 //! What the end of `loop` says on standard error. The module `ending` calls it.
-ghost use Rattle.bt_cli.specs.Runs.{IsSaid, loop_complaint};
+ghost use Rattle.bt_run.specs.Runs.{IsSaid};
+ghost use Rattle.bt_cli.specs.Endings.{loop_complaint};
 
-use crate::run::say;
 use bt_feed::Target;
 use bt_net::LoopEnd;
+use bt_run::run::say;
 use bt_text::ended::ToolFault;
 use bt_text::lines::fault_line;
 

@@ -3,14 +3,15 @@ ghost use Rattle.std.specs.Prelude.{◌≡◌, [], IfOk, map, option_map, string
 ghost use Rattle.std.specs.Str.{bytes_eq};
 ghost use Rattle.clap.specs.Matches.{found_of, first_value};
 ghost use Rattle.clap.specs.Values.{kind_of};
-ghost use Rattle.bt_cli.specs.Commands.{HasLimit, HasNotice, IsLimited, IsShowByDefault, job_of, as_json as job_as_json, HasLoopLimit};
+ghost use Rattle.bt_run.specs.Commands.{HasLimit, HasLoopLimit, job_of, as_json as job_as_json};
+ghost use Rattle.bt_cli.specs.Commands.{HasNotice, IsLimited, IsShowByDefault};
 ghost use Rattle.bt_cli.specs.Options.{IsChosen, IsRequested, IsWritten, files_in, given_in, is_job_option as is_option_by_rule, with_command as words_with_command, json_in};
 
 use crate::commands::{Asked, Given, Job, Notice, Request, default_own};
 use crate::fetch::{Mistake, fetch_asked};
 use crate::serve::serve_asked;
-use crate::values::{Setting, Written, own_of};
 use bt_ext::Rules;
+use bt_run::values::{Setting, Written, own_of};
 use bt_wire::Own;
 use clap::error::ErrorKind;
 use clap::{Arg, ArgAction, ArgMatches, Command, Error};

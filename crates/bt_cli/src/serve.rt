@@ -1,12 +1,12 @@
 //! The command `serve`: what its words ask for, the service, its lines, and the exit status. The module `options` and the
 //! program's `main` call it.
 ghost use Rattle.std.specs.Prelude.{IfOk};
-ghost use Rattle.bt_cli.specs.Commands.{HasLoopLimit};
+ghost use Rattle.bt_run.specs.Commands.{HasLoopLimit};
 
 use crate::fetch::{DEFAULT_LIMIT, DEFAULT_PATIENCE, Mistake, drawn_peer_id, number_or, rules_in};
-use crate::run::say;
 use bt_ext::Rules;
 use bt_feed::Target;
+use bt_run::run::say;
 use bt_serve::{Ending, Farewell, Hospitality, Parting, TcpDoor, into_info, listen, serve};
 use bt_text::ended::{Ended, ToolFault};
 use bt_text::lines::{fault_line, verdict_line};

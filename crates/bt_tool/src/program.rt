@@ -1,6 +1,7 @@
 //! A run of the program over its host's files and standard streams. `main` calls it with what the words ask for.
 ghost use Rattle.std.specs.Prelude.{IfOk};
-ghost use Rattle.bt_cli.specs.Commands.{HasLimit, HasLoopLimit, IsLimited};
+ghost use Rattle.bt_run.specs.Commands.{HasLimit, HasLoopLimit};
+ghost use Rattle.bt_cli.specs.Commands.{IsLimited};
 ghost use Rattle.bt_fetch.specs.Wishes.{IsWish};
 
 use crate::piped::Piped;

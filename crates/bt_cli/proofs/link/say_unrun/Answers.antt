@@ -1,5 +1,5 @@
 use Rattle.std.proofs.Common.{ℕ, List, subst}
-use Rattle.bt_cli.specs.Runs.{IsSaid}
+use Rattle.bt_run.specs.Runs.{IsSaid}
 use Rattle.bt_cli.proofs.link.say_unrun.Goals as goal
 
 pub returns : goal.returns

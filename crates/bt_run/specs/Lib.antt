@@ -1,0 +1,6 @@
+pub mod Commands
+pub mod Endings
+pub mod Hinting
+pub mod Options
+pub mod Others
+pub mod Runs
