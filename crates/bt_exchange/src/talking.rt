@@ -1,4 +1,4 @@
-//! The loop over one connection. Fetching and serving call [`exchange`]; two ends over one wire call [`advance`].
+//! The loop over one connection. Fetching calls [`exchange`], and serving calls [`advance`].
 ghost use Rattle.std.specs.Prelude.{◌≡◌, ◌<◌, ◌≤◌, ℕ, true, false, List, [], length, is_some, Ok};
 ghost use Rattle.bt_feed.specs.Progress.{IsFeed};
 ghost use Rattle.bt_end.specs.Ends.{metadata_of, headway_of};
