@@ -155,12 +155,7 @@ fn verdict<A: Allocator + Copy>(end: &End<A>) -> Option<Stop>
 }
 
 /// Whether a step showed a sign of life, where the connection had come this far before.
-fn is_alive<A: Allocator + Copy>(
-    sign: Sign,
-    step: Step,
-    before: Headway,
-    end: &End<A>,
-) -> bool
+fn is_alive<A: Allocator + Copy>(sign: Sign, step: Step, before: Headway, end: &End<A>) -> bool
     ensures headway { sign ≡ Sign.Progress → step ≡ Step.Handled → result ≡ false → before ≡ headway_of end.now.end }
     ensures bytes { sign ≡ Sign.Bytes → result ≡ false → is_still (Ok step) ≡ true }
 {
