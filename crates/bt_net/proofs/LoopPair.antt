@@ -66,7 +66,8 @@ pub loop_pair : (rules : Rules) (limit : ℕ) (metadata : List ℕ) → 32768 �
 loop_pair rules limit metadata least most size = record {
   left = new_end rules limit (sha1 metadata) (codes "-BT0001-LLLLLLLLLLLL") 3 (Serving metadata) least most (digest_length metadata) refl left_ids
       (λ m e. let same : metadata ≡ m = cc in subst IsMetadata same (sized metadata size)) tt;
-  right = new_end rules limit (sha1 metadata) (codes "-BT0001-RRRRRRRRRRRR") 9 Awaiting least most (digest_length metadata) refl right_ids (λ m e. absurd (cc)) tt;
+  right = new_end rules limit (sha1 metadata) (codes "-BT0001-RRRRRRRRRRRR") 9 Awaiting least most (digest_length metadata) refl right_ids
+      (λ m e. absurd (cc)) tt;
   matched = record { hash = refl; limit = refl; rules = refl; pieces = tt };
   serves = refl;
   awaits = refl;

@@ -191,7 +191,8 @@ carries s l stop sender receiver calm e m =
     let q : B.Pair = delivered_to p m.count in
     let next : B.Link = B.with_pair s l q in
     let t = turned m.handled.0 q.other p.own.sent p.own.handled p.own.half (take m.count p.other.half.outbox) m.used stop receiver calm m.handled.1 in
-    let rest : B.AreSteps next (turns_at s t.outcomes) t.outcomes (B.with_pair s next t.pair) = turns_steps s t.outcomes next q t.pair (seen_with s l q) t.turns in
+    let last : B.Link = B.with_pair s next t.pair in
+    let rest : B.AreSteps next (turns_at s t.outcomes) t.outcomes last = turns_steps s t.outcomes next q t.pair (seen_with s l q) t.turns in
     record {
       steps = step.Deliver s m.count ∷ turns_at s t.outcomes;
       outcomes = outcome.Delivered m.count ∷ t.outcomes;

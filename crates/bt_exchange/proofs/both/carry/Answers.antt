@@ -25,10 +25,12 @@ returns-clause-carried g c clear =
       length-take c.in-Ok.count c.args.buffer.now,
       length-take most c.outgoing-outgoing.result.now,
     ) in
+    let handled = c.give_all-items.result.1 in
+    let way = sym c.in_ok-way.ensures.way in
     let moved = carry_is c.args.from c.across.result (g.W.Wire.on_way c.args.wire.now) (g.W.Wire.on_way c.send.new.wire)
     (g.W.Wire.on_way c.receive_all.new.wire) c.args.sender.now c.args.receiver.now c.sent.new.self c.give_all-items.new.end sent c.receive_all.new.into
     c.in-Ok.count most c.give_all-items.result.1 c.across.ensures (ap (take most) c.outgoing-outgoing.ensures.value) c.in-Ok.ensures.bound.0
     c.in-Ok.ensures.bound.1 c.in-Ok.ensures.bytes c.in-Ok-receive_all.ensures.bytes count c.sent.ensures c.give_all-items.ensures.handled clear in (
       moved.0,
-      way_carried c.args.sender.now c.args.receiver.now c.sent.new.self c.give_all-items.new.end c.give_all-items.result.1 c.in_ok-way.way (sym c.in_ok-way.ensures.way) moved.1,
+      way_carried c.args.sender.now c.args.receiver.now c.sent.new.self c.give_all-items.new.end handled c.in_ok-way.way way moved.1,
     )
