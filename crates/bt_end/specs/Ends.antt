@@ -28,8 +28,8 @@ use Rattle.bt_wire.specs.declared.reserved.Reserved.{Reserved}
 use Rattle.bt_wire.specs.Handshakes.{negotiated}
 use Rattle.bt_wire.specs.Messages.{order_after, spell}
 use Rattle.bt_metadata.specs.Blocks.{block, max_metadata, window}
-use Rattle.bt_metadata.specs.Assemblies.{AssemblyState, started, is_asked, is_held, is_rejected, is_settled as is_settled_slot, ask_of, asking, with_slots, with_data}
-use Rattle.bt_metadata.specs.Assemblies.{with_reject, is_whole, joined, emptied, disconnected, held_block}
+use Rattle.bt_metadata.specs.Assemblies.{AssemblyState, started, is_asked, is_held, is_rejected, is_settled as is_settled_slot, ask_of, asking, with_slots}
+use Rattle.bt_metadata.specs.Assemblies.{with_data, with_reject, is_whole, joined, emptied, disconnected, held_block}
 use Rattle.bt_end.specs.declared.config.Announce.{Announce}
 use Rattle.bt_end.specs.declared.config.Announce.TheVariants.{Silent, All, Nothing}
 use Rattle.bt_end.specs.declared.part.Progress.{Progress}

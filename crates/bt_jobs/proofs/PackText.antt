@@ -42,8 +42,8 @@ before_by : (lines before following : List (List ℕ)) (rest line : List ℕ) �
 before_by lines before following [] line e = (line ∷ following, e)
 before_by lines before following (c ∷ cs) line e = before_last lines before following (c ∷ cs) line e
 
-pub ended_before : (text : List ℕ) (all before following : List (List ℕ)) (line : List ℕ) → AreLines text all → all ≡ before ++ line ∷ following → (rest : List ℕ)
-    × (text ≡ ended_lines before ++ rest) × AreWhole before
+pub ended_before : (text : List ℕ) (all before following : List (List ℕ)) (line : List ℕ) → AreLines text all → all ≡ before ++ line ∷ following
+    → (rest : List ℕ) × (text ≡ ended_lines before ++ rest) × AreWhole before
 ended_before text all before following line h e =
     let s = h.2 in
     let more = before_by h.0 before following h.1 line (sym h.3 ∙ e) in

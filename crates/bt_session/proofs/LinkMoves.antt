@@ -20,8 +20,8 @@ use Rattle.bt_feed.proofs.Reading.{taken_least}
 use Rattle.bt_end.specs.Ends.{EndState, orders_after}
 use Rattle.bt_session.specs.MessageLinks as M
 use Rattle.bt_session.specs.MessageLinks.{size, total}
-use Rattle.bt_session.proofs.UnderWay.{item_size, coming_length, coming_more, following_more, messages_come, messages_following, following_message, total-append}
-use Rattle.bt_session.proofs.UnderWay.{total_parts}
+use Rattle.bt_session.proofs.UnderWay.{item_size, coming_length, coming_more, following_more, messages_come, messages_following, following_message}
+use Rattle.bt_session.proofs.UnderWay.{total-append, total_parts}
 use Rattle.bt_session.specs.LinkLaws.{IsConfigured}
 use Rattle.bt_session.proofs.LinkInvariant.{IsStill, reads, Coming, following, IsAwaiting, AreFor, AreHonest, Loose, Flow}
 

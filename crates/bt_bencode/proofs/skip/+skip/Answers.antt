@@ -82,8 +82,8 @@ pub skip_value-split_string-requires : goal.skip_value-split_string-requires
 skip_value-split_string-requires t c = string_there c.args.bytes.now c.requires (λ e. omega arith) (λ e. omega arith) (λ e. omega arith)
 
 pub skip_value-returns-in-105-clause-following : goal.skip_value-returns-in-105-clause-following
-skip_value-returns-in-105-clause-following t c = λ u more h is. (over_integer c.args.bytes.now c.following.result.now c.read_int.result.1.now c.read_int.result.0
-    c.in-105.is c.following.ensures c.read_int.ensures.fits c.read_int.ensures.value u more h is).1
+skip_value-returns-in-105-clause-following t c = λ u more h is. (over_integer c.args.bytes.now c.following.result.now c.read_int.result.1.now
+    c.read_int.result.0 c.in-105.is c.following.ensures c.read_int.ensures.fits c.read_int.ensures.value u more h is).1
 
 pub skip_value-returns-in-108-clause-following : goal.skip_value-returns-in-108-clause-following
 skip_value-returns-in-108-clause-following t c = list_skipped c.args.bytes.now c.following-in-108.result.now c.skip_items.result.now c.in-108.is

@@ -17,6 +17,6 @@ loop-name-preserved g c =
       name ∷ earlier,
       pass last name earlier above c.loop-name.invariant.1,
       c.loop-name.invariant.2
-          ∙ rising_ref_step (entries_of old.items) (entries_of new.items) earlier last c.loop-name.name-iterator c.next.new.self (c.in-Some.name, c.in-Some.value)
-          c.in-Some.ensures.steps c.loop-name.invariant.1 above (rw c.byte_of.ensures at c.in_ok-add_told.ensures),
+          ∙ rising_ref_step (entries_of old.items) (entries_of new.items) earlier last c.loop-name.name-iterator c.next.new.self
+          (c.in-Some.name, c.in-Some.value) c.in-Some.ensures.steps c.loop-name.invariant.1 above (rw c.byte_of.ensures at c.in_ok-add_told.ensures),
     )
