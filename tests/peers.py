@@ -157,21 +157,21 @@ def silent_later(link, count):
 
 
 def slow(link, count):
-    """Makes some progress each 1.3 seconds."""
+    """Makes some progress each 1.6 seconds."""
     link.exactly(68)
-    time.sleep(1.3)
+    time.sleep(1.6)
     link.send(handshake())
-    time.sleep(1.3)
+    time.sleep(1.6)
     link.send(extended(len(INFO)))
     while True:
-        time.sleep(1.3)
+        time.sleep(1.6)
         link.send(data(3, link.request()))
 
 
 def rejecting_slowly(link, count):
     greet(link)
     while True:
-        time.sleep(1.3)
+        time.sleep(1.6)
         link.send(reject(3, link.request()))
 
 
@@ -303,8 +303,8 @@ ROWS = [
     ([NOBODY, honest], "", INFO, "@0 unreachable\n@1 fetched\n", 0),
     ([silent], "--patience 2", b"", "@0 silent\n", 1),
     ([silent_later, honest], "--patience 2", INFO, "@0 silent\n@1 fetched\n", 0),
-    ([slow], "--patience 2", INFO, "@0 fetched\n", 0),
-    ([rejecting_slowly], "--patience 2", b"", "@0 rejected\n", 1),
+    ([slow], "--patience 3", INFO, "@0 fetched\n", 0),
+    ([rejecting_slowly], "--patience 3", b"", "@0 rejected\n", 1),
     ([closing, honest], "", INFO, "@0 closed\n@1 fetched\n", 0),
     ([rejecting], "", b"", "@0 rejected\n", 1),
     ([rejecting, honest], "", INFO, "@0 rejected\n@1 fetched\n", 0),
