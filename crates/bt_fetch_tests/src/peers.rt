@@ -66,7 +66,7 @@ impl Connection for Served {
 }
 
 /// Returns an end of this info hash.
-pub fn end_of(alloc: Global, info_hash: [u8; 20], role: Role) -> Option<End> {
+pub(crate) fn end_of(alloc: Global, info_hash: [u8; 20], role: Role) -> Option<End> {
     let config = Config {
         own: Own {
             reserved: Reserved(0x10_0004),

@@ -26,7 +26,7 @@ pub struct Announced {
     ///
     /// It is that of its first extended handshake that names one.
     pub metadata: Option<ExtId>,
-    /// The same of `lt_donthave`.
+    /// The id under which it wants `lt_donthave`, found likewise.
     pub donthave: Option<ExtId>,
 }
 

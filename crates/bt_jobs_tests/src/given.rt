@@ -33,7 +33,7 @@ pub const OBJECT_VERDICT: &str = "{\"verdict\":\"ok\",\"messages\":2,\"bytes\":8
 pub type Device = (usize, Option<u64>);
 
 /// Returns the bytes of both, the first in front.
-pub fn joined(alloc: Global, first: &[u8], then: &[u8]) -> Result<Vec<u8>, AllocError> {
+pub(crate) fn joined(alloc: Global, first: &[u8], then: &[u8]) -> Result<Vec<u8>, AllocError> {
     let mut bytes = Vec::from_slice(alloc, first)?;
     bytes.extend_from_slice(then)?;
     Ok(bytes)
@@ -45,7 +45,7 @@ fn source(bytes: Vec<u8>, (most, fails_at): Device) -> MemSource {
 }
 
 /// Returns the end of a job for the default receiver, and what it wrote.
-pub fn outcome(
+pub(crate) fn outcome(
     alloc: Global,
     job: Job,
     input: Vec<u8>,

@@ -39,7 +39,7 @@ count_of : Bool → ℕ
 count_of true = 1
 count_of false = 0
 
--- what comes to the right end
+-- what is moved to the right end
 goes_right : (a b : EndState) (n : ℕ) (old new : Ends) (moved : Bool) → AreStepsTo a b n old → Passes moved old.left old.right new.left new.right
     → AreStepsTo a b (n + count_of moved) new
 unfolding count_of
@@ -75,7 +75,7 @@ goes_right a b n old new true st h =
       least = omega (arith, delivered_both st.outcomes c.outcomes, st.least, c.is.4);
     }
 
--- what comes to the left one
+-- what is moved to the left one
 goes_left : (a b : EndState) (n : ℕ) (old new : Ends) (moved : Bool) → AreStepsTo a b n old → Passes moved old.right old.left new.right new.left
     → AreStepsTo a b (n + count_of moved) new
 unfolding count_of

@@ -81,7 +81,7 @@ told_in m = byte_of (int_at (codes "ut_metadata") (dictionary m))
 abbrev pub told_id : Tree → Option ℕ
 told_id t = option_and_then told_in (option_and_then dictionary_of (lookup_of (codes "m") t))
 
--- the same of any name
+-- the id that is told under any name
 abbrev pub told_as : List ℕ → Tree → Option ℕ
 told_as name t = option_and_then (λ m. byte_of (int_at name (dictionary m))) (option_and_then dictionary_of (lookup_of (codes "m") t))
 

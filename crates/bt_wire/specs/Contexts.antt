@@ -18,7 +18,7 @@ UsesNoMetadataId reg (m.Extended (ext.Metadata dict rest)) = ⊥
 UsesNoMetadataId reg (m.Extended (ext.Raw id payload)) = is_metadata reg id ≡ false
 UsesNoMetadataId reg other = ⊤
 
--- the same of the registered id of `lt_donthave`
+-- it isn't spelled under the registered id of `lt_donthave`, and isn't raw under it
 abbrev pub UsesNoDontHaveId : Registered → Message → Type 0
 UsesNoDontHaveId reg (m.Extended (ext.DontHave index)) = ⊥
 UsesNoDontHaveId reg (m.Extended (ext.Raw id payload)) = is_donthave reg id ≡ false

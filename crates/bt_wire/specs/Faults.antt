@@ -126,7 +126,7 @@ abbrev pub is_beyond : Option ℕ → ℕ → Bool
 is_beyond None index = false
 is_beyond (Some pieces) index = nat_le pieces index
 
--- the same of an index that may be there
+-- whether an index is there and is not below a known piece count
 abbrev pub is_index_beyond : Option ℕ → Option ℕ → Bool
 is_index_beyond pieces None = false
 is_index_beyond pieces (Some i) = is_beyond pieces i
