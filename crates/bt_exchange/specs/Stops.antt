@@ -90,9 +90,9 @@ pub record IsMark (s : Sign) (time : ℕ) (old new : Moment) : Type 0 where
   pub quiet : IsQuiet s since new after
   pub clock : since.seen.counts.clock ≡ time
 
--- all was quiet for so many seconds
+-- All was quiet for more seconds than these, as the clock counts them, so for as many at least.
 abbrev pub IsSilent : Sign → ℕ → Moment → Moment → Type 0
-IsSilent s seconds old new = (time : ℕ) × IsMark s time old new × (time + seconds ≤ new.seen.counts.clock)
+IsSilent s seconds old new = (time : ℕ) × IsMark s time old new × (time + seconds < new.seen.counts.clock)
 
 -- the metadata is there; no block can come any more; blocks of other metadata came twice; all was quiet; or the fault of the last step
 abbrev pub IsStopped : Limits → Moment → Moment → Stop → Type 0

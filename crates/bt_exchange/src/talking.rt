@@ -37,7 +37,7 @@ pub enum Stop {
     Mismatch,
     /// The peer closed the connection.
     Closed,
-    /// No sign of life was seen for as long as the patience.
+    /// No sign of life was seen for longer than the patience.
     Silent,
     /// A call of the connection failed.
     Failed,
@@ -63,7 +63,7 @@ pub enum Sign {
 pub struct Limits {
     /// The number of steps. Each writes once, reads once or handles an item.
     pub rounds: u64,
-    /// The number of seconds without a sign of life, by the connection's clock.
+    /// The number of seconds that may pass without a sign of life, by the connection's clock.
     pub patience: u64,
     pub sign: Sign,
 }
@@ -208,7 +208,7 @@ fn round<C: Connection, A: Allocator + Copy, W: Witness>(
             headway,
         });
     }
-    if now >= watch.since && now - watch.since >= limits.patience {
+    if now >= watch.since && now - watch.since > limits.patience {
         return Err(Stop::Silent);
     }
     Ok(watch)

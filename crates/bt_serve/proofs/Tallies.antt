@@ -180,7 +180,7 @@ stepped_moved start old mid s (Err x) since time t u q f e n k a = absurd cc
 -- ---- the end of a connection
 
 -- nothing was moved for so long
-pub parting_silent : (patience : ℕ) (start now : Moment) (since : ℕ) (t : Tally) → IsServed start now since t → since + patience ≤ now.seen.counts.clock
+pub parting_silent : (patience : ℕ) (start now : Moment) (since : ℕ) (t : Tally) → IsServed start now since t → since + patience < now.seen.counts.clock
     → IsParting patience start now (record { ending = ending.Silent; sent = t.sent; handled = t.handled })
 parting_silent patience start now since t k long = record { queued = t.queued; tally = k.tally; settled = k.settled; ending = (k.calm, (since, k.mark, long)) }
 

@@ -42,7 +42,7 @@ pub struct Hospitality {
 pub enum Ending {
     /// The peer closed it, a call of it failed, or there was no memory for what came.
     Closed,
-    /// Nothing was moved for as long as the patience.
+    /// Nothing was moved for longer than the patience.
     Silent,
     /// What the peer sent is refused.
     Refused(Refusal),
@@ -259,7 +259,7 @@ impl<L: Connection + Drop> Guest<L> {
             match self.step() {
                 Ok(Step::Waited) => {
                     let now = self.link.now();
-                    if now >= self.since && now - self.since >= patience {
+                    if now >= self.since && now - self.since > patience {
                         return Err(self.parting(Ending::Silent));
                     }
                     return Ok(Pace::Waits);

@@ -1,5 +1,5 @@
 //! The loop over all connections that are served.
-ghost use Rattle.std.specs.Prelude.{◌≡◌, ◌<◌, vec_len};
+ghost use Rattle.std.specs.Prelude.{◌≡◌, ◌+◌, ◌<◌, ◌≤◌, vec_len};
 ghost use Rattle.bt_serve.specs.Guests.{IsHospitality};
 
 use crate::door::{Door, Parting};
@@ -29,8 +29,7 @@ fn let_in<D: Door>(
 ) -> Result<bool, Memory>
     requires hospitality { IsHospitality hospitality.now }
     requires place { D.inside door.old < D.places door.old }
-    requires inside { D.inside door.old ≡ vec_len guests.old }
-    ensures inside { D.inside door.new ≡ vec_len guests.new }
+    ensures inside { D.inside door.new + vec_len guests.old ≡ D.inside door.old + vec_len guests.new }
     ensures places { D.places door.new ≡ D.places door.old }
 {
     let Some((link, name)) = door.enter() else {
@@ -63,8 +62,8 @@ fn tend_one<L: Connection + Drop>(patience: u64, guest: &mut Guest<L>) -> Turn {
 
 /// Gives each connection its turn, and drops those that ended. It returns how many ended, and whether one can go on at once.
 fn tend_all<D: Door>(patience: u64, door: &mut D, guests: &mut Guests<D>) -> (u64, bool)
-    requires { D.inside door.old ≡ vec_len guests.old }
-    ensures inside { D.inside door.new ≡ vec_len guests.new }
+    requires { vec_len guests.old ≤ D.inside door.old }
+    ensures inside { D.inside door.new + vec_len guests.old ≡ D.inside door.old + vec_len guests.new }
     ensures places { D.places door.new ≡ D.places door.old }
 {
     let mut ended = 0u64;
@@ -91,8 +90,8 @@ fn tend_all<D: Door>(patience: u64, door: &mut D, guests: &mut Guests<D>) -> (u6
 
 /// Tells how each connection that is left ended.
 fn part_all<D: Door>(door: &mut D, guests: &mut Guests<D>)
-    requires { D.inside door.old ≡ vec_len guests.old }
-    ensures { D.inside door.new ≡ 0 }
+    requires { vec_len guests.old ≤ D.inside door.old }
+    ensures { D.inside door.new + vec_len guests.old ≡ D.inside door.old }
 {
     while let Some((guest, name)) = guests.pop() {
         door.ended(name, guest.parting(Ending::Closed));
@@ -109,8 +108,8 @@ fn serve_all<D: Door>(
     guests: &mut Guests<D>,
 ) -> Result<(), Memory>
     requires hospitality { IsHospitality hospitality.now }
-    requires inside { D.inside door.old ≡ vec_len guests.old }
-    ensures { D.inside door.new ≡ vec_len guests.new }
+    requires inside { vec_len guests.old ≤ D.inside door.old }
+    ensures { D.inside door.new + vec_len guests.old ≡ D.inside door.old + vec_len guests.new }
 {
     let mut entered = 0u64;
     let mut left = 0u64;
@@ -147,8 +146,7 @@ pub fn serve<D: Door>(
     door: &mut D,
 ) -> Result<(), Memory>
     requires hospitality { IsHospitality hospitality.now }
-    requires empty { D.inside door.old ≡ 0 }
-    ensures told { D.inside door.new ≡ 0 }
+    ensures told { D.inside door.new ≡ D.inside door.old }
 {
     let mut guests: Guests<D> = Vec::new(alloc);
     let served = serve_all(alloc, hospitality, metadata, connections, door, &mut guests);
