@@ -10,18 +10,18 @@ use Rattle.bt_end.specs.declared.end.TurnError.TheVariants as turn_error
 use Rattle.bt_exchange.specs.Boths.{is_fetched}
 use Rattle.bt_exchange.specs.Rounds.{Ends, AreRounds, IsEnded}
 use Rattle.bt_exchange.specs.declared.both.BothError.TheVariants as both_error
-use Rattle.bt_session.specs.ByteLinks as B
-use Rattle.bt_session.specs.MessageLinks as M
-use Rattle.bt_session.specs.LinkLaws.{IsMetadata, IsWritten, AreWritten, IsHonestRun, source_of}
+use Rattle.bt_link.specs.ByteLinks as B
+use Rattle.bt_link.specs.MessageLinks as M
+use Rattle.bt_link.specs.LinkLaws.{IsMetadata, IsWritten, AreWritten, IsHonestRun, source_of}
 use Rattle.std.specs.Option.{ForSome}
-use Rattle.bt_session.specs.FetchLaws.{IsFetchPair, IsMove, AreMoves, IsQuiet, most_bytes, FetchIsShort, FetchIsWhole, FetchIsFree}
-use Rattle.bt_session.specs.declared.link.Outcome.{Outcome}
-use Rattle.bt_session.specs.declared.link.Outcome.TheVariants as outcome
-use Rattle.bt_session.specs.declared.link.Side.TheVariants.{Left, Right}
-use Rattle.bt_session.specs.declared.link.Step.{Step}
-use Rattle.bt_session.specs.declared.link.Step.TheVariants as step
-use Rattle.bt_session.proofs.FetchRuns.{fetch_is_short, fetch_is_whole, fetch_is_free}
-use Rattle.bt_session.proofs.Links.{byte_link_is_message_link, nothing_is_refused}
+use Rattle.bt_link.specs.FetchLaws.{IsFetchPair, IsMove, AreMoves, IsQuiet, most_bytes, FetchIsShort, FetchIsWhole, FetchIsFree}
+use Rattle.bt_link.specs.declared.link.Outcome.{Outcome}
+use Rattle.bt_link.specs.declared.link.Outcome.TheVariants as outcome
+use Rattle.bt_link.specs.declared.link.Side.TheVariants.{Left, Right}
+use Rattle.bt_link.specs.declared.link.Step.{Step}
+use Rattle.bt_link.specs.declared.link.Step.TheVariants as step
+use Rattle.bt_link.proofs.FetchRuns.{fetch_is_short, fetch_is_whole, fetch_is_free}
+use Rattle.bt_link.proofs.Links.{byte_link_is_message_link, nothing_is_refused}
 use Rattle.bt_net.specs.Runs.{begun, delivered, AreStepsTo, RunFetches}
 use Rattle.bt_net.proofs.Counted.{counted, last_steps, last_outcomes, quiet_after}
 use Rattle.bt_net.proofs.Followed.{steps_both, moves_both, rounds_are_steps, IsStopped, halt_is, IsOpen, rounds_open}

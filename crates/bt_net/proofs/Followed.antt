@@ -8,11 +8,11 @@ use Rattle.bt_end.specs.Halves.{HalfState, AreHandled}
 use Rattle.bt_end.specs.declared.end.TurnError.{TurnError}
 use Rattle.bt_end.specs.declared.end.TurnError.TheVariants as turn_error
 use Rattle.bt_exchange.specs.Rounds.{Ends, IsMove, Passes, Halts, IsHalt, AreRounds}
-use Rattle.bt_session.specs.ByteLinks as B
-use Rattle.bt_session.specs.FetchLaws.{AreMoves}
-use Rattle.bt_session.specs.declared.link.Outcome.{Outcome}
-use Rattle.bt_session.specs.declared.link.Side.TheVariants.{Left, Right}
-use Rattle.bt_session.specs.declared.link.Step.{Step}
+use Rattle.bt_link.specs.ByteLinks as B
+use Rattle.bt_link.specs.FetchLaws.{AreMoves}
+use Rattle.bt_link.specs.declared.link.Outcome.{Outcome}
+use Rattle.bt_link.specs.declared.link.Side.TheVariants.{Left, Right}
+use Rattle.bt_link.specs.declared.link.Step.{Step}
 use Rattle.bt_net.specs.Runs.{begun, delivered, AreStepsTo, RoundsAreSteps}
 use Rattle.bt_net.proofs.Turned.{IsCalm, HasFault, fault_after, Carries, carries}
 

@@ -8,7 +8,7 @@ use Rattle.bt_exchange.specs.Rounds.{Ends, IsRun}
 use Rattle.bt_exchange.specs.declared.both.Both.{Both}
 use Rattle.bt_exchange.specs.declared.both.BothError.{BothError}
 use Rattle.bt_exchange.specs.declared.both.BothError.TheVariants as both_error
-use Rattle.bt_session.specs.FetchLaws.{IsFetchPair, most_bytes}
+use Rattle.bt_link.specs.FetchLaws.{IsFetchPair, most_bytes}
 use Rattle.bt_text.specs.declared.ended.ToolFault.{ToolFault}
 use Rattle.bt_text.specs.declared.ended.ToolFault.TheVariants as fault
 use Rattle.bt_net.specs.declared.looped.LoopEnd.{LoopEnd}

@@ -12,14 +12,14 @@ use Rattle.bt_end.specs.Halves.{HalfState, with_feed, reacted, received, without
 use Rattle.bt_end.specs.declared.end.TurnError.{TurnError}
 use Rattle.bt_end.specs.declared.end.TurnError.TheVariants as turn_error
 use Rattle.bt_exchange.specs.Rounds.{IsMove}
-use Rattle.bt_session.specs.ByteLinks as B
-use Rattle.bt_session.specs.FetchLaws.{AreMoves}
-use Rattle.bt_session.specs.declared.link.Outcome.{Outcome}
-use Rattle.bt_session.specs.declared.link.Outcome.TheVariants as outcome
-use Rattle.bt_session.specs.declared.link.Side.{Side}
-use Rattle.bt_session.specs.declared.link.Side.TheVariants.{Left, Right}
-use Rattle.bt_session.specs.declared.link.Step.{Step}
-use Rattle.bt_session.specs.declared.link.Step.TheVariants as step
+use Rattle.bt_link.specs.ByteLinks as B
+use Rattle.bt_link.specs.FetchLaws.{AreMoves}
+use Rattle.bt_link.specs.declared.link.Outcome.{Outcome}
+use Rattle.bt_link.specs.declared.link.Outcome.TheVariants as outcome
+use Rattle.bt_link.specs.declared.link.Side.{Side}
+use Rattle.bt_link.specs.declared.link.Side.TheVariants.{Left, Right}
+use Rattle.bt_link.specs.declared.link.Step.{Step}
+use Rattle.bt_link.specs.declared.link.Step.TheVariants as step
 use Rattle.bt_net.specs.Runs.{delivered}
 
 -- ---- sides

@@ -7,11 +7,11 @@ use Rattle.bt_exchange.specs.Rounds.{Ends, AreRounds, IsRun}
 use Rattle.bt_exchange.specs.declared.both.Both.{Both}
 use Rattle.bt_exchange.specs.declared.both.BothError.{BothError}
 use Rattle.bt_exchange.specs.declared.both.BothError.TheVariants.{Rounds}
-use Rattle.bt_session.specs.ByteLinks as B
-use Rattle.bt_session.specs.FetchLaws.{IsFetchPair, AreMoves, most_bytes}
-use Rattle.bt_session.specs.declared.link.Outcome.{Outcome}
-use Rattle.bt_session.specs.declared.link.Outcome.TheVariants as outcome
-use Rattle.bt_session.specs.declared.link.Step.{Step}
+use Rattle.bt_link.specs.ByteLinks as B
+use Rattle.bt_link.specs.FetchLaws.{IsFetchPair, AreMoves, most_bytes}
+use Rattle.bt_link.specs.declared.link.Outcome.{Outcome}
+use Rattle.bt_link.specs.declared.link.Outcome.TheVariants as outcome
+use Rattle.bt_link.specs.declared.link.Step.{Step}
 
 -- two ends at the start of a connection
 abbrev pub begun : EndState → EndState → Ends

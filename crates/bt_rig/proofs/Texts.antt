@@ -5,7 +5,7 @@ use Rattle.std.specs.List.{flat_map}
 use Rattle.std.proofs.lemmas.List.{append-nil, append_assoc, drop_more, drop_all}
 use Rattle.bt_wire.specs.declared.item.Item.{Item}
 use Rattle.bt_session.specs.declared.run.Connection.{Connection}
-use Rattle.bt_session.specs.MessageLinks.{size}
+use Rattle.bt_link.specs.MessageLinks.{size}
 use Rattle.bt_rig.specs.Shown.{capped, item_words, item_lines, connection_lines, connections_lines}
 
 regroup : (t n l s z u v : List ℕ) → ((((t ++ (n ++ l)) ++ s) ++ z) ++ u) ++ v ≡ t ++ (n ++ (l ++ (s ++ (z ++ (u ++ v)))))

@@ -4,7 +4,7 @@ ghost use Rattle.bt_bencode.specs.Views.{tree_of};
 ghost use Rattle.bt_ext.specs.Payloads.{payload_of};
 ghost use Rattle.bt_ext.specs.declared.ext.Ext.TheVariants as ext;
 ghost use Rattle.bt_wire.specs.declared.item.Item.TheVariants as items;
-ghost use Rattle.bt_session.specs.MessageLinks.{size};
+ghost use Rattle.bt_link.specs.MessageLinks.{size};
 ghost use Rattle.bt_text.specs.Lines.{spaced, told_id, handshake_words};
 ghost use Rattle.bt_rig.specs.Shown.{capped, lengths, ext_words, message_words, item_words, item_lines};
 

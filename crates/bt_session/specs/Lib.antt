@@ -1,7 +1,3 @@
-pub mod MessageLinks
-pub mod ByteLinks
-pub mod LinkLaws
 pub mod Nodes
 pub mod Reports
 pub mod Runs
-pub mod FetchLaws

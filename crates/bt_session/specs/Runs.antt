@@ -1,12 +1,12 @@
 -- For private contracts: a link as a value.
 use Rattle.std.specs.Prelude.{List}
-use Rattle.bt_session.specs.ByteLinks as B
+use Rattle.bt_link.specs.ByteLinks as B
 use Rattle.bt_end.specs.Ends.{EndState}
-use Rattle.bt_session.specs.LinkLaws.{IsNew, AreMatched}
+use Rattle.bt_link.specs.LinkLaws.{IsNew, AreMatched}
 use Rattle.bt_session.specs.Nodes.{IsNodeOf, MayHandle}
 use Rattle.bt_session.specs.Reports.{AreConnectionsOf}
-use Rattle.bt_session.specs.declared.link.Outcome.{Outcome}
-use Rattle.bt_session.specs.declared.link.Step.{Step}
+use Rattle.bt_link.specs.declared.link.Outcome.{Outcome}
+use Rattle.bt_link.specs.declared.link.Step.{Step}
 use Rattle.bt_session.specs.declared.run.Link.{Link}
 
 pub record IsLinkOf (n : Link) (l : B.Link) : Type 0 where

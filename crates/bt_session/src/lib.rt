@@ -1,12 +1,10 @@
-//! A session of two peers: two ends linked to each other, and the law that they never refuse each other.
+//! A session of two peers: two ends linked to each other, run by a list of steps.
 //!
-//! [`run_link`] runs two ends against each other, over bytes, by a list of steps. The parts of a session stand in
-//! `bt_metadata` and `bt_end`, and are passed on.
+//! [`run_link`] runs two ends against each other, over bytes. The parts of a session stand in `bt_metadata`, `bt_end` and
+//! `bt_link`, and are passed on; `bt_link` has the laws of two ends too.
 #![tactic(auto)]
 
 mod facts;
-pub mod laws;
-mod link;
 mod matching;
 mod node;
 mod report;
@@ -15,9 +13,9 @@ mod run;
 pub use bt_end::{
     Announce, Config, End, EndError, HIGH_WATER, Role, SayError, Turn, TurnError, Window,
 };
+pub use bt_link::{Outcome, Side, Step, laws};
 pub use bt_metadata::{
     Assembly, BadSize, BlockError, MAX_METADATA, NewError, Reply, Server, Unfinished, WINDOW,
 };
-pub use link::{Outcome, Side, Step};
 pub use report::{LinkError, LinkReport, MOST_STEPS, run_link};
 pub use run::Connection;

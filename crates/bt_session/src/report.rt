@@ -3,13 +3,13 @@ ghost use Rattle.std.specs.Prelude.{◌≡◌, ◌++◌, None, map, IfOk, IfErr,
 ghost use Rattle.bt_end.specs.Configs.{end_for, config_error};
 ghost use Rattle.bt_end.specs.Ends.{fetched_block};
 ghost use Rattle.bt_end.specs.Sturdy.{IsFetched};
-ghost use Rattle.bt_session.specs.ByteLinks as links;
+ghost use Rattle.bt_link.specs.ByteLinks as links;
 ghost use Rattle.bt_session.specs.Nodes.{IsNodeOf};
 ghost use Rattle.bt_session.specs.Runs.{IsLinkOf};
 ghost use Rattle.bt_session.specs.Reports.{block_of, numbered, held_blocks, DoMatch, IsReportOf, IsRun, IsUnstarted, IsUnrun};
 
 use crate::facts::is_new;
-use crate::link::{Outcome, Step};
+use bt_link::{Outcome, Step};
 use crate::matching::is_mismatch;
 use crate::node::Node;
 use crate::run::{Connection, Link, keep, run};

@@ -1,6 +1,6 @@
 use Rattle.std.proofs.Common.{List, ◌∷◌, [], ◌++◌, length, ap, ◌∙◌, sym, subst}
 use Rattle.bt_end.specs.Halves.{HalfState}
-use Rattle.bt_session.specs.ByteLinks as B
+use Rattle.bt_link.specs.ByteLinks as B
 use Rattle.bt_session.specs.Reports.{IsConnectionOf, AreConnectionsOf, blocks_of, held_blocks}
 use Rattle.bt_session.specs.declared.run.Connection.{Connection}
 use Rattle.bt_session.proofs.Runs.{both, connections_more}

@@ -1,12 +1,12 @@
 use Rattle.std.proofs.Common.{List, [], ap, sym, subst, arith}
-use Rattle.bt_session.specs.ByteLinks as B
+use Rattle.bt_link.specs.ByteLinks as B
 use Rattle.bt_end.specs.Configs.{end_for}
 use Rattle.bt_end.specs.Ends.{EndState}
-use Rattle.bt_session.specs.LinkLaws.{AreMatched}
+use Rattle.bt_link.specs.LinkLaws.{AreMatched}
 use Rattle.std.specs.Global.{Vec}
 use Rattle.bt_session.specs.Reports.{AreConnectionsOf}
 use Rattle.bt_session.specs.Runs.{IsLinkOf, AreNew}
-use Rattle.bt_session.specs.declared.link.Outcome.{Outcome}
+use Rattle.bt_link.specs.declared.link.Outcome.{Outcome}
 use Rattle.bt_session.specs.declared.run.Connection.{Connection}
 use Rattle.bt_session.specs.declared.run.Link.{Link}
 use Rattle.bt_session.proofs.NewEnds.{matched_ends}

@@ -1,0 +1,4 @@
+pub mod MessageLinks
+pub mod ByteLinks
+pub mod LinkLaws
+pub mod FetchLaws
