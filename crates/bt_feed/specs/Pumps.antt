@@ -5,7 +5,6 @@ use Rattle.bt_wire.specs.declared.fault.Reason.TheVariants.{EndInside}
 use Rattle.bt_wire.specs.declared.context.Context.{Context}
 use Rattle.bt_wire.specs.declared.context.Order.{Order}
 use Rattle.bt_wire.specs.declared.item.Item.{Item}
-use Rattle.bt_wire.specs.declared.item.Item.TheVariants as items
 use Rattle.bt_wire.specs.Headers.{IsRead as IsReadAs}
 use Rattle.bt_wire.specs.Messages.{Message, order_after}
 use Rattle.bt_wire.specs.Streams.{Outcome}
@@ -111,12 +110,18 @@ abbrev pub IsHanded : {S : Type 0} → (S → ℕ × Item → S → Type 0) → 
 IsHanded takes misses old given new (Ok u) = Took takes old given new
 IsHanded takes misses old given new (Err e) = IsMissed takes misses e old given new
 
--- the first n bytes are a message that leaves the order o', and the sink was given it
-abbrev pub IsPassed : {S : Type 0} → (S → ℕ × Item → S → Type 0) → (S → ℕ × Item → SinkFault → S → Type 0) → Context → Order → ℕ → List ℕ → S → S → ℕ
-    → Order → Result (Unit {0}) SinkFault → Type 0
-IsPassed takes misses c o at rest old new n o' taken =
-    (m : Message) × (4 ≤ n) × (n ≤ length rest) × (n ≤ c.limit + 4) × IsReadAs c o (take n rest) m × (o' ≡ order_after o m)
-    × MatchResult taken (λ _. takes old (at, items.Message m) new) (λ e. misses old (at, items.Message m) e new)
+-- the first n of these bytes are the message m, which leaves the order o'
+pub record IsPassed (c : Context) (o : Order) (rest : List ℕ) (n : ℕ) (o' : Order) (m : Message) : Type 0 where
+  pub least : 4 ≤ n
+  pub within : n ≤ length rest
+  pub most : n ≤ c.limit + 4
+  pub read : IsReadAs c o (take n rest) m
+  pub leaves : o' ≡ order_after o m
+
+-- the sink was given this item: it took it, or answered a fault
+abbrev pub IsOffered : {S : Type 0} → (S → ℕ × Item → S → Type 0) → (S → ℕ × Item → SinkFault → S → Type 0) → S → ℕ × Item → S → Result (Unit {0}) SinkFault
+    → Type 0
+IsOffered takes misses old x new r = MatchResult r (λ _. takes old x new) (λ e. misses old x e new)
 
 -- a piece is read; or its front, and what follows is refused, or the last item isn't taken
 abbrev pub IsPieceEnd : FeedState → List ℕ → List (ℕ × Item) → FeedState → Result (Unit {0}) PumpError → Type 0

@@ -1,9 +1,11 @@
 //! Whole messages, handed on where they lie in a piece.
 ghost use Rattle.std.specs.Prelude.{◌≡◌, ◌+◌, ◌^◌, ◌≤◌, ◌<◌, ℕ, List, length, take, None, OnOk, OnErr, IfSome, is_err};
 ghost use Rattle.bt_wire.specs.declared.item.Item.{Item};
+ghost use Rattle.bt_wire.specs.declared.item.Item.TheVariants as items;
+ghost use Rattle.bt_wire.specs.Messages.{Message};
 ghost use Rattle.bt_feed.specs.declared.stage.Stage.TheVariants as stages;
 ghost use Rattle.bt_io.specs.Counts.{Grew, counted};
-ghost use Rattle.bt_feed.specs.Pumps.{IsHanded, IsFed, IsPassed};
+ghost use Rattle.bt_feed.specs.Pumps.{IsHanded, IsFed, IsOffered, IsPassed};
 ghost use Rattle.bt_feed.specs.Feeds.{waiting};
 
 use crate::sink::{Sink, SinkFault};
@@ -55,7 +57,7 @@ fn pass_one<S: Sink, const COPY: u8>(
     rest: &[u8],
 ) -> Option<Given>
     ensures none { result ≡ None → sink.new ≡ sink.old }
-    ensures some { IfSome result (λ g. IsPassed S.takes S.misses context.now order at rest.now sink.old sink.new g.bytes g.order g.taken) }
+    ensures some { IfSome result (λ g. (m : Message) × IsPassed context.now order rest.now g.bytes g.order m × IsOffered S.takes S.misses sink.old (at, items.Message m) sink.new g.taken) }
     ensures failed { IfSome result (λ g. S.failed sink.new ≡ counted (is_err g.taken) (S.failed sink.old)) }
 {
     let Header::Window(length) = judge_header(context, order, rest) else {
@@ -86,7 +88,7 @@ fn pass_extended<S: Sink>(
     rest: &[u8],
 ) -> Option<Given>
     ensures none { result ≡ None → sink.new ≡ sink.old }
-    ensures some { IfSome result (λ g. IsPassed S.takes S.misses context.now order at rest.now sink.old sink.new g.bytes g.order g.taken) }
+    ensures some { IfSome result (λ g. (m : Message) × IsPassed context.now order rest.now g.bytes g.order m × IsOffered S.takes S.misses sink.old (at, items.Message m) sink.new g.taken) }
     ensures failed { IfSome result (λ g. S.failed sink.new ≡ counted (is_err g.taken) (S.failed sink.old)) }
 {
     pass_one::<S, EXTENDED>(context, order, at, sink, rest)
@@ -108,7 +110,7 @@ fn pass_next<S: Sink>(
     rest: &[u8],
 ) -> Option<Given>
     ensures none { result ≡ None → sink.new ≡ sink.old }
-    ensures some { IfSome result (λ g. IsPassed S.takes S.misses context.now order at rest.now sink.old sink.new g.bytes g.order g.taken) }
+    ensures some { IfSome result (λ g. (m : Message) × IsPassed context.now order rest.now g.bytes g.order m × IsOffered S.takes S.misses sink.old (at, items.Message m) sink.new g.taken) }
     ensures failed { IfSome result (λ g. S.failed sink.new ≡ counted (is_err g.taken) (S.failed sink.old)) }
 {
     if leads_keep_alive(rest) {

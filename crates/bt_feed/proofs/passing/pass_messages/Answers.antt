@@ -21,11 +21,12 @@ pub returns-in-Err-clause-items : goal.returns-in-Err-clause-items
 returns-in-Err-clause-items g c = λ n.
     let h = c.messages.invariant.moved n in
     let k = c.in-Some.given.bytes in
-    let p = c.in-Some.ensures.some in
-    let x : ℕ × Item = (c.args.start + c.messages.passed.bytes, items.Message p.0) in
+    let some = c.in-Some.ensures.some in
+    let p = some.1 in
+    let x : ℕ × Item = (c.args.start + c.messages.passed.bytes, items.Message some.0) in
     let fed = passed_more c.args.context.now c.args.order c.messages.passed.order c.args.start n c.messages.passed.bytes k
     c.messages.passed.messages c.args.piece.now c.suffix-rest.result.now (take k c.suffix-rest.result.now) h.0
-    p.0 c.suffix-rest.ensures refl h.2 c.if-at-ge-END.false c.requires.limit p.2 p.4 in (
+    some.0 c.suffix-rest.ensures refl h.2 c.if-at-ge-END.false c.requires.limit p.within p.read in (
       h.0 ++ x ∷ [],
       (
         h.0,
@@ -33,32 +34,33 @@ returns-in-Err-clause-items g c = λ n.
         c.messages.sink,
         refl,
         handed_all _ g.S.Sink.misses _ _ h.0 _ c.messages.invariant.taken h.1,
-        missed_at g.S.Sink.takes g.S.Sink.misses _ _ x c.in-Some.given.taken _ c.in-Err.is p.6,
+        missed_at g.S.Sink.takes g.S.Sink.misses _ _ x c.in-Some.given.taken _ c.in-Err.is some.2,
       ),
-      rw (p.5) fed,
+      rw (p.leaves) fed,
     )
 
 pub messages-preserved : goal.messages-preserved
 messages-preserved g c =
     let k = c.in-Some.given.bytes in
-    let p = c.in-Some.ensures.some in
+    let some = c.in-Some.ensures.some in
+    let p = some.1 in
     record {
-      within = omega (arith, p.2, ap (length {A = ℕ}) c.suffix-rest.ensures, length-drop c.messages.passed.bytes c.args.piece.now);
-      start = omega (arith, c.if-at-ge-END.false, p.3, c.requires.limit);
-      count = omega (arith, c.messages.invariant.count, p.1);
+      within = omega (arith, p.within, ap (length {A = ℕ}) c.suffix-rest.ensures, length-drop c.messages.passed.bytes c.args.piece.now);
+      start = omega (arith, c.if-at-ge-END.false, p.most, c.requires.limit);
+      count = omega (arith, c.messages.invariant.count, p.least);
       taken = c.messages.invariant.taken;
       quiet = c.in-Some.ensures.failed
           ∙ ap (λ (r : Result (Unit {0}) SinkFault). counted (is_err r) (g.S.Sink.failed c.messages.sink)) c.in-Ok.is ∙ c.messages.invariant.quiet;
       moved = λ n.
           let h = c.messages.invariant.moved n in
-          let x : ℕ × Item = (c.args.start + c.messages.passed.bytes, items.Message p.0) in
+          let x : ℕ × Item = (c.args.start + c.messages.passed.bytes, items.Message some.0) in
           let fed = passed_more c.args.context.now c.args.order c.messages.passed.order c.args.start n c.messages.passed.bytes k
           c.messages.passed.messages c.args.piece.now c.suffix-rest.result.now (take k c.suffix-rest.result.now) h.0
-          p.0 c.suffix-rest.ensures refl h.2 c.if-at-ge-END.false c.requires.limit p.2 p.4 in (
+          some.0 c.suffix-rest.ensures refl h.2 c.if-at-ge-END.false c.requires.limit p.within p.read in (
             h.0 ++ x ∷ [],
             handed_more _ g.S.Sink.misses _ _ _ h.0 x _ c.messages.invariant.taken h.1
-                (taken_at g.S.Sink.takes g.S.Sink.misses _ _ x c.in-Some.given.taken c.in-Ok.is p.6),
-            rw (p.5) fed,
+                (taken_at g.S.Sink.takes g.S.Sink.misses _ _ x c.in-Some.given.taken c.in-Ok.is some.2),
+            rw (p.leaves) fed,
           );
     }
 

@@ -18,10 +18,12 @@ returns-clause-some g c =
     let size = window_size c.args.context.now c.args.order rest k (sym c.in-Window.ensures) in
     let W : List ℕ → Type 0 = λ b. IsRead c.args.context.now c.args.order b m in (
       m,
-      size.0,
-      c.in-Some.ensures.lookup.0.1,
-      size.1,
-      subst W (front_range rest c.in-Some.window.now k c.in-Some.ensures.lookup.0.2) c.in-Ok.ensures.ok,
-      c.next_of_view-order.ensures,
+      record {
+        least = size.0;
+        within = c.in-Some.ensures.lookup.0.1;
+        most = size.1;
+        read = subst W (front_range rest c.in-Some.window.now k c.in-Some.ensures.lookup.0.2) c.in-Ok.ensures.ok;
+        leaves = c.next_of_view-order.ensures;
+      },
       c.item-taken.ensures.items,
     )
