@@ -9,11 +9,11 @@ ghost use Rattle.bt_session.specs.Runs.{IsLinkOf};
 ghost use Rattle.bt_session.specs.Reports.{block_of, numbered, held_blocks, DoMatch, IsReportOf, IsRun, IsUnstarted, IsUnrun};
 
 use crate::facts::is_new;
-use bt_link::{Outcome, Step};
 use crate::matching::is_mismatch;
 use crate::node::Node;
 use crate::run::{Connection, Link, keep, run};
 use bt_end::{Config, End, EndError};
+use bt_link::{Outcome, Step};
 use std::alloc::{AllocError, Global};
 use thiserror::Error;
 
