@@ -1,5 +1,5 @@
 -- What the command line asks for.
-use Rattle.std.specs.Prelude.{◌≡◌, ◌≤◌, [], false, None}
+use Rattle.std.specs.Prelude.{◌≡◌, [], false, None}
 use Rattle.clap.specs.declared.error.kind.ErrorKind.{ErrorKind}
 use Rattle.clap.specs.declared.error.kind.ErrorKind.TheVariants as kinds
 use Rattle.bt_fetch.specs.Wishes.{IsWish}

@@ -1,6 +1,6 @@
 -- What an end says first: its extended handshake, and then what is announced.
-use Rattle.std.proofs.Common.{◌≡◌, ℕ, ◌+◌, ◌≤◌, Bool, true, false, if◌then◌else◌, List, [], ◌∷◌, ◌++◌, length, refl, sym, ap, subst, ◌∙◌, arith}
-use Rattle.std.proofs.Common.{length-append, append-nil, append_assoc}
+use Rattle.std.proofs.Common.{◌≡◌, ℕ, ◌+◌, ◌≤◌, Bool, true, false, if◌then◌else◌, List, [], ◌∷◌, ◌++◌, length, refl, sym, ap, ◌∙◌, arith}
+use Rattle.std.proofs.Common.{length-append, append_assoc}
 use Rattle.bt_bencode.specs.Bencoding.{ben}
 use Rattle.bt_ext.specs.Made.{handshake_of, handshake_tree}
 use Rattle.bt_ext.specs.Payloads.{payload_of}

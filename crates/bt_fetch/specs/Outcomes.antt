@@ -1,5 +1,5 @@
 -- How a try at an address ends, by what the end is after it.
-use Rattle.std.specs.Prelude.{◌≡◌, ◌≤◌, Bool, true, is_some, Some, ⊤}
+use Rattle.std.specs.Prelude.{◌≡◌, ◌≤◌, true, is_some, Some, ⊤}
 use Rattle.bt_end.specs.Ends.{metadata_of, is_hopeless}
 use Rattle.bt_end.specs.Halves.{HalfState}
 use Rattle.bt_fetch.specs.declared.dial.Outcome.{Outcome}

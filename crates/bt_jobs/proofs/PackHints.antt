@@ -1,7 +1,6 @@
 -- Lines of a script, by their number.
-use Rattle.std.proofs.Common.{◌≡◌, ℕ, ◌+◌, false, List, [], ◌∷◌, ◌++◌, length, Some, refl, sym, ap, ◌∙◌, arith, length-append}
+use Rattle.std.proofs.Common.{◌≡◌, ℕ, ◌+◌, List, [], ◌∷◌, ◌++◌, length, Some, refl, sym, ap, ◌∙◌, arith, length-append}
 use Rattle.std.proofs.lemmas.List.{append-nil, append_assoc}
-use Rattle.bt_text.specs.Script.{has_feed}
 use Rattle.bt_jobs.specs.Packs.{ended_lines, AreWhole}
 use Rattle.bt_jobs.specs.PackHints.{IsLineAt}
 use Rattle.bt_text.specs.Splitting.{IsCut}

@@ -1,11 +1,10 @@
 -- What is said of a script after it is packed, besides the answer.
-use Rattle.std.specs.Prelude.{◌≡◌, ◌⊎◌, ◌==◌, ℕ, ◌+◌, Bool, List, [], ◌∷◌, ◌++◌, length, codes}
+use Rattle.std.specs.Prelude.{◌≡◌, ◌==◌, ℕ, ◌+◌, List, ◌++◌, length}
 use Rattle.bt_text.specs.declared.ended.PackEnd.{PackEnd}
 use Rattle.bt_text.specs.declared.ended.PackEnd.TheVariants.{Accepted, Refused}
 use Rattle.bt_text.specs.declared.ended.ScriptReason.TheVariants.{Syntax, Reason}
 use Rattle.bt_text.specs.declared.script.misfit.Misfit.{Misfit}
 use Rattle.bt_text.specs.Misfits.{IsMisfit, IsDecimalBlock, misfit_line, block_line}
-use Rattle.bt_text.specs.Script.{has_feed}
 use Rattle.bt_jobs.specs.Packs.{ended_lines, AreWhole}
 
 -- the line with this number, counted from 1, begins with these characters

@@ -1,5 +1,5 @@
 -- A run of the program: what a job does to its devices, what it says on standard error, and its exit status.
-use Rattle.std.specs.Prelude.{◌≡◌, ◌⊎◌, ℕ, ◌+◌, ◌-◌, ◌^◌, ◌≤◌, min, ⊤, List, [], Option, Some, None, Result, Ok, Err, codes}
+use Rattle.std.specs.Prelude.{◌≡◌, ◌⊎◌, ℕ, ◌+◌, ◌-◌, ◌^◌, ◌≤◌, min, ⊤, List, [], Option, Some, None, Ok, Err}
 use Rattle.std.specs.Io.KnownBytes.{Appends}
 use Rattle.bt_wire.specs.declared.context.Own.{Own}
 use Rattle.bt_io.specs.Seen.{SourceSeen, TargetSeen, Devices, ReadFailed, WriteFailed, AppendsPrefix}

@@ -1,5 +1,5 @@
 -- A connection that is served: what its counts and its end say, from its start to a later moment.
-use Rattle.std.specs.Prelude.{◌≡◌, ℕ, ◌+◌, ◌<◌, ◌≤◌, ◌^◌, ◌⊎◌, Bool, true, false, List, [], ◌∷◌, ◌++◌, length, flat_map, Option, Some, None, Result, Ok, Err, ⊤}
+use Rattle.std.specs.Prelude.{◌≡◌, ℕ, ◌+◌, ◌<◌, ◌≤◌, ◌^◌, ◌⊎◌, Bool, true, false, List, [], ◌∷◌, ◌++◌, length, flat_map, Option, Some, None, Result, Ok, Err}
 use Rattle.std.specs.Borrow.{Bor}
 use Rattle.bt_wire.specs.declared.context.Context.{Context}
 use Rattle.bt_wire.specs.declared.context.Own.{Own}
@@ -13,7 +13,7 @@ use Rattle.bt_end.specs.Halves.{HalfState, connected}
 use Rattle.bt_end.specs.declared.config.Announce.TheVariants as announce
 use Rattle.bt_exchange.specs.Boths.{capped}
 use Rattle.bt_exchange.specs.Courses.{Moment, IsMoved}
-use Rattle.bt_exchange.specs.Stops.{IsCalm, IsFault, IsMark, IsSilent, items_of}
+use Rattle.bt_exchange.specs.Stops.{IsCalm, IsFault, IsMark, IsSilent}
 use Rattle.bt_exchange.specs.declared.talking.Sign.TheVariants as sign
 use Rattle.bt_exchange.specs.declared.talking.Step.{Step}
 use Rattle.bt_exchange.specs.declared.talking.Step.TheVariants as step

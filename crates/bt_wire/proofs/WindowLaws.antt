@@ -8,7 +8,6 @@ use Rattle.std.specs.Prelude.{option_map, unwrap_or, IsSome}
 use Rattle.bt_ext.specs.declared.ext.Ext.{Ext}
 use Rattle.bt_ext.specs.declared.ext.ViewError.{ViewError}
 use Rattle.bt_ext.specs.Payloads.{IsExt, HasSpelling, ext_id, index_of, payload_of}
-use Rattle.bt_ext.specs.Faults.{Allows}
 use Rattle.bt_ext.specs.Faults as ext
 use Rattle.bt_ext.proofs.OneExt.{same_ext}
 use Rattle.bt_ext.proofs.OneFault.{one_fault as ext_fault_once}

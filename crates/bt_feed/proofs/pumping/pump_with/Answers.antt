@@ -1,4 +1,4 @@
-use Rattle.std.proofs.Common.{◌≡◌, ◌∙◌, ◌++◌, ℕ, [], take, Ok, Err, refl, sym, subst, inl, inr, arith, append_assoc, length-take, rules}
+use Rattle.std.proofs.Common.{◌∙◌, ◌++◌, [], take, Ok, Err, refl, sym, subst, inl, inr, arith, append_assoc, length-take, rules}
 use Rattle.std.proofs.KnownBytes.{Consumes-nil, Consumes-trans, Consumes-kept}
 use Rattle.std.proofs.lemmas.Bool.{ne_eqb}
 use Rattle.std.proofs.lemmas.List.{append-nil}

@@ -1,5 +1,5 @@
 -- The bytes from the run's start up to the place are zero, and messages begin at both.
-use Rattle.std.proofs.Common.{◌+◌, ◌≤◌, ◌<◌, ◌^◌, length}
+use Rattle.std.proofs.Common.{◌≤◌, ◌<◌, length}
 use Rattle.bt_hint.specs.Hints.{IsReached, AreZero}
 use Rattle.bt_hint.proofs.places.find_keep_alives.Given as goal
 

@@ -1,7 +1,6 @@
-use Rattle.std.proofs.Common.{◌≡◌, ◌∙◌, ap, rules, subst, sym}
+use Rattle.std.proofs.Common.{◌≡◌, rules, subst, sym}
 use Rattle.bt_text.specs.declared.ended.PackEnd.{PackEnd}
 use Rattle.bt_text.specs.declared.ended.PackEnd.TheVariants.{Refused}
-use Rattle.bt_text.specs.declared.ended.ScriptReason.{ScriptReason}
 use Rattle.bt_text.specs.declared.ended.ScriptReason.TheVariants.{Syntax}
 use Rattle.bt_text.specs.Misfits.{misfit_line}
 use Rattle.bt_jobs.specs.PackHints.{IsPackHint}

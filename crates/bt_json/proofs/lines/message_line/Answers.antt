@@ -1,4 +1,4 @@
-use Rattle.std.proofs.Common.{◌≡◌, ◌++◌, ◌∙◌, List, ℕ, ap, codes}
+use Rattle.std.proofs.Common.{◌++◌, ◌∙◌, List, ℕ, ap, codes}
 use Rattle.json.specs.Token.{Token}
 use Rattle.bt_wire.specs.Messages.{message_of}
 use Rattle.bt_json.specs.Objects.{a_number, message_fields, object_line}

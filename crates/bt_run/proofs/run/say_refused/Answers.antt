@@ -1,4 +1,4 @@
-use Rattle.std.proofs.Common.{◌≡◌, ◌≤◌, ◌-◌, ◌∙◌, ℕ, List, length, drop, take_all, subst, arith}
+use Rattle.std.proofs.Common.{◌≤◌, ◌-◌, ◌∙◌, ℕ, List, length, drop, take_all, subst, arith}
 use Rattle.std.proofs.lemmas.List.{length-drop}
 use Rattle.bt_run.specs.Runs.{IsSaid}
 use Rattle.bt_run.proofs.run.say_refused.Goals as goal

@@ -1,4 +1,4 @@
-use Rattle.std.proofs.Common.{◌≡◌, ◌<◌, ◌^◌, length, refl, ap, arith}
+use Rattle.std.proofs.Common.{◌<◌, length, refl, ap, arith}
 use Rattle.bt_serve.proofs.Counting.{none_left, one_less, uncounted}
 use Rattle.bt_serve.proofs.guest.count_messages.Goals as goal
 

@@ -1,4 +1,4 @@
-use Rattle.std.proofs.Common.{arith, refl, rules}
+use Rattle.std.proofs.Common.{arith, rules}
 use Rattle.bt_wire.proofs.WindowLaws.{too_long}
 use Rattle.bt_wire.proofs.encoding.legal_length.Goals as goal
 

@@ -1,4 +1,4 @@
-use Rattle.std.proofs.Common.{ℕ, List, [], ◌++◌, Option, true, false, length, ap, sym, ◌∙◌, arith, rules, append-nil}
+use Rattle.std.proofs.Common.{ℕ, [], ◌++◌, Option, true, false, length, ap, sym, ◌∙◌, arith, rules, append-nil}
 use Rattle.bt_bencode.specs.Bencoding.{ben}
 use Rattle.bt_ext.specs.Made.{handshake_tree}
 use Rattle.bt_end.specs.Parts.{framed}

@@ -1,4 +1,4 @@
-use Rattle.std.proofs.Common.{Some, Option, ℕ, sym, ap, ◌∙◌, refl}
+use Rattle.std.proofs.Common.{Some, ℕ, sym, ap, ◌∙◌, refl}
 use Rattle.bt_ext.specs.Ids.{donthave_id}
 use Rattle.bt_wire.specs.declared.context.Context.{Context}
 use Rattle.bt_end.proofs.Sayings.{taken_back}
