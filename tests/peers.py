@@ -370,8 +370,7 @@ def hostile(program):
         begin = time.monotonic()
         failed += differs("%s %s" % (names, words), run(program, HASH, addresses, words.split()), output, errors, status)
         took = time.monotonic() - begin
-        if "--patience 2" in words and "silent" in errors and not 1 <= took <= 10:
-            # Whole seconds of the clock are counted, so one that has begun counts.
+        if "--patience 2" in words and "silent" in errors and not 2 <= took <= 10:
             print("%s %s: it took %.1f seconds, and the patience is 2" % (names, words, took))
             failed += 1
         for peer in peers:
