@@ -1,13 +1,14 @@
 //! Checked slices: a dictionary where it lies, its look-ups and its pairs. They take no memory.
-ghost use Rattle.std.specs.Prelude.{◌≡◌, IfOk, IfErr, IfSome, option_map, option_and_then, is_some};
-ghost use Rattle.bt_bencode.specs.Trees.{dictionary};
+ghost use Rattle.std.specs.Prelude.{◌≡◌, IfOk, IfErr, IfSome, Option, Some, None, option_map, option_and_then, is_some};
+ghost use Rattle.bt_bencode.specs.Trees.{Tree, dictionary};
 ghost use Rattle.bt_bencode.specs.Bencoding.{BeginsWith, Fits, Spells, IsSpelling};
 ghost use Rattle.bt_bencode.specs.Keys.{value_at, unsorted};
-ghost use Rattle.bt_bencode.specs.LookUps.{integer_of, string_of, dictionary_of, inner_integer};
+ghost use Rattle.bt_bencode.specs.LookUps.{integer_of, string_of, dictionary_of, inner_integer, is_byte_map};
 ghost use Rattle.bt_bencode.specs.Payloads.{Refuses};
 ghost use Rattle.bt_bencode.specs.Readable.{FindsValue, HasValue, ArePairs};
 ghost use Rattle.bt_bencode.specs.OneSpelling.{IsSpelling-prop, ArePairs-prop};
 
+use crate::in_order::{find_in_order, judge_map_in_order};
 use crate::read::{following, read_value, split_string};
 use crate::scan::{Bad, scan};
 use crate::skip::{find, find_two, inner_int, int_in, split_int, text_in};
@@ -45,6 +46,59 @@ impl<'a> DictRef<'a> {
         ensures { result ≡ unsorted (dictionary self.now.tree.0) }
     {
         first_unsorted(self.spelled())
+    }
+
+    /// The integers at three keys, if all keys are in order, in one walk.
+    ///
+    /// They are those that [`DictRef::lookup_int`] finds. In order are the keys of each dictionary, at any depth.
+    ///
+    /// # Errors
+    /// The offset that [`DictRef::first_unsorted`] finds.
+    pub fn sorted_ints(
+        &self,
+        first: &[u8],
+        second: &[u8],
+        third: &[u8],
+    ) -> Result<(Option<i64>, Option<i64>, Option<i64>), usize>
+        ensures sorted { IfOk result (λ x. unsorted (dictionary self.now.tree.0) ≡ None) }
+        ensures first { IfOk result (λ x. x.0 ≡ option_and_then integer_of (value_at first.now self.now.tree.0)) }
+        ensures second { IfOk result (λ x. x.1 ≡ option_and_then integer_of (value_at second.now self.now.tree.0)) }
+        ensures third { IfOk result (λ x. x.2 ≡ option_and_then integer_of (value_at third.now self.now.tree.0)) }
+        ensures err { IfErr result (λ at. unsorted (dictionary self.now.tree.0) ≡ Some at) }
+    {
+        match find_in_order(following(self.spelled()), first, second, third) {
+            Ok((first, second, third)) => Ok((
+                found_int(first),
+                found_int(second),
+                found_int(third),
+            )),
+            Err(n) => Err(n + 1),
+        }
+    }
+
+    /// Judges a map of bytes and reads an integer, if all keys are in order, in one walk.
+    ///
+    /// The first result is whether the value at `map` is a dictionary whose values are all integers from 0 to 255. The
+    /// second is the integer at `key`, or `Some(None)`: the value there is of another kind. Each is `None` where no pair
+    /// has its key. In order are the keys of each dictionary, at any depth.
+    ///
+    /// # Errors
+    /// The offset that [`DictRef::first_unsorted`] finds.
+    pub fn sorted_byte_map(
+        &self,
+        map: &[u8],
+        key: &[u8],
+    ) -> Result<(Option<bool>, Option<Option<i64>>), usize>
+        ensures sorted { IfOk result (λ x. unsorted (dictionary self.now.tree.0) ≡ None) }
+        ensures map { IfOk result (λ x. x.0 ≡ option_map is_byte_map (value_at map.now self.now.tree.0)) }
+        ensures number { IfOk result (λ x. x.1 ≡ option_map integer_of (value_at key.now self.now.tree.0)) }
+        ensures err { IfErr result (λ at. unsorted (dictionary self.now.tree.0) ≡ Some at) }
+    {
+        match judge_map_in_order(following(self.spelled()), map, key) {
+            Ok((map, None)) => Ok((map, None)),
+            Ok((map, Some(value))) => Ok((map, Some(int_in(value)))),
+            Err(n) => Err(n + 1),
+        }
     }
 
     /// Whether a pair has the key.
@@ -124,6 +178,17 @@ impl<'a> DictRef<'a> {
     {
         let bytes = self.spelled();
         find(following(bytes), key)
+    }
+}
+
+/// The value that was found, if it is there and an integer.
+fn found_int(found: Option<&[u8]>) -> Option<i64>
+    requires { IfSome found (λ bytes. HasValue bytes.now) }
+    ensures { (o : Option Tree) → FindsValue found.entry o → result ≡ option_and_then integer_of o }
+{
+    match found {
+        None => None,
+        Some(bytes) => int_in(bytes),
     }
 }
 

@@ -70,7 +70,7 @@ pub fn find<'a>(pairs: &'a [u8], key: &[u8]) -> Option<&'a [u8]>
 
 /// What was found for the key before, or else the value of a pair with this name, where that is the key.
 #[inline(always)]
-fn found_at<'a>(
+pub fn found_at<'a>(
     before: Option<&'a [u8]>,
     name: &[u8],
     key: &[u8],

@@ -54,7 +54,7 @@ fn pairs_are_sorted(pairs: &Pairs) -> bool
 }
 
 /// Whether the key is above the last one, if there is one.
-fn is_above(last: Option<&[u8]>, key: &[u8]) -> bool
+pub fn is_above(last: Option<&[u8]>, key: &[u8]) -> bool
     ensures { result ≡ is_above (option_copied last.entry) key.now }
 {
     match last {
@@ -65,7 +65,7 @@ fn is_above(last: Option<&[u8]>, key: &[u8]) -> bool
 
 /// What follows the value in front, or the offset in it.
 #[cycle(walk)]
-fn walk_value(bytes: &[u8]) -> Result<&[u8], usize>
+pub fn walk_value(bytes: &[u8]) -> Result<&[u8], usize>
     requires { HasValue bytes.now }
     ensures walks { (t : Tree) (more : List ℕ) → InRange t → bytes.now ≡ ben t ++ more
         → Walks result more (unsorted t) }

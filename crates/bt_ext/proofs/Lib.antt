@@ -1,4 +1,5 @@
 pub mod Allowed
+pub mod ByteMaps
 pub mod ByName
 pub mod Entries
 pub mod LawProofs

@@ -1,7 +1,8 @@
 //! The fields of an extended handshake (BEP 10, BEP 9), in trees and in checked slices.
-ghost use Rattle.std.specs.Prelude.{◌≡◌, codes, option_and_then};
-ghost use Rattle.bt_bencode.specs.Trees.{dictionary};
-ghost use Rattle.bt_bencode.specs.Keys.{value_at, lookup_of};
+ghost use Rattle.std.specs.Prelude.{◌≡◌, codes, Option, option_map, option_and_then};
+ghost use Rattle.bt_bencode.specs.Trees.{Tree, dictionary};
+ghost use Rattle.bt_bencode.specs.Keys.{lookup_of};
+ghost use Rattle.bt_bencode.specs.LookUps.{integer_of, is_byte_map};
 ghost use Rattle.bt_bencode.specs.Views.{tree_of};
 ghost use Rattle.bt_ext.specs.Fields.{int_at, byte_of, id_value, has_bad_id, is_bad_m, size_of, is_bad_size, has_bad_field, natural};
 
@@ -70,17 +71,6 @@ fn bad_id(m: &Pairs) -> bool
     false
 }
 
-fn bad_id_ref(m: &DictRef) -> bool
-    ensures { result ≡ has_bad_id m.now.tree.0 }
-{
-    for (_, value) in m.int_pairs() {
-        if byte_of(value).is_none() {
-            return true;
-        }
-    }
-    false
-}
-
 fn bad_m(dict: &Value) -> bool
     ensures { result ≡ is_bad_m (lookup_of (codes "m") (tree_of dict.now)) }
 {
@@ -90,15 +80,6 @@ fn bad_m(dict: &Value) -> bool
             Value::Dict(m) => bad_id(m),
             _ => true,
         },
-    }
-}
-
-fn bad_m_ref(dict: &DictRef) -> bool
-    ensures { result ≡ is_bad_m (value_at (codes "m") dict.now.tree.0) }
-{
-    match dict.lookup_dict(b"m") {
-        Some(m) => bad_id_ref(&m),
-        None => dict.has(b"m"),
     }
 }
 
@@ -114,18 +95,22 @@ fn bad_size(dict: &Value) -> bool
     }
 }
 
-fn bad_size_ref(dict: &DictRef) -> bool
-    ensures { result ≡ is_bad_size (value_at (codes "metadata_size") dict.now.tree.0) }
+fn bad_m_by(m: Option<bool>) -> bool
+    ensures { (value : Option Tree) → m ≡ option_map is_byte_map value → result ≡ is_bad_m value }
 {
-    for (key, value) in dict.int_pairs() {
-        if key == b"metadata_size".as_slice() {
-            return match value {
-                Some(n) => n < 0,
-                None => true,
-            };
-        }
+    match m {
+        None => false,
+        Some(is_map) => !is_map,
     }
-    false
+}
+
+fn bad_size_by(size: Option<Option<i64>>) -> bool
+    ensures { (value : Option Tree) → size ≡ option_map integer_of value → result ≡ is_bad_size value }
+{
+    match size {
+        None => false,
+        Some(size) => natural(size).is_none(),
+    }
 }
 
 /// Whether an extended handshake's dictionary has a field of the wrong kind.
@@ -135,9 +120,10 @@ pub fn bad_field(dict: &Value) -> bool
     bad_m(dict) || bad_size(dict)
 }
 
-/// Like [`bad_field`], over a checked slice.
-pub fn bad_field_ref(dict: &DictRef) -> bool
-    ensures { result ≡ has_bad_field (dictionary dict.now.tree.0) }
+/// Like [`bad_field`], by whether `m` is a map of bytes, and by the integer that `metadata_size` is.
+pub fn bad_field_by(m: Option<bool>, size: Option<Option<i64>>) -> bool
+    ensures { (t : Tree) → m ≡ option_map is_byte_map (lookup_of (codes "m") t) → size ≡ option_map integer_of (lookup_of (codes "metadata_size") t)
+        → result ≡ has_bad_field t }
 {
-    bad_m_ref(dict) || bad_size_ref(dict)
+    bad_m_by(m) || bad_size_by(size)
 }

@@ -22,7 +22,8 @@ fn total_of(value: Option<i64>) -> Option<u64>
     if n > 0 { Some(n as u64) } else { None }
 }
 
-fn kind_by(msg_type: Option<i64>, piece: Option<i64>, total: Option<i64>) -> Kind
+/// The kind by the integers of the three fields.
+pub fn kind_by(msg_type: Option<i64>, piece: Option<i64>, total: Option<i64>) -> Kind
     ensures { result ≡ kind_by msg_type piece total }
 {
     let Some(msg_type) = msg_type else {

@@ -73,6 +73,39 @@ fn look_ups(rt: HostRuntime) -> Result<(), Fail> {
     Ok(())
 }
 
+#[test]
+fn integers_in_order(rt: HostRuntime) -> Result<(), Fail> {
+    for (payload, wanted) in [
+        (
+            b"d1:ai7e1:b3:xyz1:ci-1e1:dd1:ei0eee".as_slice(),
+            Ok((Some(7), None, Some(-1))),
+        ),
+        (b"d1:ci9e1:d1:ae", Ok((None, None, Some(9)))),
+        (b"d1:ai1e1:ai2ee", Err(7)),
+        (b"d1:ai1e1:dd1:fi1e1:ei2eee", Err(17)),
+    ] {
+        let is_right = dict(payload)?.sorted_ints(b"a", b"b", b"c") == wanted;
+        assert!(rt; is_right, "{payload:?}");
+    }
+    Ok(())
+}
+
+#[test]
+fn maps_in_order(rt: HostRuntime) -> Result<(), Fail> {
+    for (payload, wanted) in [
+        (b"de".as_slice(), Ok((None, None))),
+        (b"d1:mde1:ni5ee", Ok((Some(true), Some(Some(5))))),
+        (b"d1:md1:ai0e1:bi255ee1:n1:5e", Ok((Some(true), Some(None)))),
+        (b"d1:md1:ai256e1:bi0eee", Ok((Some(false), None))),
+        (b"d1:mi1ee", Ok((Some(false), None))),
+        (b"d1:md1:bi0e1:ai1eee", Err(11)),
+    ] {
+        let is_right = dict(payload)?.sorted_byte_map(b"m", b"n") == wanted;
+        assert!(rt; is_right, "{payload:?}");
+    }
+    Ok(())
+}
+
 /// The pairs' keys, of one byte each, and their integers.
 fn pairs(alloc: Global, dict: &DictRef) -> Result<Vec<(u8, Option<i64>)>, Fail> {
     let mut pairs = Vec::new(alloc);

@@ -1,4 +1,4 @@
-use Rattle.std.proofs.Common.{◌≡◌, refl, pos, codes}
+use Rattle.std.proofs.Common.{refl, pos, codes}
 use Rattle.bt_bencode.specs.Trees.{no_pairs, pair, integer}
 use Rattle.bt_ext.proofs.dict_text.message_text.Goals as goal
 

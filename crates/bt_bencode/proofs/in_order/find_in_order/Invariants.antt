@@ -1,0 +1,21 @@
+-- After what was walked over, the rest says what the whole says.
+use Rattle.std.proofs.Common.{◌≡◌, ◌≤◌, ◌++◌, ◌∷◌, ◌-◌, ℕ, List, length}
+use Rattle.std.specs.Option.{option_copied}
+use Rattle.bt_bencode.specs.Trees.{Pairs}
+use Rattle.bt_bencode.specs.Bencoding.{ben_pairs, PairsInRange}
+use Rattle.bt_bencode.proofs.Skips.{IsSought}
+use Rattle.bt_bencode.proofs.Walk.{PairsLeft}
+use Rattle.bt_bencode.proofs.in_order.find_in_order.Given as goal
+
+abbrev pub invariant-loop-rest : goal.invariant-loop-rest
+invariant-loop-rest l = record {
+  within : length l.rest ≤ length l.fn.pairs;
+  left : (ps : Pairs) (more : List ℕ) → PairsInRange ps → l.fn.pairs ≡ ben_pairs ps ++ 101 ∷ more → PairsLeft ps more (length l.fn.pairs - length l.rest)
+      (option_copied l.last) l.rest;
+  first : (ps : Pairs) (more : List ℕ) → PairsInRange ps → l.fn.pairs ≡ ben_pairs ps ++ 101 ∷ more → IsSought l.first ps more l.rest l.one;
+  second : (ps : Pairs) (more : List ℕ) → PairsInRange ps → l.fn.pairs ≡ ben_pairs ps ++ 101 ∷ more → IsSought l.second ps more l.rest l.two;
+  third : (ps : Pairs) (more : List ℕ) → PairsInRange ps → l.fn.pairs ≡ ben_pairs ps ++ 101 ∷ more → IsSought l.third ps more l.rest l.three;
+}
+
+abbrev pub decreases-loop-rest : goal.decreases-loop-rest
+decreases-loop-rest l = length l.rest

@@ -1,0 +1,68 @@
+use Rattle.std.proofs.Common.{◌≡◌, ◌≤◌, ◌<◌, ◌+◌, ◌-◌, ◌∙◌, sym, arith, true, false, ℕ, length, ap, length-append}
+use Rattle.std.specs.Option.{option_copied}
+use Rattle.bt_bencode.specs.Bencoding.{ben_string}
+use Rattle.bt_bencode.specs.Keys.{is_above}
+use Rattle.bt_bencode.specs.Readable.{HasPairs}
+use Rattle.bt_bencode.proofs.Heads.{key_there, value_after}
+use Rattle.bt_bencode.proofs.InOrder.{bytes_step, bytes_over}
+use Rattle.bt_bencode.proofs.Walk.{pairs_has, pairs_step, pairs_found, key_found, pairs_over}
+use Rattle.bt_bencode.proofs.in_order.walk_bytes.Goals as goal
+
+pub split_string-requires : goal.split_string-requires
+split_string-requires c =
+    let done : ℕ = length c.args.bytes.now - length c.loop-rest.rest.now in
+    key_there c.loop-rest.rest.now (pairs_has c.requires.0 c.requires.1 done (option_copied c.loop-rest.last) c.loop-rest.rest.now
+    (c.loop-rest.invariant.left c.requires.0 c.requires.1 c.requires.2 c.requires.3)) c.loop-rest-test.true
+
+pub returns-then-not-is_above-clause-walks : goal.returns-then-not-is_above-clause-walks
+returns-then-not-is_above-clause-walks c =
+    let done : ℕ = length c.args.bytes.now - length c.loop-rest.rest.now in
+    let below : is_above (option_copied c.loop-rest.last) c.split_string.result.0.now ≡ false = sym c.is_above.ensures ∙ c.if-not-is_above.true in
+    λ ps more h is. key_found ps more done (option_copied c.loop-rest.last) c.loop-rest.rest.now c.split_string.result.0.now c.split_string.result.1.now
+    c.loop-rest-test.true below c.split_string.ensures.short c.split_string.ensures.split (c.loop-rest.invariant.left ps more h is)
+
+pub walk_int-requires : goal.walk_int-requires
+walk_int-requires c =
+    let done : ℕ = length c.args.bytes.now - length c.loop-rest.rest.now in
+    let pairs : HasPairs c.loop-rest.rest.now = pairs_has c.requires.0 c.requires.1 done (option_copied c.loop-rest.last) c.loop-rest.rest.now
+    (c.loop-rest.invariant.left c.requires.0 c.requires.1 c.requires.2 c.requires.3) in
+    value_after c.loop-rest.rest.now c.split_string.result.0.now c.split_string.result.1.now pairs c.loop-rest-test.true c.split_string.ensures.short
+    c.split_string.ensures.split
+
+pub loop-rest-preserved : goal.loop-rest-preserved
+loop-rest-preserved c =
+    let done : ℕ = length c.args.bytes.now - length c.loop-rest.rest.now in
+    let done' : ℕ = length c.args.bytes.now - length c.in-Ok.more.now in
+    let within : length c.loop-rest.rest.now ≤ length c.args.bytes.now = c.loop-rest.invariant.within in
+    let parts = ap length c.split_string.ensures.split ∙ length-append (ben_string c.split_string.result.0.now) c.split_string.result.1.now in
+    let shorter : length c.in-Ok.more.now < length c.split_string.result.1.now = c.in-Ok.ensures.shorter in
+    let count : done + length c.loop-rest.rest.now ≡ done' + length c.in-Ok.more.now = omega arith in
+    let above : is_above (option_copied c.loop-rest.last) c.split_string.result.0.now ≡ true = sym c.is_above.ensures ∙ c.if-not-is_above.false in
+    record {
+      within = omega arith;
+      left = λ ps more h is. pairs_step ps more done (option_copied c.loop-rest.last) c.loop-rest.rest.now c.split_string.result.0.now
+          c.split_string.result.1.now c.in-Ok.more.now done' c.loop-rest-test.true above c.split_string.ensures.short c.split_string.ensures.split count
+          (λ u m h' is'. let w = c.in-Ok.ensures.walks u m h' is' in (w.0, w.1)) (c.loop-rest.invariant.left ps more h is);
+      seen = λ ps more h is. rw c.is_byte-all.ensures (bytes_step ps more c.loop-rest.rest.now c.split_string.result.0.now c.split_string.result.1.now
+          c.split_string.ensures.short c.split_string.ensures.split c.loop-rest-test.true c.in-Ok.more.now c.loop-rest.all c.in-Ok.number c.in-Ok.ensures.walks
+          (c.loop-rest.invariant.seen ps more h is));
+    }
+
+pub returns-in-Err-clause-walks : goal.returns-in-Err-clause-walks
+returns-in-Err-clause-walks c =
+    let done : ℕ = length c.args.bytes.now - length c.loop-rest.rest.now in
+    let done' : ℕ = length c.args.bytes.now - length c.split_string.result.1.now in
+    let within : length c.loop-rest.rest.now ≤ length c.args.bytes.now = c.loop-rest.invariant.within in
+    let parts = ap length c.split_string.ensures.split ∙ length-append (ben_string c.split_string.result.0.now) c.split_string.result.1.now in
+    let count : done + length c.loop-rest.rest.now ≡ done' + length c.split_string.result.1.now = omega arith in
+    let above : is_above (option_copied c.loop-rest.last) c.split_string.result.0.now ≡ true = sym c.is_above.ensures ∙ c.if-not-is_above.false in
+    λ ps more h is. pairs_found ps more done (option_copied c.loop-rest.last) c.loop-rest.rest.now c.split_string.result.0.now c.split_string.result.1.now
+    c.in-Err.n done' c.loop-rest-test.true above c.split_string.ensures.short c.split_string.ensures.split count c.in-Err.ensures.walks
+    (c.loop-rest.invariant.left ps more h is)
+
+pub returns-clause-walks : goal.returns-clause-walks
+returns-clause-walks c =
+    let done : ℕ = length c.args.bytes.now - length c.loop-rest.rest.now in
+    λ ps more h is. let w = pairs_over ps more done (option_copied c.loop-rest.last) c.loop-rest.rest.now c.loop-rest-test.false
+    (c.loop-rest.invariant.left ps more h is) in
+    (w.0, c.following.ensures ∙ w.1, bytes_over ps more c.loop-rest.all c.loop-rest.rest.now c.loop-rest-test.false (c.loop-rest.invariant.seen ps more h is))
