@@ -24,7 +24,7 @@ use Rattle.bt_text.specs.declared.ended.ToolFault.{ToolFault}
 use Rattle.bt_text.specs.declared.ended.ToolFault.TheVariants as faults
 use Rattle.bt_io.specs.Counts.{Grew}
 use Rattle.bt_io.specs.Seen.{SourceSeen, EndRead, ReadFailed}
-use Rattle.bt_jobs.specs.Printed.{so_far}
+use Rattle.bt_jobs.specs.Printed.{SoFar, so_far}
 use Rattle.bt_jobs.specs.declared.other.Announced.{Announced}
 use Rattle.bt_jobs.specs.declared.other.Listener.{Listener}
 use Rattle.bt_jobs.specs.declared.other.OtherError.{OtherError}
@@ -99,40 +99,55 @@ said_by xs l r h is =
 
 -- ---- a turn
 
-heard_all : (b : List ℕ) (xs ys : List (ℕ × Item)) (f g : FeedState) (l m : Listener) (bytes lost : List ℕ) (v : Outcome) → IsListening b xs f l
-    → Took Hears l ys m → IsPumped f bytes lost ys g v → IsHeard (xs ++ v.items) m
-heard_all b xs ys f g l m bytes lost v r took p = subst (λ (zs : List (ℕ × Item)). IsHeard (xs ++ zs) m) (sym p.items) (heard_more xs ys l m r.heard took)
+-- A pump into the listener `l` has stopped. It read `bytes`, which went to the feed, and `lost`; it gave `given` to the listener, which is `m` then, and
+-- the outcome is `now`.
+pub record IsPumpHeard (so : SoFar) (f g : FeedState) (before after : SourceSeen) (l m : Listener) : Type 0 where
+  pub listening : IsListening so.bytes so.items f l
+  pub bytes : List ℕ
+  pub lost : List ℕ
+  pub given : List (ℕ × Item)
+  pub now : Outcome
+  pub consumed : Consumes before.left after.left (bytes ++ lost)
+  pub took : Took Hears l given m
+  pub pumped : IsPumped f bytes lost given g now
 
-pub ended : (b : List ℕ) (xs ys : List (ℕ × Item)) (f g : FeedState) (before after : SourceSeen) (l m : Listener) (bytes lost : List ℕ)
-    (v : Outcome) → IsListening b xs f l → Consumes before.left after.left (bytes ++ lost)
-    → Took Hears l ys m → IsPumped f bytes lost ys g v → (IsSome v.refusal ⊎ EndRead before after) → IsTurnHeard (so_far b xs) before after g m (Ok true)
-ended b xs ys f g before after l m bytes lost v r c took p s =
-    (bytes ++ lost, with_items xs v, c, total reader_of_other b xs f g bytes lost ys v r.read p, heard_all b xs ys f g l m bytes lost v r took p, inr s)
+heard_all : (so : SoFar) (f g : FeedState) (before after : SourceSeen) (l m : Listener) → (h : IsPumpHeard so f g before after l m)
+    → IsHeard (so.items ++ h.now.items) m
+heard_all so f g before after l m h =
+    subst (λ (zs : List (ℕ × Item)). IsHeard (so.items ++ zs) m) (sym h.pumped.items) (heard_more so.items h.given l m h.listening.heard h.took)
 
-pub turned : (b : List ℕ) (xs ys : List (ℕ × Item)) (f g : FeedState) (before after : SourceSeen) (l m : Listener) (bytes lost : List ℕ)
-    (v : Outcome) (k : Bool) → (k ≡ true → IsSome m.reserved × IsSome m.metadata × IsSome m.donthave) → (k ≡ false → IsUnknown m.reserved m.metadata m.donthave)
-    → IsListening b xs f l → Consumes before.left after.left (bytes ++ lost) → Took Hears l ys m → IsPumped f bytes lost ys g v → lost ≡ [] → v.refusal ≡ None
-    → IsTurnHeard (so_far b xs) before after g m (Ok k)
-turned b xs ys f g before after l m bytes lost v false know unknown r c took p none free = (
-  bytes ++ lost,
-  ys,
-  c,
+total_heard : (so : SoFar) (f g : FeedState) (before after : SourceSeen) (l m : Listener) → (h : IsPumpHeard so f g before after l m)
+    → IsVerdict reader_of_other (so.bytes ++ (h.bytes ++ h.lost)) (with_items so.items h.now)
+total_heard so f g before after l m h = total reader_of_other so.bytes so.items f g h.bytes h.lost h.given h.now h.listening.read h.pumped
+
+pub ended : (so : SoFar) (f g : FeedState) (before after : SourceSeen) (l m : Listener) → (h : IsPumpHeard so f g before after l m)
+    → (IsSome h.now.refusal ⊎ EndRead before after) → IsTurnHeard so before after g m (Ok true)
+ended so f g before after l m h s =
+    (h.bytes ++ h.lost, with_items so.items h.now, h.consumed, total_heard so f g before after l m h, heard_all so f g before after l m h, inr s)
+
+pub turned : (so : SoFar) (f g : FeedState) (before after : SourceSeen) (l m : Listener) (k : Bool) → (h : IsPumpHeard so f g before after l m)
+    → (k ≡ true → IsSome m.reserved × IsSome m.metadata × IsSome m.donthave) × (k ≡ false → IsUnknown m.reserved m.metadata m.donthave)
+    → (h.lost ≡ []) × (h.now.refusal ≡ None) → IsTurnHeard so before after g m (Ok k)
+turned so f g before after l m false h known free = (
+  h.bytes ++ h.lost,
+  h.given,
+  h.consumed,
   record {
-    read = read_more reader_of_other b xs f g bytes lost ys v none free r.read p;
-    heard = heard_more xs ys l m r.heard took;
-    unknown = unknown refl;
-    now = with_items xs v;
-    is = total reader_of_other b xs f g bytes lost ys v r.read p;
-    unrefused = free;
+    read = read_more reader_of_other so.bytes so.items f g h.bytes h.lost h.given h.now free.0 free.1 h.listening.read h.pumped;
+    heard = heard_more so.items h.given l m h.listening.heard h.took;
+    unknown = known.1 refl;
+    now = with_items so.items h.now;
+    is = total_heard so f g before after l m h;
+    unrefused = free.1;
   },
 )
-turned b xs ys f g before after l m bytes lost v true know unknown r c took p none free = (
-  bytes ++ lost,
-  with_items xs v,
-  c,
-  total reader_of_other b xs f g bytes lost ys v r.read p,
-  heard_all b xs ys f g l m bytes lost v r took p,
-  inl (know refl),
+turned so f g before after l m true h known free = (
+  h.bytes ++ h.lost,
+  with_items so.items h.now,
+  h.consumed,
+  total_heard so f g before after l m h,
+  heard_all so f g before after l m h,
+  inl (known.0 refl),
 )
 
 refused_inside : (o : Option Refusal) (c : Bool) (e r : Refusal) → (elim o [ Some q ↦ Some q | None ↦ if c then None else Some e ]) ≡ Some r → IsSome o

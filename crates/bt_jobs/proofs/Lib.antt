@@ -5,4 +5,5 @@ mod PackPieces
 mod PackRuns
 mod PackLaws
 mod PackHints
+mod Judging
 mod Hearing

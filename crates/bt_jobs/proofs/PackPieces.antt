@@ -1,5 +1,5 @@
 -- A script that is read piece by piece.
-use Rattle.std.proofs.Common.{◌≡◌, ℕ, ◌+◌, ◌-◌, ◌*◌, ◌<◌, false, List, [], ◌∷◌, ◌++◌, length, Some, None, refl, sym, ap, subst, ◌∙◌, arith, inl, inr}
+use Rattle.std.proofs.Common.{◌≡◌, ℕ, ◌+◌, ◌-◌, ◌*◌, ◌<◌, false, List, [], ◌∷◌, ◌++◌, length, Some, Option, None, refl, sym, ap, subst, ◌∙◌, arith, inl, inr}
 use Rattle.std.proofs.Common.{length-append}
 use Rattle.std.proofs.lemmas.List.{append-nil, append_assoc, nil_from_length}
 use Rattle.bt_feed.specs.Feeds.{FeedState}
@@ -14,7 +14,7 @@ use Rattle.bt_jobs.specs.Packs.{is_none}
 use Rattle.bt_text.specs.declared.ended.PackEnd.{PackEnd}
 use Rattle.bt_text.specs.declared.ended.PackEnd.TheVariants.{Accepted, Refused}
 use Rattle.bt_jobs.proofs.Printing.{verdict_length}
-use Rattle.bt_jobs.specs.PackSteps.{IsPackedTo, packing, packer, IsLineEnd, IsReadSo, IsPieceRead, IsScriptEnd}
+use Rattle.bt_jobs.specs.PackSteps.{IsPackedTo, Packing, Packer, packing, packer, IsLineEnd, IsReadSo, IsPieceRead, IsScriptEnd}
 use Rattle.bt_jobs.proofs.Packing.{taken_so_far, some_lines}
 use Rattle.bt_text.proofs.ScriptBounds.{has_feed-append}
 use Rattle.bt_jobs.proofs.PackText.{ended_more, ended_both, whole_both, split_of}
@@ -129,17 +129,17 @@ stops_in own text rest line lines b held f number reason h none e some count r =
 
 -- ---- pieces
 
--- what was read of the piece so far
-pub record IsDone (own : Own) (text : List ℕ) (lines : List (List ℕ)) (b piece rest held : List ℕ) (f : FeedState) (out out' : List ℕ) : Type 0 where
+-- What was read of the piece so far: `done`, which `rest` follows. Its lines `more` are taken and name `named`; `q` is where the packer stands.
+pub record IsDone (own : Own) (text : List ℕ) (p : Packing) (piece rest : List ℕ) (q : Packer) : Type 0 where
   pub done : List ℕ
   pub parts : piece ≡ done ++ rest
   pub more : List (List ℕ)
   pub named : List ℕ
-  pub grown : out' ≡ out ++ named
-  pub read : IsReadSo own (text ++ done) (lines ++ more) (b ++ named) held f
+  pub grown : q.out ≡ p.out ++ named
+  pub read : IsReadSo own (text ++ done) (p.lines ++ more) (p.bytes ++ named) q.line q.judge
 
 pub nothing_done : (own : Own) (text : List ℕ) (lines : List (List ℕ)) (b piece held : List ℕ) (f : FeedState) (out : List ℕ)
-    → IsReadSo own text lines b held f → IsDone own text lines b piece piece held f out out
+    → IsReadSo own text lines b held f → IsDone own text (packing lines b out) piece piece (packer held f out)
 nothing_done own text lines b piece held f out h =
     let P : List ℕ → Type 0 = λ t. IsReadSo own t (lines ++ []) (b ++ []) held f in
     let Q : List (List ℕ) → Type 0 = λ l. IsReadSo own text l (b ++ []) held f in
@@ -154,57 +154,76 @@ nothing_done own text lines b piece held f out h =
     }
 
 -- all of the piece
-pub all_done : (own : Own) (text : List ℕ) (lines : List (List ℕ)) (b piece rest held new : List ℕ) (f : FeedState) (out out' : List ℕ)
-    → IsDone own text lines b piece rest held f out out' → has_feed rest ≡ false → new ≡ held ++ rest
-    → IsPieceRead own (text ++ piece) (packing lines b out) (packer new f out') None
-all_done own text lines b piece rest held new f out out' d none e =
+pub all_done : (own : Own) (text : List ℕ) (p : Packing) (piece rest new : List ℕ) (q : Packer) → IsDone own text p piece rest q → has_feed rest ≡ false
+    → new ≡ q.line ++ rest → IsPieceRead own (text ++ piece) p (packer new q.judge q.out) None
+all_done own text p piece rest new q d none e =
     let all : (text ++ d.done) ++ rest ≡ text ++ piece = append_assoc text d.done rest ∙ ap (λ (l : List ℕ). text ++ l) (sym d.parts) in
-    let P : List ℕ → Type 0 = λ t. IsReadSo own t (lines ++ d.more) (b ++ d.named) new f in
-    (d.more, d.named, d.grown, subst P all (read_rest own (text ++ d.done) rest (lines ++ d.more) (b ++ d.named) held new f d.read none e))
+    let P : List ℕ → Type 0 = λ t. IsReadSo own t (p.lines ++ d.more) (p.bytes ++ d.named) new q.judge in (
+      d.more,
+      d.named,
+      d.grown,
+      subst P all (read_rest own (text ++ d.done) rest (p.lines ++ d.more) (p.bytes ++ d.named) q.line new q.judge d.read none e),
+    )
 
-pub line_done : (own : Own) (text : List ℕ) (lines : List (List ℕ)) (b piece rest held front following line : List ℕ) (f g : FeedState) (out mid out' : List ℕ)
-    → (d : IsDone own text lines b piece rest held f out mid) → has_feed front ≡ false → rest ≡ front ++ 10 ∷ following → line ≡ held ++ front
-    → IsLineEnd own (packing (lines ++ d.more) (b ++ d.named) mid) line g out' None → IsDone own text lines b piece following [] g out out'
-line_done own text lines b piece rest held front following line f g out mid out' d none cut e end =
-    let P : List ℕ → Type 0 = λ t. IsReadSo own t ((lines ++ d.more) ++ line ∷ []) ((b ++ d.named) ++ end.0) [] g in
-    let Q : List (List ℕ) → Type 0 = λ l. IsReadSo own (text ++ (d.done ++ (front ++ 10 ∷ []))) l ((b ++ d.named) ++ end.0) [] g in
-    let R : List ℕ → Type 0 = λ l. IsReadSo own (text ++ (d.done ++ (front ++ 10 ∷ []))) (lines ++ (d.more ++ line ∷ [])) l [] g in
+-- The packer stood at `old` where a line of the piece ended; `rest` is its last part `front`, the line feed, and `following`. The answer to the line is
+-- `answer`, and the packer stands at `new`.
+pub record IsLineRead (own : Own) (text : List ℕ) (p : Packing) (piece following : List ℕ) (new : Packer) (answer : Option ScriptReason) : Type 0 where
+  pub old : Packer
+  pub rest : List ℕ
+  pub front : List ℕ
+  pub before : IsDone own text p piece rest old
+  pub cut : rest ≡ front ++ 10 ∷ following
+  pub none : has_feed front ≡ false
+  pub end : IsLineEnd own (packing (p.lines ++ before.more) (p.bytes ++ before.named) old.out) (old.line ++ front) new.judge new.out answer
+
+pub line_done : (own : Own) (text : List ℕ) (p : Packing) (piece following : List ℕ) (new : Packer) → new.line ≡ []
+    → IsLineRead own text p piece following new None → IsDone own text p piece following new
+line_done own text p piece following new nothing l =
+    let d = l.before in
+    let line = l.old.line ++ l.front in
+    let up_to = l.front ++ 10 ∷ [] in
+    let P : List ℕ → Type 0 = λ t. IsReadSo own t ((p.lines ++ d.more) ++ line ∷ []) ((p.bytes ++ d.named) ++ l.end.0) [] new.judge in
+    let Q : List (List ℕ) → Type 0 = λ z. IsReadSo own (text ++ (d.done ++ up_to)) z ((p.bytes ++ d.named) ++ l.end.0) [] new.judge in
+    let R : List ℕ → Type 0 = λ z. IsReadSo own (text ++ (d.done ++ up_to)) (p.lines ++ (d.more ++ line ∷ [])) z [] new.judge in
+    let S : List ℕ → Type 0 = λ z. IsReadSo own (text ++ (d.done ++ up_to)) (p.lines ++ (d.more ++ line ∷ [])) (p.bytes ++ (d.named ++ l.end.0)) z new.judge in
     record {
-      done = d.done ++ (front ++ 10 ∷ []);
-      parts = d.parts ∙ ap (λ (l : List ℕ). d.done ++ l) (cut ∙ sym (append_assoc front (10 ∷ []) following))
-          ∙ sym (append_assoc d.done (front ++ 10 ∷ []) following);
+      done = d.done ++ up_to;
+      parts = d.parts ∙ ap (λ (z : List ℕ). d.done ++ z) (l.cut ∙ sym (append_assoc l.front (10 ∷ []) following)) ∙ sym (append_assoc d.done up_to following);
       more = d.more ++ line ∷ [];
-      named = d.named ++ end.0;
-      grown = end.1 ∙ ap (λ (l : List ℕ). l ++ end.0) d.grown ∙ append_assoc out d.named end.0;
-      read = subst R (append_assoc b d.named end.0) (subst Q (append_assoc lines d.more (line ∷ [])) (subst P (append_assoc text d.done (front ++ 10 ∷ []))
-          (read_line own (text ++ d.done) front line end.0 (lines ++ d.more) (b ++ d.named) held f g d.read none e end.2)));
+      named = d.named ++ l.end.0;
+      grown = l.end.1 ∙ ap (λ (z : List ℕ). z ++ l.end.0) d.grown ∙ append_assoc p.out d.named l.end.0;
+      read = subst S (sym nothing) (subst R (append_assoc p.bytes d.named l.end.0) (subst Q (append_assoc p.lines d.more (line ∷ [])) (subst P
+          (append_assoc text d.done up_to) (read_line own (text ++ d.done) l.front line l.end.0 (p.lines ++ d.more) (p.bytes ++ d.named) l.old.line l.old.judge
+          new.judge d.read l.none refl l.end.2))));
     }
 
-pub line_stops : (own : Own) (text : List ℕ) (lines : List (List ℕ)) (b piece rest held front following line new : List ℕ) (f g : FeedState)
-    (out mid out' : List ℕ) (reason : ScriptReason) → (d : IsDone own text lines b piece rest held f out mid) → has_feed front ≡ false → rest ≡ front
-    ++ 10 ∷ following
-    → line ≡ held ++ front → out' ≡ mid → number_of g.stage ≡ length (lines ++ d.more) → IsRefused own (lines ++ d.more) (b ++ d.named) line reason
-    → IsPieceRead own (text ++ piece) (packing lines b out) (packer new g out') (Some reason)
-line_stops own text lines b piece rest held front following line new f g out mid out' reason d none cut e same count r =
-    let stop = stops_at own (text ++ d.done) front following line (lines ++ d.more) (b ++ d.named) held f (number_of g.stage) reason d.read none e count r in
-    let all : (text ++ d.done) ++ (front ++ 10 ∷ following) ≡ text ++ piece = append_assoc text d.done (front ++ 10 ∷ following)
-    ∙ ap (λ (l : List ℕ). text ++ l) (ap (λ (l : List ℕ). d.done ++ l) (sym cut) ∙ sym d.parts) in
+pub line_stops : (own : Own) (text : List ℕ) (p : Packing) (piece following : List ℕ) (new : Packer) (reason : ScriptReason)
+    → IsLineRead own text p piece following new (Some reason) → IsPieceRead own (text ++ piece) p new (Some reason)
+line_stops own text p piece following new reason l =
+    let d = l.before in
+    let number = number_of new.judge.stage in
+    let stop = stops_at own (text ++ d.done) l.front following (l.old.line ++ l.front) (p.lines ++ d.more) (p.bytes ++ d.named) l.old.line l.old.judge number
+    reason d.read l.none refl l.end.1 l.end.2 in
+    let all : (text ++ d.done) ++ (l.front ++ 10 ∷ following) ≡ text ++ piece = append_assoc text d.done (l.front ++ 10 ∷ following)
+    ∙ ap (λ (z : List ℕ). text ++ z) (ap (λ (z : List ℕ). d.done ++ z) (sym l.cut) ∙ sym d.parts) in
     let P : List ℕ → Type 0 = λ t. AreLines t stop.0 in
-    let Q : List ℕ → Type 0 = λ t. IsEndedLine own.limit t (number_of g.stage + 1) in
-    (d.named, same ∙ d.grown, (stop.0, subst P all stop.1, stop.2), subst Q all stop.3)
+    let Q : List ℕ → Type 0 = λ t. IsEndedLine own.limit t (number + 1) in
+    (d.named, l.end.0 ∙ d.grown, (stop.0, subst P all stop.1, stop.2), subst Q all stop.3)
 
-pub rest_stops : (own : Own) (text : List ℕ) (lines : List (List ℕ)) (b piece rest held line new : List ℕ) (f : FeedState) (out out' : List ℕ)
-    (reason : ScriptReason) → (d : IsDone own text lines b piece rest held f out out') → has_feed rest ≡ false
-    → line ≡ held ++ rest → 2 * own.limit + 256 < length line → IsRefused own (lines ++ d.more) (b ++ d.named) line reason
-    → IsPieceRead own (text ++ piece) (packing lines b out) (packer new f out') (Some reason)
-rest_stops own text lines b piece rest held line new f out out' reason d none e long r =
-    let stop = stops_in own (text ++ d.done) rest line (lines ++ d.more) (b ++ d.named) held f (number_of f.stage) reason d.read none e
-    (omega (arith, long)) d.read.packed.count r in
-    let split = (read_rest own (text ++ d.done) rest (lines ++ d.more) (b ++ d.named) held line f d.read none e).split in
+-- the line isn't ended yet, and is too long
+pub rest_stops : (own : Own) (text : List ℕ) (p : Packing) (piece rest new : List ℕ) (q : Packer) → IsDone own text p piece rest q → has_feed rest ≡ false
+    → 2 * own.limit + 256 < length (q.line ++ rest) → IsPieceRead own (text ++ piece) p (packer new q.judge q.out) (Some Syntax)
+rest_stops own text p piece rest new q d none long =
+    let line = q.line ++ rest in
+    let number = number_of q.judge.stage in
+    let refused = too_long own (p.lines ++ d.more) (p.bytes ++ d.named) line q.judge d.read.packed long in
+    let stop = stops_in own (text ++ d.done) rest line (p.lines ++ d.more) (p.bytes ++ d.named) q.line q.judge number Syntax d.read none refl
+    (omega (arith, long)) d.read.packed.count refused in
+    let split = (read_rest own (text ++ d.done) rest (p.lines ++ d.more) (p.bytes ++ d.named) q.line line q.judge d.read none refl).split in
     let all : (text ++ d.done) ++ rest ≡ text ++ piece = append_assoc text d.done rest ∙ ap (λ (l : List ℕ). text ++ l) (sym d.parts) in
     let P : List ℕ → Type 0 = λ t. AreLines t stop.0 in
-    let Q : List ℕ → Type 0 = λ t. IsEndedLine own.limit t (number_of f.stage + 1) in
-    (d.named, d.grown, (stop.0, subst P all stop.1, stop.2), subst Q all (lines ++ d.more, line, split, inr (omega (arith, d.read.packed.count), long)))
+    let Q : List ℕ → Type 0 = λ t. IsEndedLine own.limit t (number + 1) in
+    (d.named, d.grown, (stop.0, subst P all stop.1, stop.2), subst Q all (p.lines ++ d.more, line, split, inr (omega (arith, d.read.packed.count), long)))
 
 -- ---- the end of a script
 

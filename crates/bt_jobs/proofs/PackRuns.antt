@@ -16,42 +16,42 @@ use Rattle.bt_text.specs.declared.ended.ScriptReason.{ScriptReason}
 use Rattle.bt_text.specs.declared.ended.ToolFault.{ToolFault}
 use Rattle.bt_jobs.specs.Packs.{ended_lines, with_last, AreLines, AreTaken, IsPacked, empty, stopped, accepted, IsEndedLine, IsTimely, AreTakenTo}
 use Rattle.bt_jobs.specs.Packs.{AreFrontLines, IsPackRun}
-use Rattle.bt_jobs.specs.PackSteps.{packing, packer, IsReadSo, IsPieceRead}
-use Rattle.bt_io.specs.Seen.{Devices, EndRead, AppendsPrefix}
+use Rattle.bt_jobs.specs.PackSteps.{Packer, packing, IsReadSo, IsPieceRead}
+use Rattle.bt_io.specs.Seen.{SourceSeen, Devices, devices, EndRead, AppendsPrefix}
 use Rattle.bt_jobs.specs.Printed.{IsWrittenOut}
 use Rattle.bt_jobs.proofs.Packing.{taken_so_far}
 use Rattle.bt_jobs.proofs.PackText.{ended_before, split_of}
 use Rattle.bt_jobs.proofs.Printing.{front_after, all_is_front}
 
--- what was read so far, and written of it
-pub record IsRun (own : Own) (left left' held held' : Option (List ℕ)) (line : List ℕ) (f : FeedState) : Type 0 where
+-- From `before` to `after` the text was read: the lines, which are taken, and `line`, the first part of the next. What the lines name is written.
+pub record IsRun (own : Own) (before after : Devices) (line : List ℕ) (f : FeedState) : Type 0 where
   pub text : List ℕ
   pub lines : List (List ℕ)
   pub bytes : List ℕ
-  pub consumed : Consumes left left' text
-  pub written : Appends held held' bytes
+  pub consumed : Consumes before.source.left after.source.left text
+  pub written : Appends before.target.held after.target.held bytes
   pub read : IsReadSo own text lines bytes line f
 
-pub run_starts : (own : Own) (left held : Option (List ℕ)) (line : List ℕ) (f : FeedState) → own.limit ≤ 1048576 → line ≡ [] → f
-    ≡ record { stage = stage.Handshake own; held = []; refused = None } → IsRun own left left held held line f
-run_starts own left held line f le none e =
+pub run_starts : (own : Own) (before : Devices) (line : List ℕ) (f : FeedState) → own.limit ≤ 1048576 → line ≡ [] → f
+    ≡ record { stage = stage.Handshake own; held = []; refused = None } → IsRun own before before line f
+run_starts own before line f le none e =
     let P : FeedState → Type 0 = λ s. IsReadSo own [] [] [] [] s in
     let Q : List ℕ → Type 0 = λ l. IsReadSo own [] [] [] l f in
     record {
       text = [];
       lines = [];
       bytes = [];
-      consumed = Consumes-nil left;
-      written = Appends-nil held;
+      consumed = Consumes-nil before.source.left;
+      written = Appends-nil before.target.held;
       read = subst Q (sym none) (subst P (sym e) (record {
         split = record { parts = refl; whole = tt; last = refl };
         packed = record { named = refl; items = []; comes = λ later v k. k; empty = refl; first = refl; count = refl; limit = refl; bound = le };
       }));
     }
 
-pub run_taken : (own : Own) (left left' held held' : Option (List ℕ)) (line : List ℕ) (f : FeedState) → IsRun own left left' held held' line f
-    → AreTakenTo own left left'
-run_taken own left left' held held' line f r =
+pub run_taken : (own : Own) (before after : Devices) (line : List ℕ) (f : FeedState) → IsRun own before after line f
+    → AreTakenTo own before.source.left after.source.left
+run_taken own before after line f r =
     let s = taken_so_far own r.lines r.bytes f r.read.packed in
     (r.text, r.lines, line, r.consumed, r.read.split, r.bytes, s.0, s.1.taken)
 
@@ -102,42 +102,56 @@ fails own before after text more lines b line f e read h front =
       ),
     )
 
-pub run_fails : (own : Own) (left : Option (List ℕ)) (before after : Devices) (line more : List ℕ) (f : FeedState) (e : ToolFault)
-    → IsRun own before.source.left left before.target.held after.target.held line f → Consumes left after.source.left more
-    → IsPackRun own before after (Err e)
-run_fails own left before after line more f e r read =
-    fails own before after r.text more r.lines r.bytes line f e (Consumes-trans before.source.left left after.source.left r.text more r.consumed read) r.read
-    (all_is_front before.target.held after.target.held r.bytes r.written)
+-- `more` was read after the run, and nothing is written
+pub run_fails : (own : Own) (before mid : Devices) (source : SourceSeen) (line more : List ℕ) (f : FeedState) (e : ToolFault)
+    → IsRun own before mid line f → Consumes mid.source.left source.left more → IsPackRun own before (devices source mid.target) (Err e)
+run_fails own before mid source line more f e r read =
+    fails own before (devices source mid.target) r.text more r.lines r.bytes line f e
+    (Consumes-trans before.source.left mid.source.left source.left r.text more r.consumed read) r.read
+    (all_is_front before.target.held mid.target.held r.bytes r.written)
 
 -- ---- a turn
 
-out_is : (out out' x : List ℕ) → out ≡ [] → out' ≡ out ++ x → out' ≡ x
+pub out_is : (out out' x : List ℕ) → out ≡ [] → out' ≡ out ++ x → out' ≡ x
 out_is out out' x none e = e ∙ ap (λ (l : List ℕ). l ++ x) none
 
-pub run_more : (own : Own) (left left' left'' held held' held'' : Option (List ℕ)) (line new piece out out' : List ℕ) (f g : FeedState)
-    → (r : IsRun own left left' held held' line f) → Consumes left' left'' piece → out ≡ []
-    → IsPieceRead own (r.text ++ piece) (packing r.lines r.bytes out) (packer new g out') None → Appends held' held'' out' → IsRun own left left'' held
-    held'' new g
-run_more own left left' left'' held held' held'' line new piece out out' f g r read none p written = record {
-  text = r.text ++ piece;
-  lines = r.lines ++ p.0;
-  bytes = r.bytes ++ p.1;
-  consumed = Consumes-trans left left' left'' r.text piece r.consumed read;
-  written = Appends-trans held held' held'' r.bytes p.1 r.written (subst (Appends held' held'') (out_is out out' p.1 none p.2) written);
-  read = p.3;
-}
+-- A piece more was read after a run to `mid`, and the packer stands at `next`: what its `out` holds is to be written.
+pub record IsPieceMore (own : Own) (before mid : Devices) (source : SourceSeen) (out : List ℕ) (next : Packer) : Type 0 where
+  pub line : List ℕ
+  pub judge : FeedState
+  pub run : IsRun own before mid line judge
+  pub piece : List ℕ
+  pub consumed : Consumes mid.source.left source.left piece
+  pub empty : out ≡ []
+  pub read : IsPieceRead own (run.text ++ piece) (packing run.lines run.bytes out) next None
+
+pub run_more : (own : Own) (before mid after : Devices) (out : List ℕ) (next : Packer) → IsPieceMore own before mid after.source out next
+    → Appends mid.target.held after.target.held next.out → IsRun own before after next.line next.judge
+run_more own before mid after out next m written =
+    let r = m.run in
+    let p = m.read in
+    record {
+      text = r.text ++ m.piece;
+      lines = r.lines ++ p.0;
+      bytes = r.bytes ++ p.1;
+      consumed = Consumes-trans before.source.left mid.source.left after.source.left r.text m.piece r.consumed m.consumed;
+      written = Appends-trans before.target.held mid.target.held after.target.held r.bytes p.1 r.written
+          (subst (Appends mid.target.held after.target.held) (out_is out next.out p.1 m.empty p.2) written);
+      read = p.3;
+    }
 
 -- the text of the piece can't be written
-pub more_fails : (own : Own) (left held : Option (List ℕ)) (before after : Devices) (line new piece out out' : List ℕ) (f g : FeedState)
-    (e : ToolFault) → (r : IsRun own before.source.left left before.target.held held line f) → Consumes left after.source.left piece → out ≡ []
-    → IsPieceRead own (r.text ++ piece) (packing r.lines r.bytes out) (packer new g out') None → AppendsPrefix held after.target.held out'
-    → IsPackRun own before after (Err e)
-more_fails own left held before after line new piece out out' f g e r read none p front =
+pub more_fails : (own : Own) (before mid after : Devices) (out : List ℕ) (next : Packer) (e : ToolFault)
+    → IsPieceMore own before mid after.source out next → AppendsPrefix mid.target.held after.target.held next.out → IsPackRun own before after (Err e)
+more_fails own before mid after out next e m front =
+    let r = m.run in
+    let p = m.read in
     let P : List ℕ → Type 0 = λ t. Consumes before.source.left after.source.left t in
-    fails own before after (r.text ++ piece) [] (r.lines ++ p.0) (r.bytes ++ p.1) new g e
-    (subst P (sym (append-nil (r.text ++ piece))) (Consumes-trans before.source.left left after.source.left r.text piece r.consumed read)) p.3
-    (front_after before.target.held held after.target.held r.bytes p.1 r.written
-    (subst (AppendsPrefix held after.target.held) (out_is out out' p.1 none p.2) front))
+    fails own before after (r.text ++ m.piece) [] (r.lines ++ p.0) (r.bytes ++ p.1) next.line next.judge e
+    (subst P (sym (append-nil (r.text ++ m.piece)))
+    (Consumes-trans before.source.left mid.source.left after.source.left r.text m.piece r.consumed m.consumed)) p.3
+    (front_after before.target.held mid.target.held after.target.held r.bytes p.1 r.written
+    (subst (AppendsPrefix mid.target.held after.target.held) (out_is out next.out p.1 m.empty p.2) front))
 
 -- ---- the end
 
@@ -163,39 +177,51 @@ taken_of E own text all b e le lines timely (accepted v some taken is) =
     let T : PackEnd → Type 0 = λ z. IsTimely own.limit text E z in
     (all, v, inr (subst T is timely, lines), taken)
 
-pub packed_run : (own : Own) (held : Option (List ℕ)) (before after : Devices) (text b x out out' : List ℕ) (all : List (List ℕ)) (e : PackEnd)
-    (r : Result PackEnd ToolFault) → own.limit ≤ 1048576 → Consumes before.source.left after.source.left text → AreLines text all
-    → IsPacked own all (b ++ x) e → IsTimely own.limit text (EndRead before.source after.source) e → Appends before.target.held held b → out ≡ []
-    → out' ≡ out ++ x → IsWrittenOut e out' held after.target.held r → IsPackRun own before after r
-packed_run own held before after text b x out out' all e (Ok d) le read lines packed timely first none grown written =
-    let P : PackEnd → Type 0 = λ z. IsPacked own all (b ++ x) z in
-    let T : PackEnd → Type 0 = λ z. IsTimely own.limit text (EndRead before.source after.source) z in (
-      text,
-      all,
-      read,
-      lines,
+-- The text was read, and packing `all`, its lines, ends as `e`. The bytes that they name are `first`, which is written to `held`, and `last`; writing
+-- `last` answers `r`.
+pub record IsRunEnd (own : Own) (before after : Devices) (e : PackEnd) (r : Result PackEnd ToolFault) : Type 0 where
+  pub limit : own.limit ≤ 1048576
+  pub text : List ℕ
+  pub all : List (List ℕ)
+  pub first : List ℕ
+  pub last : List ℕ
+  pub held : Option (List ℕ)
+  pub consumed : Consumes before.source.left after.source.left text
+  pub lines : AreLines text all
+  pub packed : IsPacked own all (first ++ last) e
+  pub timely : IsTimely own.limit text (EndRead before.source after.source) e
+  pub before_last : Appends before.target.held held first
+  pub written : IsWrittenOut e last held after.target.held r
+
+pub packed_run : (own : Own) (before after : Devices) (e : PackEnd) (r : Result PackEnd ToolFault) → IsRunEnd own before after e r
+    → IsPackRun own before after r
+packed_run own before after e (Ok d) h =
+    let P : PackEnd → Type 0 = λ z. IsPacked own h.all (h.first ++ h.last) z in
+    let T : PackEnd → Type 0 = λ z. IsTimely own.limit h.text (EndRead before.source after.source) z in (
+      h.text,
+      h.all,
+      h.consumed,
+      h.lines,
       (
-        b ++ x,
-        subst P (sym written.0) packed,
-        Appends-trans before.target.held held after.target.held b x first
-            (subst (Appends held after.target.held) (out_is out out' x none grown) written.1),
-        subst T (sym written.0) timely,
+        h.first ++ h.last,
+        subst P (sym h.written.0) h.packed,
+        Appends-trans before.target.held h.held after.target.held h.first h.last h.before_last h.written.1,
+        subst T (sym h.written.0) h.timely,
       ),
     )
-packed_run own held before after text b x out out' all e (Err fault) le read lines packed timely first none grown front =
-    let t = taken_of (EndRead before.source after.source) own text all (b ++ x) e le lines timely packed in (
-      text,
-      all,
-      read,
-      lines,
+packed_run own before after e (Err fault) h =
+    let t = taken_of (EndRead before.source after.source) own h.text h.all (h.first ++ h.last) e h.limit h.lines h.timely h.packed in (
+      h.text,
+      h.all,
+      h.consumed,
+      h.lines,
       (
         t.0,
-        b ++ x,
+        h.first ++ h.last,
         t.1,
         t.2,
         t.3,
-        front_after before.target.held held after.target.held b x first
-            (subst (AppendsPrefix held after.target.held) (out_is out out' x none grown) front),
+        front_after before.target.held h.held after.target.held h.first h.last h.before_last h.written,
       ),
     )
 

@@ -1,15 +1,15 @@
 -- How lines are packed.
-use Rattle.std.proofs.Common.{◌≡◌, ℕ, ◌+◌, ◌*◌, ◌^◌, ◌<◌, ◌≤◌, leb, eqb, Bool, true, false, List, [], ◌∷◌, ◌++◌, length, take, drop, Option, Some, None, Ok}
-use Rattle.std.proofs.Common.{Err, refl, sym, ap, subst, ◌∙◌, arith, inl, inr}
+use Rattle.std.proofs.Common.{◌≡◌, ◌⊎◌, ℕ, ◌+◌, ◌*◌, ◌^◌, ◌<◌, ◌≤◌, leb, eqb, Bool, true, false, List, [], ◌∷◌, ◌++◌, length, take, drop, Option, Some, None}
+use Rattle.std.proofs.Common.{Result, Ok, Err, refl, sym, ap, subst, ◌∙◌, arith, inl, inr}
 use Rattle.std.specs.Prelude.{codes}
-use Rattle.std.proofs.lemmas.Bool.{cases_lt, ne_eqb}
+use Rattle.std.proofs.lemmas.Bool.{ne_eqb}
 use Rattle.std.proofs.lemmas.List.{append-nil, append_assoc, length-append, length-take-le, take_all, take-append-drop}
 use Rattle.hex.proofs.HexLemmas.{decode_of-ok}
 use Rattle.bt_wire.specs.declared.context.Own.{Own}
+use Rattle.bt_wire.specs.declared.fault.Reason.{Reason as WireReason}
 use Rattle.bt_wire.specs.declared.fault.Refused.{Refused as Fault}
 use Rattle.bt_wire.specs.declared.item.Item.{Item}
 use Rattle.bt_wire.specs.declared.item.Item.TheVariants as items
-use Rattle.bt_wire.specs.declared.item.Refusal.{Refusal}
 use Rattle.bt_wire.specs.Faults.{window_length}
 use Rattle.bt_wire.specs.Messages.{Fields, none, index, part, block, port, field, extended, payload, spell_fields, spell}
 use Rattle.bt_wire.specs.Numbers.{be32}
@@ -20,19 +20,17 @@ use Rattle.bt_wire.proofs.NumberLaws.{number32-be32}
 use Rattle.bt_wire.proofs.SpellLaws.{fits, spelled_first}
 use Rattle.bt_feed.specs.declared.stage.Stage.{Stage}
 use Rattle.bt_feed.specs.declared.stage.Stage.TheVariants as stage
-use Rattle.bt_feed.specs.Answers.{IsAnswer, after}
-use Rattle.bt_feed.specs.Feeds.{FeedState, taken, pushed}
-use Rattle.bt_feed.specs.Stages.{start_of, number_of, limit_of, early, is_all, is_closed, HasFault, refusal_of, IsItem, stage_after, Comes, stopped}
+use Rattle.bt_feed.specs.Feeds.{FeedState}
+use Rattle.bt_feed.specs.Stages.{start_of, number_of, limit_of, early, is_all, is_closed, refusal_of, IsItem, stage_after, Comes, stopped}
 use Rattle.bt_feed.specs.Transcripts.{with_items}
-use Rattle.bt_feed.proofs.Closed.{closed_all, open_by, fault_more}
+use Rattle.bt_feed.proofs.Closed.{closed_all, open_by}
 use Rattle.bt_feed.proofs.Coming.{item_comes, fault_comes, open_comes}
 use Rattle.bt_feed.proofs.Found.{early_has}
-use Rattle.bt_feed.proofs.Reading.{taken_least}
 use Rattle.bt_text.specs.Lines.{spaced}
 use Rattle.bt_text.specs.Script.{IsLine, IsAnswer as IsReadAs, Said, keep_alive, known, unknown, Says, said_bytes, framed_by, SaysFields, SaysSpaced, SaysBytes}
 use Rattle.bt_text.specs.declared.ended.ScriptReason.TheVariants.{Reason}
 use Rattle.bt_jobs.specs.Packs.{IsNamed, AreNamed, AreTaken, is_none}
-use Rattle.bt_jobs.specs.PackSteps.{is_hand, IsPackedTo, packing, IsLineEnd}
+use Rattle.bt_jobs.specs.PackSteps.{IsLonger, IsJudged, is_hand, IsPackedTo, Packing, IsLineEnd}
 
 -- ---- lines that are named
 
@@ -180,21 +178,15 @@ front_is_all (stage.Message c o s i) x n (items.Handshake h) lt all le p = absur
 
 -- ---- a line
 
--- a push of a line's bytes closes the item
-pub closes : (f p : FeedState) (text x : List ℕ) (first : Bool) → length text < 2 ^ 31 → is_hand f.stage ≡ first → f.held ≡ [] → IsLine first text x → p
-    ≡ pushed f x → is_closed p.stage p.held ≡ true
-closes f p text x first lt is empty line e =
-    let there = line_there f.stage first text x lt is line in
-    let least = taken_least (is_closed f.stage) f.held x in
-    let n = taken f x in
-    let held : p.held ≡ take n x = ap (λ (s : FeedState). s.held) e ∙ ap (λ (l : List ℕ). l ++ take n x) empty in
-    let at : is_closed f.stage (take n x) ≡ true =
-    elim (cases_lt n (length x)) [
-      | inl less ↦ sym (ap (λ (l : List ℕ). is_closed f.stage (l ++ take n x)) empty) ∙ least.stops less
-      | inr le ↦ ap (is_closed f.stage) (take_all n x le) ∙ closed_all f.stage x (there_all f.stage x there)
-    ] in
-    let P : Stage → Type 0 = λ t. is_closed t p.held ≡ true in
-    subst P (sym (ap (λ (s : FeedState). s.stage) e)) (ap (is_closed f.stage) held ∙ at)
+-- the bytes of a line are no less and no more than an item
+pub closes : (t : Stage) (text x : List ℕ) (first : Bool) → limit_of t < 2 ^ 32 → length text < 2 ^ 31 → is_hand t ≡ first → IsLine first text x
+    → (is_closed t x ≡ false) ⊎ IsLonger t x → ⊥
+closes t text x first le lt is line (inl opens) =
+    let shut = closed_all t x (there_all t x (line_there t first text x lt is line)) in
+    let no : true ≡ false = sym shut ∙ opens in cc
+closes t text x first le lt is line (inr h) =
+    let whole = front_is_all t x h.0 h.2.0 le (line_there t first text x lt is line) (omega (arith, h.1)) h.2.1 in
+    omega (arith, h.1, ap length whole, length-take-le h.0 x (omega (arith, h.1)))
 
 after_number : (t : Stage) (b : List ℕ) (size : ℕ) (item : Item) → IsItem t b item → (number_of (stage_after t size item) ≡ number_of t + 1)
     × (is_hand (stage_after t size item) ≡ false) × (limit_of (stage_after t size item) ≡ limit_of t)
@@ -203,74 +195,63 @@ after_number (stage.Message c o s n) b size (items.Message m) p = (refl, refl, r
 after_number (stage.Handshake own) b size (items.Message m) p = absurd p
 after_number (stage.Message c o s n) b size (items.Handshake h) p = absurd p
 
-pub line_taken : (own : Own) (lines : List (List ℕ)) (b text x out out' : List ℕ) (f p g : FeedState) (item : Item) → length text < 2 ^ 31
-    → IsNamed own.limit (is_none lines) text x → IsPackedTo own lines b f → p ≡ pushed f x
-    → IsAnswer p (Ok (Some item)) → g ≡ after p (Ok (Some item)) → out' ≡ out ++ x → IsLineEnd own (packing lines b out) text g out' None
-line_taken own lines b text x out out' f p g item lt named h e is after_is grown =
-    let n = taken f x in
-    let least = taken_least (is_closed f.stage) f.held x in
-    let stage_is : p.stage ≡ f.stage = ap (λ (s : FeedState). s.stage) e in
-    let held : p.held ≡ take n x = ap (λ (s : FeedState). s.held) e ∙ ap (λ (l : List ℕ). l ++ take n x) h.empty in
-    let there = line_there f.stage (is_none lines) text x lt h.first named.line in
-    let P : Stage → Type 0 = λ t. IsItem t p.held item in
-    let Q : List ℕ → Type 0 = λ l. IsItem f.stage l item in
-    let here : IsItem f.stage (take n x) item = subst Q held (subst P stage_is is) in
-    let whole : take n x ≡ x = front_is_all f.stage x n item (omega (arith, h.limit, h.bound)) there least.within here in
-    let item_is : IsItem f.stage x item = subst Q whole here in
-    let size : length p.held ≡ length x = ap length (held ∙ whole) in
-    let g_is : g ≡ record { stage = stage_after f.stage (length x) item; held = []; refused = p.refused } =
-    after_is ∙ ap (λ (k : ℕ). record { stage = stage_after p.stage k item; held = []; refused = p.refused }) size
-    ∙ ap (λ (t : Stage). record { stage = stage_after t (length x) item; held = []; refused = p.refused }) stage_is in
-    let steps = after_number f.stage x (length x) item item_is in
-    let R : FeedState → Type 0 = λ s. IsPackedTo own (lines ++ text ∷ []) (b ++ x) s in (
+-- The line `text` names `bytes`, and the judge, which was `f` and is `g`, answers `r` to them.
+pub record IsLineJudged (own : Own) (p : Packing) (text : List ℕ) (f g : FeedState) (r : Result Bool WireReason) : Type 0 where
+  pub bytes : List ℕ
+  pub named : IsNamed own.limit (is_none p.lines) text bytes
+  pub packed : IsPackedTo own p.lines p.bytes f
+  pub judged : IsJudged f bytes g r
+
+pub line_taken : (own : Own) (p : Packing) (text out : List ℕ) (f g : FeedState) → (j : IsLineJudged own p text f g (Ok true)) → out ≡ p.out ++ j.bytes
+    → IsLineEnd own p text g out None
+line_taken own p text out f g j grown =
+    let h = j.packed in
+    let x = j.bytes in
+    let is = j.judged in
+    let item = is.0 in
+    let steps = after_number f.stage x (length x) item is.1 in
+    let R : FeedState → Type 0 = λ s. IsPackedTo own (p.lines ++ text ∷ []) (p.bytes ++ x) s in (
       x,
       grown,
-      subst R (sym g_is) (record {
-        named = named_more own.limit lines b text x h.named named;
+      subst R (sym is.2) (record {
+        named = named_more own.limit p.lines p.bytes text x h.named j.named;
         items = h.items ++ (start_of f.stage, item) ∷ [];
         comes = λ later v k.
             let S : List ℕ → Type 0 = λ l. IsVerdict own l (with_items (h.items ++ (start_of f.stage, item) ∷ []) v) in
-            let T : List (ℕ × Item) → Type 0 = λ l. IsVerdict own (b ++ (x ++ later)) (record v { items = l }) in
-            subst S (sym (append_assoc b x later)) (subst T (sym (append_assoc h.items ((start_of f.stage, item) ∷ []) v.items))
-            (h.comes (x ++ later) (with_item (start_of f.stage) item v) (item_comes f.stage x later item v (omega (arith, h.limit, h.bound)) item_is k)));
+            let T : List (ℕ × Item) → Type 0 = λ l. IsVerdict own (p.bytes ++ (x ++ later)) (record v { items = l }) in
+            subst S (sym (append_assoc p.bytes x later)) (subst T (sym (append_assoc h.items ((start_of f.stage, item) ∷ []) v.items))
+            (h.comes (x ++ later) (with_item (start_of f.stage) item v) (item_comes f.stage x later item v (omega (arith, h.limit, h.bound)) is.1 k)));
         empty = refl;
-        first = steps.1 ∙ sym (some_lines lines text);
-        count = steps.0 ∙ omega (arith, h.count, length-append lines (text ∷ []));
+        first = steps.1 ∙ sym (some_lines p.lines text);
+        count = steps.0 ∙ omega (arith, h.count, length-append p.lines (text ∷ []));
         limit = steps.2 ∙ h.limit;
         bound = h.bound;
       }),
     )
 
-pub line_refused : (own : Own) (lines : List (List ℕ)) (b text x out out' : List ℕ) (f p g : FeedState) (r : Refusal)
-    → IsNamed own.limit (is_none lines) text x → IsPackedTo own lines b f → p ≡ pushed f x
-    → IsAnswer p (Err r) → g ≡ after p (Err r) → out' ≡ out → IsLineEnd own (packing lines b out) text g out' (Some (Reason r.reason))
-line_refused own lines b text x out out' f p g r named h e is after_is same =
-    let same_number : number_of g.stage ≡ length lines = ap (λ (s : FeedState). number_of s.stage) (after_is) ∙ ap (λ (s : FeedState). number_of s.stage) e
-    ∙ h.count in
-    let n = taken f x in
-    let stage_is : p.stage ≡ f.stage = ap (λ (s : FeedState). s.stage) e in
-    let held : p.held ≡ take n x = ap (λ (s : FeedState). s.held) e ∙ ap (λ (l : List ℕ). l ++ take n x) h.empty in
-    let P : Stage → Type 0 = λ t. HasFault t p.held is.0 in
-    let Q : List ℕ → Type 0 = λ l. HasFault f.stage l is.0 in
-    let here : HasFault f.stage (take n x) is.0 = subst Q held (subst P stage_is is.1) in
-    let all : HasFault f.stage x is.0 = subst Q (take-append-drop n x) (fault_more f.stage (take n x) (drop n x) is.0 here) in
-    let last = stopped f.stage x (Some (refusal_of f.stage is.0)) in
-    let so_far = taken_so_far own lines b f h in
-    let reason : r.reason ≡ (refusal_of f.stage is.0).reason = ap (λ (q : Refusal). q.reason) is.2 in (
-      same,
-      same_number,
+pub line_refused : (own : Own) (p : Packing) (text : List ℕ) (f g : FeedState) (reason : WireReason) → IsLineJudged own p text f g (Err reason)
+    → IsLineEnd own p text g p.out (Some (Reason reason))
+line_refused own p text f g reason j =
+    let h = j.packed in
+    let x = j.bytes in
+    let is = j.judged in
+    let fault = is.1 in
+    let last = stopped f.stage x (Some (refusal_of f.stage fault.0)) in
+    let so_far = taken_so_far own p.lines p.bytes f h in (
+      refl,
+      ap (λ (s : FeedState). number_of s.stage) is.0 ∙ h.count,
       (
         so_far.0,
         so_far.1.taken,
         (
           x,
-          named,
+          j.named,
           with_items h.items last,
-          h.comes x last (fault_comes f.stage x is.0 (omega (arith, h.limit, h.bound)) all),
+          h.comes x last (fault_comes f.stage x fault.0 (omega (arith, h.limit, h.bound)) fault.1),
           append-nil h.items ∙ sym so_far.1.items,
-          refusal_of f.stage is.0,
+          refusal_of f.stage fault.0,
           refl,
-          reason,
+          fault.2,
         ),
       ),
     )

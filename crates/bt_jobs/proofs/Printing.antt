@@ -35,6 +35,7 @@ use Rattle.bt_text.specs.Lines.{ended_by, ended_as, verdict_line}
 use Rattle.bt_io.specs.Seen.{SourceSeen, TargetSeen, Devices, devices, EndRead, AppendsPrefix}
 use Rattle.bt_jobs.specs.Printed.{texts, text_of, form_of, text_in, Prints, IsWrittenOut, IsFlushed, MayBeTold, IsEndOfReads, IsAllWritten, IsFrontWritten}
 use Rattle.bt_jobs.specs.Printed.{Writing, nothing, items_in, prefixed, IsWritten, IsUnrefused, IsReadTo, so_far, turn_end, IsTurn, verdict_of, all_in}
+use Rattle.bt_jobs.specs.Printed.{SoFar, TurnEnd}
 
 -- ---- the text of items
 
@@ -83,15 +84,24 @@ refused_by None m r e = absurd cc
 
 -- ---- a turn
 
--- what is known where a pump has stopped, but for a sink's fault
-pub record IsPumpedOn (own : Own) (b : List ℕ) (xs : List (ℕ × Item)) (f g : FeedState) (left left' : Option (List ℕ)) (p q : Printer) (bytes lost : List ℕ)
-    (ys : List (ℕ × Item)) (v : Outcome) : Type 0 where
+-- A pump into the printer `p` has stopped, but for a sink's fault. It read `bytes`, which went to the feed, and `lost`; it gave `given` to the printer,
+-- which is `printer` then, and the outcome is `now`. Writing the printer's text, for `answer`, answers `r`.
+pub record IsTurned (own : Own) (so : SoFar) (f : FeedState) (before : Devices) (p : Printer) (end : TurnEnd) (answer : Option Ended)
+    (r : Result (Option Ended) ToolFault) : Type 0 where
+  pub one : VerdictIsOne
   pub limit : own.limit < 2 ^ 32
-  pub before : IsReadTo own b xs f
-  pub consumed : Consumes left left' (bytes ++ lost)
+  pub read : IsReadTo own so.bytes so.items f
   pub empty : text_in p ≡ []
-  pub took : Took Prints p ys q
-  pub pumped : IsPumped f bytes lost ys g v
+  pub bytes : List ℕ
+  pub lost : List ℕ
+  pub given : List (ℕ × Item)
+  pub printer : Printer
+  pub now : Outcome
+  pub consumed : Consumes before.source.left end.devices.source.left (bytes ++ lost)
+  pub took : Took Prints p given printer
+  pub pumped : IsPumped f bytes lost given end.feed now
+  pub flushed : IsFlushed answer (text_in printer) before.target.held end.devices.target.held (text_in end.printer) r
+  pub form_is : form_of end.printer ≡ form_of printer
 
 -- the outcome of what was read
 pub total : (own : Own) (b : List ℕ) (xs : List (ℕ × Item)) (f g : FeedState) (bytes lost : List ℕ) (ys : List (ℕ × Item)) (v : Outcome)
@@ -117,16 +127,16 @@ text_of_turn : (own : Own) (p q : Printer) (ys : List (ℕ × Item)) → text_in
 text_of_turn own p q ys empty took = (printed p q ys took).1 own ∙ ap (λ (t : List ℕ). t ++ texts (form_of p) own ys) empty
 
 -- at a fault a prefix of the text of these items is written in this turn
-front_of_turn : (own : Own) (b : List ℕ) (xs : List (ℕ × Item)) (f g : FeedState) (left left' held held' : Option (List ℕ)) (p q : Printer)
-    (bytes lost : List ℕ) (ys : List (ℕ × Item)) (v : Outcome) → VerdictIsOne
-    → IsPumpedOn own b xs f g left left' p q bytes lost ys v → AppendsPrefix held held' (text_in q)
-    → (w : Outcome) → IsVerdict own (b ++ (bytes ++ lost)) w → (zs : List (ℕ × Item)) × (w.items ≡ xs ++ zs)
-    × AppendsPrefix held held' (texts (form_of p) own zs)
-front_of_turn own b xs f g left left' held held' p q bytes lost ys v one h front w is =
-    let same : w ≡ with_items xs v = one own (b ++ (bytes ++ lost)) w (with_items xs v) h.limit is (total own b xs f g bytes lost ys v h.before h.pumped) in (
-      ys,
-      ap (λ (u : Outcome). u.items) same ∙ ap (λ (l : List (ℕ × Item)). xs ++ l) h.pumped.items,
-      subst (AppendsPrefix held held') (text_of_turn own p q ys h.empty h.took) front,
+front_of_turn : (own : Own) (so : SoFar) (f : FeedState) (before : Devices) (p : Printer) (end : TurnEnd) (answer : Option Ended) (e : ToolFault)
+    → (h : IsTurned own so f before p end answer (Err e)) → (w : Outcome) → IsVerdict own (so.bytes ++ (h.bytes ++ h.lost)) w
+    → (zs : List (ℕ × Item)) × (w.items ≡ so.items ++ zs)
+    × AppendsPrefix before.target.held end.devices.target.held (texts (form_of p) own zs)
+front_of_turn own so f before p end answer e h w is =
+    let all = total own so.bytes so.items f end.feed h.bytes h.lost h.given h.now h.read h.pumped in
+    let same : w ≡ with_items so.items h.now = h.one own (so.bytes ++ (h.bytes ++ h.lost)) w (with_items so.items h.now) h.limit is all in (
+      h.given,
+      ap (λ (u : Outcome). u.items) same ∙ ap (λ (l : List (ℕ × Item)). so.items ++ l) h.pumped.items,
+      subst (AppendsPrefix before.target.held end.devices.target.held) (text_of_turn own p h.printer h.given h.empty h.took) h.flushed,
     )
 
 -- where nothing of a turn is written
@@ -137,44 +147,43 @@ nothing_of_turn own form b more xs f held lt stay r w is =
     let s = stay own b more r.now w lt r.is is in
     (s.0, s.1 ∙ ap (λ (l : List (ℕ × Item)). l ++ s.0) r.items, ([], texts form own s.0, refl, Appends-nil held))
 
-pub goes_on : (own : Own) (b : List ℕ) (xs : List (ℕ × Item)) (f g : FeedState) (before after : Devices) (p q s : Printer)
-    (bytes lost : List ℕ) (ys : List (ℕ × Item)) (v : Outcome) (r : Result (Option Ended) ToolFault)
-    → VerdictIsOne → IsPumpedOn own b xs f g before.source.left after.source.left p q bytes lost ys v → lost ≡ [] → v.refusal ≡ None
-    → IsFlushed {T = Option Ended} None (text_in q) before.target.held after.target.held (text_in s) r → form_of s ≡ form_of q
-    → IsTurn (form_of p) own (so_far b xs) before (turn_end after g s) r
-goes_on own b xs f g before after p q s bytes lost ys v (Ok None) one h none free flushed form = (
-  bytes ++ lost,
-  ys,
+pub goes_on : (own : Own) (so : SoFar) (f : FeedState) (before : Devices) (p : Printer) (end : TurnEnd) (r : Result (Option Ended) ToolFault)
+    → (h : IsTurned own so f before p end None r) → h.lost ≡ [] → h.now.refusal ≡ None → IsTurn (form_of p) own so before end r
+goes_on own so f before p end (Ok None) h none free = (
+  h.bytes ++ h.lost,
+  h.given,
   h.consumed,
-  subst (Appends before.target.held after.target.held) (text_of_turn own p q ys h.empty h.took) flushed.1,
-  read_more own b xs f g bytes lost ys v none free h.before h.pumped,
-  form ∙ (printed p q ys h.took).0,
-  flushed.2,
+  subst (Appends before.target.held end.devices.target.held) (text_of_turn own p h.printer h.given h.empty h.took) h.flushed.1,
+  read_more own so.bytes so.items f end.feed h.bytes h.lost h.given h.now none free h.read h.pumped,
+  h.form_is ∙ (printed p h.printer h.given h.took).0,
+  h.flushed.2,
 )
-goes_on own b xs f g before after p q s bytes lost ys v (Ok (Some e)) one h none free flushed form = absurd (let no : Some e ≡ None = flushed.0 in cc)
-goes_on own b xs f g before after p q s bytes lost ys v (Err e) one h none free flushed form =
-    (bytes ++ lost, h.consumed, front_of_turn own b xs f g _ _ before.target.held after.target.held p q bytes lost ys v one h flushed)
+goes_on own so f before p end (Ok (Some e)) h none free = absurd (let no : Some e ≡ None = h.flushed.0 in cc)
+goes_on own so f before p end (Err e) h none free = (h.bytes ++ h.lost, h.consumed, front_of_turn own so f before p end None e h)
 
-pub ends : (own : Own) (b : List ℕ) (xs : List (ℕ × Item)) (f g : FeedState) (before after : Devices) (p q s : Printer)
-    (bytes lost : List ℕ) (ys : List (ℕ × Item)) (v : Outcome) (ended : Ended) (r : Result (Option Ended) ToolFault)
-    → VerdictIsOne → IsPumpedOn own b xs f g before.source.left after.source.left p q bytes lost ys v → ended ≡ ended_as v (v.start + length v.tail)
-    → IsFlushed (Some ended) (text_in q) before.target.held after.target.held (text_in s) r → form_of s ≡ form_of q
-    → IsTurn (form_of p) own (so_far b xs) before (turn_end after g s) r
-ends own b xs f g before after p q s bytes lost ys v ended (Ok (Some e)) one h is flushed form =
-    let all = total own b xs f g bytes lost ys v h.before h.pumped in
-    let same : e ≡ ended = let some : Some e ≡ Some ended = flushed.0 in cc in
-    let size : v.start + length v.tail ≡ length (b ++ (bytes ++ lost)) = verdict_length own (b ++ (bytes ++ lost)) (with_items xs v) all in (
-      bytes ++ lost,
-      ys,
+pub ends : (own : Own) (so : SoFar) (f : FeedState) (before : Devices) (p : Printer) (end : TurnEnd) (ended : Ended) (r : Result (Option Ended) ToolFault)
+    → (h : IsTurned own so f before p end (Some ended) r) → ended ≡ ended_as h.now (h.now.start + length h.now.tail)
+    → IsTurn (form_of p) own so before end r
+ends own so f before p end ended (Ok (Some e)) h is =
+    let read = so.bytes ++ (h.bytes ++ h.lost) in
+    let all = total own so.bytes so.items f end.feed h.bytes h.lost h.given h.now h.read h.pumped in
+    let same : e ≡ ended = let some : Some e ≡ Some ended = h.flushed.0 in cc in
+    let size : h.now.start + length h.now.tail ≡ length read = verdict_length own read (with_items so.items h.now) all in (
+      h.bytes ++ h.lost,
+      h.given,
       h.consumed,
-      subst (Appends before.target.held after.target.held) (text_of_turn own p q ys h.empty h.took) flushed.1,
-      (with_items xs v, all, ap (λ (l : List (ℕ × Item)). xs ++ l) h.pumped.items, same ∙ is ∙ ap (λ (n : ℕ). ended_as v n) size),
-      form ∙ (printed p q ys h.took).0,
-      flushed.2,
+      subst (Appends before.target.held end.devices.target.held) (text_of_turn own p h.printer h.given h.empty h.took) h.flushed.1,
+      (
+        with_items so.items h.now,
+        all,
+        ap (λ (l : List (ℕ × Item)). so.items ++ l) h.pumped.items,
+        same ∙ is ∙ ap (λ (n : ℕ). ended_as h.now n) size,
+      ),
+      h.form_is ∙ (printed p h.printer h.given h.took).0,
+      h.flushed.2,
     )
-ends own b xs f g before after p q s bytes lost ys v ended (Ok None) one h is flushed form = absurd (let no : None ≡ Some ended = flushed.0 in cc)
-ends own b xs f g before after p q s bytes lost ys v ended (Err e) one h is flushed form =
-    (bytes ++ lost, h.consumed, front_of_turn own b xs f g _ _ before.target.held after.target.held p q bytes lost ys v one h flushed)
+ends own so f before p end ended (Ok None) h is = absurd (let no : None ≡ Some ended = h.flushed.0 in cc)
+ends own so f before p end ended (Err e) h is = (h.bytes ++ h.lost, h.consumed, front_of_turn own so f before p end (Some ended) e h)
 
 pub is_accepted : (v : Outcome) (g : FeedState) (number messages n : ℕ) → verdict_at_end v ≡ Ok n → v.number ≡ number_of g.stage → number
     ≡ number_of g.stage → messages ≡ number - 1 → Accepted messages n ≡ ended_as v (v.start + length v.tail)

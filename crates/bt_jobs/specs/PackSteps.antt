@@ -1,22 +1,44 @@
 -- For private contracts alone: how far a script is packed.
-use Rattle.std.specs.Prelude.{◌≡◌, ℕ, ◌+◌, ◌*◌, ◌≤◌, ◌<◌, Bool, true, false, List, [], ◌∷◌, ◌++◌, length, Option, Some, None}
+use Rattle.std.specs.Prelude.{◌≡◌, ◌⊎◌, ℕ, ◌+◌, ◌*◌, ◌^◌, ◌≤◌, ◌<◌, Bool, true, false, List, [], ◌∷◌, ◌++◌, length, take, Option, Some, None, Result, Ok, Err}
 use Rattle.bt_feed.specs.declared.stage.Stage.{Stage}
 use Rattle.bt_feed.specs.declared.stage.Stage.TheVariants as stage
-use Rattle.bt_feed.specs.Feeds.{FeedState}
-use Rattle.bt_feed.specs.Stages.{number_of, limit_of, Comes}
+use Rattle.bt_feed.specs.Feeds.{FeedState, waiting}
+use Rattle.bt_feed.specs.Stages.{start_of, number_of, limit_of, is_closed, HasFault, IsItem, stage_after, Comes}
 use Rattle.bt_feed.specs.Transcripts.{with_items}
 use Rattle.bt_wire.specs.declared.context.Own.{Own}
+use Rattle.bt_wire.specs.declared.fault.Reason.{Reason}
+use Rattle.bt_wire.specs.declared.fault.Refused.{Refused as Fault}
 use Rattle.bt_wire.specs.declared.item.Item.{Item}
 use Rattle.bt_wire.specs.Streams.{Outcome, IsVerdict}
 use Rattle.bt_text.specs.declared.ended.ScriptReason.{ScriptReason}
 use Rattle.bt_jobs.specs.Packs.{IsSplit, IsEndedLine, AreLines, AreNamed, AreTaken, IsNotTaken, IsStop, IsPacked, is_none}
 use Rattle.bt_text.specs.declared.ended.PackEnd.{PackEnd}
 
+-- ---- whole items
+
+-- what is known of a stream whose items are taken one at a time has its numbers in these ranges
+pub record IsWithin (t : Stage) : Type 0 where
+  pub limit : limit_of t ≤ 1048576
+  pub start : start_of t ≤ 2 ^ 62 + 1048580
+  pub number : number_of t ≤ start_of t + 1
+
+-- the bytes begin with an item, and go on after it
+abbrev pub IsLonger : Stage → List ℕ → Type 0
+IsLonger t b = (n : ℕ) × (n < length b) × ((item : Item) × IsItem t (take n b) item)
+
+-- the bytes are an item, which is taken; or they are less or more than one; or they have a fault, which is refused for this reason
+abbrev pub IsJudged : FeedState → List ℕ → FeedState → Result Bool Reason → Type 0
+IsJudged j b k (Ok true) = (item : Item) × IsItem j.stage b item × (k ≡ waiting (stage_after j.stage (length b) item))
+IsJudged j b k (Ok false) = (k ≡ j) × ((is_closed j.stage b ≡ false) ⊎ IsLonger j.stage b)
+IsJudged j b k (Err reason) = (k ≡ j) × ((f : Fault) × HasFault j.stage b f × (reason ≡ f.reason))
+
+-- ---- lines
+
 abbrev pub is_hand : Stage → Bool
 is_hand (stage.Handshake own) = true
 is_hand (stage.Message c o s n) = false
 
--- the lines are taken, they name b, and the feed waits for what follows their items
+-- the lines are taken, they name b, and the judge f waits for what follows their items
 pub record IsPackedTo (own : Own) (lines : List (List ℕ)) (b : List ℕ) (f : FeedState) : Type 0 where
   pub named : AreNamed own.limit true lines b
   pub items : List (ℕ × Item)
@@ -36,14 +58,14 @@ pub record Packing : Type 0 where
 abbrev pub packing : List (List ℕ) → List ℕ → List ℕ → Packing
 packing lines bytes out = record { lines = lines; bytes = bytes; out = out }
 
--- what a packer has: the first part of the present line, its feed, and the bytes that aren't written yet
+-- what a packer has: the first part of the present line, its judge, and the bytes that aren't written yet
 pub record Packer : Type 0 where
   pub line : List ℕ
-  pub feed : FeedState
+  pub judge : FeedState
   pub out : List ℕ
 
 abbrev pub packer : List ℕ → FeedState → List ℕ → Packer
-packer line feed out = record { line = line; feed = feed; out = out }
+packer line judge out = record { line = line; judge = judge; out = out }
 
 -- a line is taken, and its bytes are put after the others; or it isn't
 abbrev pub IsLineEnd : Own → Packing → List ℕ → FeedState → List ℕ → Option ScriptReason → Type 0
@@ -59,10 +81,10 @@ pub record IsReadSo (own : Own) (text : List ℕ) (lines : List (List ℕ)) (b h
 -- a piece of the script is read, or it has a line that isn't taken
 abbrev pub IsPieceRead : Own → List ℕ → Packing → Packer → Option ScriptReason → Type 0
 IsPieceRead own text p q None = (more : List (List ℕ)) × (x : List ℕ) × (q.out ≡ p.out ++ x)
-    × IsReadSo own text (p.lines ++ more) (p.bytes ++ x) q.line q.feed
+    × IsReadSo own text (p.lines ++ more) (p.bytes ++ x) q.line q.judge
 IsPieceRead own text p q (Some reason) = (x : List ℕ) × (q.out ≡ p.out ++ x)
-    × ((all : List (List ℕ)) × AreLines text all × IsStop own all (p.bytes ++ x) (number_of q.feed.stage + 1) reason)
-    × IsEndedLine own.limit text (number_of q.feed.stage + 1)
+    × ((all : List (List ℕ)) × AreLines text all × IsStop own all (p.bytes ++ x) (number_of q.judge.stage + 1) reason)
+    × IsEndedLine own.limit text (number_of q.judge.stage + 1)
 
 -- the bytes follow those of the present line, or it is too long with them and as it was
 abbrev pub IsHeld : ℕ → List ℕ → List ℕ → List ℕ → Bool → Type 0

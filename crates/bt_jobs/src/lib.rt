@@ -4,6 +4,7 @@
 #![tactic(auto)]
 
 mod check;
+mod judge;
 mod other;
 pub mod output;
 mod pack;

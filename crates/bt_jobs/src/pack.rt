@@ -6,9 +6,10 @@ ghost use Rattle.bt_feed.specs.Stages.{number_of, start_of};
 ghost use Rattle.bt_jobs.specs.Packs.{IsPackRun, AreTakenTo};
 ghost use Rattle.bt_jobs.specs.PackSteps.{IsPackedTo, packing, packer, IsLineEnd, IsReadSo, IsPieceRead, IsHeld, IsScriptEnd};
 
+use crate::judge::Judge;
 use crate::output::write_out;
 use crate::show::MAX_READS;
-use bt_feed::{Feed, Source, Target, refusal_in};
+use bt_feed::{Source, Target};
 use bt_text::ended::{PackEnd, ScriptReason, ToolFault};
 use bt_text::script::reading::read_line;
 use bt_text::splitting::split_line;
@@ -17,31 +18,30 @@ use std::alloc::{AllocError, Global};
 
 /// Takes a line, which stands without its line feed, and adds the bytes that it names; or returns why it isn't taken.
 fn take_line(
-    feed: &mut Feed,
+    judge: &mut Judge,
     text: &[u8],
     limit: u32,
     bytes: &mut Vec<u8>,
     out: &mut Vec<u8>,
 ) -> Result<Option<ScriptReason>, AllocError>
     requires { limit ≤ 1048576 }
-    ensures { IfOk result (λ answer. (own : Receiver) (lines : List (List ℕ)) (b : List ℕ) → limit ≡ own.limit → IsPackedTo own lines b feed.old
-        → IsLineEnd own (packing lines b out.old.items) text.now feed.new out.new.items answer) }
+    ensures { IfOk result (λ answer. (own : Receiver) (lines : List (List ℕ)) (b : List ℕ) → limit ≡ own.limit → IsPackedTo own lines b judge.old
+        → IsLineEnd own (packing lines b out.old.items) text.now judge.new out.new.items answer) }
 {
-    let first = feed.number() == 0;
+    let first = judge.number() == 0;
     if text.len() as u64 > 2 * u64::from(limit) + 256 {
         return Ok(Some(ScriptReason::Syntax));
     }
     if !read_line(text, first, bytes)? {
         return Ok(Some(ScriptReason::Syntax));
     }
-    feed.push(bytes.as_slice());
-    match feed.take() {
-        Ok(Some(_)) => {
+    match judge.take_item(bytes.as_slice()) {
+        Ok(true) => {
             out.extend_from_slice(bytes.as_slice())?;
             Ok(None)
         }
-        Ok(None) => Ok(Some(ScriptReason::Syntax)),
-        Err(error) => Ok(Some(ScriptReason::Reason(refusal_in(error).reason))),
+        Ok(false) => Ok(Some(ScriptReason::Syntax)),
+        Err(reason) => Ok(Some(ScriptReason::Reason(reason))),
     }
 }
 
@@ -62,7 +62,7 @@ fn hold(line: &mut Vec<u8>, more: &[u8], limit: u32) -> Result<bool, AllocError>
 /// `text` is the line's last part. `line` holds its first part if an earlier read cut the line, and is empty otherwise. The
 /// line is copied only if it was cut. After a line is taken, `line` is empty.
 fn take_ended(
-    feed: &mut Feed,
+    judge: &mut Judge,
     line: &mut Vec<u8>,
     text: &[u8],
     limit: u32,
@@ -70,24 +70,24 @@ fn take_ended(
     out: &mut Vec<u8>,
 ) -> Result<Option<ScriptReason>, AllocError>
     requires { limit ≤ 1048576 }
-    ensures taken { IfOk result (λ answer. (own : Receiver) (lines : List (List ℕ)) (b : List ℕ) → limit ≡ own.limit → IsPackedTo own lines b feed.old
-        → IsLineEnd own (packing lines b out.old.items) (line.old.items ++ text.now) feed.new out.new.items answer) }
+    ensures taken { IfOk result (λ answer. (own : Receiver) (lines : List (List ℕ)) (b : List ℕ) → limit ≡ own.limit → IsPackedTo own lines b judge.old
+        → IsLineEnd own (packing lines b out.old.items) (line.old.items ++ text.now) judge.new out.new.items answer) }
     ensures empty { IfOk result (λ answer. answer ≡ None → line.new.items ≡ []) }
 {
     if line.as_slice().is_empty() {
-        return take_line(feed, text, limit, bytes, out);
+        return take_line(judge, text, limit, bytes, out);
     }
     if !hold(line, text, limit)? {
         return Ok(Some(ScriptReason::Syntax));
     }
-    let answer = take_line(feed, line.as_slice(), limit, bytes, out)?;
+    let answer = take_line(judge, line.as_slice(), limit, bytes, out)?;
     line.clear();
     Ok(answer)
 }
 
 /// Takes the lines that a piece of the script ends, and keeps the first part of the next; or returns why one isn't taken.
 fn take_piece(
-    feed: &mut Feed,
+    judge: &mut Judge,
     line: &mut Vec<u8>,
     piece: &[u8],
     limit: u32,
@@ -95,8 +95,8 @@ fn take_piece(
     out: &mut Vec<u8>,
 ) -> Result<Option<ScriptReason>, AllocError>
     requires { limit ≤ 1048576 }
-    ensures { IfOk result (λ answer. (own : Receiver) (text : List ℕ) (lines : List (List ℕ)) (b : List ℕ) → limit ≡ own.limit → IsReadSo own text lines b line.old.items feed.old
-        → IsPieceRead own (text ++ piece.now) (packing lines b out.old.items) (packer line.new.items feed.new out.new.items) answer) }
+    ensures { IfOk result (λ answer. (own : Receiver) (text : List ℕ) (lines : List (List ℕ)) (b : List ℕ) → limit ≡ own.limit → IsReadSo own text lines b line.old.items judge.old
+        → IsPieceRead own (text ++ piece.now) (packing lines b out.old.items) (packer line.new.items judge.new out.new.items) answer) }
 {
     let mut rest = piece;
     'lines: loop {
@@ -108,7 +108,7 @@ fn take_piece(
                 return Ok(None);
             }
             Some((front, following)) => {
-                if let Some(reason) = take_ended(feed, line, front, limit, bytes, out)? {
+                if let Some(reason) = take_ended(judge, line, front, limit, bytes, out)? {
                     return Ok(Some(reason));
                 }
                 rest = following;
@@ -118,40 +118,40 @@ fn take_piece(
 }
 
 /// Returns the counts of the items that were taken.
-fn counts(feed: &Feed) -> PackEnd
-    ensures { result ≡ PackEnd.Accepted (number_of feed.now.stage - 1) (start_of feed.now.stage) }
+fn counts(judge: &Judge) -> PackEnd
+    ensures { result ≡ PackEnd.Accepted (number_of judge.now.stage - 1) (start_of judge.now.stage) }
 {
     PackEnd::Accepted {
-        messages: feed.number().saturating_sub(1),
-        bytes: feed.start(),
+        messages: judge.number().saturating_sub(1),
+        bytes: judge.start(),
     }
 }
 
 /// Takes the last line, which may lack its line feed, and returns how the script ends.
 fn end_script(
-    feed: &mut Feed,
+    judge: &mut Judge,
     line: &[u8],
     limit: u32,
     bytes: &mut Vec<u8>,
     out: &mut Vec<u8>,
 ) -> Result<PackEnd, AllocError>
     requires { limit ≤ 1048576 }
-    ensures { IfOk result (λ end. (own : Receiver) (text : List ℕ) (lines : List (List ℕ)) (b : List ℕ) → limit ≡ own.limit → IsReadSo own text lines b line.now feed.old
+    ensures { IfOk result (λ end. (own : Receiver) (text : List ℕ) (lines : List (List ℕ)) (b : List ℕ) → limit ≡ own.limit → IsReadSo own text lines b line.now judge.old
         → IsScriptEnd own text b out.old.items out.new.items end) }
 {
     if line.len() == 0 {
-        if feed.number() == 0 {
+        if judge.number() == 0 {
             return Ok(PackEnd::Refused {
                 line: 1,
                 reason: ScriptReason::Syntax,
             });
         }
-        return Ok(counts(feed));
+        return Ok(counts(judge));
     }
-    match take_line(feed, line, limit, bytes, out) {
-        Ok(None) => Ok(counts(feed)),
+    match take_line(judge, line, limit, bytes, out) {
+        Ok(None) => Ok(counts(judge)),
         Ok(Some(reason)) => Ok(PackEnd::Refused {
-            line: feed.number() + 1,
+            line: judge.number() + 1,
             reason,
         }),
         Err(error) => Err(error),
@@ -181,9 +181,7 @@ pub fn run_pack<R: Source, W: Target>(
         → (min ((R.seen reader.old).reads + 2 ^ 32) (2 ^ 64 - 1) ≤ (R.seen reader.new).reads) × ((R.seen reader.new).ends ≡ (R.seen reader.old).ends) }
     ensures local { result ≢ Err ToolFault.Net }
 {
-    let Ok(mut feed) = Feed::new(alloc, *own) else {
-        return Err(ToolFault::Memory);
-    };
+    let mut judge = Judge::new(*own);
     // Room for the longest line and its bytes, so that lines take no memory: `piece 0 0 `, and after it the digits of
     // limit + 123 bytes, which follow 13 others.
     let Ok(mut line) = Vec::with_capacity(alloc, 2 * own.limit as usize + 256) else {
@@ -197,14 +195,14 @@ pub fn run_pack<R: Source, W: Target>(
     for _turn in 0..MAX_READS {
         match reader.read(&mut buffer) {
             Ok(0) => {
-                match end_script(&mut feed, line.as_slice(), own.limit, &mut bytes, &mut out) {
+                match end_script(&mut judge, line.as_slice(), own.limit, &mut bytes, &mut out) {
                     Ok(end) => return write_out(writer, out.as_slice(), end),
                     Err(_) => return Err(ToolFault::Memory),
                 }
             }
             Ok(count) => {
                 match take_piece(
-                    &mut feed,
+                    &mut judge,
                     &mut line,
                     &buffer[..count],
                     own.limit,
@@ -216,7 +214,7 @@ pub fn run_pack<R: Source, W: Target>(
                         Err(fault) => return Err(fault),
                     },
                     Ok(Some(reason)) => {
-                        let line = feed.number() + 1;
+                        let line = judge.number() + 1;
                         return write_out(writer, out.as_slice(), PackEnd::Refused { line, reason });
                     }
                     Err(_) => return Err(ToolFault::Memory),

@@ -44,7 +44,7 @@ pub enum ToolFault {
     /// A growth was refused.
     #[error("memory")]
     Memory,
-    /// 4,294,967,296 reads didn't reach the end, or 1,048,576 rounds of two ends didn't.
+    /// 4,294,967,296 reads didn't reach the end, or 2,097,152 rounds of two ends didn't.
     #[error("turns")]
     Turns,
     /// A call of the wire between two ends failed, or moved nothing.

@@ -1,4 +1,5 @@
 use Rattle.std.proofs.Common.{◌≡◌, ◌≤◌, ◌+◌, ◌-◌, ◌^◌, [], min}
+use Rattle.bt_io.specs.Seen.{devices}
 use Rattle.bt_jobs.proofs.PackRuns.{IsRun}
 use Rattle.bt_jobs.proofs.pack.run_pack.Given as goal
 
@@ -11,7 +12,6 @@ invariant-loop-turn g l = record {
   ends : (g.R.Source.seen l.reader).ends ≡ (g.R.Source.seen l.initial.reader).ends;
   calm : (g.W.Target.seen l.writer).failed ≡ (g.W.Target.seen l.initial.writer).failed;
   empty : l.out.items ≡ [];
-  run : IsRun l.own (g.R.Source.seen l.initial.reader).left (g.R.Source.seen l.reader).left (g.W.Target.seen l.initial.writer).held
-      (g.W.Target.seen l.writer).held l.line.items
-      l.feed;
+  run : IsRun l.own (devices (g.R.Source.seen l.initial.reader) (g.W.Target.seen l.initial.writer))
+      (devices (g.R.Source.seen l.reader) (g.W.Target.seen l.writer)) l.line.items l.judge;
 }

@@ -1,23 +1,21 @@
-use Rattle.std.proofs.Common.{◌≡◌, ◌∙◌, ◌++◌, true, false, List, ℕ, Result, Option, Ok, Err, refl, ap, subst, sym, arith}
-use Rattle.bt_wire.specs.declared.item.Item.{Item}
-use Rattle.bt_wire.specs.declared.item.Refusal.{Refusal}
-use Rattle.bt_feed.specs.Answers.{IsAnswer, after}
-use Rattle.bt_feed.specs.Feeds.{pushed}
-use Rattle.bt_feed.specs.Stages.{is_closed}
-use Rattle.bt_feed.specs.Views.{item_of, shown}
-use Rattle.bt_jobs.specs.Packs.{IsNamed, is_none}
-use Rattle.bt_jobs.proofs.Packing.{taken_so_far, first_flag, read_as, not_read, closes, line_taken, line_refused}
+use Rattle.std.proofs.Common.{◌≡◌, ◌∙◌, ◌++◌, Bool, true, false, List, ℕ, Result, Ok, Err, refl, ap, subst, arith}
+use Rattle.bt_wire.specs.declared.fault.Reason.{Reason as WireReason}
+use Rattle.bt_jobs.specs.Packs.{is_none}
+use Rattle.bt_jobs.specs.PackSteps.{packing, IsPackedTo, IsJudged}
+use Rattle.bt_jobs.proofs.Packing.{IsLineJudged, taken_so_far, first_flag, read_as, not_read, closes, line_taken, line_refused}
+use Rattle.bt_wire.specs.declared.context.Own.{Own}
+use Rattle.bt_jobs.proofs.pack.take_line.Goals.{After-take_item}
 use Rattle.bt_jobs.proofs.pack.take_line.Goals as goal
 
 pub returns-then-text-from : goal.returns-then-text-from
 returns-then-text-from c = λ own lines b e h.
-    let so_far = taken_so_far own lines b c.args.feed.now h in
+    let so_far = taken_so_far own lines b c.args.judge.now h in
     (refl, h.count, (so_far.0, so_far.1.taken, λ x named. absurd (omega (arith, named.short, c.if-text-from.true, e))))
 
 pub returns-then-not-branch : goal.returns-then-not-branch
 returns-then-not-branch c = λ own lines b e h.
-    let so_far = taken_so_far own lines b c.args.feed.now h in
-    let flag = first_flag own lines b c.args.feed.now c.number-first.result h c.number-first.ensures.value in (
+    let so_far = taken_so_far own lines b c.args.judge.now h in
+    let flag = first_flag own lines b c.args.judge.now c.number-first.result h c.number-first.ensures.value in (
       refl,
       h.count,
       (
@@ -28,49 +26,36 @@ returns-then-not-branch c = λ own lines b e h.
       ),
     )
 
-pub returns-in_ok-extend_from_slice-in-Ok-Some : goal.returns-in_ok-extend_from_slice-in-Ok-Some
-returns-in_ok-extend_from_slice-in-Ok-Some c = λ own lines b e h.
+abbrev line_judged : (c : After-take_item) (own : Own) (lines : List (List ℕ)) (b : List ℕ) → c.args.limit ≡ own.limit → IsPackedTo own lines b c.args.judge.now
+    → (r : Result Bool WireReason) → c.take_item.result ≡ r
+    → IsLineJudged own (packing lines b c.args.out.now.items) c.args.text.now c.args.judge.now c.take_item.new.self r
+line_judged c own lines b e h r is =
     let x = c.read_line.new.bytes.items in
-    let flag = first_flag own lines b c.args.feed.now c.number-first.result h c.number-first.ensures.value in
-    let named : IsNamed own.limit (is_none lines) c.args.text.now x =
-    read_as own.limit _ (is_none lines) c.args.text.now x c.in_ok-read_line.field-0 c.if-not-branch.false flag (omega (arith, c.if-text-from.false, e))
-    c.in_ok-read_line.ensures in
-    let P : List ℕ → Type 0 = λ l. c.push.new.self ≡ pushed c.args.feed.now l in
-    let push = subst P c.as_slice.ensures.value c.push.ensures.held in
-    let A : Result (Option Item) Refusal → Type 0 = λ a. IsAnswer c.push.new.self a in
-    let item = item_of c.in-Ok-Some.field-0-0 in
-    let is = ap shown (c.in-Ok-Some.is ∙ ap Ok c.in-Ok-Some.field-0-is) in
-    line_taken own lines b c.args.text.now x c.args.out.now.items c.extend_from_slice.new.self.items c.args.feed.now c.push.new.self
-    c.take.follows.lender-at-none item (omega (arith, c.if-text-from.false, c.requires))
-    named h push (subst A is c.take.ensures.value) (c.take.follows.holds-at-none ∙ ap (after c.push.new.self) is)
-    (c.in_ok-extend_from_slice-in-Ok-Some.ensures.items ∙ ap (λ (l : List ℕ). c.args.out.now.items ++ l) c.as_slice-in-Ok-Some.ensures.value)
+    let flag = first_flag own lines b c.args.judge.now c.number-first.result h c.number-first.ensures.value in
+    let P : List ℕ → Type 0 = λ l. IsJudged c.args.judge.now l c.take_item.new.self c.take_item.result in
+    let Q : Result Bool WireReason → Type 0 = λ z. IsJudged c.args.judge.now x c.take_item.new.self z in
+    record {
+      bytes = x;
+      named = read_as own.limit _ (is_none lines) c.args.text.now x c.in_ok-read_line.field-0 c.if-not-branch.false flag
+          (omega (arith, c.if-text-from.false, e)) c.in_ok-read_line.ensures;
+      packed = h;
+      judged = subst Q is (subst P c.as_slice.ensures.value c.take_item.ensures);
+    }
 
-pub returns-in-Ok-None : goal.returns-in-Ok-None
-returns-in-Ok-None c = λ own lines b e h.
-    let x = c.read_line.new.bytes.items in
-    let flag = first_flag own lines b c.args.feed.now c.number-first.result h c.number-first.ensures.value in
-    let named : IsNamed own.limit (is_none lines) c.args.text.now x =
-    read_as own.limit _ (is_none lines) c.args.text.now x c.in_ok-read_line.field-0 c.if-not-branch.false flag (omega (arith, c.if-text-from.false, e))
-    c.in_ok-read_line.ensures in
-    let P : List ℕ → Type 0 = λ l. c.push.new.self ≡ pushed c.args.feed.now l in
-    let push = subst P c.as_slice.ensures.value c.push.ensures.held in
-    let A : Result (Option Item) Refusal → Type 0 = λ a. IsAnswer c.push.new.self a in
-    let is = ap shown (c.in-Ok-None.is ∙ ap Ok c.in-Ok-None.field-0-is) in
-    let opens : is_closed c.push.new.self.stage c.push.new.self.held ≡ false = subst A is c.take.ensures.value in
-    let shut = closes c.args.feed.now c.push.new.self c.args.text.now x (is_none lines) (omega (arith, c.if-text-from.false, c.requires)) h.first h.empty
-    named.line push in
-    absurd (let no : true ≡ false = sym shut ∙ opens in cc)
+pub returns-in_ok-extend_from_slice-in-Ok-true : goal.returns-in_ok-extend_from_slice-in-Ok-true
+returns-in_ok-extend_from_slice-in-Ok-true c = λ own lines b e h.
+    line_taken own (packing lines b c.args.out.now.items) c.args.text.now c.extend_from_slice.new.self.items c.args.judge.now c.take_item.new.self
+    (line_judged (goal.at.returns-in_ok-extend_from_slice-in-Ok-true c).After-take_item own lines b e h (Ok true) (c.in-Ok-true.is
+    ∙ ap Ok c.in-Ok-true.field-0-test))
+    (c.in_ok-extend_from_slice-in-Ok-true.ensures.items ∙ ap (λ (l : List ℕ). c.args.out.now.items ++ l) c.as_slice-in-Ok-true.ensures.value)
+
+pub returns-in-Ok-false : goal.returns-in-Ok-false
+returns-in-Ok-false c = λ own lines b e h.
+    let j = line_judged (goal.at.returns-in-Ok-false c).After-take_item own lines b e h (Ok false) (c.in-Ok-false.is ∙ ap Ok c.in-Ok-false.field-0-test) in
+    absurd (closes c.args.judge.now.stage c.args.text.now j.bytes (is_none lines) (omega (arith, h.limit, h.bound))
+    (omega (arith, c.if-text-from.false, c.requires)) h.first j.named.line j.judged.1)
 
 pub returns-in-Err : goal.returns-in-Err
 returns-in-Err c = λ own lines b e h.
-    let x = c.read_line.new.bytes.items in
-    let flag = first_flag own lines b c.args.feed.now c.number-first.result h c.number-first.ensures.value in
-    let named : IsNamed own.limit (is_none lines) c.args.text.now x =
-    read_as own.limit _ (is_none lines) c.args.text.now x c.in_ok-read_line.field-0 c.if-not-branch.false flag (omega (arith, c.if-text-from.false, e))
-    c.in_ok-read_line.ensures in
-    let P : List ℕ → Type 0 = λ l. c.push.new.self ≡ pushed c.args.feed.now l in
-    let push = subst P c.as_slice.ensures.value c.push.ensures.held in
-    let A : Result (Option Item) Refusal → Type 0 = λ a. IsAnswer c.push.new.self a in
-    let is = ap shown (c.in-Err.is ∙ ap Err c.refusal_in.ensures) in
-    line_refused own lines b c.args.text.now x c.args.out.now.items c.args.out.now.items c.args.feed.now c.push.new.self c.take.follows.lender-at-none
-    c.refusal_in.result named h push (subst A is c.take.ensures.value) (c.take.follows.holds-at-none ∙ ap (after c.push.new.self) is) refl
+    line_refused own (packing lines b c.args.out.now.items) c.args.text.now c.args.judge.now c.take_item.new.self c.in-Err.reason
+    (line_judged (goal.at.returns-in-Err c).After-take_item own lines b e h (Err c.in-Err.reason) c.in-Err.is)

@@ -1,0 +1,108 @@
+//! Judges whole items one after the other, each where it lies. `pack` calls it.
+ghost use Rattle.std.specs.Prelude.{◌≡◌, ◌≤◌, ◌<◌, ◌^◌};
+ghost use Rattle.bt_feed.specs.Feeds.{waiting};
+ghost use Rattle.bt_feed.specs.Stages.{number_of, start_of};
+ghost use Rattle.bt_jobs.specs.PackSteps.{IsJudged};
+
+use bt_feed::Stage;
+use bt_wire::{
+    Front, Opening, Order, Own, Reason, negotiate, next_of_view, read_front, read_opening,
+};
+use std::marker::Model;
+
+/// What is known of a stream whose items come one at a time.
+///
+/// Callers see it as a feed that holds nothing.
+#[derive(Drop)]
+pub struct Judge {
+    stage: Stage,
+}
+
+impl Model for Judge {
+    ghost use Rattle.bt_feed.specs.Feeds.{FeedState, waiting};
+    ghost use Rattle.bt_jobs.specs.PackSteps.{IsWithin};
+
+    ghost Value = { FeedState };
+
+    ghost view = { λ j. waiting j.stage };
+
+    ghost invariant = { λ j. IsWithin j.stage };
+}
+
+impl Judge {
+    /// Returns a judge that awaits the handshake of a stream.
+    pub fn new(own: Own) -> Judge
+        requires { own.limit ≤ 1048576 }
+        ensures { result ≡ waiting (Stage.Handshake own) }
+    {
+        Judge {
+            stage: Stage::Handshake(own),
+        }
+    }
+
+    /// Returns the number of the next item.
+    ///
+    /// It is 0 for the handshake, and k for the k-th message after it.
+    pub fn number(&self) -> u64
+        ensures value { result ≡ number_of self.now.stage }
+        ensures range { result < 2 ^ 63 }
+    {
+        self.stage.number()
+    }
+
+    /// Returns the offset at which the next item starts.
+    pub fn start(&self) -> u64
+        ensures { result ≡ start_of self.now.stage }
+    {
+        match &self.stage {
+            Stage::Handshake(_) => 0,
+            Stage::Message { start, .. } => *start,
+        }
+    }
+
+    /// Takes bytes that are one whole item, and returns whether they are.
+    ///
+    /// # Errors
+    /// The reason why the bytes are refused. They aren't taken then.
+    #[inline(always)]
+    pub fn take_item(&mut self, bytes: &[u8]) -> Result<bool, Reason>
+        ensures { IsJudged self.old bytes.now self.new result }
+    {
+        match &mut self.stage {
+            Stage::Handshake(own) => match read_opening(own, bytes) {
+                Opening::Refused(fault) => Err(fault.reason),
+                Opening::Partial => Ok(false),
+                Opening::Whole(handshake) => {
+                    if bytes.len() > 68 {
+                        return Ok(false);
+                    }
+                    self.stage = Stage::Message {
+                        context: negotiate(own, handshake.reserved),
+                        order: Order::Fresh,
+                        start: 68,
+                        number: 1,
+                    };
+                    Ok(true)
+                }
+            },
+            Stage::Message {
+                context,
+                order,
+                start,
+                number,
+            } => match read_front(context, *order, *start, bytes) {
+                Front::Refused(fault) => Err(fault.reason),
+                Front::Partial => Ok(false),
+                Front::Whole(message, size) => {
+                    if bytes.len() > size {
+                        return Ok(false);
+                    }
+                    *order = next_of_view(*order, &message);
+                    *start += size as u64;
+                    *number += 1;
+                    Ok(true)
+                }
+            },
+        }
+    }
+}
