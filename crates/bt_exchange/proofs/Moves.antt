@@ -4,7 +4,8 @@ use Rattle.std.proofs.Common.{drop, Option, Some, None, Result, Ok, Err, refl, s
 use Rattle.std.proofs.lemmas.List.{append-nil, append_assoc, take-append-drop}
 use Rattle.std.proofs.lemmas.Bool.{and_parts, leb-true}
 use Rattle.std.proofs.KnownBytes.{Consumes-nil, Consumes-trans, Consumes-kept, Appends-nil, Appends-trans, Appends-kept}
-use Rattle.std.specs.Io.KnownBytes.{Consumes, Appends}
+use Rattle.std.specs.Io.KnownBytes.{Consumes, Appends, IsAtEnd}
+use Rattle.std.specs.Prelude.{IfOk, IfSome}
 use Rattle.bt_io.specs.Counts.{one_more, counted, Grew}
 use Rattle.bt_feed.specs.Feeds.{taken}
 use Rattle.bt_feed.specs.Stages.{limit_of}
@@ -17,6 +18,7 @@ use Rattle.bt_end.specs.declared.end.TurnError.{TurnError}
 use Rattle.bt_end.specs.declared.end.TurnError.TheVariants as turn_error
 use Rattle.bt_exchange.specs.Connections.{Seen, Counts, Writes, write_counts, read_counts}
 use Rattle.bt_exchange.specs.Courses.{Course, Fills, Moment, IsMoved}
+use Rattle.bt_exchange.specs.Steps.{at_read, at_write, at_turn, after_write}
 use Rattle.bt_exchange.specs.Stops.{IsCalm, IsMade, IsAdvanced, IsStep, idle, idle_at, is_still, items_of, steps_of}
 use Rattle.bt_exchange.specs.declared.talking.Step.{Step}
 use Rattle.bt_exchange.specs.declared.talking.Step.TheVariants as step
@@ -117,13 +119,6 @@ same_coming s t e = subst (λ (o : Option (List ℕ)). Consumes s.coming o []) (
 abbrev reading : (s t : Seen) (a : HalfState) (bytes : List ℕ) → Consumes s.coming t.coming bytes → t.gone ≡ s.gone → IsMoved (moment s [] a) (moment t bytes a)
 reading s t a bytes c g = record { got = bytes; heard = []; sent = []; course = course_none a; pending = refl; reads = c; writes = same_gone s t g }
 
--- what a step answers at a read
-abbrev pub at_read : {E : Type 0} → Result (Option ℕ) E → Result Step Stop
-at_read (Ok (Some zero)) = Err stop.Closed
-at_read (Ok (Some (suc n))) = Ok step.Moved
-at_read (Ok None) = Ok step.Waited
-at_read (Err e) = Err stop.Failed
-
 -- a count that was raised
 grown : (old new : ℕ) → new ≡ one_more old → Grew old new
 grown old new e l = omega (arith, e, l)
@@ -173,32 +168,27 @@ filled {E} s t a (Ok (Some (suc n))) bytes h c = read_some E s t a (suc n) bytes
 filled {E} s t a (Ok None) bytes h c = read_none E s t a bytes h c
 filled s t a (Err e) bytes h c = read_failed s t a e bytes h c
 
-pub advanced_filled : {E : Type 0} (s t : Seen) (a : HalfState) (r r' : Result (Option ℕ) E) (before bytes : List ℕ) → length before ≡ 0 → r ≡ r'
-    → Fills s t r bytes → t.counts ≡ read_counts r 1 s.counts → IsAdvanced (moment s before a) (moment t bytes a) (at_read r')
-advanced_filled s t a r r' [] bytes z e h c =
-    let P : _ → Type 0 = λ x. IsAdvanced (moment s [] a) (moment t bytes a) (at_read x) in
-    subst P e (filled s t a r bytes h c)
-advanced_filled s t a r r' (x ∷ xs) bytes z e h c = absurd (omega (arith, z))
+-- a read, where nothing was pending
+pub record IsFilled {E : Type 0} (prompt : Bool) (s t : Seen) (a : HalfState) (before bytes : List ℕ) (r : Result (Option ℕ) E) : Type 0 where
+  pub sent : length a.outbox ≡ 0
+  pub was : length before ≡ 0
+  pub fills : Fills s t r bytes
+  pub count : IfOk r (λ o. IfSome o (λ n. length bytes ≡ n))
+  pub counts : t.counts ≡ read_counts r 1 s.counts
+  pub none : prompt ≡ true → r ≡ Ok None → IsAtEnd s.coming
 
-pub advanced_read : {E : Type 0} (s t : Seen) (a : HalfState) (r : Result (Option ℕ) E) (n : ℕ) (before bytes : List ℕ) → length before ≡ 0 → 0 < n → r
-    ≡ Ok (Some n) → Fills s t r bytes → t.counts ≡ read_counts r 1 s.counts
-    → IsAdvanced (moment s before a) (moment t bytes a) (Ok step.Moved)
-advanced_read s t a r zero before bytes z l e h c = absurd (omega (arith, l))
-advanced_read s t a r (suc n) before bytes z l e h c = advanced_filled s t a r (Ok (Some (suc n))) before bytes z e h c
+advanced_after : {E : Type 0} (s t : Seen) (a : HalfState) (r : Result (Option ℕ) E) (before bytes : List ℕ) → length before ≡ 0 → Fills s t r bytes
+    → t.counts ≡ read_counts r 1 s.counts → IsAdvanced (moment s before a) (moment t bytes a) (at_read r)
+advanced_after s t a r [] bytes z h c = filled s t a r bytes h c
+advanced_after s t a r (x ∷ xs) bytes z h c = absurd (omega (arith, z))
+
+pub advanced_filled : {E : Type 0} (prompt : Bool) (s t : Seen) (a : HalfState) (before bytes : List ℕ) (r : Result (Option ℕ) E) (result : Result Step Stop)
+    → result ≡ at_read r → IsFilled prompt s t a before bytes r → IsAdvanced (moment s before a) (moment t bytes a) result
+advanced_filled prompt s t a before bytes r result e f =
+    let P : Result Step Stop → Type 0 = λ x. IsAdvanced (moment s before a) (moment t bytes a) x in
+    subst P (sym e) (advanced_after s t a r before bytes f.was f.fills f.counts)
 
 -- ---- a write
-
--- what a step answers at a write
-abbrev pub at_write : {E : Type 0} → Result (Option ℕ) E → Result Step Stop
-at_write (Ok (Some zero)) = Err stop.Failed
-at_write (Ok (Some (suc n))) = Ok step.Moved
-at_write (Ok None) = Ok step.Waited
-at_write (Err e) = Err stop.Failed
-
--- the end after it
-abbrev pub after_write : {E : Type 0} → Result (Option ℕ) E → HalfState → HalfState
-after_write (Ok (Some n)) a = without_sent n a
-after_write other a = a
 
 abbrev unsent : (s t : Seen) (p : List ℕ) (a : HalfState) → Appends s.gone t.gone [] → t.coming ≡ s.coming → IsMoved (moment s p a) (moment t p a)
 unsent s t p a w e = record { got = []; heard = []; sent = []; course = course_none a; pending = append-nil p; reads = same_coming s t e; writes = w }
@@ -256,31 +246,25 @@ written {E} s t p a (Ok (Some (suc n))) l h c = write_some E s t p a (suc n) (om
 written {E} s t p a (Ok None) l h c = write_none E s t p a h c
 written s t p a (Err e) l h c = write_failed s t p a e h c
 
-pub advanced_written : {E : Type 0} (s t : Seen) (p bytes : List ℕ) (a b : HalfState) (r r' : Result (Option ℕ) E) → 0 < length a.outbox → bytes ≡ a.outbox
-    → r ≡ r' → b ≡ after_write r' a → Writes s t r bytes → t.counts ≡ write_counts r (length bytes) s.counts
-    → IsAdvanced (moment s p a) (moment t p b) (at_write r')
-advanced_written s t p bytes a b r r' l is e left w c =
-    let B : List ℕ → Type 0 = λ x. Writes s t r x × (t.counts ≡ write_counts r (length x) s.counts) in
-    let P : _ → Type 0 = λ x. IsAdvanced (moment s p a) (moment t p (after_write x a)) (at_write x) in
-    let Q : HalfState → Type 0 = λ x. IsAdvanced (moment s p a) (moment t p x) (at_write r') in
-    let facts = subst B is (w, c) in
-    subst Q (sym left) (subst P e (written s t p a r l facts.0 facts.1))
+-- a write of all that is to be sent
+pub record IsWritten {E : Type 0} (prompt : Bool) (s t : Seen) (bytes : List ℕ) (a b : HalfState) (r : Result (Option ℕ) E) : Type 0 where
+  pub some : 0 < length a.outbox
+  pub is : bytes ≡ a.outbox
+  pub half : b ≡ after_write r a
+  pub writes : Writes s t r bytes
+  pub counts : t.counts ≡ write_counts r (length bytes) s.counts
+  pub none : prompt ≡ true → r ≡ Ok None → bytes ≡ []
 
-pub moved_some : {E : Type 0} (s t : Seen) (p bytes : List ℕ) (a b : HalfState) (r : Result (Option ℕ) E) (n : ℕ) → 0 < n → 0 < length a.outbox → bytes
-    ≡ a.outbox → r ≡ Ok (Some n) → b ≡ without_sent n a → Writes s t r bytes
-    → t.counts ≡ write_counts r (length bytes) s.counts → IsAdvanced (moment s p a) (moment t p b) (Ok step.Moved)
-moved_some s t p bytes a b r zero m l is e left w c = absurd (omega (arith, m))
-moved_some s t p bytes a b r (suc n) m l is e left w c = advanced_written s t p bytes a b r (Ok (Some (suc n))) l is e left w c
+pub advanced_written : {E : Type 0} (prompt : Bool) (s t : Seen) (p bytes : List ℕ) (a b : HalfState) (r : Result (Option ℕ) E) (result : Result Step Stop)
+    → result ≡ at_write r → IsWritten prompt s t bytes a b r → IsAdvanced (moment s p a) (moment t p b) result
+advanced_written prompt s t p bytes a b r result e w =
+    let B : List ℕ → Type 0 = λ x. Writes s t r x × (t.counts ≡ write_counts r (length x) s.counts) in
+    let P : Result Step Stop → Type 0 = λ x. IsAdvanced (moment s p a) (moment t p b) x in
+    let Q : HalfState → Type 0 = λ x. IsAdvanced (moment s p a) (moment t p x) (at_write r) in
+    let facts = subst B w.is (w.writes, w.counts) in
+    subst P (sym e) (subst Q (sym w.half) (written s t p a r w.some facts.0 facts.1))
 
 -- ---- a turn
-
--- what a step answers at a turn
-abbrev pub at_turn : Result Turn TurnError → Result Step Stop
-at_turn (Ok Handled) = Ok step.Handled
-at_turn (Ok Idle) = Ok step.Held
-at_turn (Err (turn_error.Refused r)) = Err (stop.Refused r)
-at_turn (Err turn_error.Busy) = Ok step.Held
-at_turn (Err turn_error.Memory) = Err stop.Memory
 
 -- the feed has bytes of the piece, and a turn followed
 abbrev turning : (s : Seen) (p : List ℕ) (a c : HalfState) (n : ℕ) → Course a c (take n p) [] → IsMoved (moment s p a) (moment s (drop n p) c)
@@ -339,23 +323,33 @@ turned s p a b c n (Err turn_error.Memory) l out more e le f h busy =
     (calm_same s.counts, (h.0, subst (λ (x : HalfState). IsAnswer x.feed (Ok (Some h.0))) (sym h.3) h.1.1, h.2))
 
 -- nothing is to be sent, so the end isn't busy
-not_busy : (a b c : HalfState) (p : List ℕ) → length a.outbox ≡ 0 → b ≡ received a p → IsTurned b (Err turn_error.Busy) c → ⊥
-not_busy a b c p out f h =
-    let busy : is_busy (received a p) ≡ true = subst (λ (x : HalfState). is_busy x ≡ true) f h.0 in
-    let high : nat_le high_water (length a.outbox) ≡ true = (and_parts (is_ready (received a p).feed) (nat_le high_water (length a.outbox)) busy).1 in
+pub not_busy : (a b c : HalfState) (piece : List ℕ) (r : Result Turn TurnError) → length a.outbox ≡ 0 → b ≡ received a piece → IsTurned b r c
+    → r ≡ Err turn_error.Busy → ⊥
+not_busy a b c piece r out f h e =
+    let turned : IsTurned b (Err turn_error.Busy) c = subst (λ (x : Result Turn TurnError). IsTurned b x c) e h in
+    let busy : is_busy (received a piece) ≡ true = subst (λ (x : HalfState). is_busy x ≡ true) f turned.0 in
+    let high : nat_le high_water (length a.outbox) ≡ true =
+    (and_parts (is_ready (received a piece).feed) (nat_le high_water (length a.outbox)) busy).1 in
     omega (arith, leb-true high_water (length a.outbox) high, out)
 
-pub advanced_turned : (s : Seen) (p q piece : List ℕ) (a b c : HalfState) (r r' : Result Turn TurnError) (n : ℕ) → limit_of a.feed.stage ≤ 1048576
-    → length a.outbox ≡ 0 → 0 < length p → piece ≡ p → n ≡ taken a.feed piece → n ≤ length p → b ≡ received a piece
-    → q ≡ drop n p → r ≡ r' → IsTurned b r c → IsAdvanced (moment s p a) (moment s q c) (at_turn r')
-advanced_turned s p q piece a b c r r' n l out more is e le f rest same h =
-    let B : List ℕ → Type 0 = λ x. (n ≡ taken a.feed x) × (b ≡ received a x) in
-    let facts = subst B is (e, f) in
-    let Q : List ℕ → Type 0 = λ x. IsAdvanced (moment s p a) (moment s x c) (at_turn r') in
-    let h' : IsTurned b r' c = subst (λ (x : Result Turn TurnError). IsTurned b x c) same h in
-    subst Q (sym rest) (turned s p a b c n r' l out more facts.0 le facts.1 h'
-    (λ busy. not_busy a b c p out facts.1 (subst (λ (x : Result Turn TurnError). IsTurned b x c) busy h')))
+-- The end had nothing to send, and got pending bytes. A turn followed.
+pub record IsGiven (p q piece : List ℕ) (a b c : HalfState) (r : Result Turn TurnError) (n : ℕ) : Type 0 where
+  pub limit : limit_of a.feed.stage ≤ 1048576
+  pub sent : length a.outbox ≡ 0
+  pub some : 0 < length p
+  pub is : piece ≡ p
+  pub taken : n ≡ taken a.feed piece
+  pub within : n ≤ length piece
+  pub fed : b ≡ received a piece
+  pub rest : q ≡ drop n p
+  pub turned : IsTurned b r c
 
-pub never_busy : (a b c : HalfState) (piece : List ℕ) (r : Result Turn TurnError) → length a.outbox ≡ 0 → b ≡ received a piece → r ≡ Err turn_error.Busy
-    → IsTurned b r c → ⊥
-never_busy a b c piece r out f e h = not_busy a b c piece out f (subst (λ (x : Result Turn TurnError). IsTurned b x c) e h)
+pub advanced_turned : (s : Seen) (p q piece : List ℕ) (a b c : HalfState) (r : Result Turn TurnError) (n : ℕ) (result : Result Step Stop)
+    → result ≡ at_turn r → IsGiven p q piece a b c r n → IsAdvanced (moment s p a) (moment s q c) result
+advanced_turned s p q piece a b c r n result e g =
+    let B : List ℕ → Type 0 = λ x. (n ≡ taken a.feed x) × (n ≤ length x) × (b ≡ received a x) in
+    let facts = subst B g.is (g.taken, g.within, g.fed) in
+    let P : Result Step Stop → Type 0 = λ x. IsAdvanced (moment s p a) (moment s q c) x in
+    let Q : List ℕ → Type 0 = λ x. IsAdvanced (moment s p a) (moment s x c) (at_turn r) in
+    subst P (sym e) (subst Q (sym g.rest) (turned s p a b c n r g.limit g.sent g.some facts.0 facts.1 facts.2 g.turned
+    (not_busy a b c p r g.sent facts.2 g.turned)))

@@ -1,13 +1,14 @@
 -- What comes of an end, put together from its calls.
-use Rattle.std.proofs.Common.{◌≡◌, ◌+◌, ◌≤◌, ℕ, List, [], ◌++◌, take, Ok, Err, Result, refl, sym, subst, arith, length-append}
-use Rattle.bt_feed.specs.Feeds.{taken}
-use Rattle.bt_feed.specs.Progress.{IsFeed}
-use Rattle.bt_end.specs.Halves.{HalfState, received, without_sent, IsTurned}
-use Rattle.bt_end.specs.declared.end.Turn.{Turn}
-use Rattle.bt_end.specs.declared.end.Turn.TheVariants.{Handled, Idle}
-use Rattle.bt_end.specs.declared.end.TurnError.{TurnError}
+use Rattle.std.proofs.Common.{◌≡◌, ◌+◌, ◌≤◌, ℕ, false, [], ◌++◌, Ok, Err, Result, refl, subst, arith, length-append}
+use Rattle.bt_end.specs.Halves.{HalfState}
 use Rattle.bt_exchange.specs.Boths.{IsSide, capped}
-use Rattle.bt_exchange.proofs.Courses.{course_none, course_both, course_sent, course_round, turned_items}
+use Rattle.bt_exchange.specs.Courses.{Moment}
+use Rattle.bt_exchange.specs.Rounds.{is_turn}
+use Rattle.bt_exchange.specs.Stops.{IsAdvanced, items_of}
+use Rattle.bt_exchange.specs.declared.talking.Step.{Step}
+use Rattle.bt_exchange.specs.declared.talking.Step.TheVariants as step
+use Rattle.bt_exchange.specs.declared.talking.Stop.{Stop}
+use Rattle.bt_exchange.proofs.Courses.{course_none, course_both}
 
 pub side_none : (a : HalfState) → IsSide a a 0
 side_none a = record { heard = []; sent = []; course = course_none a; items = refl }
@@ -28,19 +29,27 @@ side_then a b c n p q = side_both a b c 0 n n p q (omega (arith, q.items))
 pub side_and : (a b c : HalfState) (n : ℕ) → IsSide a b n → IsSide b c 0 → IsSide a c n
 side_and a b c n p q = side_both a b c n 0 n p q (omega (arith, p.items))
 
-pub side_sent : (a b : HalfState) (n : ℕ) → b ≡ without_sent n a → IsSide a b 0
-side_sent a b n e =
-    let P : HalfState → Type 0 = λ x. IsSide a x 0 in
-    subst P (sym e) (record { heard = []; sent = take n a.outbox; course = course_sent a n; items = refl })
+-- a step
+pub side_step : (a b : Moment) (r : Result Step Stop) → IsAdvanced a b r → IsSide a.half b.half (items_of r)
+side_step a b r h =
+    let m = h.made.moved in
+    record { heard = m.heard; sent = m.sent; course = m.course; items = omega (arith, h.items, items_most r) }
+  where
+    items_most : (r : Result Step Stop) → items_of r ≤ 1
+    items_most (Ok step.Handled) = omega arith
+    items_most (Ok step.Moved) = omega arith
+    items_most (Ok step.Waited) = omega arith
+    items_most (Ok step.Held) = omega arith
+    items_most (Err e) = omega arith
 
-turned_most : (r : Result Turn TurnError) → turned_items r ≤ 1
-turned_most (Ok Handled) = omega arith
-turned_most (Ok Idle) = omega arith
-turned_most (Err e) = omega arith
-
--- bytes were given, and a turn followed
-pub side_given : (a b : HalfState) (bytes : List ℕ) (n : ℕ) (r : Result Turn TurnError) → IsFeed a.feed → n ≡ taken a.feed bytes
-    → IsTurned (received a bytes) r b → IsSide a b (turned_items r)
-side_given a b bytes n r f e t =
-    let c = course_round a (received a bytes) b bytes n r f.limit e refl t in
-    record { heard = take n bytes; sent = []; course = c.0; items = omega (arith, c.1, turned_most r) }
+-- a step that handled nothing
+pub side_last : (a : HalfState) (b c : Moment) (n : ℕ) (r : Result Step Stop) → is_turn r ≡ false → IsSide a b.half n → IsAdvanced b c r
+    → IsSide a c.half n
+side_last a b c n r e p h = side_and a b.half c.half n p (subst (IsSide b.half c.half) (none r e) (side_step b c r h))
+  where
+    none : (r : Result Step Stop) → is_turn r ≡ false → items_of r ≡ 0
+    none (Ok step.Handled) e = absurd cc
+    none (Ok step.Moved) e = refl
+    none (Ok step.Waited) e = refl
+    none (Ok step.Held) e = refl
+    none (Err f) e = refl

@@ -1,9 +1,11 @@
 -- Two ends over one wire, by the counts of its calls and what came of both ends.
-use Rattle.std.specs.Prelude.{◌≡◌, ℕ, ◌+◌, ◌-◌, ◌^◌, ◌≤◌, ◌==◌, ◌&&◌, min, Bool, is_some, List, length, Result, Ok, Err}
+use Rattle.std.specs.Prelude.{◌≡◌, ◌⊎◌, ℕ, ◌+◌, ◌-◌, ◌*◌, ◌^◌, ◌≤◌, ◌==◌, ◌&&◌, min, Bool, is_some, List, length, Result, Ok, Err}
 use Rattle.bt_io.specs.Counts.{Grew}
 use Rattle.bt_end.specs.Ends.{metadata_of}
 use Rattle.bt_end.specs.Halves.{HalfState}
+use Rattle.bt_exchange.specs.Connections.{Counts}
 use Rattle.bt_exchange.specs.Courses.{Course}
+use Rattle.bt_exchange.specs.Stops.{IsCalm}
 use Rattle.bt_exchange.specs.declared.both.BothError.{BothError}
 use Rattle.bt_exchange.specs.declared.both.BothError.TheVariants.{Net, Rounds, Memory}
 
@@ -15,17 +17,21 @@ capped n = min n (2 ^ 64 - 1)
 abbrev pub IsUpBy : ℕ → ℕ → ℕ → Type 0
 IsUpBy n old new = capped (old + n) ≤ new
 
--- a call failed exactly where the answer says so
-abbrev pub IsNet : {A : Type 0} → ℕ → ℕ → Result A BothError → Type 0
-IsNet old new (Ok b) = new ≡ old
-IsNet old new (Err Net) = Grew old new
-IsNet old new (Err Rounds) = new ≡ old
-IsNet old new (Err Memory) = new ≡ old
+-- the last call failed, or it gave the end
+abbrev pub HasFailed : Counts → Counts → Type 0
+HasFailed old new = (Grew old.failed new.failed × (new.ends ≡ old.ends)) ⊎ (Grew old.ends new.ends × (new.failed ≡ old.failed))
 
--- as many calls were made as rounds, where it stopped for these
-abbrev pub IsRounds : {A : Type 0} → ℕ → ℕ → ℕ → Result A BothError → Type 0
-IsRounds rounds old new (Err Rounds) = IsUpBy rounds old new
-IsRounds rounds old new other = IsUpBy 0 old new
+-- a call failed or gave the end exactly where the answer says so
+abbrev pub IsNet : {A : Type 0} → Counts → Counts → Result A BothError → Type 0
+IsNet old new (Ok b) = IsCalm old new
+IsNet old new (Err Net) = HasFailed old new
+IsNet old new (Err Rounds) = IsCalm old new
+IsNet old new (Err Memory) = IsCalm old new
+
+-- where it stopped for the rounds, each of them made two calls
+abbrev pub IsRounds : {A : Type 0} → ℕ → Counts → Counts → Result A BothError → Type 0
+IsRounds rounds old new (Err Rounds) = IsUpBy (2 * rounds) old.calls new.calls
+IsRounds rounds old new other = IsUpBy 0 old.calls new.calls
 
 -- the bytes `heard` went to an end, which reacted to n items in them, and it sent the bytes `sent`
 pub record IsSide (old new : HalfState) (n : ℕ) : Type 0 where

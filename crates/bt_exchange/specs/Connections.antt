@@ -17,6 +17,10 @@ pub record Seen : Type 0 where
   pub gone : Option (List ℕ)
   pub counts : Counts
 
+-- what the other side of a wire sees: what is left to be read at one side is what the other one sent
+abbrev pub across : Seen → Seen
+across s = record { coming = s.gone; gone = s.coming; counts = s.counts }
+
 abbrev pub read_counts : {E : Type 0} → Result (Option ℕ) E → ℕ → Counts → Counts
 read_counts (Ok (Some n)) room c = record c { calls = one_more c.calls; ends = counted ((n == 0) && nat_lt 0 room) c.ends }
 read_counts (Ok None) room c = record c { calls = one_more c.calls }

@@ -1,7 +1,7 @@
 pub mod Connections
 pub mod Courses
 pub mod Stops
-pub mod Sides
+pub mod Steps
 pub mod Boths
 pub mod Rounds
 pub mod Watches

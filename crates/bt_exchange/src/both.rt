@@ -1,28 +1,22 @@
 //! Two ends over one wire, in rounds. The command `loop` calls it.
-ghost use Rattle.std.specs.Prelude.{◌≡◌, ◌≢◌, true, ◌+◌, ◌≤◌, ◌<◌, ◌^◌, ◌-◌, ◌&&◌, ℕ, not, [], length, take, Some, OnOk, OnErr, IfOk};
-ghost use Rattle.std.specs.Io.KnownBytes.{Appends, Consumes};
-ghost use Rattle.bt_io.specs.Counts.{Grew};
-ghost use Rattle.bt_feed.specs.Feeds.{taken};
-ghost use Rattle.bt_feed.specs.Progress.{IsFeed};
-ghost use Rattle.bt_end.specs.Halves.{received, IsTurned, IsHandled};
+ghost use Rattle.std.specs.Prelude.{◌≡◌, ◌≢◌, false, not, ◌&&◌, Err, IfOk};
 ghost use Rattle.bt_exchange.specs.Boths.{IsNet, IsRounds, IsSide, IsUpBy, is_fetched as is_fetched_by};
-ghost use Rattle.bt_exchange.specs.Rounds.{IsClear, IsCarried, IsExchanged, IsRun, way_after};
-ghost use Rattle.bt_exchange.specs.Sides.{other};
+ghost use Rattle.bt_exchange.specs.Rounds.{HasRun, IsCalled, IsExchanged, ends_of, is_turn as is_turn_step, moves, stops, way_after};
+ghost use Rattle.bt_exchange.specs.Stops.{items_of};
 
-use crate::wire::{Side, Wire, WireFault};
-use bt_end::{End, Turn, TurnError};
+use crate::hearing::Hearing;
+use crate::talking::{Step, Stop, advance};
+use crate::wire::Wire;
+use bt_end::End;
 use std::alloc::Allocator;
 use thiserror::Error;
-
-/// How many bytes a round moves in a direction, at most.
-const PIECE: usize = 4_096;
 
 /// How two ends left off.
 #[derive(Clone, Copy, PartialEq, Eq, Debug)]
 pub struct Both {
     /// Whether the right one has the metadata, and nothing is to be sent.
     pub fetched: bool,
-    /// Whether one refused what came, or too much waited to be sent.
+    /// Whether one refused what came.
     pub stopped: bool,
     /// How many items the left one handled, up to 2^64 - 1.
     pub left: u64,
@@ -33,7 +27,7 @@ pub struct Both {
 /// Why two ends were stopped.
 #[derive(Clone, Copy, PartialEq, Eq, Debug, Error)]
 pub enum BothError {
-    /// A call of the wire failed, or moved nothing.
+    /// A call of the wire failed, moved nothing, or gave its end.
     #[error("net")]
     Net,
     /// As many rounds were made as may be.
@@ -43,21 +37,21 @@ pub enum BothError {
     Memory,
 }
 
-/// How far bytes got in one direction.
+/// What the call of an end did.
 #[derive(Clone, Copy, PartialEq, Eq, Debug)]
 enum Way {
-    /// Nothing was to be sent.
-    Nothing,
-    /// All that was sent was handled.
-    All,
-    /// What came is refused, or too much waits to be sent.
+    /// Nothing was to be moved.
+    Waited,
+    /// Bytes were written or read.
+    Moved,
+    /// What came is refused.
     Stopped,
 }
 
-/// What one direction of a round did.
+/// The turns and the call of an end in a round.
 #[derive(Clone, Copy, PartialEq, Eq, Debug)]
-struct Carried {
-    /// How many items the receiving end handled.
+struct Called {
+    /// How many items it handled.
     items: u64,
     way: Way,
 }
@@ -71,133 +65,118 @@ struct Exchanged {
     stopped: bool,
 }
 
-/// The other side.
-fn across(side: Side) -> Side
-    ensures { result ≡ other side }
+/// What a call did, by its last step.
+fn way_of(step: Result<Step, Stop>) -> Result<Way, BothError>
+    ensures { result ≡ way_after step }
 {
-    match side {
-        Side::Left => Side::Right,
-        Side::Right => Side::Left,
+    match step {
+        Ok(Step::Moved) => Ok(Way::Moved),
+        Ok(_) => Ok(Way::Waited),
+        Err(Stop::Refused(_)) => Ok(Way::Stopped),
+        Err(Stop::Memory) => Err(BothError::Memory),
+        Err(_) => Err(BothError::Net),
     }
 }
 
-/// Sends bytes, and says how many were taken: one at least.
-fn send<W: Wire>(wire: &mut W, from: Side, bytes: &[u8]) -> Result<usize, WireFault>
-    requires { 0 < length bytes.now }
-    ensures bound { IfOk result (λ n. (0 < n) × (n ≤ length bytes.now)) }
-    ensures bytes { IfOk result (λ n. Appends (W.on_way wire.old from) (W.on_way wire.new from) (take n bytes.now)) }
-    ensures rest { W.on_way wire.new (other from) ≡ W.on_way wire.old (other from) }
-    ensures failed { OnErr result (Grew (W.failed wire.old) (W.failed wire.new)) }
-    ensures calm { OnOk result (W.failed wire.new ≡ W.failed wire.old) }
-    ensures calls { IsUpBy 1 (W.calls wire.old) (W.calls wire.new) }
+/// Whether the step is a turn, after which the end may take another one.
+fn is_turn(step: Result<Step, Stop>) -> bool
+    ensures { result ≡ is_turn_step step }
 {
-    match wire.send(from, bytes) {
-        Ok(0) => Err(WireFault),
-        answer => answer,
+    matches!(step, Ok(Step::Handled | Step::Held))
+}
+
+/// How many items the step handled.
+fn items_in(step: Result<Step, Stop>) -> u64
+    ensures { result ≡ items_of step }
+{
+    match step {
+        Ok(Step::Handled) => 1,
+        _ => 0,
     }
 }
 
-/// Reads until the buffer is full.
-fn receive_all<W: Wire>(wire: &mut W, at: Side, into: &mut [u8]) -> Result<(), WireFault>
-    ensures bytes { OnOk result (Consumes (W.on_way wire.old (other at)) (W.on_way wire.new (other at)) into.new) }
-    ensures rest { W.on_way wire.new at ≡ W.on_way wire.old at }
-    ensures failed { OnErr result (Grew (W.failed wire.old) (W.failed wire.new)) }
-    ensures calm { OnOk result (W.failed wire.new ≡ W.failed wire.old) }
-    ensures calls { IsUpBy 0 (W.calls wire.old) (W.calls wire.new) }
-{
-    let mut filled = 0;
-    'reads: while filled < into.len() {
-        match wire.receive(at, &mut into[filled..]) {
-            Ok(0) => return Err(WireFault),
-            Ok(count) => filled += count,
-            Err(fault) => return Err(fault),
-        }
-    }
-    Ok(())
-}
-
-/// Gives an end what it may take of the bytes, and has it handle the item that it then holds.
-fn give<A: Allocator + Copy>(end: &mut End<A>, bytes: &[u8]) -> (usize, Result<Turn, TurnError>)
-    ensures taken { result.0 ≡ taken end.old.feed bytes.now }
-    ensures turned { IsTurned (received end.old bytes.now) result.1 end.new }
-    ensures in_range { result.0 ≤ length bytes.now }
-    ensures feed { IsFeed end.old.feed }
-{
-    let _ = end.outgoing();
-    let taken = end.receive(bytes);
-    (taken, end.turn())
-}
-
-/// Gives an end the bytes, and has it handle the items in them. It says how many these are, and why it stopped.
-fn give_all<A: Allocator + Copy>(end: &mut End<A>, bytes: &[u8]) -> (u64, Result<(), TurnError>)
-    ensures side { IsSide end.old end.new result.0 }
-    ensures handled { (used : ℕ) × IsHandled end.old bytes.now used result.1 end.new }
-{
-    let mut used = 0;
-    let mut items = 0u64;
-    'items: loop {
-        let (taken, turn) = give(end, &bytes[used..]);
-        used += taken;
-        match turn {
-            Ok(Turn::Handled) => items = items.saturating_add(1),
-            Ok(Turn::Idle) => return (items, Ok(())),
-            Err(error) => return (items, Err(error)),
-        }
-    }
-}
-
-/// What a direction did, by why the receiving end stopped.
-fn way_of(handled: Result<(), TurnError>) -> Result<Way, BothError>
-    ensures way { result ≡ way_after handled }
-    ensures moved { result ≢ Ok Way.Nothing }
-    ensures memory { OnErr result (result ≡ Err BothError.Memory) }
-{
-    match handled {
-        Ok(()) => Ok(Way::All),
-        Err(TurnError::Memory) => Err(BothError::Memory),
-        Err(TurnError::Refused(_)) => Ok(Way::Stopped),
-        Err(TurnError::Busy) => Ok(Way::Stopped),
-    }
-}
-
-/// Moves bytes from the sending end over the wire to the receiving one, which handles the items in them.
-fn carry<W: Wire, A: Allocator + Copy>(
+/// Takes turns while bytes wait for the end, and then makes one call of the wire.
+fn call<W: Wire, A: Allocator + Copy>(
     wire: &mut W,
-    from: Side,
-    sender: &mut End<A>,
-    receiver: &mut End<A>,
-    buffer: &mut [u8],
-) -> Result<Carried, BothError>
-    requires { length buffer.old ≡ 4096 }
-    ensures net { IsNet (W.failed wire.old) (W.failed wire.new) result }
-    ensures calls { IsUpBy 0 (W.calls wire.old) (W.calls wire.new) }
+    end: &mut End<A>,
+    hearing: &mut Hearing<A>,
+) -> Result<Called, BothError>
+    ensures net { IsNet (W.seen wire.old).counts (W.seen wire.new).counts result }
+    ensures calls { IsUpBy 0 (W.seen wire.old).counts.calls (W.seen wire.new).counts.calls }
     ensures onward { result ≢ Err BothError.Rounds }
-    ensures moved { IfOk result (λ c. (c.way ≡ Way.Nothing → length sender.old.outbox ≡ 0) × (c.way ≢ Way.Nothing → IsUpBy 1 (W.calls wire.old) (W.calls wire.new))) }
-    ensures sender { OnOk result (IsSide sender.old sender.new 0) }
-    ensures receiver { IfOk result (λ c. IsSide receiver.old receiver.new c.items) }
-    ensures carried { W.on_way wire.old from ≡ Some [] → IfOk result (λ c. (W.on_way wire.new from ≡ Some [])
-        × IsCarried c.way sender.old receiver.old sender.new receiver.new) }
-    ensures rest { OnOk result (W.on_way wire.new (other from) ≡ W.on_way wire.old (other from)) }
+    ensures made { IfOk result (λ c. c.way ≢ Way.Stopped → IsUpBy 1 (W.seen wire.old).counts.calls (W.seen wire.new).counts.calls) }
+    ensures side { IfOk result (λ c. IsSide end.old end.new c.items) }
+    ensures called { IfOk result (λ c. IsCalled c.way (record { seen = W.seen wire.old; pending = hearing.old; half = end.old })
+        (record { seen = W.seen wire.new; pending = hearing.new; half = end.new })) }
 {
-    let outgoing = sender.outgoing();
-    if outgoing.is_empty() {
-        return Ok(Carried {
-            items: 0,
-            way: Way::Nothing,
+    let mut items = 0u64;
+    'steps: loop {
+        let step = advance(wire, end, hearing);
+        if !is_turn(step) {
+            return match way_of(step) {
+                Ok(way) => Ok(Called { items, way }),
+                Err(error) => Err(error),
+            };
+        }
+        items = items.saturating_add(items_in(step));
+    }
+}
+
+/// Whether bytes were moved.
+fn is_moved(way: Way) -> bool
+    ensures { result ≡ moves way }
+{
+    matches!(way, Way::Moved)
+}
+
+/// Whether what came is refused.
+fn is_stopped(way: Way) -> bool
+    ensures { result ≡ stops way }
+{
+    matches!(way, Way::Stopped)
+}
+
+/// Makes a call at the left end, and then one at the right end.
+fn round<W: Wire, A: Allocator + Copy>(
+    wire: &mut W,
+    left: &mut End<A>,
+    at_left: &mut Hearing<A>,
+    right: &mut End<A>,
+    at_right: &mut Hearing<A>,
+) -> Result<Exchanged, BothError>
+    ensures net { IsNet (W.seen wire.old).counts (W.seen wire.new).counts result }
+    ensures calls { IsUpBy 0 (W.seen wire.old).counts.calls (W.seen wire.new).counts.calls }
+    ensures onward { result ≢ Err BothError.Rounds }
+    ensures made { IfOk result (λ r. r.stopped ≡ false → IsUpBy 2 (W.seen wire.old).counts.calls (W.seen wire.new).counts.calls) }
+    ensures left { IfOk result (λ r. IsSide left.old left.new r.left) }
+    ensures right { IfOk result (λ r. IsSide right.old right.new r.right) }
+    ensures exchanged { IfOk result (λ r. IsExchanged r.stopped r.moved (ends_of (W.seen wire.old) at_left.old at_right.old left.old right.old)
+        (ends_of (W.seen wire.new) at_left.new at_right.new left.new right.new)) }
+{
+    let there = match call(wire, left, at_left) {
+        Ok(there) => there,
+        Err(error) => return Err(error),
+    };
+    if is_stopped(there.way) {
+        return Ok(Exchanged {
+            left: there.items,
+            right: 0,
+            moved: false,
+            stopped: true,
         });
     }
-    let most = outgoing.len().min(PIECE);
-    let Ok(count) = send(wire, from, &outgoing[..most]) else {
-        return Err(BothError::Net);
+    wire.cross();
+    let back = match call(wire, right, at_right) {
+        Ok(back) => back,
+        Err(error) => return Err(error),
     };
-    sender.sent(count);
-    let into = &mut buffer[..count];
-    let Ok(()) = receive_all(wire, across(from), into) else {
-        return Err(BothError::Net);
-    };
-    let (items, handled) = give_all(receiver, into);
-    let way = way_of(handled)?;
-    Ok(Carried { items, way })
+    wire.cross();
+    Ok(Exchanged {
+        left: there.items,
+        right: back.items,
+        moved: is_moved(there.way) || is_moved(back.way),
+        stopped: is_stopped(back.way),
+    })
 }
 
 /// Whether the right end has the metadata, and nothing is to be sent.
@@ -207,74 +186,37 @@ fn is_fetched<A: Allocator + Copy>(left: &End<A>, right: &End<A>) -> bool
     right.metadata().is_some() && left.outgoing().is_empty() && right.outgoing().is_empty()
 }
 
-/// Moves bytes from the left end to the right one, and then back.
-fn round<W: Wire, A: Allocator + Copy>(
-    wire: &mut W,
-    left: &mut End<A>,
-    right: &mut End<A>,
-    buffer: &mut [u8],
-) -> Result<Exchanged, BothError>
-    requires { length buffer.old ≡ 4096 }
-    ensures net { IsNet (W.failed wire.old) (W.failed wire.new) result }
-    ensures calls { IsUpBy 0 (W.calls wire.old) (W.calls wire.new) }
-    ensures onward { result ≢ Err BothError.Rounds }
-    ensures moved { IfOk result (λ r. r.moved ≡ true → IsUpBy 1 (W.calls wire.old) (W.calls wire.new)) }
-    ensures left { IfOk result (λ r. IsSide left.old left.new r.left) }
-    ensures right { IfOk result (λ r. IsSide right.old right.new r.right) }
-    ensures exchanged { IsClear (W.on_way wire.old) → IfOk result (λ r. IsClear (W.on_way wire.new)
-        × IsExchanged r.stopped r.moved (record { left = left.old; right = right.old }) (record { left = left.new; right = right.new })) }
-{
-    let there = carry(wire, Side::Left, left, right, buffer)?;
-    if there.way == Way::Stopped {
-        return Ok(Exchanged {
-            left: 0,
-            right: there.items,
-            moved: true,
-            stopped: true,
-        });
-    }
-    let back = carry(wire, Side::Right, right, left, buffer)?;
-    Ok(Exchanged {
-        left: back.items,
-        right: there.items,
-        moved: there.way != Way::Nothing || back.way != Way::Nothing,
-        stopped: back.way == Way::Stopped,
-    })
-}
-
 /// Runs two ends against each other, in rounds.
 ///
-/// A round moves at most 4,096 bytes in each direction. It stops where the right end has the metadata and nothing is to be
-/// sent, or nothing more is moved, or an end refuses what comes.
+/// A round makes one call of the wire for each end, the left one first: a write where it has something to send, else a read,
+/// once it took all turns that it could. It stops where a round moves nothing, or an end refuses what comes. Two buffers of
+/// 65,536 bytes are taken.
 ///
 /// # Errors
-/// `Net` where a call of the wire failed or moved nothing, `Rounds` after as many rounds, and `Memory`.
+/// `Net` where a call of the wire failed, moved nothing or gave the end, `Rounds` after as many rounds, and `Memory`.
 pub fn run_both<W: Wire, A: Allocator + Copy>(
+    alloc: A,
     wire: &mut W,
     left: &mut End<A>,
     right: &mut End<A>,
     rounds: u64,
 ) -> Result<Both, BothError>
-    ensures net { IsNet (W.failed wire.old) (W.failed wire.new) result }
-    ensures rounds { IsRounds rounds (W.calls wire.old) (W.calls wire.new) result }
+    ensures net { IsNet (W.seen wire.old).counts (W.seen wire.new).counts result }
+    ensures rounds { IsRounds rounds (W.seen wire.old).counts (W.seen wire.new).counts result }
     ensures left { IfOk result (λ b. IsSide left.old left.new b.left) }
     ensures right { IfOk result (λ b. IsSide right.old right.new b.right) }
     ensures fetched { IfOk result (λ b. b.fetched ≡ (not b.stopped && is_fetched_by left.new right.new)) }
-    ensures run { IsClear (W.on_way wire.old)
-        → IsRun rounds (record { left = left.old; right = right.old }) (record { left = left.new; right = right.new }) result }
+    ensures run { HasRun rounds (W.seen wire.old) (W.seen wire.new) left.old right.old left.new right.new result }
 {
-    let mut buffer = [0; PIECE];
+    let Ok(mut at_left) = Hearing::new(alloc) else {
+        return Err(BothError::Memory);
+    };
+    let Ok(mut at_right) = Hearing::new(alloc) else {
+        return Err(BothError::Memory);
+    };
     let mut items = (0u64, 0u64);
     for _round in 0..rounds {
-        if is_fetched(left, right) {
-            return Ok(Both {
-                fetched: true,
-                stopped: false,
-                left: items.0,
-                right: items.1,
-            });
-        }
-        let done = match round(wire, left, right, &mut buffer) {
+        let done = match round(wire, left, &mut at_left, right, &mut at_right) {
             Ok(done) => done,
             Err(error) => return Err(error),
         };

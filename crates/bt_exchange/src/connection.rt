@@ -1,5 +1,7 @@
 //! What an end talks over. `exchange` and `advance` call it.
-ghost use Rattle.std.specs.Prelude.{◌≡◌, ℕ, length};
+ghost use Rattle.std.specs.Prelude.{◌≡◌, ℕ, Bool, true, [], None, Ok, length};
+ghost use Rattle.std.specs.Io.KnownBytes.{IsAtEnd};
+ghost use Rattle.bt_io.specs.Counts.{counted as raised};
 ghost use Rattle.bt_exchange.specs.Connections.{Seen, read_counts, write_counts, at_time, Reads, Writes};
 
 use bt_io::Failed;
@@ -10,6 +12,9 @@ pub trait Connection {
     /// its calls, and the time that it told last.
     ghost seen: { Self → Seen };
 
+    /// Whether a read gives bytes wherever some are left to be read, and a write takes bytes wherever some are given.
+    ghost prompt: { Bool };
+
     /// Reads bytes into the front of `into`, and returns how many.
     ///
     /// `None` where nothing is there yet.
@@ -18,16 +23,29 @@ pub trait Connection {
     fn read(&mut self, into: &mut [u8]) -> Result<Option<usize>, Failed>
         ensures bytes { Reads (seen self.old) (seen self.new) result into.new }
         ensures size { length into.new ≡ length into.old }
-        ensures counts { (seen self.new).counts ≡ read_counts result (length into.old) (seen self.old).counts };
+        ensures counts { (seen self.new).counts ≡ read_counts result (length into.old) (seen self.old).counts }
+        ensures none { prompt ≡ true → result ≡ Ok None → IsAtEnd (seen self.old).coming };
 
     /// Takes bytes from the front of `from`, and returns how many.
     ///
     /// `None` where nothing is taken yet.
     fn write(&mut self, from: &[u8]) -> Result<Option<usize>, Failed>
         ensures bytes { Writes (seen self.old) (seen self.new) result from.now }
-        ensures counts { (seen self.new).counts ≡ write_counts result (length from.now) (seen self.old).counts };
+        ensures counts { (seen self.new).counts ≡ write_counts result (length from.now) (seen self.old).counts }
+        ensures none { prompt ≡ true → result ≡ Ok None → from.now ≡ [] };
 
     /// The time in seconds, by the connection's own clock. Only differences count.
     fn now(&mut self) -> u64
         ensures { seen self.new ≡ at_time result (seen self.old) };
+}
+
+/// The count after a call that is counted or isn't.
+pub(crate) fn counted(is_counted: bool, count: u64) -> u64
+    ensures { result ≡ raised is_counted count }
+{
+    if is_counted {
+        count.saturating_add(1)
+    } else {
+        count
+    }
 }

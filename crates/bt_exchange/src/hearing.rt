@@ -1,5 +1,6 @@
 //! Bytes that were read and not yet given to the end. The loops of this crate call it.
-ghost use Rattle.std.specs.Prelude.{◌≡◌, ◌≤◌, [], length, drop, take, IfOk, IfSome};
+ghost use Rattle.std.specs.Prelude.{◌≡◌, ◌≤◌, true, [], length, drop, take, None, Ok, IfOk, IfSome};
+ghost use Rattle.std.specs.Io.KnownBytes.{IsAtEnd};
 ghost use Rattle.bt_exchange.specs.Connections.{read_counts};
 ghost use Rattle.bt_exchange.specs.Courses.{Fills};
 
@@ -73,6 +74,7 @@ impl<A: Allocator> Hearing<A> {
         ensures bytes { Fills (C.seen connection.old) (C.seen connection.new) result self.new }
         ensures count { IfOk result (λ o. IfSome o (λ n. length self.new ≡ n)) }
         ensures counts { (C.seen connection.new).counts ≡ read_counts result 1 (C.seen connection.old).counts }
+        ensures none { C.prompt ≡ true → result ≡ Ok None → IsAtEnd (C.seen connection.old).coming }
     {
         self.at = 0;
         self.filled = 0;

@@ -17,4 +17,4 @@ pub use mem_wire::MemWire;
 pub use stream::Stream;
 pub use talking::{Limits, Sign, Step, Stop, Witness, advance, exchange};
 pub use tcp::{TcpWire, open_tcp};
-pub use wire::{Side, Wire, WireFault};
+pub use wire::Wire;

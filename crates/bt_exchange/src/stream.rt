@@ -1,6 +1,5 @@
 //! A connection over a stream of std, as a TCP stream whose reads and writes have a time limit. Fetching and serving use it.
-use crate::connection::Connection;
-use crate::wire::counted;
+use crate::connection::{Connection, counted};
 use bt_io::Failed;
 use std::io;
 use std::io::{ErrorKind, Read, Write};
@@ -40,13 +39,15 @@ impl<S: Read + Write + Drop, K: Clock + Drop> Stream<S, K> {
 }
 
 impl<S: Read + Write + Drop, K: Clock + Drop> Connection for Stream<S, K> {
-    ghost use Rattle.std.specs.Prelude.{None};
+    ghost use Rattle.std.specs.Prelude.{None, false};
 
     ghost seen = { λ s. record {
       coming = None;
       gone = None;
       counts = record { calls = s.calls; ends = s.ends; failed = s.failed; clock = s.time };
     } };
+
+    ghost prompt = { false };
 
     fn read(&mut self, into: &mut [u8]) -> Result<Option<usize>, Failed> {
         self.calls = self.calls.saturating_add(1);

@@ -1,15 +1,17 @@
 //! The loop over one connection. Fetching calls [`exchange`], and serving calls [`advance`].
-ghost use Rattle.std.specs.Prelude.{◌≡◌, ◌<◌, ◌≤◌, ℕ, true, false, List, [], length, is_some, Ok};
+ghost use Rattle.std.specs.Prelude.{◌≡◌, ◌≢◌, ◌<◌, ◌≤◌, ℕ, Bool, true, false, List, [], length, is_some, Ok, Err, IfOk, IfSome};
 ghost use Rattle.bt_feed.specs.Progress.{IsFeed};
 ghost use Rattle.bt_end.specs.Ends.{metadata_of, headway_of};
 ghost use Rattle.bt_exchange.specs.Connections.{Seen};
 ghost use Rattle.bt_exchange.specs.Courses.{Moment};
+ghost use Rattle.bt_exchange.specs.Steps.{IsExact, after_write, at_read, at_write, at_turn};
 ghost use Rattle.bt_exchange.specs.Stops.{IsCalm, IsAdvanced, IsMade, IsMark, IsExchanged, is_done, is_still, steps_of};
 ghost use Rattle.bt_exchange.specs.Watches.{IsVerdict, IsWatched, is_over};
 
 use crate::connection::Connection;
 use crate::hearing::Hearing;
 use bt_end::{End, Headway, Progress, Turn, TurnError};
+use bt_io::Failed;
 use bt_wire::Refusal;
 use std::alloc::Allocator;
 
@@ -83,7 +85,9 @@ pub fn advance<C: Connection, A: Allocator + Copy>(
     end: &mut End<A>,
     hearing: &mut Hearing<A>,
 ) -> Result<Step, Stop>
-    ensures { IsAdvanced (record { seen = C.seen connection.old; pending = hearing.old; half = end.old })
+    ensures advanced { IsAdvanced (record { seen = C.seen connection.old; pending = hearing.old; half = end.old })
+        (record { seen = C.seen connection.new; pending = hearing.new; half = end.new }) result }
+    ensures exact { IsExact C.prompt (record { seen = C.seen connection.old; pending = hearing.old; half = end.old })
         (record { seen = C.seen connection.new; pending = hearing.new; half = end.new }) result }
 {
     if !end.outgoing().is_empty() {
@@ -92,7 +96,14 @@ pub fn advance<C: Connection, A: Allocator + Copy>(
     if !hearing.bytes().is_empty() {
         return take_turn(end, hearing);
     }
-    match hearing.fill(connection) {
+    read_step(hearing.fill(connection))
+}
+
+/// What a read makes a step.
+fn read_step(got: Result<Option<usize>, Failed>) -> Result<Step, Stop>
+    ensures { result ≡ at_read got }
+{
+    match got {
         Ok(Some(0)) => Err(Stop::Closed),
         Ok(Some(_)) => Ok(Step::Moved),
         Ok(None) => Ok(Step::Waited),
@@ -100,16 +111,16 @@ pub fn advance<C: Connection, A: Allocator + Copy>(
     }
 }
 
-/// Writes once.
-fn send<C: Connection, A: Allocator + Copy>(
-    connection: &mut C,
+/// Drops what a write took. Returns what the write makes a step.
+fn write_step<A: Allocator + Copy>(
     end: &mut End<A>,
+    wrote: Result<Option<usize>, Failed>,
 ) -> Result<Step, Stop>
-    requires { 0 < length end.old.outbox }
-    ensures { (pending : List ℕ) → IsAdvanced (record { seen = C.seen connection.old; pending = pending; half = end.old })
-        (record { seen = C.seen connection.new; pending = pending; half = end.new }) result }
+    requires { IfOk wrote (λ o. IfSome o (λ n. n ≤ length end.old.outbox)) }
+    ensures end { end.new ≡ after_write wrote end.old }
+    ensures step { result ≡ at_write wrote }
 {
-    match connection.write(end.outgoing()) {
+    match wrote {
         Ok(Some(0)) => Err(Stop::Failed),
         Ok(Some(n)) => {
             end.sent(n);
@@ -120,23 +131,48 @@ fn send<C: Connection, A: Allocator + Copy>(
     }
 }
 
-/// Gives the end bytes, up to the end of an item, and handles it where it is whole.
-fn take_turn<A: Allocator + Copy>(end: &mut End<A>, hearing: &mut Hearing<A>) -> Result<Step, Stop>
-    requires feed { IsFeed end.old.feed }
-    requires sent { length end.old.outbox ≡ 0 }
-    requires pending { 0 < length hearing.old }
-    ensures { (seen : Seen) → IsAdvanced (record { seen = seen; pending = hearing.old; half = end.old })
-        (record { seen = seen; pending = hearing.new; half = end.new }) result }
+/// What a turn makes a step.
+fn turn_step(turned: Result<Turn, TurnError>) -> Result<Step, Stop>
+    requires { turned ≢ Err TurnError.Busy }
+    ensures { result ≡ at_turn turned }
 {
-    let n = end.receive(hearing.bytes());
-    hearing.pass(n);
-    match end.turn() {
+    match turned {
         Ok(Turn::Handled) => Ok(Step::Handled),
         Ok(Turn::Idle) => Ok(Step::Held),
         Err(TurnError::Refused(refusal)) => Err(Stop::Refused(refusal)),
         Err(TurnError::Busy) => unreachable!(),
         Err(TurnError::Memory) => Err(Stop::Memory),
     }
+}
+
+/// Writes once.
+fn send<C: Connection, A: Allocator + Copy>(
+    connection: &mut C,
+    end: &mut End<A>,
+) -> Result<Step, Stop>
+    requires { 0 < length end.old.outbox }
+    ensures advanced { (pending : List ℕ) → IsAdvanced (record { seen = C.seen connection.old; pending = pending; half = end.old })
+        (record { seen = C.seen connection.new; pending = pending; half = end.new }) result }
+    ensures exact { (pending : List ℕ) → IsExact C.prompt (record { seen = C.seen connection.old; pending = pending; half = end.old })
+        (record { seen = C.seen connection.new; pending = pending; half = end.new }) result }
+{
+    let wrote = connection.write(end.outgoing());
+    write_step(end, wrote)
+}
+
+/// Gives the end bytes, up to the end of an item, and handles it where it is whole.
+fn take_turn<A: Allocator + Copy>(end: &mut End<A>, hearing: &mut Hearing<A>) -> Result<Step, Stop>
+    requires feed { IsFeed end.old.feed }
+    requires sent { length end.old.outbox ≡ 0 }
+    requires pending { 0 < length hearing.old }
+    ensures advanced { (seen : Seen) → IsAdvanced (record { seen = seen; pending = hearing.old; half = end.old })
+        (record { seen = seen; pending = hearing.new; half = end.new }) result }
+    ensures exact { (seen : Seen) (prompt : Bool) → IsExact prompt (record { seen = seen; pending = hearing.old; half = end.old })
+        (record { seen = seen; pending = hearing.new; half = end.new }) result }
+{
+    let n = end.receive(hearing.bytes());
+    hearing.pass(n);
+    turn_step(end.turn())
 }
 
 /// Whether, and why, a fetch is over.

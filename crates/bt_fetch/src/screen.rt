@@ -82,13 +82,15 @@ impl<C: Connection + Drop> Screen<C> {
 }
 
 impl<C: Connection + Drop> Connection for Screen<C> {
-    ghost use Rattle.std.specs.Prelude.{None};
+    ghost use Rattle.std.specs.Prelude.{None, false};
 
     ghost seen = { λ s. record {
       coming = None;
       gone = None;
       counts = record { calls = s.calls; ends = s.ends; failed = s.failed; clock = s.time };
     } };
+
+    ghost prompt = { false };
 
     fn read(&mut self, into: &mut [u8]) -> Result<Option<usize>, Failed> {
         self.calls = self.calls.saturating_add(1);

@@ -21,13 +21,15 @@ pub struct Served {
 }
 
 impl Connection for Served {
-    ghost use Rattle.std.specs.Prelude.{None};
+    ghost use Rattle.std.specs.Prelude.{None, false};
 
     ghost seen = { λ s. record {
       coming = None;
       gone = None;
       counts = record { calls = s.calls; ends = 0; failed = s.failed; clock = s.time };
     } };
+
+    ghost prompt = { false };
 
     fn read(&mut self, into: &mut [u8]) -> Result<Option<usize>, Failed> {
         self.calls = self.calls.saturating_add(1);

@@ -1,31 +1,43 @@
 -- A run of an end that serves metadata and an end that fetches it ends with the metadata.
-use Rattle.std.proofs.Common.{◌≡◌, ℕ, ◌^◌, ◌<◌, ◌≤◌, min, Bool, true, false, ◌&&◌, ◌==◌, is_some, List, [], ◌∷◌, ◌++◌, length}
-use Rattle.std.proofs.Common.{Option, Some, None, Ok, Err, refl, sym, ap, subst, ◌∙◌, arith, append-nil}
+use Rattle.std.proofs.Common.{◌≡◌, ℕ, ◌*◌, ◌^◌, ◌<◌, ◌≤◌, inl, inr, min, Bool, true, false, ◌&&◌, ◌||◌, ◌==◌, nat_le, is_some, List, [], ◌∷◌, ◌++◌}
+use Rattle.std.proofs.Common.{length, Option, Some, None, Ok, Err, refl, sym, ap, subst, ◌∙◌, arith, append-nil}
+use Rattle.std.proofs.lemmas.Bool.{cases_Bool}
+use Rattle.std.specs.Io.KnownBytes.{IsAtEnd}
 use Rattle.bt_ext.specs.Metadata.{block_count}
+use Rattle.bt_wire.specs.declared.fault.Refused.{Refused as Fault}
+use Rattle.bt_wire.specs.declared.item.Refusal.{Refusal}
+use Rattle.bt_feed.specs.declared.stage.Stage.{Stage}
+use Rattle.bt_feed.specs.declared.stage.Stage.TheVariants as stage
+use Rattle.bt_feed.specs.Answers.{after}
+use Rattle.bt_feed.specs.Feeds.{FeedState}
+use Rattle.bt_feed.specs.Stages.{early, is_all, is_closed, HasFault, refusal_of}
+use Rattle.bt_feed.proofs.Found.{early_has}
 use Rattle.bt_metadata.specs.Blocks.{max_metadata}
 use Rattle.bt_end.specs.Ends.{EndState, metadata_of}
-use Rattle.bt_end.specs.Halves.{HalfState, is_ready, IsAnswered}
-use Rattle.bt_end.specs.declared.end.TurnError.{TurnError}
-use Rattle.bt_end.specs.declared.end.TurnError.TheVariants as turn_error
+use Rattle.bt_end.specs.Halves.{HalfState, high_water, is_ready, is_busy, with_feed}
 use Rattle.bt_exchange.specs.Boths.{is_fetched}
-use Rattle.bt_exchange.specs.Rounds.{Ends, AreRounds, IsEnded}
+use Rattle.bt_exchange.specs.Connections.{Seen}
+use Rattle.bt_exchange.specs.Courses.{Moment}
+use Rattle.bt_exchange.specs.Rounds.{Ends, at_left, at_right, IsEnded}
 use Rattle.bt_exchange.specs.declared.both.BothError.TheVariants as both_error
 use Rattle.bt_link.specs.ByteLinks as B
 use Rattle.bt_link.specs.MessageLinks as M
 use Rattle.bt_link.specs.LinkLaws.{IsMetadata, IsWritten, AreWritten, IsHonestRun, source_of}
 use Rattle.std.specs.Option.{ForSome}
-use Rattle.bt_link.specs.FetchLaws.{IsFetchPair, IsMove, AreMoves, IsQuiet, most_bytes, FetchIsShort, FetchIsWhole, FetchIsFree}
+use Rattle.bt_link.specs.FetchLaws.{IsFetchPair, IsMove, AreMoves, IsQuiet, most_bytes, FetchIsShort, FetchIsWhole}
 use Rattle.bt_link.specs.declared.link.Outcome.{Outcome}
 use Rattle.bt_link.specs.declared.link.Outcome.TheVariants as outcome
+use Rattle.bt_link.specs.declared.link.Side.{Side}
 use Rattle.bt_link.specs.declared.link.Side.TheVariants.{Left, Right}
 use Rattle.bt_link.specs.declared.link.Step.{Step}
 use Rattle.bt_link.specs.declared.link.Step.TheVariants as step
-use Rattle.bt_link.proofs.FetchRuns.{fetch_is_short, fetch_is_whole, fetch_is_free}
+use Rattle.bt_link.proofs.FetchRuns.{fetch_is_short, fetch_is_whole}
 use Rattle.bt_link.proofs.Links.{byte_link_is_message_link, nothing_is_refused}
-use Rattle.bt_net.specs.Runs.{begun, delivered, AreStepsTo, RunFetches}
+use Rattle.bt_net.specs.Runs.{IsClear, begun, delivered, IsGiven, AreStepsTo, RunFetches}
 use Rattle.bt_net.proofs.Counted.{counted, last_steps, last_outcomes, quiet_after}
-use Rattle.bt_net.proofs.Followed.{steps_both, moves_both, rounds_are_steps, IsStopped, halt_is, IsOpen, rounds_open}
-use Rattle.bt_net.proofs.Turned.{IsCalm, HasFault, fed_none}
+use Rattle.bt_net.proofs.Feeding.{fed_none, given_none}
+use Rattle.bt_net.proofs.Followed.{rounds_follow, last_follows, rounds_are_steps, halted_stops, IsStill, round_still}
+use Rattle.bt_net.proofs.Turned.{steps_both, moves_both, Follows, IsRested, IsStopped, stops}
 
 -- ---- as many outcomes as steps
 
@@ -113,22 +125,15 @@ honest metadata a b ss os short f m = record {
 
 -- ---- no end stops
 
-never_stopped : (metadata : List ℕ) (a b : EndState) → FetchIsShort → FetchIsFree → IsFetchPair metadata a b → IsStopped a b → ⊥
-never_stopped metadata a b short free f st = by_error st.error st.calm st.fault
-  where
-    run : IsHonestRun a b st.steps st.outcomes
-    run = honest metadata a b st.steps st.outcomes short f st.moves
-
-    by_error : (e : TurnError) → IsCalm (Err e) → HasFault e st.outcomes → ⊥
-    by_error (turn_error.Refused r) calm h = nothing_is_refused a b st.steps st.outcomes st.link run st.are h.0 r h.1
-    by_error turn_error.Busy calm h =
-        free metadata a b st.steps st.outcomes h.0 f st.moves (byte_link_is_message_link a b st.steps st.outcomes st.link run st.are).0 h.1
-    by_error turn_error.Memory calm h = calm
+never_stopped : (metadata : List ℕ) (a b : EndState) → FetchIsShort → IsFetchPair metadata a b → IsStopped a b → ⊥
+never_stopped metadata a b short f st =
+    let run : IsHonestRun a b st.steps st.outcomes = honest metadata a b st.steps st.outcomes short f st.moves in
+    nothing_is_refused a b st.steps st.outcomes st.link run st.are st.refused.0 st.refused.1 st.refused.2
 
 -- ---- few rounds
 
 few_rounds : (metadata : List ℕ) (a b : EndState) (n : ℕ) (new : Ends) → FetchIsShort → IsFetchPair metadata a b → AreStepsTo a b n new
-    → n ≤ most_bytes (length metadata)
+    → n ≤ 2 * most_bytes (length metadata)
 few_rounds metadata a b n new short f st =
     let run = honest metadata a b st.steps st.outcomes short f st.moves in
     let told = (byte_link_is_message_link a b st.steps st.outcomes st.link run st.are).0 in
@@ -138,49 +143,106 @@ few_rounds metadata a b n new short f st =
 
 -- ---- the end of a run
 
+-- an end of the link with nothing to send and nothing untaken
+record IsIdle (x : B.Node) : Type 0 where
+  sent : x.half.outbox ≡ []
+  untaken : x.untaken ≡ []
+  rested : IsRested x.half
+
+idle_node : (x : B.Node) (m : Moment) (coming : List ℕ) → IsGiven m.half (m.pending ++ coming) x → IsStill m → IsRested m.half
+    → m.seen.coming ≡ Some coming → IsIdle x
+idle_node x m coming g still rested is =
+    let none : coming ≡ [] = subst IsAtEnd is still.coming in
+    let bytes : m.pending ++ coming ≡ [] = ap (λ (p : List ℕ). p ++ coming) still.pending ∙ none in
+    let same = given_none x m.half (m.pending ++ coming) bytes g in
+    record {
+      sent = ap (λ (h : HalfState). h.outbox) same.0 ∙ still.sent;
+      untaken = same.1;
+      rested = subst IsRested (sym same.0) rested;
+    }
+
+and_false : (x : Bool) → (x && false) ≡ false
+and_false true = refl
+and_false false = refl
+
+free : (a : HalfState) → a.outbox ≡ [] → is_busy a ≡ false
+free a e = ap (λ (o : List ℕ). is_ready a.feed && nat_le high_water (length o)) e ∙ and_false (is_ready a.feed)
+
+none_whole : (t : Stage) → is_all t [] ≡ false
+none_whole (stage.Handshake own) = refl
+none_whole (stage.Message c o s n) = refl
+
+-- an end that holds nothing and yet awaits nothing more refuses: its stream is longer than may be
+overlong : (a b : EndState) (s : Side) (ss : List Step) (os : List Outcome) (l : B.Link) (e : Option Fault)
+    → B.AreSteps (B.link_of a b) ss os l → AreMoves ss → IsIdle (B.seen_from s l).own → (B.seen_from s l).own.half.feed.held ≡ []
+    → early (B.seen_from s l).own.half.feed.stage [] ≡ e → (is_some e || is_all (B.seen_from s l).own.half.feed.stage []) ≡ true → IsStopped a b
+overlong a b s ss os l None are moves idle none is closed =
+    absurd (let open_ = none_whole (B.seen_from s l).own.half.feed.stage in cc)
+overlong a b s ss os l (Some f) are moves idle none is closed =
+    let x : HalfState = (B.seen_from s l).own.half in
+    let r : Refusal = refusal_of x.feed.stage f in
+    let fault : HasFault x.feed.stage x.feed.held f =
+    subst (λ (h : List ℕ). HasFault x.feed.stage h f) (sym none) (early_has x.feed.stage [] f is) in
+    stops a b s ss os l (with_feed x (after x.feed (Err r))) r are moves ((free x idle.sent, (f, fault, refl)), refl)
+
+-- it awaits more, or it stops
+awaits : (a b : EndState) (s : Side) (ss : List Step) (os : List Outcome) (l : B.Link) → B.AreSteps (B.link_of a b) ss os l → AreMoves ss
+    → IsIdle (B.seen_from s l).own → (IsStopped a b → ⊥)
+    → is_closed (B.seen_from s l).own.half.feed.stage (B.seen_from s l).own.half.feed.held ≡ false
+awaits a b s ss os l are moves idle never =
+    let f : FeedState = (B.seen_from s l).own.half.feed in
+    elim idle.rested [
+      | inl open_ ↦ open_
+      | inr none ↦ elim (cases_Bool (is_closed f.stage f.held)) [
+        | inl closed ↦ absurd (never (overlong a b s ss os l (early f.stage []) are moves idle none refl (ap (is_closed f.stage) (sym none) ∙ closed)))
+        | inr open_ ↦ open_
+      ]
+    ]
+
 no_bytes : (p : B.Pair) → p.own.untaken ≡ [] → p.other.half.outbox ≡ [] → B.delivers p 0 ≡ p
 no_bytes p none empty =
     let F : List ℕ → B.Pair = λ u. record { own = B.fed (record p.own { untaken = u }); other = p.other } in
     let untaken : p.own.untaken ++ [] ≡ p.own.untaken = append-nil p.own.untaken in
     ap F untaken ∙ ap (λ (x : B.Node). record { own = x; other = p.other }) (fed_none p.own none)
 
-idle_turn : (p : B.Pair) → p.own.untaken ≡ [] → p.own.half.outbox ≡ [] → IsOpen p.own.half → B.IsTurn p outcome.Idle p
+idle_turn : (p : B.Pair) → p.own.untaken ≡ [] → p.own.half.outbox ≡ [] → is_closed p.own.half.feed.stage p.own.half.feed.held ≡ false
+    → B.IsTurn p outcome.Idle p
 idle_turn p none empty open_ =
-    let free : (is_ready p.own.half.feed && false) ≡ false = and_false (is_ready p.own.half.feed) in
-    let busy = subst (λ (o : List ℕ). IsAnswered (record p.own.half { outbox = o }) (Ok None)) (sym empty) (free, open_) in
-    (p.own, ((busy, refl), refl), ap (λ (x : B.Node). record { own = x; other = p.other }) (sym (fed_none p.own none)))
-  where
-    and_false : (x : Bool) → (x && false) ≡ false
-    and_false true = refl
-    and_false false = refl
+    (p.own, (((free p.own.half empty, open_), refl), refl), ap (λ (x : B.Node). record { own = x; other = p.other }) (sym (fed_none p.own none)))
 
 -- nothing more comes of a byte more and of a turn
-last_are : (l : B.Link) → l.left.untaken ≡ [] → l.right.untaken ≡ [] → l.left.half.outbox ≡ [] → l.right.half.outbox ≡ [] → IsOpen l.left.half
-    → IsOpen l.right.half → B.AreSteps l last_steps last_outcomes l
-last_are l p q e f g h =
+last_are : (a b : EndState) (ss : List Step) (os : List Outcome) (l : B.Link) → B.AreSteps (B.link_of a b) ss os l → AreMoves ss → IsIdle l.left
+    → IsIdle l.right → (IsStopped a b → ⊥) → B.AreSteps l last_steps last_outcomes l
+last_are a b ss os l are moves x y never =
     let left : B.Pair = B.seen_from Left l in
     let right : B.Pair = B.seen_from Right l in
-    let none_left : 0 ≡ min 1 (length l.right.half.outbox) = omega (arith, ap (length {A = ℕ}) f) in
-    let none_right : 0 ≡ min 1 (length l.left.half.outbox) = omega (arith, ap (length {A = ℕ}) e) in
-    let to_left : left ≡ B.delivers left (min 1 (length l.right.half.outbox)) = sym (no_bytes left p f) ∙ ap (B.delivers left) none_left in
-    let to_right : right ≡ B.delivers right (min 1 (length l.left.half.outbox)) = sym (no_bytes right q e) ∙ ap (B.delivers right) none_right in (
+    let none_left : 0 ≡ min 1 (length l.right.half.outbox) = omega (arith, ap (length {A = ℕ}) y.sent) in
+    let none_right : 0 ≡ min 1 (length l.left.half.outbox) = omega (arith, ap (length {A = ℕ}) x.sent) in
+    let to_left : left ≡ B.delivers left (min 1 (length l.right.half.outbox)) = sym (no_bytes left x.untaken y.sent) ∙ ap (B.delivers left) none_left in
+    let to_right : right ≡ B.delivers right (min 1 (length l.left.half.outbox)) =
+    sym (no_bytes right y.untaken x.sent) ∙ ap (B.delivers right) none_right in
+    let of_left = idle_turn left x.untaken x.sent (awaits a b Left ss os l are moves x never) in
+    let of_right = idle_turn right y.untaken y.sent (awaits a b Right ss os l are moves y never) in (
       l,
       (left, (ap outcome.Delivered none_left, to_left), refl),
       (
         l,
         (right, (ap outcome.Delivered none_right, to_right), refl),
-        (l, (left, idle_turn left p e g, refl), (l, (right, idle_turn right q f h, refl), refl)),
+        (l, (left, of_left, refl), (l, (right, of_right, refl), refl)),
       ),
     )
 
-ended_fetched : (metadata : List ℕ) (a b : EndState) (n : ℕ) (new : Ends) → FetchIsShort → FetchIsWhole → IsFetchPair metadata a b
-    → AreRounds n (begun a b) new → new.left.outbox ≡ [] → new.right.outbox ≡ [] → metadata_of new.right.end.part ≡ Some metadata
-ended_fetched metadata a b n new short whole f rounds left right =
-    let st = rounds_are_steps a b n new rounds in
-    let closed = rounds_open a b n new rounds in
-    let outbox : HalfState → List ℕ = λ x. x.outbox in
-    let last = last_are st.link st.left_took st.right_took (ap outbox st.left ∙ left) (ap outbox st.right ∙ right) (subst IsOpen (sym st.left) closed.0)
-    (subst IsOpen (sym st.right) closed.1) in
+-- the end of the right node is that of the right end
+right_end : (x : B.Node) (half : HalfState) (bytes : List ℕ) → IsGiven half bytes x → x.half.end ≡ half.end
+right_end x half bytes g = ap (λ (h : HalfState). h.end) g.0
+
+still_fetched : (metadata : List ℕ) (a b : EndState) (n : ℕ) (new : Ends) → FetchIsShort → FetchIsWhole → IsFetchPair metadata a b
+    → Follows a b n Left (at_left new) new.right → IsStill (at_left new) → IsStill (at_right new)
+    → metadata_of new.right.half.end.part ≡ Some metadata
+still_fetched metadata a b n new short whole f st left right =
+    let x : IsIdle st.link.left = idle_node st.link.left (at_left new) st.coming st.own left st.own_rested st.is_coming in
+    let y : IsIdle st.link.right = idle_node st.link.right (at_right new) st.going st.other right st.other_rested st.is_going in
+    let last = last_are a b st.steps st.outcomes st.link st.are st.moves x y (never_stopped metadata a b short f) in
     let steps : List Step = st.steps ++ last_steps in
     let outcomes : List Outcome = st.outcomes ++ last_outcomes in
     let are : B.AreSteps (B.link_of a b) steps outcomes st.link =
@@ -195,7 +257,7 @@ ended_fetched metadata a b n new short whole f rounds left right =
     (quiet_after (M.after_all l st.steps st.outcomes) (delivered st.outcomes) c parts.1) in
     let there : metadata_of (M.after_all l steps outcomes).right.end.part ≡ Some metadata = whole metadata a b steps outcomes f moves quiet in
     let part : EndState → Option (List ℕ) = λ e. metadata_of e.part in
-    ap (λ (x : HalfState). metadata_of x.end.part) (sym st.right) ∙ ap part agree.1.right ∙ there
+    ap part (sym (right_end st.link.right new.right.half (new.right.pending ++ st.going) st.other)) ∙ ap part agree.1.right ∙ there
 
 fetched_so : (left right : HalfState) (metadata : List ℕ) → metadata_of right.end.part ≡ Some metadata → left.outbox ≡ [] → right.outbox ≡ []
     → is_fetched left right ≡ true
@@ -204,18 +266,20 @@ fetched_so left right metadata there e f =
     ap (λ (o : Option (List ℕ)). P o left.outbox right.outbox) there ∙ ap (λ (x : List ℕ). P (Some metadata) x right.outbox) e
     ∙ ap (λ (y : List ℕ). P (Some metadata) [] y) f
 
-ended : (metadata : List ℕ) (a b : EndState) (rounds : ℕ) (new : Ends) (stopped : Bool) → FetchIsShort → FetchIsWhole → FetchIsFree
-    → IsFetchPair metadata a b → IsEnded stopped rounds (begun a b) new
-    → (stopped ≡ false) × (metadata_of new.right.end.part ≡ Some metadata) × (is_fetched new.left new.right ≡ true)
-ended metadata a b rounds new true short whole free f h =
-    absurd (never_stopped metadata a b short free f (halt_is a b h.0 h.2.0 new (rounds_are_steps a b h.0 h.2.0 h.2.1) h.2.2))
-ended metadata a b rounds new false short whole free f h =
-    let there = ended_fetched metadata a b h.0 new short whole f h.2 h.3 h.4 in
-    (refl, there, fetched_so new.left new.right metadata there h.3 h.4)
+ended : (metadata : List ℕ) (a b : EndState) (s : Seen) (rounds : ℕ) (new : Ends) (stopped : Bool) → FetchIsShort → FetchIsWhole
+    → IsFetchPair metadata a b → IsClear s → IsEnded stopped rounds (begun a b s) new
+    → (stopped ≡ false) × (metadata_of new.right.half.end.part ≡ Some metadata) × (is_fetched new.left.half new.right.half ≡ true)
+ended metadata a b s rounds new true short whole f clear h =
+    absurd (never_stopped metadata a b short f (halted_stops a b h.0 h.2.0 new (rounds_follow a b s h.0 h.2.0 clear h.2.1) h.2.2))
+ended metadata a b s rounds new false short whole f clear h =
+    let st = last_follows a b h.0 false h.2.0 new (rounds_follow a b s h.0 h.2.0 clear h.2.1) h.2.2 in
+    let still = round_still h.2.0 new h.2.2 in
+    let there = still_fetched metadata a b h.0 new short whole f st still.0 still.1 in
+    (refl, there, fetched_so new.left.half new.right.half metadata there still.0.sent still.1.sent)
 
 pub run_fetches : RunFetches
-run_fetches metadata a b rounds new (Ok x) f h = ended metadata a b rounds new x.stopped fetch_is_short fetch_is_whole fetch_is_free f h
-run_fetches metadata a b rounds new (Err both_error.Rounds) f h =
-    few_rounds metadata a b rounds new fetch_is_short f (rounds_are_steps a b rounds new h)
-run_fetches metadata a b rounds new (Err both_error.Net) f h = tt
-run_fetches metadata a b rounds new (Err both_error.Memory) f h = tt
+run_fetches metadata a b s rounds new (Ok x) f clear h = ended metadata a b s rounds new x.stopped fetch_is_short fetch_is_whole f clear h
+run_fetches metadata a b s rounds new (Err both_error.Rounds) f clear h =
+    few_rounds metadata a b rounds new fetch_is_short f (rounds_are_steps a b s rounds new clear h)
+run_fetches metadata a b s rounds new (Err both_error.Net) f clear h = tt
+run_fetches metadata a b s rounds new (Err both_error.Memory) f clear h = tt

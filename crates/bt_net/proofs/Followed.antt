@@ -1,117 +1,101 @@
 -- Rounds of two ends over a wire are steps of their byte link.
-use Rattle.std.proofs.Common.{◌≡◌, ◌≢◌, ℕ, zero, suc, ◌+◌, ◌≤◌, inl, inr, Bool, true, false, ◌||◌, List, [], ◌∷◌, ◌++◌, take}
-use Rattle.std.proofs.Common.{Result, Ok, Err, refl, sym, subst, ◌∙◌, arith}
-use Rattle.bt_feed.specs.Stages.{is_closed}
-use Rattle.bt_feed.proofs.Reading.{hand_open}
+use Rattle.std.proofs.Common.{◌≡◌, ℕ, zero, suc, ◌+◌, ◌≤◌, inl, inr, Bool, true, false, ◌||◌, [], refl, sym, ap, subst, ◌∙◌, arith}
+use Rattle.std.specs.Io.KnownBytes.{IsAtEnd}
 use Rattle.bt_end.specs.Ends.{EndState}
-use Rattle.bt_end.specs.Halves.{HalfState, AreHandled}
-use Rattle.bt_end.specs.declared.end.TurnError.{TurnError}
-use Rattle.bt_end.specs.declared.end.TurnError.TheVariants as turn_error
-use Rattle.bt_exchange.specs.Rounds.{Ends, IsMove, Passes, Halts, IsHalt, AreRounds}
+use Rattle.bt_exchange.specs.Connections.{Seen}
+use Rattle.bt_exchange.specs.Courses.{Moment}
+use Rattle.bt_exchange.specs.Rounds.{Talker, Ends, at_left, at_right, AreTurns, Moves, IsCall, IsHalt, IsRound, IsHalted, AreRounds}
 use Rattle.bt_link.specs.ByteLinks as B
-use Rattle.bt_link.specs.FetchLaws.{AreMoves}
-use Rattle.bt_link.specs.declared.link.Outcome.{Outcome}
+use Rattle.bt_link.specs.declared.link.Side.{Side}
 use Rattle.bt_link.specs.declared.link.Side.TheVariants.{Left, Right}
-use Rattle.bt_link.specs.declared.link.Step.{Step}
-use Rattle.bt_net.specs.Runs.{begun, delivered, AreStepsTo, RoundsAreSteps}
-use Rattle.bt_net.proofs.Turned.{IsCalm, HasFault, fault_after, Carries, carries}
+use Rattle.bt_net.specs.Runs.{IsClear, begun, RoundsAreSteps}
+use Rattle.bt_net.proofs.Turned.{Follows, writes, reads, waits, idles, handles, IsStopped, refuses}
 
--- ---- one after the other
+-- ---- calls
 
-pub steps_both : (ss ts : List Step) (os ps : List Outcome) (l m k : B.Link) → B.AreSteps l ss os m → B.AreSteps m ts ps k
-    → B.AreSteps l (ss ++ ts) (os ++ ps) k
-steps_both [] ts [] ps l m k h g = subst (λ (x : B.Link). B.AreSteps x ts ps k) h g
-steps_both [] ts (o ∷ os) ps l m k h g = absurd h
-steps_both (s ∷ ss) ts [] ps l m k h g = absurd h
-steps_both (s ∷ ss) ts (o ∷ os) ps l m k h g = (h.0, h.1, steps_both ss ts os ps h.0 m k h.2 g)
-
-pub moves_both : (ss ts : List Step) → AreMoves ss → AreMoves ts → AreMoves (ss ++ ts)
-moves_both [] ts h g = g
-moves_both (s ∷ ss) ts h g = (h.0, moves_both ss ts h.1 g)
-
-delivered_both : (os ps : List Outcome) → delivered (os ++ ps) ≡ delivered os + delivered ps
-delivered_both [] ps = omega arith
-delivered_both (o ∷ os) ps = omega (arith, delivered_both os ps)
-
--- ---- a direction
+pub turns_follow : (a b : EndState) (n : ℕ) (s : Side) (k : ℕ) (old new : Moment) (t : Talker) → Follows a b n s old t → AreTurns k old new
+    → Follows a b n s new t
+turns_follow a b n s zero old new t f h = subst (λ (m : Moment). Follows a b n s m t) (sym h) f
+turns_follow a b n s (suc k) old new t f h =
+    let before = turns_follow a b n s k old h.0 t f h.1 in
+    elim h.2 [
+      | inl w ↦ handles a b n s h.0 new t before w
+      | inr w ↦ idles a b n s h.0 new t before w
+    ]
 
 count_of : Bool → ℕ
 count_of true = 1
 count_of false = 0
 
--- what is moved to the right end
-goes_right : (a b : EndState) (n : ℕ) (old new : Ends) (moved : Bool) → AreStepsTo a b n old → Passes moved old.left old.right new.left new.right
-    → AreStepsTo a b (n + count_of moved) new
+moves_follow : (a b : EndState) (n : ℕ) (s : Side) (moved : Bool) (old new : Moment) (t : Talker) → Follows a b n s old t → Moves moved old new
+    → Follows a b (n + count_of moved) s new t
 unfolding count_of
-goes_right a b n old new false st h =
-    record {
-      steps = st.steps;
-      outcomes = st.outcomes;
-      link = st.link;
-      are = st.are;
-      moves = st.moves;
-      left = st.left ∙ sym h.1;
-      right = st.right ∙ sym h.2;
-      left_took = st.left_took;
-      right_took = st.right_took;
-      least = omega (arith, st.least);
-    }
-goes_right a b n old new true st h =
-    let one : IsMove st.link.left.half old.right new.left new.right (Ok tt) =
-    subst (λ (x : HalfState). IsMove x old.right new.left new.right (Ok tt)) (sym st.left) h in
-    let two : IsMove st.link.left.half st.link.right.half new.left new.right (Ok tt) =
-    subst (λ (x : HalfState). IsMove st.link.left.half x new.left new.right (Ok tt)) (sym st.right) one in
-    let c : Carries Right st.link (Ok tt) new.left new.right = carries Right st.link (Ok tt) new.left new.right tt st.right_took two in
-    record {
-      steps = st.steps ++ c.steps;
-      outcomes = st.outcomes ++ c.outcomes;
-      link = c.link;
-      are = steps_both st.steps c.steps st.outcomes c.outcomes (B.link_of a b) st.link c.link st.are c.are;
-      moves = moves_both st.steps c.steps st.moves c.moves;
-      left = c.is.2;
-      right = c.is.0;
-      left_took = c.is.3 ∙ st.left_took;
-      right_took = c.is.1;
-      least = omega (arith, delivered_both st.outcomes c.outcomes, st.least, c.is.4);
-    }
+moves_follow a b n s true old new t f (inl w) = writes a b n s old new t f w
+moves_follow a b n s true old new t f (inr r) = reads a b n s old new t f r
+moves_follow a b n s false old new t f w =
+    subst (λ (k : ℕ). Follows a b k s new t) (omega arith) (waits a b n s true old new t f w)
 
--- what is moved to the left one
-goes_left : (a b : EndState) (n : ℕ) (old new : Ends) (moved : Bool) → AreStepsTo a b n old → Passes moved old.right old.left new.right new.left
-    → AreStepsTo a b (n + count_of moved) new
-unfolding count_of
-goes_left a b n old new false st h =
-    record {
-      steps = st.steps;
-      outcomes = st.outcomes;
-      link = st.link;
-      are = st.are;
-      moves = st.moves;
-      left = st.left ∙ sym h.2;
-      right = st.right ∙ sym h.1;
-      left_took = st.left_took;
-      right_took = st.right_took;
-      least = omega (arith, st.least);
-    }
-goes_left a b n old new true st h =
-    let one : IsMove st.link.right.half old.left new.right new.left (Ok tt) =
-    subst (λ (x : HalfState). IsMove x old.left new.right new.left (Ok tt)) (sym st.right) h in
-    let two : IsMove st.link.right.half st.link.left.half new.right new.left (Ok tt) =
-    subst (λ (x : HalfState). IsMove st.link.right.half x new.right new.left (Ok tt)) (sym st.left) one in
-    let c : Carries Left st.link (Ok tt) new.right new.left = carries Left st.link (Ok tt) new.right new.left tt st.left_took two in
-    record {
-      steps = st.steps ++ c.steps;
-      outcomes = st.outcomes ++ c.outcomes;
-      link = c.link;
-      are = steps_both st.steps c.steps st.outcomes c.outcomes (B.link_of a b) st.link c.link st.are c.are;
-      moves = moves_both st.steps c.steps st.moves c.moves;
-      left = c.is.0;
-      right = c.is.2;
-      left_took = c.is.1;
-      right_took = c.is.3 ∙ st.right_took;
-      least = omega (arith, delivered_both st.outcomes c.outcomes, st.least, c.is.4);
-    }
+call_follows : (a b : EndState) (n : ℕ) (s : Side) (moved : Bool) (old new : Moment) (t : Talker) → Follows a b n s old t → IsCall moved old new
+    → Follows a b (n + count_of moved) s new t
+call_follows a b n s moved old new t f c = moves_follow a b n s moved c.1 new t (turns_follow a b n s c.0 old c.1 t f c.2) c.3
 
 -- ---- rounds
+
+pub at_other : (a b : EndState) (n : ℕ) (e : Ends) → Follows a b n Left (at_left e) e.right → Follows a b n Right (at_right e) e.left
+at_other a b n e f = record {
+  coming = f.going;
+  going = f.coming;
+  is_coming = f.is_going;
+  is_going = f.is_coming;
+  steps = f.steps;
+  outcomes = f.outcomes;
+  link = f.link;
+  are = f.are;
+  moves = f.moves;
+  own = f.other;
+  other = f.own;
+  own_rested = f.other_rested;
+  other_rested = f.own_rested;
+  least = omega (arith, f.least);
+}
+
+at_first : (a b : EndState) (n : ℕ) (e : Ends) → Follows a b n Right (at_right e) e.left → Follows a b n Left (at_left e) e.right
+at_first a b n e f = record {
+  coming = f.going;
+  going = f.coming;
+  is_coming = f.is_going;
+  is_going = f.is_coming;
+  steps = f.steps;
+  outcomes = f.outcomes;
+  link = f.link;
+  are = f.are;
+  moves = f.moves;
+  own = f.other;
+  other = f.own;
+  own_rested = f.other_rested;
+  other_rested = f.own_rested;
+  least = omega (arith, f.least);
+}
+
+-- the left end's call
+left_follows : (a b : EndState) (n : ℕ) (moved : Bool) (old new : Ends) → Follows a b n Left (at_left old) old.right
+    → IsCall moved (at_left old) (at_left new) → new.right ≡ old.right → Follows a b (n + count_of moved) Left (at_left new) new.right
+left_follows a b n moved old new f c e =
+    subst (λ (t : Talker). Follows a b (n + count_of moved) Left (at_left new) t) (sym e)
+    (call_follows a b n Left moved (at_left old) (at_left new) old.right f c)
+
+-- the right end's call
+right_follows : (a b : EndState) (n : ℕ) (moved : Bool) (old new : Ends) → Follows a b n Left (at_left old) old.right
+    → IsCall moved (at_right old) (at_right new) → new.left ≡ old.left → Follows a b (n + count_of moved) Left (at_left new) new.right
+right_follows a b n moved old new f c e =
+    at_first a b (n + count_of moved) new
+    (subst (λ (t : Talker). Follows a b (n + count_of moved) Right (at_right new) t) (sym e)
+    (call_follows a b n Right moved (at_right old) (at_right new) old.left (at_other a b n old f) c))
+
+round_follows : (a b : EndState) (n : ℕ) (moved : Bool) (old new : Ends) → Follows a b n Left (at_left old) old.right → (r : IsRound moved old new)
+    → Follows a b (n + count_of r.there + count_of r.back) Left (at_left new) new.right
+round_follows a b n moved old new f r =
+    right_follows a b (n + count_of r.there) r.back r.middle new (left_follows a b n r.there old r.middle f r.goes r.right) r.comes r.left
 
 one_moved : (there back : Bool) → true ≡ (there || back) → 1 ≤ count_of there + count_of back
 unfolding count_of
@@ -120,123 +104,130 @@ one_moved true false e = omega arith
 one_moved false true e = omega arith
 one_moved false false e = absurd (cc)
 
-fewer : (a b : EndState) (m n : ℕ) (new : Ends) → n ≤ m → AreStepsTo a b m new → AreStepsTo a b n new
-fewer a b m n new le st = record {
-  steps = st.steps;
-  outcomes = st.outcomes;
-  link = st.link;
-  are = st.are;
-  moves = st.moves;
-  left = st.left;
-  right = st.right;
-  left_took = st.left_took;
-  right_took = st.right_took;
-  least = omega (arith, le, st.least);
+fewer : (a b : EndState) (m n : ℕ) (s : Side) (x : Moment) (t : Talker) → n ≤ m → Follows a b m s x t → Follows a b n s x t
+fewer a b m n s x t le f = record {
+  coming = f.coming;
+  going = f.going;
+  is_coming = f.is_coming;
+  is_going = f.is_going;
+  steps = f.steps;
+  outcomes = f.outcomes;
+  link = f.link;
+  are = f.are;
+  moves = f.moves;
+  own = f.own;
+  other = f.other;
+  own_rested = f.own_rested;
+  other_rested = f.other_rested;
+  least = omega (arith, le, f.least);
 }
 
-pub rounds_are_steps : RoundsAreSteps
-rounds_are_steps a b zero new h =
-    let P : Ends → Type 0 = λ e. AreStepsTo a b 0 e in
+-- a round more
+pub last_follows : (a b : EndState) (n : ℕ) (moved : Bool) (old new : Ends) → Follows a b n Left (at_left old) old.right → IsRound moved old new
+    → Follows a b n Left (at_left new) new.right
+last_follows a b n moved old new f r =
+    fewer a b (n + count_of r.there + count_of r.back) n Left (at_left new) new.right (omega arith) (round_follows a b n moved old new f r)
+
+pub rounds_follow : (a b : EndState) (s : Seen) (n : ℕ) (new : Ends) → IsClear s → AreRounds n (begun a b s) new
+    → Follows a b n Left (at_left new) new.right
+rounds_follow a b s zero new clear h =
+    let P : Ends → Type 0 = λ e. Follows a b 0 Left (at_left e) e.right in
     subst P (sym h) (
     record {
+      coming = [];
+      going = [];
+      is_coming = clear.0;
+      is_going = clear.1;
       steps = [];
       outcomes = [];
       link = B.link_of a b;
       are = refl;
       moves = tt;
-      left = refl;
-      right = refl;
-      left_took = refl;
-      right_took = refl;
+      own = (refl, refl);
+      other = (refl, refl);
+      own_rested = inr refl;
+      other_rested = inr refl;
       least = omega arith;
     }
     )
-rounds_are_steps a b (suc n) new h =
-    let r = h.2 in
-    let first = goes_right a b n h.0 r.middle r.there (rounds_are_steps a b n h.0 h.1) r.goes in
-    let second = goes_left a b (n + count_of r.there) r.middle new r.back first r.comes in
-    fewer a b (n + count_of r.there + count_of r.back) (suc n) new (omega (arith, one_moved r.there r.back r.moved_is)) second
+rounds_follow a b s (suc n) new clear h =
+    let before = rounds_follow a b s n h.0 clear h.1 in
+    fewer a b (n + count_of h.2.there + count_of h.2.back) (suc n) Left (at_left new) new.right
+    (omega (arith, one_moved h.2.there h.2.back h.2.moved_is)) (round_follows a b n true h.0 new before h.2)
+
+pub rounds_are_steps : RoundsAreSteps
+rounds_are_steps a b s n new clear h =
+    let f = rounds_follow a b s n new clear h in
+    record {
+      coming = f.coming;
+      going = f.going;
+      is_coming = f.is_coming;
+      is_going = f.is_going;
+      steps = f.steps;
+      outcomes = f.outcomes;
+      link = f.link;
+      are = f.are;
+      moves = f.moves;
+      left = f.own;
+      right = f.other;
+      least = f.least;
+    }
 
 -- ---- a round that an end stopped
 
-pub record IsStopped (a b : EndState) : Type 0 where
-  pub steps : List Step
-  pub outcomes : List Outcome
-  pub link : B.Link
-  pub are : B.AreSteps (B.link_of a b) steps outcomes link
-  pub moves : AreMoves steps
-  pub error : TurnError
-  pub calm : IsCalm (Err error)
-  pub fault : HasFault error outcomes
+halt_stops : (a b : EndState) (n : ℕ) (s : Side) (old new : Moment) (t : Talker) → Follows a b n s old t → IsHalt old new → IsStopped a b
+halt_stops a b n s old new t f h = refuses a b n s h.1 new t h.2 (turns_follow a b n s h.0 old h.1 t f h.3) h.4
 
-calm_of : (e : TurnError) → e ≢ turn_error.Memory → IsCalm (Err e)
-calm_of turn_error.Memory n = absurd (n refl)
-calm_of turn_error.Busy n = tt
-calm_of (turn_error.Refused r) n = tt
+pub halted_stops : (a b : EndState) (n : ℕ) (old new : Ends) → Follows a b n Left (at_left old) old.right → IsHalted old new → IsStopped a b
+halted_stops a b n old new f (inl h) = halt_stops a b n Left (at_left old) (at_left new) old.right f h.0
+halted_stops a b n old new f (inr h) =
+    let k : ℕ = n + count_of h.0 in
+    halt_stops a b k Right (at_right h.1) (at_right new) h.1.left (at_other a b k h.1 (left_follows a b n h.0 old h.1 f h.2 h.3)) h.4
 
-stopped_right : (a b : EndState) (n : ℕ) (old new : Ends) → AreStepsTo a b n old → Halts old.left old.right new.left new.right → IsStopped a b
-stopped_right a b n old new st h =
-    let stop : Result Unit TurnError = Err h.0 in
-    let one : IsMove st.link.left.half old.right new.left new.right stop =
-    subst (λ (x : HalfState). IsMove x old.right new.left new.right stop) (sym st.left) h.2 in
-    let two : IsMove st.link.left.half st.link.right.half new.left new.right stop =
-    subst (λ (x : HalfState). IsMove st.link.left.half x new.left new.right stop) (sym st.right) one in
-    let c : Carries Right st.link stop new.left new.right = carries Right st.link stop new.left new.right (calm_of h.0 h.1) st.right_took two in
+-- ---- a round that moved nothing
+
+-- nothing is to be sent, pending or on its way to the end
+pub record IsStill (m : Moment) : Type 0 where
+  pub sent : m.half.outbox ≡ []
+  pub pending : m.pending ≡ []
+  pub coming : IsAtEnd m.seen.coming
+
+call_still : (old new : Moment) → IsCall false old new → IsStill new
+call_still old new c =
+    let w = c.3 in
+    let idle = w.idle refl in
     record {
-      steps = st.steps ++ c.steps;
-      outcomes = st.outcomes ++ c.outcomes;
-      link = c.link;
-      are = steps_both st.steps c.steps st.outcomes c.outcomes (B.link_of a b) st.link c.link st.are c.are;
-      moves = moves_both st.steps c.steps st.moves c.moves;
-      error = h.0;
-      calm = calm_of h.0 h.1;
-      fault = fault_after h.0 st.outcomes c.outcomes c.is;
+      sent = ap (λ x. x.outbox) w.half ∙ idle.0;
+      pending = w.pending ∙ idle.1;
+      coming = subst IsAtEnd (sym w.coming) idle.2;
     }
 
-stopped_left : (a b : EndState) (n : ℕ) (old new : Ends) → AreStepsTo a b n old → Halts old.right old.left new.right new.left → IsStopped a b
-stopped_left a b n old new st h =
-    let stop : Result Unit TurnError = Err h.0 in
-    let one : IsMove st.link.right.half old.left new.right new.left stop =
-    subst (λ (x : HalfState). IsMove x old.left new.right new.left stop) (sym st.right) h.2 in
-    let two : IsMove st.link.right.half st.link.left.half new.right new.left stop =
-    subst (λ (x : HalfState). IsMove st.link.right.half x new.right new.left stop) (sym st.left) one in
-    let c : Carries Left st.link stop new.right new.left = carries Left st.link stop new.right new.left (calm_of h.0 h.1) st.left_took two in
-    record {
-      steps = st.steps ++ c.steps;
-      outcomes = st.outcomes ++ c.outcomes;
-      link = c.link;
-      are = steps_both st.steps c.steps st.outcomes c.outcomes (B.link_of a b) st.link c.link st.are c.are;
-      moves = moves_both st.steps c.steps st.moves c.moves;
-      error = h.0;
-      calm = calm_of h.0 h.1;
-      fault = fault_after h.0 st.outcomes c.outcomes c.is;
-    }
+turns_seen : (k : ℕ) (old new : Moment) → AreTurns k old new → new.seen ≡ old.seen
+turns_seen zero old new h = ap (λ (m : Moment). m.seen) h
+turns_seen (suc k) old new h =
+    elim h.2 [
+      | inl w ↦ w.seen ∙ turns_seen k old h.0 h.1
+      | inr w ↦ w.seen ∙ turns_seen k old h.0 h.1
+    ]
 
-pub halt_is : (a b : EndState) (n : ℕ) (old new : Ends) → AreStepsTo a b n old → IsHalt old new → IsStopped a b
-halt_is a b n old new st (inl h) = stopped_right a b n old new st h
-halt_is a b n old new st (inr h) = stopped_left a b (n + count_of h.0) h.1 new (goes_right a b n old h.1 h.0 st h.2) h.3
+-- what it sends stays as it was
+call_sends_none : (old new : Moment) → IsCall false old new → new.seen.gone ≡ old.seen.gone
+call_sends_none old new c = c.3.gone ∙ ap (λ (s : Seen). s.gone) (turns_seen c.0 old c.1 c.2)
 
--- ---- what the feeds hold
+neither : (there back : Bool) → false ≡ (there || back) → (there ≡ false) × (back ≡ false)
+neither true back e = absurd (cc)
+neither false back e = (refl, sym e)
 
--- no whole item is held, and nothing that is refused
-abbrev pub IsOpen : HalfState → Type 0
-IsOpen a = is_closed a.feed.stage a.feed.held ≡ false
-
-open_handled : (ends : List HalfState) (a : HalfState) (bytes : List ℕ) (n : ℕ) (b : HalfState) → AreHandled ends a bytes n (Ok tt) b → IsOpen b
-open_handled [] a bytes n b h = subst IsOpen (sym h.1.1) h.1.0.1
-open_handled (next ∷ ends) a bytes n b h = open_handled ends next _ h.1.0 b h.1.2
-
-open_passes : (moved : Bool) (s r s' r' : HalfState) → Passes moved s r s' r' → IsOpen s → IsOpen r → IsOpen s' × IsOpen r'
-open_passes false s r s' r' h p q = (subst IsOpen (sym h.1) p, subst IsOpen (sym h.2) q)
-open_passes true s r s' r' h p q = (subst IsOpen (sym h.sent) p, open_handled h.handled.0 r (take h.count s.outbox) h.used r' h.handled.1)
-
-pub rounds_open : (a b : EndState) (n : ℕ) (new : Ends) → AreRounds n (begun a b) new → IsOpen new.left × IsOpen new.right
-rounds_open a b zero new h =
-    let P : Ends → Type 0 = λ e. IsOpen e.left × IsOpen e.right in
-    subst P (sym h) (hand_open a.own, hand_open b.own)
-rounds_open a b (suc n) new h =
-    let r = h.2 in
-    let before = rounds_open a b n h.0 h.1 in
-    let first = open_passes r.there h.0.left h.0.right r.middle.left r.middle.right r.goes before.0 before.1 in
-    let second = open_passes r.back r.middle.right r.middle.left new.right new.left r.comes first.1 first.0 in
-    (second.1, second.0)
+pub round_still : (old new : Ends) → IsRound false old new → IsStill (at_left new) × IsStill (at_right new)
+round_still old new r =
+    let none = neither r.there r.back r.moved_is in
+    let goes : IsCall false (at_left old) (at_left r.middle) = subst (λ (x : Bool). IsCall x (at_left old) (at_left r.middle)) none.0 r.goes in
+    let comes : IsCall false (at_right r.middle) (at_right new) = subst (λ (x : Bool). IsCall x (at_right r.middle) (at_right new)) none.1 r.comes in
+    let left = call_still (at_left old) (at_left r.middle) goes in (
+      record {
+        sent = ap (λ (t : Talker). t.half.outbox) r.left ∙ left.sent;
+        pending = ap (λ (t : Talker). t.pending) r.left ∙ left.pending;
+        coming = subst IsAtEnd (sym (call_sends_none (at_right r.middle) (at_right new) comes)) left.coming;
+      },
+      call_still (at_right r.middle) (at_right new) comes,
+    )

@@ -1,4 +1,5 @@
 pub mod Looping
+pub mod Feeding
 pub mod Turned
 pub mod Followed
 pub mod Counted

@@ -1,8 +1,7 @@
 -- What `loop` does: its ends, and what it writes.
-use Rattle.std.specs.Prelude.{◌≡◌, ◌⊎◌, ℕ, ◌≤◌, true, false, ⊤, List, ◌++◌, length, codes, decimal, Option, Some, None, Result, Ok, Err}
+use Rattle.std.specs.Prelude.{◌≡◌, ◌⊎◌, ℕ, ◌*◌, ◌≤◌, true, false, ⊤, List, ◌++◌, length, codes, decimal, Option, Some, None, Result, Ok, Err}
 use Rattle.std.specs.Io.KnownBytes.{Consumes, Appends}
 use Rattle.std.specs.Global.{Vec}
-use Rattle.bt_io.specs.Counts.{Grew}
 use Rattle.sha1.specs.Sha1.{sha1}
 use Rattle.hex.specs.Hex.{encode_lower}
 use Rattle.bt_ext.specs.declared.ids.Rules.{Rules}
@@ -14,7 +13,9 @@ use Rattle.bt_end.specs.declared.config.Announce.TheVariants.{Silent}
 use Rattle.bt_end.specs.Configs.{is_bad_size}
 use Rattle.bt_end.specs.Ends.{EndState, Serving, Awaiting, unopened, metadata_of}
 use Rattle.bt_end.specs.Halves.{HalfState, connected}
-use Rattle.bt_exchange.specs.Boths.{IsSide, IsUpBy}
+use Rattle.bt_exchange.specs.Boths.{IsSide, IsUpBy, HasFailed}
+use Rattle.bt_exchange.specs.Connections.{Counts}
+use Rattle.bt_exchange.specs.Stops.{IsCalm}
 use Rattle.bt_exchange.specs.declared.both.Both.{Both}
 use Rattle.bt_link.specs.FetchLaws.{IsFetchPair, most_bytes}
 use Rattle.bt_text.specs.declared.ended.ToolFault.{ToolFault}
@@ -99,7 +100,8 @@ IsLooped rules limit text held held' r = (is_bad_size (length text) ≡ false) �
 
 -- ---- a fetch
 
--- `Unfetched` isn't answered, and `Turns` only where both ends may send as many bytes as rounds may be made
+-- `Unfetched` isn't answered, and `Turns` only where both ends may send half as many bytes as rounds may be made, since each byte is
+-- written and read
 abbrev pub IsFetching : List ℕ → Result LoopEnd ToolFault → Type 0
 IsFetching text (Ok Unfetched) = ⊥
 IsFetching text (Err fault.Turns) = 1048576 ≤ most_bytes (length text)
@@ -120,11 +122,12 @@ IsTimely AtEnd (Ok Fetched) = AtEnd
 IsTimely AtEnd (Ok Unfetched) = AtEnd
 IsTimely AtEnd other = ⊤
 
--- a call of the wire failed exactly where the answer says so; and as many calls were made as rounds, where it stopped for these
-abbrev pub IsWireFault : ℕ → ℕ → ℕ → ℕ → Result LoopEnd ToolFault → Type 0
-IsWireFault failed failed' calls calls' (Err fault.Net) = Grew failed failed'
-IsWireFault failed failed' calls calls' (Err fault.Turns) = (failed' ≡ failed) × IsUpBy 1048576 calls calls'
-IsWireFault failed failed' calls calls' other = failed' ≡ failed
+-- A call of the wire failed, or gave the end, exactly where the answer says so. Where it stopped for the rounds, each of them made
+-- two calls.
+abbrev pub IsWireFault : Counts → Counts → Result LoopEnd ToolFault → Type 0
+IsWireFault old new (Err fault.Net) = HasFailed old new
+IsWireFault old new (Err fault.Turns) = IsCalm old new × IsUpBy (2 * 2097152) old.calls new.calls
+IsWireFault old new other = IsCalm old new
 
 -- ---- for private contracts
 

@@ -4,10 +4,10 @@ ghost use Rattle.std.specs.Prelude.{◌≡◌, ◌≢◌, ◌≤◌, ◌++◌, t
 ghost use Rattle.hex.specs.Hex.{encode_lower};
 ghost use Rattle.std.specs.Io.KnownBytes.{Consumes};
 ghost use Rattle.bt_end.specs.Ends.{metadata_of};
-ghost use Rattle.bt_exchange.specs.Rounds.{IsClear};
 ghost use Rattle.bt_io.specs.Seen.{EndRead, ReadFailed, WriteFailed};
 ghost use Rattle.bt_net.specs.Loops.{IsInput, IsLooped, IsLinked, IsPrinted, IsTimely, IsWireFault, IsWrite, count_line, fetched_line, fetched_lines, status_of};
 ghost use Rattle.bt_net.specs.Loops.{Fetches, IsFetching};
+ghost use Rattle.bt_net.specs.Runs.{IsClear};
 
 use crate::ends::{fetching, serving};
 use bt_end::{End, EndError};
@@ -21,7 +21,7 @@ use sha1::Sha1;
 use std::alloc::{AllocError, Global};
 
 /// The greatest number of rounds.
-pub const ROUNDS: u64 = 1_048_576;
+pub const ROUNDS: u64 = 2_097_152;
 
 /// How a loop ended.
 #[derive(Clone, Copy, PartialEq, Eq, Debug)]
@@ -154,11 +154,11 @@ fn link<W: Wire, T: Target>(
     writer: &mut T,
 ) -> Result<LoopEnd, ToolFault>
     ensures linked { IsLinked left right (T.seen writer.old).held (T.seen writer.new).held result }
-    ensures fetches { IsClear (W.on_way wire.old) → Fetches left right result }
-    ensures net { IsWireFault (W.failed wire.old) (W.failed wire.new) (W.calls wire.old) (W.calls wire.new) result }
+    ensures fetches { IsClear (W.seen wire.old) → Fetches left right result }
+    ensures net { IsWireFault (W.seen wire.old).counts (W.seen wire.new).counts result }
     ensures failed { result ≡ Err ToolFault.Write → WriteFailed (T.seen writer.old) (T.seen writer.new) }
 {
-    match run_both(wire, &mut left, &mut right, ROUNDS) {
+    match run_both(alloc, wire, &mut left, &mut right, ROUNDS) {
         Ok(both) => print(alloc, both, &right, writer),
         Err(BothError::Net) => Err(ToolFault::Net),
         Err(BothError::Rounds) => Err(ToolFault::Turns),
@@ -177,9 +177,9 @@ fn run_metadata<W: Wire, T: Target>(
 ) -> Result<LoopEnd, ToolFault>
     requires { (32768 ≤ limit) × (limit ≤ 1048576) }
     ensures looped { IsLooped rules limit metadata.items (T.seen writer.old).held (T.seen writer.new).held result }
-    ensures fetches { IsClear (W.on_way wire.old) → IsFetching metadata.items result }
+    ensures fetches { IsClear (W.seen wire.old) → IsFetching metadata.items result }
     ensures unread { result ≢ Err ToolFault.Read }
-    ensures net { IsWireFault (W.failed wire.old) (W.failed wire.new) (W.calls wire.old) (W.calls wire.new) result }
+    ensures net { IsWireFault (W.seen wire.old).counts (W.seen wire.new).counts result }
     ensures failed { result ≡ Err ToolFault.Write → WriteFailed (T.seen writer.old) (T.seen writer.new) }
 {
     let hash = Sha1::digest(metadata.as_slice());
@@ -202,8 +202,8 @@ fn run_metadata<W: Wire, T: Target>(
 /// The left end serves under the id 3, and the right one fetches under the id 9. The wire is used once all is read.
 ///
 /// # Errors
-/// `Read` and `Write` where a device failed, `Net` where a call of the wire failed or moved nothing, `Turns` after 1,048,576
-/// rounds, and `Memory` where a growth was refused. After `Write` a prefix of the output is written, and after the others
+/// `Read` and `Write` where a device failed, `Net` where a call of the wire failed, took nothing or gave the end, `Turns` after
+/// 2,097,152 rounds, and `Memory` where a growth was refused. After `Write` a prefix of the output is written, and after the others
 /// nothing.
 pub fn run_loop<R: Source, T: Target, W: Wire>(
     alloc: Global,
@@ -215,10 +215,10 @@ pub fn run_loop<R: Source, T: Target, W: Wire>(
 ) -> Result<LoopEnd, ToolFault>
     requires { (32768 ≤ limit) × (limit ≤ 1048576) }
     ensures looped { (text : List ℕ) × Consumes (R.seen reader.old).left (R.seen reader.new).left text × IsLooped rules limit text (T.seen writer.old).held (T.seen writer.new).held result }
-    ensures fetches { (text : List ℕ) × Consumes (R.seen reader.old).left (R.seen reader.new).left text × (IsClear (W.on_way wire.old) → IsFetching text result) }
+    ensures fetches { (text : List ℕ) × Consumes (R.seen reader.old).left (R.seen reader.new).left text × (IsClear (W.seen wire.old) → IsFetching text result) }
     ensures end { IsTimely (EndRead (R.seen reader.old) (R.seen reader.new)) result }
     ensures read { result ≡ Err ToolFault.Read → ReadFailed (R.seen reader.old) (R.seen reader.new) }
-    ensures net { IsWireFault (W.failed wire.old) (W.failed wire.new) (W.calls wire.old) (W.calls wire.new) result }
+    ensures net { IsWireFault (W.seen wire.old).counts (W.seen wire.new).counts result }
     ensures failed { result ≡ Err ToolFault.Write → WriteFailed (T.seen writer.old) (T.seen writer.new) }
 {
     match read_metadata(alloc, reader) {

@@ -1,15 +1,16 @@
-use Rattle.std.proofs.Common.{◌≡◌}
+use Rattle.std.proofs.Common.{◌*◌, []}
 use Rattle.bt_exchange.specs.Boths.{IsSide, IsUpBy}
-use Rattle.bt_exchange.specs.Rounds.{IsClear, AreRounds}
+use Rattle.bt_exchange.specs.Rounds.{AreRounds, ends_of}
+use Rattle.bt_exchange.specs.Stops.{IsCalm}
 use Rattle.bt_exchange.proofs.both.run_both.Given as goal
 
--- no call of the wire failed, each round made one and moved a byte, and so many items were handled
+-- each round made two calls, of which none failed, and moved a byte; and so many items were handled
 abbrev pub invariant-loop-round : goal.invariant-loop-round
 invariant-loop-round g l = record {
-  failed : g.W.Wire.failed l.wire ≡ g.W.Wire.failed l.fn.wire;
-  calls : IsUpBy l._round (g.W.Wire.calls l.fn.wire) (g.W.Wire.calls l.wire);
+  calm : IsCalm (g.W.Connection.seen l.fn.wire).counts (g.W.Connection.seen l.wire).counts;
+  calls : IsUpBy (2 * l._round) (g.W.Connection.seen l.fn.wire).counts.calls (g.W.Connection.seen l.wire).counts.calls;
   left : IsSide l.fn.left l.left l.items.0;
   right : IsSide l.fn.right l.right l.items.1;
-  rounds : IsClear (g.W.Wire.on_way l.fn.wire) → IsClear (g.W.Wire.on_way l.wire) × AreRounds l._round (record { left = l.fn.left; right = l.fn.right })
-      (record { left = l.left; right = l.right });
+  rounds : AreRounds l._round (ends_of (g.W.Connection.seen l.fn.wire) [] [] l.fn.left l.fn.right)
+      (ends_of (g.W.Connection.seen l.wire) l.at_left l.at_right l.left l.right);
 }

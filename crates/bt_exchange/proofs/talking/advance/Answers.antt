@@ -1,28 +1,37 @@
-use Rattle.std.proofs.Common.{Ok, Some, None, Err, ap, ◌∙◌, arith}
-use Rattle.bt_exchange.proofs.Moves.{advanced_filled, advanced_read}
+use Rattle.std.proofs.Common.{arith}
+use Rattle.bt_exchange.proofs.Moves.{IsFilled, advanced_filled}
+use Rattle.bt_exchange.proofs.Steps.{exact_filled}
+use Rattle.bt_exchange.proofs.talking.advance.Given.{Over}
+use Rattle.bt_exchange.proofs.talking.advance.Goals.{After-fill}
 use Rattle.bt_exchange.proofs.talking.advance.Goals as goal
 
-pub returns-then-not-is_empty : goal.returns-then-not-is_empty
-returns-then-not-is_empty g c = c.send.ensures _
+is_filled : (g : Over) (c : After-fill g) → IsFilled g.C.Connection.prompt (g.C.Connection.seen c.args.connection.now)
+    (g.C.Connection.seen c.fill.new.connection) c.args.end.now c.args.hearing.now c.fill.new.self c.fill.result
+is_filled g c = record {
+  sent = grind (arith, c.is_empty.ensures, c.if-not-is_empty.false, c.outgoing.ensures.value);
+  was = grind (arith, c.is_empty-2.ensures, c.if-not-is_empty-2.false, c.bytes.ensures);
+  fills = c.fill.ensures.bytes;
+  count = c.fill.ensures.count;
+  counts = c.fill.ensures.counts;
+  none = c.fill.ensures.none;
+}
 
-pub returns-then-not-is_empty-2 : goal.returns-then-not-is_empty-2
-returns-then-not-is_empty-2 g c = c.take_turn.ensures _
+pub returns-then-not-is_empty-clause-advanced : goal.returns-then-not-is_empty-clause-advanced
+returns-then-not-is_empty-clause-advanced g c = c.send.ensures.advanced c.args.hearing.now
 
-pub returns-in-Ok-Some-eq0 : goal.returns-in-Ok-Some-eq0
-returns-in-Ok-Some-eq0 g c = advanced_filled _ _ c.args.end.now c.fill.result (Ok (Some 0)) c.args.hearing.now c.fill.new.self
-    (grind (arith, c.is_empty-2.ensures, c.if-not-is_empty-2.false, c.bytes.ensures)) (c.in-Ok-Some-eq0.is
-    ∙ ap Ok (c.in-Ok-Some-eq0.field-0-is ∙ ap Some c.in-Ok-Some-eq0.field-0-0-test)) c.fill.ensures.bytes c.fill.ensures.counts
+pub returns-then-not-is_empty-clause-exact : goal.returns-then-not-is_empty-clause-exact
+returns-then-not-is_empty-clause-exact g c = c.send.ensures.exact c.args.hearing.now
 
-pub returns-in-Ok-Some : goal.returns-in-Ok-Some
-returns-in-Ok-Some g c = advanced_read _ _ c.args.end.now c.fill.result c.in-Ok-Some.field-0-0 c.args.hearing.now c.fill.new.self
-    (grind (arith, c.is_empty-2.ensures, c.if-not-is_empty-2.false, c.bytes.ensures)) (omega (arith, c.in-Ok-Some.field-0-0-test)) (c.in-Ok-Some.is
-    ∙ ap Ok c.in-Ok-Some.field-0-is) c.fill.ensures.bytes c.fill.ensures.counts
+pub returns-then-not-is_empty-2-clause-advanced : goal.returns-then-not-is_empty-2-clause-advanced
+returns-then-not-is_empty-2-clause-advanced g c = c.take_turn.ensures.advanced (g.C.Connection.seen c.args.connection.now)
 
-pub returns-in-Ok-None : goal.returns-in-Ok-None
-returns-in-Ok-None g c = advanced_filled _ _ c.args.end.now c.fill.result (Ok None) c.args.hearing.now c.fill.new.self
-    (grind (arith, c.is_empty-2.ensures, c.if-not-is_empty-2.false, c.bytes.ensures)) (c.in-Ok-None.is ∙ ap Ok c.in-Ok-None.field-0-is) c.fill.ensures.bytes
-    c.fill.ensures.counts
+pub returns-then-not-is_empty-2-clause-exact : goal.returns-then-not-is_empty-2-clause-exact
+returns-then-not-is_empty-2-clause-exact g c = c.take_turn.ensures.exact (g.C.Connection.seen c.args.connection.now) g.C.Connection.prompt
 
-pub returns-in-Err : goal.returns-in-Err
-returns-in-Err g c = advanced_filled _ _ c.args.end.now c.fill.result (Err c.in-Err.field-0) c.args.hearing.now c.fill.new.self
-    (grind (arith, c.is_empty-2.ensures, c.if-not-is_empty-2.false, c.bytes.ensures)) c.in-Err.is c.fill.ensures.bytes c.fill.ensures.counts
+pub returns-clause-advanced : goal.returns-clause-advanced
+returns-clause-advanced g c = advanced_filled g.C.Connection.prompt _ _ _ _ _ _ c.read_step.result c.read_step.ensures
+    (is_filled g (goal.at.returns-clause-advanced g c).After-fill)
+
+pub returns-clause-exact : goal.returns-clause-exact
+returns-clause-exact g c = exact_filled g.C.Connection.prompt _ _ _ _ _ _ c.read_step.result c.read_step.ensures
+    (is_filled g (goal.at.returns-clause-exact g c).After-fill)

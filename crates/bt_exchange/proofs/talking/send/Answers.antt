@@ -1,21 +1,24 @@
-use Rattle.std.proofs.Common.{Ok, Some, None, Err, refl, ap, ◌∙◌, arith}
-use Rattle.bt_exchange.proofs.Moves.{advanced_written, moved_some}
+use Rattle.bt_exchange.proofs.Moves.{IsWritten, advanced_written}
+use Rattle.bt_exchange.proofs.Steps.{exact_written}
+use Rattle.bt_exchange.proofs.talking.send.Given.{Over}
+use Rattle.bt_exchange.proofs.talking.send.Goals.{After-write_step}
 use Rattle.bt_exchange.proofs.talking.send.Goals as goal
 
-pub returns-in-Ok-Some-eq0 : goal.returns-in-Ok-Some-eq0
-returns-in-Ok-Some-eq0 g c = λ pending. advanced_written _ _ pending c.outgoing.result.now c.args.end.now c.args.end.now c.write.result (Ok (Some 0))
-    c.requires c.outgoing.ensures.value (c.in-Ok-Some-eq0.is ∙ ap Ok (c.in-Ok-Some-eq0.field-0-is ∙ ap Some c.in-Ok-Some-eq0.field-0-0-test)) refl
-    c.write.ensures.bytes c.write.ensures.counts
+has_written : (g : Over) (c : After-write_step g) → IsWritten g.C.Connection.prompt (g.C.Connection.seen c.args.connection.now)
+    (g.C.Connection.seen c.write-wrote.new.self) c.outgoing.result.now c.args.end.now c.write_step.new.end c.write-wrote.result
+has_written g c = record {
+  some = c.requires;
+  is = c.outgoing.ensures.value;
+  half = c.write_step.ensures.end;
+  writes = c.write-wrote.ensures.bytes;
+  counts = c.write-wrote.ensures.counts;
+  none = c.write-wrote.ensures.none;
+}
 
-pub returns-in-Ok-None : goal.returns-in-Ok-None
-returns-in-Ok-None g c = λ pending. advanced_written _ _ pending c.outgoing.result.now c.args.end.now c.args.end.now c.write.result (Ok None) c.requires
-    c.outgoing.ensures.value (c.in-Ok-None.is ∙ ap Ok c.in-Ok-None.field-0-is) refl c.write.ensures.bytes c.write.ensures.counts
+pub returns-clause-advanced : goal.returns-clause-advanced
+returns-clause-advanced g c = λ pending. advanced_written g.C.Connection.prompt _ _ pending _ _ _ _ c.write_step.result c.write_step.ensures.step
+    (has_written g (goal.at.returns-clause-advanced g c).After-write_step)
 
-pub returns-in-Err : goal.returns-in-Err
-returns-in-Err g c = λ pending. advanced_written _ _ pending c.outgoing.result.now c.args.end.now c.args.end.now c.write.result (Err c.in-Err.field-0)
-    c.requires c.outgoing.ensures.value c.in-Err.is refl c.write.ensures.bytes c.write.ensures.counts
-
-pub returns-in-Ok-Some : goal.returns-in-Ok-Some
-returns-in-Ok-Some g c = λ pending. moved_some _ _ pending c.outgoing.result.now c.args.end.now c.sent.new.self c.write.result c.in-Ok-Some.n
-    (omega (arith, c.in-Ok-Some.n-test)) c.requires c.outgoing.ensures.value (c.in-Ok-Some.is ∙ ap Ok c.in-Ok-Some.field-0-is) c.sent.ensures
-    c.write.ensures.bytes c.write.ensures.counts
+pub returns-clause-exact : goal.returns-clause-exact
+returns-clause-exact g c = λ pending. exact_written g.C.Connection.prompt _ _ pending _ _ _ _ c.write_step.result c.write_step.ensures.step
+    (has_written g (goal.at.returns-clause-exact g c).After-write_step)

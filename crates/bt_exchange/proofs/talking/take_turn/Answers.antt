@@ -1,29 +1,31 @@
-use Rattle.std.proofs.Common.{ℕ, length, Ok, Err, ap, ◌∙◌, arith}
-use Rattle.bt_end.specs.declared.end.Turn.TheVariants.{Handled, Idle}
-use Rattle.bt_end.specs.declared.end.TurnError.TheVariants as turn_error
-use Rattle.bt_exchange.proofs.Moves.{advanced_turned}
+use Rattle.bt_exchange.proofs.Moves.{IsGiven, advanced_turned, not_busy}
+use Rattle.bt_exchange.proofs.Steps.{exact_turned}
+use Rattle.bt_exchange.proofs.talking.take_turn.Given.{Over}
+use Rattle.bt_exchange.proofs.talking.take_turn.Goals.{After-turn}
 use Rattle.bt_exchange.proofs.talking.take_turn.Goals as goal
 
-pub returns-in-Ok-Handled : goal.returns-in-Ok-Handled
-returns-in-Ok-Handled g c = λ seen. advanced_turned seen c.args.hearing.now c.pass.new.self c.bytes.result.now c.args.end.now c.receive-n.new.self
-    c.turn.new.self c.turn.result (Ok Handled) c.receive-n.result c.requires.feed.limit c.requires.sent c.requires.pending c.bytes.ensures
-    c.receive-n.ensures.taken (omega (arith, c.receive-n.ensures.in_range, ap (length {A = ℕ}) c.bytes.ensures)) c.receive-n.ensures.end c.pass.ensures
-    (c.in-Ok-Handled.is ∙ ap Ok c.in-Ok-Handled.field-0-is) c.turn.ensures
+is_given : (g : Over) (c : After-turn g) → IsGiven c.args.hearing.now c.pass.new.self c.bytes.result.now c.args.end.now c.receive-n.new.self
+    c.turn.new.self c.turn.result c.receive-n.result
+is_given g c = record {
+  limit = c.requires.feed.limit;
+  sent = c.requires.sent;
+  some = c.requires.pending;
+  is = c.bytes.ensures;
+  taken = c.receive-n.ensures.taken;
+  within = c.receive-n.ensures.in_range;
+  fed = c.receive-n.ensures.end;
+  rest = c.pass.ensures;
+  turned = c.turn.ensures;
+}
 
-pub returns-in-Ok-Idle : goal.returns-in-Ok-Idle
-returns-in-Ok-Idle g c = λ seen. advanced_turned seen c.args.hearing.now c.pass.new.self c.bytes.result.now c.args.end.now c.receive-n.new.self
-    c.turn.new.self c.turn.result (Ok Idle) c.receive-n.result c.requires.feed.limit c.requires.sent c.requires.pending c.bytes.ensures
-    c.receive-n.ensures.taken (omega (arith, c.receive-n.ensures.in_range, ap (length {A = ℕ}) c.bytes.ensures)) c.receive-n.ensures.end c.pass.ensures
-    (c.in-Ok-Idle.is ∙ ap Ok c.in-Ok-Idle.field-0-is) c.turn.ensures
+pub turn_step-requires : goal.turn_step-requires
+turn_step-requires g c = λ e. not_busy c.args.end.now c.receive-n.new.self c.turn.new.self c.bytes.result.now c.turn.result c.requires.sent
+    c.receive-n.ensures.end c.turn.ensures e
 
-pub returns-in-Err-Refused : goal.returns-in-Err-Refused
-returns-in-Err-Refused g c = λ seen. advanced_turned seen c.args.hearing.now c.pass.new.self c.bytes.result.now c.args.end.now c.receive-n.new.self
-    c.turn.new.self c.turn.result (Err (turn_error.Refused c.in-Err-Refused.refusal)) c.receive-n.result c.requires.feed.limit c.requires.sent
-    c.requires.pending c.bytes.ensures c.receive-n.ensures.taken (omega (arith, c.receive-n.ensures.in_range, ap (length {A = ℕ}) c.bytes.ensures))
-    c.receive-n.ensures.end c.pass.ensures (c.in-Err-Refused.is ∙ ap Err c.in-Err-Refused.field-0-is) c.turn.ensures
+pub returns-clause-advanced : goal.returns-clause-advanced
+returns-clause-advanced g c = λ seen. advanced_turned seen _ _ _ _ _ _ _ _ c.turn_step.result c.turn_step.ensures
+    (is_given g (goal.at.returns-clause-advanced g c).After-turn)
 
-pub returns-in-Err-Memory : goal.returns-in-Err-Memory
-returns-in-Err-Memory g c = λ seen. advanced_turned seen c.args.hearing.now c.pass.new.self c.bytes.result.now c.args.end.now c.receive-n.new.self
-    c.turn.new.self c.turn.result (Err turn_error.Memory) c.receive-n.result c.requires.feed.limit c.requires.sent c.requires.pending c.bytes.ensures
-    c.receive-n.ensures.taken (omega (arith, c.receive-n.ensures.in_range, ap (length {A = ℕ}) c.bytes.ensures)) c.receive-n.ensures.end c.pass.ensures
-    (c.in-Err-Memory.is ∙ ap Err c.in-Err-Memory.field-0-is) c.turn.ensures
+pub returns-clause-exact : goal.returns-clause-exact
+returns-clause-exact g c = λ seen prompt. exact_turned prompt seen _ _ _ _ _ _ _ _ c.turn_step.result c.turn_step.ensures
+    (is_given g (goal.at.returns-clause-exact g c).After-turn)
