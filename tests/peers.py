@@ -556,10 +556,89 @@ def serving(program):
     return failed, 9
 
 
+def resident(process):
+    """The most bytes that were resident so far; 0 where the process has ended."""
+    try:
+        with open("/proc/%d/status" % process.pid) as status:
+            return max([1024 * int(line.split()[1]) for line in status if line.startswith("VmHWM:")], default=0)
+    except (FileNotFoundError, ProcessLookupError):
+        return 0
+
+
+def peak(process, seconds):
+    """The most bytes that are resident until the process ends, or for so many seconds."""
+    most = 0
+    end = time.monotonic() + seconds
+    while process.poll() is None and time.monotonic() < end:
+        most = max(most, resident(process))
+        time.sleep(0.01)
+    return most
+
+
+def above(what, got, least, bound):
+    """Whether at most so many bytes more were resident than without a peer."""
+    if got > 0 and got - least <= bound:
+        return 0
+    print("%s: %d bytes more than without a peer, expected up to %d" % (what, got - least, bound))
+    return 1
+
+
+def longest_messages(link, count):
+    """Sends messages without a meaning, each as long as the limit."""
+    greet(link)
+    while True:
+        link.send(message(99, bytes(LIMIT - 1)))
+
+
+LIMIT = 262144
+# Two messages of the limit, four buffers of 64 KiB, and what the heap keeps.
+BUFFERS = 2 * LIMIT + 4 * 65536 + 1048576
+# Besides, what waits to be sent: less than 1 MiB and a message.
+WAITING = 1048576 + LIMIT
+
+
+def memory(program):
+    """What a peer can take of memory, above what a run without a peer takes. The bounds are those of docs/FETCH.md."""
+    failed = 0
+    large = info_of(8000000)
+    rows = [(telling(33554432), HASH, "--window 8 --most 33554432", 33554432 + BUFFERS, "silent"),
+            (longest_messages, HASH, "--window 8 --rules free", BUFFERS, "silent"),
+            (giving(large), hashlib.sha1(large).digest(), "--torrent", 2 * len(large) + BUFFERS, "fetched")]
+
+    def fetch(info_hash, address, words):
+        process = subprocess.Popen([program, "fetch", info_hash.hex(), address, "--patience", "2"] + words.split(), stdin=subprocess.DEVNULL,
+                                   stdout=subprocess.PIPE, stderr=subprocess.PIPE)
+        most = peak(process, 6)
+        return most, process.communicate(timeout=60)[1].decode()
+    mute = Peer(silent)
+    least, _ = fetch(HASH, mute.address, "")
+    mute.close()
+    for talk, info_hash, words, bound, end in rows:
+        peer = Peer(talk)
+        most, errors = fetch(info_hash, peer.address, words)
+        failed += above("memory of fetch %s" % words, most, least, bound) + same("end of it", errors, "%s %s\n" % (peer.address, end))
+        peer.close()
+
+    with tempfile.NamedTemporaryFile() as file:
+        file.write(INFO)
+        file.flush()
+        server = Server(program, file.name, "--connections", "8", "--patience", "3")
+        least = resident(server.process)
+        links = [server.connect()[0] for _ in range(8)]
+        for link in links:
+            link.send(handshake(), message(20, b"\0d1:md11:ut_metadatai7eee"), message(20, b"\3d8:msg_typei0e5:piecei0ee") * 400)
+        most = peak(server.process, 2)
+        for link in links:
+            link.link.close()
+        failed += above("memory of serve", most, least, len(INFO) + 8 * (WAITING + 2 * LIMIT + 65536) + 1048576)
+        failed += same("ends of greedy peers", str(server.end()[1]), "0")
+    return failed, 2 * len(rows) + 2
+
+
 def main(words):
     program = program_of(words)
     failed = count = 0
-    for part in (hostile, kept, single, shown, unread, unwritten, dialled, serving):
+    for part in (hostile, kept, single, shown, unread, unwritten, dialled, serving, memory):
         more, tried = part(program)
         failed += more
         count += tried
