@@ -1,6 +1,7 @@
 -- What a step did exactly, put together from its calls; and that turns come to an end.
-use Rattle.std.proofs.Common.{◌≡◌, inl, inr, ℕ, zero, suc, ◌+◌, ◌*◌, ◌<◌, ◌≤◌, Bool, true, List, [], ◌∷◌, length, take, drop, Option, Some, None}
+use Rattle.std.proofs.Common.{◌≡◌, inl, inr, ℕ, zero, suc, ◌+◌, ◌*◌, ◌<◌, ◌≤◌, Bool, true, List, length, take, drop, Option, Some, None}
 use Rattle.std.proofs.Common.{Result, Ok, Err, refl, sym, ap, subst, ◌∙◌, arith, length-append, length-take, length-drop}
+use Rattle.std.proofs.lemmas.List.{nil_from_length}
 use Rattle.std.specs.Io.KnownBytes.{Appends}
 use Rattle.bt_feed.specs.Feeds.{taken, pushed}
 use Rattle.bt_feed.specs.Stages.{is_closed, limit_of}
@@ -19,10 +20,6 @@ use Rattle.bt_exchange.specs.declared.talking.Step.{Step}
 use Rattle.bt_exchange.specs.declared.talking.Stop.{Stop}
 use Rattle.bt_exchange.proofs.Moves.{moment, not_busy, IsFilled, IsWritten, IsGiven}
 
-none_left : (xs : List ℕ) → length xs ≡ 0 → xs ≡ []
-none_left [] e = refl
-none_left (x ∷ xs) e = absurd (omega (arith, e))
-
 -- ---- a read
 
 exact_read : {E : Type 0} (prompt : Bool) (s t : Seen) (a : HalfState) (before bytes : List ℕ) (r : Result (Option ℕ) E)
@@ -31,7 +28,7 @@ exact_read prompt s t a before bytes (Ok (Some zero)) f = tt
 exact_read prompt s t a before bytes (Ok (Some (suc n))) f =
     inr (
     record {
-      none = none_left before f.was;
+      none = nil_from_length before f.was;
       some = omega (arith, f.count);
       half = refl;
       reads = f.fills.0;
@@ -41,11 +38,11 @@ exact_read prompt s t a before bytes (Ok (Some (suc n))) f =
     )
 exact_read prompt s t a before bytes (Ok None) f = record {
   half = refl;
-  pending = f.fills.0 ∙ sym (none_left before f.was);
+  pending = f.fills.0 ∙ sym (nil_from_length before f.was);
   coming = f.fills.1;
   gone = f.fills.2;
   calls = ap (λ (x : Counts). x.calls) f.counts;
-  idle = λ p. (none_left a.outbox f.sent, none_left before f.was, f.none p refl);
+  idle = λ p. (nil_from_length a.outbox f.sent, nil_from_length before f.was, f.none p refl);
 }
 exact_read prompt s t a before bytes (Err e) f = tt
 
@@ -105,7 +102,7 @@ has_turned s p q piece a b c r n g =
     let facts = subst B g.is (g.taken, g.fed) in
     let turned : IsTurned (received a p) r c = subst (λ (x : HalfState). IsTurned x r c) facts.1 g.turned in
     record {
-      sent = none_left a.outbox g.sent;
+      sent = nil_from_length a.outbox g.sent;
       some = omega (arith, g.some);
       turned = turned;
       full = λ e. full_after a c p g.limit (subst (λ (x : Result Turn TurnError). IsTurned (received a p) x c) e turned);

@@ -1,9 +1,8 @@
 -- What is seen in a round of an exchange, and in the rounds together.
-use Rattle.std.proofs.Common.{◌≡◌, ◌+◌, ◌<◌, ◌≤◌, ℕ, true, false, List, [], ◌∷◌, ◌++◌, length, is_some, Some, Result, Ok, Err, refl, sym, ap, subst}
+use Rattle.std.proofs.Common.{◌≡◌, ◌+◌, ◌<◌, ◌≤◌, ℕ, true, false, List, [], ◌++◌, length, is_some, Some, Result, Ok, Err, refl, sym, ap, subst}
 use Rattle.std.proofs.Common.{◌∙◌, arith}
-use Rattle.std.proofs.lemmas.List.{append-nil}
+use Rattle.std.proofs.lemmas.List.{append-nil, nil_from_length}
 use Rattle.std.proofs.KnownBytes.{Consumes-nil, Appends-nil}
-use Rattle.bt_wire.specs.declared.item.Item.{Item}
 use Rattle.bt_end.specs.Ends.{EndState, metadata_of, headway_of}
 use Rattle.bt_end.specs.declared.part.Headway.{Headway}
 use Rattle.bt_exchange.specs.Connections.{Seen, Counts, at_time}
@@ -45,12 +44,8 @@ made_clock m s t e =
 
 -- ---- steps that handle nothing
 
-empty : (xs : List (ℕ × Item)) → length xs ≡ 0 → xs ≡ []
-empty [] e = refl
-empty (x ∷ xs) e = absurd (omega (arith, e))
-
 no_items : (old new : Moment) (m : IsMoved old new) → length m.course.items ≡ 0 → new.half.end ≡ old.half.end
-no_items old new m none = m.course.end ∙ ap (end_after old.half.end) (empty m.course.items none)
+no_items old new m none = m.course.end ∙ ap (end_after old.half.end) (nil_from_length m.course.items none)
 
 pub step_end : (old new : Moment) (r : Result Step Stop) → items_of r ≡ 0 → IsAdvanced old new r → new.half.end ≡ old.half.end
 step_end old new r none a = no_items old new a.made.moved (a.items ∙ none)
