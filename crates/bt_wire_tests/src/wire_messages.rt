@@ -329,3 +329,16 @@ fn shapes(rt: HostRuntime) -> Result<(), Fail> {
     }
     Ok(())
 }
+
+#[test]
+fn messages_are_framed(rt: HostRuntime) -> Result<(), Fail> {
+    for (id, fields, bytes) in [
+        (1, b"".as_slice(), b"\0\0\0\x01\x01".as_slice()),
+        (4, b"\0\0\0\x09", b"\0\0\0\x05\x04\0\0\0\x09"),
+        (20, b"\0", b"\0\0\0\x02\x14\0"),
+        (99, b"abc", b"\0\0\0\x04cabc"),
+    ] {
+        assert!(rt; frame(rt.alloc(), id, fields)?.as_slice() == bytes);
+    }
+    Ok(())
+}
