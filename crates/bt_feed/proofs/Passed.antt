@@ -52,13 +52,14 @@ window_there c o rest window k e le is =
     ap (header_of c o) is ∙ window_taken c o rest k e le ∙ ap headers.Window (sym size)
 
 -- one more after those that the piece begins with
-pub passed_more : (c : Context) (o o' : Order) (s n at k count : ℕ) (piece rest window : List ℕ) (xs : List (ℕ × Item)) (m : Message) → rest ≡ drop at piece
+pub passed_more : {c : Context} {o o' : Order} {s n : ℕ} (at : ℕ) {k : ℕ} (count : ℕ) (piece : List ℕ)
+    {rest window : List ℕ} {xs : List (ℕ × Item)} {m : Message} → rest ≡ drop at piece
     → window ≡ take k rest
     → IsFed (waiting (stage.Message c o s n)) (take at piece) xs (waiting (stage.Message c o' (s + at) (n + count)))
     → s + at < 2 ^ 62 → c.limit ≤ 1048576 → k ≤ length rest → IsRead c o' window m
     → IsFed (waiting (stage.Message c o s n)) (take (at + k) piece) (xs ++ (s + at, items.Message m) ∷ [])
     (waiting (stage.Message c (order_after o' m) (s + (at + k)) (n + (count + 1))))
-passed_more c o o' s n at k count piece rest window xs m e is fed lt le within h =
+passed_more {c} {o} {o'} {s} {n} at {k} count piece {rest} {window} {xs} {m} e is fed lt le within h =
     let W : List ℕ → Type 0 = λ b. IsRead c o' b m in
     let one = passed_one c o' (s + at) (n + count) k rest m lt le within (subst W is h) in
     let from = waiting (stage.Message c o s n) in
@@ -160,12 +161,12 @@ fed_passed f s p piece rest at n xs ys e a b =
     let P : List ℕ → Type 0 = λ l. IsFed f l (xs ++ ys) p in
     subst P (front piece rest at n e) (fed_both f s p (take at piece) (take n rest) xs ys a b)
 
-pub passed_on : {S : Type 0} (takes : S → ℕ × Item → S → Type 0) (misses : S → ℕ × Item → SinkFault → S → Type 0) (f s p : FeedState) (a b c : S)
-    (piece rest : List ℕ) (at n : ℕ) (r : Result (Unit {0}) SinkFault) → r ≡ Ok tt → rest ≡ drop at piece
+pub passed_on : {S : Type 0} (takes : S → ℕ × Item → S → Type 0) (misses : S → ℕ × Item → SinkFault → S → Type 0) {f s p : FeedState} {a b c : S}
+    (piece : List ℕ) {rest : List ℕ} (at n : ℕ) {r : Result (Unit {0}) SinkFault} → r ≡ Ok tt → rest ≡ drop at piece
     → (xs : List (ℕ × Item)) × Took takes a xs b × IsFed f (take at piece) xs s
     → (ys : List (ℕ × Item)) × IsHanded takes misses b ys c r × IsFed s (take n rest) ys p
     → (xs : List (ℕ × Item)) × Took takes a xs c × IsFed f (take (at + n) piece) xs p
-passed_on takes misses f s p a b c piece rest at n r e is x y =
+passed_on takes misses {f} {s} {p} {a} {b} {c} piece {rest} at n {r} e is x y =
     (x.0 ++ y.0, took_both takes a b c x.0 y.0 x.1 (handed_all takes misses b c y.0 r e y.1), fed_passed f s p piece rest at n x.0 y.0 is x.2 y.2)
 
 pub missed_by : {S : Type 0} (takes : S → ℕ × Item → S → Type 0) (misses : S → ℕ × Item → SinkFault → S → Type 0) (a b c : S) (xs ys : List (ℕ × Item))

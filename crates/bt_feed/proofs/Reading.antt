@@ -166,19 +166,19 @@ reads_push t all xs f p piece rest later at n h r =
     let bytes : p ≡ with_bytes f (take n rest) = h.held_is ∙ ap (λ (k : ℕ). with_bytes f (take k rest)) (sym h.taken_is) in
     subst Q (unread_at at n piece rest later h.rest_is) (reads_pushed t all xs f p rest later n bytes h.partial (subst P (sym h.rest_is) r))
 
-pub step_item : (t : Stage) (all : List ℕ) (xs : List (ℕ × Item)) (f p g : FeedState) (piece rest later : List ℕ) (at n : ℕ)
-    (answer : Result (Option Item) Refusal) (item : Item) → IsPushed f p piece rest at n
+pub step_item : {t : Stage} {all : List ℕ} {xs : List (ℕ × Item)} {f p g : FeedState} {piece rest : List ℕ} (later : List ℕ) {at n : ℕ}
+    {answer : Result (Option Item) Refusal} {item : Item} → IsPushed f p piece rest at n
     → answer ≡ Ok (Some item) → IsAnswer p answer → g ≡ after p answer → Reads t all xs f (drop at piece ++ later)
     → Reads t all (xs ++ (start_of p.stage, item) ∷ []) g (drop (at + n) piece ++ later)
-step_item t all xs f p g piece rest later at n answer item h e a after_is r =
+step_item {t} {all} {xs} {f} {p} {g} {piece} {rest} later {at} {n} {answer} {item} h e a after_is r =
     let P : Result (Option Item) Refusal → Type 0 = λ x. IsAnswer p x in
     reads_taken t all xs p g item (drop (at + n) piece ++ later) (after_is ∙ ap (after p) e) (subst P e a) (reads_push t all xs f p piece rest later at n h r)
 
-pub step_none : (t : Stage) (all : List ℕ) (xs : List (ℕ × Item)) (f p g : FeedState) (piece rest later : List ℕ) (at n : ℕ)
-    (answer : Result (Option Item) Refusal) → IsPushed f p piece rest at n
+pub step_none : {t : Stage} {all : List ℕ} {xs : List (ℕ × Item)} {f p g : FeedState} {piece rest : List ℕ} (later : List ℕ) {at n : ℕ}
+    {answer : Result (Option Item) Refusal} → IsPushed f p piece rest at n
     → answer ≡ Ok None → IsAnswer p answer → g ≡ after p answer → Reads t all xs f (drop at piece ++ later) → Reads t all xs g later
     × (is_closed g.stage g.held ≡ false)
-step_none t all xs f p g piece rest later at n answer h e a after_is r =
+step_none {t} {all} {xs} {f} {p} {g} {piece} {rest} later {at} {n} {answer} h e a after_is r =
     let P : Result (Option Item) Refusal → Type 0 = λ x. IsAnswer p x in
     let opens : is_closed p.stage p.held ≡ false = subst P e a in
     let Q : FeedState → Type 0 = λ s. is_closed s.stage s.held ≡ false in
@@ -190,10 +190,10 @@ step_none t all xs f p g piece rest later at n answer h e a after_is r =
     let same : g ≡ p = after_is ∙ ap (after p) e in
     subst S (sym same) (subst R none (reads_push t all xs f p piece rest later at n h r), opens)
 
-pub step_refused : (t : Stage) (all : List ℕ) (xs : List (ℕ × Item)) (f p g : FeedState) (piece rest later : List ℕ) (at n : ℕ)
-    (answer : Result (Option Item) Refusal) (refusal : Refusal) → IsPushed f p piece rest at n
+pub step_refused : {t : Stage} {all : List ℕ} {xs : List (ℕ × Item)} {f p g : FeedState} {piece rest : List ℕ} (later : List ℕ) {at n : ℕ}
+    {answer : Result (Option Item) Refusal} {refusal : Refusal} → IsPushed f p piece rest at n
     → answer ≡ Err refusal → IsAnswer p answer → g ≡ after p answer → Reads t all xs f (drop at piece ++ later) → IsReadTo t all xs g later (Some refusal)
-step_refused t all xs f p g piece rest later at n answer refusal h e a after_is r =
+step_refused {t} {all} {xs} {f} {p} {g} {piece} {rest} later {at} {n} {answer} {refusal} h e a after_is r =
     let P : Result (Option Item) Refusal → Type 0 = λ x. IsAnswer p x in
     let unread = drop (at + n) piece ++ later in
     let S : FeedState → Type 0 = λ s. Reads t all xs s unread × IsAnswer s (Err refusal) in

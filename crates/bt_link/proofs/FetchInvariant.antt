@@ -454,10 +454,10 @@ more_requests xs waiting more =
     append_assoc xs (map request_for waiting) (map request_for more)
     ∙ ap (λ (ys : List Message). xs ++ ys) (sym (map-append request_for waiting more))
 
-asks_inv : (metadata : List ℕ) (a b : EndState) (x_stage : Heard) (x_notices y_notices : List Message) (answered waiting old : List ℕ) (asked lacked : ℕ)
-    (x y : Node) (r : Reaction) → IsFetchPair metadata a b → IsReady metadata a b x_stage x_notices y_notices answered waiting asked lacked x y
+asks_inv : {metadata : List ℕ} {a b : EndState} {x_stage : Heard} {x_notices y_notices : List Message} {answered waiting old : List ℕ} {asked lacked : ℕ}
+    {x y : Node} {r : Reaction} → IsFetchPair metadata a b → IsReady metadata a b x_stage x_notices y_notices answered waiting asked lacked x y
     → Asks metadata b old lacked r → old ≡ answered ++ waiting → Inv metadata a b (heard_more x) (sends y r)
-asks_inv metadata a b x_stage x_notices y_notices answered waiting old asked lacked x y r p s h same =
+asks_inv {metadata} {a} {b} {x_stage} {x_notices} {y_notices} {answered} {waiting} {old} {asked} {lacked} {x} {y} {r} p s h same =
     let more : List ℕ = h.more in
     let sized : IsMetadata metadata = pair_sized metadata a b p in
     let short : AreShort (map items.Message (map request_for more)) =
@@ -507,8 +507,7 @@ fetcher_second metadata a b x_stage x_notices y_notices answered waiting asked x
     (at_next hand greet (is_open x_stage) Opened rest x.sent x.handled i s.going n) in
     let r : Reaction = react y.end (items.Message greet) in
     let asks = fetcher_learns metadata a b y.end s.fetcher s.part.0 (pair_sized metadata a b p) p.hash p.left.is.ids p.left_id p.right_id p.most in
-    subst (λ (j : Item). Inv metadata a b (heard_more x) (sends y (react y.end j))) (sym first.0)
-    (asks_inv metadata a b x_stage x_notices y_notices answered waiting [] asked (block_count (length metadata)) x y r p (record {
+    let ready : IsReady metadata a b x_stage x_notices y_notices answered waiting asked (block_count (length metadata)) x y = record {
       server = s.server;
       count = omega (arith, s.part.3);
       going = way_handled hand greet (is_open x_stage) Opened Known rest rest x.sent x.handled i s.going n first.1;
@@ -521,7 +520,9 @@ fetcher_second metadata a b x_stage x_notices y_notices answered waiting asked x
       waiting_below = s.waiting_below;
       answers = s.answers;
       requests = s.requests;
-    }) asks (none_asked answered waiting s.part.1 s.part.2))
+    } in
+    subst (λ (j : Item). Inv metadata a b (heard_more x) (sends y (react y.end j))) (sym first.0)
+    (asks_inv {r = r} p ready asks (none_asked answered waiting s.part.1 s.part.2))
 
 fetcher_third : (metadata : List ℕ) (a b : EndState) (x_stage : Heard) (x_notices y_notices : List Message) (answered waiting : List ℕ) (asked : ℕ)
     (x y : Node) (i : Item) → IsFetchPair metadata a b → Sides metadata a b x_stage Known x_notices y_notices answered waiting asked x y
@@ -562,8 +563,7 @@ fetcher_third metadata a b x_stage [] y_notices (k ∷ ks) waiting asked x y i p
     let later : drop (x.handled + 1) x.sent ≡ map items.Message rest = cc in
     let r : Reaction = react y.end (items.Message (data_message metadata k)) in
     let asks = fetcher_takes metadata b y.end k (ks ++ waiting) s.fetcher s.part.0 (pair_sized metadata a b p) s.answered_below.0 p.right_id p.most in
-    subst (λ (j : Item). Inv metadata a b (heard_more x) (sends y (react y.end j))) (sym same)
-    (asks_inv metadata a b x_stage [] y_notices ks waiting (ks ++ waiting) asked (lacking y.end.part) x y r p (record {
+    let ready : IsReady metadata a b x_stage [] y_notices ks waiting asked (lacking y.end.part) x y = record {
       server = s.server;
       count = s.part.1;
       going = way_handled hand greet (is_open x_stage) Known Known (data_message metadata k ∷ rest) rest x.sent x.handled i s.going n
@@ -578,7 +578,9 @@ fetcher_third metadata a b x_stage [] y_notices (k ∷ ks) waiting asked x y i p
       waiting_below = s.waiting_below;
       answers = s.answers;
       requests = s.requests;
-    }) asks refl)
+    } in
+    subst (λ (j : Item). Inv metadata a b (heard_more x) (sends y (react y.end j))) (sym same)
+    (asks_inv {r = r} p ready asks refl)
 
 fetcher_handles : (metadata : List ℕ) (a b : EndState) (x_stage y_stage : Heard) (x_notices y_notices : List Message) (answered waiting : List ℕ) (asked : ℕ)
     (x y : Node) (i : Item) → IsFetchPair metadata a b → Sides metadata a b x_stage y_stage x_notices y_notices answered waiting asked x y

@@ -154,12 +154,12 @@ start_after (stage.Handshake own) b (items.Message msg) n p = absurd p
 start_after (stage.Message c o s k) b (items.Handshake h) n p = absurd p
 
 -- what is left after the item
-pub left : (a b : EndState) (x : M.Node) (e y : EndState) (f : FeedState) (untaken outbox : List ℕ) (i : Item) (rest : List Item)
+pub left : {a b : EndState} {x : M.Node} {e y : EndState} {f : FeedState} {untaken outbox : List ℕ} {i : Item} {rest : List Item}
     → Loose a b x e f untaken outbox → drop x.handled x.sent ≡ i ∷ rest → drop (x.handled + 1) x.sent ≡ rest → total (take (x.handled + 1) x.sent)
     ≡ total (take x.handled x.sent) + size i → x.handled < length x.sent
     → IsItem f.stage f.held i → Coming (stage_after f.stage (size i) i) rest (untaken ++ outbox) → IsAwaiting y (stage_after f.stage (size i) i)
     → Loose a b (record x { handled = x.handled + 1 }) y (record { stage = stage_after f.stage (size i) i; held = []; refused = f.refused }) untaken outbox
-left a b x e y f untaken outbox i rest l first later more within item come awaited =
+left {a} {b} {x} {e} {y} {f} {untaken} {outbox} {i} {rest} l first later more within item come awaited =
     let t : Stage = stage_after f.stage (size i) i in
     let here : following t rest ≡ following f.stage (drop x.handled x.sent) = ap (following f.stage) (sym first) in
     let own : AreHonest a (i ∷ rest) = subst (λ (js : List Item). AreHonest a js) first l.honest in

@@ -56,10 +56,10 @@ record Handles (a b e : EndState) (t : Stage) (i : Item) : Type 0 where
   pub reacts : Reacts a b e.sends context (react e i)
   pub awaits : IsAwaiting (react e i).end (stage_after t (size i) i)
 
-handles_item : (a b e : EndState) (t : Stage) (held : List ℕ) (i : Item) (is : List Item) (o : Order) (s n : ℕ) → IsConfigured a → IsConfigured b
+handles_item : {a b e : EndState} (t : Stage) (held : List ℕ) (i : Item) (is : List Item) {o : Order} {s n : ℕ} → IsConfigured a → IsConfigured b
     → IsStill a e → Knows b e → IsItem t held i → IsAwaiting e t → following t (i ∷ is) ≡ stage.Message (reads a b) o s n → IsHonest b i
     → Handles a b e t i
-handles_item a b e (stage.Handshake own) held (items.Handshake h) is o s n enda endb still knows item w follows honest =
+handles_item {a} {b} {e} (stage.Handshake own) held (items.Handshake h) is {o} {s} {n} enda endb still knows item w follows honest =
     let same : negotiated own h.reserved ≡ reads a b = following_message (negotiated own h.reserved) Fresh (size (items.Handshake h)) 1 is (reads a b) o s n
     follows in
     let c : Context = negotiated e.own h.reserved in
@@ -71,7 +71,7 @@ handles_item a b e (stage.Handshake own) held (items.Handshake h) is o s n enda 
       reacts = subst (λ (p : Order). Reacts a b p c (greeted e c)) (sym w.2) r;
       awaits = ap (λ (x : Own). Some (negotiated x h.reserved)) (sym w.0);
     }
-handles_item a b e (stage.Message c p k j) held (items.Message msg) is o s n enda endb still knows item w follows honest =
+handles_item {a} {b} {e} (stage.Message c p k j) held (items.Message msg) is {o} {s} {n} enda endb still knows item w follows honest =
     let same : c ≡ reads a b = following_message c p k j (items.Message msg ∷ is) (reads a b) o s n follows in
     let e' : EndState = record e { receives = order_after e.receives msg } in
     let ready : IsOpen a b c e' = record {
@@ -88,8 +88,8 @@ handles_item a b e (stage.Message c p k j) held (items.Message msg) is o s n end
   where
     extended_agreed : (c : Context) (p : Order) (k : ℕ) (msg : Message) (x : Ext) → IsSaid c p k msg → msg ≡ m.Extended x → c.ext ≡ true
     extended_agreed c p k msg x said is_x = (subst (λ (y : Message). IsLegal c p y) is_x said.legal).agreed
-handles_item a b e (stage.Handshake own) held (items.Message msg) is o s n enda endb still knows item w follows honest = absurd item
-handles_item a b e (stage.Message c p k j) held (items.Handshake h) is o s n enda endb still knows item w follows honest = absurd item
+handles_item {a} {b} {e} (stage.Handshake own) held (items.Message msg) is {o} {s} {n} enda endb still knows item w follows honest = absurd item
+handles_item {a} {b} {e} (stage.Message c p k j) held (items.Handshake h) is {o} {s} {n} enda endb still knows item w follows honest = absurd item
 
 -- ---- the next item
 
@@ -200,8 +200,7 @@ handles_next a b p w i rest enda endb inv next item come first later low =
     let follows : following w.feed.stage (i ∷ rest) ≡ stage.Message (reads a b) p.other.end.sends (total p.other.sent) (length p.other.sent) =
     ap (following w.feed.stage) (sym first) ∙ l.following_all in
     let own : AreHonest b (i ∷ rest) = subst (λ (js : List Item). AreHonest b js) first l.honest in
-    let h : Handles a b e w.feed.stage i = handles_item a b e w.feed.stage w.feed.held i rest p.other.end.sends (total p.other.sent) (length p.other.sent)
-    enda endb inv.own inv.knows item l.awaited follows own.0 in
+    let h : Handles a b e w.feed.stage i = handles_item w.feed.stage w.feed.held i rest enda endb inv.own inv.knows item l.awaited follows own.0 in
     let r : Reaction = react e i in
     let more : List ℕ = flat_map (spell (belief r.end)) r.queued in
     let f : FeedState = record { stage = stage_after w.feed.stage (size i) i; held = []; refused = w.feed.refused } in
@@ -228,7 +227,7 @@ handles_next a b p w i rest enda endb inv next item come first later low =
         going = sent a b p.own r.end r.queued p.other.end w.other_feed w.other_untaken w.outbox (belief r.end) inv.going h.reacts.queued h.reacts.honest
             h.reacts.sends small;
         coming = fed b a (record p.other { handled = p.other.handled + 1 }) r.end f w.untaken w.other_outbox
-            (left b a p.other e r.end w.feed w.untaken w.other_outbox i rest l first later parts.1 parts.2 item come h.awaits);
+            (left l first later parts.1 parts.2 item come h.awaits);
         own = h.reacts.still;
         other = inv.other;
         knows = h.reacts.knows;
@@ -434,8 +433,7 @@ queues_by a b p w (Some j) enda endb inv few next i free =
     let follows : following w.feed.stage (j ∷ rest) ≡ stage.Message (reads a b) p.other.end.sends (total p.other.sent) (length p.other.sent) =
     ap (following w.feed.stage) (sym parts.0) ∙ l.following_all in
     let own : AreHonest b (j ∷ rest) = subst (λ (js : List Item). AreHonest b js) parts.0 l.honest in
-    let r : Handles a b p.own.end w.feed.stage j = handles_item a b p.own.end w.feed.stage w.feed.held j rest p.other.end.sends (total p.other.sent)
-    (length p.other.sent) enda endb inv.own inv.knows h.0 l.awaited follows own.0 in
+    let r : Handles a b p.own.end w.feed.stage j = handles_item w.feed.stage w.feed.held j rest enda endb inv.own inv.knows h.0 l.awaited follows own.0 in
     let well : B.MayBeSent (belief (react p.own.end j).end) p.own.end.sends (react p.own.end j).queued = sent_well (belief (react p.own.end j).end)
     (reads b a) p.own.end.sends (react p.own.end j).queued r.reacts.queued in
     subst (λ (x : Item). B.MayBeSent (belief (react p.own.end x).end) p.own.end.sends (react p.own.end x).queued) is well

@@ -8,15 +8,6 @@ use Rattle.bt_session.specs.declared.run.Connection.{Connection}
 use Rattle.bt_link.specs.MessageLinks.{size}
 use Rattle.bt_rig.specs.Shown.{capped, item_words, item_lines, connection_lines, connections_lines}
 
-regroup : (t n l s z u v : List ℕ) → ((((t ++ (n ++ l)) ++ s) ++ z) ++ u) ++ v ≡ t ++ (n ++ (l ++ (s ++ (z ++ (u ++ v)))))
-regroup t n l s z u v = simp append_assoc
-
-pub five_parts : {E : Type 0} (r : Result Unit E) (t t1 t2 t3 t4 t5 n l s z u v : List ℕ) → t1 ≡ t ++ (n ++ l) → t2 ≡ t1 ++ s → t3 ≡ t2 ++ z → t4 ≡ t3 ++ u
-    → OnOk r (t5 ≡ t4 ++ v)
-    → OnOk r (t5 ≡ t ++ (n ++ (l ++ (s ++ (z ++ (u ++ v))))))
-five_parts (Ok x) t t1 t2 t3 t4 t5 n l s z u v e1 e2 e3 e4 e5 = rw (e5, e4, e3, e2, e1) (regroup t n l s z u v)
-five_parts (Err x) t t1 t2 t3 t4 t5 n l s z u v e1 e2 e3 e4 e5 = tt
-
 -- the next element is the first of those that are left
 pub next_of : {X : Type 0} (xs : List X) (i : ℕ) (x : X) → i < length xs → x ≡ get_or xs i x → drop i xs ≡ x ∷ drop (i + 1) xs
 next_of xs i x lt is = drop_more xs i x lt ∙ ap (λ y. y ∷ drop (i + 1) xs) (sym is)
@@ -50,22 +41,17 @@ texts_end f xs i all text le h = sym (append-nil text) ∙ ap (λ l. text ++ fla
 
 -- ---- several parts
 
-six : (t a n b m s w : List ℕ) → (((((t ++ a) ++ n) ++ b) ++ m) ++ s) ++ w ≡ t ++ (a ++ (n ++ (b ++ (m ++ (s ++ w)))))
+five : (t n l s z u v : List ℕ) → ((((t ++ (n ++ l)) ++ s) ++ z) ++ u) ++ v ≡ t ++ (n ++ (l ++ (s ++ (z ++ (u ++ v)))))
+five t n l s z u v = simp append_assoc
+
+-- the text so far, and the last part where it is added
+pub five_parts : {E : Type 0} (r : Result Unit E) (t n l s z u v : List ℕ) {t4 : List ℕ} (t5 : List ℕ) → t4 ≡ (((t ++ (n ++ l)) ++ s) ++ z) ++ u
+    → OnOk r (t5 ≡ t4 ++ v) → OnOk r (t5 ≡ t ++ (n ++ (l ++ (s ++ (z ++ (u ++ v))))))
+five_parts (Ok x) t n l s z u v t5 e4 e5 = rw (e5, e4) (five t n l s z u v)
+five_parts (Err x) t n l s z u v t5 e4 e5 = tt
+
+pub six : (t a n b m s w : List ℕ) → (((((t ++ a) ++ n) ++ b) ++ m) ++ s) ++ w ≡ t ++ (a ++ (n ++ (b ++ (m ++ (s ++ w)))))
 six t a n b m s w = simp append_assoc
-
-pub six_parts : {E : Type 0} (r : Result Unit E) (t t1 t2 t3 t4 t5 t6 a n b m s w : List ℕ) → t1 ≡ t ++ a → t2 ≡ t1 ++ n → t3 ≡ t2 ++ b → t4 ≡ t3 ++ m → t5
-    ≡ t4 ++ s → OnOk r (t6 ≡ t5 ++ w)
-    → OnOk r (t6 ≡ t ++ (a ++ (n ++ (b ++ (m ++ (s ++ w))))))
-six_parts (Ok x) t t1 t2 t3 t4 t5 t6 a n b m s w e1 e2 e3 e4 e5 e6 = rw (e6, e5, e4, e3, e2, e1) (six t a n b m s w)
-six_parts (Err x) t t1 t2 t3 t4 t5 t6 a n b m s w e1 e2 e3 e4 e5 e6 = tt
-
-four : (t a n b l r : List ℕ) → (((t ++ (a ++ n)) ++ b) ++ l) ++ r ≡ t ++ (a ++ (n ++ (b ++ (l ++ r))))
-four t a n b l r = simp append_assoc
-
-pub four_parts : {E : Type 0} (x : Result Unit E) (t t1 t2 t3 t4 a n b l r : List ℕ) → t1 ≡ t ++ (a ++ n) → t2 ≡ t1 ++ b → t3 ≡ t2 ++ l
-    → OnOk x (t4 ≡ t3 ++ r) → OnOk x (t4 ≡ t ++ (a ++ (n ++ (b ++ (l ++ r)))))
-four_parts (Ok y) t t1 t2 t3 t4 a n b l r e1 e2 e3 e4 = rw (e4, e3, e2, e1) (four t a n b l r)
-four_parts (Err y) t t1 t2 t3 t4 a n b l r e1 e2 e3 e4 = tt
 
 -- ---- connections
 

@@ -205,16 +205,29 @@ written_more (t ∷ ss) s h is = (h.0, written_more ss s h.1 is)
 pub written_at : (i : ℕ) (ss : List Step) (s : Step) → i < length ss → s ≡ get_or ss i s → AreWritten (take i ss) → IsWritten s → AreWritten (take (i + 1) ss)
 written_at i ss s lt here so_far is = subst (λ (x : List Step). AreWritten x) (sym (take_more i ss s lt here)) (written_more (take i ss) s so_far is)
 
+-- a step of a list, and the ones before it
+pub record IsPlace (i : ℕ) (ss : List Step) (s : Step) : Type 0 where
+  pub within : i < length ss
+  pub few : length ss ≤ most_steps
+  pub here : s ≡ get_or ss i s
+  pub written : AreWritten (take i ss)
+
+-- the steps lead from the first link to n
+abbrev pub LeadTo : Link → List Step → List Outcome → Link → Type 0
+LeadTo first ss os n = (a b : EndState) → AreNew a b → IsLinkOf first (B.link_of a b) → (k : B.Link) × B.AreSteps (B.link_of a b) ss os k × IsLinkOf n k
+
+-- the step leads from n to m
+abbrev pub Leads : Link → Step → Outcome → Link → Type 0
+Leads n s o m = (l : B.Link) → IsLinkOf n l → EachMayHandle l → (k : B.Link) × B.IsStep l s o k × IsLinkOf m k
+
 -- what is done so far, and the next step
-pub done_at : (i : ℕ) (ss : List Step) (s : Step) (first n m : Link) (os new : List Outcome) (o : Outcome) → i < length ss → length ss ≤ most_steps → s
-    ≡ get_or ss i s → new ≡ os ++ o ∷ [] → AreWritten (take i ss)
-    → ((a b : EndState) → AreNew a b → IsLinkOf first (B.link_of a b) → (k : B.Link) × B.AreSteps (B.link_of a b) (take i ss) os k × IsLinkOf n k)
-    → ((l : B.Link) → IsLinkOf n l → EachMayHandle l → (k : B.Link) × B.IsStep l s o k × IsLinkOf m k)
-    → (a b : EndState) → AreNew a b → IsLinkOf first (B.link_of a b) → (k : B.Link) × B.AreSteps (B.link_of a b) (take (i + 1) ss) new k × IsLinkOf m k
-done_at i ss s first n m os new o lt few here pushed written so_far next a b news h =
+pub done_at : {i : ℕ} {ss : List Step} {s : Step} {first n m : Link} (os : List Outcome) {new : List Outcome} (o : Outcome) → IsPlace i ss s
+    → new ≡ os ++ o ∷ []
+    → LeadTo first (take i ss) os n → Leads n s o m → LeadTo first (take (i + 1) ss) new m
+done_at {i} {ss} {s} {first} {n} {m} os {new} o at pushed so_far next a b news h =
     let d = so_far a b news h in
-    let long : length (take i ss) ≤ most_steps = omega (arith, lt, few, length-take-le i ss (omega (arith, lt))) in
-    let short : IsShortRun a b (take i ss) = record { left = news.left; right = news.right; matched = news.matched; written = written; few = long } in
+    let long : length (take i ss) ≤ most_steps = omega (arith, at.within, at.few, length-take-le i ss (omega (arith, at.within))) in
+    let short : IsShortRun a b (take i ss) = record { left = news.left; right = news.right; matched = news.matched; written = at.written; few = long } in
     let queues = queued_may_be_sent a b (take i ss) os d.0 short d.1 in
     let counts : IsHandled (0 + length (take i ss)) d.0 = steps_count (B.link_of a b) d.0 (take i ss) os 0 d.1 (omega arith, omega arith) in
     let may : EachMayHandle d.0 = (
@@ -224,7 +237,7 @@ done_at i ss s first n m os new o lt few here pushed written so_far next a b new
     let t = next d.0 d.2 may in
     let more = steps_more (B.link_of a b) (take i ss) os d.0 s o t.0 d.1 t.1 in (
       t.0,
-      subst (λ (x : List Step). B.AreSteps (B.link_of a b) x new t.0) (sym (take_more i ss s lt here))
+      subst (λ (x : List Step). B.AreSteps (B.link_of a b) x new t.0) (sym (take_more i ss s at.within at.here))
           (subst (λ (x : List Outcome). B.AreSteps (B.link_of a b) (take i ss ++ s ∷ []) x t.0) (sym pushed) more),
       t.2,
     )

@@ -17,42 +17,52 @@ pub completed_is : (first : Bool) (front : List ℕ) (es : List Expected) (is : 
 completed_is first front es true e h = h
 completed_is first front es false e h = absurd cc
 
-pub after_space : (front rest tail : List ℕ) (space : ℕ) → rest ≡ space ∷ tail → space ≡ 32 → front ++ rest ≡ front ++ (32 ∷ tail)
-after_space front rest tail space r s = ap (λ (x : List ℕ). front ++ x) (r ∙ ap (λ (x : ℕ). x ∷ tail) s)
+-- A walk through a line: front is done, rest follows, es are expected from k on, and the column is that of front's end.
+pub record IsAt (first : Bool) (text front rest : List ℕ) (es : List Expected) (k column : ℕ) : Type 0 where
+  pub whole : front ++ rest ≡ text
+  pub completed : IsCompleted first front (drop k es)
+  pub here : column ≡ length front
 
-pub missing_word : (first : Bool) (text front rest : List ℕ) (es : List Expected) (k column : ℕ) (d : Expected) → k < length es → front ++ rest ≡ text
-    → length rest ≡ 0 → IsCompleted first front (drop k es) → column ≡ length front
-    → IsMisfit first text (record { column = column + 1; expected = get_or es k d })
-missing_word first text front rest es k column d within whole none completed at =
-    let same : front ≡ text = sym (append-nil front) ∙ ap (λ (x : List ℕ). front ++ x) (sym (nil_from_length rest none)) ∙ whole in
-    let here = subst (λ (l : List Expected). IsCompleted first front l) (drop_more es k d within) completed in
-    missing (drop (k + 1) es) (subst (λ (l : List ℕ). IsCompleted first l (get_or es k d ∷ drop (k + 1) es)) same here)
-    (ap (λ (n : ℕ). n + 1) (at ∙ ap (λ (l : List ℕ). length l) same))
+-- the rest begins with a space
+pub spaced : {rest tail : List ℕ} {space : ℕ} → rest ≡ space ∷ tail → space ≡ 32 → rest ≡ 32 ∷ tail
+spaced {rest} {tail} r s = r ∙ ap (λ (x : ℕ). x ∷ tail) s
 
-pub wrong : (first : Bool) (text front rest tail new : List ℕ) (space : ℕ) (es : List Expected) (k column : ℕ) (d : Expected) → k < length es
-    → front ++ rest ≡ text → rest ≡ space ∷ tail → space ≡ 32 → IsCompleted first front (drop k es) → new ≡ (front ++ (32 ∷ [])) ++ word_of tail
-    → (IsCompleted first new (drop (k + 1) es) → ⊥) → column ≡ length front
+whole_text : {first : Bool} {text front rest : List ℕ} {es : List Expected} {k column : ℕ} (tail : List ℕ) → IsAt first text front rest es k column
+    → rest ≡ 32 ∷ tail → text ≡ front ++ (32 ∷ tail)
+whole_text {front = front} tail at r = sym at.whole ∙ ap (λ (x : List ℕ). front ++ x) r
+
+next_expected : {first : Bool} {text front rest : List ℕ} {es : List Expected} {k column : ℕ} (d : Expected) → IsAt first text front rest es k column
+    → k < length es → IsCompleted first front (get_or es k d ∷ drop (k + 1) es)
+next_expected {first} {front = front} {es = es} {k = k} d at within =
+    subst (λ (l : List Expected). IsCompleted first front l) (drop_more es k d within) at.completed
+
+pub missing_word : {first : Bool} {text front rest : List ℕ} {es : List Expected} {k column : ℕ} (d : Expected) → IsAt first text front rest es k column
+    → k < length es → length rest ≡ 0 → IsMisfit first text (record { column = column + 1; expected = get_or es k d })
+missing_word {first} {text} {front} {rest} {es} {k} {column} d at within none =
+    let same : front ≡ text = sym (append-nil front) ∙ ap (λ (x : List ℕ). front ++ x) (sym (nil_from_length rest none)) ∙ at.whole in
+    missing (drop (k + 1) es) (subst (λ (l : List ℕ). IsCompleted first l (get_or es k d ∷ drop (k + 1) es)) same (next_expected d at within))
+    (ap (λ (n : ℕ). n + 1) (at.here ∙ ap (λ (l : List ℕ). length l) same))
+
+pub wrong : {first : Bool} {text front rest tail new : List ℕ} {es : List Expected} {k column : ℕ} (d : Expected) → IsAt first text front rest es k column
+    → k < length es → rest ≡ 32 ∷ tail → new ≡ (front ++ (32 ∷ [])) ++ word_of tail → (IsCompleted first new (drop (k + 1) es) → ⊥)
     → IsMisfit first text (record { column = column + 1 + 1; expected = get_or es k d })
-wrong first text front rest tail new space es k column d within whole r s completed n broken at =
-    let here = subst (λ (l : List Expected). IsCompleted first front l) (drop_more es k d within) completed in
+wrong {first} {front = front} {tail = tail} {new = new} {es = es} {k = k} d at within r n broken =
     let same : new ≡ front ++ (32 ∷ word_of tail) = n ∙ append_assoc front (32 ∷ []) (word_of tail) in
-    wrong_word front tail (drop (k + 1) es) (sym whole ∙ after_space front rest tail space r s) here
-    (subst (λ (l : List ℕ). IsCompleted first l (drop (k + 1) es) → ⊥) same broken) (omega (arith, at))
+    wrong_word front tail (drop (k + 1) es) (whole_text tail at r) (next_expected d at within)
+    (subst (λ (l : List ℕ). IsCompleted first l (drop (k + 1) es) → ⊥) same broken) (omega (arith, at.here))
 
-pub one_more : (text front rest tail new next : List ℕ) (space : ℕ) → front ++ rest ≡ text → rest ≡ space ∷ tail → space ≡ 32
-    → new ≡ (front ++ (32 ∷ [])) ++ word_of tail → next ≡ after_word tail → new ++ next ≡ text
-one_more text front rest tail new next space whole r s n b =
+pub one_more : {first : Bool} {text front rest tail new next : List ℕ} {es : List Expected} {k column : ℕ} → IsAt first text front rest es k column
+    → rest ≡ 32 ∷ tail → new ≡ (front ++ (32 ∷ [])) ++ word_of tail → next ≡ after_word tail → new ++ next ≡ text
+one_more {front = front} {tail = tail} at r n b =
     rw n (rw b (append_assoc (front ++ (32 ∷ [])) (word_of tail) (after_word tail)
     ∙ ap (λ (x : List ℕ). (front ++ (32 ∷ [])) ++ x) (word-parts tail) ∙ append_assoc front (32 ∷ []) tail
-    ∙ sym (after_space front rest tail space r s) ∙ whole))
+    ∙ sym (whole_text tail at r)))
 
-pub more_words : (first : Bool) (text front rest tail : List ℕ) (space : ℕ) (es : List Expected) (k column : ℕ) → length es ≤ k → front ++ rest ≡ text
-    → rest ≡ space ∷ tail → space ≡ 32 → IsCompleted first front (drop k es) → column ≡ length front
-    → IsMisfit first text (record { column = column + 2; expected = End })
-more_words first text front rest tail space es k column ended whole r s completed at =
-    let none = subst (λ (l : List Expected). IsCompleted first front l) (drop_all k es ended) completed in
-    too_many front tail (sym whole ∙ after_space front rest tail space r s) none refl
-    (omega (arith, at))
+pub more_words : {first : Bool} {text front rest tail : List ℕ} {es : List Expected} {k column : ℕ} → IsAt first text front rest es k column
+    → length es ≤ k → rest ≡ 32 ∷ tail → IsMisfit first text (record { column = column + 2; expected = End })
+more_words {first} {front = front} {tail = tail} {es = es} {k = k} at ended r =
+    let none = subst (λ (l : List Expected). IsCompleted first front l) (drop_all k es ended) at.completed in
+    too_many front tail (whole_text tail at r) none refl (omega (arith, at.here))
 
 pub block_parts : (text name one two three four index begin block : List ℕ) → name ++ one ≡ text → name ≡ codes "piece" → one ≡ codes " " ++ (index ++ two)
     → two ≡ codes " " ++ (begin ++ three) → three ≡ codes " " ++ (block ++ four) → four ≡ []

@@ -1,4 +1,4 @@
-use Rattle.std.proofs.Common.{◌+◌, ◌∙◌, ◌++◌, ◌∷◌, ℕ, [], length, take, refl, ap, arith, length-drop}
+use Rattle.std.proofs.Common.{◌+◌, ◌∙◌, ◌++◌, ◌∷◌, ℕ, [], length, refl, ap, arith, length-drop}
 use Rattle.std.specs.Prelude.{Result, is_err}
 use Rattle.bt_io.specs.Counts.{counted}
 use Rattle.bt_feed.specs.declared.sink.SinkFault.{SinkFault}
@@ -24,9 +24,8 @@ returns-in-Err-clause-items g c = λ n.
     let some = c.in-Some.ensures.some in
     let p = some.1 in
     let x : ℕ × Item = (c.args.start + c.messages.passed.bytes, items.Message some.0) in
-    let fed = passed_more c.args.context.now c.args.order c.messages.passed.order c.args.start n c.messages.passed.bytes k
-    c.messages.passed.messages c.args.piece.now c.suffix-rest.result.now (take k c.suffix-rest.result.now) h.0
-    some.0 c.suffix-rest.ensures refl h.2 c.if-at-ge-END.false c.requires.limit p.within p.read in (
+    let fed = passed_more c.messages.passed.bytes c.messages.passed.messages c.args.piece.now
+    c.suffix-rest.ensures refl h.2 c.if-at-ge-END.false c.requires.limit p.within p.read in (
       h.0 ++ x ∷ [],
       (
         h.0,
@@ -54,9 +53,8 @@ messages-preserved g c =
       moved = λ n.
           let h = c.messages.invariant.moved n in
           let x : ℕ × Item = (c.args.start + c.messages.passed.bytes, items.Message some.0) in
-          let fed = passed_more c.args.context.now c.args.order c.messages.passed.order c.args.start n c.messages.passed.bytes k
-          c.messages.passed.messages c.args.piece.now c.suffix-rest.result.now (take k c.suffix-rest.result.now) h.0
-          some.0 c.suffix-rest.ensures refl h.2 c.if-at-ge-END.false c.requires.limit p.within p.read in (
+          let fed = passed_more c.messages.passed.bytes c.messages.passed.messages c.args.piece.now
+          c.suffix-rest.ensures refl h.2 c.if-at-ge-END.false c.requires.limit p.within p.read in (
             h.0 ++ x ∷ [],
             handed_more _ g.S.Sink.misses _ _ _ h.0 x _ c.messages.invariant.taken h.1
                 (taken_at g.S.Sink.takes g.S.Sink.misses _ _ x c.in-Some.given.taken c.in-Ok.is some.2),

@@ -10,8 +10,8 @@ use Rattle.bt_feed.proofs.pumping.pump_piece.Goals as goal
 pub items-preserved : goal.items-preserved
 items-preserved g c =
     let p = c.push-at.new.self in
-    let h = passed_on g.S.Sink.takes g.S.Sink.misses c.args.feed.now c.items.feed c.pass-passed.new.self _ _ _ c.args.piece.now c.suffix.result.now
-    c.items.at c.pass-passed.result.0 c.pass-passed.result.1 c.in_default.is c.suffix.ensures c.items.invariant.moved c.pass-passed.ensures.items in
+    let h = passed_on g.S.Sink.takes g.S.Sink.misses c.args.piece.now c.items.at c.pass-passed.result.0
+    c.in_default.is c.suffix.ensures c.items.invariant.moved c.pass-passed.ensures.items in
     let at = c.items.at + c.pass-passed.result.0 in
     let s = c.pass-passed.new.self in
     let rest = c.suffix-in-items.result.now in
@@ -49,8 +49,8 @@ items-preserved g c =
 pub returns-in-Err-item-clause-items : goal.returns-in-Err-item-clause-items
 returns-in-Err-item-clause-items g c =
     let p = c.push-at.new.self in
-    let h = passed_on g.S.Sink.takes g.S.Sink.misses c.args.feed.now c.items.feed c.pass-passed.new.self _ _ _ c.args.piece.now c.suffix.result.now
-    c.items.at c.pass-passed.result.0 c.pass-passed.result.1 c.in_default.is c.suffix.ensures c.items.invariant.moved c.pass-passed.ensures.items in
+    let h = passed_on g.S.Sink.takes g.S.Sink.misses c.args.piece.now c.items.at c.pass-passed.result.0
+    c.in_default.is c.suffix.ensures c.items.invariant.moved c.pass-passed.ensures.items in
     let at = c.items.at + c.pass-passed.result.0 in
     let s = c.pass-passed.new.self in
     let rest = c.suffix-in-items.result.now in
@@ -78,8 +78,8 @@ returns-in-Err-item-clause-items g c =
 
 pub returns-in-Ok-None-clause-items : goal.returns-in-Ok-None-clause-items
 returns-in-Ok-None-clause-items g c =
-    let h = passed_on g.S.Sink.takes g.S.Sink.misses c.args.feed.now c.items.feed c.pass-passed.new.self _ _ _ c.args.piece.now c.suffix.result.now
-    c.items.at c.pass-passed.result.0 c.pass-passed.result.1 c.in_default.is c.suffix.ensures c.items.invariant.moved c.pass-passed.ensures.items in
+    let h = passed_on g.S.Sink.takes g.S.Sink.misses c.args.piece.now c.items.at c.pass-passed.result.0
+    c.in_default.is c.suffix.ensures c.items.invariant.moved c.pass-passed.ensures.items in
     let at = c.items.at + c.pass-passed.result.0 in
     let s = c.pass-passed.new.self in
     let rest = c.suffix-in-items.result.now in
@@ -105,8 +105,8 @@ returns-in-Ok-None-clause-items g c =
 
 pub returns-in-Err-take-clause-items : goal.returns-in-Err-take-clause-items
 returns-in-Err-take-clause-items g c =
-    let h = passed_on g.S.Sink.takes g.S.Sink.misses c.args.feed.now c.items.feed c.pass-passed.new.self _ _ _ c.args.piece.now c.suffix.result.now
-    c.items.at c.pass-passed.result.0 c.pass-passed.result.1 c.in_default.is c.suffix.ensures c.items.invariant.moved c.pass-passed.ensures.items in
+    let h = passed_on g.S.Sink.takes g.S.Sink.misses c.args.piece.now c.items.at c.pass-passed.result.0
+    c.in_default.is c.suffix.ensures c.items.invariant.moved c.pass-passed.ensures.items in
     let at = c.items.at + c.pass-passed.result.0 in
     let s = c.pass-passed.new.self in
     let rest = c.suffix-in-items.result.now in

@@ -14,7 +14,7 @@ items-preserved c = record {
       let g = c.take.follows.lender-at-none in
       let item : Item = item_of c.in-Ok-Some.view in
       let xs : List (ℕ × Item) = c.items.items.items in
-      let base = step_item t all xs c.items.feed p g c.args.piece.now c.suffix.result.now later c.items.at c.push-at.result (shown c.take.result) item
+      let base = step_item later
       (record { rest_is = c.suffix.ensures; taken_is = c.push-at.ensures.taken; held_is = c.push-at.ensures.held; partial = c.push-at.ensures.partial })
       (ap shown (c.in-Ok-Some.is ∙ ap Ok c.in-Ok-Some.field-0-is)) c.take.ensures.value c.take.follows.holds-at-none (c.items.invariant.reads t all later r) in
       let more : c.push.new.self.items ≡ xs ++ (start_of p.stage, item) ∷ [] =
@@ -26,14 +26,12 @@ items-preserved c = record {
 
 pub returns-in-Ok-None : goal.returns-in-Ok-None
 returns-in-Ok-None c = λ t all later r.
-    step_none t all c.items.items.items c.items.feed c.push-at.new.self c.take.follows.lender-at-none c.args.piece.now c.suffix.result.now later c.items.at
-    c.push-at.result (shown c.take.result)
+    step_none {piece = c.args.piece.now} later
     (record { rest_is = c.suffix.ensures; taken_is = c.push-at.ensures.taken; held_is = c.push-at.ensures.held; partial = c.push-at.ensures.partial })
     (ap shown (c.in-Ok-None.is ∙ ap Ok c.in-Ok-None.field-0-is)) c.take.ensures.value c.take.follows.holds-at-none (c.items.invariant.reads t all later r)
 
 pub returns-in-Err : goal.returns-in-Err
 returns-in-Err c = λ t all later r.
-    step_refused t all c.items.items.items c.items.feed c.push-at.new.self c.take.follows.lender-at-none c.args.piece.now c.suffix.result.now later
-    c.items.at c.push-at.result (shown c.take.result) c.refusal_in.result
+    step_refused {piece = c.args.piece.now} later {at = c.items.at}
     (record { rest_is = c.suffix.ensures; taken_is = c.push-at.ensures.taken; held_is = c.push-at.ensures.held; partial = c.push-at.ensures.partial })
     (ap shown (c.in-Err.is ∙ ap Err c.refusal_in.ensures)) c.take.ensures.value c.take.follows.holds-at-none (c.items.invariant.reads t all later r)

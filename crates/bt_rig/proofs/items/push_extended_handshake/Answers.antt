@@ -1,3 +1,4 @@
+use Rattle.std.proofs.Common.{refl}
 use Rattle.std.specs.Prelude.{codes}
 use Rattle.bt_text.specs.Lines.{or_dash}
 use Rattle.bt_rig.specs.Shown.{lengths}
@@ -6,11 +7,14 @@ use Rattle.bt_rig.proofs.items.push_extended_handshake.Goals as goal
 
 pub returns : goal.returns
 returns c =
-    let d = c.args.dict.now in
-    let rest = c.args.rest.now in
     rw (← c.metadata_size.ensures, ← c.told.ensures)
-    (five_parts c.push_number_or_dash-2.result c.args.text.now.items c.push_lengths.new.text.items c.extend_from_slice.new.self.items
-    c.push_number_or_dash.new.text.items c.extend_from_slice-2.new.self.items c.push_number_or_dash-2.new.text.items
-    (codes "ext-handshake") (lengths d rest) (codes " size=") (or_dash c.metadata_size.result) (codes " ut_metadata=") (or_dash c.told.result)
-    c.in_ok-push_lengths.ensures c.in_ok-extend_from_slice.ensures.items c.in_ok-push_number_or_dash.ensures c.in_ok-extend_from_slice-2.ensures.items
+    (five_parts c.push_number_or_dash-2.result c.args.text.now.items (codes "ext-handshake") (lengths c.args.dict.now c.args.rest.now) (codes " size=")
+    (or_dash c.metadata_size.result) (codes " ut_metadata=") (or_dash c.told.result) c.push_number_or_dash-2.new.text.items
+    (rw (
+      c.in_ok-extend_from_slice-2.ensures.items,
+      c.in_ok-push_number_or_dash.ensures,
+      c.in_ok-extend_from_slice.ensures.items,
+      c.in_ok-push_lengths.ensures,
+    )
+    refl)
     c.push_number_or_dash-2.ensures)
