@@ -110,20 +110,20 @@ fed_front f s p piece rest at n xs m h =
     subst P (front piece rest at n h.rest_is) (subst Q (append-nil xs) (fed_both f s p (take at piece) (take n rest) xs [] m
     (fed_push s p rest n h.taken_is h.held_is)))
 
-pub fed_item : (f s p g : FeedState) (piece rest : List ℕ) (at n : ℕ) (xs : List (ℕ × Item)) (answer : Result (Option Item) Refusal) (item : Item)
+pub fed_item : {f s p g : FeedState} {piece rest : List ℕ} {at n : ℕ} {xs : List (ℕ × Item)} {answer : Result (Option Item) Refusal} {item : Item}
     → IsFed f (take at piece) xs s → IsPushed s p piece rest at n → limit_of p.stage ≤ 1048576
     → answer ≡ Ok (Some item) → IsAnswer p answer → g ≡ after p answer → IsFed f (take (at + n) piece) (xs ++ (start_of p.stage, item) ∷ []) g
-fed_item f s p g piece rest at n xs answer item m h le e a after_is =
+fed_item {f} {s} {p} {g} {piece} {rest} {at} {n} {xs} {answer} {item} m h le e a after_is =
     let P : Result (Option Item) Refusal → Type 0 = λ x. IsAnswer p x in
     let Q : List ℕ → Type 0 = λ b. IsFed f b (xs ++ (start_of p.stage, item) ∷ []) g in
     subst Q (append-nil (take (at + n) piece)) (fed_both f p g (take (at + n) piece) [] xs ((start_of p.stage, item) ∷ [])
     (fed_front f s p piece rest at n xs m h) (fed_take p g item le (subst P e a) (after_is ∙ ap (after p) e)))
 
 -- where the feed waits all of the piece is taken
-pub fed_all : (f s p g : FeedState) (piece rest : List ℕ) (at n : ℕ) (xs : List (ℕ × Item)) (answer : Result (Option Item) Refusal) → at ≤ length piece
+pub fed_all : {f s p g : FeedState} {piece rest : List ℕ} {at n : ℕ} {xs : List (ℕ × Item)} {answer : Result (Option Item) Refusal} → at ≤ length piece
     → IsFed f (take at piece) xs s → IsPushed s p piece rest at n
     → answer ≡ Ok None → IsAnswer p answer → g ≡ after p answer → IsFed f piece xs g × (is_closed g.stage g.held ≡ false)
-fed_all f s p g piece rest at n xs answer le m h e a after_is =
+fed_all {f} {s} {p} {g} {piece} {rest} {at} {n} {xs} {answer} le m h e a after_is =
     let P : Result (Option Item) Refusal → Type 0 = λ x. IsAnswer p x in
     let opens : is_closed p.stage p.held ≡ false = subst P e a in
     let Q : FeedState → Type 0 = λ x. is_closed x.stage x.held ≡ false in
@@ -135,10 +135,10 @@ fed_all f s p g piece rest at n xs answer le m h e a after_is =
     subst S (sym same) (subst R all (fed_front f s p piece rest at n xs m h), opens)
 
 -- a refusal leaves the bytes
-pub fed_refused : (f s p g : FeedState) (piece rest : List ℕ) (at n : ℕ) (xs : List (ℕ × Item)) (answer : Result (Option Item) Refusal) (r : Refusal)
+pub fed_refused : {f s p g : FeedState} {piece rest : List ℕ} {at n : ℕ} {xs : List (ℕ × Item)} {answer : Result (Option Item) Refusal} {r : Refusal}
     → IsFed f (take at piece) xs s → IsPushed s p piece rest at n
     → answer ≡ Err r → IsAnswer p answer → g ≡ after p answer → IsFed f (take (at + n) piece) xs g × IsAnswer g (Err r)
-fed_refused f s p g piece rest at n xs answer r m h e a after_is =
+fed_refused {f} {s} {p} {g} {piece} {rest} {at} {n} {xs} {answer} {r} m h e a after_is =
     let P : Result (Option Item) Refusal → Type 0 = λ x. IsAnswer p x in
     let S : FeedState → Type 0 = λ x. IsFed f (take (at + n) piece) xs x × IsAnswer x (Err r) in
     let before = fed_front f s p piece rest at n xs m h in

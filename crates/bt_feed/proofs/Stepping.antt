@@ -32,19 +32,19 @@ pub given_item : (f p g : FeedState) (piece : List ℕ) (n : ℕ) (answer : Resu
     → IsFed f (take n piece) ((start_of p.stage, item) ∷ []) g
 given_item f p g piece n answer item h e =
     let P : ℕ → Type 0 = λ k. IsFed f (take k piece) ((start_of p.stage, item) ∷ []) g in
-    subst P (omega arith) (fed_item f f p g piece piece 0 n [] answer item
+    subst P (omega arith) (fed_item {at = 0} {xs = []}
     (fed_none f) (pushed_at f p g piece n answer h) h.limit e h.answers h.after_is)
 
 pub given_none : (f p g : FeedState) (piece : List ℕ) (n : ℕ) (answer : Result (Option Item) Refusal)
     → IsStepped f p g piece n answer → answer ≡ Ok None → IsFed f piece [] g × (is_closed g.stage g.held ≡ false)
 given_none f p g piece n answer h e =
-    fed_all f f p g piece piece 0 n [] answer (omega arith) (fed_none f) (pushed_at f p g piece n answer h) e h.answers h.after_is
+    fed_all {at = 0} {xs = []} (omega arith) (fed_none f) (pushed_at f p g piece n answer h) e h.answers h.after_is
 
 pub given_refusal : (f p g : FeedState) (piece : List ℕ) (n : ℕ) (answer : Result (Option Item) Refusal) (r : Refusal)
     → IsStepped f p g piece n answer → answer ≡ Err r → IsFed f (take n piece) [] g × IsAnswer g (Err r)
 given_refusal f p g piece n answer r h e =
     let P : ℕ → Type 0 = λ k. IsFed f (take k piece) [] g × IsAnswer g (Err r) in
-    subst P (omega arith) (fed_refused f f p g piece piece 0 n [] answer r (fed_none f) (pushed_at f p g piece n answer h) e h.answers h.after_is)
+    subst P (omega arith) (fed_refused {at = 0} {xs = []} (fed_none f) (pushed_at f p g piece n answer h) e h.answers h.after_is)
 
 -- ---- all of a piece
 

@@ -39,10 +39,8 @@ items-preserved g c =
       moved = (
         h.0 ++ one,
         took_more _ _ _ _ h.0 (c.start-start.result, item) h.1 c.in-Ok.ensures.items,
-        subst P (sym c.start-start.ensures.value) (fed_item c.args.feed.now s p c.take.follows.lender-at-none c.args.piece.now rest at c.push-at.result h.0
-            (shown c.take.result) item
-            h.2 pushed c.start-start.ensures.feed.limit (ap shown (c.in-Ok-Some.is ∙ ap Ok c.in-Ok-Some.field-0-is)) c.take.ensures.value
-            c.take.follows.holds-at-none),
+        subst P (sym c.start-start.ensures.value) (fed_item h.2 pushed c.start-start.ensures.feed.limit
+            (ap shown (c.in-Ok-Some.is ∙ ap Ok c.in-Ok-Some.field-0-is)) c.take.ensures.value c.take.follows.holds-at-none),
       );
     }
 
@@ -69,10 +67,8 @@ returns-in-Err-item-clause-items g c =
       (h.0, x, c.pass-passed.new.sink, refl, h.1, c.in-Err-item.ensures.items),
       (
         at + c.push-at.result,
-        subst P (sym c.start-start.ensures.value) (fed_item c.args.feed.now s p c.take.follows.lender-at-none c.args.piece.now rest at c.push-at.result h.0
-            (shown c.take.result) item
-            h.2 pushed c.start-start.ensures.feed.limit (ap shown (c.in-Ok-Some.is ∙ ap Ok c.in-Ok-Some.field-0-is)) c.take.ensures.value
-            c.take.follows.holds-at-none),
+        subst P (sym c.start-start.ensures.value) (fed_item h.2 pushed c.start-start.ensures.feed.limit
+            (ap shown (c.in-Ok-Some.is ∙ ap Ok c.in-Ok-Some.field-0-is)) c.take.ensures.value c.take.follows.holds-at-none),
       ),
     )
 
@@ -99,8 +95,7 @@ returns-in-Ok-None-clause-items g c =
     } in (
       h.0,
       h.1,
-      fed_all c.args.feed.now s c.push-at.new.self c.take.follows.lender-at-none c.args.piece.now rest at c.push-at.result h.0 (shown c.take.result)
-          within h.2 pushed (ap shown (c.in-Ok-None.is ∙ ap Ok c.in-Ok-None.field-0-is)) c.take.ensures.value c.take.follows.holds-at-none,
+      fed_all within h.2 pushed (ap shown (c.in-Ok-None.is ∙ ap Ok c.in-Ok-None.field-0-is)) c.take.ensures.value c.take.follows.holds-at-none,
     )
 
 pub returns-in-Err-take-clause-items : goal.returns-in-Err-take-clause-items
@@ -117,9 +112,7 @@ returns-in-Err-take-clause-items g c =
       held_is = c.push-at.ensures.held;
       partial = c.push-at.ensures.partial;
     } in
-    let end = fed_refused c.args.feed.now s c.push-at.new.self c.take.follows.lender-at-none c.args.piece.now rest at c.push-at.result h.0
-    (shown c.take.result) c.refusal_in.result
-    h.2 pushed (ap shown (c.in-Err-take.is ∙ ap Err c.refusal_in.ensures)) c.take.ensures.value c.take.follows.holds-at-none in
+    let end = fed_refused h.2 pushed (ap shown (c.in-Err-take.is ∙ ap Err c.refusal_in.ensures)) c.take.ensures.value c.take.follows.holds-at-none in
     (h.0, h.1, (at + c.push-at.result, end.0, end.1))
 
 pub returns-in-Err-item-clause-limit : goal.returns-in-Err-item-clause-limit
