@@ -5,7 +5,7 @@ use crate::jobs::State;
 use crate::setting::LIMIT;
 
 /// What the command line asks for.
-#[derive(Clone, Copy, Debug)]
+#[derive(Clone, Copy)]
 pub enum Job {
     Serve(Amount),
     Fetch(Amount),
@@ -25,7 +25,7 @@ pub enum Job {
 }
 
 /// How many blocks the metadata has, and how often a job is done.
-#[derive(Clone, Copy, Debug)]
+#[derive(Clone, Copy)]
 pub struct Amount {
     pub blocks: u32,
     pub rounds: u32,
@@ -100,16 +100,24 @@ fn names(words: &[String]) -> Option<Job> {
     })
 }
 
+/// The job of this name with its amount.
+fn with_amount(name: &str, amount: Amount) -> Option<Job> {
+    match name {
+        "serve" => Some(Job::Serve(amount)),
+        "fetch" => Some(Job::Fetch(amount)),
+        "pair" => Some(Job::Pair(amount)),
+        "hash" => Some(Job::Hash(amount)),
+        _ => None,
+    }
+}
+
 /// The job that the words ask for; `None` where they are no command line.
 pub fn asked(words: &[String]) -> Option<Job> {
-    match words.first()?.as_str() {
-        "serve" => Some(Job::Serve(amount_in(words)?)),
-        "fetch" => Some(Job::Fetch(amount_in(words)?)),
-        "pair" => Some(Job::Pair(amount_in(words)?)),
-        "hash" => Some(Job::Hash(amount_in(words)?)),
+    let name = words.first()?.as_str();
+    match name {
         "digest" => Some(Job::Digest(blocks(words.get(1))?)),
         "ends" => ends(words),
         "names" => names(words),
-        _ => None,
+        _ => with_amount(name, amount_in(words)?),
     }
 }

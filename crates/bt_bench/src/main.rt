@@ -8,8 +8,8 @@ mod names;
 mod peer;
 mod setting;
 
-use crate::command::{Job, USAGE, asked};
-use crate::jobs::{digests, ends, exchange, fetch, hash, serve};
+use crate::command::{Amount, Job, USAGE, asked};
+use crate::jobs::{Fetches, State, digests, ends, exchange, fetch, hash, serve};
 use crate::moving::Stopped;
 use crate::names::names;
 use std::alloc::Global;
@@ -26,53 +26,64 @@ fn words<R: Env + AllocGlobal>(rt: &R) -> io::Result<Vec<String>> {
     Ok(words)
 }
 
+/// The line of a serving end.
+fn serve_line(alloc: Global, amount: Amount) -> Result<String, Stopped> {
+    let tally = serve(alloc, amount.blocks, amount.rounds)?;
+    Ok(format!(in alloc; "items={} bytes={}", tally.handled, tally.sent)?)
+}
+
+/// The line of fetches.
+fn fetches_line(alloc: Global, fetches: Fetches) -> Result<String, Stopped> {
+    Ok(format!(in alloc;
+        "blocks={} bytes={} length={}",
+        fetches.blocks, fetches.bytes, fetches.length
+    )?)
+}
+
+/// The line of a digest.
+fn hash_line(alloc: Global, amount: Amount) -> Result<String, Stopped> {
+    let digest = hash(alloc, amount.blocks, amount.rounds)?;
+    Ok(hex::encode(alloc, digest)?)
+}
+
+/// The line of what two ends send.
+fn digest_line(alloc: Global, blocks: u32) -> Result<String, Stopped> {
+    let (left, right) = digests(alloc, blocks)?;
+    let left = hex::encode(alloc, left)?;
+    let right = hex::encode(alloc, right)?;
+    Ok(format!(in alloc; "left={left} right={right}")?)
+}
+
+/// The line of many ends.
+fn ends_line(alloc: Global, count: u32, state: State, limit: u32) -> Result<String, Stopped> {
+    let ends = ends(alloc, count, state, limit)?;
+    Ok(format!(in alloc; "ends={}", ends.len())?)
+}
+
+/// The line of a table of names.
+fn names_line(alloc: Global, before: u32, new: u32, rounds: u32) -> Result<String, Stopped> {
+    let applied = names(alloc, before, new, rounds)?;
+    Ok(format!(in alloc; "bytes={} known={}", applied.bytes, applied.known)?)
+}
+
 /// The line that a job prints.
 fn line(alloc: Global, job: Job) -> Result<String, Stopped> {
     match job {
-        Job::Serve(amount) => {
-            let tally = serve(alloc, amount.blocks, amount.rounds)?;
-            Ok(format!(in alloc; "items={} bytes={}", tally.handled, tally.sent)?)
-        }
-        Job::Fetch(amount) => {
-            let fetches = fetch(alloc, amount.blocks, amount.rounds)?;
-            Ok(format!(in alloc;
-                "blocks={} bytes={} length={}",
-                fetches.blocks, fetches.bytes, fetches.length
-            )?)
-        }
-        Job::Pair(amount) => {
-            let fetches = exchange(alloc, amount.blocks, amount.rounds)?;
-            Ok(format!(in alloc;
-                "blocks={} bytes={} length={}",
-                fetches.blocks, fetches.bytes, fetches.length
-            )?)
-        }
-        Job::Hash(amount) => {
-            let digest = hash(alloc, amount.blocks, amount.rounds)?;
-            Ok(hex::encode(alloc, digest)?)
-        }
-        Job::Digest(blocks) => {
-            let (left, right) = digests(alloc, blocks)?;
-            let left = hex::encode(alloc, left)?;
-            let right = hex::encode(alloc, right)?;
-            Ok(format!(in alloc; "left={left} right={right}")?)
-        }
+        Job::Serve(amount) => serve_line(alloc, amount),
+        Job::Fetch(amount) => { fetches_line(alloc, fetch(alloc, amount.blocks, amount.rounds)?) }
+        Job::Pair(amount) => { fetches_line(alloc, exchange(alloc, amount.blocks, amount.rounds)?) }
+        Job::Hash(amount) => hash_line(alloc, amount),
+        Job::Digest(blocks) => digest_line(alloc, blocks),
         Job::Ends {
             count,
             state,
             limit,
-        } => {
-            let ends = ends(alloc, count, state, limit)?;
-            Ok(format!(in alloc; "ends={}", ends.len())?)
-        }
+        } => ends_line(alloc, count, state, limit),
         Job::Names {
             before,
             count,
             rounds,
-        } => {
-            let applied = names(alloc, before, count, rounds)?;
-            Ok(format!(in alloc; "bytes={} known={}", applied.bytes, applied.known)?)
-        }
+        } => names_line(alloc, before, count, rounds),
     }
 }
 

@@ -1,7 +1,7 @@
 //! Moves bytes between memory and an end. The jobs call it.
 ghost use Rattle.std.specs.Prelude.{◌<◌, ◌≤◌, length, IfOk};
 
-use bt_end::{End, EndError, Turn, TurnError};
+use bt_end::{End, Turn, TurnError};
 use bt_feed::Memory;
 use std::alloc::{AllocError, Global};
 use thiserror::Error;
@@ -10,7 +10,7 @@ use thiserror::Error;
 const PORTION: usize = 65_536;
 
 /// Why a job stops before its end.
-#[derive(Clone, Copy, PartialEq, Eq, Debug, Error)]
+#[derive(Clone, Copy, Debug, Error)]
 pub enum Stopped {
     #[error("an end refuses its peer's bytes")]
     Refused,
@@ -34,30 +34,25 @@ impl From<Memory> for Stopped {
     }
 }
 
-impl From<EndError> for Stopped {
-    fn from(error: EndError) -> Stopped {
-        match error {
-            EndError::Memory => Stopped::Memory,
-            _ => Stopped::Unmade,
-        }
-    }
-}
-
-impl From<TurnError> for Stopped {
-    fn from(error: TurnError) -> Stopped {
-        match error {
-            TurnError::Refused(_) => Stopped::Refused,
-            TurnError::Busy => Stopped::Stuck,
-            TurnError::Memory => Stopped::Memory,
-        }
-    }
-}
-
 /// How many items an end handled, and how many bytes it sent.
-#[derive(Clone, Copy, Debug, Default)]
+#[derive(Clone, Copy, Default)]
 pub struct Tally {
     pub handled: u64,
     pub sent: u64,
+}
+
+/// Handles the item that the end holds if it is whole, and counts it.
+fn turn(end: &mut End, tally: &mut Tally) -> Result<(), Stopped> {
+    match end.turn() {
+        Ok(Turn::Handled) => {
+            tally.handled = tally.handled.saturating_add(1);
+            Ok(())
+        }
+        Ok(Turn::Idle) => Ok(()),
+        Err(TurnError::Refused(_)) => Err(Stopped::Refused),
+        Err(TurnError::Busy) => Err(Stopped::Stuck),
+        Err(TurnError::Memory) => Err(Stopped::Memory),
+    }
 }
 
 /// Takes bytes up to the end of the end's present item, handles it if it is whole, and says how many were taken.
@@ -68,9 +63,7 @@ fn step(end: &mut End, bytes: &[u8], tally: &mut Tally) -> Result<usize, Stopped
     if taken == 0 {
         return Err(Stopped::Stuck);
     }
-    if end.turn()? == Turn::Handled {
-        tally.handled = tally.handled.saturating_add(1);
-    }
+    turn(end, tally)?;
     Ok(taken)
 }
 

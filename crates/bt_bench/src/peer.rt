@@ -1,20 +1,47 @@
 //! What the other side of a connection says, as bytes that are made once. The jobs bring them to an end.
-ghost use Rattle.std.specs.Prelude.{◌≡◌, ◌<◌, ◌≤◌, ◌^◌, length};
+ghost use Rattle.std.specs.Prelude.{◌<◌, ◌≤◌, ◌^◌, length};
+ghost use Rattle.bt_ext.specs.Made.{IsMade};
 
 use crate::setting::{BLOCK, END_ID, PEER_ID, RESERVED};
 use bt_ext::{DictText, ExtId, Kind, Registered, handshake_text, message_text};
 use bt_wire::{Handshake, Reserved, spell_handshake};
 use std::alloc::{AllocError, Global};
 
+/// Appends bytes. Its callers needn't carry what the `Vec` then has.
+pub fn put(bytes: &mut Vec<u8>, more: &[u8]) -> Result<(), AllocError> {
+    bytes.extend_from_slice(more)
+}
+
 /// Appends an extended message (BEP 10) of a dictionary and the bytes after it.
 fn push_extended(bytes: &mut Vec<u8>, id: u8, dict: &[u8], rest: &[u8]) -> Result<(), AllocError>
     requires { (length dict.now ≤ 220) × (length rest.now ≤ 16384) }
 {
     let length = (2 + dict.len() + rest.len()) as u32;
-    bytes.extend_from_slice(&length.to_be_bytes())?;
-    bytes.extend_from_slice(&[20, id])?;
-    bytes.extend_from_slice(dict)?;
-    bytes.extend_from_slice(rest)
+    put(bytes, &length.to_be_bytes())?;
+    put(bytes, &[20, id])?;
+    put(bytes, dict)?;
+    put(bytes, rest)
+}
+
+/// The peer's handshake.
+fn handshake(info_hash: [u8; 20]) -> [u8; 68] {
+    spell_handshake(&Handshake {
+        reserved: Reserved(RESERVED),
+        info_hash,
+        peer_id: *b"-PE0001-PPPPPPPPPPPP",
+    })
+}
+
+/// The ids of the peer.
+fn registered() -> Registered {
+    Registered::metadata_only(ExtId::new(PEER_ID))
+}
+
+/// Appends the extended handshake, with the size of the metadata, if the peer has it.
+fn push_greeting(bytes: &mut Vec<u8>, size: Option<u64>) -> Result<(), AllocError> {
+    let mut text: DictText = [0; 220];
+    let start = handshake_text(registered(), size, &mut text);
+    push_extended(bytes, 0, &text[start..], &[])
 }
 
 /// The handshake and the extended handshake, with the size of the metadata, if the peer has it.
@@ -23,27 +50,24 @@ pub fn greeting(
     info_hash: [u8; 20],
     size: Option<u64>,
 ) -> Result<Vec<u8>, AllocError> {
-    let handshake = Handshake {
-        reserved: Reserved(RESERVED),
-        info_hash,
-        peer_id: *b"-PE0001-PPPPPPPPPPPP",
-    };
-    let mut bytes = spell_handshake(&handshake).to_vec(alloc)?;
-    let mut text: DictText = [0; 220];
-    let start = handshake_text(
-        Registered::metadata_only(ExtId::new(PEER_ID)),
-        size,
-        &mut text,
-    );
-    push_extended(&mut bytes, 0, &text[start..], &[])?;
+    let mut bytes = handshake(info_hash).to_vec(alloc)?;
+    push_greeting(&mut bytes, size)?;
     Ok(bytes)
+}
+
+/// Appends a metadata message (BEP 9) with the bytes after it.
+fn push_message(bytes: &mut Vec<u8>, kind: Kind, rest: &[u8]) -> Result<(), AllocError>
+    requires made { IsMade kind }
+    requires rest { length rest.now ≤ 16384 }
+{
+    let mut text: DictText = [0; 220];
+    let start = message_text(kind, &mut text);
+    push_extended(bytes, END_ID, &text[start..], rest)
 }
 
 /// Appends a request for a block (BEP 9).
 fn push_request(bytes: &mut Vec<u8>, piece: u32) -> Result<(), AllocError> {
-    let mut text: DictText = [0; 220];
-    let start = message_text(Kind::Request(piece), &mut text);
-    push_extended(bytes, END_ID, &text[start..], &[])
+    push_message(bytes, Kind::Request(piece), &[])
 }
 
 /// Requests for the blocks from 0 to `count`, in order.
@@ -60,9 +84,7 @@ fn push_data(bytes: &mut Vec<u8>, piece: u32, total: u64, block: &[u8]) -> Resul
     requires total { (0 < total) × (total < 2 ^ 63) }
     requires block { length block.now ≤ 16384 }
 {
-    let mut text: DictText = [0; 220];
-    let start = message_text(Kind::Data { piece, total }, &mut text);
-    push_extended(bytes, END_ID, &text[start..], block)
+    push_message(bytes, Kind::Data { piece, total }, block)
 }
 
 /// The blocks of the metadata as data messages, in order.

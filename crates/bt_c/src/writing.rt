@@ -189,10 +189,20 @@ fn put_rest(message: &BtItem, front: &[u8], back: &[u8], out: &mut [u8], at: usi
     if message.id == KEEP_ALIVE {
         return;
     }
-    let place = put_bytes(back, out, at);
-    let place = put_bytes(front, out, place);
+    let place = put_kept(front, back, out, at);
     let place = put_head(shape_of(message.id), message, out, place);
     put_bytes(&[message.id as u8], out, place);
+}
+
+/// Puts the bytes that a message keeps before the place.
+fn put_kept(front: &[u8], back: &[u8], out: &mut [u8], at: usize) -> usize
+    requires { (length (front.now ++ back.now) ≤ at) × (at ≤ length out.old) }
+    ensures room { result + length (front.now ++ back.now) ≡ at }
+    ensures len { length out.new ≡ length out.old }
+    ensures text { drop result out.new ≡ (front.now ++ back.now) ++ drop at out.old }
+{
+    let place = put_bytes(back, out, at);
+    put_bytes(front, out, place)
 }
 
 /// Puts the numbers of a message before the place.

@@ -38,7 +38,7 @@ pub enum BothError {
 }
 
 /// What the call of an end did.
-#[derive(Clone, Copy, PartialEq, Eq, Debug)]
+#[derive(Clone, Copy)]
 enum Way {
     /// Nothing was to be moved.
     Waited,
@@ -49,7 +49,7 @@ enum Way {
 }
 
 /// The turns and the call of an end in a round.
-#[derive(Clone, Copy, PartialEq, Eq, Debug)]
+#[derive(Clone, Copy)]
 struct Called {
     /// How many items it handled.
     items: u64,
@@ -57,7 +57,7 @@ struct Called {
 }
 
 /// What a round did.
-#[derive(Clone, Copy, PartialEq, Eq, Debug)]
+#[derive(Clone, Copy)]
 struct Exchanged {
     left: u64,
     right: u64,

@@ -71,7 +71,7 @@ pub struct Limits {
 }
 
 /// The time of the last sign of life, and how far the connection had come.
-#[derive(Clone, Copy, PartialEq, Eq, Debug)]
+#[derive(Clone, Copy)]
 struct Watch {
     since: u64,
     headway: Headway,
