@@ -81,6 +81,10 @@ behind_name text name rest n shape row begins cut ended =
       following = sym (ap after_word parts ∙ after_word-append name rest none stops);
     }
 
+pub no_row : (o : Option Id) → None ≡ option_map number_and_shape o → o ≡ None
+no_row None e = refl
+no_row (Some i) e = absurd cc
+
 row_given : (o : Option Id) (text : List ℕ) (p : ℕ × Shape) → Some p ≡ option_map number_and_shape o → option_and_then (row_in_text text) o
     ≡ option_map (framed_by p.0) (fields_in p.1 text)
 row_given None text p e = absurd cc

@@ -1,5 +1,6 @@
 -- For proofs and private contracts alone: a line of a script, read from left to right.
-use Rattle.std.specs.Prelude.{◌≡◌, ◌==◌, ℕ, ◌^◌, ◌<◌, ◌≤◌, nat_lt, slice_index, take, Bool, true, false, not, ◌&&◌, List, [], ◌∷◌, ◌++◌, length, codes, Option, Some, None, option_map}
+use Rattle.std.specs.Prelude.{◌≡◌, ◌==◌, ℕ, ◌^◌, nat_lt, Bool, true, false, not, ◌&&◌, List, [], ◌∷◌, ◌++◌, length, codes, Option, Some, None, option_map}
+use Rattle.std.specs.Prelude.{◌<◌, ◌≤◌, slice_index, take}
 use Rattle.std.specs.Prelude.{option_and_then, if◌then◌else◌}
 use Rattle.std.specs.Borrow.{Bor}
 use Rattle.std.specs.Char.{is_ascii_digit}
@@ -129,6 +130,10 @@ pub record IsBehindName (text : List ℕ) (n : ℕ) (shape : Shape) (rest : List
   pub row : option_map number_and_shape (row_named (word_of text) ids) ≡ Some (n, shape)
   pub other : bytes_eq (word_of text) (codes "unknown") ≡ false
   pub following : rest ≡ after_word text
+
+-- the first word of the text is no such name
+abbrev pub HasNoRow : List ℕ → Type 0
+HasNoRow text = bytes_eq (word_of text) (codes "unknown") ≡ false → row_named (word_of text) ids ≡ None
 
 abbrev pub message_in : List ℕ → Option (List ℕ)
 message_in text =

@@ -1,7 +1,7 @@
 //! A line of a script, from its text to its bytes. `pack` calls it.
 //!
 //! Nothing is allocated but the bytes.
-ghost use Rattle.std.specs.Prelude.{◌≡◌, ◌+◌, ◌<◌, ◌≤◌, ◌^◌, length, IsTrue, ◌↔◌, slice_index, codes, IfOk, IfSome, OnOk, MatchResult, option_map, position, unwrap_or, true, false, ◌++◌, ◌∷◌, ◌-◌, ◌==◌};
+ghost use Rattle.std.specs.Prelude.{◌≡◌, ◌+◌, ◌<◌, ◌≤◌, ◌^◌, length, IsTrue, ◌↔◌, slice_index, codes, IfOk, IfSome, OnOk, MatchResult, MatchOption, option_map, position, unwrap_or, true, false, ◌++◌, ◌∷◌, ◌-◌, ◌==◌};
 ghost use Rattle.std.specs.Str.{bytes_eq};
 ghost use Rattle.std.specs.Result.{result_ok};
 ghost use Rattle.hex.specs.Hex.{decode_of};
@@ -17,6 +17,7 @@ ghost use Rattle.bt_text.specs.ScriptReading.{
   IsLed,
   IsRowName,
   IsBehindName,
+  HasNoRow,
   bytes_in_word,
   number_following as number_read,
   two_after,
@@ -455,21 +456,47 @@ fn first_row(text: &[u8]) -> Option<Named<'_>>
     }
 }
 
-/// Appends the message of a line that is no keep-alive, by its whole first word.
+/// Returns the row that the text's first word names, by the whole word.
 #[inline(never)]
-fn put_by_word(text: &[u8], bytes: &mut Vec<u8>) -> Result<bool, AllocError>
+fn row_by_word(text: &[u8]) -> Option<Named<'_>>
+    ensures named { MatchOption result (HasNoRow text.now) (λ p. IsBehindName text.now p.0 p.1 p.2.now) }
+    ensures short { IfSome result (λ p. length p.2.now ≤ length text.now) }
+{
+    let (name, rest) = split_word(text);
+    if is(name, b"unknown") {
+        return None;
+    }
+    match row_of(name) {
+        Some((id, shape)) => Some((id, shape, rest)),
+        None => None,
+    }
+}
+
+/// Returns the row that the text's first word names.
+#[inline(always)]
+fn find_row(text: &[u8]) -> Option<Named<'_>>
+    ensures named { MatchOption result (HasNoRow text.now) (λ p. IsBehindName text.now p.0 p.1 p.2.now) }
+    ensures short { IfSome result (λ p. length p.2.now ≤ length text.now) }
+{
+    match first_row(text) {
+        Some(row) => Some(row),
+        None => row_by_word(text),
+    }
+}
+
+/// Appends the message of a line whose first word names no row and that is no keep-alive.
+#[inline(never)]
+fn put_other(text: &[u8], bytes: &mut Vec<u8>) -> Result<bool, AllocError>
     requires short { length text.now < 2 ^ 32 }
     requires other { bytes_eq text.now (codes "keep-alive") ≡ false }
+    requires none { HasNoRow text.now }
     ensures { IfOk result (Adds (message_in text.now) bytes.old.items bytes.new.items) }
 {
     let (name, rest) = split_word(text);
     if is(name, b"unknown") {
         return put_unknown(rest, bytes);
     }
-    match row_of(name) {
-        Some((id, shape)) => put_fields(shape, id, rest, bytes),
-        None => Ok(false),
-    }
+    Ok(false)
 }
 
 /// Appends the message of a line.
@@ -482,9 +509,9 @@ fn put_message(text: &[u8], bytes: &mut Vec<u8>) -> Result<bool, AllocError>
         bytes.extend_from_slice(&[0; 4])?;
         return Ok(true);
     }
-    match first_row(text) {
+    match find_row(text) {
         Some((id, shape, rest)) => put_fields(shape, id, rest, bytes),
-        None => put_by_word(text, bytes),
+        None => put_other(text, bytes),
     }
 }
 
@@ -532,6 +559,20 @@ fn read_handshake(text: &[u8]) -> Option<Handshake>
     })
 }
 
+/// Appends the handshake of a line. It isn't inlined, so that its arrays aren't filled for each message.
+#[inline(never)]
+fn put_handshake(text: &[u8], bytes: &mut Vec<u8>) -> Result<bool, AllocError>
+    ensures { IfOk result (Adds (line_in true text.now) bytes.old.items bytes.new.items) }
+{
+    match read_handshake(text) {
+        Some(handshake) => {
+            bytes.extend_from_slice(&spell_handshake(&handshake))?;
+            Ok(true)
+        }
+        None => Ok(false),
+    }
+}
+
 /// Reads a line of a script, and puts what it names in `bytes`.
 ///
 /// The text stands without its line feed.
@@ -572,11 +613,5 @@ fn put_line(text: &[u8], first: bool, bytes: &mut Vec<u8>) -> Result<bool, Alloc
     if !first {
         return put_message(text, bytes);
     }
-    match read_handshake(text) {
-        Some(handshake) => {
-            bytes.extend_from_slice(&spell_handshake(&handshake))?;
-            Ok(true)
-        }
-        None => Ok(false),
-    }
+    put_handshake(text, bytes)
 }
