@@ -27,7 +27,7 @@ use Rattle.bt_feed.proofs.Closed.{closed_all, open_by}
 use Rattle.bt_feed.proofs.Coming.{item_comes, fault_comes, open_comes}
 use Rattle.bt_feed.proofs.Found.{early_has}
 use Rattle.bt_text.specs.Lines.{spaced}
-use Rattle.bt_text.specs.Script.{IsLine, IsAnswer as IsReadAs, Said, keep_alive, known, unknown, Says, said_bytes, framed_by, SaysFields, SaysSpaced, SaysBytes}
+use Rattle.bt_text.specs.Script.{IsLine, IsAdded, Said, keep_alive, known, unknown, Says, said_bytes, framed_by, SaysFields, SaysSpaced, SaysBytes}
 use Rattle.bt_text.specs.declared.ended.ScriptReason.TheVariants.{Reason}
 use Rattle.bt_jobs.specs.Packs.{IsNamed, AreNamed, AreTaken, is_none}
 use Rattle.bt_jobs.specs.PackSteps.{IsLonger, IsJudged, is_hand, IsPackedTo, Packing, IsLineEnd}
@@ -264,18 +264,24 @@ pub first_flag : (own : Own) (lines : List (List ℕ)) (b : List ℕ) (f : FeedS
     ≡ is_none lines
 first_flag own lines b f n h e = ap (λ (k : ℕ). eqb k 0) (e ∙ h.count) ∙ by_lines lines
 
--- what reading a line answered
-pub read_as : (limit : ℕ) (first flag : Bool) (text bytes : List ℕ) (ok : Bool) → ok ≡ true → first ≡ flag → length text ≤ 2 * limit + 256
-    → IsReadAs first text bytes ok → IsNamed limit flag text bytes
-read_as limit first flag text bytes ok e same short h =
-    let P : Bool → Type 0 = λ o. IsReadAs first text bytes o in
-    let Q : Bool → Type 0 = λ f. IsLine f text bytes in
-    record { short = short; line = subst Q same (subst P e h) }
+-- the bytes that a line was read as follow the others
+pub record IsNamedBehind (limit : ℕ) (flag : Bool) (text old new : List ℕ) : Type 0 where
+  pub bytes : List ℕ
+  pub named : IsNamed limit flag text bytes
+  pub behind : new ≡ old ++ bytes
 
-pub not_read : (limit : ℕ) (first flag : Bool) (text bytes : List ℕ) (ok : Bool) → ok ≡ false → first ≡ flag → IsReadAs first text bytes ok → (x : List ℕ)
-    → IsNamed limit flag text x → ⊥
-not_read limit first flag text bytes ok e same h =
-    let P : Bool → Type 0 = λ o. IsReadAs first text bytes o in
+pub read_as : (limit : ℕ) (first flag : Bool) (text old new : List ℕ) (ok : Bool) → ok ≡ true → first ≡ flag → length text ≤ 2 * limit + 256
+    → IsAdded first text old new ok → IsNamedBehind limit flag text old new
+read_as limit first flag text old new ok e same short h =
+    let P : Bool → Type 0 = λ o. IsAdded first text old new o in
+    let line = subst P e h in
+    let Q : Bool → Type 0 = λ f. IsLine f text line.0 in
+    record { bytes = line.0; named = record { short = short; line = subst Q same line.1 }; behind = line.2 }
+
+pub not_read : (limit : ℕ) (first flag : Bool) (text old new : List ℕ) (ok : Bool) → ok ≡ false → first ≡ flag → IsAdded first text old new ok
+    → ((x : List ℕ) → IsNamed limit flag text x → ⊥) × (new ≡ old)
+not_read limit first flag text old new ok e same h =
+    let P : Bool → Type 0 = λ o. IsAdded first text old new o in
     let Q : Bool → Type 0 = λ f. (x : List ℕ) → IsNamed limit f text x → ⊥ in
     let no = subst P e h in
-    subst Q same (λ x n. no x n.line)
+    (subst Q same (λ x n. no.0 x n.line), no.1)

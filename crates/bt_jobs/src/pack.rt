@@ -11,17 +11,18 @@ use crate::output::write_out;
 use crate::show::MAX_READS;
 use bt_feed::{Source, Target};
 use bt_text::ended::{PackEnd, ScriptReason, ToolFault};
-use bt_text::script::reading::read_line;
+use bt_text::script::reading::append_line;
 use bt_text::splitting::split_line;
 use bt_wire::Own;
 use std::alloc::{AllocError, Global};
 
 /// Takes a line, which stands without its line feed, and adds the bytes that it names; or returns why it isn't taken.
+///
+/// The bytes are judged where they are added, and go away if they are refused.
 fn take_line(
     judge: &mut Judge,
     text: &[u8],
     limit: u32,
-    bytes: &mut Vec<u8>,
     out: &mut Vec<u8>,
 ) -> Result<Option<ScriptReason>, AllocError>
     requires { limit ≤ 1048576 }
@@ -32,16 +33,18 @@ fn take_line(
     if text.len() as u64 > 2 * u64::from(limit) + 256 {
         return Ok(Some(ScriptReason::Syntax));
     }
-    if !read_line(text, first, bytes)? {
+    let start = out.len();
+    if !append_line(text, first, out)? {
         return Ok(Some(ScriptReason::Syntax));
     }
-    match judge.take_item(bytes.as_slice()) {
-        Ok(true) => {
-            out.extend_from_slice(bytes.as_slice())?;
-            Ok(None)
-        }
+    let whole = out.as_slice();
+    match judge.take_item(&whole[start..]) {
+        Ok(true) => Ok(None),
         Ok(false) => Ok(Some(ScriptReason::Syntax)),
-        Err(reason) => Ok(Some(ScriptReason::Reason(reason))),
+        Err(reason) => {
+            out.truncate(start);
+            Ok(Some(ScriptReason::Reason(reason)))
+        }
     }
 }
 
@@ -66,7 +69,6 @@ fn take_ended(
     line: &mut Vec<u8>,
     text: &[u8],
     limit: u32,
-    bytes: &mut Vec<u8>,
     out: &mut Vec<u8>,
 ) -> Result<Option<ScriptReason>, AllocError>
     requires { limit ≤ 1048576 }
@@ -75,12 +77,12 @@ fn take_ended(
     ensures empty { IfOk result (λ answer. answer ≡ None → line.new.items ≡ []) }
 {
     if line.as_slice().is_empty() {
-        return take_line(judge, text, limit, bytes, out);
+        return take_line(judge, text, limit, out);
     }
     if !hold(line, text, limit)? {
         return Ok(Some(ScriptReason::Syntax));
     }
-    let answer = take_line(judge, line.as_slice(), limit, bytes, out)?;
+    let answer = take_line(judge, line.as_slice(), limit, out)?;
     line.clear();
     Ok(answer)
 }
@@ -91,7 +93,6 @@ fn take_piece(
     line: &mut Vec<u8>,
     piece: &[u8],
     limit: u32,
-    bytes: &mut Vec<u8>,
     out: &mut Vec<u8>,
 ) -> Result<Option<ScriptReason>, AllocError>
     requires { limit ≤ 1048576 }
@@ -108,7 +109,7 @@ fn take_piece(
                 return Ok(None);
             }
             Some((front, following)) => {
-                if let Some(reason) = take_ended(judge, line, front, limit, bytes, out)? {
+                if let Some(reason) = take_ended(judge, line, front, limit, out)? {
                     return Ok(Some(reason));
                 }
                 rest = following;
@@ -132,7 +133,6 @@ fn end_script(
     judge: &mut Judge,
     line: &[u8],
     limit: u32,
-    bytes: &mut Vec<u8>,
     out: &mut Vec<u8>,
 ) -> Result<PackEnd, AllocError>
     requires { limit ≤ 1048576 }
@@ -148,7 +148,7 @@ fn end_script(
         }
         return Ok(counts(judge));
     }
-    match take_line(judge, line, limit, bytes, out) {
+    match take_line(judge, line, limit, out) {
         Ok(None) => Ok(counts(judge)),
         Ok(Some(reason)) => Ok(PackEnd::Refused {
             line: judge.number() + 1,
@@ -182,33 +182,25 @@ pub fn run_pack<R: Source, W: Target>(
     ensures local { result ≢ Err ToolFault.Net }
 {
     let mut judge = Judge::new(*own);
-    // Room for the longest line and its bytes, so that lines take no memory: `piece 0 0 `, and after it the digits of
-    // limit + 123 bytes, which follow 13 others.
+    // Room for the longest line and its bytes, so that the first line of a read takes no memory: `piece 0 0 `, and after it
+    // the digits of limit + 123 bytes, which follow 13 others.
     let Ok(mut line) = Vec::with_capacity(alloc, 2 * own.limit as usize + 256) else {
         return Err(ToolFault::Memory);
     };
-    let Ok(mut bytes) = Vec::with_capacity(alloc, own.limit as usize + 136) else {
+    let Ok(mut out) = Vec::with_capacity(alloc, own.limit as usize + 136) else {
         return Err(ToolFault::Memory);
     };
-    let mut out = Vec::new(alloc);
     let mut buffer = [0; 65536];
     for _turn in 0..MAX_READS {
         match reader.read(&mut buffer) {
             Ok(0) => {
-                match end_script(&mut judge, line.as_slice(), own.limit, &mut bytes, &mut out) {
+                match end_script(&mut judge, line.as_slice(), own.limit, &mut out) {
                     Ok(end) => return write_out(writer, out.as_slice(), end),
                     Err(_) => return Err(ToolFault::Memory),
                 }
             }
             Ok(count) => {
-                match take_piece(
-                    &mut judge,
-                    &mut line,
-                    &buffer[..count],
-                    own.limit,
-                    &mut bytes,
-                    &mut out,
-                ) {
+                match take_piece(&mut judge, &mut line, &buffer[..count], own.limit, &mut out) {
                     Ok(None) => match write_out(writer, out.as_slice(), ()) {
                         Ok(()) => out.clear(),
                         Err(fault) => return Err(fault),

@@ -20,9 +20,9 @@ use Rattle.bt_wire.specs.Messages.{Fields, spell_fields}
 use Rattle.bt_wire.specs.Numbers.{be32, be64}
 use Rattle.bt_text.specs.Lines.{spaced}
 use Rattle.bt_text.specs.Script.{SaysSpaced, SaysFields, row_named, IsOfRow, Said, keep_alive, known, unknown, Says, framed_by, said_bytes, IsMessageLine}
-use Rattle.bt_text.specs.Script.{HasHandshakeWords, IsHandshakeLine, IsLine, IsAnswer}
+use Rattle.bt_text.specs.Script.{HasHandshakeWords, IsHandshakeLine, IsLine, IsAnswer, IsAdded}
 use Rattle.bt_text.specs.ScriptReading.{word_of, after_word, number_following, with_bytes, fields_in, payload_in, unknown_in, row_in_text, message_in}
-use Rattle.bt_text.specs.ScriptReading.{array_after, peer_in, info_in, handshake_in, bytes_of_parts, closed, line_in, Gives}
+use Rattle.bt_text.specs.ScriptReading.{array_after, peer_in, info_in, handshake_in, bytes_of_parts, closed, line_in, Adds}
 use Rattle.bt_text.proofs.ScriptWords.{Stops, has_no_space, word-parts, word_of-append, after_word-append}
 use Rattle.bt_text.proofs.ScriptFields.{option_map-Some, option_and_then-Some, closed-Some, is_space, number_following-Some, pair, number_following-spaced}
 use Rattle.bt_text.proofs.ScriptFields.{with_bytes-Some, with_bytes-says, Stops-says, fields_in-Some, fields_in-says, Stops-fields}
@@ -301,14 +301,30 @@ line_in-says true text bytes line =
     rw w.parts (handshake_said line.1.0 line.1.1 line.1.2 line.0 w.reserved_bytes w.info_bytes w.peer_bytes w.fits ∙ ap (λ (x : List ℕ). Some x) (sym line.2))
 line_in-says false text bytes line = message_in-says text line.0 line.1 ∙ ap (λ (x : List ℕ). Some x) (sym line.2)
 
-answer : (first : Bool) (text bytes : List ℕ) (b : Bool) → Gives (line_in first text) bytes b → IsAnswer first text bytes b
-answer first text bytes true h = line_in-Some first text bytes h
-answer first text bytes false h = λ other line. absurd (let k : None ≡ Some other = sym h ∙ line_in-says first text other line in cc k)
+added : (first : Bool) (text old new : List ℕ) (b : Bool) → Adds (line_in first text) old new b → IsAdded first text old new b
+added first text old new true h =
+    let m = option_map-Some (λ (bytes : List ℕ). old ++ bytes) (line_in first text) new h in
+    (m.from, line_in-Some first text m.from m.was, sym m.gives)
+added first text old new false h =
+    (λ other line. absurd (let k : None ≡ Some other = sym h.0 ∙ line_in-says first text other line in cc k), h.1)
 
-pub read_answer : {E : Type 0} (first : Bool) (text bytes : List ℕ) (r : Result Bool E) → IfOk r (Gives (line_in first text) bytes)
+pub added_answer : {E : Type 0} (first : Bool) (text old new : List ℕ) (r : Result Bool E) → IfOk r (Adds (line_in first text) old new)
+    → IfOk r (IsAdded first text old new)
+added_answer first text old new (Ok b) h = added first text old new b h
+added_answer first text old new (Err e) h = tt
+
+answer : (first : Bool) (text bytes : List ℕ) (b : Bool) → IsAdded first text [] bytes b → IsAnswer first text bytes b
+answer first text bytes true h =
+    let P : List ℕ → Type 0 = λ l. IsLine first text l in
+    subst P (sym h.2) h.1
+answer first text bytes false h = h.0
+
+pub read_answer : {E : Type 0} (first : Bool) (text old bytes : List ℕ) (r : Result Bool E) → old ≡ [] → IfOk r (Adds (line_in first text) old bytes)
     → IfOk r (IsAnswer first text bytes)
-read_answer first text bytes (Ok b) h = answer first text bytes b h
-read_answer first text bytes (Err e) h = tt
+read_answer first text old bytes (Ok b) none h =
+    let P : List ℕ → Type 0 = λ l. IsAdded first text l bytes b in
+    answer first text bytes b (subst P none (added first text old bytes b h))
+read_answer first text old bytes (Err e) none h = tt
 
 pub one_reading : (first : Bool) (text a b : List ℕ) → IsLine first text a → IsLine first text b → a ≡ b
 one_reading first text a b p q =

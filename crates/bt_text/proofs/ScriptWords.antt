@@ -1,9 +1,9 @@
 -- The words of a line: its front up to a space, and the numbers that words say.
 use Rattle.std.proofs.Common.{◌≡◌, ℕ, suc, ◌+◌, ◌-◌, ◌*◌, ◌<◌, ◌≤◌, ◌^◌, ◌==◌, Bool, true, false, ◌&&◌, not, List, [], ◌∷◌, ◌++◌, length, take, drop}
 use Rattle.std.proofs.Common.{get_or, Some, None, Result, Ok, Err, refl, sym, ap, ◌∙◌, arith, inl, inr, cond, zero}
-use Rattle.std.proofs.lemmas.Bool.{cases_Bool, cases_lt, and_parts, ltb-true, ltb-false, lt-ltb, le-ltb}
+use Rattle.std.proofs.lemmas.Bool.{cases_Bool, cases_lt, and_parts, eqb-true, ltb-true, ltb-false, lt-ltb, le-ltb}
 use Rattle.std.proofs.lemmas.Fmt.{digits_decimal, digits_value-decimal, decimal-digits_value, length-decimal-le, decimal_nonempty, first_decimal, decimal_digit}
-use Rattle.std.proofs.lemmas.List.{length-take, get_or-take, take_all}
+use Rattle.std.proofs.lemmas.List.{length-append, length-take, length-take-le, get_or-take, get_or_append_left, take-append-drop, take_all}
 use Rattle.std.proofs.lemmas.List.Sums.{prefix_len-le-length}
 use Rattle.std.proofs.lemmas.Slice.Eq.{bytes_eq-Decides}
 use Rattle.std.proofs.lemmas.Str.Parse.{IsNumeralModel, numerals_by_value, tells_by_index, digits_value_short}
@@ -13,10 +13,10 @@ use Rattle.std.specs.Fmt.{decimal}
 use Rattle.std.specs.Int.{IsInRange}
 use Rattle.std.specs.List.{position_or_len}
 use Rattle.std.specs.Result.{OkIff, result_ok}
-use Rattle.std.specs.Prelude.{nat_lt, position, unwrap_or, ⊤}
+use Rattle.std.specs.Prelude.{nat_lt, option_map, position, unwrap_or, ⊤, ◌⊎◌}
 use Rattle.std.specs.Str.{bytes_eq}
 use Rattle.std.specs.Str.Parse.{digits_value}
-use Rattle.bt_text.specs.ScriptReading.{word_of, after_word, number_in_word}
+use Rattle.bt_text.specs.ScriptReading.{word_of, after_word, ends, number_in_word, first_number, IsLed}
 
 abbrev pub is_space : ℕ → Bool
 is_space c = c == 32
@@ -208,7 +208,7 @@ is_none c e digit = grind arith
 pub IsDecimal-other : (w : List ℕ) (n i : ℕ) → IsDecimal w n → i < length w → is_ascii_digit (get_or w i 0) ≡ false → ⊥
 IsDecimal-other w n i h lt e = is_none (get_or w i 0) e (IsDecimal-digits w n h i lt)
 
-pub value_short : (w : List ℕ) (i n : ℕ) → length w ≤ 10 → i ≤ length w → n ≡ digits_value 10 (take i w)
+pub value_short : (w : List ℕ) (i n : ℕ) → i ≤ 10 → i ≤ length w → n ≡ digits_value 10 (take i w)
     → ((k : ℕ) → k < i → IsInRange 48 57 (get_or w k 0)) → n < 10000000000
 value_short w i n short le is digits =
     let len : length (take i w) ≡ i = omega (arith, length-take i w) in
@@ -228,3 +228,112 @@ read_number w i n r some le is digits led h =
     let all : AreDigits w = λ k lt. digits k (omega arith) in
     let first : get_or w 0 0 ≡ 48 → length w ≡ 1 = λ e. elim (cases_lt 1 (length w)) [ inl more ↦ absurd (led e more) | inr one ↦ omega arith ] in
     ok_iff w n r (λ lt. small_digits w all some first (omega arith) ∙ ap (λ (k : ℕ). Some k) (sym same)) (λ le'. large_digits w (omega arith)) h
+
+-- ---- digits that lead a text
+
+pub stops_by : (t : List ℕ) → ends t ≡ true → Stops t
+stops_by [] h = tt
+stops_by (c ∷ cs) h = eqb-true c 32 h
+
+get_or-word : (t : List ℕ) (i : ℕ) → i < length (word_of t) → get_or t i 0 ≡ get_or (word_of t) i 0
+get_or-word t i lt = ap (λ (l : List ℕ). get_or l i 0) (sym (word-parts t)) ∙ get_or_append_left (word_of t) (after_word t) 0 i lt
+
+length-word : (t : List ℕ) → length (word_of t) ≤ length t
+length-word t = omega (arith, ap length (word-parts t), length-append (word_of t) (after_word t))
+
+-- a space follows the first word of a text that goes on
+space_after : (t : List ℕ) → length (word_of t) < length t → get_or t (length (word_of t)) 0 ≡ 32
+space_after [] lt = absurd (omega arith)
+space_after (c ∷ cs) lt =
+    elim (cases_Bool (c == 32)) [
+      | inl e ↦ rw e (eqb-true c 32 e)
+      | inr e ↦ let lt' = rw e at lt in rw e (space_after cs (omega (arith, lt')))
+    ]
+
+-- they are the first word, where that is a number
+led_is_word : (t : List ℕ) (n k m : ℕ) → IsLed t n k → IsDecimal (word_of t) m → k ≡ length (word_of t)
+led_is_word t n k m led is =
+    elim (cases_lt k (length (word_of t))) [
+      | inl lt ↦
+          let digit : IsInRange 48 57 (get_or t k 0) = rw (get_or-word t k lt) (IsDecimal-digits (word_of t) m is k lt) in
+          let short = IsDecimal-short (word_of t) m is in
+          absurd (is_none (get_or t k 0) (led.ended (omega arith) (omega (arith, length-word t))) digit)
+      | inr le ↦
+          elim (cases_lt (length (word_of t)) k) [
+            | inl lt ↦
+                let space : get_or t (length (word_of t)) 0 ≡ 32 = space_after t (omega (arith, led.within)) in
+                absurd (omega (arith, space, led.digits (length (word_of t)) lt))
+            | inr le' ↦ omega arith
+          ]
+    ]
+
+pub none_led : (t : List ℕ) (n k : ℕ) → IsLed t n k → (k ≡ 0) ⊎ (10 < k) → None ≡ first_number t
+none_led t n k led h =
+    let none : number_in_word (word_of t) ≡ None =
+    number_in_word-None (word_of t) (λ m is.
+    let e = led_is_word t n k m led is in
+    let some = IsDecimal-nonempty (word_of t) m is in
+    let short = IsDecimal-short (word_of t) m is in
+    elim h [ inl z ↦ omega arith | inr more ↦ omega arith ]) in
+    rw none refl
+
+pub none_zero : (t : List ℕ) (n k : ℕ) → IsLed t n k → get_or (take k t) 0 0 ≡ 48 → 1 < length (take k t) → None ≡ first_number t
+none_zero t n k led nought more =
+    let len : length (take k t) ≡ k = length-take-le k t led.within in
+    let none : number_in_word (word_of t) ≡ None =
+    number_in_word-None (word_of t) (λ m is.
+    let e = led_is_word t n k m led is in
+    let lt : 0 < length (word_of t) = omega arith in
+    let first : get_or (word_of t) 0 0 ≡ 48 = sym (get_or-word t 0 lt) ∙ (sym (get_or-take k t 0 0 (omega arith)) ∙ nought) in
+    omega (arith, IsDecimal-zero (word_of t) m is first)) in
+    rw none refl
+
+ends_after : (t : List ℕ) → ends (drop (length (word_of t)) t) ≡ true
+ends_after [] = refl
+ends_after (c ∷ cs) =
+    elim (cases_Bool (c == 32)) [
+      | inl e ↦ rw e e
+      | inr e ↦ rw e (ends_after cs)
+    ]
+
+pub none_goes_on : (t : List ℕ) (n k : ℕ) → IsLed t n k → ends (drop k t) ≡ false → None ≡ first_number t
+none_goes_on t n k led on =
+    let none : number_in_word (word_of t) ≡ None =
+    number_in_word-None (word_of t) (λ m is.
+    let e = led_is_word t n k m led is in
+    let no : true ≡ false = sym (ends_after t) ∙ ap (λ (j : ℕ). ends (drop j t)) (sym e) ∙ on in
+    cc no) in
+    rw none refl
+
+record IsFirstWord (t : List ℕ) (k : ℕ) : Type 0 where
+  word : word_of t ≡ take k t
+  after : after_word t ≡ drop k t
+
+first_word : (t : List ℕ) (n k : ℕ) → IsLed t n k → ends (drop k t) ≡ true → IsFirstWord t k
+first_word t n k led e =
+    let len : length (take k t) ≡ k = length-take-le k t led.within in
+    let all : AreDigits (take k t) = λ i lt. rw (get_or-take k t i 0 (omega (arith, len))) (led.digits i (omega (arith, len))) in
+    let none = digits_have_no_space (take k t) all in
+    let stops = stops_by (drop k t) e in
+    let parts : t ≡ take k t ++ drop k t = sym (take-append-drop k t) in
+    record {
+      word = ap word_of parts ∙ word_of-append (take k t) (drop k t) none stops;
+      after = ap after_word parts ∙ after_word-append (take k t) (drop k t) none stops;
+    }
+
+led_value : {E : Type 0} (t : List ℕ) (n k : ℕ) (r : Result ℕ E) → IsLed t n k → 0 < k → (get_or (take k t) 0 0 ≡ 48 → 1 < length (take k t) → ⊥)
+    → OkIff r (n < 2 ^ 32) n → result_ok r ≡ number_in_word (take k t)
+led_value t n k r led some nought h =
+    let len : length (take k t) ≡ k = length-take-le k t led.within in
+    let all : (i : ℕ) → i < k → IsInRange 48 57 (get_or (take k t) i 0) = λ i lt. rw (get_or-take k t i 0 lt) (led.digits i lt) in
+    let value : n ≡ digits_value 10 (take k (take k t)) =
+    led.value ∙ ap (digits_value 10) (sym (take_all k (take k t) (omega (arith, len)))) in
+    read_number (take k t) k n r (omega (arith, len)) (omega (arith, len)) value all nought h
+
+-- the number that leads a text, which ends there
+pub led_number : {E : Type 0} (t : List ℕ) (n k : ℕ) (r : Result ℕ E) → IsLed t n k → 0 < k → (get_or (take k t) 0 0 ≡ 48 → 1 < length (take k t) → ⊥)
+    → ends (drop k t) ≡ true → OkIff r (n < 2 ^ 32) n → option_map (λ m. (m, drop k t)) (result_ok r) ≡ first_number t
+led_number t n k r led some nought e h =
+    let w = first_word t n k led e in
+    let value : result_ok r ≡ number_in_word (word_of t) = rw w.word (led_value t n k r led some nought h) in
+    rw (value, w.after) refl

@@ -154,3 +154,8 @@ IsLine false text bytes = IsMessageLine text bytes
 abbrev pub IsAnswer : Bool → List ℕ → List ℕ → Bool → Type 0
 IsAnswer first text bytes true = IsLine first text bytes
 IsAnswer first text bytes false = (other : List ℕ) → IsLine first text other → ⊥
+
+-- what adding the bytes of a line answers: whether it is one, and then its bytes follow the old ones
+abbrev pub IsAdded : Bool → List ℕ → List ℕ → List ℕ → Bool → Type 0
+IsAdded first text old new true = (bytes : List ℕ) × IsLine first text bytes × (new ≡ old ++ bytes)
+IsAdded first text old new false = ((other : List ℕ) → IsLine first text other → ⊥) × (new ≡ old)

@@ -1,8 +1,11 @@
 -- For proofs and private contracts alone: a line of a script, read from left to right.
 use Rattle.std.specs.Prelude.{◌≡◌, ◌==◌, ℕ, ◌^◌, nat_lt, Bool, true, false, not, ◌&&◌, List, [], ◌∷◌, ◌++◌, length, codes, Option, Some, None, option_map}
+use Rattle.std.specs.Prelude.{◌<◌, ◌≤◌, slice_index, take}
 use Rattle.std.specs.Prelude.{option_and_then, if◌then◌else◌}
 use Rattle.std.specs.Borrow.{Bor}
+use Rattle.std.specs.Char.{is_ascii_digit}
 use Rattle.std.specs.Fmt.{decimal}
+use Rattle.std.specs.Int.{IsInRange}
 use Rattle.std.specs.Result.{result_ok}
 use Rattle.std.specs.Str.{bytes_eq}
 use Rattle.std.specs.Str.Parse.{digits_value}
@@ -27,6 +30,11 @@ abbrev pub after_word : List ℕ → List ℕ
 after_word [] = []
 after_word (c ∷ cs) = if c == 32 then c ∷ cs else after_word cs
 
+-- nothing, or a space is the first of it
+abbrev pub ends : List ℕ → Bool
+ends [] = true
+ends (c ∷ cs) = c == 32
+
 -- the number below 2 ^ 32 whose digits the word is
 unfoldable pub number_in_word : List ℕ → Option ℕ
 number_in_word w = if nat_lt (digits_value 10 w) (2 ^ 32) && bytes_eq (decimal (digits_value 10 w)) w then Some (digits_value 10 w) else None
@@ -37,9 +45,21 @@ bytes_in_word w = if bytes_eq w (codes "-") then Some [] else if length w == 0 t
 
 -- ---- numbers, each after a space, as bytes, and what follows them
 
+-- the number that the text's first word says, and what follows that word
+abbrev pub first_number : List ℕ → Option (ℕ × List ℕ)
+first_number text = option_map (λ n. (n, after_word text)) (number_in_word (word_of text))
+
 abbrev pub number_following : List ℕ → Option (ℕ × List ℕ)
 number_following [] = None
-number_following (c ∷ cs) = if c == 32 then option_map (λ n. (n, after_word cs)) (number_in_word (word_of cs)) else None
+number_following (c ∷ cs) = if c == 32 then first_number cs else None
+
+-- `count` digits of value n lead the text; all that lead it, or 11
+pub record IsLed (text : List ℕ) (n count : ℕ) : Type 0 where
+  pub most : count ≤ 11
+  pub within : count ≤ length text
+  pub value : n ≡ digits_value 10 (take count text)
+  pub digits : (k : ℕ) → k < count → IsInRange 48 57 (slice_index text k)
+  pub ended : count < 11 → count < length text → is_ascii_digit (slice_index text count) ≡ false
 
 abbrev pub after_one : List ℕ → ℕ × List ℕ → List ℕ × List ℕ
 after_one front p = (front ++ be32 p.0, p.1)
@@ -96,6 +116,25 @@ unknown_in text = option_and_then payload_in (number_following text)
 abbrev pub row_in_text : List ℕ → Id → Option (List ℕ)
 row_in_text text i = option_map (framed_by i.number) (fields_in i.kind.shape text)
 
+abbrev pub number_and_shape : Id → ℕ × Shape
+number_and_shape i = (i.number, i.kind.shape)
+
+-- the name, which has no space, is that of the row with this id and shape
+pub record IsRowName (name : List ℕ) (n : ℕ) (shape : Shape) : Type 0 where
+  pub word : word_of name ≡ name
+  pub row : option_map number_and_shape (row_named name ids) ≡ Some (n, shape)
+  pub other : bytes_eq name (codes "unknown") ≡ false
+
+-- the first word of the text is such a name, and this follows it
+pub record IsBehindName (text : List ℕ) (n : ℕ) (shape : Shape) (rest : List ℕ) : Type 0 where
+  pub row : option_map number_and_shape (row_named (word_of text) ids) ≡ Some (n, shape)
+  pub other : bytes_eq (word_of text) (codes "unknown") ≡ false
+  pub following : rest ≡ after_word text
+
+-- the first word of the text is no such name
+abbrev pub HasNoRow : List ℕ → Type 0
+HasNoRow text = bytes_eq (word_of text) (codes "unknown") ≡ false → row_named (word_of text) ids ≡ None
+
 abbrev pub message_in : List ℕ → Option (List ℕ)
 message_in text =
     if bytes_eq text (codes "keep-alive") then Some (be32 0)
@@ -135,7 +174,7 @@ line_in false text = message_in text
 abbrev pub seen : {A : Type 0} → Option (A × Bor (List ℕ)) → Option (A × List ℕ)
 seen r = option_map (λ p. (p.0, p.1.now)) r
 
--- these bytes where there are some
-abbrev pub Gives : Option (List ℕ) → List ℕ → Bool → Type 0
-Gives read bytes true = read ≡ Some bytes
-Gives read bytes false = read ≡ None
+-- these bytes follow the old ones where there are some, and nothing does where there are none
+abbrev pub Adds : Option (List ℕ) → List ℕ → List ℕ → Bool → Type 0
+Adds read old new true = option_map (λ bytes. old ++ bytes) read ≡ Some new
+Adds read old new false = (read ≡ None) × (new ≡ old)

@@ -1,17 +1,23 @@
 //! A line of a script, from its text to its bytes. `pack` calls it.
 //!
 //! Nothing is allocated but the bytes.
-ghost use Rattle.std.specs.Prelude.{◌≡◌, ◌+◌, ◌<◌, ◌≤◌, ◌^◌, length, IsTrue, ◌↔◌, slice_index, IfOk, IfSome, OnOk, MatchResult, option_map, position, unwrap_or, true, false, ◌++◌, ◌∷◌, ◌-◌, ◌==◌};
+ghost use Rattle.std.specs.Prelude.{◌≡◌, ◌+◌, ◌<◌, ◌≤◌, ◌^◌, length, IsTrue, ◌↔◌, slice_index, codes, IfOk, IfSome, OnOk, MatchResult, MatchOption, option_map, position, unwrap_or, true, false, ◌++◌, ◌∷◌, ◌-◌, ◌==◌};
 ghost use Rattle.std.specs.Str.{bytes_eq};
 ghost use Rattle.std.specs.Result.{result_ok};
 ghost use Rattle.hex.specs.Hex.{decode_of};
 ghost use Rattle.bt_wire.specs.Numbers.{be32, be64};
 ghost use Rattle.bt_wire.specs.Ids.{ids, has_meaning as is_known};
-ghost use Rattle.bt_text.specs.Script.{row_named, framed_by, IsAnswer};
+ghost use Rattle.bt_text.specs.Script.{row_named, framed_by, IsAnswer, IsAdded};
 ghost use Rattle.bt_text.specs.ScriptReading.{
   word_of,
   after_word,
+  ends,
   number_in_word,
+  first_number,
+  IsLed,
+  IsRowName,
+  IsBehindName,
+  HasNoRow,
   bytes_in_word,
   number_following as number_read,
   two_after,
@@ -26,7 +32,7 @@ ghost use Rattle.bt_text.specs.ScriptReading.{
   parts_of,
   line_in,
   seen,
-  Gives,
+  Adds,
 };
 
 use bt_wire::{Handshake, Reserved, Shape, spell_handshake};
@@ -81,7 +87,56 @@ pub fn plain_number(word: &[u8]) -> Option<u32>
     u32::try_from(n).ok()
 }
 
+/// Returns the value of the digits that the text begins with, and how many they are; no more than 11 of them are read.
+#[inline(always)]
+fn leading_digits(text: &[u8]) -> (u64, usize)
+    ensures { IsLed text.now result.0 result.1 }
+{
+    let mut n: u64 = 0;
+    for (count, digit) in text.iter().enumerate() {
+        if count == 11 || !digit.is_ascii_digit() {
+            return (n, count);
+        }
+        n = n * 10 + u64::from(digit - b'0');
+    }
+    (n, text.len())
+}
+
+/// Returns whether the text is empty or begins with a space.
+fn is_end(text: &[u8]) -> bool
+    ensures { result ≡ ends text.now }
+{
+    match text.split_first() {
+        Some((byte, _)) => *byte == b' ',
+        None => true,
+    }
+}
+
+/// Reads a number below 2^32 without leading zeros, up to a space or the end, and returns it and what follows it.
+#[inline(always)]
+fn leading_number(text: &[u8]) -> Option<(u32, &[u8])>
+    ensures value { seen result ≡ first_number text.now }
+    ensures short { IfSome result (λ p. length p.1.now ≤ length text.now) }
+{
+    let (n, count) = leading_digits(text);
+    if count == 0 || count > 10 {
+        return None;
+    }
+    let (word, rest) = text.split_at(count);
+    if has_leading_zero(word) {
+        return None;
+    }
+    if !is_end(rest) {
+        return None;
+    }
+    match u32::try_from(n) {
+        Ok(n) => Some((n, rest)),
+        Err(_) => None,
+    }
+}
+
 /// Reads a space and a number, and returns the number and what follows it.
+#[inline(always)]
 fn number_following(text: &[u8]) -> Option<(u32, &[u8])>
     ensures value { seen result ≡ number_read text.now }
     ensures short { IfSome result (λ p. length p.1.now ≤ length text.now) }
@@ -90,12 +145,11 @@ fn number_following(text: &[u8]) -> Option<(u32, &[u8])>
     if *space != b' ' {
         return None;
     }
-    let (word, rest) = split_word(number);
-    let n = plain_number(word)?;
-    Some((n, rest))
+    leading_number(number)
 }
 
 /// Reads two numbers, each after a space, and returns their bytes and what follows them.
+#[inline(always)]
 fn two_numbers(text: &[u8]) -> Option<([u8; 8], &[u8])>
     ensures value { seen result ≡ two_after text.now }
     ensures short { IfSome result (λ p. length p.1.now ≤ length text.now) }
@@ -109,6 +163,7 @@ fn two_numbers(text: &[u8]) -> Option<([u8; 8], &[u8])>
 }
 
 /// Reads three numbers, each after a space, and returns their bytes and what follows them.
+#[inline(always)]
 fn three_numbers(text: &[u8]) -> Option<([u8; 12], &[u8])>
     ensures { seen result ≡ three_after text.now }
 {
@@ -120,43 +175,51 @@ fn three_numbers(text: &[u8]) -> Option<([u8; 12], &[u8])>
     Some((numbers, rest))
 }
 
-/// Appends the bytes that hex digits of either case say, and returns whether they are such digits.
+/// Appends the bytes that hex digits of either case say, if they are such digits, and returns whether they are.
 fn push_decoded(digits: &[u8], bytes: &mut Vec<u8>) -> Result<bool, AllocError>
-    ensures { IfOk result (λ ok. MatchResult (decode_of digits.now)
-        (λ decoded. (ok ≡ true) × (bytes.new.items ≡ bytes.old.items ++ decoded)) (λ _. ok ≡ false)) }
+    ensures { IfOk result (Adds (result_ok (decode_of digits.now)) bytes.old.items bytes.new.items) }
 {
     let start = bytes.len();
     bytes.resize(start + digits.len() / 2, 0)?;
-    Ok(hex::decode_to_slice(digits, &mut bytes[start..]).is_ok())
+    if hex::decode_to_slice(digits, &mut bytes[start..]).is_ok() {
+        return Ok(true);
+    }
+    bytes.truncate(start);
+    Ok(false)
 }
 
-/// Puts the length, the id and the bytes of the numbers of a message in which `size` bytes follow, and reserves room for
-/// these.
-fn begin(id: u8, numbers: &[u8], size: usize, bytes: &mut Vec<u8>) -> Result<(), AllocError>
-    requires { length numbers.now + size < 2 ^ 32 - 1 }
-    ensures { OnOk result (bytes.new.items ≡ be32 (1 + length numbers.now + size) ++ (id ∷ numbers.now)) }
+/// Appends the length, the id and the bytes of the numbers of a message in which `size` bytes follow.
+///
+/// The numbers' count is known where this is inlined, so one copy of fixed size appends all of it.
+#[inline(always)]
+fn push_begin(id: u8, numbers: &[u8], size: usize, bytes: &mut Vec<u8>) -> Result<(), AllocError>
+    requires { (length numbers.now ≤ 12) × (size < 2 ^ 31) }
+    ensures { OnOk result (bytes.new.items ≡ bytes.old.items ++ (be32 (1 + length numbers.now + size) ++ (id ∷ numbers.now))) }
 {
+    let end = 5 + numbers.len();
     let length = 1 + numbers.len() + size;
-    bytes.clear();
-    bytes.reserve(4 + length)?;
-    bytes.extend_from_slice(&(length as u32).to_be_bytes())?;
-    bytes.push(id)?;
-    bytes.extend_from_slice(numbers)
+    let mut front = [0u8; 17];
+    front[..4].copy_from_slice(&(length as u32).to_be_bytes());
+    front[4] = id;
+    front[5..end].copy_from_slice(numbers);
+    bytes.extend_from_slice(&front[..end])
 }
 
-/// Puts the message of an id and the bytes of its numbers, where nothing follows them.
+/// Appends the message of an id and the bytes of its numbers, where nothing follows them.
+#[inline(always)]
 fn put_numbers(id: u8, numbers: &[u8], rest: &[u8], bytes: &mut Vec<u8>) -> Result<bool, AllocError>
     requires { length numbers.now ≤ 12 }
-    ensures { IfOk result (Gives (option_map (framed_by id) (closed numbers.now rest.now)) bytes.new.items) }
+    ensures { IfOk result (Adds (option_map (framed_by id) (closed numbers.now rest.now)) bytes.old.items bytes.new.items) }
 {
     if !rest.is_empty() {
         return Ok(false);
     }
-    begin(id, numbers, 0, bytes)?;
+    push_begin(id, numbers, 0, bytes)?;
     Ok(true)
 }
 
-/// Puts the message of an id, the bytes of its numbers, and the bytes that hex digits say.
+/// Appends the message of an id, the bytes of its numbers, and the bytes that hex digits say.
+#[inline(always)]
 fn put_digits(
     id: u8,
     numbers: &[u8],
@@ -164,17 +227,24 @@ fn put_digits(
     bytes: &mut Vec<u8>,
 ) -> Result<bool, AllocError>
     requires { (length numbers.now ≤ 12) × (length digits.now < 2 ^ 32) }
-    ensures { IfOk result (Gives (option_map (framed_by id) (option_map (λ b. numbers.now ++ b) (result_ok (decode_of digits.now)))) bytes.new.items) }
+    ensures { IfOk result (Adds (option_map (framed_by id) (option_map (λ b. numbers.now ++ b) (result_ok (decode_of digits.now)))) bytes.old.items bytes.new.items) }
 {
-    begin(id, numbers, digits.len() / 2, bytes)?;
-    push_decoded(digits, bytes)
+    let start = bytes.len();
+    bytes.reserve(17 + digits.len() / 2)?;
+    push_begin(id, numbers, digits.len() / 2, bytes)?;
+    if push_decoded(digits, bytes)? {
+        return Ok(true);
+    }
+    bytes.truncate(start);
+    Ok(false)
 }
 
-/// Puts the message of an id, the bytes of its numbers, and the bytes of a word: hex digits, or `-` for no bytes.
+/// Appends the message of an id, the bytes of its numbers, and the bytes of a word: hex digits, or `-` for no bytes.
 #[tactic(auto, unfolding(crate::specs::ScriptReading::bytes_in_word))]
+#[inline(always)]
 fn put_word(id: u8, numbers: &[u8], word: &[u8], bytes: &mut Vec<u8>) -> Result<bool, AllocError>
     requires { (length numbers.now ≤ 12) × (length word.now < 2 ^ 32) }
-    ensures { IfOk result (Gives (option_map (framed_by id) (option_map (λ b. numbers.now ++ b) (bytes_in_word word.now))) bytes.new.items) }
+    ensures { IfOk result (Adds (option_map (framed_by id) (option_map (λ b. numbers.now ++ b) (bytes_in_word word.now))) bytes.old.items bytes.new.items) }
 {
     if is(word, b"-") {
         return put_numbers(id, numbers, b"", bytes);
@@ -185,10 +255,11 @@ fn put_word(id: u8, numbers: &[u8], word: &[u8], bytes: &mut Vec<u8>) -> Result<
     put_digits(id, numbers, word, bytes)
 }
 
-/// Puts the message of an id, the bytes of its numbers, and the bytes of a word after a space.
+/// Appends the message of an id, the bytes of its numbers, and the bytes of a word after a space.
+#[inline(always)]
 fn put_bytes(id: u8, numbers: &[u8], rest: &[u8], bytes: &mut Vec<u8>) -> Result<bool, AllocError>
     requires { (length numbers.now ≤ 12) × (length rest.now < 2 ^ 32) }
-    ensures { IfOk result (Gives (option_map (framed_by id) (with_bytes numbers.now rest.now)) bytes.new.items) }
+    ensures { IfOk result (Adds (option_map (framed_by id) (with_bytes numbers.now rest.now)) bytes.old.items bytes.new.items) }
 {
     match rest.split_first() {
         Some((b' ', word)) => put_word(id, numbers, word, bytes),
@@ -196,9 +267,10 @@ fn put_bytes(id: u8, numbers: &[u8], rest: &[u8], bytes: &mut Vec<u8>) -> Result
     }
 }
 
-/// Puts the message of an id and three numbers.
+/// Appends the message of an id and three numbers.
+#[inline(always)]
 fn put_part(id: u8, text: &[u8], bytes: &mut Vec<u8>) -> Result<bool, AllocError>
-    ensures { IfOk result (Gives (option_map (framed_by id) (fields_in Shape.Part text.now)) bytes.new.items) }
+    ensures { IfOk result (Adds (option_map (framed_by id) (fields_in Shape.Part text.now)) bytes.old.items bytes.new.items) }
 {
     let Some(found) = three_numbers(text) else {
         return Ok(false);
@@ -207,10 +279,11 @@ fn put_part(id: u8, text: &[u8], bytes: &mut Vec<u8>) -> Result<bool, AllocError
     put_numbers(id, &numbers, rest, bytes)
 }
 
-/// Puts the message of an id, two numbers and bytes.
+/// Appends the message of an id, two numbers and bytes.
+#[inline(always)]
 fn put_block(id: u8, text: &[u8], bytes: &mut Vec<u8>) -> Result<bool, AllocError>
     requires { length text.now < 2 ^ 32 }
-    ensures { IfOk result (Gives (option_map (framed_by id) (fields_in Shape.Block text.now)) bytes.new.items) }
+    ensures { IfOk result (Adds (option_map (framed_by id) (fields_in Shape.Block text.now)) bytes.old.items bytes.new.items) }
 {
     let Some(found) = two_numbers(text) else {
         return Ok(false);
@@ -219,10 +292,11 @@ fn put_block(id: u8, text: &[u8], bytes: &mut Vec<u8>) -> Result<bool, AllocErro
     put_bytes(id, &numbers, rest, bytes)
 }
 
-/// Puts the message of an id whose fields have this shape.
+/// Appends the message of an id whose fields have this shape.
+#[inline(always)]
 fn put_fields(shape: Shape, id: u8, text: &[u8], bytes: &mut Vec<u8>) -> Result<bool, AllocError>
     requires { length text.now < 2 ^ 32 }
-    ensures { IfOk result (Gives (option_map (framed_by id) (fields_in shape text.now)) bytes.new.items) }
+    ensures { IfOk result (Adds (option_map (framed_by id) (fields_in shape text.now)) bytes.old.items bytes.new.items) }
 {
     match shape {
         Shape::Nothing => put_numbers(id, b"", text, bytes),
@@ -238,9 +312,10 @@ fn put_fields(shape: Shape, id: u8, text: &[u8], bytes: &mut Vec<u8>) -> Result<
     }
 }
 
-/// Puts the message of an id and a port.
+/// Appends the message of an id and a port.
+#[inline(always)]
 fn put_port(id: u8, text: &[u8], bytes: &mut Vec<u8>) -> Result<bool, AllocError>
-    ensures { IfOk result (Gives (option_map (framed_by id) (fields_in Shape.Port text.now)) bytes.new.items) }
+    ensures { IfOk result (Adds (option_map (framed_by id) (fields_in Shape.Port text.now)) bytes.old.items bytes.new.items) }
 {
     match number_following(text) {
         Some((port, rest)) if port < 65_536 => {
@@ -250,10 +325,11 @@ fn put_port(id: u8, text: &[u8], bytes: &mut Vec<u8>) -> Result<bool, AllocError
     }
 }
 
-/// Puts the message of an id, an extended id and its payload.
+/// Appends the message of an id, an extended id and its payload.
+#[inline(always)]
 fn put_extended(id: u8, text: &[u8], bytes: &mut Vec<u8>) -> Result<bool, AllocError>
     requires { length text.now < 2 ^ 32 }
-    ensures { IfOk result (Gives (option_map (framed_by id) (fields_in Shape.Extended text.now)) bytes.new.items) }
+    ensures { IfOk result (Adds (option_map (framed_by id) (fields_in Shape.Extended text.now)) bytes.old.items bytes.new.items) }
 {
     match number_following(text) {
         Some((extended, rest)) if extended < 256 => put_bytes(id, &[extended as u8], rest, bytes),
@@ -271,10 +347,10 @@ fn has_meaning(id: u8) -> bool
     }
 }
 
-/// Puts the message of an id that has no meaning and its payload.
+/// Appends the message of an id that has no meaning and its payload.
 fn put_unknown(text: &[u8], bytes: &mut Vec<u8>) -> Result<bool, AllocError>
     requires { length text.now < 2 ^ 32 }
-    ensures { IfOk result (Gives (unknown_in text.now) bytes.new.items) }
+    ensures { IfOk result (Adds (unknown_in text.now) bytes.old.items bytes.new.items) }
 {
     match number_following(text) {
         Some((id, rest)) if id < 256 && !has_meaning(id as u8) => {
@@ -325,23 +401,117 @@ pub(crate) fn row_of(name: &[u8]) -> Option<(u8, Shape)>
     }
 }
 
-/// Puts the message of a line.
-fn put_message(text: &[u8], bytes: &mut Vec<u8>) -> Result<bool, AllocError>
-    requires { length text.now < 2 ^ 32 }
-    ensures { IfOk result (Gives (message_in text.now) bytes.new.items) }
+/// The id of a name, the shape of its fields, and what follows the name.
+type Named<'a> = (u8, Shape, &'a [u8]);
+
+/// Returns what follows this name of a row, if the text's first word is the name.
+#[inline(always)]
+fn after_name<'a>(text: &'a [u8], name: &[u8], id: u8, shape: Shape) -> Option<Named<'a>>
+    requires { IsRowName name.now id shape }
+    ensures named { IfSome result (λ p. IsBehindName text.now p.0 p.1 p.2.now) }
+    ensures short { IfSome result (λ p. length p.2.now ≤ length text.now) }
 {
-    if is(text, b"keep-alive") {
-        bytes.clear();
-        bytes.extend_from_slice(&[0; 4])?;
-        return Ok(true);
+    let rest = text.strip_prefix(name)?;
+    if !is_end(rest) {
+        return None;
     }
+    Some((id, shape, rest))
+}
+
+/// Returns the row that the text's first word names. The first letter tells which names are tried.
+#[inline(always)]
+fn first_row(text: &[u8]) -> Option<Named<'_>>
+    ensures named { IfSome result (λ p. IsBehindName text.now p.0 p.1 p.2.now) }
+    ensures short { IfSome result (λ p. length p.2.now ≤ length text.now) }
+{
+    let (first, _) = text.split_first()?;
+    match *first {
+        b'a' => after_name(text, b"allowed-fast", 17, Shape::Index),
+        b'b' => after_name(text, b"bitfield", 5, Shape::Field),
+        b'c' => match after_name(text, b"cancel", 8, Shape::Part) {
+            Some(row) => Some(row),
+            None => after_name(text, b"choke", 0, Shape::Nothing),
+        },
+        b'e' => after_name(text, b"extended", 20, Shape::Extended),
+        b'h' => match after_name(text, b"have", 4, Shape::Index) {
+            Some(row) => Some(row),
+            None => match after_name(text, b"have-all", 14, Shape::Nothing) {
+                Some(row) => Some(row),
+                None => after_name(text, b"have-none", 15, Shape::Nothing),
+            },
+        },
+        b'i' => after_name(text, b"interested", 2, Shape::Nothing),
+        b'n' => after_name(text, b"not-interested", 3, Shape::Nothing),
+        b'p' => match after_name(text, b"piece", 7, Shape::Block) {
+            Some(row) => Some(row),
+            None => after_name(text, b"port", 9, Shape::Port),
+        },
+        b'r' => match after_name(text, b"request", 6, Shape::Part) {
+            Some(row) => Some(row),
+            None => after_name(text, b"reject", 16, Shape::Part),
+        },
+        b's' => after_name(text, b"suggest", 13, Shape::Index),
+        b'u' => after_name(text, b"unchoke", 1, Shape::Nothing),
+        _ => None,
+    }
+}
+
+/// Returns the row that the text's first word names, by the whole word.
+#[inline(never)]
+fn row_by_word(text: &[u8]) -> Option<Named<'_>>
+    ensures named { MatchOption result (HasNoRow text.now) (λ p. IsBehindName text.now p.0 p.1 p.2.now) }
+    ensures short { IfSome result (λ p. length p.2.now ≤ length text.now) }
+{
+    let (name, rest) = split_word(text);
+    if is(name, b"unknown") {
+        return None;
+    }
+    match row_of(name) {
+        Some((id, shape)) => Some((id, shape, rest)),
+        None => None,
+    }
+}
+
+/// Returns the row that the text's first word names.
+#[inline(always)]
+fn find_row(text: &[u8]) -> Option<Named<'_>>
+    ensures named { MatchOption result (HasNoRow text.now) (λ p. IsBehindName text.now p.0 p.1 p.2.now) }
+    ensures short { IfSome result (λ p. length p.2.now ≤ length text.now) }
+{
+    match first_row(text) {
+        Some(row) => Some(row),
+        None => row_by_word(text),
+    }
+}
+
+/// Appends the message of a line whose first word names no row and that is no keep-alive.
+#[inline(never)]
+fn put_other(text: &[u8], bytes: &mut Vec<u8>) -> Result<bool, AllocError>
+    requires short { length text.now < 2 ^ 32 }
+    requires other { bytes_eq text.now (codes "keep-alive") ≡ false }
+    requires none { HasNoRow text.now }
+    ensures { IfOk result (Adds (message_in text.now) bytes.old.items bytes.new.items) }
+{
     let (name, rest) = split_word(text);
     if is(name, b"unknown") {
         return put_unknown(rest, bytes);
     }
-    match row_of(name) {
-        Some((id, shape)) => put_fields(shape, id, rest, bytes),
-        None => Ok(false),
+    Ok(false)
+}
+
+/// Appends the message of a line.
+#[inline(always)]
+fn put_message(text: &[u8], bytes: &mut Vec<u8>) -> Result<bool, AllocError>
+    requires { length text.now < 2 ^ 32 }
+    ensures { IfOk result (Adds (message_in text.now) bytes.old.items bytes.new.items) }
+{
+    if is(text, b"keep-alive") {
+        bytes.extend_from_slice(&[0; 4])?;
+        return Ok(true);
+    }
+    match find_row(text) {
+        Some((id, shape, rest)) => put_fields(shape, id, rest, bytes),
+        None => put_other(text, bytes),
     }
 }
 
@@ -389,6 +559,20 @@ fn read_handshake(text: &[u8]) -> Option<Handshake>
     })
 }
 
+/// Appends the handshake of a line. It isn't inlined, so that its arrays aren't filled for each message.
+#[inline(never)]
+fn put_handshake(text: &[u8], bytes: &mut Vec<u8>) -> Result<bool, AllocError>
+    ensures { IfOk result (Adds (line_in true text.now) bytes.old.items bytes.new.items) }
+{
+    match read_handshake(text) {
+        Some(handshake) => {
+            bytes.extend_from_slice(&spell_handshake(&handshake))?;
+            Ok(true)
+        }
+        None => Ok(false),
+    }
+}
+
 /// Reads a line of a script, and puts what it names in `bytes`.
 ///
 /// The text stands without its line feed.
@@ -402,23 +586,32 @@ pub fn read_line(text: &[u8], first: bool, bytes: &mut Vec<u8>) -> Result<bool, 
     requires { length text.now < 2 ^ 32 }
     ensures { IfOk result (IsAnswer first text.now bytes.new.items) }
 {
+    bytes.clear();
     put_line(text, first, bytes)
 }
 
-/// Does what [`read_line`] does; its contract says how the line is read from left to right.
+/// Reads a line as [`read_line`] does, and appends what it names to `out`.
+///
+/// It returns false for what is no line; `out` is then as it was.
+///
+/// # Errors
+/// `AllocError` if the growth of `out` was refused; there is one at most.
+#[inline(always)]
+pub fn append_line(text: &[u8], first: bool, out: &mut Vec<u8>) -> Result<bool, AllocError>
+    requires { length text.now < 2 ^ 32 }
+    ensures { IfOk result (IsAdded first text.now out.old.items out.new.items) }
+{
+    put_line(text, first, out)
+}
+
+/// Does what [`append_line`] does; its contract says how the line is read from left to right.
+#[inline(always)]
 fn put_line(text: &[u8], first: bool, bytes: &mut Vec<u8>) -> Result<bool, AllocError>
     requires { length text.now < 2 ^ 32 }
-    ensures { IfOk result (Gives (line_in first text.now) bytes.new.items) }
+    ensures { IfOk result (Adds (line_in first text.now) bytes.old.items bytes.new.items) }
 {
     if !first {
         return put_message(text, bytes);
     }
-    match read_handshake(text) {
-        Some(handshake) => {
-            bytes.clear();
-            bytes.extend_from_slice(&spell_handshake(&handshake))?;
-            Ok(true)
-        }
-        None => Ok(false),
-    }
+    put_handshake(text, bytes)
 }

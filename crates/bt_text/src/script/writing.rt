@@ -1,7 +1,7 @@
 //! The line of an item, with all of its bytes. The printer of `unpack` calls it.
 //!
 //! A line takes one growth of the text at most.
-ghost use Rattle.std.specs.Prelude.{◌≡◌, ◌≤◌, ◌<◌, ◌+◌, ◌*◌, ◌^◌, ℕ, List, ◌++◌, length, codes, unwrap_or, OnOk};
+ghost use Rattle.std.specs.Prelude.{◌≡◌, ◌≤◌, ◌<◌, ◌+◌, ◌*◌, ◌^◌, ℕ, List, ◌++◌, length, drop, codes, unwrap_or, OnOk};
 ghost use Rattle.hex.specs.Hex.{encode_lower};
 ghost use Rattle.bt_ext.specs.Payloads.{ext_id, payload_of, seen as seen_ext};
 ghost use Rattle.bt_wire.specs.Messages.{message_of};
@@ -15,18 +15,58 @@ use bt_wire::{Handshake, MessageView, Own};
 use itoa::write_digits;
 use std::alloc::AllocError;
 
+/// Room for a space and a number that ends at 21, and as many bytes after it.
+type Word = [u8; 42];
+
+/// Puts a space before the place, and returns where it stands.
+#[inline(always)]
+fn put_space(word: &mut Word, at: usize) -> usize
+    requires { (1 ≤ at) × (at ≤ 42) }
+    ensures room { result + 1 ≡ at }
+    ensures text { drop result word.new ≡ codes " " ++ drop at word.old }
+{
+    let front = at - 1;
+    word[front..at].copy_from_slice(b" ");
+    front
+}
+
+/// Puts a space and a number before the place 21, and returns where the space stands.
+#[inline(always)]
+fn put_number(n: u64, word: &mut Word) -> usize
+    ensures room { result + length (spaced n) ≡ 21 }
+    ensures text { drop result word.new ≡ spaced n ++ drop 21 word.old }
+{
+    let place = write_digits(n, word, 21);
+    put_space(word, place)
+}
+
 /// Appends a space and a number.
+///
+/// The copy has a fixed size, and what is too much is cut off: a copy of the number's size takes longer.
 fn push_number(n: u64, text: &mut Vec<u8>) -> Result<(), AllocError>
     ensures { OnOk result (text.new.items ≡ text.old.items ++ spaced n) }
 {
-    let mut digits = [0u8; 20];
-    let place = write_digits(n, &mut digits, 20);
-    text.push(b' ')?;
-    text.extend_from_slice(&digits[place..])
+    let mut word = [0u8; 42];
+    let place = put_number(n, &mut word);
+    let end = text.len() + (21 - place);
+    text.extend_from_slice(&word[place..place + 21])?;
+    text.truncate(end);
+    Ok(())
 }
 
 /// Appends bytes in hex.
+#[inline(always)]
 fn push_hex(bytes: &[u8], text: &mut Vec<u8>) -> Result<(), AllocError>
+    ensures { OnOk result (text.new.items ≡ text.old.items ++ encode_lower bytes.now) }
+{
+    if bytes.is_empty() {
+        return Ok(());
+    }
+    push_digits(bytes, text)
+}
+
+/// Appends bytes in hex, of which there are some.
+fn push_digits(bytes: &[u8], text: &mut Vec<u8>) -> Result<(), AllocError>
     ensures { OnOk result (text.new.items ≡ text.old.items ++ encode_lower bytes.now) }
 {
     let start = text.len();
@@ -50,6 +90,7 @@ fn push_bytes(front: &[u8], rest: &[u8], text: &mut Vec<u8>) -> Result<(), Alloc
 }
 
 /// Appends a name and a number.
+#[inline(always)]
 fn push_one(name: &[u8], n: u64, text: &mut Vec<u8>) -> Result<(), AllocError>
     ensures { OnOk result (text.new.items ≡ text.old.items ++ (name.now ++ spaced n)) }
 {
@@ -58,6 +99,7 @@ fn push_one(name: &[u8], n: u64, text: &mut Vec<u8>) -> Result<(), AllocError>
 }
 
 /// Appends a name and two numbers.
+#[inline(always)]
 fn push_two(name: &[u8], n: u64, m: u64, text: &mut Vec<u8>) -> Result<(), AllocError>
     ensures { OnOk result (text.new.items ≡ text.old.items ++ (name.now ++ (spaced n ++ spaced m))) }
 {
@@ -66,6 +108,7 @@ fn push_two(name: &[u8], n: u64, m: u64, text: &mut Vec<u8>) -> Result<(), Alloc
 }
 
 /// Appends a name and three numbers.
+#[inline(always)]
 fn push_three(name: &[u8], n: u64, m: u64, k: u64, text: &mut Vec<u8>) -> Result<(), AllocError>
     ensures { OnOk result (text.new.items ≡ text.old.items ++ (name.now ++ (spaced n ++ (spaced m ++ spaced k)))) }
 {

@@ -34,7 +34,7 @@ loop-turn-init g c = record {
   failed = refl;
   ends = refl;
   calm = refl;
-  empty = c.new-out.ensures.items;
+  empty = c.in-Ok-with_capacity.ensures.items;
   run = run_starts c.args.own.now _ c.in-Ok.line.items c.new-judge.result c.requires.1 c.in-Ok.ensures.items c.new-judge.ensures;
 }
 

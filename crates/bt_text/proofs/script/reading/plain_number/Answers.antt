@@ -25,13 +25,13 @@ pub overflow_mul-n : goal.overflow_mul-n
 overflow_mul-n c =
     omega (
       arith,
-      value_short c.args.word.now c.loop-digit.digit-index c.loop-digit.n c.if-word-gt10.false c.loop-digit.auto.digit-index-end
+      value_short c.args.word.now c.loop-digit.digit-index c.loop-digit.n (omega arith) c.loop-digit.auto.digit-index-end
           c.loop-digit.invariant.value c.loop-digit.invariant.digits,
     )
 
 pub overflow_add-n : goal.overflow_add-n
 overflow_add-n c =
-    let short = value_short c.args.word.now c.loop-digit.digit-index c.loop-digit.n c.if-word-gt10.false c.loop-digit.auto.digit-index-end
+    let short = value_short c.args.word.now c.loop-digit.digit-index c.loop-digit.n (omega arith) c.loop-digit.auto.digit-index-end
     c.loop-digit.invariant.value c.loop-digit.invariant.digits in
     let digit = is_digit (get_or c.args.word.now c.loop-digit.digit-index 0) (sym c.is_ascii_digit.ensures.value ∙ c.if-not-is_ascii_digit.false) in
     omega (arith, short, digit, c.from.ensures)

@@ -1,9 +1,10 @@
-use Rattle.std.proofs.Common.{sym, ◌∙◌}
+use Rattle.std.proofs.Common.{refl, sym, ◌∙◌}
+use Rattle.bt_text.specs.ScriptReading.{word_of}
 use Rattle.bt_text.proofs.ScriptBytes.{message_given}
 use Rattle.bt_text.proofs.script.reading.put_message.Goals as goal
 
 pub returns-in-Some : goal.returns-in-Some
 returns-in-Some c =
-    message_given c.args.text.now c.split_word.result.0.now c.split_word.result.1.now c.in-Some.id c.in-Some.shape c.put_fields.new.bytes.items
-    c.put_fields.result (sym c.is.ensures ∙ c.if-is.false) c.split_word.ensures.word (sym c.is-2.ensures ∙ c.if-is-2.false) c.split_word.ensures.rest
-    c.in-Some.ensures c.put_fields.ensures
+    let row = c.in-Some.ensures.named in
+    message_given c.args.text.now (word_of c.args.text.now) c.in-Some.rest.now c.in-Some.id c.in-Some.shape c.args.bytes.now.items
+    c.put_fields.new.bytes.items c.put_fields.result (sym c.is.ensures ∙ c.if-is.false) refl row.other row.following (sym row.row) c.put_fields.ensures
