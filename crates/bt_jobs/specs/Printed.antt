@@ -1,5 +1,5 @@
 -- What a command writes of a stream, and what it does to its reader and its writer.
-use Rattle.std.specs.Prelude.{◌≡◌, ◌⊎◌, ℕ, ◌+◌, ◌-◌, ◌^◌, ◌≤◌, min, ⊤, List, [], ◌++◌, length, Option, None, Some, Result, Ok, Err, MatchResult}
+use Rattle.std.specs.Prelude.{◌≡◌, ◌⊎◌, ℕ, ◌+◌, ◌-◌, ◌^◌, ◌≤◌, min, ⊤, List, [], ◌++◌, length, take, Option, None, Some, Result, Ok, Err, MatchResult}
 use Rattle.std.specs.Io.KnownBytes.{Consumes, Appends}
 use Rattle.std.specs.List.{flat_map}
 use Rattle.bt_feed.specs.Feeds.{FeedState}
@@ -42,7 +42,7 @@ abbrev pub form_of : Printer → Form
 form_of p = p.form
 
 abbrev pub text_in : Printer → List ℕ
-text_in p = p.text.items
+text_in p = take p.used p.text.items
 
 -- the item's text follows that of the others
 abbrev pub Prints : Printer → ℕ × Item → Printer → Type 0

@@ -1,5 +1,5 @@
 //! The text of a stream's items, until it is written. `show` and `unpack` give it to the pump as their sink.
-ghost use Rattle.std.specs.Prelude.{◌≡◌, ℕ, List, [], ◌++◌, OnOk, OnErr, IfErr};
+ghost use Rattle.std.specs.Prelude.{◌≡◌, ◌+◌, ◌≤◌, ℕ, List, [], ◌++◌, length, take, vec_len, OnOk, OnErr, IfOk, IfErr};
 ghost use Rattle.std.specs.Io.KnownBytes.{Appends};
 ghost use Rattle.bt_io.specs.Seen.{WriteFailed};
 ghost use Rattle.bt_feed.specs.Views.{item_of};
@@ -12,7 +12,8 @@ ghost use Rattle.bt_jobs.specs.Printed.{IsFlushed, Prints, form_of, text_in};
 use crate::output::write_out;
 use bt_feed::{Sink, SinkFault, Target, View};
 use bt_text::ended::{Ended, ToolFault};
-use bt_text::lines::{Line, handshake_line, message_line, push_line, verdict_line};
+use bt_text::lines::{Line, handshake_line, put_message, verdict_line};
+use bt_text::putting::{Offset, put};
 use bt_text::script::writing::{push_handshake_line, push_message_line};
 use bt_wire::Own;
 use std::alloc::{AllocError, Global};
@@ -28,31 +29,107 @@ pub enum Form {
     Unpack(Own),
 }
 
+/// How many bytes of room a message's line needs.
+const LINE_ROOM: usize = 160;
+
+/// How many bytes the text grows by where it has no room.
+const GROWTH: usize = 8192;
+
 /// A sink that turns items into text, and keeps the text until it is written.
 #[derive(Drop)]
 pub struct Printer {
     alloc: Global,
     form: Form,
+    /// The text, and room after it.
     text: Vec<u8>,
+    /// The length of the text.
+    used: usize,
+    offset: Offset,
     line: Line,
     calls: u64,
     failed: u64,
 }
 
-/// Adds the line of an item.
+/// Makes room for a line after what is used of the text; returns the place of the room.
 #[inline(always)]
-fn push_item(at: u64, view: &View, line: &mut Line, text: &mut Vec<u8>) -> Result<(), AllocError>
-    ensures { OnOk result ((own : Receiver) → text.new.items ≡ text.old.items ++ line_of own (at, item_of view.now)) }
+fn make_room(text: &mut Vec<u8>, used: usize) -> Result<usize, AllocError>
+    ensures { IfOk result (λ n. (n + 160 ≤ vec_len text.new) × (take n text.new.items ≡ take used text.old.items)) }
+{
+    if text.len().saturating_sub(used) >= LINE_ROOM {
+        return Ok(used);
+    }
+    grow(text, used)
+}
+
+/// Makes the text longer, by room after what is used.
+#[inline(never)]
+fn grow(text: &mut Vec<u8>, used: usize) -> Result<usize, AllocError>
+    ensures { IfOk result (λ n. (n + 160 ≤ vec_len text.new) × (take n text.new.items ≡ take used text.old.items)) }
+{
+    text.truncate(used);
+    let used = text.len();
+    match text.resize(used + GROWTH, 0) {
+        Ok(()) => Ok(used),
+        Err(error) => Err(error),
+    }
+}
+
+/// Puts the line of an item at a place that has room for it; returns the place after it.
+#[inline(always)]
+fn put_item(
+    at: u64,
+    view: &View,
+    offset: &mut Offset,
+    line: &mut Line,
+    text: &mut [u8],
+    place: usize,
+) -> usize
+    requires { place + 160 ≤ length text.old }
+    ensures size { length text.new ≡ length text.old }
+    ensures text { (own : Receiver) → take result text.new ≡ take place text.old ++ line_of own (at, item_of view.now) }
 {
     match view {
         View::Handshake(handshake) => {
-            let place = handshake_line(at, handshake, line);
-            push_line(text, line, place)
+            let from = handshake_line(at, handshake, line);
+            put(&line[from..], text, place)
         }
-        View::Message(message) => {
-            let place = message_line(at, message, line);
-            push_line(text, line, place)
+        View::Message(message) => put_message(offset, at, message, line, text, place),
+    }
+}
+
+/// Adds the line of an item to what is used of the text; returns how much is used then.
+#[inline(always)]
+fn push_item(
+    at: u64,
+    view: &View,
+    offset: &mut Offset,
+    line: &mut Line,
+    text: &mut Vec<u8>,
+    used: usize,
+) -> Result<usize, AllocError>
+    ensures { IfOk result (λ n. (own : Receiver) → take n text.new.items ≡ take used text.old.items ++ line_of own (at, item_of view.now)) }
+{
+    match make_room(text, used) {
+        Ok(place) => Ok(put_item(at, view, offset, line, text.as_mut_slice(), place)),
+        Err(error) => Err(error),
+    }
+}
+
+/// Adds the verdict's line to what is used of the text; returns how much is used then.
+fn push_verdict(
+    ended: Ended,
+    line: &mut Line,
+    text: &mut Vec<u8>,
+    used: usize,
+) -> Result<usize, AllocError>
+    ensures { IfOk result (λ n. take n text.new.items ≡ take used text.old.items ++ verdict_words ended) }
+{
+    match make_room(text, used) {
+        Ok(place) => {
+            let from = verdict_line(ended, line);
+            Ok(put(&line[from..], text.as_mut_slice(), place))
         }
+        Err(error) => Err(error),
     }
 }
 
@@ -66,6 +143,23 @@ fn push_object(alloc: Global, at: u64, view: &View, text: &mut Vec<u8>) -> Resul
     }
 }
 
+/// Adds the object of an item to what is used of the text; returns how much is used then.
+fn add_object(
+    alloc: Global,
+    at: u64,
+    view: &View,
+    text: &mut Vec<u8>,
+    used: usize,
+) -> Result<usize, AllocError>
+    ensures { IfOk result (λ n. (own : Receiver) → take n text.new.items ≡ take used text.old.items ++ object_of own (at, item_of view.now)) }
+{
+    text.truncate(used);
+    match push_object(alloc, at, view, text) {
+        Ok(()) => Ok(text.len()),
+        Err(error) => Err(error),
+    }
+}
+
 /// Adds the script's line of an item.
 fn push_script(own: &Own, view: &View, text: &mut Vec<u8>) -> Result<(), AllocError>
     ensures { OnOk result (text.new.items ≡ text.old.items ++ script_line own.now (item_of view.now)) }
@@ -73,6 +167,17 @@ fn push_script(own: &Own, view: &View, text: &mut Vec<u8>) -> Result<(), AllocEr
     match view {
         View::Handshake(handshake) => push_handshake_line(handshake, text),
         View::Message(message) => push_message_line(own, message, text),
+    }
+}
+
+/// Adds the script's line of an item to what is used of the text; returns how much is used then.
+fn add_script(own: &Own, view: &View, text: &mut Vec<u8>, used: usize) -> Result<usize, AllocError>
+    ensures { IfOk result (λ n. take n text.new.items ≡ take used text.old.items ++ script_line own.now (item_of view.now)) }
+{
+    text.truncate(used);
+    match push_script(own, view, text) {
+        Ok(()) => Ok(text.len()),
+        Err(error) => Err(error),
     }
 }
 
@@ -86,6 +191,8 @@ impl Printer {
             alloc,
             form,
             text: Vec::new(alloc),
+            used: 0,
+            offset: Offset::new(),
             line: [0; 160],
             calls: 0,
             failed: 0,
@@ -96,15 +203,18 @@ impl Printer {
     pub fn verdict(&mut self, ended: Ended) -> Result<(), AllocError>
         ensures { OnOk result (text_in self.new ≡ text_in self.old ++ verdict_words ended) }
     {
-        let place = verdict_line(ended, &mut self.line);
-        push_line(&mut self.text, &self.line, place)
+        self.used = push_verdict(ended, &mut self.line, &mut self.text, self.used)?;
+        Ok(())
     }
 
     /// Adds the verdict's JSON object.
     pub fn verdict_object(&mut self, ended: Ended) -> Result<(), AllocError>
         ensures { OnOk result (text_in self.new ≡ text_in self.old ++ verdict_object ended) }
     {
-        bt_json::verdict_line(self.alloc, ended, &mut self.text)
+        self.text.truncate(self.used);
+        bt_json::verdict_line(self.alloc, ended, &mut self.text)?;
+        self.used = self.text.len();
+        Ok(())
     }
 
     /// Writes the text, which is then empty, and returns `answer`.
@@ -118,9 +228,10 @@ impl Printer {
         ensures form { form_of self.new ≡ form_of self.old }
         ensures fault { IfErr result (λ fault. fault ≡ ToolFault.Write) }
     {
+        self.text.truncate(self.used);
         match write_out(writer, self.text.as_slice(), answer) {
             Ok(answer) => {
-                self.text.clear();
+                self.used = 0;
                 Ok(answer)
             }
             Err(fault) => Err(fault),
@@ -145,14 +256,26 @@ impl Sink for Printer {
     fn item(&mut self, at: u64, view: &View<'_>) -> Result<(), SinkFault> {
         self.calls = self.calls.saturating_add(1);
         let added = match self.form {
-            Form::Show => push_item(at, view, &mut self.line, &mut self.text),
-            Form::Json => push_object(self.alloc, at, view, &mut self.text),
-            Form::Unpack(own) => push_script(&own, view, &mut self.text),
+            Form::Show => push_item(
+                at,
+                view,
+                &mut self.offset,
+                &mut self.line,
+                &mut self.text,
+                self.used,
+            ),
+            Form::Json => add_object(self.alloc, at, view, &mut self.text, self.used),
+            Form::Unpack(own) => add_script(&own, view, &mut self.text, self.used),
         };
-        if added.is_err() {
-            self.failed = self.failed.saturating_add(1);
-            return Err(SinkFault::Memory);
+        match added {
+            Ok(used) => {
+                self.used = used;
+                Ok(())
+            }
+            Err(_) => {
+                self.failed = self.failed.saturating_add(1);
+                Err(SinkFault::Memory)
+            }
         }
-        Ok(())
     }
 }

@@ -8,3 +8,4 @@ pub mod ScriptText
 pub mod ScriptSpoken
 pub mod ScriptBounds
 mod Misfits
+mod Digits

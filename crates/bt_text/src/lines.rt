@@ -1,7 +1,8 @@
 //! The lines of `show`, and those of standard error. The commands and the command line call it.
 //!
-//! A line of a varying length is written into an array, from its end to its start; the call returns where it starts.
-ghost use Rattle.std.specs.Prelude.{◌≡◌, ◌≤◌, ◌+◌, ◌*◌, ℕ, List, ◌++◌, length, drop, decimal, OnOk};
+//! A message's line is put right into a text. Other lines of a varying length are written into an array, from its end to its
+//! start; the call returns where the line starts.
+ghost use Rattle.std.specs.Prelude.{◌≡◌, ◌≤◌, ◌+◌, ◌*◌, ℕ, List, ◌++◌, length, take, drop, codes, decimal};
 ghost use Rattle.hex.specs.Hex.{encode_lower};
 ghost use Rattle.bt_bencode.specs.Bencoding.{ben};
 ghost use Rattle.bt_bencode.specs.Trees.{dictionary};
@@ -16,11 +17,11 @@ ghost use Rattle.bt_wire.specs.declared.item.Item.TheVariants as items;
 ghost use Rattle.bt_text.specs.Lines.{spaced, or_dash, told_id, ext_words, message_words, script_reason_name, line as line_of, verdict_line as verdict_words, refused_line as refused_words, fault_line as fault_words};
 
 use crate::ended::{Ended, ScriptReason, ToolFault};
+use crate::putting::{Offset, put, put_number};
 use bt_bencode::DictRef;
 use bt_ext::{ExtView, Kind, kind_ref};
 use bt_wire::{Handshake, MessageView};
 use itoa::write_digits;
-use std::alloc::AllocError;
 
 /// Room for a line.
 pub type Line = [u8; 160];
@@ -209,95 +210,156 @@ fn payload_words(payload: &ExtView, line: &mut Line, at: usize) -> usize
     }
 }
 
-/// Puts the words of a message before the place.
+/// Puts a name, a number and the line's end.
 #[inline(always)]
-fn view_words(view: &MessageView, line: &mut Line, at: usize) -> usize
-    requires { (120 ≤ at) × (at ≤ 160) }
-    ensures room { (result ≤ at) × (at ≤ result + 114) }
-    ensures text { (own : Own) → drop result line.new ≡ message_words own (message_of view.now) ++ drop at line.old }
+fn put_one(name: &[u8], n: u64, text: &mut [u8], at: usize) -> usize
+    requires { at + (21 + length name.now) ≤ length text.old }
+    ensures room { (at ≤ result) × (result ≤ at + (21 + length name.now)) }
+    ensures size { length text.new ≡ length text.old }
+    ensures text { take result text.new ≡ take at text.old ++ (name.now ++ (decimal n ++ codes "\n")) }
+{
+    let place = put(name, text, at);
+    let place = put_number(n, text, place);
+    put(b"\n", text, place)
+}
+
+/// Puts a name, two numbers and the line's end.
+#[inline(always)]
+fn put_two(name: &[u8], n: u64, m: u64, text: &mut [u8], at: usize) -> usize
+    requires { at + (42 + length name.now) ≤ length text.old }
+    ensures room { (at ≤ result) × (result ≤ at + (42 + length name.now)) }
+    ensures size { length text.new ≡ length text.old }
+    ensures text { take result text.new ≡ take at text.old ++ (name.now ++ (decimal n ++ (spaced m ++ codes "\n"))) }
+{
+    let place = put(name, text, at);
+    let place = put_number(n, text, place);
+    put_one(b" ", m, text, place)
+}
+
+/// Puts a name, three numbers and the line's end.
+#[inline(always)]
+fn put_three(name: &[u8], n: u64, m: u64, k: u64, text: &mut [u8], at: usize) -> usize
+    requires { at + (63 + length name.now) ≤ length text.old }
+    ensures room { (at ≤ result) × (result ≤ at + (63 + length name.now)) }
+    ensures size { length text.new ≡ length text.old }
+    ensures text { take result text.new ≡ take at text.old ++ (name.now ++ (decimal n ++ (spaced m ++ (spaced k ++ codes "\n")))) }
+{
+    let place = put(name, text, at);
+    let place = put_number(n, text, place);
+    put_two(b" ", m, k, text, place)
+}
+
+/// Puts the words of an extended payload and the line's end.
+#[inline(never)]
+fn put_payload(payload: &ExtView, line: &mut Line, text: &mut [u8], at: usize) -> usize
+    requires { at + 116 ≤ length text.old }
+    ensures room { (at ≤ result) × (result ≤ at + 116) }
+    ensures size { length text.new ≡ length text.old }
+    ensures text { take result text.new ≡ take at text.old ++ (codes " " ++ (ext_words (seen_ext payload.now) ++ codes "\n")) }
+{
+    let place = word(b"\n", line, 160);
+    let place = payload_words(payload, line, place);
+    let place = word(b" ", line, place);
+    put(&line[place..], text, at)
+}
+
+/// Puts the words of a message and the line's end.
+#[inline(always)]
+fn put_words(view: &MessageView, line: &mut Line, text: &mut [u8], at: usize) -> usize
+    requires { at + 120 ≤ length text.old }
+    ensures room { (at ≤ result) × (result ≤ at + 120) }
+    ensures size { length text.new ≡ length text.old }
+    ensures text { (own : Own) → take result text.new ≡ take at text.old ++ (codes " " ++ (message_words own (message_of view.now) ++ codes "\n")) }
 {
     match view {
-        MessageView::KeepAlive => word(b"keep-alive", line, at),
-        MessageView::Choke => word(b"choke", line, at),
-        MessageView::Unchoke => word(b"unchoke", line, at),
-        MessageView::Interested => word(b"interested", line, at),
-        MessageView::NotInterested => word(b"not-interested", line, at),
-        MessageView::Have(i) => name_and_one(b"have", u64::from(*i), line, at),
-        MessageView::Bitfield(bits) => name_and_one(b"bitfield", bits.len() as u64, line, at),
+        MessageView::KeepAlive => put(b" keep-alive\n", text, at),
+        MessageView::Choke => put(b" choke\n", text, at),
+        MessageView::Unchoke => put(b" unchoke\n", text, at),
+        MessageView::Interested => put(b" interested\n", text, at),
+        MessageView::NotInterested => put(b" not-interested\n", text, at),
+        MessageView::Have(i) => put_one(b" have ", u64::from(*i), text, at),
+        MessageView::Bitfield(bits) => put_one(b" bitfield ", bits.len() as u64, text, at),
         MessageView::Request {
             index,
             begin,
             length,
-        } => name_and_three(
-            b"request",
+        } => put_three(
+            b" request ",
             u64::from(*index),
             u64::from(*begin),
             u64::from(*length),
-            line,
+            text,
             at,
         ),
         MessageView::Piece {
             index,
             begin,
             block,
-        } => name_and_three(
-            b"piece",
+        } => put_three(
+            b" piece ",
             u64::from(*index),
             u64::from(*begin),
             block.len() as u64,
-            line,
+            text,
             at,
         ),
         MessageView::Cancel {
             index,
             begin,
             length,
-        } => name_and_three(
-            b"cancel",
+        } => put_three(
+            b" cancel ",
             u64::from(*index),
             u64::from(*begin),
             u64::from(*length),
-            line,
+            text,
             at,
         ),
-        MessageView::Port(port) => name_and_one(b"port", u64::from(*port), line, at),
-        MessageView::Suggest(i) => name_and_one(b"suggest", u64::from(*i), line, at),
-        MessageView::HaveAll => word(b"have-all", line, at),
-        MessageView::HaveNone => word(b"have-none", line, at),
+        MessageView::Port(port) => put_one(b" port ", u64::from(*port), text, at),
+        MessageView::Suggest(i) => put_one(b" suggest ", u64::from(*i), text, at),
+        MessageView::HaveAll => put(b" have-all\n", text, at),
+        MessageView::HaveNone => put(b" have-none\n", text, at),
         MessageView::Reject {
             index,
             begin,
             length,
-        } => name_and_three(
-            b"reject",
+        } => put_three(
+            b" reject ",
             u64::from(*index),
             u64::from(*begin),
             u64::from(*length),
-            line,
+            text,
             at,
         ),
-        MessageView::AllowedFast(i) => name_and_one(b"allowed-fast", u64::from(*i), line, at),
-        MessageView::Extended(payload) => payload_words(payload, line, at),
-        MessageView::Unknown { id, payload } => name_and_two(
-            b"unknown",
+        MessageView::AllowedFast(i) => put_one(b" allowed-fast ", u64::from(*i), text, at),
+        MessageView::Extended(payload) => put_payload(payload, line, text, at),
+        MessageView::Unknown { id, payload } => put_two(
+            b" unknown ",
             u64::from(*id),
             payload.len() as u64,
-            line,
+            text,
             at,
         ),
     }
 }
 
-/// Writes a message's line at the end of the array; returns where it starts.
+/// Puts a message's line at the place; returns the place after it.
 #[inline(always)]
-pub fn message_line(at: u64, view: &MessageView, line: &mut Line) -> usize
-    ensures room { result ≤ 160 }
-    ensures text { (own : Own) → drop result line.new ≡ line_of own (at, items.Message (message_of view.now)) }
+pub fn put_message(
+    offset: &mut Offset,
+    at: u64,
+    view: &MessageView,
+    line: &mut Line,
+    text: &mut [u8],
+    place: usize,
+) -> usize
+    requires { place + 160 ≤ length text.old }
+    ensures room { (place ≤ result) × (result ≤ place + 160) }
+    ensures size { length text.new ≡ length text.old }
+    ensures text { (own : Own) → take result text.new ≡ take place text.old ++ line_of own (at, items.Message (message_of view.now)) }
 {
-    let place = word(b"\n", line, 160);
-    let place = view_words(view, line, place);
-    let place = word(b" ", line, place);
-    number(at, line, place)
+    let place = offset.put(at, text, place);
+    put_words(view, line, text, place)
 }
 
 /// Writes a handshake's line at the end of the array; returns where it starts.
@@ -375,16 +437,4 @@ pub fn fault_line(fault: ToolFault) -> &'static [u8]
         ToolFault::Turns => b"fault: turns\n",
         ToolFault::Net => b"fault: net\n",
     }
-}
-
-/// Adds the line that starts at `place` to the text.
-///
-/// # Errors
-/// `AllocError` if the growth of the text was refused.
-#[inline(always)]
-pub fn push_line(text: &mut Vec<u8>, line: &Line, place: usize) -> Result<(), AllocError>
-    requires { place ≤ 160 }
-    ensures { OnOk result (text.new.items ≡ text.old.items ++ drop place line.now) }
-{
-    text.extend_from_slice(&line[place..])
 }

@@ -1,0 +1,193 @@
+//! Words and numbers put into a text that has room for them, from a place on. The lines of `show` are written by these.
+//!
+//! A call returns the place after what it put.
+ghost use Rattle.std.specs.Prelude.{◌≡◌, ◌+◌, ◌-◌, ◌*◌, ◌/◌, ◌%◌, ◌^◌, ◌<◌, ◌≤◌, [], ◌∷◌, ◌++◌, length, take, decimal};
+
+use itoa::write_digits;
+
+/// The digits of each number below 100, two of them.
+static PAIRS: [u8; 200] =
+    *b"0001020304050607080910111213141516171819202122232425262728293031323334353637383940414243444546474849\
+5051525354555657585960616263646566676869707172737475767778798081828384858687888990919293949596979899";
+
+/// Puts a word.
+#[inline(always)]
+pub fn put(word: &[u8], text: &mut [u8], at: usize) -> usize
+    requires { at + length word.now ≤ length text.old }
+    ensures room { result ≡ at + length word.now }
+    ensures size { length text.new ≡ length text.old }
+    ensures text { take result text.new ≡ take at text.old ++ word.now }
+{
+    let end = at + word.len();
+    text[at..end].copy_from_slice(word);
+    end
+}
+
+/// Puts the two digits of a number below 100.
+#[inline(always)]
+fn put_pair(pair: u64, text: &mut [u8], at: usize) -> usize
+    requires { (pair < 100) × (at + 2 ≤ length text.old) }
+    ensures room { result ≡ at + 2 }
+    ensures size { length text.new ≡ length text.old }
+    ensures text { take result text.new ≡ take at text.old ++ ((48 + pair / 10) ∷ (48 + pair % 10) ∷ []) }
+{
+    let from = pair as usize * 2;
+    let (tens, ones) = (PAIRS[from], PAIRS[from + 1]);
+    text[at] = tens;
+    text[at + 1] = ones;
+    at + 2
+}
+
+/// Puts four digits of a number below 10,000.
+#[inline(always)]
+fn put_four(four: u64, text: &mut [u8], at: usize) -> usize
+    requires { (four < 10000) × (at + 4 ≤ length text.old) }
+    ensures room { result ≡ at + 4 }
+    ensures size { length text.new ≡ length text.old }
+    ensures text { take result text.new ≡ take at text.old ++ (((48 + four / 100 / 10) ∷ (48 + four / 100 % 10) ∷ []) ++ ((48 + four % 100 / 10) ∷ (48 + four % 100 % 10) ∷ [])) }
+{
+    let at = put_pair(four / 100, text, at);
+    put_pair(four % 100, text, at)
+}
+
+/// Puts a number below 100.
+#[inline(always)]
+fn put_first(n: u64, text: &mut [u8], at: usize) -> usize
+    requires { (n < 100) × (at + 2 ≤ length text.old) }
+    ensures room { (at ≤ result) × (result ≤ at + 2) }
+    ensures size { length text.new ≡ length text.old }
+    ensures text { take result text.new ≡ take at text.old ++ decimal n }
+{
+    if n < 10 {
+        text[at] = b'0' + n as u8;
+        return at + 1;
+    }
+    put_pair(n, text, at)
+}
+
+/// Puts a number below 10,000.
+#[inline(always)]
+fn put_short(n: u64, text: &mut [u8], at: usize) -> usize
+    requires { (n < 10000) × (at + 4 ≤ length text.old) }
+    ensures room { (at ≤ result) × (result ≤ at + 4) }
+    ensures size { length text.new ≡ length text.old }
+    ensures text { take result text.new ≡ take at text.old ++ decimal n }
+{
+    if n < 100 {
+        return put_first(n, text, at);
+    }
+    let at = put_first(n / 100, text, at);
+    put_pair(n % 100, text, at)
+}
+
+/// Puts a number that may be long.
+#[inline(never)]
+fn put_long(n: u64, text: &mut [u8], at: usize) -> usize
+    requires { at + 20 ≤ length text.old }
+    ensures room { (at ≤ result) × (result ≤ at + 20) }
+    ensures size { length text.new ≡ length text.old }
+    ensures text { take result text.new ≡ take at text.old ++ decimal n }
+{
+    let mut digits = [0; 20];
+    let from = write_digits(n, &mut digits, 20);
+    put(&digits[from..], text, at)
+}
+
+/// Puts a number.
+#[inline(always)]
+pub fn put_number(n: u64, text: &mut [u8], at: usize) -> usize
+    requires { at + 20 ≤ length text.old }
+    ensures room { (at ≤ result) × (result ≤ at + 20) }
+    ensures size { length text.new ≡ length text.old }
+    ensures text { take result text.new ≡ take at text.old ++ decimal n }
+{
+    if n < 10_000 {
+        return put_short(n, text, at);
+    }
+    if n >= 100_000_000 {
+        return put_long(n, text, at);
+    }
+    let at = put_short(n / 10_000, text, at);
+    put_four(n % 10_000, text, at)
+}
+
+/// The digits of offsets but for their last four, which offsets that follow each other mostly share.
+#[derive(Drop)]
+pub struct Offset {
+    /// The least offset that has these digits.
+    base: u64,
+    /// They stand at the front.
+    digits: [u8; 20],
+    count: usize,
+    ghost short: { count ≤ 20 },
+    ghost whole: { (10000 ≤ base) × (base < 2 ^ 63) × (base % 10000 ≡ 0) },
+    ghost written: { take count digits ≡ decimal (base / 10000) },
+}
+
+impl Offset {
+    /// The digits of 10,000.
+    pub fn new() -> Offset {
+        let mut digits = [0; 20];
+        digits[0] = b'1';
+        Offset {
+            base: 10_000,
+            digits,
+            count: 1,
+        }
+    }
+
+    /// Takes the digits of this offset.
+    #[inline(never)]
+    fn renew(&mut self, at: u64)
+        requires { (10000 ≤ at) × (at < 2 ^ 63) }
+        ensures { (self.new.base ≤ at) × (at < self.new.base + 10000) }
+    {
+        let high = at / 10_000;
+        let mut digits = [0; 20];
+        let count = put_long(high, &mut digits, 0);
+        self.base = high * 10_000;
+        self.digits = digits;
+        self.count = count;
+    }
+
+    /// Puts an offset that has the digits.
+    #[inline(always)]
+    fn put_near(&self, low: u64, text: &mut [u8], place: usize) -> usize
+        requires { (place + 24 ≤ length text.old) × (low < 10000) }
+        ensures room { (place ≤ result) × (result ≤ place + 24) }
+        ensures size { length text.new ≡ length text.old }
+        ensures text { take result text.new ≡ take place text.old ++ decimal (self.now.base + low) }
+    {
+        text[place..place + 20].copy_from_slice(&self.digits);
+        put_four(low, text, place + self.count)
+    }
+
+    /// Puts an offset that may have other digits.
+    #[inline(never)]
+    fn put_far(&mut self, at: u64, text: &mut [u8], place: usize) -> usize
+        requires { place + 24 ≤ length text.old }
+        ensures room { (place ≤ result) × (result ≤ place + 24) }
+        ensures size { length text.new ≡ length text.old }
+        ensures text { take result text.new ≡ take place text.old ++ decimal at }
+    {
+        if at >= 10_000 && at < 1 << 63 {
+            self.renew(at);
+        }
+        put_long(at, text, place)
+    }
+
+    /// Puts an offset.
+    #[inline(always)]
+    pub fn put(&mut self, at: u64, text: &mut [u8], place: usize) -> usize
+        requires { place + 24 ≤ length text.old }
+        ensures room { (place ≤ result) × (result ≤ place + 24) }
+        ensures size { length text.new ≡ length text.old }
+        ensures text { take result text.new ≡ take place text.old ++ decimal at }
+    {
+        let low = at.wrapping_sub(self.base);
+        if low >= 10_000 {
+            return self.put_far(at, text, place);
+        }
+        self.put_near(low, text, place)
+    }
+}
