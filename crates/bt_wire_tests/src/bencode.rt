@@ -127,13 +127,16 @@ fn payloads(rt: HostRuntime) -> Result<(), Fail> {
     Ok(())
 }
 
+/// Payloads that are cut after each byte.
+const CUT: &[&[u8]] = &[
+    b"d0:i-10e1:bl0:12:abcdefghijkli0ee1:cd2:ddlleeee",
+    b"d1:md11:ut_metadatai3e6:ut_pexi1ee4:reqqi250e1:v17:Transmission 2.94e",
+    b"d1:ai9223372036854775807e1:bl1:xi-5eld0:0:eeee",
+];
+
 #[test]
 fn prefixes(rt: HostRuntime) -> Result<(), Fail> {
-    for payload in [
-        b"d0:i-10e1:bl0:12:abcdefghijkli0ee1:cd2:ddlleeee".as_slice(),
-        b"d1:md11:ut_metadatai3e6:ut_pexi1ee4:reqqi250e1:v17:Transmission 2.94e",
-        b"d1:ai9223372036854775807e1:bl1:xi-5eld0:0:eeee",
-    ] {
+    for &payload in CUT {
         for n in 0..=payload.len() {
             let answer = if n < payload.len() {
                 Err(Bad::Cut)
@@ -149,15 +152,18 @@ fn prefixes(rt: HostRuntime) -> Result<(), Fail> {
     Ok(())
 }
 
+/// What opens a level, what stands in the last one, how many there are, and the answer.
+const NESTINGS: &[(&[u8], &[u8], usize, Result<usize, Bad>)] = &[
+    (b"l", b"", 31, Ok(67)),
+    (b"l", b"", 32, Err(Bad::Impossible { at: 35 })),
+    (b"d0:", b"0:", 31, Ok(131)),
+    (b"d0:", b"0:", 32, Err(Bad::Impossible { at: 97 })),
+];
+
 #[test]
 fn nestings(rt: HostRuntime) -> Result<(), Fail> {
     let alloc = rt.alloc();
-    for (opening, inside, depth, answer) in [
-        (b"l".as_slice(), b"".as_slice(), 31, Ok(67)),
-        (b"l", b"", 32, Err(Bad::Impossible { at: 35 })),
-        (b"d0:", b"0:", 31, Ok(131)),
-        (b"d0:", b"0:", 32, Err(Bad::Impossible { at: 97 })),
-    ] {
+    for &(opening, inside, depth, answer) in NESTINGS {
         let mut payload = Vec::from_slice(alloc, b"d1:p")?;
         for _ in 0..depth {
             payload.extend_from_slice(opening)?;
@@ -171,17 +177,20 @@ fn nestings(rt: HostRuntime) -> Result<(), Fail> {
     Ok(())
 }
 
+/// A string's length, and what stands before and after it.
+const LONGEST: &[(usize, &[u8], &[u8])] = &[
+    (1_048_569, b"d1:a1048569:", b"e"),
+    (1_048_570, b"d1:a1048570:", b"e"),
+    (1_048_576, b"d1:a1048576:", b"e"),
+    (1_048_569, b"d1048569:", b"i1ee"),
+    (1_048_570, b"d1048570:", b"i1ee"),
+    (1_048_576, b"d1048576:", b"i1ee"),
+];
+
 #[test]
 fn longest_strings(rt: HostRuntime) -> Result<(), Fail> {
     let alloc = rt.alloc();
-    for (len, front, back) in [
-        (1_048_569, b"d1:a1048569:".as_slice(), b"e".as_slice()),
-        (1_048_570, b"d1:a1048570:", b"e"),
-        (1_048_576, b"d1:a1048576:", b"e"),
-        (1_048_569, b"d1048569:", b"i1ee"),
-        (1_048_570, b"d1048570:", b"i1ee"),
-        (1_048_576, b"d1048576:", b"i1ee"),
-    ] {
+    for &(len, front, back) in LONGEST {
         let mut payload = Vec::from_slice(alloc, front)?;
         payload.extend_from_slice(&vec![in alloc; b'e'; len]?)?;
         let is_cut = agrees(alloc, &payload, Err(Bad::Cut))?;
@@ -248,17 +257,20 @@ fn spelled_len(alloc: Global, value: &Value) -> Result<Option<usize>, SpellError
     }
 }
 
+/// A value's kind and size, and the length of its spelling, if it has one.
+const LARGE: &[(Large, usize, Option<usize>)] = &[
+    (Large::Lists, 32, Some(64)),
+    (Large::Lists, 33, None),
+    (Large::Text, 1_048_576, Some(1_048_584)),
+    (Large::Text, 1_048_577, None),
+    (Large::Key, 1_048_576, Some(1_048_589)),
+    (Large::Key, 1_048_577, None),
+];
+
 #[test]
 fn values_out_of_range(rt: HostRuntime) -> Result<(), Fail> {
     let alloc = rt.alloc();
-    for (kind, size, len) in [
-        (Large::Lists, 32, Some(64)),
-        (Large::Lists, 33, None),
-        (Large::Text, 1_048_576, Some(1_048_584)),
-        (Large::Text, 1_048_577, None),
-        (Large::Key, 1_048_576, Some(1_048_589)),
-        (Large::Key, 1_048_577, None),
-    ] {
+    for &(kind, size, len) in LARGE {
         let value = value_of(alloc, kind, size)?;
         let is_right = spelled_len(alloc, &value)? == len && fits(&value) == len.is_some();
         assert!(rt; is_right, "{size}");

@@ -25,17 +25,20 @@ fn has_sorted_value(alloc: Global, payload: &[u8]) -> Result<bool, Fail> {
     Ok(is_sorted(&dict(payload)?.to_value(alloc)?))
 }
 
+/// Payloads, and where their first key out of order stands.
+const UNSORTED: &[(&[u8], Option<usize>)] = &[
+    (b"de", None),
+    (b"d1:ai1e1:bi2ee", None),
+    (b"d0:0:1:a0:2:ab0:e", None),
+    (b"d1:ai1e1:ai2ee", Some(7)),
+    (b"d1:b0:1:a0:e", Some(6)),
+    (b"d1:ad1:ci1e1:bi2eee", Some(11)),
+    (b"d1:ale2:aale1:bld1:z0:1:y0:eee", Some(22)),
+];
+
 #[test]
 fn unsorted_keys(rt: HostRuntime) -> Result<(), Fail> {
-    for (payload, at) in [
-        (b"de".as_slice(), None),
-        (b"d1:ai1e1:bi2ee", None),
-        (b"d0:0:1:a0:2:ab0:e", None),
-        (b"d1:ai1e1:ai2ee", Some(7)),
-        (b"d1:b0:1:a0:e", Some(6)),
-        (b"d1:ad1:ci1e1:bi2eee", Some(11)),
-        (b"d1:ale2:aale1:bld1:z0:1:y0:eee", Some(22)),
-    ] {
+    for &(payload, at) in UNSORTED {
         let is_right = unsorted(payload)? == (at, at)
             && has_sorted_value(rt.alloc(), payload)? == at.is_none();
         assert!(rt; is_right, "{payload:?}");
@@ -73,33 +76,42 @@ fn look_ups(rt: HostRuntime) -> Result<(), Fail> {
     Ok(())
 }
 
+/// Payloads, and the integers at three keys.
+const INTEGERS: &[(
+    &[u8],
+    Result<(Option<i64>, Option<i64>, Option<i64>), usize>,
+)] = &[
+    (
+        b"d1:ai7e1:b3:xyz1:ci-1e1:dd1:ei0eee",
+        Ok((Some(7), None, Some(-1))),
+    ),
+    (b"d1:ci9e1:d1:ae", Ok((None, None, Some(9)))),
+    (b"d1:ai1e1:ai2ee", Err(7)),
+    (b"d1:ai1e1:dd1:fi1e1:ei2eee", Err(17)),
+];
+
 #[test]
 fn integers_in_order(rt: HostRuntime) -> Result<(), Fail> {
-    for (payload, wanted) in [
-        (
-            b"d1:ai7e1:b3:xyz1:ci-1e1:dd1:ei0eee".as_slice(),
-            Ok((Some(7), None, Some(-1))),
-        ),
-        (b"d1:ci9e1:d1:ae", Ok((None, None, Some(9)))),
-        (b"d1:ai1e1:ai2ee", Err(7)),
-        (b"d1:ai1e1:dd1:fi1e1:ei2eee", Err(17)),
-    ] {
+    for &(payload, wanted) in INTEGERS {
         let is_right = dict(payload)?.sorted_ints(b"a", b"b", b"c") == wanted;
         assert!(rt; is_right, "{payload:?}");
     }
     Ok(())
 }
 
+/// Payloads, whether `m` has a map of bytes, and the integer at `n`.
+const MAPS: &[(&[u8], Result<(Option<bool>, Option<Option<i64>>), usize>)] = &[
+    (b"de", Ok((None, None))),
+    (b"d1:mde1:ni5ee", Ok((Some(true), Some(Some(5))))),
+    (b"d1:md1:ai0e1:bi255ee1:n1:5e", Ok((Some(true), Some(None)))),
+    (b"d1:md1:ai256e1:bi0eee", Ok((Some(false), None))),
+    (b"d1:mi1ee", Ok((Some(false), None))),
+    (b"d1:md1:bi0e1:ai1eee", Err(11)),
+];
+
 #[test]
 fn maps_in_order(rt: HostRuntime) -> Result<(), Fail> {
-    for (payload, wanted) in [
-        (b"de".as_slice(), Ok((None, None))),
-        (b"d1:mde1:ni5ee", Ok((Some(true), Some(Some(5))))),
-        (b"d1:md1:ai0e1:bi255ee1:n1:5e", Ok((Some(true), Some(None)))),
-        (b"d1:md1:ai256e1:bi0eee", Ok((Some(false), None))),
-        (b"d1:mi1ee", Ok((Some(false), None))),
-        (b"d1:md1:bi0e1:ai1eee", Err(11)),
-    ] {
+    for &(payload, wanted) in MAPS {
         let is_right = dict(payload)?.sorted_byte_map(b"m", b"n") == wanted;
         assert!(rt; is_right, "{payload:?}");
     }

@@ -26,15 +26,18 @@ fn found(context: &Context, bytes: &[u8]) -> Result<Option<u32>, Refused> {
     }
 }
 
+/// Two ids, and whether they can be registered together.
+const PAIRS: &[(u8, u8, bool)] = &[
+    (3, 4, true),
+    (3, 0, true),
+    (0, 4, true),
+    (0, 0, true),
+    (3, 3, false),
+];
+
 #[test]
 fn registered_ids(rt: HostRuntime) {
-    for (metadata, donthave, is_right) in [
-        (3, 4, true),
-        (3, 0, true),
-        (0, 4, true),
-        (0, 0, true),
-        (3, 3, false),
-    ] {
+    for &(metadata, donthave, is_right) in PAIRS {
         let (metadata, donthave) = (ExtId::new(metadata), ExtId::new(donthave));
         match Registered::new(metadata, donthave) {
             Ok(reg) => {
@@ -46,25 +49,30 @@ fn registered_ids(rt: HostRuntime) {
     }
 }
 
+const BAD_INDEX: Result<Option<u32>, Refused> = Err(Refused {
+    at: 6,
+    reason: Reason::BadIndex,
+});
+
+const BAD_LENGTH: Result<Option<u32>, Refused> = Err(Refused {
+    at: 6,
+    reason: Reason::BadExtLength,
+});
+
+/// The number of pieces, a message, and the piece that it takes back or why it is refused.
+const READS: &[(Option<u32>, &[u8], Result<Option<u32>, Refused>)] = &[
+    (None, TAKEN_BACK, Ok(Some(9))),
+    (Some(10), TAKEN_BACK, Ok(Some(9))),
+    (Some(9), TAKEN_BACK, BAD_INDEX),
+    (None, SHORT, BAD_LENGTH),
+    (Some(9), SHORT, BAD_LENGTH),
+    (None, b"\0\0\0\x02\x14\x04", BAD_LENGTH),
+    (Some(9), b"\0\0\0\x06\x14\x05\0\0\0\x09", Ok(None)),
+];
+
 #[test]
 fn read(rt: HostRuntime) -> Result<(), Fail> {
-    let index = Err(Refused {
-        at: 6,
-        reason: Reason::BadIndex,
-    });
-    let length = Err(Refused {
-        at: 6,
-        reason: Reason::BadExtLength,
-    });
-    for (pieces, bytes, answer) in [
-        (None, TAKEN_BACK, Ok(Some(9))),
-        (Some(10), TAKEN_BACK, Ok(Some(9))),
-        (Some(9), TAKEN_BACK, index),
-        (None, SHORT, length),
-        (Some(9), SHORT, length),
-        (None, b"\0\0\0\x02\x14\x04", length),
-        (Some(9), b"\0\0\0\x06\x14\x05\0\0\0\x09", Ok(None)),
-    ] {
+    for &(pieces, bytes, answer) in READS {
         for rules in [Rules::Free, Rules::Bep] {
             let context = Context {
                 reg: both()?,

@@ -104,89 +104,98 @@ pub(crate) const REQUEST: &[u8] = b"d8:msg_typei0e5:piecei0ee";
 
 pub(crate) const DATA: &[u8] = b"d8:msg_typei1e5:piecei0e10:total_sizei3eeabc";
 
+/// Extended handshakes, and their fault under the strict rules.
+const HANDSHAKES: &[(&[u8], Option<ViewError>)] = &[
+    (b"d1:md11:ut_metadatai3ee13:metadata_sizei3ee", None),
+    (UNSORTED, Some(ViewError::Unsorted { at: 20 })),
+    (REPEATED, Some(ViewError::Unsorted { at: 7 })),
+    (INNER, Some(ViewError::Unsorted { at: 11 })),
+    (USUAL, None),
+    (LIBTORRENT, None),
+    (TRANSMISSION, None),
+    (b"de", None),
+    (b"dee0:", None),
+    (b"d1:mdee", None),
+    (b"d1:md1:ai0eee", None),
+    (b"d1:md1:ai255eee", None),
+    (b"d1:md1:ai256eee", Some(ViewError::BadField)),
+    (b"d1:md1:ai-1eee", Some(ViewError::BadField)),
+    (b"d1:md1:a1:1ee", Some(ViewError::BadField)),
+    (b"d1:mi1ee", Some(ViewError::BadField)),
+    (b"d1:mlee", Some(ViewError::BadField)),
+    (b"d13:metadata_sizei-1ee", Some(ViewError::BadField)),
+    (b"d13:metadata_size1:3e", Some(ViewError::BadField)),
+];
+
 #[test]
 fn handshakes(rt: HostRuntime) -> Result<(), Fail> {
-    for (payload, fault) in [
-        (
-            b"d1:md11:ut_metadatai3ee13:metadata_sizei3ee".as_slice(),
-            None,
-        ),
-        (UNSORTED, Some(ViewError::Unsorted { at: 20 })),
-        (REPEATED, Some(ViewError::Unsorted { at: 7 })),
-        (INNER, Some(ViewError::Unsorted { at: 11 })),
-        (USUAL, None),
-        (LIBTORRENT, None),
-        (TRANSMISSION, None),
-        (b"de", None),
-        (b"dee0:", None),
-        (b"d1:mdee", None),
-        (b"d1:md1:ai0eee", None),
-        (b"d1:md1:ai255eee", None),
-        (b"d1:md1:ai256eee", Some(ViewError::BadField)),
-        (b"d1:md1:ai-1eee", Some(ViewError::BadField)),
-        (b"d1:md1:a1:1ee", Some(ViewError::BadField)),
-        (b"d1:mi1ee", Some(ViewError::BadField)),
-        (b"d1:mlee", Some(ViewError::BadField)),
-        (b"d13:metadata_sizei-1ee", Some(ViewError::BadField)),
-        (b"d13:metadata_size1:3e", Some(ViewError::BadField)),
-    ] {
+    for &(payload, fault) in HANDSHAKES {
         assert!(rt; is_accepted(rt.alloc(), 0, payload, fault)?, "{payload:?}");
     }
     Ok(())
 }
 
+/// Metadata messages, and their fault under the strict rules.
+const MESSAGES: &[(&[u8], Option<ViewError>)] = &[
+    (REQUEST, None),
+    (DATA, None),
+    (
+        b"d8:msg_typei1e5:piecei0e10:total_sizei3eeab",
+        Some(ViewError::BadBlock { at: 41 }),
+    ),
+    (
+        b"d8:msg_typei1e5:piecei0e10:total_sizei3ee",
+        Some(ViewError::BadBlock { at: 41 }),
+    ),
+    (b"d8:msg_typei1e5:piecei0e10:total_sizei3eeeee", None),
+    (
+        b"d8:msg_typei1e5:piecei0e10:total_sizei3eeabcd",
+        Some(ViewError::BadBlock { at: 41 }),
+    ),
+    (
+        b"d8:msg_typei1e5:piecei1e10:total_sizei3ee",
+        Some(ViewError::BadBlock { at: 41 }),
+    ),
+    (
+        b"d8:msg_typei1e5:piecei4294967295e10:total_sizei3ee",
+        Some(ViewError::BadBlock { at: 50 }),
+    ),
+    (
+        b"d8:msg_typei1e5:piecei4294967296e10:total_sizei3ee",
+        Some(ViewError::BadField),
+    ),
+    (
+        b"d8:msg_typei1e5:piecei0e10:total_sizei0ee",
+        Some(ViewError::BadField),
+    ),
+    (b"d8:msg_typei1e5:piecei0ee", Some(ViewError::BadField)),
+    (b"d8:msg_typei7e5:piecei0ee", None),
+    (b"d8:msg_typei-1eerest", None),
+    (b"d8:msg_typei2e5:piecei0ee", None),
+    (
+        b"d8:msg_typei2e5:piecei0ee\0",
+        Some(ViewError::BadBlock { at: 25 }),
+    ),
+    (
+        b"d8:msg_typei0e5:piecei0ee\0",
+        Some(ViewError::BadBlock { at: 25 }),
+    ),
+    (b"d8:msg_typei0e5:piecei-1ee", Some(ViewError::BadField)),
+    (b"d8:msg_type1:05:piecei0ee", Some(ViewError::BadField)),
+    (b"d5:piecei0ee", Some(ViewError::BadField)),
+    (
+        b"d5:piecei0e8:msg_typei0ee",
+        Some(ViewError::Unsorted { at: 11 }),
+    ),
+    (
+        b"d8:msg_typei0e5:piecei0e5:piece1:0e",
+        Some(ViewError::Unsorted { at: 24 }),
+    ),
+];
+
 #[test]
 fn messages(rt: HostRuntime) -> Result<(), Fail> {
-    for (payload, fault) in [
-        (REQUEST, None),
-        (DATA, None),
-        (DATA.split_at(43).0, Some(ViewError::BadBlock { at: 41 })),
-        (DATA.split_at(41).0, Some(ViewError::BadBlock { at: 41 })),
-        (b"d8:msg_typei1e5:piecei0e10:total_sizei3eeeee", None),
-        (
-            b"d8:msg_typei1e5:piecei0e10:total_sizei3eeabcd",
-            Some(ViewError::BadBlock { at: 41 }),
-        ),
-        (
-            b"d8:msg_typei1e5:piecei1e10:total_sizei3ee",
-            Some(ViewError::BadBlock { at: 41 }),
-        ),
-        (
-            b"d8:msg_typei1e5:piecei4294967295e10:total_sizei3ee",
-            Some(ViewError::BadBlock { at: 50 }),
-        ),
-        (
-            b"d8:msg_typei1e5:piecei4294967296e10:total_sizei3ee",
-            Some(ViewError::BadField),
-        ),
-        (
-            b"d8:msg_typei1e5:piecei0e10:total_sizei0ee",
-            Some(ViewError::BadField),
-        ),
-        (b"d8:msg_typei1e5:piecei0ee", Some(ViewError::BadField)),
-        (b"d8:msg_typei7e5:piecei0ee", None),
-        (b"d8:msg_typei-1eerest", None),
-        (b"d8:msg_typei2e5:piecei0ee", None),
-        (
-            b"d8:msg_typei2e5:piecei0ee\0",
-            Some(ViewError::BadBlock { at: 25 }),
-        ),
-        (
-            b"d8:msg_typei0e5:piecei0ee\0",
-            Some(ViewError::BadBlock { at: 25 }),
-        ),
-        (b"d8:msg_typei0e5:piecei-1ee", Some(ViewError::BadField)),
-        (b"d8:msg_type1:05:piecei0ee", Some(ViewError::BadField)),
-        (b"d5:piecei0ee", Some(ViewError::BadField)),
-        (
-            b"d5:piecei0e8:msg_typei0ee",
-            Some(ViewError::Unsorted { at: 11 }),
-        ),
-        (
-            b"d8:msg_typei0e5:piecei0e5:piece1:0e",
-            Some(ViewError::Unsorted { at: 24 }),
-        ),
-    ] {
+    for &(payload, fault) in MESSAGES {
         assert!(rt; is_accepted(rt.alloc(), 3, payload, fault)?, "{payload:?}");
     }
     assert!(rt; is_accepted(rt.alloc(), 4, REQUEST, None)?);

@@ -2,7 +2,7 @@
 use crate::ext::{DATA, LIBTORRENT, REQUEST, ids};
 use bt_bencode::{ByteString, DictRef, Pairs, SpellError, Value, check, read_dict, spell};
 use bt_ext::*;
-use std::alloc::Global;
+use std::alloc::{AllocError, Global};
 use std::test::Fail;
 
 /// What follows the dictionary, or the raw payload, and the number of its kind.
@@ -26,14 +26,18 @@ fn no_ids() -> Registered {
     Registered::metadata_only(ExtId::new(0))
 }
 
+/// The receiver's id of `ut_metadata`, a message's id and payload, the number of its kind, and what follows its dictionary.
+const VIEWS: &[(u8, u8, &[u8], u8, &[u8])] = &[
+    (3, 0, b"de.rest", 0, b".rest"),
+    (3, 3, DATA, 1, b"abc"),
+    (3, 4, REQUEST, 2, REQUEST),
+    (0, 3, REQUEST, 2, REQUEST),
+];
+
 #[test]
 fn views(rt: HostRuntime) {
-    for (reg, id, payload, kind, rest) in [
-        (ids(), 0, b"de.rest".as_slice(), 0, b".rest".as_slice()),
-        (ids(), 3, DATA, 1, b"abc"),
-        (ids(), 4, REQUEST, 2, REQUEST),
-        (no_ids(), 3, REQUEST, 2, REQUEST),
-    ] {
+    for &(metadata, id, payload, kind, rest) in VIEWS {
+        let reg = Registered::metadata_only(ExtId::new(metadata));
         assert!(rt; is_viewed(reg, id, payload, (kind, rest)), "{payload:?}");
     }
 }
@@ -82,16 +86,19 @@ fn both_kinds(dict: &DictRef, value: &Value) -> (Kind, Kind) {
     (kind_ref(dict), kind(value))
 }
 
+/// Dictionaries of metadata messages, and their kinds.
+const KINDS: &[(&[u8], Kind)] = &[
+    (REQUEST, Kind::Request(0)),
+    (DATA, Kind::Data { piece: 0, total: 3 }),
+    (b"d8:msg_typei2e5:piecei5ee", Kind::Reject(5)),
+    (b"d8:msg_typei3ee", Kind::Other),
+    (b"d8:msg_typei0e5:piecei1e5:piecei2ee", Kind::Request(1)),
+    (b"de", Kind::Malformed),
+];
+
 #[test]
 fn kinds(rt: HostRuntime) -> Result<(), Fail> {
-    for (payload, wanted) in [
-        (REQUEST, Kind::Request(0)),
-        (DATA, Kind::Data { piece: 0, total: 3 }),
-        (b"d8:msg_typei2e5:piecei5ee", Kind::Reject(5)),
-        (b"d8:msg_typei3ee", Kind::Other),
-        (b"d8:msg_typei0e5:piecei1e5:piecei2ee", Kind::Request(1)),
-        (b"de", Kind::Malformed),
-    ] {
+    for &(payload, wanted) in KINDS {
         let found = both_kinds(&dict(payload)?, &tree(rt.alloc(), payload)?);
         assert!(rt; found == (wanted, wanted), "{payload:?}");
     }
@@ -103,40 +110,46 @@ fn both_sizes(dict: &DictRef, value: &Value) -> (Option<u64>, Option<u64>) {
     (metadata_size_ref(dict), metadata_size(value))
 }
 
+/// Dictionaries of extended handshakes, and the size of the metadata that each announces.
+const SIZES: &[(&[u8], Option<u64>)] = &[
+    (b"d13:metadata_sizei0ee", Some(0)),
+    (
+        b"d13:metadata_sizei9223372036854775807ee",
+        Some(9223372036854775807),
+    ),
+    (b"d13:metadata_sizei3e13:metadata_sizei4ee", Some(3)),
+    (b"d13:metadata_sizei-1ee", None),
+    (b"d13:metadata_size1:3e", None),
+    (b"de", None),
+];
+
 #[test]
 fn sizes(rt: HostRuntime) -> Result<(), Fail> {
-    for (payload, wanted) in [
-        (b"d13:metadata_sizei0ee".as_slice(), Some(0)),
-        (
-            b"d13:metadata_sizei9223372036854775807ee",
-            Some(9223372036854775807),
-        ),
-        (b"d13:metadata_sizei3e13:metadata_sizei4ee", Some(3)),
-        (b"d13:metadata_sizei-1ee", None),
-        (b"d13:metadata_size1:3e", None),
-        (b"de", None),
-    ] {
+    for &(payload, wanted) in SIZES {
         let found = both_sizes(&dict(payload)?, &tree(rt.alloc(), payload)?);
         assert!(rt; found == (wanted, wanted), "{payload:?}");
     }
     Ok(())
 }
 
+/// A block's piece, the size of the metadata, the block's length, and whether that is right.
+const BLOCKS: &[(u32, u64, usize, bool)] = &[
+    (0, 16384, 16384, true),
+    (0, 16384, 16383, false),
+    (0, 16384, 16385, false),
+    (1, 16384, 0, false),
+    (0, 16385, 16384, true),
+    (1, 16385, 1, true),
+    (1, 16385, 16384, false),
+    (2, 16385, 0, false),
+    (1, 32768, 16384, true),
+    (2, 32768, 0, false),
+    (4294967295, 18446744073709551615, 16384, true),
+];
+
 #[test]
 fn blocks(rt: HostRuntime) {
-    for (piece, total, len, wanted) in [
-        (0, 16384, 16384, true),
-        (0, 16384, 16383, false),
-        (0, 16384, 16385, false),
-        (1, 16384, 0, false),
-        (0, 16385, 16384, true),
-        (1, 16385, 1, true),
-        (1, 16385, 16384, false),
-        (2, 16385, 0, false),
-        (1, 32768, 16384, true),
-        (2, 32768, 0, false),
-        (4294967295, 18446744073709551615, 16384, true),
-    ] {
+    for &(piece, total, len, wanted) in BLOCKS {
         assert!(rt;
             block_ok(Kind::Data { piece, total }, len) == wanted,
             "{piece} {total} {len}"
@@ -144,16 +157,19 @@ fn blocks(rt: HostRuntime) {
     }
 }
 
+/// Kinds without a block, how many bytes follow, and whether they may.
+const NO_BLOCKS: &[(Kind, usize, bool)] = &[
+    (Kind::Request(0), 0, true),
+    (Kind::Request(0), 1, false),
+    (Kind::Reject(0), 0, true),
+    (Kind::Reject(0), 1, false),
+    (Kind::Other, 1, true),
+    (Kind::Malformed, 1, true),
+];
+
 #[test]
 fn no_blocks(rt: HostRuntime) {
-    for (kind, len, wanted) in [
-        (Kind::Request(0), 0, true),
-        (Kind::Request(0), 1, false),
-        (Kind::Reject(0), 0, true),
-        (Kind::Reject(0), 1, false),
-        (Kind::Other, 1, true),
-        (Kind::Malformed, 1, true),
-    ] {
+    for &(kind, len, wanted) in NO_BLOCKS {
         assert!(rt; block_ok(kind, len) == wanted);
     }
 }
@@ -182,6 +198,22 @@ fn metadata(alloc: Global, pairs: Vec<(ByteString, Value)>) -> Ext {
     }
 }
 
+/// A number in place of a handshake's dictionary.
+fn number(alloc: Global) -> Ext {
+    Ext::Handshake {
+        dict: Value::Int(1),
+        rest: no_bytes(alloc),
+    }
+}
+
+/// A pair whose key has `len` bytes.
+fn pair(alloc: Global, len: usize) -> Result<Vec<(ByteString, Value)>, AllocError> {
+    let key = ByteString::from_vec(vec![in alloc; 0; len]?);
+    let mut pairs = Vec::new(alloc);
+    pairs.push((key, Value::Int(1)))?;
+    Ok(pairs)
+}
+
 /// Raw payloads under ids that have a meaning.
 #[test]
 fn raw_without_spelling(rt: HostRuntime) {
@@ -194,17 +226,10 @@ fn raw_without_spelling(rt: HostRuntime) {
 #[test]
 fn values_without_spelling(rt: HostRuntime) -> Result<(), Fail> {
     let alloc = rt.alloc();
-    let number = Ext::Handshake {
-        dict: Value::Int(1),
-        rest: no_bytes(alloc),
-    };
-    assert!(rt; is_unspelled(alloc, &ids(), &number));
+    assert!(rt; is_unspelled(alloc, &ids(), &number(alloc)));
     let unregistered = metadata(alloc, Vec::new(alloc));
     assert!(rt; is_unspelled(alloc, &Registered::metadata_only(None), &unregistered));
-    let key = ByteString::from_vec(vec![in alloc; 0; 1_048_577]?);
-    let mut pairs = Vec::new(alloc);
-    pairs.push((key, Value::Int(1)))?;
-    assert!(rt; is_unspelled(alloc, &ids(), &metadata(alloc, pairs)));
+    assert!(rt; is_unspelled(alloc, &ids(), &metadata(alloc, pair(alloc, 1_048_577)?)));
     Ok(())
 }
 
@@ -238,18 +263,17 @@ fn made_messages(rt: HostRuntime) -> Result<(), Fail> {
     Ok(())
 }
 
+/// The id of `ut_metadata`, the size of the metadata, and the dictionary that says so.
+const MADE: &[(u8, Option<u64>, &[u8])] = &[
+    (3, Some(3), b"d1:md11:ut_metadatai3ee13:metadata_sizei3ee"),
+    (9, None, b"d1:md11:ut_metadatai9eee"),
+    (0, None, b"d1:mdee"),
+];
+
 #[test]
 fn made_handshakes(rt: HostRuntime) -> Result<(), Fail> {
     let alloc = rt.alloc();
-    for (id, size, bytes) in [
-        (
-            3,
-            Some(3),
-            b"d1:md11:ut_metadatai3ee13:metadata_sizei3ee".as_slice(),
-        ),
-        (9, None, b"d1:md11:ut_metadatai9eee"),
-        (0, None, b"d1:mdee"),
-    ] {
+    for &(id, size, bytes) in MADE {
         let value = handshake_dict(alloc, Registered::metadata_only(ExtId::new(id)), size)?;
         assert!(rt; is_spelled(alloc, &value, bytes)?, "{id}");
     }

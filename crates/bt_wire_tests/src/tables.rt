@@ -40,25 +40,28 @@ fn applied(
     Ok((copy.id_of(name), table.id_of(name)))
 }
 
+/// Handshakes one after the other, and the id that the name has after each.
+const CHANGES: &[(&[u8], Option<u8>)] = &[
+    (b"d1:md11:ut_metadatai3eee", Some(3)),
+    (b"d1:mdee", Some(3)),
+    (b"de", Some(3)),
+    (b"d1:md11:ut_metadatai256eee", Some(3)),
+    (b"d1:md11:ut_metadatai-1eee", Some(3)),
+    (b"d1:md11:ut_metadata1:5ee", Some(3)),
+    (b"d1:md11:ut_metadatai9e11:ut_metadatai7eee", Some(9)),
+    (b"d1:mi1ee", Some(9)),
+    (b"d1:mi1e1:md11:ut_metadatai4eee", Some(9)),
+    (b"d1:md11:ut_metadatai256e11:ut_metadatai7eee", Some(9)),
+    (b"d1:md11:ut_metadatai0e11:ut_metadatai7eee", None),
+    (b"d1:md11:ut_metadatai255eee", Some(255)),
+    (b"d1:md11:ut_metadatai0eee", None),
+];
+
 #[test]
 fn one_name(rt: HostRuntime) -> Result<(), Fail> {
     let mut table = Table::new(rt.alloc());
     assert!(rt; table.id_of(b"ut_metadata").is_none());
-    for (payload, wanted) in [
-        (b"d1:md11:ut_metadatai3eee".as_slice(), Some(3)),
-        (b"d1:mdee", Some(3)),
-        (b"de", Some(3)),
-        (b"d1:md11:ut_metadatai256eee", Some(3)),
-        (b"d1:md11:ut_metadatai-1eee", Some(3)),
-        (b"d1:md11:ut_metadata1:5ee", Some(3)),
-        (b"d1:md11:ut_metadatai9e11:ut_metadatai7eee", Some(9)),
-        (b"d1:mi1ee", Some(9)),
-        (b"d1:mi1e1:md11:ut_metadatai4eee", Some(9)),
-        (b"d1:md11:ut_metadatai256e11:ut_metadatai7eee", Some(9)),
-        (b"d1:md11:ut_metadatai0e11:ut_metadatai7eee", None),
-        (b"d1:md11:ut_metadatai255eee", Some(255)),
-        (b"d1:md11:ut_metadatai0eee", None),
-    ] {
+    for &(payload, wanted) in CHANGES {
         let found = applied(rt.alloc(), &mut table, payload, b"ut_metadata")?;
         assert!(rt; found == (wanted, wanted), "{payload:?}");
     }
@@ -117,16 +120,19 @@ fn makes_room(alloc: Global, table: &mut Table) -> Result<bool, Fail> {
     )
 }
 
+/// Where the names end, what follows them, a name, and the id that it has.
+const FULL: &[(usize, &[u8], &[u8], Option<u8>)] = &[
+    (1255, b"", b"1254", Some(1)),
+    (1256, b"", b"1255", Some(1)),
+    (1257, b"", b"1256", None),
+    (9999, b"", b"1255", Some(1)),
+    (1256, b"3:newi7e", b"1255", Some(1)),
+];
+
 #[test]
 fn many(rt: HostRuntime) -> Result<(), Fail> {
     let alloc = rt.alloc();
-    for (end, more, name, wanted) in [
-        (1255, b"".as_slice(), b"1254", Some(1)),
-        (1256, b"", b"1255", Some(1)),
-        (1257, b"", b"1256", None),
-        (9999, b"", b"1255", Some(1)),
-        (1256, b"3:newi7e", b"1255", Some(1)),
-    ] {
+    for &(end, more, name, wanted) in FULL {
         let mut table = Table::new(alloc);
         let payload = many_names(alloc, end, more)?;
         let found = applied(alloc, &mut table, &payload, name)?;

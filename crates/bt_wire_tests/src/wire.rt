@@ -28,6 +28,31 @@ fn has_header(context: &Context, head: &[u8], wanted: Header) -> bool {
     judge_header(context, Order::Fresh, head) == wanted
 }
 
+/// An id, and its least and its greatest length, if that is not the limit.
+const LENGTHS: &[(u8, u32, Option<u32>)] = &[
+    (0, 1, Some(1)),
+    (1, 1, Some(1)),
+    (2, 1, Some(1)),
+    (3, 1, Some(1)),
+    (4, 5, Some(5)),
+    (5, 1, None),
+    (6, 13, Some(13)),
+    (7, 9, None),
+    (8, 13, Some(13)),
+    (9, 3, Some(3)),
+    (10, 1, None),
+    (12, 1, None),
+    (13, 5, Some(5)),
+    (14, 1, Some(1)),
+    (15, 1, Some(1)),
+    (16, 13, Some(13)),
+    (17, 5, Some(5)),
+    (18, 1, None),
+    (20, 2, None),
+    (99, 1, None),
+    (255, 1, None),
+];
+
 /// The least and the greatest length of each id, one less and one more, under several limits.
 #[test]
 fn allowed_lengths(rt: HostRuntime) {
@@ -39,29 +64,7 @@ fn allowed_lengths(rt: HostRuntime) {
         at: 0,
         reason: Reason::TooLong,
     };
-    for (id, least, most) in [
-        (0, 1, Some(1)),
-        (1, 1, Some(1)),
-        (2, 1, Some(1)),
-        (3, 1, Some(1)),
-        (4, 5, Some(5)),
-        (5, 1, None),
-        (6, 13, Some(13)),
-        (7, 9, None),
-        (8, 13, Some(13)),
-        (9, 3, Some(3)),
-        (10, 1, None),
-        (12, 1, None),
-        (13, 5, Some(5)),
-        (14, 1, Some(1)),
-        (15, 1, Some(1)),
-        (16, 13, Some(13)),
-        (17, 5, Some(5)),
-        (18, 1, None),
-        (20, 2, None),
-        (99, 1, None),
-        (255, 1, None),
-    ] {
+    for &(id, least, most) in LENGTHS {
         for limit in [13, LIMIT, 1_048_576] {
             let free = Context {
                 limit,
@@ -85,18 +88,21 @@ fn allowed_lengths(rt: HostRuntime) {
     }
 }
 
+/// A number of pieces, and the length of its bitfield.
+const BITFIELDS: &[(u32, u32)] = &[
+    (0, 1),
+    (1, 2),
+    (7, 2),
+    (8, 2),
+    (9, 3),
+    (10, 3),
+    (16, 3),
+    (17, 4),
+];
+
 #[test]
 fn bitfield_lengths(rt: HostRuntime) {
-    for (pieces, length) in [
-        (0, 1),
-        (1, 2),
-        (7, 2),
-        (8, 2),
-        (9, 3),
-        (10, 3),
-        (16, 3),
-        (17, 4),
-    ] {
+    for &(pieces, length) in BITFIELDS {
         let context = agreed(Rules::Free, false, Some(pieces));
         for said in 1..6 {
             let answer = if said == length {
@@ -115,29 +121,33 @@ fn bitfield_lengths(rt: HostRuntime) {
     }
 }
 
+const LONG: Header = Header::Refused {
+    at: 0,
+    reason: Reason::TooLong,
+};
+
+/// A limit, the first bytes of a message, and the judgement on them.
+const HEADERS: &[(u32, &[u8], Header)] = &[
+    (LIMIT, b"", Header::Need(4)),
+    (LIMIT, b"\xff\xff\xff", Header::Need(4)),
+    (LIMIT, b"\xff\xff\xff\xff", LONG),
+    (LIMIT, b"\0\0\0\0", Header::Window(4)),
+    (LIMIT, b"\0\0\0\0\x63", Header::Window(4)),
+    (LIMIT, b"\0\0\0\x01", Header::Need(5)),
+    (LIMIT, b"\0\x04\0\x01", LONG),
+    (LIMIT, b"\0\x04\0\0", Header::Need(5)),
+    (LIMIT, b"\0\x04\0\0\x07", Header::Window(262_148)),
+    (4_294_967_295, b"\xff\xff\xff\xff", Header::Need(5)),
+    (
+        4_294_967_295,
+        b"\xff\xff\xff\xff\x63",
+        Header::Window(4_294_967_299),
+    ),
+];
+
 #[test]
 fn headers(rt: HostRuntime) {
-    let long = Header::Refused {
-        at: 0,
-        reason: Reason::TooLong,
-    };
-    for (limit, head, answer) in [
-        (LIMIT, b"".as_slice(), Header::Need(4)),
-        (LIMIT, b"\xff\xff\xff", Header::Need(4)),
-        (LIMIT, b"\xff\xff\xff\xff", long),
-        (LIMIT, b"\0\0\0\0", Header::Window(4)),
-        (LIMIT, b"\0\0\0\0\x63", Header::Window(4)),
-        (LIMIT, b"\0\0\0\x01", Header::Need(5)),
-        (LIMIT, b"\0\x04\0\x01", long),
-        (LIMIT, b"\0\x04\0\0", Header::Need(5)),
-        (LIMIT, b"\0\x04\0\0\x07", Header::Window(262_148)),
-        (4_294_967_295, b"\xff\xff\xff\xff", Header::Need(5)),
-        (
-            4_294_967_295,
-            b"\xff\xff\xff\xff\x63",
-            Header::Window(4_294_967_299),
-        ),
-    ] {
+    for &(limit, head, answer) in HEADERS {
         let context = Context {
             limit,
             ..agreed(Rules::Free, false, None)
@@ -453,59 +463,79 @@ const NO_NAMES: &[u8] = b"\0\0\0\x0a\x14\0d1:mi1ee";
 
 const SHORT: &[u8] = b"\0\0\0\x2d\x14\x03d8:msg_typei1e5:piecei0e10:total_sizei3eeab";
 
+/// The rules, whether both ends have the Extension Protocol, and the limit.
+type ExtSetup = (Rules, bool, u32);
+
+const EXT_FREE: ExtSetup = (Rules::Free, true, LIMIT);
+
+const EXT_BEP: ExtSetup = (Rules::Bep, true, LIMIT);
+
+const EXT_PLAIN: ExtSetup = (Rules::Bep, false, LIMIT);
+
+const EXT_NARROW: ExtSetup = (Rules::Bep, true, 2);
+
+/// A setup, a message, and where and why it is refused.
+const EXTENDED_REASONS: &[(ExtSetup, &[u8], u64, Reason)] = &[
+    (EXT_FREE, NO_INTEGER, 12, Reason::BadBencode),
+    (EXT_BEP, NO_INTEGER, 12, Reason::BadBencode),
+    (EXT_FREE, b"\0\0\0\x09\x14\0d1:pi1e", 13, Reason::BadBencode),
+    (EXT_FREE, b"\0\0\0\x02\x14\0", 6, Reason::BadBencode),
+    (EXT_BEP, b"\0\0\0\x04\x14\x03le", 6, Reason::BadBencode),
+    (EXT_BEP, UNSORTED, 26, Reason::Unsorted),
+    (EXT_BEP, NO_NAMES, 6, Reason::BadField),
+    (
+        EXT_BEP,
+        b"\0\0\0\x1b\x14\x03d8:msg_typei1e5:piecei0ee",
+        6,
+        Reason::BadField,
+    ),
+    (EXT_BEP, SHORT, 47, Reason::BadBlock),
+    (EXT_NARROW, NO_INTEGER, 0, Reason::TooLong),
+    (EXT_NARROW, UNSORTED, 0, Reason::TooLong),
+    (EXT_NARROW, NO_NAMES, 0, Reason::TooLong),
+    (EXT_NARROW, SHORT, 0, Reason::TooLong),
+    (EXT_PLAIN, b"\0\x04\0\x01\x14", 0, Reason::TooLong),
+    (EXT_PLAIN, NO_INTEGER, 4, Reason::NotNegotiated),
+    (EXT_PLAIN, UNSORTED, 4, Reason::NotNegotiated),
+    (EXT_PLAIN, NO_NAMES, 4, Reason::NotNegotiated),
+    (EXT_PLAIN, SHORT, 4, Reason::NotNegotiated),
+    (
+        EXT_BEP,
+        b"\0\0\0\x0b\x14\0d1:b0:1:a",
+        15,
+        Reason::BadBencode,
+    ),
+    (EXT_BEP, b"\0\0\0\x09\x14\0d1:mi1e", 13, Reason::BadBencode),
+    (
+        EXT_BEP,
+        b"\0\0\0\x2d\x14\x03d8:msg_typei1e5:piecei0e10:total_sizei3eabc",
+        46,
+        Reason::BadBencode,
+    ),
+    (
+        EXT_BEP,
+        b"\0\0\0\x10\x14\0d1:pi1e1:mi1ee",
+        13,
+        Reason::Unsorted,
+    ),
+    (
+        EXT_BEP,
+        b"\0\0\0\x1b\x14\x03d5:piecei0e8:msg_typei1ee",
+        17,
+        Reason::Unsorted,
+    ),
+    (
+        EXT_BEP,
+        b"\0\0\0\x2d\x14\x03d8:msg_typei1e10:total_sizei3e5:piecei0eeab",
+        36,
+        Reason::Unsorted,
+    ),
+];
+
 /// The reasons of extended messages, each alone and then each two that can hold together.
 #[test]
 fn extended_reasons(rt: HostRuntime) -> Result<(), Fail> {
-    let free = (Rules::Free, true, LIMIT);
-    let bep = (Rules::Bep, true, LIMIT);
-    let plain = (Rules::Bep, false, LIMIT);
-    let narrow = (Rules::Bep, true, 2);
-    for ((rules, ext, limit), bytes, at, reason) in [
-        (free, NO_INTEGER, 12, Reason::BadBencode),
-        (bep, NO_INTEGER, 12, Reason::BadBencode),
-        (free, b"\0\0\0\x09\x14\0d1:pi1e", 13, Reason::BadBencode),
-        (free, b"\0\0\0\x02\x14\0", 6, Reason::BadBencode),
-        (bep, b"\0\0\0\x04\x14\x03le", 6, Reason::BadBencode),
-        (bep, UNSORTED, 26, Reason::Unsorted),
-        (bep, NO_NAMES, 6, Reason::BadField),
-        (
-            bep,
-            b"\0\0\0\x1b\x14\x03d8:msg_typei1e5:piecei0ee",
-            6,
-            Reason::BadField,
-        ),
-        (bep, SHORT, 47, Reason::BadBlock),
-        (narrow, NO_INTEGER, 0, Reason::TooLong),
-        (narrow, UNSORTED, 0, Reason::TooLong),
-        (narrow, NO_NAMES, 0, Reason::TooLong),
-        (narrow, SHORT, 0, Reason::TooLong),
-        (plain, b"\0\x04\0\x01\x14", 0, Reason::TooLong),
-        (plain, NO_INTEGER, 4, Reason::NotNegotiated),
-        (plain, UNSORTED, 4, Reason::NotNegotiated),
-        (plain, NO_NAMES, 4, Reason::NotNegotiated),
-        (plain, SHORT, 4, Reason::NotNegotiated),
-        (bep, b"\0\0\0\x0b\x14\0d1:b0:1:a", 15, Reason::BadBencode),
-        (bep, b"\0\0\0\x09\x14\0d1:mi1e", 13, Reason::BadBencode),
-        (
-            bep,
-            b"\0\0\0\x2d\x14\x03d8:msg_typei1e5:piecei0e10:total_sizei3eabc",
-            46,
-            Reason::BadBencode,
-        ),
-        (bep, b"\0\0\0\x10\x14\0d1:pi1e1:mi1ee", 13, Reason::Unsorted),
-        (
-            bep,
-            b"\0\0\0\x1b\x14\x03d5:piecei0e8:msg_typei1ee",
-            17,
-            Reason::Unsorted,
-        ),
-        (
-            bep,
-            b"\0\0\0\x2d\x14\x03d8:msg_typei1e10:total_sizei3e5:piecei0eeab",
-            36,
-            Reason::Unsorted,
-        ),
-    ] {
+    for &((rules, ext, limit), bytes, at, reason) in EXTENDED_REASONS {
         let context = Context {
             ext,
             limit,

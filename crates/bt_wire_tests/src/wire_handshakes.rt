@@ -71,19 +71,23 @@ fn is_refused_from(own: &Own, bytes: &[u8; 68], judged: usize, refused: Refused)
     all
 }
 
+/// Whether the receiver has the same info hash, the byte that is changed, from how many bytes on that is refused, where and why.
+const CHANGED: &[(bool, usize, usize, u64, Reason)] = &[
+    (true, 0, 1, 0, Reason::BadProtocol),
+    (true, 5, 6, 5, Reason::BadProtocol),
+    (true, 19, 20, 19, Reason::BadProtocol),
+    (false, 19, 20, 19, Reason::BadProtocol),
+    (true, 28, 48, 28, Reason::WrongInfoHash),
+    (true, 47, 48, 28, Reason::WrongInfoHash),
+    (false, 67, 48, 28, Reason::WrongInfoHash),
+];
+
 #[test]
 fn refused_handshakes(rt: HostRuntime) {
     let same = receiver(Reserved(0), Some(handshake().info_hash));
     let other = receiver(Reserved(0), Some(*b"--------------------"));
-    for (own, changed, judged, at, reason) in [
-        (&same, 0, 1, 0, Reason::BadProtocol),
-        (&same, 5, 6, 5, Reason::BadProtocol),
-        (&same, 19, 20, 19, Reason::BadProtocol),
-        (&other, 19, 20, 19, Reason::BadProtocol),
-        (&same, 28, 48, 28, Reason::WrongInfoHash),
-        (&same, 47, 48, 28, Reason::WrongInfoHash),
-        (&other, 67, 48, 28, Reason::WrongInfoHash),
-    ] {
+    for &(is_same, changed, judged, at, reason) in CHANGED {
+        let own = if is_same { &same } else { &other };
         let mut bytes = *SPELLED;
         for (n, byte) in bytes.iter_mut().enumerate() {
             if n == changed {
@@ -106,18 +110,23 @@ fn bits(rt: HostRuntime) {
     }
 }
 
+/// All bits but that of the Fast Extension.
+const REST: u64 = !0x4;
+
+/// The bits of both ends, and whether both have the Fast Extension and the Extension Protocol.
+const NEGOTIATIONS: &[(u64, u64, bool, bool)] = &[
+    (0x10_0005, 0x10_0005, true, true),
+    (0x4, u64::MAX, true, false),
+    (0x10_0000, u64::MAX, false, true),
+    (0x4, REST, false, false),
+    (REST, 0x4, false, false),
+    (REST, REST, false, true),
+    (0, 0, false, false),
+];
+
 #[test]
 fn negotiations(rt: HostRuntime) {
-    let rest = !0x4;
-    for (own, peer, fast, ext) in [
-        (0x10_0005, 0x10_0005, true, true),
-        (0x4, u64::MAX, true, false),
-        (0x10_0000, u64::MAX, false, true),
-        (0x4, rest, false, false),
-        (rest, 0x4, false, false),
-        (rest, rest, false, true),
-        (0, 0, false, false),
-    ] {
+    for &(own, peer, fast, ext) in NEGOTIATIONS {
         let context = negotiate(&receiver(Reserved(own), None), Reserved(peer));
         let answer = Context {
             ext,

@@ -244,49 +244,52 @@ fn order_after(context: &Context, order: Order, bytes: &[u8]) -> Option<Order> {
     }
 }
 
+/// A message, whether it may come first, later, and first without the Fast Extension, and whether it counts as one before others.
+const ORDERS: &[(&[u8], bool, bool, bool, bool)] = &[
+    (b"\0\0\0\0", true, true, true, false),
+    (b"\0\0\0\x01\0", false, true, true, true),
+    (b"\0\0\0\x01\x01", false, true, true, true),
+    (b"\0\0\0\x01\x02", false, true, true, true),
+    (b"\0\0\0\x01\x03", false, true, true, true),
+    (b"\0\0\0\x05\x04\0\0\0\0", false, true, true, true),
+    (b"\0\0\0\x02\x05\0", true, false, true, true),
+    (
+        b"\0\0\0\x0d\x06\0\0\0\0\0\0\0\0\0\0\0\0",
+        false,
+        true,
+        true,
+        true,
+    ),
+    (b"\0\0\0\x09\x07\0\0\0\0\0\0\0\0", false, true, true, true),
+    (
+        b"\0\0\0\x0d\x08\0\0\0\0\0\0\0\0\0\0\0\0",
+        false,
+        true,
+        true,
+        true,
+    ),
+    (b"\0\0\0\x03\x09\0\0", true, true, true, false),
+    (b"\0\0\0\x05\x0d\0\0\0\0", false, true, false, true),
+    (b"\0\0\0\x01\x0e", true, false, false, true),
+    (b"\0\0\0\x01\x0f", true, false, false, true),
+    (
+        b"\0\0\0\x0d\x10\0\0\0\0\0\0\0\0\0\0\0\0",
+        false,
+        true,
+        false,
+        true,
+    ),
+    (b"\0\0\0\x05\x11\0\0\0\0", false, true, false, true),
+    (b"\0\0\0\x02\x14\x04", true, true, true, false),
+    (b"\0\0\0\x01\x63", false, false, false, false),
+];
+
 /// Which orders let the message through under the strict rules, and the order that it leaves.
 #[test]
 fn orders(rt: HostRuntime) {
     let fast = agreed(Rules::Bep, true, None);
     let slow = agreed(Rules::Bep, false, None);
-    for (bytes, first, later, slow_first, counts) in [
-        (b"\0\0\0\0".as_slice(), true, true, true, false),
-        (b"\0\0\0\x01\0", false, true, true, true),
-        (b"\0\0\0\x01\x01", false, true, true, true),
-        (b"\0\0\0\x01\x02", false, true, true, true),
-        (b"\0\0\0\x01\x03", false, true, true, true),
-        (b"\0\0\0\x05\x04\0\0\0\0", false, true, true, true),
-        (b"\0\0\0\x02\x05\0", true, false, true, true),
-        (
-            b"\0\0\0\x0d\x06\0\0\0\0\0\0\0\0\0\0\0\0",
-            false,
-            true,
-            true,
-            true,
-        ),
-        (b"\0\0\0\x09\x07\0\0\0\0\0\0\0\0", false, true, true, true),
-        (
-            b"\0\0\0\x0d\x08\0\0\0\0\0\0\0\0\0\0\0\0",
-            false,
-            true,
-            true,
-            true,
-        ),
-        (b"\0\0\0\x03\x09\0\0", true, true, true, false),
-        (b"\0\0\0\x05\x0d\0\0\0\0", false, true, false, true),
-        (b"\0\0\0\x01\x0e", true, false, false, true),
-        (b"\0\0\0\x01\x0f", true, false, false, true),
-        (
-            b"\0\0\0\x0d\x10\0\0\0\0\0\0\0\0\0\0\0\0",
-            false,
-            true,
-            false,
-            true,
-        ),
-        (b"\0\0\0\x05\x11\0\0\0\0", false, true, false, true),
-        (b"\0\0\0\x02\x14\x04", true, true, true, false),
-        (b"\0\0\0\x01\x63", false, false, false, false),
-    ] {
+    for &(bytes, first, later, slow_first, counts) in ORDERS {
         for (context, order, whole) in [
             (&fast, Order::Fresh, first),
             (&fast, Order::Past, later),
@@ -307,17 +310,20 @@ fn fault_of_unknown(alloc: Global, id: u8) -> Result<Option<Fault>, Fail> {
     Ok(legal(&Context { limit: 2, ..bep }, Order::Past, &message).err())
 }
 
+/// The ids from the first to the second, and whether an unknown message can have them.
+const SHAPES: &[(u8, u8, bool)] = &[
+    (0, 9, false),
+    (10, 12, true),
+    (13, 17, false),
+    (18, 19, true),
+    (20, 20, false),
+    (21, 22, true),
+];
+
 /// An unknown message with an id that has a meaning has no spelling of its own, whatever else is wrong with it.
 #[test]
 fn shapes(rt: HostRuntime) -> Result<(), Fail> {
-    for (low, high, shaped) in [
-        (0, 9, false),
-        (10, 12, true),
-        (13, 17, false),
-        (18, 19, true),
-        (20, 20, false),
-        (21, 22, true),
-    ] {
+    for &(low, high, shaped) in SHAPES {
         let wanted = if shaped {
             Fault::Reason(Reason::TooLong)
         } else {
@@ -330,14 +336,17 @@ fn shapes(rt: HostRuntime) -> Result<(), Fail> {
     Ok(())
 }
 
+/// An id, the fields, and the message.
+const FRAMED: &[(u8, &[u8], &[u8])] = &[
+    (1, b"", b"\0\0\0\x01\x01"),
+    (4, b"\0\0\0\x09", b"\0\0\0\x05\x04\0\0\0\x09"),
+    (20, b"\0", b"\0\0\0\x02\x14\0"),
+    (99, b"abc", b"\0\0\0\x04cabc"),
+];
+
 #[test]
 fn messages_are_framed(rt: HostRuntime) -> Result<(), Fail> {
-    for (id, fields, bytes) in [
-        (1, b"".as_slice(), b"\0\0\0\x01\x01".as_slice()),
-        (4, b"\0\0\0\x09", b"\0\0\0\x05\x04\0\0\0\x09"),
-        (20, b"\0", b"\0\0\0\x02\x14\0"),
-        (99, b"abc", b"\0\0\0\x04cabc"),
-    ] {
+    for &(id, fields, bytes) in FRAMED {
         assert!(rt; frame(rt.alloc(), id, fields)?.as_slice() == bytes);
     }
     Ok(())
