@@ -21,107 +21,128 @@ fn says(alloc: Global, first: bool, text: &str, bytes: &str) -> Result<bool, All
     Ok(said(alloc, first, text)?.as_str() == bytes)
 }
 
+/// Lines, and the bytes that they say.
+const LINES: &[(&str, &str)] = &[
+    ("keep-alive", "00000000"),
+    ("choke", "0000000100"),
+    ("unchoke", "0000000101"),
+    ("interested", "0000000102"),
+    ("not-interested", "0000000103"),
+    ("have 0", "000000050400000000"),
+    ("have 9", "000000050400000009"),
+    ("have 4294967295", "0000000504ffffffff"),
+    ("bitfield ffc0", "0000000305ffc0"),
+    ("bitfield FFc0", "0000000305ffc0"),
+    ("bitfield -", "0000000105"),
+    (
+        "request 1 16384 16384",
+        "0000000d06000000010000400000004000",
+    ),
+    ("piece 1 16384 -", "00000009070000000100004000"),
+    ("piece 1 0 616263", "0000000c070000000100000000616263"),
+    ("cancel 0 0 1", "0000000d08000000000000000000000001"),
+    ("port 6881", "00000003091ae1"),
+    ("port 65535", "0000000309ffff"),
+    ("suggest 7", "000000050d00000007"),
+    ("have-all", "000000010e"),
+    ("have-none", "000000010f"),
+    ("reject 1 2 3", "0000000d10000000010000000200000003"),
+    ("allowed-fast 7", "000000051100000007"),
+    ("extended 0 -", "000000021400"),
+    ("extended 255 0A", "0000000314ff0a"),
+    (
+        "extended 3 64383a6d73675f74797065693065353a706965636569306565",
+        "0000001b140364383a6d73675f74797065693065353a706965636569306565",
+    ),
+    ("unknown 10 -", "000000010a"),
+    ("unknown 99 0a0b", "00000003630a0b"),
+    ("unknown 255 -", "00000001ff"),
+];
+
 #[test]
 fn message_lines_are_read(rt: HostRuntime) -> Result<(), Fail> {
-    for (text, bytes) in [
-        ("keep-alive", "00000000"),
-        ("choke", "0000000100"),
-        ("unchoke", "0000000101"),
-        ("interested", "0000000102"),
-        ("not-interested", "0000000103"),
-        ("have 0", "000000050400000000"),
-        ("have 9", "000000050400000009"),
-        ("have 4294967295", "0000000504ffffffff"),
-        ("bitfield ffc0", "0000000305ffc0"),
-        ("bitfield FFc0", "0000000305ffc0"),
-        ("bitfield -", "0000000105"),
-        (
-            "request 1 16384 16384",
-            "0000000d06000000010000400000004000",
-        ),
-        ("piece 1 16384 -", "00000009070000000100004000"),
-        ("piece 1 0 616263", "0000000c070000000100000000616263"),
-        ("cancel 0 0 1", "0000000d08000000000000000000000001"),
-        ("port 6881", "00000003091ae1"),
-        ("port 65535", "0000000309ffff"),
-        ("suggest 7", "000000050d00000007"),
-        ("have-all", "000000010e"),
-        ("have-none", "000000010f"),
-        ("reject 1 2 3", "0000000d10000000010000000200000003"),
-        ("allowed-fast 7", "000000051100000007"),
-        ("extended 0 -", "000000021400"),
-        ("extended 255 0A", "0000000314ff0a"),
-        (
-            "extended 3 64383a6d73675f74797065693065353a706965636569306565",
-            "0000001b140364383a6d73675f74797065693065353a706965636569306565",
-        ),
-        ("unknown 10 -", "000000010a"),
-        ("unknown 99 0a0b", "00000003630a0b"),
-        ("unknown 255 -", "00000001ff"),
-    ] {
+    for &(text, bytes) in LINES {
         assert!(rt; says(rt.alloc(), false, text, bytes)?, "{text}");
     }
     Ok(())
 }
 
+/// Texts that are no lines.
+const NO_LINES: &[&str] = &[
+    "",
+    " ",
+    "-",
+    "have",
+    "have ",
+    "have 09",
+    "have 00",
+    "have  9",
+    "have 9 ",
+    " have 9",
+    "have 9\r",
+    "have 9\n",
+    "have\t9",
+    "have -1",
+    "have +1",
+    "have a",
+    "have 4294967296",
+    "have 10000000000",
+    "have 18446744073709551625",
+    "have 9 9",
+    "HAVE 9",
+    "bitfield",
+    "bitfield ",
+    "bitfield f",
+    "bitfield ffg0",
+    "bitfield ff ff",
+    "bitfield --",
+    "bitfield -ff",
+    "request 1 2",
+    "request 1 2 3 4",
+    "piece 1 2",
+    "piece 1 2 3",
+    "port 65536",
+    "port 080",
+    "extended 256 -",
+    "extended 03 -",
+    "extended 3",
+    "extended -",
+    "unknown 9 -",
+    "unknown 20 -",
+    "unknown 256 -",
+    "unknown 099 -",
+    "unknown 99",
+    "unknown 99 9",
+    "choke ",
+    "choke -",
+    "keep-alive ",
+    "keepalive",
+    "ok",
+];
+
 #[test]
 fn other_texts_are_no_lines(rt: HostRuntime) -> Result<(), Fail> {
-    for text in [
-        "",
-        " ",
-        "-",
-        "have",
-        "have ",
-        "have 09",
-        "have 00",
-        "have  9",
-        "have 9 ",
-        " have 9",
-        "have 9\r",
-        "have 9\n",
-        "have\t9",
-        "have -1",
-        "have +1",
-        "have a",
-        "have 4294967296",
-        "have 10000000000",
-        "have 18446744073709551625",
-        "have 9 9",
-        "HAVE 9",
-        "bitfield",
-        "bitfield ",
-        "bitfield f",
-        "bitfield ffg0",
-        "bitfield ff ff",
-        "bitfield --",
-        "bitfield -ff",
-        "request 1 2",
-        "request 1 2 3 4",
-        "piece 1 2",
-        "piece 1 2 3",
-        "port 65536",
-        "port 080",
-        "extended 256 -",
-        "extended 03 -",
-        "extended 3",
-        "extended -",
-        "unknown 9 -",
-        "unknown 20 -",
-        "unknown 256 -",
-        "unknown 099 -",
-        "unknown 99",
-        "unknown 99 9",
-        "choke ",
-        "choke -",
-        "keep-alive ",
-        "keepalive",
-        "ok",
-        SCRIPT_LINE.trim_end(),
-    ] {
+    for text in NO_LINES {
         assert!(rt; says(rt.alloc(), false, text, "-")?, "{text}");
     }
+    assert!(rt; says(rt.alloc(), false, SCRIPT_LINE.trim_end(), "-")?);
     Ok(())
 }
+
+/// Texts that are no first lines.
+const NO_FIRST_LINES: &[&str] = &[
+    "",
+    "choke",
+    "keep-alive",
+    "handshake",
+    "handshake 0000000000100005",
+    "handshake 0000000000100005 a9993e364706816aba3e25717850c26c9cd0d89d 2d5858303030312d303030303030303030303030 ",
+    "handshake  0000000000100005 a9993e364706816aba3e25717850c26c9cd0d89d 2d5858303030312d303030303030303030303030",
+    "handshake 000000000010005 a9993e364706816aba3e25717850c26c9cd0d89d 2d5858303030312d303030303030303030303030",
+    "handshake 0000000000100005 a9993e364706816aba3e25717850c26c9cd0d89g 2d5858303030312d303030303030303030303030",
+    "handshake 0000000000100005 a9993e364706816aba3e25717850c26c9cd0d89d -",
+    "Handshake 0000000000100005 a9993e364706816aba3e25717850c26c9cd0d89d 2d5858303030312d303030303030303030303030",
+];
 
 #[test]
 fn first_lines_are_read(rt: HostRuntime) -> Result<(), Fail> {
@@ -134,19 +155,7 @@ fn first_lines_are_read(rt: HostRuntime) -> Result<(), Fail> {
     ] {
         assert!(rt; says(alloc, true, text, hand)?, "{text}");
     }
-    for text in [
-        "",
-        "choke",
-        "keep-alive",
-        "handshake",
-        "handshake 0000000000100005",
-        "handshake 0000000000100005 a9993e364706816aba3e25717850c26c9cd0d89d 2d5858303030312d303030303030303030303030 ",
-        "handshake  0000000000100005 a9993e364706816aba3e25717850c26c9cd0d89d 2d5858303030312d303030303030303030303030",
-        "handshake 000000000010005 a9993e364706816aba3e25717850c26c9cd0d89d 2d5858303030312d303030303030303030303030",
-        "handshake 0000000000100005 a9993e364706816aba3e25717850c26c9cd0d89g 2d5858303030312d303030303030303030303030",
-        "handshake 0000000000100005 a9993e364706816aba3e25717850c26c9cd0d89d -",
-        "Handshake 0000000000100005 a9993e364706816aba3e25717850c26c9cd0d89d 2d5858303030312d303030303030303030303030",
-    ] {
+    for text in NO_FIRST_LINES {
         assert!(rt; says(alloc, true, text, "-")?, "{text}");
     }
     Ok(())
@@ -176,49 +185,52 @@ fn is_written(alloc: Global, bytes: &[u8], line: &str) -> Result<bool, AllocErro
     )
 }
 
+/// Messages, and their lines.
+const WRITTEN: &[(&[u8], &str)] = &[
+    (b"\0\0\0\0", "keep-alive"),
+    (b"\0\0\0\x01\0", "choke"),
+    (b"\0\0\0\x01\x01", "unchoke"),
+    (b"\0\0\0\x01\x02", "interested"),
+    (b"\0\0\0\x01\x03", "not-interested"),
+    (b"\0\0\0\x05\x04\xff\xff\xff\xff", "have 4294967295"),
+    (b"\0\0\0\x03\x05\xff\xc0", "bitfield ffc0"),
+    (b"\0\0\0\x01\x05", "bitfield -"),
+    (
+        b"\0\0\0\x0d\x06\0\0\0\x01\0\0\x40\0\0\0\x40\0",
+        "request 1 16384 16384",
+    ),
+    (b"\0\0\0\x09\x07\0\0\0\x01\0\0\x40\0", "piece 1 16384 -"),
+    (b"\0\0\0\x0c\x07\0\0\0\x01\0\0\0\0abc", "piece 1 0 616263"),
+    (
+        b"\0\0\0\x0d\x08\0\0\0\x01\0\0\0\x02\0\0\0\x03",
+        "cancel 1 2 3",
+    ),
+    (b"\0\0\0\x03\x09\x1a\xe1", "port 6881"),
+    (b"\0\0\0\x05\x0d\0\0\0\x07", "suggest 7"),
+    (b"\0\0\0\x01\x0e", "have-all"),
+    (b"\0\0\0\x01\x0f", "have-none"),
+    (
+        b"\0\0\0\x0d\x10\0\0\0\x01\0\0\0\x02\0\0\0\x03",
+        "reject 1 2 3",
+    ),
+    (b"\0\0\0\x05\x11\0\0\0\x07", "allowed-fast 7"),
+    (
+        b"\0\0\0\x0b\x14\0d1:mdeeab",
+        "extended 0 64313a6d6465656162",
+    ),
+    (
+        b"\0\0\0\x1b\x14\x03d8:msg_typei0e5:piecei0ee",
+        "extended 3 64383a6d73675f74797065693065353a706965636569306565",
+    ),
+    (b"\0\0\0\x02\x14\x04", "extended 4 -"),
+    (b"\0\0\0\x03\x14\x04\xff", "extended 4 ff"),
+    (b"\0\0\0\x01\x63", "unknown 99 -"),
+    (b"\0\0\0\x03\x63\x0a\xfb", "unknown 99 0afb"),
+];
+
 #[test]
 fn message_lines_are_written(rt: HostRuntime) -> Result<(), Fail> {
-    for (bytes, line) in [
-        (b"\0\0\0\0".as_slice(), "keep-alive"),
-        (b"\0\0\0\x01\0", "choke"),
-        (b"\0\0\0\x01\x01", "unchoke"),
-        (b"\0\0\0\x01\x02", "interested"),
-        (b"\0\0\0\x01\x03", "not-interested"),
-        (b"\0\0\0\x05\x04\xff\xff\xff\xff", "have 4294967295"),
-        (b"\0\0\0\x03\x05\xff\xc0", "bitfield ffc0"),
-        (b"\0\0\0\x01\x05", "bitfield -"),
-        (
-            b"\0\0\0\x0d\x06\0\0\0\x01\0\0\x40\0\0\0\x40\0",
-            "request 1 16384 16384",
-        ),
-        (b"\0\0\0\x09\x07\0\0\0\x01\0\0\x40\0", "piece 1 16384 -"),
-        (b"\0\0\0\x0c\x07\0\0\0\x01\0\0\0\0abc", "piece 1 0 616263"),
-        (
-            b"\0\0\0\x0d\x08\0\0\0\x01\0\0\0\x02\0\0\0\x03",
-            "cancel 1 2 3",
-        ),
-        (b"\0\0\0\x03\x09\x1a\xe1", "port 6881"),
-        (b"\0\0\0\x05\x0d\0\0\0\x07", "suggest 7"),
-        (b"\0\0\0\x01\x0e", "have-all"),
-        (b"\0\0\0\x01\x0f", "have-none"),
-        (
-            b"\0\0\0\x0d\x10\0\0\0\x01\0\0\0\x02\0\0\0\x03",
-            "reject 1 2 3",
-        ),
-        (b"\0\0\0\x05\x11\0\0\0\x07", "allowed-fast 7"),
-        (
-            b"\0\0\0\x0b\x14\0d1:mdeeab",
-            "extended 0 64313a6d6465656162",
-        ),
-        (
-            b"\0\0\0\x1b\x14\x03d8:msg_typei0e5:piecei0ee",
-            "extended 3 64383a6d73675f74797065693065353a706965636569306565",
-        ),
-        (b"\0\0\0\x02\x14\x04", "extended 4 -"),
-        (b"\0\0\0\x03\x14\x04\xff", "extended 4 ff"),
-        (b"\0\0\0\x01\x63", "unknown 99 -"),
-        (b"\0\0\0\x03\x63\x0a\xfb", "unknown 99 0afb"),
-    ] {
+    for &(bytes, line) in WRITTEN {
         assert!(rt; is_written(rt.alloc(), bytes, line)?, "{line}");
     }
     Ok(())

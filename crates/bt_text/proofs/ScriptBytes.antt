@@ -15,7 +15,7 @@ use Rattle.bt_wire.specs.Numbers.{be32}
 use Rattle.bt_text.specs.Script.{framed_by, row_named}
 use Rattle.bt_wire.specs.declared.ids.Shape.{Shape}
 use Rattle.bt_wire.specs.Ids.{Id, ids}
-use Rattle.bt_text.specs.ScriptReading.{word_of, after_word, ends, fields_in, row_in_text, number_and_shape, IsRowName, IsBehindName, message_in, Adds}
+use Rattle.bt_text.specs.ScriptReading.{word_of, after_word, ends, fields_in, row_in_text, number_and_shape, IsRowName, IsAfterName, message_in, Adds}
 use Rattle.bt_text.proofs.ScriptWords.{has_no_space, stops_by, word_of-append, after_word-append}
 
 framed-append : (id size : ℕ) (numbers bytes : List ℕ) → size ≡ 1 + length numbers + length bytes → (be32 size ++ (id ∷ numbers)) ++ bytes
@@ -67,7 +67,7 @@ spaceless (c ∷ cs) h =
     ]
 
 pub behind_name : (text name rest : List ℕ) (n : ℕ) (shape : Shape) → IsRowName name n shape → bytes_eq (take (length name) text) name ≡ true
-    → rest ≡ drop (length name) text → ends rest ≡ true → IsBehindName text n shape rest
+    → rest ≡ drop (length name) text → ends rest ≡ true → IsAfterName text n shape rest
 behind_name text name rest n shape row begins cut ended =
     let front : take (length name) text ≡ name = (bytes_eq-Decides (take (length name) text) name).0 begins in
     let parts : text ≡ name ++ rest =

@@ -126,7 +126,7 @@ pub record IsRowName (name : List ℕ) (n : ℕ) (shape : Shape) : Type 0 where
   pub other : bytes_eq name (codes "unknown") ≡ false
 
 -- the first word of the text is such a name, and this follows it
-pub record IsBehindName (text : List ℕ) (n : ℕ) (shape : Shape) (rest : List ℕ) : Type 0 where
+pub record IsAfterName (text : List ℕ) (n : ℕ) (shape : Shape) (rest : List ℕ) : Type 0 where
   pub row : option_map number_and_shape (row_named (word_of text) ids) ≡ Some (n, shape)
   pub other : bytes_eq (word_of text) (codes "unknown") ≡ false
   pub following : rest ≡ after_word text

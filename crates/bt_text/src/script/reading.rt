@@ -16,7 +16,7 @@ ghost use Rattle.bt_text.specs.ScriptReading.{
   first_number,
   IsLed,
   IsRowName,
-  IsBehindName,
+  IsAfterName,
   HasNoRow,
   bytes_in_word,
   number_following as number_read,
@@ -408,7 +408,7 @@ type Named<'a> = (u8, Shape, &'a [u8]);
 #[inline(always)]
 fn after_name<'a>(text: &'a [u8], name: &[u8], id: u8, shape: Shape) -> Option<Named<'a>>
     requires { IsRowName name.now id shape }
-    ensures named { IfSome result (λ p. IsBehindName text.now p.0 p.1 p.2.now) }
+    ensures named { IfSome result (λ p. IsAfterName text.now p.0 p.1 p.2.now) }
     ensures short { IfSome result (λ p. length p.2.now ≤ length text.now) }
 {
     let rest = text.strip_prefix(name)?;
@@ -421,7 +421,7 @@ fn after_name<'a>(text: &'a [u8], name: &[u8], id: u8, shape: Shape) -> Option<N
 /// Returns the row that the text's first word names. The first letter tells which names are tried.
 #[inline(always)]
 fn first_row(text: &[u8]) -> Option<Named<'_>>
-    ensures named { IfSome result (λ p. IsBehindName text.now p.0 p.1 p.2.now) }
+    ensures named { IfSome result (λ p. IsAfterName text.now p.0 p.1 p.2.now) }
     ensures short { IfSome result (λ p. length p.2.now ≤ length text.now) }
 {
     let (first, _) = text.split_first()?;
@@ -459,7 +459,7 @@ fn first_row(text: &[u8]) -> Option<Named<'_>>
 /// Returns the row that the text's first word names, by the whole word.
 #[inline(never)]
 fn row_by_word(text: &[u8]) -> Option<Named<'_>>
-    ensures named { MatchOption result (HasNoRow text.now) (λ p. IsBehindName text.now p.0 p.1 p.2.now) }
+    ensures named { MatchOption result (HasNoRow text.now) (λ p. IsAfterName text.now p.0 p.1 p.2.now) }
     ensures short { IfSome result (λ p. length p.2.now ≤ length text.now) }
 {
     let (name, rest) = split_word(text);
@@ -475,7 +475,7 @@ fn row_by_word(text: &[u8]) -> Option<Named<'_>>
 /// Returns the row that the text's first word names.
 #[inline(always)]
 fn find_row(text: &[u8]) -> Option<Named<'_>>
-    ensures named { MatchOption result (HasNoRow text.now) (λ p. IsBehindName text.now p.0 p.1 p.2.now) }
+    ensures named { MatchOption result (HasNoRow text.now) (λ p. IsAfterName text.now p.0 p.1 p.2.now) }
     ensures short { IfSome result (λ p. length p.2.now ≤ length text.now) }
 {
     match first_row(text) {
