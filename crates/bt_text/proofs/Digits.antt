@@ -1,5 +1,6 @@
 -- Digits that are put into a text, two and four at a time.
-use Rattle.std.proofs.Common.{◌≡◌, ℕ, zero, suc, ◌+◌, ◌-◌, ◌*◌, ◌/◌, ◌%◌, ◌<◌, ◌≤◌, Bool, true, ◌&&◌, T, eqb, List, [], ◌∷◌, ◌++◌, length, take, drop, set, get_or, sym, ap, ◌∙◌, inl, inr, arith, eq-zero-or-pos, eqb→eq, append_assoc, length-set}
+use Rattle.std.proofs.Common.{◌≡◌, ℕ, zero, suc, ◌+◌, ◌-◌, ◌*◌, ◌/◌, ◌%◌, ◌<◌, ◌≤◌, Bool, true, ◌&&◌, T, eqb, List, [], ◌∷◌, ◌++◌, length}
+use Rattle.std.proofs.Common.{take, drop, set, get_or, sym, ap, ◌∙◌, inl, inr, arith, eq-zero-or-pos, eqb→eq, append_assoc, length-set}
 use Rattle.std.proofs.lemmas.List.{take_more_set, take_at, take-append-drop, length-append, length-take-le}
 use borrow.Rule.Slice.PartMut.{put_mid, post_of}
 use lib.Ieee.Fits.{and_l, and_r}
@@ -34,4 +35,6 @@ take_front a k m xs ys inside short =
     ap (λ (l : List ℕ). take a xs ++ (l ++ post_of a k xs)) (sym (take-append-drop m ys))
     ∙ ap (λ (l : List ℕ). take a xs ++ l) (append_assoc (take m ys) (drop m ys) (post_of a k xs))
     ∙ sym (append_assoc (take a xs) (take m ys) (drop m ys ++ post_of a k xs)) in
-    ap (take (a + m)) whole ∙ take_at p (drop m ys ++ post_of a k xs) (a + m) (omega (arith, length-append (take a xs) (take m ys), length-take-le a xs inside, length-take-le m ys short))
+    let long : length p ≡ a + m =
+    omega (arith, length-append (take a xs) (take m ys), length-take-le a xs inside, length-take-le m ys short) in
+    ap (take (a + m)) whole ∙ take_at p (drop m ys ++ post_of a k xs) (a + m) long

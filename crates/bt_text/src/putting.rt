@@ -44,7 +44,8 @@ fn put_four(four: u64, text: &mut [u8], at: usize) -> usize
     requires { (four < 10000) × (at + 4 ≤ length text.old) }
     ensures room { result ≡ at + 4 }
     ensures size { length text.new ≡ length text.old }
-    ensures text { take result text.new ≡ take at text.old ++ (((48 + four / 100 / 10) ∷ (48 + four / 100 % 10) ∷ []) ++ ((48 + four % 100 / 10) ∷ (48 + four % 100 % 10) ∷ [])) }
+    ensures text { take result text.new ≡ take at text.old
+        ++ (((48 + four / 100 / 10) ∷ (48 + four / 100 % 10) ∷ []) ++ ((48 + four % 100 / 10) ∷ (48 + four % 100 % 10) ∷ [])) }
 {
     let at = put_pair(four / 100, text, at);
     put_pair(four % 100, text, at)
@@ -94,7 +95,7 @@ fn put_long(n: u64, text: &mut [u8], at: usize) -> usize
 }
 
 /// Puts a number.
-#[inline(always)]
+#[inline(never)]
 pub fn put_number(n: u64, text: &mut [u8], at: usize) -> usize
     requires { at + 20 ≤ length text.old }
     ensures room { (at ≤ result) × (result ≤ at + 20) }
@@ -177,7 +178,7 @@ impl Offset {
     }
 
     /// Puts an offset.
-    #[inline(always)]
+    #[inline(never)]
     pub fn put(&mut self, at: u64, text: &mut [u8], place: usize) -> usize
         requires { place + 24 ≤ length text.old }
         ensures room { (place ≤ result) × (result ≤ place + 24) }
