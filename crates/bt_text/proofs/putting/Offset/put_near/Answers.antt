@@ -12,4 +12,12 @@ returns-clause-text c =
     let short : o.count ≤ length c.copy_from_slice.new.self = search (rules, places) in
     let high : n / 10000 ≡ o.base / 10000 = omega arith in
     let low : n % 10000 ≡ c.args.low = omega arith in
-    rw (c.put_four.ensures.text, take_front c.args.place _ o.count c.args.text.now c.copy_from_slice.new.self (omega arith) short, c.copy_from_slice.ensures.after, o.written, decimal_four n (omega arith) (omega arith), high, low, append_assoc)
+    rw (
+      c.put_four.ensures.text,
+      take_front c.args.place _ o.count c.args.text.now c.copy_from_slice.new.self (omega arith) short,
+      c.copy_from_slice.ensures.after,
+      o.written,
+      decimal_four n (omega arith) (omega arith),
+      high,
+      low,
+      append_assoc)
