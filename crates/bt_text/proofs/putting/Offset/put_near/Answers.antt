@@ -20,4 +20,5 @@ returns-clause-text c =
       decimal_four n (omega arith) (omega arith),
       high,
       low,
-      append_assoc)
+      append_assoc,
+    )

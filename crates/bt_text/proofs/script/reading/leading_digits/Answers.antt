@@ -1,4 +1,4 @@
-use Rattle.std.proofs.Common.{◌≡◌, ◌∙◌, get_or, sym, arith, below_more}
+use Rattle.std.proofs.Common.{◌∙◌, get_or, sym, arith, below_more}
 use Rattle.bt_text.proofs.ScriptWords.{value_short, is_digit, number_step}
 use Rattle.bt_text.proofs.script.reading.leading_digits.Goals as goal
 

@@ -1,4 +1,4 @@
-use Rattle.bt_text.proofs.ScriptBytes.{digits_added, digits_refused}
+use Rattle.bt_text.proofs.ScriptBytes.{digits_added}
 use Rattle.bt_text.proofs.script.reading.put_digits.Goals as goal
 
 pub returns-then-branch : goal.returns-then-branch

@@ -1,4 +1,4 @@
-use Rattle.std.proofs.Common.{◌≡◌, ◌∙◌, ◌+◌, ◌-◌, ℕ, length, drop, ap, rules, arith}
+use Rattle.std.proofs.Common.{◌≡◌, ◌∙◌, ◌+◌, ◌-◌, ℕ, length, ap, rules, arith}
 use Rattle.bt_text.specs.Lines.{spaced}
 use Rattle.bt_text.proofs.ScriptText.{word_cut}
 use Rattle.bt_text.proofs.script.writing.push_number.Goals as goal
