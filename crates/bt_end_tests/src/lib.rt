@@ -4,6 +4,10 @@
 #![tactic(auto)]
 
 #[cfg(test)]
+mod link;
+#[cfg(test)]
+mod setting;
+#[cfg(test)]
 mod tests_ends;
 #[cfg(test)]
 mod tests_memory;

@@ -1,6 +1,6 @@
 //! A fetch of metadata over a second connection, whole and in single bytes.
 use crate::setting::*;
-use bt_session::{Connection, End, LinkReport, Step, run_link};
+use bt_session::{Connection, End, LinkReport, Step};
 use std::alloc::Global;
 use std::test::Fail;
 
@@ -20,7 +20,7 @@ const RIGHT_SENT: [u8; 129] = *b"\x13BitTorrent protocol\0\0\0\0\0\x10\0\x05\
 pub(crate) fn fetched(alloc: Global, portion: u64) -> Result<(Vec<Step>, LinkReport), Fail> {
     let steps = steps(alloc, FETCH.as_slice(), portion)?;
     let left = serving(b"abc".to_vec(alloc)?);
-    let report = run_link(alloc, left, fetching(), steps.as_slice())?;
+    let report = linked(alloc, left, fetching(), steps.as_slice())?;
     Ok((steps, report))
 }
 
@@ -31,7 +31,7 @@ fn is_sent(alloc: Global, connection: &Connection) -> Result<bool, Fail> {
     Ok(left.as_slice() == LEFT_SENT.as_slice() && right.as_slice() == RIGHT_SENT.as_slice())
 }
 
-fn metadata(end: &End) -> Option<&[u8]> {
+pub(crate) fn metadata(end: &End) -> Option<&[u8]> {
     end.metadata()
 }
 

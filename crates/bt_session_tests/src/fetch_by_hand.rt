@@ -1,9 +1,34 @@
 //! The fetch, driven by hand over two ends: the report says the same.
-use crate::fetch::fetched;
+use crate::fetch::{fetched, metadata};
 use crate::setting::*;
-use bt_session::{Config, Connection, End, LinkReport, Side, Turn};
-use std::alloc::Global;
+use bt_session::{Config, Connection, End, EndError, LinkReport, Side, Turn};
+use std::alloc::{AllocError, Global};
 use std::test::Fail;
+
+fn receive(end: &mut End, bytes: &[u8]) -> usize {
+    end.receive(bytes)
+}
+
+fn is_handled(end: &mut End) -> bool {
+    end.turn() == Ok(Turn::Handled)
+}
+
+/// Takes up to n bytes of those that the end is to send.
+fn sent(alloc: Global, end: &mut End, n: u64) -> Result<Vec<u8>, AllocError> {
+    let bytes = end.outgoing();
+    let count = bytes.len().min(n as usize);
+    let taken = bytes[..count].to_vec(alloc)?;
+    end.sent(count);
+    Ok(taken)
+}
+
+fn outgoing(end: &End) -> &[u8] {
+    end.outgoing()
+}
+
+fn is_reset(end: &mut End) -> bool {
+    end.reset().is_ok()
+}
 
 /// An end, and what went to and from it on the present connection.
 #[derive(Drop)]
@@ -18,7 +43,7 @@ struct Party {
 }
 
 impl Party {
-    fn new(alloc: Global, config: Config) -> Result<Party, Fail> {
+    fn new(alloc: Global, config: Config) -> Result<Party, EndError> {
         Ok(Party {
             end: End::new(alloc, config)?,
             brought: Vec::new(alloc),
@@ -31,12 +56,12 @@ impl Party {
     /// Takes of the bytes as many as belong to its present item.
     fn receive(&mut self) {
         if let Some(bytes) = self.brought.as_slice().get(self.taken..) {
-            self.taken = self.taken.saturating_add(self.end.receive(bytes));
+            self.taken = self.taken.saturating_add(receive(&mut self.end, bytes));
         }
     }
 
     fn turn(&mut self) -> bool {
-        let is_handled = self.end.turn() == Ok(Turn::Handled);
+        let is_handled = is_handled(&mut self.end);
         if is_handled {
             self.handled = self.handled.saturating_add(1);
         }
@@ -45,30 +70,27 @@ impl Party {
     }
 
     /// Brings up to n bytes that the other one sent, and says whether as many were there.
-    fn bring(&mut self, other: &mut Party, n: u64) -> Result<bool, Fail> {
-        let bytes = other.end.outgoing();
-        let count = bytes.len().min(n as usize);
-        self.brought.extend_from_slice(&bytes[..count])?;
-        other.sent.extend_from_slice(&bytes[..count])?;
-        other.end.sent(count);
+    fn bring(&mut self, alloc: Global, other: &mut Party, n: u64) -> Result<bool, AllocError> {
+        let bytes = sent(alloc, &mut other.end, n)?;
+        self.brought.extend_from_slice(bytes.as_slice())?;
+        other.sent.extend_from_slice(bytes.as_slice())?;
         self.receive();
-        Ok(count as u64 == n)
+        Ok(bytes.len() as u64 == n)
     }
 
-    fn reset(&mut self) -> Result<(), Fail> {
-        self.end.reset()?;
+    fn reset(&mut self) -> bool {
         self.brought.clear();
         self.taken = 0;
         self.sent.clear();
         self.handled = 0;
-        Ok(())
+        is_reset(&mut self.end)
     }
 
     /// Whether it sent these bytes, delivered or not, and handled this many items.
     fn did(&self, sent: &[u8], handled: u64) -> bool {
         let delivered = self.sent.as_slice();
         sent.get(..delivered.len()) == Some(delivered)
-            && sent.get(delivered.len()..) == Some(self.end.outgoing())
+            && sent.get(delivered.len()..) == Some(outgoing(&self.end))
             && self.handled == handled
     }
 }
@@ -92,23 +114,25 @@ fn is_same(
 }
 
 /// Whether a move did all that it was to do.
-fn goes(left: &mut Party, right: &mut Party, next: Move) -> Result<bool, Fail> {
+fn goes(
+    alloc: Global,
+    left: &mut Party,
+    right: &mut Party,
+    next: Move,
+) -> Result<bool, AllocError> {
     match next {
-        Move::Bring(Side::Left, n) => left.bring(right, n),
-        Move::Bring(Side::Right, n) => right.bring(left, n),
+        Move::Bring(Side::Left, n) => left.bring(alloc, right, n),
+        Move::Bring(Side::Right, n) => right.bring(alloc, left, n),
         Move::Turn(Side::Left) => Ok(left.turn()),
         Move::Turn(Side::Right) => Ok(right.turn()),
-        Move::Reset => {
-            left.reset()?;
-            right.reset()?;
-            Ok(true)
-        }
+        Move::Say(..) => Ok(false),
+        Move::Reset => Ok(left.reset() && right.reset()),
     }
 }
 
 /// Whether an end is as another one, as far as a caller sees.
 fn is_alike(one: &End, other: &End) -> bool {
-    one.outgoing() == other.outgoing() && one.metadata() == other.metadata()
+    outgoing(one) == outgoing(other) && metadata(one) == metadata(other)
 }
 
 /// Drives the fetch, and says whether each connection is the report's.
@@ -120,7 +144,7 @@ fn drive(alloc: Global, report: &LinkReport) -> Result<bool, Fail> {
         if matches!(next, Move::Reset) && !is_same(alloc, &left, &right, connections.next())? {
             return Ok(false);
         }
-        if !goes(&mut left, &mut right, next)? {
+        if !goes(alloc, &mut left, &mut right, next)? {
             return Ok(false);
         }
     }

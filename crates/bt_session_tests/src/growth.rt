@@ -1,7 +1,7 @@
 //! The fetch where memory may be refused. The script `tests/growth.py` refuses each request for memory in turn.
 use crate::fetch::is_fetched;
 use crate::setting::*;
-use bt_session::{LinkError, LinkReport, run_link};
+use bt_session::{LinkError, LinkReport};
 use std::alloc::Global;
 use std::test::Fail;
 
@@ -13,7 +13,7 @@ fn run(alloc: Global) -> Result<LinkReport, LinkError> {
     let Ok(metadata) = b"abc".to_vec(alloc) else {
         return Err(LinkError::Memory);
     };
-    let report = run_link(alloc, serving(metadata), fetching(), steps.as_slice())?;
+    let report = linked(alloc, serving(metadata), fetching(), steps.as_slice())?;
     if all_done(steps.as_slice(), report.outcomes.as_slice()) {
         Ok(report)
     } else {

@@ -1,7 +1,7 @@
 //! Configs with which no link is run, and why. That there are too many steps can't be tested: no list is so long.
 use crate::setting::*;
 use bt_ext::Rules;
-use bt_session::{Announce, Config, EndError, LinkError, Role, run_link};
+use bt_session::{Announce, Config, EndError, LinkError, Role};
 use bt_wire::Own;
 use std::alloc::{AllocError, Global};
 use std::test::Fail;
@@ -40,93 +40,151 @@ fn role(alloc: Global, served: Served) -> Result<Role, AllocError> {
 
 /// Why these two aren't linked.
 fn refusal(alloc: Global, left: Config, right: Config) -> Option<LinkError> {
-    run_link(alloc, left, right, &[]).err()
+    linked(alloc, left, right, &[]).err()
 }
 
-fn watching(own: Own, peer_id: [u8; 20]) -> Config {
-    config(own, peer_id, Announce::Silent, Role::Watch)
+/// A receiver that wants metadata messages under the id 3, but for `Other`, and keeps to `Bep`, but for `Free`.
+#[derive(Clone, Copy)]
+enum Receiver {
+    Limited(u32),
+    /// It knows this piece count.
+    Counting(u32),
+    /// It wants metadata messages under the id 9.
+    Other,
+    Free,
+    /// Its info hash is that of no bytes.
+    HashedNone,
+    Unhashed,
+    /// Its limit is too low, and it has no info hash.
+    LowUnhashed,
 }
 
-/// A receiver with this limit.
-fn limited(limit: u32) -> Own {
-    own(3, Rules::Bep, None, limit)
-}
+const GOOD: Receiver = Receiver::Limited(262_144);
 
-fn good() -> Own {
-    limited(262_144)
-}
-
-/// A receiver that knows this piece count.
-fn counting(pieces: u32) -> Own {
-    own(3, Rules::Bep, Some(pieces), 262_144)
-}
-
-/// A receiver with this info hash.
-fn hashed(info_hash: Option<[u8; 20]>) -> Own {
+fn hashed(info_hash: Option<[u8; 20]>, limit: u32) -> Own {
     Own {
         info_hash,
-        ..limited(262_144)
+        ..own(3, Rules::Bep, None, limit)
     }
 }
+
+fn own_of(receiver: Receiver) -> Own {
+    match receiver {
+        Receiver::Limited(limit) => own(3, Rules::Bep, None, limit),
+        Receiver::Counting(pieces) => own(3, Rules::Bep, Some(pieces), 262_144),
+        Receiver::Other => own(9, Rules::Bep, None, 262_144),
+        Receiver::Free => own(3, Rules::Free, None, 262_144),
+        Receiver::HashedNone => hashed(Some(NONE), 262_144),
+        Receiver::Unhashed => hashed(None, 262_144),
+        Receiver::LowUnhashed => hashed(None, 32_767),
+    }
+}
+
+fn watching(receiver: Receiver, peer_id: [u8; 20]) -> Config {
+    config(own_of(receiver), peer_id, Announce::Silent, Role::Watch)
+}
+
+const PAIRS: [(Receiver, Receiver, Option<LinkError>); 14] = [
+    (GOOD, GOOD, None),
+    (GOOD, Receiver::Other, None),
+    (GOOD, Receiver::Counting(7), None),
+    (Receiver::Counting(7), GOOD, None),
+    (Receiver::Counting(7), Receiver::Counting(7), None),
+    (Receiver::Counting(7), Receiver::Counting(8), MISMATCH),
+    (Receiver::Counting(8), Receiver::Counting(7), MISMATCH),
+    (
+        Receiver::Limited(32_768),
+        Receiver::Limited(32_769),
+        MISMATCH,
+    ),
+    (
+        Receiver::Limited(32_769),
+        Receiver::Limited(32_768),
+        MISMATCH,
+    ),
+    (
+        Receiver::Limited(32_766),
+        Receiver::Limited(32_767),
+        MISMATCH,
+    ),
+    (GOOD, Receiver::Free, MISMATCH),
+    (GOOD, Receiver::HashedNone, MISMATCH),
+    (GOOD, Receiver::Unhashed, MISMATCH),
+    (Receiver::Unhashed, GOOD, MISMATCH),
+];
 
 #[test]
 fn configs_that_do_not_match(rt: HostRuntime) -> Result<(), Fail> {
-    for (left, right, wanted) in [
-        (good(), good(), None),
-        (good(), own(9, Rules::Bep, None, 262_144), None),
-        (good(), counting(7), None),
-        (counting(7), good(), None),
-        (counting(7), counting(7), None),
-        (counting(7), counting(8), MISMATCH),
-        (counting(8), counting(7), MISMATCH),
-        (limited(32_768), limited(32_769), MISMATCH),
-        (limited(32_769), limited(32_768), MISMATCH),
-        (limited(32_766), limited(32_767), MISMATCH),
-        (good(), own(3, Rules::Free, None, 262_144), MISMATCH),
-        (good(), hashed(Some(NONE)), MISMATCH),
-        (good(), hashed(None), MISMATCH),
-        (hashed(None), good(), MISMATCH),
-    ] {
-        assert_eq!(rt;
-            refusal(rt.alloc(), watching(left, LEFT), watching(right, RIGHT)),
-            wanted
-        );
+    for (left, right, wanted) in PAIRS {
+        let left = watching(left, LEFT);
+        let right = watching(right, RIGHT);
+        assert_eq!(rt; refusal(rt.alloc(), left, right), wanted);
     }
     Ok(())
+}
+
+/// Two ends of one receiver, and what each of them serves.
+const ENDS: [(Receiver, Served, Served, Option<LinkError>); 12] = [
+    (GOOD, Served::Abc, Served::Nothing, None),
+    (GOOD, Served::Nothing, Served::Abc, None),
+    (GOOD, Served::Abd, Served::Nothing, MISMATCH),
+    (GOOD, Served::Nothing, Served::Abd, MISMATCH),
+    (GOOD, Served::Empty, Served::Nothing, MISMATCH),
+    (
+        Receiver::LowUnhashed,
+        Served::Empty,
+        Served::Empty,
+        BAD_LIMIT,
+    ),
+    (
+        Receiver::Limited(1_048_577),
+        Served::Nothing,
+        Served::Nothing,
+        BAD_LIMIT,
+    ),
+    (
+        Receiver::Limited(1_048_576),
+        Served::Nothing,
+        Served::Nothing,
+        None,
+    ),
+    (
+        Receiver::Limited(32_768),
+        Served::Nothing,
+        Served::Nothing,
+        None,
+    ),
+    (Receiver::Unhashed, Served::Empty, Served::Abd, BAD_CONFIG),
+    (
+        Receiver::HashedNone,
+        Served::Empty,
+        Served::Nothing,
+        BAD_SIZE,
+    ),
+    (
+        Receiver::HashedNone,
+        Served::Nothing,
+        Served::Empty,
+        BAD_SIZE,
+    ),
+];
+
+fn end_of(
+    alloc: Global,
+    receiver: Receiver,
+    peer_id: [u8; 20],
+    served: Served,
+) -> Result<Config, AllocError> {
+    let role = role(alloc, served)?;
+    Ok(config(own_of(receiver), peer_id, Announce::Silent, role))
 }
 
 /// Each cause for which an end isn't made, on either side, before those that are judged after it.
 #[test]
 fn ends_that_are_not_made(rt: HostRuntime) -> Result<(), Fail> {
-    let good = limited(262_144);
-    let none = hashed(Some(NONE));
-    let unknown = hashed(None);
-    let low = Own {
-        limit: 32_767,
-        info_hash: None,
-        ..good
-    };
-    for (own, left, right, wanted) in [
-        (good, Served::Abc, Served::Nothing, None),
-        (good, Served::Nothing, Served::Abc, None),
-        (good, Served::Abd, Served::Nothing, MISMATCH),
-        (good, Served::Nothing, Served::Abd, MISMATCH),
-        (good, Served::Empty, Served::Nothing, MISMATCH),
-        (low, Served::Empty, Served::Empty, BAD_LIMIT),
-        (
-            limited(1_048_577),
-            Served::Nothing,
-            Served::Nothing,
-            BAD_LIMIT,
-        ),
-        (limited(1_048_576), Served::Nothing, Served::Nothing, None),
-        (limited(32_768), Served::Nothing, Served::Nothing, None),
-        (unknown, Served::Empty, Served::Abd, BAD_CONFIG),
-        (none, Served::Empty, Served::Nothing, BAD_SIZE),
-        (none, Served::Nothing, Served::Empty, BAD_SIZE),
-    ] {
-        let left = config(own, LEFT, Announce::Silent, role(rt.alloc(), left)?);
-        let right = config(own, RIGHT, Announce::Silent, role(rt.alloc(), right)?);
+    for (receiver, left, right, wanted) in ENDS {
+        let left = end_of(rt.alloc(), receiver, LEFT, left)?;
+        let right = end_of(rt.alloc(), receiver, RIGHT, right)?;
         assert_eq!(rt; refusal(rt.alloc(), left, right), wanted);
     }
     Ok(())

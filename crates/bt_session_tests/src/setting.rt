@@ -1,7 +1,11 @@
-//! The configs and the steps of the tests, and what their reports are compared by.
-use bt_ext::{ExtId, Registered, Rules};
-use bt_session::{Announce, Config, Connection, Outcome, Role, Side, Step, Window};
-use bt_wire::{Context, EncodeError, Item, Order, Own, Reserved, encode, spell_handshake};
+//! The configs and the moves of the tests, and what their reports are compared by. No function here has a clause, so that a
+//! test carries no contract of a link or of an end.
+use bt_ext::{Ext, ExtId, Registered, Rules};
+use bt_session::{
+    Announce, Config, Connection, LinkError, LinkReport, Outcome, Role, Side, Step, Window,
+    run_link,
+};
+use bt_wire::{Context, EncodeError, Item, Message, Order, Own, Reserved, encode, spell_handshake};
 use std::alloc::{AllocError, Global};
 
 /// The SHA-1 of `abc` (FIPS 180-4).
@@ -56,12 +60,23 @@ pub(crate) fn fetching() -> Config {
     )
 }
 
-/// A step of a fetch.
-#[derive(Clone, Copy, Debug)]
+/// A message that an end says.
+#[derive(Clone, Copy)]
+pub(crate) enum Saying {
+    Unchoke,
+    Have(u32),
+    HaveAll,
+    /// It takes back the piece of this index.
+    DontHave(u32),
+}
+
+/// A step of a test.
+#[derive(Clone, Copy)]
 pub(crate) enum Move {
     /// Brings n bytes to the end.
     Bring(Side, u64),
     Turn(Side),
+    Say(Side, Saying),
     Reset,
 }
 
@@ -102,35 +117,98 @@ fn push_portions(
     for _ in 0..n {
         let count = left.min(portion);
         if count > 0 {
-            steps.push(Step::Deliver(side, count))?;
+            push(steps, Step::Deliver(side, count))?;
         }
         left = left.saturating_sub(count);
     }
     Ok(())
 }
 
+fn message(saying: Saying) -> Message {
+    match saying {
+        Saying::Unchoke => Message::Unchoke,
+        Saying::Have(index) => Message::Have(index),
+        Saying::HaveAll => Message::HaveAll,
+        Saying::DontHave(index) => Message::Extended(Ext::DontHave(index)),
+    }
+}
+
+fn push(steps: &mut Vec<Step>, step: Step) -> Result<(), AllocError> {
+    steps.push(step)?;
+    Ok(())
+}
+
+/// Adds the steps of a move.
+fn push_move(steps: &mut Vec<Step>, next: Move, portion: u64) -> Result<(), AllocError> {
+    match next {
+        Move::Bring(side, n) => push_portions(steps, side, n, portion),
+        Move::Turn(side) => push(steps, Step::Turn(side)),
+        Move::Say(side, saying) => push(steps, Step::Say(side, message(saying))),
+        Move::Reset => push(steps, Step::Reset),
+    }
+}
+
 /// The steps of moves, whose bytes are delivered at most `portion` at once.
 pub(crate) fn steps(alloc: Global, moves: &[Move], portion: u64) -> Result<Vec<Step>, AllocError> {
     let mut steps = Vec::new(alloc);
     for next in moves {
-        match next {
-            Move::Bring(side, n) => push_portions(&mut steps, *side, *n, portion)?,
-            Move::Turn(side) => steps.push(Step::Turn(*side))?,
-            Move::Reset => steps.push(Step::Reset)?,
-        }
+        push_move(&mut steps, *next, portion)?;
     }
     Ok(steps)
+}
+
+/// Runs the two ends against each other.
+pub(crate) fn linked(
+    alloc: Global,
+    left: Config,
+    right: Config,
+    steps: &[Step],
+) -> Result<LinkReport, LinkError> {
+    run_link(alloc, left, right, steps)
+}
+
+/// The outcomes of moves, and how many items went over the first of so many connections.
+#[derive(Drop)]
+pub(crate) struct Run {
+    pub(crate) outcomes: Vec<Outcome>,
+    pub(crate) connections: usize,
+    pub(crate) counts: (usize, u64, usize, u64),
+}
+
+/// Runs the two ends by moves, whose bytes are delivered at once.
+pub(crate) fn told(
+    alloc: Global,
+    left: Config,
+    right: Config,
+    moves: &[Move],
+) -> Result<Run, LinkError> {
+    let Ok(steps) = steps(alloc, moves, 1_000) else {
+        return Err(LinkError::Memory);
+    };
+    let report = linked(alloc, left, right, steps.as_slice())?;
+    Ok(Run {
+        connections: report.connections.len(),
+        counts: counts(report.connections.as_slice().first()),
+        outcomes: report.outcomes,
+    })
+}
+
+fn is_done(step: &Step, outcome: &Outcome) -> bool {
+    match (step, outcome) {
+        (Step::Turn(_), Outcome::Handled) => true,
+        (Step::Deliver(_, n), Outcome::Delivered(k)) => n == k,
+        (Step::Reset, Outcome::Reset) => true,
+        _ => false,
+    }
 }
 
 /// Whether each step that isn't a saying did all that it was to do.
 pub(crate) fn all_done(steps: &[Step], outcomes: &[Outcome]) -> bool {
     steps.len() == outcomes.len()
-        && steps.iter().zip(outcomes).all(|(step, outcome)| match (step, outcome) {
-            (Step::Turn(_), Outcome::Handled) => true,
-            (Step::Deliver(_, n), Outcome::Delivered(k)) => n == k,
-            (Step::Reset, Outcome::Reset) => true,
-            _ => false,
-        })
+        && steps
+            .iter()
+            .zip(outcomes)
+            .all(|(step, outcome)| is_done(step, outcome))
 }
 
 /// How many items went over a connection: sent and handled by the left end, and by the right one.
@@ -141,8 +219,8 @@ pub(crate) fn counts(connection: Option<&Connection>) -> (usize, u64, usize, u64
     }
 }
 
-/// The bytes of an item, to a receiver that wants metadata messages under this id.
-fn spelled(alloc: Global, item: &Item, id: u8, bytes: &mut Vec<u8>) -> Result<(), EncodeError> {
+/// The bytes of a message, to a receiver that wants metadata messages under this id.
+fn framed(alloc: Global, message: &Message, id: u8) -> Result<Vec<u8>, EncodeError> {
     let context = Context {
         fast: true,
         ext: true,
@@ -151,23 +229,22 @@ fn spelled(alloc: Global, item: &Item, id: u8, bytes: &mut Vec<u8>) -> Result<()
         rules: Rules::Free,
         limit: 262_144,
     };
+    encode(alloc, &context, Order::Past, message)
+}
+
+/// The bytes of an item, to a receiver that wants metadata messages under this id.
+fn spelled(alloc: Global, item: &Item, id: u8) -> Result<Vec<u8>, EncodeError> {
     match item {
-        Item::Handshake(handshake) => {
-            bytes.extend_from_slice(&spell_handshake(handshake))?;
-        }
-        Item::Message(message) => {
-            let message = encode(alloc, &context, Order::Past, message)?;
-            bytes.extend_from_slice(message.as_slice())?;
-        }
+        Item::Handshake(handshake) => Ok(spell_handshake(handshake).to_vec(alloc)?),
+        Item::Message(message) => framed(alloc, message, id),
     }
-    Ok(())
 }
 
 /// The bytes of items.
 pub(crate) fn stream(alloc: Global, items: &[Item], id: u8) -> Result<Vec<u8>, EncodeError> {
     let mut bytes = Vec::new(alloc);
     for item in items {
-        spelled(alloc, item, id, &mut bytes)?;
+        bytes.extend_from_slice(spelled(alloc, item, id)?.as_slice())?;
     }
     Ok(bytes)
 }
