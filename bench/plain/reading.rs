@@ -84,9 +84,9 @@ fn line_feed(text: &[u8]) -> Option<usize> {
             .iter()
             .fold(false, |found, byte| found | (*byte == b'\n'))
     };
-    let behind = 64 * text.chunks_exact(64).take_while(lacks).count();
-    let place = text[behind..].iter().position(|byte| *byte == b'\n')?;
-    Some(behind + place)
+    let after = 64 * text.chunks_exact(64).take_while(lacks).count();
+    let place = text[after..].iter().position(|byte| *byte == b'\n')?;
+    Some(after + place)
 }
 
 /// Where the items of a stream go.
