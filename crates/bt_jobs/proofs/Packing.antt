@@ -265,18 +265,18 @@ pub first_flag : (own : Own) (lines : List (List ℕ)) (b : List ℕ) (f : FeedS
 first_flag own lines b f n h e = ap (λ (k : ℕ). eqb k 0) (e ∙ h.count) ∙ by_lines lines
 
 -- the bytes that a line was read as follow the others
-pub record IsNamedBehind (limit : ℕ) (flag : Bool) (text old new : List ℕ) : Type 0 where
+pub record IsNamedAfter (limit : ℕ) (flag : Bool) (text old new : List ℕ) : Type 0 where
   pub bytes : List ℕ
   pub named : IsNamed limit flag text bytes
-  pub behind : new ≡ old ++ bytes
+  pub joined : new ≡ old ++ bytes
 
 pub read_as : (limit : ℕ) (first flag : Bool) (text old new : List ℕ) (ok : Bool) → ok ≡ true → first ≡ flag → length text ≤ 2 * limit + 256
-    → IsAdded first text old new ok → IsNamedBehind limit flag text old new
+    → IsAdded first text old new ok → IsNamedAfter limit flag text old new
 read_as limit first flag text old new ok e same short h =
     let P : Bool → Type 0 = λ o. IsAdded first text old new o in
     let line = subst P e h in
     let Q : Bool → Type 0 = λ f. IsLine f text line.0 in
-    record { bytes = line.0; named = record { short = short; line = subst Q same line.1 }; behind = line.2 }
+    record { bytes = line.0; named = record { short = short; line = subst Q same line.1 }; joined = line.2 }
 
 pub not_read : (limit : ℕ) (first flag : Bool) (text old new : List ℕ) (ok : Bool) → ok ≡ false → first ≡ flag → IsAdded first text old new ok
     → ((x : List ℕ) → IsNamed limit flag text x → ⊥) × (new ≡ old)

@@ -5,7 +5,7 @@ use Rattle.bt_wire.specs.declared.fault.Reason.{Reason as WireReason}
 use Rattle.bt_text.specs.declared.ended.ScriptReason.TheVariants.{Reason}
 use Rattle.bt_jobs.specs.Packs.{is_none}
 use Rattle.bt_jobs.specs.PackSteps.{packing, IsPackedTo, IsJudged, IsLineEnd}
-use Rattle.bt_jobs.proofs.Packing.{IsLineJudged, IsNamedBehind, taken_so_far, first_flag, read_as, not_read, closes, line_taken, line_refused}
+use Rattle.bt_jobs.proofs.Packing.{IsLineJudged, IsNamedAfter, taken_so_far, first_flag, read_as, not_read, closes, line_taken, line_refused}
 use Rattle.bt_wire.specs.declared.context.Own.{Own}
 use Rattle.bt_jobs.proofs.pack.take_line.Goals.{After-take_item}
 use Rattle.bt_jobs.proofs.pack.take_line.Goals as goal
@@ -23,10 +23,10 @@ returns-then-not-branch c = λ own lines b e h.
     c.if-not-branch.true flag c.in_ok-append_line.ensures in
     (no.1, h.count, (so_far.0, so_far.1.taken, no.0))
 
--- the line's bytes stand behind those of the lines before it
-named_behind : (c : After-take_item) (own : Own) (lines : List (List ℕ)) (b : List ℕ) → c.args.limit ≡ own.limit → IsPackedTo own lines b c.args.judge.now
-    → IsNamedBehind own.limit (is_none lines) c.args.text.now c.args.out.now.items c.append_line.new.out.items
-named_behind c own lines b e h =
+-- the line's bytes stand after those of the lines before it
+named_after : (c : After-take_item) (own : Own) (lines : List (List ℕ)) (b : List ℕ) → c.args.limit ≡ own.limit → IsPackedTo own lines b c.args.judge.now
+    → IsNamedAfter own.limit (is_none lines) c.args.text.now c.args.out.now.items c.append_line.new.out.items
+named_after c own lines b e h =
     let flag = first_flag own lines b c.args.judge.now c.number-first.result h c.number-first.ensures.value in
     read_as own.limit _ (is_none lines) c.args.text.now c.args.out.now.items c.append_line.new.out.items c.in_ok-append_line.field-0
     c.if-not-branch.false flag (omega (arith, c.if-text-from.false, e)) c.in_ok-append_line.ensures
@@ -40,14 +40,14 @@ line_judged : (c : After-take_item) (own : Own) (lines : List (List ℕ)) (b : L
     → (j : IsLineJudged own (packing lines b c.args.out.now.items) c.args.text.now c.args.judge.now c.take_item.new.self r)
     × (c.append_line.new.out.items ≡ c.args.out.now.items ++ j.bytes)
 line_judged c own lines b e h r is =
-    let w = named_behind c own lines b e h in
+    let w = named_after c own lines b e h in
     let old = c.args.out.now.items in
     let start = c.len-start.result in
     let whole = c.as_slice-whole.result.now in
     let tail : take (length whole - start) (drop start whole) ≡ drop start whole =
     take_all (length whole - start) (drop start whole) (omega (arith, length-drop start whole)) in
-    let behind : drop start whole ≡ w.bytes =
-    ap (λ (l : List ℕ). drop start l) (c.as_slice-whole.ensures.value ∙ w.behind)
+    let joined : drop start whole ≡ w.bytes =
+    ap (λ (l : List ℕ). drop start l) (c.as_slice-whole.ensures.value ∙ w.joined)
     ∙ ap (λ (n : ℕ). drop n (old ++ w.bytes)) (start_is c) ∙ drop-append_seam old w.bytes in
     let P : List ℕ → Type 0 = λ l. IsJudged c.args.judge.now l c.take_item.new.self c.take_item.result in
     let Q : Result Bool WireReason → Type 0 = λ z. IsJudged c.args.judge.now w.bytes c.take_item.new.self z in (
@@ -55,9 +55,9 @@ line_judged c own lines b e h r is =
         bytes = w.bytes;
         named = w.named;
         packed = h;
-        judged = subst Q is (subst P (tail ∙ behind) c.take_item.ensures);
+        judged = subst Q is (subst P (tail ∙ joined) c.take_item.ensures);
       },
-      w.behind,
+      w.joined,
     )
 
 pub returns-in-Ok-true : goal.returns-in-Ok-true
