@@ -145,22 +145,58 @@ fn json_flag<'a>(alloc: Global) -> Arg<'a> {
         .action(ArgAction::SetTrue)
 }
 
+/// The options that describe a receiver, each with the name of its value.
+const RECEIVER: [(&str, &str); 8] = [
+    ("reserved", "HEX"),
+    ("pieces", "N"),
+    ("metadata-id", "N"),
+    ("donthave-id", "N"),
+    ("info-hash", "HEX"),
+    ("rules", "RULES"),
+    ("limit", "N"),
+    ("other", "FILE"),
+];
+
+/// The options of `fetch`, each with the name of its value.
+const FETCH: [(&str, &str); 5] = [
+    ("rules", "RULES"),
+    ("limit", "N"),
+    ("patience", "SECONDS"),
+    ("window", "N"),
+    ("most", "BYTES"),
+];
+
+/// The options of `serve`, each with the name of its value.
+const SERVE: [(&str, &str); 6] = [
+    ("listen", "ADDRESS"),
+    ("rules", "RULES"),
+    ("limit", "N"),
+    ("patience", "SECONDS"),
+    ("connections", "N"),
+    ("at-once", "N"),
+];
+
+/// The options of `loop`, which both ends have, each with the name of its value.
+const LOOP: [(&str, &str); 2] = [("rules", "RULES"), ("limit", "N")];
+
+/// Returns a command with these options.
+fn command_of<'a>(
+    alloc: Global,
+    name: &'a str,
+    options: &[(&'a str, &'a str)],
+) -> Result<Command<'a>, AllocError> {
+    let mut command = Command::new(alloc, name)
+        .override_usage(CALL)
+        .override_help(HELP);
+    for (name, value) in options {
+        command = command.arg(option(alloc, name, value))?;
+    }
+    Ok(command)
+}
+
 /// Returns a command with the options that describe a receiver.
 fn job_command<'a>(alloc: Global, name: &'a str) -> Result<Command<'a>, AllocError> {
-    Ok(
-        Command::new(alloc, name)
-            .override_usage(CALL)
-            .override_help(HELP)
-            .arg(option(alloc, "reserved", "HEX"))?
-            .arg(option(alloc, "pieces", "N"))?
-            .arg(option(alloc, "metadata-id", "N"))?
-            .arg(option(alloc, "donthave-id", "N"))?
-            .arg(option(alloc, "info-hash", "HEX"))?
-            .arg(option(alloc, "rules", "RULES"))?
-            .arg(option(alloc, "limit", "N"))?
-            .arg(option(alloc, "other", "FILE"))?
-            .arg(files_argument(alloc))?,
-    )
+    command_of(alloc, name, &RECEIVER)?.arg(files_argument(alloc))
 }
 
 /// Returns the argument that the files are.
@@ -172,80 +208,59 @@ fn files_argument<'a>(alloc: Global) -> Arg<'a> {
 
 /// Returns the command `link`, which has no options.
 fn link_command<'a>(alloc: Global) -> Result<Command<'a>, AllocError> {
-    Ok(
-        Command::new(alloc, "link")
-            .override_usage(CALL)
-            .override_help(HELP)
-            .arg(files_argument(alloc))?,
-    )
+    command_of(alloc, "link", &[])?.arg(files_argument(alloc))
 }
 
 /// Returns the command `fetch` with its options.
 fn fetch_command<'a>(alloc: Global) -> Result<Command<'a>, AllocError> {
-    Ok(
-        Command::new(alloc, "fetch")
-            .override_usage(CALL)
-            .override_help(HELP)
-            .arg(Arg::new(alloc, "INFOHASH").required(true))?
-            .arg(Arg::new(alloc, "ADDRESS").required(true).num_args(1..))?
-            .arg(option(alloc, "rules", "RULES"))?
-            .arg(option(alloc, "limit", "N"))?
-            .arg(option(alloc, "patience", "SECONDS"))?
-            .arg(option(alloc, "window", "N"))?
-            .arg(option(alloc, "most", "BYTES"))?
-            .arg(
-                Arg::new(alloc, "torrent")
-                    .long("torrent")
-                    .action(ArgAction::SetTrue),
-            )?,
-    )
+    let torrent = Arg::new(alloc, "torrent")
+        .long("torrent")
+        .action(ArgAction::SetTrue);
+    command_of(alloc, "fetch", &FETCH)?
+        .arg(Arg::new(alloc, "INFOHASH").required(true))?
+        .arg(Arg::new(alloc, "ADDRESS").required(true).num_args(1..))?
+        .arg(torrent)
 }
 
 /// Returns the command `serve` with its options.
 fn serve_command<'a>(alloc: Global) -> Result<Command<'a>, AllocError> {
-    Ok(
-        Command::new(alloc, "serve")
-            .override_usage(CALL)
-            .override_help(HELP)
-            .arg(Arg::new(alloc, "FILE").required(true))?
-            .arg(option(alloc, "listen", "ADDRESS"))?
-            .arg(option(alloc, "rules", "RULES"))?
-            .arg(option(alloc, "limit", "N"))?
-            .arg(option(alloc, "patience", "SECONDS"))?
-            .arg(option(alloc, "connections", "N"))?
-            .arg(option(alloc, "at-once", "N"))?,
-    )
+    command_of(alloc, "serve", &SERVE)?.arg(Arg::new(alloc, "FILE").required(true))
 }
 
-/// Returns the command `loop`, whose options are of both ends.
+/// Returns the command `loop` with its options.
 fn loop_command<'a>(alloc: Global) -> Result<Command<'a>, AllocError> {
-    Ok(
-        Command::new(alloc, "loop")
-            .override_usage(CALL)
-            .override_help(HELP)
-            .arg(option(alloc, "rules", "RULES"))?
-            .arg(option(alloc, "limit", "N"))?,
-    )
+    command_of(alloc, "loop", &LOOP)
 }
 
-/// Returns the commands, each with its options.
+/// The commands.
+const COMMANDS: [&str; 8] = [
+    "show", "check", "unpack", "pack", "link", "loop", "fetch", "serve",
+];
+
+/// Returns a command with its options.
+fn command_named<'a>(alloc: Global, name: &'a str) -> Result<Command<'a>, AllocError> {
+    match name {
+        "show" => job_command(alloc, name)?.arg(json_flag(alloc)),
+        "link" => link_command(alloc),
+        "loop" => loop_command(alloc),
+        "fetch" => fetch_command(alloc),
+        "serve" => serve_command(alloc),
+        _ => job_command(alloc, name),
+    }
+}
+
+/// Returns the program with its commands.
 fn command_line<'a>(alloc: Global) -> Result<Command<'a>, AllocError> {
-    Ok(
-        Command::new(alloc, "bt_tool")
-            .version("0.1.0")
-            .no_binary_name(true)
-            .subcommand_required(true)
-            .override_usage(CALL)
-            .override_help(HELP)
-            .subcommand(job_command(alloc, "show")?.arg(json_flag(alloc))?)?
-            .subcommand(job_command(alloc, "check")?)?
-            .subcommand(job_command(alloc, "unpack")?)?
-            .subcommand(job_command(alloc, "pack")?)?
-            .subcommand(link_command(alloc)?)?
-            .subcommand(loop_command(alloc)?)?
-            .subcommand(fetch_command(alloc)?)?
-            .subcommand(serve_command(alloc)?)?,
-    )
+    let mut program = Command::new(alloc, "bt_tool")
+        .version("0.1.0")
+        .no_binary_name(true)
+        .subcommand_required(true)
+        .override_usage(CALL)
+        .override_help(HELP);
+    for name in &COMMANDS {
+        program = program.subcommand(command_named(alloc, name)?)?;
+    }
+    Ok(program)
 }
 
 /// Returns the job of a command, or `None` where there is no such command.
@@ -489,6 +504,103 @@ fn with_command<'a>(alloc: Global, words: &'a [String]) -> Result<Vec<&'a str>, 
     Ok(all)
 }
 
+/// Returns what the files of `link` ask for.
+fn link_asked(
+    alloc: Global,
+    command: &mut Command,
+    options: &ArgMatches<'_>,
+) -> Result<Asked, AllocError>
+    ensures { IfOk result IsLimited }
+{
+    let files = files(alloc, options)?;
+    if files.len() > 1 {
+        return mistake(alloc, command, ONE_FILE);
+    }
+    Ok(Asked::Link(files))
+}
+
+/// Returns what the options of `loop` ask for.
+fn loop_asked(
+    alloc: Global,
+    command: &mut Command,
+    options: &ArgMatches<'_>,
+) -> Result<Asked, AllocError>
+    ensures { IfOk result IsLimited }
+{
+    match looped(options) {
+        Ok((rules, limit)) => Ok(Asked::Loop(rules, limit)),
+        Err(what) => mistake(alloc, command, what),
+    }
+}
+
+/// Returns what went wrong with the words of `fetch` or `serve`.
+fn mistaken(alloc: Global, command: &mut Command, why: Mistake) -> Result<Asked, AllocError>
+    ensures { IfOk result IsLimited }
+{
+    match why {
+        Mistake::Text(what) => mistake(alloc, command, what),
+        Mistake::Memory => Err(AllocError),
+    }
+}
+
+/// Returns what the options and files of a job ask for.
+fn job_asked(
+    alloc: Global,
+    command: &mut Command,
+    name: &str,
+    options: &ArgMatches<'_>,
+) -> Result<Asked, AllocError>
+    ensures { IfOk result IsLimited }
+{
+    match requested(alloc, name, options) {
+        Ok(request) => Ok(Asked::Run(request)),
+        Err(NoRequest::Wrong(what)) => mistake(alloc, command, what),
+        Err(NoRequest::Memory) => Err(AllocError),
+    }
+}
+
+/// Returns what a command asks for with its options and files.
+fn command_asked(
+    alloc: Global,
+    command: &mut Command,
+    name: &str,
+    options: &ArgMatches<'_>,
+) -> Result<Asked, AllocError>
+    ensures { IfOk result IsLimited }
+{
+    match name {
+        "link" => link_asked(alloc, command, options),
+        "loop" => loop_asked(alloc, command, options),
+        "fetch" => match fetch_asked(alloc, options) {
+            Ok(job) => Ok(Asked::Fetch(job)),
+            Err(why) => mistaken(alloc, command, why),
+        },
+        "serve" => match serve_asked(alloc, options) {
+            Ok(job) => Ok(Asked::Serve(job)),
+            Err(why) => mistaken(alloc, command, why),
+        },
+        _ => job_asked(alloc, command, name, options),
+    }
+}
+
+/// Returns what the words of a command ask for.
+fn words_asked<'a>(
+    alloc: Global,
+    command: &mut Command<'a>,
+    words: &'a [&'a str],
+) -> Result<Asked, AllocError>
+    ensures { IfOk result IsLimited }
+{
+    let matches = match command.try_get_matches_from_mut(words) {
+        Ok(matches) => matches,
+        Err(error) => return told(alloc, &error),
+    };
+    match matches.subcommand() {
+        Some((name, options)) => command_asked(alloc, command, name, options),
+        None => mistake(alloc, command, "a command is missing"),
+    }
+}
+
 /// Returns what the words after the program's name ask for.
 ///
 /// # Errors
@@ -502,45 +614,7 @@ pub fn asked(alloc: Global, words: &[String]) -> Result<Asked, AllocError>
     }
     let words = with_command(alloc, words)?;
     let mut command = command_line(alloc)?;
-    let matches = match command.try_get_matches_from_mut(words.as_slice()) {
-        Ok(matches) => matches,
-        Err(error) => return told(alloc, &error),
-    };
-    let Some((name, options)) = matches.subcommand() else {
-        return mistake(alloc, &mut command, "a command is missing");
-    };
-    if name == "link" {
-        let files = files(alloc, options)?;
-        if files.len() > 1 {
-            return mistake(alloc, &mut command, ONE_FILE);
-        }
-        return Ok(Asked::Link(files));
-    }
-    if name == "loop" {
-        return match looped(options) {
-            Ok((rules, limit)) => Ok(Asked::Loop(rules, limit)),
-            Err(what) => mistake(alloc, &mut command, what),
-        };
-    }
-    if name == "fetch" {
-        return match fetch_asked(alloc, options) {
-            Ok(job) => Ok(Asked::Fetch(job)),
-            Err(Mistake::Text(what)) => mistake(alloc, &mut command, what),
-            Err(Mistake::Memory) => Err(AllocError),
-        };
-    }
-    if name == "serve" {
-        return match serve_asked(alloc, options) {
-            Ok(job) => Ok(Asked::Serve(job)),
-            Err(Mistake::Text(what)) => mistake(alloc, &mut command, what),
-            Err(Mistake::Memory) => Err(AllocError),
-        };
-    }
-    match requested(alloc, name, options) {
-        Ok(request) => Ok(Asked::Run(request)),
-        Err(NoRequest::Wrong(what)) => mistake(alloc, &mut command, what),
-        Err(NoRequest::Memory) => Err(AllocError),
-    }
+    words_asked(alloc, &mut command, words.as_slice())
 }
 
 /// Returns what no words at all ask for.
