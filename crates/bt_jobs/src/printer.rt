@@ -1,9 +1,11 @@
 //! The text of a stream's items, until it is written. `show` and `unpack` give it to the pump as their sink.
-ghost use Rattle.std.specs.Prelude.{◌≡◌, ◌+◌, ◌≤◌, ℕ, List, [], ◌++◌, length, take, vec_len, OnOk, OnErr, IfOk, IfErr};
+ghost use Rattle.std.specs.Prelude.{◌≡◌, ◌+◌, ◌<◌, ◌≤◌, ℕ, List, [], ◌++◌, length, take, vec_len, OnOk, OnErr, IfOk, IfErr};
 ghost use Rattle.std.specs.Io.KnownBytes.{Appends};
 ghost use Rattle.bt_io.specs.Seen.{WriteFailed};
 ghost use Rattle.bt_feed.specs.Views.{item_of};
 ghost use Rattle.bt_wire.specs.declared.context.Own.{Own as Receiver};
+ghost use Rattle.bt_wire.specs.declared.item.Item.TheVariants as items;
+ghost use Rattle.bt_wire.specs.Messages.{message_of};
 ghost use Rattle.bt_text.specs.Script.{script_line};
 ghost use Rattle.bt_text.specs.Lines.{line as line_of, verdict_line as verdict_words};
 ghost use Rattle.bt_json.specs.Objects.{line as object_of, verdict_line as verdict_object};
@@ -14,8 +16,8 @@ use bt_feed::{Sink, SinkFault, Target, View};
 use bt_text::ended::{Ended, ToolFault};
 use bt_text::lines::{Line, handshake_line, put_message, verdict_line};
 use bt_text::putting::{Offset, put};
-use bt_text::script::writing::{push_handshake_line, push_message_line};
-use bt_wire::Own;
+use bt_text::script::writing::{HANDSHAKE_ROOM, put_handshake_line, put_message_line, room_for};
+use bt_wire::{Handshake, MessageView, Own};
 use std::alloc::{AllocError, Global};
 
 /// What is written for an item.
@@ -50,25 +52,26 @@ pub struct Printer {
     failed: u64,
 }
 
-/// Makes room for a line after what is used of the text; returns the place of the room.
+/// Makes room after what is used of the text; returns the place of the room.
 #[inline(always)]
-fn make_room(text: &mut Vec<u8>, used: usize) -> Result<usize, AllocError>
-    ensures { IfOk result (λ n. (n + 160 ≤ vec_len text.new) × (take n text.new.items ≡ take used text.old.items)) }
+fn make_room(text: &mut Vec<u8>, used: usize, room: usize) -> Result<usize, AllocError>
+    requires { 0 < room }
+    ensures { IfOk result (λ n. (n + room ≤ vec_len text.new) × (take n text.new.items ≡ take used text.old.items)) }
 {
-    if text.len().saturating_sub(used) >= LINE_ROOM {
+    if text.len().saturating_sub(used) >= room {
         return Ok(used);
     }
-    grow(text, used)
+    grow(text, used, room)
 }
 
-/// Makes the text longer, by room after what is used.
+/// Makes the text longer, by this room and more after what is used.
 #[inline(never)]
-fn grow(text: &mut Vec<u8>, used: usize) -> Result<usize, AllocError>
-    ensures { IfOk result (λ n. (n + 160 ≤ vec_len text.new) × (take n text.new.items ≡ take used text.old.items)) }
+fn grow(text: &mut Vec<u8>, used: usize, room: usize) -> Result<usize, AllocError>
+    ensures { IfOk result (λ n. (n + room ≤ vec_len text.new) × (take n text.new.items ≡ take used text.old.items)) }
 {
     text.truncate(used);
     let used = text.len();
-    match text.resize(used + GROWTH, 0) {
+    match text.resize(used.saturating_add(room).saturating_add(GROWTH), 0) {
         Ok(()) => Ok(used),
         Err(error) => Err(error),
     }
@@ -93,7 +96,7 @@ fn put_item(
             let from = handshake_line(at, handshake, line);
             put(&line[from..], text, place)
         }
-        View::Message(message) => put_message(offset, at, message, line, text, place),
+        View::Message(message) => put_message(offset, at, message, text, place),
     }
 }
 
@@ -109,7 +112,7 @@ fn push_item(
 ) -> Result<usize, AllocError>
     ensures { IfOk result (λ n. (own : Receiver) → take n text.new.items ≡ take used text.old.items ++ line_of own (at, item_of view.now)) }
 {
-    match make_room(text, used) {
+    match make_room(text, used, LINE_ROOM) {
         Ok(place) => Ok(put_item(at, view, offset, line, text.as_mut_slice(), place)),
         Err(error) => Err(error),
     }
@@ -124,7 +127,7 @@ fn push_verdict(
 ) -> Result<usize, AllocError>
     ensures { IfOk result (λ n. take n text.new.items ≡ take used text.old.items ++ verdict_words ended) }
 {
-    match make_room(text, used) {
+    match make_room(text, used, LINE_ROOM) {
         Ok(place) => {
             let from = verdict_line(ended, line);
             Ok(put(&line[from..], text.as_mut_slice(), place))
@@ -160,24 +163,45 @@ fn add_object(
     }
 }
 
-/// Adds the script's line of an item.
-fn push_script(own: &Own, view: &View, text: &mut Vec<u8>) -> Result<(), AllocError>
-    ensures { OnOk result (text.new.items ≡ text.old.items ++ script_line own.now (item_of view.now)) }
+/// Adds the script's line of a handshake to what is used of the text; returns how much is used then.
+fn add_handshake(
+    _own: &Own,
+    handshake: &Handshake,
+    text: &mut Vec<u8>,
+    used: usize,
+) -> Result<usize, AllocError>
+    ensures { IfOk result (λ n. take n text.new.items ≡ take used text.old.items ++ script_line _own.now (items.Handshake handshake.now)) }
 {
-    match view {
-        View::Handshake(handshake) => push_handshake_line(handshake, text),
-        View::Message(message) => push_message_line(own, message, text),
+    match make_room(text, used, HANDSHAKE_ROOM) {
+        Ok(place) => Ok(put_handshake_line(handshake, text.as_mut_slice(), place)),
+        Err(error) => Err(error),
+    }
+}
+
+/// Adds the script's line of a message to what is used of the text; returns how much is used then.
+#[inline(always)]
+fn add_message(
+    own: &Own,
+    message: &MessageView,
+    text: &mut Vec<u8>,
+    used: usize,
+) -> Result<usize, AllocError>
+    ensures { IfOk result (λ n. take n text.new.items ≡ take used text.old.items ++ script_line own.now (items.Message (message_of message.now))) }
+{
+    match make_room(text, used, room_for(message)) {
+        Ok(place) => Ok(put_message_line(own, message, text.as_mut_slice(), place)),
+        Err(error) => Err(error),
     }
 }
 
 /// Adds the script's line of an item to what is used of the text; returns how much is used then.
+#[inline(never)]
 fn add_script(own: &Own, view: &View, text: &mut Vec<u8>, used: usize) -> Result<usize, AllocError>
     ensures { IfOk result (λ n. take n text.new.items ≡ take used text.old.items ++ script_line own.now (item_of view.now)) }
 {
-    text.truncate(used);
-    match push_script(own, view, text) {
-        Ok(()) => Ok(text.len()),
-        Err(error) => Err(error),
+    match view {
+        View::Handshake(handshake) => add_handshake(own, handshake, text, used),
+        View::Message(message) => add_message(own, message, text, used),
     }
 }
 
