@@ -1,5 +1,5 @@
 //! The text of a stream's items, until it is written. `show` and `unpack` give it to the pump as their sink.
-ghost use Rattle.std.specs.Prelude.{◌≡◌, ◌+◌, ◌<◌, ◌≤◌, ℕ, List, [], ◌++◌, length, take, vec_len, OnOk, OnErr, IfOk, IfErr};
+ghost use Rattle.std.specs.Prelude.{◌≡◌, ◌≢◌, ◌+◌, ◌<◌, ◌≤◌, ℕ, List, [], ◌++◌, length, take, vec_len, OnOk, OnErr, IfOk, IfErr};
 ghost use Rattle.std.specs.Io.KnownBytes.{Appends};
 ghost use Rattle.bt_io.specs.Seen.{WriteFailed};
 ghost use Rattle.bt_feed.specs.Views.{item_of};
@@ -9,7 +9,8 @@ ghost use Rattle.bt_wire.specs.Messages.{message_of};
 ghost use Rattle.bt_text.specs.Script.{script_line};
 ghost use Rattle.bt_text.specs.Lines.{line as line_of, verdict_line as verdict_words};
 ghost use Rattle.bt_json.specs.Objects.{line as object_of, verdict_line as verdict_object};
-ghost use Rattle.bt_jobs.specs.Printed.{IsFlushed, Prints, form_of, text_in};
+ghost use Rattle.bt_jobs.specs.Printed.{IsFlushed, Prints, form_of, text_in, text_of};
+ghost use Rattle.bt_jobs.specs.declared.printer.Form.TheVariants as shape;
 
 use crate::output::write_out;
 use bt_feed::{Sink, SinkFault, Target, View};
@@ -147,6 +148,7 @@ fn push_object(alloc: Global, at: u64, view: &View, text: &mut Vec<u8>) -> Resul
 }
 
 /// Adds the object of an item to what is used of the text; returns how much is used then.
+#[inline(never)]
 fn add_object(
     alloc: Global,
     at: u64,
@@ -194,6 +196,78 @@ fn add_message(
     }
 }
 
+/// Returns the same message.
+#[inline(always)]
+fn copied_message<'a>(message: &MessageView<'a>) -> MessageView<'a>
+    ensures { message_of result ≡ message_of message.now }
+{
+    match message {
+        MessageView::KeepAlive => MessageView::KeepAlive,
+        MessageView::Choke => MessageView::Choke,
+        MessageView::Unchoke => MessageView::Unchoke,
+        MessageView::Interested => MessageView::Interested,
+        MessageView::NotInterested => MessageView::NotInterested,
+        MessageView::Have(index) => MessageView::Have(*index),
+        MessageView::Bitfield(bits) => MessageView::Bitfield(bits),
+        MessageView::Request {
+            index,
+            begin,
+            length,
+        } => MessageView::Request {
+            index: *index,
+            begin: *begin,
+            length: *length,
+        },
+        MessageView::Piece {
+            index,
+            begin,
+            block,
+        } => MessageView::Piece {
+            index: *index,
+            begin: *begin,
+            block,
+        },
+        MessageView::Cancel {
+            index,
+            begin,
+            length,
+        } => MessageView::Cancel {
+            index: *index,
+            begin: *begin,
+            length: *length,
+        },
+        MessageView::Port(port) => MessageView::Port(*port),
+        MessageView::Suggest(index) => MessageView::Suggest(*index),
+        MessageView::HaveAll => MessageView::HaveAll,
+        MessageView::HaveNone => MessageView::HaveNone,
+        MessageView::Reject {
+            index,
+            begin,
+            length,
+        } => MessageView::Reject {
+            index: *index,
+            begin: *begin,
+            length: *length,
+        },
+        MessageView::AllowedFast(index) => MessageView::AllowedFast(*index),
+        MessageView::Extended(payload) => MessageView::Extended(*payload),
+        MessageView::Unknown { id, payload } => MessageView::Unknown { id: *id, payload },
+    }
+}
+
+/// Returns the same item, in a place of its own.
+///
+/// A call that is handed this one leaves the parts of the other in registers.
+#[inline(always)]
+fn copied<'a>(view: &View<'a>) -> View<'a>
+    ensures { item_of result ≡ item_of view.now }
+{
+    match view {
+        View::Handshake(handshake) => View::Handshake(*handshake),
+        View::Message(message) => View::Message(copied_message(message)),
+    }
+}
+
 /// Adds the script's line of an item to what is used of the text; returns how much is used then.
 #[inline(never)]
 fn add_script(own: &Own, view: &View, text: &mut Vec<u8>, used: usize) -> Result<usize, AllocError>
@@ -202,6 +276,27 @@ fn add_script(own: &Own, view: &View, text: &mut Vec<u8>, used: usize) -> Result
     match view {
         View::Handshake(handshake) => add_handshake(own, handshake, text, used),
         View::Message(message) => add_message(own, message, text, used),
+    }
+}
+
+/// Adds an item in another form than that of `show` to what is used of the text; returns how much is used then.
+#[inline(always)]
+fn add_other(
+    form: Form,
+    alloc: Global,
+    at: u64,
+    view: &View,
+    text: &mut Vec<u8>,
+    used: usize,
+) -> Result<usize, AllocError>
+    requires { form ≢ shape.Show }
+    ensures { IfOk result (λ n. (own : Receiver) → take n text.new.items ≡ take used text.old.items ++ text_of form own (at, item_of view.now)) }
+{
+    let view = copied(view);
+    match form {
+        Form::Show => unreachable!(),
+        Form::Json => add_object(alloc, at, &view, text, used),
+        Form::Unpack(own) => add_script(&own, &view, text, used),
     }
 }
 
@@ -288,8 +383,7 @@ impl Sink for Printer {
                 &mut self.text,
                 self.used,
             ),
-            Form::Json => add_object(self.alloc, at, view, &mut self.text, self.used),
-            Form::Unpack(own) => add_script(&own, view, &mut self.text, self.used),
+            form => add_other(form, self.alloc, at, view, &mut self.text, self.used),
         };
         match added {
             Ok(used) => {

@@ -141,6 +141,18 @@ pub fn put_one<const N: usize>(name: &[u8; N], n: u64, text: &mut [u8], at: usiz
     put_word(b"\n", text, place)
 }
 
+/// Puts two numbers and the line's end.
+#[inline(never)]
+fn end_two(n: u64, m: u64, text: &mut [u8], at: usize) -> usize
+    requires { at + 42 ≤ length text.old }
+    ensures room { (at ≤ result) × (result ≤ at + 42) }
+    ensures size { length text.new ≡ length text.old }
+    ensures text { take result text.new ≡ take at text.old ++ (decimal n ++ (spaced m ++ codes "\n")) }
+{
+    let place = put_number(n, text, at);
+    put_one(b" ", m, text, place)
+}
+
 /// Puts a name, two numbers and the line's end.
 #[inline(always)]
 pub fn put_two<const N: usize>(name: &[u8; N], n: u64, m: u64, text: &mut [u8], at: usize) -> usize
@@ -150,8 +162,19 @@ pub fn put_two<const N: usize>(name: &[u8; N], n: u64, m: u64, text: &mut [u8], 
     ensures text { take result text.new ≡ take at text.old ++ (name.now ++ (decimal n ++ (spaced m ++ codes "\n"))) }
 {
     let place = put_word(name, text, at);
-    let place = put_number(n, text, place);
-    put_one(b" ", m, text, place)
+    end_two(n, m, text, place)
+}
+
+/// Puts three numbers and the line's end.
+#[inline(never)]
+fn end_three(n: u64, m: u64, k: u64, text: &mut [u8], at: usize) -> usize
+    requires { at + 63 ≤ length text.old }
+    ensures room { (at ≤ result) × (result ≤ at + 63) }
+    ensures size { length text.new ≡ length text.old }
+    ensures text { take result text.new ≡ take at text.old ++ (decimal n ++ (spaced m ++ (spaced k ++ codes "\n"))) }
+{
+    let place = put_number(n, text, at);
+    put_two(b" ", m, k, text, place)
 }
 
 /// Puts a name, three numbers and the line's end.
@@ -170,8 +193,7 @@ pub fn put_three<const N: usize>(
     ensures text { take result text.new ≡ take at text.old ++ (name.now ++ (decimal n ++ (spaced m ++ (spaced k ++ codes "\n")))) }
 {
     let place = put_word(name, text, at);
-    let place = put_number(n, text, place);
-    put_two(b" ", m, k, text, place)
+    end_three(n, m, k, text, place)
 }
 
 /// The digits of offsets but for their last four, which offsets that follow each other mostly share.

@@ -118,8 +118,8 @@ fn extended_id(reg: Registered, payload: &ExtView) -> u8
 fn put_extended(reg: Registered, payload: &ExtView, text: &mut [u8], at: usize) -> usize
     requires { at + (32 + 2 * length (payload_of (seen_ext payload.now))) ≤ length text.old }
     ensures size { length text.new ≡ length text.old }
-    ensures text { take result text.new ≡ take at text.old
-        ++ (codes "extended " ++ (decimal (unwrap_or (ext_id reg (seen_ext payload.now)) 0) ++ (spaced_hex (payload_of (seen_ext payload.now)) ++ codes "\n"))) }
+    ensures text { take result text.new ≡ take at text.old ++ (codes "extended " ++ (decimal (unwrap_or (ext_id reg (seen_ext payload.now)) 0)
+        ++ (spaced_hex (payload_of (seen_ext payload.now)) ++ codes "\n"))) }
 {
     let id = extended_id(reg, payload);
     match payload {
@@ -136,9 +136,9 @@ fn put_extended(reg: Registered, payload: &ExtView, text: &mut [u8], at: usize) 
     }
 }
 
-/// Returns how many bytes a message keeps.
-#[inline(always)]
-fn kept(view: &MessageView) -> usize
+/// Returns how many bytes a message keeps, of one that may keep some.
+#[inline(never)]
+fn kept_bytes(view: &MessageView) -> usize
     ensures { result ≡ kept_of (message_of view.now) }
 {
     match view {
@@ -151,6 +151,20 @@ fn kept(view: &MessageView) -> usize
         MessageView::Extended(ExtView::DontHave(_)) => 4,
         MessageView::Extended(ExtView::Raw { payload, .. }) => payload.len(),
         MessageView::Unknown { payload, .. } => payload.len(),
+        _ => 0,
+    }
+}
+
+/// Returns how many bytes a message keeps. It tells the other messages apart without a jump by their kind.
+#[inline(always)]
+fn kept(view: &MessageView) -> usize
+    ensures { result ≡ kept_of (message_of view.now) }
+{
+    match view {
+        MessageView::Bitfield(_)
+        | MessageView::Piece { .. }
+        | MessageView::Extended(_)
+        | MessageView::Unknown { .. } => kept_bytes(view),
         _ => 0,
     }
 }
