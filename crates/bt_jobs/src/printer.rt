@@ -1,21 +1,24 @@
 //! The text of a stream's items, until it is written. `show` and `unpack` give it to the pump as their sink.
-ghost use Rattle.std.specs.Prelude.{◌≡◌, ◌+◌, ◌≤◌, ℕ, List, [], ◌++◌, length, take, vec_len, OnOk, OnErr, IfOk, IfErr};
+ghost use Rattle.std.specs.Prelude.{◌≡◌, ◌≢◌, ◌+◌, ◌<◌, ◌≤◌, ℕ, List, [], ◌++◌, length, take, vec_len, OnOk, OnErr, IfOk, IfErr};
 ghost use Rattle.std.specs.Io.KnownBytes.{Appends};
 ghost use Rattle.bt_io.specs.Seen.{WriteFailed};
 ghost use Rattle.bt_feed.specs.Views.{item_of};
 ghost use Rattle.bt_wire.specs.declared.context.Own.{Own as Receiver};
+ghost use Rattle.bt_wire.specs.declared.item.Item.TheVariants as items;
+ghost use Rattle.bt_wire.specs.Messages.{message_of};
 ghost use Rattle.bt_text.specs.Script.{script_line};
 ghost use Rattle.bt_text.specs.Lines.{line as line_of, verdict_line as verdict_words};
 ghost use Rattle.bt_json.specs.Objects.{line as object_of, verdict_line as verdict_object};
-ghost use Rattle.bt_jobs.specs.Printed.{IsFlushed, Prints, form_of, text_in};
+ghost use Rattle.bt_jobs.specs.Printed.{IsFlushed, Prints, form_of, text_in, text_of};
+ghost use Rattle.bt_jobs.specs.declared.printer.Form.TheVariants as shape;
 
 use crate::output::write_out;
 use bt_feed::{Sink, SinkFault, Target, View};
 use bt_text::ended::{Ended, ToolFault};
 use bt_text::lines::{Line, handshake_line, put_message, verdict_line};
 use bt_text::putting::{Offset, put};
-use bt_text::script::writing::{push_handshake_line, push_message_line};
-use bt_wire::Own;
+use bt_text::script::writing::{HANDSHAKE_ROOM, put_handshake_line, put_message_line, room_for};
+use bt_wire::{Handshake, MessageView, Own};
 use std::alloc::{AllocError, Global};
 
 /// What is written for an item.
@@ -50,25 +53,26 @@ pub struct Printer {
     failed: u64,
 }
 
-/// Makes room for a line after what is used of the text; returns the place of the room.
+/// Makes room after what is used of the text; returns the place of the room.
 #[inline(always)]
-fn make_room(text: &mut Vec<u8>, used: usize) -> Result<usize, AllocError>
-    ensures { IfOk result (λ n. (n + 160 ≤ vec_len text.new) × (take n text.new.items ≡ take used text.old.items)) }
+fn make_room(text: &mut Vec<u8>, used: usize, room: usize) -> Result<usize, AllocError>
+    requires { 0 < room }
+    ensures { IfOk result (λ n. (n + room ≤ vec_len text.new) × (take n text.new.items ≡ take used text.old.items)) }
 {
-    if text.len().saturating_sub(used) >= LINE_ROOM {
+    if text.len().saturating_sub(used) >= room {
         return Ok(used);
     }
-    grow(text, used)
+    grow(text, used, room)
 }
 
-/// Makes the text longer, by room after what is used.
+/// Makes the text longer, by this room and more after what is used.
 #[inline(never)]
-fn grow(text: &mut Vec<u8>, used: usize) -> Result<usize, AllocError>
-    ensures { IfOk result (λ n. (n + 160 ≤ vec_len text.new) × (take n text.new.items ≡ take used text.old.items)) }
+fn grow(text: &mut Vec<u8>, used: usize, room: usize) -> Result<usize, AllocError>
+    ensures { IfOk result (λ n. (n + room ≤ vec_len text.new) × (take n text.new.items ≡ take used text.old.items)) }
 {
     text.truncate(used);
     let used = text.len();
-    match text.resize(used + GROWTH, 0) {
+    match text.resize(used.saturating_add(room).saturating_add(GROWTH), 0) {
         Ok(()) => Ok(used),
         Err(error) => Err(error),
     }
@@ -93,7 +97,7 @@ fn put_item(
             let from = handshake_line(at, handshake, line);
             put(&line[from..], text, place)
         }
-        View::Message(message) => put_message(offset, at, message, line, text, place),
+        View::Message(message) => put_message(offset, at, message, text, place),
     }
 }
 
@@ -109,7 +113,7 @@ fn push_item(
 ) -> Result<usize, AllocError>
     ensures { IfOk result (λ n. (own : Receiver) → take n text.new.items ≡ take used text.old.items ++ line_of own (at, item_of view.now)) }
 {
-    match make_room(text, used) {
+    match make_room(text, used, LINE_ROOM) {
         Ok(place) => Ok(put_item(at, view, offset, line, text.as_mut_slice(), place)),
         Err(error) => Err(error),
     }
@@ -124,7 +128,7 @@ fn push_verdict(
 ) -> Result<usize, AllocError>
     ensures { IfOk result (λ n. take n text.new.items ≡ take used text.old.items ++ verdict_words ended) }
 {
-    match make_room(text, used) {
+    match make_room(text, used, LINE_ROOM) {
         Ok(place) => {
             let from = verdict_line(ended, line);
             Ok(put(&line[from..], text.as_mut_slice(), place))
@@ -144,6 +148,7 @@ fn push_object(alloc: Global, at: u64, view: &View, text: &mut Vec<u8>) -> Resul
 }
 
 /// Adds the object of an item to what is used of the text; returns how much is used then.
+#[inline(never)]
 fn add_object(
     alloc: Global,
     at: u64,
@@ -160,24 +165,138 @@ fn add_object(
     }
 }
 
-/// Adds the script's line of an item.
-fn push_script(own: &Own, view: &View, text: &mut Vec<u8>) -> Result<(), AllocError>
-    ensures { OnOk result (text.new.items ≡ text.old.items ++ script_line own.now (item_of view.now)) }
+/// Adds the script's line of a handshake to what is used of the text; returns how much is used then.
+fn add_handshake(
+    _own: &Own,
+    handshake: &Handshake,
+    text: &mut Vec<u8>,
+    used: usize,
+) -> Result<usize, AllocError>
+    ensures { IfOk result (λ n. take n text.new.items ≡ take used text.old.items ++ script_line _own.now (items.Handshake handshake.now)) }
+{
+    match make_room(text, used, HANDSHAKE_ROOM) {
+        Ok(place) => Ok(put_handshake_line(handshake, text.as_mut_slice(), place)),
+        Err(error) => Err(error),
+    }
+}
+
+/// Adds the script's line of a message to what is used of the text; returns how much is used then.
+#[inline(always)]
+fn add_message(
+    own: &Own,
+    message: &MessageView,
+    text: &mut Vec<u8>,
+    used: usize,
+) -> Result<usize, AllocError>
+    ensures { IfOk result (λ n. take n text.new.items ≡ take used text.old.items ++ script_line own.now (items.Message (message_of message.now))) }
+{
+    match make_room(text, used, room_for(message)) {
+        Ok(place) => Ok(put_message_line(own, message, text.as_mut_slice(), place)),
+        Err(error) => Err(error),
+    }
+}
+
+/// Returns the same message.
+#[inline(always)]
+fn copied_message<'a>(message: &MessageView<'a>) -> MessageView<'a>
+    ensures { message_of result ≡ message_of message.now }
+{
+    match message {
+        MessageView::KeepAlive => MessageView::KeepAlive,
+        MessageView::Choke => MessageView::Choke,
+        MessageView::Unchoke => MessageView::Unchoke,
+        MessageView::Interested => MessageView::Interested,
+        MessageView::NotInterested => MessageView::NotInterested,
+        MessageView::Have(index) => MessageView::Have(*index),
+        MessageView::Bitfield(bits) => MessageView::Bitfield(bits),
+        MessageView::Request {
+            index,
+            begin,
+            length,
+        } => MessageView::Request {
+            index: *index,
+            begin: *begin,
+            length: *length,
+        },
+        MessageView::Piece {
+            index,
+            begin,
+            block,
+        } => MessageView::Piece {
+            index: *index,
+            begin: *begin,
+            block,
+        },
+        MessageView::Cancel {
+            index,
+            begin,
+            length,
+        } => MessageView::Cancel {
+            index: *index,
+            begin: *begin,
+            length: *length,
+        },
+        MessageView::Port(port) => MessageView::Port(*port),
+        MessageView::Suggest(index) => MessageView::Suggest(*index),
+        MessageView::HaveAll => MessageView::HaveAll,
+        MessageView::HaveNone => MessageView::HaveNone,
+        MessageView::Reject {
+            index,
+            begin,
+            length,
+        } => MessageView::Reject {
+            index: *index,
+            begin: *begin,
+            length: *length,
+        },
+        MessageView::AllowedFast(index) => MessageView::AllowedFast(*index),
+        MessageView::Extended(payload) => MessageView::Extended(*payload),
+        MessageView::Unknown { id, payload } => MessageView::Unknown { id: *id, payload },
+    }
+}
+
+/// Returns the same item, in a place of its own.
+///
+/// A call that is handed this one leaves the parts of the other in registers.
+#[inline(always)]
+fn copied<'a>(view: &View<'a>) -> View<'a>
+    ensures { item_of result ≡ item_of view.now }
 {
     match view {
-        View::Handshake(handshake) => push_handshake_line(handshake, text),
-        View::Message(message) => push_message_line(own, message, text),
+        View::Handshake(handshake) => View::Handshake(*handshake),
+        View::Message(message) => View::Message(copied_message(message)),
     }
 }
 
 /// Adds the script's line of an item to what is used of the text; returns how much is used then.
+#[inline(never)]
 fn add_script(own: &Own, view: &View, text: &mut Vec<u8>, used: usize) -> Result<usize, AllocError>
     ensures { IfOk result (λ n. take n text.new.items ≡ take used text.old.items ++ script_line own.now (item_of view.now)) }
 {
-    text.truncate(used);
-    match push_script(own, view, text) {
-        Ok(()) => Ok(text.len()),
-        Err(error) => Err(error),
+    match view {
+        View::Handshake(handshake) => add_handshake(own, handshake, text, used),
+        View::Message(message) => add_message(own, message, text, used),
+    }
+}
+
+/// Adds an item in another form than that of `show` to what is used of the text; returns how much is used then.
+#[inline(always)]
+fn add_other(
+    form: Form,
+    alloc: Global,
+    at: u64,
+    view: &View,
+    text: &mut Vec<u8>,
+    used: usize,
+) -> Result<usize, AllocError>
+    requires { form ≢ shape.Show }
+    ensures { IfOk result (λ n. (own : Receiver) → take n text.new.items ≡ take used text.old.items ++ text_of form own (at, item_of view.now)) }
+{
+    let view = copied(view);
+    match form {
+        Form::Show => unreachable!(),
+        Form::Json => add_object(alloc, at, &view, text, used),
+        Form::Unpack(own) => add_script(&own, &view, text, used),
     }
 }
 
@@ -264,8 +383,7 @@ impl Sink for Printer {
                 &mut self.text,
                 self.used,
             ),
-            Form::Json => add_object(self.alloc, at, view, &mut self.text, self.used),
-            Form::Unpack(own) => add_script(&own, view, &mut self.text, self.used),
+            form => add_other(form, self.alloc, at, view, &mut self.text, self.used),
         };
         match added {
             Ok(used) => {

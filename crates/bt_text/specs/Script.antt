@@ -4,6 +4,7 @@ use Rattle.std.specs.Prelude.{◌==◌, ◌||◌, ◌≡◌, ℕ, ◌+◌, ◌<�
 use Rattle.std.specs.List.{flat_map}
 use Rattle.std.specs.Str.{bytes_eq}
 use Rattle.hex.specs.Hex.{encode_lower, decode_of}
+use Rattle.bt_ext.specs.Payloads.{payload_of}
 use Rattle.bt_wire.specs.declared.context.Own.{Own}
 use Rattle.bt_wire.specs.declared.handshake.Handshake.{Handshake}
 use Rattle.bt_wire.specs.declared.ids.Shape.{Shape}
@@ -11,7 +12,7 @@ use Rattle.bt_wire.specs.declared.ids.Shape.TheVariants as shapes
 use Rattle.bt_wire.specs.declared.item.Item.{Item}
 use Rattle.bt_wire.specs.declared.item.Item.TheVariants as items
 use Rattle.bt_wire.specs.Messages.{Message}
-use Rattle.bt_wire.specs.declared.message.Message.TheVariants.{KeepAlive, Unknown}
+use Rattle.bt_wire.specs.declared.message.Message.TheVariants.{KeepAlive, Bitfield, Piece, Extended, Unknown}
 use Rattle.bt_wire.specs.Handshakes.{hand, IsHandshake}
 use Rattle.bt_wire.specs.Ids.{Id, ids, has_meaning}
 use Rattle.bt_wire.specs.Messages.{Fields, none, index, part, block, port, field, extended, payload, known_id, fields_of, spell_fields, AreInRange}
@@ -52,6 +53,14 @@ script_message own m = name_of (known_id m) ++ script_fields (fields_of (own_con
 abbrev pub script_words : Own → Item → List ℕ
 script_words own (items.Handshake h) = handshake_words h
 script_words own (items.Message m) = script_message own m
+
+-- how many bytes of a message stand in its line in hex
+abbrev pub kept : Message → ℕ
+kept (Bitfield bits) = length bits
+kept (Piece i b bytes) = length bytes
+kept (Extended e) = length (payload_of e)
+kept (Unknown n bytes) = length bytes
+kept m = 0
 
 -- with its line feed
 abbrev pub script_line : Own → Item → List ℕ

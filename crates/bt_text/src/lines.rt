@@ -17,7 +17,7 @@ ghost use Rattle.bt_wire.specs.declared.item.Item.TheVariants as items;
 ghost use Rattle.bt_text.specs.Lines.{spaced, or_dash, told_id, ext_words, message_words, script_reason_name, line as line_of, verdict_line as verdict_words, refused_line as refused_words, fault_line as fault_words};
 
 use crate::ended::{Ended, ScriptReason, ToolFault};
-use crate::putting::{Offset, put, put_number};
+use crate::putting::{Offset, put_number, put_one, put_three, put_two, put_word};
 use bt_bencode::DictRef;
 use bt_ext::{ExtView, Kind, kind_ref};
 use bt_wire::{Handshake, MessageView};
@@ -57,62 +57,6 @@ fn hex_word(bytes: &[u8], line: &mut Line, at: usize) -> usize
     let front = at - 2 * bytes.len();
     let _ = hex::encode_to_slice(bytes, &mut line[front..at]);
     front
-}
-
-/// Puts a space and a number before the place.
-#[inline(always)]
-fn number_word(n: u64, line: &mut Line, at: usize) -> usize
-    requires { (21 ≤ at) × (at ≤ 160) }
-    ensures room { (result ≤ at) × (at ≤ result + 21) }
-    ensures text { drop result line.new ≡ spaced n ++ drop at line.old }
-{
-    let place = number(n, line, at);
-    word(b" ", line, place)
-}
-
-/// Puts a number before the place, or `-` for none.
-fn number_or_dash(n: Option<u64>, line: &mut Line, at: usize) -> usize
-    requires { (20 ≤ at) × (at ≤ 160) }
-    ensures room { (result ≤ at) × (at ≤ result + 20) }
-    ensures text { drop result line.new ≡ or_dash n ++ drop at line.old }
-{
-    match n {
-        Some(n) => number(n, line, at),
-        None => word(b"-", line, at),
-    }
-}
-
-/// Puts a name and a number before the place.
-#[inline(always)]
-fn name_and_one(name: &[u8], n: u64, line: &mut Line, at: usize) -> usize
-    requires { (21 + length name.now ≤ at) × (at ≤ 160) }
-    ensures room { (result ≤ at) × (at ≤ result + 21 + length name.now) }
-    ensures text { drop result line.new ≡ name.now ++ (spaced n ++ drop at line.old) }
-{
-    let place = number_word(n, line, at);
-    word(name, line, place)
-}
-
-/// Puts a name and two numbers before the place.
-fn name_and_two(name: &[u8], n: u64, m: u64, line: &mut Line, at: usize) -> usize
-    requires { (42 + length name.now ≤ at) × (at ≤ 160) }
-    ensures room { (result ≤ at) × (at ≤ result + 42 + length name.now) }
-    ensures text { drop result line.new ≡ name.now ++ (spaced n ++ (spaced m ++ drop at line.old)) }
-{
-    let place = number_word(m, line, at);
-    name_and_one(name, n, line, place)
-}
-
-/// Puts a name and three numbers before the place.
-#[inline(always)]
-fn name_and_three(name: &[u8], n: u64, m: u64, k: u64, line: &mut Line, at: usize) -> usize
-    requires { (63 + length name.now ≤ at) × (at ≤ 160) }
-    ensures room { (result ≤ at) × (at ≤ result + 63 + length name.now) }
-    ensures text { drop result line.new ≡ name.now ++ (spaced n ++ (spaced m ++ (spaced k ++ drop at line.old))) }
-{
-    let place = number_word(k, line, at);
-    let place = number_word(m, line, place);
-    name_and_one(name, n, line, place)
 }
 
 /// Returns the id of `ut_metadata` that an extended handshake announces.
@@ -156,127 +100,115 @@ fn dict_length(dict: &DictRef) -> u64
     dict.spelled().len() as u64
 }
 
-/// Puts the words of an extended handshake before the place.
-fn handshake_words(dict: &DictRef, rest: usize, line: &mut Line, at: usize) -> usize
-    requires { (120 ≤ at) × (at ≤ 160) }
-    ensures room { (result ≤ at) × (at ≤ result + 114) }
-    ensures text { (bytes : List ℕ) → length bytes ≡ rest → drop result line.new ≡ ext_words (ext.Handshake (value.Dict dict.now.tree.0) bytes) ++ drop at line.old }
+/// Puts a number, or `-` for none.
+#[inline(always)]
+fn put_or_dash(n: Option<u64>, text: &mut [u8], at: usize) -> usize
+    requires { at + 20 ≤ length text.old }
+    ensures room { (at ≤ result) × (result ≤ at + 20) }
+    ensures size { length text.new ≡ length text.old }
+    ensures text { take result text.new ≡ take at text.old ++ or_dash n }
 {
-    let (id, size) = announced(dict);
-    let place = number_or_dash(id, line, at);
-    let place = word(b" ut_metadata=", line, place);
-    let place = number_or_dash(size, line, place);
-    let place = word(b" size=", line, place);
-    name_and_two(
-        b"ext-handshake",
-        dict_length(dict),
-        rest as u64,
-        line,
-        place,
-    )
+    match n {
+        Some(n) => put_number(n, text, at),
+        None => put_word(b"-", text, at),
+    }
 }
 
-/// Puts the words of a metadata message before the place.
-fn metadata_words(dict: &DictRef, rest: usize, line: &mut Line, at: usize) -> usize
-    requires { (120 ≤ at) × (at ≤ 160) }
-    ensures room { (result ≤ at) × (at ≤ result + 114) }
-    ensures text { (bytes : List ℕ) → length bytes ≡ rest → drop result line.new ≡ ext_words (ext.Metadata (value.Dict dict.now.tree.0) bytes) ++ drop at line.old }
+/// Puts what an extended handshake announces and the line's end.
+#[inline(always)]
+fn put_announced(id: Option<u64>, size: Option<u64>, text: &mut [u8], at: usize) -> usize
+    requires { at + 60 ≤ length text.old }
+    ensures room { (at ≤ result) × (result ≤ at + 60) }
+    ensures size { length text.new ≡ length text.old }
+    ensures text { take result text.new ≡ take at text.old
+        ++ (codes " size=" ++ (or_dash size ++ (codes " ut_metadata=" ++ (or_dash id ++ codes "\n")))) }
+{
+    let place = put_word(b" size=", text, at);
+    let place = put_or_dash(size, text, place);
+    let place = put_word(b" ut_metadata=", text, place);
+    let place = put_or_dash(id, text, place);
+    put_word(b"\n", text, place)
+}
+
+/// Puts the words of an extended handshake and the line's end.
+#[inline(never)]
+fn put_handshake(dict: &DictRef, rest: usize, text: &mut [u8], at: usize) -> usize
+    requires { at + 116 ≤ length text.old }
+    ensures room { (at ≤ result) × (result ≤ at + 116) }
+    ensures size { length text.new ≡ length text.old }
+    ensures text { (bytes : List ℕ) → length bytes ≡ rest → take result text.new ≡ take at text.old
+        ++ (codes " " ++ (ext_words (ext.Handshake (value.Dict dict.now.tree.0) bytes) ++ codes "\n")) }
+{
+    let (id, size) = announced(dict);
+    let place = put_word(b" ext-handshake ", text, at);
+    let place = put_number(dict_length(dict), text, place);
+    let place = put_word(b" ", text, place);
+    let place = put_number(rest as u64, text, place);
+    put_announced(id, size, text, place)
+}
+
+/// Puts the words of a metadata message and the line's end.
+#[inline(never)]
+fn put_metadata(dict: &DictRef, rest: usize, text: &mut [u8], at: usize) -> usize
+    requires { at + 116 ≤ length text.old }
+    ensures room { (at ≤ result) × (result ≤ at + 116) }
+    ensures size { length text.new ≡ length text.old }
+    ensures text { (bytes : List ℕ) → length bytes ≡ rest → take result text.new ≡ take at text.old
+        ++ (codes " " ++ (ext_words (ext.Metadata (value.Dict dict.now.tree.0) bytes) ++ codes "\n")) }
 {
     let rest = rest as u64;
     match kind_ref(dict) {
-        Kind::Request(piece) => name_and_one(b"metadata-request", u64::from(piece), line, at),
-        Kind::Data { piece, total } => {
-            name_and_three(b"metadata-data", u64::from(piece), total, rest, line, at)
-        }
-        Kind::Reject(piece) => name_and_one(b"metadata-reject", u64::from(piece), line, at),
-        Kind::Other => name_and_two(b"metadata-other", dict_length(dict), rest, line, at),
-        Kind::Malformed => name_and_two(b"metadata-malformed", dict_length(dict), rest, line, at),
+        Kind::Request(piece) => put_one(b" metadata-request ", u64::from(piece), text, at),
+        Kind::Data { piece, total } => put_three(
+            b" metadata-data ",
+            u64::from(piece),
+            total,
+            rest,
+            text,
+            at,
+        ),
+        Kind::Reject(piece) => put_one(b" metadata-reject ", u64::from(piece), text, at),
+        Kind::Other => put_two(b" metadata-other ", dict_length(dict), rest, text, at),
+        Kind::Malformed => put_two(b" metadata-malformed ", dict_length(dict), rest, text, at),
     }
-}
-
-/// Puts the words of an extended payload before the place.
-fn payload_words(payload: &ExtView, line: &mut Line, at: usize) -> usize
-    requires { (120 ≤ at) × (at ≤ 160) }
-    ensures room { (result ≤ at) × (at ≤ result + 114) }
-    ensures text { drop result line.new ≡ ext_words (seen_ext payload.now) ++ drop at line.old }
-{
-    match payload {
-        ExtView::Handshake { dict, rest } => handshake_words(dict, rest.len(), line, at),
-        ExtView::Metadata { dict, rest } => metadata_words(dict, rest.len(), line, at),
-        ExtView::DontHave(index) => name_and_one(b"donthave", u64::from(*index), line, at),
-        ExtView::Raw { id, payload } => {
-            name_and_two(b"extended", u64::from(*id), payload.len() as u64, line, at)
-        }
-    }
-}
-
-/// Puts a name, a number and the line's end.
-#[inline(always)]
-fn put_one(name: &[u8], n: u64, text: &mut [u8], at: usize) -> usize
-    requires { at + (21 + length name.now) ≤ length text.old }
-    ensures room { (at ≤ result) × (result ≤ at + (21 + length name.now)) }
-    ensures size { length text.new ≡ length text.old }
-    ensures text { take result text.new ≡ take at text.old ++ (name.now ++ (decimal n ++ codes "\n")) }
-{
-    let place = put(name, text, at);
-    let place = put_number(n, text, place);
-    put(b"\n", text, place)
-}
-
-/// Puts a name, two numbers and the line's end.
-#[inline(always)]
-fn put_two(name: &[u8], n: u64, m: u64, text: &mut [u8], at: usize) -> usize
-    requires { at + (42 + length name.now) ≤ length text.old }
-    ensures room { (at ≤ result) × (result ≤ at + (42 + length name.now)) }
-    ensures size { length text.new ≡ length text.old }
-    ensures text { take result text.new ≡ take at text.old ++ (name.now ++ (decimal n ++ (spaced m ++ codes "\n"))) }
-{
-    let place = put(name, text, at);
-    let place = put_number(n, text, place);
-    put_one(b" ", m, text, place)
-}
-
-/// Puts a name, three numbers and the line's end.
-#[inline(always)]
-fn put_three(name: &[u8], n: u64, m: u64, k: u64, text: &mut [u8], at: usize) -> usize
-    requires { at + (63 + length name.now) ≤ length text.old }
-    ensures room { (at ≤ result) × (result ≤ at + (63 + length name.now)) }
-    ensures size { length text.new ≡ length text.old }
-    ensures text { take result text.new ≡ take at text.old ++ (name.now ++ (decimal n ++ (spaced m ++ (spaced k ++ codes "\n")))) }
-{
-    let place = put(name, text, at);
-    let place = put_number(n, text, place);
-    put_two(b" ", m, k, text, place)
 }
 
 /// Puts the words of an extended payload and the line's end.
-#[inline(never)]
-fn put_payload(payload: &ExtView, line: &mut Line, text: &mut [u8], at: usize) -> usize
+#[inline(always)]
+fn put_payload(payload: &ExtView, text: &mut [u8], at: usize) -> usize
     requires { at + 116 ≤ length text.old }
     ensures room { (at ≤ result) × (result ≤ at + 116) }
     ensures size { length text.new ≡ length text.old }
     ensures text { take result text.new ≡ take at text.old ++ (codes " " ++ (ext_words (seen_ext payload.now) ++ codes "\n")) }
 {
-    let place = word(b"\n", line, 160);
-    let place = payload_words(payload, line, place);
-    let place = word(b" ", line, place);
-    put(&line[place..], text, at)
+    match payload {
+        ExtView::Handshake { dict, rest } => put_handshake(dict, rest.len(), text, at),
+        ExtView::Metadata { dict, rest } => put_metadata(dict, rest.len(), text, at),
+        ExtView::DontHave(index) => put_one(b" donthave ", u64::from(*index), text, at),
+        ExtView::Raw { id, payload } => put_two(
+            b" extended ",
+            u64::from(*id),
+            payload.len() as u64,
+            text,
+            at,
+        ),
+    }
 }
 
 /// Puts the words of a message and the line's end.
 #[inline(always)]
-fn put_words(view: &MessageView, line: &mut Line, text: &mut [u8], at: usize) -> usize
+fn put_words(view: &MessageView, text: &mut [u8], at: usize) -> usize
     requires { at + 120 ≤ length text.old }
     ensures room { (at ≤ result) × (result ≤ at + 120) }
     ensures size { length text.new ≡ length text.old }
     ensures text { (own : Own) → take result text.new ≡ take at text.old ++ (codes " " ++ (message_words own (message_of view.now) ++ codes "\n")) }
 {
     match view {
-        MessageView::KeepAlive => put(b" keep-alive\n", text, at),
-        MessageView::Choke => put(b" choke\n", text, at),
-        MessageView::Unchoke => put(b" unchoke\n", text, at),
-        MessageView::Interested => put(b" interested\n", text, at),
-        MessageView::NotInterested => put(b" not-interested\n", text, at),
+        MessageView::KeepAlive => put_word(b" keep-alive\n", text, at),
+        MessageView::Choke => put_word(b" choke\n", text, at),
+        MessageView::Unchoke => put_word(b" unchoke\n", text, at),
+        MessageView::Interested => put_word(b" interested\n", text, at),
+        MessageView::NotInterested => put_word(b" not-interested\n", text, at),
         MessageView::Have(i) => put_one(b" have ", u64::from(*i), text, at),
         MessageView::Bitfield(bits) => put_one(b" bitfield ", bits.len() as u64, text, at),
         MessageView::Request {
@@ -317,8 +249,8 @@ fn put_words(view: &MessageView, line: &mut Line, text: &mut [u8], at: usize) ->
         ),
         MessageView::Port(port) => put_one(b" port ", u64::from(*port), text, at),
         MessageView::Suggest(i) => put_one(b" suggest ", u64::from(*i), text, at),
-        MessageView::HaveAll => put(b" have-all\n", text, at),
-        MessageView::HaveNone => put(b" have-none\n", text, at),
+        MessageView::HaveAll => put_word(b" have-all\n", text, at),
+        MessageView::HaveNone => put_word(b" have-none\n", text, at),
         MessageView::Reject {
             index,
             begin,
@@ -332,7 +264,7 @@ fn put_words(view: &MessageView, line: &mut Line, text: &mut [u8], at: usize) ->
             at,
         ),
         MessageView::AllowedFast(i) => put_one(b" allowed-fast ", u64::from(*i), text, at),
-        MessageView::Extended(payload) => put_payload(payload, line, text, at),
+        MessageView::Extended(payload) => put_payload(payload, text, at),
         MessageView::Unknown { id, payload } => put_two(
             b" unknown ",
             u64::from(*id),
@@ -349,7 +281,6 @@ pub fn put_message(
     offset: &mut Offset,
     at: u64,
     view: &MessageView,
-    line: &mut Line,
     text: &mut [u8],
     place: usize,
 ) -> usize
@@ -359,7 +290,7 @@ pub fn put_message(
     ensures text { (own : Own) → take result text.new ≡ take place text.old ++ line_of own (at, items.Message (message_of view.now)) }
 {
     let place = offset.put(at, text, place);
-    put_words(view, line, text, place)
+    put_words(view, text, place)
 }
 
 /// Writes a handshake's line at the end of the array; returns where it starts.

@@ -1,7 +1,9 @@
-//! Words and numbers put into a text that has room for them, from a place on. The lines of `show` are written by these.
+//! Words and numbers put into a text that has room for them, from a place on. The lines of `show` and of `unpack` are written by
+//! these.
 //!
 //! A call returns the place after what it put.
-ghost use Rattle.std.specs.Prelude.{◌≡◌, ◌+◌, ◌-◌, ◌*◌, ◌/◌, ◌%◌, ◌^◌, ◌<◌, ◌≤◌, [], ◌∷◌, ◌++◌, length, take, decimal};
+ghost use Rattle.std.specs.Prelude.{◌≡◌, ◌+◌, ◌-◌, ◌*◌, ◌/◌, ◌%◌, ◌^◌, ◌<◌, ◌≤◌, [], ◌∷◌, ◌++◌, length, take, codes, decimal};
+ghost use Rattle.bt_text.specs.Lines.{spaced};
 
 use itoa::write_digits;
 
@@ -21,6 +23,20 @@ pub fn put(word: &[u8], text: &mut [u8], at: usize) -> usize
     let end = at + word.len();
     text[at..end].copy_from_slice(word);
     end
+}
+
+/// Puts a word of a known length.
+///
+/// It is copied from a place of its own, which the compiler sees to be apart from the text. So it doesn't test that before it copies.
+#[inline(always)]
+pub fn put_word<const N: usize>(word: &[u8; N], text: &mut [u8], at: usize) -> usize
+    requires { at + length word.now ≤ length text.old }
+    ensures room { result ≡ at + length word.now }
+    ensures size { length text.new ≡ length text.old }
+    ensures text { take result text.new ≡ take at text.old ++ word.now }
+{
+    let word = *word;
+    put(&word, text, at)
 }
 
 /// Puts the two digits of a number below 100.
@@ -112,6 +128,74 @@ pub fn put_number(n: u64, text: &mut [u8], at: usize) -> usize
     put_four(n % 10_000, text, at)
 }
 
+/// Puts a name, a number and the line's end.
+#[inline(always)]
+pub fn put_one<const N: usize>(name: &[u8; N], n: u64, text: &mut [u8], at: usize) -> usize
+    requires { at + (21 + length name.now) ≤ length text.old }
+    ensures room { (at ≤ result) × (result ≤ at + (21 + length name.now)) }
+    ensures size { length text.new ≡ length text.old }
+    ensures text { take result text.new ≡ take at text.old ++ (name.now ++ (decimal n ++ codes "\n")) }
+{
+    let place = put_word(name, text, at);
+    let place = put_number(n, text, place);
+    put_word(b"\n", text, place)
+}
+
+/// Puts two numbers and the line's end.
+#[inline(never)]
+fn end_two(n: u64, m: u64, text: &mut [u8], at: usize) -> usize
+    requires { at + 42 ≤ length text.old }
+    ensures room { (at ≤ result) × (result ≤ at + 42) }
+    ensures size { length text.new ≡ length text.old }
+    ensures text { take result text.new ≡ take at text.old ++ (decimal n ++ (spaced m ++ codes "\n")) }
+{
+    let place = put_number(n, text, at);
+    put_one(b" ", m, text, place)
+}
+
+/// Puts a name, two numbers and the line's end.
+#[inline(always)]
+pub fn put_two<const N: usize>(name: &[u8; N], n: u64, m: u64, text: &mut [u8], at: usize) -> usize
+    requires { at + (42 + length name.now) ≤ length text.old }
+    ensures room { (at ≤ result) × (result ≤ at + (42 + length name.now)) }
+    ensures size { length text.new ≡ length text.old }
+    ensures text { take result text.new ≡ take at text.old ++ (name.now ++ (decimal n ++ (spaced m ++ codes "\n"))) }
+{
+    let place = put_word(name, text, at);
+    end_two(n, m, text, place)
+}
+
+/// Puts three numbers and the line's end.
+#[inline(never)]
+fn end_three(n: u64, m: u64, k: u64, text: &mut [u8], at: usize) -> usize
+    requires { at + 63 ≤ length text.old }
+    ensures room { (at ≤ result) × (result ≤ at + 63) }
+    ensures size { length text.new ≡ length text.old }
+    ensures text { take result text.new ≡ take at text.old ++ (decimal n ++ (spaced m ++ (spaced k ++ codes "\n"))) }
+{
+    let place = put_number(n, text, at);
+    put_two(b" ", m, k, text, place)
+}
+
+/// Puts a name, three numbers and the line's end.
+#[inline(always)]
+pub fn put_three<const N: usize>(
+    name: &[u8; N],
+    n: u64,
+    m: u64,
+    k: u64,
+    text: &mut [u8],
+    at: usize,
+) -> usize
+    requires { at + (63 + length name.now) ≤ length text.old }
+    ensures room { (at ≤ result) × (result ≤ at + (63 + length name.now)) }
+    ensures size { length text.new ≡ length text.old }
+    ensures text { take result text.new ≡ take at text.old ++ (name.now ++ (decimal n ++ (spaced m ++ (spaced k ++ codes "\n")))) }
+{
+    let place = put_word(name, text, at);
+    end_three(n, m, k, text, place)
+}
+
 /// The digits of offsets but for their last four, which offsets that follow each other mostly share.
 #[derive(Drop)]
 pub struct Offset {
@@ -159,7 +243,9 @@ impl Offset {
         ensures size { length text.new ≡ length text.old }
         ensures text { take result text.new ≡ take place text.old ++ decimal (self.now.base + low) }
     {
-        text[place..place + 20].copy_from_slice(&self.digits);
+        // a copy of its own, as in put_word
+        let digits = self.digits;
+        text[place..place + 20].copy_from_slice(&digits);
         put_four(low, text, place + self.count)
     }
 

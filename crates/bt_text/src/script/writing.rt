@@ -1,141 +1,95 @@
 //! The line of an item, with all of its bytes. The printer of `unpack` calls it.
 //!
-//! A line takes one growth of the text at most.
-ghost use Rattle.std.specs.Prelude.{◌≡◌, ◌≤◌, ◌<◌, ◌+◌, ◌*◌, ◌^◌, ℕ, List, ◌++◌, length, drop, codes, unwrap_or, OnOk};
+//! A line is put right into a text that has room for it; the call returns the place after the line. Or it is appended, by one growth
+//! of the text at most.
+ghost use Rattle.std.specs.Prelude.{◌≡◌, ◌≤◌, ◌+◌, ◌-◌, ◌*◌, ◌^◌, ℕ, List, ◌++◌, length, take, min, codes, decimal, vec_len, unwrap_or, IfOk, OnOk};
 ghost use Rattle.hex.specs.Hex.{encode_lower};
 ghost use Rattle.bt_ext.specs.Payloads.{ext_id, payload_of, seen as seen_ext};
 ghost use Rattle.bt_wire.specs.Messages.{message_of};
 ghost use Rattle.bt_wire.specs.declared.context.Own.{Own as Receiver};
 ghost use Rattle.bt_wire.specs.declared.item.Item.TheVariants as items;
 ghost use Rattle.bt_text.specs.Lines.{spaced, handshake_words};
-ghost use Rattle.bt_text.specs.Script.{spaced_hex, script_message, script_line};
+ghost use Rattle.bt_text.specs.Script.{spaced_hex, script_message, script_line, kept as kept_of};
 
+use crate::putting::{put_number, put_one, put_three, put_word};
 use bt_ext::{ExtView, Registered};
 use bt_wire::{Handshake, MessageView, Own};
-use itoa::write_digits;
 use std::alloc::AllocError;
 
-/// Room for a space and a number that ends at 21, and as many bytes after it.
-type Word = [u8; 42];
+/// How many bytes of room the line of a handshake needs.
+pub const HANDSHAKE_ROOM: usize = 109;
 
-/// Puts a space before the place, and returns where it stands.
+/// Puts bytes in hex.
 #[inline(always)]
-fn put_space(word: &mut Word, at: usize) -> usize
-    requires { (1 ≤ at) × (at ≤ 42) }
-    ensures room { result + 1 ≡ at }
-    ensures text { drop result word.new ≡ codes " " ++ drop at word.old }
+fn put_hex(bytes: &[u8], text: &mut [u8], at: usize) -> usize
+    requires { at + 2 * length bytes.now ≤ length text.old }
+    ensures room { result ≡ at + 2 * length bytes.now }
+    ensures size { length text.new ≡ length text.old }
+    ensures text { take result text.new ≡ take at text.old ++ encode_lower bytes.now }
 {
-    let front = at - 1;
-    word[front..at].copy_from_slice(b" ");
-    front
+    let end = at + 2 * bytes.len();
+    let _ = hex::encode_to_slice(bytes, &mut text[at..end]);
+    end
 }
 
-/// Puts a space and a number before the place 21, and returns where the space stands.
-#[inline(always)]
-fn put_number(n: u64, word: &mut Word) -> usize
-    ensures room { result + length (spaced n) ≡ 21 }
-    ensures text { drop result word.new ≡ spaced n ++ drop 21 word.old }
+/// Puts a space, two parts of bytes in hex, or `-` for no bytes, and the line's end.
+#[inline(never)]
+fn put_bytes(front: &[u8], rest: &[u8], text: &mut [u8], at: usize) -> usize
+    requires { at + (3 + 2 * (length front.now + length rest.now)) ≤ length text.old }
+    ensures size { length text.new ≡ length text.old }
+    ensures text { take result text.new ≡ take at text.old ++ (spaced_hex (front.now ++ rest.now) ++ codes "\n") }
 {
-    let place = write_digits(n, word, 21);
-    put_space(word, place)
-}
-
-/// Appends a space and a number.
-///
-/// The copy has a fixed size, and what is too much is cut off: a copy of the number's size takes longer.
-fn push_number(n: u64, text: &mut Vec<u8>) -> Result<(), AllocError>
-    ensures { OnOk result (text.new.items ≡ text.old.items ++ spaced n) }
-{
-    let mut word = [0u8; 42];
-    let place = put_number(n, &mut word);
-    let end = text.len() + (21 - place);
-    text.extend_from_slice(&word[place..place + 21])?;
-    text.truncate(end);
-    Ok(())
-}
-
-/// Appends bytes in hex.
-#[inline(always)]
-fn push_hex(bytes: &[u8], text: &mut Vec<u8>) -> Result<(), AllocError>
-    ensures { OnOk result (text.new.items ≡ text.old.items ++ encode_lower bytes.now) }
-{
-    if bytes.is_empty() {
-        return Ok(());
-    }
-    push_digits(bytes, text)
-}
-
-/// Appends bytes in hex, of which there are some.
-fn push_digits(bytes: &[u8], text: &mut Vec<u8>) -> Result<(), AllocError>
-    ensures { OnOk result (text.new.items ≡ text.old.items ++ encode_lower bytes.now) }
-{
-    let start = text.len();
-    text.reserve(2 * bytes.len())?;
-    text.resize(start + 2 * bytes.len(), 0)?;
-    let _ = hex::encode_to_slice(bytes, &mut text[start..]);
-    Ok(())
-}
-
-/// Appends a space and two parts of bytes in hex, or `-` for no bytes.
-fn push_bytes(front: &[u8], rest: &[u8], text: &mut Vec<u8>) -> Result<(), AllocError>
-    ensures { OnOk result (text.new.items ≡ text.old.items ++ spaced_hex (front.now ++ rest.now)) }
-{
-    text.push(b' ')?;
     if front.is_empty() && rest.is_empty() {
-        text.push(b'-')?;
-        return Ok(());
+        return put_word(b" -\n", text, at);
     }
-    push_hex(front, text)?;
-    push_hex(rest, text)
+    let place = put_word(b" ", text, at);
+    let place = put_hex(front, text, place);
+    let place = put_hex(rest, text, place);
+    put_word(b"\n", text, place)
 }
 
-/// Appends a name and a number.
+/// Puts a name, an id, the bytes of its payload and the line's end.
 #[inline(always)]
-fn push_one(name: &[u8], n: u64, text: &mut Vec<u8>) -> Result<(), AllocError>
-    ensures { OnOk result (text.new.items ≡ text.old.items ++ (name.now ++ spaced n)) }
-{
-    text.extend_from_slice(name)?;
-    push_number(n, text)
-}
-
-/// Appends a name and two numbers.
-#[inline(always)]
-fn push_two(name: &[u8], n: u64, m: u64, text: &mut Vec<u8>) -> Result<(), AllocError>
-    ensures { OnOk result (text.new.items ≡ text.old.items ++ (name.now ++ (spaced n ++ spaced m))) }
-{
-    push_one(name, n, text)?;
-    push_number(m, text)
-}
-
-/// Appends a name and three numbers.
-#[inline(always)]
-fn push_three(name: &[u8], n: u64, m: u64, k: u64, text: &mut Vec<u8>) -> Result<(), AllocError>
-    ensures { OnOk result (text.new.items ≡ text.old.items ++ (name.now ++ (spaced n ++ (spaced m ++ spaced k)))) }
-{
-    push_two(name, n, m, text)?;
-    push_number(k, text)
-}
-
-/// Appends the words of a block.
-fn push_block(index: u32, begin: u32, block: &[u8], text: &mut Vec<u8>) -> Result<(), AllocError>
-    ensures { OnOk result (text.new.items ≡ text.old.items ++ (codes "piece" ++ (spaced index ++ (spaced begin ++ spaced_hex block.now)))) }
-{
-    push_two(b"piece", u64::from(index), u64::from(begin), text)?;
-    push_bytes(b"", block, text)
-}
-
-/// Appends a name, an id and the bytes of its payload.
-fn push_payload(
-    name: &[u8],
+fn put_payload<const N: usize>(
+    name: &[u8; N],
     id: u8,
     front: &[u8],
     rest: &[u8],
-    text: &mut Vec<u8>,
-) -> Result<(), AllocError>
-    ensures { OnOk result (text.new.items ≡ text.old.items ++ (name.now ++ (spaced id ++ spaced_hex (front.now ++ rest.now)))) }
+    text: &mut [u8],
+    at: usize,
+) -> usize
+    requires { at + (23 + length name.now + 2 * (length front.now + length rest.now)) ≤ length text.old }
+    ensures size { length text.new ≡ length text.old }
+    ensures text { take result text.new ≡ take at text.old ++ (name.now ++ (decimal id ++ (spaced_hex (front.now ++ rest.now) ++ codes "\n"))) }
 {
-    push_one(name, u64::from(id), text)?;
-    push_bytes(front, rest, text)
+    let place = put_word(name, text, at);
+    let place = put_number(u64::from(id), text, place);
+    put_bytes(front, rest, text, place)
+}
+
+/// Puts the words of a block and the line's end.
+#[inline(always)]
+fn put_block(index: u32, begin: u32, block: &[u8], text: &mut [u8], at: usize) -> usize
+    requires { at + (50 + 2 * length block.now) ≤ length text.old }
+    ensures size { length text.new ≡ length text.old }
+    ensures text { take result text.new ≡ take at text.old ++ (codes "piece " ++ (decimal index ++ (spaced begin ++ (spaced_hex block.now ++ codes "\n")))) }
+{
+    let place = put_word(b"piece ", text, at);
+    let place = put_number(u64::from(index), text, place);
+    let place = put_word(b" ", text, place);
+    let place = put_number(u64::from(begin), text, place);
+    put_bytes(b"", block, text, place)
+}
+
+/// Puts the words of a bitfield and the line's end.
+#[inline(always)]
+fn put_bitfield(bits: &[u8], text: &mut [u8], at: usize) -> usize
+    requires { at + (11 + 2 * length bits.now) ≤ length text.old }
+    ensures size { length text.new ≡ length text.old }
+    ensures text { take result text.new ≡ take at text.old ++ (codes "bitfield" ++ (spaced_hex bits.now ++ codes "\n")) }
+{
+    let place = put_word(b"bitfield", text, at);
+    put_bytes(b"", bits, text, place)
 }
 
 /// Returns the extended id of a payload; 0 where it has none.
@@ -159,27 +113,34 @@ fn extended_id(reg: Registered, payload: &ExtView) -> u8
     }
 }
 
-/// Appends the words of an extended message.
-fn push_extended(reg: Registered, payload: &ExtView, text: &mut Vec<u8>) -> Result<(), AllocError>
-    ensures { OnOk result (text.new.items ≡ text.old.items ++ (codes "extended" ++ (spaced (unwrap_or (ext_id reg (seen_ext payload.now)) 0) ++ spaced_hex (payload_of (seen_ext payload.now))))) }
+/// Puts the words of an extended message and the line's end.
+#[inline(never)]
+fn put_extended(reg: Registered, payload: &ExtView, text: &mut [u8], at: usize) -> usize
+    requires { at + (32 + 2 * length (payload_of (seen_ext payload.now))) ≤ length text.old }
+    ensures size { length text.new ≡ length text.old }
+    ensures text { take result text.new ≡ take at text.old ++ (codes "extended " ++ (decimal (unwrap_or (ext_id reg (seen_ext payload.now)) 0)
+        ++ (spaced_hex (payload_of (seen_ext payload.now)) ++ codes "\n"))) }
 {
     let id = extended_id(reg, payload);
     match payload {
         ExtView::Handshake { dict, rest } => {
-            push_payload(b"extended", id, dict.spelled(), rest, text)
+            put_payload(b"extended ", id, dict.spelled(), rest, text, at)
         }
         ExtView::Metadata { dict, rest } => {
-            push_payload(b"extended", id, dict.spelled(), rest, text)
+            put_payload(b"extended ", id, dict.spelled(), rest, text, at)
         }
         ExtView::DontHave(index) => {
-            push_payload(b"extended", id, b"", &index.to_be_bytes(), text)
+            put_payload(b"extended ", id, b"", &index.to_be_bytes(), text, at)
         }
-        ExtView::Raw { payload, .. } => push_payload(b"extended", id, b"", payload, text),
+        ExtView::Raw { payload, .. } => put_payload(b"extended ", id, b"", payload, text, at),
     }
 }
 
-/// Returns how many bytes a message keeps.
-fn kept(view: &MessageView) -> usize {
+/// Returns how many bytes a message keeps, of one that may keep some.
+#[inline(never)]
+fn kept_bytes(view: &MessageView) -> usize
+    ensures { result ≡ kept_of (message_of view.now) }
+{
     match view {
         MessageView::Bitfield(bits) => bits.len(),
         MessageView::Piece { block, .. } => block.len(),
@@ -194,72 +155,117 @@ fn kept(view: &MessageView) -> usize {
     }
 }
 
-/// Appends the words of a message.
-fn push_words(own: &Own, view: &MessageView, text: &mut Vec<u8>) -> Result<(), AllocError>
-    ensures { OnOk result (text.new.items ≡ text.old.items ++ script_message own.now (message_of view.now)) }
+/// Returns how many bytes a message keeps. It tells the other messages apart without a jump by their kind.
+#[inline(always)]
+fn kept(view: &MessageView) -> usize
+    ensures { result ≡ kept_of (message_of view.now) }
 {
     match view {
-        MessageView::KeepAlive => text.extend_from_slice(b"keep-alive"),
-        MessageView::Choke => text.extend_from_slice(b"choke"),
-        MessageView::Unchoke => text.extend_from_slice(b"unchoke"),
-        MessageView::Interested => text.extend_from_slice(b"interested"),
-        MessageView::NotInterested => text.extend_from_slice(b"not-interested"),
-        MessageView::Have(i) => push_one(b"have", u64::from(*i), text),
-        MessageView::Bitfield(bits) => {
-            text.extend_from_slice(b"bitfield")?;
-            push_bytes(b"", bits, text)
-        }
+        MessageView::Bitfield(_)
+        | MessageView::Piece { .. }
+        | MessageView::Extended(_)
+        | MessageView::Unknown { .. } => kept_bytes(view),
+        _ => 0,
+    }
+}
+
+/// Returns how many bytes of room a message's line needs.
+///
+/// Where this is more than any text has, it is the greatest number.
+#[inline(always)]
+pub fn room_for(view: &MessageView) -> usize
+    ensures { result ≡ min (160 + 2 * kept_of (message_of view.now)) (2 ^ 64 - 1) }
+{
+    kept(view).saturating_mul(2).saturating_add(160)
+}
+
+/// Puts the line of a message with its line feed, as `read_line` reads it; returns the place after it.
+///
+/// The id of a metadata message (BEP 9) is the one that the receiver registers.
+#[inline(always)]
+pub fn put_message_line(own: &Own, view: &MessageView, text: &mut [u8], at: usize) -> usize
+    requires { at + (160 + 2 * kept_of (message_of view.now)) ≤ length text.old }
+    ensures size { length text.new ≡ length text.old }
+    ensures text { take result text.new ≡ take at text.old ++ script_line own.now (items.Message (message_of view.now)) }
+{
+    match view {
+        MessageView::KeepAlive => put_word(b"keep-alive\n", text, at),
+        MessageView::Choke => put_word(b"choke\n", text, at),
+        MessageView::Unchoke => put_word(b"unchoke\n", text, at),
+        MessageView::Interested => put_word(b"interested\n", text, at),
+        MessageView::NotInterested => put_word(b"not-interested\n", text, at),
+        MessageView::Have(i) => put_one(b"have ", u64::from(*i), text, at),
+        MessageView::Bitfield(bits) => put_bitfield(bits, text, at),
         MessageView::Request {
             index,
             begin,
             length,
-        } => push_three(
-            b"request",
+        } => put_three(
+            b"request ",
             u64::from(*index),
             u64::from(*begin),
             u64::from(*length),
             text,
+            at,
         ),
         MessageView::Piece {
             index,
             begin,
             block,
-        } => push_block(*index, *begin, block, text),
+        } => put_block(*index, *begin, block, text, at),
         MessageView::Cancel {
             index,
             begin,
             length,
-        } => push_three(
-            b"cancel",
+        } => put_three(
+            b"cancel ",
             u64::from(*index),
             u64::from(*begin),
             u64::from(*length),
             text,
+            at,
         ),
-        MessageView::Port(port) => push_one(b"port", u64::from(*port), text),
-        MessageView::Suggest(i) => push_one(b"suggest", u64::from(*i), text),
-        MessageView::HaveAll => text.extend_from_slice(b"have-all"),
-        MessageView::HaveNone => text.extend_from_slice(b"have-none"),
+        MessageView::Port(port) => put_one(b"port ", u64::from(*port), text, at),
+        MessageView::Suggest(i) => put_one(b"suggest ", u64::from(*i), text, at),
+        MessageView::HaveAll => put_word(b"have-all\n", text, at),
+        MessageView::HaveNone => put_word(b"have-none\n", text, at),
         MessageView::Reject {
             index,
             begin,
             length,
-        } => push_three(
-            b"reject",
+        } => put_three(
+            b"reject ",
             u64::from(*index),
             u64::from(*begin),
             u64::from(*length),
             text,
+            at,
         ),
-        MessageView::AllowedFast(i) => push_one(b"allowed-fast", u64::from(*i), text),
-        MessageView::Extended(payload) => push_extended(own.reg, payload, text),
-        MessageView::Unknown { id, payload } => push_payload(b"unknown", *id, b"", payload, text),
+        MessageView::AllowedFast(i) => put_one(b"allowed-fast ", u64::from(*i), text, at),
+        MessageView::Extended(payload) => put_extended(own.reg, payload, text, at),
+        MessageView::Unknown { id, payload } => put_payload(
+            b"unknown ",
+            *id,
+            b"",
+            payload,
+            text,
+            at,
+        ),
     }
 }
 
-/// Appends the line of a message with its line feed, as `read_line` reads it.
-///
-/// The id of a metadata message (BEP 9) is the one that the receiver registers.
+/// Makes a text longer by this room, and returns the place of the room.
+fn grow(text: &mut Vec<u8>, room: usize) -> Result<usize, AllocError>
+    ensures { IfOk result (λ at. (at + room ≤ vec_len text.new) × (take at text.new.items ≡ text.old.items)) }
+{
+    let at = text.len();
+    match text.resize(at.saturating_add(room), 0) {
+        Ok(()) => Ok(at),
+        Err(error) => Err(error),
+    }
+}
+
+/// Appends the line of a message with its line feed, as [`put_message_line`] puts it.
 ///
 /// # Errors
 /// `AllocError` if the growth of the text was refused; there is one at most.
@@ -270,11 +276,25 @@ pub fn push_message_line(
 ) -> Result<(), AllocError>
     ensures { OnOk result (text.new.items ≡ text.old.items ++ script_line own.now (items.Message (message_of view.now))) }
 {
-    // a name of 16 letters at most, three numbers of 10 digits, four spaces and the line feed
-    text.reserve(kept(view).saturating_mul(2).saturating_add(64))?;
-    push_words(own, view, text)?;
-    text.push(b'\n')?;
+    let at = grow(text, room_for(view))?;
+    let end = put_message_line(own, view, text.as_mut_slice(), at);
+    text.truncate(end);
     Ok(())
+}
+
+/// Puts the line of a handshake, with its line feed; returns the place after it.
+pub fn put_handshake_line(handshake: &Handshake, text: &mut [u8], at: usize) -> usize
+    requires { at + 109 ≤ length text.old }
+    ensures size { length text.new ≡ length text.old }
+    ensures text { take result text.new ≡ take at text.old ++ (handshake_words handshake.now ++ codes "\n") }
+{
+    let place = put_word(b"handshake ", text, at);
+    let place = put_hex(&handshake.reserved.0.to_be_bytes(), text, place);
+    let place = put_word(b" ", text, place);
+    let place = put_hex(&handshake.info_hash, text, place);
+    let place = put_word(b" ", text, place);
+    let place = put_hex(&handshake.peer_id, text, place);
+    put_word(b"\n", text, place)
 }
 
 /// Appends the line of a handshake, with its line feed.
@@ -284,13 +304,8 @@ pub fn push_message_line(
 pub fn push_handshake_line(handshake: &Handshake, text: &mut Vec<u8>) -> Result<(), AllocError>
     ensures { OnOk result ((own : Receiver) → text.new.items ≡ text.old.items ++ script_line own (items.Handshake handshake.now)) }
 {
-    text.reserve(109)?;
-    text.extend_from_slice(b"handshake ")?;
-    push_hex(&handshake.reserved.0.to_be_bytes(), text)?;
-    text.push(b' ')?;
-    push_hex(&handshake.info_hash, text)?;
-    text.push(b' ')?;
-    push_hex(&handshake.peer_id, text)?;
-    text.push(b'\n')?;
+    let at = grow(text, HANDSHAKE_ROOM)?;
+    let end = put_handshake_line(handshake, text.as_mut_slice(), at);
+    text.truncate(end);
     Ok(())
 }
