@@ -57,11 +57,17 @@ fn apply(table: &mut Table, item: &Item) -> Result<(), AllocError> {
     }
 }
 
+fn apply_found(table: &mut Table, found: Result<(u64, Item), ItemError>) -> Result<(), PeerError> {
+    match found {
+        Ok((_, item)) => Ok(apply(table, &item)?),
+        Err(error) => Err(error.into()),
+    }
+}
+
 /// Applies the extended handshakes among the items of the stream to the table.
 fn tell(alloc: Global, feed: &mut Feed, table: &mut Table, stream: &[u8]) -> Result<(), PeerError> {
-    for item in feed.items(alloc, stream) {
-        let (_, item) = item?;
-        apply(table, &item)?;
+    for found in feed.items(alloc, stream) {
+        apply_found(table, found)?;
     }
     Ok(())
 }
@@ -87,11 +93,15 @@ fn request(alloc: Global) -> Result<Message, AllocError> {
     Ok(Message::Extended(Ext::Metadata { dict, rest }))
 }
 
-/// The extended id of a request for metadata.
+/// The extended id under which a message goes to the peer.
+fn id_under(alloc: Global, context: &Context, message: &Message) -> Result<Option<u8>, PeerError> {
+    let bytes = encode(alloc, context, Order::Fresh, message)?;
+    Ok(bytes.get(5).copied())
+}
+
 fn request_id(alloc: Global, context: &Context) -> Result<Option<u8>, PeerError> {
     let message = request(alloc)?;
-    let bytes = encode(alloc, context, Order::Fresh, &message)?;
-    Ok(bytes.get(5).copied())
+    id_under(alloc, context, &message)
 }
 
 /// The extended id under which a request for metadata goes to a peer that sends its handshake and these messages.
