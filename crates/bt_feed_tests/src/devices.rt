@@ -1,84 +1,140 @@
 //! Devices that move few bytes a call, fail once, and end.
 use bt_io::*;
+use std::alloc::Global;
 use std::io::Cursor;
 use std::test::Fail;
 
-/// Whether the next reads of a source give the bytes, or fail. Each row has the size of a read.
-fn reads_as<S: Source>(source: &mut S, rows: &[(usize, Option<&[u8]>)]) -> bool {
-    let mut same = true;
-    for (size, wanted) in rows {
-        let mut buffer = [0; 8];
-        let Some(into) = buffer.get_mut(..*size) else {
-            return false;
-        };
-        let came = match source.read(into) {
-            Ok(count) => into.get(..count) == *wanted,
-            Err(Failed) => wanted.is_none(),
-        };
-        same = same && came;
+/// A read of so many bytes, and the bytes that come; none where it fails.
+type Read = (usize, Option<&'static [u8]>);
+
+const READS: &[Read] = &[
+    (8, Some(b"ab")),
+    (1, Some(b"c")),
+    (8, None),
+    (0, Some(b"")),
+    (8, Some(b"de")),
+    (8, Some(b"")),
+    (8, Some(b"")),
+];
+
+const HOST_READS: &[Read] = &[(2, Some(b"ab")), (8, Some(b"cde")), (8, Some(b""))];
+
+/// Whether a read of so many bytes gives these, or fails.
+fn reads<S: Source>(source: &mut S, size: usize, wanted: Option<&[u8]>) -> bool {
+    let mut buffer = [0; 8];
+    let Some(into) = buffer.get_mut(..size) else {
+        return false;
+    };
+    match source.read(into) {
+        Ok(count) => into.get(..count) == wanted,
+        Err(Failed) => wanted.is_none(),
     }
-    same
 }
 
-/// Whether the next writes of a target take the number of bytes, or fail.
-fn writes_as<T: Target>(target: &mut T, rows: &[(&[u8], Option<usize>)]) -> bool {
-    let mut same = true;
-    for (bytes, wanted) in rows {
-        same = same && target.write(bytes).ok() == *wanted;
+/// The number of the first read, counted from 0, that goes otherwise.
+fn wrong_read<S: Source>(source: &mut S, rows: &[Read]) -> Option<usize> {
+    for (number, (size, wanted)) in rows.iter().enumerate() {
+        if !reads(source, *size, *wanted) {
+            return Some(number);
+        }
     }
-    same
+    None
+}
+
+fn wrong_mem_read(bytes: Vec<u8>) -> Option<usize> {
+    wrong_read(&mut MemSource::new(bytes, 2, Some(3)), READS)
 }
 
 #[test]
 fn sources(rt: HostRuntime) -> Result<(), Fail> {
-    let rows: [(usize, Option<&[u8]>); 7] = [
-        (8, Some(b"ab")),
-        (1, Some(b"c")),
-        (8, None),
-        (0, Some(b"")),
-        (8, Some(b"de")),
-        (8, Some(b"")),
-        (8, Some(b"")),
-    ];
-    let mut source = MemSource::new(Vec::from_slice(rt.alloc(), b"abcde")?, 2, Some(3));
-    assert!(rt; reads_as(&mut source, &rows));
+    let wrong = wrong_mem_read(Vec::from_slice(rt.alloc(), b"abcde")?);
+    assert!(rt; wrong.is_none(), "{wrong:?}");
     Ok(())
+}
+
+fn wrong_host_read(bytes: &[u8]) -> Option<usize> {
+    wrong_read(&mut Host::new(Cursor::new(bytes)), HOST_READS)
 }
 
 #[test]
 fn host_source(rt: HostRuntime) {
-    let rows: [(usize, Option<&[u8]>); 3] = [(2, Some(b"ab")), (8, Some(b"cde")), (8, Some(b""))];
-    let mut source = Host::new(Cursor::new(b"abcde".as_slice()));
-    assert!(rt; reads_as(&mut source, &rows));
+    let wrong = wrong_host_read(b"abcde");
+    assert!(rt; wrong.is_none(), "{wrong:?}");
+}
+
+/// A write of these bytes, and how many are taken; none where it fails.
+type Write = (&'static [u8], Option<usize>);
+
+const WRITES: &[Write] = &[
+    (b"abc", Some(2)),
+    (b"c", Some(1)),
+    (b"de", None),
+    (b"", Some(0)),
+    (b"de", Some(2)),
+];
+
+const STUCK_WRITES: &[Write] = &[(b"abc", Some(0))];
+
+const HOST_WRITES: &[Write] = &[(b"abc", Some(3)), (b"de", Some(2))];
+
+fn writes<T: Target>(target: &mut T, bytes: &[u8], wanted: Option<usize>) -> bool {
+    target.write(bytes).ok() == wanted
+}
+
+/// The number of the first write, counted from 0, that goes otherwise.
+fn wrong_write<T: Target>(target: &mut T, rows: &[Write]) -> Option<usize> {
+    for (number, (bytes, wanted)) in rows.iter().enumerate() {
+        if !writes(target, bytes, *wanted) {
+            return Some(number);
+        }
+    }
+    None
+}
+
+fn has(target: &MemTarget, bytes: &[u8]) -> bool {
+    target.bytes() == bytes
+}
+
+/// A name, what a target holds, how many bytes it takes a write, the call that fails, the writes, and what it holds then.
+type Row = (
+    &'static str,
+    &'static [u8],
+    usize,
+    Option<u64>,
+    &'static [Write],
+    &'static [u8],
+);
+
+const TARGETS: &[Row] = &[
+    ("two bytes a write", b"0", 2, Some(3), WRITES, b"0abcde"),
+    ("takes nothing", b"", 0, None, STUCK_WRITES, b""),
+];
+
+/// Whether each write goes so, and the target holds these bytes then.
+fn is_written(target: &mut MemTarget, rows: &[Write], held: &[u8]) -> bool {
+    wrong_write(target, rows).is_none() && has(target, held)
+}
+
+fn is_right(alloc: Global, (_, held, most, fails_at, rows, wanted): &Row) -> bool {
+    let Ok(bytes) = Vec::from_slice(alloc, held) else {
+        return false;
+    };
+    is_written(&mut MemTarget::new(bytes, *most, *fails_at), rows, wanted)
 }
 
 #[test]
-fn targets(rt: HostRuntime) -> Result<(), Fail> {
-    let rows: [(&[u8], Option<usize>); 5] = [
-        (b"abc", Some(2)),
-        (b"c", Some(1)),
-        (b"de", None),
-        (b"", Some(0)),
-        (b"de", Some(2)),
-    ];
-    let mut target = MemTarget::new(Vec::from_slice(rt.alloc(), b"0")?, 2, Some(3));
-    assert!(rt; writes_as(&mut target, &rows));
-    assert!(rt; target.bytes() == b"0abcde".as_slice());
-    Ok(())
+fn targets(rt: HostRuntime) {
+    for row in TARGETS {
+        assert!(rt; is_right(rt.alloc(), row), "{}", row.0);
+    }
 }
 
-#[test]
-fn target_that_takes_nothing(rt: HostRuntime) {
-    let mut target = MemTarget::new(Vec::new(rt.alloc()), 0, None);
-    assert!(rt; writes_as(&mut target, &[(b"abc", Some(0))]));
-    assert!(rt; target.bytes() == b"".as_slice());
+fn is_host_written(bytes: &mut Vec<u8>) -> bool {
+    wrong_write(&mut Host::new(Cursor::new(bytes)), HOST_WRITES).is_none()
 }
 
 #[test]
 fn host_target(rt: HostRuntime) {
     let mut bytes = Vec::new(rt.alloc());
-    let mut target = Host::new(Cursor::new(&mut bytes));
-    assert!(rt; writes_as(&mut target, &[(b"abc", Some(3)), (b"de", Some(2))]));
-    drop(target);
-    assert!(rt; bytes.as_slice() == b"abcde".as_slice());
+    assert!(rt; is_host_written(&mut bytes) && bytes.as_slice() == b"abcde".as_slice());
 }

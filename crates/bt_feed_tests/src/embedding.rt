@@ -1,5 +1,5 @@
 //! What an embedding calls: the items of a piece, the peer's context, one error.
-use crate::feed::{joined, own, push};
+use crate::feed::{HAND, joined, new_feed, own, read};
 use crate::pumps::{ITEMS, MESSAGES};
 use bt_bencode::ByteString;
 use bt_ext::{Ext, Kind, Registered, Table, dict_of};
@@ -7,69 +7,161 @@ use bt_feed::{
     Failed, Feed, FeedError, Finish, ItemError, Memory, PeerError, PumpError, SinkFault, TakeError,
     WriteFault, peer_context,
 };
-use bt_wire::{EncodeError, Fault, Item, Message, Order, Reason, Refusal, encode};
+use bt_wire::{
+    Context, EncodeError, Fault, Item, Message, Order, Reason, Refusal, Reserved, encode,
+};
 use std::alloc::{AllocError, Global};
 use std::test::Fail;
 
-/// The id of an item, as the rows of pumps have it.
-fn id_of(item: &Item) -> u8 {
-    match item {
-        Item::Handshake(_) => 255,
-        Item::Message(message) => message.id().unwrap_or(254),
+/// Whether the stream in pieces of this size gives the items.
+fn is_read(alloc: Global, feed: &mut Feed, stream: &[u8], size: usize) -> bool {
+    let mut items = Vec::new(alloc);
+    for piece in stream.chunks(size.max(1)) {
+        if read(alloc, feed, piece, &mut items).is_some() {
+            return false;
+        }
+    }
+    items.as_slice() == ITEMS.as_slice()
+}
+
+fn start(feed: &Feed) -> u64 {
+    feed.start()
+}
+
+fn is_read_by(alloc: Global, stream: &[u8], size: usize) -> bool {
+    match new_feed(alloc) {
+        Ok(mut feed) => is_read(alloc, &mut feed, stream, size) && start(&feed) == 242,
+        Err(_) => false,
     }
 }
 
-/// Adds the offset and the id of each item that a piece completes.
-fn read(
-    alloc: Global,
-    feed: &mut Feed,
-    piece: &[u8],
-    read: &mut Vec<(u64, u8)>,
-) -> Result<(), PeerError> {
-    for item in feed.items(alloc, piece) {
-        let (at, item) = item?;
-        read.push((at, id_of(&item)))?;
+fn is_read_in(alloc: Global, size: usize) -> bool {
+    match joined(alloc, HAND, MESSAGES) {
+        Ok(stream) => is_read_by(alloc, &stream, size),
+        Err(_) => false,
     }
-    Ok(())
-}
-
-fn new_feed(alloc: Global) -> Result<Feed, PeerError> {
-    Ok(Feed::new(alloc, own(262_144))?)
 }
 
 /// Pieces of any length give the items with their offsets.
 #[test]
-fn items_of_pieces(rt: HostRuntime) -> Result<(), Fail> {
-    let alloc = rt.alloc();
-    let stream = joined(alloc, MESSAGES)?;
-    for most in [1, 7, 68, 241, 4096] {
-        let mut feed = new_feed(alloc)?;
-        let mut items = Vec::new(alloc);
-        for piece in stream.chunks(most) {
-            read(alloc, &mut feed, piece, &mut items)?;
-        }
-        assert!(rt;
-            items.as_slice() == ITEMS.as_slice() && feed.start() == 242,
-            "{most}"
-        );
+fn items_of_pieces(rt: HostRuntime) {
+    for size in [1, 7, 68, 241, 4096] {
+        assert!(rt; is_read_in(rt.alloc(), size), "{size}");
+    }
+}
+
+fn apply(table: &mut Table, item: &Item) -> Result<(), AllocError> {
+    match item {
+        Item::Message(Message::Extended(Ext::Handshake { dict, .. })) => table.apply(dict),
+        _ => Ok(()),
+    }
+}
+
+fn apply_found(table: &mut Table, found: Result<(u64, Item), ItemError>) -> Result<(), PeerError> {
+    match found {
+        Ok((_, item)) => Ok(apply(table, &item)?),
+        Err(error) => Err(error.into()),
+    }
+}
+
+/// Applies the extended handshakes among the items of the stream to the table.
+fn tell(alloc: Global, feed: &mut Feed, table: &mut Table, stream: &[u8]) -> Result<(), PeerError> {
+    for found in feed.items(alloc, stream) {
+        apply_found(table, found)?;
     }
     Ok(())
 }
 
-/// The offsets of the items of a piece, and the error that ends them.
-fn offsets(
-    alloc: Global,
-    feed: &mut Feed,
-    piece: &[u8],
-) -> Result<(Vec<u64>, Option<ItemError>), AllocError> {
-    let mut offsets = Vec::new(alloc);
-    for item in feed.items(alloc, piece) {
-        match item {
-            Ok((at, _)) => offsets.push(at)?,
-            Err(error) => return Ok((offsets, Some(error))),
-        }
+/// The table of a peer that sends its handshake and then these messages.
+fn table_of(alloc: Global, feed: &mut Feed, messages: &[u8]) -> Result<Table, PeerError> {
+    let mut table = Table::new(alloc);
+    tell(alloc, feed, &mut table, HAND)?;
+    tell(alloc, feed, &mut table, messages)?;
+    Ok(table)
+}
+
+/// What is agreed with such a peer.
+fn context_of(alloc: Global, feed: &mut Feed, messages: &[u8]) -> Result<Context, PeerError> {
+    let own = own(262_144);
+    let table = table_of(alloc, feed, messages)?;
+    Ok(peer_context(&own, own.reserved, &table))
+}
+
+fn request(alloc: Global) -> Result<Message, AllocError> {
+    let dict = dict_of(alloc, Kind::Request(0))?;
+    let rest = ByteString::from_vec(Vec::new(alloc));
+    Ok(Message::Extended(Ext::Metadata { dict, rest }))
+}
+
+/// The extended id under which a message goes to the peer.
+fn id_under(alloc: Global, context: &Context, message: &Message) -> Result<Option<u8>, PeerError> {
+    let bytes = encode(alloc, context, Order::Fresh, message)?;
+    Ok(bytes.get(5).copied())
+}
+
+fn request_id(alloc: Global, context: &Context) -> Result<Option<u8>, PeerError> {
+    let message = request(alloc)?;
+    id_under(alloc, context, &message)
+}
+
+/// The extended id under which a request for metadata goes to a peer that sends its handshake and these messages.
+fn sent_id(alloc: Global, messages: &[u8]) -> Result<Option<u8>, PeerError> {
+    let mut feed = new_feed(alloc)?;
+    let context = context_of(alloc, &mut feed, messages)?;
+    request_id(alloc, &context)
+}
+
+/// What a peer sends after its handshake, and the extended id of a request for metadata to it.
+const IDS: &[(&[u8], Result<Option<u8>, PeerError>)] = &[
+    (b"\0\0\0\x1a\x14\0d1:md11:ut_metadatai7eee", Ok(Some(7))),
+    (b"", Err(PeerError::Illegal(Fault::Shape))),
+];
+
+/// A metadata message goes out under the peer's id, and not under one's own, which is 3.
+#[test]
+fn ids_of_the_peer(rt: HostRuntime) {
+    for (messages, wanted) in IDS {
+        assert!(rt; sent_id(rt.alloc(), messages) == *wanted, "{messages:?}");
     }
-    Ok((offsets, None))
+}
+
+fn plain_context(alloc: Global) -> Context {
+    peer_context(&own(262_144), Reserved(0), &Table::new(alloc))
+}
+
+/// Without extension bits of the peer the context has neither extension.
+#[test]
+fn plain_peer(rt: HostRuntime) {
+    let context = plain_context(rt.alloc());
+    assert!(rt; !context.fast && !context.ext && context.reg == Registered::metadata_only(None));
+}
+
+/// An error of a call.
+#[derive(Clone, Copy)]
+enum Cause {
+    Memory,
+    Write,
+    Device,
+    Feed(FeedError),
+    Item(ItemError),
+    Take(TakeError),
+    Finish(Finish),
+    Pump(PumpError),
+    Encode(EncodeError),
+}
+
+fn error_of(cause: Cause) -> PeerError {
+    match cause {
+        Cause::Memory => PeerError::from(Memory),
+        Cause::Write => WriteFault.into(),
+        Cause::Device => Failed.into(),
+        Cause::Feed(error) => error.into(),
+        Cause::Item(error) => error.into(),
+        Cause::Take(error) => error.into(),
+        Cause::Finish(error) => error.into(),
+        Cause::Pump(error) => error.into(),
+        Cause::Encode(error) => error.into(),
+    }
 }
 
 const REFUSAL: Refusal = Refusal {
@@ -78,96 +170,37 @@ const REFUSAL: Refusal = Refusal {
     reason: Reason::TooLong,
 };
 
-/// A refusal ends the items, and is given again.
-#[test]
-fn refused_items(rt: HostRuntime) -> Result<(), Fail> {
-    let alloc = rt.alloc();
-    let stream = joined(alloc, b"\0\0\0\0\xff\xff\xff\xff\0\0\0\0")?;
-    let mut feed = new_feed(alloc)?;
-    let first = offsets(alloc, &mut feed, &stream)?;
-    let again = offsets(alloc, &mut feed, b"\0\0\0\0")?;
-    let refused = Some(ItemError::Refused(REFUSAL));
-    assert!(rt; first.0.as_slice() == [0, 68].as_slice() && first.1 == refused);
-    assert!(rt; again.0.is_empty() && again.1 == refused);
-    Ok(())
-}
-
-/// An item that was pushed before is the first of a piece.
-#[test]
-fn held_item(rt: HostRuntime) -> Result<(), Fail> {
-    let alloc = rt.alloc();
-    let stream = joined(alloc, b"\0\0\0\0\0\0")?;
-    let mut feed = new_feed(alloc)?;
-    let taken = push(&mut feed, &stream);
-    let rest = offsets(alloc, &mut feed, b"\0\0\0\0\0\0")?;
-    assert!(rt; taken == 68 && rest.0.as_slice() == [0, 68].as_slice() && rest.1.is_none());
-    assert!(rt; feed.held() == 2);
-    Ok(())
-}
-
-/// The table of a peer whose extended handshake is `d1:md11:ut_metadatai7eee`.
-fn told(alloc: Global) -> Result<Table, PeerError> {
-    let mut table = Table::new(alloc);
-    let stream = joined(alloc, b"\0\0\0\x1a\x14\0d1:md11:ut_metadatai7eee")?;
-    let mut feed = new_feed(alloc)?;
-    for item in feed.items(alloc, &stream) {
-        if let (_, Item::Message(Message::Extended(Ext::Handshake { dict, .. }))) = item? {
-            table.apply(&dict)?;
-        }
-    }
-    Ok(table)
-}
-
-/// The extended id under which a request for metadata goes to the peer.
-fn sent_id(alloc: Global, table: &Table) -> Result<Option<u8>, PeerError> {
-    let own = own(262_144);
-    let context = peer_context(&own, own.reserved, table);
-    let dict = dict_of(alloc, Kind::Request(0))?;
-    let rest = ByteString::from_vec(Vec::new(alloc));
-    let message = Message::Extended(Ext::Metadata { dict, rest });
-    let bytes = encode(alloc, &context, Order::Fresh, &message)?;
-    Ok(bytes.get(5).copied())
-}
-
-/// A metadata message goes out under the peer's id, and not under one's own, which is 3.
-#[test]
-fn ids_of_the_peer(rt: HostRuntime) -> Result<(), Fail> {
-    let alloc = rt.alloc();
-    let table = told(alloc)?;
-    assert!(rt; sent_id(alloc, &table) == Ok(Some(7)));
-    assert!(rt; sent_id(alloc, &Table::new(alloc)) == Err(PeerError::Illegal(Fault::Shape)));
-    Ok(())
-}
-
-/// Without extension bits of the peer the context has neither extension.
-#[test]
-fn plain_peer(rt: HostRuntime) {
-    let own = own(262_144);
-    let context = peer_context(&own, bt_wire::Reserved(0), &Table::new(rt.alloc()));
-    assert!(rt; !context.fast && !context.ext && context.reg == Registered::metadata_only(None));
-}
+const ERRORS: &[(Cause, PeerError)] = &[
+    (Cause::Memory, PeerError::Memory),
+    (Cause::Write, PeerError::Write),
+    (Cause::Device, PeerError::Device),
+    (Cause::Feed(FeedError::BadLimit), PeerError::BadLimit),
+    (Cause::Feed(FeedError::BadBase), PeerError::BadBase),
+    (
+        Cause::Item(ItemError::Refused(REFUSAL)),
+        PeerError::Refused(REFUSAL),
+    ),
+    (
+        Cause::Take(TakeError::Refused(REFUSAL)),
+        PeerError::Refused(REFUSAL),
+    ),
+    (Cause::Finish(Finish::Untaken), PeerError::Untaken),
+    (
+        Cause::Pump(PumpError::Sink(SinkFault::Write)),
+        PeerError::Write,
+    ),
+    (Cause::Pump(PumpError::Turns), PeerError::Turns),
+    (
+        Cause::Encode(EncodeError::Illegal(Fault::Shape)),
+        PeerError::Illegal(Fault::Shape),
+    ),
+];
 
 /// Each error of a call is told by the one error.
 #[test]
 fn one_error(rt: HostRuntime) {
-    let refused = PeerError::Refused(REFUSAL);
-    for (error, wanted) in [
-        (PeerError::from(Memory), PeerError::Memory),
-        (WriteFault.into(), PeerError::Write),
-        (Failed.into(), PeerError::Device),
-        (FeedError::BadLimit.into(), PeerError::BadLimit),
-        (FeedError::BadBase.into(), PeerError::BadBase),
-        (ItemError::Refused(REFUSAL).into(), refused),
-        (TakeError::Refused(REFUSAL).into(), refused),
-        (Finish::Untaken.into(), PeerError::Untaken),
-        (PumpError::Sink(SinkFault::Write).into(), PeerError::Write),
-        (PumpError::Turns.into(), PeerError::Turns),
-        (
-            EncodeError::Illegal(Fault::Shape).into(),
-            PeerError::Illegal(Fault::Shape),
-        ),
-    ] {
-        assert!(rt; error == wanted, "{wanted}");
+    for (cause, wanted) in ERRORS {
+        assert!(rt; error_of(*cause) == *wanted, "{wanted}");
     }
 }
 

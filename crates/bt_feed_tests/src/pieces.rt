@@ -1,221 +1,304 @@
 //! Streams that come whole, in single bytes, and in two pieces cut at every place: each gives the same items.
-use crate::feed::{INFO_HASH, hand, joined};
+use crate::feed::{HAND, INFO_HASH, Refused, joined, refusal};
 use bt_ext::{ExtId, Registered, Rules};
-use bt_feed::{Transcript, read_all};
+use bt_feed::{FeedError, Transcript, read_all};
 use bt_wire::{
-    Context, Handshake, Item, Message, Order, Own, Reason, Refusal, Reserved, encode, negotiate,
-    next, spell_handshake,
+    Context, EncodeError, Handshake, Item, Message, Order, Own, Reason, Reserved, encode,
+    negotiate, next, spell_handshake,
 };
 use std::alloc::{AllocError, Global};
-use std::test::Fail;
 
 /// The reserved bits of an end with the Fast Extension, the DHT and the Extension Protocol.
 const USUAL: u64 = 0x10_0005;
 
-/// A receiver: its rules, its reserved bits, how many pieces it knows of, and its id of `ut_metadata`, 0 for none.
-type Receiver = (Rules, u64, Option<u32>, u8);
+/// A receiver. Its id of `ut_metadata` is 3, but for the last.
+#[derive(Clone, Copy)]
+enum Receiver {
+    Free,
+    /// It knows of ten pieces.
+    Ten,
+    /// It knows that there are no pieces.
+    None,
+    Bep,
+    /// Strict, with neither extension.
+    Plain,
+    /// With the Extension Protocol and without the Fast Extension.
+    Slow,
+    /// Without an id of `ut_metadata`.
+    Unregistered,
+}
 
-const FREE: Receiver = (Rules::Free, USUAL, None, 3);
+fn rules_of(receiver: Receiver) -> Rules {
+    match receiver {
+        Receiver::Bep | Receiver::Plain => Rules::Bep,
+        _ => Rules::Free,
+    }
+}
 
-const TEN: Receiver = (Rules::Free, USUAL, Some(10), 3);
+fn bits_of(receiver: Receiver) -> u64 {
+    match receiver {
+        Receiver::Plain => 0,
+        Receiver::Slow => 0x10_0001,
+        _ => USUAL,
+    }
+}
 
-const NONE: Receiver = (Rules::Free, USUAL, Some(0), 3);
+fn pieces_of(receiver: Receiver) -> Option<u32> {
+    match receiver {
+        Receiver::Ten => Some(10),
+        Receiver::None => Some(0),
+        _ => None,
+    }
+}
 
-const BEP: Receiver = (Rules::Bep, USUAL, None, 3);
-
-/// Strict, with neither extension.
-const PLAIN: Receiver = (Rules::Bep, 0, None, 3);
-
-/// With the Extension Protocol and without the Fast Extension.
-const SLOW: Receiver = (Rules::Free, 0x10_0001, None, 3);
-
-/// Without an id of `ut_metadata`.
-const UNREGISTERED: Receiver = (Rules::Free, USUAL, None, 0);
-
-fn own_of((rules, reserved, pieces, id): Receiver, info_hash: Option<[u8; 20]>) -> Own {
+fn own_of(receiver: Receiver, info_hash: Option<[u8; 20]>) -> Own {
+    let id = match receiver {
+        Receiver::Unregistered => 0,
+        _ => 3,
+    };
     Own {
-        reserved: Reserved(reserved),
+        reserved: Reserved(bits_of(receiver)),
         info_hash,
-        pieces,
+        pieces: pieces_of(receiver),
         reg: Registered::metadata_only(ExtId::new(id)),
-        rules,
+        rules: rules_of(receiver),
         limit: 262_144,
     }
 }
 
 /// What is to be read: the items' offsets, the refused message with its place and reason, and the number of held bytes.
-type Wanted<'a> = (&'a [u64], Option<(u64, u64, Reason)>, u64);
+type Wanted<'a> = (&'a [u64], Option<Refused>, u64);
 
 fn agreed(own: &Own, peer: Reserved) -> Context {
     negotiate(own, peer)
 }
 
-fn encoded(
+/// Adds the bytes of a message.
+fn add_message(
     alloc: Global,
+    bytes: &mut Vec<u8>,
     context: &Context,
     order: Order,
     message: &Message,
-) -> Result<Vec<u8>, Fail> {
-    Ok(encode(alloc, context, order, message)?)
+) -> Result<(), EncodeError> {
+    bytes.extend_from_slice(encode(alloc, context, order, message)?.as_slice())?;
+    Ok(())
 }
 
 fn order_after(order: Order, message: &Message) -> Order {
     next(order, message)
 }
 
-fn handshake_bytes(handshake: &Handshake) -> [u8; 68] {
-    spell_handshake(handshake)
+fn add_handshake(bytes: &mut Vec<u8>, handshake: &Handshake) -> Result<(), AllocError> {
+    bytes.extend_from_slice(&spell_handshake(handshake))
 }
 
-/// The items' bytes, joined; nothing where an item doesn't start where those before it end.
-fn spelled(alloc: Global, own: &Own, items: &[(u64, Item)]) -> Result<Option<Vec<u8>>, Fail> {
-    let mut bytes = Vec::new(alloc);
-    let mut context = agreed(own, Reserved(0));
-    let mut order = Order::Fresh;
-    for (at, item) in items {
-        if *at != bytes.len() as u64 {
-            return Ok(None);
+/// The bytes of items, joined, and what the next message is judged by.
+#[derive(Drop)]
+struct Spelled {
+    bytes: Vec<u8>,
+    context: Context,
+    order: Order,
+}
+
+/// Adds the bytes of an item, and says whether it starts where those before it end.
+fn add(alloc: Global, own: &Own, spelled: &mut Spelled, at: u64, item: &Item) -> bool {
+    if at != spelled.bytes.len() as u64 {
+        return false;
+    }
+    match item {
+        Item::Handshake(handshake) => {
+            spelled.context = agreed(own, handshake.reserved);
+            add_handshake(&mut spelled.bytes, handshake).is_ok()
         }
-        match item {
-            Item::Handshake(handshake) => {
-                context = agreed(own, handshake.reserved);
-                bytes.extend_from_slice(&handshake_bytes(handshake))?;
-            }
-            Item::Message(message) => {
-                bytes.extend_from_slice(&encoded(alloc, &context, order, message)?)?;
-                order = order_after(order, message);
-            }
+        Item::Message(message) => {
+            let order = spelled.order;
+            spelled.order = order_after(order, message);
+            add_message(alloc, &mut spelled.bytes, &spelled.context, order, message).is_ok()
         }
     }
-    Ok(Some(bytes))
+}
+
+/// Adds the bytes of the items, and says whether each of them starts where those before it end.
+fn add_all(alloc: Global, own: &Own, spelled: &mut Spelled, items: &[(u64, Item)]) -> bool {
+    for (at, item) in items {
+        if !add(alloc, own, spelled, *at, item) {
+            return false;
+        }
+    }
+    true
 }
 
 fn has_offsets(items: &[(u64, Item)], offsets: &[u64]) -> bool {
-    let mut same = items.len() == offsets.len();
-    for ((at, _), wanted) in items.iter().zip(offsets) {
-        same = same && at == wanted;
+    let mut left = offsets.iter();
+    for (at, _) in items {
+        if left.next() != Some(at) {
+            return false;
+        }
     }
-    same
+    left.next().is_none()
 }
 
-fn read(alloc: Global, own: &Own, pieces: &[Vec<u8>]) -> Result<Transcript, Fail> {
-    Ok(read_all(alloc, *own, pieces)?)
+/// Whether the items have these offsets, and their bytes are the stream's, but for `rest` bytes at its end; a refused stream
+/// may have more.
+fn is_front(
+    alloc: Global,
+    own: &Own,
+    stream: &[u8],
+    items: &[(u64, Item)],
+    (offsets, refused, rest): Wanted,
+) -> bool {
+    let mut spelled = Spelled {
+        bytes: Vec::new(alloc),
+        context: agreed(own, Reserved(0)),
+        order: Order::Fresh,
+    };
+    has_offsets(items, offsets)
+        && add_all(alloc, own, &mut spelled, items)
+        && stream.starts_with(&spelled.bytes)
+        && (refused.is_some()
+            || spelled.bytes.len() as u64 == (stream.len() as u64).wrapping_sub(rest))
 }
 
-/// Whether the items' bytes are the stream's, but for `rest` bytes at its end; a refused stream may have more.
-fn is_front(bytes: &[u8], stream: &[u8], rest: u64, is_refused: bool) -> bool {
-    stream.starts_with(bytes)
-        && (is_refused || bytes.len() as u64 == (stream.len() as u64).wrapping_sub(rest))
+fn read(alloc: Global, own: &Own, pieces: &[Vec<u8>]) -> Result<Transcript, FeedError> {
+    read_all(alloc, *own, pieces)
+}
+
+/// Whether what follows the items is so.
+fn ends_so(transcript: &Transcript, refused: Option<Refused>, rest: u64) -> bool {
+    let refused = match refused {
+        Some(refused) => Some(refusal(refused)),
+        None => None,
+    };
+    transcript.refused == refused && transcript.rest == rest
 }
 
 /// Whether these pieces of the stream are read so, and the items are spelled as the stream's first bytes.
-fn reads_as(
-    alloc: Global,
-    own: &Own,
-    stream: &[u8],
-    pieces: &[Vec<u8>],
-    (offsets, refused, rest): Wanted,
-) -> Result<bool, Fail> {
-    let transcript = read(alloc, own, pieces)?;
-    let Some(bytes) = spelled(alloc, own, &transcript.items)? else {
-        return Ok(false);
-    };
-    let refusal = match refused {
-        Some((message, at, reason)) => Some(Refusal {
-            message,
-            at,
-            reason,
-        }),
-        None => None,
-    };
-    Ok(
-        has_offsets(&transcript.items, offsets)
-            && is_front(&bytes, stream, rest, refused.is_some())
-            && transcript.refused == refusal
-            && transcript.rest == rest,
-    )
-}
-
-fn in_two(alloc: Global, bytes: &[u8], cut: usize) -> Result<Vec<Vec<u8>>, AllocError> {
-    match bytes.split_at_checked(cut) {
-        Some((front, back)) => Ok(vec![in alloc; front.to_vec(alloc)?, back.to_vec(alloc)?]?),
-        None => Ok(Vec::new(alloc)),
+fn reads_as(alloc: Global, own: &Own, stream: &[u8], pieces: &[Vec<u8>], wanted: Wanted) -> bool {
+    match read(alloc, own, pieces) {
+        Ok(transcript) => {
+            ends_so(&transcript, wanted.1, wanted.2)
+                && is_front(alloc, own, stream, &transcript.items, wanted)
+        }
+        Err(_) => false,
     }
 }
 
-fn in_bytes(alloc: Global, bytes: &[u8]) -> Result<Vec<Vec<u8>>, AllocError> {
+/// Adds a piece, and says whether there was memory.
+fn add_piece(alloc: Global, pieces: &mut Vec<Vec<u8>>, piece: &[u8]) -> bool {
+    match piece.to_vec(alloc) {
+        Ok(piece) => pieces.push(piece).is_ok(),
+        Err(_) => false,
+    }
+}
+
+/// Whether the stream is read so in these pieces.
+fn is_read_in(alloc: Global, own: &Own, stream: &[u8], parts: &[&[u8]], wanted: Wanted) -> bool {
     let mut pieces = Vec::new(alloc);
-    for byte in bytes {
-        pieces.push([*byte].to_vec(alloc)?)?;
+    for part in parts {
+        if !add_piece(alloc, &mut pieces, part) {
+            return false;
+        }
     }
-    Ok(pieces)
+    reads_as(alloc, own, stream, &pieces, wanted)
 }
 
-/// The stream, and then five more bytes.
-fn with_more(alloc: Global, stream: &[u8]) -> Result<Vec<Vec<u8>>, AllocError> {
-    Ok(vec![in alloc; stream.to_vec(alloc)?, [0; 5].to_vec(alloc)?]?)
+fn is_read_in_bytes(alloc: Global, own: &Own, stream: &[u8], wanted: Wanted) -> bool {
+    let mut pieces = Vec::new(alloc);
+    for byte in stream.chunks(1) {
+        if !add_piece(alloc, &mut pieces, byte) {
+            return false;
+        }
+    }
+    reads_as(alloc, own, stream, &pieces, wanted)
+}
+
+fn is_read_cut(alloc: Global, own: &Own, stream: &[u8], cut: usize, wanted: Wanted) -> bool {
+    match stream.split_at_checked(cut) {
+        Some((front, back)) => is_read_in(alloc, own, stream, &[front, back], wanted),
+        None => false,
+    }
 }
 
 /// Whether the stream is read so in two pieces, wherever it is cut.
-fn is_read_in_two(alloc: Global, own: &Own, stream: &[u8], wanted: Wanted) -> Result<bool, Fail> {
-    let mut all = true;
+fn is_read_in_two(alloc: Global, own: &Own, stream: &[u8], wanted: Wanted) -> bool {
     for cut in 0..=stream.len() {
-        let two = in_two(alloc, stream, cut)?;
-        all = all && reads_as(alloc, own, stream, &two, wanted)?;
+        if !is_read_cut(alloc, own, stream, cut, wanted) {
+            return false;
+        }
     }
-    Ok(all)
+    true
 }
 
-/// Whether the stream is read so in single bytes, and whole: the first cut leaves nothing before it.
-fn is_read_in_any_pieces(
-    alloc: Global,
-    own: &Own,
-    stream: &[u8],
-    wanted: Wanted,
-) -> Result<bool, Fail> {
-    let whole = vec![in alloc; stream.to_vec(alloc)?]?;
-    let single = in_bytes(alloc, stream)?;
-    let is_same = reads_as(alloc, own, stream, &whole, wanted)?
-        && reads_as(alloc, own, stream, &single, wanted)?
-        && is_read_in_two(alloc, own, stream, wanted)?;
-    if wanted.1.is_none() {
-        return Ok(is_same);
-    }
-    let more = with_more(alloc, stream)?;
-    Ok(is_same && reads_as(alloc, own, stream, &more, wanted)?)
+/// Whether the stream is read so whole, in single bytes, in two pieces, and, if it is refused, with five bytes after it.
+fn is_read_in_any_pieces(alloc: Global, own: &Own, stream: &[u8], wanted: Wanted) -> bool {
+    is_read_in(alloc, own, stream, &[stream], wanted)
+        && is_read_in_bytes(alloc, own, stream, wanted)
+        && is_read_in_two(alloc, own, stream, wanted)
+        && (wanted.1.is_none() || is_read_in(alloc, own, stream, &[stream, b"\0\0\0\0\0"], wanted))
 }
+
+/// Whether the receiver reads a handshake and the messages so.
+fn reads(alloc: Global, receiver: Receiver, messages: &[u8], wanted: Wanted) -> bool {
+    match joined(alloc, HAND, messages) {
+        Ok(stream) => is_read_in_any_pieces(alloc, &own_of(receiver, None), &stream, wanted),
+        Err(_) => false,
+    }
+}
+
+/// The place and the reason of a refusal, and how many bytes are held then.
+type Bad = Option<(u64, Reason, u64)>;
+
+const FOREIGN: Bad = Some((28, Reason::WrongInfoHash, 48));
+
+/// Which byte of the handshake is another, whether the receiver has the info hash, and the refusal.
+const HANDSHAKES: &[(usize, bool, Bad)] = &[
+    (0, false, Some((0, Reason::BadProtocol, 1))),
+    (1, false, Some((1, Reason::BadProtocol, 2))),
+    (5, false, Some((5, Reason::BadProtocol, 6))),
+    (19, true, Some((19, Reason::BadProtocol, 20))),
+    (20, true, None),
+    (24, true, None),
+    (28, true, FOREIGN),
+    (47, true, FOREIGN),
+    (28, false, None),
+    (47, false, None),
+    (48, true, None),
+    (67, true, None),
+];
 
 /// A handshake of which one byte is another, and then a keep-alive.
-#[test]
-fn handshakes(rt: HostRuntime) -> Result<(), Fail> {
-    let alloc = rt.alloc();
-    let foreign = Some((28, Reason::WrongInfoHash, 48));
-    for (at, given, refused) in [
-        (0usize, false, Some((0, Reason::BadProtocol, 1))),
-        (1, false, Some((1, Reason::BadProtocol, 2))),
-        (5, false, Some((5, Reason::BadProtocol, 6))),
-        (19, true, Some((19, Reason::BadProtocol, 20))),
-        (20, true, None),
-        (24, true, None),
-        (28, true, foreign),
-        (47, true, foreign),
-        (28, false, None),
-        (47, false, None),
-        (48, true, None),
-        (67, true, None),
-    ] {
-        let wanted: Wanted = match refused {
-            Some((place, reason, rest)) => (&[], Some((0, place, reason)), rest),
-            None => (&[0, 68], None, 0),
-        };
-        let mut bytes = joined(alloc, b"\0\0\0\0")?;
-        let byte = bytes.get_mut(at).ok_or("short")?;
-        *byte ^= 0x40;
-        let info_hash = if given { Some(INFO_HASH) } else { None };
-        let own = own_of(FREE, info_hash);
-        assert!(rt; is_read_in_any_pieces(alloc, &own, &bytes, wanted)?, "{at}");
+fn with_other_byte(alloc: Global, at: usize) -> Option<Vec<u8>> {
+    let mut bytes = joined(alloc, HAND, b"\0\0\0\0").ok()?;
+    let byte = bytes.get_mut(at)?;
+    *byte ^= 0x40;
+    Some(bytes)
+}
+
+fn is_read_with_other_byte(alloc: Global, at: usize, own: &Own, wanted: Wanted) -> bool {
+    match with_other_byte(alloc, at) {
+        Some(stream) => is_read_in_any_pieces(alloc, own, &stream, wanted),
+        None => false,
     }
-    Ok(())
+}
+
+fn is_judged(alloc: Global, at: usize, given: bool, refused: Bad) -> bool {
+    let own = own_of(Receiver::Free, if given { Some(INFO_HASH) } else { None });
+    let wanted: Wanted = match refused {
+        Some((place, reason, rest)) => (&[], Some((0, place, reason)), rest),
+        None => (&[0, 68], None, 0),
+    };
+    is_read_with_other_byte(alloc, at, &own, wanted)
+}
+
+#[test]
+fn handshakes(rt: HostRuntime) {
+    for (at, given, refused) in HANDSHAKES {
+        assert!(rt;
+            is_judged(rt.alloc(), *at, *given, *refused),
+            "{at} {given}"
+        );
+    }
 }
 
 const EXTENDED: &[u8] = b"\0\0\0\x2d\x14\0d1:md11:ut_metadatai3ee13:metadata_sizei3ee";
@@ -238,125 +321,154 @@ const LATE: &[u8] = b"\0\0\0\x01\x0f\0\0\0\x03\x05\xff\xc0";
 type Accepted = (&'static str, Receiver, &'static [u8], &'static [u64]);
 
 const ACCEPTED: &[Accepted] = &[
-    ("no message", FREE, b"", &[0]),
+    ("no message", Receiver::Free, b"", &[0]),
     (
         "have",
-        FREE,
+        Receiver::Free,
         b"\0\0\0\0\0\0\0\x05\x04\0\0\0\x09",
         &[0, 68, 72],
     ),
     (
         "request",
-        FREE,
+        Receiver::Free,
         b"\0\0\0\x0d\x06\0\0\0\x01\0\0\x40\0\0\0\x40\0",
         &[0, 68],
     ),
-    ("bitfield of ten", TEN, b"\0\0\0\x03\x05\xff\xc0", &[0, 68]),
-    ("bitfield", FREE, b"\0\0\0\x03\x05\xff\xc0", &[0, 68]),
+    (
+        "bitfield of ten",
+        Receiver::Ten,
+        b"\0\0\0\x03\x05\xff\xc0",
+        &[0, 68],
+    ),
+    (
+        "bitfield",
+        Receiver::Free,
+        b"\0\0\0\x03\x05\xff\xc0",
+        &[0, 68],
+    ),
     (
         "bitfield of eleven",
-        FREE,
+        Receiver::Free,
         b"\0\0\0\x03\x05\xff\xe0",
         &[0, 68],
     ),
-    ("have the last", TEN, b"\0\0\0\x05\x04\0\0\0\x09", &[0, 68]),
-    ("port", FREE, b"\0\0\0\x03\x09\x1a\xe1", &[0, 68]),
+    (
+        "have the last",
+        Receiver::Ten,
+        b"\0\0\0\x05\x04\0\0\0\x09",
+        &[0, 68],
+    ),
+    ("port", Receiver::Free, b"\0\0\0\x03\x09\x1a\xe1", &[0, 68]),
     (
         "no block",
-        FREE,
+        Receiver::Free,
         b"\0\0\0\x09\x07\0\0\0\x01\0\0\x40\0",
         &[0, 68],
     ),
-    ("bitfield of none", NONE, b"\0\0\0\x01\x05", &[0, 68]),
-    ("bitfield of no bytes", FREE, b"\0\0\0\x01\x05", &[0, 68]),
-    ("unknown", FREE, b"\0\0\0\x01\x63", &[0, 68]),
+    (
+        "bitfield of none",
+        Receiver::None,
+        b"\0\0\0\x01\x05",
+        &[0, 68],
+    ),
+    (
+        "bitfield of no bytes",
+        Receiver::Free,
+        b"\0\0\0\x01\x05",
+        &[0, 68],
+    ),
+    ("unknown", Receiver::Free, b"\0\0\0\x01\x63", &[0, 68]),
     (
         "keep-alive suffix",
-        FREE,
+        Receiver::Free,
         b"\0\0\0\x01\x63\0\0\0\0",
         &[0, 68, 73],
     ),
     (
         "have none",
-        BEP,
+        Receiver::Bep,
         b"\0\0\0\0\0\0\0\x01\x0f\0\0\0\x01\x01",
         &[0, 68, 72, 77],
     ),
-    ("late bitfield", FREE, LATE, &[0, 68, 73]),
-    ("unchoke", PLAIN, b"\0\0\0\x01\x01", &[0, 68]),
+    ("late bitfield", Receiver::Free, LATE, &[0, 68, 73]),
+    ("unchoke", Receiver::Plain, b"\0\0\0\x01\x01", &[0, 68]),
     (
         "extended first",
-        BEP,
+        Receiver::Bep,
         b"\0\0\0\x2d\x14\0d1:md11:ut_metadatai3ee13:metadata_sizei3ee\
 \0\0\0\0\0\0\0\x01\x0f\0\0\0\x01\x01",
         &[0, 68, 117, 121, 126],
     ),
-    ("extended", FREE, EXTENDED, &[0, 68]),
-    ("unsorted", FREE, UNSORTED, &[0, 68]),
+    ("extended", Receiver::Free, EXTENDED, &[0, 68]),
+    ("unsorted", Receiver::Free, UNSORTED, &[0, 68]),
     (
         "usual",
-        BEP,
+        Receiver::Bep,
         b"\0\0\0\x42\x14\0d1:md11:ut_metadatai2e6:ut_pexi1ee1:pi6881e4:reqqi500e1:v4:teste",
         &[0, 68],
     ),
-    ("metadata request", FREE, REQUEST, &[0, 68]),
-    ("the same, not registered", UNREGISTERED, REQUEST, &[0, 68]),
+    ("metadata request", Receiver::Free, REQUEST, &[0, 68]),
+    (
+        "the same, not registered",
+        Receiver::Unregistered,
+        REQUEST,
+        &[0, 68],
+    ),
     (
         "under another id",
-        FREE,
+        Receiver::Free,
         b"\0\0\0\x1b\x14\x04d8:msg_typei0e5:piecei0ee",
         &[0, 68],
     ),
     (
         "metadata data",
-        FREE,
+        Receiver::Free,
         b"\0\0\0\x2e\x14\x03d8:msg_typei1e5:piecei0e10:total_sizei3eeabc",
         &[0, 68],
     ),
     (
         "data of e",
-        FREE,
+        Receiver::Free,
         b"\0\0\0\x2e\x14\x03d8:msg_typei1e5:piecei0e10:total_sizei3eeeee",
         &[0, 68],
     ),
-    ("short data", FREE, SHORT, &[0, 68]),
-    ("no size", FREE, NO_SIZE, &[0, 68]),
-    ("another type", FREE, OTHER, &[0, 68]),
-    ("another type, strictly", BEP, OTHER, &[0, 68]),
-    ("long reject", FREE, LONG_REJECT, &[0, 68]),
+    ("short data", Receiver::Free, SHORT, &[0, 68]),
+    ("no size", Receiver::Free, NO_SIZE, &[0, 68]),
+    ("another type", Receiver::Free, OTHER, &[0, 68]),
+    ("another type, strictly", Receiver::Bep, OTHER, &[0, 68]),
+    ("long reject", Receiver::Free, LONG_REJECT, &[0, 68]),
     (
         "deepest",
-        FREE,
+        Receiver::Free,
         b"\0\0\0\x45\x14\0d1:pllllllllllllllllllllllllllllllleeeeeeeeeeeeeeeeeeeeeeeeeeeeeeee",
         &[0, 68],
     ),
 ];
 
 #[test]
-fn accepted(rt: HostRuntime) -> Result<(), Fail> {
-    let alloc = rt.alloc();
+fn accepted(rt: HostRuntime) {
     for (name, receiver, messages, offsets) in ACCEPTED {
-        let stream = joined(alloc, messages)?;
-        let own = own_of(*receiver, None);
         let wanted = (*offsets, None, 0);
-        assert!(rt;
-            is_read_in_any_pieces(alloc, &own, &stream, wanted)?,
-            "{name}"
-        );
+        assert!(rt; reads(rt.alloc(), *receiver, messages, wanted), "{name}");
     }
-    Ok(())
 }
 
 /// Like [`Accepted`], with the number of bytes that are held of an unfinished message.
 type Unfinished = (&'static str, Receiver, &'static [u8], &'static [u64], u64);
 
 const UNFINISHED: &[Unfinished] = &[
-    ("a length", FREE, b"\0\0\0", &[0], 3),
-    ("the limit", FREE, b"\0\x04\0\0", &[0], 4),
-    ("have", FREE, b"\0\0\0\0\0\0\0\x05\x04\0\0", &[0, 68], 7),
+    ("a length", Receiver::Free, b"\0\0\0", &[0], 3),
+    ("the limit", Receiver::Free, b"\0\x04\0\0", &[0], 4),
+    (
+        "have",
+        Receiver::Free,
+        b"\0\0\0\0\0\0\0\x05\x04\0\0",
+        &[0, 68],
+        7,
+    ),
     (
         "a block",
-        TEN,
+        Receiver::Ten,
         b"\0\0\0\x0a\x07\0\0\0\x0a\0\0\0\0",
         &[0],
         13,
@@ -364,49 +476,48 @@ const UNFINISHED: &[Unfinished] = &[
 ];
 
 #[test]
-fn unfinished(rt: HostRuntime) -> Result<(), Fail> {
-    let alloc = rt.alloc();
+fn unfinished(rt: HostRuntime) {
     for (name, receiver, messages, offsets, rest) in UNFINISHED {
-        let stream = joined(alloc, messages)?;
-        let own = own_of(*receiver, None);
         let wanted = (*offsets, None, *rest);
-        assert!(rt;
-            is_read_in_any_pieces(alloc, &own, &stream, wanted)?,
-            "{name}"
-        );
+        assert!(rt; reads(rt.alloc(), *receiver, messages, wanted), "{name}");
     }
-    Ok(())
+}
+
+fn is_unfinished(alloc: Global, count: usize) -> bool {
+    match HAND.get(..count) {
+        Some(front) => {
+            is_read_in_any_pieces(
+                alloc,
+                &own_of(Receiver::Free, None),
+                front,
+                (&[], None, count as u64),
+            )
+        }
+        None => false,
+    }
 }
 
 #[test]
-fn unfinished_handshakes(rt: HostRuntime) -> Result<(), Fail> {
-    let hand = hand();
-    let own = own_of(FREE, None);
-    for count in [0usize, 1, 20, 48, 67] {
-        let front = hand.get(..count).ok_or("short")?;
-        let wanted: Wanted = (&[], None, count as u64);
-        assert!(rt;
-            is_read_in_any_pieces(rt.alloc(), &own, front, wanted)?,
-            "{count}"
-        );
+fn unfinished_handshakes(rt: HostRuntime) {
+    for count in [0, 1, 20, 48, 67] {
+        assert!(rt; is_unfinished(rt.alloc(), count), "{count}");
     }
-    Ok(())
 }
 
 /// Like [`Unfinished`], with the refused message, its place and the reason before the number.
-type Refused = (
+type Rejected = (
     &'static str,
     Receiver,
     &'static [u8],
     &'static [u64],
-    (u64, u64, Reason),
+    Refused,
     u64,
 );
 
-const REFUSED: &[Refused] = &[
+const REFUSED: &[Rejected] = &[
     (
         "above the limit",
-        FREE,
+        Receiver::Free,
         b"\0\x04\0\x01",
         &[0],
         (1, 68, Reason::TooLong),
@@ -414,7 +525,7 @@ const REFUSED: &[Refused] = &[
     ),
     (
         "longest",
-        FREE,
+        Receiver::Free,
         b"\xff\xff\xff\xff",
         &[0],
         (1, 68, Reason::TooLong),
@@ -422,7 +533,7 @@ const REFUSED: &[Refused] = &[
     ),
     (
         "short have",
-        FREE,
+        Receiver::Free,
         b"\0\0\0\x04\x04",
         &[0],
         (1, 68, Reason::WrongLength),
@@ -430,7 +541,7 @@ const REFUSED: &[Refused] = &[
     ),
     (
         "short have suffix",
-        FREE,
+        Receiver::Free,
         b"\0\0\0\0\0\0\0\x04\x04",
         &[0, 68],
         (2, 72, Reason::WrongLength),
@@ -438,7 +549,7 @@ const REFUSED: &[Refused] = &[
     ),
     (
         "spare bit",
-        TEN,
+        Receiver::Ten,
         b"\0\0\0\x03\x05\xff\xe0",
         &[0],
         (1, 74, Reason::SpareBits),
@@ -446,7 +557,7 @@ const REFUSED: &[Refused] = &[
     ),
     (
         "long bitfield",
-        TEN,
+        Receiver::Ten,
         b"\0\0\0\x04\x05",
         &[0],
         (1, 68, Reason::WrongLength),
@@ -454,7 +565,7 @@ const REFUSED: &[Refused] = &[
     ),
     (
         "have past the last",
-        TEN,
+        Receiver::Ten,
         b"\0\0\0\x05\x04\0\0\0\x0a",
         &[0],
         (1, 73, Reason::BadIndex),
@@ -462,7 +573,7 @@ const REFUSED: &[Refused] = &[
     ),
     (
         "have of none",
-        NONE,
+        Receiver::None,
         b"\0\0\0\x05\x04\0\0\0\0",
         &[0],
         (1, 73, Reason::BadIndex),
@@ -470,7 +581,7 @@ const REFUSED: &[Refused] = &[
     ),
     (
         "short piece",
-        FREE,
+        Receiver::Free,
         b"\0\0\0\x08\x07",
         &[0],
         (1, 68, Reason::WrongLength),
@@ -478,7 +589,7 @@ const REFUSED: &[Refused] = &[
     ),
     (
         "piece past the last",
-        TEN,
+        Receiver::Ten,
         b"\0\0\0\x0a\x07\0\0\0\x0a\0\0\0\0a",
         &[0],
         (1, 73, Reason::BadIndex),
@@ -486,7 +597,7 @@ const REFUSED: &[Refused] = &[
     ),
     (
         "have all",
-        SLOW,
+        Receiver::Slow,
         b"\0\0\0\x01\x0e",
         &[0],
         (1, 72, Reason::NotNegotiated),
@@ -494,7 +605,7 @@ const REFUSED: &[Refused] = &[
     ),
     (
         "long have none",
-        FREE,
+        Receiver::Free,
         b"\0\0\0\x02\x0f\0",
         &[0],
         (1, 68, Reason::WrongLength),
@@ -502,7 +613,7 @@ const REFUSED: &[Refused] = &[
     ),
     (
         "unchoke first",
-        BEP,
+        Receiver::Bep,
         b"\0\0\0\x01\x01",
         &[0],
         (1, 72, Reason::Missing),
@@ -510,7 +621,7 @@ const REFUSED: &[Refused] = &[
     ),
     (
         "bitfield suffix have none",
-        BEP,
+        Receiver::Bep,
         LATE,
         &[0, 68],
         (2, 77, Reason::Late),
@@ -518,7 +629,7 @@ const REFUSED: &[Refused] = &[
     ),
     (
         "bitfield suffix unchoke",
-        PLAIN,
+        Receiver::Plain,
         b"\0\0\0\x01\x01\0\0\0\x03\x05\xff\xc0",
         &[0, 68],
         (2, 77, Reason::Late),
@@ -526,7 +637,7 @@ const REFUSED: &[Refused] = &[
     ),
     (
         "unknown",
-        BEP,
+        Receiver::Bep,
         b"\0\0\0\x01\x63",
         &[0],
         (1, 72, Reason::UnknownId),
@@ -534,7 +645,7 @@ const REFUSED: &[Refused] = &[
     ),
     (
         "unsorted",
-        BEP,
+        Receiver::Bep,
         UNSORTED,
         &[0],
         (1, 94, Reason::Unsorted),
@@ -542,7 +653,7 @@ const REFUSED: &[Refused] = &[
     ),
     (
         "names of no kind",
-        BEP,
+        Receiver::Bep,
         b"\0\0\0\x0a\x14\0d1:mi1ee",
         &[0],
         (1, 74, Reason::BadField),
@@ -550,16 +661,23 @@ const REFUSED: &[Refused] = &[
     ),
     (
         "short data",
-        BEP,
+        Receiver::Bep,
         SHORT,
         &[0],
         (1, 115, Reason::BadBlock),
         49,
     ),
-    ("no size", BEP, NO_SIZE, &[0], (1, 74, Reason::BadField), 31),
+    (
+        "no size",
+        Receiver::Bep,
+        NO_SIZE,
+        &[0],
+        (1, 74, Reason::BadField),
+        31,
+    ),
     (
         "long reject",
-        BEP,
+        Receiver::Bep,
         LONG_REJECT,
         &[0],
         (1, 99, Reason::BadBlock),
@@ -567,7 +685,7 @@ const REFUSED: &[Refused] = &[
     ),
     (
         "minus nought",
-        FREE,
+        Receiver::Free,
         b"\0\0\0\x0b\x14\0d1:pi-0ee",
         &[0],
         (1, 80, Reason::BadBencode),
@@ -575,7 +693,7 @@ const REFUSED: &[Refused] = &[
     ),
     (
         "cut",
-        FREE,
+        Receiver::Free,
         b"\0\0\0\x09\x14\0d1:pi1e",
         &[0],
         (1, 81, Reason::BadBencode),
@@ -583,7 +701,7 @@ const REFUSED: &[Refused] = &[
     ),
     (
         "too deep",
-        FREE,
+        Receiver::Free,
         b"\0\0\0\x47\x14\0d1:plllllllllllllllllllllllllllllllleeeeeeeeeeeeeeeeeeeeeeeeeeeeeeeee",
         &[0],
         (1, 109, Reason::BadBencode),
@@ -592,16 +710,9 @@ const REFUSED: &[Refused] = &[
 ];
 
 #[test]
-fn refused(rt: HostRuntime) -> Result<(), Fail> {
-    let alloc = rt.alloc();
-    for (name, receiver, messages, offsets, refusal, rest) in REFUSED {
-        let stream = joined(alloc, messages)?;
-        let own = own_of(*receiver, None);
-        let wanted = (*offsets, Some(*refusal), *rest);
-        assert!(rt;
-            is_read_in_any_pieces(alloc, &own, &stream, wanted)?,
-            "{name}"
-        );
+fn refused(rt: HostRuntime) {
+    for (name, receiver, messages, offsets, refused, rest) in REFUSED {
+        let wanted = (*offsets, Some(*refused), *rest);
+        assert!(rt; reads(rt.alloc(), *receiver, messages, wanted), "{name}");
     }
-    Ok(())
 }

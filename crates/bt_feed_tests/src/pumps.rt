@@ -1,11 +1,8 @@
 //! A pump over devices that move few bytes a call and fail at each call in turn.
-ghost use Rattle.std.specs.Prelude.{◌<◌};
-
-use crate::feed::{fault_of_take, hand, joined, own, push};
+use crate::feed::{HAND, Refused, fault_of_take, joined, new_feed, push, refusal};
 use bt_feed::*;
-use bt_wire::{Reason, Refusal};
+use bt_wire::Reason;
 use std::alloc::Global;
-use std::test::Fail;
 
 /// The id of a handshake that is kept, and that of a keep-alive: no message has them here.
 const HANDSHAKE: u8 = 255;
@@ -87,209 +84,258 @@ pub(crate) const ITEMS: [(u64, u8); 10] = [
 
 const ENDS: [usize; 10] = [68, 72, 81, 98, 147, 151, 182, 187, 237, 242];
 
-/// The items of the first `bytes` bytes of the stream.
-fn items_of(bytes: usize) -> &'static [(u64, u8)] {
-    let count = ENDS.iter().filter(|end| **end <= bytes).count();
-    ITEMS.get(..count).unwrap_or(&[])
+/// How many items the first `bytes` bytes of the stream have.
+fn count_in(bytes: usize) -> usize {
+    let mut count = 0usize;
+    for end in ENDS {
+        if end <= bytes {
+            count = count.wrapping_add(1);
+        }
+    }
+    count
 }
 
-fn has_items(sink: &Kept, items: &[(u64, u8)]) -> bool {
-    sink.items.as_slice() == items
-}
-
-fn new_feed(alloc: Global) -> Result<Feed, FeedError> {
-    Feed::new(alloc, own(262_144))
+/// A source, a feed and a sink.
+#[derive(Drop)]
+struct Line {
+    reader: MemSource,
+    feed: Feed,
+    sink: Kept,
 }
 
 /// A source of the bytes that gives at most `most` of them a read, and fails at the read `fails_at`, counted from 1.
-fn source(bytes: Vec<u8>, most: usize, fails_at: Option<u64>) -> MemSource
-    requires { 0 < most }
-{
-    MemSource::new(bytes, most, fails_at)
+fn source(bytes: Vec<u8>, most: usize, fails_at: Option<u64>) -> MemSource {
+    MemSource::new(bytes, most.max(1), fails_at)
 }
 
-fn pumped(
-    reader: &mut MemSource,
-    feed: &mut Feed,
-    sink: &mut Kept,
-    max_turns: u64,
-) -> Result<u64, PumpError> {
-    pump(reader, feed, sink, max_turns)
+/// A line of a source that has the bytes of both parts, and of a sink that takes each item.
+fn made(
+    alloc: Global,
+    front: &[u8],
+    back: &[u8],
+    most: usize,
+    fails_at: Option<u64>,
+) -> Result<Line, FeedError> {
+    let reader = source(joined(alloc, front, back)?, most, fails_at);
+    Ok(Line {
+        reader,
+        feed: new_feed(alloc)?,
+        sink: sink_of(alloc, None, SinkFault::Write),
+    })
+}
+
+fn pumped(line: &mut Line, max_turns: u64) -> Result<u64, PumpError> {
+    pump(&mut line.reader, &mut line.feed, &mut line.sink, max_turns)
 }
 
 /// Like [`pumped`], over a buffer of three bytes.
-fn pumped_by_three(
-    reader: &mut MemSource,
-    feed: &mut Feed,
-    sink: &mut Kept,
-    max_turns: u64,
-) -> Result<u64, PumpError> {
+fn pumped_by_three(line: &mut Line, max_turns: u64) -> Result<u64, PumpError> {
     let mut buffer = [0; 3];
-    pump_with(reader, feed, sink, max_turns, &mut buffer)
+    pump_with(
+        &mut line.reader,
+        &mut line.feed,
+        &mut line.sink,
+        max_turns,
+        &mut buffer,
+    )
 }
 
-/// A source of few bytes a read gives what one of many gives.
-#[test]
-fn any_reads(rt: HostRuntime) -> Result<(), Fail> {
-    let alloc = rt.alloc();
-    for most in [1, 7, 68, 241, 4096] {
-        let mut feed = new_feed(alloc)?;
-        let mut sink = sink_of(alloc, None, SinkFault::Write);
-        let mut reader = source(joined(alloc, MESSAGES)?, most, None);
-        let is_whole = pumped(&mut reader, &mut feed, &mut sink, 243) == Ok(242);
-        assert!(rt; is_whole && has_items(&sink, &ITEMS), "{most}");
+fn discarded(line: &mut Line) -> Result<u64, PumpError> {
+    pump(&mut line.reader, &mut line.feed, &mut Discard::new(), 243)
+}
+
+fn number(line: &Line) -> u64 {
+    line.feed.number()
+}
+
+/// Whether the sink has just the first `count` items.
+fn has_first(line: &Line, count: usize) -> bool {
+    ITEMS.get(..count) == Some(line.sink.items.as_slice())
+}
+
+/// Whether a pump of at most so many turns ends so, and the sink has just the first `count` items then.
+fn pumps(line: &mut Line, max_turns: u64, ended: Result<u64, PumpError>, count: usize) -> bool {
+    pumped(line, max_turns) == ended && has_first(line, count)
+}
+
+/// Which pump reads the whole stream.
+#[derive(Clone, Copy)]
+enum Pump {
+    Usual,
+    ByThree,
+    Discarding,
+}
+
+fn is_pumped(line: &mut Line, by: Pump) -> bool {
+    match by {
+        Pump::Usual => pumps(line, 243, Ok(242), 10),
+        Pump::ByThree => pumped_by_three(line, 243) == Ok(242) && has_first(line, 10),
+        Pump::Discarding => discarded(line) == Ok(242) && number(line) == 10,
     }
-    Ok(())
 }
 
-/// A buffer of three bytes is as good as any.
-#[test]
-fn any_buffer(rt: HostRuntime) -> Result<(), Fail> {
-    let alloc = rt.alloc();
-    for most in [1, 7, 68, 241, 4096] {
-        let mut feed = new_feed(alloc)?;
-        let mut sink = sink_of(alloc, None, SinkFault::Write);
-        let mut reader = source(joined(alloc, MESSAGES)?, most, None);
-        let is_whole = pumped_by_three(&mut reader, &mut feed, &mut sink, 243) == Ok(242);
-        assert!(rt; is_whole && has_items(&sink, &ITEMS), "{most}");
+fn is_whole(alloc: Global, by: Pump, most: usize) -> bool {
+    match made(alloc, HAND, MESSAGES, most, None) {
+        Ok(mut line) => is_pumped(&mut line, by),
+        Err(_) => false,
     }
-    Ok(())
 }
 
-fn discarded(reader: &mut MemSource, feed: &mut Feed) -> Result<u64, PumpError> {
-    pump(reader, feed, &mut Discard::new(), 243)
-}
-
-/// A sink that keeps nothing hears the same verdict, wherever reads cut the messages.
-#[test]
-fn nothing_kept(rt: HostRuntime) -> Result<(), Fail> {
-    let alloc = rt.alloc();
+/// How many bytes a read gives at most where the pump goes otherwise.
+fn wrong_reads(alloc: Global, by: Pump) -> Option<usize> {
     for most in [1, 7, 68, 241, 4096] {
-        let mut feed = new_feed(alloc)?;
-        let mut reader = source(joined(alloc, MESSAGES)?, most, None);
-        let is_whole = discarded(&mut reader, &mut feed) == Ok(242);
-        assert!(rt; is_whole && feed.number() == 10, "{most}");
+        if !is_whole(alloc, by, most) {
+            return Some(most);
+        }
     }
-    Ok(())
+    None
 }
 
-/// Whether the pump gives the sink the rest of the stream.
-fn goes_on(reader: &mut MemSource, feed: &mut Feed, sink: &mut Kept) -> bool {
-    pumped(reader, feed, sink, 1000) == Ok(242) && has_items(sink, &ITEMS)
+/// A source of few bytes a read gives what one of many gives, also over a buffer of three bytes, and a sink that keeps
+/// nothing hears the same verdict.
+#[test]
+fn any_reads(rt: HostRuntime) {
+    for (name, by) in [
+        ("usual", Pump::Usual),
+        ("by three", Pump::ByThree),
+        ("discarding", Pump::Discarding),
+    ] {
+        let wrong = wrong_reads(rt.alloc(), by);
+        assert!(rt; wrong.is_none(), "{name}: {wrong:?}");
+    }
+}
+
+/// Whether the read after so many others fails, the items of the bytes before it are given, and another call goes on.
+fn is_failed(alloc: Global, most: usize, before: usize) -> bool {
+    let fails_at = Some((before as u64).wrapping_add(1));
+    let Ok(mut line) = made(alloc, HAND, MESSAGES, most, fails_at) else {
+        return false;
+    };
+    let given = count_in(before.wrapping_mul(most));
+    pumps(&mut line, 1000, Err(PumpError::ReadFault), given) && pumps(&mut line, 1000, Ok(242), 10)
+}
+
+/// The first read of so many bytes, counted from 0, whose failure isn't as wanted.
+fn wrong_failure(alloc: Global, most: usize) -> Option<usize> {
+    for before in 0..=242usize.div_ceil(most.max(1)) {
+        if !is_failed(alloc, most, before) {
+            return Some(before);
+        }
+    }
+    None
 }
 
 /// A failed read loses nothing: the items of the bytes before it are given, and another call goes on.
 #[test]
-fn failed_reads(rt: HostRuntime) -> Result<(), Fail> {
-    let alloc = rt.alloc();
-    for most in [1usize, 7, 100] {
-        for before in 0..=242usize.div_ceil(most) {
-            let mut feed = new_feed(alloc)?;
-            let mut sink = sink_of(alloc, None, SinkFault::Write);
-            let failed = Some((before as u64).wrapping_add(1));
-            let mut reader = source(joined(alloc, MESSAGES)?, most, failed);
-            let ended = pumped(&mut reader, &mut feed, &mut sink, 1000);
-            let is_right = ended == Err(PumpError::ReadFault)
-                && has_items(&sink, items_of(before.wrapping_mul(most)))
-                && goes_on(&mut reader, &mut feed, &mut sink);
-            assert!(rt; is_right, "{most} {before}");
-        }
+fn failed_reads(rt: HostRuntime) {
+    for most in [1, 7, 100] {
+        let wrong = wrong_failure(rt.alloc(), most);
+        assert!(rt; wrong.is_none(), "{most} {wrong:?}");
     }
-    Ok(())
+}
+
+fn is_cut_off(alloc: Global, turns: usize) -> bool {
+    let Ok(mut line) = made(alloc, HAND, MESSAGES, 1, None) else {
+        return false;
+    };
+    let given = count_in(turns);
+    pumps(&mut line, turns as u64, Err(PumpError::Turns), given)
+        && pumps(&mut line, 243, Ok(242), 10)
 }
 
 /// At most `turns` reads are made, and nothing is lost where there are more.
 #[test]
-fn turns(rt: HostRuntime) -> Result<(), Fail> {
-    let alloc = rt.alloc();
-    for turns in 0..=242usize {
-        let mut feed = new_feed(alloc)?;
-        let mut sink = sink_of(alloc, None, SinkFault::Write);
-        let mut reader = source(joined(alloc, MESSAGES)?, 1, None);
-        let ended = pumped(&mut reader, &mut feed, &mut sink, turns as u64);
-        let is_right = ended == Err(PumpError::Turns)
-            && has_items(&sink, items_of(turns))
-            && pumped(&mut reader, &mut feed, &mut sink, 243) == Ok(242)
-            && has_items(&sink, &ITEMS);
-        assert!(rt; is_right, "{turns}");
+fn turns(rt: HostRuntime) {
+    for turns in 0..=242 {
+        assert!(rt; is_cut_off(rt.alloc(), turns), "{turns}");
     }
-    Ok(())
+}
+
+fn has_2001(sink: &Kept) -> bool {
+    sink.items.len() == 2001 && sink.items.last() == Some(&(8064, KEEP_ALIVE))
+}
+
+fn is_long(alloc: Global, zeros: &[u8], turns: u64, ended: Result<u64, PumpError>) -> bool {
+    match made(alloc, HAND, zeros, 1_000_000, None) {
+        Ok(mut line) => pumped(&mut line, turns) == ended && has_2001(&line.sink),
+        Err(_) => false,
+    }
+}
+
+fn is_long_with(alloc: Global, turns: u64, ended: Result<u64, PumpError>) -> bool {
+    match vec![in alloc; 0; 8000] {
+        Ok(zeros) => is_long(alloc, &zeros, turns, ended),
+        Err(_) => false,
+    }
 }
 
 /// No read asks for more than 4,096 bytes: 8,068 take two reads, and a third for the end.
 #[test]
-fn long_streams(rt: HostRuntime) -> Result<(), Fail> {
-    let alloc = rt.alloc();
-    let zeros = [0; 8000];
+fn long_streams(rt: HostRuntime) {
     for (turns, ended) in [(2, Err(PumpError::Turns)), (3, Ok(8068))] {
-        let mut feed = new_feed(alloc)?;
-        let mut sink = sink_of(alloc, None, SinkFault::Write);
-        let mut reader = source(joined(alloc, &zeros)?, 1_000_000, None);
-        let is_right = pumped(&mut reader, &mut feed, &mut sink, turns) == ended
-            && sink.items.len() == 2001
-            && sink.items.last() == Some(&(8064, KEEP_ALIVE));
-        assert!(rt; is_right, "{turns}");
+        assert!(rt; is_long_with(rt.alloc(), turns, ended), "{turns}");
     }
-    Ok(())
 }
 
-/// Whether the pump gives the sink the rest of the stream, but for the item at `missed`.
-fn goes_on_without(reader: &mut MemSource, feed: &mut Feed, sink: &mut Kept, missed: u64) -> bool {
-    pumped(reader, feed, sink, 1000) == Ok(242)
-        && sink.items.len() == 9
-        && sink.items.iter().all(|(at, _)| *at != missed)
+/// Whether the sink has all items but for the one after `before` others.
+fn has_others(sink: &Kept, before: usize) -> bool {
+    let items = sink.items.as_slice();
+    items.get(..before) == ITEMS.get(..before)
+        && items.get(before..) == ITEMS.get(before.saturating_add(1)..)
 }
 
 /// Whether a fault of the sink, at the item after `before` others, stops the pump. Where each read gives one byte, the pump
 /// then goes on with the next item.
-fn misses_one(
-    alloc: Global,
-    fault: SinkFault,
-    before: usize,
-    missed: u64,
-    is_single: bool,
-) -> Result<bool, Fail> {
-    let mut feed = new_feed(alloc)?;
-    let mut sink = sink_of(alloc, Some((before as u64).wrapping_add(1)), fault);
+fn misses_one(alloc: Global, fault: SinkFault, before: usize, is_single: bool) -> bool {
     let most = if is_single { 1 } else { 4096 };
-    let mut reader = source(joined(alloc, MESSAGES)?, most, None);
-    let ended = pumped(&mut reader, &mut feed, &mut sink, 1000);
-    let given = ITEMS.get(..before).unwrap_or(&[]);
-    Ok(
-        ended == Err(PumpError::Sink(fault))
-            && has_items(&sink, given)
-            && (!is_single || goes_on_without(&mut reader, &mut feed, &mut sink, missed)),
-    )
+    let Ok(mut line) = made(alloc, HAND, MESSAGES, most, None) else {
+        return false;
+    };
+    line.sink.fails_at = Some((before as u64).wrapping_add(1));
+    line.sink.fault = fault;
+    pumps(&mut line, 1000, Err(PumpError::Sink(fault)), before)
+        && (!is_single || pumped(&mut line, 1000) == Ok(242) && has_others(&line.sink, before))
 }
+
+/// The first item, counted from 0, whose fault isn't as wanted.
+fn wrong_miss(alloc: Global, fault: SinkFault, is_single: bool) -> Option<usize> {
+    for before in 0..10 {
+        if !misses_one(alloc, fault, before, is_single) {
+            return Some(before);
+        }
+    }
+    None
+}
+
+const FAULTS: [(SinkFault, bool); 4] = [
+    (SinkFault::Write, true),
+    (SinkFault::Write, false),
+    (SinkFault::Memory, true),
+    (SinkFault::Memory, false),
+];
 
 /// A sink's fault loses the one item, and no byte after it that wasn't read.
 #[test]
-fn failed_items(rt: HostRuntime) -> Result<(), Fail> {
-    for fault in [SinkFault::Write, SinkFault::Memory] {
-        for (before, (missed, _)) in ITEMS.iter().enumerate() {
-            for is_single in [true, false] {
-                assert!(rt;
-                    misses_one(rt.alloc(), fault, before, *missed, is_single)?,
-                    "{before}"
-                );
-            }
-        }
+fn failed_items(rt: HostRuntime) {
+    for (fault, is_single) in &FAULTS {
+        let wrong = wrong_miss(rt.alloc(), *fault, *is_single);
+        assert!(rt; wrong.is_none(), "{fault:?} {is_single} {wrong:?}");
     }
-    Ok(())
+}
+
+fn gives_held(alloc: Global) -> bool {
+    let Ok(mut line) = made(alloc, b"", MESSAGES, 9, None) else {
+        return false;
+    };
+    push(&mut line.feed, HAND) == 68
+        && pumps(&mut line, 0, Err(PumpError::Turns), 1)
+        && pumps(&mut line, 1000, Ok(242), 10)
 }
 
 /// An item that is held at entry is given first, also where no read is made.
 #[test]
-fn held_items(rt: HostRuntime) -> Result<(), Fail> {
-    let alloc = rt.alloc();
-    let mut feed = new_feed(alloc)?;
-    let is_held = push(&mut feed, &hand()) == 68;
-    let mut sink = sink_of(alloc, None, SinkFault::Write);
-    let mut reader = source(Vec::from_slice(alloc, MESSAGES)?, 9, None);
-    let is_given = pumped(&mut reader, &mut feed, &mut sink, 0) == Err(PumpError::Turns)
-        && has_items(&sink, items_of(68));
-    assert!(rt; is_held && is_given && goes_on(&mut reader, &mut feed, &mut sink));
-    Ok(())
+fn held_items(rt: HostRuntime) {
+    assert!(rt; gives_held(rt.alloc()));
 }
 
 /// Whether the source has the two bytes `de` alone.
@@ -298,98 +344,91 @@ fn has_both(reader: &mut MemSource) -> bool {
     reader.read(&mut left) == Ok(2) && left == *b"de\0\0"
 }
 
-/// A feed that is refused reads nothing, whether the refusal was given before or not.
-#[test]
-fn refused_feeds(rt: HostRuntime) -> Result<(), Fail> {
-    let alloc = rt.alloc();
-    let refusal = Refusal {
-        message: 0,
-        at: 0,
-        reason: Reason::BadProtocol,
+fn reads_nothing(alloc: Global, given: bool) -> bool {
+    let Ok(mut line) = made(alloc, b"", b"de", 9, None) else {
+        return false;
     };
-    for given in [false, true] {
-        let mut feed = new_feed(alloc)?;
-        let is_pushed = push(&mut feed, b"abc") == 1;
-        let is_given = given && fault_of_take(&mut feed).is_some();
-        let mut sink = sink_of(alloc, None, SinkFault::Write);
-        let mut reader = source(Vec::from_slice(alloc, b"de")?, 9, None);
-        let is_refused = pumped(&mut reader, &mut feed, &mut sink, 1000)
-            == Err(PumpError::Refused(refusal))
-            && has_items(&sink, &[])
-            && has_both(&mut reader);
-        assert!(rt; is_pushed && is_given == given && is_refused, "{given}");
-    }
-    Ok(())
+    let refused = Err(PumpError::Refused(refusal((0, 0, Reason::BadProtocol))));
+    push(&mut line.feed, b"abc") == 1
+        && (!given || fault_of_take(&mut line.feed).is_some())
+        && pumps(&mut line, 1000, refused, 0)
+        && has_both(&mut line.reader)
 }
 
-/// Whether the pump gives the first `count` items and then refuses the stream.
+/// A feed that is refused reads nothing, whether the refusal was given before or not.
+#[test]
+fn refused_feeds(rt: HostRuntime) {
+    for given in [false, true] {
+        assert!(rt; reads_nothing(rt.alloc(), given), "{given}");
+    }
+}
+
+/// Whether the pump gives the first `count` items of the bytes of both parts and then refuses them.
 fn is_refused(
     alloc: Global,
-    stream: &[u8],
+    front: &[u8],
+    back: &[u8],
     most: usize,
     count: usize,
-    refusal: Refusal,
-) -> Result<bool, Fail>
-    requires { 0 < most }
-{
-    let mut feed = new_feed(alloc)?;
-    let mut sink = sink_of(alloc, None, SinkFault::Write);
-    let mut reader = source(Vec::from_slice(alloc, stream)?, most, None);
-    let ended = pumped(&mut reader, &mut feed, &mut sink, 1000);
-    let items = ITEMS.get(..count).unwrap_or(&[]);
-    Ok(ended == Err(PumpError::Refused(refusal)) && has_items(&sink, items))
+    refused: Refused,
+) -> bool {
+    let ended = Err(PumpError::Refused(refusal(refused)));
+    match made(alloc, front, back, most, None) {
+        Ok(mut line) => pumps(&mut line, 1000, ended, count),
+        Err(_) => false,
+    }
+}
+
+/// The messages after a handshake, how many items are given, and the refusal.
+const REFUSED: &[(&[u8], usize, Refused)] = &[
+    (b"\0\0\0", 1, (1, 71, Reason::EndInside)),
+    (
+        b"\0\0\0\0\0\0\0\x05\x04\0\0\0",
+        2,
+        (2, 80, Reason::EndInside),
+    ),
+    (
+        b"\0\0\0\0\xff\xff\xff\xff\0\0\0\0",
+        2,
+        (2, 72, Reason::TooLong),
+    ),
+    (
+        b"\0\0\0\0\0\0\0\x04\x04\0\0\0\0",
+        2,
+        (2, 72, Reason::WrongLength),
+    ),
+];
+
+fn is_refused_in_any_reads(alloc: Global, messages: &[u8], count: usize, refused: Refused) -> bool {
+    is_refused(alloc, HAND, messages, 1, count, refused)
+        && is_refused(alloc, HAND, messages, 4096, count, refused)
 }
 
 /// Streams that are refused after their items: at a byte, or where they end.
 #[test]
-fn refused_streams(rt: HostRuntime) -> Result<(), Fail> {
-    let alloc = rt.alloc();
-    for (messages, count, message, at, reason) in [
-        (b"\0\0\0".as_slice(), 1usize, 1, 71, Reason::EndInside),
-        (b"\0\0\0\0\0\0\0\x05\x04\0\0\0", 2, 2, 80, Reason::EndInside),
-        (
-            b"\0\0\0\0\xff\xff\xff\xff\0\0\0\0",
-            2,
-            2,
-            72,
-            Reason::TooLong,
-        ),
-        (
-            b"\0\0\0\0\0\0\0\x04\x04\0\0\0\0",
-            2,
-            2,
-            72,
-            Reason::WrongLength,
-        ),
-    ] {
-        let refusal = Refusal {
-            message,
-            at,
-            reason,
-        };
-        let stream = joined(alloc, messages)?;
-        for most in [1, 4096] {
-            assert!(rt;
-                is_refused(alloc, &stream, most, count, refusal)?,
-                "{at} {most}"
-            );
-        }
+fn refused_streams(rt: HostRuntime) {
+    for (messages, count, refused) in REFUSED {
+        assert!(rt;
+            is_refused_in_any_reads(rt.alloc(), messages, *count, *refused),
+            "{messages:?}"
+        );
     }
-    Ok(())
+}
+
+fn is_cut(alloc: Global, count: usize) -> bool {
+    match HAND.get(..count) {
+        Some(front) => {
+            let refused = (0, count as u64, Reason::EndInside);
+            is_refused(alloc, front, b"", 9, 0, refused)
+        }
+        None => false,
+    }
 }
 
 /// Streams that end inside the handshake.
 #[test]
-fn cut_handshakes(rt: HostRuntime) -> Result<(), Fail> {
-    let hand = hand();
-    for count in 0..68usize {
-        let front = hand.get(..count).ok_or("short")?;
-        let refusal = Refusal {
-            message: 0,
-            at: count as u64,
-            reason: Reason::EndInside,
-        };
-        assert!(rt; is_refused(rt.alloc(), front, 9, 0, refusal)?, "{count}");
+fn cut_handshakes(rt: HostRuntime) {
+    for count in 0..68 {
+        assert!(rt; is_cut(rt.alloc(), count), "{count}");
     }
-    Ok(())
 }

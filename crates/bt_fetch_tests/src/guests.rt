@@ -8,7 +8,6 @@ use bt_serve::{Door, Ending, Hospitality, Parting, serve};
 use std::alloc::Global;
 use std::cell::Cell;
 use std::rc::Rc;
-use std::test::Fail;
 
 /// The SHA-1 of `abc` (FIPS 180-4).
 const ABC: [u8; 20] = [
@@ -188,44 +187,82 @@ const WHOLE: Option<Parting> = Some(Parting {
     handled: 4,
 });
 
+/// How a service goes whose first connection fails at a call.
+#[derive(Clone, Copy)]
+enum Went {
+    Wrong,
+    /// The first connection is closed, and the second one is served.
+    ClosedFirst,
+    /// So many calls aren't made.
+    Unharmed,
+}
+
+fn is_closed(parting: Option<Parting>) -> bool {
+    matches!(
+        parting,
+        Some(Parting {
+            ending: Ending::Closed,
+            ..
+        })
+    )
+}
+
+fn how(came: &Came) -> Went {
+    if came.answer != Ok(()) || came.second != WHOLE {
+        Went::Wrong
+    } else if came.fetched == 2 && came.first == WHOLE {
+        Went::Unharmed
+    } else if came.fetched == 1 && is_closed(came.first) {
+        Went::ClosedFirst
+    } else {
+        Went::Wrong
+    }
+}
+
+fn tried(alloc: Global, call: u64) -> Went {
+    match served(alloc, Some(call)) {
+        Ok(came) => how(&came),
+        Err(_) => Went::Wrong,
+    }
+}
+
+/// The first call that isn't made; or the call whose failure goes wrong.
+fn first_unmade(alloc: Global) -> Result<u64, u64> {
+    for call in 1..10_000 {
+        match tried(alloc, call) {
+            Went::ClosedFirst => {}
+            Went::Unharmed => return Ok(call),
+            Went::Wrong => return Err(call),
+        }
+    }
+    Err(10_000)
+}
+
 /// Where a call of the first connection fails, that one ends, and the second one is served.
 #[test]
-fn each_call_fails(rt: HostRuntime) -> Result<(), Fail> {
-    for call in 1..10_000 {
-        let Ok(came) = served(rt.alloc(), Some(call)) else {
-            break;
-        };
-        assert_eq!(rt; (came.answer, came.second), (Ok(()), WHOLE));
-        if came.fetched == 2 {
-            assert_eq!(rt; came.first, WHOLE);
-            assert!(rt; call > 20);
-            return Ok(());
+fn each_call_fails(rt: HostRuntime) {
+    let first = first_unmade(rt.alloc());
+    assert!(rt; matches!(first, Ok(call) if call > 20), "{first:?}");
+}
+
+fn is_served_or_refused(came: &Came) -> bool {
+    let whole = u64::from(came.first == WHOLE).saturating_add(u64::from(came.second == WHOLE));
+    whole == came.fetched
+        && match came.answer {
+            Ok(()) => came.fetched > 0,
+            Err(_) => came.fetched < 2,
         }
-        assert_eq!(rt; came.fetched, 1);
-        assert!(rt;
-            matches!(
-                came.first,
-                Some(Parting {
-                    ending: Ending::Closed,
-                    ..
-                })
-            )
-        );
+}
+
+fn is_right(alloc: Global) -> bool {
+    match served(alloc, None) {
+        Ok(came) => is_served_or_refused(&came),
+        Err(_) => true,
     }
-    assert!(rt; false);
-    Ok(())
 }
 
 /// Where memory is refused the service ends so, or each end that wasn't refused it is served. `tests/growth.py` refuses it.
 #[test]
-fn memory_is_refused_or_all_are_served(rt: HostRuntime) -> Result<(), Fail> {
-    if let Ok(came) = served(rt.alloc(), None) {
-        let whole = (came.first == WHOLE) as u64 + (came.second == WHOLE) as u64;
-        assert_eq!(rt; whole, came.fetched);
-        match came.answer {
-            Ok(()) => assert!(rt; came.fetched > 0),
-            Err(_) => assert!(rt; came.fetched < 2),
-        }
-    }
-    Ok(())
+fn memory_is_refused_or_all_are_served(rt: HostRuntime) {
+    assert!(rt; is_right(rt.alloc()));
 }

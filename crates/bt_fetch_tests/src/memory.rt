@@ -3,7 +3,7 @@ use crate::peers::{Ends, Peers};
 use bt_ext::Rules;
 use bt_fetch::{FetchError, Outcome, Wish, fetch};
 use bt_io::MemTarget;
-use std::alloc::{AllocError, Global};
+use std::alloc::Global;
 
 /// The SHA-1 of one million letters `a` (FIPS 180-4).
 const MILLION: [u8; 20] = [
@@ -12,15 +12,33 @@ const MILLION: [u8; 20] = [
 ];
 
 /// What a fetch results in: its answer, how many bytes were written and how many of them are an `a`, and how the tries ended.
-type Came = (
-    Result<usize, FetchError>,
-    usize,
-    usize,
-    [Option<Outcome>; 4],
-);
+#[derive(Clone, Copy)]
+struct Came {
+    answer: Result<usize, FetchError>,
+    written: usize,
+    letters: usize,
+    outcomes: [Option<Outcome>; 4],
+}
 
-/// Fetches one million letters `a` from three peers whose connections move `most` bytes a call.
-fn fetched(alloc: Global, torrent: bool, most: usize, fails_at: Option<u64>, bound: u64) -> Came {
+fn bytes(target: &MemTarget) -> &[u8] {
+    target.bytes()
+}
+
+/// How many of the bytes are an `a`.
+fn letters(bytes: &[u8]) -> usize {
+    let mut count = 0usize;
+    for byte in bytes {
+        count = count.saturating_add(usize::from(*byte == 97));
+    }
+    count
+}
+
+/// Whether a .torrent is wanted, how many bytes a connection moves a call, the write that fails, and the greatest size that is
+/// taken.
+type Asked = (bool, usize, Option<u64>, u64);
+
+/// Fetches one million letters `a` from three peers.
+fn fetched(alloc: Global, (torrent, most, fails_at, bound): Asked) -> Came {
     let wish = Wish {
         info_hash: MILLION,
         peer_id: [48; 20],
@@ -43,8 +61,12 @@ fn fetched(alloc: Global, torrent: bool, most: usize, fails_at: Option<u64>, bou
     };
     let mut target = MemTarget::new(Vec::new(alloc), 1 << 20, fails_at);
     let answer = fetch(alloc, &wish, torrent, 3, &mut peers, &mut ends, &mut target);
-    let letters = target.bytes().iter().filter(|byte| **byte == 97).count();
-    (answer, target.bytes().len(), letters, ends.outcomes)
+    Came {
+        answer,
+        written: bytes(&target).len(),
+        letters: letters(bytes(&target)),
+        outcomes: ends.outcomes,
+    }
 }
 
 const ALL: [Option<Outcome>; 4] = [
@@ -54,31 +76,56 @@ const ALL: [Option<Outcome>; 4] = [
     None,
 ];
 
-#[test]
-fn metadata_comes_from_the_third_peer(rt: HostRuntime) -> Result<(), AllocError> {
-    let came = fetched(rt.alloc(), false, 65_536, None, 1_000_000);
-    assert_eq!(rt; came, (Ok(1_000_000), 1_000_000, 1_000_000, ALL));
-    Ok(())
+/// What it shows, what is asked, the answer, how many bytes are written, and how many of them are an `a`.
+type Row = (&'static str, Asked, Result<usize, FetchError>, usize, usize);
+
+const ROWS: &[Row] = &[
+    (
+        "metadata comes from the third peer",
+        (false, 65_536, None, 1_000_000),
+        Ok(1_000_000),
+        1_000_000,
+        1_000_000,
+    ),
+    (
+        "a torrent has eight bytes more",
+        (true, 1_000, None, 67_108_864),
+        Ok(1_000_008),
+        1_000_008,
+        1_000_000,
+    ),
+    (
+        "a failed write is answered",
+        (false, 65_536, Some(1), 67_108_864),
+        Err(FetchError::Write),
+        0,
+        0,
+    ),
+];
+
+fn is_fetched(alloc: Global, (_, asked, answer, written, letters): &Row) -> bool {
+    let came = fetched(alloc, *asked);
+    came.answer == *answer
+        && came.written == *written
+        && came.letters == *letters
+        && came.outcomes == ALL
 }
 
 #[test]
-fn a_torrent_has_eight_bytes_more(rt: HostRuntime) -> Result<(), AllocError> {
-    let came = fetched(rt.alloc(), true, 1_000, None, 67_108_864);
-    assert_eq!(rt; came, (Ok(1_000_008), 1_000_008, 1_000_000, ALL));
-    Ok(())
+fn one_million(rt: HostRuntime) {
+    for row in ROWS {
+        assert!(rt; is_fetched(rt.alloc(), row), "{}", row.0);
+    }
+}
+
+fn is_not_taken(alloc: Global) -> bool {
+    let came = fetched(alloc, (false, 65_536, None, 999_999));
+    came.answer == Err(FetchError::NotFetched)
+        && came.written == 0
+        && came.outcomes[2] == Some(Outcome::NoMetadata)
 }
 
 #[test]
-fn a_failed_write_is_answered(rt: HostRuntime) -> Result<(), AllocError> {
-    let came = fetched(rt.alloc(), false, 65_536, Some(1), 67_108_864);
-    assert_eq!(rt; came, (Err(FetchError::Write), 0, 0, ALL));
-    Ok(())
-}
-
-#[test]
-fn a_size_above_the_bound_is_not_taken(rt: HostRuntime) -> Result<(), AllocError> {
-    let (answer, written, _, outcomes) = fetched(rt.alloc(), false, 65_536, None, 999_999);
-    assert_eq!(rt; (answer, written), (Err(FetchError::NotFetched), 0));
-    assert_eq!(rt; outcomes[2], Some(Outcome::NoMetadata));
-    Ok(())
+fn a_size_above_the_bound_is_not_taken(rt: HostRuntime) {
+    assert!(rt; is_not_taken(rt.alloc()));
 }

@@ -1,9 +1,9 @@
 //! The fetch, driven by hand over two ends: the report says the same.
-use crate::fetch::{fetched, metadata};
+use crate::fetch::{fetch_steps, fetched, metadata};
 use crate::setting::*;
-use bt_session::{Config, Connection, End, EndError, LinkReport, Side, Turn};
+use bt_session::{Config, Connection, End, EndError, LinkReport, Side, Step, Turn};
+use bt_wire::Item;
 use std::alloc::{AllocError, Global};
-use std::test::Fail;
 
 fn receive(end: &mut End, bytes: &[u8]) -> usize {
     end.receive(bytes)
@@ -13,13 +13,19 @@ fn is_handled(end: &mut End) -> bool {
     end.turn() == Ok(Turn::Handled)
 }
 
-/// Takes up to n bytes of those that the end is to send.
-fn sent(alloc: Global, end: &mut End, n: u64) -> Result<Vec<u8>, AllocError> {
+/// Adds up to n bytes of those that the end is to send to both, and says how many.
+fn send(
+    end: &mut End,
+    sent: &mut Vec<u8>,
+    brought: &mut Vec<u8>,
+    n: u64,
+) -> Result<u64, AllocError> {
     let bytes = end.outgoing();
     let count = bytes.len().min(n as usize);
-    let taken = bytes[..count].to_vec(alloc)?;
+    sent.extend_from_slice(&bytes[..count])?;
+    brought.extend_from_slice(&bytes[..count])?;
     end.sent(count);
-    Ok(taken)
+    Ok(count as u64)
 }
 
 fn outgoing(end: &End) -> &[u8] {
@@ -62,20 +68,16 @@ impl Party {
 
     fn turn(&mut self) -> bool {
         let is_handled = is_handled(&mut self.end);
-        if is_handled {
-            self.handled = self.handled.saturating_add(1);
-        }
+        self.handled = self.handled.saturating_add(u64::from(is_handled));
         self.receive();
         is_handled
     }
 
     /// Brings up to n bytes that the other one sent, and says whether as many were there.
-    fn bring(&mut self, alloc: Global, other: &mut Party, n: u64) -> Result<bool, AllocError> {
-        let bytes = sent(alloc, &mut other.end, n)?;
-        self.brought.extend_from_slice(bytes.as_slice())?;
-        other.sent.extend_from_slice(bytes.as_slice())?;
+    fn bring(&mut self, other: &mut Party, n: u64) -> bool {
+        let count = send(&mut other.end, &mut other.sent, &mut self.brought, n);
         self.receive();
-        Ok(bytes.len() as u64 == n)
+        count == Ok(n)
     }
 
     fn reset(&mut self) -> bool {
@@ -86,47 +88,47 @@ impl Party {
         is_reset(&mut self.end)
     }
 
-    /// Whether it sent these bytes, delivered or not, and handled this many items.
-    fn did(&self, sent: &[u8], handled: u64) -> bool {
-        let delivered = self.sent.as_slice();
-        sent.get(..delivered.len()) == Some(delivered)
-            && sent.get(delivered.len()..) == Some(outgoing(&self.end))
-            && self.handled == handled
+    /// Whether it sent these bytes, delivered or not.
+    fn has_sent(&self, bytes: &[u8]) -> bool {
+        match bytes.split_at_checked(self.sent.len()) {
+            Some((delivered, waiting)) => {
+                delivered == self.sent.as_slice() && waiting == outgoing(&self.end)
+            }
+            None => false,
+        }
+    }
+
+    /// Whether it sent these items, to a receiver that wants metadata messages under this id.
+    fn has_sent_items(&self, alloc: Global, items: &[Item], id: u8) -> bool {
+        match stream(alloc, items, id) {
+            Ok(bytes) => self.has_sent(bytes.as_slice()),
+            Err(_) => false,
+        }
     }
 }
 
 /// Whether what went over the present connection is what the report says of it.
-fn is_same(
-    alloc: Global,
-    left: &Party,
-    right: &Party,
-    connection: Option<&Connection>,
-) -> Result<bool, Fail> {
-    let Some(connection) = connection else {
-        return Ok(false);
-    };
-    let left_sent = stream(alloc, connection.sent[0].as_slice(), 9)?;
-    let right_sent = stream(alloc, connection.sent[1].as_slice(), 3)?;
-    Ok(
-        left.did(left_sent.as_slice(), connection.handled[0])
-            && right.did(right_sent.as_slice(), connection.handled[1]),
-    )
+fn is_same(alloc: Global, left: &Party, right: &Party, connection: Option<&Connection>) -> bool {
+    match connection {
+        Some(connection) => {
+            left.handled == connection.handled[0]
+                && right.handled == connection.handled[1]
+                && left.has_sent_items(alloc, connection.sent[0].as_slice(), 9)
+                && right.has_sent_items(alloc, connection.sent[1].as_slice(), 3)
+        }
+        None => false,
+    }
 }
 
 /// Whether a move did all that it was to do.
-fn goes(
-    alloc: Global,
-    left: &mut Party,
-    right: &mut Party,
-    next: Move,
-) -> Result<bool, AllocError> {
+fn goes(left: &mut Party, right: &mut Party, next: Move) -> bool {
     match next {
-        Move::Bring(Side::Left, n) => left.bring(alloc, right, n),
-        Move::Bring(Side::Right, n) => right.bring(alloc, left, n),
-        Move::Turn(Side::Left) => Ok(left.turn()),
-        Move::Turn(Side::Right) => Ok(right.turn()),
-        Move::Say(..) => Ok(false),
-        Move::Reset => Ok(left.reset() && right.reset()),
+        Move::Bring(Side::Left, n) => left.bring(right, n),
+        Move::Bring(Side::Right, n) => right.bring(left, n),
+        Move::Turn(Side::Left) => left.turn(),
+        Move::Turn(Side::Right) => right.turn(),
+        Move::Say(..) => false,
+        Move::Reset => left.reset() && right.reset(),
     }
 }
 
@@ -135,30 +137,76 @@ fn is_alike(one: &End, other: &End) -> bool {
     outgoing(one) == outgoing(other) && metadata(one) == metadata(other)
 }
 
-/// Drives the fetch, and says whether each connection is the report's.
-fn drive(alloc: Global, report: &LinkReport) -> Result<bool, Fail> {
-    let mut left = Party::new(alloc, serving(b"abc".to_vec(alloc)?))?;
-    let mut right = Party::new(alloc, fetching())?;
-    let mut connections = report.connections.as_slice().iter();
+/// Makes the moves, and says how many connections were the report's; nothing where a move or a connection differs.
+fn drive(
+    alloc: Global,
+    left: &mut Party,
+    right: &mut Party,
+    connections: &[Connection],
+) -> Option<usize> {
+    let mut number = 0usize;
     for next in FETCH {
-        if matches!(next, Move::Reset) && !is_same(alloc, &left, &right, connections.next())? {
-            return Ok(false);
+        if matches!(next, Move::Reset) {
+            if !is_same(alloc, left, right, connections.get(number)) {
+                return None;
+            }
+            number = number.saturating_add(1);
         }
-        if !goes(alloc, &mut left, &mut right, next)? {
-            return Ok(false);
+        if !goes(left, right, *next) {
+            return None;
         }
     }
-    Ok(
-        is_same(alloc, &left, &right, connections.next())?
-            && connections.next().is_none()
-            && is_alike(&left.end, &report.ends[0])
-            && is_alike(&right.end, &report.ends[1]),
-    )
+    if is_same(alloc, left, right, connections.get(number)) {
+        Some(number.saturating_add(1))
+    } else {
+        None
+    }
+}
+
+/// Whether two ends that are driven by hand do what the report says.
+fn do_the_same(alloc: Global, left: &mut Party, right: &mut Party, report: &LinkReport) -> bool {
+    let connections = report.connections.as_slice();
+    drive(alloc, left, right, connections) == Some(connections.len())
+        && is_alike(&left.end, &report.ends[0])
+        && is_alike(&right.end, &report.ends[1])
+}
+
+fn with_right(alloc: Global, left: &mut Party, report: &LinkReport) -> bool {
+    match Party::new(alloc, fetching()) {
+        Ok(mut right) => do_the_same(alloc, left, &mut right, report),
+        Err(_) => false,
+    }
+}
+
+fn left(alloc: Global) -> Result<Party, EndError> {
+    match b"abc".to_vec(alloc) {
+        Ok(metadata) => Party::new(alloc, serving(metadata)),
+        Err(_) => Err(EndError::Memory),
+    }
+}
+
+fn with_both(alloc: Global, report: &LinkReport) -> bool {
+    match left(alloc) {
+        Ok(mut left) => with_right(alloc, &mut left, report),
+        Err(_) => false,
+    }
+}
+
+fn with_report(alloc: Global, steps: &[Step]) -> bool {
+    match fetched(alloc, steps) {
+        Ok(report) => with_both(alloc, &report),
+        Err(_) => false,
+    }
+}
+
+fn is_driven(alloc: Global) -> bool {
+    match fetch_steps(alloc, 1_000) {
+        Ok(steps) => with_report(alloc, steps.as_slice()),
+        Err(_) => false,
+    }
 }
 
 #[test]
-fn ends_driven_by_hand_do_the_same(rt: HostRuntime) -> Result<(), Fail> {
-    let (_steps, report) = fetched(rt.alloc(), 1_000)?;
-    assert!(rt; drive(rt.alloc(), &report)?);
-    Ok(())
+fn ends_driven_by_hand_do_the_same(rt: HostRuntime) {
+    assert!(rt; is_driven(rt.alloc()));
 }

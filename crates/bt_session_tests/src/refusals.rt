@@ -4,7 +4,6 @@ use bt_ext::Rules;
 use bt_session::{Announce, Config, EndError, LinkError, Role};
 use bt_wire::Own;
 use std::alloc::{AllocError, Global};
-use std::test::Fail;
 
 /// The SHA-1 of no bytes (FIPS 180-4).
 const NONE: [u8; 20] = [
@@ -80,11 +79,34 @@ fn own_of(receiver: Receiver) -> Own {
     }
 }
 
-fn watching(receiver: Receiver, peer_id: [u8; 20]) -> Config {
-    config(own_of(receiver), peer_id, Announce::Silent, Role::Watch)
+/// A receiver, and the metadata that its end serves.
+type Party = (Receiver, Served);
+
+fn config_of(
+    alloc: Global,
+    (receiver, served): Party,
+    peer_id: [u8; 20],
+) -> Result<Config, AllocError> {
+    let role = role(alloc, served)?;
+    Ok(config(own_of(receiver), peer_id, Announce::Silent, role))
 }
 
-const PAIRS: [(Receiver, Receiver, Option<LinkError>); 14] = [
+fn refusal_beside(alloc: Global, left: Config, right: Party) -> Option<LinkError> {
+    match config_of(alloc, right, RIGHT) {
+        Ok(right) => refusal(alloc, left, right),
+        Err(_) => Some(LinkError::Memory),
+    }
+}
+
+fn is_refused(alloc: Global, left: Party, right: Party, wanted: Option<LinkError>) -> bool {
+    match config_of(alloc, left, LEFT) {
+        Ok(left) => refusal_beside(alloc, left, right) == wanted,
+        Err(_) => false,
+    }
+}
+
+/// Two receivers, neither of which serves metadata.
+const PAIRS: &[(Receiver, Receiver, Option<LinkError>)] = &[
     (GOOD, GOOD, None),
     (GOOD, Receiver::Other, None),
     (GOOD, Receiver::Counting(7), None),
@@ -114,17 +136,15 @@ const PAIRS: [(Receiver, Receiver, Option<LinkError>); 14] = [
 ];
 
 #[test]
-fn configs_that_do_not_match(rt: HostRuntime) -> Result<(), Fail> {
-    for (left, right, wanted) in PAIRS {
-        let left = watching(left, LEFT);
-        let right = watching(right, RIGHT);
-        assert_eq!(rt; refusal(rt.alloc(), left, right), wanted);
+fn configs_that_do_not_match(rt: HostRuntime) {
+    for (number, (left, right, wanted)) in PAIRS.iter().enumerate() {
+        let (left, right) = ((*left, Served::Nothing), (*right, Served::Nothing));
+        assert!(rt; is_refused(rt.alloc(), left, right, *wanted), "{number}");
     }
-    Ok(())
 }
 
 /// Two ends of one receiver, and what each of them serves.
-const ENDS: [(Receiver, Served, Served, Option<LinkError>); 12] = [
+const ENDS: &[(Receiver, Served, Served, Option<LinkError>)] = &[
     (GOOD, Served::Abc, Served::Nothing, None),
     (GOOD, Served::Nothing, Served::Abc, None),
     (GOOD, Served::Abd, Served::Nothing, MISMATCH),
@@ -169,23 +189,11 @@ const ENDS: [(Receiver, Served, Served, Option<LinkError>); 12] = [
     ),
 ];
 
-fn end_of(
-    alloc: Global,
-    receiver: Receiver,
-    peer_id: [u8; 20],
-    served: Served,
-) -> Result<Config, AllocError> {
-    let role = role(alloc, served)?;
-    Ok(config(own_of(receiver), peer_id, Announce::Silent, role))
-}
-
 /// Each cause for which an end isn't made, on either side, before those that are judged after it.
 #[test]
-fn ends_that_are_not_made(rt: HostRuntime) -> Result<(), Fail> {
-    for (receiver, left, right, wanted) in ENDS {
-        let left = end_of(rt.alloc(), receiver, LEFT, left)?;
-        let right = end_of(rt.alloc(), receiver, RIGHT, right)?;
-        assert_eq!(rt; refusal(rt.alloc(), left, right), wanted);
+fn ends_that_are_not_made(rt: HostRuntime) {
+    for (number, (receiver, left, right, wanted)) in ENDS.iter().enumerate() {
+        let (left, right) = ((*receiver, *left), (*receiver, *right));
+        assert!(rt; is_refused(rt.alloc(), left, right, *wanted), "{number}");
     }
-    Ok(())
 }

@@ -1,13 +1,12 @@
 //! Runs whose ends say messages, or whose fetch isn't done.
 use crate::setting::*;
-use bt_ext::{ExtId, Registered, Rules, SameId};
-use bt_session::{Announce, Config, LinkReport, Outcome, Role, SayError, Side, Step};
+use bt_ext::{ExtId, Registered, Rules};
+use bt_session::{Announce, Config, LinkError, LinkReport, Outcome, Role, SayError, Side, Step};
 use bt_wire::{Fault, Own, Reason};
 use std::alloc::{AllocError, Global};
-use std::test::Fail;
 
 /// What the left end says, and then turns of the right end.
-const SAYING: [Move; 12] = [
+const SAYING: &[Move] = &[
     Move::Say(Side::Left, Saying::Unchoke),
     Move::Bring(Side::Left, 68),
     Move::Turn(Side::Left),
@@ -22,7 +21,7 @@ const SAYING: [Move; 12] = [
     Move::Turn(Side::Right),
 ];
 
-const SAID: [Outcome; 12] = [
+const SAID: &[Outcome] = &[
     Outcome::NotSaid(SayError::NotOpen),
     Outcome::Delivered(68),
     Outcome::Handled,
@@ -37,37 +36,8 @@ const SAID: [Outcome; 12] = [
     Outcome::Idle,
 ];
 
-/// An end that knows the piece count, 10, and wants no metadata messages.
-fn watching(peer_id: [u8; 20], announce: Announce) -> Config {
-    config(
-        own(0, Rules::Bep, Some(10), 262_144),
-        peer_id,
-        announce,
-        Role::Watch,
-    )
-}
-
-#[test]
-fn sayings_are_judged(rt: HostRuntime) -> Result<(), Fail> {
-    let left = watching(LEFT, Announce::All);
-    let right = watching(RIGHT, Announce::Nothing);
-    let told = told(rt.alloc(), left, right, &SAYING)?;
-    assert_eq!(rt; told.outcomes.as_slice(), SAID.as_slice());
-    assert_eq!(rt; (told.connections, told.counts), (1, (4, 1, 3, 4)));
-    Ok(())
-}
-
-/// An end that knows the piece count, 10, and registers `lt_donthave` alone.
-fn taking_back(peer_id: [u8; 20], id: u8) -> Result<Config, SameId> {
-    let reg = Registered::new(None, ExtId::new(id))?;
-    let own = Own {
-        reg,
-        ..own(0, Rules::Bep, Some(10), 262_144)
-    };
-    Ok(config(own, peer_id, Announce::Silent, Role::Watch))
-}
-
-const TAKING_BACK: [Move; 14] = [
+/// Each end takes back a piece: not before it knows the other's id, and under that id.
+const TAKING_BACK: &[Move] = &[
     Move::Bring(Side::Left, 68),
     Move::Turn(Side::Left),
     Move::Say(Side::Left, Saying::DontHave(9)),
@@ -84,7 +54,7 @@ const TAKING_BACK: [Move; 14] = [
     Move::Turn(Side::Right),
 ];
 
-const TAKEN_BACK: [Outcome; 14] = [
+const TAKEN_BACK: &[Outcome] = &[
     Outcome::Delivered(68),
     Outcome::Handled,
     Outcome::NotSaid(SayError::Illegal(Fault::Shape)),
@@ -101,18 +71,92 @@ const TAKEN_BACK: [Outcome; 14] = [
     Outcome::Idle,
 ];
 
-/// Each end takes back a piece: not before it knows the other's id, and under that id.
+/// An end that watches and knows the piece count, 10.
+#[derive(Clone, Copy)]
+enum Watcher {
+    /// It announces this, and wants no metadata messages.
+    Announcing(Announce),
+    /// It announces nothing, and registers `lt_donthave` alone, under this id.
+    TakingBack(u8),
+}
+
+/// The receiver that registers `lt_donthave` alone, or nothing under 0.
+fn own_of(id: u8) -> Own {
+    let none = Registered::metadata_only(None);
+    Own {
+        reg: Registered::new(None, ExtId::new(id)).unwrap_or(none),
+        ..own(0, Rules::Bep, Some(10), 262_144)
+    }
+}
+
+fn watching(watcher: Watcher, peer_id: [u8; 20]) -> Config {
+    let (id, announce) = match watcher {
+        Watcher::Announcing(announce) => (0, announce),
+        Watcher::TakingBack(id) => (id, Announce::Silent),
+    };
+    config(own_of(id), peer_id, announce, Role::Watch)
+}
+
+/// What it shows, the two ends, their moves, the outcomes, and how many items went over the one connection.
+type Run = (
+    &'static str,
+    Watcher,
+    Watcher,
+    &'static [Move],
+    &'static [Outcome],
+    Counts,
+);
+
+const RUNS: &[Run] = &[
+    (
+        "sayings are judged",
+        Watcher::Announcing(Announce::All),
+        Watcher::Announcing(Announce::Nothing),
+        SAYING,
+        SAID,
+        (4, 1, 3, 4),
+    ),
+    (
+        "pieces are taken back",
+        Watcher::TakingBack(4),
+        Watcher::TakingBack(5),
+        TAKING_BACK,
+        TAKEN_BACK,
+        (3, 3, 3, 3),
+    ),
+];
+
+/// Whether the report has one connection, these outcomes and these counts.
+fn tells(report: &LinkReport, outcomes: &[Outcome], wanted: Counts) -> bool {
+    let connections = report.connections.as_slice();
+    report.outcomes.as_slice() == outcomes
+        && connections.len() == 1
+        && counts(connections.first()) == wanted
+}
+
+fn is_told_by(alloc: Global, (_, left, right, _, outcomes, wanted): &Run, steps: &[Step]) -> bool {
+    match linked(alloc, watching(*left, LEFT), watching(*right, RIGHT), steps) {
+        Ok(report) => tells(&report, outcomes, *wanted),
+        Err(_) => false,
+    }
+}
+
+fn is_told(alloc: Global, run: &Run) -> bool {
+    match steps(alloc, run.3, 1_000) {
+        Ok(steps) => is_told_by(alloc, run, steps.as_slice()),
+        Err(_) => false,
+    }
+}
+
 #[test]
-fn pieces_are_taken_back(rt: HostRuntime) -> Result<(), Fail> {
-    let (left, right) = (taking_back(LEFT, 4)?, taking_back(RIGHT, 5)?);
-    let told = told(rt.alloc(), left, right, &TAKING_BACK)?;
-    assert_eq!(rt; told.outcomes.as_slice(), TAKEN_BACK.as_slice());
-    assert_eq!(rt; told.counts, (3, 3, 3, 3));
-    Ok(())
+fn outcomes(rt: HostRuntime) {
+    for run in RUNS {
+        assert!(rt; is_told(rt.alloc(), run), "{}", run.0);
+    }
 }
 
 /// Both blocks of 16,385 bytes are asked for, and the first one comes.
-const HALF: [Move; 12] = [
+const HALF: &[Move] = &[
     Move::Bring(Side::Right, 68),
     Move::Turn(Side::Right),
     Move::Bring(Side::Left, 98),
@@ -129,7 +173,7 @@ const HALF: [Move; 12] = [
 
 /// The steps of the fetch of two blocks up to the first one, and then of a new connection where there is to be one.
 fn half_steps(alloc: Global, is_reset: bool) -> Result<Vec<Step>, AllocError> {
-    let mut steps = steps(alloc, HALF.as_slice(), 20_000)?;
+    let mut steps = steps(alloc, HALF, 20_000)?;
     if is_reset {
         steps.push(Step::Reset)?;
     }
@@ -148,34 +192,60 @@ fn hashed(id: u8, info_hash: [u8; 20]) -> Own {
     }
 }
 
-/// Runs these steps with an end that serves the metadata and one that fetches it.
-fn fetched_by(alloc: Global, metadata: &[u8], steps: &[Step]) -> Result<LinkReport, Fail> {
-    let info_hash = digest(metadata);
-    let served = Role::Serve(metadata.to_vec(alloc)?);
+/// Runs these steps with an end that serves this metadata and one that fetches it.
+fn fetched_by(
+    alloc: Global,
+    metadata: Vec<u8>,
+    info_hash: [u8; 20],
+    steps: &[Step],
+) -> Result<LinkReport, LinkError> {
+    let served = Role::Serve(metadata);
     let left = config(hashed(3, info_hash), LEFT, Announce::Silent, served);
     let right = config(hashed(9, info_hash), RIGHT, Announce::Silent, Role::Fetch);
-    Ok(linked(alloc, left, right, steps)?)
+    linked(alloc, left, right, steps)
 }
 
-/// Whether this block, the first, is the only one that is held, by the right end.
-fn holds_first(report: &LinkReport, block: &[u8]) -> bool {
-    let held = report.blocks[1].as_slice();
-    report.blocks[0].is_empty()
-        && held.len() == 1
-        && held
-            .iter()
-            .all(|(piece, bytes)| *piece == 0 && bytes.as_slice() == block)
+fn is_block(block: &[u8]) -> bool {
+    block.len() == 16_384 && block.iter().all(|byte| *byte == 7)
+}
+
+/// Whether the first block is the only one that is held, by the right end.
+fn holds_first(report: &LinkReport) -> bool {
+    match report.blocks[1].as_slice() {
+        [(piece, block)] => {
+            *piece == 0 && report.blocks[0].is_empty() && is_block(block.as_slice())
+        }
+        _ => false,
+    }
+}
+
+fn is_held(alloc: Global, metadata: Vec<u8>, steps: &[Step]) -> bool {
+    let info_hash = digest(metadata.as_slice());
+    match fetched_by(alloc, metadata, info_hash, steps) {
+        Ok(report) => all_done(steps, report.outcomes.as_slice()) && holds_first(&report),
+        Err(_) => false,
+    }
+}
+
+/// Whether the first of two blocks of sevens is held after these steps.
+fn is_held_after(alloc: Global, steps: &[Step]) -> bool {
+    match vec![in alloc; 7; 16_385] {
+        Ok(metadata) => is_held(alloc, metadata, steps),
+        Err(_) => false,
+    }
+}
+
+fn is_kept(alloc: Global, is_reset: bool) -> bool {
+    match half_steps(alloc, is_reset) {
+        Ok(steps) => is_held_after(alloc, steps.as_slice()),
+        Err(_) => false,
+    }
 }
 
 /// A report has the blocks of a fetch that isn't done, which a new connection keeps.
 #[test]
-fn blocks_of_an_unfinished_fetch(rt: HostRuntime) -> Result<(), Fail> {
-    let metadata = vec![in rt.alloc(); 7; 16_385]?;
+fn blocks_of_an_unfinished_fetch(rt: HostRuntime) {
     for is_reset in [false, true] {
-        let steps = half_steps(rt.alloc(), is_reset)?;
-        let report = fetched_by(rt.alloc(), metadata.as_slice(), steps.as_slice())?;
-        assert!(rt; all_done(steps.as_slice(), report.outcomes.as_slice()));
-        assert!(rt; holds_first(&report, &metadata.as_slice()[..16_384]));
+        assert!(rt; is_kept(rt.alloc(), is_reset), "{is_reset}");
     }
-    Ok(())
 }

@@ -81,7 +81,7 @@ pub(crate) enum Move {
 }
 
 /// A fetch that is cut off before its one block has come whole, and then a second connection.
-pub(crate) const FETCH: [Move; 22] = [
+pub(crate) const FETCH: &[Move] = &[
     Move::Bring(Side::Right, 68),
     Move::Turn(Side::Right),
     Move::Bring(Side::Left, 98),
@@ -167,32 +167,6 @@ pub(crate) fn linked(
     run_link(alloc, left, right, steps)
 }
 
-/// The outcomes of moves, and how many items went over the first of so many connections.
-#[derive(Drop)]
-pub(crate) struct Run {
-    pub(crate) outcomes: Vec<Outcome>,
-    pub(crate) connections: usize,
-    pub(crate) counts: (usize, u64, usize, u64),
-}
-
-/// Runs the two ends by moves, whose bytes are delivered at once.
-pub(crate) fn told(
-    alloc: Global,
-    left: Config,
-    right: Config,
-    moves: &[Move],
-) -> Result<Run, LinkError> {
-    let Ok(steps) = steps(alloc, moves, 1_000) else {
-        return Err(LinkError::Memory);
-    };
-    let report = linked(alloc, left, right, steps.as_slice())?;
-    Ok(Run {
-        connections: report.connections.len(),
-        counts: counts(report.connections.as_slice().first()),
-        outcomes: report.outcomes,
-    })
-}
-
 fn is_done(step: &Step, outcome: &Outcome) -> bool {
     match (step, outcome) {
         (Step::Turn(_), Outcome::Handled) => true,
@@ -204,15 +178,18 @@ fn is_done(step: &Step, outcome: &Outcome) -> bool {
 
 /// Whether each step that isn't a saying did all that it was to do.
 pub(crate) fn all_done(steps: &[Step], outcomes: &[Outcome]) -> bool {
+    for (step, outcome) in steps.iter().zip(outcomes) {
+        if !is_done(step, outcome) {
+            return false;
+        }
+    }
     steps.len() == outcomes.len()
-        && steps
-            .iter()
-            .zip(outcomes)
-            .all(|(step, outcome)| is_done(step, outcome))
 }
 
 /// How many items went over a connection: sent and handled by the left end, and by the right one.
-pub(crate) fn counts(connection: Option<&Connection>) -> (usize, u64, usize, u64) {
+pub(crate) type Counts = (usize, u64, usize, u64);
+
+pub(crate) fn counts(connection: Option<&Connection>) -> Counts {
     match connection {
         Some(c) => (c.sent[0].len(), c.handled[0], c.sent[1].len(), c.handled[1]),
         None => (0, 0, 0, 0),
