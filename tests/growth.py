@@ -1,12 +1,14 @@
 #!/usr/bin/env python3
 """Refuses each request for memory in turn, and wants what comes with ample memory, or that memory was refused.
 
-usage: tests/growth.py [CRATE..]
+usage: tests/growth.py [--over CRATES] [CRATE..]
 
-CRATE is a crate of TESTS, or else each of them is tried. Its built tests are those that the gate or `rt test` left in its folder
-`out`. A test of the table accepts these two answers alone. It is run over a `malloc` that refuses the Nth request, for N = 1, 2, ..
-until a run makes fewer requests. Without a C compiler, as `cc`, nothing is run.
+CRATE is a crate of TESTS, or else each of them is tried. Its built tests are those that the gate or `rt test` left in the folder
+CRATES/CRATE/out, where CRATES is crates/ of the repository if it isn't given. A test of the table accepts these two answers alone.
+It is run over a `malloc` that refuses the Nth request, for N = 1, 2, .. until a run makes fewer requests. Without a C compiler, as
+`cc`, nothing is run.
 """
+import argparse
 import os
 import shutil
 import subprocess
@@ -50,9 +52,8 @@ __attribute__((destructor)) static void end(void) {
 """
 
 
-def refuse_each(library, made, crate, test):
+def refuse_each(library, made, built, test):
     """Refuses each request of a test, and returns how many these were; None where an answer is another one."""
-    built = os.path.join(ROOT, "crates", crate, "out", crate + "_tests")
     for n in range(1, MOST):
         words = {"LD_PRELOAD": library, "REFUSED": str(n), "MADE": made}
         run = subprocess.run([built, test], env=words, capture_output=True, timeout=60)
@@ -71,11 +72,16 @@ def main():
     if compiler is None:
         print("growth: not run, since there is no cc")
         return 0
-    wanted = sys.argv[1:] or [crate for crate, _ in TESTS]
+    parser = argparse.ArgumentParser(description=__doc__, formatter_class=argparse.RawDescriptionHelpFormatter)
+    parser.add_argument("--over", default=os.path.join(ROOT, "crates"), metavar="CRATES")
+    parser.add_argument("names", nargs="*", metavar="CRATE")
+    given = parser.parse_args()
+    built = {crate: os.path.join(given.over, crate, "out", crate + "_tests") for crate, _ in TESTS}
+    wanted = given.names or built
     with tempfile.TemporaryDirectory() as work:
         library, made = os.path.join(work, "refusing.so"), os.path.join(work, "made")
         subprocess.run([compiler, "-shared", "-fPIC", "-x", "c", "-o", library, "-"], input=MALLOC.encode(), check=True)
-        refused = [refuse_each(library, made, crate, test) for crate, test in TESTS if crate in wanted]
+        refused = [refuse_each(library, made, built[crate], test) for crate, test in TESTS if crate in wanted]
     if None in refused:
         return 1
     print(f"growth: ok, {sum(refused)} requests refused")
