@@ -4,7 +4,6 @@ use bt_cli::options::asked;
 use bt_ext::{ExtId, Registered, Rules};
 use bt_wire::{Own, Reserved};
 use std::alloc::{AllocError, Global};
-use std::test::Fail;
 
 /// Returns what the words ask for.
 fn answer(alloc: Global, words: &[&str]) -> Result<Asked, AllocError> {
@@ -16,11 +15,11 @@ fn answer(alloc: Global, words: &[&str]) -> Result<Asked, AllocError> {
 }
 
 /// Whether the words ask for this job, with this receiver.
-fn asks(alloc: Global, words: &[&str], job: Job, own: Own) -> Result<bool, AllocError> {
-    Ok(match &answer(alloc, words)? {
-        Asked::Run(request) => request.job == job && request.own == own,
+fn asks(alloc: Global, words: &[&str], job: Job, own: &Own) -> bool {
+    match answer(alloc, words) {
+        Ok(Asked::Run(request)) => request.job == job && request.own == *own,
         _ => false,
-    })
+    }
 }
 
 const HASH: [u8; 20] = [
@@ -29,8 +28,8 @@ const HASH: [u8; 20] = [
 ];
 
 /// The words, and the receiver's reserved bits, pieces, id of `ut_metadata`, info hash, rules and limit.
-type Row<'a> = (
-    &'a [&'a str],
+type Row = (
+    &'static [&'static str],
     u64,
     Option<u32>,
     u8,
@@ -39,314 +38,344 @@ type Row<'a> = (
     u32,
 );
 
-#[test]
-fn receivers(rt: HostRuntime) -> Result<(), Fail> {
-    let table: [Row<'_>; 22] = [
-        (&[], 0x10_0005, None, 3, None, Rules::Free, 262_144),
-        (&["show"], 0x10_0005, None, 3, None, Rules::Free, 262_144),
-        (
-            &["show", "--reserved", "0000000000000000"],
-            0,
-            None,
-            3,
-            None,
-            Rules::Free,
-            262_144,
-        ),
-        (
-            &["show", "--reserved", "80000000001000aF"],
-            0x8000_0000_0010_00af,
-            None,
-            3,
-            None,
-            Rules::Free,
-            262_144,
-        ),
-        (
-            &["show", "--pieces", "0"],
-            0x10_0005,
-            Some(0),
-            3,
-            None,
-            Rules::Free,
-            262_144,
-        ),
-        (
-            &["show", "--pieces", "10"],
-            0x10_0005,
-            Some(10),
-            3,
-            None,
-            Rules::Free,
-            262_144,
-        ),
-        (
-            &["show", "--pieces=10"],
-            0x10_0005,
-            Some(10),
-            3,
-            None,
-            Rules::Free,
-            262_144,
-        ),
-        (
-            &["show", "--pieces", "0000000000010"],
-            0x10_0005,
-            Some(10),
-            3,
-            None,
-            Rules::Free,
-            262_144,
-        ),
-        (
-            &["show", "--pieces", "4294967295"],
-            0x10_0005,
-            Some(4_294_967_295),
-            3,
-            None,
-            Rules::Free,
-            262_144,
-        ),
-        (
-            &["show", "--metadata-id", "0"],
-            0x10_0005,
-            None,
-            0,
-            None,
-            Rules::Free,
-            262_144,
-        ),
-        (
-            &["show", "--metadata-id", "3"],
-            0x10_0005,
-            None,
-            3,
-            None,
-            Rules::Free,
-            262_144,
-        ),
-        (
-            &["show", "--metadata-id", "255"],
-            0x10_0005,
-            None,
-            255,
-            None,
-            Rules::Free,
-            262_144,
-        ),
-        (
-            &[
-                "show",
-                "--info-hash",
-                "a9993e364706816aba3e25717850c26c9cd0d89d",
-            ],
-            0x10_0005,
-            None,
-            3,
-            Some(HASH),
-            Rules::Free,
-            262_144,
-        ),
-        (
-            &[
-                "show",
-                "--info-hash",
-                "A9993E364706816ABA3E25717850C26C9CD0D89D",
-            ],
-            0x10_0005,
-            None,
-            3,
-            Some(HASH),
-            Rules::Free,
-            262_144,
-        ),
-        (
-            &["show", "--rules", "free"],
-            0x10_0005,
-            None,
-            3,
-            None,
-            Rules::Free,
-            262_144,
-        ),
-        (
-            &["show", "--rules", "bep"],
-            0x10_0005,
-            None,
-            3,
-            None,
-            Rules::Bep,
-            262_144,
-        ),
-        (
-            &["show", "--limit", "1"],
-            0x10_0005,
-            None,
-            3,
-            None,
-            Rules::Free,
-            1,
-        ),
-        (
-            &["show", "--limit", "1048576"],
-            0x10_0005,
-            None,
-            3,
-            None,
-            Rules::Free,
-            1_048_576,
-        ),
-        (
-            &["show", "--limit=262144"],
-            0x10_0005,
-            None,
-            3,
-            None,
-            Rules::Free,
-            262_144,
-        ),
-        (
-            &["show", "--limit", "262145"],
-            0x10_0005,
-            None,
-            3,
-            None,
-            Rules::Free,
-            262_145,
-        ),
-        (
-            &["show", "--limit", "9", "--pieces=7", "--rules=bep"],
-            0x10_0005,
-            Some(7),
-            3,
-            None,
-            Rules::Bep,
-            9,
-        ),
-        (
-            &[
-                "show",
-                "--metadata-id",
-                "9",
-                "--reserved",
-                "0000000000000004",
-            ],
-            4,
-            None,
-            9,
-            None,
-            Rules::Free,
-            262_144,
-        ),
-    ];
-    for (words, reserved, pieces, id, info_hash, rules, limit) in table {
-        let own = Own {
-            reserved: Reserved(reserved),
-            info_hash,
-            pieces,
-            reg: Registered::metadata_only(ExtId::new(id)),
-            rules,
-            limit,
-        };
-        assert!(rt; asks(rt.alloc(), words, Job::Show, own)?, "{words:?}");
-    }
-    Ok(())
+const RECEIVERS: &[Row] = &[
+    (&[], 0x10_0005, None, 3, None, Rules::Free, 262_144),
+    (&["show"], 0x10_0005, None, 3, None, Rules::Free, 262_144),
+    (
+        &["show", "--reserved", "0000000000000000"],
+        0,
+        None,
+        3,
+        None,
+        Rules::Free,
+        262_144,
+    ),
+    (
+        &["show", "--reserved", "80000000001000aF"],
+        0x8000_0000_0010_00af,
+        None,
+        3,
+        None,
+        Rules::Free,
+        262_144,
+    ),
+    (
+        &["show", "--pieces", "0"],
+        0x10_0005,
+        Some(0),
+        3,
+        None,
+        Rules::Free,
+        262_144,
+    ),
+    (
+        &["show", "--pieces", "10"],
+        0x10_0005,
+        Some(10),
+        3,
+        None,
+        Rules::Free,
+        262_144,
+    ),
+    (
+        &["show", "--pieces=10"],
+        0x10_0005,
+        Some(10),
+        3,
+        None,
+        Rules::Free,
+        262_144,
+    ),
+    (
+        &["show", "--pieces", "0000000000010"],
+        0x10_0005,
+        Some(10),
+        3,
+        None,
+        Rules::Free,
+        262_144,
+    ),
+    (
+        &["show", "--pieces", "4294967295"],
+        0x10_0005,
+        Some(4_294_967_295),
+        3,
+        None,
+        Rules::Free,
+        262_144,
+    ),
+    (
+        &["show", "--metadata-id", "0"],
+        0x10_0005,
+        None,
+        0,
+        None,
+        Rules::Free,
+        262_144,
+    ),
+    (
+        &["show", "--metadata-id", "3"],
+        0x10_0005,
+        None,
+        3,
+        None,
+        Rules::Free,
+        262_144,
+    ),
+    (
+        &["show", "--metadata-id", "255"],
+        0x10_0005,
+        None,
+        255,
+        None,
+        Rules::Free,
+        262_144,
+    ),
+    (
+        &[
+            "show",
+            "--info-hash",
+            "a9993e364706816aba3e25717850c26c9cd0d89d",
+        ],
+        0x10_0005,
+        None,
+        3,
+        Some(HASH),
+        Rules::Free,
+        262_144,
+    ),
+    (
+        &[
+            "show",
+            "--info-hash",
+            "A9993E364706816ABA3E25717850C26C9CD0D89D",
+        ],
+        0x10_0005,
+        None,
+        3,
+        Some(HASH),
+        Rules::Free,
+        262_144,
+    ),
+    (
+        &["show", "--rules", "free"],
+        0x10_0005,
+        None,
+        3,
+        None,
+        Rules::Free,
+        262_144,
+    ),
+    (
+        &["show", "--rules", "bep"],
+        0x10_0005,
+        None,
+        3,
+        None,
+        Rules::Bep,
+        262_144,
+    ),
+    (
+        &["show", "--limit", "1"],
+        0x10_0005,
+        None,
+        3,
+        None,
+        Rules::Free,
+        1,
+    ),
+    (
+        &["show", "--limit", "1048576"],
+        0x10_0005,
+        None,
+        3,
+        None,
+        Rules::Free,
+        1_048_576,
+    ),
+    (
+        &["show", "--limit=262144"],
+        0x10_0005,
+        None,
+        3,
+        None,
+        Rules::Free,
+        262_144,
+    ),
+    (
+        &["show", "--limit", "262145"],
+        0x10_0005,
+        None,
+        3,
+        None,
+        Rules::Free,
+        262_145,
+    ),
+    (
+        &["show", "--limit", "9", "--pieces=7", "--rules=bep"],
+        0x10_0005,
+        Some(7),
+        3,
+        None,
+        Rules::Bep,
+        9,
+    ),
+    (
+        &[
+            "show",
+            "--metadata-id",
+            "9",
+            "--reserved",
+            "0000000000000004",
+        ],
+        4,
+        None,
+        9,
+        None,
+        Rules::Free,
+        262_144,
+    ),
+];
+
+fn is_described(
+    alloc: Global,
+    (words, reserved, pieces, id, info_hash, rules, limit): &Row,
+) -> bool {
+    let own = Own {
+        reserved: Reserved(*reserved),
+        info_hash: *info_hash,
+        pieces: *pieces,
+        reg: Registered::metadata_only(ExtId::new(*id)),
+        rules: *rules,
+        limit: *limit,
+    };
+    asks(alloc, words, Job::Show, &own)
 }
 
-/// Each command, its job, and the rules by which it judges.
 #[test]
-fn jobs(rt: HostRuntime) -> Result<(), Fail> {
-    let table: [(&[&str], Job, Rules); 11] = [
-        (&[], Job::Show, Rules::Free),
-        (&["show", "--rules", "bep"], Job::Show, Rules::Bep),
-        (&["show", "--json"], Job::Json, Rules::Free),
-        (&["check"], Job::Check, Rules::Bep),
-        (&["check", "--rules", "bep"], Job::Check, Rules::Bep),
-        (&["check", "--rules", "free"], Job::Check, Rules::Free),
-        (&["unpack"], Job::Unpack, Rules::Free),
-        (&["unpack", "--rules=free"], Job::Unpack, Rules::Free),
-        (&["unpack", "--rules=bep"], Job::Unpack, Rules::Bep),
-        (&["pack"], Job::Pack, Rules::Free),
-        (&["pack", "--rules", "bep"], Job::Pack, Rules::Bep),
-    ];
-    for (words, job, rules) in table {
-        let own = Own {
-            rules,
-            ..default_own()
-        };
-        assert!(rt; asks(rt.alloc(), words, job, own)?, "{words:?}");
+fn receivers(rt: HostRuntime) {
+    for row in RECEIVERS {
+        assert!(rt; is_described(rt.alloc(), row), "{:?}", row.0);
     }
-    Ok(())
 }
+
+/// The words of each command, its job, and the rules by which it judges.
+const JOBS: &[(&[&str], Job, Rules)] = &[
+    (&[], Job::Show, Rules::Free),
+    (&["show", "--rules", "bep"], Job::Show, Rules::Bep),
+    (&["show", "--json"], Job::Json, Rules::Free),
+    (&["check"], Job::Check, Rules::Bep),
+    (&["check", "--rules", "bep"], Job::Check, Rules::Bep),
+    (&["check", "--rules", "free"], Job::Check, Rules::Free),
+    (&["unpack"], Job::Unpack, Rules::Free),
+    (&["unpack", "--rules=free"], Job::Unpack, Rules::Free),
+    (&["unpack", "--rules=bep"], Job::Unpack, Rules::Bep),
+    (&["pack"], Job::Pack, Rules::Free),
+    (&["pack", "--rules", "bep"], Job::Pack, Rules::Bep),
+];
+
+fn asks_by(alloc: Global, words: &[&str], job: Job, rules: Rules) -> bool {
+    let own = Own {
+        rules,
+        ..default_own()
+    };
+    asks(alloc, words, job, &own)
+}
+
+#[test]
+fn jobs(rt: HostRuntime) {
+    for (words, job, rules) in JOBS {
+        assert!(rt; asks_by(rt.alloc(), words, *job, *rules), "{words:?}");
+    }
+}
+
+fn has_files(found: &[String], files: &[&str]) -> bool {
+    let mut left = files.iter();
+    for file in found {
+        match left.next() {
+            Some(wanted) if file.as_str() == *wanted => {}
+            _ => return false,
+        }
+    }
+    left.next().is_none()
+}
+
+fn has_other(found: &Option<String>, other: Option<&str>) -> bool {
+    match (found, other) {
+        (Some(found), Some(other)) => found.as_str() == other,
+        (None, None) => true,
+        _ => false,
+    }
+}
+
+/// A job, the other direction, the files, and which options are given.
+type Wanted = (Job, Option<&'static str>, &'static [&'static str], Given);
 
 /// Whether the words ask for this job with this other direction, these files, and no more options than these.
-fn asks_for(
-    alloc: Global,
-    words: &[&str],
-    (job, other, files, given): (Job, Option<&str>, &[&str], Given),
-) -> Result<bool, AllocError> {
-    Ok(match &answer(alloc, words)? {
-        Asked::Run(request) => {
-            request.job == job
-                && request.other.as_ref().map(|name| name.as_str()) == other
-                && request.given == given
-                && request
-                    .files
-                    .iter()
-                    .map(|file| file.as_str())
-                    .eq(files.iter().copied())
+fn asks_for(alloc: Global, words: &[&str], (job, other, files, given): &Wanted) -> bool {
+    match answer(alloc, words) {
+        Ok(Asked::Run(request)) => {
+            request.job == *job
+                && request.given == *given
+                && has_other(&request.other, *other)
+                && has_files(request.files.as_slice(), files)
         }
         _ => false,
-    })
-}
-
-/// What is given of the reserved bits and of the id.
-const fn given(reserved: bool, metadata_id: bool) -> Given {
-    Given {
-        reserved,
-        metadata_id,
-        donthave_id: false,
     }
 }
+
+/// No option of the reserved bits or of the id is given, or that of the id, of the bits, or of both.
+const NEITHER: Given = Given {
+    reserved: false,
+    metadata_id: false,
+    donthave_id: false,
+};
+
+const ID: Given = Given {
+    metadata_id: true,
+    ..NEITHER
+};
+
+const BITS: Given = Given {
+    reserved: true,
+    ..NEITHER
+};
+
+const BOTH: Given = Given {
+    reserved: true,
+    ..ID
+};
 
 /// Files, the other direction, and what options give.
+const FILES: &[(&[&str], Wanted)] = &[
+    (&["show"], (Job::Show, None, &[], NEITHER)),
+    (&["show", "a"], (Job::Show, None, &["a"], NEITHER)),
+    (&["pack", "-"], (Job::Pack, None, &["-"], NEITHER)),
+    (
+        &["check", "a", "", "b"],
+        (Job::Check, None, &["a", "", "b"], NEITHER),
+    ),
+    (
+        &["show", "--other", "b", "a"],
+        (Job::Show, Some("b"), &["a"], NEITHER),
+    ),
+    (
+        &["unpack", "a", "--metadata-id", "3", "--other=b"],
+        (Job::Unpack, Some("b"), &["a"], ID),
+    ),
+    (
+        &["--reserved=0000000000000000", "show"],
+        (Job::Show, None, &["show"], BITS),
+    ),
+    (
+        &["-", "--metadata-id", "3", "--reserved=0000000000000000"],
+        (Job::Show, None, &["-"], BOTH),
+    ),
+];
+
 #[test]
-fn files(rt: HostRuntime) -> Result<(), Fail> {
-    let id = "--metadata-id";
-    let bits = "--reserved=0000000000000000";
-    let table: [(&[&str], (Job, Option<&str>, &[&str], Given)); 8] = [
-        (&["show"], (Job::Show, None, &[], given(false, false))),
-        (
-            &["show", "a"],
-            (Job::Show, None, &["a"], given(false, false)),
-        ),
-        (
-            &["pack", "-"],
-            (Job::Pack, None, &["-"], given(false, false)),
-        ),
-        (
-            &["check", "a", "", "b"],
-            (Job::Check, None, &["a", "", "b"], given(false, false)),
-        ),
-        (
-            &["show", "--other", "b", "a"],
-            (Job::Show, Some("b"), &["a"], given(false, false)),
-        ),
-        (
-            &["unpack", "a", id, "3", "--other=b"],
-            (Job::Unpack, Some("b"), &["a"], given(false, true)),
-        ),
-        (
-            &[bits, "show"],
-            (Job::Show, None, &["show"], given(true, false)),
-        ),
-        (
-            &["-", id, "3", bits],
-            (Job::Show, None, &["-"], given(true, true)),
-        ),
-    ];
-    for (words, wanted) in table {
-        assert!(rt; asks_for(rt.alloc(), words, wanted)?, "{words:?}");
+fn files(rt: HostRuntime) {
+    for (words, wanted) in FILES {
+        assert!(rt; asks_for(rt.alloc(), words, wanted), "{words:?}");
     }
-    Ok(())
 }

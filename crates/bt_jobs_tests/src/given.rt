@@ -57,3 +57,14 @@ pub(crate) fn outcome(
     let end = do_job(alloc, job, &default_own(), &mut reader, &mut writer);
     Ok((end, Vec::from_slice(alloc, writer.bytes())?))
 }
+
+/// The same for an input of two parts.
+pub(crate) fn outcome_of(
+    alloc: Global,
+    job: Job,
+    (first, then): (&[u8], &[u8]),
+    reads: Device,
+    writes: Device,
+) -> Result<(JobEnd, Vec<u8>), AllocError> {
+    outcome(alloc, job, joined(alloc, first, then)?, reads, writes)
+}

@@ -1,6 +1,6 @@
 //! Each job once over devices in memory, with what it answers, the counts of packed scripts, and lines about as long as they
 //! may be.
-use crate::given::{HAND, LINE, MESSAGES, SCRIPT_LINE, VERDICT, joined, outcome};
+use crate::given::{HAND, LINE, MESSAGES, SCRIPT_LINE, VERDICT, joined, outcome_of};
 use bt_cli::commands::{Job, default_own};
 use bt_cli::ending::end_job;
 use bt_cli::run::{JobEnd, do_job};
@@ -16,46 +16,44 @@ const ACCEPTED: Ended = Ended::Accepted {
     bytes: 81,
 };
 
-/// Whether a job on the bytes ends so, with this output.
-fn gives(
-    alloc: Global,
-    job: Job,
-    input: (&[u8], &[u8]),
-    end: JobEnd,
-    output: [&str; 3],
-) -> Result<bool, AllocError> {
-    let mut text = Vec::new(alloc);
-    for part in output {
-        text.extend_from_slice(part.as_bytes())?;
+/// Whether the bytes are those of the parts.
+fn is_joined(bytes: &[u8], parts: &[&str; 3]) -> bool {
+    let mut rest = bytes;
+    for part in parts {
+        match rest.strip_prefix(part.as_bytes()) {
+            Some(left) => rest = left,
+            None => return false,
+        }
     }
-    let (found, written) = outcome(
-        alloc,
-        job,
-        joined(alloc, input.0, input.1)?,
-        (5, None),
-        (7, None),
-    )?;
-    Ok(found == end && written == text)
+    rest.is_empty()
+}
+
+/// A job on the stream, and the parts of what it writes.
+const OUTPUTS: &[(Job, [&str; 3])] = &[
+    (Job::Show, [LINE, "68 keep-alive\n72 have 9\n", VERDICT]),
+    (Job::Check, ["", "", VERDICT]),
+    (Job::Unpack, [SCRIPT_LINE, "keep-alive\nhave 9\n", ""]),
+];
+
+/// Whether a job on the stream accepts it and writes this.
+fn gives(alloc: Global, job: Job, output: &[&str; 3]) -> bool {
+    match outcome_of(alloc, job, (HAND, MESSAGES), (5, None), (7, None)) {
+        Ok((end, written)) => {
+            end == JobEnd::Stream(Ok(ACCEPTED)) && is_joined(written.as_slice(), output)
+        }
+        Err(_) => false,
+    }
 }
 
 #[test]
-fn each_job(rt: HostRuntime) -> Result<(), Fail> {
-    let alloc = rt.alloc();
-    let stream = (HAND.as_slice(), MESSAGES.as_slice());
-    let end = JobEnd::Stream(Ok(ACCEPTED));
-    let lines = "68 keep-alive\n72 have 9\n";
-    let script = "keep-alive\nhave 9\n";
-    let table = [
-        gives(alloc, Job::Show, stream, end, [LINE, lines, VERDICT])?,
-        gives(alloc, Job::Check, stream, end, ["", "", VERDICT])?,
-        gives(alloc, Job::Unpack, stream, end, [SCRIPT_LINE, script, ""])?,
-    ];
-    assert_eq!(rt; table, [true; 3]);
-    Ok(())
+fn each_job(rt: HostRuntime) {
+    for (job, output) in OUTPUTS {
+        assert!(rt; gives(rt.alloc(), *job, output), "{job:?}");
+    }
 }
 
 /// A script's lines after the handshake's, and the messages and bytes of its stream.
-const PACKED: [(&str, &[u8], u64); 5] = [
+const PACKED: &[(&str, &[u8], u64)] = &[
     ("", b"", 0),
     ("have 9\n", b"\0\0\0\x05\x04\0\0\0\x09", 1),
     ("keep-alive\nhave 9", b"\0\0\0\0\0\0\0\x05\x04\0\0\0\x09", 2),
@@ -71,91 +69,127 @@ const PACKED: [(&str, &[u8], u64); 5] = [
     ),
 ];
 
+fn is_hand_and(stream: &[u8], bytes: &[u8]) -> bool {
+    stream.strip_prefix(HAND.as_slice()) == Some(bytes)
+}
+
 /// Whether a script is packed to the handshake and `bytes`, with the counts of these.
-fn packs(
-    alloc: Global,
-    most: usize,
-    lines: &str,
-    bytes: &[u8],
-    messages: u64,
-) -> Result<bool, AllocError> {
-    let script = joined(alloc, SCRIPT_LINE.as_bytes(), lines.as_bytes())?;
-    let stream = joined(alloc, HAND, bytes)?;
-    let (end, written) = outcome(alloc, Job::Pack, script, (most, None), (most, None))?;
-    let bytes = stream.len() as u64;
-    Ok(end == JobEnd::Script(Ok(PackEnd::Accepted { messages, bytes })) && written == stream)
+fn packs(alloc: Global, most: usize, lines: &str, bytes: &[u8], messages: u64) -> bool {
+    let script = (SCRIPT_LINE.as_bytes(), lines.as_bytes());
+    match outcome_of(alloc, Job::Pack, script, (most, None), (most, None)) {
+        Ok((end, written)) => {
+            let bytes_of_all = (bytes.len() as u64).wrapping_add(68);
+            let accepted = PackEnd::Accepted {
+                messages,
+                bytes: bytes_of_all,
+            };
+            end == JobEnd::Script(Ok(accepted)) && is_hand_and(written.as_slice(), bytes)
+        }
+        Err(_) => false,
+    }
+}
+
+/// Whether a script is packed so over devices that move one byte a call, three, or many.
+fn packs_by_any(alloc: Global, lines: &str, bytes: &[u8], messages: u64) -> bool {
+    packs(alloc, 1, lines, bytes, messages)
+        && packs(alloc, 3, lines, bytes, messages)
+        && packs(alloc, 4096, lines, bytes, messages)
 }
 
 #[test]
-fn scripts_are_packed(rt: HostRuntime) -> Result<(), Fail> {
-    for most in [1, 3, 4096] {
-        for (lines, bytes, messages) in PACKED {
-            assert!(rt; packs(rt.alloc(), most, lines, bytes, messages)?, "{lines}");
-        }
+fn scripts_are_packed(rt: HostRuntime) {
+    for (lines, bytes, messages) in PACKED {
+        assert!(rt;
+            packs_by_any(rt.alloc(), lines, bytes, *messages),
+            "{lines}"
+        );
     }
-    Ok(())
 }
 
-/// Packs a script of the handshake's line and a line of some words and `digits` zeros, for messages of one byte. Returns the
-/// end, and whether all of the script was read.
-fn pack_long(
-    alloc: Global,
-    words: &str,
-    digits: usize,
-) -> Result<(Result<PackEnd, ToolFault>, bool), AllocError> {
-    let own = Own {
-        limit: 1,
-        ..default_own()
-    };
+/// A script of the handshake's line and a line of some words and `digits` zeros.
+fn long_script(alloc: Global, words: &str, digits: usize) -> Result<Vec<u8>, AllocError> {
     let mut script = joined(alloc, SCRIPT_LINE.as_bytes(), words.as_bytes())?;
     for _ in 0..digits {
         script.push(b'0')?;
     }
-    let mut reader = MemSource::new(script, 64, None);
+    Ok(script)
+}
+
+fn is_at_end(reader: &mut MemSource) -> bool {
+    matches!(reader.read(&mut [0; 1]), Ok(0))
+}
+
+fn pack_end(alloc: Global, reader: &mut MemSource) -> Result<PackEnd, ToolFault> {
+    let own = Own {
+        limit: 1,
+        ..default_own()
+    };
     let mut writer = MemTarget::new(Vec::new(alloc), 64, None);
-    let end = run_pack(alloc, &mut reader, &mut writer, &own);
-    Ok((end, matches!(reader.read(&mut [0; 1]), Ok(0))))
+    run_pack(alloc, reader, &mut writer, &own)
+}
+
+/// Whether packing the script for messages of one byte ends so, and whether all of it was read.
+fn ends_so(alloc: Global, script: Vec<u8>, reason: ScriptReason, is_read: bool) -> bool {
+    let mut reader = MemSource::new(script, 64, None);
+    pack_end(alloc, &mut reader) == Ok(PackEnd::Refused { line: 2, reason })
+        && is_at_end(&mut reader) == is_read
+}
+
+/// The words of a line, how many zeros follow, why it is refused, and whether all of the script was read.
+type LongLine = (&'static str, usize, ScriptReason, bool);
+
+const LONG_LINES: &[LongLine] = &[
+    (
+        "piece 0 0 ",
+        248,
+        ScriptReason::Reason(Reason::TooLong),
+        true,
+    ),
+    ("unknown 10 ", 248, ScriptReason::Syntax, true),
+    ("unknown 10 ", 1248, ScriptReason::Syntax, false),
+];
+
+fn is_refused(alloc: Global, (words, digits, reason, is_read): &LongLine) -> bool {
+    match long_script(alloc, words, *digits) {
+        Ok(script) => ends_so(alloc, script, *reason, *is_read),
+        Err(_) => false,
+    }
 }
 
 /// A line of twice the limit and 256 characters is judged by what it says; a longer one is refused before it ends.
 #[test]
-fn long_lines(rt: HostRuntime) -> Result<(), Fail> {
-    let too_long = ScriptReason::Reason(Reason::TooLong);
-    for (words, digits, reason, is_read) in [
-        ("piece 0 0 ", 248, too_long, true),
-        ("unknown 10 ", 248, ScriptReason::Syntax, true),
-        ("unknown 10 ", 1248, ScriptReason::Syntax, false),
-    ] {
-        let end = Ok(PackEnd::Refused { line: 2, reason });
-        assert!(rt;
-            pack_long(rt.alloc(), words, digits)? == (end, is_read),
-            "{words}"
-        );
+fn long_lines(rt: HostRuntime) {
+    for line in LONG_LINES {
+        assert!(rt; is_refused(rt.alloc(), line), "{} {}", line.0, line.1);
     }
-    Ok(())
 }
 
-/// Unpacks a stream for a receiver that takes messages of one byte. Returns the exit status and what both outputs got.
-fn unpack_short(alloc: Global, stream: Vec<u8>) -> Result<(u8, Vec<u8>, Vec<u8>), AllocError> {
+fn has(target: &MemTarget, bytes: &[u8]) -> bool {
+    target.bytes() == bytes
+}
+
+/// Unpacks a stream for a receiver that takes messages of one byte. Returns the exit status.
+fn unpack(alloc: Global, stream: Vec<u8>, writer: &mut MemTarget, errors: &mut MemTarget) -> u8 {
     let own = Own {
         limit: 1,
         ..default_own()
     };
     let mut reader = MemSource::new(stream, 5, None);
+    let end = do_job(alloc, Job::Unpack, &own, &mut reader, writer);
+    end_job(Job::Unpack, end, b"", false, errors)
+}
+
+fn both_outputs(alloc: Global, stream: Vec<u8>) -> bool {
     let mut writer = MemTarget::new(Vec::new(alloc), 7, None);
     let mut errors = MemTarget::new(Vec::new(alloc), 3, None);
-    let end = do_job(alloc, Job::Unpack, &own, &mut reader, &mut writer);
-    let status = end_job(Job::Unpack, end, b"", false, &mut errors);
-    let written = Vec::from_slice(alloc, writer.bytes())?;
-    Ok((status, written, Vec::from_slice(alloc, errors.bytes())?))
+    unpack(alloc, stream, &mut writer, &mut errors) == 1
+        && has(&writer, SCRIPT_LINE.as_bytes())
+        && has(&errors, b"refused message=1 at=68 TooLong\n")
 }
 
 #[test]
 fn a_run_has_both_outputs(rt: HostRuntime) -> Result<(), Fail> {
     let stream = joined(rt.alloc(), HAND, b"\0\0\0\x05\x04\0\0\0\x09")?;
-    let (status, written, said) = unpack_short(rt.alloc(), stream)?;
-    assert_eq!(rt; status, 1);
-    assert!(rt; written.as_slice() == SCRIPT_LINE.as_bytes());
-    assert!(rt; said.as_slice() == b"refused message=1 at=68 TooLong\n".as_slice());
+    assert!(rt; both_outputs(rt.alloc(), stream));
     Ok(())
 }

@@ -5,7 +5,6 @@ use bt_text::script::reading::read_line;
 use bt_text::script::writing::{push_handshake_line, push_message_line};
 use bt_wire::{Front, Opening, Order, negotiate, read_front, read_opening};
 use std::alloc::{AllocError, Global};
-use std::test::Fail;
 
 /// Returns the bytes that a text says as a line, in hex, or `-` where it is no line.
 fn said(alloc: Global, first: bool, text: &str) -> Result<String, AllocError> {
@@ -17,8 +16,11 @@ fn said(alloc: Global, first: bool, text: &str) -> Result<String, AllocError> {
 }
 
 /// Whether the text is a line with these bytes, given in hex; `-` where it is no line.
-fn says(alloc: Global, first: bool, text: &str, bytes: &str) -> Result<bool, AllocError> {
-    Ok(said(alloc, first, text)?.as_str() == bytes)
+fn says(alloc: Global, first: bool, text: &str, bytes: &str) -> bool {
+    match said(alloc, first, text) {
+        Ok(said) => said.as_str() == bytes,
+        Err(_) => false,
+    }
 }
 
 /// Lines, and the bytes that they say.
@@ -60,14 +62,17 @@ const LINES: &[(&str, &str)] = &[
 ];
 
 #[test]
-fn message_lines_are_read(rt: HostRuntime) -> Result<(), Fail> {
-    for &(text, bytes) in LINES {
-        assert!(rt; says(rt.alloc(), false, text, bytes)?, "{text}");
+fn message_lines_are_read(rt: HostRuntime) {
+    for (text, bytes) in LINES {
+        assert!(rt; says(rt.alloc(), false, text, bytes), "{text}");
     }
-    Ok(())
 }
 
-/// Texts that are no lines.
+/// The handshake's line, without its end.
+const HAND_LINE: &str =
+    "handshake 0000000000100005 a9993e364706816aba3e25717850c26c9cd0d89d 2d5858303030312d303030303030303030303030";
+
+/// Texts that are no lines after the first.
 const NO_LINES: &[&str] = &[
     "",
     " ",
@@ -118,15 +123,14 @@ const NO_LINES: &[&str] = &[
     "keep-alive ",
     "keepalive",
     "ok",
+    HAND_LINE,
 ];
 
 #[test]
-fn other_texts_are_no_lines(rt: HostRuntime) -> Result<(), Fail> {
+fn other_texts_are_no_lines(rt: HostRuntime) {
     for text in NO_LINES {
-        assert!(rt; says(rt.alloc(), false, text, "-")?, "{text}");
+        assert!(rt; says(rt.alloc(), false, text, "-"), "{text}");
     }
-    assert!(rt; says(rt.alloc(), false, SCRIPT_LINE.trim_end(), "-")?);
-    Ok(())
 }
 
 /// Texts that are no first lines.
@@ -144,45 +148,61 @@ const NO_FIRST_LINES: &[&str] = &[
     "Handshake 0000000000100005 a9993e364706816aba3e25717850c26c9cd0d89d 2d5858303030312d303030303030303030303030",
 ];
 
+/// The handshake's bytes.
+const HAND_HEX: &str =
+    "13426974546f7272656e742070726f746f636f6c0000000000100005a9993e364706816aba3e25717850c26c9cd0d89d2d5858303030312d303030303030303030303030";
+
+/// Texts that say the handshake.
+const FIRST_LINES: &[&str] = &[
+    HAND_LINE,
+    "handshake 0000000000100005 A9993E364706816ABA3E25717850C26C9CD0D89D 2D5858303030312D303030303030303030303030",
+];
+
 #[test]
-fn first_lines_are_read(rt: HostRuntime) -> Result<(), Fail> {
-    let hand =
-        "13426974546f7272656e742070726f746f636f6c0000000000100005a9993e364706816aba3e25717850c26c9cd0d89d2d5858303030312d303030303030303030303030";
-    let alloc = rt.alloc();
-    for text in [
-        SCRIPT_LINE.trim_end(),
-        "handshake 0000000000100005 A9993E364706816ABA3E25717850C26C9CD0D89D 2D5858303030312D303030303030303030303030",
-    ] {
-        assert!(rt; says(alloc, true, text, hand)?, "{text}");
+fn first_lines_are_read(rt: HostRuntime) {
+    for text in FIRST_LINES {
+        assert!(rt; says(rt.alloc(), true, text, HAND_HEX), "{text}");
     }
-    for text in NO_FIRST_LINES {
-        assert!(rt; says(alloc, true, text, "-")?, "{text}");
-    }
-    Ok(())
 }
 
-/// Returns the line of the message after a handshake, after the text `before`.
-fn line_after(alloc: Global, before: &str, bytes: &[u8]) -> Result<String, AllocError> {
+#[test]
+fn other_texts_are_no_first_lines(rt: HostRuntime) {
+    for text in NO_FIRST_LINES {
+        assert!(rt; says(rt.alloc(), true, text, "-"), "{text}");
+    }
+}
+
+/// Adds the line of the message after a handshake; nothing where it is no message.
+fn add_line(text: &mut Vec<u8>, bytes: &[u8]) -> Result<(), AllocError> {
     let own = default_own();
     let context = negotiate(&own, own.reserved);
-    let mut text = Vec::from_slice(alloc, before.as_bytes())?;
-    if let Front::Whole(view, _) = read_front(&context, Order::Fresh, 68, bytes) {
-        push_message_line(&own, &view, &mut text)?;
+    match read_front(&context, Order::Fresh, 68, bytes) {
+        Front::Whole(view, _) => push_message_line(&own, &view, text),
+        _ => Ok(()),
     }
-    match String::from_utf8(text) {
-        Ok(line) => Ok(line),
-        Err(_) => String::from_str(alloc, "no text"),
-    }
+}
+
+/// Whether the message is written, after other text, as this text.
+fn writes(alloc: Global, bytes: &[u8], wanted: &str) -> Result<bool, AllocError> {
+    let mut text = Vec::from_slice(alloc, b"before\n")?;
+    add_line(&mut text, bytes)?;
+    Ok(text.as_slice() == wanted.as_bytes())
+}
+
+/// Whether the line is read as the message again.
+fn is_read_back(alloc: Global, bytes: &[u8], line: &str) -> Result<bool, AllocError> {
+    let spelled = hex::encode(alloc, bytes)?;
+    Ok(says(alloc, false, line, spelled.as_str()))
 }
 
 /// Whether the message has this line, which is read as the message again.
 fn is_written(alloc: Global, bytes: &[u8], line: &str) -> Result<bool, AllocError> {
     let wanted = format!(in alloc; "before\n{line}\n")?;
-    let spelled = hex::encode(alloc, bytes)?;
-    Ok(
-        line_after(alloc, "before\n", bytes)? == wanted
-            && says(alloc, false, line, spelled.as_str())?,
-    )
+    Ok(writes(alloc, bytes, wanted.as_str())? && is_read_back(alloc, bytes, line)?)
+}
+
+fn is_line(alloc: Global, bytes: &[u8], line: &str) -> bool {
+    is_written(alloc, bytes, line) == Ok(true)
 }
 
 /// Messages, and their lines.
@@ -229,22 +249,21 @@ const WRITTEN: &[(&[u8], &str)] = &[
 ];
 
 #[test]
-fn message_lines_are_written(rt: HostRuntime) -> Result<(), Fail> {
-    for &(bytes, line) in WRITTEN {
-        assert!(rt; is_written(rt.alloc(), bytes, line)?, "{line}");
+fn message_lines_are_written(rt: HostRuntime) {
+    for (bytes, line) in WRITTEN {
+        assert!(rt; is_line(rt.alloc(), bytes, line), "{line}");
     }
-    Ok(())
+}
+
+fn is_hand_written(alloc: Global) -> bool {
+    let Opening::Whole(handshake) = read_opening(&default_own(), HAND) else {
+        return false;
+    };
+    let mut text = Vec::new(alloc);
+    push_handshake_line(&handshake, &mut text).is_ok() && text.as_slice() == SCRIPT_LINE.as_bytes()
 }
 
 #[test]
-fn handshakes_are_written(rt: HostRuntime) -> Result<(), Fail> {
-    let alloc = rt.alloc();
-    let Opening::Whole(handshake) = read_opening(&default_own(), HAND) else {
-        return Err("no handshake".into());
-    };
-    let mut text = Vec::new(alloc);
-    push_handshake_line(&handshake, &mut text)?;
-    let written = String::from_utf8(text).ok().ok_or("no text")?;
-    assert_eq!(rt; written.as_str(), SCRIPT_LINE);
-    Ok(())
+fn handshakes_are_written(rt: HostRuntime) {
+    assert!(rt; is_hand_written(rt.alloc()));
 }

@@ -14,7 +14,7 @@ ghost use Rattle.bt_ext.specs.declared.ext.Ext.TheVariants as ext;
 ghost use Rattle.bt_wire.specs.Messages.{message_of};
 ghost use Rattle.bt_wire.specs.declared.context.Own.{Own};
 ghost use Rattle.bt_wire.specs.declared.item.Item.TheVariants as items;
-ghost use Rattle.bt_text.specs.Lines.{spaced, or_dash, told_id, ext_words, message_words, script_reason_name, line as line_of, verdict_line as verdict_words, refused_line as refused_words, fault_line as fault_words};
+ghost use Rattle.bt_text.specs.Lines.{or_dash, told_id, ext_words, message_words, script_reason_name, line as line_of, verdict_line as verdict_words, refused_line as refused_words, fault_line as fault_words};
 
 use crate::ended::{Ended, ScriptReason, ToolFault};
 use crate::putting::{Offset, put_number, put_one, put_three, put_two, put_word};

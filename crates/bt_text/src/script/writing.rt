@@ -2,14 +2,14 @@
 //!
 //! A line is put right into a text that has room for it; the call returns the place after the line. Or it is appended, by one growth
 //! of the text at most.
-ghost use Rattle.std.specs.Prelude.{◌≡◌, ◌≤◌, ◌+◌, ◌-◌, ◌*◌, ◌^◌, ℕ, List, ◌++◌, length, take, min, codes, decimal, vec_len, unwrap_or, IfOk, OnOk};
+ghost use Rattle.std.specs.Prelude.{◌≡◌, ◌≤◌, ◌+◌, ◌-◌, ◌*◌, ◌^◌, ◌++◌, length, take, min, codes, decimal, vec_len, unwrap_or, IfOk, OnOk};
 ghost use Rattle.hex.specs.Hex.{encode_lower};
 ghost use Rattle.bt_ext.specs.Payloads.{ext_id, payload_of, seen as seen_ext};
 ghost use Rattle.bt_wire.specs.Messages.{message_of};
 ghost use Rattle.bt_wire.specs.declared.context.Own.{Own as Receiver};
 ghost use Rattle.bt_wire.specs.declared.item.Item.TheVariants as items;
 ghost use Rattle.bt_text.specs.Lines.{spaced, handshake_words};
-ghost use Rattle.bt_text.specs.Script.{spaced_hex, script_message, script_line, kept as kept_of};
+ghost use Rattle.bt_text.specs.Script.{spaced_hex, script_line, kept as kept_of};
 
 use crate::putting::{put_number, put_one, put_three, put_word};
 use bt_ext::{ExtView, Registered};
