@@ -1,55 +1,55 @@
 //! Bencoding: payloads read in each way, the limits, and values without a spelling.
 use bt_bencode::*;
-use std::alloc::Global;
-use std::test::Fail;
+use std::alloc::{AllocError, Global};
 
-/// Whether the value is spelled as `bytes`.
-fn is_spelled(alloc: Global, value: &Value, bytes: &[u8]) -> Result<bool, Fail> {
-    Ok(spell(alloc, value)?.as_slice() == bytes && ben_len(value) == bytes.len() as u64)
-}
-
-/// Whether reading the payload into memory gives a dictionary of `len` bytes, which is spelled as these bytes.
-fn reads(alloc: Global, payload: &[u8], len: usize) -> Result<bool, Fail> {
-    let (value, read) = read_dict(alloc, payload)?;
-    match payload.get(..len) {
-        Some(front) => Ok(read == len && is_spelled(alloc, &value, front)?),
-        None => Ok(false),
+/// Whether the value is spelled as these bytes.
+fn is_spelled(alloc: Global, value: &Value, bytes: Option<&[u8]>) -> bool {
+    match spell(alloc, value) {
+        Ok(spelled) => {
+            bytes == Some(spelled.as_slice()) && ben_len(value) == spelled.len() as u64
+        }
+        Err(_) => false,
     }
 }
 
-/// Whether reading the payload into memory gives the fault.
-fn is_refused(alloc: Global, payload: &[u8], bad: Bad) -> bool {
-    match (read_dict(alloc, payload), bad) {
-        (Err(ReadError::Impossible { at }), Bad::Impossible { at: wanted }) => at == wanted,
-        (Err(ReadError::Cut), Bad::Cut) => true,
+fn is_fault(error: ReadError, answer: Result<usize, Bad>) -> bool {
+    match (error, answer) {
+        (ReadError::Impossible { at }, Err(Bad::Impossible { at: wanted })) => at == wanted,
+        (ReadError::Cut, Err(Bad::Cut)) => true,
         _ => false,
+    }
+}
+
+/// Whether reading the payload into memory gives the answer, and a dictionary that is spelled as the payload's first bytes.
+fn is_read(alloc: Global, payload: &[u8], answer: Result<usize, Bad>) -> bool {
+    match read_dict(alloc, payload) {
+        Ok((value, len)) => answer == Ok(len) && is_spelled(alloc, &value, payload.get(..len)),
+        Err(error) => is_fault(error, answer),
     }
 }
 
 /// Whether checking the payload where it lies gives the answer, and the dictionary's bytes.
 fn is_checked(payload: &[u8], answer: Result<usize, Bad>) -> bool {
-    match (check(payload), answer) {
-        (Ok((dict, len)), Ok(wanted)) => {
-            len == wanted && payload.get(..len) == Some(dict.spelled())
-        }
-        (Err(bad), Err(wanted)) => bad == wanted,
-        _ => false,
+    match check(payload) {
+        Ok((dict, len)) => answer == Ok(len) && payload.get(..len) == Some(dict.spelled()),
+        Err(bad) => answer == Err(bad),
+    }
+}
+
+/// How far the payload is that of a dictionary.
+fn place_by(payload: &[u8], answer: Result<usize, Bad>) -> usize {
+    match answer {
+        Ok(len) => len,
+        Err(Bad::Impossible { at }) => at,
+        Err(Bad::Cut) => payload.len(),
     }
 }
 
 /// Whether all that reads agrees on the payload: the dictionary's length, or why there is none.
-fn agrees(alloc: Global, payload: &[u8], answer: Result<usize, Bad>) -> Result<bool, Fail> {
-    let (end, is_read) = match answer {
-        Ok(len) => (len, reads(alloc, payload, len)?),
-        Err(bad) => (
-            match bad {
-                Bad::Impossible { at } => at,
-                Bad::Cut => payload.len(),
-            },
-            is_refused(alloc, payload, bad),
-        ),
-    };
-    Ok(is_read && place(payload) == end && is_checked(payload, answer))
+fn agrees(alloc: Global, payload: &[u8], answer: Result<usize, Bad>) -> bool {
+    place(payload) == place_by(payload, answer)
+        && is_checked(payload, answer)
+        && is_read(alloc, payload, answer)
 }
 
 /// A payload, and the length of the dictionary that it begins with, or why there is none.
@@ -120,11 +120,10 @@ const PAYLOADS: &[Row] = &[
 ];
 
 #[test]
-fn payloads(rt: HostRuntime) -> Result<(), Fail> {
+fn payloads(rt: HostRuntime) {
     for (payload, answer) in PAYLOADS {
-        assert!(rt; agrees(rt.alloc(), payload, *answer)?, "{payload:?}");
+        assert!(rt; agrees(rt.alloc(), payload, *answer), "{payload:?}");
     }
-    Ok(())
 }
 
 /// Payloads that are cut after each byte.
@@ -134,20 +133,32 @@ const CUT: &[&[u8]] = &[
     b"d1:ai9223372036854775807e1:bl1:xi-5eld0:0:eeee",
 ];
 
-#[test]
-fn prefixes(rt: HostRuntime) -> Result<(), Fail> {
-    for &payload in CUT {
-        for n in 0..=payload.len() {
-            let answer = if n < payload.len() {
-                Err(Bad::Cut)
-            } else {
-                Ok(n)
-            };
-            assert!(rt;
-                agrees(rt.alloc(), &payload[..n], answer)?,
-                "{n} of {payload:?}"
-            );
+/// The first length at which the payload, cut there, reads otherwise than as cut, or at last as whole.
+fn wrong_cut(alloc: Global, payload: &[u8]) -> Option<usize> {
+    for n in 0..payload.len() {
+        if !agrees(alloc, &payload[..n], Err(Bad::Cut)) {
+            return Some(n);
         }
+    }
+    if agrees(alloc, payload, Ok(payload.len())) {
+        None
+    } else {
+        Some(payload.len())
+    }
+}
+
+#[test]
+fn prefixes(rt: HostRuntime) {
+    for payload in CUT {
+        let wrong = wrong_cut(rt.alloc(), payload);
+        assert!(rt; wrong.is_none(), "{wrong:?} of {payload:?}");
+    }
+}
+
+/// Adds the bytes so many times.
+pub(crate) fn add(to: &mut Vec<u8>, bytes: &[u8], times: usize) -> Result<(), AllocError> {
+    for _ in 0..times {
+        to.extend_from_slice(bytes)?;
     }
     Ok(())
 }
@@ -160,21 +171,31 @@ const NESTINGS: &[(&[u8], &[u8], usize, Result<usize, Bad>)] = &[
     (b"d0:", b"0:", 32, Err(Bad::Impossible { at: 97 })),
 ];
 
+fn nest(
+    payload: &mut Vec<u8>,
+    opening: &[u8],
+    inside: &[u8],
+    depth: usize,
+) -> Result<(), AllocError> {
+    add(payload, b"d1:p", 1)?;
+    add(payload, opening, depth)?;
+    add(payload, inside, 1)?;
+    add(payload, b"e", depth.saturating_add(1))
+}
+
+fn is_nested(
+    alloc: Global,
+    (opening, inside, depth, answer): &(&[u8], &[u8], usize, Result<usize, Bad>),
+) -> bool {
+    let mut payload = Vec::new(alloc);
+    nest(&mut payload, opening, inside, *depth).is_ok() && agrees(alloc, &payload, *answer)
+}
+
 #[test]
-fn nestings(rt: HostRuntime) -> Result<(), Fail> {
-    let alloc = rt.alloc();
-    for &(opening, inside, depth, answer) in NESTINGS {
-        let mut payload = Vec::from_slice(alloc, b"d1:p")?;
-        for _ in 0..depth {
-            payload.extend_from_slice(opening)?;
-        }
-        payload.extend_from_slice(inside)?;
-        for _ in 0..depth + 1 {
-            payload.push(b'e')?;
-        }
-        assert!(rt; agrees(alloc, &payload, answer)?, "{depth}");
+fn nestings(rt: HostRuntime) {
+    for row in NESTINGS {
+        assert!(rt; is_nested(rt.alloc(), row), "{}", row.2);
     }
-    Ok(())
 }
 
 /// A string's length, and what stands before and after it.
@@ -187,24 +208,32 @@ const LONGEST: &[(usize, &[u8], &[u8])] = &[
     (1_048_576, b"d1048576:", b"i1ee"),
 ];
 
+/// Adds the bytes, and then `len` letters `e`.
+pub(crate) fn fill(payload: &mut Vec<u8>, front: &[u8], len: usize) -> Result<(), AllocError> {
+    add(payload, front, 1)?;
+    add(payload, b"e", len)
+}
+
+/// Whether the payload is cut, and is whole with the last bytes.
+fn is_ended(alloc: Global, payload: &mut Vec<u8>, back: &[u8]) -> bool {
+    agrees(alloc, payload, Err(Bad::Cut))
+        && add(payload, back, 1).is_ok()
+        && agrees(alloc, payload, Ok(payload.len()))
+}
+
+fn is_longest(alloc: Global, (len, front, back): &(usize, &[u8], &[u8])) -> bool {
+    let mut payload = Vec::new(alloc);
+    fill(&mut payload, front, *len).is_ok() && is_ended(alloc, &mut payload, back)
+}
+
 #[test]
-fn longest_strings(rt: HostRuntime) -> Result<(), Fail> {
-    let alloc = rt.alloc();
-    for &(len, front, back) in LONGEST {
-        let mut payload = Vec::from_slice(alloc, front)?;
-        payload.extend_from_slice(&vec![in alloc; b'e'; len]?)?;
-        let is_cut = agrees(alloc, &payload, Err(Bad::Cut))?;
-        payload.extend_from_slice(back)?;
-        assert!(rt;
-            is_cut && agrees(alloc, &payload, Ok(payload.len()))?,
-            "{len}"
-        );
+fn longest_strings(rt: HostRuntime) {
+    for row in LONGEST {
+        assert!(rt; is_longest(rt.alloc(), row), "{}", row.0);
     }
-    Ok(())
 }
 
 /// A kind of value that has no spelling above some size.
-#[derive(Clone, Copy)]
 enum Large {
     /// Lists, nested as deep as the size.
     Lists,
@@ -214,47 +243,49 @@ enum Large {
     Key,
 }
 
+/// A list of this value alone.
+fn listed(alloc: Global, value: Value) -> Result<Value, AllocError> {
+    let mut items = Vec::new(alloc);
+    items.push(value)?;
+    Ok(Value::List(Values::from_vec(items)))
+}
+
 /// `depth` lists, each in the one before.
-fn nested(alloc: Global, depth: usize) -> Result<Value, Fail> {
+fn nested(alloc: Global, depth: usize) -> Result<Value, AllocError> {
     let mut value = Value::List(Values::from_vec(Vec::new(alloc)));
     for _ in 1..depth {
-        let mut items = Vec::new(alloc);
-        items.push(value)?;
-        value = Value::List(Values::from_vec(items));
+        value = listed(alloc, value)?;
     }
     Ok(value)
 }
 
-/// A dictionary with one key of `len` bytes.
-fn keyed(alloc: Global, len: usize) -> Result<Value, Fail> {
+/// A string of `len` bytes.
+fn long(alloc: Global, len: usize) -> Result<ByteString, AllocError> {
+    Ok(ByteString::from_vec(vec![in alloc; b's'; len]?))
+}
+
+/// A dictionary with this key alone.
+fn keyed(alloc: Global, key: ByteString) -> Result<Value, AllocError> {
     let mut pairs = Vec::new(alloc);
-    pairs.push((
-        ByteString::from_vec(vec![in alloc; b'k'; len]?),
-        Value::Int(1),
-    ))?;
+    pairs.push((key, Value::Int(1)))?;
     Ok(Value::Dict(Pairs::from_vec(pairs)))
 }
 
-/// A string of `len` bytes.
-fn long(alloc: Global, len: usize) -> Result<Value, Fail> {
-    Ok(Value::Bytes(ByteString::from_vec(vec![in alloc; b's'; len]?)))
-}
-
-fn value_of(alloc: Global, kind: Large, size: usize) -> Result<Value, Fail> {
+fn value_of(alloc: Global, kind: &Large, size: usize) -> Result<Value, AllocError> {
     match kind {
         Large::Lists => nested(alloc, size),
-        Large::Text => long(alloc, size),
-        Large::Key => keyed(alloc, size),
+        Large::Text => Ok(Value::Bytes(long(alloc, size)?)),
+        Large::Key => keyed(alloc, long(alloc, size)?),
     }
 }
 
-/// How many bytes the value's spelling has; none where it is out of range.
-fn spelled_len(alloc: Global, value: &Value) -> Result<Option<usize>, SpellError> {
-    match spell(alloc, value) {
-        Ok(bytes) => Ok(Some(bytes.len())),
-        Err(SpellError::OutOfRange) => Ok(None),
-        Err(error) => Err(error),
-    }
+/// Whether the value's spelling has so many bytes; none where the value is out of range.
+fn has_len(alloc: Global, value: &Value, len: Option<usize>) -> bool {
+    let is_right = match spell(alloc, value) {
+        Ok(bytes) => len == Some(bytes.len()),
+        Err(error) => len.is_none() && error == SpellError::OutOfRange,
+    };
+    is_right && fits(value) == len.is_some()
 }
 
 /// A value's kind and size, and the length of its spelling, if it has one.
@@ -267,13 +298,16 @@ const LARGE: &[(Large, usize, Option<usize>)] = &[
     (Large::Key, 1_048_577, None),
 ];
 
-#[test]
-fn values_out_of_range(rt: HostRuntime) -> Result<(), Fail> {
-    let alloc = rt.alloc();
-    for &(kind, size, len) in LARGE {
-        let value = value_of(alloc, kind, size)?;
-        let is_right = spelled_len(alloc, &value)? == len && fits(&value) == len.is_some();
-        assert!(rt; is_right, "{size}");
+fn is_large(alloc: Global, (kind, size, len): &(Large, usize, Option<usize>)) -> bool {
+    match value_of(alloc, kind, *size) {
+        Ok(value) => has_len(alloc, &value, *len),
+        Err(_) => false,
     }
-    Ok(())
+}
+
+#[test]
+fn values_out_of_range(rt: HostRuntime) {
+    for row in LARGE {
+        assert!(rt; is_large(rt.alloc(), row), "{}", row.1);
+    }
 }

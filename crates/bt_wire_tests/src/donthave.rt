@@ -1,10 +1,10 @@
 //! Messages that take back a piece (`lt_donthave`).
+use crate::ext_parts::is_made;
 use crate::wire::agreed;
-use crate::wire_messages::is_encoded;
-use bt_bencode::spell;
+use crate::wire_messages::is_copied;
 use bt_ext::*;
 use bt_wire::*;
-use std::test::Fail;
+use std::alloc::Global;
 
 /// A message that takes back piece 9, under the id 4.
 const TAKEN_BACK: &[u8] = b"\0\0\0\x06\x14\x04\0\0\0\x09";
@@ -13,8 +13,16 @@ const TAKEN_BACK: &[u8] = b"\0\0\0\x06\x14\x04\0\0\0\x09";
 const SHORT: &[u8] = b"\0\0\0\x05\x14\x04\0\0\x09";
 
 /// `ut_metadata` is 3, and `lt_donthave` is 4.
-fn both() -> Result<Registered, &'static str> {
-    Registered::new(ExtId::new(3), ExtId::new(4)).map_err(|_| "one id")
+fn both() -> Registered {
+    let none = Registered::metadata_only(None);
+    Registered::new(ExtId::new(3), ExtId::new(4)).unwrap_or(none)
+}
+
+fn context(reg: Registered, rules: Rules, pieces: Option<u32>) -> Context {
+    Context {
+        reg,
+        ..agreed(rules, false, pieces)
+    }
 }
 
 /// The piece that the bytes take back, if they do, or why they are refused.
@@ -35,17 +43,22 @@ const PAIRS: &[(u8, u8, bool)] = &[
     (3, 3, false),
 ];
 
+/// Whether both ids are registered together, or can't be.
+fn are_registered(metadata: u8, donthave: u8, is_right: bool) -> bool {
+    let (metadata, donthave) = (ExtId::new(metadata), ExtId::new(donthave));
+    match Registered::new(metadata, donthave) {
+        Ok(reg) => is_right && reg.metadata() == metadata && reg.donthave() == donthave,
+        Err(SameId) => !is_right,
+    }
+}
+
 #[test]
 fn registered_ids(rt: HostRuntime) {
     for &(metadata, donthave, is_right) in PAIRS {
-        let (metadata, donthave) = (ExtId::new(metadata), ExtId::new(donthave));
-        match Registered::new(metadata, donthave) {
-            Ok(reg) => {
-                let is_both = reg.metadata() == metadata && reg.donthave() == donthave;
-                assert!(rt; is_right && is_both, "{metadata:?} {donthave:?}");
-            }
-            Err(SameId) => assert!(rt; !is_right, "{metadata:?} {donthave:?}"),
-        }
+        assert!(rt;
+            are_registered(metadata, donthave, is_right),
+            "{metadata} {donthave}"
+        );
     }
 }
 
@@ -70,49 +83,64 @@ const READS: &[(Option<u32>, &[u8], Result<Option<u32>, Refused>)] = &[
     (Some(9), b"\0\0\0\x06\x14\x05\0\0\0\x09", Ok(None)),
 ];
 
+fn is_found(
+    rules: Rules,
+    pieces: Option<u32>,
+    bytes: &[u8],
+    answer: Result<Option<u32>, Refused>,
+) -> bool {
+    found(&context(both(), rules, pieces), bytes) == answer
+}
+
 #[test]
-fn read(rt: HostRuntime) -> Result<(), Fail> {
-    for &(pieces, bytes, answer) in READS {
+fn read(rt: HostRuntime) {
+    for (pieces, bytes, answer) in READS {
         for rules in [Rules::Free, Rules::Bep] {
-            let context = Context {
-                reg: both()?,
-                ..agreed(rules, false, pieces)
-            };
-            assert!(rt; found(&context, bytes) == answer, "{bytes:?}");
+            assert!(rt; is_found(rules, *pieces, bytes, *answer), "{bytes:?}");
         }
     }
-    Ok(())
 }
 
-#[test]
-fn written(rt: HostRuntime) -> Result<(), Fail> {
-    let message = Message::Extended(Ext::DontHave(9));
-    let index = Err(Fault::Reason(Reason::BadIndex));
-    for (reg, pieces, answer) in [
-        (both()?, Some(10), Ok(())),
-        (both()?, Some(9), index),
-        (
-            Registered::metadata_only(ExtId::new(3)),
-            Some(10),
-            Err(Fault::Shape),
-        ),
-    ] {
-        let context = Context {
-            reg,
-            ..agreed(Rules::Bep, false, pieces)
-        };
-        let is_written = is_encoded(rt.alloc(), &context, Order::Past, &message, TAKEN_BACK);
-        assert!(rt;
-            legal(&context, Order::Past, &message) == answer && is_written == answer.is_ok()
-        );
+/// Whether both ids are registered or that of `ut_metadata` alone, the number of pieces, and the message or why it isn't legal.
+const WRITTEN: &[(bool, Option<u32>, Result<&[u8], Fault>)] = &[
+    (true, Some(10), Ok(TAKEN_BACK)),
+    (true, Some(9), Err(Fault::Reason(Reason::BadIndex))),
+    (false, Some(10), Err(Fault::Shape)),
+];
+
+fn registered(is_both: bool) -> Registered {
+    if is_both {
+        both()
+    } else {
+        Registered::metadata_only(ExtId::new(3))
     }
-    Ok(())
+}
+
+/// Whether the message that takes back piece 9 is written so.
+fn is_written(
+    alloc: Global,
+    (is_both, pieces, answer): &(bool, Option<u32>, Result<&[u8], Fault>),
+) -> bool {
+    let context = context(registered(*is_both), Rules::Bep, *pieces);
+    let view = MessageView::Extended(ExtView::DontHave(9));
+    is_copied(alloc, &context, Order::Past, &view, *answer)
 }
 
 #[test]
-fn announced(rt: HostRuntime) -> Result<(), Fail> {
-    let dict = handshake_dict(rt.alloc(), both()?, None)?;
-    let bytes = spell(rt.alloc(), &dict)?;
-    assert!(rt; bytes.as_slice() == b"d1:md11:lt_donthavei4e11:ut_metadatai3eee".as_slice());
-    Ok(())
+fn written(rt: HostRuntime) {
+    for row in WRITTEN {
+        assert!(rt; is_written(rt.alloc(), row), "{} {:?}", row.0, row.1);
+    }
+}
+
+#[test]
+fn announced(rt: HostRuntime) {
+    let made = handshake_dict(rt.alloc(), both(), None);
+    assert!(rt;
+        is_made(
+            rt.alloc(),
+            made,
+            b"d1:md11:lt_donthavei4e11:ut_metadatai3eee"
+        )
+    );
 }

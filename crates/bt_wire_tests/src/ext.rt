@@ -1,7 +1,7 @@
 //! Extended payloads: the worked payloads, and the extended handshakes of usual clients.
+use crate::bencode::fill;
 use bt_ext::*;
 use std::alloc::{AllocError, Global};
-use std::test::Fail;
 
 /// The receiver's ids: `ut_metadata` is 3.
 pub(crate) fn ids() -> Registered {
@@ -28,27 +28,12 @@ fn read_fault(fault: Option<ViewError>) -> Option<ExtError> {
     }
 }
 
-/// The payload under the free rules, read into memory.
-fn read(alloc: Global, id: u8, payload: &[u8]) -> Result<Ext, Fail> {
-    let value = read_ext(alloc, ids(), Rules::Free, id, payload)
-        .ok()
-        .ok_or("refused")?;
-    Ok(value)
-}
-
-/// Like the calls above, viewed and then copied.
-fn copied(alloc: Global, id: u8, payload: &[u8]) -> Result<Ext, Fail> {
-    let view = view_ext(ids(), Rules::Free, id, payload)
-        .ok()
-        .ok_or("refused")?;
-    Ok(copy_ext(alloc, &view)?)
-}
-
 /// Whether the value is spelled under the id and as the payload.
-fn is_spelled(alloc: Global, value: &Ext, id: u8, payload: &[u8]) -> Result<bool, Fail> {
-    let (own_id, bytes) = spell_ext(alloc, ids(), value)?;
-    let has_len = ext_len(ids(), value) == Some(payload.len() as u64);
-    Ok(own_id == id && bytes.as_slice() == payload && has_len)
+fn is_spelled(alloc: Global, value: &Ext, id: u8, payload: &[u8]) -> bool {
+    match spell_ext(alloc, ids(), value) {
+        Ok((own_id, bytes)) => own_id == id && bytes.as_slice() == payload,
+        Err(_) => false,
+    }
 }
 
 /// Whether the value has no fault under the free rules, and this one under the strict ones.
@@ -56,33 +41,75 @@ fn has_reason(value: &Ext, wanted: Option<ExtReason>) -> bool {
     ext_reason(Rules::Free, value).is_none() && ext_reason(Rules::Bep, value) == wanted
 }
 
-/// Whether the payload has the fault, both viewed and read into memory.
-fn has_fault(
+/// Whether the value has the payload's length and bytes, and the fault under the strict rules.
+fn is_value(alloc: Global, value: &Ext, id: u8, payload: &[u8], strict: Option<ViewError>) -> bool {
+    ext_len(ids(), value) == Some(payload.len() as u64)
+        && is_spelled(alloc, value, id, payload)
+        && has_reason(value, reason(strict))
+}
+
+/// The fault under the rules of a payload that has this one under the strict rules: it has to be a dictionary under both.
+fn fault_under(rules: Rules, strict: Option<ViewError>) -> Option<ViewError> {
+    match (rules, strict) {
+        (Rules::Bep, _) | (_, Some(ViewError::BadBencode { .. })) => strict,
+        _ => None,
+    }
+}
+
+/// Whether the payload is read into memory, or isn't for the fault.
+fn is_read(alloc: Global, rules: Rules, id: u8, payload: &[u8], strict: Option<ViewError>) -> bool {
+    match read_ext(alloc, ids(), rules, id, payload) {
+        Ok(value) => {
+            fault_under(rules, strict).is_none() && is_value(alloc, &value, id, payload, strict)
+        }
+        Err(error) => read_fault(fault_under(rules, strict)) == Some(error),
+    }
+}
+
+fn is_copy(
+    alloc: Global,
+    view: &ExtView,
+    id: u8,
+    payload: &[u8],
+    strict: Option<ViewError>,
+) -> bool {
+    match copy_ext(alloc, view) {
+        Ok(value) => is_value(alloc, &value, id, payload, strict),
+        Err(_) => false,
+    }
+}
+
+/// Whether the payload is viewed and then copied, or isn't for the fault.
+fn is_copied(
     alloc: Global,
     rules: Rules,
     id: u8,
     payload: &[u8],
-    fault: Option<ViewError>,
+    strict: Option<ViewError>,
 ) -> bool {
-    view_ext(ids(), rules, id, payload).err() == fault
-        && read_ext(alloc, ids(), rules, id, payload).err() == read_fault(fault)
+    match view_ext(ids(), rules, id, payload) {
+        Ok(view) => {
+            fault_under(rules, strict).is_none() && is_copy(alloc, &view, id, payload, strict)
+        }
+        Err(error) => fault_under(rules, strict) == Some(error),
+    }
 }
 
-/// Whether the payload is read and spelled again under the free rules, and has the fault under the strict ones.
-fn is_accepted(
+/// Whether the payload is read and spelled again, or has the fault under the rules.
+fn is_answered(
     alloc: Global,
+    rules: Rules,
     id: u8,
     payload: &[u8],
-    fault: Option<ViewError>,
-) -> Result<bool, Fail> {
-    let value = read(alloc, id, payload)?;
-    let copied = copied(alloc, id, payload)?;
-    Ok(
-        is_spelled(alloc, &value, id, payload)?
-            && is_spelled(alloc, &copied, id, payload)?
-            && has_reason(&value, reason(fault))
-            && has_fault(alloc, Rules::Bep, id, payload, fault),
-    )
+    strict: Option<ViewError>,
+) -> bool {
+    is_read(alloc, rules, id, payload, strict) && is_copied(alloc, rules, id, payload, strict)
+}
+
+/// Whether both rules answer so.
+fn is_right(alloc: Global, id: u8, payload: &[u8], strict: Option<ViewError>) -> bool {
+    is_answered(alloc, Rules::Free, id, payload, strict)
+        && is_answered(alloc, Rules::Bep, id, payload, strict)
 }
 
 const UNSORTED: &[u8] = b"d13:metadata_sizei3e1:md11:ut_metadatai3eee";
@@ -104,165 +131,144 @@ pub(crate) const REQUEST: &[u8] = b"d8:msg_typei0e5:piecei0ee";
 
 pub(crate) const DATA: &[u8] = b"d8:msg_typei1e5:piecei0e10:total_sizei3eeabc";
 
-/// Extended handshakes, and their fault under the strict rules.
-const HANDSHAKES: &[(&[u8], Option<ViewError>)] = &[
-    (b"d1:md11:ut_metadatai3ee13:metadata_sizei3ee", None),
-    (UNSORTED, Some(ViewError::Unsorted { at: 20 })),
-    (REPEATED, Some(ViewError::Unsorted { at: 7 })),
-    (INNER, Some(ViewError::Unsorted { at: 11 })),
-    (USUAL, None),
-    (LIBTORRENT, None),
-    (TRANSMISSION, None),
-    (b"de", None),
-    (b"dee0:", None),
-    (b"d1:mdee", None),
-    (b"d1:md1:ai0eee", None),
-    (b"d1:md1:ai255eee", None),
-    (b"d1:md1:ai256eee", Some(ViewError::BadField)),
-    (b"d1:md1:ai-1eee", Some(ViewError::BadField)),
-    (b"d1:md1:a1:1ee", Some(ViewError::BadField)),
-    (b"d1:mi1ee", Some(ViewError::BadField)),
-    (b"d1:mlee", Some(ViewError::BadField)),
-    (b"d13:metadata_sizei-1ee", Some(ViewError::BadField)),
-    (b"d13:metadata_size1:3e", Some(ViewError::BadField)),
-];
+/// 31 lists, each in the one before.
+const DEEPEST: &[u8] = b"d1:pllllllllllllllllllllllllllllllleeeeeeeeeeeeeeeeeeeeeeeeeeeeeeee";
 
-#[test]
-fn handshakes(rt: HostRuntime) -> Result<(), Fail> {
-    for &(payload, fault) in HANDSHAKES {
-        assert!(rt; is_accepted(rt.alloc(), 0, payload, fault)?, "{payload:?}");
-    }
-    Ok(())
-}
+/// 32 lists.
+const TOO_DEEP: &[u8] = b"d1:plllllllllllllllllllllllllllllllleeeeeeeeeeeeeeeeeeeeeeeeeeeeeeeee";
 
-/// Metadata messages, and their fault under the strict rules.
-const MESSAGES: &[(&[u8], Option<ViewError>)] = &[
-    (REQUEST, None),
-    (DATA, None),
+/// Extended handshakes, metadata messages and raw ones: a payload's id, its bytes, and its fault under the strict rules.
+const PAYLOADS: &[(u8, &[u8], Option<ViewError>)] = &[
+    (0, b"d1:md11:ut_metadatai3ee13:metadata_sizei3ee", None),
+    (0, UNSORTED, Some(ViewError::Unsorted { at: 20 })),
+    (0, REPEATED, Some(ViewError::Unsorted { at: 7 })),
+    (0, INNER, Some(ViewError::Unsorted { at: 11 })),
+    (0, USUAL, None),
+    (0, LIBTORRENT, None),
+    (0, TRANSMISSION, None),
+    (0, b"de", None),
+    (0, b"dee0:", None),
+    (0, b"d1:mdee", None),
+    (0, b"d1:md1:ai0eee", None),
+    (0, b"d1:md1:ai255eee", None),
+    (0, b"d1:md1:ai256eee", Some(ViewError::BadField)),
+    (0, b"d1:md1:ai-1eee", Some(ViewError::BadField)),
+    (0, b"d1:md1:a1:1ee", Some(ViewError::BadField)),
+    (0, b"d1:mi1ee", Some(ViewError::BadField)),
+    (0, b"d1:mlee", Some(ViewError::BadField)),
+    (0, b"d13:metadata_sizei-1ee", Some(ViewError::BadField)),
+    (0, b"d13:metadata_size1:3e", Some(ViewError::BadField)),
+    (0, DEEPEST, None),
+    (3, REQUEST, None),
+    (3, DATA, None),
     (
+        3,
         b"d8:msg_typei1e5:piecei0e10:total_sizei3eeab",
         Some(ViewError::BadBlock { at: 41 }),
     ),
     (
+        3,
         b"d8:msg_typei1e5:piecei0e10:total_sizei3ee",
         Some(ViewError::BadBlock { at: 41 }),
     ),
-    (b"d8:msg_typei1e5:piecei0e10:total_sizei3eeeee", None),
+    (3, b"d8:msg_typei1e5:piecei0e10:total_sizei3eeeee", None),
     (
+        3,
         b"d8:msg_typei1e5:piecei0e10:total_sizei3eeabcd",
         Some(ViewError::BadBlock { at: 41 }),
     ),
     (
+        3,
         b"d8:msg_typei1e5:piecei1e10:total_sizei3ee",
         Some(ViewError::BadBlock { at: 41 }),
     ),
     (
+        3,
         b"d8:msg_typei1e5:piecei4294967295e10:total_sizei3ee",
         Some(ViewError::BadBlock { at: 50 }),
     ),
     (
+        3,
         b"d8:msg_typei1e5:piecei4294967296e10:total_sizei3ee",
         Some(ViewError::BadField),
     ),
     (
+        3,
         b"d8:msg_typei1e5:piecei0e10:total_sizei0ee",
         Some(ViewError::BadField),
     ),
-    (b"d8:msg_typei1e5:piecei0ee", Some(ViewError::BadField)),
-    (b"d8:msg_typei7e5:piecei0ee", None),
-    (b"d8:msg_typei-1eerest", None),
-    (b"d8:msg_typei2e5:piecei0ee", None),
+    (3, b"d8:msg_typei1e5:piecei0ee", Some(ViewError::BadField)),
+    (3, b"d8:msg_typei7e5:piecei0ee", None),
+    (3, b"d8:msg_typei-1eerest", None),
+    (3, b"d8:msg_typei2e5:piecei0ee", None),
     (
+        3,
         b"d8:msg_typei2e5:piecei0ee\0",
         Some(ViewError::BadBlock { at: 25 }),
     ),
     (
+        3,
         b"d8:msg_typei0e5:piecei0ee\0",
         Some(ViewError::BadBlock { at: 25 }),
     ),
-    (b"d8:msg_typei0e5:piecei-1ee", Some(ViewError::BadField)),
-    (b"d8:msg_type1:05:piecei0ee", Some(ViewError::BadField)),
-    (b"d5:piecei0ee", Some(ViewError::BadField)),
+    (3, b"d8:msg_typei0e5:piecei-1ee", Some(ViewError::BadField)),
+    (3, b"d8:msg_type1:05:piecei0ee", Some(ViewError::BadField)),
+    (3, b"d5:piecei0ee", Some(ViewError::BadField)),
     (
+        3,
         b"d5:piecei0e8:msg_typei0ee",
         Some(ViewError::Unsorted { at: 11 }),
     ),
     (
+        3,
         b"d8:msg_typei0e5:piecei0e5:piece1:0e",
         Some(ViewError::Unsorted { at: 24 }),
     ),
+    (4, REQUEST, None),
+    (255, b"", None),
+    (0, b"d1:pi-0ee", Some(ViewError::BadBencode { at: 6 })),
+    (3, b"d1:pi-0ee", Some(ViewError::BadBencode { at: 6 })),
+    (0, b"d1:pi1e", Some(ViewError::BadBencode { at: 7 })),
+    (3, b"d1:pi1e", Some(ViewError::BadBencode { at: 7 })),
+    (0, TOO_DEEP, Some(ViewError::BadBencode { at: 35 })),
+    (3, TOO_DEEP, Some(ViewError::BadBencode { at: 35 })),
+    (0, b"", Some(ViewError::BadBencode { at: 0 })),
+    (3, b"", Some(ViewError::BadBencode { at: 0 })),
+    (0, b"i1e", Some(ViewError::BadBencode { at: 0 })),
+    (3, b"i1e", Some(ViewError::BadBencode { at: 0 })),
 ];
 
 #[test]
-fn messages(rt: HostRuntime) -> Result<(), Fail> {
-    for &(payload, fault) in MESSAGES {
-        assert!(rt; is_accepted(rt.alloc(), 3, payload, fault)?, "{payload:?}");
+fn payloads(rt: HostRuntime) {
+    for (id, payload, fault) in PAYLOADS {
+        assert!(rt;
+            is_right(rt.alloc(), *id, payload, *fault),
+            "{id} {payload:?}"
+        );
     }
-    assert!(rt; is_accepted(rt.alloc(), 4, REQUEST, None)?);
-    assert!(rt; is_accepted(rt.alloc(), 255, b"", None)?);
-    Ok(())
-}
-
-/// `d1:p`, `open` times `l`, and `close` times `e`.
-fn nested(alloc: Global, open: usize, close: usize) -> Result<Vec<u8>, AllocError> {
-    let mut payload = b"d1:p".to_vec(alloc)?;
-    for _ in 0..open {
-        payload.push(b'l')?;
-    }
-    for _ in 0..close {
-        payload.push(b'e')?;
-    }
-    Ok(payload)
-}
-
-#[test]
-fn no_dictionary(rt: HostRuntime) -> Result<(), Fail> {
-    let deep = nested(rt.alloc(), 32, 33)?;
-    for (payload, at) in [
-        (b"d1:pi-0ee".as_slice(), 6),
-        (b"d1:pi1e", 7),
-        (deep.as_slice(), 35),
-        (b"", 0),
-        (b"i1e", 0),
-    ] {
-        let fault = Some(ViewError::BadBencode { at });
-        for (rules, id) in [
-            (Rules::Free, 0),
-            (Rules::Free, 3),
-            (Rules::Bep, 0),
-            (Rules::Bep, 3),
-        ] {
-            assert!(rt;
-                has_fault(rt.alloc(), rules, id, payload, fault),
-                "{payload:?}"
-            );
-        }
-    }
-    Ok(())
-}
-
-#[test]
-fn deepest(rt: HostRuntime) -> Result<(), Fail> {
-    let allowed = nested(rt.alloc(), 31, 32)?;
-    assert!(rt; is_accepted(rt.alloc(), 0, &allowed, None)?);
-    Ok(())
 }
 
 /// These bytes, and as many letters `e` as make them `length` long.
 pub(crate) fn padded(alloc: Global, front: &[u8], length: usize) -> Result<Vec<u8>, AllocError> {
-    let mut bytes = Vec::from_slice(alloc, front)?;
-    for _ in front.len()..length {
-        bytes.push(b'e')?;
-    }
+    let mut bytes = Vec::new(alloc);
+    fill(&mut bytes, front, length.saturating_sub(front.len()))?;
     Ok(bytes)
 }
 
-/// Payloads that are as long as they may be, whose bytes are copied.
-#[test]
-fn longest_payloads(rt: HostRuntime) -> Result<(), Fail> {
-    for (id, fault) in [(0, None), (3, Some(ViewError::BadField)), (9, None)] {
-        let payload = padded(rt.alloc(), b"de", 1_048_574)?;
-        assert!(rt; is_accepted(rt.alloc(), id, &payload, fault)?, "{id}");
+/// The ids of payloads that are as long as they may be, and their faults under the strict rules.
+const LONGEST: &[(u8, Option<ViewError>)] = &[(0, None), (3, Some(ViewError::BadField)), (9, None)];
+
+fn is_longest(alloc: Global, id: u8, fault: Option<ViewError>) -> bool {
+    match padded(alloc, b"de", 1_048_574) {
+        Ok(payload) => is_right(alloc, id, payload.as_slice(), fault),
+        Err(_) => false,
     }
-    Ok(())
+}
+
+/// Payloads whose many bytes are copied.
+#[test]
+fn longest_payloads(rt: HostRuntime) {
+    for (id, fault) in LONGEST {
+        assert!(rt; is_longest(rt.alloc(), *id, *fault), "{id}");
+    }
 }

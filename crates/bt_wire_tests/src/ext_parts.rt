@@ -1,9 +1,8 @@
 //! Extended payloads: views, ids, fields, kinds, values without a spelling, and the dictionaries that are made.
 use crate::ext::{DATA, LIBTORRENT, REQUEST, ids};
-use bt_bencode::{ByteString, DictRef, Pairs, SpellError, Value, check, read_dict, spell};
+use bt_bencode::{ByteString, Pairs, SpellError, Value, check, read_dict, spell};
 use bt_ext::*;
 use std::alloc::{AllocError, Global};
-use std::test::Fail;
 
 /// What follows the dictionary, or the raw payload, and the number of its kind.
 fn parts<'a>(view: &ExtView<'a>) -> (u8, &'a [u8]) {
@@ -15,121 +14,116 @@ fn parts<'a>(view: &ExtView<'a>) -> (u8, &'a [u8]) {
     }
 }
 
-fn is_viewed(reg: Registered, id: u8, payload: &[u8], wanted: (u8, &[u8])) -> bool {
-    match view_ext(reg, Rules::Bep, id, payload) {
-        Ok(view) => parts(&view) == wanted,
-        Err(_) => false,
-    }
-}
-
-fn no_ids() -> Registered {
-    Registered::metadata_only(ExtId::new(0))
-}
-
 /// The receiver's id of `ut_metadata`, a message's id and payload, the number of its kind, and what follows its dictionary.
-const VIEWS: &[(u8, u8, &[u8], u8, &[u8])] = &[
+type View = (u8, u8, &'static [u8], u8, &'static [u8]);
+
+const VIEWS: &[View] = &[
     (3, 0, b"de.rest", 0, b".rest"),
     (3, 3, DATA, 1, b"abc"),
     (3, 4, REQUEST, 2, REQUEST),
     (0, 3, REQUEST, 2, REQUEST),
 ];
 
+fn is_viewed((metadata, id, payload, kind, rest): &View) -> bool {
+    let reg = Registered::metadata_only(ExtId::new(*metadata));
+    match view_ext(reg, Rules::Bep, *id, payload) {
+        Ok(view) => parts(&view) == (*kind, *rest),
+        Err(_) => false,
+    }
+}
+
 #[test]
 fn views(rt: HostRuntime) {
-    for &(metadata, id, payload, kind, rest) in VIEWS {
-        let reg = Registered::metadata_only(ExtId::new(metadata));
-        assert!(rt; is_viewed(reg, id, payload, (kind, rest)), "{payload:?}");
+    for row in VIEWS {
+        assert!(rt; is_viewed(row), "{:?}", row.2);
     }
+}
+
+fn number(id: Option<ExtId>) -> Option<u8> {
+    match id {
+        Some(id) => Some(id.get()),
+        None => None,
+    }
+}
+
+/// Whether the id has the number, alone and registered.
+fn has_number(id: u8, wanted: Option<u8>) -> bool {
+    number(ExtId::new(id)) == wanted
+        && number(Registered::metadata_only(ExtId::new(id)).metadata()) == wanted
 }
 
 #[test]
 fn numbers_of_ids(rt: HostRuntime) {
     for (id, wanted) in [(1, Some(1)), (3, Some(3)), (255, Some(255)), (0, None)] {
-        assert!(rt; ExtId::new(id).map(|id| id.get()) == wanted);
+        assert!(rt; has_number(id, wanted), "{id}");
     }
 }
 
-#[test]
-fn registered(rt: HostRuntime) {
-    assert!(rt; no_ids().metadata().is_none());
-    assert!(rt; ids().metadata() == ExtId::new(3));
-}
-
-fn dict(payload: &[u8]) -> Result<DictRef<'_>, Fail> {
+fn has_client_fields(payload: &[u8]) -> bool {
     match check(payload) {
-        Ok((dict, _)) => Ok(dict),
-        Err(_) => Err("refused".into()),
-    }
-}
-
-fn tree(alloc: Global, payload: &[u8]) -> Result<Value, Fail> {
-    match read_dict(alloc, payload) {
-        Ok((value, _)) => Ok(value),
-        Err(_) => Err("refused".into()),
+        Ok((dict, _)) => {
+            metadata_size_ref(&dict) == Some(33236)
+                && dict.lookup_int(b"complete_ago") == Some(-1)
+                && dict.lookup_bytes(b"yourip") == Some(b"\x7f\x00\x00\x01".as_slice())
+        }
+        Err(_) => false,
     }
 }
 
 #[test]
-fn client_fields(rt: HostRuntime) -> Result<(), Fail> {
-    let dict = dict(LIBTORRENT)?;
-    let address = b"\x7f\x00\x00\x01".as_slice();
-    assert!(rt;
-        metadata_size_ref(&dict) == Some(33236)
-            && dict.lookup_int(b"complete_ago") == Some(-1)
-            && dict.lookup_bytes(b"yourip") == Some(address)
-    );
-    Ok(())
+fn client_fields(rt: HostRuntime) {
+    assert!(rt; has_client_fields(LIBTORRENT));
 }
 
-/// The kind of the dictionary, by its bytes and by its value.
-fn both_kinds(dict: &DictRef, value: &Value) -> (Kind, Kind) {
-    (kind_ref(dict), kind(value))
-}
-
-/// Dictionaries of metadata messages, and their kinds.
-const KINDS: &[(&[u8], Kind)] = &[
-    (REQUEST, Kind::Request(0)),
-    (DATA, Kind::Data { piece: 0, total: 3 }),
-    (b"d8:msg_typei2e5:piecei5ee", Kind::Reject(5)),
-    (b"d8:msg_typei3ee", Kind::Other),
-    (b"d8:msg_typei0e5:piecei1e5:piecei2ee", Kind::Request(1)),
-    (b"de", Kind::Malformed),
-];
-
-#[test]
-fn kinds(rt: HostRuntime) -> Result<(), Fail> {
-    for &(payload, wanted) in KINDS {
-        let found = both_kinds(&dict(payload)?, &tree(rt.alloc(), payload)?);
-        assert!(rt; found == (wanted, wanted), "{payload:?}");
-    }
-    Ok(())
-}
-
-/// The announced size of the metadata, by the dictionary's bytes and by its value.
-fn both_sizes(dict: &DictRef, value: &Value) -> (Option<u64>, Option<u64>) {
-    (metadata_size_ref(dict), metadata_size(value))
-}
-
-/// Dictionaries of extended handshakes, and the size of the metadata that each announces.
-const SIZES: &[(&[u8], Option<u64>)] = &[
-    (b"d13:metadata_sizei0ee", Some(0)),
+/// Dictionaries, the kind of metadata message that each is, and the size of the metadata that each announces.
+const FIELDS: &[(&[u8], Kind, Option<u64>)] = &[
+    (REQUEST, Kind::Request(0), None),
+    (DATA, Kind::Data { piece: 0, total: 3 }, None),
+    (b"d8:msg_typei2e5:piecei5ee", Kind::Reject(5), None),
+    (b"d8:msg_typei3ee", Kind::Other, None),
+    (
+        b"d8:msg_typei0e5:piecei1e5:piecei2ee",
+        Kind::Request(1),
+        None,
+    ),
+    (b"d13:metadata_sizei0ee", Kind::Malformed, Some(0)),
     (
         b"d13:metadata_sizei9223372036854775807ee",
+        Kind::Malformed,
         Some(9223372036854775807),
     ),
-    (b"d13:metadata_sizei3e13:metadata_sizei4ee", Some(3)),
-    (b"d13:metadata_sizei-1ee", None),
-    (b"d13:metadata_size1:3e", None),
-    (b"de", None),
+    (
+        b"d13:metadata_sizei3e13:metadata_sizei4ee",
+        Kind::Malformed,
+        Some(3),
+    ),
+    (b"d13:metadata_sizei-1ee", Kind::Malformed, None),
+    (b"d13:metadata_size1:3e", Kind::Malformed, None),
+    (b"de", Kind::Malformed, None),
 ];
 
-#[test]
-fn sizes(rt: HostRuntime) -> Result<(), Fail> {
-    for &(payload, wanted) in SIZES {
-        let found = both_sizes(&dict(payload)?, &tree(rt.alloc(), payload)?);
-        assert!(rt; found == (wanted, wanted), "{payload:?}");
+fn is_value(alloc: Global, payload: &[u8], wanted: (Kind, Option<u64>)) -> bool {
+    match read_dict(alloc, payload) {
+        Ok((value, _)) => (kind(&value), metadata_size(&value)) == wanted,
+        Err(_) => false,
     }
-    Ok(())
+}
+
+fn is_dict(payload: &[u8], wanted: (Kind, Option<u64>)) -> bool {
+    match check(payload) {
+        Ok((dict, _)) => (kind_ref(&dict), metadata_size_ref(&dict)) == wanted,
+        Err(_) => false,
+    }
+}
+
+/// By the dictionary's bytes and by its value.
+#[test]
+fn fields(rt: HostRuntime) {
+    for (payload, kind, size) in FIELDS {
+        let is_right = is_dict(payload, (*kind, *size))
+            && is_value(rt.alloc(), payload, (*kind, *size));
+        assert!(rt; is_right, "{payload:?}");
+    }
 }
 
 /// A block's piece, the size of the metadata, the block's length, and whether that is right.
@@ -175,92 +169,105 @@ fn no_blocks(rt: HostRuntime) {
 }
 
 /// Whether the value has neither a length nor a spelling.
-fn is_unspelled(alloc: Global, reg: &Registered, value: &Ext) -> bool {
-    ext_len(*reg, value).is_none()
-        && matches!(spell_ext(alloc, *reg, value), Err(SpellError::OutOfRange))
+fn is_unspelled(alloc: Global, reg: &Registered, value: Ext) -> bool {
+    ext_len(*reg, &value).is_none()
+        && matches!(spell_ext(alloc, *reg, &value), Err(SpellError::OutOfRange))
 }
 
 fn no_bytes(alloc: Global) -> ByteString {
     ByteString::from_vec(Vec::new(alloc))
 }
 
-fn raw(alloc: Global, id: u8) -> Ext {
-    Ext::Raw {
-        id,
-        payload: no_bytes(alloc),
-    }
+fn is_raw_unspelled(alloc: Global, id: u8) -> bool {
+    let payload = no_bytes(alloc);
+    is_unspelled(alloc, &ids(), Ext::Raw { id, payload })
 }
 
-fn metadata(alloc: Global, pairs: Vec<(ByteString, Value)>) -> Ext {
-    Ext::Metadata {
-        dict: Value::Dict(Pairs::from_vec(pairs)),
-        rest: no_bytes(alloc),
-    }
+/// Whether a handshake has no spelling that has a number in place of a dictionary.
+fn is_number_unspelled(alloc: Global) -> bool {
+    let rest = no_bytes(alloc);
+    let dict = Value::Int(1);
+    is_unspelled(alloc, &ids(), Ext::Handshake { dict, rest })
 }
 
-/// A number in place of a handshake's dictionary.
-fn number(alloc: Global) -> Ext {
-    Ext::Handshake {
-        dict: Value::Int(1),
-        rest: no_bytes(alloc),
-    }
+fn is_metadata_unspelled(alloc: Global, reg: &Registered, pairs: Pairs) -> bool {
+    let rest = no_bytes(alloc);
+    let dict = Value::Dict(pairs);
+    is_unspelled(alloc, reg, Ext::Metadata { dict, rest })
+}
+
+fn no_pairs(alloc: Global) -> Pairs {
+    Pairs::from_vec(Vec::new(alloc))
 }
 
 /// A pair whose key has `len` bytes.
-fn pair(alloc: Global, len: usize) -> Result<Vec<(ByteString, Value)>, AllocError> {
+fn pair(alloc: Global, len: usize) -> Result<Pairs, AllocError> {
     let key = ByteString::from_vec(vec![in alloc; 0; len]?);
     let mut pairs = Vec::new(alloc);
     pairs.push((key, Value::Int(1)))?;
-    Ok(pairs)
+    Ok(Pairs::from_vec(pairs))
 }
 
-/// Raw payloads under ids that have a meaning.
-#[test]
-fn raw_without_spelling(rt: HostRuntime) {
-    for id in [0, 3] {
-        assert!(rt; is_unspelled(rt.alloc(), &ids(), &raw(rt.alloc(), id)));
+/// Whether metadata has no spelling that has a key of `len` bytes.
+fn is_long_unspelled(alloc: Global, len: usize) -> bool {
+    match pair(alloc, len) {
+        Ok(pairs) => is_metadata_unspelled(alloc, &ids(), pairs),
+        Err(_) => false,
     }
 }
 
-/// A number in place of a dictionary, metadata without an id, and a key of 1,048,577 bytes.
+/// Whether metadata without an id has no spelling.
+fn is_unregistered_unspelled(alloc: Global) -> bool {
+    is_metadata_unspelled(alloc, &Registered::metadata_only(None), no_pairs(alloc))
+}
+
+/// Raw payloads under ids that have a meaning, a number in place of a dictionary, metadata without an id, and a key of
+/// 1,048,577 bytes.
 #[test]
-fn values_without_spelling(rt: HostRuntime) -> Result<(), Fail> {
-    let alloc = rt.alloc();
-    assert!(rt; is_unspelled(alloc, &ids(), &number(alloc)));
-    let unregistered = metadata(alloc, Vec::new(alloc));
-    assert!(rt; is_unspelled(alloc, &Registered::metadata_only(None), &unregistered));
-    assert!(rt; is_unspelled(alloc, &ids(), &metadata(alloc, pair(alloc, 1_048_577)?)));
-    Ok(())
+fn values_without_spelling(rt: HostRuntime) {
+    for id in [0, 3] {
+        assert!(rt; is_raw_unspelled(rt.alloc(), id), "{id}");
+    }
+    assert!(rt; is_number_unspelled(rt.alloc()));
+    assert!(rt; is_unregistered_unspelled(rt.alloc()));
+    assert!(rt; is_long_unspelled(rt.alloc(), 1_048_577));
 }
 
-fn is_spelled(alloc: Global, value: &Value, bytes: &[u8]) -> Result<bool, Fail> {
-    Ok(spell(alloc, value)?.as_slice() == bytes)
+fn is_spelled(alloc: Global, value: &Value, bytes: &[u8]) -> bool {
+    match spell(alloc, value) {
+        Ok(spelled) => spelled.as_slice() == bytes,
+        Err(_) => false,
+    }
 }
 
-fn request(alloc: Global) -> Result<Value, Fail> {
-    Ok(dict_of(alloc, Kind::Request(0))?)
+pub(crate) fn is_made(alloc: Global, made: Result<Value, AllocError>, bytes: &[u8]) -> bool {
+    match made {
+        Ok(value) => is_spelled(alloc, &value, bytes),
+        Err(_) => false,
+    }
 }
 
-fn data(alloc: Global) -> Result<Value, Fail> {
-    Ok(dict_of(alloc, Kind::Data { piece: 0, total: 3 })?)
+fn is_request_made(alloc: Global) -> bool {
+    is_made(alloc, dict_of(alloc, Kind::Request(0)), REQUEST)
 }
 
-fn reject(alloc: Global) -> Result<Value, Fail> {
-    Ok(dict_of(alloc, Kind::Reject(0))?)
+fn is_data_made(alloc: Global) -> bool {
+    let made = dict_of(alloc, Kind::Data { piece: 0, total: 3 });
+    is_made(alloc, made, b"d8:msg_typei1e5:piecei0e10:total_sizei3ee")
+}
+
+fn is_reject_made(alloc: Global) -> bool {
+    is_made(
+        alloc,
+        dict_of(alloc, Kind::Reject(0)),
+        b"d8:msg_typei2e5:piecei0ee",
+    )
 }
 
 #[test]
-fn made_messages(rt: HostRuntime) -> Result<(), Fail> {
+fn made_messages(rt: HostRuntime) {
     let alloc = rt.alloc();
-    let is_right = is_spelled(alloc, &request(alloc)?, REQUEST)?
-        && is_spelled(
-            alloc,
-            &data(alloc)?,
-            b"d8:msg_typei1e5:piecei0e10:total_sizei3ee",
-        )?
-        && is_spelled(alloc, &reject(alloc)?, b"d8:msg_typei2e5:piecei0ee")?;
-    assert!(rt; is_right);
-    Ok(())
+    assert!(rt; is_request_made(alloc) && is_data_made(alloc) && is_reject_made(alloc));
 }
 
 /// The id of `ut_metadata`, the size of the metadata, and the dictionary that says so.
@@ -271,11 +278,13 @@ const MADE: &[(u8, Option<u64>, &[u8])] = &[
 ];
 
 #[test]
-fn made_handshakes(rt: HostRuntime) -> Result<(), Fail> {
-    let alloc = rt.alloc();
-    for &(id, size, bytes) in MADE {
-        let value = handshake_dict(alloc, Registered::metadata_only(ExtId::new(id)), size)?;
-        assert!(rt; is_spelled(alloc, &value, bytes)?, "{id}");
+fn made_handshakes(rt: HostRuntime) {
+    for (id, size, bytes) in MADE {
+        let made = handshake_dict(
+            rt.alloc(),
+            Registered::metadata_only(ExtId::new(*id)),
+            *size,
+        );
+        assert!(rt; is_made(rt.alloc(), made, bytes), "{id}");
     }
-    Ok(())
 }

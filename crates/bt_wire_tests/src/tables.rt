@@ -1,43 +1,52 @@
 //! Tables of a peer's names and ids: what extended handshakes make of them.
+use crate::bencode::add;
 use bt_bencode::{check, read_dict};
 use bt_ext::Table;
 use std::alloc::{AllocError, Global};
-use std::test::Fail;
 
 /// Applies the payload to the table, by its bytes.
-fn apply_bytes(table: &mut Table, payload: &[u8]) -> Result<(), Fail> {
-    let (dict, _) = check(payload)?;
-    table.apply_ref(&dict)?;
-    Ok(())
+fn apply_bytes(table: &mut Table, payload: &[u8]) -> bool {
+    match check(payload) {
+        Ok((dict, _)) => table.apply_ref(&dict).is_ok(),
+        Err(_) => false,
+    }
 }
 
 /// Applies the payload to the table, by its value.
-fn apply_value(alloc: Global, table: &mut Table, payload: &[u8]) -> Result<(), Fail> {
-    let (value, _) = read_dict(alloc, payload)?;
-    table.apply(&value)?;
-    Ok(())
-}
-
-/// A copy of the table, if it has the same id for the name.
-fn copied(table: &Table, name: &[u8]) -> Result<Table, Fail> {
-    let copy = table.copy()?;
-    if copy.id_of(name) != table.id_of(name) {
-        return Err("a copy with another id".into());
+fn apply_value(alloc: Global, table: &mut Table, payload: &[u8]) -> bool {
+    match read_dict(alloc, payload) {
+        Ok((value, _)) => table.apply(&value).is_ok(),
+        Err(_) => false,
     }
-    Ok(copy)
 }
 
-/// Applies the payload to the table by its bytes, and to a copy by its value. Gives both ids of the name.
-fn applied(
+fn has(table: &Table, name: &[u8], id: Option<u8>) -> bool {
+    table.id_of(name) == id
+}
+
+/// Whether a copy has the same id for the name, and this one after the payload is applied to it by its value.
+fn applies_to_copy(
     alloc: Global,
-    table: &mut Table,
+    table: &Table,
     payload: &[u8],
     name: &[u8],
-) -> Result<(Option<u8>, Option<u8>), Fail> {
-    let mut copy = copied(table, name)?;
-    apply_value(alloc, &mut copy, payload)?;
-    apply_bytes(table, payload)?;
-    Ok((copy.id_of(name), table.id_of(name)))
+    id: Option<u8>,
+) -> bool {
+    match table.copy() {
+        Ok(mut copy) => {
+            has(&copy, name, table.id_of(name))
+                && apply_value(alloc, &mut copy, payload)
+                && has(&copy, name, id)
+        }
+        Err(_) => false,
+    }
+}
+
+/// Whether the name has the id after the payload is applied, to a copy by its value, and to the table by its bytes.
+fn applies(alloc: Global, table: &mut Table, payload: &[u8], name: &[u8], id: Option<u8>) -> bool {
+    applies_to_copy(alloc, table, payload, name, id)
+        && apply_bytes(table, payload)
+        && has(table, name, id)
 }
 
 /// Handshakes one after the other, and the id that the name has after each.
@@ -57,67 +66,83 @@ const CHANGES: &[(&[u8], Option<u8>)] = &[
     (b"d1:md11:ut_metadatai0eee", None),
 ];
 
-#[test]
-fn one_name(rt: HostRuntime) -> Result<(), Fail> {
-    let mut table = Table::new(rt.alloc());
-    assert!(rt; table.id_of(b"ut_metadata").is_none());
-    for &(payload, wanted) in CHANGES {
-        let found = applied(rt.alloc(), &mut table, payload, b"ut_metadata")?;
-        assert!(rt; found == (wanted, wanted), "{payload:?}");
+/// The first handshake after which the name has another id.
+fn wrong_change(alloc: Global, table: &mut Table) -> Option<&'static [u8]> {
+    for (payload, id) in CHANGES {
+        if !applies(alloc, table, payload, b"ut_metadata", *id) {
+            return Some(payload);
+        }
     }
-    Ok(())
+    None
 }
+
+#[test]
+fn one_name(rt: HostRuntime) {
+    let mut table = Table::new(rt.alloc());
+    assert!(rt; has(&table, b"ut_metadata", None));
+    let wrong = wrong_change(rt.alloc(), &mut table);
+    assert!(rt; wrong.is_none(), "{wrong:?}");
+}
+
+/// What stands before a name, the length of the name, and the id that it has.
+const LONG_NAMES: &[(&[u8], usize, Option<u8>)] = &[
+    (b"d1:md255:", 255, Some(1)),
+    (b"d1:md256:", 256, None),
+];
 
 /// A dictionary whose `m` has one name, of `len` letters `a`, with the id 1.
-fn long_name(alloc: Global, len: usize) -> Result<Vec<u8>, AllocError> {
-    let mut payload = format!(in alloc; "d1:md{len}:")?.into_bytes();
-    for _ in 0..len {
-        payload.push(b'a')?;
+fn put_long_name(payload: &mut Vec<u8>, front: &[u8], len: usize) -> Result<(), AllocError> {
+    add(payload, front, 1)?;
+    add(payload, b"a", len)?;
+    add(payload, b"i1eee", 1)
+}
+
+/// Whether the name of the payload, 9 bytes from its start, has the id.
+fn applies_name(alloc: Global, payload: &[u8], len: usize, id: Option<u8>) -> bool {
+    match payload.get(9..len.saturating_add(9)) {
+        Some(name) => applies(alloc, &mut Table::new(alloc), payload, name, id),
+        None => false,
     }
-    payload.extend_from_slice(b"i1eee")?;
-    Ok(payload)
+}
+
+fn applies_long_name(alloc: Global, (front, len, id): &(&[u8], usize, Option<u8>)) -> bool {
+    let mut payload = Vec::new(alloc);
+    put_long_name(&mut payload, front, *len).is_ok() && applies_name(alloc, &payload, *len, *id)
 }
 
 #[test]
-fn long_names(rt: HostRuntime) -> Result<(), Fail> {
-    let alloc = rt.alloc();
-    let name = vec![in alloc; b'a'; 256]?;
-    let (short, _) = name.split_at(255);
-    for (len, name, wanted) in [(255, short, Some(1)), (256, name.as_slice(), None)] {
-        let mut table = Table::new(alloc);
-        let payload = long_name(alloc, len)?;
-        let found = applied(alloc, &mut table, &payload, name)?;
-        assert!(rt; found == (wanted, wanted), "{len}");
+fn long_names(rt: HostRuntime) {
+    for row in LONG_NAMES {
+        assert!(rt; applies_long_name(rt.alloc(), row), "{}", row.1);
     }
-    Ok(())
+}
+
+fn put_name(alloc: Global, payload: &mut Vec<u8>, number: usize) -> Result<(), AllocError> {
+    let pair = format!(in alloc; "4:{number}i1e")?;
+    add(payload, pair.as_bytes(), 1)
 }
 
 /// A dictionary whose `m` gives the names `1000`, `1001`, .. below `end` the id 1, and then has the pairs `more`.
-fn many_names(alloc: Global, end: usize, more: &[u8]) -> Result<Vec<u8>, AllocError> {
-    let mut payload = b"d1:md".to_vec(alloc)?;
+fn put_names(
+    alloc: Global,
+    payload: &mut Vec<u8>,
+    end: usize,
+    more: &[u8],
+) -> Result<(), AllocError> {
+    add(payload, b"d1:md", 1)?;
     for number in 1000..end {
-        let pair = format!(in alloc; "4:{number}i1e")?;
-        payload.extend_from_slice(pair.as_bytes())?;
+        put_name(alloc, payload, number)?;
     }
-    payload.extend_from_slice(more)?;
-    payload.extend_from_slice(b"ee")?;
-    Ok(payload)
+    add(payload, more, 1)?;
+    add(payload, b"ee", 1)
 }
 
-/// The table has `name` with the id, and has not `new`.
-fn is_full(table: &Table, name: &[u8], id: Option<u8>) -> bool {
-    table.id_of(name) == id && table.id_of(b"new").is_none()
-}
-
-/// A name that goes makes room for the next one, and a name that is there takes another id.
-fn makes_room(alloc: Global, table: &mut Table) -> Result<bool, Fail> {
+/// Whether a name that goes makes room for the next one, and a name that is there takes another id.
+fn makes_room(alloc: Global, table: &mut Table) -> bool {
     let change = b"d1:md4:1001i5e4:1000i0e3:newi7e3:oldi8eee";
-    let found = applied(alloc, table, change, b"new")?;
-    Ok(
-        found == (Some(7), Some(7))
-            && table.id_of(b"1000").is_none()
-            && table.id_of(b"1001") == Some(5),
-    )
+    applies(alloc, table, change, b"new", Some(7))
+        && has(table, b"1000", None)
+        && has(table, b"1001", Some(5))
 }
 
 /// Where the names end, what follows them, a name, and the id that it has.
@@ -129,17 +154,26 @@ const FULL: &[(usize, &[u8], &[u8], Option<u8>)] = &[
     (1256, b"3:newi7e", b"1255", Some(1)),
 ];
 
+/// Whether the name has the id, and `new` none before there is room.
+fn is_filled(
+    alloc: Global,
+    table: &mut Table,
+    payload: &[u8],
+    name: &[u8],
+    id: Option<u8>,
+) -> bool {
+    applies(alloc, table, payload, name, id) && has(table, b"new", None) && makes_room(alloc, table)
+}
+
+fn is_full(alloc: Global, (end, more, name, id): &(usize, &[u8], &[u8], Option<u8>)) -> bool {
+    let mut payload = Vec::new(alloc);
+    put_names(alloc, &mut payload, *end, more).is_ok()
+        && is_filled(alloc, &mut Table::new(alloc), &payload, name, *id)
+}
+
 #[test]
-fn many(rt: HostRuntime) -> Result<(), Fail> {
-    let alloc = rt.alloc();
-    for &(end, more, name, wanted) in FULL {
-        let mut table = Table::new(alloc);
-        let payload = many_names(alloc, end, more)?;
-        let found = applied(alloc, &mut table, &payload, name)?;
-        let is_right = found == (wanted, wanted)
-            && is_full(&table, name, wanted)
-            && makes_room(alloc, &mut table)?;
-        assert!(rt; is_right, "{end}");
+fn many(rt: HostRuntime) {
+    for row in FULL {
+        assert!(rt; is_full(rt.alloc(), row), "{}", row.0);
     }
-    Ok(())
 }

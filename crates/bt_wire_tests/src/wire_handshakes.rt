@@ -48,31 +48,45 @@ fn is_whole(own: &Own, bytes: &[u8], wanted: &Handshake) -> bool {
     }
 }
 
+/// The length of the first part of the handshake that isn't taken as one.
+fn wrong_part(own: &Own) -> Option<usize> {
+    for n in 0..68 {
+        if !is_judged(own, &SPELLED[..n], None) {
+            return Some(n);
+        }
+    }
+    None
+}
+
 #[test]
 fn handshakes(rt: HostRuntime) {
     let sent = handshake();
     assert!(rt; spell_handshake(&sent).as_slice() == SPELLED.as_slice());
     for wanted in [None, Some(sent.info_hash)] {
         let own = receiver(Reserved(0), wanted);
-        for n in 0..68 {
-            assert!(rt; is_judged(&own, &SPELLED[..n], None), "{n}");
-        }
-        assert!(rt; is_whole(&own, SPELLED, &sent));
+        let wrong = wrong_part(&own);
+        assert!(rt;
+            wrong.is_none() && is_whole(&own, SPELLED, &sent),
+            "{wrong:?}"
+        );
     }
 }
 
 /// Whether the handshake is refused from `judged` of its bytes on, and not before.
 fn is_refused_from(own: &Own, bytes: &[u8; 68], judged: usize, refused: Refused) -> bool {
-    let mut all = true;
     for n in 0..=68 {
         let wanted = if n < judged { None } else { Some(refused) };
-        all = all && is_judged(own, &bytes[..n], wanted);
+        if !is_judged(own, &bytes[..n], wanted) {
+            return false;
+        }
     }
-    all
+    true
 }
 
 /// Whether the receiver has the same info hash, the byte that is changed, from how many bytes on that is refused, where and why.
-const CHANGED: &[(bool, usize, usize, u64, Reason)] = &[
+type Change = (bool, usize, usize, u64, Reason);
+
+const CHANGED: &[Change] = &[
     (true, 0, 1, 0, Reason::BadProtocol),
     (true, 5, 6, 5, Reason::BadProtocol),
     (true, 19, 20, 19, Reason::BadProtocol),
@@ -82,31 +96,47 @@ const CHANGED: &[(bool, usize, usize, u64, Reason)] = &[
     (false, 67, 48, 28, Reason::WrongInfoHash),
 ];
 
-#[test]
-fn refused_handshakes(rt: HostRuntime) {
-    let same = receiver(Reserved(0), Some(handshake().info_hash));
-    let other = receiver(Reserved(0), Some(*b"--------------------"));
-    for &(is_same, changed, judged, at, reason) in CHANGED {
-        let own = if is_same { &same } else { &other };
-        let mut bytes = *SPELLED;
-        for (n, byte) in bytes.iter_mut().enumerate() {
-            if n == changed {
-                *byte ^= 1;
-            }
-        }
-        let refused = Refused { at, reason };
-        assert!(rt; is_refused_from(own, &bytes, judged, refused), "{changed}");
+/// The handshake with another byte there.
+fn changed_at(n: usize) -> [u8; 68] {
+    let mut bytes = *SPELLED;
+    if let Some(byte) = bytes.get_mut(n) {
+        *byte ^= 1;
     }
+    bytes
+}
+
+fn is_refused((is_same, changed, judged, at, reason): &Change) -> bool {
+    let info_hash = if *is_same {
+        handshake().info_hash
+    } else {
+        *b"--------------------"
+    };
+    let refused = Refused {
+        at: *at,
+        reason: *reason,
+    };
+    let own = receiver(Reserved(0), Some(info_hash));
+    is_refused_from(&own, &changed_at(*changed), *judged, refused)
 }
 
 #[test]
+fn refused_handshakes(rt: HostRuntime) {
+    for row in CHANGED {
+        assert!(rt; is_refused(row), "{}", row.1);
+    }
+}
+
+/// The bits of the extensions.
+const BITS: &[(Reserved, u64)] = &[
+    (Reserved::FAST, 0x4),
+    (Reserved::DHT, 0x1),
+    (Reserved::EXT, 0x10_0000),
+];
+
+#[test]
 fn bits(rt: HostRuntime) {
-    for (flag, wanted) in [
-        (Reserved::FAST, 0x4),
-        (Reserved::DHT, 0x1),
-        (Reserved::EXT, 0x10_0000),
-    ] {
-        assert!(rt; flag.bits() == wanted);
+    for (flag, wanted) in BITS {
+        assert!(rt; flag.bits() == *wanted, "{wanted}");
     }
 }
 
@@ -124,14 +154,17 @@ const NEGOTIATIONS: &[(u64, u64, bool, bool)] = &[
     (0, 0, false, false),
 ];
 
+fn is_negotiated(own: u64, peer: u64, fast: bool, ext: bool) -> bool {
+    let answer = Context {
+        ext,
+        ..agreed(Rules::Bep, fast, Some(10))
+    };
+    negotiate(&receiver(Reserved(own), None), Reserved(peer)) == answer
+}
+
 #[test]
 fn negotiations(rt: HostRuntime) {
     for &(own, peer, fast, ext) in NEGOTIATIONS {
-        let context = negotiate(&receiver(Reserved(own), None), Reserved(peer));
-        let answer = Context {
-            ext,
-            ..agreed(Rules::Bep, fast, Some(10))
-        };
-        assert!(rt; context == answer, "{own} {peer}");
+        assert!(rt; is_negotiated(own, peer, fast, ext), "{own} {peer}");
     }
 }

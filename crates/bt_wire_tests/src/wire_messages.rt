@@ -1,122 +1,112 @@
 //! Each message read and written, the orders of messages, and ids without a spelling of their own.
 use crate::wire::agreed;
-use bt_bencode::ByteString;
-use bt_ext::Rules;
+use bt_ext::{Ext, Registered, Rules, spell_ext};
 use bt_wire::*;
-use std::alloc::Global;
-use std::test::Fail;
+use std::alloc::{AllocError, Global};
 
 /// A message's name, its numbers, 0 where it has none, and its bytes.
-type Parts<'a> = (&'static str, [u32; 3], &'a [u8]);
+type Parts = (&'static str, [u32; 3], &'static [u8]);
 
-fn name(name: &'static str) -> Parts<'static> {
-    (name, [0; 3], b"")
-}
-
-fn numbers(name: &'static str, numbers: [u32; 3]) -> Parts<'static> {
-    (name, numbers, b"")
-}
-
-fn parts<'a>(view: &MessageView<'a>) -> Parts<'a> {
+fn name(view: &MessageView) -> &'static str {
     match view {
-        MessageView::KeepAlive => name("KeepAlive"),
-        MessageView::Choke => name("Choke"),
-        MessageView::Unchoke => name("Unchoke"),
-        MessageView::Interested => name("Interested"),
-        MessageView::NotInterested => name("NotInterested"),
-        MessageView::Have(index) => numbers("Have", [*index, 0, 0]),
-        MessageView::Bitfield(bits) => ("Bitfield", [0; 3], bits),
+        MessageView::KeepAlive => "KeepAlive",
+        MessageView::Choke => "Choke",
+        MessageView::Unchoke => "Unchoke",
+        MessageView::Interested => "Interested",
+        MessageView::NotInterested => "NotInterested",
+        MessageView::Have(_) => "Have",
+        MessageView::Bitfield(_) => "Bitfield",
+        MessageView::Request { .. } => "Request",
+        MessageView::Piece { .. } => "Piece",
+        MessageView::Cancel { .. } => "Cancel",
+        MessageView::Port(_) => "Port",
+        MessageView::Suggest(_) => "Suggest",
+        MessageView::HaveAll => "HaveAll",
+        MessageView::HaveNone => "HaveNone",
+        MessageView::Reject { .. } => "Reject",
+        MessageView::AllowedFast(_) => "AllowedFast",
+        MessageView::Extended(_) => "Extended",
+        MessageView::Unknown { .. } => "Unknown",
+    }
+}
+
+fn numbers(view: &MessageView) -> [u32; 3] {
+    match view {
+        MessageView::Have(index) | MessageView::Suggest(index) | MessageView::AllowedFast(index) =>
+            [*index, 0, 0],
         MessageView::Request {
             index,
             begin,
             length,
-        } => { numbers("Request", [*index, *begin, *length]) }
-        MessageView::Piece {
-            index,
-            begin,
-            block,
-        } => ("Piece", [*index, *begin, 0], block),
-        MessageView::Cancel {
+        }
+        | MessageView::Cancel {
             index,
             begin,
             length,
-        } => { numbers("Cancel", [*index, *begin, *length]) }
-        MessageView::Port(port) => numbers("Port", [u32::from(*port), 0, 0]),
-        MessageView::Suggest(index) => numbers("Suggest", [*index, 0, 0]),
-        MessageView::HaveAll => name("HaveAll"),
-        MessageView::HaveNone => name("HaveNone"),
-        MessageView::Reject {
+        }
+        | MessageView::Reject {
             index,
             begin,
             length,
-        } => { numbers("Reject", [*index, *begin, *length]) }
-        MessageView::AllowedFast(index) => numbers("AllowedFast", [*index, 0, 0]),
-        MessageView::Extended(_) => name("Extended"),
-        MessageView::Unknown { id, payload } => ("Unknown", [u32::from(*id), 0, 0], payload),
+        } => [*index, *begin, *length],
+        MessageView::Piece { index, begin, .. } => [*index, *begin, 0],
+        MessageView::Port(port) => [u32::from(*port), 0, 0],
+        MessageView::Unknown { id, .. } => [u32::from(*id), 0, 0],
+        _ => [0; 3],
     }
 }
 
-/// Whether the header says that the bytes are one whole message.
-pub(crate) fn is_window(context: &Context, order: Order, bytes: &[u8]) -> bool {
-    judge_header(context, order, bytes) == Header::Window(bytes.len() as u64)
-}
-
-/// What decoding the window gives; nothing where its header doesn't say that it is one whole message.
-pub(crate) fn decoded(
-    alloc: Global,
-    context: &Context,
-    order: Order,
-    window: &[u8],
-) -> Option<Result<Message, DecodeError>> {
-    if judge_header(context, order, window) == Header::Window(window.len() as u64) {
-        Some(decode_window(alloc, context, order, window))
-    } else {
-        None
+fn rest<'a>(view: &MessageView<'a>) -> &'a [u8] {
+    match view {
+        MessageView::Bitfield(bits) => bits,
+        MessageView::Piece { block, .. } => block,
+        MessageView::Unknown { payload, .. } => payload,
+        _ => b"",
     }
 }
 
-/// Whether the message is written as the bytes.
-pub(crate) fn is_encoded(
+fn has_parts(view: &MessageView, wanted: &Parts) -> bool {
+    name(view) == wanted.0 && numbers(view) == wanted.1 && rest(view) == wanted.2
+}
+
+/// Whether the message is written as the bytes, or isn't for the fault.
+fn is_encoded(
     alloc: Global,
     context: &Context,
     order: Order,
     message: &Message,
-    bytes: &[u8],
+    answer: Result<&[u8], Fault>,
 ) -> bool {
     match encode(alloc, context, order, message) {
-        Ok(encoded) => encoded.as_slice() == bytes,
-        Err(_) => false,
+        Ok(encoded) => answer == Ok(encoded.as_slice()),
+        Err(error) => answer.err().map(EncodeError::Illegal) == Some(error),
     }
 }
 
-/// The message that the bytes are, viewed where they lie.
-fn viewed<'a>(context: &Context, bytes: &'a [u8]) -> Result<MessageView<'a>, Fail> {
-    match read_front(context, Order::Fresh, 0, bytes) {
-        Front::Whole(view, length) if length == bytes.len() => Ok(view),
-        _ => Err("no message".into()),
-    }
-}
-
-/// Whether the view is copied as a message that is written as the bytes.
-fn is_copied(
+/// Whether the message is legal and written as the bytes, or neither for the fault.
+fn is_judged(
     alloc: Global,
     context: &Context,
+    order: Order,
+    message: &Message,
+    answer: Result<&[u8], Fault>,
+) -> bool {
+    legal(context, order, message).err() == answer.err()
+        && is_encoded(alloc, context, order, message, answer)
+}
+
+/// Whether the view is copied as a message that is judged so.
+pub(crate) fn is_copied(
+    alloc: Global,
+    context: &Context,
+    order: Order,
     view: &MessageView,
-    bytes: &[u8],
-) -> Result<bool, Fail> {
-    let message = copy_message(alloc, view)?;
-    Ok(is_encoded(alloc, context, Order::Fresh, &message, bytes))
-}
-
-/// Whether the message is legal and is written as the bytes.
-fn is_legal(alloc: Global, context: &Context, message: &Message, bytes: &[u8]) -> bool {
-    legal(context, Order::Fresh, message).is_ok()
-        && is_encoded(alloc, context, Order::Fresh, message, bytes)
-}
-
-/// Whether both have the same id.
-fn has_id(message: &Message, view: &MessageView) -> bool {
-    message.id() == view.id()
+    answer: Result<&[u8], Fault>,
+) -> bool {
+    match copy_message(alloc, view) {
+        Ok(message) => is_judged(alloc, context, order, &message, answer),
+        Err(_) => false,
+    }
 }
 
 /// Whether both leave the same order.
@@ -124,21 +114,85 @@ fn has_order(order: Order, message: &Message, view: &MessageView) -> bool {
     next(order, message) == next_of_view(order, view)
 }
 
+/// Whether both have the same id and leave the same orders.
+fn is_alike(message: &Message, view: &MessageView) -> bool {
+    message.id() == view.id()
+        && has_order(Order::Fresh, message, view)
+        && has_order(Order::Past, message, view)
+}
+
+/// Whether the extended message's id and payload stand in the window after its header.
+fn has_ext(alloc: Global, reg: Registered, value: &Ext, window: &[u8]) -> bool {
+    match spell_ext(alloc, reg, value) {
+        Ok((id, payload)) => {
+            window.get(5) == Some(&id) && window.get(6..) == Some(payload.as_slice())
+        }
+        Err(_) => false,
+    }
+}
+
+fn has_payload(alloc: Global, context: &Context, message: &Message, window: &[u8]) -> bool {
+    match message {
+        Message::Extended(value) => has_ext(alloc, context.reg, value, window),
+        _ => true,
+    }
+}
+
+/// Whether the message is the one that the window is read as, and is written as the window again.
+fn is_read_back(
+    alloc: Global,
+    context: &Context,
+    order: Order,
+    message: &Message,
+    window: &[u8],
+) -> bool {
+    match read_front(context, order, 0, window) {
+        Front::Whole(view, length) => {
+            length == window.len()
+                && is_alike(message, &view)
+                && has_payload(alloc, context, message, window)
+                && is_judged(alloc, context, order, message, Ok(window))
+        }
+        _ => false,
+    }
+}
+
+fn is_fault(error: DecodeError, fault: Option<Refused>) -> bool {
+    match error {
+        DecodeError::Refused { at, reason } => fault == Some(Refused { at, reason }),
+        DecodeError::Memory => false,
+    }
+}
+
+/// Whether the window, which is one whole message by its header, has the fault, or is decoded and written again without one.
+pub(crate) fn is_decoded(
+    alloc: Global,
+    context: &Context,
+    order: Order,
+    window: &[u8],
+    fault: Option<Refused>,
+) -> bool {
+    judge_header(context, order, window) == Header::Window(window.len() as u64)
+        && view_window(context, order, window).err() == fault
+        && match decode_window(alloc, context, order, window) {
+            Ok(message) => {
+                fault.is_none() && is_read_back(alloc, context, order, &message, window)
+            }
+            Err(error) => is_fault(error, fault),
+        }
+}
+
 /// Whether the bytes are one message, which has these parts and is written as the bytes again, viewed or decoded.
-fn is_message(alloc: Global, context: &Context, bytes: &[u8], wanted: Parts) -> Result<bool, Fail> {
-    let Some(Ok(message)) = decoded(alloc, context, Order::Fresh, bytes) else {
-        return Ok(false);
-    };
-    let view = viewed(context, bytes)?;
-    Ok(
-        is_window(context, Order::Fresh, bytes)
-            && parts(&view) == wanted
-            && is_legal(alloc, context, &message, bytes)
-            && is_copied(alloc, context, &view, bytes)?
-            && has_id(&message, &view)
-            && has_order(Order::Fresh, &message, &view)
-            && has_order(Order::Past, &message, &view),
-    )
+fn is_message(alloc: Global, (rules, fast, pieces): &Setup, bytes: &[u8], wanted: &Parts) -> bool {
+    let context = agreed(*rules, *fast, *pieces);
+    match read_front(&context, Order::Fresh, 0, bytes) {
+        Front::Whole(view, _) => {
+            has_parts(&view, wanted)
+                && is_copied(alloc, &context, Order::Fresh, &view, Ok(bytes))
+                && is_decoded(alloc, &context, Order::Fresh, bytes, None)
+        }
+        _ => false,
+    }
 }
 
 /// The rules, whether both ends have the Fast Extension, and the number of pieces, where it is known.
@@ -155,7 +209,7 @@ const FREE: Setup = (Rules::Free, true, None);
 const SLOW: Setup = (Rules::Free, false, None);
 
 /// A setup, a message's bytes, and its parts.
-type Row = (Setup, &'static [u8], Parts<'static>);
+type Row = (Setup, &'static [u8], Parts);
 
 const MESSAGES: &[Row] = &[
     (TEN, b"\0\0\0\0", ("KeepAlive", [0; 3], b"")),
@@ -225,15 +279,10 @@ const MESSAGES: &[Row] = &[
 ];
 
 #[test]
-fn messages(rt: HostRuntime) -> Result<(), Fail> {
-    for ((rules, fast, pieces), window, wanted) in MESSAGES {
-        let context = agreed(*rules, *fast, *pieces);
-        assert!(rt;
-            is_message(rt.alloc(), &context, window, *wanted)?,
-            "{window:?}"
-        );
+fn messages(rt: HostRuntime) {
+    for (setup, bytes, parts) in MESSAGES {
+        assert!(rt; is_message(rt.alloc(), setup, bytes, parts), "{bytes:?}");
     }
-    Ok(())
 }
 
 /// The order after the message, if the message is read in this one.
@@ -245,7 +294,9 @@ fn order_after(context: &Context, order: Order, bytes: &[u8]) -> Option<Order> {
 }
 
 /// A message, whether it may come first, later, and first without the Fast Extension, and whether it counts as one before others.
-const ORDERS: &[(&[u8], bool, bool, bool, bool)] = &[
+type OrderRow = (&'static [u8], bool, bool, bool, bool);
+
+const ORDERS: &[OrderRow] = &[
     (b"\0\0\0\0", true, true, true, false),
     (b"\0\0\0\x01\0", false, true, true, true),
     (b"\0\0\0\x01\x01", false, true, true, true),
@@ -284,56 +335,58 @@ const ORDERS: &[(&[u8], bool, bool, bool, bool)] = &[
     (b"\0\0\0\x01\x63", false, false, false, false),
 ];
 
-/// Which orders let the message through under the strict rules, and the order that it leaves.
+/// Whether the order lets the message through or not, and the order that it leaves.
+fn is_ordered(fast: bool, order: Order, bytes: &[u8], is_whole: bool, counts: bool) -> bool {
+    let after = if counts { Order::Past } else { order };
+    let wanted = if is_whole { Some(after) } else { None };
+    order_after(&agreed(Rules::Bep, fast, None), order, bytes) == wanted
+}
+
+fn are_ordered((bytes, first, later, slow_first, counts): &OrderRow) -> bool {
+    is_ordered(true, Order::Fresh, bytes, *first, *counts)
+        && is_ordered(true, Order::Past, bytes, *later, *counts)
+        && is_ordered(false, Order::Fresh, bytes, *slow_first, *counts)
+}
+
+/// The orders under the strict rules.
 #[test]
 fn orders(rt: HostRuntime) {
-    let fast = agreed(Rules::Bep, true, None);
-    let slow = agreed(Rules::Bep, false, None);
-    for &(bytes, first, later, slow_first, counts) in ORDERS {
-        for (context, order, whole) in [
-            (&fast, Order::Fresh, first),
-            (&fast, Order::Past, later),
-            (&slow, Order::Fresh, slow_first),
-        ] {
-            let after = if counts { Order::Past } else { order };
-            let wanted = if whole { Some(after) } else { None };
-            assert!(rt; order_after(context, order, bytes) == wanted, "{bytes:?}");
-        }
+    for row in ORDERS {
+        assert!(rt; are_ordered(row), "{:?}", row.0);
     }
 }
 
-/// An unknown message of three bytes with the id, and what isn't legal in it where two are allowed.
-fn fault_of_unknown(alloc: Global, id: u8) -> Result<Option<Fault>, Fail> {
-    let bep = agreed(Rules::Bep, false, None);
-    let payload = ByteString::from_vec(b"abc".to_vec(alloc)?);
-    let message = Message::Unknown { id, payload };
-    Ok(legal(&Context { limit: 2, ..bep }, Order::Past, &message).err())
+/// Whether an unknown message of three bytes isn't legal for the fault where two are allowed.
+fn has_fault(alloc: Global, id: u8, fault: Fault) -> bool {
+    let context = Context {
+        limit: 2,
+        ..agreed(Rules::Bep, false, None)
+    };
+    let payload = b"abc".as_slice();
+    let view = MessageView::Unknown { id, payload };
+    is_copied(alloc, &context, Order::Past, &view, Err(fault))
 }
 
-/// The ids from the first to the second, and whether an unknown message can have them.
-const SHAPES: &[(u8, u8, bool)] = &[
-    (0, 9, false),
-    (10, 12, true),
-    (13, 17, false),
-    (18, 19, true),
-    (20, 20, false),
-    (21, 22, true),
+const TOO_LONG: Fault = Fault::Reason(Reason::TooLong);
+
+/// The ids from the first to the second, and what isn't legal in an unknown message of three bytes with one of them.
+const SHAPES: &[(u8, u8, Fault)] = &[
+    (0, 9, Fault::Shape),
+    (10, 12, TOO_LONG),
+    (13, 17, Fault::Shape),
+    (18, 19, TOO_LONG),
+    (20, 20, Fault::Shape),
+    (21, 22, TOO_LONG),
 ];
 
 /// An unknown message with an id that has a meaning has no spelling of its own, whatever else is wrong with it.
 #[test]
-fn shapes(rt: HostRuntime) -> Result<(), Fail> {
-    for &(low, high, shaped) in SHAPES {
-        let wanted = if shaped {
-            Fault::Reason(Reason::TooLong)
-        } else {
-            Fault::Shape
-        };
+fn shapes(rt: HostRuntime) {
+    for &(low, high, fault) in SHAPES {
         for id in low..=high {
-            assert!(rt; fault_of_unknown(rt.alloc(), id)? == Some(wanted), "{id}");
+            assert!(rt; has_fault(rt.alloc(), id, fault), "{id}");
         }
     }
-    Ok(())
 }
 
 /// An id, the fields, and the message.
@@ -344,10 +397,16 @@ const FRAMED: &[(u8, &[u8], &[u8])] = &[
     (99, b"abc", b"\0\0\0\x04cabc"),
 ];
 
-#[test]
-fn messages_are_framed(rt: HostRuntime) -> Result<(), Fail> {
-    for &(id, fields, bytes) in FRAMED {
-        assert!(rt; frame(rt.alloc(), id, fields)?.as_slice() == bytes);
+fn is_framed(framed: Result<Vec<u8>, AllocError>, bytes: &[u8]) -> bool {
+    match framed {
+        Ok(framed) => framed.as_slice() == bytes,
+        Err(_) => false,
     }
-    Ok(())
+}
+
+#[test]
+fn messages_are_framed(rt: HostRuntime) {
+    for &(id, fields, bytes) in FRAMED {
+        assert!(rt; is_framed(frame(rt.alloc(), id, fields), bytes), "{id}");
+    }
 }

@@ -1,11 +1,11 @@
 //! Messages as they stand in streams: each is read in its context and order, and written as the same bytes.
+use crate::bencode::{add, fill};
 use crate::ext::padded;
-use crate::wire::LIMIT;
-use crate::wire_messages::{decoded, is_encoded, is_window};
-use bt_ext::{Ext, ExtId, Registered, Rules, spell_ext};
+use crate::wire::{LIMIT, refuses_value};
+use crate::wire_messages::is_decoded;
+use bt_ext::{ExtId, Registered, Rules};
 use bt_wire::*;
-use std::alloc::Global;
-use std::test::Fail;
+use std::alloc::{AllocError, Global};
 
 /// The reserved bits of an end with the Fast Extension, the DHT and the Extension Protocol.
 const USUAL: u64 = 0x10_0005;
@@ -23,38 +23,6 @@ fn with_usual_peer(rules: Rules, reserved: u64, pieces: Option<u32>) -> Context 
     negotiate(&own, Reserved(USUAL))
 }
 
-fn message(alloc: Global, context: &Context, order: Order, window: &[u8]) -> Result<Message, Fail> {
-    match decoded(alloc, context, order, window) {
-        Some(Ok(message)) => Ok(message),
-        _ => Err("no message".into()),
-    }
-}
-
-/// Whether the extended message's id and payload stand in the window after its header.
-fn has_payload(alloc: Global, context: &Context, value: &Ext, window: &[u8]) -> Result<bool, Fail> {
-    let (id, payload) = spell_ext(alloc, context.reg, value)?;
-    Ok(window.get(5) == Some(&id) && window.get(6..) == Some(payload.as_slice()))
-}
-
-/// Whether the window is one message, which is written as the window again; an extended one has its id and payload.
-fn is_round_trip(
-    alloc: Global,
-    context: &Context,
-    order: Order,
-    window: &[u8],
-) -> Result<bool, Fail> {
-    let message = message(alloc, context, order, window)?;
-    let has_payload = match &message {
-        Message::Extended(value) => has_payload(alloc, context, value, window)?,
-        _ => true,
-    };
-    Ok(
-        has_payload
-            && is_window(context, order, window)
-            && is_encoded(alloc, context, order, &message, window),
-    )
-}
-
 /// The rules, the reserved bits of the receiver, and the number of pieces.
 type Setup = (Rules, u64, Option<u32>);
 
@@ -69,7 +37,9 @@ const BEP: Setup = (Rules::Bep, USUAL, None);
 const PLAIN_BEP: Setup = (Rules::Bep, 0, None);
 
 /// A name, a setup, the order, and a message.
-const ACCEPTED: &[(&str, Setup, Order, &[u8])] = &[
+type Row = (&'static str, Setup, Order, &'static [u8]);
+
+const ACCEPTED: &[Row] = &[
     ("keep-alive", FREE, Order::Fresh, b"\0\0\0\0"),
     ("have 9", FREE, Order::Fresh, b"\0\0\0\x05\x04\0\0\0\x09"),
     (
@@ -209,71 +179,41 @@ const ACCEPTED: &[(&str, Setup, Order, &[u8])] = &[
     ),
 ];
 
+fn is_accepted(alloc: Global, (_, (rules, reserved, pieces), order, window): &Row) -> bool {
+    let context = with_usual_peer(*rules, *reserved, *pieces);
+    is_decoded(alloc, &context, *order, window, None)
+}
+
 #[test]
-fn accepted_rows(rt: HostRuntime) -> Result<(), Fail> {
-    for &(name, (rules, reserved, pieces), order, window) in ACCEPTED {
-        let context = with_usual_peer(rules, reserved, pieces);
-        assert!(rt;
-            is_round_trip(rt.alloc(), &context, order, window)?,
-            "{name}"
-        );
-    }
-    Ok(())
-}
-
-/// An extended message with the id, the dictionary, and then `after` bytes, each of them an `e`.
-fn extended(alloc: Global, id: u8, dict: &[u8], after: usize) -> Result<Vec<u8>, Fail> {
-    let mut body = dict.to_vec(alloc)?;
-    for _ in 0..after {
-        body.push(b'e')?;
-    }
-    let length = u32::try_from(body.len()).ok().ok_or("too long")?;
-    let length = length.checked_add(2).ok_or("too long")?;
-    let mut window = length.to_be_bytes().to_vec(alloc)?;
-    window.extend_from_slice(&[20, id])?;
-    window.extend_from_slice(&body)?;
-    Ok(window)
-}
-
-/// Why the window is refused when it is viewed; nothing where its header doesn't say that it is one whole message.
-fn fault_of_view(context: &Context, order: Order, window: &[u8]) -> Option<Refused> {
-    if judge_header(context, order, window) == Header::Window(window.len() as u64) {
-        view_window(context, order, window).err()
-    } else {
-        None
+fn accepted_rows(rt: HostRuntime) {
+    for row in ACCEPTED {
+        assert!(rt; is_accepted(rt.alloc(), row), "{}", row.0);
     }
 }
 
-/// Whether the window is refused so, viewed and decoded.
-fn is_refused(alloc: Global, context: &Context, window: &[u8], refused: Refused) -> bool {
-    let Refused { at, reason } = refused;
-    let is_decoded_so = match decoded(alloc, context, Order::Fresh, window) {
-        Some(Err(error)) => error == DecodeError::Refused { at, reason },
-        _ => false,
-    };
-    is_decoded_so && fault_of_view(context, Order::Fresh, window) == Some(refused)
+/// Adds an extended message with the id, the dictionary, and then `after` bytes, each of them an `e`.
+fn put_extended(window: &mut Vec<u8>, id: u8, dict: &[u8], after: usize) -> Result<(), AllocError> {
+    let length = dict.len().saturating_add(after).saturating_add(2) as u64;
+    let [_, _, _, _, a, b, c, d] = length.to_be_bytes();
+    add(window, &[a, b, c, d, 20, id], 1)?;
+    fill(window, dict, after)
 }
 
-/// Whether the message isn't legal and isn't written for the reason.
-fn is_illegal(alloc: Global, context: &Context, message: &Message, reason: Reason) -> bool {
-    let fault = Fault::Reason(reason);
-    legal(context, Order::Fresh, message) == Err(fault)
-        && encode(alloc, context, Order::Fresh, message).err() == Some(EncodeError::Illegal(fault))
+/// Whether the window is refused so under the rules, and the message that it is elsewhere isn't legal.
+fn is_refused(alloc: Global, strict: &Context, window: &[u8], refused: Refused) -> bool {
+    is_decoded(alloc, strict, Order::Fresh, window, Some(refused))
+        && refuses_value(alloc, strict, Order::Fresh, window, refused.reason)
 }
 
 /// Whether the window is read under the free rules, and read under the strict ones or refused for the fault.
-fn is_answered(alloc: Global, window: &[u8], fault: Option<(u64, Reason)>) -> Result<bool, Fail> {
+fn is_answered(alloc: Global, window: &[u8], fault: Option<(u64, Reason)>) -> bool {
     let free = with_usual_peer(Rules::Free, USUAL, None);
     let strict = with_usual_peer(Rules::Bep, USUAL, None);
-    let is_strict = match fault {
-        None => is_round_trip(alloc, &strict, Order::Fresh, window)?,
-        Some((at, reason)) => {
-            let message = message(alloc, &free, Order::Fresh, window)?;
-            is_refused(alloc, &strict, window, Refused { at, reason })
-                && is_illegal(alloc, &strict, &message, reason)
+    is_decoded(alloc, &free, Order::Fresh, window, None)
+        && match fault {
+            None => is_decoded(alloc, &strict, Order::Fresh, window, None),
+            Some((at, reason)) => is_refused(alloc, &strict, window, Refused { at, reason }),
         }
-    };
-    Ok(is_strict && is_round_trip(alloc, &free, Order::Fresh, window)?)
 }
 
 /// Every key that usual clients send, the addresses as 4 and 16 bytes.
@@ -290,7 +230,15 @@ const SECOND: &[u8] = b"d8:msg_typei1e5:piecei1e10:total_sizei32768ee";
 const FIELD: Option<(u64, Reason)> = Some((6, Reason::BadField));
 
 /// A name, a message's id and dictionary, how many bytes follow, and its fault under the strict rules.
-const EXTENDED: &[(&str, u8, &[u8], usize, Option<(u64, Reason)>)] = &[
+type ExtRow = (
+    &'static str,
+    u8,
+    &'static [u8],
+    usize,
+    Option<(u64, Reason)>,
+);
+
+const EXTENDED: &[ExtRow] = &[
     ("every key", 0, EVERY_KEY, 0, None),
     (
         "an address of four bytes",
@@ -460,15 +408,18 @@ const EXTENDED: &[(&str, u8, &[u8], usize, Option<(u64, Reason)>)] = &[
     ("another id and no payload", 255, b"", 0, None),
 ];
 
+fn is_extended(alloc: Global, (_, id, dict, after, fault): &ExtRow) -> bool {
+    let mut window = Vec::new(alloc);
+    put_extended(&mut window, *id, dict, *after).is_ok() && is_answered(alloc, &window, *fault)
+}
+
 /// Extended messages of usual and of careless clients. Under the free rules each is read; under the strict ones it is
 /// read, or refused at the place.
 #[test]
-fn extended_rows(rt: HostRuntime) -> Result<(), Fail> {
-    for &(name, id, dict, after, fault) in EXTENDED {
-        let window = extended(rt.alloc(), id, dict, after)?;
-        assert!(rt; is_answered(rt.alloc(), &window, fault)?, "{name}");
+fn extended_rows(rt: HostRuntime) {
+    for row in EXTENDED {
+        assert!(rt; is_extended(rt.alloc(), row), "{}", row.0);
     }
-    Ok(())
 }
 
 /// What a receiver that takes messages of 1,048,576 bytes has agreed on with a usual peer.
@@ -490,16 +441,17 @@ const LONGEST: &[(&str, &[u8])] = &[
     ("another extended message", b"\0\x10\0\0\x14\x09"),
 ];
 
+fn is_longest(alloc: Global, front: &[u8]) -> bool {
+    match padded(alloc, front, 1_048_580) {
+        Ok(window) => is_decoded(alloc, &with_highest_limit(), Order::Fresh, &window, None),
+        Err(_) => false,
+    }
+}
+
 /// Messages that are as long as they may be, whose bytes are copied.
 #[test]
-fn longest_messages(rt: HostRuntime) -> Result<(), Fail> {
-    let context = with_highest_limit();
-    for &(name, front) in LONGEST {
-        let window = padded(rt.alloc(), front, 1_048_580)?;
-        assert!(rt;
-            is_round_trip(rt.alloc(), &context, Order::Fresh, &window)?,
-            "{name}"
-        );
+fn longest_messages(rt: HostRuntime) {
+    for (name, front) in LONGEST {
+        assert!(rt; is_longest(rt.alloc(), front), "{name}");
     }
-    Ok(())
 }
