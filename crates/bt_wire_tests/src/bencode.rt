@@ -163,73 +163,114 @@ pub(crate) fn add(to: &mut Vec<u8>, bytes: &[u8], times: usize) -> Result<(), Al
     Ok(())
 }
 
-/// What opens a level, what stands in the last one, how many there are, and the answer.
-const NESTINGS: &[(&[u8], &[u8], usize, Result<usize, Bad>)] = &[
-    (b"l", b"", 31, Ok(67)),
-    (b"l", b"", 32, Err(Bad::Impossible { at: 35 })),
-    (b"d0:", b"0:", 31, Ok(131)),
-    (b"d0:", b"0:", 32, Err(Bad::Impossible { at: 97 })),
-];
-
-fn nest(
-    payload: &mut Vec<u8>,
-    opening: &[u8],
-    inside: &[u8],
-    depth: usize,
-) -> Result<(), AllocError> {
-    add(payload, b"d1:p", 1)?;
-    add(payload, opening, depth)?;
-    add(payload, inside, 1)?;
-    add(payload, b"e", depth.saturating_add(1))
-}
-
-fn is_nested(
-    alloc: Global,
-    (opening, inside, depth, answer): &(&[u8], &[u8], usize, Result<usize, Bad>),
-) -> bool {
-    let mut payload = Vec::new(alloc);
-    nest(&mut payload, opening, inside, *depth).is_ok() && agrees(alloc, &payload, *answer)
-}
-
-#[test]
-fn nestings(rt: HostRuntime) {
-    for row in NESTINGS {
-        assert!(rt; is_nested(rt.alloc(), row), "{}", row.2);
-    }
-}
-
-/// A string's length, and what stands before and after it.
-const LONGEST: &[(usize, &[u8], &[u8])] = &[
-    (1_048_569, b"d1:a1048569:", b"e"),
-    (1_048_570, b"d1:a1048570:", b"e"),
-    (1_048_576, b"d1:a1048576:", b"e"),
-    (1_048_569, b"d1048569:", b"i1ee"),
-    (1_048_570, b"d1048570:", b"i1ee"),
-    (1_048_576, b"d1048576:", b"i1ee"),
-];
-
 /// Adds the bytes, and then `len` letters `e`.
-pub(crate) fn fill(payload: &mut Vec<u8>, front: &[u8], len: usize) -> Result<(), AllocError> {
-    add(payload, front, 1)?;
-    add(payload, b"e", len)
+pub(crate) fn fill(to: &mut Vec<u8>, front: &[u8], len: usize) -> Result<(), AllocError> {
+    add(to, front, 1)?;
+    add(to, b"e", len)
 }
 
-/// Whether the payload is cut, and is whole with the last bytes.
-fn is_ended(alloc: Global, payload: &mut Vec<u8>, back: &[u8]) -> bool {
-    agrees(alloc, payload, Err(Bad::Cut))
-        && add(payload, back, 1).is_ok()
-        && agrees(alloc, payload, Ok(payload.len()))
+/// Bytes, and how often they stand.
+pub(crate) type Part = (&'static [u8], usize);
+
+pub(crate) fn put(to: &mut Vec<u8>, parts: &[Part]) -> Result<(), AllocError> {
+    for (bytes, times) in parts {
+        add(to, bytes, *times)?;
+    }
+    Ok(())
 }
 
-fn is_longest(alloc: Global, (len, front, back): &(usize, &[u8], &[u8])) -> bool {
+/// What it is, a payload's parts, and its answer.
+type BuiltRow = (&'static str, &'static [Part], Result<usize, Bad>);
+
+const BUILT: &[BuiltRow] = &[
+    ("31 lists", &[(b"d1:p", 1), (b"l", 31), (b"e", 32)], Ok(67)),
+    (
+        "32 lists",
+        &[(b"d1:p", 1), (b"l", 32), (b"e", 33)],
+        Err(Bad::Impossible { at: 35 }),
+    ),
+    (
+        "31 dictionaries",
+        &[(b"d1:p", 1), (b"d0:", 31), (b"0:", 1), (b"e", 32)],
+        Ok(131),
+    ),
+    (
+        "32 dictionaries",
+        &[(b"d1:p", 1), (b"d0:", 32), (b"0:", 1), (b"e", 33)],
+        Err(Bad::Impossible { at: 97 }),
+    ),
+    (
+        "a cut string of 1,048,569 bytes",
+        &[(b"d1:a1048569:", 1), (b"e", 1_048_569)],
+        Err(Bad::Cut),
+    ),
+    (
+        "a string of 1,048,569 bytes",
+        &[(b"d1:a1048569:", 1), (b"e", 1_048_570)],
+        Ok(1_048_582),
+    ),
+    (
+        "a cut string of 1,048,570 bytes",
+        &[(b"d1:a1048570:", 1), (b"e", 1_048_570)],
+        Err(Bad::Cut),
+    ),
+    (
+        "a string of 1,048,570 bytes",
+        &[(b"d1:a1048570:", 1), (b"e", 1_048_571)],
+        Ok(1_048_583),
+    ),
+    (
+        "a cut string of 1,048,576 bytes",
+        &[(b"d1:a1048576:", 1), (b"e", 1_048_576)],
+        Err(Bad::Cut),
+    ),
+    (
+        "a string of 1,048,576 bytes",
+        &[(b"d1:a1048576:", 1), (b"e", 1_048_577)],
+        Ok(1_048_589),
+    ),
+    (
+        "a cut key of 1,048,569 bytes",
+        &[(b"d1048569:", 1), (b"e", 1_048_569)],
+        Err(Bad::Cut),
+    ),
+    (
+        "a key of 1,048,569 bytes",
+        &[(b"d1048569:", 1), (b"e", 1_048_569), (b"i1ee", 1)],
+        Ok(1_048_582),
+    ),
+    (
+        "a cut key of 1,048,570 bytes",
+        &[(b"d1048570:", 1), (b"e", 1_048_570)],
+        Err(Bad::Cut),
+    ),
+    (
+        "a key of 1,048,570 bytes",
+        &[(b"d1048570:", 1), (b"e", 1_048_570), (b"i1ee", 1)],
+        Ok(1_048_583),
+    ),
+    (
+        "a cut key of 1,048,576 bytes",
+        &[(b"d1048576:", 1), (b"e", 1_048_576)],
+        Err(Bad::Cut),
+    ),
+    (
+        "a key of 1,048,576 bytes",
+        &[(b"d1048576:", 1), (b"e", 1_048_576), (b"i1ee", 1)],
+        Ok(1_048_589),
+    ),
+];
+
+fn is_built(alloc: Global, (_, parts, answer): &BuiltRow) -> bool {
     let mut payload = Vec::new(alloc);
-    fill(&mut payload, front, *len).is_ok() && is_ended(alloc, &mut payload, back)
+    put(&mut payload, parts).is_ok() && agrees(alloc, &payload, *answer)
 }
 
+/// The deepest nestings and the longest strings.
 #[test]
-fn longest_strings(rt: HostRuntime) {
-    for row in LONGEST {
-        assert!(rt; is_longest(rt.alloc(), row), "{}", row.0);
+fn built_payloads(rt: HostRuntime) {
+    for row in BUILT {
+        assert!(rt; is_built(rt.alloc(), row), "{}", row.0);
     }
 }
 
