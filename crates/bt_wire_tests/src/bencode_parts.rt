@@ -2,14 +2,6 @@
 use bt_bencode::*;
 use std::alloc::Global;
 
-/// The dictionary that the payload begins with.
-fn dict(payload: &[u8]) -> Option<DictRef<'_>> {
-    match check(payload) {
-        Ok((dict, _)) => Some(dict),
-        Err(_) => None,
-    }
-}
-
 /// Whether the keys of the dictionary's value rise, if that is wanted, or don't.
 fn is_value_sorted(alloc: Global, dict: &DictRef, wanted: bool) -> bool {
     match dict.to_value(alloc) {
@@ -18,33 +10,79 @@ fn is_value_sorted(alloc: Global, dict: &DictRef, wanted: bool) -> bool {
     }
 }
 
-/// Whether the first key out of order stands there, by the payload, by its checked dictionary and by the value.
-fn is_unsorted_at(alloc: Global, payload: &[u8], at: Option<usize>) -> bool {
+/// The integers at `a`, `b` and `c`.
+type Integers = (Option<i64>, Option<i64>, Option<i64>);
+
+/// Whether `m` has a map of bytes, and the integer at `n`.
+type Map = (Option<bool>, Option<Option<i64>>);
+
+fn is_found(dict: &DictRef, integers: Result<Integers, usize>, map: Result<Map, usize>) -> bool {
+    dict.sorted_ints(b"a", b"b", b"c") == integers && dict.sorted_byte_map(b"m", b"n") == map
+}
+
+/// Whether the first key out of order stands there, or the keys are in order and these are found.
+fn is_answered(dict: &DictRef, answer: &Answer) -> bool {
+    match answer {
+        Ok((integers, map)) => is_found(dict, Ok(*integers), Ok(*map)),
+        Err(at) => is_found(dict, Err(*at), Err(*at)),
+    }
+}
+
+/// The same by the payload, by its checked dictionary and by the value.
+fn is_ordered(alloc: Global, payload: &[u8], answer: &Answer) -> bool {
     match check(payload) {
         Ok((dict, _)) => {
-            first_unsorted(payload) == at
-                && dict.first_unsorted() == at
-                && is_value_sorted(alloc, &dict, at.is_none())
+            first_unsorted(payload) == answer.err()
+                && dict.first_unsorted() == answer.err()
+                && is_value_sorted(alloc, &dict, answer.is_ok())
+                && is_answered(&dict, answer)
         }
         Err(_) => false,
     }
 }
 
-/// Payloads, and where their first key out of order stands.
-const UNSORTED: &[(&[u8], Option<usize>)] = &[
-    (b"de", None),
-    (b"d1:ai1e1:bi2ee", None),
-    (b"d0:0:1:a0:2:ab0:e", None),
-    (b"d1:ai1e1:ai2ee", Some(7)),
-    (b"d1:b0:1:a0:e", Some(6)),
-    (b"d1:ad1:ci1e1:bi2eee", Some(11)),
-    (b"d1:ale2:aale1:bld1:z0:1:y0:eee", Some(22)),
+/// What is found where all keys are in order, or the place of the first key out of order.
+type Answer = Result<(Integers, Map), usize>;
+
+const NO_INTEGERS: Integers = (None, None, None);
+
+const NO_MAP: Map = (None, None);
+
+const ORDERED: &[(&[u8], Answer)] = &[
+    (b"de", Ok((NO_INTEGERS, NO_MAP))),
+    (b"d1:ai1e1:bi2ee", Ok(((Some(1), Some(2), None), NO_MAP))),
+    (b"d0:0:1:a0:2:ab0:e", Ok((NO_INTEGERS, NO_MAP))),
+    (b"d1:ai1e1:ai2ee", Err(7)),
+    (b"d1:b0:1:a0:e", Err(6)),
+    (b"d1:ad1:ci1e1:bi2eee", Err(11)),
+    (b"d1:ale2:aale1:bld1:z0:1:y0:eee", Err(22)),
+    (
+        b"d1:ai7e1:b3:xyz1:ci-1e1:dd1:ei0eee",
+        Ok(((Some(7), None, Some(-1)), NO_MAP)),
+    ),
+    (b"d1:ci9e1:d1:ae", Ok(((None, None, Some(9)), NO_MAP))),
+    (b"d1:ai1e1:dd1:fi1e1:ei2eee", Err(17)),
+    (
+        b"d1:mde1:ni5ee",
+        Ok((NO_INTEGERS, (Some(true), Some(Some(5))))),
+    ),
+    (
+        b"d1:md1:ai0e1:bi255ee1:n1:5e",
+        Ok((NO_INTEGERS, (Some(true), Some(None)))),
+    ),
+    (
+        b"d1:md1:ai256e1:bi0eee",
+        Ok((NO_INTEGERS, (Some(false), None))),
+    ),
+    (b"d1:mi1ee", Ok((NO_INTEGERS, (Some(false), None)))),
+    (b"d1:md1:bi0e1:ai1eee", Err(11)),
 ];
 
+/// Payloads with keys in and out of order, and what is found in one walk.
 #[test]
-fn unsorted_keys(rt: HostRuntime) {
-    for (payload, at) in UNSORTED {
-        assert!(rt; is_unsorted_at(rt.alloc(), payload, *at), "{payload:?}");
+fn keys_in_order(rt: HostRuntime) {
+    for (payload, answer) in ORDERED {
+        assert!(rt; is_ordered(rt.alloc(), payload, answer), "{payload:?}");
     }
 }
 
@@ -72,15 +110,10 @@ fn has_inner(dict: &DictRef) -> bool {
 }
 
 fn has_all(payload: &[u8]) -> bool {
-    match dict(payload) {
-        Some(dict) => has_ints(&dict) && has_texts(&dict) && has_keys(&dict) && has_inner(&dict),
-        None => false,
+    match check(payload) {
+        Ok((dict, _)) => has_ints(&dict) && has_texts(&dict) && has_keys(&dict) && has_inner(&dict),
+        Err(_) => false,
     }
-}
-
-#[test]
-fn look_ups(rt: HostRuntime) {
-    assert!(rt; has_all(PAYLOAD));
 }
 
 /// The integer that stands first under the key, if that is an integer.
@@ -103,71 +136,13 @@ fn has_first(alloc: Global, payload: &[u8], number: i64) -> bool {
     }
 }
 
+/// By the bytes of a dictionary, and by values.
 #[test]
-fn look_ups_in_values(rt: HostRuntime) {
-    for (payload, number) in [(PAYLOAD, 7), (b"d1:ai1e1:ai2ee", 1)] {
-        assert!(rt; has_first(rt.alloc(), payload, number), "{number}");
-    }
-}
-
-#[test]
-fn look_up_in_number(rt: HostRuntime) {
+fn look_ups(rt: HostRuntime) {
+    assert!(rt; has_all(PAYLOAD));
+    assert!(rt; has_first(rt.alloc(), PAYLOAD, 7));
+    assert!(rt; has_first(rt.alloc(), b"d1:ai1e1:ai2ee", 1));
     assert!(rt; !has(&Value::Int(1), b"a"));
-}
-
-/// The integers at three keys, or the place of the first key out of order.
-type IntegersInOrder = Result<(Option<i64>, Option<i64>, Option<i64>), usize>;
-
-/// Payloads, and the integers at `a`, `b` and `c`.
-const INTEGERS: &[(&[u8], IntegersInOrder)] = &[
-    (
-        b"d1:ai7e1:b3:xyz1:ci-1e1:dd1:ei0eee",
-        Ok((Some(7), None, Some(-1))),
-    ),
-    (b"d1:ci9e1:d1:ae", Ok((None, None, Some(9)))),
-    (b"d1:ai1e1:ai2ee", Err(7)),
-    (b"d1:ai1e1:dd1:fi1e1:ei2eee", Err(17)),
-];
-
-fn has_integers(payload: &[u8], wanted: IntegersInOrder) -> bool {
-    match dict(payload) {
-        Some(dict) => dict.sorted_ints(b"a", b"b", b"c") == wanted,
-        None => false,
-    }
-}
-
-#[test]
-fn integers_in_order(rt: HostRuntime) {
-    for (payload, wanted) in INTEGERS {
-        assert!(rt; has_integers(payload, *wanted), "{payload:?}");
-    }
-}
-
-/// Whether there is a map of bytes, and an integer, or the place of the first key out of order.
-type MapInOrder = Result<(Option<bool>, Option<Option<i64>>), usize>;
-
-/// Payloads, whether `m` has a map of bytes, and the integer at `n`.
-const MAPS: &[(&[u8], MapInOrder)] = &[
-    (b"de", Ok((None, None))),
-    (b"d1:mde1:ni5ee", Ok((Some(true), Some(Some(5))))),
-    (b"d1:md1:ai0e1:bi255ee1:n1:5e", Ok((Some(true), Some(None)))),
-    (b"d1:md1:ai256e1:bi0eee", Ok((Some(false), None))),
-    (b"d1:mi1ee", Ok((Some(false), None))),
-    (b"d1:md1:bi0e1:ai1eee", Err(11)),
-];
-
-fn has_map(payload: &[u8], wanted: MapInOrder) -> bool {
-    match dict(payload) {
-        Some(dict) => dict.sorted_byte_map(b"m", b"n") == wanted,
-        None => false,
-    }
-}
-
-#[test]
-fn maps_in_order(rt: HostRuntime) {
-    for (payload, wanted) in MAPS {
-        assert!(rt; has_map(payload, *wanted), "{payload:?}");
-    }
 }
 
 /// The pairs of the payload of 34 bytes.
