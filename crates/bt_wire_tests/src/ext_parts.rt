@@ -126,45 +126,119 @@ fn fields(rt: HostRuntime) {
     }
 }
 
-/// A block's piece, the size of the metadata, the block's length, and whether that is right.
-const BLOCKS: &[(u32, u64, usize, bool)] = &[
-    (0, 16384, 16384, true),
-    (0, 16384, 16383, false),
-    (0, 16384, 16385, false),
-    (1, 16384, 0, false),
-    (0, 16385, 16384, true),
-    (1, 16385, 1, true),
-    (1, 16385, 16384, false),
-    (2, 16385, 0, false),
-    (1, 32768, 16384, true),
-    (2, 32768, 0, false),
-    (4294967295, 18446744073709551615, 16384, true),
+/// What it is, the kind of message, how many bytes follow, and whether they may.
+const BLOCKS: &[(&str, Kind, usize, bool)] = &[
+    (
+        "16384 of 16384",
+        Kind::Data {
+            piece: 0,
+            total: 16384,
+        },
+        16384,
+        true,
+    ),
+    (
+        "16383 of 16384",
+        Kind::Data {
+            piece: 0,
+            total: 16384,
+        },
+        16383,
+        false,
+    ),
+    (
+        "16385 of 16384",
+        Kind::Data {
+            piece: 0,
+            total: 16384,
+        },
+        16385,
+        false,
+    ),
+    (
+        "a second block of 16384",
+        Kind::Data {
+            piece: 1,
+            total: 16384,
+        },
+        0,
+        false,
+    ),
+    (
+        "16384 of 16385",
+        Kind::Data {
+            piece: 0,
+            total: 16385,
+        },
+        16384,
+        true,
+    ),
+    (
+        "the last byte of 16385",
+        Kind::Data {
+            piece: 1,
+            total: 16385,
+        },
+        1,
+        true,
+    ),
+    (
+        "too much of 16385",
+        Kind::Data {
+            piece: 1,
+            total: 16385,
+        },
+        16384,
+        false,
+    ),
+    (
+        "a third block of 16385",
+        Kind::Data {
+            piece: 2,
+            total: 16385,
+        },
+        0,
+        false,
+    ),
+    (
+        "the second block of 32768",
+        Kind::Data {
+            piece: 1,
+            total: 32768,
+        },
+        16384,
+        true,
+    ),
+    (
+        "a third block of 32768",
+        Kind::Data {
+            piece: 2,
+            total: 32768,
+        },
+        0,
+        false,
+    ),
+    (
+        "the last piece number",
+        Kind::Data {
+            piece: 4294967295,
+            total: 18446744073709551615,
+        },
+        16384,
+        true,
+    ),
+    ("a request", Kind::Request(0), 0, true),
+    ("a request and a byte", Kind::Request(0), 1, false),
+    ("a reject", Kind::Reject(0), 0, true),
+    ("a reject and a byte", Kind::Reject(0), 1, false),
+    ("another message and a byte", Kind::Other, 1, true),
+    ("a malformed message and a byte", Kind::Malformed, 1, true),
 ];
 
 #[test]
 fn blocks(rt: HostRuntime) {
-    for &(piece, total, len, wanted) in BLOCKS {
-        assert!(rt;
-            block_ok(Kind::Data { piece, total }, len) == wanted,
-            "{piece} {total} {len}"
-        );
-    }
-}
-
-/// Kinds without a block, how many bytes follow, and whether they may.
-const NO_BLOCKS: &[(Kind, usize, bool)] = &[
-    (Kind::Request(0), 0, true),
-    (Kind::Request(0), 1, false),
-    (Kind::Reject(0), 0, true),
-    (Kind::Reject(0), 1, false),
-    (Kind::Other, 1, true),
-    (Kind::Malformed, 1, true),
-];
-
-#[test]
-fn no_blocks(rt: HostRuntime) {
-    for &(kind, len, wanted) in NO_BLOCKS {
-        assert!(rt; block_ok(kind, len) == wanted);
+    for (name, kind, len, wanted) in BLOCKS {
+        assert!(rt; block_ok(*kind, *len) == *wanted, "{name}");
     }
 }
 
