@@ -41,38 +41,14 @@ fn is_judged(own: &Own, part: &[u8], wanted: Option<Refused>) -> bool {
 }
 
 /// Whether the bytes are read as the handshake, without a fault.
-fn is_whole(own: &Own, bytes: &[u8], wanted: &Handshake) -> bool {
+fn is_whole(own: &Own, bytes: &[u8]) -> bool {
     match read_opening(own, bytes) {
-        Opening::Whole(read) => read == *wanted,
+        Opening::Whole(read) => read == handshake(),
         _ => false,
     }
 }
 
-/// The length of the first part of the handshake that isn't taken as one.
-fn wrong_part(own: &Own) -> Option<usize> {
-    for n in 0..68 {
-        if !is_judged(own, &SPELLED[..n], None) {
-            return Some(n);
-        }
-    }
-    None
-}
-
-#[test]
-fn handshakes(rt: HostRuntime) {
-    let sent = handshake();
-    assert!(rt; spell_handshake(&sent).as_slice() == SPELLED.as_slice());
-    for wanted in [None, Some(sent.info_hash)] {
-        let own = receiver(Reserved(0), wanted);
-        let wrong = wrong_part(&own);
-        assert!(rt;
-            wrong.is_none() && is_whole(&own, SPELLED, &sent),
-            "{wrong:?}"
-        );
-    }
-}
-
-/// Whether the handshake is refused from `judged` of its bytes on, and not before.
+/// Whether the bytes are refused from `judged` of them on, and not before.
 fn is_refused_from(own: &Own, bytes: &[u8; 68], judged: usize, refused: Refused) -> bool {
     for n in 0..=68 {
         let wanted = if n < judged { None } else { Some(refused) };
@@ -81,6 +57,33 @@ fn is_refused_from(own: &Own, bytes: &[u8; 68], judged: usize, refused: Refused)
         }
     }
     true
+}
+
+/// The length of the first part of the handshake that is refused, or 68 where the whole isn't read.
+fn wrong_part(own: &Own) -> Option<usize> {
+    for n in 0..68 {
+        if !is_judged(own, &SPELLED[..n], None) {
+            return Some(n);
+        }
+    }
+    if is_whole(own, SPELLED) {
+        None
+    } else {
+        Some(68)
+    }
+}
+
+fn same() -> Option<[u8; 20]> {
+    Some(handshake().info_hash)
+}
+
+#[test]
+fn handshakes(rt: HostRuntime) {
+    assert!(rt; spell_handshake(&handshake()).as_slice() == SPELLED.as_slice());
+    for info_hash in [None, same()] {
+        let wrong = wrong_part(&receiver(Reserved(0), info_hash));
+        assert!(rt; wrong.is_none(), "{wrong:?}");
+    }
 }
 
 /// Whether the receiver has the same info hash, the byte that is changed, from how many bytes on that is refused, where and why.
@@ -107,15 +110,15 @@ fn changed_at(n: usize) -> [u8; 68] {
 
 fn is_refused((is_same, changed, judged, at, reason): &Change) -> bool {
     let info_hash = if *is_same {
-        handshake().info_hash
+        same()
     } else {
-        *b"--------------------"
+        Some(*b"--------------------")
     };
     let refused = Refused {
         at: *at,
         reason: *reason,
     };
-    let own = receiver(Reserved(0), Some(info_hash));
+    let own = receiver(Reserved(0), info_hash);
     is_refused_from(&own, &changed_at(*changed), *judged, refused)
 }
 
