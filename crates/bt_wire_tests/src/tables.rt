@@ -1,5 +1,5 @@
 //! Tables of a peer's names and ids: what extended handshakes make of them.
-use crate::bencode::add;
+use crate::bencode::{Part, add, put};
 use bt_bencode::{check, read_dict};
 use bt_ext::Table;
 use std::alloc::{AllocError, Global};
@@ -84,57 +84,9 @@ fn one_name(rt: HostRuntime) {
     assert!(rt; wrong.is_none(), "{wrong:?}");
 }
 
-/// What stands before a name, the length of the name, and the id that it has.
-const LONG_NAMES: &[(&[u8], usize, Option<u8>)] = &[
-    (b"d1:md255:", 255, Some(1)),
-    (b"d1:md256:", 256, None),
-];
-
-/// A dictionary whose `m` has one name, of `len` letters `a`, with the id 1.
-fn put_long_name(payload: &mut Vec<u8>, front: &[u8], len: usize) -> Result<(), AllocError> {
-    add(payload, front, 1)?;
-    add(payload, b"a", len)?;
-    add(payload, b"i1eee", 1)
-}
-
-/// Whether the name of the payload, 9 bytes from its start, has the id.
-fn applies_name(alloc: Global, payload: &[u8], len: usize, id: Option<u8>) -> bool {
-    match payload.get(9..len.saturating_add(9)) {
-        Some(name) => applies(alloc, &mut Table::new(alloc), payload, name, id),
-        None => false,
-    }
-}
-
-fn applies_long_name(alloc: Global, (front, len, id): &(&[u8], usize, Option<u8>)) -> bool {
-    let mut payload = Vec::new(alloc);
-    put_long_name(&mut payload, front, *len).is_ok() && applies_name(alloc, &payload, *len, *id)
-}
-
-#[test]
-fn long_names(rt: HostRuntime) {
-    for row in LONG_NAMES {
-        assert!(rt; applies_long_name(rt.alloc(), row), "{}", row.1);
-    }
-}
-
 fn put_name(alloc: Global, payload: &mut Vec<u8>, number: usize) -> Result<(), AllocError> {
     let pair = format!(in alloc; "4:{number}i1e")?;
     add(payload, pair.as_bytes(), 1)
-}
-
-/// A dictionary whose `m` gives the names `1000`, `1001`, .. below `end` the id 1, and then has the pairs `more`.
-fn put_names(
-    alloc: Global,
-    payload: &mut Vec<u8>,
-    end: usize,
-    more: &[u8],
-) -> Result<(), AllocError> {
-    add(payload, b"d1:md", 1)?;
-    for number in 1000..end {
-        put_name(alloc, payload, number)?;
-    }
-    add(payload, more, 1)?;
-    add(payload, b"ee", 1)
 }
 
 /// Whether a name that goes makes room for the next one, and a name that is there takes another id.
@@ -145,14 +97,66 @@ fn makes_room(alloc: Global, table: &mut Table) -> bool {
         && has(table, b"1001", Some(5))
 }
 
-/// Where the names end, what follows them, a name, and the id that it has.
-const FULL: &[(usize, &[u8], &[u8], Option<u8>)] = &[
-    (1255, b"", b"1254", Some(1)),
-    (1256, b"", b"1255", Some(1)),
-    (1257, b"", b"1256", None),
-    (9999, b"", b"1255", Some(1)),
-    (1256, b"3:newi7e", b"1255", Some(1)),
+/// A name of 255 letters, and one of 256.
+const A255: &[u8] = &[b'a'; 255];
+
+const A256: &[u8] = &[b'a'; 256];
+
+/// What `m` has: pairs, then the names `1000`, `1001`, .. below a number with the id 1, then further pairs. Then a name, and
+/// the id that it has.
+type Filling = (
+    &'static str,
+    &'static [Part],
+    usize,
+    &'static [u8],
+    &'static [u8],
+    Option<u8>,
+);
+
+const FILLINGS: &[Filling] = &[
+    (
+        "a name of 255",
+        &[(b"255:", 1), (b"a", 255), (b"i1e", 1)],
+        0,
+        b"",
+        A255,
+        Some(1),
+    ),
+    (
+        "a name of 256",
+        &[(b"256:", 1), (b"a", 256), (b"i1e", 1)],
+        0,
+        b"",
+        A256,
+        None,
+    ),
+    ("255 names", &[], 1255, b"", b"1254", Some(1)),
+    ("256 names", &[], 1256, b"", b"1255", Some(1)),
+    ("257 names", &[], 1257, b"", b"1256", None),
+    ("8999 names", &[], 9999, b"", b"1255", Some(1)),
+    (
+        "another after 256",
+        &[],
+        1256,
+        b"3:newi7e",
+        b"1255",
+        Some(1),
+    ),
 ];
+
+fn put_filling(
+    alloc: Global,
+    payload: &mut Vec<u8>,
+    (_, pairs, end, more, _, _): &Filling,
+) -> Result<(), AllocError> {
+    add(payload, b"d1:md", 1)?;
+    put(payload, pairs)?;
+    for number in 1000..*end {
+        put_name(alloc, payload, number)?;
+    }
+    add(payload, more, 1)?;
+    add(payload, b"ee", 1)
+}
 
 /// Whether the name has the id, and `new` none before there is room.
 fn is_filled(
@@ -165,15 +169,16 @@ fn is_filled(
     applies(alloc, table, payload, name, id) && has(table, b"new", None) && makes_room(alloc, table)
 }
 
-fn is_full(alloc: Global, (end, more, name, id): &(usize, &[u8], &[u8], Option<u8>)) -> bool {
+fn is_right(alloc: Global, row: &Filling) -> bool {
     let mut payload = Vec::new(alloc);
-    put_names(alloc, &mut payload, *end, more).is_ok()
-        && is_filled(alloc, &mut Table::new(alloc), &payload, name, *id)
+    put_filling(alloc, &mut payload, row).is_ok()
+        && is_filled(alloc, &mut Table::new(alloc), &payload, row.4, row.5)
 }
 
+/// Long names, and as many names as a table has room for.
 #[test]
-fn many(rt: HostRuntime) {
-    for row in FULL {
-        assert!(rt; is_full(rt.alloc(), row), "{}", row.0);
+fn fillings(rt: HostRuntime) {
+    for row in FILLINGS {
+        assert!(rt; is_right(rt.alloc(), row), "{}", row.0);
     }
 }
