@@ -42,10 +42,28 @@ fn has_reason(value: &Ext, wanted: Option<ExtReason>) -> bool {
 }
 
 /// Whether the value has the payload's length and bytes, and the fault under the strict rules.
-fn is_value(alloc: Global, value: &Ext, id: u8, payload: &[u8], strict: Option<ViewError>) -> bool {
+fn has_value(
+    alloc: Global,
+    value: &Ext,
+    id: u8,
+    payload: &[u8],
+    strict: Option<ViewError>,
+) -> bool {
     ext_len(ids(), value) == Some(payload.len() as u64)
         && is_spelled(alloc, value, id, payload)
         && has_reason(value, reason(strict))
+}
+
+/// Whether a value may be read at all, since it hasn't this fault, and is the right one.
+fn is_value(
+    alloc: Global,
+    value: Ext,
+    id: u8,
+    payload: &[u8],
+    strict: Option<ViewError>,
+    fault: Option<ViewError>,
+) -> bool {
+    fault.is_none() && has_value(alloc, &value, id, payload, strict)
 }
 
 /// The fault under the rules of a payload that has this one under the strict rules: it has to be a dictionary under both.
@@ -60,7 +78,8 @@ fn fault_under(rules: Rules, strict: Option<ViewError>) -> Option<ViewError> {
 fn is_read(alloc: Global, rules: Rules, id: u8, payload: &[u8], strict: Option<ViewError>) -> bool {
     match read_ext(alloc, ids(), rules, id, payload) {
         Ok(value) => {
-            fault_under(rules, strict).is_none() && is_value(alloc, &value, id, payload, strict)
+            let fault = fault_under(rules, strict);
+            is_value(alloc, value, id, payload, strict, fault)
         }
         Err(error) => read_fault(fault_under(rules, strict)) == Some(error),
     }
@@ -74,7 +93,7 @@ fn is_copy(
     strict: Option<ViewError>,
 ) -> bool {
     match copy_ext(alloc, view) {
-        Ok(value) => is_value(alloc, &value, id, payload, strict),
+        Ok(value) => is_value(alloc, value, id, payload, strict, None),
         Err(_) => false,
     }
 }
