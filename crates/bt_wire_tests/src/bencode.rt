@@ -3,7 +3,7 @@ use bt_bencode::*;
 use std::alloc::{AllocError, Global};
 
 /// Whether the value is spelled as these bytes.
-fn is_spelled(alloc: Global, value: &Value, bytes: Option<&[u8]>) -> bool {
+pub(crate) fn is_spelled(alloc: Global, value: &Value, bytes: Option<&[u8]>) -> bool {
     match spell(alloc, value) {
         Ok(spelled) => {
             bytes == Some(spelled.as_slice()) && ben_len(value) == spelled.len() as u64

@@ -1,6 +1,7 @@
 //! Extended payloads: views, ids, fields, kinds, values without a spelling, and the dictionaries that are made.
+use crate::bencode::is_spelled;
 use crate::ext::{DATA, LIBTORRENT, REQUEST, ids};
-use bt_bencode::{ByteString, Pairs, SpellError, Value, check, read_dict, spell};
+use bt_bencode::{ByteString, Pairs, SpellError, Value, check, read_dict};
 use bt_ext::*;
 use std::alloc::{AllocError, Global};
 
@@ -62,8 +63,7 @@ fn numbers_of_ids(rt: HostRuntime) {
 fn has_client_fields(payload: &[u8]) -> bool {
     match check(payload) {
         Ok((dict, _)) => {
-            metadata_size_ref(&dict) == Some(33236)
-                && dict.lookup_int(b"complete_ago") == Some(-1)
+            dict.lookup_int(b"complete_ago") == Some(-1)
                 && dict.lookup_bytes(b"yourip") == Some(b"\x7f\x00\x00\x01".as_slice())
         }
         Err(_) => false,
@@ -77,6 +77,7 @@ fn client_fields(rt: HostRuntime) {
 
 /// Dictionaries, the kind of metadata message that each is, and the size of the metadata that each announces.
 const FIELDS: &[(&[u8], Kind, Option<u64>)] = &[
+    (LIBTORRENT, Kind::Malformed, Some(33236)),
     (REQUEST, Kind::Request(0), None),
     (DATA, Kind::Data { piece: 0, total: 3 }, None),
     (b"d8:msg_typei2e5:piecei5ee", Kind::Reject(5), None),
@@ -307,16 +308,9 @@ fn values_without_spelling(rt: HostRuntime) {
     assert!(rt; is_long_unspelled(rt.alloc(), 1_048_577));
 }
 
-fn is_spelled(alloc: Global, value: &Value, bytes: &[u8]) -> bool {
-    match spell(alloc, value) {
-        Ok(spelled) => spelled.as_slice() == bytes,
-        Err(_) => false,
-    }
-}
-
 pub(crate) fn is_made(alloc: Global, made: Result<Value, AllocError>, bytes: &[u8]) -> bool {
     match made {
-        Ok(value) => is_spelled(alloc, &value, bytes),
+        Ok(value) => is_spelled(alloc, &value, Some(bytes)),
         Err(_) => false,
     }
 }
