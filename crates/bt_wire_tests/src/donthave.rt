@@ -1,5 +1,5 @@
 //! Messages that take back a piece (`lt_donthave`).
-use crate::ext_parts::is_made;
+use crate::ext_parts::registered;
 use crate::wire::agreed;
 use crate::wire_messages::is_copied;
 use bt_ext::*;
@@ -14,8 +14,7 @@ const SHORT: &[u8] = b"\0\0\0\x05\x14\x04\0\0\x09";
 
 /// `ut_metadata` is 3, and `lt_donthave` is 4.
 fn both() -> Registered {
-    let none = Registered::metadata_only(None);
-    Registered::new(ExtId::new(3), ExtId::new(4)).unwrap_or(none)
+    registered(3, 4)
 }
 
 fn context(reg: Registered, rules: Rules, pieces: Option<u32>) -> Context {
@@ -44,21 +43,18 @@ const PAIRS: &[(u8, u8, bool)] = &[
 ];
 
 /// Whether both ids are registered together, or can't be.
-fn are_registered(metadata: u8, donthave: u8, is_right: bool) -> bool {
-    let (metadata, donthave) = (ExtId::new(metadata), ExtId::new(donthave));
+fn are_registered((metadata, donthave, is_right): &(u8, u8, bool)) -> bool {
+    let (metadata, donthave) = (ExtId::new(*metadata), ExtId::new(*donthave));
     match Registered::new(metadata, donthave) {
-        Ok(reg) => is_right && reg.metadata() == metadata && reg.donthave() == donthave,
-        Err(SameId) => !is_right,
+        Ok(reg) => *is_right && reg.metadata() == metadata && reg.donthave() == donthave,
+        Err(SameId) => !*is_right,
     }
 }
 
 #[test]
 fn registered_ids(rt: HostRuntime) {
-    for &(metadata, donthave, is_right) in PAIRS {
-        assert!(rt;
-            are_registered(metadata, donthave, is_right),
-            "{metadata} {donthave}"
-        );
+    for row in PAIRS {
+        assert!(rt; are_registered(row), "{} {}", row.0, row.1);
     }
 }
 
@@ -73,7 +69,9 @@ const BAD_LENGTH: Result<Option<u32>, Refused> = Err(Refused {
 });
 
 /// The number of pieces, a message, and the piece that it takes back or why it is refused.
-const READS: &[(Option<u32>, &[u8], Result<Option<u32>, Refused>)] = &[
+type Read = (Option<u32>, &'static [u8], Result<Option<u32>, Refused>);
+
+const READS: &[Read] = &[
     (None, TAKEN_BACK, Ok(Some(9))),
     (Some(10), TAKEN_BACK, Ok(Some(9))),
     (Some(9), TAKEN_BACK, BAD_INDEX),
@@ -83,45 +81,34 @@ const READS: &[(Option<u32>, &[u8], Result<Option<u32>, Refused>)] = &[
     (Some(9), b"\0\0\0\x06\x14\x05\0\0\0\x09", Ok(None)),
 ];
 
-fn is_found(
-    rules: Rules,
-    pieces: Option<u32>,
-    bytes: &[u8],
-    answer: Result<Option<u32>, Refused>,
-) -> bool {
-    found(&context(both(), rules, pieces), bytes) == answer
+fn is_found(rules: Rules, (pieces, bytes, answer): &Read) -> bool {
+    found(&context(both(), rules, *pieces), bytes) == *answer
 }
 
 #[test]
 fn read(rt: HostRuntime) {
-    for (pieces, bytes, answer) in READS {
-        for rules in [Rules::Free, Rules::Bep] {
-            assert!(rt; is_found(rules, *pieces, bytes, *answer), "{bytes:?}");
-        }
+    for row in READS {
+        assert!(rt;
+            is_found(Rules::Free, row) && is_found(Rules::Bep, row),
+            "{:?}",
+            row.1
+        );
     }
 }
 
-/// Whether both ids are registered or that of `ut_metadata` alone, the number of pieces, and the message or why it isn't legal.
-const WRITTEN: &[(bool, Option<u32>, Result<&[u8], Fault>)] = &[
-    (true, Some(10), Ok(TAKEN_BACK)),
-    (true, Some(9), Err(Fault::Reason(Reason::BadIndex))),
-    (false, Some(10), Err(Fault::Shape)),
+/// The id of `lt_donthave` or 0, the number of pieces, and the message or why it isn't legal.
+const WRITTEN: &[(u8, Option<u32>, Result<&[u8], Fault>)] = &[
+    (4, Some(10), Ok(TAKEN_BACK)),
+    (4, Some(9), Err(Fault::Reason(Reason::BadIndex))),
+    (0, Some(10), Err(Fault::Shape)),
 ];
-
-fn registered(is_both: bool) -> Registered {
-    if is_both {
-        both()
-    } else {
-        Registered::metadata_only(ExtId::new(3))
-    }
-}
 
 /// Whether the message that takes back piece 9 is written so.
 fn is_written(
     alloc: Global,
-    (is_both, pieces, answer): &(bool, Option<u32>, Result<&[u8], Fault>),
+    (donthave, pieces, answer): &(u8, Option<u32>, Result<&[u8], Fault>),
 ) -> bool {
-    let context = context(registered(*is_both), Rules::Bep, *pieces);
+    let context = context(registered(3, *donthave), Rules::Bep, *pieces);
     let view = MessageView::Extended(ExtView::DontHave(9));
     is_copied(alloc, &context, Order::Past, &view, *answer)
 }
@@ -131,16 +118,4 @@ fn written(rt: HostRuntime) {
     for row in WRITTEN {
         assert!(rt; is_written(rt.alloc(), row), "{} {:?}", row.0, row.1);
     }
-}
-
-#[test]
-fn announced(rt: HostRuntime) {
-    let made = handshake_dict(rt.alloc(), both(), None);
-    assert!(rt;
-        is_made(
-            rt.alloc(),
-            made,
-            b"d1:md11:lt_donthavei4e11:ut_metadatai3eee"
-        )
-    );
 }

@@ -308,7 +308,7 @@ fn values_without_spelling(rt: HostRuntime) {
     assert!(rt; is_long_unspelled(rt.alloc(), 1_048_577));
 }
 
-pub(crate) fn is_made(alloc: Global, made: Result<Value, AllocError>, bytes: &[u8]) -> bool {
+fn is_made(alloc: Global, made: Result<Value, AllocError>, bytes: &[u8]) -> bool {
     match made {
         Ok(value) => is_spelled(alloc, &value, Some(bytes)),
         Err(_) => false,
@@ -338,21 +338,29 @@ fn made_messages(rt: HostRuntime) {
     assert!(rt; is_request_made(alloc) && is_data_made(alloc) && is_reject_made(alloc));
 }
 
-/// The id of `ut_metadata`, the size of the metadata, and the dictionary that says so.
-const MADE: &[(u8, Option<u64>, &[u8])] = &[
-    (3, Some(3), b"d1:md11:ut_metadatai3ee13:metadata_sizei3ee"),
-    (9, None, b"d1:md11:ut_metadatai9eee"),
-    (0, None, b"d1:mdee"),
+/// The ids of `ut_metadata` and `lt_donthave`, 0 for none.
+pub(crate) fn registered(metadata: u8, donthave: u8) -> Registered {
+    let none = Registered::metadata_only(None);
+    Registered::new(ExtId::new(metadata), ExtId::new(donthave)).unwrap_or(none)
+}
+
+/// Both ids, the size of the metadata, and the dictionary that says so.
+const MADE: &[(u8, u8, Option<u64>, &[u8])] = &[
+    (
+        3,
+        0,
+        Some(3),
+        b"d1:md11:ut_metadatai3ee13:metadata_sizei3ee",
+    ),
+    (9, 0, None, b"d1:md11:ut_metadatai9eee"),
+    (0, 0, None, b"d1:mdee"),
+    (3, 4, None, b"d1:md11:lt_donthavei4e11:ut_metadatai3eee"),
 ];
 
 #[test]
 fn made_handshakes(rt: HostRuntime) {
-    for (id, size, bytes) in MADE {
-        let made = handshake_dict(
-            rt.alloc(),
-            Registered::metadata_only(ExtId::new(*id)),
-            *size,
-        );
-        assert!(rt; is_made(rt.alloc(), made, bytes), "{id}");
+    for (metadata, donthave, size, bytes) in MADE {
+        let made = handshake_dict(rt.alloc(), registered(*metadata, *donthave), *size);
+        assert!(rt; is_made(rt.alloc(), made, bytes), "{metadata} {donthave}");
     }
 }

@@ -147,7 +147,9 @@ fn bits(rt: HostRuntime) {
 const REST: u64 = !0x4;
 
 /// The bits of both ends, and whether both have the Fast Extension and the Extension Protocol.
-const NEGOTIATIONS: &[(u64, u64, bool, bool)] = &[
+type Negotiation = (u64, u64, bool, bool);
+
+const NEGOTIATIONS: &[Negotiation] = &[
     (0x10_0005, 0x10_0005, true, true),
     (0x4, u64::MAX, true, false),
     (0x10_0000, u64::MAX, false, true),
@@ -157,17 +159,17 @@ const NEGOTIATIONS: &[(u64, u64, bool, bool)] = &[
     (0, 0, false, false),
 ];
 
-fn is_negotiated(own: u64, peer: u64, fast: bool, ext: bool) -> bool {
+fn is_negotiated((own, peer, fast, ext): &Negotiation) -> bool {
     let answer = Context {
-        ext,
-        ..agreed(Rules::Bep, fast, Some(10))
+        ext: *ext,
+        ..agreed(Rules::Bep, *fast, Some(10))
     };
-    negotiate(&receiver(Reserved(own), None), Reserved(peer)) == answer
+    negotiate(&receiver(Reserved(*own), None), Reserved(*peer)) == answer
 }
 
 #[test]
 fn negotiations(rt: HostRuntime) {
-    for &(own, peer, fast, ext) in NEGOTIATIONS {
-        assert!(rt; is_negotiated(own, peer, fast, ext), "{own} {peer}");
+    for row in NEGOTIATIONS {
+        assert!(rt; is_negotiated(row), "{} {}", row.0, row.1);
     }
 }
