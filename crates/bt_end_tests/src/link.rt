@@ -4,131 +4,78 @@ use bt_end::{End, EndError, Role, Turn, TurnError};
 use bt_ext::Rules;
 use std::alloc::{AllocError, Allocator, Global};
 
-/// Memory that is taken, so that others find less.
-pub(crate) type Ballast<A> = Option<Vec<u8, A>>;
-
 /// Which calls met a refused request for memory.
 #[derive(Clone, Copy)]
 pub(crate) struct Refused {
     pub(crate) news: u32,
     pub(crate) turns: u32,
     pub(crate) resets: u32,
-    /// Whether each of them left all as before.
-    pub(crate) same: bool,
 }
 
 impl Refused {
+    pub(crate) fn none() -> Refused {
+        Refused {
+            news: 0,
+            turns: 0,
+            resets: 0,
+        }
+    }
+
     pub(crate) fn is_none(&self) -> bool {
-        self.news == 0 && self.turns == 0 && self.resets == 0 && self.same
+        self.news == 0 && self.turns == 0 && self.resets == 0
+    }
+
+    pub(crate) fn add(&mut self, other: Refused) {
+        self.news = self.news.saturating_add(other.news);
+        self.turns = self.turns.saturating_add(other.turns);
+        self.resets = self.resets.saturating_add(other.resets);
     }
 }
 
-/// Bytes on their way to an end.
+/// Memory that is taken, so that others find less, until a request is refused.
 #[derive(Drop)]
-struct Wire {
-    bytes: Vec<u8>,
-    /// How many of them it took.
-    at: usize,
+struct Memory<A: Allocator> {
+    ballast: Option<Vec<u8, A>>,
+    refused: Refused,
 }
 
-impl Wire {
-    fn new(alloc: Global) -> Wire {
-        Wire {
-            bytes: Vec::new(alloc),
-            at: 0,
-        }
-    }
-
-    /// Gives the end as many bytes as belong to its present item.
-    fn bring<A: Allocator + Copy>(&mut self, to: &mut End<A>) {
-        let Some(bytes) = self.bytes.as_slice().get(self.at..) else {
-            return;
-        };
-        let taken = takes(to, bytes);
-        self.at = self.at.saturating_add(taken);
-    }
-
-    /// Takes up to n bytes of those that `from` is to send, and says how many.
-    fn load<A: Allocator + Copy>(
-        &mut self,
-        from: &mut End<A>,
-        n: usize,
-    ) -> Result<usize, AllocError> {
-        let bytes = from.outgoing();
-        let count = n.min(bytes.len());
-        self.bytes.extend_from_slice(&bytes[..count])?;
-        from.sent(count);
-        Ok(count)
-    }
-
-    fn clear(&mut self) {
-        self.bytes.clear();
-        self.at = 0;
+impl<A: Allocator> Memory<A> {
+    fn give_back(&mut self) {
+        self.ballast = None;
     }
 }
 
-/// Brings n bytes, in portions of at most so many, and then none. It says whether as many were there.
-fn brings<A: Allocator + Copy>(
-    wire: &mut Wire,
-    from: &mut End<A>,
-    to: &mut End<A>,
-    n: usize,
-    portion: usize,
-) -> Result<bool, AllocError> {
-    let mut left = n;
-    for _ in 0..n {
-        let count = wire.load(from, left.min(portion))?;
-        wire.bring(to);
-        left = left.saturating_sub(count);
-        if left == 0 {
-            break;
-        }
-    }
-    wire.load(from, 0)?;
-    wire.bring(to);
-    Ok(left == 0)
+/// Whether the end is to send these bytes, and has fetched metadata or not.
+pub(crate) fn is_as_before<A: Allocator + Copy>(
+    end: &End<A>,
+    outgoing: &[u8],
+    has_metadata: bool,
+) -> bool {
+    sends(end, 0, outgoing) && has(end, None) != has_metadata
 }
 
-/// What the end is to send and what it fetched, to be compared after a refused call.
-#[derive(Drop)]
-pub(crate) struct Shown {
-    outgoing: Vec<u8>,
-    fetched: bool,
-}
-
-pub(crate) fn what_is_shown<A: Allocator + Copy>(
+/// What the end is to send, to be compared after a refused call.
+pub(crate) fn outgoing<A: Allocator + Copy>(
     alloc: Global,
     end: &End<A>,
-) -> Result<Shown, AllocError> {
-    Ok(Shown {
-        outgoing: end.outgoing().to_vec(alloc)?,
-        fetched: !has(end, None),
-    })
+) -> Result<Vec<u8>, AllocError> {
+    end.outgoing().to_vec(alloc)
 }
 
-pub(crate) fn is_as_before<A: Allocator + Copy>(end: &End<A>, before: &Shown) -> bool {
-    sends(end, 0, before.outgoing.as_slice()) && has(end, None) != before.fetched
-}
-
-fn serving<A: Allocator + Copy>(alloc: A, limit: u32) -> Result<End<A>, EndError> {
-    let Ok(metadata) = b"abc".to_vec(alloc) else {
-        return Err(EndError::Memory);
-    };
-    made(
-        alloc,
-        config(own(3, Rules::Bep, limit), LEFT, Role::Serve(metadata)),
-    )
-}
-
-fn fetching<A: Allocator + Copy>(alloc: A, limit: u32) -> Result<End<A>, EndError> {
-    made(alloc, config(own(9, Rules::Bep, limit), RIGHT, Role::Fetch))
-}
-
-fn either<A: Allocator + Copy>(alloc: A, limit: u32, serves: bool) -> Result<End<A>, EndError> {
+/// What the left end serves, or that the right one fetches.
+fn role<A: Allocator>(alloc: A, serves: bool) -> Result<Role<A>, AllocError> {
     if serves {
-        serving(alloc, limit)
+        Ok(Role::Serve(b"abc".to_vec(alloc)?))
     } else {
-        fetching(alloc, limit)
+        Ok(Role::Fetch)
+    }
+}
+
+fn made_in<A: Allocator + Copy>(alloc: A, limit: u32, serves: bool) -> Result<End<A>, EndError> {
+    let (id, peer_id) = if serves { (3, LEFT) } else { (9, RIGHT) };
+    match role(alloc, serves) {
+        Ok(role) => made(alloc, config(own(id, Rules::Bep, limit), peer_id, role)),
+        Err(_) => Err(EndError::Memory),
     }
 }
 
@@ -137,72 +84,165 @@ fn made_at_last<A: Allocator + Copy>(
     alloc: A,
     limit: u32,
     serves: bool,
-    ballast: &mut Ballast<A>,
-    refused: &mut Refused,
+    memory: &mut Memory<A>,
 ) -> Result<End<A>, EndError> {
-    let first = either(alloc, limit, serves);
-    let Err(EndError::Memory) = first else {
-        return first;
-    };
-    refused.news = refused.news.saturating_add(1);
-    *ballast = None;
-    either(alloc, limit, serves)
+    match made_in(alloc, limit, serves) {
+        Err(EndError::Memory) => {
+            memory.refused.news = memory.refused.news.saturating_add(1);
+            memory.give_back();
+            made_in(alloc, limit, serves)
+        }
+        made => made,
+    }
 }
 
-/// How a turn went.
+#[derive(Clone, Copy)]
+enum Call {
+    Turn,
+    Reset,
+}
+
+/// How a call went.
 #[derive(Clone, Copy)]
 enum Went {
-    Handled,
+    Done,
     OutOfMemory,
     Otherwise,
 }
 
-fn turned<A: Allocator + Copy>(end: &mut End<A>) -> Went {
-    match end.turn() {
-        Ok(Turn::Handled) => Went::Handled,
-        Err(TurnError::Memory) => Went::OutOfMemory,
-        _ => Went::Otherwise,
+fn called<A: Allocator + Copy>(end: &mut End<A>, which: Call) -> Went {
+    match which {
+        Call::Turn => match end.turn() {
+            Ok(Turn::Handled) => Went::Done,
+            Err(TurnError::Memory) => Went::OutOfMemory,
+            _ => Went::Otherwise,
+        },
+        Call::Reset => match end.reset() {
+            Ok(()) => Went::Done,
+            Err(_) => Went::OutOfMemory,
+        },
     }
 }
 
-/// Takes a turn, and the same turn again with the ballast given back where memory was refused.
-fn turned_at_last<A: Allocator + Copy>(
-    alloc: Global,
+fn succeeds<A: Allocator + Copy>(end: &mut End<A>, which: Call) -> bool {
+    matches!(called(end, which), Went::Done)
+}
+
+/// Counts a call that met a refused request.
+fn count(refused: &mut Refused, which: Call) {
+    match which {
+        Call::Turn => refused.turns = refused.turns.saturating_add(1),
+        Call::Reset => refused.resets = refused.resets.saturating_add(1),
+    }
+}
+
+/// Makes a call of an end that is to send these bytes. Where memory was refused, all has to be as before, and the same call
+/// to succeed with the ballast given back.
+fn called_at_last<A: Allocator + Copy>(
     end: &mut End<A>,
-    ballast: &mut Ballast<A>,
-    refused: &mut Refused,
-) -> Result<bool, AllocError> {
-    let before = what_is_shown(alloc, end)?;
-    match turned(end) {
-        Went::Handled => Ok(true),
-        Went::Otherwise => Ok(false),
+    memory: &mut Memory<A>,
+    which: Call,
+    outgoing: &[u8],
+) -> bool {
+    let has_metadata = !has(end, None);
+    match called(end, which) {
+        Went::Done => true,
+        Went::Otherwise => false,
         Went::OutOfMemory => {
-            refused.turns = refused.turns.saturating_add(1);
-            refused.same = refused.same && is_as_before(end, &before);
-            *ballast = None;
-            Ok(turns(end, Ok(Turn::Handled)))
+            count(&mut memory.refused, which);
+            memory.give_back();
+            is_as_before(end, outgoing, has_metadata) && succeeds(end, which)
         }
     }
 }
 
-/// Begins a new connection, and tries it again with the ballast given back where memory was refused.
-fn renewed_at_last<A: Allocator + Copy>(
-    alloc: Global,
+/// Adds up to n bytes of those that the end is to send to the bytes that were brought, and says how many.
+fn load<A: Allocator + Copy>(
     end: &mut End<A>,
-    ballast: &mut Ballast<A>,
-    refused: &mut Refused,
-) -> Result<bool, AllocError> {
-    let before = what_is_shown(alloc, end)?;
-    if resets(end) {
-        return Ok(waiting(end) == 68);
-    }
-    refused.resets = refused.resets.saturating_add(1);
-    refused.same = refused.same && is_as_before(end, &before);
-    *ballast = None;
-    Ok(resets(end) && waiting(end) == 68)
+    brought: &mut Vec<u8>,
+    n: usize,
+) -> Result<usize, AllocError> {
+    let bytes = end.outgoing();
+    let count = n.min(bytes.len());
+    brought.extend_from_slice(&bytes[..count])?;
+    end.sent(count);
+    Ok(count)
 }
 
-#[derive(Clone, Copy)]
+/// An end, and the bytes on their way to it.
+#[derive(Drop)]
+struct Party<A: Allocator> {
+    end: End<A>,
+    /// The bytes that were brought to it, and how many of them it took.
+    brought: Vec<u8>,
+    taken: usize,
+}
+
+impl<A: Allocator + Copy> Party<A> {
+    fn new(
+        alloc: Global,
+        own_alloc: A,
+        limit: u32,
+        serves: bool,
+        memory: &mut Memory<A>,
+    ) -> Result<Party<A>, EndError> {
+        Ok(Party {
+            end: made_at_last(own_alloc, limit, serves, memory)?,
+            brought: Vec::new(alloc),
+            taken: 0,
+        })
+    }
+
+    /// Takes of the bytes as many as belong to its present item.
+    fn receive(&mut self) {
+        if let Some(bytes) = self.brought.as_slice().get(self.taken..) {
+            self.taken = self.taken.saturating_add(takes(&mut self.end, bytes));
+        }
+    }
+
+    /// Brings up to n bytes that the other one is to send, and says how many.
+    fn bring(&mut self, other: &mut Party<A>, n: usize) -> Option<usize> {
+        let count = load(&mut other.end, &mut self.brought, n).ok();
+        self.receive();
+        count
+    }
+
+    /// Brings n bytes, in portions of at most so many, and then none. It says whether as many were there.
+    fn brings(&mut self, other: &mut Party<A>, n: usize, portion: usize) -> bool {
+        let mut left = n;
+        for _ in 0..n {
+            let Some(count) = self.bring(other, left.min(portion)) else {
+                return false;
+            };
+            left = left.saturating_sub(count);
+            if left == 0 {
+                break;
+            }
+        }
+        self.bring(other, 0) == Some(0) && left == 0
+    }
+
+    fn calls(&mut self, alloc: Global, memory: &mut Memory<A>, which: Call) -> bool {
+        match outgoing(alloc, &self.end) {
+            Ok(bytes) => called_at_last(&mut self.end, memory, which, bytes.as_slice()),
+            Err(_) => false,
+        }
+    }
+
+    fn turns(&mut self, alloc: Global, memory: &mut Memory<A>) -> bool {
+        let is_done = self.calls(alloc, memory, Call::Turn);
+        self.receive();
+        is_done
+    }
+
+    /// Begins a new connection.
+    fn resets(&mut self, alloc: Global, memory: &mut Memory<A>) -> bool {
+        self.brought.clear();
+        self.taken = 0;
+        self.calls(alloc, memory, Call::Reset) && waiting(&self.end) == 68
+    }
+}
+
 enum Move {
     ToLeft(usize),
     ToRight(usize),
@@ -212,7 +252,7 @@ enum Move {
 }
 
 /// A fetch that is cut off before its one block has come whole, and then a second connection.
-const FETCH: [Move; 22] = [
+const FETCH: &[Move] = &[
     Move::ToRight(68),
     Move::TurnRight,
     Move::ToLeft(98),
@@ -237,106 +277,93 @@ const FETCH: [Move; 22] = [
     Move::TurnRight,
 ];
 
-/// A left end that serves, a right one that fetches, the bytes between them, and memory that is taken.
-#[derive(Drop)]
-pub(crate) struct Link<A: Allocator> {
-    left: End<A>,
-    right: End<A>,
-    to_left: Wire,
-    to_right: Wire,
-    ballast: Ballast<A>,
-    pub(crate) refused: Refused,
+/// Makes a move, and says whether its delivery was full or its turn was handled.
+fn goes<A: Allocator + Copy>(
+    alloc: Global,
+    left: &mut Party<A>,
+    right: &mut Party<A>,
+    memory: &mut Memory<A>,
+    next: &Move,
+    portion: usize,
+) -> bool {
+    match next {
+        Move::ToLeft(n) => left.brings(right, *n, portion),
+        Move::ToRight(n) => right.brings(left, *n, portion),
+        Move::TurnLeft => left.turns(alloc, memory),
+        Move::TurnRight => right.turns(alloc, memory),
+        Move::Reset => left.resets(alloc, memory) && right.resets(alloc, memory),
+    }
 }
 
-impl<A: Allocator + Copy> Link<A> {
-    /// Two ends with this limit. The ballast is given back once memory was refused.
-    pub(crate) fn new(
-        alloc: Global,
-        own_alloc: A,
-        limit: u32,
-        mut ballast: Ballast<A>,
-    ) -> Result<Link<A>, EndError> {
-        let mut refused = Refused {
-            news: 0,
-            turns: 0,
-            resets: 0,
-            same: true,
-        };
-        let left = made_at_last(own_alloc, limit, true, &mut ballast, &mut refused)?;
-        let right = made_at_last(own_alloc, limit, false, &mut ballast, &mut refused)?;
-        Ok(Link {
-            left,
-            right,
-            to_left: Wire::new(alloc),
-            to_right: Wire::new(alloc),
-            ballast,
-            refused,
-        })
-    }
+/// Whether all was delivered and fetched, nothing waits, and the left end has nothing more to do.
+fn is_done<A: Allocator + Copy>(left: &mut End<A>, right: &End<A>) -> bool {
+    has(right, Some(b"abc"))
+        && has(left, None)
+        && waiting(left) == 0
+        && waiting(right) == 0
+        && turns(left, Ok(Turn::Idle))
+}
 
-    fn turns_left(&mut self, alloc: Global) -> Result<bool, AllocError> {
-        let done = turned_at_last(alloc, &mut self.left, &mut self.ballast, &mut self.refused)?;
-        self.to_left.bring(&mut self.left);
-        Ok(done)
-    }
-
-    fn turns_right(&mut self, alloc: Global) -> Result<bool, AllocError> {
-        let done = turned_at_last(alloc, &mut self.right, &mut self.ballast, &mut self.refused)?;
-        self.to_right.bring(&mut self.right);
-        Ok(done)
-    }
-
-    fn resets(&mut self, alloc: Global) -> Result<bool, AllocError> {
-        self.to_left.clear();
-        self.to_right.clear();
-        let left = renewed_at_last(alloc, &mut self.left, &mut self.ballast, &mut self.refused)?;
-        let right = renewed_at_last(alloc, &mut self.right, &mut self.ballast, &mut self.refused)?;
-        Ok(left && right)
-    }
-
-    /// Makes a move, and says whether its delivery was full or its turn was handled.
-    fn goes(&mut self, alloc: Global, next: Move, portion: usize) -> Result<bool, AllocError> {
-        match next {
-            Move::ToLeft(n) => brings(
-                &mut self.to_left,
-                &mut self.right,
-                &mut self.left,
-                n,
-                portion,
-            ),
-            Move::ToRight(n) => brings(
-                &mut self.to_right,
-                &mut self.left,
-                &mut self.right,
-                n,
-                portion,
-            ),
-            Move::TurnLeft => self.turns_left(alloc),
-            Move::TurnRight => self.turns_right(alloc),
-            Move::Reset => self.resets(alloc),
+/// Makes the moves of the fetch, and says whether nothing was fetched before the last one, and all went well.
+fn fetches<A: Allocator + Copy>(
+    alloc: Global,
+    left: &mut Party<A>,
+    right: &mut Party<A>,
+    memory: &mut Memory<A>,
+    portion: usize,
+) -> bool {
+    for next in FETCH {
+        if !has(&right.end, None) || !goes(alloc, left, right, memory, next, portion) {
+            return false;
         }
     }
+    is_done(&mut left.end, &right.end)
+}
 
-    /// Whether all was delivered and fetched, and nothing waits.
-    fn is_done(&self) -> bool {
-        has(&self.right, Some(b"abc"))
-            && has(&self.left, None)
-            && waiting(&self.left) == 0
-            && waiting(&self.right) == 0
+/// Makes the right end, which fetches from the left one.
+fn is_fetched_from<A: Allocator + Copy>(
+    alloc: Global,
+    left: &mut Party<A>,
+    own_alloc: A,
+    limit: u32,
+    memory: &mut Memory<A>,
+    portion: usize,
+) -> bool {
+    match Party::new(alloc, own_alloc, limit, false, memory) {
+        Ok(mut right) => fetches(alloc, left, &mut right, memory, portion),
+        Err(_) => false,
     }
+}
 
-    /// Makes the moves of the fetch, and says whether nothing was fetched before the last one, and all went well.
-    pub(crate) fn fetches(&mut self, alloc: Global, portion: usize) -> Result<bool, AllocError> {
-        for next in FETCH {
-            if !has(&self.right, None) || !self.goes(alloc, next, portion)? {
-                return Ok(false);
-            }
-        }
-        Ok(self.is_done() && self.refused.same)
+fn is_fetched<A: Allocator + Copy>(
+    alloc: Global,
+    own_alloc: A,
+    limit: u32,
+    memory: &mut Memory<A>,
+    portion: usize,
+) -> bool {
+    match Party::new(alloc, own_alloc, limit, true, memory) {
+        Ok(mut left) => is_fetched_from(alloc, &mut left, own_alloc, limit, memory, portion),
+        Err(_) => false,
     }
+}
 
-    /// Whether the left end has nothing more to do.
-    pub(crate) fn is_idle(&mut self) -> bool {
-        turns(&mut self.left, Ok(Turn::Idle))
+/// Runs the fetch between two ends with this limit, and says what was refused; `None` where a step went wrong. The ballast is
+/// given back once memory was refused.
+pub(crate) fn fetched<A: Allocator + Copy>(
+    alloc: Global,
+    own_alloc: A,
+    limit: u32,
+    portion: usize,
+    ballast: Option<Vec<u8, A>>,
+) -> Option<Refused> {
+    let mut memory = Memory {
+        ballast,
+        refused: Refused::none(),
+    };
+    if is_fetched(alloc, own_alloc, limit, &mut memory, portion) {
+        Some(memory.refused)
+    } else {
+        None
     }
 }

@@ -45,7 +45,6 @@ pub(crate) fn made<A: Allocator + Copy>(alloc: A, config: Config<A>) -> Result<E
 }
 
 /// A message that is said.
-#[derive(Clone, Copy)]
 pub(crate) enum Saying {
     KeepAlive,
     Unchoke,
@@ -54,18 +53,17 @@ pub(crate) enum Saying {
     DontHave(u32),
 }
 
-fn message(saying: Saying) -> Message {
+fn message(saying: &Saying) -> Message {
     match saying {
         Saying::KeepAlive => Message::KeepAlive,
         Saying::Unchoke => Message::Unchoke,
-        Saying::Have(index) => Message::Have(index),
+        Saying::Have(index) => Message::Have(*index),
         Saying::HaveNone => Message::HaveNone,
-        Saying::DontHave(index) => Message::Extended(Ext::DontHave(index)),
+        Saying::DontHave(index) => Message::Extended(Ext::DontHave(*index)),
     }
 }
 
 /// A call of an end, and what it answers.
-#[derive(Clone, Copy)]
 pub(crate) enum Step {
     /// It takes these bytes, an item, and handles it.
     Handles(&'static [u8]),
@@ -98,13 +96,13 @@ pub(crate) fn handles<A: Allocator + Copy>(end: &mut End<A>, bytes: &[u8]) -> bo
     takes(end, bytes) == bytes.len() && turns(end, Ok(Turn::Handled))
 }
 
-pub(crate) fn said<A: Allocator + Copy>(end: &mut End<A>, saying: Saying) -> Result<(), SayError> {
+pub(crate) fn said<A: Allocator + Copy>(end: &mut End<A>, saying: &Saying) -> Result<(), SayError> {
     end.say(&message(saying))
 }
 
 pub(crate) fn says<A: Allocator + Copy>(
     end: &mut End<A>,
-    saying: Saying,
+    saying: &Saying,
     answer: Result<(), SayError>,
 ) -> bool {
     said(end, saying) == answer
@@ -129,15 +127,15 @@ pub(crate) fn resets<A: Allocator + Copy>(end: &mut End<A>) -> bool {
     end.reset().is_ok()
 }
 
-fn goes<A: Allocator + Copy>(end: &mut End<A>, step: Step) -> bool {
+pub(crate) fn goes<A: Allocator + Copy>(end: &mut End<A>, step: &Step) -> bool {
     match step {
         Step::Handles(bytes) => handles(end, bytes),
-        Step::Takes(bytes, count) => takes(end, bytes) == count,
-        Step::Turns(answer) => turns(end, answer),
-        Step::Says(saying, answer) => says(end, saying, answer),
-        Step::Waits(count) => waiting(end) == count,
-        Step::Sends(at, bytes) => sends(end, at, bytes),
-        Step::Has(metadata) => has(end, metadata),
+        Step::Takes(bytes, count) => takes(end, bytes) == *count,
+        Step::Turns(answer) => turns(end, *answer),
+        Step::Says(saying, answer) => says(end, saying, *answer),
+        Step::Waits(count) => waiting(end) == *count,
+        Step::Sends(at, bytes) => sends(end, *at, bytes),
+        Step::Has(metadata) => has(end, *metadata),
         Step::Resets => resets(end),
     }
 }
@@ -145,7 +143,7 @@ fn goes<A: Allocator + Copy>(end: &mut End<A>, step: Step) -> bool {
 /// The number of the first step, counted from 0, that doesn't go so.
 pub(crate) fn first_wrong<A: Allocator + Copy>(end: &mut End<A>, steps: &[Step]) -> Option<usize> {
     for (number, step) in steps.iter().enumerate() {
-        if !goes(end, *step) {
+        if !goes(end, step) {
             return Some(number);
         }
     }

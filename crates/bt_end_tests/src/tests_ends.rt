@@ -1,36 +1,64 @@
 //! Worked rows of ends that are driven by hand.
-use crate::link::Link;
+use crate::link::fetched;
 use crate::setting::*;
 use bt_end::{Config, End, EndError, Role, SayError, Turn, TurnError, Window};
-use bt_ext::{ExtId, Registered, Rules, SameId};
+use bt_ext::{ExtId, Registered, Rules};
 use bt_feed::MemTarget;
 use bt_wire::{Fault, Own, Reason, Refusal, frame};
 use std::alloc::{AllocError, Global};
-use std::test::Fail;
-
-/// The number of the first step, counted from 0, that an end of this config doesn't take so.
-fn stumbles(alloc: Global, config: Config, steps: &[Step]) -> Result<Option<usize>, EndError> {
-    let mut end = made(alloc, config)?;
-    Ok(first_wrong(&mut end, steps))
-}
 
 /// The metadata goes over, whole and in single bytes, and the end that served it has nothing more to do.
-fn goes_over(alloc: Global, portion: usize) -> Result<bool, EndError> {
-    let mut link = Link::new(alloc, alloc, 262_144, None)?;
-    let fetched = link.fetches(alloc, portion) == Ok(true);
-    Ok(fetched && link.refused.is_none() && link.is_idle())
+fn goes_over(alloc: Global, portion: usize) -> bool {
+    match fetched(alloc, alloc, 262_144, portion, None) {
+        Some(refused) => refused.is_none(),
+        None => false,
+    }
 }
 
 #[test]
-fn metadata_goes_over(rt: HostRuntime) -> Result<(), Fail> {
+fn metadata_goes_over(rt: HostRuntime) {
     for portion in [1_000, 1] {
-        assert!(rt; goes_over(rt.alloc(), portion)?, "in portions of {portion}");
+        assert!(rt; goes_over(rt.alloc(), portion), "in portions of {portion}");
     }
-    Ok(())
 }
 
-/// A watching end, and what it says. Its handshakes have 98 bytes.
-const SAYINGS: [Step; 14] = [
+/// An end's config.
+enum Who {
+    Watching(Rules),
+    /// It watches, registers both extensions, `lt_donthave` under this id, and knows the piece count, 10.
+    OfTen(u8),
+    Fetching,
+}
+
+fn watching(own: Own) -> Config {
+    config(own, LEFT, Role::Watch)
+}
+
+fn own_of_ten(donthave: u8) -> Own {
+    let own = own(3, Rules::Bep, 262_144);
+    Own {
+        pieces: Some(10),
+        reg: Registered::new(ExtId::new(3), ExtId::new(donthave)).unwrap_or(own.reg),
+        ..own
+    }
+}
+
+/// An end that fetches, and asks for so many blocks at once.
+fn fetching(window: Window) -> Config {
+    let config = config(own(9, Rules::Free, 262_144), RIGHT, Role::Fetch);
+    Config { window, ..config }
+}
+
+fn config_of(who: &Who) -> Config {
+    match who {
+        Who::Watching(rules) => watching(own(3, *rules, 262_144)),
+        Who::OfTen(donthave) => watching(own_of_ten(*donthave)),
+        Who::Fetching => fetching(Window::default()),
+    }
+}
+
+/// What an end says. Its handshakes have 98 bytes.
+const SAYINGS: &[Step] = &[
     Step::Says(Saying::Unchoke, Err(SayError::NotOpen)),
     Step::Handles(HAND),
     Step::Waits(98),
@@ -50,30 +78,9 @@ const SAYINGS: [Step; 14] = [
     Step::Sends(98, b"\0\0\0\x01\x0f\0\0\0\x01\x01"),
 ];
 
-/// An end that watches.
-fn watching(rules: Rules) -> Config {
-    config(own(3, rules, 262_144), LEFT, Role::Watch)
-}
-
-#[test]
-fn what_an_end_says(rt: HostRuntime) -> Result<(), Fail> {
-    assert_eq!(rt; stumbles(rt.alloc(), watching(Rules::Bep), &SAYINGS)?, None);
-    Ok(())
-}
-
-/// An end that registers both extensions and knows the piece count.
-fn of_ten(donthave: u8) -> Result<Config, SameId> {
-    let reg = Registered::new(ExtId::new(3), ExtId::new(donthave))?;
-    let own = Own {
-        pieces: Some(10),
-        reg,
-        ..own(3, Rules::Bep, 262_144)
-    };
-    Ok(config(own, LEFT, Role::Watch))
-}
-
-/// The end announces both extensions in 47 bytes. A peer that tells an id for `lt_donthave` is told under that id.
-const TAKEN_BACK: [Step; 9] = [
+/// A piece is taken back under the peer's id, once that is known, and by a peer under the own one. The end announces both
+/// extensions in 47 bytes. A peer that tells an id for `lt_donthave` is told under that id.
+const TAKEN_BACK: &[Step] = &[
     Step::Handles(HAND),
     Step::Sends(
         68,
@@ -88,89 +95,15 @@ const TAKEN_BACK: [Step; 9] = [
     Step::Waits(125),
 ];
 
-/// A piece is taken back under the peer's id, once that is known, and by a peer under the own one.
-#[test]
-fn pieces_are_taken_back(rt: HostRuntime) -> Result<(), Fail> {
-    assert_eq!(rt; stumbles(rt.alloc(), of_ten(4)?, &TAKEN_BACK)?, None);
-    Ok(())
-}
-
-/// A request for the block 0, under the id 3.
-const REQUEST: &[u8] = b"\0\0\0\x1b\x14\x03d8:msg_typei0e5:piecei0ee";
-
-const TOLD_NINE: [Step; 2] = [
-    Step::Handles(HAND),
-    Step::Handles(b"\0\0\0\x1a\x14\0d1:md11:ut_metadatai9eee"),
-];
-
-const FLOODED: [Step; 3] = [
-    Step::Waits(1_051_961),
-    Step::Turns(Ok(Turn::Idle)),
-    Step::Takes(REQUEST, 31),
-];
-
-const BUSY: [Step; 2] = [
-    Step::Says(Saying::KeepAlive, Err(SayError::Busy)),
-    Step::Turns(Err(TurnError::Busy)),
-];
-
-const FREE: [Step; 1] = [Step::Turns(Ok(Turn::Handled))];
-
-/// An end that serves as many of the byte 7.
-fn serving(alloc: Global, size: usize) -> Result<Config, AllocError> {
-    let served = Role::Serve(vec![in alloc; 7; size]?);
-    Ok(config(own(3, Rules::Free, 262_144), LEFT, served))
-}
-
-/// Whether the end handles 64 requests.
-fn is_flooded(end: &mut End) -> bool {
-    for _ in 0..64 {
-        if !handles(end, REQUEST) {
-            return false;
-        }
-    }
-    true
-}
-
-/// Whether the writer takes just so many bytes of those that are to be sent.
-fn drains(end: &mut End, writer: &mut MemTarget, count: usize) -> bool {
-    end.drain(writer, count) == Ok(count)
-}
-
-/// The first step that goes otherwise while the end's bytes are written.
-fn drained(alloc: Global, end: &mut End) -> bool {
-    let mut writer = MemTarget::new(Vec::new(alloc), 4_096, None);
-    for (count, steps) in [
-        (0, BUSY.as_slice()),
-        (3_385, BUSY.as_slice()),
-        (1, FREE.as_slice()),
-    ] {
-        if !drains(end, &mut writer, count) || first_wrong(end, steps).is_some() {
-            return false;
-        }
-    }
-    true
-}
-
-/// A peer asks and asks, and takes nothing.
-#[test]
-fn flood_of_requests(rt: HostRuntime) -> Result<(), Fail> {
-    let mut end = made(rt.alloc(), serving(rt.alloc(), 16_384)?)?;
-    assert_eq!(rt; first_wrong(&mut end, &TOLD_NINE), None);
-    assert!(rt; is_flooded(&mut end));
-    assert_eq!(rt; first_wrong(&mut end, &FLOODED), None);
-    assert!(rt; drained(rt.alloc(), &mut end));
-    Ok(())
-}
-
 const TOLD_THREE: &[u8] = b"\0\0\0\x2d\x14\0d1:md11:ut_metadatai3ee13:metadata_sizei3ee";
 
 /// The block, `abc`, after the dictionary of its data message.
 const BLOCK: &[u8] = b"\0\0\0\x2e\x14\x09d8:msg_typei1e5:piecei0e10:total_sizei3eeabc";
 
 /// An end is told of three bytes and requests their block. Blocks that weren't asked for, of a wrong size and of a wrong SHA-1
-/// come, then 20 bytes of the right block; and on a new connection all of it.
-const FALSE_BLOCKS: [Step; 22] = [
+/// come, and are ignored or asked for again; then 20 bytes of the right block, which are forgotten with their connection; and
+/// on a new connection all of it.
+const FALSE_BLOCKS: &[Step] = &[
     Step::Handles(HAND),
     Step::Handles(TOLD_THREE),
     Step::Handles(b"\0\0\0\x2e\x14\x09d8:msg_typei1e5:piecei1e10:total_sizei3eeabc"),
@@ -195,13 +128,119 @@ const FALSE_BLOCKS: [Step; 22] = [
     Step::Has(Some(b"abc")),
 ];
 
-/// Blocks that weren't asked for, of a wrong size and of a wrong SHA-1 are ignored or asked for again; and half a block is
-/// forgotten with its connection.
+const REFUSAL: Refusal = Refusal {
+    message: 1,
+    at: 68,
+    reason: Reason::TooLong,
+};
+
+/// A message comes whose length is 262,145. The refusal stands, and nothing is said any more.
+const REFUSED: &[Step] = &[
+    Step::Handles(HAND),
+    Step::Says(Saying::KeepAlive, Ok(())),
+    Step::Takes(b"\x00\x04\x00\x01\x00", 4),
+    Step::Says(Saying::KeepAlive, Err(SayError::NotOpen)),
+    Step::Turns(Err(TurnError::Refused(REFUSAL))),
+    Step::Takes(b"\x00", 0),
+    Step::Says(Saying::KeepAlive, Err(SayError::NotOpen)),
+    Step::Turns(Err(TurnError::Refused(REFUSAL))),
+    Step::Takes(b"\x00", 0),
+];
+
+/// What they show, an end, and its steps.
+const ENDS: &[(&str, Who, &[Step])] = &[
+    ("what an end says", Who::Watching(Rules::Bep), SAYINGS),
+    ("pieces are taken back", Who::OfTen(4), TAKEN_BACK),
+    ("false blocks", Who::Fetching, FALSE_BLOCKS),
+    ("a refused peer", Who::Watching(Rules::Free), REFUSED),
+];
+
+/// The number of the first step, counted from 0, that an end of this config doesn't take so. None is taken where no end is made.
+fn stumbles(alloc: Global, who: &Who, steps: &[Step]) -> Option<usize> {
+    match made(alloc, config_of(who)) {
+        Ok(mut end) => first_wrong(&mut end, steps),
+        Err(_) => Some(0),
+    }
+}
+
 #[test]
-fn false_blocks(rt: HostRuntime) -> Result<(), Fail> {
-    let config = config(own(9, Rules::Free, 262_144), RIGHT, Role::Fetch);
-    assert_eq!(rt; stumbles(rt.alloc(), config, &FALSE_BLOCKS)?, None);
-    Ok(())
+fn steps_of_ends(rt: HostRuntime) {
+    for (name, who, steps) in ENDS {
+        let wrong = stumbles(rt.alloc(), who, steps);
+        assert!(rt; wrong.is_none(), "{name}: {wrong:?}");
+    }
+}
+
+/// A request for the block 0, under the id 3.
+const REQUEST: &[u8] = b"\0\0\0\x1b\x14\x03d8:msg_typei0e5:piecei0ee";
+
+/// How many bytes are written first, and how often a step is taken then. A peer asks and asks, and takes nothing.
+const FLOOD: &[(usize, usize, Step)] = &[
+    (0, 1, Step::Handles(HAND)),
+    (
+        0,
+        1,
+        Step::Handles(b"\0\0\0\x1a\x14\0d1:md11:ut_metadatai9eee"),
+    ),
+    (0, 64, Step::Handles(REQUEST)),
+    (0, 1, Step::Waits(1_051_961)),
+    (0, 1, Step::Turns(Ok(Turn::Idle))),
+    (0, 1, Step::Takes(REQUEST, 31)),
+    (0, 1, Step::Says(Saying::KeepAlive, Err(SayError::Busy))),
+    (0, 1, Step::Turns(Err(TurnError::Busy))),
+    (3_385, 1, Step::Says(Saying::KeepAlive, Err(SayError::Busy))),
+    (0, 1, Step::Turns(Err(TurnError::Busy))),
+    (1, 1, Step::Turns(Ok(Turn::Handled))),
+];
+
+/// Whether the writer takes just so many bytes of those that are to be sent.
+fn drains(end: &mut End, writer: &mut MemTarget, count: usize) -> bool {
+    end.drain(writer, count) == Ok(count)
+}
+
+fn goes_often(end: &mut End, step: &Step, times: usize) -> bool {
+    for _ in 0..times {
+        if !goes(end, step) {
+            return false;
+        }
+    }
+    true
+}
+
+/// The number of the first row of the flood, counted from 0, that goes otherwise.
+fn wrong_of_flood(end: &mut End, writer: &mut MemTarget) -> Option<usize> {
+    for (number, (count, times, step)) in FLOOD.iter().enumerate() {
+        if !drains(end, writer, *count) || !goes_often(end, step, *times) {
+            return Some(number);
+        }
+    }
+    None
+}
+
+fn is_flooded(alloc: Global, end: &mut End) -> Option<usize> {
+    wrong_of_flood(end, &mut MemTarget::new(Vec::new(alloc), 4_096, None))
+}
+
+/// An end serves this metadata.
+fn serves(alloc: Global, metadata: Vec<u8>) -> Option<usize> {
+    let own = own(3, Rules::Free, 262_144);
+    match made(alloc, config(own, LEFT, Role::Serve(metadata))) {
+        Ok(mut end) => is_flooded(alloc, &mut end),
+        Err(_) => Some(0),
+    }
+}
+
+fn serves_sevens(alloc: Global) -> Option<usize> {
+    match vec![in alloc; 7; 16_384] {
+        Ok(metadata) => serves(alloc, metadata),
+        Err(_) => Some(0),
+    }
+}
+
+#[test]
+fn flood_of_requests(rt: HostRuntime) {
+    let wrong = serves_sevens(rt.alloc());
+    assert!(rt; wrong.is_none(), "{wrong:?}");
 }
 
 /// Requests for the blocks 0 to 8.
@@ -231,106 +270,88 @@ fn first_of_nine(alloc: Global) -> Result<Vec<u8>, AllocError> {
     frame(alloc, 20, fields.as_slice())
 }
 
-/// An end that fetches, and asks for so many blocks at once.
-fn fetching(blocks: u8) -> Config {
-    let config = config(own(9, Rules::Free, 262_144), RIGHT, Role::Fetch);
-    Config {
-        window: Window::new(blocks).unwrap_or_default(),
-        ..config
+const TOLD_NINE: &[u8] = b"\0\0\0\x32\x14\0d1:md11:ut_metadatai3ee13:metadata_sizei147456ee";
+
+/// Whether an end that is told of nine blocks asks for so many at once, and for one more when a block has come.
+fn asks(end: &mut End, blocks: u8, block: &[u8]) -> bool {
+    let count = blocks as usize;
+    handles(end, HAND)
+        && handles(end, TOLD_NINE)
+        && waiting(end) == 98 + 31 * count
+        && asks_for(end, count)
+        && handles(end, block)
+        && asks_for(end, count + 1)
+}
+
+fn asks_at_once(alloc: Global, blocks: u8, block: &[u8]) -> bool {
+    match made(alloc, fetching(Window::new(blocks).unwrap_or_default())) {
+        Ok(mut end) => asks(&mut end, blocks, block),
+        Err(_) => false,
     }
 }
 
-/// Whether an end that is told of nine blocks asks for so many at once, and for one more when a block has come.
-fn asks_at_once(alloc: Global, window: u8, block: &[u8]) -> Result<bool, EndError> {
-    let count = window as usize;
-    let mut end = made(alloc, fetching(window))?;
-    Ok(
-        handles(&mut end, HAND)
-            && handles(
-                &mut end,
-                b"\0\0\0\x32\x14\0d1:md11:ut_metadatai3ee13:metadata_sizei147456ee",
-            )
-            && waiting(&end) == 98 + 31 * count
-            && asks_for(&end, count)
-            && handles(&mut end, block)
-            && asks_for(&end, count + 1),
-    )
+fn is_asked(alloc: Global, blocks: u8) -> bool {
+    match first_of_nine(alloc) {
+        Ok(block) => asks_at_once(alloc, blocks, block.as_slice()),
+        Err(_) => false,
+    }
 }
 
 /// Of nine blocks an end asks for as many at once as its window says, and for one more when a block has come.
 #[test]
-fn requests_at_once(rt: HostRuntime) -> Result<(), Fail> {
-    let block = first_of_nine(rt.alloc())?;
+fn requests_at_once(rt: HostRuntime) {
     for window in [8, 1, 3] {
-        assert!(rt;
-            asks_at_once(rt.alloc(), window, block.as_slice())?,
-            "{window} at once"
-        );
+        assert!(rt; is_asked(rt.alloc(), window), "{window} at once");
     }
-    Ok(())
 }
+
+/// So many blocks at once, and whether there is such a window.
+const WINDOWS: &[(u8, bool)] = &[(0, false), (1, true), (8, true), (9, false), (255, false)];
 
 #[test]
-fn windows(rt: HostRuntime) -> Result<(), Fail> {
-    for (blocks, there) in [(0, false), (1, true), (8, true), (9, false), (255, false)] {
-        assert_eq!(rt; Window::new(blocks).is_some(), there);
+fn windows(rt: HostRuntime) {
+    for (blocks, there) in WINDOWS {
+        assert!(rt; Window::new(*blocks).is_some() == *there, "{blocks}");
     }
-    assert_eq!(rt; Some(Window::default()), Window::new(8));
-    Ok(())
+    assert!(rt; Window::new(8) == Some(Window::default()));
 }
 
-const REFUSAL: Refusal = Refusal {
-    message: 1,
-    at: 68,
-    reason: Reason::TooLong,
-};
-
-/// A message comes whose length is 262,145.
-const REFUSED: [Step; 9] = [
-    Step::Handles(HAND),
-    Step::Says(Saying::KeepAlive, Ok(())),
-    Step::Takes(b"\x00\x04\x00\x01\x00", 4),
-    Step::Says(Saying::KeepAlive, Err(SayError::NotOpen)),
-    Step::Turns(Err(TurnError::Refused(REFUSAL))),
-    Step::Takes(b"\x00", 0),
-    Step::Says(Saying::KeepAlive, Err(SayError::NotOpen)),
-    Step::Turns(Err(TurnError::Refused(REFUSAL))),
-    Step::Takes(b"\x00", 0),
+/// A limit, whether there is an info hash, whether no bytes are served or it watches, and why no such end is made.
+const REFUSALS: &[(u32, bool, bool, EndError)] = &[
+    (32_767, false, true, EndError::BadLimit),
+    (1_048_577, true, false, EndError::BadLimit),
+    (262_144, false, true, EndError::BadConfig),
+    (262_144, true, true, EndError::BadSize),
 ];
 
-/// A refusal stands, and nothing is said any more.
-#[test]
-fn refused_peer(rt: HostRuntime) -> Result<(), Fail> {
-    assert_eq!(rt;
-        stumbles(rt.alloc(), watching(Rules::Free), &REFUSED)?,
-        None
-    );
-    Ok(())
+fn hashed(limit: u32, is_hashed: bool) -> Own {
+    let own = own(3, Rules::Free, limit);
+    Own {
+        info_hash: if is_hashed { own.info_hash } else { None },
+        ..own
+    }
 }
 
-/// Why no end with this limit and info hash is made that serves no bytes, or watches.
-fn refusal(alloc: Global, limit: u32, hashed: bool, serves: bool) -> Option<EndError> {
-    let mut own = own(3, Rules::Free, limit);
-    if !hashed {
-        own.info_hash = None;
-    }
-    let role = if serves {
+fn role(alloc: Global, serves: bool) -> Role {
+    if serves {
         Role::Serve(Vec::new(alloc))
     } else {
         Role::Watch
-    };
+    }
+}
+
+fn refusal(alloc: Global, own: Own, role: Role) -> Option<EndError> {
     made(alloc, config(own, LEFT, role)).err()
 }
 
 #[test]
-fn ends_that_are_not_made(rt: HostRuntime) -> Result<(), Fail> {
-    for (limit, hashed, serves, error) in [
-        (32_767, false, true, EndError::BadLimit),
-        (1_048_577, true, false, EndError::BadLimit),
-        (262_144, false, true, EndError::BadConfig),
-        (262_144, true, true, EndError::BadSize),
-    ] {
-        assert_eq!(rt; refusal(rt.alloc(), limit, hashed, serves), Some(error));
+fn ends_that_are_not_made(rt: HostRuntime) {
+    for (limit, is_hashed, serves, error) in REFUSALS {
+        let refusal = refusal(
+            rt.alloc(),
+            hashed(*limit, *is_hashed),
+            role(rt.alloc(), *serves),
+        );
+        assert!(rt; refusal == Some(*error), "{limit} {is_hashed} {serves}");
     }
-    Ok(())
 }
