@@ -1,6 +1,6 @@
 //! Two ends, the bytes between them, and a fetch over two connections, where memory may be refused.
 use crate::setting::*;
-use bt_end::{End, EndError, Role, Turn, TurnError};
+use bt_end::{End, EndError, Turn, TurnError};
 use bt_ext::Rules;
 use std::alloc::{AllocError, Allocator, Global};
 
@@ -45,52 +45,18 @@ impl<A: Allocator> Memory<A> {
     }
 }
 
-/// Whether the end is to send these bytes, and has fetched metadata or not.
-pub(crate) fn is_as_before<A: Allocator + Copy>(
-    end: &End<A>,
-    outgoing: &[u8],
-    has_metadata: bool,
-) -> bool {
-    sends(end, 0, outgoing) && has(end, None) != has_metadata
-}
-
-/// What the end is to send, to be compared after a refused call.
-pub(crate) fn outgoing<A: Allocator + Copy>(
-    alloc: Global,
-    end: &End<A>,
-) -> Result<Vec<u8>, AllocError> {
-    end.outgoing().to_vec(alloc)
-}
-
-/// What the left end serves, or that the right one fetches.
-fn role<A: Allocator>(alloc: A, serves: bool) -> Result<Role<A>, AllocError> {
-    if serves {
-        Ok(Role::Serve(b"abc".to_vec(alloc)?))
-    } else {
-        Ok(Role::Fetch)
-    }
-}
-
-fn made_in<A: Allocator + Copy>(alloc: A, limit: u32, serves: bool) -> Result<End<A>, EndError> {
-    let (id, peer_id) = if serves { (3, LEFT) } else { (9, RIGHT) };
-    match role(alloc, serves) {
-        Ok(role) => made(alloc, config(own(id, Rules::Bep, limit), peer_id, role)),
-        Err(_) => Err(EndError::Memory),
-    }
-}
-
 /// Makes an end, and once more with the ballast given back where memory was refused.
 fn made_at_last<A: Allocator + Copy>(
     alloc: A,
+    who: &Who,
     limit: u32,
-    serves: bool,
     memory: &mut Memory<A>,
 ) -> Result<End<A>, EndError> {
-    match made_in(alloc, limit, serves) {
+    match made(alloc, who, Rules::Bep, limit) {
         Err(EndError::Memory) => {
             memory.refused.news = memory.refused.news.saturating_add(1);
             memory.give_back();
-            made_in(alloc, limit, serves)
+            made(alloc, who, Rules::Bep, limit)
         }
         made => made,
     }
@@ -179,18 +145,12 @@ struct Party<A: Allocator> {
 }
 
 impl<A: Allocator + Copy> Party<A> {
-    fn new(
-        alloc: Global,
-        own_alloc: A,
-        limit: u32,
-        serves: bool,
-        memory: &mut Memory<A>,
-    ) -> Result<Party<A>, EndError> {
-        Ok(Party {
-            end: made_at_last(own_alloc, limit, serves, memory)?,
+    fn new(alloc: Global, end: End<A>) -> Party<A> {
+        Party {
+            end,
             brought: Vec::new(alloc),
             taken: 0,
-        })
+        }
     }
 
     /// Takes of the bytes as many as belong to its present item.
@@ -320,32 +280,57 @@ fn fetches<A: Allocator + Copy>(
     is_done(&mut left.end, &right.end)
 }
 
-/// Makes the right end, which fetches from the left one.
-fn is_fetched_from<A: Allocator + Copy>(
+fn is_fetched<A: Allocator + Copy>(
     alloc: Global,
-    left: &mut Party<A>,
-    own_alloc: A,
-    limit: u32,
+    parties: &mut [Party<A>],
     memory: &mut Memory<A>,
     portion: usize,
 ) -> bool {
-    match Party::new(alloc, own_alloc, limit, false, memory) {
-        Ok(mut right) => fetches(alloc, left, &mut right, memory, portion),
+    match parties {
+        [left, right] => fetches(alloc, left, right, memory, portion),
+        _ => false,
+    }
+}
+
+/// Adds an end, and says whether it was made.
+fn joins<A: Allocator + Copy>(
+    alloc: Global,
+    own_alloc: A,
+    who: &Who,
+    limit: u32,
+    memory: &mut Memory<A>,
+    parties: &mut Vec<Party<A>>,
+) -> bool {
+    match made_at_last(own_alloc, who, limit, memory) {
+        Ok(end) => parties.push(Party::new(alloc, end)).is_ok(),
         Err(_) => false,
     }
 }
 
-fn is_fetched<A: Allocator + Copy>(
+/// Whether the fetch goes well between two new ends.
+fn is_run<A: Allocator + Copy>(
     alloc: Global,
     own_alloc: A,
     limit: u32,
     memory: &mut Memory<A>,
     portion: usize,
 ) -> bool {
-    match Party::new(alloc, own_alloc, limit, true, memory) {
-        Ok(mut left) => is_fetched_from(alloc, &mut left, own_alloc, limit, memory, portion),
-        Err(_) => false,
-    }
+    let mut parties = Vec::new(alloc);
+    joins(
+        alloc,
+        own_alloc,
+        &Who::ServingAbc,
+        limit,
+        memory,
+        &mut parties,
+    ) && joins(
+        alloc,
+        own_alloc,
+        &Who::Fetching(8),
+        limit,
+        memory,
+        &mut parties,
+    ) && is_fetched(alloc, &mut parties, memory, portion)
 }
 
 /// Runs the fetch between two ends with this limit, and says what was refused; `None` where a step went wrong. The ballast is
@@ -361,7 +346,7 @@ pub(crate) fn fetched<A: Allocator + Copy>(
         ballast,
         refused: Refused::none(),
     };
-    if is_fetched(alloc, own_alloc, limit, &mut memory, portion) {
+    if is_run(alloc, own_alloc, limit, &mut memory, portion) {
         Some(memory.refused)
     } else {
         None

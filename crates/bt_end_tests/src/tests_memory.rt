@@ -1,7 +1,7 @@
 //! Memory that is refused: each growth of a fetch in turn, and ends whose heaps are full.
 use crate::link::*;
 use crate::setting::*;
-use bt_end::{End, EndError, Role, SayError};
+use bt_end::{End, SayError};
 use bt_ext::Rules;
 use bt_wire::{Fault, Reason, frame};
 use linked_list_allocator::LocalHeap;
@@ -70,28 +70,14 @@ fn piece(alloc: Global) -> Result<Vec<u8>, AllocError> {
     frame(alloc, 7, vec![in alloc; 0; 8 + 16_384]?.as_slice())
 }
 
-/// What an end does, and what is so then.
-enum Deed {
-    /// It takes these steps.
-    Steps(&'static [Step]),
-    /// It handles a `piece` message with a block of 16,384 bytes.
-    Piece,
-    /// It says keep-alives until memory is refused.
-    RunsOut,
-    /// Memory is refused for a message, and all is as before.
-    Refuses,
-    /// It says one more message.
-    SaysMore,
-}
-
 const MISSING: SayError = SayError::Illegal(Fault::Reason(Reason::Missing));
 
 /// What is shown, what an end does before its heap is full, while it is full, and once there is memory again.
 type Row = (
     &'static str,
     &'static [Step],
-    &'static [Deed],
-    &'static [Deed],
+    &'static [Step],
+    &'static [Step],
 );
 
 const ROWS: &[Row] = &[
@@ -99,7 +85,7 @@ const ROWS: &[Row] = &[
         "a block takes no memory",
         // With the Fast Extension the first message says what the peer has (BEP 6): none.
         &[Step::Handles(HAND), Step::Handles(b"\0\0\0\x01\x0f")],
-        &[Deed::Piece, Deed::Piece, Deed::Piece],
+        &[Step::HandlesLong, Step::HandlesLong, Step::HandlesLong],
         &[],
     ),
     (
@@ -109,12 +95,12 @@ const ROWS: &[Row] = &[
             Step::Says(Saying::Unchoke, Err(SayError::NotOpen)),
             Step::Handles(HAND),
         ],
-        &[Deed::Steps(&[
+        &[
             Step::Says(Saying::Unchoke, Err(MISSING)),
             Step::Says(Saying::HaveNone, Ok(())),
             Step::Says(Saying::Unchoke, Ok(())),
             Step::Says(Saying::Have(1), Err(SayError::PiecesUnknown)),
-        ])],
+        ],
         &[],
     ),
     (
@@ -122,115 +108,74 @@ const ROWS: &[Row] = &[
         "said on a full heap",
         &[Step::Handles(HAND)],
         &[
-            Deed::Steps(&[Step::Says(Saying::HaveNone, Ok(()))]),
-            Deed::RunsOut,
-            Deed::Refuses,
+            Step::Says(Saying::HaveNone, Ok(())),
+            Step::RunsOut,
+            Step::Refuses,
         ],
-        &[Deed::SaysMore],
+        &[Step::SaysMore],
     ),
 ];
 
-/// Says keep-alives until one is refused, or 100,000 times, and says whether memory was refused.
-fn runs_out<A: Allocator + Copy>(end: &mut End<A>) -> bool {
-    for _ in 0..100_000 {
-        match said(end, &Saying::KeepAlive) {
-            Ok(()) => {}
-            Err(SayError::Memory) => return true,
-            Err(_) => return false,
-        }
-    }
-    false
-}
-
-/// Whether memory is refused for a message to an end that is to send these bytes, and all is as before.
-fn is_refused<A: Allocator + Copy>(end: &mut End<A>, outgoing: &[u8]) -> bool {
-    let has_metadata = !has(end, None);
-    says(end, &Saying::Unchoke, Err(SayError::Memory)) && is_as_before(end, outgoing, has_metadata)
-}
-
-fn refuses<A: Allocator + Copy>(alloc: Global, end: &mut End<A>) -> bool {
-    match outgoing(alloc, end) {
-        Ok(bytes) => is_refused(end, bytes.as_slice()),
-        Err(_) => false,
-    }
-}
-
-fn says_more<A: Allocator + Copy>(end: &mut End<A>) -> bool {
-    let at = waiting(end);
-    says(end, &Saying::Unchoke, Ok(())) && sends(end, at, b"\0\0\0\x01\x01")
-}
-
-fn does<A: Allocator + Copy>(alloc: Global, end: &mut End<A>, piece: &[u8], deed: &Deed) -> bool {
-    match deed {
-        Deed::Steps(steps) => first_wrong(end, steps).is_none(),
-        Deed::Piece => handles(end, piece),
-        Deed::RunsOut => runs_out(end),
-        Deed::Refuses => refuses(alloc, end),
-        Deed::SaysMore => says_more(end),
-    }
-}
-
-fn does_all<A: Allocator + Copy>(
+fn goes<A: Allocator + Copy>(
     alloc: Global,
     end: &mut End<A>,
+    steps: &[Step],
     piece: &[u8],
-    deeds: &[Deed],
 ) -> bool {
-    for deed in deeds {
-        if !does(alloc, end, piece, deed) {
-            return false;
-        }
-    }
-    true
+    first_wrong(alloc, end, steps, piece).is_none()
 }
 
-/// Whether an end does all this on a heap that is full, and stays so.
-fn does_on_full(
+/// Whether the steps go so on a heap that is full, and stays so. The allocator is the heap's.
+fn goes_on_full<A: Allocator + Copy>(
     alloc: Global,
     heap: &LocalHeap,
-    end: &mut End<&LocalHeap>,
+    own_alloc: A,
+    end: &mut End<A>,
+    steps: &[Step],
     piece: &[u8],
-    deeds: &[Deed],
 ) -> bool {
-    match fill(alloc, heap) {
-        Ok(_taken) => { heap.free() == 0 && does_all(alloc, end, piece, deeds) && heap.free() == 0 }
+    match fill(alloc, own_alloc) {
+        Ok(_taken) => { heap.free() == 0 && goes(alloc, end, steps, piece) && heap.free() == 0 }
         Err(_) => false,
     }
 }
 
-fn goes_so(
+fn goes_so<A: Allocator + Copy>(
     alloc: Global,
     heap: &LocalHeap,
-    end: &mut End<&LocalHeap>,
-    piece: &[u8],
+    own_alloc: A,
+    end: &mut End<A>,
     (_, before, full, after): &Row,
+    piece: &[u8],
 ) -> bool {
-    first_wrong(end, before).is_none()
-        && does_on_full(alloc, heap, end, piece, full)
-        && does_all(alloc, end, piece, after)
+    goes(alloc, end, before, piece)
+        && goes_on_full(alloc, heap, own_alloc, end, full, piece)
+        && goes(alloc, end, after, piece)
 }
 
-fn watching<A: Allocator + Copy>(heap: A) -> Result<End<A>, EndError> {
-    made(heap, config(own(3, Rules::Bep, 32_768), LEFT, Role::Watch))
-}
-
-fn goes_on(alloc: Global, heap: &LocalHeap, piece: &[u8], row: &Row) -> bool {
-    match watching(heap) {
-        Ok(mut end) => goes_so(alloc, heap, &mut end, piece, row),
+fn goes_on<A: Allocator + Copy>(
+    alloc: Global,
+    heap: &LocalHeap,
+    own_alloc: A,
+    row: &Row,
+    piece: &[u8],
+) -> bool {
+    match made(own_alloc, &Who::Watching, Rules::Bep, 32_768) {
+        Ok(mut end) => goes_so(alloc, heap, own_alloc, &mut end, row, piece),
         Err(_) => false,
     }
 }
 
-fn goes_with(alloc: Global, piece: &[u8], row: &Row) -> bool {
+fn goes_with(alloc: Global, row: &Row, piece: &[u8]) -> bool {
     match LocalHeap::new(alloc, 131_072) {
-        Ok(heap) => goes_on(alloc, &heap, piece, row),
+        Ok(heap) => goes_on(alloc, &heap, &heap, row, piece),
         Err(_) => false,
     }
 }
 
 fn is_right(alloc: Global, row: &Row) -> bool {
     match piece(alloc) {
-        Ok(piece) => goes_with(alloc, piece.as_slice(), row),
+        Ok(piece) => goes_with(alloc, row, piece.as_slice()),
         Err(_) => false,
     }
 }

@@ -41,8 +41,9 @@ fn rejects<A: Allocator>(assembly: &mut Assembly<A>, piece: u32) -> Result<(), B
     assembly.reject(piece)
 }
 
-fn disconnects<A: Allocator>(assembly: &mut Assembly<A>) {
+fn disconnects<A: Allocator>(assembly: &mut Assembly<A>) -> bool {
     assembly.disconnect();
+    true
 }
 
 fn finished<A: Allocator>(assembly: Assembly<A>) -> Result<Vec<u8, A>, Unfinished<A>> {
@@ -105,20 +106,32 @@ fn asked<A: Allocator>(assembly: &Assembly<A>) -> usize {
     assembly.asked()
 }
 
+/// Takes the first bytes of these as a block.
+fn takes_first<A: Allocator>(
+    assembly: &mut Assembly<A>,
+    piece: u32,
+    total: u64,
+    bytes: &[u8],
+    length: usize,
+) -> Result<(), BlockError> {
+    takes(
+        assembly,
+        piece,
+        total,
+        bytes.get(..length).unwrap_or_default(),
+    )
+}
+
 fn goes<A: Allocator>(assembly: &mut Assembly<A>, step: &Step, block: &[u8]) -> bool {
     match step {
         Step::Size(want) => size(assembly) == *want,
         Step::Ask(want) => asks(assembly) == *want,
         Step::Asked(want) => asked(assembly) == *want,
         Step::Data(piece, total, length, want) => {
-            let block = block.get(..*length).unwrap_or_default();
-            takes(assembly, *piece, *total, block) == *want
+            takes_first(assembly, *piece, *total, block, *length) == *want
         }
         Step::Reject(piece, want) => rejects(assembly, *piece) == *want,
-        Step::Disconnect => {
-            disconnects(assembly);
-            true
-        }
+        Step::Disconnect => disconnects(assembly),
     }
 }
 
