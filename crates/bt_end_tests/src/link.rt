@@ -2,7 +2,7 @@
 use crate::setting::*;
 use bt_end::{End, EndError, Turn, TurnError};
 use bt_ext::Rules;
-use std::alloc::{AllocError, Allocator, Global};
+use std::alloc::{Allocator, Global};
 
 /// Which calls met a refused request for memory.
 #[derive(Clone, Copy)]
@@ -32,14 +32,22 @@ impl Refused {
     }
 }
 
-/// Memory that is taken, so that others find less, until a request is refused.
+/// What a run has beside its two ends.
 #[derive(Drop)]
-struct Memory<A: Allocator> {
+struct Run<A: Allocator> {
+    alloc: Global,
+    /// At most so many bytes are brought at once.
+    portion: usize,
+    /// How many of the bytes that the right end is to send are on their way to the left one, and the other way round. They stay
+    /// with the end that sends them until the other one takes them.
+    to_left: usize,
+    to_right: usize,
+    /// Memory that is taken, so that the ends find less, until a request is refused.
     ballast: Option<Vec<u8, A>>,
     refused: Refused,
 }
 
-impl<A: Allocator> Memory<A> {
+impl<A: Allocator> Run<A> {
     fn give_back(&mut self) {
         self.ballast = None;
     }
@@ -50,12 +58,12 @@ fn made_at_last<A: Allocator + Copy>(
     alloc: A,
     who: &Who,
     limit: u32,
-    memory: &mut Memory<A>,
+    run: &mut Run<A>,
 ) -> Result<End<A>, EndError> {
     match made(alloc, who, Rules::Bep, limit) {
         Err(EndError::Memory) => {
-            memory.refused.news = memory.refused.news.saturating_add(1);
-            memory.give_back();
+            run.refused.news = run.refused.news.saturating_add(1);
+            run.give_back();
             made(alloc, who, Rules::Bep, limit)
         }
         made => made,
@@ -106,7 +114,7 @@ fn count(refused: &mut Refused, which: Call) {
 /// to succeed with the ballast given back.
 fn called_at_last<A: Allocator + Copy>(
     end: &mut End<A>,
-    memory: &mut Memory<A>,
+    run: &mut Run<A>,
     which: Call,
     outgoing: &[u8],
 ) -> bool {
@@ -115,91 +123,90 @@ fn called_at_last<A: Allocator + Copy>(
         Went::Done => true,
         Went::Otherwise => false,
         Went::OutOfMemory => {
-            count(&mut memory.refused, which);
-            memory.give_back();
+            count(&mut run.refused, which);
+            run.give_back();
             is_as_before(end, outgoing, has_metadata) && succeeds(end, which)
         }
     }
 }
 
-/// Adds up to n bytes of those that the end is to send to the bytes that were brought, and says how many.
-fn load<A: Allocator + Copy>(
-    end: &mut End<A>,
-    brought: &mut Vec<u8>,
+fn calls<A: Allocator + Copy>(end: &mut End<A>, run: &mut Run<A>, which: Call) -> bool {
+    match outgoing(run.alloc, end) {
+        Ok(bytes) => called_at_last(end, run, which, bytes.as_slice()),
+        Err(_) => false,
+    }
+}
+
+/// Begins a new connection.
+fn renews<A: Allocator + Copy>(end: &mut End<A>, run: &mut Run<A>) -> bool {
+    calls(end, run, Call::Reset) && waiting(end) == 68
+}
+
+/// Begins a new connection of both ends. What was on its way is lost.
+fn renew<A: Allocator + Copy>(left: &mut End<A>, right: &mut End<A>, run: &mut Run<A>) -> bool {
+    run.to_left = 0;
+    run.to_right = 0;
+    renews(left, run) && renews(right, run)
+}
+
+/// Gives an end as many of the bytes on their way as belong to its present item, and says how many are still on their way.
+fn bring<A: Allocator + Copy>(from: &mut End<A>, to: &mut End<A>, on_the_way: usize) -> usize {
+    let bytes = from.outgoing();
+    let taken = takes(to, bytes.get(..on_the_way).unwrap_or_default()).min(bytes.len());
+    from.sent(taken);
+    on_the_way.saturating_sub(taken)
+}
+
+/// Brings n bytes, in portions of at most so many, and then none. It says how many are on their way then; `None` where not as
+/// many were there.
+fn brings<A: Allocator + Copy>(
+    from: &mut End<A>,
+    to: &mut End<A>,
+    on_the_way: usize,
     n: usize,
-) -> Result<usize, AllocError> {
-    let bytes = end.outgoing();
-    let count = n.min(bytes.len());
-    brought.extend_from_slice(&bytes[..count])?;
-    end.sent(count);
-    Ok(count)
+    portion: usize,
+) -> Option<usize> {
+    let mut way = on_the_way;
+    let mut left = n;
+    for _ in 0..n {
+        let count = left.min(portion);
+        left = left.saturating_sub(count);
+        way = way.saturating_add(count);
+        if way > waiting(from) {
+            return None;
+        }
+        way = bring(from, to, way);
+    }
+    Some(bring(from, to, way))
 }
 
-/// An end, and the bytes on their way to it.
-#[derive(Drop)]
-struct Party<A: Allocator> {
-    end: End<A>,
-    /// The bytes that were brought to it, and how many of them it took.
-    brought: Vec<u8>,
-    taken: usize,
+fn brings_left<A: Allocator + Copy>(
+    left: &mut End<A>,
+    right: &mut End<A>,
+    run: &mut Run<A>,
+    n: usize,
+) -> bool {
+    match brings(right, left, run.to_left, n, run.portion) {
+        Some(way) => {
+            run.to_left = way;
+            true
+        }
+        None => false,
+    }
 }
 
-impl<A: Allocator + Copy> Party<A> {
-    fn new(alloc: Global, end: End<A>) -> Party<A> {
-        Party {
-            end,
-            brought: Vec::new(alloc),
-            taken: 0,
+fn brings_right<A: Allocator + Copy>(
+    left: &mut End<A>,
+    right: &mut End<A>,
+    run: &mut Run<A>,
+    n: usize,
+) -> bool {
+    match brings(left, right, run.to_right, n, run.portion) {
+        Some(way) => {
+            run.to_right = way;
+            true
         }
-    }
-
-    /// Takes of the bytes as many as belong to its present item.
-    fn receive(&mut self) {
-        if let Some(bytes) = self.brought.as_slice().get(self.taken..) {
-            self.taken = self.taken.saturating_add(takes(&mut self.end, bytes));
-        }
-    }
-
-    /// Brings up to n bytes that the other one is to send, and says how many.
-    fn bring(&mut self, other: &mut Party<A>, n: usize) -> Option<usize> {
-        let count = load(&mut other.end, &mut self.brought, n).ok();
-        self.receive();
-        count
-    }
-
-    /// Brings n bytes, in portions of at most so many, and then none. It says whether as many were there.
-    fn brings(&mut self, other: &mut Party<A>, n: usize, portion: usize) -> bool {
-        let mut left = n;
-        for _ in 0..n {
-            let Some(count) = self.bring(other, left.min(portion)) else {
-                return false;
-            };
-            left = left.saturating_sub(count);
-            if left == 0 {
-                break;
-            }
-        }
-        self.bring(other, 0) == Some(0) && left == 0
-    }
-
-    fn calls(&mut self, alloc: Global, memory: &mut Memory<A>, which: Call) -> bool {
-        match outgoing(alloc, &self.end) {
-            Ok(bytes) => called_at_last(&mut self.end, memory, which, bytes.as_slice()),
-            Err(_) => false,
-        }
-    }
-
-    fn turns(&mut self, alloc: Global, memory: &mut Memory<A>) -> bool {
-        let is_done = self.calls(alloc, memory, Call::Turn);
-        self.receive();
-        is_done
-    }
-
-    /// Begins a new connection.
-    fn resets(&mut self, alloc: Global, memory: &mut Memory<A>) -> bool {
-        self.brought.clear();
-        self.taken = 0;
-        self.calls(alloc, memory, Call::Reset) && waiting(&self.end) == 68
+        None => false,
     }
 }
 
@@ -237,21 +244,20 @@ const FETCH: &[Move] = &[
     Move::TurnRight,
 ];
 
-/// Makes a move, and says whether its delivery was full or its turn was handled.
+/// Makes a move, and says whether its delivery was full or its turn was handled. What is on its way to an end that took a turn
+/// is brought on.
 fn goes<A: Allocator + Copy>(
-    alloc: Global,
-    left: &mut Party<A>,
-    right: &mut Party<A>,
-    memory: &mut Memory<A>,
+    left: &mut End<A>,
+    right: &mut End<A>,
+    run: &mut Run<A>,
     next: &Move,
-    portion: usize,
 ) -> bool {
     match next {
-        Move::ToLeft(n) => left.brings(right, *n, portion),
-        Move::ToRight(n) => right.brings(left, *n, portion),
-        Move::TurnLeft => left.turns(alloc, memory),
-        Move::TurnRight => right.turns(alloc, memory),
-        Move::Reset => left.resets(alloc, memory) && right.resets(alloc, memory),
+        Move::ToLeft(n) => brings_left(left, right, run, *n),
+        Move::ToRight(n) => brings_right(left, right, run, *n),
+        Move::TurnLeft => calls(left, run, Call::Turn) && brings_left(left, right, run, 0),
+        Move::TurnRight => calls(right, run, Call::Turn) && brings_right(left, right, run, 0),
+        Move::Reset => renew(left, right, run),
     }
 }
 
@@ -265,72 +271,34 @@ fn is_done<A: Allocator + Copy>(left: &mut End<A>, right: &End<A>) -> bool {
 }
 
 /// Makes the moves of the fetch, and says whether nothing was fetched before the last one, and all went well.
-fn fetches<A: Allocator + Copy>(
-    alloc: Global,
-    left: &mut Party<A>,
-    right: &mut Party<A>,
-    memory: &mut Memory<A>,
-    portion: usize,
-) -> bool {
+fn fetches<A: Allocator + Copy>(left: &mut End<A>, right: &mut End<A>, run: &mut Run<A>) -> bool {
     for next in FETCH {
-        if !has(&right.end, None) || !goes(alloc, left, right, memory, next, portion) {
+        if !has(right, None) || !goes(left, right, run, next) {
             return false;
         }
     }
-    is_done(&mut left.end, &right.end)
+    is_done(left, right)
 }
 
+/// Makes the right end, which fetches from the left one.
 fn is_fetched<A: Allocator + Copy>(
-    alloc: Global,
-    parties: &mut [Party<A>],
-    memory: &mut Memory<A>,
-    portion: usize,
-) -> bool {
-    match parties {
-        [left, right] => fetches(alloc, left, right, memory, portion),
-        _ => false,
-    }
-}
-
-/// Adds an end, and says whether it was made.
-fn joins<A: Allocator + Copy>(
-    alloc: Global,
-    own_alloc: A,
-    who: &Who,
+    alloc: A,
     limit: u32,
-    memory: &mut Memory<A>,
-    parties: &mut Vec<Party<A>>,
+    left: &mut End<A>,
+    run: &mut Run<A>,
 ) -> bool {
-    match made_at_last(own_alloc, who, limit, memory) {
-        Ok(end) => parties.push(Party::new(alloc, end)).is_ok(),
+    match made_at_last(alloc, &Who::Fetching(8), limit, run) {
+        Ok(mut right) => fetches(left, &mut right, run),
         Err(_) => false,
     }
 }
 
-/// Whether the fetch goes well between two new ends.
-fn is_run<A: Allocator + Copy>(
-    alloc: Global,
-    own_alloc: A,
-    limit: u32,
-    memory: &mut Memory<A>,
-    portion: usize,
-) -> bool {
-    let mut parties = Vec::new(alloc);
-    joins(
-        alloc,
-        own_alloc,
-        &Who::ServingAbc,
-        limit,
-        memory,
-        &mut parties,
-    ) && joins(
-        alloc,
-        own_alloc,
-        &Who::Fetching(8),
-        limit,
-        memory,
-        &mut parties,
-    ) && is_fetched(alloc, &mut parties, memory, portion)
+/// Makes both ends, and says whether the fetch goes well.
+fn is_served<A: Allocator + Copy>(alloc: A, limit: u32, run: &mut Run<A>) -> bool {
+    match made_at_last(alloc, &Who::ServingAbc, limit, run) {
+        Ok(mut left) => is_fetched(alloc, limit, &mut left, run),
+        Err(_) => false,
+    }
 }
 
 /// Runs the fetch between two ends with this limit, and says what was refused; `None` where a step went wrong. The ballast is
@@ -342,12 +310,16 @@ pub(crate) fn fetched<A: Allocator + Copy>(
     portion: usize,
     ballast: Option<Vec<u8, A>>,
 ) -> Option<Refused> {
-    let mut memory = Memory {
+    let mut run = Run {
+        alloc,
+        portion,
+        to_left: 0,
+        to_right: 0,
         ballast,
         refused: Refused::none(),
     };
-    if is_run(alloc, own_alloc, limit, &mut memory, portion) {
-        Some(memory.refused)
+    if is_served(own_alloc, limit, &mut run) {
+        Some(run.refused)
     } else {
         None
     }
