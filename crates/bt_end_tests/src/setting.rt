@@ -149,7 +149,16 @@ pub(crate) enum Step {
     /// This metadata was fetched.
     Has(Option<&'static [u8]>),
     Resets,
+    /// What is left of its heap is taken.
+    Fills,
+    /// Nothing is left of it.
+    IsFull,
+    /// What was taken is given back.
+    Frees,
 }
+
+/// What is shown, an end, its rules and its limit, and its steps.
+pub(crate) type Row = (&'static str, Who, Rules, u32, &'static [Step]);
 
 pub(crate) fn takes<A: Allocator + Copy>(end: &mut End<A>, bytes: &[u8]) -> usize {
     end.receive(bytes)
@@ -283,7 +292,50 @@ fn resets<A: Allocator + Copy>(end: &mut End<A>) -> bool {
     end.reset().is_ok()
 }
 
-fn goes<A: Allocator + Copy>(alloc: Global, end: &mut End<A>, step: &Step, long: &[u8]) -> bool {
+/// The heap of an end, and what is taken of it.
+#[derive(Drop)]
+struct Heap<A: Allocator> {
+    /// The allocator of the test.
+    alloc: Global,
+    own_alloc: A,
+    taken: Vec<Vec<u8, A>>,
+}
+
+impl<A: Allocator + Copy> Heap<A> {
+    /// Takes what is left.
+    fn fill(&mut self) -> Result<(), AllocError> {
+        for size in [4_096usize, 256, 16] {
+            for _ in 0..64 {
+                let Ok(part) = Vec::with_capacity(self.own_alloc, size) else {
+                    break;
+                };
+                self.taken.push(part)?;
+            }
+        }
+        Ok(())
+    }
+
+    /// Whether even a request for one byte is refused.
+    fn is_full(&self) -> bool {
+        Vec::<u8, A>::with_capacity(self.own_alloc, 1).is_err()
+    }
+
+    fn fills(&mut self) -> bool {
+        self.fill().is_ok() && self.is_full()
+    }
+
+    fn frees(&mut self) -> bool {
+        self.taken.clear();
+        true
+    }
+}
+
+fn goes<A: Allocator + Copy>(
+    heap: &mut Heap<A>,
+    end: &mut End<A>,
+    step: &Step,
+    long: &[u8],
+) -> bool {
     match step {
         Step::Handles(bytes) => handles(end, bytes),
         Step::Repeats(times, bytes) => repeats(end, *times, bytes),
@@ -292,28 +344,57 @@ fn goes<A: Allocator + Copy>(alloc: Global, end: &mut End<A>, step: &Step, long:
         Step::Turns(answer) => turns(end, *answer),
         Step::Says(saying, answer) => says(end, saying, *answer),
         Step::RunsOut => runs_out(end),
-        Step::Refuses => refuses(alloc, end),
+        Step::Refuses => refuses(heap.alloc, end),
         Step::SaysMore => says_more(end),
         Step::Waits(count) => waiting(end) == *count,
         Step::Sends(at, bytes) => sends(end, *at, bytes),
         Step::Asks(count) => asks_for(end, *count),
-        Step::Drains(count) => drains(alloc, end, *count),
+        Step::Drains(count) => drains(heap.alloc, end, *count),
         Step::Has(metadata) => has(end, *metadata),
         Step::Resets => resets(end),
+        Step::Fills => heap.fills(),
+        Step::IsFull => heap.is_full(),
+        Step::Frees => heap.frees(),
     }
 }
 
-/// The number of the first step, counted from 0, that doesn't go so. The long message is that of the steps `HandlesLong`.
-pub(crate) fn first_wrong<A: Allocator + Copy>(
-    alloc: Global,
+fn first_wrong<A: Allocator + Copy>(
+    heap: &mut Heap<A>,
     end: &mut End<A>,
     steps: &[Step],
     long: &[u8],
 ) -> Option<usize> {
     for (number, step) in steps.iter().enumerate() {
-        if !goes(alloc, end, step, long) {
+        if !goes(heap, end, step, long) {
             return Some(number);
         }
     }
     None
+}
+
+fn stumbles<A: Allocator + Copy>(
+    heap: &mut Heap<A>,
+    (_, who, rules, limit, steps): &Row,
+    long: &[u8],
+) -> Option<usize> {
+    match made(heap.own_alloc, who, *rules, *limit) {
+        Ok(mut end) => first_wrong(heap, &mut end, steps, long),
+        Err(_) => Some(0),
+    }
+}
+
+/// The number of the first step of the row, counted from 0, that doesn't go so. None is taken where no end is made. The long
+/// message is that of the steps `HandlesLong`.
+pub(crate) fn wrong_step<A: Allocator + Copy>(
+    alloc: Global,
+    own_alloc: A,
+    row: &Row,
+    long: &[u8],
+) -> Option<usize> {
+    let mut heap = Heap {
+        alloc,
+        own_alloc,
+        taken: Vec::new(alloc),
+    };
+    stumbles(&mut heap, row, long)
 }

@@ -162,28 +162,59 @@ const THREE_AT_ONCE: &[Step] = &[
     Step::Asks(4),
 ];
 
-/// What is shown, an end, its rules, and its steps.
-type Row = (&'static str, Who, Rules, &'static [Step]);
+const LIMIT: u32 = 262_144;
 
 const ROWS: &[Row] = &[
-    ("what an end says", Who::Watching, Rules::Bep, SAYINGS),
-    ("pieces are taken back", Who::OfTen, Rules::Bep, TAKEN_BACK),
-    ("flood of requests", Who::ServingSevens, Rules::Free, FLOOD),
-    ("false blocks", Who::Fetching(8), Rules::Free, FALSE_BLOCKS),
+    (
+        "what an end says",
+        Who::Watching,
+        Rules::Bep,
+        LIMIT,
+        SAYINGS,
+    ),
+    (
+        "pieces are taken back",
+        Who::OfTen,
+        Rules::Bep,
+        LIMIT,
+        TAKEN_BACK,
+    ),
+    (
+        "flood of requests",
+        Who::ServingSevens,
+        Rules::Free,
+        LIMIT,
+        FLOOD,
+    ),
+    (
+        "false blocks",
+        Who::Fetching(8),
+        Rules::Free,
+        LIMIT,
+        FALSE_BLOCKS,
+    ),
     (
         "eight at once",
         Who::Fetching(8),
         Rules::Free,
+        LIMIT,
         EIGHT_AT_ONCE,
     ),
-    ("one at once", Who::Fetching(1), Rules::Free, ONE_AT_ONCE),
+    (
+        "one at once",
+        Who::Fetching(1),
+        Rules::Free,
+        LIMIT,
+        ONE_AT_ONCE,
+    ),
     (
         "three at once",
         Who::Fetching(3),
         Rules::Free,
+        LIMIT,
         THREE_AT_ONCE,
     ),
-    ("refused peer", Who::Watching, Rules::Free, REFUSED),
+    ("refused peer", Who::Watching, Rules::Free, LIMIT, REFUSED),
 ];
 
 /// The message with the first of nine blocks.
@@ -194,17 +225,9 @@ fn first_of_nine(alloc: Global) -> Result<Vec<u8>, AllocError> {
     frame(alloc, 20, fields.as_slice())
 }
 
-fn stumbles(alloc: Global, (_, who, rules, steps): &Row, long: &[u8]) -> Option<usize> {
-    match made(alloc, who, *rules, 262_144) {
-        Ok(mut end) => first_wrong(alloc, &mut end, steps, long),
-        Err(_) => Some(0),
-    }
-}
-
-/// The number of the first step of the row, counted from 0, that doesn't go so. None is taken where no end is made.
-fn wrong_step(alloc: Global, row: &Row) -> Option<usize> {
+fn wrong_of(alloc: Global, row: &Row) -> Option<usize> {
     match first_of_nine(alloc) {
-        Ok(block) => stumbles(alloc, row, block.as_slice()),
+        Ok(block) => wrong_step(alloc, alloc, row, block.as_slice()),
         Err(_) => Some(0),
     }
 }
@@ -212,7 +235,7 @@ fn wrong_step(alloc: Global, row: &Row) -> Option<usize> {
 #[test]
 fn steps_of_ends(rt: HostRuntime) {
     for row in ROWS {
-        let wrong = wrong_step(rt.alloc(), row);
+        let wrong = wrong_of(rt.alloc(), row);
         assert!(rt; wrong.is_none(), "{}: {wrong:?}", row.0);
     }
 }

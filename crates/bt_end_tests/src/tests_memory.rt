@@ -1,7 +1,7 @@
 //! Memory that is refused: each growth of a fetch in turn, and ends whose heaps are full.
 use crate::link::*;
 use crate::setting::*;
-use bt_end::{End, SayError};
+use bt_end::SayError;
 use bt_ext::Rules;
 use bt_wire::{Fault, Reason, frame};
 use linked_list_allocator::LocalHeap;
@@ -51,138 +51,90 @@ fn each_growth_refused(rt: HostRuntime) -> Result<(), Fail> {
     Ok(())
 }
 
-/// Takes what is left of a heap.
-fn fill<A: Allocator + Copy>(alloc: Global, heap: A) -> Result<Vec<Vec<u8, A>>, AllocError> {
-    let mut taken = Vec::new(alloc);
-    for size in [4_096usize, 256, 16] {
-        for _ in 0..64 {
-            let Ok(part) = Vec::with_capacity(heap, size) else {
-                break;
-            };
-            taken.push(part)?;
-        }
-    }
-    Ok(taken)
-}
-
 /// A `piece` message with a block of 16,384 bytes.
 fn piece(alloc: Global) -> Result<Vec<u8>, AllocError> {
     frame(alloc, 7, vec![in alloc; 0; 8 + 16_384]?.as_slice())
 }
 
+/// With the Fast Extension the first message says what the peer has (BEP 6): none.
+const HANDLED: &[Step] = &[
+    Step::Handles(HAND),
+    Step::Handles(b"\0\0\0\x01\x0f"),
+    Step::Fills,
+    Step::HandlesLong,
+    Step::HandlesLong,
+    Step::HandlesLong,
+    Step::IsFull,
+];
+
 const MISSING: SayError = SayError::Illegal(Fault::Reason(Reason::Missing));
 
-/// What is shown, what an end does before its heap is full, while it is full, and once there is memory again.
-type Row = (
-    &'static str,
-    &'static [Step],
-    &'static [Step],
-    &'static [Step],
-);
+/// What is said with no memory but the room that was reserved, once the peer's handshake is handled.
+const SAID: &[Step] = &[
+    Step::Says(Saying::Unchoke, Err(SayError::NotOpen)),
+    Step::Handles(HAND),
+    Step::Fills,
+    Step::Says(Saying::Unchoke, Err(MISSING)),
+    Step::Says(Saying::HaveNone, Ok(())),
+    Step::Says(Saying::Unchoke, Ok(())),
+    Step::Says(Saying::Have(1), Err(SayError::PiecesUnknown)),
+];
+
+/// What is said as long as there is room, and again once there is memory.
+const SAID_WHILE_FULL: &[Step] = &[
+    Step::Handles(HAND),
+    Step::Fills,
+    Step::Says(Saying::HaveNone, Ok(())),
+    Step::RunsOut,
+    Step::Refuses,
+    Step::Frees,
+    Step::SaysMore,
+];
+
+const LIMIT: u32 = 32_768;
 
 const ROWS: &[Row] = &[
     (
         "a block takes no memory",
-        // With the Fast Extension the first message says what the peer has (BEP 6): none.
-        &[Step::Handles(HAND), Step::Handles(b"\0\0\0\x01\x0f")],
-        &[Step::HandlesLong, Step::HandlesLong, Step::HandlesLong],
-        &[],
+        Who::Watching,
+        Rules::Bep,
+        LIMIT,
+        HANDLED,
     ),
     (
-        // With no memory but the room that was reserved, once the peer's handshake is handled.
         "said in reserved room",
-        &[
-            Step::Says(Saying::Unchoke, Err(SayError::NotOpen)),
-            Step::Handles(HAND),
-        ],
-        &[
-            Step::Says(Saying::Unchoke, Err(MISSING)),
-            Step::Says(Saying::HaveNone, Ok(())),
-            Step::Says(Saying::Unchoke, Ok(())),
-            Step::Says(Saying::Have(1), Err(SayError::PiecesUnknown)),
-        ],
-        &[],
+        Who::Watching,
+        Rules::Bep,
+        LIMIT,
+        SAID,
     ),
     (
-        // As long as there is room, and again once there is memory.
         "said on a full heap",
-        &[Step::Handles(HAND)],
-        &[
-            Step::Says(Saying::HaveNone, Ok(())),
-            Step::RunsOut,
-            Step::Refuses,
-        ],
-        &[Step::SaysMore],
+        Who::Watching,
+        Rules::Bep,
+        LIMIT,
+        SAID_WHILE_FULL,
     ),
 ];
 
-fn goes<A: Allocator + Copy>(
-    alloc: Global,
-    end: &mut End<A>,
-    steps: &[Step],
-    piece: &[u8],
-) -> bool {
-    first_wrong(alloc, end, steps, piece).is_none()
-}
-
-/// Whether the steps go so on a heap that is full, and stays so. The allocator is the heap's.
-fn goes_on_full<A: Allocator + Copy>(
-    alloc: Global,
-    heap: &LocalHeap,
-    own_alloc: A,
-    end: &mut End<A>,
-    steps: &[Step],
-    piece: &[u8],
-) -> bool {
-    match fill(alloc, own_alloc) {
-        Ok(_taken) => { heap.free() == 0 && goes(alloc, end, steps, piece) && heap.free() == 0 }
-        Err(_) => false,
-    }
-}
-
-fn goes_so<A: Allocator + Copy>(
-    alloc: Global,
-    heap: &LocalHeap,
-    own_alloc: A,
-    end: &mut End<A>,
-    (_, before, full, after): &Row,
-    piece: &[u8],
-) -> bool {
-    goes(alloc, end, before, piece)
-        && goes_on_full(alloc, heap, own_alloc, end, full, piece)
-        && goes(alloc, end, after, piece)
-}
-
-fn goes_on<A: Allocator + Copy>(
-    alloc: Global,
-    heap: &LocalHeap,
-    own_alloc: A,
-    row: &Row,
-    piece: &[u8],
-) -> bool {
-    match made(own_alloc, &Who::Watching, Rules::Bep, 32_768) {
-        Ok(mut end) => goes_so(alloc, heap, own_alloc, &mut end, row, piece),
-        Err(_) => false,
-    }
-}
-
-fn goes_with(alloc: Global, row: &Row, piece: &[u8]) -> bool {
+fn wrong_with(alloc: Global, row: &Row, piece: &[u8]) -> Option<usize> {
     match LocalHeap::new(alloc, 131_072) {
-        Ok(heap) => goes_on(alloc, &heap, &heap, row, piece),
-        Err(_) => false,
+        Ok(heap) => wrong_step(alloc, &heap, row, piece),
+        Err(_) => Some(0),
     }
 }
 
-fn is_right(alloc: Global, row: &Row) -> bool {
+fn wrong_of(alloc: Global, row: &Row) -> Option<usize> {
     match piece(alloc) {
-        Ok(piece) => goes_with(alloc, row, piece.as_slice()),
-        Err(_) => false,
+        Ok(piece) => wrong_with(alloc, row, piece.as_slice()),
+        Err(_) => Some(0),
     }
 }
 
 #[test]
 fn full_heaps(rt: HostRuntime) {
     for row in ROWS {
-        assert!(rt; is_right(rt.alloc(), row), "{}", row.0);
+        let wrong = wrong_of(rt.alloc(), row);
+        assert!(rt; wrong.is_none(), "{}: {wrong:?}", row.0);
     }
 }
