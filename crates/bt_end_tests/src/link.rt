@@ -143,7 +143,11 @@ fn renews<A: Allocator + Copy>(end: &mut End<A>, run: &mut Run<A>) -> bool {
 }
 
 /// Begins a new connection of both ends. What was on its way is lost.
-fn renew<A: Allocator + Copy>(left: &mut End<A>, right: &mut End<A>, run: &mut Run<A>) -> bool {
+fn renew_both<A: Allocator + Copy>(
+    left: &mut End<A>,
+    right: &mut End<A>,
+    run: &mut Run<A>,
+) -> bool {
     run.to_left = 0;
     run.to_right = 0;
     renews(left, run) && renews(right, run)
@@ -257,7 +261,7 @@ fn goes<A: Allocator + Copy>(
         Move::ToRight(n) => brings_right(left, right, run, *n),
         Move::TurnLeft => calls(left, run, Call::Turn) && brings_left(left, right, run, 0),
         Move::TurnRight => calls(right, run, Call::Turn) && brings_right(left, right, run, 0),
-        Move::Reset => renew(left, right, run),
+        Move::Reset => renew_both(left, right, run),
     }
 }
 
