@@ -1,6 +1,6 @@
 -- What may follow the bytes that the scanner has read. `Then` says what may follow the part at hand.
 -- (For the contracts of functions that are not public.)
-use Rattle.std.specs.Prelude.{◌≡◌, ◌⊎◌, ℕ, ◌+◌, ◌-◌, ◌*◌, ◌<◌, ◌≤◌, ◌^◌, List, [], ◌∷◌, ◌++◌, length, take, drop, Option, Some, None, ⊤}
+use Rattle.std.specs.Prelude.{◌≡◌, ◌⊎◌, ℕ, zero, suc, ◌/◌, ◌%◌, ◌+◌, ◌-◌, ◌*◌, ◌<◌, ◌≤◌, ◌^◌, List, [], ◌∷◌, ◌++◌, length, take, drop, Option, Some, None, ⊤}
 use Rattle.bt_bencode.specs.Trees.{Tree, Trees, Pairs}
 use Rattle.bt_bencode.specs.Bencoding.{ben, ben_all, ben_pairs, longest_string, deepest_nesting, IsSpelling}
 use Rattle.bt_bencode.specs.Room.{FitsIn, AllFitIn, PairsFitIn}
@@ -12,6 +12,16 @@ use Rattle.bt_bencode.specs.declared.scan.Sign.{Sign}
 use Rattle.bt_bencode.specs.declared.scan.Sign.TheVariants as sign
 use Rattle.bt_bencode.specs.declared.scan.Expect.{Expect}
 use Rattle.bt_bencode.specs.declared.scan.Expect.TheVariants as expect
+
+-- what a bit says to be open: 1 a dictionary
+abbrev pub container_of : ℕ → Container
+container_of zero = container.List
+container_of (suc n) = container.Dict
+
+-- The containers that so many bits say to be open, the lowest bit's the first.
+abbrev pub opened : ℕ → ℕ → List Container
+opened zero bits = []
+opened (suc depth) bits = container_of (bits % 2) ∷ opened depth (bits / 2)
 
 -- a decimal digit
 abbrev pub IsDigit : ℕ → Type 0
