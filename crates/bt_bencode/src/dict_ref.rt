@@ -199,6 +199,7 @@ fn found_int(found: Option<&[u8]>) -> Option<i64>
 /// # Errors
 /// `Impossible` with the place of the first byte with which no fitting dictionary goes on, `Cut` where the whole payload
 /// begins one and holds none.
+#[inline(always)]
 pub fn check(payload: &[u8]) -> Result<(DictRef<'_>, usize), Bad>
     ensures ok { IfOk result (λ x. BeginsWith payload.now x.0.tree.0 x.1) }
     ensures err { IfErr result (Refuses payload.now) }

@@ -17,6 +17,7 @@ use bt_bencode::{Bad, DictRef, check};
 use std::alloc::{AllocError, Global};
 
 /// The dictionary in front and what follows it, or the place where none goes on.
+#[inline(always)]
 fn split_dict(payload: &[u8]) -> Result<(DictRef<'_>, &[u8]), usize>
     ensures ok { IfOk result (λ x. Fits (dictionary x.0.tree.0) × (payload.now ≡ ben (dictionary x.0.tree.0) ++ x.1.now)) }
     ensures err { IfErr result (λ at. BeginsWithNone payload.now × IsPlace payload.now at) }
@@ -40,6 +41,7 @@ fn read_index(payload: &[u8]) -> Option<u32>
 }
 
 /// The value that the id and the payload are, or why they are none.
+#[inline(always)]
 fn shape<'a>(reg: Registered, id: u8, payload: &'a [u8]) -> Result<ExtView<'a>, ViewError>
     ensures ok { IfOk result (λ v. IsExt reg (seen v) id payload.now) }
     ensures err { IfErr result (λ fault. (r : Rules) → Refuses reg r id payload.now fault) }
@@ -61,6 +63,7 @@ fn shape<'a>(reg: Registered, id: u8, payload: &'a [u8]) -> Result<ExtView<'a>, 
     }
 }
 
+#[inline(never)]
 fn handshake_fault(dict: &DictRef) -> Option<ViewError>
     ensures { result ≡ handshake_fault_of (dictionary dict.now.tree.0) }
 {
@@ -71,6 +74,7 @@ fn handshake_fault(dict: &DictRef) -> Option<ViewError>
     }
 }
 
+#[inline(never)]
 fn metadata_fault(dict: &DictRef, rest_len: usize) -> Option<ViewError>
     ensures { result ≡ metadata_fault_of (dictionary dict.now.tree.0) rest_len }
 {
@@ -89,6 +93,7 @@ fn metadata_fault(dict: &DictRef, rest_len: usize) -> Option<ViewError>
 }
 
 /// The first fault that the rules judge.
+#[inline(always)]
 fn fault_in(rules: Rules, view: &ExtView) -> Option<ViewError>
     ensures { result ≡ fault_of rules (seen view.now) }
 {
@@ -106,6 +111,7 @@ fn fault_in(rules: Rules, view: &ExtView) -> Option<ViewError>
 /// Reads an extended payload as parts of it.
 ///
 /// It is read under the ids and the rules of the receiver. The call takes no memory.
+#[inline(always)]
 pub fn view_ext<'a>(
     reg: Registered,
     rules: Rules,

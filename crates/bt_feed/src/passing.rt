@@ -78,7 +78,9 @@ fn pass_one<S: Sink, const COPY: u8>(
     })
 }
 
-/// Like [`pass_one`], for what may be an extended message.
+/// Like [`pass_one`], for an extended message.
+///
+/// Other messages are left. The test, which holds where this is called, tells the compiler the id.
 #[inline(never)]
 fn pass_extended<S: Sink>(
     context: &Context,
@@ -91,7 +93,10 @@ fn pass_extended<S: Sink>(
     ensures some { IfSome result (λ g. (m : Message) × IsPassed context.now order rest.now g.bytes g.order m × IsOffered S.takes S.misses sink.old (at, items.Message m) sink.new g.taken) }
     ensures failed { IfSome result (λ g. S.failed sink.new ≡ counted (is_err g.taken) (S.failed sink.old)) }
 {
-    pass_one::<S, EXTENDED>(context, order, at, sink, rest)
+    match rest.get(4) {
+        Some(20) => pass_one::<S, EXTENDED>(context, order, at, sink, rest),
+        _ => None,
+    }
 }
 
 /// Whether the bytes begin with a keep-alive.

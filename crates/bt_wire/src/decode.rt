@@ -64,6 +64,7 @@ fn id_at(window: &[u8]) -> u8
 }
 
 /// The extended message of a window.
+#[inline(always)]
 fn view_extended<'a>(
     context: &Context,
     _order: Order,
