@@ -109,6 +109,7 @@ impl<'a> DictRef<'a> {
     }
 
     /// The integer of the first pair with the key. `None`: its value is of another kind.
+    #[inline(always)]
     pub fn lookup_int(&self, key: &[u8]) -> Option<i64>
         ensures { result ≡ option_and_then integer_of (value_at key.now self.now.tree.0) }
     {
@@ -171,6 +172,7 @@ impl<'a> DictRef<'a> {
     }
 
     /// The bytes from the value of the first pair with the key on.
+    #[inline(always)]
     fn value_after(&self, key: &[u8]) -> Option<&'a [u8]>
         ensures value { FindsValue result (value_at key.now self.now.tree.0) }
         ensures fits { Fits (dictionary self.now.tree.0) }

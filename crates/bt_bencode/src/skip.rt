@@ -25,6 +25,24 @@ pub fn skip_value(bytes: &[u8]) -> &[u8]
     }
 }
 
+/// What follows the value in front.
+///
+/// Inline, so that an integer or a byte string costs no call.
+#[cycle(skip)]
+#[inline(always)]
+fn pass_value(bytes: &[u8]) -> &[u8]
+    requires { HasValue bytes.now }
+    ensures following { (t : Tree) (more : List ℕ) → InRange t → bytes.now ≡ ben t ++ more → result.now ≡ more }
+    ensures shorter { length result.now < length bytes.now }
+{
+    match bytes[0] {
+        b'i' => read_int(following(bytes)).1,
+        b'l' => skip_value(bytes),
+        b'd' => skip_value(bytes),
+        _ => split_string(bytes).1,
+    }
+}
+
 #[cycle(skip)]
 fn skip_items(bytes: &[u8]) -> &[u8]
     requires { HasItems bytes.now }
@@ -33,7 +51,7 @@ fn skip_items(bytes: &[u8]) -> &[u8]
 {
     let mut rest = bytes;
     while rest[0] != b'e' {
-        rest = skip_value(rest);
+        rest = pass_value(rest);
     }
     following(rest)
 }
@@ -47,12 +65,14 @@ fn skip_pairs(bytes: &[u8]) -> &[u8]
     let mut rest = bytes;
     while rest[0] != b'e' {
         let (_, value) = split_string(rest);
-        rest = skip_value(value);
+        rest = pass_value(value);
     }
     following(rest)
 }
 
 /// The bytes from the value of the first pair with the key on.
+// Inline, so that a literal key is compared by its length first, and mostly by that alone.
+#[inline(always)]
 pub fn find<'a>(pairs: &'a [u8], key: &[u8]) -> Option<&'a [u8]>
     requires { HasPairs pairs.now }
     ensures { (ps : Pairs) (more : List ℕ) → PairsInRange ps → pairs.now ≡ ben_pairs ps ++ 101 ∷ more → FindsValue result (value_at key.now ps) }
@@ -63,7 +83,7 @@ pub fn find<'a>(pairs: &'a [u8], key: &[u8]) -> Option<&'a [u8]>
         if name == key {
             return Some(value);
         }
-        rest = skip_value(value);
+        rest = pass_value(value);
     }
     None
 }
@@ -104,7 +124,7 @@ pub fn find_two<'a>(
         if one.is_some() && two.is_some() {
             return (one, two);
         }
-        rest = skip_value(value);
+        rest = pass_value(value);
     }
     (one, two)
 }

@@ -6,8 +6,8 @@ use Rattle.bt_bencode.proofs.Walk.{over_integer, over_text}
 use Rattle.bt_bencode.proofs.Skips.{list_skipped, dictionary_skipped, left_step, left_over, pairs_left_step, pairs_left_over}
 use Rattle.bt_bencode.proofs.skip.+skip.Goals as goal
 
-pub skip_items-skip_value-rest-requires : goal.skip_items-skip_value-rest-requires
-skip_items-skip_value-rest-requires t c =
+pub skip_items-pass_value-rest-requires : goal.skip_items-pass_value-rest-requires
+skip_items-pass_value-rest-requires t c =
     let within : length c.loop-rest.rest.now ≤ length c.args.bytes.now = c.loop-rest.invariant.within in
     let left = c.loop-rest.invariant.left c.requires.0 c.requires.1 c.requires.2 c.requires.3 in
     let items : HasItems c.loop-rest.rest.now = (left.0, c.requires.1, left.1, left.2) in
@@ -16,10 +16,10 @@ skip_items-skip_value-rest-requires t c =
 pub skip_items-loop-rest-preserved : goal.skip_items-loop-rest-preserved
 skip_items-loop-rest-preserved t c =
     let within : length c.loop-rest.rest.now ≤ length c.args.bytes.now = c.loop-rest.invariant.within in
-    let shorter : length c.skip_value-rest.result.now < length c.loop-rest.rest.now = c.skip_value-rest.ensures.shorter in
+    let shorter : length c.pass_value-rest.result.now < length c.loop-rest.rest.now = c.pass_value-rest.ensures.shorter in
     record {
       within = omega arith;
-      left = λ ts more h is. left_step more c.loop-rest.rest.now c.skip_value-rest.result.now c.loop-rest-test.true c.skip_value-rest.ensures.following
+      left = λ ts more h is. left_step more c.loop-rest.rest.now c.pass_value-rest.result.now c.loop-rest-test.true c.pass_value-rest.ensures.following
           (c.loop-rest.invariant.left ts more h is);
     }
 
@@ -33,8 +33,8 @@ skip_pairs-split_string-requires t c =
     let pairs : HasPairs c.loop-rest.rest.now = (left.0, c.requires.1, left.1, left.2) in
     key_there c.loop-rest.rest.now pairs c.loop-rest-test.true
 
-pub skip_pairs-skip_value-rest-requires : goal.skip_pairs-skip_value-rest-requires
-skip_pairs-skip_value-rest-requires t c =
+pub skip_pairs-pass_value-rest-requires : goal.skip_pairs-pass_value-rest-requires
+skip_pairs-pass_value-rest-requires t c =
     let within : length c.loop-rest.rest.now ≤ length c.args.bytes.now = c.loop-rest.invariant.within in
     let parts = ap length c.split_string.ensures.split ∙ length-append (ben_string c.split_string.result.0.now) c.split_string.result.1.now in
     let left = c.loop-rest.invariant.left c.requires.0 c.requires.1 c.requires.2 c.requires.3 in
@@ -48,11 +48,11 @@ pub skip_pairs-loop-rest-preserved : goal.skip_pairs-loop-rest-preserved
 skip_pairs-loop-rest-preserved t c =
     let within : length c.loop-rest.rest.now ≤ length c.args.bytes.now = c.loop-rest.invariant.within in
     let parts = ap length c.split_string.ensures.split ∙ length-append (ben_string c.split_string.result.0.now) c.split_string.result.1.now in
-    let shorter : length c.skip_value-rest.result.now < length c.split_string.result.1.now = c.skip_value-rest.ensures.shorter in
+    let shorter : length c.pass_value-rest.result.now < length c.split_string.result.1.now = c.pass_value-rest.ensures.shorter in
     record {
       within = omega arith;
       left = λ ps more h is. pairs_left_step c.loop-rest.rest.now c.split_string.result.0.now c.split_string.result.1.now c.split_string.ensures.short
-          c.split_string.ensures.split more c.skip_value-rest.result.now c.loop-rest-test.true c.skip_value-rest.ensures.following
+          c.split_string.ensures.split more c.pass_value-rest.result.now c.loop-rest-test.true c.pass_value-rest.ensures.following
           (c.loop-rest.invariant.left ps more h is);
     }
 
@@ -96,3 +96,26 @@ skip_value-returns-in-100-clause-following t c = dictionary_skipped c.args.bytes
 pub skip_value-returns-in_default-clause-following : goal.skip_value-returns-in_default-clause-following
 skip_value-returns-in_default-clause-following t c = λ u more h is. (over_text c.args.bytes.now c.split_string.result.0.now c.split_string.result.1.now
     (λ e. omega arith) (λ e. omega arith) (λ e. omega arith) c.split_string.ensures.short c.split_string.ensures.split u more h is).1
+
+pub pass_value-bounds-bytes-0 : goal.pass_value-bounds-bytes-0
+pass_value-bounds-bytes-0 t c = nonempty c.args.bytes.now c.requires
+
+pub pass_value-read_int-requires : goal.pass_value-read_int-requires
+pass_value-read_int-requires t c = rw c.following.ensures (integer_there c.args.bytes.now c.requires c.in-105.is)
+
+pub pass_value-split_string-requires : goal.pass_value-split_string-requires
+pass_value-split_string-requires t c = string_there c.args.bytes.now c.requires (λ e. omega arith) (λ e. omega arith) (λ e. omega arith)
+
+pub pass_value-returns-in-105-clause-following : goal.pass_value-returns-in-105-clause-following
+pass_value-returns-in-105-clause-following t c = λ u more h is. (over_integer c.args.bytes.now c.following.result.now c.read_int.result.1.now
+    c.read_int.result.0 c.in-105.is c.following.ensures c.read_int.ensures.fits c.read_int.ensures.value u more h is).1
+
+pub pass_value-returns-in_default-clause-following : goal.pass_value-returns-in_default-clause-following
+pass_value-returns-in_default-clause-following t c = λ u more h is. (over_text c.args.bytes.now c.split_string.result.0.now c.split_string.result.1.now
+    (λ e. omega arith) (λ e. omega arith) (λ e. omega arith) c.split_string.ensures.short c.split_string.ensures.split u more h is).1
+
+pub pass_value-skip_value-requires : goal.pass_value-skip_value-requires
+pass_value-skip_value-requires t c = (omega arith, c.requires)
+
+pub pass_value-skip_value-requires-in-100 : goal.pass_value-skip_value-requires-in-100
+pass_value-skip_value-requires-in-100 t c = (omega arith, c.requires)

@@ -6,13 +6,16 @@ use Rattle.bt_bencode.proofs.Skips.{Left, LeftPairs}
 use Rattle.bt_bencode.proofs.skip.+skip.Given as goal
 
 abbrev pub decreases-skip_value : goal.decreases-skip_value
-decreases-skip_value l = 2 * length l.bytes.now
+decreases-skip_value l = 3 * length l.bytes.now
+
+abbrev pub decreases-pass_value : goal.decreases-pass_value
+decreases-pass_value l = 3 * length l.bytes.now + 1
 
 abbrev pub decreases-skip_items : goal.decreases-skip_items
-decreases-skip_items l = 2 * length l.bytes.now + 1
+decreases-skip_items l = 3 * length l.bytes.now + 2
 
 abbrev pub decreases-skip_pairs : goal.decreases-skip_pairs
-decreases-skip_pairs l = 2 * length l.bytes.now + 1
+decreases-skip_pairs l = 3 * length l.bytes.now + 2
 
 abbrev pub invariant-skip_items-loop-rest : goal.invariant-skip_items-loop-rest
 invariant-skip_items-loop-rest l = record {

@@ -18,8 +18,8 @@ returns-then-eq c = λ ps more h is.
     c.split_string.ensures.split c.loop-rest-test.true same (c.loop-rest.invariant ps more h is) in
     (f.0, f.1, f.2, f.3, f.4)
 
-pub skip_value-rest-requires : goal.skip_value-rest-requires
-skip_value-rest-requires c =
+pub pass_value-rest-requires : goal.pass_value-rest-requires
+pass_value-rest-requires c =
     let left = c.loop-rest.invariant c.requires.0 c.requires.1 c.requires.2 c.requires.3 in
     let pairs : HasPairs c.loop-rest.rest.now = (left.0, c.requires.1, left.1, left.2) in
     value_after c.loop-rest.rest.now c.split_string.result.0.now c.split_string.result.1.now pairs c.loop-rest-test.true c.split_string.ensures.short
@@ -29,7 +29,7 @@ pub loop-rest-preserved : goal.loop-rest-preserved
 loop-rest-preserved c = λ ps more h is.
     let differs : bytes_eq c.split_string.result.0.now c.args.key.now ≡ false = sym c.eq.ensures ∙ c.if-eq.false in
     for_step c.args.key.now ps more c.loop-rest.rest.now c.split_string.result.0.now c.split_string.result.1.now c.split_string.ensures.short
-    c.split_string.ensures.split c.skip_value-rest.result.now c.loop-rest-test.true differs c.skip_value-rest.ensures.following
+    c.split_string.ensures.split c.pass_value-rest.result.now c.loop-rest-test.true differs c.pass_value-rest.ensures.following
     (c.loop-rest.invariant ps more h is)
 
 pub returns : goal.returns

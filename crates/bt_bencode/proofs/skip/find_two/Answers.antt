@@ -12,8 +12,8 @@ split_string-requires c =
     let pairs : HasPairs c.loop-rest.rest.now = (left.0, c.requires.1, left.1, left.2) in
     key_there c.loop-rest.rest.now pairs c.loop-rest-test.true
 
-pub skip_value-rest-requires : goal.skip_value-rest-requires
-skip_value-rest-requires c =
+pub pass_value-rest-requires : goal.pass_value-rest-requires
+pass_value-rest-requires c =
     let left = sought_left c.args.first.now c.requires.0 c.requires.1 c.loop-rest.rest.now c.loop-rest.one
     (c.loop-rest.invariant.first c.requires.0 c.requires.1 c.requires.2 c.requires.3) in
     let pairs : HasPairs c.loop-rest.rest.now = (left.0, c.requires.1, left.1, left.2) in
@@ -40,14 +40,14 @@ pub loop-rest-preserved : goal.loop-rest-preserved
 loop-rest-preserved c =
     let key = c.split_string.result.0.now in
     let rest = c.loop-rest.rest.now in
-    let next = c.skip_value-rest.result.now in
+    let next = c.pass_value-rest.result.now in
     record {
       first = λ ps more h is. rw c.found_at-one.ensures (sought_step c.args.first.now ps more rest key c.split_string.result.1 c.split_string.ensures.short
-          c.split_string.ensures.split next c.loop-rest.one (bytes_eq key c.args.first.now) refl c.loop-rest-test.true c.skip_value-rest.ensures.following
+          c.split_string.ensures.split next c.loop-rest.one (bytes_eq key c.args.first.now) refl c.loop-rest-test.true c.pass_value-rest.ensures.following
           (c.loop-rest.invariant.first ps more h is));
       second = λ ps more h is. rw c.found_at-two.ensures (sought_step c.args.second.now ps more rest key c.split_string.result.1
           c.split_string.ensures.short c.split_string.ensures.split next c.loop-rest.two (bytes_eq key c.args.second.now) refl c.loop-rest-test.true
-          c.skip_value-rest.ensures.following (c.loop-rest.invariant.second ps more h is));
+          c.pass_value-rest.ensures.following (c.loop-rest.invariant.second ps more h is));
     }
 
 pub returns-clause-first : goal.returns-clause-first
