@@ -2,6 +2,8 @@
 use Rattle.std.proofs.Common.{◌≡◌, ◌≢◌, inl, inr, ℕ, suc, ◌+◌, ◌-◌, ◌*◌, ◌^◌, ◌<◌, ◌≤◌, List, [], ◌∷◌, ◌++◌, length, get_or, slice_get, Some, take, drop}
 use Rattle.std.proofs.Common.{subst, sym, ◌∙◌, refl, add-one, append_assoc, drop-cons, Option, None, IfSome, MatchOption, arith, length-append, length-take}
 use Rattle.std.proofs.Common.{length-drop}
+use Rattle.std.proofs.Math.Nat.{pow-suc}
+use Rattle.std.proofs.Math.Pow.{pow_mono}
 use Rattle.std.proofs.Math.Seq.{drop-append_seam, take-add, drop-drop}
 use Rattle.bt_bencode.specs.Bencoding.{longest_string}
 use Rattle.bt_bencode.specs.Scanner.{IsDigit, NumberThen, TextThen, Rest, AfterString, May, IsLive, Goes, HasRead, Leads, after_string, magnitude_limit}
@@ -224,6 +226,20 @@ digits_go_on payload at i n so h d some low = record {
       (leads_byte payload i (expect.Digits side n) (expect.Digits side (n * 10 + (get_or payload i 0 - 48))) s s h
       (goes_digits s side n (get_or payload i 0) d some (keeps_limit side (n * 10 + (get_or payload i 0 - 48)) (omega arith))));
 }
+
+sixteen : (m : ℕ) → 2 ^ suc (suc (suc (suc m))) ≡ 2 ^ m * 16
+sixteen m = rw (pow-suc 2 (suc (suc (suc m))), pow-suc 2 (suc (suc m)), pow-suc 2 (suc m), pow-suc 2 m) (omega arith)
+
+-- a number of k digits, and one more
+pub digit_more : (n k d : ℕ) → n < 2 ^ (4 * k) → d ≤ 9 → n * 10 + d < 2 ^ (4 * (k + 1))
+digit_more n k d h low =
+    let same : 4 * (k + 1) ≡ suc (suc (suc (suc (4 * k)))) = omega arith in
+    rw (same, sixteen (4 * k)) (omega (arith, h, low))
+
+pub few_digits : (n k : ℕ) → n < 2 ^ (4 * k) → k ≤ 14 → n * 10 + 9 < 2 ^ 63
+few_digits n k h low =
+    let most : 4 * k ≤ 56 = omega (arith, low) in
+    omega (arith, h, pow_mono most)
 
 module _ (payload : List ℕ) (at i n : ℕ) (so : DigitsRead payload at i n) (h : i < length payload) (stop : get_or payload i 0 ≡ 101) where
   -- an integer whose first digit has been read
