@@ -1,6 +1,6 @@
 //! The receiver, and what it refuses.
 use crate::bencoding::{Fields, scan};
-use crate::scripts::hex_array;
+use crate::hex;
 
 #[derive(Clone, Copy, Debug)]
 pub enum Reason {
@@ -119,9 +119,9 @@ impl Receiver {
                     receiver.bep = ["free", "bep"].iter().position(|word| word == value)? == 1
                 }
                 "--reserved" => {
-                    receiver.reserved = u64::from_be_bytes(hex_array(value.as_bytes())?)
+                    receiver.reserved = u64::from_be_bytes(hex::array(value.as_bytes())?)
                 }
-                "--info-hash" => receiver.info_hash = Some(hex_array(value.as_bytes())?),
+                "--info-hash" => receiver.info_hash = Some(hex::array(value.as_bytes())?),
                 "--pieces" => receiver.pieces = Some(decimal(value)?),
                 "--metadata-id" => receiver.metadata_id = decimal(value)?.try_into().ok()?,
                 "--limit" => {

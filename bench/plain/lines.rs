@@ -1,4 +1,5 @@
 //! What goes out, and the lines of `show`.
+use crate::hex;
 use crate::judging::{Kind, Seen};
 use crate::reading::{CHUNK, Sink};
 use std::io::{self, Write};
@@ -76,10 +77,7 @@ impl<W: Write> Text<W> {
             }
             let (some, rest) = bytes.split_at(bytes.len().min((CHUNK - self.used) / 2));
             let digits = &mut self.text[self.used..self.used + 2 * some.len()];
-            for (pair, byte) in digits.chunks_exact_mut(2).zip(some) {
-                pair[0] = digit(byte >> 4);
-                pair[1] = digit(byte & 15);
-            }
+            hex::encode(some, digits);
             self.used += 2 * some.len();
             bytes = rest;
         }
@@ -146,11 +144,6 @@ impl<W: Write> Text<W> {
             }
         }
     }
-}
-
-/// A lower-case hex digit, without a branch.
-fn digit(value: u8) -> u8 {
-    b'0' + value + (b'a' - b'9' - 1) * u8::from(value > 9)
 }
 
 /// The big-endian number of four bytes that begins there.

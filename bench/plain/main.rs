@@ -10,6 +10,7 @@
 mod bencoding;
 mod end;
 mod ends;
+mod hex;
 mod judging;
 mod lines;
 mod reading;

@@ -1,5 +1,6 @@
 //! Scripts: the lines of `unpack`, and `pack`.
 use crate::Fault;
+use crate::hex;
 use crate::judging::{Reason, Receiver, Seen, has_meaning};
 use crate::lines::{Text, field};
 use crate::reading::{CHUNK, Input, Sink};
@@ -125,9 +126,9 @@ fn read_handshake(text: &[u8], out: &mut Vec<u8>) -> Option<()> {
         return None;
     };
     out.extend_from_slice(b"\x13BitTorrent protocol");
-    out.extend_from_slice(&hex_array::<8>(reserved)?);
-    out.extend_from_slice(&hex_array::<20>(info_hash)?);
-    out.extend_from_slice(&hex_array::<20>(peer_id)?);
+    out.extend_from_slice(&hex::array::<8>(reserved)?);
+    out.extend_from_slice(&hex::array::<20>(info_hash)?);
+    out.extend_from_slice(&hex::array::<20>(peer_id)?);
     Some(())
 }
 
@@ -230,52 +231,7 @@ fn read_bytes(id: u8, rest: &mut &[u8], out: &mut Vec<u8>) -> Option<u8> {
     if digits != b"-" {
         let start = out.len();
         out.resize(start + digits.len() / 2, 0);
-        decode(digits, &mut out[start..])?;
+        hex::decode(digits, &mut out[start..])?;
     }
     Some(id)
-}
-
-/// Fills bytes by hex digits of either case, in blocks, in which no branch is taken. None where they are no such digits, or
-/// not two for each byte.
-fn decode(digits: &[u8], bytes: &mut [u8]) -> Option<()> {
-    if digits.len() != 2 * bytes.len() {
-        return None;
-    }
-    let mut wrong = 0;
-    let mut blocks = bytes.chunks_exact_mut(16);
-    let mut pairs = digits.chunks_exact(32);
-    for (block, pairs) in (&mut blocks).zip(&mut pairs) {
-        let mut values = [0; 32];
-        for (value, digit) in values.iter_mut().zip(pairs) {
-            *value = hex_value(*digit);
-            wrong |= *value;
-        }
-        for (byte, pair) in block.iter_mut().zip(values.chunks_exact(2)) {
-            *byte = pair[0] << 4 | pair[1];
-        }
-    }
-    for (byte, pair) in blocks
-        .into_remainder()
-        .iter_mut()
-        .zip(pairs.remainder().chunks_exact(2))
-    {
-        let (high, low) = (hex_value(pair[0]), hex_value(pair[1]));
-        wrong |= high | low;
-        *byte = high << 4 | low;
-    }
-    (wrong < 16).then_some(())
-}
-
-/// A hex digit's value, or 255, without a branch.
-fn hex_value(digit: u8) -> u8 {
-    let (number, letter) = (digit.wrapping_sub(b'0'), (digit | 32).wrapping_sub(b'a'));
-    let letter = if letter < 6 { letter + 10 } else { 255 };
-    if number < 10 { number } else { letter }
-}
-
-/// The bytes of just as many hex digits.
-pub fn hex_array<const N: usize>(digits: &[u8]) -> Option<[u8; N]> {
-    let mut bytes = [0; N];
-    decode(digits, &mut bytes)?;
-    Some(bytes)
 }
