@@ -79,14 +79,19 @@ fn end<A: Allocator>(feed: &Feed<A>) -> Result<u64, PumpError>
     }
 }
 
+/// How many bytes are read at most after a read right into the feed, where another long message may begin.
+const PEEK: usize = 4_096;
+
 /// Reads once: right into the feed, where it holds a part of a long message, and else into the buffer.
 ///
-/// It says how many bytes came, and how many of them are in the buffer.
+/// It says how many bytes came, and how many of them are in the buffer. `is_peek`: at most [`PEEK`] bytes are read into the
+/// buffer, so that no more of a long message is copied from there.
 #[inline(always)]
 fn read_once<R: Source, A: Allocator>(
     reader: &mut R,
     feed: &mut Feed<A>,
     buffer: &mut [u8],
+    is_peek: bool,
 ) -> Result<(usize, usize), Failed>
     requires { 0 < length buffer.old }
     ensures some { IfOk result (λ x. (x.1 ≤ length buffer.new) × (length buffer.new ≡ length buffer.old)
@@ -101,7 +106,12 @@ fn read_once<R: Source, A: Allocator>(
         Some(Ok(count)) => Ok((count, 0)),
         Some(Err(failed)) => Err(failed),
         None => {
-            let count = reader.read(buffer)?;
+            let most = if is_peek {
+                PEEK.min(buffer.len())
+            } else {
+                buffer.len()
+            };
+            let count = reader.read(&mut buffer[..most])?;
             Ok((count, count))
         }
     }
@@ -138,13 +148,15 @@ pub fn pump_with<R: Source, S: Sink, A: Allocator>(
     if let Err(error) = pump_piece(feed, sink, &[]) {
         return Err(error);
     }
+    let mut is_peek = false;
     for _turn in 0..max_turns {
-        match read_once(reader, feed, buffer) {
+        match read_once(reader, feed, buffer, is_peek) {
             Ok((0, _)) => return end(feed),
             Ok((_, count)) => {
                 if let Err(error) = pump_piece(feed, sink, &buffer[..count]) {
                     return Err(error);
                 }
+                is_peek = count == 0;
             }
             Err(_) => return Err(PumpError::ReadFault),
         }
