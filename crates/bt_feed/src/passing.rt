@@ -107,7 +107,7 @@ fn leads_keep_alive(rest: &[u8]) -> bool {
 
 /// Like [`pass_one`], with a copy of it for each id.
 #[inline(always)]
-fn pass_next<S: Sink>(
+fn pass_by_id<S: Sink>(
     context: &Context,
     order: Order,
     at: u64,
@@ -118,9 +118,6 @@ fn pass_next<S: Sink>(
     ensures some { IfSome result (λ g. (m : Message) × IsPassed context.now order rest.now g.bytes g.order m × IsOffered S.takes S.misses sink.old (at, items.Message m) sink.new g.taken) }
     ensures failed { IfSome result (λ g. S.failed sink.new ≡ counted (is_err g.taken) (S.failed sink.old)) }
 {
-    if leads_keep_alive(rest) {
-        return pass_one::<S, KEEP_ALIVE>(context, order, at, sink, rest);
-    }
     match rest.get(4) {
         Some(0) => pass_one::<S, 0>(context, order, at, sink, rest),
         Some(1) => pass_one::<S, 1>(context, order, at, sink, rest),
@@ -140,6 +137,25 @@ fn pass_next<S: Sink>(
         Some(20) => pass_extended(context, order, at, sink, rest),
         _ => pass_one::<S, OTHER>(context, order, at, sink, rest),
     }
+}
+
+/// Like [`pass_by_id`], with a copy of it for a keep-alive too.
+#[inline(always)]
+fn pass_next<S: Sink>(
+    context: &Context,
+    order: Order,
+    at: u64,
+    sink: &mut S,
+    rest: &[u8],
+) -> Option<Given>
+    ensures none { result ≡ None → sink.new ≡ sink.old }
+    ensures some { IfSome result (λ g. (m : Message) × IsPassed context.now order rest.now g.bytes g.order m × IsOffered S.takes S.misses sink.old (at, items.Message m) sink.new g.taken) }
+    ensures failed { IfSome result (λ g. S.failed sink.new ≡ counted (is_err g.taken) (S.failed sink.old)) }
+{
+    if leads_keep_alive(rest) {
+        return pass_one::<S, KEEP_ALIVE>(context, order, at, sink, rest);
+    }
+    pass_by_id(context, order, at, sink, rest)
 }
 
 /// Gives the sink the messages at the front of a piece.
