@@ -418,44 +418,6 @@ fn after_name<'a>(text: &'a [u8], name: &[u8], id: u8, shape: Shape) -> Option<N
     Some((id, shape, rest))
 }
 
-/// Returns the row that the text's first word names. The first letter tells which names are tried.
-#[inline(always)]
-fn first_row(text: &[u8]) -> Option<Named<'_>>
-    ensures named { IfSome result (λ p. IsAfterName text.now p.0 p.1 p.2.now) }
-    ensures short { IfSome result (λ p. length p.2.now ≤ length text.now) }
-{
-    let (first, _) = text.split_first()?;
-    match *first {
-        b'a' => after_name(text, b"allowed-fast", 17, Shape::Index),
-        b'b' => after_name(text, b"bitfield", 5, Shape::Field),
-        b'c' => match after_name(text, b"cancel", 8, Shape::Part) {
-            Some(row) => Some(row),
-            None => after_name(text, b"choke", 0, Shape::Nothing),
-        },
-        b'e' => after_name(text, b"extended", 20, Shape::Extended),
-        b'h' => match after_name(text, b"have", 4, Shape::Index) {
-            Some(row) => Some(row),
-            None => match after_name(text, b"have-all", 14, Shape::Nothing) {
-                Some(row) => Some(row),
-                None => after_name(text, b"have-none", 15, Shape::Nothing),
-            },
-        },
-        b'i' => after_name(text, b"interested", 2, Shape::Nothing),
-        b'n' => after_name(text, b"not-interested", 3, Shape::Nothing),
-        b'p' => match after_name(text, b"piece", 7, Shape::Block) {
-            Some(row) => Some(row),
-            None => after_name(text, b"port", 9, Shape::Port),
-        },
-        b'r' => match after_name(text, b"request", 6, Shape::Part) {
-            Some(row) => Some(row),
-            None => after_name(text, b"reject", 16, Shape::Part),
-        },
-        b's' => after_name(text, b"suggest", 13, Shape::Index),
-        b'u' => after_name(text, b"unchoke", 1, Shape::Nothing),
-        _ => None,
-    }
-}
-
 /// Returns the row that the text's first word names, by the whole word.
 #[inline(never)]
 fn row_by_word(text: &[u8]) -> Option<Named<'_>>
@@ -469,18 +431,6 @@ fn row_by_word(text: &[u8]) -> Option<Named<'_>>
     match row_of(name) {
         Some((id, shape)) => Some((id, shape, rest)),
         None => None,
-    }
-}
-
-/// Returns the row that the text's first word names.
-#[inline(always)]
-fn find_row(text: &[u8]) -> Option<Named<'_>>
-    ensures named { MatchOption result (HasNoRow text.now) (λ p. IsAfterName text.now p.0 p.1 p.2.now) }
-    ensures short { IfSome result (λ p. length p.2.now ≤ length text.now) }
-{
-    match first_row(text) {
-        Some(row) => Some(row),
-        None => row_by_word(text),
     }
 }
 
@@ -499,6 +449,131 @@ fn put_other(text: &[u8], bytes: &mut Vec<u8>) -> Result<bool, AllocError>
     Ok(false)
 }
 
+/// Appends the message of a row, whose name is the text's first word.
+#[inline(always)]
+fn put_found(text: &[u8], row: Named<'_>, bytes: &mut Vec<u8>) -> Result<bool, AllocError>
+    requires short { length row.2.now < 2 ^ 32 }
+    requires other { bytes_eq text.now (codes "keep-alive") ≡ false }
+    requires named { IsAfterName text.now row.0 row.1 row.2.now }
+    ensures { IfOk result (Adds (message_in text.now) bytes.old.items bytes.new.items) }
+{
+    let (id, shape, rest) = row;
+    put_fields(shape, id, rest, bytes)
+}
+
+/// Appends the message of a line that is no keep-alive, by its whole first word.
+#[inline(never)]
+fn put_by_word(text: &[u8], bytes: &mut Vec<u8>) -> Result<bool, AllocError>
+    requires short { length text.now < 2 ^ 32 }
+    requires other { bytes_eq text.now (codes "keep-alive") ≡ false }
+    ensures { IfOk result (Adds (message_in text.now) bytes.old.items bytes.new.items) }
+{
+    match row_by_word(text) {
+        Some(row) => put_found(text, row, bytes),
+        None => put_other(text, bytes),
+    }
+}
+
+/// Appends the message of a line that is no keep-alive, where its first word is likely this name of a row.
+#[inline(always)]
+fn put_row(
+    text: &[u8],
+    name: &[u8],
+    id: u8,
+    shape: Shape,
+    bytes: &mut Vec<u8>,
+) -> Result<bool, AllocError>
+    requires short { length text.now < 2 ^ 32 }
+    requires other { bytes_eq text.now (codes "keep-alive") ≡ false }
+    requires name { IsRowName name.now id shape }
+    ensures { IfOk result (Adds (message_in text.now) bytes.old.items bytes.new.items) }
+{
+    match after_name(text, name, id, shape) {
+        Some(row) => put_found(text, row, bytes),
+        None => put_by_word(text, bytes),
+    }
+}
+
+/// Like [`put_row`], for `cancel` and `choke`.
+#[inline(always)]
+fn put_row_of_c(text: &[u8], bytes: &mut Vec<u8>) -> Result<bool, AllocError>
+    requires short { length text.now < 2 ^ 32 }
+    requires other { bytes_eq text.now (codes "keep-alive") ≡ false }
+    ensures { IfOk result (Adds (message_in text.now) bytes.old.items bytes.new.items) }
+{
+    match after_name(text, b"cancel", 8, Shape::Part) {
+        Some(row) => put_found(text, row, bytes),
+        None => put_row(text, b"choke", 0, Shape::Nothing, bytes),
+    }
+}
+
+/// Like [`put_row`], for `have`, `have-all` and `have-none`.
+#[inline(always)]
+fn put_row_of_h(text: &[u8], bytes: &mut Vec<u8>) -> Result<bool, AllocError>
+    requires short { length text.now < 2 ^ 32 }
+    requires other { bytes_eq text.now (codes "keep-alive") ≡ false }
+    ensures { IfOk result (Adds (message_in text.now) bytes.old.items bytes.new.items) }
+{
+    if let Some(row) = after_name(text, b"have", 4, Shape::Index) {
+        return put_found(text, row, bytes);
+    }
+    match after_name(text, b"have-all", 14, Shape::Nothing) {
+        Some(row) => put_found(text, row, bytes),
+        None => put_row(text, b"have-none", 15, Shape::Nothing, bytes),
+    }
+}
+
+/// Like [`put_row`], for `piece` and `port`.
+#[inline(always)]
+fn put_row_of_p(text: &[u8], bytes: &mut Vec<u8>) -> Result<bool, AllocError>
+    requires short { length text.now < 2 ^ 32 }
+    requires other { bytes_eq text.now (codes "keep-alive") ≡ false }
+    ensures { IfOk result (Adds (message_in text.now) bytes.old.items bytes.new.items) }
+{
+    match after_name(text, b"piece", 7, Shape::Block) {
+        Some(row) => put_found(text, row, bytes),
+        None => put_row(text, b"port", 9, Shape::Port, bytes),
+    }
+}
+
+/// Like [`put_row`], for `request` and `reject`.
+#[inline(always)]
+fn put_row_of_r(text: &[u8], bytes: &mut Vec<u8>) -> Result<bool, AllocError>
+    requires short { length text.now < 2 ^ 32 }
+    requires other { bytes_eq text.now (codes "keep-alive") ≡ false }
+    ensures { IfOk result (Adds (message_in text.now) bytes.old.items bytes.new.items) }
+{
+    match after_name(text, b"request", 6, Shape::Part) {
+        Some(row) => put_found(text, row, bytes),
+        None => put_row(text, b"reject", 16, Shape::Part, bytes),
+    }
+}
+
+/// Appends the message of a line that is no keep-alive. The first letter tells which names are tried.
+///
+/// Each name has code of its own for its id and fields, so that no second jump by the shape of the fields is needed.
+#[inline(always)]
+fn put_by_letter(text: &[u8], bytes: &mut Vec<u8>) -> Result<bool, AllocError>
+    requires short { length text.now < 2 ^ 32 }
+    requires other { bytes_eq text.now (codes "keep-alive") ≡ false }
+    ensures { IfOk result (Adds (message_in text.now) bytes.old.items bytes.new.items) }
+{
+    match text.first() {
+        Some(b'a') => put_row(text, b"allowed-fast", 17, Shape::Index, bytes),
+        Some(b'b') => put_row(text, b"bitfield", 5, Shape::Field, bytes),
+        Some(b'c') => put_row_of_c(text, bytes),
+        Some(b'e') => put_row(text, b"extended", 20, Shape::Extended, bytes),
+        Some(b'h') => put_row_of_h(text, bytes),
+        Some(b'i') => put_row(text, b"interested", 2, Shape::Nothing, bytes),
+        Some(b'n') => put_row(text, b"not-interested", 3, Shape::Nothing, bytes),
+        Some(b'p') => put_row_of_p(text, bytes),
+        Some(b'r') => put_row_of_r(text, bytes),
+        Some(b's') => put_row(text, b"suggest", 13, Shape::Index, bytes),
+        Some(b'u') => put_row(text, b"unchoke", 1, Shape::Nothing, bytes),
+        _ => put_by_word(text, bytes),
+    }
+}
+
 /// Appends the message of a line.
 #[inline(always)]
 fn put_message(text: &[u8], bytes: &mut Vec<u8>) -> Result<bool, AllocError>
@@ -509,10 +584,7 @@ fn put_message(text: &[u8], bytes: &mut Vec<u8>) -> Result<bool, AllocError>
         bytes.extend_from_slice(&[0; 4])?;
         return Ok(true);
     }
-    match find_row(text) {
-        Some((id, shape, rest)) => put_fields(shape, id, rest, bytes),
-        None => put_other(text, bytes),
-    }
+    put_by_letter(text, bytes)
 }
 
 /// Reads a space and the hex digits of `N` bytes, of either case, and returns the bytes and what follows them.
