@@ -10,6 +10,12 @@ use bt_wire::{
 };
 use std::marker::Model;
 
+/// The id of an extended message (BEP 10).
+const EXTENDED: u8 = 20;
+
+/// The number of the copy of [`Judge::take_copy`] for ids that have no meaning, and for what has no id.
+const OTHER: u8 = 255;
+
 /// What is known of a stream whose items come one at a time.
 ///
 /// Callers see it as a feed that holds nothing.
@@ -66,6 +72,43 @@ impl Judge {
     /// The reason why the bytes are refused. They aren't taken then.
     #[inline(always)]
     pub fn take_item(&mut self, bytes: &[u8]) -> Result<bool, Reason>
+        ensures { IsJudged self.old bytes.now self.new result }
+    {
+        match bytes.get(4) {
+            Some(0) => self.take_copy::<0>(bytes),
+            Some(1) => self.take_copy::<1>(bytes),
+            Some(2) => self.take_copy::<2>(bytes),
+            Some(3) => self.take_copy::<3>(bytes),
+            Some(4) => self.take_copy::<4>(bytes),
+            Some(5) => self.take_copy::<5>(bytes),
+            Some(6) => self.take_copy::<6>(bytes),
+            Some(7) => self.take_copy::<7>(bytes),
+            Some(8) => self.take_copy::<8>(bytes),
+            Some(9) => self.take_copy::<9>(bytes),
+            Some(13) => self.take_copy::<13>(bytes),
+            Some(14) => self.take_copy::<14>(bytes),
+            Some(15) => self.take_copy::<15>(bytes),
+            Some(16) => self.take_copy::<16>(bytes),
+            Some(17) => self.take_copy::<17>(bytes),
+            Some(20) => self.take_extended(bytes),
+            _ => self.take_copy::<OTHER>(bytes),
+        }
+    }
+
+    /// Like [`Judge::take_copy`], for an extended message.
+    #[inline(never)]
+    fn take_extended(&mut self, bytes: &[u8]) -> Result<bool, Reason>
+        ensures { IsJudged self.old bytes.now self.new result }
+    {
+        self.take_copy::<EXTENDED>(bytes)
+    }
+
+    /// Like [`Judge::take_item`].
+    ///
+    /// `COPY` means nothing. The compiler makes a copy of this function for each number. Where its one call is, the message's
+    /// id is known, so its kind isn't looked at again.
+    #[inline(always)]
+    fn take_copy<const COPY: u8>(&mut self, bytes: &[u8]) -> Result<bool, Reason>
         ensures { IsJudged self.old bytes.now self.new result }
     {
         match &mut self.stage {

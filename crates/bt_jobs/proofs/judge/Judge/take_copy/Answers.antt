@@ -5,11 +5,11 @@ use Rattle.bt_feed.specs.declared.stage.Stage.TheVariants as stage
 use Rattle.bt_feed.specs.Feeds.{waiting}
 use Rattle.bt_jobs.specs.declared.judge.Judge.TheInside.{Inside}
 use Rattle.bt_jobs.proofs.Judging.{judged_as, hand_longer, hand_taken, message_refused, message_open, message_longer, message_taken}
-use Rattle.bt_jobs.proofs.judge.Judge.take_item.Goals as goal
-use Rattle.bt_jobs.proofs.judge.Judge.take_item.Goals.{in-Refused-read_front, in-Partial-read_front, in-Whole-read_front+else-bytes-size}
+use Rattle.bt_jobs.proofs.judge.Judge.take_copy.Goals as goal
+use Rattle.bt_jobs.proofs.judge.Judge.take_copy.Goals.{in-Refused-read_front, in-Partial-read_front, in-Whole-read_front+else-bytes-size}
 
 pub returns-then-bytes-gt68 : goal.returns-then-bytes-gt68
-returns-then-bytes-gt68 c =
+returns-then-bytes-gt68 g c =
     let own = c.in-Handshake.own in
     let t = stage.Handshake own in
     let b = c.args.bytes.now in
@@ -17,7 +17,7 @@ returns-then-bytes-gt68 c =
     (hand_longer own b c.in-Whole.handshake c.in-Whole.ensures.0 c.in-Whole.ensures.1 c.if-bytes-gt68.true)
 
 pub returns-then-bytes-size : goal.returns-then-bytes-size
-returns-then-bytes-size c =
+returns-then-bytes-size g c =
     let m = c.in-Message in
     let w = c.in-Whole-read_front in
     let t = stage.Message m.context m.order m.start m.number in
@@ -26,7 +26,7 @@ returns-then-bytes-size c =
     (message_longer m.context m.order m.start m.number w.size b (message_of w.message) w.ensures c.if-bytes-size.true)
 
 pub returns-else-bytes-gt68 : goal.returns-else-bytes-gt68
-returns-else-bytes-gt68 c =
+returns-else-bytes-gt68 g c =
     let own = c.in-Handshake.own in
     let b = c.args.bytes.now in
     judged_as _ _ (stage.Handshake own) (stage.Message c.negotiate.result Fresh 68 1) b (Ok true) (Ok true)
@@ -34,7 +34,7 @@ returns-else-bytes-gt68 c =
     (hand_taken own b c.in-Whole.handshake c.negotiate.result c.in-Whole.ensures.0 c.in-Whole.ensures.1 c.if-bytes-gt68.false c.negotiate.ensures)
 
 pub returns-after-read_front : goal.returns-after-read_front
-returns-after-read_front c =
+returns-after-read_front g c =
     let m = c.in-Message in
     let from : c.args.self.now ≡ waiting (stage.Message m.context m.order m.start m.number) = sym c.self.view_is ∙ ap waiting m.is in
     elim c.match-read_front.branch [
