@@ -3,7 +3,7 @@ use Rattle.std.proofs.Common.{◌≡◌, ℕ, ◌^◌, ◌≤◌, ◌<◌, Bool,
 use Rattle.std.proofs.Common.{arith, inl, inr}
 use Rattle.std.specs.Prelude.{is_some}
 use Rattle.std.proofs.lemmas.Bool.{cases_Bool, cases_lt, le-leb, leb-true}
-use Rattle.std.proofs.lemmas.List.{append-nil, length-append, take-append-drop, take_at, drop_all}
+use Rattle.std.proofs.lemmas.List.{append-nil, length-append, take_at, drop_all}
 use Rattle.bt_wire.specs.declared.context.Context.{Context}
 use Rattle.bt_wire.specs.declared.context.Order.{Order}
 use Rattle.bt_wire.specs.declared.fault.Refused.{Refused}
@@ -76,9 +76,6 @@ open_front t b x h =
       | inl closed ↦ absurd (let stays = closed_more t b x closed in cc)
       | inr not_yet ↦ not_yet
     ]
-
-pub open_take : (t : Stage) (k : ℕ) (b : List ℕ) → is_closed t b ≡ false → is_closed t (take k b) ≡ false
-open_take t k b h = open_front t (take k b) (drop k b) (ap (is_closed t) (take-append-drop k b) ∙ h)
 
 pub fault_more : (t : Stage) (b x : List ℕ) (f : Refused) → HasFault t b f → HasFault t (b ++ x) f
 fault_more (stage.Handshake own) b x f h = hand_stays own b x f h

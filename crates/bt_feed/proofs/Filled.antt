@@ -46,9 +46,6 @@ taken_filled t old piece new n f stops = least (is_closed t) old piece n f.withi
 
 -- ---- one filling after another
 
-pub fills_none : (t : Stage) (old piece : List ℕ) → Fills t old piece old 0
-fills_none t old piece = record { within = omega arith; held = sym (append-nil old); opens = λ k lt. absurd (omega arith) }
-
 joined : (old piece mid : List ℕ) (m k : ℕ) → mid ≡ old ++ take m piece → mid ++ take k (drop m piece) ≡ old ++ take (m + k) piece
 joined old piece mid m k e = ap (λ (x : List ℕ). x ++ take k (drop m piece)) e ∙ append_assoc old (take m piece) (take k (drop m piece))
     ∙ ap (λ (x : List ℕ). old ++ x) (sym (take_add m k piece))
@@ -67,9 +64,9 @@ fills_more t old piece mid new m n f g = record {
       ];
 }
 
-pub steps_more : (t u : Stage) (old piece rest mid new : List ℕ) (m n : ℕ) → u ≡ t → rest ≡ drop m piece → Fills t old piece mid m → Fills u mid rest new n
+pub steps_more : {t u : Stage} {old piece rest mid new : List ℕ} {m n : ℕ} → u ≡ t → rest ≡ drop m piece → Fills t old piece mid m → Fills u mid rest new n
     → Fills t old piece new (m + n)
-steps_more t u old piece rest mid new m n e d f g =
+steps_more {t} {u} {old} {piece} {rest} {mid} {new} {m} {n} e d f g =
     let P : Stage → Type 0 = λ x. Fills x mid (drop m piece) new n in
     let Q : List ℕ → Type 0 = λ x. Fills u mid x new n in
     fills_more t old piece mid new m n f (subst P e (subst Q d g))
@@ -210,11 +207,11 @@ progress_filled p q buffer piece new n h same f bound wanted =
     }
 
 -- up to the next place where bytes are judged
-pub progress_until : (p q : Progress) (buffer piece : List ℕ) (n m : ℕ) → IsProgress p buffer → IsSameItem p q → p.spent ≡ false → q.wanted ≡ 0
-    → length buffer < n → n ≤ 68
+pub progress_until : {p : Progress} (q : Progress) {buffer : List ℕ} (piece : List ℕ) (n : ℕ) {m : ℕ} → IsProgress p buffer → IsSameItem p q
+    → p.spent ≡ false → q.wanted ≡ 0 → length buffer < n → n ≤ 68
     → ((x : List ℕ) → length buffer + length x < n → is_closed p.stage (buffer ++ x) ≡ false) → m ≡ min (n - length buffer) (length piece)
     → IsProgress q (buffer ++ take m piece)
-progress_until p q buffer piece n m h same fresh unjudged lt short opens e =
+progress_until {p} q {buffer} piece n {m} h same fresh unjudged lt short opens e =
     let f = until_fills p.stage buffer piece n m opens (omega arith) e in
     let P : List ℕ → Type 0 = λ x. Fills p.stage x piece (buffer ++ take m piece) m in
     progress_filled p q buffer piece (buffer ++ take m piece) m h same (subst P (sym (held_fresh p buffer fresh)) f)
@@ -224,10 +221,10 @@ pub partial_fresh : (p : Progress) (buffer : List ℕ) → IsProgress p buffer �
 partial_fresh p buffer h fresh = let P : List ℕ → Type 0 = λ x. IsPartial p.stage x in subst P (held_fresh p buffer fresh) h.partial
 
 -- up to the message's end
-pub progress_window : (p q : Progress) (buffer piece : List ℕ) (n m : ℕ) → IsProgress p buffer → IsSameItem p q → p.spent ≡ false → q.wanted ≡ n
-    → HasWindow p.stage (buffer ++ piece) n → length buffer ≤ n
+pub progress_window : {p : Progress} (q : Progress) {buffer : List ℕ} (piece : List ℕ) {n m : ℕ} → IsProgress p buffer → IsSameItem p q → p.spent ≡ false
+    → q.wanted ≡ n → HasWindow p.stage (buffer ++ piece) n → length buffer ≤ n
     → m ≡ min (n - length buffer) (length piece) → IsProgress q (buffer ++ take m piece)
-progress_window p q buffer piece n m h same fresh is window le e =
+progress_window {p} q {buffer} piece {n} {m} h same fresh is window le e =
     let kept = window_kept p.stage buffer piece n m window le e in
     let P : ℕ → Type 0 = λ w. HasWindow p.stage (buffer ++ take m piece) w × (length (buffer ++ take m piece) ≤ w) in
     let Q : List ℕ → Type 0 = λ x. Fills p.stage x piece (buffer ++ take m piece) m in

@@ -1,7 +1,7 @@
 -- Which bytes of a handshake are judged together.
-use Rattle.std.proofs.Common.{◌≡◌, ℕ, ◌+◌, ◌≤◌, ◌<◌, false, List, [], ◌∷◌, ◌++◌, length, None, refl, ap, ◌∙◌, arith}
+use Rattle.std.proofs.Common.{◌≡◌, ℕ, ◌+◌, ◌≤◌, ◌<◌, false, List, [], ◌∷◌, ◌++◌, length, None, refl, ◌∙◌, arith}
 use Rattle.std.proofs.lemmas.Bool.{lt-leb}
-use Rattle.std.proofs.lemmas.List.{append-nil, length-append, nil_from_length}
+use Rattle.std.proofs.lemmas.List.{length-append}
 use Rattle.bt_wire.specs.declared.context.Own.{Own}
 use Rattle.bt_wire.specs.Handshakes.{protocol, hand_fault, first_difference}
 use Rattle.bt_wire.proofs.HandLaws.{hand_same}
@@ -22,13 +22,6 @@ before_hash own b x le lt e =
 
 open_hand : (own : Own) (b x : List ℕ) → length b + length x < 68 → hand_fault own (b ++ x) ≡ None → is_closed (stage.Handshake own) (b ++ x) ≡ false
 open_hand own b x lt e = open_by (stage.Handshake own) (b ++ x) e (lt-leb 68 (length (b ++ x)) (omega (arith, length-append b x)))
-
--- each byte of the protocol
-pub next_byte : (own : Own) (b x : List ℕ) → hand_fault own b ≡ None → length b < 68 → length b + length x < length b + 1
-    → is_closed (stage.Handshake own) (b ++ x) ≡ false
-next_byte own b x e short lt =
-    let none : x ≡ [] = nil_from_length x (omega arith) in
-    open_hand own b x (omega (arith, ap length none)) (ap (λ (y : List ℕ). hand_fault own (b ++ y)) none ∙ ap (hand_fault own) (append-nil b) ∙ e)
 
 -- the bytes up to the end of the info hash
 pub to_hash : (own : Own) (b x : List ℕ) → hand_fault own b ≡ None → 20 ≤ length b → length b + length x < 48 → is_closed (stage.Handshake own) (b ++ x) ≡ false

@@ -29,5 +29,5 @@ progress_read p old new bytes h fresh some is le =
     let few : length bytes ≡ min (p.wanted - length old) (length bytes) = omega (arith, le, ap (length {A = ℕ}) is, length-append old bytes) in
     let P : List ℕ → Type 0 = λ x. IsProgress p (old ++ x) in
     let Q : List ℕ → Type 0 = λ x. IsProgress p x in
-    subst Q (sym is) (subst P (take_all (length bytes) bytes (omega arith)) (progress_window p p old bytes p.wanted (length bytes) h
+    subst Q (sym is) (subst P (take_all (length bytes) bytes (omega arith)) (progress_window p bytes h
     (record { stage = refl; refused = refl; fresh = fresh }) fresh refl window.0 window.1 few))

@@ -129,10 +129,10 @@ wants_none (stage.Message c o s i) held n e h =
     let P : List ℕ → Type 0 = λ b. header_of c o b ≡ headers.Window n in
     not_wanted c o n (subst P e h.1)
 
-pub passed_sound : (p : Progress) (buffer : List ℕ) (c : Context) (o o' : Order) (s n bytes count : ℕ) → IsProgress p buffer → p.stage
-    ≡ stage.Message c o s n → held_of p buffer ≡ [] → p.refused ≡ None
+pub passed_sound : {p : Progress} {buffer : List ℕ} {c : Context} {o : Order} (o' : Order) {s n : ℕ} (bytes count : ℕ) → IsProgress p buffer
+    → p.stage ≡ stage.Message c o s n → held_of p buffer ≡ [] → p.refused ≡ None
     → s + bytes ≤ 2 ^ 62 + 1048580 → count ≤ bytes → IsProgress (record p { stage = stage.Message c o' (s + bytes) (n + count) }) buffer
-passed_sound p buffer c o o' s n bytes count h e none calm start le =
+passed_sound {p} {buffer} {c} {o} o' {s} {n} bytes count h e none calm start le =
     let t = stage.Message c o' (s + bytes) (n + count) in
     let L : Stage → Type 0 = λ u. limit_of u ≤ 1048576 in
     let N : Stage → Type 0 = λ u. number_of u ≤ start_of u + 1 in
@@ -155,9 +155,9 @@ passed_sound p buffer c o o' s n bytes count h e none calm start le =
 
 -- ---- a piece
 
-pub fed_passed : (f s p : FeedState) (piece rest : List ℕ) (at n : ℕ) (xs ys : List (ℕ × Item)) → rest ≡ drop at piece → IsFed f (take at piece) xs s
-    → IsFed s (take n rest) ys p → IsFed f (take (at + n) piece) (xs ++ ys) p
-fed_passed f s p piece rest at n xs ys e a b =
+pub fed_passed : {f s p : FeedState} (piece : List ℕ) {rest : List ℕ} (at n : ℕ) {xs ys : List (ℕ × Item)} → rest ≡ drop at piece
+    → IsFed f (take at piece) xs s → IsFed s (take n rest) ys p → IsFed f (take (at + n) piece) (xs ++ ys) p
+fed_passed {f} {s} {p} piece {rest} at n {xs} {ys} e a b =
     let P : List ℕ → Type 0 = λ l. IsFed f l (xs ++ ys) p in
     subst P (front piece rest at n e) (fed_both f s p (take at piece) (take n rest) xs ys a b)
 
@@ -167,11 +167,11 @@ pub passed_on : {S : Type 0} (takes : S → ℕ × Item → S → Type 0) (misse
     → (ys : List (ℕ × Item)) × IsHanded takes misses b ys c r × IsFed s (take n rest) ys p
     → (xs : List (ℕ × Item)) × Took takes a xs c × IsFed f (take (at + n) piece) xs p
 passed_on takes misses {f} {s} {p} {a} {b} {c} piece {rest} at n {r} e is x y =
-    (x.0 ++ y.0, took_both takes a b c x.0 y.0 x.1 (handed_all takes misses b c y.0 r e y.1), fed_passed f s p piece rest at n x.0 y.0 is x.2 y.2)
+    (x.0 ++ y.0, took_both takes a b c x.0 y.0 x.1 (handed_all takes misses b c y.0 r e y.1), fed_passed piece at n is x.2 y.2)
 
 pub missed_by : {S : Type 0} (takes : S → ℕ × Item → S → Type 0) (misses : S → ℕ × Item → SinkFault → S → Type 0) (a b c : S) (xs ys : List (ℕ × Item))
-    (r : Result (Unit {0}) SinkFault) (e : SinkFault) → r ≡ Err e → Took takes a xs b → IsHanded takes misses b ys c r
+    {r : Result (Unit {0}) SinkFault} {e : SinkFault} → r ≡ Err e → Took takes a xs b → IsHanded takes misses b ys c r
     → IsMissed takes misses e a (xs ++ ys) c
-missed_by takes misses a b c xs ys r e is t h =
+missed_by takes misses a b c xs ys {r} {e} is t h =
     let P : Result (Unit {0}) SinkFault → Type 0 = λ x. IsHanded takes misses b ys c x in
     missed_more takes misses e a b c xs ys t (subst P is h)

@@ -158,9 +158,9 @@ pub record IsPushed (f p : FeedState) (piece rest : List ℕ) (at n : ℕ) : Typ
   pub held_is : p ≡ pushed f rest
   pub partial : IsPartial p.stage p.held
 
-pub reads_push : (t : Stage) (all : List ℕ) (xs : List (ℕ × Item)) (f p : FeedState) (piece rest later : List ℕ) (at n : ℕ) → IsPushed f p piece rest at n
-    → Reads t all xs f (drop at piece ++ later) → Reads t all xs p (drop (at + n) piece ++ later)
-reads_push t all xs f p piece rest later at n h r =
+pub reads_push : {t : Stage} {all : List ℕ} {xs : List (ℕ × Item)} {f p : FeedState} {piece rest : List ℕ} (later : List ℕ) {at n : ℕ}
+    → IsPushed f p piece rest at n → Reads t all xs f (drop at piece ++ later) → Reads t all xs p (drop (at + n) piece ++ later)
+reads_push {t} {all} {xs} {f} {p} {piece} {rest} later {at} {n} h r =
     let P : List ℕ → Type 0 = λ b. Reads t all xs f (b ++ later) in
     let Q : List ℕ → Type 0 = λ b. Reads t all xs p b in
     let bytes : p ≡ with_bytes f (take n rest) = h.held_is ∙ ap (λ (k : ℕ). with_bytes f (take k rest)) (sym h.taken_is) in
@@ -172,7 +172,7 @@ pub step_item : {t : Stage} {all : List ℕ} {xs : List (ℕ × Item)} {f p g : 
     → Reads t all (xs ++ (start_of p.stage, item) ∷ []) g (drop (at + n) piece ++ later)
 step_item {t} {all} {xs} {f} {p} {g} {piece} {rest} later {at} {n} {answer} {item} h e a after_is r =
     let P : Result (Option Item) Refusal → Type 0 = λ x. IsAnswer p x in
-    reads_taken t all xs p g item (drop (at + n) piece ++ later) (after_is ∙ ap (after p) e) (subst P e a) (reads_push t all xs f p piece rest later at n h r)
+    reads_taken t all xs p g item (drop (at + n) piece ++ later) (after_is ∙ ap (after p) e) (subst P e a) (reads_push later h r)
 
 pub step_none : {t : Stage} {all : List ℕ} {xs : List (ℕ × Item)} {f p g : FeedState} {piece rest : List ℕ} (later : List ℕ) {at n : ℕ}
     {answer : Result (Option Item) Refusal} → IsPushed f p piece rest at n
@@ -188,7 +188,7 @@ step_none {t} {all} {xs} {f} {p} {g} {piece} {rest} later {at} {n} {answer} h e 
     let R : List ℕ → Type 0 = λ b. Reads t all xs p (b ++ later) in
     let S : FeedState → Type 0 = λ s. Reads t all xs s later × (is_closed s.stage s.held ≡ false) in
     let same : g ≡ p = after_is ∙ ap (after p) e in
-    subst S (sym same) (subst R none (reads_push t all xs f p piece rest later at n h r), opens)
+    subst S (sym same) (subst R none (reads_push later h r), opens)
 
 pub step_refused : {t : Stage} {all : List ℕ} {xs : List (ℕ × Item)} {f p g : FeedState} {piece rest : List ℕ} (later : List ℕ) {at n : ℕ}
     {answer : Result (Option Item) Refusal} {refusal : Refusal} → IsPushed f p piece rest at n
@@ -199,7 +199,7 @@ step_refused {t} {all} {xs} {f} {p} {g} {piece} {rest} later {at} {n} {answer} {
     let S : FeedState → Type 0 = λ s. Reads t all xs s unread × IsAnswer s (Err refusal) in
     let same : g ≡ after p (Err refusal) = after_is ∙ ap (after p) e in
     let both = subst S (sym same) (
-      reads_same t all xs p (after p (Err refusal)) unread refl refl (reads_push t all xs f p piece rest later at n h r),
+      reads_same t all xs p (after p (Err refusal)) unread refl refl (reads_push later h r),
       subst P e a,
     ) in
     (unread, both.0, both.1)

@@ -75,6 +75,19 @@ fn enlarge<A: Allocator>(buffer: &mut Vec<u8, A>, size: &mut usize, n: usize) ->
     Ok(())
 }
 
+/// Closes the gap before the bytes from `at` on, where no more bytes move than were dropped.
+fn close_wide_gap<A: Allocator>(buffer: &mut Vec<u8, A>, at: &mut usize)
+    requires { at.old ≤ vec_len buffer.old }
+    ensures bytes { drop at.new buffer.new.items ≡ drop at.old buffer.old.items }
+    ensures within { (at.new ≤ vec_len buffer.new) × (vec_len buffer.new ≤ vec_len buffer.old) }
+    ensures near { vec_len buffer.new ≤ 2 * length (drop at.old buffer.old.items) }
+    ensures capacity { vec_capacity buffer.new ≡ vec_capacity buffer.old }
+{
+    if *at >= buffer.len() - *at {
+        close_gap(buffer, at);
+    }
+}
+
 /// Makes room for n bytes more after those from `at` on. The gap before them is closed where no more bytes move than were
 /// dropped, or where no memory is left, so that the buffer never grows for the sake of dropped bytes.
 fn make_room<A: Allocator>(
@@ -97,9 +110,7 @@ fn make_room<A: Allocator>(
         return Ok(());
     }
     let rest = buffer.len() - *at;
-    if *at >= rest {
-        close_gap(buffer, at);
-    }
+    close_wide_gap(buffer, at);
     if n <= *size - buffer.len() || enlarge(buffer, size, n).is_ok() {
         return Ok(());
     }

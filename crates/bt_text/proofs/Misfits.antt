@@ -64,8 +64,8 @@ more_words {first} {front = front} {tail = tail} {es = es} {k = k} at ended r =
     let none = subst (λ (l : List Expected). IsCompleted first front l) (drop_all k es ended) at.completed in
     too_many front tail (whole_text tail at r) none refl (omega (arith, at.here))
 
-pub block_parts : (text name one two three four index begin block : List ℕ) → name ++ one ≡ text → name ≡ codes "piece" → one ≡ codes " " ++ (index ++ two)
-    → two ≡ codes " " ++ (begin ++ three) → three ≡ codes " " ++ (block ++ four) → four ≡ []
+pub block_parts : {text name one two three four : List ℕ} (index begin block : List ℕ) → name ++ one ≡ text → name ≡ codes "piece"
+    → one ≡ codes " " ++ (index ++ two) → two ≡ codes " " ++ (begin ++ three) → three ≡ codes " " ++ (block ++ four) → four ≡ []
     → text ≡ codes "piece" ++ (codes " " ++ (index ++ (codes " " ++ (begin ++ (codes " " ++ block)))))
-block_parts text name one two three four index begin block whole n a b c d =
+block_parts index begin block whole n a b c d =
     sym whole ∙ (rw n (rw a (rw b (rw c (rw d (rw (append-nil block) refl))))))

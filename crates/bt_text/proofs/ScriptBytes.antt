@@ -7,7 +7,6 @@ use Rattle.std.specs.Prelude.{codes, IfOk, option_map, option_and_then}
 use Rattle.std.specs.Result.{result_ok}
 use Rattle.std.specs.Str.{bytes_eq}
 use Rattle.std.proofs.lemmas.List.{length-append, take-append-drop}
-use Rattle.std.proofs.Math.Seq.{take-append_seam}
 use Rattle.hex.specs.Hex.{decode_of}
 use Rattle.hex.specs.declared.error.FromHexError.{FromHexError}
 use Rattle.hex.proofs.HexLemmas.{decode_of-ok}
@@ -44,17 +43,6 @@ pub digits_added : (id : ℕ) (numbers w old mid new : List ℕ) (ok : Bool) →
     → option_map (λ b. old ++ b) (option_map (framed_by id) (option_map (λ b. numbers ++ b) (result_ok (decode_of w)))) ≡ Some new
 digits_added id numbers w old mid new true e made h = digits_as id numbers w old mid new (decode_of w) refl made h
 digits_added id numbers w old mid new false e made h = absurd cc
-
--- or they say none, and the others stay
-pub digits_refused : (id : ℕ) (numbers w old mid new last : List ℕ) (ok : Bool) → ok ≡ false → mid
-    ≡ old ++ (be32 (1 + length numbers + length w / 2) ++ (id ∷ numbers)) → Adds (result_ok (decode_of w)) mid new ok → last ≡ take (length old) new
-    → Adds (option_map (framed_by id) (option_map (λ b. numbers ++ b) (result_ok (decode_of w)))) old last false
-digits_refused id numbers w old mid new last true e made h cut = absurd cc
-digits_refused id numbers w old mid new last false e made h cut =
-    let front = be32 (1 + length numbers + length w / 2) ++ (id ∷ numbers) in (
-      rw h.0 refl,
-      cut ∙ ap (λ (x : List ℕ). take (length old) x) (h.1 ∙ made) ∙ take-append_seam old front,
-    )
 
 -- ---- the message of a row
 

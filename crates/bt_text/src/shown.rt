@@ -115,24 +115,46 @@ fn write_message<W: fmt::Write>(f: &mut fmt::Formatter<W>, message: &Message) ->
     }
 }
 
+/// Writes a number after a space.
+fn write_number<W: fmt::Write>(f: &mut fmt::Formatter<W>, number: u64) -> fmt::Result {
+    write!(f, " {number}")
+}
+
+/// Writes two numbers, each after a space.
+fn write_two<W: fmt::Write>(f: &mut fmt::Formatter<W>, first: u64, second: u64) -> fmt::Result {
+    write_number(f, first)?;
+    write_number(f, second)
+}
+
+/// Writes a piece index and two more numbers, each after a space.
+fn write_three<W: fmt::Write>(
+    f: &mut fmt::Formatter<W>,
+    index: u32,
+    second: u64,
+    third: u64,
+) -> fmt::Result {
+    write_number(f, u64::from(index))?;
+    write_two(f, second, third)
+}
+
 /// Writes the numbers among the fields, and of bytes how many there are.
 fn write_fields<W: fmt::Write>(f: &mut fmt::Formatter<W>, fields: &Fields) -> fmt::Result {
     match fields {
         Fields::Nothing => Ok(()),
-        Fields::Index(index) => write!(f, " {index}"),
+        Fields::Index(index) => write_number(f, u64::from(*index)),
         Fields::Part {
             index,
             begin,
             length,
-        } => write!(f, " {index} {begin} {length}"),
+        } => write_three(f, *index, u64::from(*begin), u64::from(*length)),
         Fields::Block {
             index,
             begin,
             block,
-        } => write!(f, " {index} {begin} {}", block.len()),
-        Fields::Port(port) => write!(f, " {port}"),
-        Fields::Field(bits) => write!(f, " {}", bits.len()),
-        Fields::Payload(payload) => write!(f, " {}", payload.len()),
+        } => write_three(f, *index, u64::from(*begin), block.len() as u64),
+        Fields::Port(port) => write_number(f, u64::from(*port)),
+        Fields::Field(bits) => write_number(f, bits.len() as u64),
+        Fields::Payload(payload) => write_number(f, payload.len() as u64),
     }
 }
 
@@ -164,17 +186,28 @@ fn write_payload<W: fmt::Write>(f: &mut fmt::Formatter<W>, payload: &Ext) -> fmt
     }
 }
 
+/// The name of a metadata message.
+fn metadata_name(kind: Kind) -> &'static str {
+    match kind {
+        Kind::Request(_) => "metadata-request",
+        Kind::Data { .. } => "metadata-data",
+        Kind::Reject(_) => "metadata-reject",
+        Kind::Other => "metadata-other",
+        Kind::Malformed => "metadata-malformed",
+    }
+}
+
 /// Writes the words of a metadata message with `rest` bytes after its dictionary.
 fn write_metadata<W: fmt::Write>(
     f: &mut fmt::Formatter<W>,
     dict: &Value,
     rest: usize,
 ) -> fmt::Result {
-    match kind(dict) {
-        Kind::Request(piece) => write!(f, "metadata-request {piece}"),
-        Kind::Data { piece, total } => write!(f, "metadata-data {piece} {total} {rest}"),
-        Kind::Reject(piece) => write!(f, "metadata-reject {piece}"),
-        Kind::Other => write!(f, "metadata-other {} {rest}", ben_len(dict)),
-        Kind::Malformed => write!(f, "metadata-malformed {} {rest}", ben_len(dict)),
+    let kind = kind(dict);
+    f.write_str(metadata_name(kind))?;
+    match kind {
+        Kind::Request(piece) | Kind::Reject(piece) => write_number(f, u64::from(piece)),
+        Kind::Data { piece, total } => write_three(f, piece, total, rest as u64),
+        Kind::Other | Kind::Malformed => write_two(f, ben_len(dict), rest as u64),
     }
 }

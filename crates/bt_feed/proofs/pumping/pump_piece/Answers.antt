@@ -130,13 +130,11 @@ returns-in-Err-take-clause-limit g c = limit_kept c.push-at.new.self c.take.foll
 pub returns-in-Err-clause-items : goal.returns-in-Err-clause-items
 returns-in-Err-clause-items g c =
     let m = c.items.invariant.moved in
-    let y = c.pass-passed.ensures.items in
-    let s = c.pass-passed.new.self in (
+    let y = c.pass-passed.ensures.items in (
       m.0 ++ y.0,
-      missed_by g.S.Sink.takes g.S.Sink.misses _ c.items.sink _ m.0 y.0 c.pass-passed.result.1 c.in-Err.fault c.in-Err.is m.1 y.1,
+      missed_by g.S.Sink.takes g.S.Sink.misses _ c.items.sink _ m.0 y.0 c.in-Err.is m.1 y.1,
       (
         c.items.at + c.pass-passed.result.0,
-        fed_passed c.args.feed.now c.items.feed s c.args.piece.now c.suffix.result.now c.items.at c.pass-passed.result.0
-            m.0 y.0 c.suffix.ensures m.2 y.2,
+        fed_passed c.args.piece.now c.items.at c.pass-passed.result.0 c.suffix.ensures m.2 y.2,
       ),
     )

@@ -40,7 +40,6 @@ returns-clause-stops g c = λ lt.
 pub returns-clause-sound : goal.returns-clause-sound
 returns-clause-sound g c =
     let p = c.refresh.new.self in
-    let buffer = c.refresh.new.buffer.items in
     let piece = c.args.piece.now in
     let n = c.length-length.result in
     let P : List ℕ → Type 0 = λ b. HasWindow p.stage (b ++ piece) n × (length b ≤ n) in
@@ -48,6 +47,6 @@ returns-clause-sound g c =
     let q = record p { wanted = n } in
     let Q : List ℕ → Type 0 = λ b. IsProgress q b in
     subst Q (sym c.append_up_to.ensures.items)
-    (progress_window p q buffer piece n c.append_up_to.result c.refresh.ensures.sound
+    (progress_window q piece c.refresh.ensures.sound
     (record { stage = refl; refused = refl; fresh = c.refresh.ensures.same.fresh }) c.refresh.ensures.same.fresh refl window.0 window.1
     c.append_up_to.ensures.count)

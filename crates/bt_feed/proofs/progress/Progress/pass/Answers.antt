@@ -24,6 +24,5 @@ returns-clause-sound g c =
     let passed = c.pass_messages-passed.result in
     let none : held_of c.args.self.now c.args.buffer.now ≡ [] = nil_from_length _ (omega (arith, ap (length {A = ℕ}) c.held.ensures)) in
     let calm : c.args.self.now.refused ≡ None = none_from c.args.self.now.refused _ c.is_some.ensures c.if-is_some.false in
-    passed_sound c.args.self.now c.args.buffer.now c.in-Message.context c.in-Message.order passed.order c.in-Message.start c.in-Message.number passed.bytes
-    passed.messages c.requires c.in-Message.is none calm
+    passed_sound passed.order passed.bytes passed.messages c.requires c.in-Message.is none calm
     c.pass_messages-passed.ensures.start c.pass_messages-passed.ensures.count

@@ -23,7 +23,7 @@ returns-in-Until-clause-sound g c =
     let h = subst P c.as_slice.ensures c.in-Until.ensures in
     let Q : List ℕ → Type 0 = λ b. IsProgress p b in
     subst Q (sym c.append_up_to.ensures.items)
-    (progress_until p p buffer c.args.piece.now c.in-Until.count c.append_up_to.result c.requires.sound
+    (progress_until p c.args.piece.now c.in-Until.count c.requires.sound
     (record { stage = refl; refused = refl; fresh = c.requires.fresh }) c.requires.fresh c.requires.unjudged h.0 h.1 h.2 c.append_up_to.ensures.count)
 
 pub returns-in-Window-clause-fills : goal.returns-in-Window-clause-fills
@@ -57,6 +57,6 @@ returns-in-Window-clause-sound g c =
     let q = record p { wanted = c.in-Window.length } in
     let Q : List ℕ → Type 0 = λ b. IsProgress q b in
     subst Q (sym c.append_up_to-in-Window.ensures.items)
-    (progress_window p q buffer c.args.piece.now c.in-Window.length c.append_up_to-in-Window.result c.requires.sound
+    (progress_window q c.args.piece.now c.requires.sound
     (record { stage = refl; refused = refl; fresh = c.requires.fresh }) c.requires.fresh refl (window_more p.stage buffer c.args.piece.now _ h) le
     c.append_up_to-in-Window.ensures.count)

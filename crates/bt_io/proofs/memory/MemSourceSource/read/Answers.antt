@@ -20,3 +20,6 @@ returns-clause-bytes c =
         s.bytes.ok.0,
       )),
     )
+
+pub returns-clause-moved : goal.returns-clause-moved
+returns-clause-moved c = let s = c.args.self.now in omega (arith, length-drop s.at s.bytes.items, s.bytes.ok.0)

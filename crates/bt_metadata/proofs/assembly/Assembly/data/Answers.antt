@@ -20,10 +20,10 @@ measured : (n piece count size k : ℕ) → size ≡ n → k ≡ piece → piece
 measured n piece count size k e f l c = same_rest n piece size k e f ∙ block_len_is n piece (subst (λ x. piece < x) c l)
 
 -- what is stored in place of the bytes
-written : (d b now new : List ℕ) (piece k len count : ℕ) → k ≡ piece → piece < count → count ≡ block_count (length d) → length b
+written : {d : List ℕ} (b : List ℕ) {now new : List ℕ} {piece k len count : ℕ} → k ≡ piece → piece < count → count ≡ block_count (length d) → length b
     ≡ min 16384 (length d - 16384 * piece) →
     now ≡ d → new ≡ paste now (16384 * k) b → len ≡ length d → take len (new ++ drop (length new) d) ≡ paste d (16384 * piece) b
-written d b now new piece k len count e l c n v s z =
+written {d} b {now} {new} {piece} {k} {len} e l c n v s z =
     let p : new ≡ paste d (16384 * piece) b = s ∙ ap (λ x. paste x (16384 * k) b) v ∙ ap (λ j. paste d (16384 * j) b) e in
     let a : 16384 * piece < length d = block_starts (length d) piece (subst (λ x. piece < x) c l) in
     let q : length new ≡ length d = ap length p ∙ length-paste d b (16384 * piece) (omega arith) in
@@ -112,7 +112,7 @@ returns-clause-state g c =
     let n : length b ≡ min 16384 (length d - 16384 * piece) = c.if-block-min.false ∙ c.min.ensures ∙ same_rest (length d) piece c.len-size.result
     c.in_ok-k.k l k in
     let m : length b ≡ block_len (length d) piece = n ∙ block_len_is (length d) piece (subst (λ x. piece < x) c.self.invariant.count i) in
-    let w = written d b c.deref_mut.result.now c.store.new.bytes piece c.in_ok-k.k c.self.inside.bytes.len (length ss) k i c.self.invariant.count n
+    let w = written b k i c.self.invariant.count n
     c.deref_mut.ensures.value c.store.ensures c.self.inside.bytes.ok.0 in
     ap (λ x. state_of h x (set ss c.in_ok-k.k status.Held)) w ∙ ap (λ j. state_of h (paste d (16384 * piece) b) (set ss j status.Held)) k
     ∙ held_is h d b ss piece total i c.self.invariant.count n (nothing_wrong h d b ss piece total e (c.if-total-size.false ∙ l) m)

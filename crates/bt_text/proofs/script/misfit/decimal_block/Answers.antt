@@ -15,6 +15,6 @@ returns-then-is_short_number c =
     let ended : c.in_ok-block.rest.now ≡ [] = nil_from_length c.in_ok-block.rest.now (search rules) in (
       c.in_ok-rest.field-0-0.now,
       c.in_ok-rest-2.field-0-0.now,
-      block_parts c.args.text.now _ _ _ _ _ _ _ c.in_ok-block.block.now whole name c.in_ok-rest.ensures c.in_ok-rest-2.ensures c.in_ok-block.ensures ended,
+      block_parts _ _ c.in_ok-block.block.now whole name c.in_ok-rest.ensures c.in_ok-rest-2.ensures c.in_ok-block.ensures ended,
       c.is_short_number.ensures c.if-is_short_number.true,
     )
