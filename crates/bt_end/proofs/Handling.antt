@@ -22,10 +22,10 @@ along : (a b : HalfState) (x y : List ℕ) (m n : ℕ) (stop : Result Unit TurnE
 along a b x y m n stop e f h = subst (λ (z : List ℕ). IsHandled a z n stop b) e (subst (λ (k : ℕ). IsHandled a x k stop b) f h)
 
 -- a round that handled an item
-pub goes_on : (a now next : HalfState) (bytes rest : List ℕ) (n t : ℕ) → rest ≡ drop n bytes → t ≡ taken now.feed rest → t ≤ length rest
+pub goes_on : {a now : HalfState} (next : HalfState) {bytes rest : List ℕ} {n t : ℕ} → rest ≡ drop n bytes → t ≡ taken now.feed rest → t ≤ length rest
     → IsUnderWay a bytes n now → IsTurned (received now rest) (Ok Handled) next →
     IsUnderWay a bytes (n + t) next
-goes_on a now next bytes rest n t r e le u h = record {
+goes_on {a} {now} next {bytes} {rest} {n} {t} r e le u h = record {
   within = omega (arith, le, ap (length {A = ℕ}) r, length-drop n bytes, u.within);
   follows = λ k stop b later.
       let same : drop (n + t) bytes ≡ drop (taken now.feed rest) rest = sym (drop-drop t n bytes) ∙ ap (drop t) (sym r) ∙ ap (λ (x : ℕ). drop x rest) e in

@@ -15,7 +15,7 @@ rounds-preserved g c =
     let rest = take (length bytes - c.rounds.used) (drop c.rounds.used bytes) in
     let turn = rw c.in-Ok-Handled.is at c.in-Ok-Handled.field-0-is in
     let is : c.round-taken.result.1 ≡ Ok Handled = c.in-Ok-Handled.is ∙ ap (λ (t : Turn). Ok t) turn in
-    goes_on c.args.self.now now next bytes rest c.rounds.used c.round-taken.result.0 (rest_is bytes c.rounds.used) c.round-taken.ensures.taken
+    goes_on next (rest_is bytes c.rounds.used) c.round-taken.ensures.taken
     c.round-taken.ensures.in_range c.rounds.invariant
     (subst (λ (x : Result Turn TurnError). IsTurned (received now rest) x next) is c.round-taken.ensures.turned)
 
