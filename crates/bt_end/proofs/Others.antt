@@ -1,5 +1,5 @@
 -- Parts of an end that neither fetch nor serve.
-use Rattle.std.proofs.Common.{◌≡◌, ℕ, false, List, Option, None, refl}
+use Rattle.std.proofs.Common.{◌≡◌, ℕ, false, List, None, refl}
 use Rattle.bt_metadata.specs.Assemblies.{AssemblyState}
 use Rattle.bt_metadata.specs.declared.server.Reply.TheVariants as reply
 use Rattle.bt_end.specs.Ends.{Part, served_size, with_block, brings_mismatch, with_refused, part_kept}
