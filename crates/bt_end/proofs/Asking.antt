@@ -73,9 +73,9 @@ pub record IsRequested {A : Type 0} (now new : Reactor A) (id k : ℕ) : Type 0 
   pub bound : length new.outbox.bytes ≤ length now.outbox.bytes + 226
   pub room : now.outbox.room ≤ new.outbox.room + 226
 
-pub one_queued : {A : Type 0} → (old now new : Reactor A) (n id k : ℕ) → n < window → 0 < id → peer_id (end_of old) ≡ Some id → IsAsking old now n
+pub one_queued : {A : Type 0} → {old now : Reactor A} (new : Reactor A) {n id k : ℕ} → n < window → 0 < id → peer_id (end_of old) ≡ Some id → IsAsking old now n
     → wanted old.window (part_of now.part) ≡ Some k → IsRequested now new id k → IsAsking old new (n + 1)
-one_queued old now new n id k lt above is h next r =
+one_queued {old} {now} new {n} {id} {k} lt above is h next r =
     let p = part_of now.part in
     let rest : all_wanted (window - n) old.window p ≡ k ∷ all_wanted (window - (n + 1)) old.window (with_asked (Some k) p) =
     next_wanted (window - n) (window - (n + 1)) old.window k p (omega arith) next in

@@ -8,3 +8,4 @@ pub mod Finishing
 pub mod Greeting
 pub mod Refusals
 pub mod Handling
+pub mod Others

@@ -118,11 +118,11 @@ kept_by {A = A} old mid r e p q = record {
   bytes = ap (λ (i : Inside A). i.reactor.outbox.bytes) e ∙ q;
 }
 
-pub handled : {A : Type 0} → (old mid : Inside A) (a : HalfState) (f : FeedState) (new : Reactor A) (view : View) (x : Result (Option View) TakeError)
+pub handled : {A : Type 0} → {old mid : Inside A} {a : HalfState} {f : FeedState} {new : Reactor A} (view : View) {x : Result (Option View) TakeError}
     → half_of old ≡ a → IsKept old mid → is_busy (half_of old) ≡ false →
     x ≡ Ok (Some view) → IsAnswer mid.feed (shown x) → f ≡ after mid.feed (shown x) → IsReacted mid.reactor new (react (end_of mid.reactor) (item_of view)) →
     IsTurned a (Ok Handled) (half_of (record { feed = f; reactor = new }))
-handled old mid a f new view x v k b o i e h =
+handled {old} {mid} {f} {new} view v k b o i e h =
     let p : half_of mid ≡ half_of old = kept_half old mid k in
     let busy : is_busy (half_of mid) ≡ false = ap is_busy p ∙ b in
     let answer : IsAnswer mid.feed (Ok (Some (item_of view))) = subst (λ (y : Result (Option View) TakeError). IsAnswer mid.feed (shown y)) o i in
@@ -133,11 +133,11 @@ handled old mid a f new view x v k b o i e h =
       turned mid f new (item_of view) left h,
     )
 
-pub refused : {A : Type 0} → (old mid : Inside A) (a : HalfState) (f : FeedState) (r : Refusal) (s : HalfState) (x : Result (Option View) TakeError)
+pub refused : {A : Type 0} → {old mid : Inside A} {a : HalfState} {f : FeedState} (r : Refusal) {s : HalfState} {x : Result (Option View) TakeError}
     → half_of old ≡ a → IsKept old mid → is_busy (half_of old) ≡ false →
     x ≡ Err (error.Refused r) → IsAnswer mid.feed (shown x) → f ≡ after mid.feed (shown x) → s ≡ half_of (record { feed = f; reactor = mid.reactor })
     → IsTurned a (Err (turn_error.Refused r)) s
-refused old mid a f r s x v k b o i e q =
+refused {old} {mid} {f} r {s} v k b o i e q =
     let p : half_of mid ≡ half_of old = kept_half old mid k in
     let busy : is_busy (half_of mid) ≡ false = ap is_busy p ∙ b in
     let answer : IsAnswer mid.feed (Err r) = subst (λ (y : Result (Option View) TakeError). IsAnswer mid.feed (shown y)) o i in
@@ -145,11 +145,11 @@ refused old mid a f r s x v k b o i e q =
     let same : s ≡ with_feed (half_of mid) (after mid.feed (Err r)) = q ∙ ap (λ (y : FeedState). with_feed (half_of mid) y) left in
     subst (λ (y : HalfState). IsTurned y (Err (turn_error.Refused r)) s) (p ∙ v) ((busy, answer), same)
 
-pub sturdy : {A : Type 0} → (old mid : Inside A) (f : FeedState) (new : Reactor A) (view : View) (x : Result (Option View) TakeError) → IsKept old mid
+pub sturdy : {A : Type 0} → {old mid : Inside A} (f : FeedState) {new : Reactor A} (view : View) {x : Result (Option View) TakeError} → IsKept old mid
     → is_busy (half_of old) ≡ false → IsFeed old.feed → IsEnd (half_of old) →
     x ≡ Ok (Some view) → IsAnswer mid.feed (shown x) → IsReacted mid.reactor new (react (end_of mid.reactor) (item_of view))
     → IsEnd (half_of (record { feed = f; reactor = new }))
-sturdy old mid f new view x k b h s o i r =
+sturdy {old} {mid} f {new} view k b h s o i r =
     let p : half_of mid ≡ half_of old = kept_half old mid k in
     let busy : is_busy (half_of mid) ≡ false = ap is_busy p ∙ b in
     let fed : IsFeed mid.feed = subst IsFeed (sym k.feed) h in

@@ -279,10 +279,10 @@ turning s p a c n course = record {
 }
 
 -- where it isn't idle
-advanced_turn : (s : Seen) (p : List ℕ) (a c : HalfState) (n k : ℕ) (r : Result Step Stop) (course : CourseOf a c (take n p) [] k) → length a.outbox ≡ 0
+advanced_turn : {s : Seen} {p : List ℕ} {a c : HalfState} (n : ℕ) {k : ℕ} (r : Result Step Stop) (course : CourseOf a c (take n p) [] k) → length a.outbox ≡ 0
     → 0 < length p → k ≡ items_of r → k ≤ steps_of r → steps_of r ≤ k + idle (moment s (drop n p) c)
     → IsStep (moment s p a) (moment s (drop n p) c) r → IsAdvanced (moment s p a) (moment s (drop n p) c) r
-advanced_turn s p a c n k r course out more items most least step = record {
+advanced_turn {s} {p} {a} {c} n r course out more items most least step = record {
   made = record {
     moved = turning s p a c n course.0;
     items = omega (arith, course.1, most);
@@ -306,22 +306,6 @@ idle_empty p a b c n out f e le h =
     let same : length c.outbox ≡ length a.outbox = ap (λ (x : HalfState). length x.outbox) turned.1 in
     omega (arith, used, same, out, length-drop n p)
 
-turned : (s : Seen) (p : List ℕ) (a b c : HalfState) (n : ℕ) (r : Result Turn TurnError) → limit_of a.feed.stage ≤ 1048576 → length a.outbox ≡ 0
-    → 0 < length p → n ≡ taken a.feed p → n ≤ length p → b ≡ received a p → IsTurned b r c
-    → (r ≡ Err turn_error.Busy → ⊥) → IsAdvanced (moment s p a) (moment s (drop n p) c) (at_turn r)
-turned s p a b c n (Ok Handled) l out more e le f h busy =
-    advanced_turn s p a c n 1 (Ok step.Handled) (course_round a b c p n (Ok Handled) l e f h) out more refl (omega arith) (omega arith) refl
-turned s p a b c n (Ok Idle) l out more e le f h busy =
-    advanced_turn s p a c n 0 (Ok step.Held) (course_round a b c p n (Ok Idle) l e f h) out more refl (omega arith)
-    (omega (arith, idle_none (length c.outbox + length (drop n p)) (idle_empty p a b c n out f e le h))) refl
-turned s p a b c n (Err (turn_error.Refused r)) l out more e le f h busy =
-    advanced_turn s p a c n 0 (Err (stop.Refused r)) (course_round a b c p n (Err (turn_error.Refused r)) l e f h) out more refl (omega arith) (omega arith)
-    (calm_same s.counts, ap (λ (x : HalfState). x.feed.refused) h.1)
-turned s p a b c n (Err turn_error.Busy) l out more e le f h busy = absurd (busy refl)
-turned s p a b c n (Err turn_error.Memory) l out more e le f h busy =
-    advanced_turn s p a c n 0 (Err stop.Memory) (course_round a b c p n (Err turn_error.Memory) l e f h) out more refl (omega arith) (omega arith)
-    (calm_same s.counts, (h.0, subst (λ (x : HalfState). IsAnswer x.feed (Ok (Some h.0))) (sym h.3) h.1.1, h.2))
-
 -- nothing is to be sent, so the end isn't busy
 pub not_busy : (a b c : HalfState) (piece : List ℕ) (r : Result Turn TurnError) → length a.outbox ≡ 0 → b ≡ received a piece → IsTurned b r c
     → r ≡ Err turn_error.Busy → ⊥
@@ -344,12 +328,28 @@ pub record IsGiven (p q piece : List ℕ) (a b c : HalfState) (r : Result Turn T
   pub rest : q ≡ drop n p
   pub turned : IsTurned b r c
 
-pub advanced_turned : (s : Seen) (p q piece : List ℕ) (a b c : HalfState) (r : Result Turn TurnError) (n : ℕ) (result : Result Step Stop)
+-- a turn of an end that got all pending bytes
+turned : {s : Seen} {p : List ℕ} {a b c : HalfState} {n : ℕ} (r : Result Turn TurnError) → IsGiven p (drop n p) p a b c r n
+    → IsAdvanced (moment s p a) (moment s (drop n p) c) (at_turn r)
+turned {p} {a} {b} {c} {n} (Ok Handled) g =
+    advanced_turn n (Ok step.Handled) (course_round a b c p n (Ok Handled) g.limit g.taken g.fed g.turned) g.sent g.some refl (omega arith) (omega arith) refl
+turned {p} {a} {b} {c} {n} (Ok Idle) g =
+    advanced_turn n (Ok step.Held) (course_round a b c p n (Ok Idle) g.limit g.taken g.fed g.turned) g.sent g.some refl (omega arith)
+    (omega (arith, idle_none (length c.outbox + length (drop n p)) (idle_empty p a b c n g.sent g.fed g.taken g.within g.turned))) refl
+turned {s} {p} {a} {b} {c} {n} (Err (turn_error.Refused r)) g =
+    advanced_turn n (Err (stop.Refused r)) (course_round a b c p n (Err (turn_error.Refused r)) g.limit g.taken g.fed g.turned) g.sent g.some refl (omega arith)
+    (omega arith) (calm_same s.counts, ap (λ (x : HalfState). x.feed.refused) g.turned.1)
+turned {p} {a} {b} {c} (Err turn_error.Busy) g = absurd (not_busy a b c p (Err turn_error.Busy) g.sent g.fed g.turned refl)
+turned {s} {p} {a} {b} {c} {n} (Err turn_error.Memory) g =
+    let h = g.turned in
+    advanced_turn n (Err stop.Memory) (course_round a b c p n (Err turn_error.Memory) g.limit g.taken g.fed h) g.sent g.some refl (omega arith) (omega arith)
+    (calm_same s.counts, (h.0, subst (λ (x : HalfState). IsAnswer x.feed (Ok (Some h.0))) (sym h.3) h.1.1, h.2))
+
+pub advanced_turned : (s : Seen) {p q piece : List ℕ} {a b c : HalfState} {r : Result Turn TurnError} {n : ℕ} {result : Result Step Stop}
     → result ≡ at_turn r → IsGiven p q piece a b c r n → IsAdvanced (moment s p a) (moment s q c) result
-advanced_turned s p q piece a b c r n result e g =
-    let B : List ℕ → Type 0 = λ x. (n ≡ taken a.feed x) × (n ≤ length x) × (b ≡ received a x) in
-    let facts = subst B g.is (g.taken, g.within, g.fed) in
+advanced_turned s {p} {q} {piece} {a} {b} {c} {r} {n} e g =
+    let given : IsGiven p (drop n p) p a b c r n = subst (λ (y : List ℕ). IsGiven p (drop n p) y a b c r n) g.is
+    (subst (λ (x : List ℕ). IsGiven p x piece a b c r n) g.rest g) in
     let P : Result Step Stop → Type 0 = λ x. IsAdvanced (moment s p a) (moment s q c) x in
     let Q : List ℕ → Type 0 = λ x. IsAdvanced (moment s p a) (moment s x c) (at_turn r) in
-    subst P (sym e) (subst Q (sym g.rest) (turned s p a b c n r g.limit g.sent g.some facts.0 facts.1 facts.2 g.turned
-    (not_busy a b c p r g.sent facts.2 g.turned)))
+    subst P (sym e) (subst Q (sym g.rest) (turned r given))

@@ -172,33 +172,40 @@ pub halted_left : (w : Way) (moved : Bool) (old new : Ends) → stops w ≡ true
     → IsExchanged true moved old new
 halted_left w moved old new e h same = inl (halt_is w (at_left old) (at_left new) e h, same)
 
-pub exchanged_is : (there back : Way) (stopped moved : Bool) (old middle new : Ends) → stops there ≡ false → stopped ≡ stops back
-    → moved ≡ (moves there || moves back) → IsCalled there (at_left old) (at_left middle) → middle.right ≡ old.right
-    → IsCalled back (at_right middle) (at_right new) → new.left ≡ middle.left → IsExchanged stopped moved old new
-exchanged_is there back true moved old middle new on e is g right h left =
+-- one end was called, and then the other
+pub record AreCalled (there back : Way) (old middle new : Ends) : Type 0 where
+  pub on : stops there ≡ false
+  pub goes : IsCalled there (at_left old) (at_left middle)
+  pub right : middle.right ≡ old.right
+  pub comes : IsCalled back (at_right middle) (at_right new)
+  pub left : new.left ≡ middle.left
+
+pub exchanged_is : {there back : Way} (stopped : Bool) {moved : Bool} {old middle new : Ends} → AreCalled there back old middle new → stopped ≡ stops back
+    → moved ≡ (moves there || moves back) → IsExchanged stopped moved old new
+exchanged_is {there} {back} true {old} {middle} {new} h e is =
     inr (
       moves there,
       middle,
-      call_is there (at_left old) (at_left middle) on g,
-      right,
-      halt_is back (at_right middle) (at_right new) (sym e) h,
-      left,
+      call_is there (at_left old) (at_left middle) h.on h.goes,
+      h.right,
+      halt_is back (at_right middle) (at_right new) (sym e) h.comes,
+      h.left,
     )
-exchanged_is there back false moved old middle new on e is g right h left = record {
+exchanged_is {there} {back} false {old} {middle} {new} h e is = record {
   there = moves there;
   back = moves back;
   middle = middle;
-  goes = call_is there (at_left old) (at_left middle) on g;
-  right = right;
-  comes = call_is back (at_right middle) (at_right new) (sym e) h;
-  left = left;
+  goes = call_is there (at_left old) (at_left middle) h.on h.goes;
+  right = h.right;
+  comes = call_is back (at_right middle) (at_right new) (sym e) h.comes;
+  left = h.left;
   moved_is = is;
 }
 
 -- over to the other side and back
-pub crossed : (w : Way) (s s' t t' : Seen) (p q : List ℕ) (a b : HalfState) → s' ≡ across s → t' ≡ across t
+pub crossed : (w : Way) (s : Seen) {s' : Seen} (t : Seen) {t' : Seen} (p q : List ℕ) (a b : HalfState) → s' ≡ across s → t' ≡ across t
     → IsCalled w (moment s' p a) (moment t q b) → IsCalled w (moment (across s) p a) (moment (across t') q b)
-crossed w s s' t t' p q a b e f h =
+crossed w s t p q a b e f h =
     let first : IsCalled w (moment (across s) p a) (moment t q b) = subst (λ (x : Seen). IsCalled w (moment x p a) (moment t q b)) e h in
     subst (λ (x : Seen). IsCalled w (moment (across s) p a) (moment x q b)) (sym (ap across f)) first
 

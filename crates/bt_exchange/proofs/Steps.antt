@@ -118,9 +118,9 @@ exact_turn prompt s p q piece a b c (Err (turn_error.Refused r)) n g = has_turne
 exact_turn prompt s p q piece a b c (Err turn_error.Busy) n g = absurd (not_busy a b c piece (Err turn_error.Busy) g.sent g.fed g.turned refl)
 exact_turn prompt s p q piece a b c (Err turn_error.Memory) n g = tt
 
-pub exact_turned : (prompt : Bool) (s : Seen) (p q piece : List ℕ) (a b c : HalfState) (r : Result Turn TurnError) (n : ℕ) (result : Result Step Stop)
+pub exact_turned : (prompt : Bool) (s : Seen) {p q piece : List ℕ} {a b c : HalfState} {r : Result Turn TurnError} {n : ℕ} {result : Result Step Stop}
     → result ≡ at_turn r → IsGiven p q piece a b c r n → IsExact prompt (moment s p a) (moment s q c) result
-exact_turned prompt s p q piece a b c r n result e g =
+exact_turned prompt s {p} {q} {piece} {a} {b} {c} {r} {n} e g =
     let P : Result Step Stop → Type 0 = λ x. IsExact prompt (moment s p a) (moment s q c) x in
     subst P (sym e) (exact_turn prompt s p q piece a b c r n g)
 

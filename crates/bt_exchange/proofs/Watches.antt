@@ -231,9 +231,9 @@ mark_alive g start old mid s st t u m a e =
     let new = moment s mid.pending mid.half in
     mark_here g t start new (moved_both start old new (mark_moved g u start old m) (round_made old mid s st t a e).moved) (ap (λ (x : Seen). x.counts.clock) e)
 
-pub mark_quiet : (g : Sign) (start old mid : Moment) (s : Seen) (st : Step) (t u : ℕ) (m : IsMark g u start old) (a : IsAdvanced old mid (Ok st))
+pub mark_quiet : {g : Sign} {start old mid : Moment} {s : Seen} (st : Step) (t : ℕ) {u : ℕ} (m : IsMark g u start old) (a : IsAdvanced old mid (Ok st))
     → IsQuiet g old mid a.made.moved → s ≡ at_time t mid.seen → IsMark g u start (moment s mid.pending mid.half)
-mark_quiet g start old mid s st t u m a q e =
+mark_quiet {g} {start} {old} {mid} st t {u} m a q e =
     let P : Seen → Type 0 = λ x. IsMark g u start (moment x mid.pending mid.half) in
     let first = mark_on g u start old mid a.made.moved m q in
     subst P (sym e) (mark_on g u start mid (moment (at_time t mid.seen) mid.pending mid.half) (moved_clock mid t) first (quiet_clock g mid t))
@@ -251,9 +251,9 @@ round_next a b c n k least most p q =
     let P : ℕ → Type 0 = λ x. IsMade x a c in
     subst P (omega (arith, least, most)) (made_both a b c n k p q)
 
-pub stopped_at : (limits : Limits) (a b c : Moment) (n k : ℕ) (e : Stop) → k ≤ 1 → n < limits.rounds → IsMade n a b → IsMade k b c → IsStopped limits a c e
+pub stopped_at : (limits : Limits) {a b c : Moment} {n k : ℕ} (e : Stop) → k ≤ 1 → n < limits.rounds → IsMade n a b → IsMade k b c → IsStopped limits a c e
     × (e ≡ stop.Rounds → ⊥) → IsExchanged limits a c e
-stopped_at limits a b c n k e most l p q s = record {
+stopped_at limits {a} {b} {c} {n} {k} e most l p q s = record {
   steps = n + k;
   made = made_both a b c n k p q;
   within = omega (arith, most, l);

@@ -115,10 +115,11 @@ way_opens hand greet heard old ys sent handled xs w short = record {
 
 -- ---- an item is handled
 
-way_handled : (hand : Item) (greet : Message) (opened : Bool) (before heard : Heard) (old rest : List Message) (sent : List Item) (handled : ℕ) (i : Item)
+way_handled : {hand : Item} {greet : Message} {opened : Bool} {before : Heard} (heard : Heard) {old : List Message} (rest : List Message) {sent : List Item}
+    {handled : ℕ} {i : Item}
     → Way hand greet opened before old sent handled → IsNext sent handled i → Pending hand greet opened heard rest (drop (handled + 1) sent)
     → Way hand greet opened heard rest sent (handled + 1)
-way_handled hand greet opened before heard old rest sent handled i w n h = record {
+way_handled heard rest w n h = record {
   pending = h;
   within = omega (arith, n.within);
   short = w.short;
@@ -190,9 +191,9 @@ pub record Inv (metadata : List ℕ) (a b : EndState) (x y : Node) : Type 0 wher
   pub asked : ℕ
   pub sides : Sides metadata a b x_stage y_stage x_notices y_notices answered waiting asked x y
 
-sides_inv : (metadata : List ℕ) (a b : EndState) (x_stage y_stage : Heard) (x_notices y_notices : List Message) (answered waiting : List ℕ) (asked : ℕ)
-    (x y : Node) → Sides metadata a b x_stage y_stage x_notices y_notices answered waiting asked x y → Inv metadata a b x y
-sides_inv metadata a b x_stage y_stage x_notices y_notices answered waiting asked x y s = record {
+sides_inv : {metadata : List ℕ} {a b : EndState} (x_stage y_stage : Heard) (x_notices y_notices : List Message) (answered waiting : List ℕ) (asked : ℕ)
+    {x y : Node} → Sides metadata a b x_stage y_stage x_notices y_notices answered waiting asked x y → Inv metadata a b x y
+sides_inv x_stage y_stage x_notices y_notices answered waiting asked s = record {
   x_stage = x_stage;
   y_stage = y_stage;
   x_notices = x_notices;
@@ -237,10 +238,10 @@ silent metadata a b x y e xs none i =
     subst (λ (js : List Item). Inv metadata a b (record x { end = e; sent = js }) y)
     (sym (ap (λ (zs : List Message). x.sent ++ map items.Message zs) none ∙ append-nil x.sent)) i
 
-server_first : (metadata : List ℕ) (a b : EndState) (y_stage : Heard) (x_notices y_notices : List Message) (answered waiting : List ℕ) (asked : ℕ) (x y : Node)
-    (i : Item) → IsFetchPair metadata a b → Sides metadata a b Unheard y_stage x_notices y_notices answered waiting asked x y → IsNext y.sent y.handled i
+server_first : {metadata : List ℕ} {a b : EndState} {y_stage : Heard} {x_notices y_notices : List Message} {answered waiting : List ℕ} {asked : ℕ} {x y : Node}
+    {i : Item} → IsFetchPair metadata a b → Sides metadata a b Unheard y_stage x_notices y_notices answered waiting asked x y → IsNext y.sent y.handled i
     → Inv metadata a b (sends x (react x.end i)) (heard_more y)
-server_first metadata a b y_stage x_notices y_notices answered waiting asked x y i p s n =
+server_first {metadata} {a} {b} {y_stage} {x_notices} {y_notices} {answered} {waiting} {asked} {x} {y} {i} p s n =
     let hand : Item = items.Handshake b.handshake in
     let greet : Message = greeting_message b.own.reg None in
     let own : Message = greeting_message a.own.reg (Some (length metadata)) in
@@ -254,13 +255,13 @@ server_first metadata a b y_stage x_notices y_notices answered waiting asked x y
     (ap served_size s.server.part) in
     subst (λ (j : Item). Inv metadata a b (sends x (react x.end j)) (heard_more y)) (sym first.0)
     (subst (λ (xs : List Message). Inv metadata a b (turned x r.end xs) (heard_more y)) (sym queued)
-    (sides_inv metadata a b Opened y_stage new y_notices answered waiting asked (turned x r.end (own ∷ new)) (heard_more y) (record {
+    (sides_inv Opened y_stage new y_notices answered waiting asked (record {
       server = server_opens metadata a b x.end s.server;
       fetcher = s.fetcher;
       part = s.part;
       going = way_opens (items.Handshake a.handshake) own y_stage x_notices (map (data_message metadata) answered) x.sent x.handled new s.going
           (server_greets metadata a b p, notices_short new right.0);
-      coming = way_handled hand greet (is_open y_stage) Unheard Opened rest rest y.sent y.handled i s.coming n first.1;
+      coming = way_handled Opened rest s.coming n first.1;
       server_notices = right.0;
       fetcher_notices = s.fetcher_notices;
       server_few = right.1;
@@ -271,10 +272,10 @@ server_first metadata a b y_stage x_notices y_notices answered waiting asked x y
       requests = s.requests;
     })))
 
-server_second : (metadata : List ℕ) (a b : EndState) (y_stage : Heard) (x_notices y_notices : List Message) (answered waiting : List ℕ) (asked : ℕ)
-    (x y : Node) (i : Item) → IsFetchPair metadata a b → Sides metadata a b Opened y_stage x_notices y_notices answered waiting asked x y
+server_second : {metadata : List ℕ} {a b : EndState} {y_stage : Heard} {x_notices y_notices : List Message} {answered waiting : List ℕ} {asked : ℕ}
+    {x y : Node} {i : Item} → IsFetchPair metadata a b → Sides metadata a b Opened y_stage x_notices y_notices answered waiting asked x y
     → IsNext y.sent y.handled i → Inv metadata a b (sends x (react x.end i)) (heard_more y)
-server_second metadata a b y_stage x_notices y_notices answered waiting asked x y i p s n =
+server_second {metadata} {a} {b} {y_stage} {x_notices} {y_notices} {answered} {waiting} {asked} {x} {y} {i} p s n =
     let hand : Item = items.Handshake b.handshake in
     let greet : Message = greeting_message b.own.reg None in
     let rest : List Message = y_notices ++ map request_for waiting in
@@ -284,12 +285,12 @@ server_second metadata a b y_stage x_notices y_notices answered waiting asked x 
     let learns = server_learns metadata a b x.end None s.server p.right.is.ids p.right_id in
     subst (λ (j : Item). Inv metadata a b (sends x (react x.end j)) (heard_more y)) (sym first.0)
     (silent metadata a b x (heard_more y) r.end r.queued learns.1
-    (sides_inv metadata a b Known y_stage x_notices y_notices answered waiting asked (record x { end = r.end }) (heard_more y) (record {
+    (sides_inv Known y_stage x_notices y_notices answered waiting asked (record {
       server = learns.0;
       fetcher = s.fetcher;
       part = s.part;
       going = s.going;
-      coming = way_handled hand greet (is_open y_stage) Opened Known rest rest y.sent y.handled i s.coming n first.1;
+      coming = way_handled Known rest s.coming n first.1;
       server_notices = s.server_notices;
       fetcher_notices = s.fetcher_notices;
       server_few = s.server_few;
@@ -313,12 +314,13 @@ one_more_data metadata xs answered k =
     append_assoc xs (map (data_message metadata) answered) (data_message metadata k ∷ [])
     ∙ ap (λ (ys : List Message). xs ++ ys) (sym (map-append (data_message metadata) answered (k ∷ [])))
 
-server_third : (metadata : List ℕ) (a b : EndState) (y_stage : Heard) (x_notices y_notices : List Message) (answered waiting : List ℕ) (asked : ℕ) (x y : Node)
-    (i : Item) → IsFetchPair metadata a b → Sides metadata a b Known y_stage x_notices y_notices answered waiting asked x y → IsNext y.sent y.handled i
+server_third : {metadata : List ℕ} {a b : EndState} {y_stage : Heard} {x_notices : List Message} (y_notices : List Message) {answered : List ℕ}
+    (waiting : List ℕ) {asked : ℕ} {x y : Node}
+    {i : Item} → IsFetchPair metadata a b → Sides metadata a b Known y_stage x_notices y_notices answered waiting asked x y → IsNext y.sent y.handled i
     → i ∷ drop (y.handled + 1) y.sent ≡ map items.Message (y_notices ++ map request_for waiting)
     → Inv metadata a b (sends x (react x.end i)) (heard_more y)
-server_third metadata a b y_stage x_notices [] answered [] asked x y i p s n e = absurd cc
-server_third metadata a b y_stage x_notices (z ∷ zs) answered waiting asked x y i p s n e =
+server_third [] [] p s n e = absurd cc
+server_third {metadata} {a} {b} {y_stage} {x_notices} (z ∷ zs) {answered} waiting {asked} {x} {y} {i} p s n e =
     let hand : Item = items.Handshake b.handshake in
     let greet : Message = greeting_message b.own.reg None in
     let rest : List Message = zs ++ map request_for waiting in
@@ -328,12 +330,12 @@ server_third metadata a b y_stage x_notices (z ∷ zs) answered waiting asked x 
     let h : IsAsBefore x.end r = at_notice x.end z s.fetcher_notices.0 in
     subst (λ (j : Item). Inv metadata a b (sends x (react x.end j)) (heard_more y)) (sym same)
     (silent metadata a b x (heard_more y) r.end r.queued h.queued
-    (sides_inv metadata a b Known y_stage x_notices zs answered waiting asked (record x { end = r.end }) (heard_more y) (record {
+    (sides_inv Known y_stage x_notices zs answered waiting asked (record {
       server = server_rests metadata a x.end r s.server h;
       fetcher = s.fetcher;
       part = s.part;
       going = s.going;
-      coming = way_handled hand greet (is_open y_stage) Known Known (z ∷ rest) rest y.sent y.handled i s.coming n
+      coming = way_handled Known rest s.coming n
           (pending_later hand greet (is_open y_stage) (z ∷ rest) rest (drop y.handled y.sent) (drop (y.handled + 1) y.sent) s.coming.pending later);
       server_notices = s.server_notices;
       fetcher_notices = s.fetcher_notices.1;
@@ -344,7 +346,7 @@ server_third metadata a b y_stage x_notices (z ∷ zs) answered waiting asked x 
       answers = s.answers;
       requests = s.requests;
     })))
-server_third metadata a b y_stage x_notices [] answered (k ∷ ks) asked x y i p s n e =
+server_third {metadata} {a} {b} {y_stage} {x_notices} [] {answered} (k ∷ ks) {asked} {x} {y} {i} p s n e =
     let hand : Item = items.Handshake b.handshake in
     let greet : Message = greeting_message b.own.reg None in
     let rest : List Message = map request_for ks in
@@ -356,7 +358,7 @@ server_third metadata a b y_stage x_notices [] answered (k ∷ ks) asked x y i p
     let replies = server_replies metadata a x.end k s.server sized s.waiting_below.0 in
     subst (λ (j : Item). Inv metadata a b (sends x (react x.end j)) (heard_more y)) (sym same)
     (subst (λ (xs : List Message). Inv metadata a b (turned x r.end xs) (heard_more y)) (sym replies.1)
-    (sides_inv metadata a b Known y_stage x_notices [] (answered ++ k ∷ []) ks asked (turned x r.end (data_k ∷ [])) (heard_more y) (record {
+    (sides_inv Known y_stage x_notices [] (answered ++ k ∷ []) ks asked (record {
       server = replies.0;
       fetcher = s.fetcher;
       part = part_answered metadata b y_stage y.end.part answered ks k asked s.part;
@@ -365,7 +367,7 @@ server_third metadata a b y_stage x_notices [] answered (k ∷ ks) asked x y i p
           (way_more (items.Handshake a.handshake) (greeting_message a.own.reg (Some (length metadata))) y_stage
           (x_notices ++ map (data_message metadata) answered) x.sent x.handled (data_k ∷ []) s.going
           (data_short metadata k sized s.waiting_below.0, tt));
-      coming = way_handled hand greet (is_open y_stage) Known Known (request_for k ∷ rest) rest y.sent y.handled i s.coming n
+      coming = way_handled Known rest s.coming n
           (pending_later hand greet (is_open y_stage) (request_for k ∷ rest) rest (drop y.handled y.sent) (drop (y.handled + 1) y.sent) s.coming.pending later);
       server_notices = s.server_notices;
       fetcher_notices = tt;
@@ -377,18 +379,19 @@ server_third metadata a b y_stage x_notices [] answered (k ∷ ks) asked x y i p
       requests = s.requests;
     })))
 
-server_handles : (metadata : List ℕ) (a b : EndState) (x_stage y_stage : Heard) (x_notices y_notices : List Message) (answered waiting : List ℕ) (asked : ℕ)
-    (x y : Node) (i : Item) → IsFetchPair metadata a b → Sides metadata a b x_stage y_stage x_notices y_notices answered waiting asked x y
+server_handles : {metadata : List ℕ} {a b : EndState} (x_stage : Heard) {y_stage : Heard} {x_notices y_notices : List Message} {answered waiting : List ℕ}
+    {asked : ℕ}
+    {x y : Node} {i : Item} → IsFetchPair metadata a b → Sides metadata a b x_stage y_stage x_notices y_notices answered waiting asked x y
     → IsNext y.sent y.handled i → Inv metadata a b (sends x (react x.end i)) (heard_more y)
-server_handles metadata a b Unheard y_stage x_notices y_notices answered waiting asked x y i p s n =
-    server_first metadata a b y_stage x_notices y_notices answered waiting asked x y i p s n
-server_handles metadata a b Opened y_stage x_notices y_notices answered waiting asked x y i p s n =
-    server_second metadata a b y_stage x_notices y_notices answered waiting asked x y i p s n
-server_handles metadata a b Known y_stage x_notices y_notices answered waiting asked x y i p s n =
+server_handles Unheard p s n =
+    server_first p s n
+server_handles Opened p s n =
+    server_second p s n
+server_handles {b} Known {y_stage} {y_notices} {waiting} {y} p s n =
     let hand : Item = items.Handshake b.handshake in
     let greet : Message = greeting_message b.own.reg None in
     let rest : List Message = y_notices ++ map request_for waiting in
-    server_third metadata a b y_stage x_notices y_notices answered waiting asked x y i p s n
+    server_third y_notices waiting p s n
     (sym n.first ∙ pending_rest hand greet (is_open y_stage) rest (drop y.handled y.sent) s.coming.pending)
 
 -- ---- a turn of the end that fetches
@@ -399,10 +402,10 @@ quiet_fetcher metadata a b x y e xs none i =
     subst (λ (js : List Item). Inv metadata a b x (record y { end = e; sent = js }))
     (sym (ap (λ (zs : List Message). y.sent ++ map items.Message zs) none ∙ append-nil y.sent)) i
 
-fetcher_first : (metadata : List ℕ) (a b : EndState) (x_stage : Heard) (x_notices y_notices : List Message) (answered waiting : List ℕ) (asked : ℕ)
-    (x y : Node) (i : Item) → IsFetchPair metadata a b → Sides metadata a b x_stage Unheard x_notices y_notices answered waiting asked x y
+fetcher_first : {metadata : List ℕ} {a b : EndState} {x_stage : Heard} {x_notices y_notices : List Message} {answered waiting : List ℕ} {asked : ℕ}
+    {x y : Node} {i : Item} → IsFetchPair metadata a b → Sides metadata a b x_stage Unheard x_notices y_notices answered waiting asked x y
     → IsNext x.sent x.handled i → Inv metadata a b (heard_more x) (sends y (react y.end i))
-fetcher_first metadata a b x_stage x_notices y_notices answered waiting asked x y i p s n =
+fetcher_first {metadata} {a} {b} {x_stage} {x_notices} {y_notices} {answered} {waiting} {asked} {x} {y} {i} p s n =
     let hand : Item = items.Handshake a.handshake in
     let greet : Message = greeting_message a.own.reg (Some (length metadata)) in
     let own : Message = greeting_message b.own.reg None in
@@ -415,11 +418,11 @@ fetcher_first metadata a b x_stage x_notices y_notices answered waiting asked x 
     let queued : r.queued ≡ own ∷ new = opens b a y.end None s.fetcher.own p.left.is.reserved p.right_extended (ap served_size s.part.0) in
     subst (λ (j : Item). Inv metadata a b (heard_more x) (sends y (react y.end j))) (sym first.0)
     (subst (λ (xs : List Message). Inv metadata a b (heard_more x) (turned y r.end xs)) (sym queued)
-    (sides_inv metadata a b x_stage Opened x_notices new answered waiting asked (heard_more x) (turned y r.end (own ∷ new)) (record {
+    (sides_inv x_stage Opened x_notices new answered waiting asked (record {
       server = s.server;
       fetcher = fetcher_opens a b y.end s.fetcher;
       part = s.part;
-      going = way_handled hand greet (is_open x_stage) Unheard Opened rest rest x.sent x.handled i s.going n first.1;
+      going = way_handled Opened rest s.going n first.1;
       coming = way_opens (items.Handshake b.handshake) own x_stage y_notices (map request_for waiting) y.sent y.handled new s.coming
           (fetcher_greets metadata a b p, notices_short new right.0);
       server_notices = s.server_notices;
@@ -463,8 +466,8 @@ asks_inv {metadata} {a} {b} {x_stage} {x_notices} {y_notices} {answered} {waitin
     let short : AreShort (map items.Message (map request_for more)) =
     requests_short (block_count (length metadata)) more (omega (arith, sized.most)) h.below in
     subst (λ (xs : List Message). Inv metadata a b (heard_more x) (turned y r.end xs)) (sym h.queued)
-    (sides_inv metadata a b x_stage Known x_notices y_notices answered (waiting ++ more) (asked + length more) (heard_more x)
-    (turned y r.end (map request_for more)) (record {
+    (sides_inv x_stage Known x_notices y_notices answered (waiting ++ more) (asked + length more)
+    (record {
       server = s.server;
       fetcher = h.fetcher;
       part = (
@@ -496,21 +499,21 @@ asks_inv {metadata} {a} {b} {x_stage} {x_notices} {y_notices} {answered} {waitin
 none_asked : (answered waiting : List ℕ) → answered ≡ [] → waiting ≡ [] → [] ≡ answered ++ waiting
 none_asked answered waiting e f = sym (ap (λ (ks : List ℕ). ks ++ waiting) e ∙ f)
 
-fetcher_second : (metadata : List ℕ) (a b : EndState) (x_stage : Heard) (x_notices y_notices : List Message) (answered waiting : List ℕ) (asked : ℕ)
-    (x y : Node) (i : Item) → IsFetchPair metadata a b → Sides metadata a b x_stage Opened x_notices y_notices answered waiting asked x y
+fetcher_second : {metadata : List ℕ} {a b : EndState} {x_stage : Heard} {x_notices y_notices : List Message} {answered waiting : List ℕ} {asked : ℕ}
+    {x y : Node} {i : Item} → IsFetchPair metadata a b → Sides metadata a b x_stage Opened x_notices y_notices answered waiting asked x y
     → IsNext x.sent x.handled i → Inv metadata a b (heard_more x) (sends y (react y.end i))
-fetcher_second metadata a b x_stage x_notices y_notices answered waiting asked x y i p s n =
+fetcher_second {metadata} {a} {b} {x_stage} {x_notices} {y_notices} {answered} {waiting} {asked} {x} {y} {i} p s n =
     let hand : Item = items.Handshake a.handshake in
     let greet : Message = greeting_message a.own.reg (Some (length metadata)) in
     let rest : List Message = x_notices ++ map (data_message metadata) answered in
     let first = pending_greet hand greet (is_open x_stage) rest i (drop (x.handled + 1) x.sent)
     (at_next hand greet (is_open x_stage) Opened rest x.sent x.handled i s.going n) in
     let r : Reaction = react y.end (items.Message greet) in
-    let asks = fetcher_learns metadata a b y.end s.fetcher s.part.0 (pair_sized metadata a b p) p.hash p.left.is.ids p.left_id p.right_id p.most in
+    let asks = fetcher_learns p (pair_sized metadata a b p) s.fetcher s.part.0 in
     let ready : IsReady metadata a b x_stage x_notices y_notices answered waiting asked (block_count (length metadata)) x y = record {
       server = s.server;
       count = omega (arith, s.part.3);
-      going = way_handled hand greet (is_open x_stage) Opened Known rest rest x.sent x.handled i s.going n first.1;
+      going = way_handled Known rest s.going n first.1;
       coming = s.coming;
       server_notices = s.server_notices;
       fetcher_notices = s.fetcher_notices;
@@ -524,12 +527,13 @@ fetcher_second metadata a b x_stage x_notices y_notices answered waiting asked x
     subst (λ (j : Item). Inv metadata a b (heard_more x) (sends y (react y.end j))) (sym first.0)
     (asks_inv {r = r} p ready asks (none_asked answered waiting s.part.1 s.part.2))
 
-fetcher_third : (metadata : List ℕ) (a b : EndState) (x_stage : Heard) (x_notices y_notices : List Message) (answered waiting : List ℕ) (asked : ℕ)
-    (x y : Node) (i : Item) → IsFetchPair metadata a b → Sides metadata a b x_stage Known x_notices y_notices answered waiting asked x y
+fetcher_third : {metadata : List ℕ} {a b : EndState} {x_stage : Heard} (x_notices : List Message) {y_notices : List Message} (answered : List ℕ)
+    {waiting : List ℕ} {asked : ℕ}
+    {x y : Node} {i : Item} → IsFetchPair metadata a b → Sides metadata a b x_stage Known x_notices y_notices answered waiting asked x y
     → IsNext x.sent x.handled i → i ∷ drop (x.handled + 1) x.sent ≡ map items.Message (x_notices ++ map (data_message metadata) answered)
     → Inv metadata a b (heard_more x) (sends y (react y.end i))
-fetcher_third metadata a b x_stage [] y_notices [] waiting asked x y i p s n e = absurd cc
-fetcher_third metadata a b x_stage (z ∷ zs) y_notices answered waiting asked x y i p s n e =
+fetcher_third [] [] p s n e = absurd cc
+fetcher_third {metadata} {a} {b} {x_stage} (z ∷ zs) {y_notices} answered {waiting} {asked} {x} {y} {i} p s n e =
     let hand : Item = items.Handshake a.handshake in
     let greet : Message = greeting_message a.own.reg (Some (length metadata)) in
     let rest : List Message = zs ++ map (data_message metadata) answered in
@@ -539,11 +543,11 @@ fetcher_third metadata a b x_stage (z ∷ zs) y_notices answered waiting asked x
     let h : IsAsBefore y.end r = at_notice y.end z s.server_notices.0 in
     subst (λ (j : Item). Inv metadata a b (heard_more x) (sends y (react y.end j))) (sym same)
     (quiet_fetcher metadata a b (heard_more x) y r.end r.queued h.queued
-    (sides_inv metadata a b x_stage Known zs y_notices answered waiting asked (heard_more x) (record y { end = r.end }) (record {
+    (sides_inv x_stage Known zs y_notices answered waiting asked (record {
       server = s.server;
       fetcher = fetcher_rests b y.end r s.fetcher h;
       part = subst (λ (q : Part). PartIs Known metadata b q answered waiting asked) (sym h.part) s.part;
-      going = way_handled hand greet (is_open x_stage) Known Known (z ∷ rest) rest x.sent x.handled i s.going n
+      going = way_handled Known rest s.going n
           (pending_later hand greet (is_open x_stage) (z ∷ rest) rest (drop x.handled x.sent) (drop (x.handled + 1) x.sent) s.going.pending later);
       coming = s.coming;
       server_notices = s.server_notices.1;
@@ -555,7 +559,7 @@ fetcher_third metadata a b x_stage (z ∷ zs) y_notices answered waiting asked x
       answers = s.answers;
       requests = s.requests;
     })))
-fetcher_third metadata a b x_stage [] y_notices (k ∷ ks) waiting asked x y i p s n e =
+fetcher_third {metadata} {a} {b} {x_stage} [] {y_notices} (k ∷ ks) {waiting} {asked} {x} {y} {i} p s n e =
     let hand : Item = items.Handshake a.handshake in
     let greet : Message = greeting_message a.own.reg (Some (length metadata)) in
     let rest : List Message = map (data_message metadata) ks in
@@ -566,7 +570,7 @@ fetcher_third metadata a b x_stage [] y_notices (k ∷ ks) waiting asked x y i p
     let ready : IsReady metadata a b x_stage [] y_notices ks waiting asked (lacking y.end.part) x y = record {
       server = s.server;
       count = s.part.1;
-      going = way_handled hand greet (is_open x_stage) Known Known (data_message metadata k ∷ rest) rest x.sent x.handled i s.going n
+      going = way_handled Known rest s.going n
           (pending_later hand greet (is_open x_stage) (data_message metadata k ∷ rest) rest (drop x.handled x.sent) (drop (x.handled + 1) x.sent)
           s.going.pending later);
       coming = s.coming;
@@ -582,18 +586,19 @@ fetcher_third metadata a b x_stage [] y_notices (k ∷ ks) waiting asked x y i p
     subst (λ (j : Item). Inv metadata a b (heard_more x) (sends y (react y.end j))) (sym same)
     (asks_inv {r = r} p ready asks refl)
 
-fetcher_handles : (metadata : List ℕ) (a b : EndState) (x_stage y_stage : Heard) (x_notices y_notices : List Message) (answered waiting : List ℕ) (asked : ℕ)
-    (x y : Node) (i : Item) → IsFetchPair metadata a b → Sides metadata a b x_stage y_stage x_notices y_notices answered waiting asked x y
+fetcher_handles : {metadata : List ℕ} {a b : EndState} {x_stage : Heard} (y_stage : Heard) {x_notices y_notices : List Message} {answered waiting : List ℕ}
+    {asked : ℕ}
+    {x y : Node} {i : Item} → IsFetchPair metadata a b → Sides metadata a b x_stage y_stage x_notices y_notices answered waiting asked x y
     → IsNext x.sent x.handled i → Inv metadata a b (heard_more x) (sends y (react y.end i))
-fetcher_handles metadata a b x_stage Unheard x_notices y_notices answered waiting asked x y i p s n =
-    fetcher_first metadata a b x_stage x_notices y_notices answered waiting asked x y i p s n
-fetcher_handles metadata a b x_stage Opened x_notices y_notices answered waiting asked x y i p s n =
-    fetcher_second metadata a b x_stage x_notices y_notices answered waiting asked x y i p s n
-fetcher_handles metadata a b x_stage Known x_notices y_notices answered waiting asked x y i p s n =
+fetcher_handles Unheard p s n =
+    fetcher_first p s n
+fetcher_handles Opened p s n =
+    fetcher_second p s n
+fetcher_handles {metadata} {a} {x_stage} Known {x_notices} {answered} {x} p s n =
     let hand : Item = items.Handshake a.handshake in
     let greet : Message = greeting_message a.own.reg (Some (length metadata)) in
     let rest : List Message = x_notices ++ map (data_message metadata) answered in
-    fetcher_third metadata a b x_stage x_notices y_notices answered waiting asked x y i p s n
+    fetcher_third x_notices answered p s n
     (sym n.first ∙ pending_rest hand greet (is_open x_stage) rest (drop x.handled x.sent) s.going.pending)
 
 -- ---- turns
@@ -606,14 +611,14 @@ pub server_turns : (metadata : List ℕ) (a b : EndState) (x y : Node) (o : Opti
     → Inv metadata a b (handles (record { own = x; other = y }) o).own (handles (record { own = x; other = y }) o).other
 server_turns metadata a b x y None p v e = v
 server_turns metadata a b x y (Some i) p v e =
-    server_handles metadata a b v.x_stage v.y_stage v.x_notices v.y_notices v.answered v.waiting v.asked x y i p v.sides (is_next y.sent y.handled i e)
+    server_handles v.x_stage p v.sides (is_next y.sent y.handled i e)
 
 pub fetcher_turns : (metadata : List ℕ) (a b : EndState) (x y : Node) (o : Option Item) → IsFetchPair metadata a b → Inv metadata a b x y
     → slice_get x.sent x.handled ≡ o
     → Inv metadata a b (handles (record { own = y; other = x }) o).other (handles (record { own = y; other = x }) o).own
 fetcher_turns metadata a b x y None p v e = v
 fetcher_turns metadata a b x y (Some i) p v e =
-    fetcher_handles metadata a b v.x_stage v.y_stage v.x_notices v.y_notices v.answered v.waiting v.asked x y i p v.sides (is_next x.sent x.handled i e)
+    fetcher_handles v.y_stage p v.sides (is_next x.sent x.handled i e)
 
 -- ---- the start, and deliveries
 
@@ -622,7 +627,7 @@ pub delivered_inv : (metadata : List ℕ) (a b : EndState) (x y : Node) (m n : �
     → Inv metadata a b (record x { delivered = m }) (record y { delivered = n })
 delivered_inv metadata a b x y m n v =
     let s = v.sides in
-    sides_inv metadata a b v.x_stage v.y_stage v.x_notices v.y_notices v.answered v.waiting v.asked (record x { delivered = m }) (record y { delivered = n })
+    sides_inv v.x_stage v.y_stage v.x_notices v.y_notices v.answered v.waiting v.asked
     (record {
       server = s.server;
       fetcher = s.fetcher;
@@ -644,7 +649,7 @@ way_starts h greet = record { pending = (refl, refl); within = omega arith; shor
 
 pub inv_starts : (metadata : List ℕ) (a b : EndState) → IsFetchPair metadata a b → Inv metadata a b (first a) (first b)
 inv_starts metadata a b p =
-    sides_inv metadata a b Unheard Unheard [] [] [] [] 0 (first a) (first b) (record {
+    sides_inv Unheard Unheard [] [] [] [] 0 (record {
       server = record { own = refl; part = p.serves; table = ap (λ (e : EndState). e.table) p.left.unopened };
       fetcher = record { own = refl; window = refl; hash = refl; table = ap (λ (e : EndState). e.table) p.right.unopened };
       part = (p.awaits, refl, refl, refl);

@@ -331,18 +331,18 @@ itself : (x y z : List ℕ) → x ≡ y → z ≡ sha1 y → bytes_eq (sha1 x) z
 itself x y z same hash = (bytes_eq-Decides (sha1 x) z).1 (ap sha1 same ∙ sym hash)
 
 -- an assembly with one more block, by whether each is held now, and whether they are those of the info hash
-takes_by : (metadata : List ℕ) (n : AssemblyState) (ks : List ℕ) (lacks : ℕ) → IsFetch metadata n → n.info_hash ≡ sha1 metadata
+takes_by : {metadata : List ℕ} {n : AssemblyState} (ks : List ℕ) {lacks : ℕ} → IsFetch metadata n → n.info_hash ≡ sha1 metadata
     → ((k : ℕ) → slice_get n.slots k ≡ Some Rejected → ⊥) → IsAskedBy n.slots ks → count_by is_lacking n.slots ≡ lacks → (whole right : Bool)
     → is_whole n ≡ whole → bytes_eq (sha1 (joined n.slots)) n.info_hash ≡ right
     → IsFetchOf metadata (if whole then (if right then Fetched (joined n.slots) else Fetching (emptied n)) else Fetching n) ks
     × (lacking (if whole then (if right then Fetched (joined n.slots) else Fetching (emptied n)) else Fetching n) ≡ lacks)
     × ((whole && not right) ≡ false)
-takes_by metadata n ks lacks f hash unrejected asks count true true all same =
+takes_by {metadata} {n} ks f hash unrejected asks count true true all same =
     ((whole_is_served metadata n f.is f.size f.holds all, none_follows n.slots ks all asks), sym (whole_lacks_none n.slots all) ∙ count, refl)
-takes_by metadata n ks lacks f hash unrejected asks count true false all same =
+takes_by {metadata} {n} ks f hash unrejected asks count true false all same =
     absurd (both_ways (bytes_eq (sha1 (joined n.slots)) n.info_hash) same
     (itself (joined n.slots) metadata n.info_hash (whole_is_served metadata n f.is f.size f.holds all) hash))
-takes_by metadata n ks lacks f hash unrejected asks count false right all same =
+takes_by ks {lacks} f hash unrejected asks count false right all same =
     (record { is = f; hash = hash; unrejected = unrejected; asks = asks; lacks = all }, count, refl)
 
 taken_lacks : (ss : List Slot) (k : ℕ) (b : List ℕ) → slice_get ss k ≡ Some Asked → count_by is_lacking (set ss k (Held b)) ≡ count_by is_lacking ss
@@ -353,7 +353,7 @@ takes_with : (metadata : List ℕ) (n : AssemblyState) (ks : List ℕ) (lacks : 
     → ((k : ℕ) → slice_get n.slots k ≡ Some Rejected → ⊥) → IsAskedBy n.slots ks → count_by is_lacking n.slots ≡ lacks
     → IsFetchOf metadata (concluded n) ks × (lacking (concluded n) ≡ lacks) × (is_mismatch n ≡ false)
 takes_with metadata n ks lacks f hash unrejected asks count =
-    takes_by metadata n ks lacks f hash unrejected asks count (is_whole n) (bytes_eq (sha1 (joined n.slots)) n.info_hash) refl refl
+    takes_by ks f hash unrejected asks count (is_whole n) (bytes_eq (sha1 (joined n.slots)) n.info_hash) refl refl
 
 -- the first of the blocks that were asked for comes
 pub fetch_takes : (metadata : List ℕ) (p : Part) (k : ℕ) (ks : List ℕ) → IsFetchOf metadata p (k ∷ ks)

@@ -33,6 +33,7 @@ use Rattle.bt_end.specs.declared.config.Announce.TheVariants as announce
 use Rattle.bt_end.specs.Ends.{EndState, Reaction, Part, Serving, Awaiting, served_size, peer_id, quiet, queueing, react, announced, then_asked, may_ask}
 use Rattle.bt_end.specs.Ends.{all_wanted, with_all_asked, wanted, requesting, request_for, learnt, assembly_of, begun, by_kind, block_taken}
 use Rattle.bt_end.specs.Ends.{with_part, reply}
+use Rattle.bt_link.specs.FetchLaws.{IsFetchPair}
 use Rattle.bt_link.specs.LinkLaws.{IsMetadata}
 use Rattle.bt_link.specs.MessageLinks.{bare, size}
 use Rattle.bt_link.proofs.FetchParts.{IsFetchOf, lacking, AreBelow, AsksAll, fetch_begins, fetch_asks, fetch_takes}
@@ -323,18 +324,18 @@ begins metadata hash p n sized is awaits known =
     (sym awaits) (subst (λ (o : Option ℕ). IsFetchOf metadata (begun (assembly_of hash Awaiting o) Awaiting) []
     × (lacking (begun (assembly_of hash Awaiting o) Awaiting) ≡ block_count (length metadata))) (sym known) (fetch_begins metadata hash sized is))
 
-pub fetcher_learns : (metadata : List ℕ) (a b e : EndState) → IsFetcher b Opened e → e.part ≡ Awaiting → IsMetadata metadata
-    → sha1 metadata ≡ b.handshake.info_hash → HaveBytes a.own.reg → IsSome (metadata_id a.own.reg) → IsSome (metadata_id b.own.reg) → b.window ≤ window
+pub fetcher_learns : {metadata : List ℕ} {a b e : EndState} → IsFetchPair metadata a b → IsMetadata metadata → IsFetcher b Opened e → e.part ≡ Awaiting
     → Asks metadata b [] (block_count (length metadata)) (react e (items.Message (greeting_message a.own.reg (Some (length metadata)))))
-fetcher_learns metadata a b e f awaits sized hash ids is id most =
+fetcher_learns {metadata} {a} {b} {e} p sized f awaits =
     let n : Option ℕ = Some (length metadata) in
     let msg : Message = greeting_message a.own.reg n in
     let t : Tree = handshake_tree a.own.reg n in
     let g : EndState = learnt (record e { receives = order_after e.receives msg }) t in
-    let tells = handshake-tells a.own.reg n ids in
-    let h = begins metadata e.handshake.info_hash e.part (size_of t) sized (hash ∙ sym f.hash) awaits tells.1 in
-    let fetcher : IsFetcher b Known g = record { own = f.own; window = f.window; hash = f.hash; table = knows a.own.reg n e.table ids is f.table } in
-    subst (λ (k : ℕ). Asks metadata b [] k (then_asked g)) h.1 (asks_on metadata b g [] fetcher id most h.0 (omega arith))
+    let tells = handshake-tells a.own.reg n p.left.is.ids in
+    let h = begins metadata e.handshake.info_hash e.part (size_of t) sized (p.hash ∙ sym f.hash) awaits tells.1 in
+    let table = knows a.own.reg n e.table p.left.is.ids p.left_id f.table in
+    let fetcher : IsFetcher b Known g = record { own = f.own; window = f.window; hash = f.hash; table = table } in
+    subst (λ (k : ℕ). Asks metadata b [] k (then_asked g)) h.1 (asks_on metadata b g [] fetcher p.right_id p.most h.0 (omega arith))
 
 pub fetcher_takes : (metadata : List ℕ) (b e : EndState) (k : ℕ) (ks : List ℕ) → IsFetcher b Known e → IsAsked metadata b.window e.part (k ∷ ks)
     → IsMetadata metadata → k < block_count (length metadata) → IsSome (metadata_id b.own.reg) → b.window ≤ window

@@ -118,28 +118,28 @@ at_end : (hand : Item) (greet : Message) (opened : Bool) (stage : Heard) (rest :
 at_end hand greet opened stage rest sent handled w e =
     subst (λ (is : List Item). Pending hand greet opened stage rest is) (drop_all handled sent (omega (arith, e))) w.pending
 
-whole_by : (metadata : List ℕ) (a b : EndState) (x_stage y_stage : Heard) (x_notices y_notices : List Message) (answered waiting : List ℕ) (asked : ℕ)
-    (x y : Node) → IsFetchPair metadata a b → Sides metadata a b x_stage y_stage x_notices y_notices answered waiting asked x y
+whole_by : {metadata : List ℕ} {a b : EndState} (x_stage y_stage : Heard) {x_notices y_notices : List Message} {answered waiting : List ℕ} {asked : ℕ}
+    {x y : Node} → IsFetchPair metadata a b → Sides metadata a b x_stage y_stage x_notices y_notices answered waiting asked x y
     → Pending (items.Handshake a.handshake) (greeting_message a.own.reg (Some (length metadata))) (is_open x_stage) y_stage
     (x_notices ++ map (data_message metadata) answered) []
     → Pending (items.Handshake b.handshake) (greeting_message b.own.reg None) (is_open y_stage) x_stage (y_notices ++ map request_for waiting) []
     → metadata_of y.end.part ≡ Some metadata
-whole_by metadata a b Unheard y_stage x_notices y_notices answered waiting asked x y p s h k =
+whole_by {b} Unheard y_stage {y_notices} {waiting} p s h k =
     absurd (not_unheard (items.Handshake b.handshake) (greeting_message b.own.reg None) (is_open y_stage) (y_notices ++ map request_for waiting) k)
-whole_by metadata a b Opened Unheard x_notices y_notices answered waiting asked x y p s h k =
+whole_by {metadata} {a} Opened Unheard {x_notices} {answered} p s h k =
     absurd (not_unheard (items.Handshake a.handshake) (greeting_message a.own.reg (Some (length metadata))) true
     (x_notices ++ map (data_message metadata) answered) h)
-whole_by metadata a b Known Unheard x_notices y_notices answered waiting asked x y p s h k =
+whole_by {metadata} {a} Known Unheard {x_notices} {answered} p s h k =
     absurd (not_unheard (items.Handshake a.handshake) (greeting_message a.own.reg (Some (length metadata))) true
     (x_notices ++ map (data_message metadata) answered) h)
-whole_by metadata a b Opened Opened x_notices y_notices answered waiting asked x y p s h k =
+whole_by {b} Opened Opened {y_notices} {waiting} p s h k =
     absurd (not_opened (items.Handshake b.handshake) (greeting_message b.own.reg None) (y_notices ++ map request_for waiting) k)
-whole_by metadata a b Opened Known x_notices y_notices answered waiting asked x y p s h k =
+whole_by {b} Opened Known {y_notices} {waiting} p s h k =
     absurd (not_opened (items.Handshake b.handshake) (greeting_message b.own.reg None) (y_notices ++ map request_for waiting) k)
-whole_by metadata a b Known Opened x_notices y_notices answered waiting asked x y p s h k =
+whole_by {metadata} {a} Known Opened {x_notices} {answered} p s h k =
     absurd (not_opened (items.Handshake a.handshake) (greeting_message a.own.reg (Some (length metadata)))
     (x_notices ++ map (data_message metadata) answered) h)
-whole_by metadata a b Known Known x_notices y_notices answered waiting asked x y p s h k =
+whole_by {metadata} {b} Known Known {x_notices} {y_notices} {answered} {waiting} {y} p s h k =
     let none : answered ≡ [] =
     no_blocks metadata answered (no_rest x_notices (map (data_message metadata) answered)
     (no_messages (x_notices ++ map (data_message metadata) answered) h)) in
@@ -154,7 +154,7 @@ fetch_is_whole metadata a b steps outcomes p moves calm =
     let l : Link = after_all (link_of a b) steps outcomes in
     let v = inv_run metadata a b steps outcomes p moves in
     let s = v.sides in
-    whole_by metadata a b v.x_stage v.y_stage v.x_notices v.y_notices v.answered v.waiting v.asked l.left l.right p s
+    whole_by v.x_stage v.y_stage p s
     (at_end (items.Handshake a.handshake) (greeting_message a.own.reg (Some (length metadata))) (is_open v.x_stage) v.y_stage
     (v.x_notices ++ map (data_message metadata) v.answered) l.left.sent l.left.handled s.going calm.0)
     (at_end (items.Handshake b.handshake) (greeting_message b.own.reg None) (is_open v.y_stage) v.x_stage (v.y_notices ++ map request_for v.waiting)
@@ -254,27 +254,27 @@ step_paid metadata a b l (step.Deliver Right n) o move v is left right = let h =
 step_paid metadata a b l (step.Say s msg) o move v is left right = absurd move
 step_paid metadata a b l step.Reset o move v is left right = absurd move
 
-not_busy : (metadata : List ℕ) (a b : EndState) (l : Link) (s : Step) (o : Outcome) → IsFetchPair metadata a b → IsMove s → Inv metadata a b l.left l.right
+not_busy : {metadata : List ℕ} {a b : EndState} (l : Link) (s : Step) {o : Outcome} → IsFetchPair metadata a b → IsMove s → Inv metadata a b l.left l.right
     → IsOutcome l s o → IsPaid l.left → IsPaid l.right → o ≡ outcome.Busy → ⊥
-not_busy metadata a b l (step.Turn Left) o p move v is left right e =
+not_busy {metadata} {a} {b} l (step.Turn Left) p move v is left right e =
     turn_busy (seen_from Left l) (next_item l.right) (sym is ∙ e) (left_free metadata a b l.left l.right p v left)
-not_busy metadata a b l (step.Turn Right) o p move v is left right e =
+not_busy {metadata} {a} {b} l (step.Turn Right) p move v is left right e =
     turn_busy (seen_from Right l) (next_item l.left) (sym is ∙ e) (right_free metadata a b l.left l.right p v right)
-not_busy metadata a b l (step.Deliver s n) o p move v is left right e = absurd cc
-not_busy metadata a b l (step.Say s msg) o p move v is left right e = absurd move
-not_busy metadata a b l step.Reset o p move v is left right e = absurd move
+not_busy l (step.Deliver s n) p move v is left right e = absurd cc
+not_busy l (step.Say s msg) p move v is left right e = absurd move
+not_busy l step.Reset p move v is left right e = absurd move
 
-free_by : (metadata : List ℕ) (a b : EndState) (l : Link) (steps : List Step) (outcomes : List Outcome) (n : ℕ) → IsFetchPair metadata a b → AreMoves steps
+free_by : {metadata : List ℕ} {a b : EndState} (l : Link) (steps : List Step) (outcomes : List Outcome) (n : ℕ) → IsFetchPair metadata a b → AreMoves steps
     → Inv metadata a b l.left l.right → IsPaid l.left → IsPaid l.right → AreOutcomes l steps outcomes → slice_get outcomes n ≡ Some outcome.Busy → ⊥
-free_by metadata a b l [] [] n p moves v left right are e = cc
-free_by metadata a b l [] (o ∷ os) n p moves v left right are e = absurd are
-free_by metadata a b l (s ∷ ss) [] n p moves v left right are e = absurd are
-free_by metadata a b l (s ∷ ss) (o ∷ os) zero p moves v left right are e =
-    let busy : o ≡ outcome.Busy = cc in not_busy metadata a b l s o p moves.0 v are.0 left right busy
-free_by metadata a b l (s ∷ ss) (o ∷ os) (suc n) p moves v left right are e =
+free_by l [] [] n p moves v left right are e = cc
+free_by l [] (o ∷ os) n p moves v left right are e = absurd are
+free_by l (s ∷ ss) [] n p moves v left right are e = absurd are
+free_by l (s ∷ ss) (o ∷ os) zero p moves v left right are e =
+    let busy : o ≡ outcome.Busy = cc in not_busy l s p moves.0 v are.0 left right busy
+free_by {metadata} {a} {b} l (s ∷ ss) (o ∷ os) (suc n) p moves v left right are e =
     let paid = step_paid metadata a b l s o moves.0 v are.0 left right in
-    free_by metadata a b (after l s o) ss os n p moves.1 (inv_after metadata a b l s o p moves.0 v) paid.0 paid.1 are.1 e
+    free_by (after l s o) ss os n p moves.1 (inv_after metadata a b l s o p moves.0 v) paid.0 paid.1 are.1 e
 
 pub fetch_is_free : FetchIsFree
 fetch_is_free metadata a b steps outcomes n p moves are e =
-    free_by metadata a b (link_of a b) steps outcomes n p moves (inv_starts metadata a b p) (omega arith) (omega arith) are e
+    free_by (link_of a b) steps outcomes n p moves (inv_starts metadata a b p) (omega arith) (omega arith) are e

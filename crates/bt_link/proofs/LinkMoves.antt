@@ -106,11 +106,11 @@ honest_more a [] js h k = k
 honest_more a (i ∷ is) js h k = (h.0, honest_more a is js h.1 k)
 
 -- the end of x becomes y, which sends these messages after the others
-pub sent : (a b : EndState) (x : M.Node) (y : EndState) (xs : List Message) (e : EndState) (f : FeedState) (untaken outbox : List ℕ) (c : Context)
+pub sent : {a b : EndState} {x : M.Node} (y : EndState) (xs : List Message) {e : EndState} {f : FeedState} {untaken outbox : List ℕ} (c : Context)
     → Flow a b x e f untaken outbox → AreFor c (reads b a) x.end.sends xs → AreHonest a (map items.Message xs) → y.sends ≡ orders_after x.end.sends xs
     → total (x.sent ++ map items.Message xs) < 2 ^ 62
     → Flow a b (record x { end = y; sent = x.sent ++ map items.Message xs }) e f untaken (outbox ++ flat_map (spell c) xs)
-sent a b x y xs e f untaken outbox c flow all own order lt =
+sent {a} {b} {x} y xs {f} {untaken} {outbox} c flow all own order lt =
     let l = flow.is in
     let is : List Item = map items.Message xs in
     let later : drop x.handled (x.sent ++ is) ≡ drop x.handled x.sent ++ is = drop-append-le x.handled x.sent is l.within in

@@ -48,7 +48,7 @@ use Rattle.bt_link.specs.LinkLaws.{source_of, IsMetadata, IsConfigured}
 use Rattle.bt_link.proofs.LinkInvariant.{IsStill, reads, IsPartFor, IsFetch, Knows, IsOwn, greeting, request, data_of, reject, taken_back}
 use Rattle.bt_link.proofs.LinkInvariant.{IsHonestMessage, AreHonest, IsFor, AreFor}
 use Rattle.bt_metadata.proofs.LawProofs.{whole_is_served}
-use Rattle.bt_link.proofs.OwnMessages.{message_for, greeting_for, block_right}
+use Rattle.bt_link.proofs.OwnMessages.{MayTell, message_for, greeting_for, block_right}
 
 -- what the end a, in the context c and with this sending order before, has done
 pub record Reacts (a b : EndState) (o : Order) (c : Context) (r : Reaction) : Type 0 where
@@ -105,17 +105,27 @@ known_id b e n k h =
 believed_id : (b e : EndState) (n : ℕ) → Knows b e → peer_id e ≡ Some n → metadata_id (belief e).reg ≡ Some n
 believed_id b e n k h = metadata-told e.table ∙ ap (option_and_then extension_id) h ∙ above_zero b.own.reg.metadata n (known_id b e n k h)
 
-one_queued : (a b e : EndState) (c : Context) (k : Kind) (rest : List ℕ) (peer : ℕ) → IsOpen a b c e → IsConfigured b → (reads b a).ext ≡ true → peer_id e
+-- an open end may tell the other under the id that it knows
+may_tell : {a b e : EndState} {c : Context} {peer : ℕ} → IsOpen a b c e → IsConfigured b → (reads b a).ext ≡ true → peer_id e ≡ Some peer
+    → MayTell (belief e) (reads b a) peer
+may_tell {b} {e} {peer} h end agreed is =
+    let reader : metadata_id b.own.reg ≡ Some peer = known_id b e peer h.knows is in
+    record {
+      own = ap (λ (o : Option Context). (unwrap_or o (negotiated e.own no_extension)).ext) h.context ∙ h.ext ∙ agreed;
+      room = h.least;
+      agreed = agreed;
+      least = end.least;
+      sender = believed_id b e peer h.knows is;
+      reader = reader;
+      byte = end.ids.metadata peer reader;
+    }
+
+one_queued : {a b e : EndState} {c : Context} (k : Kind) (rest : List ℕ) (peer : ℕ) → IsOpen a b c e → IsConfigured b → (reads b a).ext ≡ true → peer_id e
     ≡ Some peer → IsMade k → is_block_ok k (length rest) ≡ true → length rest ≤ 16384
     → IsHonestMessage a (m.Extended (message_of k rest)) → Reacts a b e.sends c (queueing e (m.Extended (message_of k rest) ∷ []))
-one_queued a b e c k rest peer h end agreed is made ok size own =
-    let reader : metadata_id b.own.reg ≡ Some peer = known_id b e peer h.knows is in
-    queueing_reacts a b e c (m.Extended (message_of k rest) ∷ []) h (
-      message_for (belief e) (reads b a) e.sends k rest peer (ap (λ (o : Option Context). (unwrap_or o (negotiated e.own no_extension)).ext) h.context
-          ∙ h.ext ∙ agreed) h.least agreed end.least (believed_id b e peer h.knows is) reader (end.ids.metadata peer reader) made ok size,
-      tt,
-    )
-    (own, tt) (omega arith)
+one_queued {a} {b} {e} {c} k rest peer h end agreed is made ok size own =
+    queueing_reacts a b e c (m.Extended (message_of k rest) ∷ []) h (message_for (may_tell h end agreed is) e.sends k rest made ok size, tt) (own, tt)
+    (omega arith)
 
 -- ---- asking
 
@@ -188,12 +198,11 @@ all_asked : (b : EndState) (n most : ℕ) (p : Part) → IsConfigured b → IsPa
 all_asked b zero most p end for = record { small = tt; for = for; serves = refl; few = omega arith }
 all_asked b (suc n) most p end for = more_asked b n most p end for (λ k next. all_asked b n most (with_asked (Some k) p) end next) (wanted most p) refl
 
-requests_for : (c d : Context) (o : Order) (id : ℕ) → c.ext ≡ true → 32768 ≤ c.limit → d.ext ≡ true → 32768 ≤ d.limit → metadata_id c.reg ≡ Some id
-    → metadata_id d.reg ≡ Some id → id < 256 → (ks : List ℕ) → AreSmall ks → AreFor c d o (map request_for ks)
-requests_for c d o id own room agreed least sender reader lt [] h = tt
-requests_for c d o id own room agreed least sender reader lt (k ∷ ks) h = (
-  message_for c d o (kind.Request k) [] id own room agreed least sender reader lt h.0 refl (omega arith),
-  requests_for c d (order_after o (request_for k)) id own room agreed least sender reader lt ks h.1,
+requests_for : {c d : Context} {id : ℕ} → MayTell c d id → (o : Order) (ks : List ℕ) → AreSmall ks → AreFor c d o (map request_for ks)
+requests_for may o [] h = tt
+requests_for may o (k ∷ ks) h = (
+  message_for may o (kind.Request k) [] h.0 refl (omega arith),
+  requests_for may (order_after o (request_for k)) ks h.1,
 )
 
 requests_own : (a : EndState) (ks : List ℕ) → AreSmall ks → AreHonest a (map items.Message (map request_for ks))
@@ -204,11 +213,8 @@ requests_react : (a b e : EndState) (c : Context) → IsOpen a b c e → IsConfi
     → (ks : List ℕ) → Asks b 8 e.part ks → Reacts a b e.sends c (requesting e ks)
 requests_react a b e c h end agreed peer is ks asks =
     let p : Part = with_all_asked ks e.part in
-    let reader : metadata_id b.own.reg ≡ Some peer = known_id b e peer h.knows is in
-    let ext : (belief e).ext ≡ true = ap (λ (o : Option Context). (unwrap_or o (negotiated e.own no_extension)).ext) h.context ∙ h.ext ∙ agreed in
     queueing_reacts a b (with_part e p) c (map request_for ks) (with_part_open a b e c p h (asks.serves ∙ h.still.serves) asks.for)
-    (requests_for (belief (with_part e p)) (reads b a) e.sends peer ext h.least agreed end.least (believed_id b e peer h.knows is) reader
-    (end.ids.metadata peer reader) ks asks.small)
+    (requests_for (may_tell h end agreed is) e.sends ks asks.small)
     (requests_own a ks asks.small) (omega (arith, length-map ks request_for, asks.few))
 
 some_there : (x : Bool) (o : Option ℕ) → (x && is_some o) ≡ true → (n : ℕ) × (o ≡ Some n)
@@ -412,12 +418,12 @@ reject_served Awaiting k = refl
 reject_served (Fetched all) k = refl
 reject_served (Fetching s) k = refl
 
-reply_right : (a b e : EndState) (c : Context) (k peer : ℕ) → IsOpen a b c e → IsConfigured a → IsConfigured b → (reads b a).ext ≡ true → k < 2 ^ 32
+reply_right : {a b e : EndState} {c : Context} (k peer : ℕ) → IsOpen a b c e → IsConfigured a → IsConfigured b → (reads b a).ext ≡ true → k < 2 ^ 32
     → peer_id e ≡ Some peer → (p : Part) → source_of p ≡ source_of a.part → Reacts a b e.sends c (queueing e (m.Extended (reply p k) ∷ []))
-reply_right a b e c k peer h own end agreed few is p serves = by_part p serves
+reply_right {a} {b} {e} {c} k peer h own end agreed few is p serves = by_part p serves
   where
     rejects : Reacts a b e.sends c (queueing e (m.Extended (message_of (kind.Reject k) []) ∷ []))
-    rejects = one_queued a b e c (kind.Reject k) [] peer h end agreed is few refl (omega arith) (reject k few refl)
+    rejects = one_queued (kind.Reject k) [] peer h end agreed is few refl (omega arith) (reject k few refl)
 
     by_count : (metadata : List ℕ) → source_of a.part ≡ Some metadata → (there : Bool) → nat_lt k (block_count (length metadata)) ≡ there
         → Reacts a b e.sends c (queueing e (m.Extended (if there then message_of (kind.Data k (length metadata)) (block metadata k) else message_of
@@ -427,7 +433,7 @@ reply_right a b e c k peer h own end agreed few is p serves = by_part p serves
         let lt : k < block_count (length metadata) = ltb-true k (block_count (length metadata)) t in
         let right = block_right metadata k lt in
         let sized : IsMetadata metadata = own.serves metadata is_served in
-        one_queued a b e c (kind.Data k (length metadata)) (block metadata k) peer h end agreed is (
+        one_queued (kind.Data k (length metadata)) (block metadata k) peer h end agreed is (
           few,
           omega (arith, sized.least),
           omega (arith, sized.most),
@@ -440,10 +446,10 @@ reply_right a b e c k peer h own end agreed few is p serves = by_part p serves
     by_part (Fetching s) is_served = rejects
     by_part (Fetched metadata) is_served = rejects
 
-reply_by : (a b e : EndState) (c : Context) (k : ℕ) → IsOpen a b c e → IsConfigured a → IsConfigured b → (reads b a).ext ≡ true → k < 2 ^ 32
+reply_by : {a b e : EndState} {c : Context} (k : ℕ) → IsOpen a b c e → IsConfigured a → IsConfigured b → (reads b a).ext ≡ true → k < 2 ^ 32
     → (peer : Option ℕ) → peer_id e ≡ peer → Reacts a b e.sends c (if is_some peer then queueing e (m.Extended (reply e.part k) ∷ []) else quiet e)
-reply_by a b e c k h own end agreed few None is = quiet_reacts a b e c h
-reply_by a b e c k h own end agreed few (Some peer) is = reply_right a b e c k peer h own end agreed few is e.part h.still.serves
+reply_by {a} {b} {e} {c} k h own end agreed few None is = quiet_reacts a b e c h
+reply_by {e} k h own end agreed few (Some peer) is = reply_right k peer h own end agreed few is e.part h.still.serves
 
 -- ---- an extended message
 
@@ -452,7 +458,7 @@ pub extended_reacts : (a b e : EndState) (c : Context) (x : Ext) → IsOpen a b 
 extended_reacts a b e c x h own end agreed (greeting is) =
     subst (λ (y : Ext). Reacts a b e.sends c (at_extended e y)) (sym is) (greeting_reacts a b e c h end agreed)
 extended_reacts a b e c x h own end agreed (request k few is) =
-    let r : Reacts a b e.sends c (by_kind e (kind.Request k) []) = reply_by a b e c k h own end agreed few (peer_id e) refl in
+    let r : Reacts a b e.sends c (by_kind e (kind.Request k) []) = reply_by k h own end agreed few (peer_id e) refl in
     subst (λ (y : Ext). Reacts a b e.sends c (at_extended e y)) (sym is) (subst (λ (j : Kind). Reacts a b e.sends c (by_kind e j []))
     (sym (kind_made (kind.Request k) few)) r)
 extended_reacts a b e c x h own end agreed (data_of metadata k serves lt is) =
@@ -574,16 +580,16 @@ announces_own a announce.Silent true = tt
 announces_own a announce.All true = (tt, tt)
 announces_own a announce.Nothing true = (tt, tt)
 
-greeting_all : (a b e : EndState) (c : Context) → IsStill a e → IsConfigured a → IsConfigured b → 32768 ≤ c.limit → (known fast : Bool) → known ≡ c.ext
+greeting_all : {a b e : EndState} (c : Context) → IsStill a e → IsConfigured a → IsConfigured b → 32768 ≤ c.limit → (known : Bool) {fast : Bool} → known ≡ c.ext
     → fast ≡ c.fast → known ≡ (reads b a).ext → fast ≡ (reads b a).fast
     → AreFor c (reads b a) Fresh ((if known then m.Extended (handshake_of e.own.reg (served_size e.part)) ∷ [] else [])
     ++ (if fast then announced e.announce else []))
-greeting_all a b e c still own end room true fast x y k f = (
+greeting_all {a} {b} {e} c still own end room true {fast} x y k f = (
   greets a b e c still own end (sym x) room (sym k),
   announces c (reads b a) e.announce fast y
       room f end.least,
 )
-greeting_all a b e c still own end room false fast x y k f = announces c (reads b a) e.announce fast y room f end.least
+greeting_all {a} {b} {e} c still own end room false {fast} x y k f = announces c (reads b a) e.announce fast y room f end.least
 
 greeting_own : (a e : EndState) → IsStill a e → (known fast : Bool)
     → AreHonest a (map items.Message ((if known then m.Extended (handshake_of e.own.reg (served_size e.part)) ∷ [] else [])
@@ -619,7 +625,7 @@ greeted_reacts a b e c still knows fresh own end ext fast =
       ext = ext;
       least = least;
     } in
-    let all : AreFor (belief o) (reads b a) Fresh (greeting_of o c) = greeting_all a b e (belief o) still own end least c.ext c.fast refl refl ext fast in
+    let all : AreFor (belief o) (reads b a) Fresh (greeting_of o c) = greeting_all (belief o) still own end least c.ext refl refl ext fast in
     let r : Reacts a b e.sends c (queueing o (greeting_of o c)) = queueing_reacts a b o c (greeting_of o c) ready
     (subst (λ (w : Order). AreFor (belief o) (reads b a) w (greeting_of o c)) (sym fresh) all) (greeting_own a e still c.ext c.fast)
     (greeting_few a e c.ext c.fast) in

@@ -90,16 +90,16 @@ delivers a b p w n inv =
 
 -- ---- nothing stands against what comes
 
-early_at : (a b : EndState) (x : M.Node) (e : EndState) (f : FeedState) (untaken outbox : List ℕ) → IsConfigured b → IsStill b e → M.IsSmallNode x
+early_at : {a b : EndState} {x : M.Node} {e : EndState} {f : FeedState} {untaken outbox : List ℕ} → IsConfigured b → IsStill b e → M.IsSmallNode x
     → Flow a b x e f untaken outbox → (next : Option Item) → slice_get x.sent x.handled ≡ next → early f.stage f.held ≡ None
-early_at a b x e f untaken outbox end still few flow None next =
+early_at {a} {b} {x} {f} {untaken} {outbox} end still few flow None next =
     let l = flow.is in
     let none : drop x.handled x.sent ≡ [] = none_left x.handled x.sent next in
     let empty : Coming f.stage [] (f.held ++ (untaken ++ outbox)) = subst (λ (js : List Item). Coming f.stage js (f.held ++ (untaken ++ outbox))) none
     l.coming in
     let is : f.stage ≡ stage.Message (reads b a) x.end.sends (total x.sent) (length x.sent) = ap (following f.stage) (sym none) ∙ l.following_all in
     (open_parts f.stage f.held (empty_open f.stage f.held (untaken ++ outbox) (reads b a) x.end.sends (total x.sent) (length x.sent) few is empty)).0
-early_at a b x e f untaken outbox end still few flow (Some i) next =
+early_at {a} {b} {x} {e} {f} {untaken} {outbox} end still few flow (Some i) next =
     let l = flow.is in
     let parts = next_parts x.handled x.sent i next in
     let rest : List Item = drop (x.handled + 1) x.sent in
@@ -120,7 +120,7 @@ stands_by o t f e h = rw (e, h) refl
 same_unsaid : (a b : EndState) (p : M.Pair) (w : Wires) (msg : Message) → IsConfigured a → Inv a b p w → M.IsSmallNode p.other
     → unsaid_by (made p w).own.half msg ≡ M.unsaid_by p.own msg
 same_unsaid a b p w msg end inv few =
-    let e : early w.feed.stage w.feed.held ≡ None = early_at b a p.other p.own.end w.feed w.untaken w.other_outbox end inv.own few inv.coming
+    let e : early w.feed.stage w.feed.held ≡ None = early_at end inv.own few inv.coming
     (M.next_item p.other) refl in
     let stands : is_some (standing w.feed) ≡ false = stands_by w.feed.refused w.feed.stage (early w.feed.stage w.feed.held) inv.coming.is.unrefused e in
     ap (λ (refused : Bool). unsaid p.own.end refused (length w.outbox) msg) stands
@@ -264,10 +264,10 @@ pieces_by c msg None (Some n) is same known = inr (inr (neither (piece_in c msg)
     neither (Some i) f e = absurd cc
 
 -- what it says is legal where the other reads it
-said_for : (a b e : EndState) (msg : Message) → AreMatched a b → IsStill a e → Knows b e → e.context ≡ Some (reads a b) → IsInRange bare msg
+said_for : {a b e : EndState} {msg : Message} → AreMatched a b → IsStill a e → Knows b e → e.context ≡ Some (reads a b) → IsInRange bare msg
     → is_own_made msg ≡ false
     → (tells_pieces e msg && is_none e.own.pieces) ≡ false → IsLegal (belief e) e.sends msg → IsFor (belief e) (reads b a) e.sends msg
-said_for a b e msg h still knows known range other pieces legal =
+said_for {a} {b} {e} {msg} h still knows known range other pieces legal =
     let counted : (belief e).pieces ≡ a.own.pieces = ap (λ (o : Own). o.pieces) still.own in
     let tells : (tells_pieces e msg && is_none a.own.pieces) ≡ false = ap (λ (o : Own). tells_pieces e msg && is_none o.pieces) (sym still.own) ∙ pieces in
     let suits : PiecesSuit (belief e) msg b.own.pieces = pieces_by (belief e) msg a.own.pieces b.own.pieces counted h.pieces tells in
@@ -360,7 +360,7 @@ said_now a b p w msg h inv range unsaid_is legal small =
     (tells_pieces e msg && is_none e.own.pieces) unsaid_is in
     let known : e.context ≡ Some (reads a b) = open_context a b e w.feed.stage (drop p.other.handled p.other.sent) p.other.end.sends (total p.other.sent)
     (length p.other.sent) l.awaited l.following_all (or_left (is_none e.context) tests.0) in
-    let for : IsFor (belief e) (reads b a) e.sends msg = said_for a b e msg h inv.own inv.knows known range tests.1 tests.2 legal in
+    let for : IsFor (belief e) (reads b a) e.sends msg = said_for h inv.own inv.knows known range tests.1 tests.2 legal in
     record {
       wires = said_wires w (flat_map (spell (belief e)) (msg ∷ []));
       same = ap (λ (js : List Item). record {
@@ -369,7 +369,7 @@ said_now a b p w msg h inv range unsaid_is legal small =
             w.other_outbox;
       }) (sym (take-append-le p.own.handled p.own.sent (items.Message msg ∷ []) inv.going.is.within));
       inv = record {
-        going = sent a b p.own (record e { sends = order_after e.sends msg }) (msg ∷ []) p.other.end w.other_feed w.other_untaken w.outbox (belief e)
+        going = sent (record e { sends = order_after e.sends msg }) (msg ∷ []) (belief e)
             inv.going (for, tt) (own_honest a msg tests.1, tt) refl small;
         coming = record {
           is = record {
@@ -420,9 +420,9 @@ pub record SaysSo (a b : EndState) (p : M.Pair) (w : Wires) (msg : Message) (o :
   pub same : q ≡ made (M.after_say p msg o) wires
   pub inv : Inv a b (M.after_say p msg o) wires
 
-pub says_so : (a b : EndState) (p : M.Pair) (w : Wires) (msg : Message) (o : Outcome) (q : B.Pair) → IsConfigured a → AreMatched a b → Inv a b p w
+pub says_so : {a b : EndState} {p : M.Pair} {w : Wires} {msg : Message} (o : Outcome) (q : B.Pair) → IsConfigured a → AreMatched a b → Inv a b p w
     → IsInRange bare msg → M.IsSmallNode p.other → M.IsSmallNode (M.after_say p msg o).own → B.IsSay (made p w) msg o q → SaysSo a b p w msg o q
-says_so a b p w msg o q end h inv range few small is =
+says_so {a} {b} {p} {w} {msg} o q end h inv range few small is =
     let told : M.IsSayOf p.own msg o = say_told (made p w).own p.own msg o q.own refl (same_unsaid a b p w msg end inv few) is.0 in
     let s : Said a b p w msg o = said a b p w msg o h inv range told small in
     record {
@@ -439,9 +439,9 @@ pub record CanSay (a b : EndState) (p : M.Pair) (w : Wires) (msg : Message) (o :
   pub say : B.IsSay (made p w) msg o (made (M.after_say p msg o) wires)
   pub inv : Inv a b (M.after_say p msg o) wires
 
-pub can_say : (a b : EndState) (p : M.Pair) (w : Wires) (msg : Message) (o : Outcome) → IsConfigured a → AreMatched a b → Inv a b p w → IsInRange bare msg
+pub can_say : {a b : EndState} {p : M.Pair} {w : Wires} {msg : Message} (o : Outcome) → IsConfigured a → AreMatched a b → Inv a b p w → IsInRange bare msg
     → M.IsSmallNode p.other → M.IsSmallNode (M.after_say p msg o).own → M.IsSayOf p.own msg o → CanSay a b p w msg o
-can_say a b p w msg o end h inv range few small told =
+can_say {a} {b} {p} {w} {msg} o end h inv range few small told =
     let s : Said a b p w msg o = said a b p w msg o h inv range told small in
     let here : B.IsSay (made p w) msg o (record { own = said_node (made p w).own msg o; other = (made p w).other }) =
     (say_gives (made p w).own p.own msg o refl (same_unsaid a b p w msg end inv few) told, refl) in
@@ -458,9 +458,9 @@ same_back (Some m) (Some n) h = sym h
 pub matched_back : (a b : EndState) → AreMatched a b → AreMatched b a
 matched_back a b h = record { hash = sym h.hash; limit = sym h.limit; rules = sym h.rules; pieces = same_back a.own.pieces b.own.pieces h.pieces }
 
-new_flow : (a b e f : EndState) → IsConfigured a → IsConfigured b → AreMatched a b → IsStill a e → IsStill b f → e.sends ≡ Fresh → f.context ≡ None
+new_flow : {a b e f : EndState} → IsConfigured a → IsConfigured b → AreMatched a b → IsStill a e → IsStill b f → e.sends ≡ Fresh → f.context ≡ None
     → f.sends ≡ Fresh → Flow a b (M.first e) f (waiting (stage.Handshake f.own)) [] (hand e.handshake)
-new_flow a b e f enda endb h still other fresh closed quiet =
+new_flow {a} {b} {e} {f} enda endb h still other fresh closed quiet =
     let hs : IsHandshake e.handshake = subst (λ (x : Handshake). IsHandshake x) (sym still.handshake) enda.handshake in
     let hash : f.own.info_hash ≡ Some e.handshake.info_hash =
     ap (λ (o : Own). o.info_hash) other.own ∙ endb.hash ∙ ap Some (sym h.hash) ∙ ap (λ (x : Handshake). Some x.info_hash) (sym still.handshake) in
@@ -517,11 +517,11 @@ new_wires e f = record {
   other_outbox = hand f.handshake;
 }
 
-pub new_inv : (a b e f : EndState) → IsConfigured a → IsConfigured b → AreMatched a b → IsStill a e → IsStill b f → Knows b e → Knows a f → e.context ≡ None
+pub new_inv : {a b e f : EndState} → IsConfigured a → IsConfigured b → AreMatched a b → IsStill a e → IsStill b f → Knows b e → Knows a f → e.context ≡ None
     → e.sends ≡ Fresh → f.context ≡ None → f.sends ≡ Fresh → Inv a b (record { own = M.first e; other = M.first f }) (new_wires e f)
-new_inv a b e f enda endb h still other knows known closed quiet closed' quiet' = record {
-  going = new_flow a b e f enda endb h still other quiet closed' quiet';
-  coming = new_flow b a f e endb enda (matched_back a b h) other still quiet' closed quiet;
+new_inv {a} {b} enda endb h still other knows known closed quiet closed' quiet' = record {
+  going = new_flow enda endb h still other quiet closed' quiet';
+  coming = new_flow endb enda (matched_back a b h) other still quiet' closed quiet;
   own = still;
   other = other;
   knows = knows;
@@ -589,9 +589,9 @@ one_answer n msg o p lt range plain (against x is e) (said_so none legal f) = ab
 one_answer n msg o p lt range plain (against x is e) (illegal none g refused f) = absurd cc
 one_answer n msg o p lt range plain (against x is e) (against y is' f) = let same : x ≡ y = cc in e ∙ ap outcome.NotSaid same ∙ sym f
 
-pub one_say : (a b : EndState) (p : M.Pair) (w : Wires) (msg : Message) (o o' : Outcome) → IsConfigured a → Inv a b p w → IsInRange bare msg
+pub one_say : {a b : EndState} {p : M.Pair} {w : Wires} {msg : Message} (o o' : Outcome) → IsConfigured a → Inv a b p w → IsInRange bare msg
     → M.IsSayOf p.own msg o → M.IsSayOf p.own msg o' → o ≡ o'
-one_say a b p w msg o o' end inv range h k =
+one_say {a} {b} {p} {w} {msg} o o' end inv range h k =
     let e : EndState = p.own.end in
     one_answer p.own msg o o' (omega (arith, limit_within a b p w end inv)) range
     (λ none. (unsaid_none (is_none e.context || false) (nat_le high_water (M.undelivered p.own)) (is_own_made msg)

@@ -56,40 +56,47 @@ record Handles (a b e : EndState) (t : Stage) (i : Item) : Type 0 where
   pub reacts : Reacts a b e.sends context (react e i)
   pub awaits : IsAwaiting (react e i).end (stage_after t (size i) i)
 
-handles_item : {a b e : EndState} (t : Stage) (held : List ℕ) (i : Item) (is : List Item) {o : Order} {s n : ℕ} → IsConfigured a → IsConfigured b
-    → IsStill a e → Knows b e → IsItem t held i → IsAwaiting e t → following t (i ∷ is) ≡ stage.Message (reads a b) o s n → IsHonest b i
-    → Handles a b e t i
-handles_item {a} {b} {e} (stage.Handshake own) held (items.Handshake h) is {o} {s} {n} enda endb still knows item w follows honest =
+-- the two ends as they were made, and what the end e, which was a, knows of the other
+record AreMet (a b e : EndState) : Type 0 where
+  own : IsConfigured a
+  other : IsConfigured b
+  still : IsStill a e
+  knows : Knows b e
+
+handles_item : {a b e : EndState} (t : Stage) (held : List ℕ) (i : Item) (is : List Item) {o : Order} {s n : ℕ} → AreMet a b e → IsItem t held i
+    → IsAwaiting e t → following t (i ∷ is) ≡ stage.Message (reads a b) o s n → IsHonest b i → Handles a b e t i
+handles_item {a} {b} {e} (stage.Handshake own) held (items.Handshake h) is {o} {s} {n} met item w follows honest =
     let same : negotiated own h.reserved ≡ reads a b = following_message (negotiated own h.reserved) Fresh (size (items.Handshake h)) 1 is (reads a b) o s n
     follows in
     let c : Context = negotiated e.own h.reserved in
     let is_c : c ≡ reads a b = ap (λ (x : Own). negotiated x h.reserved) (sym w.0) ∙ same in
-    let r : Reacts a b Fresh c (greeted e c) = greeted_reacts a b e c still knows w.2 enda endb (ap (λ (x : Context). x.ext) is_c ∙ agreed_ext a b)
+    let r : Reacts a b Fresh c (greeted e c) = greeted_reacts a b e c met.still met.knows w.2 met.own met.other
+    (ap (λ (x : Context). x.ext) is_c ∙ agreed_ext a b)
     (ap (λ (x : Context). x.fast) is_c ∙ agreed_fast a b) in
     record {
       context = c;
       reacts = subst (λ (p : Order). Reacts a b p c (greeted e c)) (sym w.2) r;
       awaits = ap (λ (x : Own). Some (negotiated x h.reserved)) (sym w.0);
     }
-handles_item {a} {b} {e} (stage.Message c p k j) held (items.Message msg) is {o} {s} {n} enda endb still knows item w follows honest =
+handles_item {a} {b} {e} (stage.Message c p k j) held (items.Message msg) is {o} {s} {n} met item w follows honest =
     let same : c ≡ reads a b = following_message c p k j (items.Message msg ∷ is) (reads a b) o s n follows in
     let e' : EndState = record e { receives = order_after e.receives msg } in
     let ready : IsOpen a b c e' = record {
-      still = record { own = still.own; handshake = still.handshake; serves = still.serves };
+      still = record { own = met.still.own; handshake = met.still.handshake; serves = met.still.serves };
       context = w;
-      knows = record { table = knows.table; id = knows.id; donthave = knows.donthave; part = knows.part };
+      knows = record { table = met.knows.table; id = met.knows.id; donthave = met.knows.donthave; part = met.knows.part };
       ext = ap (λ (x : Context). x.ext) same ∙ agreed_ext a b;
-      least = subst (λ (x : Own). 32768 ≤ x.limit) (sym still.own) enda.least;
+      least = subst (λ (x : Own). 32768 ≤ x.limit) (sym met.still.own) met.own.least;
     } in
     let agreed : (x : Ext) → msg ≡ m.Extended x → (reads b a).ext ≡ true =
     λ (x : Ext) (is_x : msg ≡ m.Extended x). sym (agreed_ext a b) ∙ ap (λ (y : Context). y.ext) (sym same) ∙ extended_agreed c p k msg x item.0 is_x in
-    let r : Reacts a b e.sends c (at_message e' msg) = message_reacts a b e' c msg ready enda endb agreed honest in
+    let r : Reacts a b e.sends c (at_message e' msg) = message_reacts a b e' c msg ready met.own met.other agreed honest in
     record { context = c; reacts = r; awaits = r.context }
   where
     extended_agreed : (c : Context) (p : Order) (k : ℕ) (msg : Message) (x : Ext) → IsSaid c p k msg → msg ≡ m.Extended x → c.ext ≡ true
     extended_agreed c p k msg x said is_x = (subst (λ (y : Message). IsLegal c p y) is_x said.legal).agreed
-handles_item {a} {b} {e} (stage.Handshake own) held (items.Message msg) is {o} {s} {n} enda endb still knows item w follows honest = absurd item
-handles_item {a} {b} {e} (stage.Message c p k j) held (items.Handshake h) is {o} {s} {n} enda endb still knows item w follows honest = absurd item
+handles_item {a} {b} {e} (stage.Handshake own) held (items.Message msg) is {o} {s} {n} met item w follows honest = absurd item
+handles_item {a} {b} {e} (stage.Message c p k j) held (items.Handshake h) is {o} {s} {n} met item w follows honest = absurd item
 
 -- ---- the next item
 
@@ -187,20 +194,21 @@ queued_total : (c d : Context) (o : Order) (xs : List Message) → d.limit ≤ 1
 queued_total c d o [] lt h = omega arith
 queued_total c d o (x ∷ xs) lt h = omega (arith, h.0.legal.short, length-spell d x, spell_size d x, queued_total c d (order_after o x) xs lt h.1)
 
-handles_next : (a b : EndState) (p : M.Pair) (w : Wires) (i : Item) (rest : List Item) → IsConfigured a → IsConfigured b → Inv a b p w
+handles_next : {a b : EndState} {p : M.Pair} {w : Wires} (i : Item) {rest : List Item} → IsConfigured a → IsConfigured b → Inv a b p w
     → slice_get p.other.sent p.other.handled ≡ Some i → IsItem w.feed.stage w.feed.held i → Coming (stage_after w.feed.stage (size i) i) rest (w.untaken
     ++ w.other_outbox)
     → drop p.other.handled p.other.sent ≡ i ∷ rest → drop (p.other.handled + 1) p.other.sent ≡ rest → nat_le high_water (length w.outbox) ≡ false
     → Turns a b p w outcome.Handled (M.handles p (Some i))
 unfolding handled_wires
-handles_next a b p w i rest enda endb inv next item come first later low =
+handles_next {a} {b} {p} {w} i {rest} enda endb inv next item come first later low =
     let l = inv.coming.is in
     let e : EndState = p.own.end in
     let parts = next_parts p.other.handled p.other.sent i next in
     let follows : following w.feed.stage (i ∷ rest) ≡ stage.Message (reads a b) p.other.end.sends (total p.other.sent) (length p.other.sent) =
     ap (following w.feed.stage) (sym first) ∙ l.following_all in
     let own : AreHonest b (i ∷ rest) = subst (λ (js : List Item). AreHonest b js) first l.honest in
-    let h : Handles a b e w.feed.stage i = handles_item w.feed.stage w.feed.held i rest enda endb inv.own inv.knows item l.awaited follows own.0 in
+    let h : Handles a b e w.feed.stage i = handles_item w.feed.stage w.feed.held i rest
+    (record { own = enda; other = endb; still = inv.own; knows = inv.knows }) item l.awaited follows own.0 in
     let r : Reaction = react e i in
     let more : List ℕ = flat_map (spell (belief r.end)) r.queued in
     let f : FeedState = record { stage = stage_after w.feed.stage (size i) i; held = []; refused = w.feed.refused } in
@@ -224,7 +232,7 @@ handles_next a b p w i rest enda endb inv next item come first later low =
             ∙ ap (λ (x : B.Node). record { own = B.fed x; other = (made p w).other }) (sym same),
       );
       inv = λ small. record {
-        going = sent a b p.own r.end r.queued p.other.end w.other_feed w.other_untaken w.outbox (belief r.end) inv.going h.reacts.queued h.reacts.honest
+        going = sent r.end r.queued (belief r.end) inv.going h.reacts.queued h.reacts.honest
             h.reacts.sends small;
         coming = fed b a (record p.other { handled = p.other.handled + 1 }) r.end f w.untaken w.other_outbox
             (left l first later parts.1 parts.2 item come h.awaits);
@@ -264,19 +272,19 @@ empty_open t held more c o s n lt e none =
 
 -- ---- a turn
 
-turn_by_high : (a b : EndState) (p : M.Pair) (w : Wires) (i : Item) (rest : List Item) → IsConfigured a → IsConfigured b → Inv a b p w
+turn_by_high : {a b : EndState} {p : M.Pair} {w : Wires} (i : Item) {rest : List Item} → IsConfigured a → IsConfigured b → Inv a b p w
     → slice_get p.other.sent p.other.handled ≡ Some i → IsItem w.feed.stage w.feed.held i → Coming (stage_after w.feed.stage (size i) i) rest (w.untaken
     ++ w.other_outbox)
     → drop p.other.handled p.other.sent ≡ i ∷ rest → drop (p.other.handled + 1) p.other.sent ≡ rest → (high : Bool)
     → nat_le high_water (M.undelivered p.own) ≡ high
     → Turns a b p w (if high then outcome.Busy else outcome.Handled) (M.after_turn p (if high then outcome.Busy else outcome.Handled))
-turn_by_high a b p w i rest enda endb inv next item come first later true high =
+turn_by_high {a} {b} {p} {w} i enda endb inv next item come first later true high =
     busies a b p w i inv item (limited b a p.other p.own.end w.feed w.untaken w.other_outbox enda inv.own inv.coming.is)
     (ap (nat_le high_water) (undelivered_is a b p.own p.other.end w.other_feed w.other_untaken w.outbox inv.going.is) ∙ high)
-turn_by_high a b p w i rest enda endb inv next item come first later false high =
+turn_by_high {a} {b} {p} {w} i enda endb inv next item come first later false high =
     let low : nat_le high_water (length w.outbox) ≡ false = ap (nat_le high_water) (undelivered_is a b p.own p.other.end w.other_feed w.other_untaken
     w.outbox inv.going.is) ∙ high in
-    subst (λ (x : Option Item). Turns a b p w outcome.Handled (M.handles p x)) (sym next) (handles_next a b p w i rest enda endb inv next item come first
+    subst (λ (x : Option Item). Turns a b p w outcome.Handled (M.handles p x)) (sym next) (handles_next i enda endb inv next item come first
     later low)
 
 turn_by_there : (a b : EndState) (p : M.Pair) (w : Wires) (i : Item) → IsConfigured a → IsConfigured b → Inv a b p w
@@ -311,7 +319,7 @@ turn_by_there a b p w i enda endb inv next there t =
         omega (arith, leb-true (total (take (p.other.handled + 1) p.other.sent)) p.other.delivered t, more, inv.coming.is.count, inv.coming.is.start) in
         let h = first_held w.feed.stage i (drop (p.other.handled + 1) p.other.sent) w.feed.held w.untaken w.other_outbox lt come inv.coming.is.partial
         inv.coming.full long in
-        turn_by_high a b p w i (drop (p.other.handled + 1) p.other.sent) enda endb inv next h.0 h.1 first refl (nat_le high_water (M.undelivered p.own)) refl
+        turn_by_high i enda endb inv next h.0 h.1 first refl (nat_le high_water (M.undelivered p.own)) refl
 
 turn_by_next : (a b : EndState) (p : M.Pair) (w : Wires) → IsConfigured a → IsConfigured b → Inv a b p w → M.IsSmallNode p.other → (next : Option Item)
     → slice_get p.other.sent p.other.handled ≡ next → Turns a b p w (M.turn_by p next) (M.after_turn p (M.turn_by p next))
@@ -433,7 +441,8 @@ queues_by a b p w (Some j) enda endb inv few next i free =
     let follows : following w.feed.stage (j ∷ rest) ≡ stage.Message (reads a b) p.other.end.sends (total p.other.sent) (length p.other.sent) =
     ap (following w.feed.stage) (sym parts.0) ∙ l.following_all in
     let own : AreHonest b (j ∷ rest) = subst (λ (js : List Item). AreHonest b js) parts.0 l.honest in
-    let r : Handles a b p.own.end w.feed.stage j = handles_item w.feed.stage w.feed.held j rest enda endb inv.own inv.knows h.0 l.awaited follows own.0 in
+    let r : Handles a b p.own.end w.feed.stage j = handles_item w.feed.stage w.feed.held j rest
+    (record { own = enda; other = endb; still = inv.own; knows = inv.knows }) h.0 l.awaited follows own.0 in
     let well : B.MayBeSent (belief (react p.own.end j).end) p.own.end.sends (react p.own.end j).queued = sent_well (belief (react p.own.end j).end)
     (reads b a) p.own.end.sends (react p.own.end j).queued r.reacts.queued in
     subst (λ (x : Item). B.MayBeSent (belief (react p.own.end x).end) p.own.end.sends (react p.own.end x).queued) is well

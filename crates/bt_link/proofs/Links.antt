@@ -107,9 +107,10 @@ record IsLinkOf (a b : EndState) (l : M.Link) (k : B.Link) : Type 0 where
   pub same : k ≡ link_with l wires
   pub inv : IsInv a b l wires
 
-lifted : (s : Side) (a b : EndState) (l : M.Link) (w v : Wires) (p : M.Pair) (q : B.Pair) (k : B.Link) → k ≡ B.with_pair s (link_with l w) q → q ≡ made p v
+lifted : (s : Side) (a b : EndState) (l : M.Link) (w : Wires) {v : Wires} {p : M.Pair} {q : B.Pair} {k : B.Link} → k ≡ B.with_pair s (link_with l w) q
+    → q ≡ made p v
     → Inv (mine s a b) (yours s a b) p v → IsLinkOf a b (M.with_pair s l p) k
-lifted s a b l w v p q k e f i = record {
+lifted s a b l w {v} {p} e f i = record {
   wires = wires_at s v;
   same = e ∙ ap (λ (x : B.Pair). B.with_pair s (link_with l w) x) f ∙ with_same s l w v p;
   inv = inv_back s a b l p v i;
@@ -120,42 +121,42 @@ reset_same : (a b : EndState) (l : M.Link) (w : Wires) (k : B.Link) → Ready a 
 reset_same a b l w k r i e = record {
   wires = new_wires (renewed l.left.end) (renewed l.right.end);
   same = e;
-  inv = new_inv a b (renewed l.left.end) (renewed l.right.end) r.own r.other r.matched (still_renewed a l.left.end i.own)
+  inv = new_inv r.own r.other r.matched (still_renewed a l.left.end i.own)
       (still_renewed b l.right.end i.other) (knows_renewed b l.left.end i.knows) (knows_renewed a l.right.end i.known) refl refl refl refl;
 }
 
 -- what comes of a step in the byte link comes of it in the message link
-step_follows : (a b : EndState) (l : M.Link) (w : Wires) (s : Step) (o : Outcome) (k : B.Link) → Ready a b → IsInv a b l w → IsWritten s → M.IsSmall l
+step_follows : {a b : EndState} (l : M.Link) (w : Wires) (s : Step) (o : Outcome) (k : B.Link) → Ready a b → IsInv a b l w → IsWritten s → M.IsSmall l
     → M.IsSmall (M.after l s o) → B.IsStep (link_with l w) s o k → M.IsOutcome l s o × IsLinkOf a b (M.after l s o) k
-step_follows a b l w (step.Turn s) o k r i written small later is =
+step_follows {a} {b} l w (step.Turn s) o k r i written small later is =
     let e = ready_at s a b r in
     let p : M.Pair = M.seen_from s l in
     let turn : B.IsTurn (made p (wires_at s w)) o is.0 = subst (λ (x : B.Pair). B.IsTurn x o is.0) (seen_same s l w) is.1 in
     let t : TurnsSo (mine s a b) (yours s a b) p o is.0 = turns_so (mine s a b) (yours s a b) p (wires_at s w) o is.0 e.own e.other (inv_at s a b l w i)
     (small_other s l small) turn in
-    (t.told, lifted s a b l w t.wires (M.after_turn p o) is.0 k is.2 t.same (t.inv (small_own s l (M.after_turn p o) later)))
-step_follows a b l w (step.Say s msg) o k r i written small later is =
+    (t.told, lifted s a b l w is.2 t.same (t.inv (small_own s l (M.after_turn p o) later)))
+step_follows {a} {b} l w (step.Say s msg) o k r i written small later is =
     let e = ready_at s a b r in
     let p : M.Pair = M.seen_from s l in
     let say : B.IsSay (made p (wires_at s w)) msg o is.0 = subst (λ (x : B.Pair). B.IsSay x msg o is.0) (seen_same s l w) is.1 in
-    let t : SaysSo (mine s a b) (yours s a b) p (wires_at s w) msg o is.0 = says_so (mine s a b) (yours s a b) p (wires_at s w) msg o is.0 e.own e.matched
+    let t : SaysSo (mine s a b) (yours s a b) p (wires_at s w) msg o is.0 = says_so o is.0 e.own e.matched
     (inv_at s a b l w i) written (small_other s l small) (small_own s l (M.after_say p msg o) later) say in
-    (t.told, lifted s a b l w t.wires (M.after_say p msg o) is.0 k is.2 t.same t.inv)
-step_follows a b l w (step.Deliver s n) o k r i written small later is =
+    (t.told, lifted s a b l w is.2 t.same t.inv)
+step_follows {a} {b} l w (step.Deliver s n) o k r i written small later is =
     let p : M.Pair = M.seen_from s l in
     let d : Delivers (mine s a b) (yours s a b) p (wires_at s w) n = delivers (mine s a b) (yours s a b) p (wires_at s w) n (inv_at s a b l w i) in
     let delivery : B.IsDelivery (made p (wires_at s w)) n o is.0 = subst (λ (x : B.Pair). B.IsDelivery x n o is.0) (seen_same s l w) is.1 in
     let told : o ≡ outcome.Delivered (min n (M.undelivered p.other)) = delivery.0 ∙ sym d.delivery.0 in
     let same : is.0 ≡ made (M.after_deliver p (outcome.Delivered (min n (M.undelivered p.other)))) d.wires = delivery.1 ∙ sym d.delivery.1 in
     let here : IsLinkOf a b (M.with_pair s l (M.after_deliver p (outcome.Delivered (min n (M.undelivered p.other))))) k =
-    lifted s a b l w d.wires (M.after_deliver p (outcome.Delivered (min n (M.undelivered p.other)))) is.0 k is.2 same d.inv in
+    lifted s a b l w is.2 same d.inv in
     (told, subst (λ (x : Outcome). IsLinkOf a b (M.with_pair s l (M.after_deliver p x)) k) (sym told) here)
-step_follows a b l w step.Reset o k r i written small later is = (is.0, reset_same a b l w k r i is.1)
+step_follows {a} {b} l w step.Reset o k r i written small later is = (is.0, reset_same a b l w k r i is.1)
 
 -- and the other way round
-step_goes : (a b : EndState) (l : M.Link) (w : Wires) (s : Step) (o : Outcome) → Ready a b → IsInv a b l w → IsWritten s → M.IsSmall l
+step_goes : {a b : EndState} (l : M.Link) (w : Wires) (s : Step) (o : Outcome) → Ready a b → IsInv a b l w → IsWritten s → M.IsSmall l
     → M.IsSmall (M.after l s o) → M.IsOutcome l s o → (k : B.Link) × B.IsStep (link_with l w) s o k × IsLinkOf a b (M.after l s o) k
-step_goes a b l w (step.Turn s) o r i written small later told =
+step_goes {a} {b} l w (step.Turn s) o r i written small later told =
     let e = ready_at s a b r in
     let p : M.Pair = M.seen_from s l in
     let t : Turns (mine s a b) (yours s a b) p (wires_at s w) (M.turn_of p) (M.after_turn p (M.turn_of p)) =
@@ -167,27 +168,27 @@ step_goes a b l w (step.Turn s) o r i written small later told =
     let k : B.Link = B.with_pair s (link_with l w) (made (M.after_turn p o) t.wires) in (
       k,
       (made (M.after_turn p o) t.wires, subst (λ (x : B.Pair). B.IsTurn x o (made (M.after_turn p o) t.wires)) (sym (seen_same s l w)) turn, refl),
-      lifted s a b l w t.wires (M.after_turn p o) (made (M.after_turn p o) t.wires) k refl refl (inv (small_own s l (M.after_turn p o) later)),
+      lifted s a b l w refl refl (inv (small_own s l (M.after_turn p o) later)),
     )
-step_goes a b l w (step.Say s msg) o r i written small later told =
+step_goes {a} {b} l w (step.Say s msg) o r i written small later told =
     let e = ready_at s a b r in
     let p : M.Pair = M.seen_from s l in
-    let t : CanSay (mine s a b) (yours s a b) p (wires_at s w) msg o = can_say (mine s a b) (yours s a b) p (wires_at s w) msg o e.own e.matched
+    let t : CanSay (mine s a b) (yours s a b) p (wires_at s w) msg o = can_say o e.own e.matched
     (inv_at s a b l w i) written (small_other s l small) (small_own s l (M.after_say p msg o) later) told in
     let k : B.Link = B.with_pair s (link_with l w) (made (M.after_say p msg o) t.wires) in (
       k,
       (made (M.after_say p msg o) t.wires, subst (λ (x : B.Pair). B.IsSay x msg o (made (M.after_say p msg o) t.wires)) (sym (seen_same s l w)) t.say, refl),
-      lifted s a b l w t.wires (M.after_say p msg o) (made (M.after_say p msg o) t.wires) k refl refl t.inv,
+      lifted s a b l w refl refl t.inv,
     )
-step_goes a b l w (step.Deliver s n) o r i written small later told =
+step_goes {a} {b} l w (step.Deliver s n) o r i written small later told =
     let p : M.Pair = M.seen_from s l in
     let x : Outcome = outcome.Delivered (min n (M.undelivered p.other)) in
     let d : Delivers (mine s a b) (yours s a b) p (wires_at s w) n = delivers (mine s a b) (yours s a b) p (wires_at s w) n (inv_at s a b l w i) in
     let k : B.Link = B.with_pair s (link_with l w) (made (M.after_deliver p x) d.wires) in
     let delivery : B.IsDelivery (B.seen_from s (link_with l w)) n x (made (M.after_deliver p x) d.wires) =
     subst (λ (y : B.Pair). B.IsDelivery y n x (made (M.after_deliver p x) d.wires)) (sym (seen_same s l w)) d.delivery in
-    let here : IsLinkOf a b (M.with_pair s l (M.after_deliver p x)) k = lifted s a b l w d.wires (M.after_deliver p x) (made (M.after_deliver p x) d.wires)
-    k refl refl d.inv in (
+    let here : IsLinkOf a b (M.with_pair s l (M.after_deliver p x)) k = lifted s a b l w
+    refl refl d.inv in (
       k,
       (
         made (M.after_deliver p x) d.wires,
@@ -197,7 +198,7 @@ step_goes a b l w (step.Deliver s n) o r i written small later told =
       ),
       subst (λ (y : Outcome). IsLinkOf a b (M.with_pair s l (M.after_deliver p y)) k) (sym told) here,
     )
-step_goes a b l w step.Reset o r i written small later told =
+step_goes {a} {b} l w step.Reset o r i written small later told =
     (B.after_reset (link_with l w), (told, refl), reset_same a b l w (B.after_reset (link_with l w)) r i refl)
 
 -- ---- steps
@@ -207,15 +208,15 @@ small_now l [] os h = h
 small_now l (s ∷ ss) [] h = h
 small_now l (s ∷ ss) (o ∷ os) h = h.0
 
-steps_follow : (a b : EndState) (ss : List Step) (os : List Outcome) (l : M.Link) (j k : B.Link) → Ready a b → IsLinkOf a b l j → AreWritten ss
+steps_follow : {a b : EndState} (ss : List Step) (os : List Outcome) {l : M.Link} {j : B.Link} (k : B.Link) → Ready a b → IsLinkOf a b l j → AreWritten ss
     → M.StaysSmall l ss os → B.AreSteps j ss os k → M.AreOutcomes l ss os × IsLinkOf a b (M.after_all l ss os) k
-steps_follow a b [] [] l j k r h written small is = (tt, record { wires = h.wires; same = is ∙ h.same; inv = h.inv })
-steps_follow a b [] (o ∷ os) l j k r h written small is = absurd is
-steps_follow a b (s ∷ ss) [] l j k r h written small is = absurd is
-steps_follow a b (s ∷ ss) (o ∷ os) l j k r h written small is =
+steps_follow [] [] k r h written small is = (tt, record { wires = h.wires; same = is ∙ h.same; inv = h.inv })
+steps_follow [] (o ∷ os) k r h written small is = absurd is
+steps_follow (s ∷ ss) [] k r h written small is = absurd is
+steps_follow {a} {b} (s ∷ ss) (o ∷ os) {l} k r h written small is =
     let first : B.IsStep (link_with l h.wires) s o is.0 = subst (λ (x : B.Link). B.IsStep x s o is.0) h.same is.1 in
-    let one = step_follows a b l h.wires s o is.0 r h.inv written.0 small.0 (small_now (M.after l s o) ss os small.1) first in
-    let more = steps_follow a b ss os (M.after l s o) is.0 k r one.1 written.1 small.1 is.2 in
+    let one = step_follows l h.wires s o is.0 r h.inv written.0 small.0 (small_now (M.after l s o) ss os small.1) first in
+    let more = steps_follow ss os k r one.1 written.1 small.1 is.2 in
     ((one.0, more.0), more.1)
 
 steps_go : (a b : EndState) (ss : List Step) (os : List Outcome) (l : M.Link) (j : B.Link) → Ready a b → IsLinkOf a b l j → AreWritten ss
@@ -224,7 +225,7 @@ steps_go a b [] [] l j r h written small told = (j, refl, h)
 steps_go a b [] (o ∷ os) l j r h written small told = absurd told
 steps_go a b (s ∷ ss) [] l j r h written small told = absurd told
 steps_go a b (s ∷ ss) (o ∷ os) l j r h written small told =
-    let one = step_goes a b l h.wires s o r h.inv written.0 small.0 (small_now (M.after l s o) ss os small.1) told.0 in
+    let one = step_goes l h.wires s o r h.inv written.0 small.0 (small_now (M.after l s o) ss os small.1) told.0 in
     let more = steps_go a b ss os (M.after l s o) one.0 r one.2 written.1 small.1 told.1 in
     (more.0, (one.0, subst (λ (x : B.Link). B.IsStep x s o one.0) (sym h.same) one.1, more.1), more.2)
 
@@ -252,7 +253,7 @@ linked_new : (a b : EndState) → IsNew a → IsNew b → AreMatched a b → IsL
 linked_new a b h k m = record {
   wires = new_wires a b;
   same = refl;
-  inv = new_inv a b a b h.is k.is m (record { own = refl; handshake = refl; serves = refl }) (record { own = refl; handshake = refl; serves = refl })
+  inv = new_inv h.is k.is m (record { own = refl; handshake = refl; serves = refl }) (record { own = refl; handshake = refl; serves = refl })
       (first_knows a b h) (first_knows b a k)
       (ap (λ (e : EndState). e.context) h.unopened) (ap (λ (e : EndState). e.sends) h.unopened) (ap (λ (e : EndState). e.context) k.unopened)
       (ap (λ (e : EndState). e.sends) k.unopened);
@@ -275,7 +276,7 @@ same_link a b l k h = record {
 
 runs : (a b : EndState) (ss : List Step) (os : List Outcome) (k : B.Link) → IsHonestRun a b ss os → B.AreSteps (B.link_of a b) ss os k
     → M.AreOutcomes (M.link_of a b) ss os × IsLinkOf a b (M.after_all (M.link_of a b) ss os) k
-runs a b ss os k h is = steps_follow a b ss os (M.link_of a b) (B.link_of a b) k (readied a b ss os h) (linked a b ss os h) h.written h.small is
+runs a b ss os k h is = steps_follow ss os k (readied a b ss os h) (linked a b ss os h) h.written h.small is
 
 pub byte_link_is_message_link : ByteLinkIsMessageLink
 byte_link_is_message_link a b ss os k h is =
@@ -437,17 +438,17 @@ step_told a b l w (step.Deliver s n) o k r i small is =
     delivery.0 ∙ sym d.delivery.0
 step_told a b l w step.Reset o k r i small is = is.0
 
-small_bytes : (a b : EndState) (ss : List Step) (os : List Outcome) (l : M.Link) (j k : B.Link) → Ready a b → IsLinkOf a b l j → AreWritten ss
+small_bytes : {a b : EndState} (ss : List Step) (os : List Outcome) {l : M.Link} {j : B.Link} (k : B.Link) → Ready a b → IsLinkOf a b l j → AreWritten ss
     → HasRoom l (length ss) → B.AreSteps j ss os k → M.StaysSmall l ss os
-small_bytes a b [] os l j k r h written room is = room_small l 0 room
-small_bytes a b (s ∷ ss) [] l j k r h written room is = absurd is
-small_bytes a b (s ∷ ss) (o ∷ os) l j k r h written room is =
+small_bytes [] os {l} k r h written room is = room_small l 0 room
+small_bytes (s ∷ ss) [] k r h written room is = absurd is
+small_bytes {a} {b} (s ∷ ss) (o ∷ os) {l} k r h written room is =
     let first : B.IsStep (link_with l h.wires) s o is.0 = subst (λ (x : B.Link). B.IsStep x s o is.0) h.same is.1 in
     let small = room_small l (suc (length ss)) room in
     let told : M.IsOutcome l s o = step_told a b l h.wires s o is.0 r h.inv small first in
     let later : HasRoom (M.after l s o) (length ss) = room_after a b l h.wires s o (length ss) r h.inv room told in
-    let one = step_follows a b l h.wires s o is.0 r h.inv written.0 small (room_small (M.after l s o) (length ss) later) first in
-    (small, small_bytes a b ss os (M.after l s o) is.0 k r one.1 written.1 later is.2)
+    let one = step_follows l h.wires s o is.0 r h.inv written.0 small (room_small (M.after l s o) (length ss) later) first in
+    (small, small_bytes ss os k r one.1 written.1 later is.2)
 
 small_messages : (a b : EndState) (ss : List Step) (os : List Outcome) (l : M.Link) (j : B.Link) → Ready a b → IsLinkOf a b l j → AreWritten ss
     → HasRoom l (length ss) → M.AreOutcomes l ss os → M.StaysSmall l ss os
@@ -456,7 +457,7 @@ small_messages a b (s ∷ ss) [] l j r h written room told = absurd told
 small_messages a b (s ∷ ss) (o ∷ os) l j r h written room told =
     let small = room_small l (suc (length ss)) room in
     let later : HasRoom (M.after l s o) (length ss) = room_after a b l h.wires s o (length ss) r h.inv room told.0 in
-    let one = step_goes a b l h.wires s o r h.inv written.0 small (room_small (M.after l s o) (length ss) later) told.0 in
+    let one = step_goes l h.wires s o r h.inv written.0 small (room_small (M.after l s o) (length ss) later) told.0 in
     (small, small_messages a b ss os (M.after l s o) one.0 r one.2 written.1 later told.1)
 
 first_room : (a b : EndState) (ss : List Step) → length ss ≤ 4294967296 → HasRoom (M.link_of a b) (length ss)
@@ -464,7 +465,7 @@ first_room a b ss few = record { left = omega arith; right = omega arith }
 
 pub few_steps_stay_small : FewStepsStaySmall
 few_steps_stay_small a b ss os h = (
-  λ k is. small_bytes a b ss os (M.link_of a b) (B.link_of a b) k (record { own = h.left.is; other = h.right.is; matched = h.matched })
+  λ k is. small_bytes ss os k (record { own = h.left.is; other = h.right.is; matched = h.matched })
       (linked_new a b h.left h.right h.matched) h.written (first_room a b ss h.few) is,
   λ told. small_messages a b ss os (M.link_of a b) (B.link_of a b) (record { own = h.left.is; other = h.right.is; matched = h.matched })
       (linked_new a b h.left h.right h.matched) h.written (first_room a b ss h.few) told,
@@ -472,29 +473,29 @@ few_steps_stay_small a b ss os h = (
 
 -- ---- one outcome
 
-one_outcome : (a b : EndState) (l : M.Link) (w : Wires) (s : Step) (o p : Outcome) → Ready a b → IsInv a b l w → IsWritten s → M.IsOutcome l s o
+one_outcome : {a b : EndState} (l : M.Link) (w : Wires) (s : Step) (o p : Outcome) → Ready a b → IsInv a b l w → IsWritten s → M.IsOutcome l s o
     → M.IsOutcome l s p → o ≡ p
-one_outcome a b l w (step.Turn s) o p r i written h k = h ∙ sym k
-one_outcome a b l w (step.Say s msg) o p r i written h k = one_say (mine s a b) (yours s a b) (M.seen_from s l) (wires_at s w) msg o p
+one_outcome l w (step.Turn s) o p r i written h k = h ∙ sym k
+one_outcome {a} {b} l w (step.Say s msg) o p r i written h k = one_say o p
     (ready_at s a b r).own (inv_at s a b l w i) written h k
-one_outcome a b l w (step.Deliver s n) o p r i written h k = h ∙ sym k
-one_outcome a b l w step.Reset o p r i written h k = h ∙ sym k
+one_outcome l w (step.Deliver s n) o p r i written h k = h ∙ sym k
+one_outcome l w step.Reset o p r i written h k = h ∙ sym k
 
-one_run : (a b : EndState) (ss : List Step) (os ps : List Outcome) (l : M.Link) (j : B.Link) → Ready a b → IsLinkOf a b l j → AreWritten ss
+one_run : {a b : EndState} (ss : List Step) (os ps : List Outcome) {l : M.Link} {j : B.Link} → Ready a b → IsLinkOf a b l j → AreWritten ss
     → M.StaysSmall l ss os → M.AreOutcomes l ss os → M.AreOutcomes l ss ps → os ≡ ps
-one_run a b [] [] [] l j r h written small x y = refl
-one_run a b [] [] (p ∷ ps) l j r h written small x y = absurd y
-one_run a b [] (o ∷ os) ps l j r h written small x y = absurd x
-one_run a b (s ∷ ss) [] ps l j r h written small x y = absurd x
-one_run a b (s ∷ ss) (o ∷ os) [] l j r h written small x y = absurd y
-one_run a b (s ∷ ss) (o ∷ os) (p ∷ ps) l j r h written small x y =
-    let same : o ≡ p = one_outcome a b l h.wires s o p r h.inv written.0 x.0 y.0 in
-    let one = step_goes a b l h.wires s o r h.inv written.0 small.0 (small_now (M.after l s o) ss os small.1) x.0 in
+one_run [] [] [] r h written small x y = refl
+one_run [] [] (p ∷ ps) r h written small x y = absurd y
+one_run [] (o ∷ os) ps r h written small x y = absurd x
+one_run (s ∷ ss) [] ps r h written small x y = absurd x
+one_run (s ∷ ss) (o ∷ os) [] r h written small x y = absurd y
+one_run {a} {b} (s ∷ ss) (o ∷ os) (p ∷ ps) {l} r h written small x y =
+    let same : o ≡ p = one_outcome l h.wires s o p r h.inv written.0 x.0 y.0 in
+    let one = step_goes l h.wires s o r h.inv written.0 small.0 (small_now (M.after l s o) ss os small.1) x.0 in
     let later : M.AreOutcomes (M.after l s o) ss ps = subst (λ (z : Outcome). M.AreOutcomes (M.after l s z) ss ps) (sym same) y.1 in
-    ap (λ (z : Outcome). z ∷ os) same ∙ ap (λ (zs : List Outcome). p ∷ zs) (one_run a b ss os ps (M.after l s o) one.0 r one.2 written.1 small.1 x.1 later)
+    ap (λ (z : Outcome). z ∷ os) same ∙ ap (λ (zs : List Outcome). p ∷ zs) (one_run ss os ps r one.2 written.1 small.1 x.1 later)
 
 pub outcomes_are_one : OutcomesAreOne
-outcomes_are_one a b ss os ps h x y = one_run a b ss os ps (M.link_of a b) (B.link_of a b) (readied a b ss os h) (linked a b ss os h) h.written h.small x y
+outcomes_are_one a b ss os ps h x y = one_run ss os ps (readied a b ss os h) (linked a b ss os h) h.written h.small x y
 
 -- ---- what is queued
 

@@ -163,23 +163,32 @@ greeting_for c d o reg size own room agreed least h k =
       same = refl;
     }
 
+-- metadata messages that are sent in c, under this id, may be read in d
+pub record MayTell (c d : Context) (id : ℕ) : Type 0 where
+  pub own : c.ext ≡ true
+  pub room : 32768 ≤ c.limit
+  pub agreed : d.ext ≡ true
+  pub least : 32768 ≤ d.limit
+  pub sender : metadata_id c.reg ≡ Some id
+  pub reader : metadata_id d.reg ≡ Some id
+  pub byte : id < 256
+
 -- a metadata message is read under the id that the sender names
-pub message_for : (c d : Context) (o : Order) (k : Kind) (rest : List ℕ) (id : ℕ) → c.ext ≡ true → 32768 ≤ c.limit → d.ext ≡ true → 32768 ≤ d.limit
-    → metadata_id c.reg ≡ Some id → metadata_id d.reg ≡ Some id → id < 256 → IsMade k → is_block_ok k (length rest) ≡ true → length rest ≤ 16384 →
-    IsFor c d o (m.Extended (message_of k rest))
-message_for c d o k rest id own room agreed least sender reader lt made ok size =
+pub message_for : {c d : Context} {id : ℕ} → MayTell c d id → (o : Order) (k : Kind) (rest : List ℕ) → IsMade k → is_block_ok k (length rest) ≡ true
+    → length rest ≤ 16384 → IsFor c d o (m.Extended (message_of k rest))
+message_for {c} {d} may o k rest made ok size =
     let right = message-right k rest made ok in
     record {
       said = record {
-        in_range = record { id = omega arith; fields = rw sender lt };
-        legal = own_legal c o (message_of k rest) own (rw sender refl, right.0)
+        in_range = record { id = omega arith; fields = rw may.sender may.byte };
+        legal = own_legal c o (message_of k rest) may.own (rw may.sender refl, right.0)
             right.1 refl (omega (arith, message_length k rest made));
         start = omega arith;
       };
-      in_range = record { id = omega arith; fields = rw reader lt };
-      legal = own_legal d o (message_of k rest) agreed (rw reader refl, right.0) right.1 refl (omega (arith, message_length k rest made));
+      in_range = record { id = omega arith; fields = rw may.reader may.byte };
+      legal = own_legal d o (message_of k rest) may.agreed (rw may.reader refl, right.0) right.1 refl (omega (arith, message_length k rest made));
       same = ap (λ (o : Option ℕ). be32 (length (20 ∷ unwrap_or o 0 ∷ payload_of (message_of k rest)))
-          ++ 20 ∷ unwrap_or o 0 ∷ payload_of (message_of k rest)) (sender ∙ sym reader);
+          ++ 20 ∷ unwrap_or o 0 ∷ payload_of (message_of k rest)) (may.sender ∙ sym may.reader);
     }
 
 pub block_length : (metadata : List ℕ) (k : ℕ) → k < block_count (length metadata) → length (block metadata k) ≡ block_len (length metadata) k

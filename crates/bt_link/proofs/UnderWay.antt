@@ -148,10 +148,10 @@ message_early c o s b x msg lt e said (Some r) f =
     let none : IsFault c o s (spell c msg) None = subst (λ (y : List ℕ). IsFault c o s y None) (append-nil (spell c msg)) (fault-spell c o s msg [] lt said) in
     one_fault c o s (spell c msg) (Some r) None here none
 
-message_short : (c : Context) (o : Order) (s : ℕ) (b x : List ℕ) (msg : Message) → c.limit < 2 ^ 32 → b ++ x ≡ spell c msg → IsSaid c o s msg
+message_short : {c : Context} {o : Order} {s : ℕ} (b x : List ℕ) {msg : Message} → c.limit < 2 ^ 32 → b ++ x ≡ spell c msg → IsSaid c o s msg
     → length b < length (spell c msg) → (w : Bool) → is_whole b ≡ w → w ≡ false
-message_short c o s b x msg lt e said short false w = refl
-message_short c o s b x msg lt e said short true w =
+message_short b x lt e said short false w = refl
+message_short {c} {o} {s} b x {msg} lt e said short true w =
     let le = whole_length b w in
     let said_b : said_length (b ++ x) ≡ said_length b = number32-append b x (omega (arith, le)) in
     let said_m : said_length (spell c msg ++ []) ≡ length (body c msg) = said_length-spell c msg [] (fits c o s msg lt said) in
@@ -165,7 +165,7 @@ open_before (stage.Handshake own) b x first (items.Handshake h) lt p e short =
     (lt-leb 68 (length b) (omega (arith, ap length p.2, hand-length h p.1)))
 open_before (stage.Message c o s n) b x first (items.Message msg) lt p e short =
     open_by (stage.Message c o s n) b (message_early c o s b x msg lt (e ∙ p.1) p.0 (early_fault c o s b) refl)
-    (message_short c o s b x msg lt (e ∙ p.1) p.0 (omega (arith, ap length p.1)) (is_whole b) refl)
+    (message_short b x lt (e ∙ p.1) p.0 (omega (arith, ap length p.1)) (is_whole b) refl)
 open_before (stage.Handshake own) b x first (items.Message msg) lt p e short = absurd p
 open_before (stage.Message c o s n) b x first (items.Handshake h) lt p e short = absurd p
 

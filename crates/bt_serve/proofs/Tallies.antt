@@ -1,5 +1,5 @@
 -- The counts of a connection that is served, from step to step.
-use Rattle.std.proofs.Common.{◌≡◌, ◌⊎◌, ℕ, ◌+◌, ◌-◌, ◌^◌, ◌<◌, ◌≤◌, true, false, List, [], ◌∷◌, ◌++◌, length, min, drop, flat_map, Result, Ok, Err, inl}
+use Rattle.std.proofs.Common.{◌≡◌, ◌⊎◌, ℕ, ◌+◌, ◌-◌, ◌^◌, ◌<◌, true, false, List, [], ◌∷◌, ◌++◌, length, min, drop, flat_map, Result, Ok, Err, inl}
 use Rattle.std.proofs.Common.{inr, refl, sym, ap, subst, ◌∙◌, arith, length-append, length-drop}
 use Rattle.std.proofs.Math.Seq.{drop-append_seam}
 use Rattle.std.proofs.lemmas.List.{append-nil}
@@ -117,28 +117,28 @@ tally_step start old new r t u q n k a =
     ] in
     tally_on start old new t u k m handled queued
 
-pub stepped_still : (start old new : Moment) (r : Result Step Stop) (since : ℕ) (t u : Tally) (q : List ℕ) → moves r ≡ false → IsNoted old new r t u q
+pub stepped_still : {start old new : Moment} (r : Result Step Stop) {since : ℕ} {t u : Tally} {q : List ℕ} → moves r ≡ false → IsNoted old new r t u q
     → IsServed start old since t → IsAdvanced old new r → IsStepped start new since u r
-stepped_still start old new (Ok step.Moved) since t u q f n k a = absurd cc
-stepped_still start old new (Ok step.Waited) since t u q f n k a = record {
+stepped_still (Ok step.Moved) f n k a = absurd cc
+stepped_still {start} {old} {new} (Ok step.Waited) {since} {t} {u} {q} f n k a = record {
   calm = calm_both start.seen.counts old.seen.counts new.seen.counts k.calm (step_calm old new step.Waited a.step);
   mark = mark_on sign.Bytes since start old new a.made.moved k.mark (a.still refl);
   tally = tally_step start old new (Ok step.Waited) t u q n k.tally a;
   settled = n.settled;
 }
-stepped_still start old new (Ok step.Handled) since t u q f n k a = record {
+stepped_still {start} {old} {new} (Ok step.Handled) {since} {t} {u} {q} f n k a = record {
   calm = calm_both start.seen.counts old.seen.counts new.seen.counts k.calm (step_calm old new step.Handled a.step);
   mark = mark_on sign.Bytes since start old new a.made.moved k.mark (a.still refl);
   tally = tally_step start old new (Ok step.Handled) t u q n k.tally a;
   settled = n.settled;
 }
-stepped_still start old new (Ok step.Held) since t u q f n k a = record {
+stepped_still {start} {old} {new} (Ok step.Held) {since} {t} {u} {q} f n k a = record {
   calm = calm_both start.seen.counts old.seen.counts new.seen.counts k.calm (step_calm old new step.Held a.step);
   mark = mark_on sign.Bytes since start old new a.made.moved k.mark (a.still refl);
   tally = tally_step start old new (Ok step.Held) t u q n k.tally a;
   settled = n.settled;
 }
-stepped_still start old new (Err e) since t u q f n k a = (
+stepped_still {start} {old} {new} (Err e) {t} {u} {q} f n k a = (
   tally_step start old new (Err e) t u q n k.tally a,
   n.settled,
   fault_after start.seen.counts old.seen.counts new.seen.counts new.half e k.calm a.step,
@@ -161,10 +161,10 @@ served_clock start mid s since t u e k =
       settled = k.settled;
     })
 
-pub stepped_moved : (start old mid : Moment) (s : Seen) (r : Result Step Stop) (since time : ℕ) (t u : Tally) (q : List ℕ) → moves r ≡ true
+pub stepped_moved : {start old mid : Moment} {s : Seen} (r : Result Step Stop) {since : ℕ} (time : ℕ) {t u : Tally} {q : List ℕ} → moves r ≡ true
     → s ≡ at_time time mid.seen → IsNoted old mid r t u q → IsServed start old since t → IsAdvanced old mid r
     → IsStepped start (moment s mid.pending mid.half) time u r
-stepped_moved start old mid s (Ok step.Moved) since time t u q f e n k a =
+stepped_moved {start} {old} {mid} {s} (Ok step.Moved) {since} time {t} {u} {q} f e n k a =
     let P : Seen → Type 0 = λ x. IsTally start (moment x mid.pending mid.half) u in
     record {
       calm = round_calm start old mid s step.Moved time k.calm a e;
@@ -172,10 +172,10 @@ stepped_moved start old mid s (Ok step.Moved) since time t u q f e n k a =
       tally = subst P (sym e) (tally_clock start mid time u (tally_step start old mid (Ok step.Moved) t u q n k.tally a));
       settled = n.settled;
     }
-stepped_moved start old mid s (Ok step.Waited) since time t u q f e n k a = absurd cc
-stepped_moved start old mid s (Ok step.Handled) since time t u q f e n k a = absurd cc
-stepped_moved start old mid s (Ok step.Held) since time t u q f e n k a = absurd cc
-stepped_moved start old mid s (Err x) since time t u q f e n k a = absurd cc
+stepped_moved (Ok step.Waited) time f e n k a = absurd cc
+stepped_moved (Ok step.Handled) time f e n k a = absurd cc
+stepped_moved (Ok step.Held) time f e n k a = absurd cc
+stepped_moved (Err x) time f e n k a = absurd cc
 
 -- ---- the end of a connection
 

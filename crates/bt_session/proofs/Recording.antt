@@ -17,12 +17,12 @@ use Rattle.bt_end.specs.Ends.{Reaction, belief, spelled}
 use Rattle.bt_end.specs.Halves.{HalfState}
 use Rattle.bt_session.specs.Nodes.{Spells, IsRecording}
 
-more_by : (c : Context) (o : Order) (rest : List ℕ) (old new : List Item) (xs left : List Message) (msg : Message) (n : ℕ) → c.limit < 2 ^ 32
+more_by : {c : Context} {o : Order} {rest : List ℕ} (old new : List Item) (xs left : List Message) {msg : Message} {n : ℕ} → c.limit < 2 ^ 32
     → BeginsBy c o 0 rest msg n → Spells c o rest left → new ++ map items.Message left ≡ old ++ map items.Message xs
     → IsRecording c (order_after o msg) (drop n rest) old (new ++ items.Message msg ∷ []) xs
-more_by c o rest old new xs [] msg n lt b s e =
+more_by {c} {rest} old new xs [] {msg} {n} lt b s e =
     absurd (omega (arith, ap length s.spelled, ap length b.parts, length-append (spell c msg) (drop n rest), length-spell c msg))
-more_by c o rest old new xs (y ∷ ys) msg n lt b s e =
+more_by {c} {o} {rest} old new xs (y ∷ ys) {msg} {n} lt b s e =
     let one = one_spelling c o o 0 0 y msg (flat_map (spell c) ys) (drop n rest) lt s.well.0 b.said (sym s.spelled ∙ b.parts) in
     let well = subst (λ (m : Message). MayBeSent c (order_after o m) ys) one.0 s.well.1 in
     record {
@@ -35,12 +35,12 @@ more_by c o rest old new xs (y ∷ ys) msg n lt b s e =
 pub record_more : (c : Context) (o : Order) (rest : List ℕ) (old new : List Item) (xs : List Message) (msg : Message) (n : ℕ) → c.limit < 2 ^ 32
     → BeginsBy c o 0 rest msg n → IsRecording c o rest old new xs
     → IsRecording c (order_after o msg) (drop n rest) old (new ++ items.Message msg ∷ []) xs
-record_more c o rest old new xs msg n lt b r = more_by c o rest old new xs r.left msg n lt b r.spells r.same
+record_more c o rest old new xs msg n lt b r = more_by old new xs r.left lt b r.spells r.same
 
-refused_by : (c : Context) (o : Order) (rest : List ℕ) (old new : List Item) (xs left : List Message) (f : Refused) → c.limit < 2 ^ 32
+refused_by : {c : Context} {o : Order} {rest : List ℕ} (old new : List Item) (xs left : List Message) (f : Refused) → c.limit < 2 ^ 32
     → IsFault c o 0 rest (Some f) → Spells c o rest left → new ++ map items.Message left ≡ old ++ map items.Message xs → new ≡ old ++ map items.Message xs
-refused_by c o rest old new xs [] f lt h s e = sym (append-nil new) ∙ e
-refused_by c o rest old new xs (y ∷ ys) f lt h s e =
+refused_by old new xs [] f lt h s e = sym (append-nil new) ∙ e
+refused_by {c} {o} old new xs (y ∷ ys) f lt h s e =
     let none = fault-spell c o 0 y (flat_map (spell c) ys) lt s.well.0 in
     let here : IsFault c o 0 (spell c y ++ flat_map (spell c) ys) (Some f) = subst (λ (b : List ℕ). IsFault c o 0 b (Some f)) s.spelled h in
     let same : Some f ≡ None = one_fault c o 0 (spell c y ++ flat_map (spell c) ys) (Some f) None here none in
@@ -48,7 +48,7 @@ refused_by c o rest old new xs (y ∷ ys) f lt h s e =
 
 pub record_refused : (c : Context) (o : Order) (rest : List ℕ) (old new : List Item) (xs : List Message) (f : Refused) → c.limit < 2 ^ 32
     → IsFault c o 0 rest (Some f) → IsRecording c o rest old new xs → new ≡ old ++ map items.Message xs
-record_refused c o rest old new xs f lt h r = refused_by c o rest old new xs r.left f lt h r.spells r.same
+record_refused c o rest old new xs f lt h r = refused_by old new xs r.left f lt h r.spells r.same
 
 partial_by : (c : Context) (o : Order) (rest : List ℕ) (old new : List Item) (xs left : List Message) → c.limit < 2 ^ 32 → IsPartial c o 0 rest
     → Spells c o rest left → new ++ map items.Message left ≡ old ++ map items.Message xs → new ≡ old ++ map items.Message xs
@@ -65,10 +65,10 @@ record_partial c o rest old new xs lt h r = partial_by c o rest old new xs r.lef
 -- ---- what an end queued
 
 -- what stands after the bytes that waited before is what was queued
-pub spells_queued : (a : HalfState) (r : Reaction) (c : Context) (o : Order) (n : ℕ) (out queued : List ℕ) → out ≡ a.outbox ++ spelled r.end r.queued → c
+pub spells_queued : (a : HalfState) (r : Reaction) {c : Context} {o : Order} {n : ℕ} {out queued : List ℕ} → out ≡ a.outbox ++ spelled r.end r.queued → c
     ≡ belief r.end → o ≡ a.end.sends → n ≡ length a.outbox → queued ≡ drop n out → MayBeSent (belief r.end) a.end.sends r.queued
     → Spells c o queued r.queued
-spells_queued a r c o n out queued all context order before rest well = record {
+spells_queued a r {o} {n} all context order before rest well = record {
   spelled = rest ∙ ap (drop n) all ∙ drop_at a.outbox (spelled r.end r.queued) n (sym before) ∙ ap (λ (d : Context). flat_map (spell d) r.queued) (sym context);
   well = subst (λ (d : Context). MayBeSent d o r.queued) (sym context) (subst (λ (p : Order). MayBeSent (belief r.end) p r.queued) (sym order) well);
 }

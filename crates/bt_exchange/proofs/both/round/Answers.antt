@@ -4,7 +4,7 @@ use Rattle.bt_exchange.specs.Rounds.{Ends, ends_of, moves}
 use Rattle.bt_exchange.specs.Stops.{IsCalm}
 use Rattle.bt_exchange.specs.declared.both.Called.{Called}
 use Rattle.bt_exchange.specs.declared.both.Exchanged.{Exchanged}
-use Rattle.bt_exchange.proofs.Rounds.{calm_across, calm_none, crossed, goes_on, exchanged_is, halted_left, net_after}
+use Rattle.bt_exchange.proofs.Rounds.{AreCalled, calm_across, calm_none, crossed, goes_on, exchanged_is, halted_left, net_after}
 use Rattle.bt_exchange.proofs.Sides.{side_none}
 use Rattle.bt_exchange.proofs.Watches.{calm_both}
 use Rattle.bt_exchange.proofs.both.round.Given.{Over}
@@ -70,13 +70,19 @@ returns-clause-exchanged g c =
     let old : Ends = ends_of seen c.args.at_left.now c.args.at_right.now c.args.left.now c.args.right.now in
     let mid : Ends = ends_of (g.W.Connection.seen c.call.new.wire) c.call.new.hearing c.args.at_right.now c.call.new.end c.args.right.now in
     let new : Ends = ends_of (g.W.Connection.seen c.cross-2.new.self) c.call.new.hearing c.call-2.new.hearing c.call.new.end c.call-2.new.end in
-    let goes = crossed back _ _ _ _ _ _ _ _ c.cross.ensures c.cross-2.ensures c.in-Ok-call.ensures.called in
+    let goes = crossed back _ _ _ _ _ _ c.cross.ensures c.cross-2.ensures c.in-Ok-call.ensures.called in
     let moved : c.if-is_moved.result ≡ (moves there || moves back) = elim c.if-is_moved.branch [
       | then-is_moved w ↦ w.result-is ∙ w.if-is_moved.true ∙ ap (λ (b : Bool). b || moves back) (sym w.if-is_moved.true ∙ c.is_moved.ensures)
       | else-is_moved w ↦ w.result-is ∙ w.is_moved-else-is_moved.ensures ∙ ap (λ (b : Bool). b || moves back) (sym w.if-is_moved.false ∙ c.is_moved.ensures)
     ] in
-    exchanged_is there back c.is_stopped-2.result c.if-is_moved.result old mid new (sym c.is_stopped.ensures ∙ c.if-is_stopped.false) c.is_stopped-2.ensures
-    moved c.in-Ok.ensures.called refl goes refl
+    let both : AreCalled there back old mid new = record {
+      on = sym c.is_stopped.ensures ∙ c.if-is_stopped.false;
+      goes = c.in-Ok.ensures.called;
+      right = refl;
+      comes = goes;
+      left = refl;
+    } in
+    exchanged_is c.is_stopped-2.result both c.is_stopped-2.ensures moved
 
 pub returns-clause-left : goal.returns-clause-left
 returns-clause-left g c = c.in-Ok.ensures.side

@@ -31,9 +31,7 @@ loop-round-preserved g c =
 pub returns-in-Err-clause-exchanged : goal.returns-in-Err-clause-exchanged
 returns-in-Err-clause-exchanged g c =
     let i = c.loop-round.invariant in
-    stopped_at c.args.limits (moment (g.C.Connection.seen c.args.connection.now) c.args.hearing.now c.args.end.now)
-    (moment (g.C.Connection.seen c.loop-round.connection) c.loop-round.hearing c.loop-round.end) (moment (g.C.Connection.seen c.round.new.connection)
-    c.round.new.hearing c.round.new.end) c.loop-round._round c.in-Err.ensures.made.0 c.in-Err.stop c.in-Err.ensures.made.2 c.loop-round-test.true i.made
+    stopped_at c.args.limits c.in-Err.stop c.in-Err.ensures.made.2 c.loop-round-test.true i.made
     c.in-Err.ensures.made.3 (c.in-Err.ensures.watched (moment (g.C.Connection.seen c.args.connection.now) c.args.hearing.now c.args.end.now) i.mark i.calm)
 
 pub returns-clause-exchanged : goal.returns-clause-exchanged

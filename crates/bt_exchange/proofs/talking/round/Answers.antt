@@ -43,9 +43,7 @@ returns-then-now-watch-2-clause-watched g c = λ start mark calm. (
         c.in-Ok.step c.now-now.result calm c.in-Ok.ensures.advanced c.now-now.ensures,
     (
       c.args.watch.since,
-      mark_quiet c.args.limits.sign start (moment (g.C.Connection.seen c.args.connection.now) c.args.hearing.now c.args.end.now)
-          (moment (g.C.Connection.seen c.advance.new.connection) c.advance.new.hearing c.advance.new.end) (g.C.Connection.seen c.now-now.new.self)
-          c.in-Ok.step c.now-now.result c.args.watch.since mark c.in-Ok.ensures.advanced
+      mark_quiet c.in-Ok.step c.now-now.result mark c.in-Ok.ensures.advanced
           (quiet_step c.args.limits.sign c.in-Ok.step (moment (g.C.Connection.seen c.args.connection.now) c.args.hearing.now c.args.end.now)
           (moment (g.C.Connection.seen c.advance.new.connection) c.advance.new.hearing c.advance.new.end) c.in-Ok.ensures.advanced
           (λ e f. sym (c.requires.headway e) ∙ c.is_alive.ensures.headway e f c.if-is_alive.false) (λ e. c.is_alive.ensures.bytes e c.if-is_alive.false))
@@ -77,9 +75,7 @@ returns-clause-watched g c = λ start mark calm. (
       (moment (g.C.Connection.seen c.advance.new.connection) c.advance.new.hearing c.advance.new.end) c.in-Ok.ensures.advanced
       (λ e f. sym (c.requires.headway e)
       ∙ c.is_alive.ensures.headway e f c.if-is_alive.false) (λ e. c.is_alive.ensures.bytes e c.if-is_alive.false)),
-  mark_quiet c.args.limits.sign start (moment (g.C.Connection.seen c.args.connection.now) c.args.hearing.now c.args.end.now)
-      (moment (g.C.Connection.seen c.advance.new.connection) c.advance.new.hearing c.advance.new.end) (g.C.Connection.seen c.now-now.new.self) c.in-Ok.step
-      c.now-now.result c.args.watch.since mark c.in-Ok.ensures.advanced
+  mark_quiet c.in-Ok.step c.now-now.result mark c.in-Ok.ensures.advanced
       (quiet_step c.args.limits.sign c.in-Ok.step (moment (g.C.Connection.seen c.args.connection.now) c.args.hearing.now c.args.end.now)
       (moment (g.C.Connection.seen c.advance.new.connection) c.advance.new.hearing c.advance.new.end) c.in-Ok.ensures.advanced
       (λ e f. sym (c.requires.headway e)

@@ -23,9 +23,9 @@ turn_step-requires g c = λ e. not_busy c.args.end.now c.receive-n.new.self c.tu
     c.receive-n.ensures.end c.turn.ensures e
 
 pub returns-clause-advanced : goal.returns-clause-advanced
-returns-clause-advanced g c = λ seen. advanced_turned seen _ _ _ _ _ _ _ _ c.turn_step.result c.turn_step.ensures
+returns-clause-advanced g c = λ seen. advanced_turned seen c.turn_step.ensures
     (is_given g (goal.at.returns-clause-advanced g c).After-turn)
 
 pub returns-clause-exact : goal.returns-clause-exact
-returns-clause-exact g c = λ seen prompt. exact_turned prompt seen _ _ _ _ _ _ _ _ c.turn_step.result c.turn_step.ensures
+returns-clause-exact g c = λ seen prompt. exact_turned prompt seen c.turn_step.ensures
     (is_given g (goal.at.returns-clause-exact g c).After-turn)

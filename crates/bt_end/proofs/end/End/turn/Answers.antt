@@ -18,7 +18,7 @@ invariant_of-self-in-Ok-Some-take g c =
     ] in
     let free : is_busy (half_of old) ≡ false = sym c.is_busy.ensures ∙ c.if-is_busy.false in
     let is : c.take.result ≡ Ok (Some c.in-Ok-Some-take.view) = c.in-Ok-Some-take.is ∙ ap (λ (o : Option View). Ok o) c.in-Ok-Some-take.field-0-is in
-    sturdy old mid c.take.follows.lender-at-none c.handle.new.self c.in-Ok-Some-take.view c.take.result kept free c.look.ensures.feed c.self.invariant is
+    sturdy c.take.follows.lender-at-none c.in-Ok-Some-take.view kept free c.look.ensures.feed c.self.invariant is
     c.take.ensures.value c.handle.ensures
 
 pub returns-in-Ok-Some-take : goal.returns-in-Ok-Some-take
@@ -31,7 +31,7 @@ returns-in-Ok-Some-take g c =
     ] in
     let free : is_busy (half_of old) ≡ false = sym c.is_busy.ensures ∙ c.if-is_busy.false in
     let is : c.take.result ≡ Ok (Some c.in-Ok-Some-take.view) = c.in-Ok-Some-take.is ∙ ap (λ (o : Option View). Ok o) c.in-Ok-Some-take.field-0-is in
-    handled old mid c.args.self.now c.take.follows.lender-at-none c.handle.new.self c.in-Ok-Some-take.view c.take.result c.self.view_is kept free is
+    handled c.in-Ok-Some-take.view c.self.view_is kept free is
     c.take.ensures.value c.take.follows.holds-at-none c.handle.ensures
 
 pub returns-in-Err-take : goal.returns-in-Err-take
@@ -50,5 +50,5 @@ returns-in-Err-take g c =
       | in-Learn+in-None-2 w ↦ w.self-is
       | in-Nothing-2 w ↦ w.self-is
     ] in
-    refused old mid c.args.self.now c.take.follows.lender-at-none c.refusal_in.result c.match-plan-3.self c.take.result c.self.view_is kept free is
+    refused c.refusal_in.result c.self.view_is kept free is
     c.take.ensures.value c.take.follows.holds-at-none same

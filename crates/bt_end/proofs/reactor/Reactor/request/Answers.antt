@@ -21,7 +21,7 @@ pub requests-preserved : goal.requests-preserved
 requests-preserved g c =
     let now = c.requests.self in
     let most = ap (λ e. e.window) c.requests.invariant.end in
-    one_queued c.args.self.now now (record now { part = c.ask.new.self; outbox = c.put_message.new.outbox }) c.requests._request c.args.id c.in-Some.piece
+    one_queued (record now { part = c.ask.new.self; outbox = c.put_message.new.outbox })
     c.requests-test.true c.requires.id.0 c.requires.id.1 c.requests.invariant
     (ap (λ (w : ℕ). wanted w (part_of now.part)) (sym most) ∙ sym c.ask.ensures.value ∙ c.in-Some.is)
     (record {

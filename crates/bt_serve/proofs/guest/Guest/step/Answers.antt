@@ -24,8 +24,8 @@ returns-then-has_moved g c = λ start k.
       bound = omega (arith, out.ensures.bound, out.ensures.end.most, ap (length {A = ℕ}) out.ensures.value);
       settled = λ z. c.noted-self.ensures.settled (c.is_empty.ensures ∙ ap (λ (l : List ℕ). length l == 0) out.ensures.value ∙ ap (λ (n : ℕ). n == 0) z);
     } in
-    stepped_moved start old mid (g.L.Connection.seen c.now-self.new.self) c.advance-done.result c.args.self.now.since c.now-self.result c.args.self.now.tally
-    c.noted-self.result q (sym c.has_moved.ensures ∙ c.if-has_moved.true) c.now-self.ensures n k c.advance-done.ensures.advanced
+    stepped_moved c.advance-done.result c.now-self.result
+    (sym c.has_moved.ensures ∙ c.if-has_moved.true) c.now-self.ensures n k c.advance-done.ensures.advanced
 
 pub returns-else-has_moved : goal.returns-else-has_moved
 returns-else-has_moved g c = λ start k.
@@ -42,5 +42,5 @@ returns-else-has_moved g c = λ start k.
       bound = omega (arith, out.ensures.bound, out.ensures.end.most, ap (length {A = ℕ}) out.ensures.value);
       settled = λ z. c.noted-self.ensures.settled (c.is_empty.ensures ∙ ap (λ (l : List ℕ). length l == 0) out.ensures.value ∙ ap (λ (n : ℕ). n == 0) z);
     } in
-    stepped_still start old mid c.advance-done.result c.args.self.now.since c.args.self.now.tally c.noted-self.result q
+    stepped_still c.advance-done.result
     (sym c.has_moved.ensures ∙ c.if-has_moved.false) n k c.advance-done.ensures.advanced

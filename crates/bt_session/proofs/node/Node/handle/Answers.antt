@@ -24,7 +24,7 @@ returns-in-Ok c = λ x h well.
     let before : length c.outgoing-before.result.now ≡ length x.half.outbox = ap (length {A = ℕ}) (c.outgoing-before.ensures.value
     ∙ ap (λ (a : HalfState). a.outbox) h.end) in
     let spells : Spells c.belief-context.result c.sending-order.result c.rest-queued.result.now r.queued =
-    spells_queued x.half r c.belief-context.result c.sending-order.result (length c.outgoing-before.result.now) c.outgoing.result.now c.rest-queued.result.now
+    spells_queued x.half r
     (c.outgoing.ensures.value ∙ ap (λ (a : HalfState). a.outbox) t.2) (c.belief-context.ensures ∙ ap (λ (a : HalfState). belief a.end) t.2)
     (c.sending-order.ensures ∙ ap (λ (a : HalfState). a.end.sends) h.end)
     before c.rest-queued.ensures (well.queues i t.1) in (

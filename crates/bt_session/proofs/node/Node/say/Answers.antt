@@ -15,8 +15,7 @@ returns-in-Ok-record c = λ x h well.
     let may : IsSayable x.half msg = subst (λ (a : HalfState). IsSayable a msg) h.end said.0 in
     let now : c.say.new.self ≡ reacted x.half (queueing x.half.end (msg ∷ [])) = said.1 ∙ ap (λ (a : HalfState). reacted a (queueing a.end (msg ∷ []))) h.end in
     let spells : Spells c.belief-context.result c.sending-order.result c.rest-queued.result.now (msg ∷ []) =
-    spells_queued x.half (queueing x.half.end (msg ∷ [])) c.belief-context.result c.sending-order.result (length c.outgoing-before.result.now)
-    c.outgoing.result.now c.rest-queued.result.now
+    spells_queued x.half (queueing x.half.end (msg ∷ []))
     (c.outgoing.ensures.value ∙ ap (λ (a : HalfState). a.outbox) now) (c.belief-context.ensures ∙ ap (λ (a : HalfState). belief a.end) h.end)
     (c.sending-order.ensures ∙ ap (λ (a : HalfState). a.end.sends) h.end)
     (ap (length {A = ℕ}) (c.outgoing-before.ensures.value ∙ ap (λ (a : HalfState). a.outbox) h.end)) c.rest-queued.ensures (well may, tt) in (

@@ -1,0 +1,5 @@
+use Rattle.bt_end.proofs.Others.{not_fetching}
+use Rattle.bt_end.proofs.part.Part.disconnect.Goals as goal
+
+pub returns-in_default : goal.returns-in_default
+returns-in_default g c = (not_fetching c.args.self.now c.in_default.not-Fetching).kept
