@@ -8,18 +8,27 @@ use crate::length::ben_len;
 use crate::tree::{ByteString, Pairs, Value, Values};
 use itoa::Buffer;
 use std::alloc::{AllocError, Global};
-use thiserror::Error;
+use std::fmt::{self, Display};
 
 /// Why a value isn't written.
-#[derive(Clone, Copy, Debug, PartialEq, Eq, Error)]
+#[derive(Clone, Copy, Debug, PartialEq, Eq)]
 pub enum SpellError {
     /// The value doesn't fit: a string or a key is too long, or it nests too deep.
-    #[error("the value is beyond the limits of bencoding")]
     OutOfRange,
     /// The room for the spelling was refused.
-    #[error("out of memory")]
     Memory,
 }
+
+impl Display for SpellError {
+    fn fmt<W: fmt::Write>(&self, f: &mut fmt::Formatter<W>) -> fmt::Result {
+        f.write_str(match self {
+            SpellError::OutOfRange => "the value is beyond the limits of bencoding",
+            SpellError::Memory => "out of memory",
+        })
+    }
+}
+
+impl std::error::Error for SpellError {}
 
 impl From<AllocError> for SpellError {
     ghost use Rattle.bt_bencode.specs.declared.spelling.SpellError.TheVariants.{Memory};
