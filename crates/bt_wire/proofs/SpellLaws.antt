@@ -171,15 +171,20 @@ pub fits : (c : Context) (o : Order) (s : ℕ) (m : Message) → c.limit < 2 ^ 3
 fits c o s m lt said = omega (arith, said.legal.short)
 
 -- no spelling begins another
-pub one_spelling : {c : Context} {o p : Order} {s t : ℕ} {m n : Message} (x y : List ℕ) → c.limit < 2 ^ 32 → IsSaid c o s m → IsSaid c p t n
+pub none_begins : {c : Context} {o p : Order} {s t : ℕ} {m n : Message} (x y : List ℕ) → c.limit < 2 ^ 32 → IsSaid c o s m → IsSaid c p t n
     → spell c m ++ x ≡ spell c n ++ y → (m ≡ n) × (x ≡ y)
-one_spelling {c} {o} {p} {s} {t} {m} {n} x y lt q r e =
+none_begins {c} {o} {p} {s} {t} {m} {n} x y lt q r e =
     let first = spelled_first c m x (fits c o s m lt q) in
     let second = spelled_first c n y (fits c p t n lt r) in
     let same : spell c m ≡ spell c n = sym first.window ∙ ap window e ∙ second.window in (
       one_body c m n q.legal.shaped q.in_range r.legal.shaped r.in_range (ap (drop 4) same),
       sym first.rest ∙ ap (λ (w : List ℕ). drop (window_length w) w) e ∙ second.rest,
     )
+
+-- the same, with every value written
+pub one_spelling : (c : Context) (o p : Order) (s t : ℕ) (m n : Message) (x y : List ℕ) → c.limit < 2 ^ 32 → IsSaid c o s m → IsSaid c p t n
+    → spell c m ++ x ≡ spell c n ++ y → (m ≡ n) × (x ≡ y)
+one_spelling c o p s t m n x y lt q r e = none_begins x y lt q r e
 
 -- ---- what the table of ids says of a message is what its value says
 

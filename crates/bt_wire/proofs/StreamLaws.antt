@@ -12,7 +12,7 @@ use Rattle.bt_wire.specs.Messages.{spell, order_after}
 use Rattle.bt_wire.specs.Faults.{is_whole, IsFault}
 use Rattle.bt_wire.specs.Legal.{IsSaid}
 use Rattle.bt_wire.specs.Streams.{Says, Begins, IsLongest, orders_after, placed, Outcome, IsOutcome, refusal_at, with_item}
-use Rattle.bt_wire.proofs.SpellLaws.{fits, spelled_first, one_spelling}
+use Rattle.bt_wire.proofs.SpellLaws.{fits, spelled_first, none_begins}
 use Rattle.bt_wire.proofs.WindowLaws.{fault-spell, one_fault, fault_stays}
 
 -- no message is read at b: it has a fault, or isn't whole
@@ -79,15 +79,15 @@ longest_with : {c : Context} {o : Order} {s : ℕ} {b tail : List ℕ} {m : Mess
 longest_with lt said parts h [] t k = omega arith
 longest_with {c} {o} {s} {b} {tail} {m} lt said parts h (n ∷ ns) t k =
     let front = first c o s b n ns t k in
-    let same = one_spelling (front.rest ++ t) tail lt front.said said (sym front.parts ∙ parts) in
+    let same = none_begins (front.rest ++ t) tail lt front.said said (sym front.parts ∙ parts) in
     let P : Message → Type 0 = λ x. Says c (order_after o x) (s + length (spell c x)) ns front.rest in
     omega (arith, h.longest ns t (front.rest, sym same.1, subst P same.0 front.says))
 
 -- one message, and what comes after it
-pub one_more : {c : Context} {o : Order} {s number : ℕ} {b tail : List ℕ} {m : Message} {v : Outcome} → c.limit < 2 ^ 32 → IsSaid c o s m
+pub message_then : {c : Context} {o : Order} {s number : ℕ} {b tail : List ℕ} {m : Message} {v : Outcome} → c.limit < 2 ^ 32 → IsSaid c o s m
     → b ≡ spell c m ++ tail
     → IsOutcome c (order_after o m) (s + length (spell c m)) (number + 1) tail v → IsOutcome c o s number b (with_item s (items.Message m) v)
-one_more {c} {o} {s} {number} {b} {tail} {m} {v} lt said parts h =
+message_then {c} {o} {s} {number} {b} {tail} {m} {v} lt said parts h =
     let begins = h.longest.begins in
     record {
       messages = m ∷ h.messages;
@@ -107,6 +107,12 @@ one_more {c} {o} {s} {number} {b} {tail} {m} {v} lt said parts h =
       is_fault = h.is_fault;
       refusal = h.refusal;
     }
+
+-- the same, with every value written
+pub one_more : (c : Context) (o : Order) (s number : ℕ) (b tail : List ℕ) (m : Message) (v : Outcome) → c.limit < 2 ^ 32 → IsSaid c o s m
+    → b ≡ spell c m ++ tail
+    → IsOutcome c (order_after o m) (s + length (spell c m)) (number + 1) tail v → IsOutcome c o s number b (with_item s (items.Message m) v)
+one_more c o s number b tail m v lt said parts h = message_then lt said parts h
 
 -- ---- one outcome
 
@@ -130,7 +136,7 @@ front_list c o s (m ∷ ms) [] b lt p q le = absurd (omega arith)
 front_list {r} {t} c o s (m ∷ ms) (n ∷ ns) b lt p q le =
     let left = first c o s b m ms r p in
     let right = first c o s b n ns t q in
-    let same = one_spelling (right.rest ++ t) (left.rest ++ r) lt right.said left.said (sym right.parts ∙ left.parts) in
+    let same = none_begins (right.rest ++ t) (left.rest ++ r) lt right.said left.said (sym right.parts ∙ left.parts) in
     let P : Message → Type 0 = λ x. Says c (order_after o x) (s + length (spell c x)) ns right.rest in
     let after = front_list c (order_after o m) (s + length (spell c m)) ms ns (left.rest ++ r) lt (left.rest, refl, left.says) (
       right.rest,
@@ -210,7 +216,7 @@ longest_by o s y (m ∷ ms) lt says parts stop [] u k = omega arith
 longest_by {c} {t} {f} o {b} s y (m ∷ ms) lt says parts stop (n ∷ ns) u k =
     let mine = first c o s b m ms t (y, parts, says) in
     let other = first c o s b n ns u k in
-    let same = one_spelling (other.rest ++ u) (mine.rest ++ t) lt other.said mine.said (sym other.parts ∙ mine.parts) in
+    let same = none_begins (other.rest ++ u) (mine.rest ++ t) lt other.said mine.said (sym other.parts ∙ mine.parts) in
     let P : Message → Type 0 = λ x. Says c (order_after o x) (s + length (spell c x)) ns other.rest in
     let at : s + length y ≡ s + length (spell c m) + length mine.rest = omega (
       arith,

@@ -16,7 +16,7 @@ use Rattle.bt_wire.specs.Messages.{spell, order_after}
 use Rattle.bt_wire.specs.Streams.{Outcome, IsOutcome, IsVerdict, awaiting, with_item}
 use Rattle.bt_wire.proofs.HandLaws.{hand-length}
 use Rattle.bt_wire.proofs.SpellLaws.{length-spell}
-use Rattle.bt_wire.proofs.StreamLaws.{at_rest, nothing_said, one_more}
+use Rattle.bt_wire.proofs.StreamLaws.{at_rest, nothing_said, message_then}
 use Rattle.bt_wire.proofs.VerdictLaws.{by_fault}
 
 -- ---- where no message is read the walk ends
@@ -52,7 +52,7 @@ message_more {c} {o} {p} {s} {number} {n} {d} {m} {v} at all lt e q after h =
     let Q : Order → Type 0 = λ z. IsOutcome c z (s + n) (number + 1) (drop (at + n) all) v in
     let R : ℕ → Type 0 = λ k. IsOutcome c (order_after o m) (s + k) (number + 1) (drop (at + n) all) v in
     let T : List ℕ → Type 0 = λ z. IsOutcome c (order_after o m) (s + length (spell c m)) (number + 1) z v in
-    one_more lt here.said here.parts
+    message_then lt here.said here.parts
     (subst T (sym (drop-drop n at all)) (subst R here.size (subst Q after h)))
 
 -- ---- the handshake

@@ -15,4 +15,4 @@ returns-clause-last c = λ d o s b x y f m lt e said same.
     absurd cc
 
 pub returns-clause-spelling : goal.returns-clause-spelling
-returns-clause-spelling c = λ _ _ _ _ _ _ _ x y. one_spelling x y
+returns-clause-spelling c = one_spelling
