@@ -10,7 +10,7 @@ use Rattle.bt_bencode.specs.Readable.{first_seen}
 use Rattle.bt_bencode.specs.Unique.{regroup}
 use Rattle.bt_bencode.proofs.Heads.{head_of, string_at}
 use Rattle.bt_bencode.proofs.Skips.{pair_at}
-use Rattle.bt_bencode.proofs.Walk.{integer_at, dictionary_at}
+use Rattle.bt_bencode.proofs.Walk.{KeyInFront, integer_at, dictionary_at}
 
 -- ---- a value
 
@@ -93,14 +93,13 @@ seen_first here (Some x) b t o e = refl
 seen_first true None b t o e = ap (λ (y : Bool). Some y) (sym e)
 seen_first false None b t o e = refl
 
-module _ (ps : Pairs) (more rest key value : List ℕ) (short : length key ≤ longest_string) (split : rest ≡ ben_string key ++ value)
-    (other : get_or rest 0 0 ≢ 101) (next : List ℕ) where
+module _ (ps : Pairs) (more : List ℕ) {rest key value : List ℕ} (front : KeyInFront rest key value) (next : List ℕ) where
   pub bytes_step : (all : Bool) (number : Option ℤ)
       → ((u : Tree) (m : List ℕ) → InRange u → value ≡ ben u ++ m → (unsorted u ≡ None) × (next ≡ m) × (number ≡ integer_of u)) → BytesLeft ps more all rest
       → BytesLeft ps more (all && is_byte number) next
-  bytes_step all number walks (no_pairs, h, is, e) = absurd (other (head_of rest 101 more is))
+  bytes_step all number walks (no_pairs, h, is, e) = absurd (front.other (head_of rest 101 more is))
   bytes_step all number walks (pair k u us, h, is, e) =
-      let p = pair_at rest key value short split k u us more h is in
+      let p = pair_at rest key value front.short front.split k u us more h is in
       let w = walks u (ben_pairs us ++ 101 ∷ more) h.1 p.1 in
       let seen : is_byte (integer_of u) ≡ is_byte number = ap is_byte (sym w.2) in
       (us, h.2, w.1, e ∙ rw seen (and_assoc all (is_byte number) (are_bytes us)))
@@ -108,8 +107,8 @@ module _ (ps : Pairs) (more rest key value : List ℕ) (short : length key ≤ l
   pub map_step : (wanted : List ℕ) (seen : Option Bool) (b : Bool)
       → ((u : Tree) (m : List ℕ) → InRange u → value ≡ ben u ++ m → (unsorted u ≡ None) × (next ≡ m) × (b ≡ is_byte_map u)) → MapLeft wanted ps more seen rest
       → MapLeft wanted ps more (first_seen seen (if bytes_eq key wanted then Some b else None)) next
-  map_step wanted seen b walks (no_pairs, h, is, e) = absurd (other (head_of rest 101 more is))
+  map_step wanted seen b walks (no_pairs, h, is, e) = absurd (front.other (head_of rest 101 more is))
   map_step wanted seen b walks (pair k u us, h, is, e) =
-      let p = pair_at rest key value short split k u us more h is in
+      let p = pair_at rest key value front.short front.split k u us more h is in
       let w = walks u (ben_pairs us ++ 101 ∷ more) h.1 p.1 in
       (us, h.2, w.1, e ∙ rw (← p.0) (seen_first (bytes_eq key wanted) seen b u (value_at wanted us) w.2))

@@ -111,9 +111,9 @@ leads_byte payload at e e' s s' h goes =
     rw (first_byte payload at (at + 1) h (omega arith), none) goes
 
 -- one after the other
-pub leads_on : (payload : List ℕ) (at m end : ℕ) (e e₁ e₂ : Expect) (s s₁ s₂ : Stack) → at ≤ m → m ≤ end → Leads payload at e s m e₁ s₁
+pub leads_on : {e e₁ e₂ : Expect} {s s₁ s₂ : Stack} (payload : List ℕ) (at m end : ℕ) → at ≤ m → m ≤ end → Leads payload at e s m e₁ s₁
     → Leads payload m e₁ s₁ end e₂ s₂ → Leads payload at e s end e₂ s₂
-leads_on payload at m end e e₁ e₂ s s₁ s₂ low high first second = record {
+leads_on {e} {s = s} payload at m end low high first second = record {
   live = second.live;
   forth = λ r h. second.forth r (first.forth (take (end - m) (drop m payload) ++ r) (subst (May e s) (apart r) h));
   back = λ r h. subst (May e s) (sym (apart r)) (first.back (take (end - m) (drop m payload) ++ r) (second.back r h));
@@ -161,8 +161,7 @@ string_goes_on payload at i n so h d some low = record {
   following = omega (arith, so.following);
   within = omega arith;
   first = so.first;
-  leads = λ part s. leads_on payload (at + 1) i (i + 1) (expect.Length part (get_or payload at 0 - 48)) (expect.Length part n)
-      (expect.Length part (n * 10 + (get_or payload i 0 - 48))) s s s (omega (arith, so.following)) (omega arith) (so.leads part s)
+  leads = λ part s. leads_on payload (at + 1) i (i + 1) (omega (arith, so.following)) (omega arith) (so.leads part s)
       (leads_byte payload i (expect.Length part n) (expect.Length part (n * 10 + (get_or payload i 0 - 48))) s s h
       (goes_length s part n (get_or payload i 0) d some (omega arith)));
 }
@@ -180,18 +179,16 @@ module _ (payload : List ℕ) (at i n : ℕ) (so : StringRead payload at i n) (h
     (room : n ≤ length payload - (i + 1)) where
   -- a string whose first digit has been read
   string_after : (part : Role) (s : Stack) → Leads payload (at + 1) (expect.Length part (get_or payload at 0 - 48)) s (i + 1 + n) (after_string part) s
-  string_after part s = leads_on payload (at + 1) i (i + 1 + n) (expect.Length part (get_or payload at 0 - 48)) (expect.Length part n) (after_string part)
-      s s s (omega (arith, so.following)) (omega arith) (so.leads part s) (text_whole payload i n part s h colon room)
+  string_after part s = leads_on payload (at + 1) i (i + 1 + n) (omega (arith, so.following)) (omega arith) (so.leads part s)
+      (text_whole payload i n part s h colon room)
 
   pub string_value : (s : Stack) → Leads payload at expect.Value s (i + 1 + n) expect.Item s
-  string_value s = leads_on payload at (at + 1) (i + 1 + n) expect.Value (expect.Length role.Item (get_or payload at 0 - 48)) expect.Item s s s
-      (omega arith) (omega (arith, so.following))
+  string_value s = leads_on payload at (at + 1) (i + 1 + n) (omega arith) (omega (arith, so.following))
       (leads_byte payload at expect.Value (expect.Length role.Item (get_or payload at 0 - 48)) s s (omega (arith, so.following))
       (goes_string s (get_or payload at 0) so.first)) (string_after role.Item s)
 
   pub string_key : (s : Stack) → Leads payload at expect.Item (container.Dict ∷ s) (i + 1 + n) expect.Value (container.Dict ∷ s)
-  string_key s = leads_on payload at (at + 1) (i + 1 + n) expect.Item (expect.Length role.Key (get_or payload at 0 - 48)) expect.Value (container.Dict ∷ s)
-      (container.Dict ∷ s) (container.Dict ∷ s) (omega arith) (omega (arith, so.following))
+  string_key s = leads_on payload at (at + 1) (i + 1 + n) (omega arith) (omega (arith, so.following))
       (leads_byte payload at expect.Item (expect.Length role.Key (get_or payload at 0 - 48)) (container.Dict ∷ s) (container.Dict ∷ s)
       (omega (arith, so.following)) (goes_key s (get_or payload at 0) (λ e. omega (arith, so.first)) so.first)) (string_after role.Key (container.Dict ∷ s))
 
@@ -221,8 +218,7 @@ digits_go_on payload at i n so h d some low = record {
   following = omega (arith, so.following);
   within = omega arith;
   first = so.first;
-  leads = λ side s. leads_on payload (at + 1) i (i + 1) (expect.Digits side (get_or payload at 0 - 48)) (expect.Digits side n)
-      (expect.Digits side (n * 10 + (get_or payload i 0 - 48))) s s s (omega (arith, so.following)) (omega arith) (so.leads side s)
+  leads = λ side s. leads_on payload (at + 1) i (i + 1) (omega (arith, so.following)) (omega arith) (so.leads side s)
       (leads_byte payload i (expect.Digits side n) (expect.Digits side (n * 10 + (get_or payload i 0 - 48))) s s h
       (goes_digits s side n (get_or payload i 0) d some (keeps_limit side (n * 10 + (get_or payload i 0 - 48)) (omega arith))));
 }
@@ -244,31 +240,28 @@ few_digits n k h low =
 module _ (payload : List ℕ) (at i n : ℕ) (so : DigitsRead payload at i n) (h : i < length payload) (stop : get_or payload i 0 ≡ 101) where
   -- an integer whose first digit has been read
   digits_after : (side : Sign) (s : Stack) → Leads payload (at + 1) (expect.Digits side (get_or payload at 0 - 48)) s (i + 1) expect.Item s
-  digits_after side s = leads_on payload (at + 1) i (i + 1) (expect.Digits side (get_or payload at 0 - 48)) (expect.Digits side n) expect.Item s s s
-      (omega (arith, so.following)) (omega arith) (so.leads side s)
+  digits_after side s = leads_on payload (at + 1) i (i + 1) (omega (arith, so.following)) (omega arith) (so.leads side s)
       (leads_byte payload i (expect.Digits side n) expect.Item s s h (rw stop (goes_integer_end s side n)))
 
   pub digits_plus : (s : Stack) → Leads payload at expect.Integer s (i + 1) expect.Item s
-  digits_plus s = leads_on payload at (at + 1) (i + 1) expect.Integer (expect.Digits sign.Plus (get_or payload at 0 - 48)) expect.Item s s s (omega arith)
-      (omega (arith, so.following))
+  digits_plus s = leads_on payload at (at + 1) (i + 1) (omega arith) (omega (arith, so.following))
       (leads_byte payload at expect.Integer (expect.Digits sign.Plus (get_or payload at 0 - 48)) s s (omega (arith, so.following))
       (goes_first s (get_or payload at 0) so.first)) (digits_after sign.Plus s)
 
   pub digits_minus : (s : Stack) → get_or payload at 0 ≢ 48 → Leads payload at expect.Negative s (i + 1) expect.Item s
-  digits_minus s other = leads_on payload at (at + 1) (i + 1) expect.Negative (expect.Digits sign.Minus (get_or payload at 0 - 48)) expect.Item s s s
-      (omega arith) (omega (arith, so.following))
+  digits_minus s other = leads_on payload at (at + 1) (i + 1) (omega arith) (omega (arith, so.following))
       (leads_byte payload at expect.Negative (expect.Digits sign.Minus (get_or payload at 0 - 48)) s s (omega (arith, so.following))
       (goes_first_negative s (get_or payload at 0) so.first other)) (digits_after sign.Minus s)
 
 module _ (payload : List ℕ) (at end : ℕ) (s : Stack) (h : at < length payload) (before : at < end) where
   -- a `-`, and what follows
   pub after_minus : get_or payload at 0 ≡ 45 → Leads payload (at + 1) expect.Negative s end expect.Item s → Leads payload at expect.Integer s end expect.Item s
-  after_minus is rest = leads_on payload at (at + 1) end expect.Integer expect.Negative expect.Item s s s (omega arith) (omega arith)
+  after_minus is rest = leads_on payload at (at + 1) end (omega arith) (omega arith)
       (leads_byte payload at expect.Integer expect.Negative s s h (rw is (goes_minus s))) rest
 
   -- an `i`, and what follows
   pub after_i : get_or payload at 0 ≡ 105 → Leads payload (at + 1) expect.Integer s end expect.Item s → Leads payload at expect.Value s end expect.Item s
-  after_i is rest = leads_on payload at (at + 1) end expect.Value expect.Integer expect.Item s s s (omega arith) (omega arith)
+  after_i is rest = leads_on payload at (at + 1) end (omega arith) (omega arith)
       (leads_byte payload at expect.Value expect.Integer s s h (goes_integer s (get_or payload at 0) is)) rest
 
   -- where the innermost is a list, an item is a value

@@ -1,6 +1,7 @@
 //! Values into bytes. Only a value that fits is written, so writing recurses by no more than 32 levels.
 ghost use Rattle.std.specs.Prelude.{◌≡◌, ◌↔◌, ◌++◌, Err, OnOk, IfOk};
-ghost use Rattle.bt_bencode.specs.Bencoding.{ben, ben_all, ben_pairs, ben_string, Fits};
+ghost use Rattle.bt_bencode.specs.Bencoding.{ben, ben_string, Fits};
+ghost use Rattle.bt_bencode.specs.Trees.{integer, list, dictionary};
 ghost use Rattle.bt_bencode.specs.Views.{tree_of};
 
 use crate::fitting::fits;
@@ -8,18 +9,27 @@ use crate::length::ben_len;
 use crate::tree::{ByteString, Pairs, Value, Values};
 use itoa::Buffer;
 use std::alloc::{AllocError, Global};
-use thiserror::Error;
+use std::fmt::{self, Display};
 
 /// Why a value isn't written.
-#[derive(Clone, Copy, Debug, PartialEq, Eq, Error)]
+#[derive(Clone, Copy, Debug, PartialEq, Eq)]
 pub enum SpellError {
     /// The value doesn't fit: a string or a key is too long, or it nests too deep.
-    #[error("the value is beyond the limits of bencoding")]
     OutOfRange,
     /// The room for the spelling was refused.
-    #[error("out of memory")]
     Memory,
 }
+
+impl Display for SpellError {
+    fn fmt<W: fmt::Write>(&self, f: &mut fmt::Formatter<W>) -> fmt::Result {
+        f.write_str(match self {
+            SpellError::OutOfRange => "the value is beyond the limits of bencoding",
+            SpellError::Memory => "out of memory",
+        })
+    }
+}
+
+impl std::error::Error for SpellError {}
 
 impl From<AllocError> for SpellError {
     ghost use Rattle.bt_bencode.specs.declared.spelling.SpellError.TheVariants.{Memory};
@@ -41,51 +51,49 @@ fn push_string(out: &mut Vec<u8>, s: &ByteString) -> Result<(), AllocError>
     Ok(())
 }
 
+fn push_int(out: &mut Vec<u8>, n: i64) -> Result<(), AllocError>
+    ensures { OnOk result (out.new.items ≡ out.old.items ++ ben (integer n)) }
+{
+    out.push(b'i')?;
+    out.extend_from_slice(Buffer::new().format(n).as_bytes())?;
+    out.push(b'e')?;
+    Ok(())
+}
+
 #[cycle(push_value)]
 fn push_value(out: &mut Vec<u8>, value: &Value) -> Result<(), AllocError>
     ensures { OnOk result (out.new.items ≡ out.old.items ++ ben (tree_of value.now)) }
 {
     match value {
-        Value::Int(n) => {
-            out.push(b'i')?;
-            out.extend_from_slice(Buffer::new().format(*n).as_bytes())?;
-            out.push(b'e')?;
-            Ok(())
-        }
+        Value::Int(n) => push_int(out, *n),
         Value::Bytes(s) => push_string(out, s),
-        Value::List(values) => {
-            out.push(b'l')?;
-            push_all(out, values)?;
-            out.push(b'e')?;
-            Ok(())
-        }
-        Value::Dict(pairs) => {
-            out.push(b'd')?;
-            push_pairs(out, pairs)?;
-            out.push(b'e')?;
-            Ok(())
-        }
+        Value::List(values) => push_list(out, values),
+        Value::Dict(pairs) => push_dict(out, pairs),
     }
 }
 
 #[cycle(push_value)]
-fn push_all(out: &mut Vec<u8>, values: &Values) -> Result<(), AllocError>
-    ensures { OnOk result (out.new.items ≡ out.old.items ++ ben_all values.now) }
+fn push_list(out: &mut Vec<u8>, values: &Values) -> Result<(), AllocError>
+    ensures { OnOk result (out.new.items ≡ out.old.items ++ ben (list values.now)) }
 {
+    out.push(b'l')?;
     for value in &values.values {
         push_value(out, value)?;
     }
+    out.push(b'e')?;
     Ok(())
 }
 
 #[cycle(push_value)]
-fn push_pairs(out: &mut Vec<u8>, pairs: &Pairs) -> Result<(), AllocError>
-    ensures { OnOk result (out.new.items ≡ out.old.items ++ ben_pairs pairs.now) }
+fn push_dict(out: &mut Vec<u8>, pairs: &Pairs) -> Result<(), AllocError>
+    ensures { OnOk result (out.new.items ≡ out.old.items ++ ben (dictionary pairs.now)) }
 {
+    out.push(b'd')?;
     for (key, value) in &pairs.pairs {
         push_string(out, key)?;
         push_value(out, value)?;
     }
+    out.push(b'e')?;
     Ok(())
 }
 

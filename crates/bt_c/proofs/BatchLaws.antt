@@ -39,9 +39,9 @@ pub record IsSoFar (r : BtReader) (b : List ℕ) (s : BtReader) (old new : List 
   pub rest : drop count new ≡ drop count old
 
 -- after the call that gives no item
-pub stopped : (r : BtReader) (b : List ℕ) (s t : BtReader) (old new : List BtItem) (count used n : ℕ) (i : BtItem) → IsSoFar r b s old new count used
+pub stopped : {r : BtReader} {b : List ℕ} {s t : BtReader} {old new : List BtItem} {count used n : ℕ} {i : BtItem} → IsSoFar r b s old new count used
     → count < length new → Steps s (drop used b) t i n → n ≢ 1 → IsBatch r b t old (slice_set new count i) count used n
-stopped r b s t old new count used n i so_far lt step other =
+stopped {r} {b} {s} {t} {old} {new} {count} {used} {n} {i} so_far lt step other =
     let same = stays s (drop used b) t i n step other in
     let P : List BtItem → Type 0 = λ z. Nexts r b z t (drop used b) in
     let Q : BtReader → Type 0 = λ z. Nexts r b (take count new) z (drop used b) in
@@ -60,9 +60,9 @@ stopped r b s t old new count used n i so_far lt step other =
     }
 
 -- after a call that gives one
-pub further : (r : BtReader) (b : List ℕ) (s t : BtReader) (old new : List BtItem) (count used n : ℕ) (i : BtItem) → IsSoFar r b s old new count used
+pub further : {r : BtReader} {b : List ℕ} {s t : BtReader} {old new : List BtItem} {count used n : ℕ} {i : BtItem} → IsSoFar r b s old new count used
     → count < length new → Steps s (drop used b) t i n → n ≡ 1 → IsSoFar r b t old (slice_set new count i) (count + 1) (used + i.size)
-further r b s t old new count used n i so_far lt step one =
+further {r} {b} {s} {t} {old} {new} {count} {used} {n} {i} so_far lt step one =
     let size = step_size s (drop used b) t i n step one in
     let P : ℕ → Type 0 = λ k. Steps s (drop used b) t i k in
     let Q : List BtItem → Type 0 = λ z. Nexts r b z t (drop (used + i.size) b) in

@@ -219,11 +219,11 @@ pub record Says (x : BtVerdict) (b : List ℕ) (i : BtItem) (n count : ℕ) : Ty
   pub end : n ≡ 3 → (x.message ≡ count - 1) × (x.at ≡ length b) × (x.reason ≡ 0)
   pub refused : n ≢ 3 → (x.message ≡ count) × (x.at ≡ min (i.start + i.size) (2 ^ 64 - 1)) × (x.reason ≡ i.reason)
 
-pub checked : (own : BtOwn) (s t : BtReader) (b c : List ℕ) (i : BtItem) (xs : List (ℕ × Item)) (n count : ℕ) (x : BtVerdict) → own.limit < 2 ^ 32
+pub checked : {s t : BtReader} {b c : List ℕ} {i : BtItem} {n count : ℕ} {x : BtVerdict} (own : BtOwn) (xs : List (ℕ × Item)) → own.limit < 2 ^ 32
     → Reads (new_reader own) b xs s c → length xs ≡ count
     → Ends s c t i n → n ≢ 1 → Says x b i n count → (v : Outcome) × IsVerdict (own_of own) b v × ShowsVerdict x b v n
-checked own s t b c i xs n count x lt reads counted (Ends.item y gives) other says = absurd (other refl)
-checked own s t b c i xs n count x lt reads counted (Ends.refused f fault shows same) other says =
+checked own xs lt reads counted (Ends.item y gives) other says = absurd (other refl)
+checked {s} {b} {c} {x} own xs lt reads counted (Ends.refused f fault shows same) other says =
     let found = run xs (new_reader own) s b c (Some f) lt refl reads fault in
     let v = found.0 in
     let told = says.refused (λ e. omega (arith, e)) in
@@ -238,7 +238,7 @@ checked own s t b c i xs n count x lt reads counted (Ends.refused f fault shows 
         told.2 ∙ shows.reason,
       ),
     )
-checked own s t b c i xs n count x lt reads counted (Ends.inside lacks unfinished shows same) other says =
+checked {s} {b} {c} {x} own xs lt reads counted (Ends.inside lacks unfinished shows same) other says =
     let found = run xs (new_reader own) s b c None lt refl reads lacks in
     let v = found.0 in
     let told = says.refused (λ e. omega (arith, e)) in
@@ -254,7 +254,7 @@ checked own s t b c i xs n count x lt reads counted (Ends.inside lacks unfinishe
         told.2 ∙ shows.reason,
       ),
     )
-checked own s t b c i xs n count x lt reads counted (Ends.end lacks closed same) other says =
+checked {s} {b} {c} {x} own xs lt reads counted (Ends.end lacks closed same) other says =
     let found = run xs (new_reader own) s b c None lt refl reads lacks in
     let v = found.0 in
     let told = says.end refl in

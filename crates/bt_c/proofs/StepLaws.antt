@@ -35,15 +35,15 @@ lacking r b s i _ (Steps.item x gives) e = absurd (omega (arith, e))
 lacking r b s i _ (Steps.refused f fault shows same) e = absurd (omega (arith, e))
 
 -- each other one stands at the stream's end too
-pub further : (r : BtReader) (b : List ℕ) (s : BtReader) (i : BtItem) (n : ℕ) → Steps r b s i n → (n ≡ 0 → ⊥) → Ends r b s i n
-further r b s i _ (Steps.more lacks same) e = absurd (e refl)
-further r b s i _ (Steps.item x gives) e = Ends.item x gives
-further r b s i _ (Steps.refused f fault shows same) e = Ends.refused f fault shows same
+pub further : {r : BtReader} {b : List ℕ} {s : BtReader} {i : BtItem} {n : ℕ} → Steps r b s i n → (n ≡ 0 → ⊥) → Ends r b s i n
+further (Steps.more lacks same) e = absurd (e refl)
+further (Steps.item x gives) e = Ends.item x gives
+further (Steps.refused f fault shows same) e = Ends.refused f fault shows same
 
 -- at the stream's end, where bytes are lacking
-pub stopped : (r : BtReader) (b : List ℕ) (s : BtReader) (i j : BtItem) (n k : ℕ) → Steps r b s i n → n ≡ 0 → (k ≡ 2) ⊎ (k ≡ 3)
+pub stopped : {r : BtReader} {b : List ℕ} {s : BtReader} {i j : BtItem} {n k : ℕ} → Steps r b s i n → n ≡ 0 → (k ≡ 2) ⊎ (k ≡ 3)
     → (k ≡ 3 → (is_on s.opened && (length b == 0)) ≡ true) → (k ≡ 2 → ((is_on s.opened && (length b == 0)) ≡ false) × IsInside s (length b) j) → Ends r b s j k
-stopped r b s i j n k steps none either end inside = go either where
+stopped {r} {b} {s} {i} {j} {n} {k} steps none either end inside = go either where
   lacks : Lacks r b
   lacks = (lacking r b s i n steps none).0
 
@@ -78,12 +78,12 @@ over_size c o r w s i _ (GoesOver.item msg read size id start shows extended ord
 over_size c o r w s i _ (GoesOver.refused f fault shows same) e = absurd (omega (arith, e))
 
 -- the first n bytes are a message
-pub over_opened : (r s : BtReader) (b : List ℕ) (i : BtItem) (n k : ℕ) (c : Context) (o : Order) → is_on r.opened ≡ true → c ≡ context_of r → o
+pub over_opened : {r s : BtReader} {b : List ℕ} {i : BtItem} {n k : ℕ} {c : Context} {o : Order} → is_on r.opened ≡ true → c ≡ context_of r → o
     ≡ order_in r.past → r.start < 2 ^ 62 → n ≤ length b → IsWhole c o b n
     → GoesOver c o r (take n b) s i k → Steps r b s i k
-over_opened r s b i n _ c o opened k e lt le whole (GoesOver.refused f fault shows same) =
+over_opened {r} {b} {i} {n} {c} {o} opened k e lt le whole (GoesOver.refused f fault shows same) =
     subst (λ z. Steps r b z i 2) (sym same) (fault_opened r b i f c o opened k e (front_fault c o r.start b n f lt whole fault) shows)
-over_opened r s b i n _ c o opened k e lt le whole (GoesOver.item msg read size id start shows extended order same) =
+over_opened {r} {s} {b} {i} {n} {c} {o} opened k e lt le whole (GoesOver.item msg read size id start shows extended order same) =
     let long : length (take n b) ≡ n = length-take-le n b le in
     let begins = front_read c o r.start b n msg lt le read in
     let P : Order → Type 0 = λ z. BeginsBy c z r.start b msg n in

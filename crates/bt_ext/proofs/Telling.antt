@@ -77,9 +77,10 @@ rising_ref_step front done earlier last ps left x g p h d =
     let new = p x.0.now h in
     ref_step front done earlier (x.0.now ∷ earlier) ps left x g (λ other. refl) (rw new d)
 
-pub rising_step : (front done : Entries) (earlier : List (List ℕ)) (last : Option (List ℕ)) (items : List (List ℕ × Value)) (i : ℕ) (p : List ℕ × Value)
+pub rising_step : {done : Entries} {p : List ℕ × Value} (front : Entries) (earlier : List (List ℕ)) (last : Option (List ℕ)) (items : List (List ℕ × Value))
+    (i : ℕ)
     → i < length items → p ≡ get_or items i p → ArePassed last earlier → is_above last p.0 ≡ true → done ≡ front ++ told p.0 (id_value (tree_of p.1))
     → front ++ told_by earlier (pairs_of (drop i items)) ≡ done ++ told_by (p.0 ∷ earlier) (pairs_of (drop (i + 1) items))
-rising_step front done earlier last items i p lt is passed h d =
+rising_step {done} {p} front earlier last items i lt is passed h d =
     let new = passed p.0 h in
     pairs_step front done earlier (p.0 ∷ earlier) items i p lt is (λ other. refl) (rw new d)

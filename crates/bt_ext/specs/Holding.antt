@@ -1,9 +1,12 @@
--- How the code holds names and entries while it reads an `m`, for the contracts of functions that are not public.
-use Rattle.std.specs.Prelude.{◌≡◌, ℕ, ◌+◌, ◌*◌, ◌%◌, ◌<◌, List, [], ◌∷◌, length, map, take, slice_index_or, Bool, true, false, Option, Some, None, ◌||◌}
+-- How the code holds names, entries and pairs while it reads or makes a dictionary, for the contracts of functions that are not public.
+use Rattle.std.specs.Prelude.{◌≡◌, ℕ, pos, codes, ◌+◌, ◌*◌, ◌%◌, ◌<◌, List, [], ◌∷◌, length, map, take, slice_index_or, Bool, true, false, Option, Some, None}
+use Rattle.std.specs.Prelude.{◌||◌}
 use Rattle.std.specs.Borrow.{Bor}
 use Rattle.std.specs.BTreeSet.{BTreeSet}
 use Rattle.std.specs.List.{list_any}
 use Rattle.std.specs.Str.{bytes_eq}
+use Rattle.bt_bencode.specs.declared.tree.Value.{Value}
+use Rattle.bt_bencode.specs.declared.tree.Value.TheVariants as value
 use Rattle.bt_ext.specs.Tables.{Entries, id_of_name}
 
 -- the names in a set, by their bytes
@@ -35,3 +38,13 @@ mark_of name = mark_from 0 name
 -- there are 16,384 marks, and a name whose mark isn't set is none of the entries'
 abbrev pub AreMarks : List Bool → Entries → Type 0
 AreMarks marks es = (length marks ≡ 16384) × ((name : List ℕ) → slice_index_or marks (mark_of name) false ≡ false → id_of_name name es ≡ None)
+
+-- a pair of a name and its id, if it has one
+abbrev pub id_items : List ℕ → Option ℕ → List (List ℕ × Value)
+id_items name None = []
+id_items name (Some id) = (name, value.Int (pos id)) ∷ []
+
+-- the pair of the size of served metadata, if there is one
+abbrev pub size_items : Option ℕ → List (List ℕ × Value)
+size_items None = []
+size_items (Some size) = (codes "metadata_size", value.Int (pos size)) ∷ []

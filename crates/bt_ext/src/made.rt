@@ -1,31 +1,77 @@
 //! The dictionaries that an end writes (BEP 9, BEP 10). Their keys are sorted.
-ghost use Rattle.std.specs.Prelude.{◌≡◌, ◌<◌, ◌^◌, [], ◌∷◌, IfOk, pos, codes};
+ghost use Rattle.std.specs.Prelude.{◌≡◌, ◌<◌, ◌^◌, [], ◌∷◌, ◌++◌, IfOk, OnOk, pos, codes};
 ghost use Rattle.std.specs.Option.{ForSome};
-ghost use Rattle.bt_bencode.specs.Views.{tree_of};
+ghost use Rattle.bt_bencode.specs.Views.{tree_of, pairs_of};
 ghost use Rattle.bt_ext.specs.Ids.{metadata_id, donthave_id};
-ghost use Rattle.bt_ext.specs.Made.{IsMade, message_tree, m_pairs, handshake_tree};
+ghost use Rattle.bt_ext.specs.Made.{IsMade, message_pairs, message_tree, m_pairs, handshake_tree};
+ghost use Rattle.bt_ext.specs.Holding.{id_items, size_items};
 
 use crate::bytes::copy_bytes;
-use crate::ids::Registered;
+use crate::ids::{ExtId, Registered};
 use crate::metadata::Kind;
 use bt_bencode::{ByteString, Pairs, Value};
 use std::alloc::{AllocError, Global};
 
-fn numbered(alloc: Global, name: &[u8], n: i64) -> Result<(ByteString, Value), AllocError>
-    ensures { IfOk result (λ p. (p.0 ≡ name.now) × (p.1 ≡ Value.Int n)) }
+/// Adds a pair of a key and a number.
+fn push_number(
+    alloc: Global,
+    pairs: &mut Vec<(ByteString, Value)>,
+    key: &[u8],
+    n: u64,
+) -> Result<(), AllocError>
+    requires { n < 2 ^ 63 }
+    ensures { OnOk result (pairs.new.items ≡ pairs.old.items ++ (key.now, Value.Int (pos n)) ∷ []) }
 {
-    Ok((copy_bytes(alloc, name)?, Value::Int(n)))
+    let key = copy_bytes(alloc, key)?;
+    pairs.push((key, Value::Int(n as i64)))?;
+    Ok(())
 }
 
-fn typed(alloc: Global, msg_type: u8, piece: u32) -> Result<Vec<(ByteString, Value)>, AllocError>
-    ensures { IfOk result (λ v. v.items ≡ (codes "msg_type", Value.Int (pos msg_type)) ∷ (codes "piece", Value.Int (pos piece)) ∷ []) }
+/// Adds a pair of a key and a dictionary.
+fn push_dict(
+    alloc: Global,
+    pairs: &mut Vec<(ByteString, Value)>,
+    key: &[u8],
+    dict: Pairs,
+) -> Result<(), AllocError>
+    ensures { OnOk result (pairs.new.items ≡ pairs.old.items ++ (key.now, Value.Dict dict) ∷ []) }
 {
-    let msg_type = numbered(alloc, b"msg_type", msg_type as i64)?;
-    let piece = numbered(alloc, b"piece", piece as i64)?;
-    let mut pairs = Vec::new(alloc);
-    pairs.push(msg_type)?;
-    pairs.push(piece)?;
-    Ok(pairs)
+    let key = copy_bytes(alloc, key)?;
+    pairs.push((key, Value::Dict(dict)))?;
+    Ok(())
+}
+
+/// Adds the pairs of every metadata message.
+fn push_typed(
+    alloc: Global,
+    pairs: &mut Vec<(ByteString, Value)>,
+    msg_type: u8,
+    piece: u32,
+) -> Result<(), AllocError>
+    ensures { OnOk result (pairs.new.items ≡ (pairs.old.items ++ (codes "msg_type", Value.Int (pos msg_type)) ∷ []) ++ (codes "piece", Value.Int (pos piece)) ∷ []) }
+{
+    push_number(alloc, pairs, b"msg_type", u64::from(msg_type))?;
+    push_number(alloc, pairs, b"piece", u64::from(piece))
+}
+
+/// Adds the pairs of a message of this kind.
+fn push_kind(
+    alloc: Global,
+    pairs: &mut Vec<(ByteString, Value)>,
+    kind: Kind,
+) -> Result<(), AllocError>
+    requires { IsMade kind }
+    ensures { OnOk result (pairs.old.items ≡ [] → pairs_of pairs.new.items ≡ message_pairs kind) }
+{
+    match kind {
+        Kind::Request(piece) => push_typed(alloc, pairs, 0, piece),
+        Kind::Data { piece, total } => {
+            push_typed(alloc, pairs, 1, piece)?;
+            push_number(alloc, pairs, b"total_size", total)
+        }
+        Kind::Reject(piece) => push_typed(alloc, pairs, 2, piece),
+        Kind::Other | Kind::Malformed => unreachable!(),
+    }
 }
 
 /// The dictionary of a request, a data message or a reject. A data message's total is 1 to 2^63 - 1.
@@ -33,22 +79,23 @@ pub fn dict_of(alloc: Global, kind: Kind) -> Result<Value, AllocError>
     requires { IsMade kind }
     ensures { IfOk result (λ v. tree_of v ≡ message_tree kind) }
 {
-    match kind {
-        Kind::Request(piece) => {
-            let pairs = typed(alloc, 0, piece)?;
-            Ok(Value::Dict(Pairs::from_vec(pairs)))
-        }
-        Kind::Data { piece, total } => {
-            let total = numbered(alloc, b"total_size", total as i64)?;
-            let mut pairs = typed(alloc, 1, piece)?;
-            pairs.push(total)?;
-            Ok(Value::Dict(Pairs::from_vec(pairs)))
-        }
-        Kind::Reject(piece) => {
-            let pairs = typed(alloc, 2, piece)?;
-            Ok(Value::Dict(Pairs::from_vec(pairs)))
-        }
-        Kind::Other | Kind::Malformed => unreachable!(),
+    let mut pairs = Vec::new(alloc);
+    push_kind(alloc, &mut pairs, kind)?;
+    Ok(Value::Dict(Pairs::from_vec(pairs)))
+}
+
+/// Adds a name with its id, if it has one.
+fn push_id(
+    alloc: Global,
+    pairs: &mut Vec<(ByteString, Value)>,
+    name: &[u8],
+    id: Option<ExtId>,
+) -> Result<(), AllocError>
+    ensures { OnOk result (pairs.new.items ≡ pairs.old.items ++ id_items name.now id) }
+{
+    match id {
+        Some(id) => push_number(alloc, pairs, name, u64::from(id.get())),
+        None => Ok(()),
     }
 }
 
@@ -57,15 +104,24 @@ fn m_dict(alloc: Global, reg: Registered) -> Result<Pairs, AllocError>
     ensures { IfOk result (λ m. m ≡ m_pairs (metadata_id reg) (donthave_id reg)) }
 {
     let mut pairs = Vec::new(alloc);
-    if let Some(id) = reg.donthave() {
-        let pair = numbered(alloc, b"lt_donthave", id.get() as i64)?;
-        pairs.push(pair)?;
-    }
-    if let Some(id) = reg.metadata() {
-        let pair = numbered(alloc, b"ut_metadata", id.get() as i64)?;
-        pairs.push(pair)?;
-    }
+    push_id(alloc, &mut pairs, b"lt_donthave", reg.donthave())?;
+    push_id(alloc, &mut pairs, b"ut_metadata", reg.metadata())?;
     Ok(Pairs::from_vec(pairs))
+}
+
+/// Adds the size of served metadata, if there is one.
+fn push_size(
+    alloc: Global,
+    pairs: &mut Vec<(ByteString, Value)>,
+    size: Option<u64>,
+) -> Result<(), AllocError>
+    requires { ForSome size (λ n. n < 2 ^ 63) }
+    ensures { OnOk result (pairs.new.items ≡ pairs.old.items ++ size_items size) }
+{
+    match size {
+        Some(size) => push_number(alloc, pairs, b"metadata_size", size),
+        None => Ok(()),
+    }
 }
 
 /// The dictionary of an end's extended handshake.
@@ -81,12 +137,8 @@ pub fn handshake_dict(
     ensures { IfOk result (λ v. tree_of v ≡ handshake_tree reg size) }
 {
     let m = m_dict(alloc, reg)?;
-    let name = copy_bytes(alloc, b"m")?;
     let mut pairs = Vec::new(alloc);
-    pairs.push((name, Value::Dict(m)))?;
-    if let Some(size) = size {
-        let pair = numbered(alloc, b"metadata_size", size as i64)?;
-        pairs.push(pair)?;
-    }
+    push_dict(alloc, &mut pairs, b"m", m)?;
+    push_size(alloc, &mut pairs, size)?;
     Ok(Value::Dict(Pairs::from_vec(pairs)))
 }

@@ -1,5 +1,5 @@
 //! The names and ids that a peer told (BEP 10).
-ghost use Rattle.std.specs.Prelude.{◌≡◌, ◌<◌, ◌≤◌, [], length, OnOk, OnErr, IfOk, IfSome};
+ghost use Rattle.std.specs.Prelude.{◌≡◌, ◌<◌, ◌≤◌, [], ◌∷◌, ◌++◌, length, OnOk, OnErr, IfOk, IfSome};
 ghost use Rattle.std.specs.Bool.{OnFalse};
 ghost use Rattle.bt_bencode.specs.Trees.{dictionary};
 ghost use Rattle.bt_bencode.specs.Views.{tree_of};
@@ -50,6 +50,44 @@ fn place_of<A: Allocator>(entries: &[(Name<A>, u8)], name: &[u8]) -> Option<usiz
     None
 }
 
+/// Adds an entry at the end.
+fn push_entry<A: Allocator + Copy>(
+    entries: &mut Vec<(Name<A>, u8), A>,
+    name: &[u8],
+    id: u8,
+) -> Result<(), AllocError>
+    ensures ok { OnOk result (entries.new.items ≡ entries.old.items ++ (name.now, id) ∷ []) }
+    ensures memory { OnErr result (entries.new.items ≡ entries.old.items) }
+{
+    let name = Name::copied(*entries.allocator(), name)?;
+    entries.push((name, id))?;
+    Ok(())
+}
+
+/// Adds copies of entries where there are none yet.
+fn push_entries<A: Allocator + Copy>(
+    entries: &mut Vec<(Name<A>, u8), A>,
+    copied: &[(Name<A>, u8)],
+) -> Result<(), AllocError>
+    requires { entries.old.items ≡ [] }
+    ensures { OnOk result (entries.new.items ≡ copied.now) }
+{
+    for (name, id) in copied {
+        push_entry(entries, name.as_slice(), *id)?;
+    }
+    Ok(())
+}
+
+/// Marks the names of entries.
+fn mark_all<A: Allocator>(marks: &mut Vec<bool, A>, entries: &[(Name<A>, u8)])
+    requires { AreMarks marks.old.items [] }
+    ensures { AreMarks marks.new.items entries.now }
+{
+    for (name, _) in entries {
+        set_mark(marks, name.as_slice());
+    }
+}
+
 /// Takes an id for a name, as the table's rules are.
 fn enter<A: Allocator + Copy>(
     entries: &mut Vec<(Name<A>, u8), A>,
@@ -68,8 +106,7 @@ fn enter<A: Allocator + Copy>(
         }
         Some(i) => entries[i].1 = id,
         None if id != 0 && entries.len() < MAX_NAMES => {
-            let name = Name::copied(*entries.allocator(), name)?;
-            entries.push((name, id))?;
+            push_entry(entries, name, id)?;
         }
         None => {}
     }
@@ -120,12 +157,8 @@ impl<A: Allocator + Copy> Table<A> {
     pub fn copy(&self) -> Result<Table<A>, AllocError>
         ensures { IfOk result (λ t. t ≡ self.now) }
     {
-        let alloc = *self.entries.allocator();
-        let mut entries = Vec::with_capacity(alloc, self.entries.len())?;
-        for (name, id) in &self.entries {
-            let name = Name::copied(alloc, name.as_slice())?;
-            entries.push((name, *id))?;
-        }
+        let mut entries = Vec::with_capacity(*self.entries.allocator(), self.entries.len())?;
+        push_entries(&mut entries, &self.entries)?;
         Ok(Table { entries })
     }
 
@@ -153,9 +186,7 @@ impl<A: Allocator + Copy> Table<A> {
         ensures { IfOk result (λ marks. AreMarks marks.items self.now) }
     {
         let mut marks = no_marks(*self.entries.allocator())?;
-        for (name, _) in &self.entries {
-            set_mark(&mut marks, name.as_slice());
-        }
+        mark_all(&mut marks, &self.entries);
         Ok(marks)
     }
 
@@ -198,31 +229,49 @@ impl<A: Allocator + Copy> Table<A> {
         Ok(())
     }
 
+    /// Takes ids for names. The table's names have marks, and those that come get them.
+    fn enter_each(
+        &mut self,
+        marks: &mut Vec<bool, A>,
+        told: &[(&[u8], u8)],
+    ) -> Result<(), AllocError>
+        requires { AreMarks marks.old.items self.old }
+        ensures { OnOk result (self.new ≡ entered_all (entries_of told.now) self.old) }
+    {
+        for (name, id) in told {
+            self.enter_marked(marks, name, *id)?;
+        }
+        Ok(())
+    }
+
     /// Takes what a long `m` tells, most of it of names that the table neither has nor takes.
     fn enter_many(&mut self, told: &[(&[u8], u8)]) -> Result<(), AllocError>
         ensures { OnOk result (self.new ≡ entered_all (entries_of told.now) self.old) }
     {
         let mut marks = self.marks()?;
-        for (name, id) in told {
-            self.enter_marked(&mut marks, name, *id)?;
+        self.enter_each(&mut marks, told)
+    }
+
+    /// Takes what an `m` tells.
+    fn enter_told(&mut self, told: &[(&[u8], u8)]) -> Result<(), AllocError>
+        ensures { OnOk result (self.new ≡ entered_all (entries_of told.now) self.old) }
+    {
+        if told.len() > MAX_NAMES {
+            self.enter_many(told)
+        } else {
+            self.enter_few(told)
         }
-        Ok(())
     }
 
     fn enter_all(&mut self, told: &[(&[u8], u8)]) -> Result<(), AllocError>
         ensures ok { OnOk result (self.new ≡ entered_all (entries_of told.now) self.old) }
         ensures memory { OnErr result (self.new ≡ self.old) }
     {
-        let is_long = told.len() > MAX_NAMES;
-        if !is_long && !self.is_changed_by(told) {
+        if told.len() <= MAX_NAMES && !self.is_changed_by(told) {
             return Ok(());
         }
         let mut next = self.copy()?;
-        if is_long {
-            next.enter_many(told)?;
-        } else {
-            next.enter_few(told)?;
-        }
+        next.enter_told(told)?;
         *self = next;
         Ok(())
     }

@@ -1,5 +1,5 @@
 //! What the `m` of an extended handshake tells (BEP 10).
-ghost use Rattle.std.specs.Prelude.{◌≡◌, ℕ, List, [], ◌++◌, IfOk, IfSome, OnOk, not, if◌then◌else◌};
+ghost use Rattle.std.specs.Prelude.{◌≡◌, ℕ, List, [], ◌++◌, IfOk, OnOk, true, not, if◌then◌else◌};
 ghost use Rattle.std.specs.List.{list_any};
 ghost use Rattle.std.specs.Option.{option_copied};
 ghost use Rattle.std.specs.Str.{bytes_eq};
@@ -58,6 +58,30 @@ impl<'a, A: Allocator + Copy> Told<'a, A> {
         }
         Ok(())
     }
+
+    /// Takes pairs, where none has been taken yet.
+    fn tell_all(&mut self, m: &'a Pairs) -> Result<(), AllocError>
+        requires names { names_of self.old.names ≡ [] }
+        requires entries { entries_of self.old.entries.items ≡ [] }
+        ensures { OnOk result (entries_of self.new.entries.items ≡ told_by [] m.now) }
+    {
+        for (name, value) in m.as_slice() {
+            self.tell(name.as_slice(), id_value(value))?;
+        }
+        Ok(())
+    }
+
+    /// Like [`tell_all`](Told::tell_all), over a checked slice.
+    fn tell_all_ref(&mut self, m: &DictRef<'a>) -> Result<(), AllocError>
+        requires names { names_of self.old.names ≡ [] }
+        requires entries { entries_of self.old.entries.items ≡ [] }
+        ensures { OnOk result (entries_of self.new.entries.items ≡ told_by [] m.now.tree.0) }
+    {
+        for (name, value) in m.int_pairs() {
+            self.tell(name, byte_of(value))?;
+        }
+        Ok(())
+    }
 }
 
 /// Whether the name is above the last one, if there is one.
@@ -84,43 +108,44 @@ fn add_told<'a, A: Allocator>(
     Ok(())
 }
 
-/// What the pairs tell, if each name is above the one before it, so that none stands twice.
-fn rising<'a, A: Allocator + Copy>(
-    alloc: A,
+/// Adds what the pairs tell, as far as each name is above the one before it, so that none stands twice; and says whether
+/// each is.
+fn add_rising<'a, A: Allocator>(
+    entries: &mut Vec<(&'a [u8], u8), A>,
     m: &'a Pairs,
-) -> Result<Option<Vec<(&'a [u8], u8), A>>, AllocError>
-    ensures { IfOk result (λ o. IfSome o (λ v. entries_of v.items ≡ told_by [] m.now)) }
+) -> Result<bool, AllocError>
+    requires { entries_of entries.old.items ≡ [] }
+    ensures { IfOk result (λ rises. rises ≡ true → entries_of entries.new.items ≡ told_by [] m.now) }
 {
-    let mut entries = Vec::new(alloc);
     let mut last: Option<&'a [u8]> = None;
     for (name, value) in m.as_slice() {
         let name = name.as_slice();
         if !is_above(last, name) {
-            return Ok(None);
+            return Ok(false);
         }
-        add_told(&mut entries, name, id_value(value))?;
+        add_told(entries, name, id_value(value))?;
         last = Some(name);
     }
-    Ok(Some(entries))
+    Ok(true)
 }
 
-/// Like [`rising`], over a checked slice.
-fn rising_ref<'a, A: Allocator + Copy>(
-    alloc: A,
+/// Like [`add_rising`], over a checked slice.
+fn add_rising_ref<'a, A: Allocator>(
+    entries: &mut Vec<(&'a [u8], u8), A>,
     m: &DictRef<'a>,
-) -> Result<Option<Vec<(&'a [u8], u8), A>>, AllocError>
-    ensures { IfOk result (λ o. IfSome o (λ v. entries_of v.items ≡ told_by [] m.now.tree.0)) }
+) -> Result<bool, AllocError>
+    requires { entries_of entries.old.items ≡ [] }
+    ensures { IfOk result (λ rises. rises ≡ true → entries_of entries.new.items ≡ told_by [] m.now.tree.0) }
 {
-    let mut entries = Vec::new(alloc);
     let mut last: Option<&'a [u8]> = None;
     for (name, value) in m.int_pairs() {
         if !is_above(last, name) {
-            return Ok(None);
+            return Ok(false);
         }
-        add_told(&mut entries, name, byte_of(value))?;
+        add_told(entries, name, byte_of(value))?;
         last = Some(name);
     }
-    Ok(Some(entries))
+    Ok(true)
 }
 
 /// What the pairs tell, in any order of their names.
@@ -131,9 +156,7 @@ fn in_any_order<'a, A: Allocator + Copy>(
     ensures { IfOk result (λ v. entries_of v.items ≡ told_by [] m.now) }
 {
     let mut told = Told::new(alloc);
-    for (name, value) in m.as_slice() {
-        told.tell(name.as_slice(), id_value(value))?;
-    }
+    told.tell_all(m)?;
     let Told { names: _, entries } = told;
     Ok(entries)
 }
@@ -146,9 +169,7 @@ fn in_any_order_ref<'a, A: Allocator + Copy>(
     ensures { IfOk result (λ v. entries_of v.items ≡ told_by [] m.now.tree.0) }
 {
     let mut told = Told::new(alloc);
-    for (name, value) in m.int_pairs() {
-        told.tell(name, byte_of(value))?;
-    }
+    told.tell_all_ref(m)?;
     let Told { names: _, entries } = told;
     Ok(entries)
 }
@@ -159,9 +180,11 @@ fn told_by<'a, A: Allocator + Copy>(
 ) -> Result<Vec<(&'a [u8], u8), A>, AllocError>
     ensures { IfOk result (λ v. entries_of v.items ≡ told_by [] m.now) }
 {
-    match rising(alloc, m)? {
-        Some(entries) => Ok(entries),
-        None => in_any_order(alloc, m),
+    let mut entries = Vec::new(alloc);
+    if add_rising(&mut entries, m)? {
+        Ok(entries)
+    } else {
+        in_any_order(alloc, m)
     }
 }
 
@@ -171,9 +194,11 @@ fn told_by_ref<'a, A: Allocator + Copy>(
 ) -> Result<Vec<(&'a [u8], u8), A>, AllocError>
     ensures { IfOk result (λ v. entries_of v.items ≡ told_by [] m.now.tree.0) }
 {
-    match rising_ref(alloc, m)? {
-        Some(entries) => Ok(entries),
-        None => in_any_order_ref(alloc, m),
+    let mut entries = Vec::new(alloc);
+    if add_rising_ref(&mut entries, m)? {
+        Ok(entries)
+    } else {
+        in_any_order_ref(alloc, m)
     }
 }
 

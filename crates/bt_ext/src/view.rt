@@ -13,7 +13,7 @@ use crate::fields::bad_field_by;
 use crate::ids::{Registered, Rules};
 use crate::kinds::kind_by;
 use crate::metadata::{block_ok, is_malformed};
-use bt_bencode::{Bad, DictRef, check};
+use bt_bencode::{Bad, ByteString, DictRef, Value, check};
 use std::alloc::{AllocError, Global};
 
 /// The dictionary in front and what follows it, or the place where none goes on.
@@ -130,19 +130,27 @@ pub fn view_ext<'a>(
     }
 }
 
+/// The dictionary of a view and what follows it.
+#[inline(always)]
+fn copy_parts(alloc: Global, dict: &DictRef, rest: &[u8]) -> Result<(Value, ByteString), AllocError>
+    ensures { IfOk result (λ x. (x.0 ≡ Value.Dict dict.now.tree.0) × (x.1 ≡ rest.now)) }
+{
+    let rest = copy_bytes(alloc, rest)?;
+    let dict = dict.to_value(alloc)?;
+    Ok((dict, rest))
+}
+
 /// The value that a view is.
 pub fn copy_ext(alloc: Global, view: &ExtView) -> Result<Ext, AllocError>
     ensures { IfOk result (λ e. e ≡ seen view.now) }
 {
     match view {
         ExtView::Handshake { dict, rest } => {
-            let dict = dict.to_value(alloc)?;
-            let rest = copy_bytes(alloc, rest)?;
+            let (dict, rest) = copy_parts(alloc, dict, rest)?;
             Ok(Ext::Handshake { dict, rest })
         }
         ExtView::Metadata { dict, rest } => {
-            let dict = dict.to_value(alloc)?;
-            let rest = copy_bytes(alloc, rest)?;
+            let (dict, rest) = copy_parts(alloc, dict, rest)?;
             Ok(Ext::Metadata { dict, rest })
         }
         ExtView::DontHave(index) => Ok(Ext::DontHave(*index)),

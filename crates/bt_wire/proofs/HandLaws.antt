@@ -123,8 +123,8 @@ same_protocol : (own : Own) (b : List ℕ) → hand_fault own b ≡ None → fir
 unfolding hand_fault
 same_protocol own b e = none_there (first_difference protocol b) (NoneCounts-from (hand_rows own b) e).0
 
-joined : (p q r t e d c a b : List ℕ) → b ≡ p ++ a → a ≡ q ++ c → c ≡ r ++ d → d ≡ t ++ e → b ≡ (((p ++ q) ++ r) ++ t) ++ e
-joined p q r t e d c a b h1 h2 h3 h4 = rw (h1, h2, h3, h4) (sym (simp append_assoc))
+joined : {a b c d : List ℕ} (p q r t e : List ℕ) → b ≡ p ++ a → a ≡ q ++ c → c ≡ r ++ d → d ≡ t ++ e → b ≡ (((p ++ q) ++ r) ++ t) ++ e
+joined p q r t e h1 h2 h3 h4 = rw (h1, h2, h3, h4) (sym (simp append_assoc))
 
 next_part : (n k : ℕ) (b part : List ℕ) → part ≡ take n (drop k b) → drop k b ≡ part ++ drop (k + n) b
 next_part n k b part e = sym (take-append-drop n (drop k b)) ∙ ap (λ (x : List ℕ). x ++ drop n (drop k b)) (sym e)
@@ -138,7 +138,7 @@ hand_parts own b h none long small reserved info peer = record {
     info_hash = ap length info ∙ length-take-le 20 (drop 28 b) (omega (arith, length-drop 28 b));
     peer_id = ap length peer ∙ length-take-le 20 (drop 48 b) (omega (arith, length-drop 48 b));
   };
-  parts = joined protocol (be64 h.reserved.0) h.info_hash h.peer_id (drop 68 b) (drop 48 b) (drop 28 b) (drop 20 b) b
+  parts = joined protocol (be64 h.reserved.0) h.info_hash h.peer_id (drop 68 b)
       (begins_with protocol b (omega arith) (same_protocol own b none)) (next_part 8 20 b (be64 h.reserved.0) reserved) (next_part 20 28 b h.info_hash info)
       (next_part 20 48 b h.peer_id peer);
 }

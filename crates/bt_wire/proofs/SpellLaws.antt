@@ -154,32 +154,37 @@ ext_body c e k n is ks ns h =
     let hf : HasSpelling c.reg other.0 = subst P other.1 ns in
     is ∙ both_ext c e other.0 he hf (ap (body c) (sym is) ∙ h ∙ ap (body c) other.1) ∙ sym other.1
 
-bodies : (c : Context) (k n : Message) (o p : Option Ext) → ext_of k ≡ o → ext_of n ≡ p → IsShaped c k → IsInRange c k → IsShaped c n → IsInRange c n
+bodies : {k n : Message} (c : Context) (o p : Option Ext) → ext_of k ≡ o → ext_of n ≡ p → IsShaped c k → IsInRange c k → IsShaped c n → IsInRange c n
     → body c k ≡ body c n → k ≡ n
-bodies c k n (Some e) p hk hn ks kr ns nr h = ext_body c e k n (ext_is k e hk) ks ns h
-bodies c k n None (Some f) hk hn ks kr ns nr h = sym (ext_body c f n k (ext_is n f hn) ns ks (sym h))
-bodies c k n None None hk hn ks kr ns nr h =
+bodies {k} {n} c (Some e) p hk hn ks kr ns nr h = ext_body c e k n (ext_is k e hk) ks ns h
+bodies {k} {n} c None (Some f) hk hn ks kr ns nr h = sym (ext_body c f n k (ext_is n f hn) ns ks (sym h))
+bodies {k} {n} c None None hk hn ks kr ns nr h =
     let parts = same_parts (id_of k) (id_of n) (spell_fields (fields_of c k)) (spell_fields (fields_of c n)) h (no_fields c k) (no_fields c n) in
     sym (made-fields c k hk ks kr) ∙ ap (λ (o : Option ℕ). body_made o (spell_fields (fields_of c k))) parts.id ∙ ap (body_made (id_of n)) parts.fields
     ∙ made-fields c n hn ns nr
 
 one_body : (c : Context) (k n : Message) → IsShaped c k → IsInRange c k → IsShaped c n → IsInRange c n → body c k ≡ body c n → k ≡ n
-one_body c k n ks kr ns nr h = bodies c k n (ext_of k) (ext_of n) refl refl ks kr ns nr h
+one_body c k n ks kr ns nr h = bodies c (ext_of k) (ext_of n) refl refl ks kr ns nr h
 
 -- what may be sent has a length that fits four bytes
 pub fits : (c : Context) (o : Order) (s : ℕ) (m : Message) → c.limit < 2 ^ 32 → IsSaid c o s m → length (body c m) < 2 ^ 32
 fits c o s m lt said = omega (arith, said.legal.short)
 
 -- no spelling begins another
-pub one_spelling : (c : Context) (o p : Order) (s t : ℕ) (m n : Message) (x y : List ℕ) → c.limit < 2 ^ 32 → IsSaid c o s m → IsSaid c p t n → spell c m
-    ++ x ≡ spell c n ++ y → (m ≡ n) × (x ≡ y)
-one_spelling c o p s t m n x y lt q r e =
+pub none_begins : {c : Context} {o p : Order} {s t : ℕ} {m n : Message} (x y : List ℕ) → c.limit < 2 ^ 32 → IsSaid c o s m → IsSaid c p t n
+    → spell c m ++ x ≡ spell c n ++ y → (m ≡ n) × (x ≡ y)
+none_begins {c} {o} {p} {s} {t} {m} {n} x y lt q r e =
     let first = spelled_first c m x (fits c o s m lt q) in
     let second = spelled_first c n y (fits c p t n lt r) in
     let same : spell c m ≡ spell c n = sym first.window ∙ ap window e ∙ second.window in (
       one_body c m n q.legal.shaped q.in_range r.legal.shaped r.in_range (ap (drop 4) same),
       sym first.rest ∙ ap (λ (w : List ℕ). drop (window_length w) w) e ∙ second.rest,
     )
+
+-- the same, with every value written
+pub one_spelling : (c : Context) (o p : Order) (s t : ℕ) (m n : Message) (x y : List ℕ) → c.limit < 2 ^ 32 → IsSaid c o s m → IsSaid c p t n
+    → spell c m ++ x ≡ spell c n ++ y → (m ≡ n) × (x ≡ y)
+one_spelling c o p s t m n x y lt q r e = none_begins x y lt q r e
 
 -- ---- what the table of ids says of a message is what its value says
 

@@ -12,7 +12,7 @@ use Rattle.bt_wire.specs.Messages.{spell, order_after}
 use Rattle.bt_wire.specs.Faults.{is_whole, IsFault}
 use Rattle.bt_wire.specs.Legal.{IsSaid}
 use Rattle.bt_wire.specs.Streams.{Says, Begins, IsLongest, orders_after, placed, Outcome, IsOutcome, refusal_at, with_item}
-use Rattle.bt_wire.proofs.SpellLaws.{fits, spelled_first, one_spelling}
+use Rattle.bt_wire.proofs.SpellLaws.{fits, spelled_first, none_begins}
 use Rattle.bt_wire.proofs.WindowLaws.{fault-spell, one_fault, fault_stays}
 
 -- no message is read at b: it has a fault, or isn't whole
@@ -73,21 +73,21 @@ nothing_said c o s number b f lt stop = record {
 }
 
 -- the same list first, and then one that isn't longer
-longest_with : (c : Context) (o : Order) (s : ℕ) (b tail : List ℕ) (m : Message) (ms : List Message) (r : List ℕ) → c.limit < 2 ^ 32 → IsSaid c o s m → b
-    ≡ spell c m ++ tail
+longest_with : {c : Context} {o : Order} {s : ℕ} {b tail : List ℕ} {m : Message} {ms : List Message} {r : List ℕ} → c.limit < 2 ^ 32 → IsSaid c o s m
+    → b ≡ spell c m ++ tail
     → IsLongest c (order_after o m) (s + length (spell c m)) tail ms r → (ns : List Message) (t : List ℕ) → Begins c o s b ns t → length ns ≤ suc (length ms)
-longest_with c o s b tail m ms r lt said parts h [] t k = omega arith
-longest_with c o s b tail m ms r lt said parts h (n ∷ ns) t k =
+longest_with lt said parts h [] t k = omega arith
+longest_with {c} {o} {s} {b} {tail} {m} lt said parts h (n ∷ ns) t k =
     let front = first c o s b n ns t k in
-    let same = one_spelling c o o s s n m (front.rest ++ t) tail lt front.said said (sym front.parts ∙ parts) in
+    let same = none_begins (front.rest ++ t) tail lt front.said said (sym front.parts ∙ parts) in
     let P : Message → Type 0 = λ x. Says c (order_after o x) (s + length (spell c x)) ns front.rest in
     omega (arith, h.longest ns t (front.rest, sym same.1, subst P same.0 front.says))
 
 -- one message, and what comes after it
-pub one_more : (c : Context) (o : Order) (s number : ℕ) (b tail : List ℕ) (m : Message) (v : Outcome) → c.limit < 2 ^ 32 → IsSaid c o s m → b ≡ spell c m
-    ++ tail
+pub message_then : {c : Context} {o : Order} {s number : ℕ} {b tail : List ℕ} {m : Message} {v : Outcome} → c.limit < 2 ^ 32 → IsSaid c o s m
+    → b ≡ spell c m ++ tail
     → IsOutcome c (order_after o m) (s + length (spell c m)) (number + 1) tail v → IsOutcome c o s number b (with_item s (items.Message m) v)
-one_more c o s number b tail m v lt said parts h =
+message_then {c} {o} {s} {number} {b} {tail} {m} {v} lt said parts h =
     let begins = h.longest.begins in
     record {
       messages = m ∷ h.messages;
@@ -97,7 +97,7 @@ one_more c o s number b tail m v lt said parts h =
           parts ∙ ap (λ (y : List ℕ). spell c m ++ y) begins.1 ∙ sym (append_assoc (spell c m) begins.0 v.tail),
           (said, (begins.0, refl, begins.2)),
         );
-        longest = longest_with c o s b tail m h.messages v.tail lt said parts h.longest;
+        longest = longest_with lt said parts h.longest;
       };
       items = ap (λ (xs : List (ℕ × Item)). (s, items.Message m) ∷ xs) h.items;
       number_after = omega (arith, h.number_after);
@@ -108,6 +108,12 @@ one_more c o s number b tail m v lt said parts h =
       refusal = h.refusal;
     }
 
+-- the same, with every value written
+pub one_more : (c : Context) (o : Order) (s number : ℕ) (b tail : List ℕ) (m : Message) (v : Outcome) → c.limit < 2 ^ 32 → IsSaid c o s m
+    → b ≡ spell c m ++ tail
+    → IsOutcome c (order_after o m) (s + length (spell c m)) (number + 1) tail v → IsOutcome c o s number b (with_item s (items.Message m) v)
+one_more c o s number b tail m v lt said parts h = message_then lt said parts h
+
 -- ---- one outcome
 
 -- the shorter of two lists that the same bytes begin with begins the other
@@ -116,9 +122,9 @@ record IsFront (ms ns : List Message) (r t : List ℕ) : Type 0 where
   list : ns ≡ ms ++ more
   rest : more ≡ [] → r ≡ t
 
-front_list : (c : Context) (o : Order) (s : ℕ) (ms ns : List Message) (b r t : List ℕ) → c.limit < 2 ^ 32 → Begins c o s b ms r → Begins c o s b ns t
+front_list : {r t : List ℕ} (c : Context) (o : Order) (s : ℕ) (ms ns : List Message) (b : List ℕ) → c.limit < 2 ^ 32 → Begins c o s b ms r → Begins c o s b ns t
     → length ms ≤ length ns → IsFront ms ns r t
-front_list c o s [] ns b r t lt p q le = record {
+front_list {r} {t} c o s [] ns b lt p q le = record {
   more = ns;
   list = refl;
   rest = λ e.
@@ -126,13 +132,13 @@ front_list c o s [] ns b r t lt p q le = record {
       let none : q.0 ≡ [] = subst P e q.2 in
       ap (λ (z : List ℕ). z ++ r) (sym p.2) ∙ sym p.1 ∙ q.1 ∙ ap (λ (z : List ℕ). z ++ t) none;
 }
-front_list c o s (m ∷ ms) [] b r t lt p q le = absurd (omega arith)
-front_list c o s (m ∷ ms) (n ∷ ns) b r t lt p q le =
+front_list c o s (m ∷ ms) [] b lt p q le = absurd (omega arith)
+front_list {r} {t} c o s (m ∷ ms) (n ∷ ns) b lt p q le =
     let left = first c o s b m ms r p in
     let right = first c o s b n ns t q in
-    let same = one_spelling c o o s s n m (right.rest ++ t) (left.rest ++ r) lt right.said left.said (sym right.parts ∙ left.parts) in
+    let same = none_begins (right.rest ++ t) (left.rest ++ r) lt right.said left.said (sym right.parts ∙ left.parts) in
     let P : Message → Type 0 = λ x. Says c (order_after o x) (s + length (spell c x)) ns right.rest in
-    let after = front_list c (order_after o m) (s + length (spell c m)) ms ns (left.rest ++ r) r t lt (left.rest, refl, left.says) (
+    let after = front_list c (order_after o m) (s + length (spell c m)) ms ns (left.rest ++ r) lt (left.rest, refl, left.says) (
       right.rest,
       sym same.1,
       subst P same.0 right.says,
@@ -161,7 +167,7 @@ pub outcome_only : (c : Context) (o : Order) (s number : ℕ) (b : List ℕ) (v 
 outcome_only c o s number b v w lt p q =
     let first = p.longest.begins in
     let second = q.longest.begins in
-    let front = front_list c o s p.messages q.messages b v.tail w.tail lt first second (q.longest.longest p.messages v.tail first) in
+    let front = front_list c o s p.messages q.messages b lt first second (q.longest.longest p.messages v.tail first) in
     let none = no_more p.messages front.more (omega (arith, ap length front.list, p.longest.longest q.messages w.tail second)) in
     let list : p.messages ≡ q.messages = sym (front.list ∙ ap (λ (xs : List Message). p.messages ++ xs) none ∙ append-nil p.messages) in
     let tail : v.tail ≡ w.tail = front.rest none in
@@ -191,25 +197,26 @@ pub items_stay : (c : Context) (o : Order) (s number : ℕ) (b x : List ℕ) (v 
     → IsOutcome c o s number (b ++ x) w → (more : List (ℕ × Item)) × (w.items ≡ v.items ++ more)
 items_stay c o s number b x v w lt p q =
     let mine = more_bytes c o s b x v.tail p.messages p.longest.begins in
-    let front = front_list c o s p.messages q.messages (b ++ x) (v.tail ++ x) w.tail lt mine q.longest.begins
+    let front = front_list c o s p.messages q.messages (b ++ x) lt mine q.longest.begins
     (q.longest.longest p.messages (v.tail ++ x) mine) in
     let rest = placed-append c s p.messages front.more in
     (rest.0, q.items ∙ ap (placed c s) front.list ∙ rest.1 ∙ ap (λ (xs : List (ℕ × Item)). xs ++ rest.0) (sym p.items))
 
 -- a list that no message follows is the longest
-longest_by : (c : Context) (o : Order) (s : ℕ) (b y t : List ℕ) (ms : List Message) (f : Option Refused) → c.limit < 2 ^ 32 → Says c o s ms y → b ≡ y ++ t
-    → IsStop c (orders_after o ms) (s + length y) t f → (ns : List Message) (u : List ℕ) → Begins c o s b ns u → length ns ≤ length ms
-longest_by c o s b y t [] f lt says parts stop ns u k =
+longest_by : {c : Context} {t : List ℕ} {f : Option Refused} (o : Order) {b : List ℕ} (s : ℕ) (y : List ℕ) (ms : List Message) → c.limit < 2 ^ 32
+    → Says c o s ms y → b ≡ y ++ t → IsStop c (orders_after o ms) (s + length y) t f → (ns : List Message) (u : List ℕ) → Begins c o s b ns u
+    → length ns ≤ length ms
+longest_by {c} {t} {f} o {b} s y [] lt says parts stop ns u k =
     let here : t ≡ b = sym (parts ∙ ap (λ (z : List ℕ). z ++ t) says) in
     let at : s + length y ≡ s = omega (arith, ap length says) in
     let P : List ℕ → Type 0 = λ z. IsStop c o s z f in
     let Q : ℕ → Type 0 = λ z. IsStop c o z t f in
     nothing_begins c o s b f lt (subst P here (subst Q at stop)) ns u k
-longest_by c o s b y t (m ∷ ms) f lt says parts stop [] u k = omega arith
-longest_by c o s b y t (m ∷ ms) f lt says parts stop (n ∷ ns) u k =
+longest_by o s y (m ∷ ms) lt says parts stop [] u k = omega arith
+longest_by {c} {t} {f} o {b} s y (m ∷ ms) lt says parts stop (n ∷ ns) u k =
     let mine = first c o s b m ms t (y, parts, says) in
     let other = first c o s b n ns u k in
-    let same = one_spelling c o o s s n m (other.rest ++ u) (mine.rest ++ t) lt other.said mine.said (sym other.parts ∙ mine.parts) in
+    let same = none_begins (other.rest ++ u) (mine.rest ++ t) lt other.said mine.said (sym other.parts ∙ mine.parts) in
     let P : Message → Type 0 = λ x. Says c (order_after o x) (s + length (spell c x)) ns other.rest in
     let at : s + length y ≡ s + length (spell c m) + length mine.rest = omega (
       arith,
@@ -219,7 +226,7 @@ longest_by c o s b y t (m ∷ ms) f lt says parts stop (n ∷ ns) u k =
       length-append mine.rest t,
     ) in
     let Q : ℕ → Type 0 = λ z. IsStop c (orders_after (order_after o m) ms) z t f in
-    let shorter = longest_by c (order_after o m) (s + length (spell c m)) (mine.rest ++ t) mine.rest t ms f lt mine.says refl (subst Q at stop) ns u
+    let shorter = longest_by (order_after o m) (s + length (spell c m)) mine.rest ms lt mine.says refl (subst Q at stop) ns u
     (other.rest, sym same.1, subst P same.0 other.says) in
     omega (arith, shorter)
 
@@ -245,7 +252,7 @@ refusal_stays c o s number b x v r lt h e =
       messages = h.messages;
       longest = record {
         begins = (begins.0, parts, begins.2);
-        longest = longest_by c o s (b ++ x) begins.0 (v.tail ++ x) h.messages (Some found.0) lt
+        longest = longest_by o s begins.0 h.messages lt
             begins.2 parts stop;
       };
       items = h.items;

@@ -201,6 +201,46 @@ fn part_of(fields: &[u8]) -> (u32, u32, u32)
     )
 }
 
+fn copy_bytes(alloc: Global, bytes: &[u8]) -> Result<ByteString, AllocError>
+    ensures { IfOk result (λ s. s ≡ bytes.now) }
+{
+    Ok(ByteString::from_vec(bytes.to_vec(alloc)?))
+}
+
+#[inline(always)]
+fn copy_bitfield(alloc: Global, bits: &[u8]) -> Result<Message, AllocError>
+    ensures { IfOk result (λ m. m ≡ Message.Bitfield bits.now) }
+{
+    Ok(Message::Bitfield(copy_bytes(alloc, bits)?))
+}
+
+#[inline(always)]
+fn copy_piece(alloc: Global, index: u32, begin: u32, block: &[u8]) -> Result<Message, AllocError>
+    ensures { IfOk result (λ m. m ≡ Message.Piece index begin block.now) }
+{
+    let block = copy_bytes(alloc, block)?;
+    Ok(Message::Piece {
+        index,
+        begin,
+        block,
+    })
+}
+
+#[inline(always)]
+fn copy_extended(alloc: Global, view: &ExtView) -> Result<Message, AllocError>
+    ensures { IfOk result (λ m. m ≡ Message.Extended (seen view.now)) }
+{
+    Ok(Message::Extended(copy_ext(alloc, view)?))
+}
+
+#[inline(always)]
+fn copy_unknown(alloc: Global, id: u8, payload: &[u8]) -> Result<Message, AllocError>
+    ensures { IfOk result (λ m. m ≡ Message.Unknown id payload.now) }
+{
+    let payload = copy_bytes(alloc, payload)?;
+    Ok(Message::Unknown { id, payload })
+}
+
 /// The message that a view is, with memory of its own.
 pub fn copy_message(alloc: Global, view: &MessageView) -> Result<Message, AllocError>
     ensures ok { IfOk result (λ m. m ≡ message_of view.now) }
@@ -213,7 +253,7 @@ pub fn copy_message(alloc: Global, view: &MessageView) -> Result<Message, AllocE
         MessageView::Interested => Ok(Message::Interested),
         MessageView::NotInterested => Ok(Message::NotInterested),
         MessageView::Have(index) => Ok(Message::Have(*index)),
-        MessageView::Bitfield(bits) => Ok(Message::Bitfield(copy_bytes(alloc, bits)?)),
+        MessageView::Bitfield(bits) => copy_bitfield(alloc, bits),
         MessageView::Request {
             index,
             begin,
@@ -227,11 +267,7 @@ pub fn copy_message(alloc: Global, view: &MessageView) -> Result<Message, AllocE
             index,
             begin,
             block,
-        } => Ok(Message::Piece {
-            index: *index,
-            begin: *begin,
-            block: copy_bytes(alloc, block)?,
-        }),
+        } => copy_piece(alloc, *index, *begin, block),
         MessageView::Cancel {
             index,
             begin,
@@ -255,18 +291,9 @@ pub fn copy_message(alloc: Global, view: &MessageView) -> Result<Message, AllocE
             length: *length,
         }),
         MessageView::AllowedFast(index) => Ok(Message::AllowedFast(*index)),
-        MessageView::Extended(view) => Ok(Message::Extended(copy_ext(alloc, view)?)),
-        MessageView::Unknown { id, payload } => Ok(Message::Unknown {
-            id: *id,
-            payload: copy_bytes(alloc, payload)?,
-        }),
+        MessageView::Extended(view) => copy_extended(alloc, view),
+        MessageView::Unknown { id, payload } => copy_unknown(alloc, *id, payload),
     }
-}
-
-fn copy_bytes(alloc: Global, bytes: &[u8]) -> Result<ByteString, AllocError>
-    ensures { IfOk result (λ s. s ≡ bytes.now) }
-{
-    Ok(ByteString::from_vec(bytes.to_vec(alloc)?))
 }
 
 /// Reads the bytes of one message, where `judge_header` lets them be a window.

@@ -109,33 +109,60 @@ pub struct Refused {
 /// Why a value isn't legal.
 ///
 /// It has no spelling of its own, or its spelling is refused.
-#[derive(Clone, Copy, PartialEq, Eq, Debug, Error)]
+#[derive(Clone, Copy, PartialEq, Eq, Debug)]
 pub enum Fault {
-    #[error("the value has no spelling of its own")]
     Shape,
-    #[error("{0}")]
     Reason(Reason),
 }
 
+impl Display for Fault {
+    fn fmt<W: fmt::Write>(&self, f: &mut fmt::Formatter<W>) -> fmt::Result {
+        match self {
+            Fault::Shape => f.write_str("the value has no spelling of its own"),
+            Fault::Reason(reason) => reason.fmt(f),
+        }
+    }
+}
+
+impl std::error::Error for Fault {}
+
 /// Why a message isn't encoded.
-#[derive(Clone, Copy, PartialEq, Eq, Debug, Error)]
+#[derive(Clone, Copy, PartialEq, Eq, Debug)]
 pub enum EncodeError {
-    #[error("{0}")]
     Illegal(Fault),
-    #[error("out of memory")]
     Memory,
 }
+
+impl Display for EncodeError {
+    fn fmt<W: fmt::Write>(&self, f: &mut fmt::Formatter<W>) -> fmt::Result {
+        match self {
+            EncodeError::Illegal(fault) => fault.fmt(f),
+            EncodeError::Memory => f.write_str("out of memory"),
+        }
+    }
+}
+
+impl std::error::Error for EncodeError {}
 
 /// Why a window isn't decoded.
 ///
 /// It has this fault at this place, or there is no memory.
-#[derive(Clone, Copy, PartialEq, Eq, Debug, Error)]
+#[derive(Clone, Copy, PartialEq, Eq, Debug)]
 pub enum DecodeError {
-    #[error("{reason} at {at}")]
     Refused { at: u64, reason: Reason },
-    #[error("out of memory")]
     Memory,
 }
+
+impl Display for DecodeError {
+    fn fmt<W: fmt::Write>(&self, f: &mut fmt::Formatter<W>) -> fmt::Result {
+        match *self {
+            DecodeError::Refused { at, reason } => Refused { at, reason }.fmt(f),
+            DecodeError::Memory => f.write_str("out of memory"),
+        }
+    }
+}
+
+impl std::error::Error for DecodeError {}
 
 /// What the first bytes of a message say.
 #[derive(Clone, Copy, PartialEq, Eq)]

@@ -7,7 +7,7 @@ use Rattle.bt_bencode.specs.Keys.{is_above}
 use Rattle.bt_bencode.specs.Readable.{HasPairs}
 use Rattle.bt_bencode.proofs.Heads.{key_there, value_after}
 use Rattle.bt_bencode.proofs.Skips.{sought_step, sought_end}
-use Rattle.bt_bencode.proofs.Walk.{pairs_has, pairs_step, pairs_found, key_found, pairs_over}
+use Rattle.bt_bencode.proofs.Walk.{KeyInFront, pairs_has, pairs_step, pairs_found, key_found, pairs_over}
 use Rattle.bt_bencode.proofs.in_order.find_in_order.Goals as goal
 
 pub split_string-requires : goal.split_string-requires
@@ -18,10 +18,14 @@ split_string-requires c =
 
 pub returns-then-not-is_above-clause-order : goal.returns-then-not-is_above-clause-order
 returns-then-not-is_above-clause-order c =
+    let front : KeyInFront c.loop-rest.rest.now c.split_string.result.0.now c.split_string.result.1.now = record {
+      other = c.loop-rest-test.true;
+      short = c.split_string.ensures.short;
+      split = c.split_string.ensures.split;
+    } in
     let done : ℕ = length c.args.pairs.now - length c.loop-rest.rest.now in
     let below : is_above (option_copied c.loop-rest.last) c.split_string.result.0.now ≡ false = sym c.is_above.ensures ∙ c.if-not-is_above.true in
-    λ ps more h is. key_found ps more done (option_copied c.loop-rest.last) c.loop-rest.rest.now c.split_string.result.0.now c.split_string.result.1.now
-    c.loop-rest-test.true below c.split_string.ensures.short c.split_string.ensures.split (c.loop-rest.invariant.left ps more h is)
+    λ ps more h is. key_found ps more done (option_copied c.loop-rest.last) front below (c.loop-rest.invariant.left ps more h is)
 
 pub walk_int-requires : goal.walk_int-requires
 walk_int-requires c =
@@ -33,6 +37,11 @@ walk_int-requires c =
 
 pub loop-rest-preserved : goal.loop-rest-preserved
 loop-rest-preserved c =
+    let front : KeyInFront c.loop-rest.rest.now c.split_string.result.0.now c.split_string.result.1.now = record {
+      other = c.loop-rest-test.true;
+      short = c.split_string.ensures.short;
+      split = c.split_string.ensures.split;
+    } in
     let done : ℕ = length c.args.pairs.now - length c.loop-rest.rest.now in
     let done' : ℕ = length c.args.pairs.now - length c.in-Ok.more.now in
     let within : length c.loop-rest.rest.now ≤ length c.args.pairs.now = c.loop-rest.invariant.within in
@@ -41,37 +50,39 @@ loop-rest-preserved c =
     let count : done + length c.loop-rest.rest.now ≡ done' + length c.in-Ok.more.now = omega arith in
     let above : is_above (option_copied c.loop-rest.last) c.split_string.result.0.now ≡ true = sym c.is_above.ensures ∙ c.if-not-is_above.false in
     let name = c.split_string.result.0.now in
-    let rest = c.loop-rest.rest.now in
     let next = c.in-Ok.more.now in
     let following : (u : Tree) (m : List ℕ) → InRange u → c.split_string.result.1.now ≡ ben u ++ m → next ≡ m = λ u m h is.
     let w = c.in-Ok.ensures.walks u m h is in
     w.1 in
     record {
       within = omega arith;
-      left = λ ps more h is. pairs_step ps more done (option_copied c.loop-rest.last) c.loop-rest.rest.now c.split_string.result.0.now
-          c.split_string.result.1.now c.in-Ok.more.now done' c.loop-rest-test.true above c.split_string.ensures.short c.split_string.ensures.split count
+      left = λ ps more h is. pairs_step ps more done (option_copied c.loop-rest.last) front c.in-Ok.more.now done' above count
           (λ u m h' is'. let w = c.in-Ok.ensures.walks u m h' is' in (w.0, w.1)) (c.loop-rest.invariant.left ps more h is);
-      first = λ ps more h is. rw c.found_at-one.ensures (sought_step c.args.first.now ps more rest name c.split_string.result.1 c.split_string.ensures.short
-          c.split_string.ensures.split next c.loop-rest.one (bytes_eq name c.args.first.now) refl c.loop-rest-test.true following
+      first = λ ps more h is. rw c.found_at-one.ensures (sought_step c.args.first.now ps more c.split_string.result.1 front next c.loop-rest.one
+          (bytes_eq name c.args.first.now) refl following
           (c.loop-rest.invariant.first ps more h is));
-      second = λ ps more h is. rw c.found_at-two.ensures (sought_step c.args.second.now ps more rest name c.split_string.result.1 c.split_string.ensures.short
-          c.split_string.ensures.split next c.loop-rest.two (bytes_eq name c.args.second.now) refl c.loop-rest-test.true following
+      second = λ ps more h is. rw c.found_at-two.ensures (sought_step c.args.second.now ps more c.split_string.result.1 front next c.loop-rest.two
+          (bytes_eq name c.args.second.now) refl following
           (c.loop-rest.invariant.second ps more h is));
-      third = λ ps more h is. rw c.found_at-three.ensures (sought_step c.args.third.now ps more rest name c.split_string.result.1 c.split_string.ensures.short
-          c.split_string.ensures.split next c.loop-rest.three (bytes_eq name c.args.third.now) refl c.loop-rest-test.true following
+      third = λ ps more h is. rw c.found_at-three.ensures (sought_step c.args.third.now ps more c.split_string.result.1 front next c.loop-rest.three
+          (bytes_eq name c.args.third.now) refl following
           (c.loop-rest.invariant.third ps more h is));
     }
 
 pub returns-in-Err-clause-order : goal.returns-in-Err-clause-order
 returns-in-Err-clause-order c =
+    let front : KeyInFront c.loop-rest.rest.now c.split_string.result.0.now c.split_string.result.1.now = record {
+      other = c.loop-rest-test.true;
+      short = c.split_string.ensures.short;
+      split = c.split_string.ensures.split;
+    } in
     let done : ℕ = length c.args.pairs.now - length c.loop-rest.rest.now in
     let done' : ℕ = length c.args.pairs.now - length c.split_string.result.1.now in
     let within : length c.loop-rest.rest.now ≤ length c.args.pairs.now = c.loop-rest.invariant.within in
     let parts = ap length c.split_string.ensures.split ∙ length-append (ben_string c.split_string.result.0.now) c.split_string.result.1.now in
     let count : done + length c.loop-rest.rest.now ≡ done' + length c.split_string.result.1.now = omega arith in
     let above : is_above (option_copied c.loop-rest.last) c.split_string.result.0.now ≡ true = sym c.is_above.ensures ∙ c.if-not-is_above.false in
-    λ ps more h is. pairs_found ps more done (option_copied c.loop-rest.last) c.loop-rest.rest.now c.split_string.result.0.now c.split_string.result.1.now
-    c.in-Err.n done' c.loop-rest-test.true above c.split_string.ensures.short c.split_string.ensures.split count c.in-Err.ensures.walks
+    λ ps more h is. pairs_found ps more done (option_copied c.loop-rest.last) front c.in-Err.n done' above count c.in-Err.ensures.walks
     (c.loop-rest.invariant.left ps more h is)
 
 pub returns-clause-order : goal.returns-clause-order

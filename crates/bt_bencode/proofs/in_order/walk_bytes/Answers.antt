@@ -5,7 +5,7 @@ use Rattle.bt_bencode.specs.Keys.{is_above}
 use Rattle.bt_bencode.specs.Readable.{HasPairs}
 use Rattle.bt_bencode.proofs.Heads.{key_there, value_after}
 use Rattle.bt_bencode.proofs.InOrder.{bytes_step, bytes_over}
-use Rattle.bt_bencode.proofs.Walk.{pairs_has, pairs_step, pairs_found, key_found, pairs_over}
+use Rattle.bt_bencode.proofs.Walk.{KeyInFront, pairs_has, pairs_step, pairs_found, key_found, pairs_over}
 use Rattle.bt_bencode.proofs.in_order.walk_bytes.Goals as goal
 
 pub split_string-requires : goal.split_string-requires
@@ -16,10 +16,14 @@ split_string-requires c =
 
 pub returns-then-not-is_above-clause-walks : goal.returns-then-not-is_above-clause-walks
 returns-then-not-is_above-clause-walks c =
+    let front : KeyInFront c.loop-rest.rest.now c.split_string.result.0.now c.split_string.result.1.now = record {
+      other = c.loop-rest-test.true;
+      short = c.split_string.ensures.short;
+      split = c.split_string.ensures.split;
+    } in
     let done : ℕ = length c.args.bytes.now - length c.loop-rest.rest.now in
     let below : is_above (option_copied c.loop-rest.last) c.split_string.result.0.now ≡ false = sym c.is_above.ensures ∙ c.if-not-is_above.true in
-    λ ps more h is. key_found ps more done (option_copied c.loop-rest.last) c.loop-rest.rest.now c.split_string.result.0.now c.split_string.result.1.now
-    c.loop-rest-test.true below c.split_string.ensures.short c.split_string.ensures.split (c.loop-rest.invariant.left ps more h is)
+    λ ps more h is. key_found ps more done (option_copied c.loop-rest.last) front below (c.loop-rest.invariant.left ps more h is)
 
 pub walk_int-requires : goal.walk_int-requires
 walk_int-requires c =
@@ -31,6 +35,11 @@ walk_int-requires c =
 
 pub loop-rest-preserved : goal.loop-rest-preserved
 loop-rest-preserved c =
+    let front : KeyInFront c.loop-rest.rest.now c.split_string.result.0.now c.split_string.result.1.now = record {
+      other = c.loop-rest-test.true;
+      short = c.split_string.ensures.short;
+      split = c.split_string.ensures.split;
+    } in
     let done : ℕ = length c.args.bytes.now - length c.loop-rest.rest.now in
     let done' : ℕ = length c.args.bytes.now - length c.in-Ok.more.now in
     let within : length c.loop-rest.rest.now ≤ length c.args.bytes.now = c.loop-rest.invariant.within in
@@ -40,24 +49,26 @@ loop-rest-preserved c =
     let above : is_above (option_copied c.loop-rest.last) c.split_string.result.0.now ≡ true = sym c.is_above.ensures ∙ c.if-not-is_above.false in
     record {
       within = omega arith;
-      left = λ ps more h is. pairs_step ps more done (option_copied c.loop-rest.last) c.loop-rest.rest.now c.split_string.result.0.now
-          c.split_string.result.1.now c.in-Ok.more.now done' c.loop-rest-test.true above c.split_string.ensures.short c.split_string.ensures.split count
+      left = λ ps more h is. pairs_step ps more done (option_copied c.loop-rest.last) front c.in-Ok.more.now done' above count
           (λ u m h' is'. let w = c.in-Ok.ensures.walks u m h' is' in (w.0, w.1)) (c.loop-rest.invariant.left ps more h is);
-      seen = λ ps more h is. rw c.is_byte-all.ensures (bytes_step ps more c.loop-rest.rest.now c.split_string.result.0.now c.split_string.result.1.now
-          c.split_string.ensures.short c.split_string.ensures.split c.loop-rest-test.true c.in-Ok.more.now c.loop-rest.all c.in-Ok.number c.in-Ok.ensures.walks
+      seen = λ ps more h is. rw c.is_byte-all.ensures (bytes_step ps more front c.in-Ok.more.now c.loop-rest.all c.in-Ok.number c.in-Ok.ensures.walks
           (c.loop-rest.invariant.seen ps more h is));
     }
 
 pub returns-in-Err-clause-walks : goal.returns-in-Err-clause-walks
 returns-in-Err-clause-walks c =
+    let front : KeyInFront c.loop-rest.rest.now c.split_string.result.0.now c.split_string.result.1.now = record {
+      other = c.loop-rest-test.true;
+      short = c.split_string.ensures.short;
+      split = c.split_string.ensures.split;
+    } in
     let done : ℕ = length c.args.bytes.now - length c.loop-rest.rest.now in
     let done' : ℕ = length c.args.bytes.now - length c.split_string.result.1.now in
     let within : length c.loop-rest.rest.now ≤ length c.args.bytes.now = c.loop-rest.invariant.within in
     let parts = ap length c.split_string.ensures.split ∙ length-append (ben_string c.split_string.result.0.now) c.split_string.result.1.now in
     let count : done + length c.loop-rest.rest.now ≡ done' + length c.split_string.result.1.now = omega arith in
     let above : is_above (option_copied c.loop-rest.last) c.split_string.result.0.now ≡ true = sym c.is_above.ensures ∙ c.if-not-is_above.false in
-    λ ps more h is. pairs_found ps more done (option_copied c.loop-rest.last) c.loop-rest.rest.now c.split_string.result.0.now c.split_string.result.1.now
-    c.in-Err.n done' c.loop-rest-test.true above c.split_string.ensures.short c.split_string.ensures.split count c.in-Err.ensures.walks
+    λ ps more h is. pairs_found ps more done (option_copied c.loop-rest.last) front c.in-Err.n done' above count c.in-Err.ensures.walks
     (c.loop-rest.invariant.left ps more h is)
 
 pub returns-clause-walks : goal.returns-clause-walks

@@ -46,7 +46,8 @@ loop-i-preserved c =
     let digit = c.if-not-is_digit-2.ensures.0 refl in
     let longer : i + 1 - at ≡ i - at + 1 = omega (arith, c.loop-i.invariant.read.following) in
     record {
-      read = digits_go_on payload at i n c.loop-i.invariant.read (omega (arith, least_left (length c.args.payload.now - c.args.at) 15)) digit c.loop-i.invariant.some room;
+      read = digits_go_on payload at i n c.loop-i.invariant.read (omega (arith, least_left (length c.args.payload.now - c.args.at) 15)) digit
+          c.loop-i.invariant.some room;
       some = omega (arith, c.loop-i.invariant.some);
       small = rw longer (digit_more n (i - at) (get_or payload i 0 - 48) c.loop-i.invariant.small (omega (arith, digit)));
     }

@@ -12,7 +12,7 @@ returns-in-None-clause-err c = impossible c.args.payload.now c.loop-at.at (stops
 
 pub returns-then-is_between-clause-within : goal.returns-then-is_between-clause-within
 returns-then-is_between-clause-within c = elim c.match-expect.branch [
-  | in-Text w ↦ let p = passed c.args.payload.now c.loop-at.at w.in-Text.left w.min-passed.result c.loop-at.expect w.text-expect.result c.loop-at.stack
+  | in-Text w ↦ let p = passed c.args.payload.now c.loop-at.at
       w.in-Text.is w.min-passed.ensures c.loop-at-test.true c.loop-at.invariant.read w.text-expect.ensures in
       (search rules, omega (arith, p.0, w.at-is))
   | in_default+in-Some w ↦ (omega (arith, c.loop-at.invariant.after, w.at-is), omega (arith, c.loop-at-test.true, w.at-is))
@@ -22,7 +22,7 @@ pub returns-then-is_between-clause-read : goal.returns-then-is_between-clause-re
 returns-then-is_between-clause-read c =
     let P : Expect → Type 0 = λ e. HasRead (take c.match-expect.at c.args.payload.now) e c.match-expect.stack in
     subst P (c.is_between.ensures.0 c.if-is_between.true) (elim c.match-expect.branch [
-      | in-Text w ↦ let p = passed c.args.payload.now c.loop-at.at w.in-Text.left w.min-passed.result c.loop-at.expect w.text-expect.result c.loop-at.stack
+      | in-Text w ↦ let p = passed c.args.payload.now c.loop-at.at
           w.in-Text.is w.min-passed.ensures c.loop-at-test.true c.loop-at.invariant.read w.text-expect.ensures in
           rw (w.at-is, w.expect-is, w.stack-is) p.1
       | in_default+in-Some w ↦ rw (w.at-is, w.expect-is, w.stack-is) (goes_on c.args.payload.now c.loop-at.at c.loop-at.expect w.in-Some.next c.loop-at.stack
@@ -39,7 +39,7 @@ loop-at-init c = record {
 
 pub loop-at-preserved : goal.loop-at-preserved
 loop-at-preserved c = elim c.match-expect.branch [
-  | in-Text w ↦ let p = passed c.args.payload.now c.loop-at.at w.in-Text.left w.min-passed.result c.loop-at.expect w.text-expect.result c.loop-at.stack
+  | in-Text w ↦ let p = passed c.args.payload.now c.loop-at.at
       w.in-Text.is w.min-passed.ensures c.loop-at-test.true c.loop-at.invariant.read w.text-expect.ensures in
       record {
         after = omega (arith, c.loop-at.invariant.after, w.at-is);

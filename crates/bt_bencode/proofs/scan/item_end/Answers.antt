@@ -20,7 +20,7 @@ returns-clause-item c =
           (λ end within leads. value_in_list payload at end s (omega arith) (omega (arith, w.value-is, within)) s' (sym c.in-Some.ensures
           ∙ ap (λ (k : Container). Some k) w.in-List.is) c.if-payload-at-eq101.false (rw w.value-is at leads))
       | in-Dict+in-Some-string_end w ↦ found_within c.value_end.result _ _ _ _ c.value_end.ensures.within c.value_end.ensures.value
-          (λ end within leads. leads_on payload at w.in-Some-string_end.end end expect.Item expect.Value expect.Item s s s'
+          (λ end within leads. leads_on payload at w.in-Some-string_end.end end
           (omega (arith, w.in-Some-string_end.ensures.within)) (omega (arith, w.value-is, within))
           (key_leads payload at w.in-Some-string_end.end s (sym c.in-Some.ensures ∙ ap (λ (k : Container). Some k) w.in-Dict.is)
           w.in-Some-string_end.ensures.key) (rw w.value-is at leads))

@@ -82,8 +82,8 @@ pub skip_value-split_string-requires : goal.skip_value-split_string-requires
 skip_value-split_string-requires t c = string_there c.args.bytes.now c.requires (λ e. omega arith) (λ e. omega arith) (λ e. omega arith)
 
 pub skip_value-returns-in-105-clause-following : goal.skip_value-returns-in-105-clause-following
-skip_value-returns-in-105-clause-following t c = λ u more h is. (over_integer c.args.bytes.now c.following.result.now c.read_int.result.1.now
-    c.read_int.result.0 c.in-105.is c.following.ensures c.read_int.ensures.fits c.read_int.ensures.value u more h is).1
+skip_value-returns-in-105-clause-following t c = λ u more h is. (over_integer c.read_int.result.1.now c.read_int.result.0 c.in-105.is c.following.ensures
+    c.read_int.ensures.fits c.read_int.ensures.value u more h is).1
 
 pub skip_value-returns-in-108-clause-following : goal.skip_value-returns-in-108-clause-following
 skip_value-returns-in-108-clause-following t c = list_skipped c.args.bytes.now c.following-in-108.result.now c.skip_items.result.now c.in-108.is
@@ -94,7 +94,7 @@ skip_value-returns-in-100-clause-following t c = dictionary_skipped c.args.bytes
     c.following-in-100.ensures c.skip_pairs.ensures.following
 
 pub skip_value-returns-in_default-clause-following : goal.skip_value-returns-in_default-clause-following
-skip_value-returns-in_default-clause-following t c = λ u more h is. (over_text c.args.bytes.now c.split_string.result.0.now c.split_string.result.1.now
+skip_value-returns-in_default-clause-following t c = λ u more h is. (over_text c.args.bytes.now c.split_string.result.0.now
     (λ e. omega arith) (λ e. omega arith) (λ e. omega arith) c.split_string.ensures.short c.split_string.ensures.split u more h is).1
 
 pub pass_value-bounds-bytes-0 : goal.pass_value-bounds-bytes-0
@@ -107,11 +107,11 @@ pub pass_value-split_string-requires : goal.pass_value-split_string-requires
 pass_value-split_string-requires t c = string_there c.args.bytes.now c.requires (λ e. omega arith) (λ e. omega arith) (λ e. omega arith)
 
 pub pass_value-returns-in-105-clause-following : goal.pass_value-returns-in-105-clause-following
-pass_value-returns-in-105-clause-following t c = λ u more h is. (over_integer c.args.bytes.now c.following.result.now c.read_int.result.1.now
-    c.read_int.result.0 c.in-105.is c.following.ensures c.read_int.ensures.fits c.read_int.ensures.value u more h is).1
+pass_value-returns-in-105-clause-following t c = λ u more h is. (over_integer c.read_int.result.1.now c.read_int.result.0 c.in-105.is c.following.ensures
+    c.read_int.ensures.fits c.read_int.ensures.value u more h is).1
 
 pub pass_value-returns-in_default-clause-following : goal.pass_value-returns-in_default-clause-following
-pass_value-returns-in_default-clause-following t c = λ u more h is. (over_text c.args.bytes.now c.split_string.result.0.now c.split_string.result.1.now
+pass_value-returns-in_default-clause-following t c = λ u more h is. (over_text c.args.bytes.now c.split_string.result.0.now
     (λ e. omega arith) (λ e. omega arith) (λ e. omega arith) c.split_string.ensures.short c.split_string.ensures.split u more h is).1
 
 pub pass_value-skip_value-requires : goal.pass_value-skip_value-requires

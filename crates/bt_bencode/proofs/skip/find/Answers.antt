@@ -2,6 +2,7 @@ use Rattle.std.proofs.Common.{◌≡◌, ◌∙◌, sym, true, false}
 use Rattle.std.specs.Str.{bytes_eq}
 use Rattle.bt_bencode.specs.Readable.{HasPairs}
 use Rattle.bt_bencode.proofs.Heads.{key_there, value_after}
+use Rattle.bt_bencode.proofs.Walk.{KeyInFront}
 use Rattle.bt_bencode.proofs.Skips.{for_step, for_found, for_none}
 use Rattle.bt_bencode.proofs.skip.find.Goals as goal
 
@@ -13,9 +14,13 @@ split_string-requires c =
 
 pub returns-then-eq : goal.returns-then-eq
 returns-then-eq c = λ ps more h is.
+    let front : KeyInFront c.loop-rest.rest.now c.split_string.result.0.now c.split_string.result.1.now = record {
+      other = c.loop-rest-test.true;
+      short = c.split_string.ensures.short;
+      split = c.split_string.ensures.split;
+    } in
     let same : bytes_eq c.split_string.result.0.now c.args.key.now ≡ true = sym c.eq.ensures ∙ c.if-eq.true in
-    let f = for_found c.args.key.now ps more c.loop-rest.rest.now c.split_string.result.0.now c.split_string.result.1.now c.split_string.ensures.short
-    c.split_string.ensures.split c.loop-rest-test.true same (c.loop-rest.invariant ps more h is) in
+    let f = for_found c.args.key.now ps more front same (c.loop-rest.invariant ps more h is) in
     (f.0, f.1, f.2, f.3, f.4)
 
 pub pass_value-rest-requires : goal.pass_value-rest-requires
@@ -27,9 +32,13 @@ pass_value-rest-requires c =
 
 pub loop-rest-preserved : goal.loop-rest-preserved
 loop-rest-preserved c = λ ps more h is.
+    let front : KeyInFront c.loop-rest.rest.now c.split_string.result.0.now c.split_string.result.1.now = record {
+      other = c.loop-rest-test.true;
+      short = c.split_string.ensures.short;
+      split = c.split_string.ensures.split;
+    } in
     let differs : bytes_eq c.split_string.result.0.now c.args.key.now ≡ false = sym c.eq.ensures ∙ c.if-eq.false in
-    for_step c.args.key.now ps more c.loop-rest.rest.now c.split_string.result.0.now c.split_string.result.1.now c.split_string.ensures.short
-    c.split_string.ensures.split c.pass_value-rest.result.now c.loop-rest-test.true differs c.pass_value-rest.ensures.following
+    for_step c.args.key.now ps more front c.pass_value-rest.result.now differs c.pass_value-rest.ensures.following
     (c.loop-rest.invariant ps more h is)
 
 pub returns : goal.returns

@@ -2,6 +2,7 @@ use Rattle.std.proofs.Common.{◌∙◌, is_some, refl, sym, ap}
 use Rattle.std.specs.Str.{bytes_eq}
 use Rattle.bt_bencode.specs.Readable.{HasPairs}
 use Rattle.bt_bencode.proofs.Heads.{key_there, value_after}
+use Rattle.bt_bencode.proofs.Walk.{KeyInFront}
 use Rattle.bt_bencode.proofs.Skips.{sought_left, sought_step, sought_found, sought_end}
 use Rattle.bt_bencode.proofs.skip.find_two.Goals as goal
 
@@ -22,31 +23,43 @@ pass_value-rest-requires c =
 
 pub returns-then-is_some-2-clause-first : goal.returns-then-is_some-2-clause-first
 returns-then-is_some-2-clause-first c = λ ps more h is.
+    let front : KeyInFront c.loop-rest.rest.now c.split_string.result.0.now c.split_string.result.1.now = record {
+      other = c.loop-rest-test.true;
+      short = c.split_string.ensures.short;
+      split = c.split_string.ensures.split;
+    } in
     let key = c.split_string.result.0.now in
-    let rest = c.loop-rest.rest.now in
-    rw c.found_at-one.ensures (sought_found c.args.first.now ps more rest key c.split_string.result.1 c.split_string.ensures.short
-    c.split_string.ensures.split c.loop-rest.one (bytes_eq key c.args.first.now) refl c.loop-rest-test.true (c.loop-rest.invariant.first ps more h is)
+    rw c.found_at-one.ensures (sought_found c.args.first.now ps more c.split_string.result.1 front c.loop-rest.one (bytes_eq key c.args.first.now) refl
+    (c.loop-rest.invariant.first ps more h is)
     (ap is_some (sym c.found_at-one.ensures) ∙ sym c.is_some.ensures ∙ c.if-is_some.true))
 
 pub returns-then-is_some-2-clause-second : goal.returns-then-is_some-2-clause-second
 returns-then-is_some-2-clause-second c = λ ps more h is.
+    let front : KeyInFront c.loop-rest.rest.now c.split_string.result.0.now c.split_string.result.1.now = record {
+      other = c.loop-rest-test.true;
+      short = c.split_string.ensures.short;
+      split = c.split_string.ensures.split;
+    } in
     let key = c.split_string.result.0.now in
-    let rest = c.loop-rest.rest.now in
-    rw c.found_at-two.ensures (sought_found c.args.second.now ps more rest key c.split_string.result.1 c.split_string.ensures.short
-    c.split_string.ensures.split c.loop-rest.two (bytes_eq key c.args.second.now) refl c.loop-rest-test.true (c.loop-rest.invariant.second ps more h is)
+    rw c.found_at-two.ensures (sought_found c.args.second.now ps more c.split_string.result.1 front c.loop-rest.two (bytes_eq key c.args.second.now) refl
+    (c.loop-rest.invariant.second ps more h is)
     (ap is_some (sym c.found_at-two.ensures) ∙ sym c.is_some-then-is_some.ensures ∙ c.if-is_some-2.true))
 
 pub loop-rest-preserved : goal.loop-rest-preserved
 loop-rest-preserved c =
+    let front : KeyInFront c.loop-rest.rest.now c.split_string.result.0.now c.split_string.result.1.now = record {
+      other = c.loop-rest-test.true;
+      short = c.split_string.ensures.short;
+      split = c.split_string.ensures.split;
+    } in
     let key = c.split_string.result.0.now in
-    let rest = c.loop-rest.rest.now in
     let next = c.pass_value-rest.result.now in
     record {
-      first = λ ps more h is. rw c.found_at-one.ensures (sought_step c.args.first.now ps more rest key c.split_string.result.1 c.split_string.ensures.short
-          c.split_string.ensures.split next c.loop-rest.one (bytes_eq key c.args.first.now) refl c.loop-rest-test.true c.pass_value-rest.ensures.following
+      first = λ ps more h is. rw c.found_at-one.ensures (sought_step c.args.first.now ps more c.split_string.result.1 front next c.loop-rest.one
+          (bytes_eq key c.args.first.now) refl c.pass_value-rest.ensures.following
           (c.loop-rest.invariant.first ps more h is));
-      second = λ ps more h is. rw c.found_at-two.ensures (sought_step c.args.second.now ps more rest key c.split_string.result.1
-          c.split_string.ensures.short c.split_string.ensures.split next c.loop-rest.two (bytes_eq key c.args.second.now) refl c.loop-rest-test.true
+      second = λ ps more h is. rw c.found_at-two.ensures (sought_step c.args.second.now ps more c.split_string.result.1 front next c.loop-rest.two
+          (bytes_eq key c.args.second.now) refl
           c.pass_value-rest.ensures.following (c.loop-rest.invariant.second ps more h is));
     }
 

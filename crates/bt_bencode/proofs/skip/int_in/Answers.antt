@@ -13,5 +13,5 @@ read_int-requires c = rw c.following.ensures (integer_there c.args.value.now c.r
 
 pub returns-then-value-eq105 : goal.returns-then-value-eq105
 returns-then-value-eq105 c = λ t more h is.
-    ap (λ (z : ℤ). Some z) (to_z-of_z w64 c.read_int.result.0 c.read_int.ensures.fits) ∙ integer_in c.args.value.now c.following.result.now
+    ap (λ (z : ℤ). Some z) (to_z-of_z w64 c.read_int.result.0 c.read_int.ensures.fits) ∙ integer_in
     c.read_int.result.1.now c.read_int.result.0 t more c.if-value-eq105.true c.following.ensures c.read_int.ensures.fits c.read_int.ensures.value h is

@@ -15,9 +15,9 @@ read_int-number-requires c = rw c.following.ensures (integer_there c.args.value.
 pub returns-then-value-eq105 : goal.returns-then-value-eq105
 returns-then-value-eq105 c = record {
   number = λ t more h is.
-      ap (λ (z : ℤ). Some z) (to_z-of_z w64 c.read_int-number.result.0 c.read_int-number.ensures.fits) ∙ integer_in c.args.value.now c.following.result.now
+      ap (λ (z : ℤ). Some z) (to_z-of_z w64 c.read_int-number.result.0 c.read_int-number.ensures.fits) ∙ integer_in
       c.read_int-number.result.1.now c.read_int-number.result.0 t more c.if-value-eq105.true c.following.ensures c.read_int-number.ensures.fits
       c.read_int-number.ensures.value h is;
-  following = λ t more h is. (over_integer c.args.value.now c.following.result.now c.read_int-number.result.1.now c.read_int-number.result.0
+  following = λ t more h is. (over_integer c.read_int-number.result.1.now c.read_int-number.result.0
       c.if-value-eq105.true c.following.ensures c.read_int-number.ensures.fits c.read_int-number.ensures.value t more h is).1;
 }

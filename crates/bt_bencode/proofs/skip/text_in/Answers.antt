@@ -19,5 +19,5 @@ pub returns-in-100 : goal.returns-in-100
 returns-in-100 c = λ t more h is. no_text_in c.args.value.now t more (omega arith) h is
 
 pub returns-in_default : goal.returns-in_default
-returns-in_default c = λ t more h is. text_in c.args.value.now c.split_string.result.0.now c.split_string.result.1.now t more (λ e. omega arith)
+returns-in_default c = λ t more h is. text_in c.args.value.now c.split_string.result.1.now t more (λ e. omega arith)
     (λ e. omega arith) (λ e. omega arith) c.split_string.ensures.short c.split_string.ensures.split h is

@@ -4,7 +4,8 @@ use Rattle.bt_bencode.specs.Bencoding.{ben_string}
 use Rattle.bt_bencode.specs.Keys.{is_above}
 use Rattle.bt_bencode.specs.Readable.{HasPairs}
 use Rattle.bt_bencode.proofs.Heads.{item_there, key_there, value_after, nonempty, integer_there, items_there, pairs_there, string_there}
-use Rattle.bt_bencode.proofs.Walk.{items_has, items_step, items_found, items_over, pairs_has, pairs_step, pairs_found, key_found, pairs_over, over_integer}
+use Rattle.bt_bencode.proofs.Walk.{KeyInFront, items_has, items_step, items_found, items_over, pairs_has, pairs_step, pairs_found, key_found, pairs_over}
+use Rattle.bt_bencode.proofs.Walk.{over_integer}
 use Rattle.bt_bencode.proofs.Walk.{over_text, over_list, in_list, over_dictionary, in_dictionary}
 use Rattle.bt_bencode.proofs.sorted.+walk.Goals as goal
 
@@ -50,10 +51,14 @@ walk_pairs-split_string-requires t c =
 
 pub walk_pairs-returns-then-not-is_above-clause-walks : goal.walk_pairs-returns-then-not-is_above-clause-walks
 walk_pairs-returns-then-not-is_above-clause-walks t c =
+    let front : KeyInFront c.loop-rest.rest.now c.split_string.result.0.now c.split_string.result.1.now = record {
+      other = c.loop-rest-test.true;
+      short = c.split_string.ensures.short;
+      split = c.split_string.ensures.split;
+    } in
     let done : ℕ = length c.args.bytes.now - length c.loop-rest.rest.now in
     let below : is_above (option_copied c.loop-rest.last) c.split_string.result.0.now ≡ false = sym c.is_above.ensures ∙ c.if-not-is_above.true in
-    λ ps more h is. key_found ps more done (option_copied c.loop-rest.last) c.loop-rest.rest.now c.split_string.result.0.now c.split_string.result.1.now
-    c.loop-rest-test.true below c.split_string.ensures.short c.split_string.ensures.split (c.loop-rest.invariant.left ps more h is)
+    λ ps more h is. key_found ps more done (option_copied c.loop-rest.last) front below (c.loop-rest.invariant.left ps more h is)
 
 pub walk_pairs-walk_value-requires : goal.walk_pairs-walk_value-requires
 walk_pairs-walk_value-requires t c =
@@ -69,6 +74,11 @@ walk_pairs-walk_value-requires t c =
 
 pub walk_pairs-loop-rest-preserved : goal.walk_pairs-loop-rest-preserved
 walk_pairs-loop-rest-preserved t c =
+    let front : KeyInFront c.loop-rest.rest.now c.split_string.result.0.now c.split_string.result.1.now = record {
+      other = c.loop-rest-test.true;
+      short = c.split_string.ensures.short;
+      split = c.split_string.ensures.split;
+    } in
     let done : ℕ = length c.args.bytes.now - length c.loop-rest.rest.now in
     let done' : ℕ = length c.args.bytes.now - length c.in-Ok.more.now in
     let within : length c.loop-rest.rest.now ≤ length c.args.bytes.now = c.loop-rest.invariant.within in
@@ -78,21 +88,24 @@ walk_pairs-loop-rest-preserved t c =
     let above : is_above (option_copied c.loop-rest.last) c.split_string.result.0.now ≡ true = sym c.is_above.ensures ∙ c.if-not-is_above.false in
     record {
       within = omega arith;
-      left = λ ps more h is. pairs_step ps more done (option_copied c.loop-rest.last) c.loop-rest.rest.now c.split_string.result.0.now
-          c.split_string.result.1.now c.in-Ok.more.now done' c.loop-rest-test.true above c.split_string.ensures.short c.split_string.ensures.split count
+      left = λ ps more h is. pairs_step ps more done (option_copied c.loop-rest.last) front c.in-Ok.more.now done' above count
           c.in-Ok.ensures.walks (c.loop-rest.invariant.left ps more h is);
     }
 
 pub walk_pairs-returns-in-Err-clause-walks : goal.walk_pairs-returns-in-Err-clause-walks
 walk_pairs-returns-in-Err-clause-walks t c =
+    let front : KeyInFront c.loop-rest.rest.now c.split_string.result.0.now c.split_string.result.1.now = record {
+      other = c.loop-rest-test.true;
+      short = c.split_string.ensures.short;
+      split = c.split_string.ensures.split;
+    } in
     let done : ℕ = length c.args.bytes.now - length c.loop-rest.rest.now in
     let done' : ℕ = length c.args.bytes.now - length c.split_string.result.1.now in
     let within : length c.loop-rest.rest.now ≤ length c.args.bytes.now = c.loop-rest.invariant.within in
     let parts = ap length c.split_string.ensures.split ∙ length-append (ben_string c.split_string.result.0.now) c.split_string.result.1.now in
     let count : done + length c.loop-rest.rest.now ≡ done' + length c.split_string.result.1.now = omega arith in
     let above : is_above (option_copied c.loop-rest.last) c.split_string.result.0.now ≡ true = sym c.is_above.ensures ∙ c.if-not-is_above.false in
-    λ ps more h is. pairs_found ps more done (option_copied c.loop-rest.last) c.loop-rest.rest.now c.split_string.result.0.now c.split_string.result.1.now
-    c.in-Err.n done' c.loop-rest-test.true above c.split_string.ensures.short c.split_string.ensures.split count c.in-Err.ensures.walks
+    λ ps more h is. pairs_found ps more done (option_copied c.loop-rest.last) front c.in-Err.n done' above count c.in-Err.ensures.walks
     (c.loop-rest.invariant.left ps more h is)
 
 pub walk_pairs-returns-clause-walks : goal.walk_pairs-returns-clause-walks
@@ -123,7 +136,7 @@ pub walk_value-split_string-requires : goal.walk_value-split_string-requires
 walk_value-split_string-requires t c = string_there c.args.bytes.now c.requires (λ e. omega arith) (λ e. omega arith) (λ e. omega arith)
 
 pub walk_value-returns-in-105-clause-walks : goal.walk_value-returns-in-105-clause-walks
-walk_value-returns-in-105-clause-walks t c = over_integer c.args.bytes.now c.following.result.now c.read_int.result.1.now c.read_int.result.0 c.in-105.is
+walk_value-returns-in-105-clause-walks t c = over_integer c.read_int.result.1.now c.read_int.result.0 c.in-105.is
     c.following.ensures c.read_int.ensures.fits c.read_int.ensures.value
 
 pub walk_value-returns-in-Ok-clause-walks : goal.walk_value-returns-in-Ok-clause-walks
@@ -143,5 +156,5 @@ walk_value-returns-in-Err-walk_pairs-clause-walks t c = in_dictionary c.args.byt
     c.following-in-100.ensures c.in-Err-walk_pairs.ensures.walks
 
 pub walk_value-returns-in_default-clause-walks : goal.walk_value-returns-in_default-clause-walks
-walk_value-returns-in_default-clause-walks t c = over_text c.args.bytes.now c.split_string.result.0.now c.split_string.result.1.now (λ e. omega arith)
+walk_value-returns-in_default-clause-walks t c = over_text c.args.bytes.now c.split_string.result.0.now (λ e. omega arith)
     (λ e. omega arith) (λ e. omega arith) c.split_string.ensures.short c.split_string.ensures.split

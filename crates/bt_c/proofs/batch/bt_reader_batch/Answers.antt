@@ -7,8 +7,7 @@ use Rattle.bt_c.proofs.batch.bt_reader_batch.Goals as goal
 pub returns-then-answer-ne-ITEM : goal.returns-then-answer-ne-ITEM
 returns-then-answer-ne-ITEM c =
     let P : List ℕ → Type 0 = λ z. Steps c.items.reader z c.next_by-answer.new.reader c.next_by-answer.new.item c.next_by-answer.result.0 in
-    stopped c.args.reader.now c.args.bytes.now c.items.reader c.next_by-answer.new.reader c.args.items.now c.items.items c.items.count c.items.used
-    c.next_by-answer.result.0 c.next_by-answer.new.item c.items.invariant.so_far (omega (arith, c.items.invariant.room, c.if-count-items.false))
+    stopped c.items.invariant.so_far (omega (arith, c.items.invariant.room, c.if-count-items.false))
     (subst P c.suffix.ensures c.next_by-answer.ensures.step) c.if-answer-ne-ITEM.true
 
 pub items-preserved : goal.items-preserved
@@ -21,7 +20,7 @@ items-preserved c =
     let lt : count < length new = omega (arith, c.items.invariant.room, c.if-count-items.false) in
     let size = length-set new count i in
     let step = subst P c.suffix.ensures c.next_by-answer.ensures.step in
-    let more = further from b r t old new count used n i c.items.invariant.so_far lt step c.if-answer-ne-ITEM.false in
+    let more = further c.items.invariant.so_far lt step c.if-answer-ne-ITEM.false in
     record {
       size = size ∙ c.items.invariant.size;
       room = omega (arith, size, c.items.invariant.room, c.if-count-items.false);

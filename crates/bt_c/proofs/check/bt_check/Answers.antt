@@ -10,9 +10,8 @@ returns-then-answer-ne-ITEM c =
     let so_far = c.items.invariant.reads in
     let ends = subst (λ (b : List ℕ). Ends c.items.reader b c.last_item-answer.new.reader c.last_item-answer.new.item c.last_item-answer.result)
     c.suffix.ensures c.last_item-answer.ensures in
-    checked c.args.own.now c.items.reader c.last_item-answer.new.reader c.args.bytes.now (drop c.items.at c.args.bytes.now) c.last_item-answer.new.item
-    so_far.0 c.last_item-answer.result c.items.count c.verdict_of.result
-    (omega arith) so_far.1 so_far.2 ends c.if-answer-ne-ITEM.true (record { end = c.verdict_of.ensures.end; refused = c.verdict_of.ensures.refused })
+    checked c.args.own.now so_far.0 (omega arith) so_far.1 so_far.2 ends c.if-answer-ne-ITEM.true
+    (record { end = c.verdict_of.ensures.end; refused = c.verdict_of.ensures.refused })
 
 -- the item of an answer 1
 item_size : (c : goal.Else-answer-ne-ITEM) → (4 ≤ c.last_item-answer.new.item.size)

@@ -18,7 +18,7 @@ returns-then-size-bytes-clause-step c = λ opened.
     let n = c.in-Some.size in
     let s = c.go_quickly-answer.new.reader in let i = c.go_quickly-answer.new.item in let k = c.go_quickly-answer.result in
     let P : List ℕ → Type 0 = λ z. GoesOver context order r z s i k in
-    over_opened r s b i n k context order opened c.requires.context c.order_of-order.ensures
+    over_opened opened c.requires.context c.order_of-order.ensures
     c.if-reader-lt-FULL.true c.if-size-bytes.true
     (front_whole context order b n c.in-Some.ensures c.if-size-bytes.true) (subst P c.first-window.ensures c.go_quickly-answer.ensures.over)
 

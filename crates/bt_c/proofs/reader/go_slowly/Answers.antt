@@ -43,6 +43,6 @@ returns-else-size-bytes-clause-step c = λ opened.
     let context = c.context_of-context.result in let order = c.order_of-order.result in let r = c.args.reader.now in let b = c.args.bytes.now in let n =
     c.in-Window.size in
     let P : List ℕ → Type 0 = λ z. GoesOver context order r z c.go_over.new.reader c.go_over.new.item c.go_over.result in
-    over_opened r c.go_over.new.reader b c.go_over.new.item n c.go_over.result context order opened c.context_of-context.ensures c.order_of-order.ensures
+    over_opened opened c.context_of-context.ensures c.order_of-order.ensures
     c.if-start-ge-FULL.false c.if-size-bytes.false
     (front_whole context order b n (sym c.in-Window.ensures) c.if-size-bytes.false) (subst P c.first.ensures c.go_over.ensures.over)

@@ -21,8 +21,8 @@ returns-else-id-ne0-clause-ok g c =
     let none = subst (λ (es : Entries). HoldsAt c.args.name.now es None) c.deref.ensures.value c.in-None.ensures in
     keep-absent c.args.name.now c.args.id c.args.entries.now.items (omega arith) (omega arith) none
 
-pub returns-in_ok-push-in-None-clause-ok : goal.returns-in_ok-push-in-None-clause-ok
-returns-in_ok-push-in-None-clause-ok g c = search rules
+pub returns-in_ok-push_entry-in-None-clause-ok : goal.returns-in_ok-push_entry-in-None-clause-ok
+returns-in_ok-push_entry-in-None-clause-ok g c = search rules
 
 pub returns-else-len-lt-MAX_NAMES-clause-ok : goal.returns-else-len-lt-MAX_NAMES-clause-ok
 returns-else-len-lt-MAX_NAMES-clause-ok g c = search rules

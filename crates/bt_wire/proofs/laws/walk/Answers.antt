@@ -20,8 +20,8 @@ messages-preserved c =
     record {
       within = omega (arith, size.1, ap length c.suffix.ensures, length-drop at all, c.messages.invariant.within);
       moved = omega (arith, size.0, c.messages.invariant.moved);
-      told = λ v h. c.messages.invariant.told _ (message_more c.args.context.now c.messages.order c.next_of_view-order.result (68 + at)
-          c.messages.number at c.in-Whole.length all c.suffix.result.now _ v (omega arith) c.suffix.ensures c.in-Whole.ensures c.next_of_view-order.ensures
+      told = λ v h. c.messages.invariant.told _ (message_more {c = c.args.context.now} at all (omega arith) c.suffix.ensures c.in-Whole.ensures
+          c.next_of_view-order.ensures
           (let P : ℕ → Type 0 = λ s. IsOutcome c.args.context.now c.next_of_view-order.result s (c.messages.number + 1) (drop (at + c.in-Whole.length) all)
           v in let e : 68 + (at + c.in-Whole.length) ≡ 68 + at + c.in-Whole.length = omega arith in subst P e h));
     }

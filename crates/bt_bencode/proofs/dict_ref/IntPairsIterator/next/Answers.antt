@@ -24,14 +24,14 @@ invariant_of-self-inside c = (
 )
 
 pub returns-clause-steps : goal.returns-clause-steps
-returns-clause-steps c = pair_given c.self.inside.rest.now c.self.inside.pairs.0 c.args.self.now c.rest-2-1.given.0.0 c.split_string.result.0
-    c.split_string.result.1 c.split_int-number.result.0 c.split_int-number.result.1.now c.self.inside.pairs.1 c.self.view_is c.if-self-eq101.false
-    c.split_string.ensures.short c.split_string.ensures.split c.split_int-number.ensures.number c.split_int-number.ensures.following c.rest-2-1.given.0.1
+returns-clause-steps c = pair_given c.self.inside.pairs.0 c.split_string.result.0 c.split_string.result.1 c.split_int-number.result.0 c.self.inside.pairs.1
+    c.self.view_is (record { other = c.if-self-eq101.false; short = c.split_string.ensures.short; split = c.split_string.ensures.split })
+    c.split_int-number.ensures.number c.split_int-number.ensures.following c.rest-2-1.given.0.1
 
 pub returns-clause-goes : goal.returns-clause-goes
 returns-clause-goes c =
-    let steps = pair_given c.self.inside.rest.now c.self.inside.pairs.0 c.args.self.now c.rest-2-1.given.0.0 c.split_string.result.0 c.split_string.result.1
-    c.split_int-number.result.0 c.split_int-number.result.1.now c.self.inside.pairs.1 c.self.view_is c.if-self-eq101.false c.split_string.ensures.short
-    c.split_string.ensures.split c.split_int-number.ensures.number c.split_int-number.ensures.following c.rest-2-1.given.0.1 in
+    let steps = pair_given c.self.inside.pairs.0 c.split_string.result.0 c.split_string.result.1 c.split_int-number.result.0 c.self.inside.pairs.1
+    c.self.view_is (record { other = c.if-self-eq101.false; short = c.split_string.ensures.short; split = c.split_string.ensures.split })
+    c.split_int-number.ensures.number c.split_int-number.ensures.following c.rest-2-1.given.0.1 in
     let less = fewer c.args.self.now c.rest-2-1.given.0.0 (c.split_string.result.0, c.split_int-number.result.0) steps in
     omega arith

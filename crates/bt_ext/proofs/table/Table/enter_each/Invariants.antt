@@ -2,7 +2,7 @@
 use Rattle.std.proofs.Common.{◌≡◌, drop}
 use Rattle.bt_ext.specs.Tables.{entered_all}
 use Rattle.bt_ext.specs.Holding.{entries_of, AreMarks}
-use Rattle.bt_ext.proofs.table.Table.enter_many.Given as goal
+use Rattle.bt_ext.proofs.table.Table.enter_each.Given as goal
 
 abbrev pub invariant-loop-name : goal.invariant-loop-name
 invariant-loop-name g l = AreMarks l.marks.items l.self

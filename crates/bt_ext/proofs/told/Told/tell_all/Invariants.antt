@@ -3,7 +3,7 @@ use Rattle.std.proofs.Common.{◌≡◌, ◌++◌, [], drop}
 use Rattle.bt_bencode.specs.Views.{pairs_of}
 use Rattle.bt_ext.specs.Tables.{told_by}
 use Rattle.bt_ext.specs.Holding.{entries_of, names_of}
-use Rattle.bt_ext.proofs.told.in_any_order.Given as goal
+use Rattle.bt_ext.proofs.told.Told.tell_all.Given as goal
 
 abbrev pub invariant-loop-name : goal.invariant-loop-name
-invariant-loop-name g l = told_by [] l.m ≡ entries_of l.told.entries.items ++ told_by (names_of l.told.names) (pairs_of (drop l.name-index l.name-items))
+invariant-loop-name g l = told_by [] l.m ≡ entries_of l.self.entries.items ++ told_by (names_of l.self.names) (pairs_of (drop l.name-index l.name-items))

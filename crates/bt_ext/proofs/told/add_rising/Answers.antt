@@ -4,7 +4,7 @@ use Rattle.std.specs.Option.{option_copied}
 use Rattle.bt_bencode.specs.Keys.{is_above}
 use Rattle.bt_ext.specs.Holding.{entries_of}
 use Rattle.bt_ext.proofs.Telling.{pass, rising_step}
-use Rattle.bt_ext.proofs.told.rising.Goals as goal
+use Rattle.bt_ext.proofs.told.add_rising.Goals as goal
 
 pub loop-name-preserved : goal.loop-name-preserved
 loop-name-preserved g c =
@@ -21,6 +21,6 @@ loop-name-preserved g c =
       item.0 ∷ earlier,
       pass last item.0 earlier up c.loop-name.invariant.1,
       c.loop-name.invariant.2
-          ∙ rising_step (entries_of old.items) (entries_of new.items) earlier last c.as_slice-name-items.result.now c.loop-name.name-index item
+          ∙ rising_step (entries_of old.items) earlier last c.as_slice-name-items.result.now c.loop-name.name-index
           c.loop-name-test.true c.loop-name-item.is c.loop-name.invariant.1 up done,
     )

@@ -1,11 +1,11 @@
 use Rattle.std.proofs.Common.{◌∙◌, subst, List, ℕ}
 use Rattle.bt_ext.specs.Holding.{entries_of, names_of, AddsName}
 use Rattle.bt_ext.proofs.Telling.{pairs_step}
-use Rattle.bt_ext.proofs.told.in_any_order.Goals as goal
+use Rattle.bt_ext.proofs.told.Told.tell_all.Goals as goal
 
 pub loop-name-preserved : goal.loop-name-preserved
 loop-name-preserved g c =
-    let old = c.loop-name.told in
+    let old = c.loop-name.self in
     let new = c.tell.new.self in
     let adds = subst (λ (n : List ℕ). AddsName n (names_of old.names) (names_of new.names)) c.as_slice.ensures c.in_ok-tell.ensures.names in
     let done = rw (c.as_slice.ensures, c.id_value.ensures) at c.in_ok-tell.ensures.entries in

@@ -4,7 +4,7 @@ use Rattle.std.specs.Option.{option_copied}
 use Rattle.bt_bencode.specs.Keys.{is_above}
 use Rattle.bt_ext.specs.Holding.{entries_of}
 use Rattle.bt_ext.proofs.Telling.{pass, rising_ref_step}
-use Rattle.bt_ext.proofs.told.rising_ref.Goals as goal
+use Rattle.bt_ext.proofs.told.add_rising_ref.Goals as goal
 
 pub loop-name-preserved : goal.loop-name-preserved
 loop-name-preserved g c =

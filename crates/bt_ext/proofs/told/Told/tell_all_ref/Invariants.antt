@@ -2,7 +2,7 @@
 use Rattle.std.proofs.Common.{◌≡◌, ◌++◌, []}
 use Rattle.bt_ext.specs.Tables.{told_by}
 use Rattle.bt_ext.specs.Holding.{entries_of, names_of}
-use Rattle.bt_ext.proofs.told.in_any_order_ref.Given as goal
+use Rattle.bt_ext.proofs.told.Told.tell_all_ref.Given as goal
 
 abbrev pub invariant-loop-name : goal.invariant-loop-name
-invariant-loop-name g l = told_by [] l.initial.name-iterator ≡ entries_of l.told.entries.items ++ told_by (names_of l.told.names) l.name-iterator
+invariant-loop-name g l = told_by [] l.initial.name-iterator ≡ entries_of l.self.entries.items ++ told_by (names_of l.self.names) l.name-iterator
