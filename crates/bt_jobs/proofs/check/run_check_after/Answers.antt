@@ -13,12 +13,21 @@ pub returns-in-Ok-pump_with-clause-checked : goal.returns-in-Ok-pump_with-clause
 returns-in-Ok-pump_with-clause-checked g c =
     let m = c.in-Ok-pump_with.ensures.moved in
     let end = m.5 in
-    checked_all c.args.prefix.now c.args.own.now c.in-Ok.feed (devices (g.R.Source.seen c.args.reader.now) (g.W.Target.seen c.args.writer.now))
-    (devices (g.R.Source.seen c.pump_with.new.reader) (g.W.Target.seen c.say_after.new.writer)) (m.0 ++ m.1) end.0
-    (Accepted (c.number-messages.result - 1) c.in-Ok-pump_with.bytes)
-    c.say_after.result c.requires.1 c.one_verdict.ensures.one m.3 c.in-Ok.ensures.ok end.1.comes
-    (is_accepted end.0 c.pump_with.new.feed c.number-messages.result _ c.in-Ok-pump_with.bytes end.3 end.1.number c.number-messages.ensures.value refl)
-    (c.in-Ok-pump_with.ensures.end tt) c.say_after.ensures.written
+    checked_all c.args.prefix.now c.args.own.now (devices (g.R.Source.seen c.args.reader.now) (g.W.Target.seen c.args.writer.now))
+    (devices (g.R.Source.seen c.pump_with.new.reader) (g.W.Target.seen c.say_after.new.writer))
+    (Accepted (c.number-messages.result - 1) c.in-Ok-pump_with.bytes) c.say_after.result (record {
+      limit = c.requires.1;
+      one = c.one_verdict.ensures.one;
+      bytes = m.0 ++ m.1;
+      feed = c.in-Ok.feed;
+      now = end.0;
+      consumed = m.3;
+      new = c.in-Ok.ensures.ok;
+      comes = end.1.comes;
+      ended = is_accepted end.0 c.pump_with.new.feed c.number-messages.result _ c.in-Ok-pump_with.bytes end.3 end.1.number c.number-messages.ensures.value refl;
+      told = c.in-Ok-pump_with.ensures.end tt;
+      written = c.say_after.ensures.written;
+    })
 
 pub returns-in-Err-Refused-clause-checked : goal.returns-in-Err-Refused-clause-checked
 returns-in-Err-Refused-clause-checked g c =
@@ -26,12 +35,21 @@ returns-in-Err-Refused-clause-checked g c =
     let P : PumpError → Type 0 = λ e. IsPumpEnd c.in-Ok.feed m.0 m.1 m.2 c.pump_with.new.feed (Err e) in
     let R : PumpError → Type 0 = λ e. IsEnd (Err e) → EndRead (g.R.Source.seen c.args.reader.now) (g.R.Source.seen c.pump_with.new.reader) in
     let end = subst P c.in-Err-Refused.field-0-is m.5 in
-    checked_all c.args.prefix.now c.args.own.now c.in-Ok.feed (devices (g.R.Source.seen c.args.reader.now) (g.W.Target.seen c.args.writer.now))
-    (devices (g.R.Source.seen c.pump_with.new.reader) (g.W.Target.seen c.say_after-in-Err-Refused.new.writer)) (m.0 ++ m.1) end.0
-    (Refused c.in-Err-Refused.refusal)
-    c.say_after-in-Err-Refused.result c.requires.1 c.one_verdict.ensures.one m.3 c.in-Ok.ensures.ok end.1.comes
-    (is_refused end.0 c.in-Err-Refused.refusal end.3) (subst R c.in-Err-Refused.field-0-is c.in-Err-Refused.ensures.end)
-    c.say_after-in-Err-Refused.ensures.written
+    checked_all c.args.prefix.now c.args.own.now (devices (g.R.Source.seen c.args.reader.now) (g.W.Target.seen c.args.writer.now))
+    (devices (g.R.Source.seen c.pump_with.new.reader) (g.W.Target.seen c.say_after-in-Err-Refused.new.writer))
+    (Refused c.in-Err-Refused.refusal) c.say_after-in-Err-Refused.result (record {
+      limit = c.requires.1;
+      one = c.one_verdict.ensures.one;
+      bytes = m.0 ++ m.1;
+      feed = c.in-Ok.feed;
+      now = end.0;
+      consumed = m.3;
+      new = c.in-Ok.ensures.ok;
+      comes = end.1.comes;
+      ended = is_refused end.0 c.in-Err-Refused.refusal end.3;
+      told = subst R c.in-Err-Refused.field-0-is c.in-Err-Refused.ensures.end;
+      written = c.say_after-in-Err-Refused.ensures.written;
+    })
 
 pub returns-in-Err-Turns-clause-checked : goal.returns-in-Err-Turns-clause-checked
 returns-in-Err-Turns-clause-checked g c =

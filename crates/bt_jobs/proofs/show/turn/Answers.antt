@@ -88,12 +88,12 @@ returns-in-Err-Turns-clause-told g c = λ own b xs le r empty.
 pub returns-in-Err-ReadFault-clause-told : goal.returns-in-Err-ReadFault-clause-told
 returns-in-Err-ReadFault-clause-told g c = λ own b xs le r empty.
     let m = c.in-Err-ReadFault.ensures.moved in
-    (m.0 ++ m.1, m.3, nothing_of_turn own (form_of c.args.printer.now) b (m.0 ++ m.1) xs c.args.feed.now _ (omega (arith, le)) c.one_verdict.ensures.items r)
+    (m.0 ++ m.1, m.3, nothing_of_turn (form_of c.args.printer.now) (m.0 ++ m.1) _ (omega (arith, le)) c.one_verdict.ensures.items r)
 
 pub returns-in-Err-Sink-clause-told : goal.returns-in-Err-Sink-clause-told
 returns-in-Err-Sink-clause-told g c = λ own b xs le r empty.
     let m = c.in-Err-Sink.ensures.moved in
-    (m.0 ++ m.1, m.3, nothing_of_turn own (form_of c.args.printer.now) b (m.0 ++ m.1) xs c.args.feed.now _ (omega (arith, le)) c.one_verdict.ensures.items r)
+    (m.0 ++ m.1, m.3, nothing_of_turn (form_of c.args.printer.now) (m.0 ++ m.1) _ (omega (arith, le)) c.one_verdict.ensures.items r)
 
 pub returns-in-Err-ReadFault-clause-unfailed : goal.returns-in-Err-ReadFault-clause-unfailed
 returns-in-Err-ReadFault-clause-unfailed g c = λ other. absurd (other refl)
