@@ -29,11 +29,12 @@ use Rattle.bt_text.specs.declared.ended.ToolFault.TheVariants as faults
 use Rattle.bt_jobs.specs.declared.printer.Form.{Form}
 use Rattle.bt_feed.proofs.Coming.{open_comes}
 use Rattle.bt_feed.proofs.Reading.{hand_open}
-use Rattle.std.specs.Prelude.{MatchResult, IfErr}
+use Rattle.std.specs.Prelude.{MatchResult, IfErr, OnErr}
 use Rattle.bt_jobs.specs.declared.printer.Printer.{Printer}
 use Rattle.bt_text.specs.Lines.{ended_by, ended_as, verdict_line}
 use Rattle.bt_io.specs.Seen.{SourceSeen, TargetSeen, Devices, devices, EndRead, AppendsPrefix}
 use Rattle.bt_jobs.specs.Printed.{texts, text_of, form_of, text_in, Prints, IsWrittenOut, IsFlushed, MayBeTold, IsEndOfReads, IsAllWritten, IsFrontWritten}
+use Rattle.bt_jobs.specs.Printed.{IsEndOfTurn}
 use Rattle.bt_jobs.specs.Printed.{Writing, nothing, items_in, prefixed, IsWritten, IsUnrefused, IsReadTo, so_far, turn_end, IsTurn, verdict_of, all_in}
 use Rattle.bt_jobs.specs.Printed.{SoFar, TurnEnd}
 
@@ -196,6 +197,25 @@ is_accepted v g number messages n e same is less =
 pub is_refused : (v : Outcome) (r : Refusal) → verdict_at_end v ≡ Err (finish.Refused r) → Refused r ≡ ended_as v (v.start + length v.tail)
 is_refused v r e = ap (λ (o : Option Refusal). ended_by o v.number (v.start + length v.tail))
     (sym (refused_by (refusal_at_end v) (v.start + length v.tail) r e))
+
+-- a fault of writing says what failed
+pub write_failed : {T : Type 0} (F : Type 0) (r : Result T ToolFault) → OnErr r F → r ≡ Err faults.Write → F
+write_failed F (Ok a) h e = absurd cc
+write_failed F (Err x) h e = h
+
+pub said_failed : {T : Type 0} (F : Type 0) (r : Result T ToolFault) → IfErr r (λ f. (f ≡ faults.Write) × F) → r ≡ Err faults.Write → F
+said_failed F (Ok a) h e = absurd cc
+said_failed F (Err x) h e = h.1
+
+-- where the answer of a turn comes from, once its text is written
+pub end_of_turn : (e : Ended) (text left : List ℕ) (held held' : Option (List ℕ)) (before after : SourceSeen) (r : Result (Option Ended) ToolFault)
+    → IsFlushed (Some e) text held held' left r → IfErr r (λ f. f ≡ faults.Write) → MayBeTold (EndRead before after) e → IsEndOfTurn r before after
+end_of_turn e text left held held' before after (Ok None) f fault told = absurd (let no : None ≡ Some e = f.0 in cc)
+end_of_turn e text left held held' before after (Ok (Some x)) f fault told =
+    let some : Some x ≡ Some e = f.0 in
+    let same : x ≡ e = cc in
+    subst (MayBeTold (EndRead before after)) (sym same) told
+end_of_turn e text left held held' before after (Err x) f fault told = subst (λ (y : ToolFault). IsEndOfTurn (Err y) before after) (sym fault) tt
 
 -- ---- the turns
 

@@ -6,7 +6,7 @@ use Rattle.bt_feed.specs.Pumps.{IsPumpEnd, IsEnd}
 use Rattle.bt_text.specs.declared.ended.Ended.TheVariants.{Accepted, Refused}
 use Rattle.bt_text.specs.declared.ended.ToolFault.TheVariants as fault
 use Rattle.bt_jobs.specs.Printed.{prefixed}
-use Rattle.bt_jobs.proofs.Printing.{is_accepted, is_refused, nothing_checked, checked_all, end_of_said, nothing_unrefused, pumped_unrefused}
+use Rattle.bt_jobs.proofs.Printing.{is_accepted, is_refused, nothing_checked, checked_all, end_of_said, said_failed, nothing_unrefused, pumped_unrefused}
 use Rattle.bt_jobs.proofs.check.run_check_after.Goals as goal
 
 pub returns-in-Ok-pump_with-clause-checked : goal.returns-in-Ok-pump_with-clause-checked
@@ -99,3 +99,26 @@ returns-in-Err-Refused-clause-faults g c =
     end_of_said (Refused c.in-Err-Refused.refusal) _ _ _ _ (g.R.Source.seen c.args.reader.now) (g.R.Source.seen c.pump_with.new.reader)
     c.say_after-in-Err-Refused.result (subst R c.in-Err-Refused.field-0-is c.in-Err-Refused.ensures.end) c.say_after-in-Err-Refused.ensures.written
     c.say_after-in-Err-Refused.ensures.fault
+
+pub returns-in-Ok-pump_with-clause-faults : goal.returns-in-Ok-pump_with-clause-faults
+returns-in-Ok-pump_with-clause-faults g c =
+    end_of_said (Accepted (c.number-messages.result - 1) c.in-Ok-pump_with.bytes) _ _ _ _ (g.R.Source.seen c.args.reader.now)
+    (g.R.Source.seen c.pump_with.new.reader) c.say_after.result (c.in-Ok-pump_with.ensures.end tt) c.say_after.ensures.written c.say_after.ensures.fault
+
+pub returns-in-Ok-pump_with-clause-reads : goal.returns-in-Ok-pump_with-clause-reads
+returns-in-Ok-pump_with-clause-reads g c = c.in-Ok-pump_with.ensures.reads
+
+pub returns-in-Ok-pump_with-clause-calm : goal.returns-in-Ok-pump_with-clause-calm
+returns-in-Ok-pump_with-clause-calm g c = λ _. c.in-Ok-pump_with.ensures.calm (λ e. absurd cc)
+
+pub returns-in-Ok-pump_with-clause-write : goal.returns-in-Ok-pump_with-clause-write
+returns-in-Ok-pump_with-clause-write g c = said_failed _ c.say_after.result c.say_after.ensures.fault
+
+pub returns-in-Err-Refused-clause-reads : goal.returns-in-Err-Refused-clause-reads
+returns-in-Err-Refused-clause-reads g c = c.in-Err-Refused.ensures.reads
+
+pub returns-in-Err-Refused-clause-calm : goal.returns-in-Err-Refused-clause-calm
+returns-in-Err-Refused-clause-calm g c = λ _. c.in-Err-Refused.ensures.calm (λ e. absurd (let is = c.in-Err-Refused.field-0-is in cc))
+
+pub returns-in-Err-Refused-clause-write : goal.returns-in-Err-Refused-clause-write
+returns-in-Err-Refused-clause-write g c = said_failed _ c.say_after-in-Err-Refused.result c.say_after-in-Err-Refused.ensures.fault
