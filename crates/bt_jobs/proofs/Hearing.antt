@@ -133,7 +133,7 @@ turned so f g before after l m false h known free = (
   h.given,
   h.consumed,
   record {
-    read = read_more reader_of_other so.bytes so.items f g h.bytes h.lost h.given h.now free.0 free.1 h.listening.read h.pumped;
+    read = read_more free.0 free.1 h.listening.read h.pumped;
     heard = heard_more so.items h.given l m h.listening.heard h.took;
     unknown = known.1 refl;
     now = with_items so.items h.now;
@@ -202,30 +202,35 @@ listening_more left before after f g l m t n = record {
   listening = n.3;
 }
 
+-- what holds of the verdict of every stream
+pub record AreLaws : Type 0 where
+  pub one : VerdictIsOne
+  pub refused : RefusalStays
+  pub items : ItemsStay
+
 -- what was heard is the answer
-settled : (D E : Type 0) (b : List ℕ) (v : Outcome) (l : Listener) (r : Result Announced OtherError) → VerdictIsOne → RefusalStays → ItemsStay
+settled : {D E : Type 0} {r : Result Announced OtherError} (b : List ℕ) (v : Outcome) (l : Listener) → AreLaws
     → IsVerdict reader_of_other b v → IsHeard v.items l → IsSettled D l v → (D → E)
     → r ≡ ok_or (announced l.reserved l.metadata l.donthave) NoHandshake → ((later : List ℕ) → IsSaidIn (b ++ later) r) ⊎ (E × IsSaidIn b r)
-settled D E b v l r one refused stay is h (inl known) to answer = inl (λ later w isw.
-    let s = stay reader_of_other b later v w (omega arith) is isw in
+settled {r} b v l laws is h (inl known) to answer = inl (λ later w isw.
+    let s = laws.items reader_of_other b later v w (omega arith) is isw in
     subst (λ (xs : List (ℕ × Item)). IsSaidBy xs r) (sym s.1) (said_by (v.items ++ s.0) l r (heard_still v.items s.0 l h known.0 known.1 known.2) answer))
-settled D E b v l r one refused stay is h (inr (inl some)) to answer = inl (λ later w isw.
-    let same : w ≡ record v { tail = v.tail ++ later } = one reader_of_other (b ++ later) w (record v { tail = v.tail ++ later }) (omega arith) isw
-    (refused reader_of_other b later v (omega arith) is some) in
+settled {r} b v l laws is h (inr (inl some)) to answer = inl (λ later w isw.
+    let same : w ≡ record v { tail = v.tail ++ later } = laws.one reader_of_other (b ++ later) w (record v { tail = v.tail ++ later }) (omega arith) isw
+    (laws.refused reader_of_other b later v (omega arith) is some) in
     subst (λ (u : Outcome). IsSaidBy u.items r) (sym same) (said_by v.items l r h answer))
-settled D E b v l r one refused stay is h (inr (inr d)) to answer = inr (
+settled {r} b v l laws is h (inr (inr d)) to answer = inr (
   to d,
-  λ w isw. subst (λ (u : Outcome). IsSaidBy u.items r) (one reader_of_other b v w (omega arith) is isw) (said_by v.items l r h answer),
+  λ w isw. subst (λ (u : Outcome). IsSaidBy u.items r) (laws.one reader_of_other b v w (omega arith) is isw) (said_by v.items l r h answer),
 )
 
-pub learnt : (start before after : SourceSeen) (f g : FeedState) (l m : Listener) (r : Result Announced OtherError) → VerdictIsOne
-    → RefusalStays → ItemsStay → (t : IsListeningTo start.left before.left f l)
-    → IsTurnHeard (so_far t.bytes t.items) before after g m (Ok true) → (EndRead before after → EndRead start after)
-    → r ≡ ok_or (announced m.reserved m.metadata m.donthave) NoHandshake → IsLearnt start after r
-learnt start before after f g l m r one refused stay t n to answer = (
+pub learnt : {f : FeedState} {l : Listener} {r : Result Announced OtherError} (start before after : SourceSeen) (g : FeedState) (m : Listener) → AreLaws
+    → (t : IsListeningTo start.left before.left f l) → IsTurnHeard (so_far t.bytes t.items) before after g m (Ok true)
+    → (EndRead before after → EndRead start after) → r ≡ ok_or (announced m.reserved m.metadata m.donthave) NoHandshake → IsLearnt start after r
+learnt start before after g m laws t n to answer = (
   t.bytes ++ n.0,
   Consumes-trans start.left before.left after.left t.bytes n.0 t.consumed n.2,
-  settled (EndRead before after) (EndRead start after) (t.bytes ++ n.0) n.1 m r one refused stay n.3 n.4 n.5 to answer,
+  settled (t.bytes ++ n.0) n.1 m laws n.3 n.4 n.5 to answer,
 )
 
 -- a fault says nothing

@@ -350,34 +350,57 @@ items_are_one own b c v w p q left right same =
 no_front : (x y : List ℕ) → x ++ y ≡ [] → x ≡ []
 no_front x y e = nil_from_length x (omega (arith, ap length e, length-append x y))
 
+-- v is the outcome of the bytes, and their items are all of them
+record IsAllOf (own : Own) (b : List ℕ) (v : Outcome) : Type 0 where
+  verdict : IsVerdict own b v
+  nothing_left : v.tail ≡ []
+
+-- the bytes x, which aren't none, are refused where they stand after b, of which v is the outcome: they have no item
+record IsRefusedAfter (own : Own) (b x : List ℕ) (v : Outcome) : Type 0 where
+  some : x ≡ [] → ⊥
+  now : Outcome
+  verdict : IsVerdict own (b ++ x) now
+  items : now.items ≡ v.items
+  refusal : Refusal
+  refused : now.refusal ≡ Some refusal
+
 -- bytes that are refused where they stand don't stand in a stream of items
-pub refused_is_last : (own : Own) (b x y : List ℕ) (v w last : Outcome) (r : Refusal) → own.limit < 2 ^ 32 → IsVerdict own b v → v.tail ≡ []
-    → IsVerdict own (b ++ x) w → w.items ≡ v.items → w.refusal ≡ Some r → (x ≡ [] → ⊥)
-    → IsVerdict own ((b ++ x) ++ y) last → last.tail ≡ [] → ⊥
-refused_is_last own b x y v w last r lt is none refused same e some all nothing =
+refused_is_last : {own : Own} {b x : List ℕ} {v : Outcome} (y : List ℕ) (last : Outcome) → own.limit < 2 ^ 32 → IsAllOf own b v → IsRefusedAfter own b x v
+    → IsAllOf own ((b ++ x) ++ y) last → ⊥
+refused_is_last {own} {b} {x} {v} y last lt p r q =
     let P : Option Refusal → Type 0 = λ o. IsSome o in
-    let stays = verdict_stays own (b ++ x) y w lt refused (subst P (sym e) refl) in
-    let one = verdict_only own ((b ++ x) ++ y) (record w { tail = w.tail ++ y }) last lt stays all in
-    let tail : w.tail ≡ [] = no_front w.tail y (ap (λ (u : Outcome). u.tail) one ∙ nothing) in
-    let bytes : b ≡ b ++ x = items_are_one own b (b ++ x) v w is refused none tail (sym same) in
-    some (nil_from_length x (omega (arith, ap length bytes, length-append b x)))
+    let w = r.now in
+    let stays = verdict_stays own (b ++ x) y w lt r.verdict (subst P (sym r.refused) refl) in
+    let one = verdict_only own ((b ++ x) ++ y) (record w { tail = w.tail ++ y }) last lt stays q.verdict in
+    let tail : w.tail ≡ [] = no_front w.tail y (ap (λ (u : Outcome). u.tail) one ∙ q.nothing_left) in
+    let bytes : b ≡ b ++ x = items_are_one own b (b ++ x) v w p.verdict r.verdict p.nothing_left tail (sym r.items) in
+    r.some (nil_from_length x (omega (arith, ap length bytes, length-append b x)))
 
 -- no line after it is taken
-pub stop_is_last : (own : Own) (before : List (List ℕ)) (line : List ℕ) (more : List (List ℕ)) (b c : List ℕ) (v w : Outcome) (reason : ScriptReason)
+pub stop_is_last : {own : Own} {before : List (List ℕ)} {b c : List ℕ} {v w : Outcome} (line : List ℕ) (more : List (List ℕ)) (reason : ScriptReason)
     → own.limit < 2 ^ 32
     → AreTaken own before b v → IsNotTaken own (is_none before) line b v reason → AreTaken own (before ++ line ∷ more) c w → ⊥
-stop_is_last own before line more b c v w Syntax lt p n q =
+stop_is_last {own} {before} {b} {c} line more Syntax lt p n q =
     let k = named_after own.limit true before line more b c p.named q.named in
     let P : Bool → Type 0 = λ z. IsNamed own.limit z line k.bytes in
     n k.bytes (subst P (is_first_none before) k.named)
-stop_is_last own before line more b c v w (Reason reason) lt p n q =
+stop_is_last {own} {before} {b} {c} {v} {w} line more (Reason reason) lt p n q =
     let k = named_after own.limit true before line more b c p.named q.named in
     let P : Bool → Type 0 = λ z. IsNamed own.limit z line k.bytes in
     let named = subst P (is_first_none before) k.named in
     let same = one_reading (is_none before) line k.bytes n.0 named.line n.1.line in
     let Q : List ℕ → Type 0 = λ z. IsVerdict own z w in
     let all = subst Q (k.parts ∙ ap (λ (z : List ℕ). (b ++ z) ++ k.rest) same) q.verdict in
-    refused_is_last own b n.0 k.rest v n.2 w n.5 lt p.verdict p.nothing_left n.3 n.4 n.6 (line_some (is_none before) line n.0 n.1.line) all q.nothing_left
+    let taken : IsAllOf own b v = record { verdict = p.verdict; nothing_left = p.nothing_left } in
+    let refused : IsRefusedAfter own b n.0 v = record {
+      some = line_some (is_none before) line n.0 n.1.line;
+      now = n.2;
+      verdict = n.3;
+      items = n.4;
+      refusal = n.5;
+      refused = n.6;
+    } in
+    refused_is_last k.rest w lt taken refused (record { verdict = all; nothing_left = q.nothing_left })
 
 -- it isn't taken for one reason
 pub reason_is_one : (own : Own) (first : Bool) (line b : List ℕ) (v : Outcome) (r s : ScriptReason) → own.limit < 2 ^ 32 → IsNotTaken own first line b v r
@@ -416,9 +439,9 @@ pub record IsSameStop (b c : List ℕ) (m n : ℕ) (r s : ScriptReason) : Type 0
   pub number : m ≡ n
   pub reason : r ≡ s
 
-same_stop : (own : Own) (all : List (List ℕ)) (b c : List ℕ) (m n : ℕ) (r s : ScriptReason) (p : IsStop own all b m r) (q : IsStop own all c n s)
+same_stop : {own : Own} {all : List (List ℕ)} {b c : List ℕ} {m n : ℕ} {r s : ScriptReason} (p : IsStop own all b m r) (q : IsStop own all c n s)
     → own.limit < 2 ^ 32 → p.before ≡ q.before → p.line ≡ q.line → IsSameStop b c m n r s
-same_stop own all b c m n r s p q lt before line =
+same_stop {own} {b} {c} {r} {s} p q lt before line =
     let P : List (List ℕ) → Type 0 = λ ls. AreTaken own ls c q.verdict in
     let taken = subst P (sym before) q.taken in
     let bytes : b ≡ c = named_is_one own.limit true p.before b c p.taken.named taken.named in
@@ -436,22 +459,22 @@ same_stop own all b c m n r s p q lt before line =
           lt p.not_taken other;
     }
 
-stop_by : (own : Own) (all : List (List ℕ)) (b c : List ℕ) (m n : ℕ) (r s : ScriptReason) (p : IsStop own all b m r) (q : IsStop own all c n s)
+stop_by : {own : Own} {all : List (List ℕ)} {b c : List ℕ} {m n : ℕ} {r s : ScriptReason} (p : IsStop own all b m r) (q : IsStop own all c n s)
     → own.limit < 2 ^ 32 → length p.before ≤ length q.before → IsSameStop b c m n r s
-stop_by own all b c m n r s p q lt le =
+stop_by {own} {c} {r} p q lt le =
     elim (fronts p.before q.before p.line q.line p.following q.following (sym p.parts ∙ q.parts) le) [
-      | inl same ↦ same_stop own all b c m n r s p q lt same.0 same.1
+      | inl same ↦ same_stop p q lt same.0 same.1
       | inr longer ↦
           let P : List (List ℕ) → Type 0 = λ ls. AreTaken own ls c q.verdict in
-          absurd (stop_is_last own p.before p.line longer.more b c p.verdict q.verdict r lt p.taken p.not_taken (subst P longer.list q.taken))
+          absurd (stop_is_last p.line longer.more r lt p.taken p.not_taken (subst P longer.list q.taken))
     ]
 
-pub stop_is_one : (own : Own) (all : List (List ℕ)) (b c : List ℕ) (m n : ℕ) (r s : ScriptReason) → own.limit < 2 ^ 32 → IsStop own all b m r
+pub stop_is_one : {own : Own} {all : List (List ℕ)} {b c : List ℕ} {m n : ℕ} {r s : ScriptReason} → own.limit < 2 ^ 32 → IsStop own all b m r
     → IsStop own all c n s → IsSameStop b c m n r s
-stop_is_one own all b c m n r s lt p q =
+stop_is_one lt p q =
     elim (cases_lt (length q.before) (length p.before)) [
-      | inl longer ↦ let k = stop_by own all c b n m s r q p lt (omega arith) in record { bytes = sym k.bytes; number = sym k.number; reason = sym k.reason }
-      | inr le ↦ stop_by own all b c m n r s p q lt le
+      | inl longer ↦ let k = stop_by q p lt (omega arith) in record { bytes = sym k.bytes; number = sym k.number; reason = sym k.reason }
+      | inr le ↦ stop_by p q lt le
     ]
 
 -- ---- the whole result of packing
@@ -466,7 +489,7 @@ stop_takes_none : (own : Own) (all : List (List ℕ)) (b c : List ℕ) (w : Outc
     → AreTaken own all c w → ⊥
 stop_takes_none own all b c w m r lt p q =
     let P : List (List ℕ) → Type 0 = λ ls. AreTaken own ls c w in
-    stop_is_last own p.before p.line p.following b c p.verdict w r lt p.taken p.not_taken (subst P p.parts q)
+    stop_is_last p.line p.following r lt p.taken p.not_taken (subst P p.parts q)
 
 pub taken_is_one : (own : Own) (all : List (List ℕ)) (b c : List ℕ) (v w : Outcome) → own.limit < 2 ^ 32 → AreTaken own all b v → AreTaken own all c w
     → (b ≡ c) × (v ≡ w)
@@ -482,7 +505,7 @@ pack_is_one own all b c e f lt (empty none left is) (stopped n s q was) = absurd
 pack_is_one own all b c e f lt (empty none left is) (accepted w some q was) = absurd (some_has_lines all some none)
 pack_is_one own all b c e f lt (stopped m r p is) (empty none right was) = absurd (stop_has_lines own all b m r p none)
 pack_is_one own all b c e f lt (stopped m r p is) (stopped n s q was) =
-    let k = stop_is_one own all b c m n r s lt p q in
+    let k = stop_is_one lt p q in
     (k.bytes, is ∙ ap (λ (z : ℕ). Refused z r) k.number ∙ ap (λ (z : ScriptReason). Refused n z) k.reason ∙ sym was)
 pack_is_one own all b c e f lt (stopped m r p is) (accepted w some q was) = absurd (stop_takes_none own all b c w m r lt p q)
 pack_is_one own all b c e f lt (accepted v some p is) (empty none right was) = absurd (some_has_lines all some none)

@@ -41,10 +41,10 @@ line_parts text held front line following lines e is =
     ap (λ (t : List ℕ). t ++ (front ++ 10 ∷ following)) e ∙ append_assoc (ended_lines lines) held (front ++ 10 ∷ following)
     ∙ ap (λ (t : List ℕ). ended_lines lines ++ t) (sym (append_assoc held front (10 ∷ following)) ∙ ap (λ (t : List ℕ). t ++ 10 ∷ following) (sym is))
 
-pub read_line : (own : Own) (text front line x : List ℕ) (lines : List (List ℕ)) (b held : List ℕ) (f g : FeedState) → IsReadSo own text lines b held f
+pub read_line : {own : Own} {text b held line : List ℕ} {lines : List (List ℕ)} {f g : FeedState} (front x : List ℕ) → IsReadSo own text lines b held f
     → has_feed front ≡ false → line ≡ held ++ front
     → IsPackedTo own (lines ++ line ∷ []) (b ++ x) g → IsReadSo own (text ++ (front ++ 10 ∷ [])) (lines ++ line ∷ []) (b ++ x) [] g
-read_line own text front line x lines b held f g h none e packed = record {
+read_line {text} {held} {line} {lines} front x h none e packed = record {
   split = record {
     parts = line_parts text held front line [] lines h.split.parts e ∙ sym (ended_more lines line) ∙ sym (append-nil (ended_lines (lines ++ line ∷ [])));
     whole = whole_both lines (line ∷ []) h.split.whole (ap has_feed e ∙ has_feed-append held front h.split.last none, tt);
@@ -70,11 +70,11 @@ after_line lines ls line [] = refl
 after_line lines ls line (c ∷ cs) = append_assoc lines (line ∷ ls) ((c ∷ cs) ∷ [])
 
 -- the line is ended, and others may follow
-pub stops_at : (own : Own) (text front following line : List ℕ) (lines : List (List ℕ)) (b held : List ℕ) (f : FeedState) (number : ℕ) (reason : ScriptReason)
+pub stops_at : {own : Own} {text b held line : List ℕ} {lines : List (List ℕ)} {f : FeedState} {number : ℕ} (front following : List ℕ) (reason : ScriptReason)
     → IsReadSo own text lines b held f → has_feed front ≡ false → line ≡ held ++ front
     → number ≡ length lines → IsRefused own lines b line reason → (all : List (List ℕ)) × AreLines (text ++ (front ++ 10 ∷ following)) all
     × IsStop own all b (number + 1) reason × IsEndedLine own.limit (text ++ (front ++ 10 ∷ following)) (number + 1)
-stops_at own text front following line lines b held f number reason h none e count r =
+stops_at {text} {held} {line} {lines} front following reason h none e count r =
     let s = split_of following in
     let tail : line ++ 10 ∷ following ≡ ended_lines (line ∷ s.0) ++ s.1 =
     ap (λ (t : List ℕ). line ++ 10 ∷ t) s.2.parts ∙ sym (append_assoc line (10 ∷ []) (ended_lines s.0 ++ s.1))
@@ -108,11 +108,11 @@ long_last lines [] lt = absurd (omega arith)
 long_last lines (c ∷ cs) lt = refl
 
 -- the line isn't ended yet
-pub stops_in : (own : Own) (text rest line : List ℕ) (lines : List (List ℕ)) (b held : List ℕ) (f : FeedState) (number : ℕ) (reason : ScriptReason)
+pub stops_in : {own : Own} {text b held line : List ℕ} {lines : List (List ℕ)} {f : FeedState} {number : ℕ} (rest : List ℕ) (reason : ScriptReason)
     → IsReadSo own text lines b held f → has_feed rest ≡ false → line ≡ held ++ rest
     → 0 < length line → number ≡ length lines → IsRefused own lines b line reason → (all : List (List ℕ)) × AreLines (text ++ rest) all
     × IsStop own all b (number + 1) reason
-stops_in own text rest line lines b held f number reason h none e some count r = (
+stops_in {own} {text} {b} {held} {line} {lines} {f} rest reason h none e some count r = (
   lines ++ line ∷ [],
   (lines, line, (read_rest own text rest lines b held line f h none e).split, long_last lines line some),
   record {
@@ -193,8 +193,7 @@ line_done own text p piece following new nothing l =
       named = d.named ++ l.end.0;
       grown = l.end.1 ∙ ap (λ (z : List ℕ). z ++ l.end.0) d.grown ∙ append_assoc p.out d.named l.end.0;
       read = subst S (sym nothing) (subst R (append_assoc p.bytes d.named l.end.0) (subst Q (append_assoc p.lines d.more (line ∷ [])) (subst P
-          (append_assoc text d.done up_to) (read_line own (text ++ d.done) l.front line l.end.0 (p.lines ++ d.more) (p.bytes ++ d.named) l.old.line l.old.judge
-          new.judge d.read l.none refl l.end.2))));
+          (append_assoc text d.done up_to) (read_line l.front l.end.0 d.read l.none refl l.end.2))));
     }
 
 pub line_stops : (own : Own) (text : List ℕ) (p : Packing) (piece following : List ℕ) (new : Packer) (reason : ScriptReason)
@@ -202,8 +201,7 @@ pub line_stops : (own : Own) (text : List ℕ) (p : Packing) (piece following : 
 line_stops own text p piece following new reason l =
     let d = l.before in
     let number = number_of new.judge.stage in
-    let stop = stops_at own (text ++ d.done) l.front following (l.old.line ++ l.front) (p.lines ++ d.more) (p.bytes ++ d.named) l.old.line l.old.judge number
-    reason d.read l.none refl l.end.1 l.end.2 in
+    let stop = stops_at l.front following reason d.read l.none refl l.end.1 l.end.2 in
     let all : (text ++ d.done) ++ (l.front ++ 10 ∷ following) ≡ text ++ piece = append_assoc text d.done (l.front ++ 10 ∷ following)
     ∙ ap (λ (z : List ℕ). text ++ z) (ap (λ (z : List ℕ). d.done ++ z) (sym l.cut) ∙ sym d.parts) in
     let P : List ℕ → Type 0 = λ t. AreLines t stop.0 in
@@ -217,8 +215,8 @@ rest_stops own text p piece rest new q d none long =
     let line = q.line ++ rest in
     let number = number_of q.judge.stage in
     let refused = too_long own (p.lines ++ d.more) (p.bytes ++ d.named) line q.judge d.read.packed long in
-    let stop = stops_in own (text ++ d.done) rest line (p.lines ++ d.more) (p.bytes ++ d.named) q.line q.judge number Syntax d.read none refl
-    (omega (arith, long)) d.read.packed.count refused in
+    let some : 0 < length line = omega (arith, long) in
+    let stop = stops_in rest Syntax d.read none refl some d.read.packed.count refused in
     let split = (read_rest own (text ++ d.done) rest (p.lines ++ d.more) (p.bytes ++ d.named) q.line line q.judge d.read none refl).split in
     let all : (text ++ d.done) ++ rest ≡ text ++ piece = append_assoc text d.done rest ∙ ap (λ (l : List ℕ). text ++ l) (sym d.parts) in
     let P : List ℕ → Type 0 = λ t. AreLines t stop.0 in
@@ -227,10 +225,10 @@ rest_stops own text p piece rest new q d none long =
 
 -- ---- the end of a script
 
-pub all_packed : (own : Own) (text : List ℕ) (all : List (List ℕ)) (b : List ℕ) (f : FeedState) (messages bytes : ℕ) → AreLines text all
+pub all_packed : {own : Own} {all : List (List ℕ)} {b : List ℕ} {f : FeedState} {messages bytes : ℕ} (text : List ℕ) → AreLines text all
     → IsPackedTo own all b f → is_none all ≡ false → messages ≡ number_of f.stage - 1 → bytes ≡ start_of f.stage
     → (all : List (List ℕ)) × AreLines text all × IsPacked own all b (Accepted messages bytes)
-all_packed own text all b f messages bytes lines h some count size =
+all_packed {own} {all} {b} {f} {messages} {bytes} text lines h some count size =
     let s = taken_so_far own all b f h in
     let v = s.0 in
     let long : start_of f.stage ≡ length b = omega (arith, verdict_length own b v s.1.taken.verdict, s.1.start, ap length s.1.taken.nothing_left) in
@@ -243,11 +241,11 @@ pub nothing_packed : (own : Own) (text : List ℕ) (lines : List (List ℕ)) (b 
 nothing_packed own text [] b f h none = ([], ([], [], h.split, refl), empty refl h.packed.named refl)
 nothing_packed own text (l ∷ lines) b f h none = absurd (omega (arith, h.packed.count, none))
 
-pub stopped_packed : (own : Own) (text line : List ℕ) (lines : List (List ℕ)) (b : List ℕ) (f g : FeedState) (number : ℕ) (reason : ScriptReason)
+pub stopped_packed : {own : Own} {text line b : List ℕ} {lines : List (List ℕ)} {f : FeedState} {number : ℕ} (g : FeedState) (reason : ScriptReason)
     → IsReadSo own text lines b line f → 0 < length line → number ≡ number_of g.stage + 1 → number_of g.stage ≡ length lines
     → IsRefused own lines b line reason → (all : List (List ℕ)) × AreLines text all × IsPacked own all b (Refused number reason)
-stopped_packed own text line lines b f g number reason h some is count r =
-    let stop = stops_in own text [] line lines b line f (number_of g.stage) reason h refl (sym (append-nil line)) some count r in
+stopped_packed {text} {line} g reason h some is count r =
+    let stop = stops_in [] reason h refl (sym (append-nil line)) some count r in
     let P : List ℕ → Type 0 = λ t. AreLines t stop.0 in
     (stop.0, subst P (append-nil text) stop.1, stopped (number_of g.stage + 1) reason stop.2 (ap (λ (n : ℕ). Refused n reason) is))
 
@@ -264,38 +262,28 @@ none_named own text b out out' e same h =
     let P : List ℕ → Type 0 = λ l. IsPacked own h.0 l e in
     ([], same ∙ sym (append-nil out), (h.0, h.1, subst P (sym (append-nil b)) h.2))
 
-pub end_empty : (own : Own) (text : List ℕ) (lines : List (List ℕ)) (b line out : List ℕ) (f : FeedState) (e : PackEnd) → length line ≡ 0
-    → IsReadSo own text lines b line f → (number_of f.stage ≡ 0 → ⊥)
+pub end_empty : {own : Own} {text b line : List ℕ} {lines : List (List ℕ)} {f : FeedState} {e : PackEnd} (out : List ℕ) → IsReadSo own text lines b line f
+    → length line ≡ 0 → (number_of f.stage ≡ 0 → ⊥)
     → e ≡ Accepted (number_of f.stage - 1) (start_of f.stage) → IsScriptEnd own text b out out e
-end_empty own text lines b line out f e none h some is =
+end_empty {own} {text} {b} {line} {lines} {f} {e} out h none some is =
     let P : List ℕ → Type 0 = λ l. IsReadSo own text lines b l f in
     let here = subst P (nil_from_length line none) h in
     let Q : PackEnd → Type 0 = λ x. (all : List (List ℕ)) × AreLines text all × IsPacked own all b x in
-    none_named own text b out out e refl (subst Q (sym is) (all_packed own text lines b f (number_of f.stage - 1) (start_of f.stage) (
-      lines,
-      [],
-      here.split,
-      refl,
-    ) h.packed (some_by lines (λ z. some (h.packed.count ∙ z))) refl refl))
+    let filled = some_by lines (λ z. some (h.packed.count ∙ z)) in
+    none_named own text b out out e refl (subst Q (sym is) (all_packed text (lines, [], here.split, refl) h.packed filled refl refl))
 
-pub end_line : (own : Own) (text : List ℕ) (lines : List (List ℕ)) (b line out out' : List ℕ) (f g : FeedState) (e : PackEnd) → 0 < length line
-    → IsReadSo own text lines b line f → IsLineEnd own (packing lines b out) line g out' None
+pub end_line : {own : Own} {text b line : List ℕ} {lines : List (List ℕ)} {f : FeedState} {e : PackEnd} (out out' : List ℕ) (g : FeedState)
+    → IsReadSo own text lines b line f → 0 < length line → IsLineEnd own (packing lines b out) line g out' None
     → e ≡ Accepted (number_of g.stage - 1) (start_of g.stage) → IsScriptEnd own text b out out' e
-end_line own text lines b line out out' f g e some h end is =
+end_line {own} {text} {b} {line} {lines} {f} {e} out out' g h some end is =
     let Q : PackEnd → Type 0 = λ x. (all : List (List ℕ)) × AreLines text all × IsPacked own all (b ++ end.0) x in (
       end.0,
       end.1,
-      subst Q (sym is) (all_packed own text (lines ++ line ∷ []) (b ++ end.0) g (number_of g.stage - 1) (start_of g.stage) (
-        lines,
-        line,
-        h.split,
-        long_last lines line some,
-      ) end.2 (some_lines lines line) refl refl),
+      subst Q (sym is) (all_packed text (lines, line, h.split, long_last lines line some) end.2 (some_lines lines line) refl refl),
     )
 
-pub end_stop : (own : Own) (text : List ℕ) (lines : List (List ℕ)) (b line out out' : List ℕ) (f g : FeedState) (number : ℕ) (reason : ScriptReason)
-    → 0 < length line → IsReadSo own text lines b line f → IsLineEnd own (packing lines b out) line g out' (Some reason)
+pub end_stop : {own : Own} {text b line : List ℕ} {lines : List (List ℕ)} {f : FeedState} {number : ℕ} (out out' : List ℕ) (g : FeedState)
+    (reason : ScriptReason) → IsReadSo own text lines b line f → 0 < length line → IsLineEnd own (packing lines b out) line g out' (Some reason)
     → number ≡ number_of g.stage → IsScriptEnd own text b out out' (Refused (number + 1) reason)
-end_stop own text lines b line out out' f g number reason some h end is =
-    none_named own text b out out' (Refused (number + 1) reason) end.0 (stopped_packed own text line lines b f g (number + 1) reason h some
-    (omega (arith, is)) end.1 end.2)
+end_stop {own} {text} {b} {number} out out' g reason h some end is =
+    none_named own text b out out' (Refused (number + 1) reason) end.0 (stopped_packed {number = number + 1} g reason h some (omega (arith, is)) end.1 end.2)

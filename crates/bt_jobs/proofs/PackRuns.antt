@@ -77,10 +77,10 @@ lines_of text =
     (with_last s.0 s.1, (s.0, s.1, s.2, refl))
 
 -- at a fault a prefix of the bytes that the taken lines name is written
-fails : (own : Own) (before after : Devices) (text more : List ℕ) (lines : List (List ℕ)) (b line : List ℕ) (f : FeedState)
-    (e : ToolFault) → Consumes before.source.left after.source.left (text ++ more) → IsReadSo own text lines b line f
+fails : {own : Own} {text b line : List ℕ} {lines : List (List ℕ)} {f : FeedState} (before after : Devices) (more : List ℕ) (e : ToolFault)
+    → IsReadSo own text lines b line f → Consumes before.source.left after.source.left (text ++ more)
     → AppendsPrefix before.target.held after.target.held b → IsPackRun own before after (Err e)
-fails own before after text more lines b line f e read h front =
+fails {own} {text} {b} {line} {lines} {f} before after more e h read front =
     let t = lines_of (text ++ more) in
     let s = taken_so_far own lines b f h.packed in (
       text ++ more,
@@ -106,8 +106,7 @@ fails own before after text more lines b line f e read h front =
 pub run_fails : (own : Own) (before mid : Devices) (source : SourceSeen) (line more : List ℕ) (f : FeedState) (e : ToolFault)
     → IsRun own before mid line f → Consumes mid.source.left source.left more → IsPackRun own before (devices source mid.target) (Err e)
 run_fails own before mid source line more f e r read =
-    fails own before (devices source mid.target) r.text more r.lines r.bytes line f e
-    (Consumes-trans before.source.left mid.source.left source.left r.text more r.consumed read) r.read
+    fails before (devices source mid.target) more e r.read (Consumes-trans before.source.left mid.source.left source.left r.text more r.consumed read)
     (all_is_front before.target.held mid.target.held r.bytes r.written)
 
 -- ---- a turn
@@ -147,9 +146,8 @@ more_fails own before mid after out next e m front =
     let r = m.run in
     let p = m.read in
     let P : List ℕ → Type 0 = λ t. Consumes before.source.left after.source.left t in
-    fails own before after (r.text ++ m.piece) [] (r.lines ++ p.0) (r.bytes ++ p.1) next.line next.judge e
-    (subst P (sym (append-nil (r.text ++ m.piece)))
-    (Consumes-trans before.source.left mid.source.left after.source.left r.text m.piece r.consumed m.consumed)) p.3
+    fails before after [] e p.3 (subst P (sym (append-nil (r.text ++ m.piece)))
+    (Consumes-trans before.source.left mid.source.left after.source.left r.text m.piece r.consumed m.consumed))
     (front_after before.target.held mid.target.held after.target.held r.bytes p.1 r.written
     (subst (AppendsPrefix mid.target.held after.target.held) (out_is out next.out p.1 m.empty p.2) front))
 

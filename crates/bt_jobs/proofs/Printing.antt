@@ -29,11 +29,12 @@ use Rattle.bt_text.specs.declared.ended.ToolFault.TheVariants as faults
 use Rattle.bt_jobs.specs.declared.printer.Form.{Form}
 use Rattle.bt_feed.proofs.Coming.{open_comes}
 use Rattle.bt_feed.proofs.Reading.{hand_open}
-use Rattle.std.specs.Prelude.{MatchResult, IfErr}
+use Rattle.std.specs.Prelude.{MatchResult, IfErr, OnErr}
 use Rattle.bt_jobs.specs.declared.printer.Printer.{Printer}
 use Rattle.bt_text.specs.Lines.{ended_by, ended_as, verdict_line}
 use Rattle.bt_io.specs.Seen.{SourceSeen, TargetSeen, Devices, devices, EndRead, AppendsPrefix}
 use Rattle.bt_jobs.specs.Printed.{texts, text_of, form_of, text_in, Prints, IsWrittenOut, IsFlushed, MayBeTold, IsEndOfReads, IsAllWritten, IsFrontWritten}
+use Rattle.bt_jobs.specs.Printed.{IsEndOfTurn}
 use Rattle.bt_jobs.specs.Printed.{Writing, nothing, items_in, prefixed, IsWritten, IsUnrefused, IsReadTo, so_far, turn_end, IsTurn, verdict_of, all_in}
 use Rattle.bt_jobs.specs.Printed.{SoFar, TurnEnd}
 
@@ -108,9 +109,9 @@ pub total : (own : Own) (b : List ℕ) (xs : List (ℕ × Item)) (f g : FeedStat
     → IsReadTo own b xs f → IsPumped f bytes lost ys g v → IsVerdict own (b ++ (bytes ++ lost)) (with_items xs v)
 total own b xs f g bytes lost ys v r p = r.comes (bytes ++ lost) v p.comes
 
-pub read_more : (own : Own) (b : List ℕ) (xs : List (ℕ × Item)) (f g : FeedState) (bytes lost : List ℕ) (ys : List (ℕ × Item)) (v : Outcome) → lost ≡ []
+pub read_more : {own : Own} {b bytes lost : List ℕ} {xs ys : List (ℕ × Item)} {f g : FeedState} {v : Outcome} → lost ≡ []
     → v.refusal ≡ None → IsReadTo own b xs f → IsPumped f bytes lost ys g v → IsReadTo own (b ++ (bytes ++ lost)) (xs ++ ys) g
-read_more own b xs f g bytes lost ys v none free r p = record {
+read_more {own} {b} {bytes} {lost} {xs} {ys} {f} {g} {v} none free r p = record {
   comes = λ later w k.
       let more : b ++ (bytes ++ later) ≡ (b ++ (bytes ++ lost)) ++ later =
       sym (append_assoc b bytes later) ∙ ap (λ (l : List ℕ). (b ++ l) ++ later) (sym (append-nil bytes) ∙ ap (λ (l : List ℕ). bytes ++ l) (sym none)) in
@@ -140,10 +141,10 @@ front_of_turn own so f before p end answer e h w is =
     )
 
 -- where nothing of a turn is written
-pub nothing_of_turn : (own : Own) (form : Form) (b more : List ℕ) (xs : List (ℕ × Item)) (f : FeedState) (held : Option (List ℕ)) → own.limit < 2 ^ 32
-    → ItemsStay → IsReadTo own b xs f
+pub nothing_of_turn : {own : Own} {b : List ℕ} {xs : List (ℕ × Item)} {f : FeedState} (form : Form) (more : List ℕ) (held : Option (List ℕ))
+    → own.limit < 2 ^ 32 → ItemsStay → IsReadTo own b xs f
     → (w : Outcome) → IsVerdict own (b ++ more) w → (zs : List (ℕ × Item)) × (w.items ≡ xs ++ zs) × AppendsPrefix held held (texts form own zs)
-nothing_of_turn own form b more xs f held lt stay r w is =
+nothing_of_turn {own} {b} {xs} {f} form more held lt stay r w is =
     let s = stay own b more r.now w lt r.is is in
     (s.0, s.1 ∙ ap (λ (l : List (ℕ × Item)). l ++ s.0) r.items, ([], texts form own s.0, refl, Appends-nil held))
 
@@ -154,7 +155,7 @@ goes_on own so f before p end (Ok None) h none free = (
   h.given,
   h.consumed,
   subst (Appends before.target.held end.devices.target.held) (text_of_turn own p h.printer h.given h.empty h.took) h.flushed.1,
-  read_more own so.bytes so.items f end.feed h.bytes h.lost h.given h.now none free h.read h.pumped,
+  read_more none free h.read h.pumped,
   h.form_is ∙ (printed p h.printer h.given h.took).0,
   h.flushed.2,
 )
@@ -196,6 +197,25 @@ is_accepted v g number messages n e same is less =
 pub is_refused : (v : Outcome) (r : Refusal) → verdict_at_end v ≡ Err (finish.Refused r) → Refused r ≡ ended_as v (v.start + length v.tail)
 is_refused v r e = ap (λ (o : Option Refusal). ended_by o v.number (v.start + length v.tail))
     (sym (refused_by (refusal_at_end v) (v.start + length v.tail) r e))
+
+-- a fault of writing says what failed
+pub write_failed : {T : Type 0} (F : Type 0) (r : Result T ToolFault) → OnErr r F → r ≡ Err faults.Write → F
+write_failed F (Ok a) h e = absurd cc
+write_failed F (Err x) h e = h
+
+pub said_failed : {T : Type 0} (F : Type 0) (r : Result T ToolFault) → IfErr r (λ f. (f ≡ faults.Write) × F) → r ≡ Err faults.Write → F
+said_failed F (Ok a) h e = absurd cc
+said_failed F (Err x) h e = h.1
+
+-- where the answer of a turn comes from, once its text is written
+pub end_of_turn : (e : Ended) (text left : List ℕ) (held held' : Option (List ℕ)) (before after : SourceSeen) (r : Result (Option Ended) ToolFault)
+    → IsFlushed (Some e) text held held' left r → IfErr r (λ f. f ≡ faults.Write) → MayBeTold (EndRead before after) e → IsEndOfTurn r before after
+end_of_turn e text left held held' before after (Ok None) f fault told = absurd (let no : None ≡ Some e = f.0 in cc)
+end_of_turn e text left held held' before after (Ok (Some x)) f fault told =
+    let some : Some x ≡ Some e = f.0 in
+    let same : x ≡ e = cc in
+    subst (MayBeTold (EndRead before after)) (sym same) told
+end_of_turn e text left held held' before after (Err x) f fault told = subst (λ (y : ToolFault). IsEndOfTurn (Err y) before after) (sym fault) tt
 
 -- ---- the turns
 
@@ -255,11 +275,11 @@ joined : (form : Form) (own : Own) (a b c : Option (List ℕ)) (xs ys : List (�
     → Appends a c (texts form own (xs ++ ys))
 joined form own a b c xs ys p q = subst (Appends a c) (sym (texts_both form own xs ys)) (Appends-trans a b c (texts form own xs) (texts form own ys) p q)
 
-pub told_more : (form : Form) (own : Own) (left held : Option (List ℕ)) (before after : Devices) (f g : FeedState) (p q : Printer)
+pub told_more : {form : Form} {own : Own} {left held : Option (List ℕ)} {f : FeedState} {p : Printer} (before after : Devices) (g : FeedState) (q : Printer)
     → (t : IsToldTo form own left before.source.left held before.target.held f p)
     → IsTurn (form_of p) own (so_far t.bytes t.items) before (turn_end after g q) (Ok None)
     → IsToldTo form own left after.source.left held after.target.held g q
-told_more form own left held before after f g p q t n =
+told_more {form} {own} {left} {held} {f} {p} before after g q t n =
     let P : Form → Type 0 = λ x. IsTurn x own (so_far t.bytes t.items) before (turn_end after g q) (Ok None) in
     let m = subst P t.form_is n in
     record {
@@ -272,11 +292,11 @@ told_more form own left held before after f g p q t n =
       empty = m.6;
     }
 
-pub told_end : (form : Form) (own : Own) (left held : Option (List ℕ)) (before after : Devices) (f g : FeedState) (p q : Printer) (e : Ended)
-    → (t : IsToldTo form own left before.source.left held before.target.held f p)
+pub told_end : {form : Form} {own : Own} {left held : Option (List ℕ)} {f : FeedState} {p : Printer} (before after : Devices) (g : FeedState) (q : Printer)
+    (e : Ended) → (t : IsToldTo form own left before.source.left held before.target.held f p)
     → IsTurn (form_of p) own (so_far t.bytes t.items) before (turn_end after g q) (Ok (Some e))
     → ((b : List ℕ) × Consumes left after.source.left b × IsAllWritten (items_in form own) own b held after.target.held e) × (text_in q ≡ [])
-told_end form own left held before after f g p q e t n =
+told_end {form} {own} {left} {held} {f} {p} before after g q e t n =
     let P : Form → Type 0 = λ x. IsTurn x own (so_far t.bytes t.items) before (turn_end after g q) (Ok (Some e)) in
     let m = subst P t.form_is n in
     let v = m.4.0 in
@@ -300,11 +320,11 @@ front_of_more a b xs ys p = (p.0, p.1 ++ ys, ap (λ (l : List ℕ). l ++ ys) p.2
 pub all_is_front : (a b : Option (List ℕ)) (xs : List ℕ) → Appends a b xs → AppendsPrefix a b xs
 all_is_front a b xs p = (xs, [], sym (append-nil xs), p)
 
-pub told_fault : (form : Form) (own : Own) (start before after : Devices) (f g : FeedState) (p q : Printer)
-    (e : ToolFault) → (t : IsToldTo form own start.source.left before.source.left start.target.held before.target.held f p)
+pub told_fault : {form : Form} {own : Own} {f : FeedState} {p : Printer} (start before after : Devices) (g : FeedState) (q : Printer) (e : ToolFault)
+    → (t : IsToldTo form own start.source.left before.source.left start.target.held before.target.held f p)
     → IsTurn (form_of p) own (so_far t.bytes t.items) before (turn_end after g q) (Err e)
     → (b : List ℕ) × Consumes start.source.left after.source.left b × IsFrontWritten (items_in form own) (items_in form own) own b start after
-told_fault form own start before after f g p q e t n =
+told_fault {form} {own} {f} {p} start before after g q e t n =
     let P : Form → Type 0 = λ x. IsTurn x own (so_far t.bytes t.items) before (turn_end after g q) (Err e) in
     let m = subst P t.form_is n in (
       t.bytes ++ m.0,
@@ -355,27 +375,38 @@ front_shown_all form own b before after e lt one a = λ w is.
     let here = written_by form own b before.target.held after.target.held e lt one a w is in
     inl (all_is_front before.target.held after.target.held (texts form own w.items) here.0)
 
-pub all_shown : (form : Form) (own : Own) (b text left : List ℕ) (before after : Devices) (mid : Option (List ℕ)) (e : Ended) (r : Result Ended ToolFault)
-    → own.limit < 2 ^ 32 → VerdictIsOne → IsAllWritten (items_in form own) own b before.target.held mid e
-    → text ≡ verdict_of form e → MayBeTold (EndRead before.source after.source) e → IsFlushed e text mid after.target.held left r
+-- The text of the items of b is written, to `mid`. Writing `text`, the verdict's, answers `r`, and leaves `left` of it.
+pub record IsVerdictFlushed (form : Form) (own : Own) (b : List ℕ) (before after : Devices) (e : Ended) (r : Result Ended ToolFault) : Type 0 where
+  pub limit : own.limit < 2 ^ 32
+  pub one : VerdictIsOne
+  pub mid : Option (List ℕ)
+  pub text : List ℕ
+  pub left : List ℕ
+  pub written : IsAllWritten (items_in form own) own b before.target.held mid e
+  pub is : text ≡ verdict_of form e
+  pub told : MayBeTold (EndRead before.source after.source) e
+  pub flushed : IsFlushed e text mid after.target.held left r
+
+pub all_shown : (form : Form) (own : Own) (b : List ℕ) (before after : Devices) (e : Ended) (r : Result Ended ToolFault)
+    → IsVerdictFlushed form own b before after e r
     → MatchResult r (IsAllWritten (all_in form own) own b before.target.held after.target.held)
     (λ _. IsFrontWritten (items_in form own) (all_in form own) own b before after)
-all_shown form own b text left before after mid e (Ok d) lt one a is told f =
-    let v = a.0 in
-    let line : text ≡ verdict_of form (ended_as v (length b)) = is ∙ ap (verdict_of form) a.3 in (
+all_shown form own b before after e (Ok d) h =
+    let v = h.written.0 in
+    let line : h.text ≡ verdict_of form (ended_as v (length b)) = h.is ∙ ap (verdict_of form) h.written.3 in (
       v,
-      a.1,
-      Appends-trans before.target.held mid after.target.held (texts form own v.items) (verdict_of form (ended_as v (length b))) a.2
-          (subst (Appends mid after.target.held) line f.1),
-      f.0
-          ∙ a.3,
+      h.written.1,
+      Appends-trans before.target.held h.mid after.target.held (texts form own v.items) (verdict_of form (ended_as v (length b))) h.written.2
+          (subst (Appends h.mid after.target.held) line h.flushed.1),
+      h.flushed.0
+          ∙ h.written.3,
     )
-all_shown form own b text left before after mid e (Err x) lt one a is told f = λ w isw.
-    let here = written_by form own b before.target.held mid e lt one a w isw in
+all_shown form own b before after e (Err x) h = λ w isw.
+    let here = written_by form own b before.target.held h.mid e h.limit h.one h.written w isw in
     inr (
-      subst (MayBeTold (EndRead before.source after.source)) here.1 told,
-      front_after before.target.held mid after.target.held (texts form own w.items) (verdict_of form (ended_as w (length b))) here.0
-          (subst (AppendsPrefix mid after.target.held) (is ∙ ap (verdict_of form) here.1) f),
+      subst (MayBeTold (EndRead before.source after.source)) here.1 h.told,
+      front_after before.target.held h.mid after.target.held (texts form own w.items) (verdict_of form (ended_as w (length b))) here.0
+          (subst (AppendsPrefix h.mid after.target.held) (h.is ∙ ap (verdict_of form) here.1) h.flushed),
     )
 
 -- ---- the verdict alone
@@ -385,30 +416,46 @@ pub nothing_checked : (w : Writing) (own : Own) (before after : SourceSeen) (tar
     → Consumes before.left after.left b → IsWritten nothing w own (devices before target) (devices after target) (Err f)
 nothing_checked w own before after target b f c = (b, c, λ v is. inl ([], [], refl, Appends-nil target.held))
 
--- what was fed to a new feed has the outcome v, whose verdict is to be written
-pub checked_all : (p : List ℕ) (own : Own) (f : FeedState) (before after : Devices) (b : List ℕ) (v : Outcome) (e : Ended)
-    (r : Result Ended ToolFault) → own.limit ≤ 1048576 → VerdictIsOne → Consumes before.source.left after.source.left b
-    → f ≡ record { stage = stage.Handshake own; held = []; refused = None } → Comes f.stage (f.held ++ b) v → e ≡ ended_as v (v.start + length v.tail)
-    → MayBeTold (EndRead before.source after.source) e → IsWrittenOut e (p ++ verdict_line e) before.target.held after.target.held r
+-- What was read are `bytes`. They were given to a new feed, and have the outcome `now`; writing its verdict, which is `e`, answers `r`.
+pub record IsVerdictSaid (p : List ℕ) (own : Own) (before after : Devices) (e : Ended) (r : Result Ended ToolFault) : Type 0 where
+  pub limit : own.limit ≤ 1048576
+  pub one : VerdictIsOne
+  pub bytes : List ℕ
+  pub feed : FeedState
+  pub now : Outcome
+  pub consumed : Consumes before.source.left after.source.left bytes
+  pub new : feed ≡ record { stage = stage.Handshake own; held = []; refused = None }
+  pub comes : Comes feed.stage (feed.held ++ bytes) now
+  pub ended : e ≡ ended_as now (now.start + length now.tail)
+  pub told : MayBeTold (EndRead before.source after.source) e
+  pub written : IsWrittenOut e (p ++ verdict_line e) before.target.held after.target.held r
+
+-- the verdict is that of the bytes
+said_verdict : (p : List ℕ) (own : Own) (before after : Devices) (e : Ended) (r : Result Ended ToolFault) → (h : IsVerdictSaid p own before after e r)
+    → IsVerdict own h.bytes h.now × (e ≡ ended_as h.now (length h.bytes))
+said_verdict p own before after e r h =
+    let F : FeedState → Type 0 = λ g. Comes g.stage (g.held ++ h.bytes) h.now in
+    let is : IsVerdict own h.bytes h.now = subst F h.new h.comes in
+    (is, h.ended ∙ ap (λ (n : ℕ). ended_as h.now n) (verdict_length own h.bytes h.now is))
+
+pub checked_all : (p : List ℕ) (own : Own) (before after : Devices) (e : Ended) (r : Result Ended ToolFault) → IsVerdictSaid p own before after e r
     → IsWritten nothing (prefixed p) own before after r
-checked_all p own f before after b v e (Ok a) le one c new comes ended told out =
-    let F : FeedState → Type 0 = λ g. Comes g.stage (g.held ++ b) v in
-    let is : IsVerdict own b v = subst F new comes in
-    let same : e ≡ ended_as v (length b) = ended ∙ ap (λ (n : ℕ). ended_as v n) (verdict_length own b v is) in
+checked_all p own before after e (Ok a) h =
+    let s = said_verdict p own before after e (Ok a) h in
     let P : Ended → Type 0 = λ x. Appends before.target.held after.target.held (p ++ verdict_line x) in
-    (b, c, (v, is, subst P same out.1, out.0 ∙ same))
-checked_all p own f before after b v e (Err x) le one c new comes ended told out =
-    let F : FeedState → Type 0 = λ g. Comes g.stage (g.held ++ b) v in
-    let is : IsVerdict own b v = subst F new comes in
-    let same : e ≡ ended_as v (length b) = ended ∙ ap (λ (n : ℕ). ended_as v n) (verdict_length own b v is) in (
+    (h.bytes, h.consumed, (h.now, s.0, subst P s.1 h.written.1, h.written.0 ∙ s.1))
+checked_all p own before after e (Err x) h =
+    let b = h.bytes in
+    let s = said_verdict p own before after e (Err x) h in (
       b,
-      c,
+      h.consumed,
       λ w isw.
           let P : Ended → Type 0 = λ x. MayBeTold (EndRead before.source after.source) x
           × AppendsPrefix before.target.held after.target.held (p ++ verdict_line x) in
           let Q : Outcome → Type 0 = λ u. MayBeTold (EndRead before.source after.source) (ended_as u (length b))
           × AppendsPrefix before.target.held after.target.held (p ++ verdict_line (ended_as u (length b))) in
-          inr (subst Q (one own b v w (omega (arith, le)) is isw) (subst P same (told, out))),
+          let limit = h.limit in
+          inr (subst Q (h.one own b h.now w (omega (arith, limit)) s.0 isw) (subst P s.1 (h.told, h.written))),
     )
 
 -- the answer is this verdict, which may be told, or a write failed

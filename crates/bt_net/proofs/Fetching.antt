@@ -83,16 +83,16 @@ small_at metadata a b ss os short f m =
     (omega (arith, bytes, few), omega (arith, bytes, few))
 
 -- after the steps `done`
-stays_small : (metadata : List ℕ) (a b : EndState) (done : List Step) (told : List Outcome) (ss : List Step) (os : List Outcome) → FetchIsShort
+stays_small : {metadata : List ℕ} {a b : EndState} (done : List Step) (told : List Outcome) (ss : List Step) (os : List Outcome) → FetchIsShort
     → IsFetchPair metadata a b → length done ≡ length told → AreMoves done → AreMoves ss → M.StaysSmall (M.after_all (M.link_of a b) done told) ss os
-stays_small metadata a b done told [] os short f e d m = small_at metadata a b done told short f d
-stays_small metadata a b done told (s ∷ ss) [] short f e d m = small_at metadata a b done told short f d
-stays_small metadata a b done told (s ∷ ss) (o ∷ os) short f e d m =
+stays_small {metadata} {a} {b} done told [] os short f e d m = small_at metadata a b done told short f d
+stays_small {metadata} {a} {b} done told (s ∷ ss) [] short f e d m = small_at metadata a b done told short f d
+stays_small {metadata} {a} {b} done told (s ∷ ss) (o ∷ os) short f e d m =
     let l : M.Link = M.link_of a b in
     let more : AreMoves (done ++ s ∷ []) = moves_both done (s ∷ []) d (m.0, tt) in
     let count : length (done ++ s ∷ []) ≡ length (told ++ o ∷ []) = longer done told s o e in
     let rest : M.StaysSmall (M.after_all l (done ++ s ∷ []) (told ++ o ∷ [])) ss os =
-    stays_small metadata a b (done ++ s ∷ []) (told ++ o ∷ []) ss os short f count more m.1 in (
+    stays_small (done ++ s ∷ []) (told ++ o ∷ []) ss os short f count more m.1 in (
       small_at metadata a b done told short f d,
       subst (λ (k : M.Link). M.StaysSmall k ss os) (after_both done (s ∷ []) told (o ∷ []) l e) rest,
     )
@@ -120,7 +120,7 @@ honest metadata a b ss os short f m = record {
   right = f.right;
   matched = f.matched;
   written = moves_written ss m;
-  small = stays_small metadata a b [] [] ss os short f refl tt m;
+  small = stays_small [] [] ss os short f refl tt m;
 }
 
 -- ---- no end stops
@@ -172,29 +172,35 @@ none_whole : (t : Stage) → is_all t [] ≡ false
 none_whole (stage.Handshake own) = refl
 none_whole (stage.Message c o s n) = refl
 
+-- steps of the byte link of two new ends lead to this link, and nothing is said or reset
+record IsReached (a b : EndState) (l : B.Link) : Type 0 where
+  steps : List Step
+  outcomes : List Outcome
+  are : B.AreSteps (B.link_of a b) steps outcomes l
+  moves : AreMoves steps
+
 -- an end that holds nothing and yet awaits nothing more refuses: its stream is longer than may be
-overlong : (a b : EndState) (s : Side) (ss : List Step) (os : List Outcome) (l : B.Link) (e : Option Fault)
-    → B.AreSteps (B.link_of a b) ss os l → AreMoves ss → IsIdle (B.seen_from s l).own → (B.seen_from s l).own.half.feed.held ≡ []
-    → early (B.seen_from s l).own.half.feed.stage [] ≡ e → (is_some e || is_all (B.seen_from s l).own.half.feed.stage []) ≡ true → IsStopped a b
-overlong a b s ss os l None are moves idle none is closed =
+overlong : {a b : EndState} {l : B.Link} (s : Side) (e : Option Fault) → IsReached a b l → IsIdle (B.seen_from s l).own
+    → (B.seen_from s l).own.half.feed.held ≡ [] → early (B.seen_from s l).own.half.feed.stage [] ≡ e
+    → (is_some e || is_all (B.seen_from s l).own.half.feed.stage []) ≡ true → IsStopped a b
+overlong {l} s None r idle none is closed =
     absurd (let open_ = none_whole (B.seen_from s l).own.half.feed.stage in cc)
-overlong a b s ss os l (Some f) are moves idle none is closed =
+overlong {a} {b} {l} s (Some f) reached idle none is closed =
     let x : HalfState = (B.seen_from s l).own.half in
     let r : Refusal = refusal_of x.feed.stage f in
     let fault : HasFault x.feed.stage x.feed.held f =
     subst (λ (h : List ℕ). HasFault x.feed.stage h f) (sym none) (early_has x.feed.stage [] f is) in
-    stops a b s ss os l (with_feed x (after x.feed (Err r))) r are moves ((free x idle.sent, (f, fault, refl)), refl)
+    stops a b s reached.steps reached.outcomes l (with_feed x (after x.feed (Err r))) r reached.are reached.moves ((free x idle.sent, (f, fault, refl)), refl)
 
 -- it awaits more, or it stops
-awaits : (a b : EndState) (s : Side) (ss : List Step) (os : List Outcome) (l : B.Link) → B.AreSteps (B.link_of a b) ss os l → AreMoves ss
-    → IsIdle (B.seen_from s l).own → (IsStopped a b → ⊥)
+awaits : {a b : EndState} {l : B.Link} (s : Side) → IsReached a b l → IsIdle (B.seen_from s l).own → (IsStopped a b → ⊥)
     → is_closed (B.seen_from s l).own.half.feed.stage (B.seen_from s l).own.half.feed.held ≡ false
-awaits a b s ss os l are moves idle never =
+awaits {l} s reached idle never =
     let f : FeedState = (B.seen_from s l).own.half.feed in
     elim idle.rested [
       | inl open_ ↦ open_
       | inr none ↦ elim (cases_Bool (is_closed f.stage f.held)) [
-        | inl closed ↦ absurd (never (overlong a b s ss os l (early f.stage []) are moves idle none refl (ap (is_closed f.stage) (sym none) ∙ closed)))
+        | inl closed ↦ absurd (never (overlong s (early f.stage []) reached idle none refl (ap (is_closed f.stage) (sym none) ∙ closed)))
         | inr open_ ↦ open_
       ]
     ]
@@ -211,9 +217,9 @@ idle_turn p none empty open_ =
     (p.own, (((free p.own.half empty, open_), refl), refl), ap (λ (x : B.Node). record { own = x; other = p.other }) (sym (fed_none p.own none)))
 
 -- nothing more comes of a byte more and of a turn
-last_are : (a b : EndState) (ss : List Step) (os : List Outcome) (l : B.Link) → B.AreSteps (B.link_of a b) ss os l → AreMoves ss → IsIdle l.left
-    → IsIdle l.right → (IsStopped a b → ⊥) → B.AreSteps l last_steps last_outcomes l
-last_are a b ss os l are moves x y never =
+last_are : {a b : EndState} {l : B.Link} → IsReached a b l → IsIdle l.left → IsIdle l.right → (IsStopped a b → ⊥)
+    → B.AreSteps l last_steps last_outcomes l
+last_are {l} reached x y never =
     let left : B.Pair = B.seen_from Left l in
     let right : B.Pair = B.seen_from Right l in
     let none_left : 0 ≡ min 1 (length l.right.half.outbox) = omega (arith, ap (length {A = ℕ}) y.sent) in
@@ -221,8 +227,8 @@ last_are a b ss os l are moves x y never =
     let to_left : left ≡ B.delivers left (min 1 (length l.right.half.outbox)) = sym (no_bytes left x.untaken y.sent) ∙ ap (B.delivers left) none_left in
     let to_right : right ≡ B.delivers right (min 1 (length l.left.half.outbox)) =
     sym (no_bytes right y.untaken x.sent) ∙ ap (B.delivers right) none_right in
-    let of_left = idle_turn left x.untaken x.sent (awaits a b Left ss os l are moves x never) in
-    let of_right = idle_turn right y.untaken y.sent (awaits a b Right ss os l are moves y never) in (
+    let of_left = idle_turn left x.untaken x.sent (awaits Left reached x never) in
+    let of_right = idle_turn right y.untaken y.sent (awaits Right reached y never) in (
       l,
       (left, (ap outcome.Delivered none_left, to_left), refl),
       (
@@ -242,7 +248,8 @@ still_fetched : (metadata : List ℕ) (a b : EndState) (n : ℕ) (new : Ends) �
 still_fetched metadata a b n new short whole f st left right =
     let x : IsIdle st.link.left = idle_node st.link.left (at_left new) st.coming st.own left st.own_rested st.is_coming in
     let y : IsIdle st.link.right = idle_node st.link.right (at_right new) st.going st.other right st.other_rested st.is_going in
-    let last = last_are a b st.steps st.outcomes st.link st.are st.moves x y (never_stopped metadata a b short f) in
+    let reached : IsReached a b st.link = record { steps = st.steps; outcomes = st.outcomes; are = st.are; moves = st.moves } in
+    let last = last_are reached x y (never_stopped metadata a b short f) in
     let steps : List Step = st.steps ++ last_steps in
     let outcomes : List Outcome = st.outcomes ++ last_outcomes in
     let are : B.AreSteps (B.link_of a b) steps outcomes st.link =
@@ -266,19 +273,19 @@ fetched_so left right metadata there e f =
     ap (λ (o : Option (List ℕ)). P o left.outbox right.outbox) there ∙ ap (λ (x : List ℕ). P (Some metadata) x right.outbox) e
     ∙ ap (λ (y : List ℕ). P (Some metadata) [] y) f
 
-ended : (metadata : List ℕ) (a b : EndState) (s : Seen) (rounds : ℕ) (new : Ends) (stopped : Bool) → FetchIsShort → FetchIsWhole
+ended : {metadata : List ℕ} {a b : EndState} (s : Seen) (rounds : ℕ) (new : Ends) (stopped : Bool) → FetchIsShort → FetchIsWhole
     → IsFetchPair metadata a b → IsClear s → IsEnded stopped rounds (begun a b s) new
     → (stopped ≡ false) × (metadata_of new.right.half.end.part ≡ Some metadata) × (is_fetched new.left.half new.right.half ≡ true)
-ended metadata a b s rounds new true short whole f clear h =
+ended {metadata} {a} {b} s rounds new true short whole f clear h =
     absurd (never_stopped metadata a b short f (halted_stops a b h.0 h.2.0 new (rounds_follow a b s h.0 h.2.0 clear h.2.1) h.2.2))
-ended metadata a b s rounds new false short whole f clear h =
+ended {metadata} {a} {b} s rounds new false short whole f clear h =
     let st = last_follows a b h.0 false h.2.0 new (rounds_follow a b s h.0 h.2.0 clear h.2.1) h.2.2 in
     let still = round_still h.2.0 new h.2.2 in
     let there = still_fetched metadata a b h.0 new short whole f st still.0 still.1 in
     (refl, there, fetched_so new.left.half new.right.half metadata there still.0.sent still.1.sent)
 
 pub run_fetches : RunFetches
-run_fetches metadata a b s rounds new (Ok x) f clear h = ended metadata a b s rounds new x.stopped fetch_is_short fetch_is_whole f clear h
+run_fetches metadata a b s rounds new (Ok x) f clear h = ended s rounds new x.stopped fetch_is_short fetch_is_whole f clear h
 run_fetches metadata a b s rounds new (Err both_error.Rounds) f clear h =
     few_rounds metadata a b rounds new fetch_is_short f (rounds_are_steps a b s rounds new clear h)
 run_fetches metadata a b s rounds new (Err both_error.Net) f clear h = tt

@@ -23,7 +23,7 @@ pub written_fetched : (lines : List ℕ) (h k : Option (List ℕ)) (x : Result L
 written_fetched lines h k (Ok e) w is = let same : e ≡ Fetched = w.1 in cc
 written_fetched lines h k (Err e) w is = cc
 
-printed_fetching : (both : Both) (right : HalfState) (h k : Option (List ℕ)) (x : Result LoopEnd ToolFault) (metadata : List ℕ) → IsPrinted both right h k x
+pub printed_fetching : (both : Both) (right : HalfState) (h k : Option (List ℕ)) (x : Result LoopEnd ToolFault) (metadata : List ℕ) → IsPrinted both right h k x
     → x ≢ Ok Unfetched → IsFetching metadata x
 printed_fetching both right h k (Ok Fetched) metadata w n = tt
 printed_fetching both right h k (Ok Unfetched) metadata w n = absurd (n refl)
@@ -34,29 +34,34 @@ printed_fetching both right h k (Err fault.Memory) metadata w n = tt
 printed_fetching both right h k (Err fault.Turns) metadata w n = absurd w
 printed_fetching both right h k (Err fault.Net) metadata w n = tt
 
-run_of : (rounds : ℕ) (s : Seen) (l r : HalfState) (new : Ends) (result : Result Both BothError) (metadata : List ℕ) (a b : EndState)
-    → IsFetchPair metadata a b → IsClear s → l ≡ connected a → r ≡ connected b → IsRun rounds (ends_of s [] [] l r) new result
-    → FetchesIn metadata rounds new result
-run_of rounds s l r new result metadata a b pair clear left right run =
-    let same : ends_of s [] [] l r ≡ begun a b s = λ i. ends_of s [] [] (left i) (right i) in
-    run_fetches metadata a b s rounds new result pair clear (subst (λ (x : Ends). IsRun rounds x new result) same run)
+-- two ends at the start of a connection: the one, now `l`, serves the metadata, and the other, now `r`, fetches it
+pub record IsFetchStart (metadata : List ℕ) (s : Seen) (l r : HalfState) : Type 0 where
+  pub serving : EndState
+  pub fetching : EndState
+  pub pair : IsFetchPair metadata serving fetching
+  pub clear : IsClear s
+  pub left : l ≡ connected serving
+  pub right : r ≡ connected fetching
 
--- a run that ended
-pub ended_fetching : (s s' : Seen) (l r l' r' : HalfState) (both : Both) (h k : Option (List ℕ)) (x : Result LoopEnd ToolFault) (metadata : List ℕ)
-    (a b : EndState) → IsFetchPair metadata a b → IsClear s → l ≡ connected a → r ≡ connected b → HasRun 2097152 s s' l r l' r' (Ok both)
-    → both.fetched ≡ (not both.stopped && is_fetched l' r') → IsPrinted both r' h k x
-    → (both.fetched ≡ true → is_some (metadata_of r'.end.part) ≡ true → x ≢ Ok Unfetched) → IsFetching metadata x
-ended_fetching s s' l r l' r' both h k x metadata a b pair clear left right run is printed told =
-    let new : Ends = ends_of s' run.0 run.1 l' r' in
-    let f = run_of 2097152 s l r new (Ok both) metadata a b pair clear left right run.2 in
-    let fetched : both.fetched ≡ true = is ∙ ap (λ (stopped : Bool). not stopped && is_fetched l' r') f.0 ∙ f.2 in
-    printed_fetching both r' h k x metadata printed (told fetched (ap (λ (o : Option (List ℕ)). is_some o) f.1))
+run_of : {metadata : List ℕ} {s : Seen} {l r : HalfState} (rounds : ℕ) (new : Ends) (result : Result Both BothError) → IsFetchStart metadata s l r
+    → IsRun rounds (ends_of s [] [] l r) new result → FetchesIn metadata rounds new result
+run_of {metadata} {s} {l} {r} rounds new result start run =
+    let same : ends_of s [] [] l r ≡ begun start.serving start.fetching s = λ i. ends_of s [] [] (start.left i) (start.right i) in
+    run_fetches metadata start.serving start.fetching s rounds new result start.pair start.clear
+    (subst (λ (x : Ends). IsRun rounds x new result) same run)
+
+-- a run that ended has fetched
+pub ended_fetched : {metadata : List ℕ} {s : Seen} {l r : HalfState} (s' : Seen) (l' r' : HalfState) (both : Both) → IsFetchStart metadata s l r
+    → HasRun 2097152 s s' l r l' r' (Ok both) → both.fetched ≡ (not both.stopped && is_fetched l' r')
+    → (both.fetched ≡ true) × (is_some (metadata_of r'.end.part) ≡ true)
+ended_fetched s' l' r' both start run is =
+    let f = run_of 2097152 (ends_of s' run.0 run.1 l' r') (Ok both) start run.2 in
+    (is ∙ ap (λ (stopped : Bool). not stopped && is_fetched l' r') f.0 ∙ f.2, ap (λ (o : Option (List ℕ)). is_some o) f.1)
 
 -- a run of as many rounds as may be made
-pub rounds_fetching : (s s' : Seen) (l r l' r' : HalfState) (metadata : List ℕ) (a b : EndState) → IsFetchPair metadata a b → IsClear s
-    → l ≡ connected a → r ≡ connected b → HasRun 2097152 s s' l r l' r' (Err both_error.Rounds) → 1048576 ≤ most_bytes (length metadata)
-rounds_fetching s s' l r l' r' metadata a b pair clear left right run =
-    omega (arith, run_of 2097152 s l r (ends_of s' run.0 run.1 l' r') (Err both_error.Rounds) metadata a b pair clear left right run.2)
+pub rounds_fetching : {metadata : List ℕ} {s : Seen} {l r : HalfState} (s' : Seen) (l' r' : HalfState) → IsFetchStart metadata s l r
+    → HasRun 2097152 s s' l r l' r' (Err both_error.Rounds) → 1048576 ≤ most_bytes (length metadata)
+rounds_fetching s' l' r' start run = omega (arith, run_of 2097152 (ends_of s' run.0 run.1 l' r') (Err both_error.Rounds) start run.2)
 
 -- nothing was served
 pub input_fetching : (left left' : Option (List ℕ)) (A F : Type 0) (e : ToolFault) → IsInput left left' A F (Err e)

@@ -43,16 +43,16 @@ sized metadata e =
     let parts = neither (eqb (length metadata) 0) (ltb max_metadata (length metadata)) e in
     record { least = above_0 (length metadata) parts.0; most = ltb-false max_metadata (length metadata) parts.1 }
 
-new_end : (rules : Rules) (limit : ℕ) (hash peer : List ℕ) (id : ℕ) (part : Part) → 32768 ≤ limit → limit ≤ 1048576 → length hash ≡ 20 → length peer ≡ 20
-    → HaveBytes (metadata_only (Some id)) → ForSome (source_of part) (λ m. IsMetadata m) → IsFirstPart part
+new_end : {id : ℕ} (rules : Rules) (limit : ℕ) (hash peer : List ℕ) (part : Part) → (32768 ≤ limit) × (limit ≤ 1048576)
+    → (length hash ≡ 20) × (length peer ≡ 20) → HaveBytes (metadata_only (Some id)) → ForSome (source_of part) (λ m. IsMetadata m) → IsFirstPart part
     → IsNew (unopened (own_by rules limit hash id) (handshake_by hash peer) Silent window part)
-new_end rules limit hash peer id part least most h p ids serves first = record {
+new_end rules limit hash peer part limits lengths ids serves first = record {
   is = record {
-    handshake = record { reserved = omega arith; info_hash = h; peer_id = p };
+    handshake = record { reserved = omega arith; info_hash = lengths.0; peer_id = lengths.1 };
     hash = refl;
     reserved = refl;
-    least = least;
-    most = most;
+    least = limits.0;
+    most = limits.1;
     ids = ids;
     serves = serves;
   };
@@ -64,9 +64,9 @@ pub loop_pair : (rules : Rules) (limit : ℕ) (metadata : List ℕ) → 32768 �
     → is_bad_size (length metadata) ≡ false
     → IsFetchPair metadata (serving_end rules limit metadata) (fetching_end rules limit (sha1 metadata))
 loop_pair rules limit metadata least most size = record {
-  left = new_end rules limit (sha1 metadata) (codes "-BT0001-LLLLLLLLLLLL") 3 (Serving metadata) least most (digest_length metadata) refl left_ids
+  left = new_end rules limit (sha1 metadata) (codes "-BT0001-LLLLLLLLLLLL") (Serving metadata) (least, most) (digest_length metadata, refl) left_ids
       (λ m e. let same : metadata ≡ m = cc in subst IsMetadata same (sized metadata size)) tt;
-  right = new_end rules limit (sha1 metadata) (codes "-BT0001-RRRRRRRRRRRR") 9 Awaiting least most (digest_length metadata) refl right_ids
+  right = new_end rules limit (sha1 metadata) (codes "-BT0001-RRRRRRRRRRRR") Awaiting (least, most) (digest_length metadata, refl) right_ids
       (λ m e. absurd (cc)) tt;
   matched = record { hash = refl; limit = refl; rules = refl; pieces = tt };
   serves = refl;

@@ -58,10 +58,10 @@ looped rules limit text h k (Err fault.Memory) size w = w
 looped rules limit text h k (Err fault.Turns) size w = (size, w)
 looped rules limit text h k (Err fault.Net) size w = (size, w)
 
-pub looped_so : (rules : Rules) (limit : ℕ) (text hash : List ℕ) (l r : HalfState) (h k : Option (List ℕ)) (x : Result LoopEnd ToolFault) → l
+pub looped_so : {hash : List ℕ} {l r : HalfState} (rules : Rules) (limit : ℕ) (text : List ℕ) (h k : Option (List ℕ)) (x : Result LoopEnd ToolFault) → l
     ≡ left_end rules limit text → hash ≡ sha1 text → r ≡ right_end rules limit hash → is_bad_size (length text) ≡ false → IsLinked l r h k x
     → IsLooped rules limit text h k x
-looped_so rules limit text hash l r h k x left same right size w =
+looped_so {r} rules limit text h k x left same right size w =
     let P : HalfState → Type 0 = λ a. IsLinked a r h k x in
     let Q : HalfState → Type 0 = λ a. IsLinked (left_end rules limit text) a h k x in
     let fetcher : r ≡ right_end rules limit (sha1 text) = right ∙ ap (right_end rules limit) same in

@@ -50,9 +50,6 @@ pub record IsReadTo (text rest : List ℕ) (number : ℕ) (d : Draft) : Type 0 w
   pub count : number ≡ length before + 1
   pub bound : number + length rest ≤ length text + 1
 
-pub nothing_read : (text : List ℕ) (d : Draft) → d ≡ start → IsReadTo text text 1 d
-nothing_read text d e = record { before = []; parts = refl; whole = tt; taken = e; count = refl; bound = omega arith }
-
 pub one_more_read : (text rest line after : List ℕ) (number : ℕ) (d next : Draft) → IsReadTo text rest number d → IsCut rest (Some (line, after))
     → Takes d line next → IsReadTo text after (number + 1) next
 one_more_read text rest line after number d next h cut taken =
@@ -65,19 +62,6 @@ one_more_read text rest line after number d next h cut taken =
       count = omega (arith, h.count, length-append h.before (line ∷ []));
       bound = omega (arith, h.bound, size);
     }
-
-pub wrong_line : (text rest line after : List ℕ) (number : ℕ) (d : Draft) → IsReadTo text rest number d → IsCut rest (Some (line, after))
-    → ((next : Draft) → Takes d line next → ⊥) → IsWrongAt text number
-wrong_line text rest line after number d h cut wrong = record {
-  before = h.before;
-  line = line;
-  tail = 10 ∷ after;
-  lines = record { parts = h.parts ∙ ap (λ (x : List ℕ). ended_lines h.before ++ x) cut.0; whole = h.whole; last = cut.1; ends = refl };
-  draft = d;
-  taken = h.taken;
-  wrong = wrong;
-  count = h.count;
-}
 
 last_line : (text rest : List ℕ) (number : ℕ) (d : Draft) (h : IsReadTo text rest number d) → has_feed rest ≡ false → HasLine text h.before rest []
 last_line text rest number d h none = record {

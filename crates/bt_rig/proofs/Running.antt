@@ -11,19 +11,7 @@ use Rattle.bt_rig.specs.declared.script.Script.{Script}
 use Rattle.bt_rig.specs.declared.run.RigEnd.{RigEnd}
 use Rattle.bt_rig.specs.declared.run.RigEnd.TheVariants.{Ran, Syntax, Size, Unrun}
 use Rattle.bt_rig.specs.Scripts.{draft_of, IsScript, IsWrongAt}
-use Rattle.bt_rig.specs.Shown.{report_lines}
-use Rattle.bt_rig.specs.Runs.{IsInput, IsWritten, IsPrinted, IsRunOf, IsFinished, IsTimely, IsTextRun, IsRigRun}
-
-pub printed_so : (r : LinkReport) (h k : TargetSeen) (x : Result RigEnd ToolFault) → IsWritten (report_lines r) h k x → IsPrinted r h k x
-printed_so r h k (Ok Ran) w = w
-printed_so r h k (Ok (Syntax n)) w = absurd w
-printed_so r h k (Ok Size) w = absurd w
-printed_so r h k (Ok (Unrun e)) w = absurd w
-printed_so r h k (Err Read) w = absurd w
-printed_so r h k (Err Write) w = w
-printed_so r h k (Err Memory) w = absurd w
-printed_so r h k (Err Turns) w = absurd w
-printed_so r h k (Err Net) w = absurd w
+use Rattle.bt_rig.specs.Runs.{IsInput, IsPrinted, IsRunOf, IsFinished, IsTimely, IsTextRun, IsRigRun}
 
 pub finished_so : (s : Script) (r : LinkReport) (h k : TargetSeen) (x : Result RigEnd ToolFault) → IsRunOf s r → IsPrinted r h k x
     → IsFinished s h k x
@@ -69,10 +57,10 @@ pub script_by : (text : List ℕ) (r : Result Script ℕ) (s : Script) → Match
     → IsScript text (draft_of s)
 script_by text r s h e = subst (λ (x : Result Script ℕ). MatchResult x (λ s. IsScript text (draft_of s)) (IsWrongAt text)) e h
 
-pub rig_by : (f : Option (Vec ℕ)) (v : Vec ℕ) (bytes : List ℕ) (l m : SourceSeen) (h k : TargetSeen) (x : Result RigEnd ToolFault)
+pub rig_by : {f : Option (Vec ℕ)} {v : Vec ℕ} {bytes : List ℕ} (l m : SourceSeen) (h k : TargetSeen) (x : Result RigEnd ToolFault)
     → IsInput l m (Ok f) → f ≡ Some v → bytes ≡ v.items → IsTextRun bytes h k x
     → IsRigRun (devices l h) (devices m k) x
-rig_by f v bytes l m h k x input some same run =
+rig_by {v} l m h k x input some same run =
     let P : Option (Vec ℕ) → Type 0 = λ o. IsInput l m (Ok o) in
     let Q : List ℕ → Type 0 = λ b. IsTextRun b h k x in
     let q = subst P some input in

@@ -6,19 +6,28 @@ use Rattle.bt_feed.specs.Pumps.{IsPumpEnd, IsEnd}
 use Rattle.bt_text.specs.declared.ended.Ended.TheVariants.{Accepted, Refused}
 use Rattle.bt_text.specs.declared.ended.ToolFault.TheVariants as fault
 use Rattle.bt_jobs.specs.Printed.{prefixed}
-use Rattle.bt_jobs.proofs.Printing.{is_accepted, is_refused, nothing_checked, checked_all, end_of_said, nothing_unrefused, pumped_unrefused}
+use Rattle.bt_jobs.proofs.Printing.{is_accepted, is_refused, nothing_checked, checked_all, end_of_said, said_failed, nothing_unrefused, pumped_unrefused}
 use Rattle.bt_jobs.proofs.check.run_check_after.Goals as goal
 
 pub returns-in-Ok-pump_with-clause-checked : goal.returns-in-Ok-pump_with-clause-checked
 returns-in-Ok-pump_with-clause-checked g c =
     let m = c.in-Ok-pump_with.ensures.moved in
     let end = m.5 in
-    checked_all c.args.prefix.now c.args.own.now c.in-Ok.feed (devices (g.R.Source.seen c.args.reader.now) (g.W.Target.seen c.args.writer.now))
-    (devices (g.R.Source.seen c.pump_with.new.reader) (g.W.Target.seen c.say_after.new.writer)) (m.0 ++ m.1) end.0
-    (Accepted (c.number-messages.result - 1) c.in-Ok-pump_with.bytes)
-    c.say_after.result c.requires.1 c.one_verdict.ensures.one m.3 c.in-Ok.ensures.ok end.1.comes
-    (is_accepted end.0 c.pump_with.new.feed c.number-messages.result _ c.in-Ok-pump_with.bytes end.3 end.1.number c.number-messages.ensures.value refl)
-    (c.in-Ok-pump_with.ensures.end tt) c.say_after.ensures.written
+    checked_all c.args.prefix.now c.args.own.now (devices (g.R.Source.seen c.args.reader.now) (g.W.Target.seen c.args.writer.now))
+    (devices (g.R.Source.seen c.pump_with.new.reader) (g.W.Target.seen c.say_after.new.writer))
+    (Accepted (c.number-messages.result - 1) c.in-Ok-pump_with.bytes) c.say_after.result (record {
+      limit = c.requires.1;
+      one = c.one_verdict.ensures.one;
+      bytes = m.0 ++ m.1;
+      feed = c.in-Ok.feed;
+      now = end.0;
+      consumed = m.3;
+      new = c.in-Ok.ensures.ok;
+      comes = end.1.comes;
+      ended = is_accepted end.0 c.pump_with.new.feed c.number-messages.result _ c.in-Ok-pump_with.bytes end.3 end.1.number c.number-messages.ensures.value refl;
+      told = c.in-Ok-pump_with.ensures.end tt;
+      written = c.say_after.ensures.written;
+    })
 
 pub returns-in-Err-Refused-clause-checked : goal.returns-in-Err-Refused-clause-checked
 returns-in-Err-Refused-clause-checked g c =
@@ -26,12 +35,21 @@ returns-in-Err-Refused-clause-checked g c =
     let P : PumpError → Type 0 = λ e. IsPumpEnd c.in-Ok.feed m.0 m.1 m.2 c.pump_with.new.feed (Err e) in
     let R : PumpError → Type 0 = λ e. IsEnd (Err e) → EndRead (g.R.Source.seen c.args.reader.now) (g.R.Source.seen c.pump_with.new.reader) in
     let end = subst P c.in-Err-Refused.field-0-is m.5 in
-    checked_all c.args.prefix.now c.args.own.now c.in-Ok.feed (devices (g.R.Source.seen c.args.reader.now) (g.W.Target.seen c.args.writer.now))
-    (devices (g.R.Source.seen c.pump_with.new.reader) (g.W.Target.seen c.say_after-in-Err-Refused.new.writer)) (m.0 ++ m.1) end.0
-    (Refused c.in-Err-Refused.refusal)
-    c.say_after-in-Err-Refused.result c.requires.1 c.one_verdict.ensures.one m.3 c.in-Ok.ensures.ok end.1.comes
-    (is_refused end.0 c.in-Err-Refused.refusal end.3) (subst R c.in-Err-Refused.field-0-is c.in-Err-Refused.ensures.end)
-    c.say_after-in-Err-Refused.ensures.written
+    checked_all c.args.prefix.now c.args.own.now (devices (g.R.Source.seen c.args.reader.now) (g.W.Target.seen c.args.writer.now))
+    (devices (g.R.Source.seen c.pump_with.new.reader) (g.W.Target.seen c.say_after-in-Err-Refused.new.writer))
+    (Refused c.in-Err-Refused.refusal) c.say_after-in-Err-Refused.result (record {
+      limit = c.requires.1;
+      one = c.one_verdict.ensures.one;
+      bytes = m.0 ++ m.1;
+      feed = c.in-Ok.feed;
+      now = end.0;
+      consumed = m.3;
+      new = c.in-Ok.ensures.ok;
+      comes = end.1.comes;
+      ended = is_refused end.0 c.in-Err-Refused.refusal end.3;
+      told = subst R c.in-Err-Refused.field-0-is c.in-Err-Refused.ensures.end;
+      written = c.say_after-in-Err-Refused.ensures.written;
+    })
 
 pub returns-in-Err-Turns-clause-checked : goal.returns-in-Err-Turns-clause-checked
 returns-in-Err-Turns-clause-checked g c =
@@ -81,3 +99,26 @@ returns-in-Err-Refused-clause-faults g c =
     end_of_said (Refused c.in-Err-Refused.refusal) _ _ _ _ (g.R.Source.seen c.args.reader.now) (g.R.Source.seen c.pump_with.new.reader)
     c.say_after-in-Err-Refused.result (subst R c.in-Err-Refused.field-0-is c.in-Err-Refused.ensures.end) c.say_after-in-Err-Refused.ensures.written
     c.say_after-in-Err-Refused.ensures.fault
+
+pub returns-in-Ok-pump_with-clause-faults : goal.returns-in-Ok-pump_with-clause-faults
+returns-in-Ok-pump_with-clause-faults g c =
+    end_of_said (Accepted (c.number-messages.result - 1) c.in-Ok-pump_with.bytes) _ _ _ _ (g.R.Source.seen c.args.reader.now)
+    (g.R.Source.seen c.pump_with.new.reader) c.say_after.result (c.in-Ok-pump_with.ensures.end tt) c.say_after.ensures.written c.say_after.ensures.fault
+
+pub returns-in-Ok-pump_with-clause-reads : goal.returns-in-Ok-pump_with-clause-reads
+returns-in-Ok-pump_with-clause-reads g c = c.in-Ok-pump_with.ensures.reads
+
+pub returns-in-Ok-pump_with-clause-calm : goal.returns-in-Ok-pump_with-clause-calm
+returns-in-Ok-pump_with-clause-calm g c = λ _. c.in-Ok-pump_with.ensures.calm (λ e. absurd cc)
+
+pub returns-in-Ok-pump_with-clause-write : goal.returns-in-Ok-pump_with-clause-write
+returns-in-Ok-pump_with-clause-write g c = said_failed _ c.say_after.result c.say_after.ensures.fault
+
+pub returns-in-Err-Refused-clause-reads : goal.returns-in-Err-Refused-clause-reads
+returns-in-Err-Refused-clause-reads g c = c.in-Err-Refused.ensures.reads
+
+pub returns-in-Err-Refused-clause-calm : goal.returns-in-Err-Refused-clause-calm
+returns-in-Err-Refused-clause-calm g c = λ _. c.in-Err-Refused.ensures.calm (λ e. absurd (let is = c.in-Err-Refused.field-0-is in cc))
+
+pub returns-in-Err-Refused-clause-write : goal.returns-in-Err-Refused-clause-write
+returns-in-Err-Refused-clause-write g c = said_failed _ c.say_after-in-Err-Refused.result c.say_after-in-Err-Refused.ensures.fault

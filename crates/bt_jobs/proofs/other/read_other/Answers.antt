@@ -5,7 +5,8 @@ use Rattle.bt_feed.specs.declared.stage.Stage.TheVariants as stage
 use Rattle.bt_text.specs.declared.ended.ToolFault.TheVariants as fault
 use Rattle.bt_jobs.specs.Printed.{so_far}
 use Rattle.bt_jobs.specs.Others.{IsTurnHeard}
-use Rattle.bt_jobs.proofs.Hearing.{listening_first, listening_more, learnt, not_learnt, fault_of_turn, no_fault, read_failed, grew_since, waits, nothing_read}
+use Rattle.bt_jobs.proofs.Hearing.{AreLaws, listening_first, listening_more, learnt, not_learnt, fault_of_turn, no_fault, read_failed, grew_since, waits}
+use Rattle.bt_jobs.proofs.Hearing.{nothing_read}
 use Rattle.bt_jobs.proofs.other.read_other.Goals as goal
 
 pub loop-turn-init : goal.loop-turn-init
@@ -40,9 +41,9 @@ returns-in-Ok-true-clause-learnt g c =
     let P : Bool → Type 0 = λ k. IsTurnHeard (so_far t.bytes t.items) (g.R.Source.seen c.loop-turn.reader) (g.R.Source.seen c.turn.new.reader)
     c.turn.new.feed c.turn.new.listener (Ok k) in
     let end = subst P c.in-Ok-true.field-0-test (c.in-Ok-true.ensures.heard t.bytes t.items t.listening) in
-    learnt (g.R.Source.seen c.args.reader.now) (g.R.Source.seen c.loop-turn.reader) (g.R.Source.seen c.turn.new.reader) c.loop-turn.feed c.turn.new.feed
-    c.loop-turn.listener c.turn.new.listener c.answer.result c.one_verdict.ensures.one
-    c.one_verdict.ensures.refused c.one_verdict.ensures.items t end (grew_since _ _ _ c.loop-turn.invariant.ends) c.answer.ensures
+    let laws : AreLaws = record { one = c.one_verdict.ensures.one; refused = c.one_verdict.ensures.refused; items = c.one_verdict.ensures.items } in
+    learnt (g.R.Source.seen c.args.reader.now) (g.R.Source.seen c.loop-turn.reader) (g.R.Source.seen c.turn.new.reader) c.turn.new.feed
+    c.turn.new.listener laws t end (grew_since _ _ _ c.loop-turn.invariant.ends) c.answer.ensures
 
 pub returns-in-Ok-true-clause-faults : goal.returns-in-Ok-true-clause-faults
 returns-in-Ok-true-clause-faults g c = no_fault _ c.answer.result (g.R.Source.seen c.args.reader.now) (g.R.Source.seen c.turn.new.reader) c.answer.ensures

@@ -6,7 +6,7 @@ use Rattle.bt_jobs.proofs.pack.end_script.Goals as goal
 
 pub returns-then-line-eq0 : goal.returns-then-line-eq0
 returns-then-line-eq0 c = λ own text lines b e h.
-    end_empty own text lines b c.args.line.now c.args.out.now.items c.args.judge.now c.counts.result (omega (arith, c.if-line-eq0.true)) h
+    end_empty c.args.out.now.items h (omega (arith, c.if-line-eq0.true))
     (λ z. c.if-number-eq0.false (c.number.ensures.value ∙ z)) c.counts.ensures
 
 pub returns-in-Ok-None : goal.returns-in-Ok-None
@@ -14,13 +14,12 @@ returns-in-Ok-None c = λ own text lines b e h.
     let P : Option ScriptReason → Type 0 = λ o. IsLineEnd own (packing lines b c.args.out.now.items) c.args.line.now c.take_line.new.judge
     c.take_line.new.out.items o in
     let end = subst P c.in-Ok-None.field-0-is (c.in-Ok-None.ensures own lines b e h.packed) in
-    end_line own text lines b c.args.line.now c.args.out.now.items c.take_line.new.out.items c.args.judge.now c.take_line.new.judge c.counts-in-Ok-None.result
-    (omega (arith, c.if-line-eq0.false)) h end c.counts-in-Ok-None.ensures
+    end_line c.args.out.now.items c.take_line.new.out.items c.take_line.new.judge h (omega (arith, c.if-line-eq0.false)) end c.counts-in-Ok-None.ensures
 
 pub returns-in-Ok-Some : goal.returns-in-Ok-Some
 returns-in-Ok-Some c = λ own text lines b e h.
     let P : Option ScriptReason → Type 0 = λ o. IsLineEnd own (packing lines b c.args.out.now.items) c.args.line.now c.take_line.new.judge
     c.take_line.new.out.items o in
     let end = subst P c.in-Ok-Some.field-0-is (c.in-Ok-Some.ensures own lines b e h.packed) in
-    end_stop own text lines b c.args.line.now c.args.out.now.items c.take_line.new.out.items c.args.judge.now c.take_line.new.judge c.number-in-Ok-Some.result
-    c.in-Ok-Some.reason (omega (arith, c.if-line-eq0.false)) h end c.number-in-Ok-Some.ensures.value
+    end_stop c.args.out.now.items c.take_line.new.out.items c.take_line.new.judge c.in-Ok-Some.reason h (omega (arith, c.if-line-eq0.false)) end
+    c.number-in-Ok-Some.ensures.value

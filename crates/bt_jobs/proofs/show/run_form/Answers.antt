@@ -17,10 +17,18 @@ returns-in-Ok-push_verdict-clause-shown g c =
     ∙ ap (λ (l : List ℕ). l ++ verdict_of c.args.form.now c.in-Ok.ended) c.in-Ok.ensures.empty in (
       t.0,
       t.1,
-      all_shown c.args.form.now c.args.own.now t.0 (text_in c.push_verdict.new.printer) _
-          (devices (g.R.Source.seen c.args.reader.now) (g.W.Target.seen c.args.writer.now))
-          (devices (g.R.Source.seen c.tell.new.reader) (g.W.Target.seen c.flush.new.writer)) _ c.in-Ok.ended c.flush.result
-          (omega (arith, c.requires.1)) c.one_verdict.ensures.one t.2 text c.in-Ok.ensures.faults c.flush.ensures.flushed,
+      all_shown c.args.form.now c.args.own.now t.0 (devices (g.R.Source.seen c.args.reader.now) (g.W.Target.seen c.args.writer.now))
+          (devices (g.R.Source.seen c.tell.new.reader) (g.W.Target.seen c.flush.new.writer)) c.in-Ok.ended c.flush.result (record {
+            limit = omega (arith, c.requires.1);
+            one = c.one_verdict.ensures.one;
+            mid = (g.W.Target.seen c.tell.new.writer).held;
+            text = text_in c.push_verdict.new.printer;
+            left = text_in c.flush.new.self;
+            written = t.2;
+            is = text;
+            told = c.in-Ok.ensures.faults;
+            flushed = c.flush.ensures.flushed;
+          }),
     )
 
 pub returns-in-Ok-clause-shown : goal.returns-in-Ok-clause-shown

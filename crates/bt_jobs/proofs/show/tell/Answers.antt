@@ -30,9 +30,8 @@ loop-turn-preserved g c =
       failed = end.1 ∙ c.loop-turn.invariant.failed;
       ends = end.2 ∙ c.loop-turn.invariant.ends;
       calm = c.in-Ok-None.ensures.calm ∙ c.loop-turn.invariant.calm;
-      told = told_more _ c.args.own.now _ _ (devices (g.R.Source.seen c.loop-turn.reader) (g.W.Target.seen c.loop-turn.writer))
-          (devices (g.R.Source.seen c.turn.new.reader) (g.W.Target.seen c.turn.new.writer)) c.loop-turn.feed c.turn.new.feed c.loop-turn.printer
-          c.turn.new.printer t more;
+      told = told_more (devices (g.R.Source.seen c.loop-turn.reader) (g.W.Target.seen c.loop-turn.writer))
+          (devices (g.R.Source.seen c.turn.new.reader) (g.W.Target.seen c.turn.new.writer)) c.turn.new.feed c.turn.new.printer t more;
     }
 
 pub returns-in-Ok-Some-clause-told : goal.returns-in-Ok-Some-clause-told
@@ -42,9 +41,8 @@ returns-in-Ok-Some-clause-told g c =
     (devices (g.R.Source.seen c.loop-turn.reader) (g.W.Target.seen c.loop-turn.writer))
     (turn_end (devices (g.R.Source.seen c.turn.new.reader) (g.W.Target.seen c.turn.new.writer)) c.turn.new.feed c.turn.new.printer) (Ok o) in
     let end = subst P c.in-Ok-Some.field-0-is (c.in-Ok-Some.ensures.told c.args.own.now t.bytes t.items c.requires.limit.1 t.read t.empty) in
-    (told_end _ c.args.own.now _ _ (devices (g.R.Source.seen c.loop-turn.reader) (g.W.Target.seen c.loop-turn.writer))
-    (devices (g.R.Source.seen c.turn.new.reader) (g.W.Target.seen c.turn.new.writer)) c.loop-turn.feed c.turn.new.feed c.loop-turn.printer
-    c.turn.new.printer c.in-Ok-Some.ended t end).0
+    (told_end (devices (g.R.Source.seen c.loop-turn.reader) (g.W.Target.seen c.loop-turn.writer))
+    (devices (g.R.Source.seen c.turn.new.reader) (g.W.Target.seen c.turn.new.writer)) c.turn.new.feed c.turn.new.printer c.in-Ok-Some.ended t end).0
 
 pub returns-in-Ok-Some-clause-empty : goal.returns-in-Ok-Some-clause-empty
 returns-in-Ok-Some-clause-empty g c =
@@ -53,17 +51,15 @@ returns-in-Ok-Some-clause-empty g c =
     (devices (g.R.Source.seen c.loop-turn.reader) (g.W.Target.seen c.loop-turn.writer))
     (turn_end (devices (g.R.Source.seen c.turn.new.reader) (g.W.Target.seen c.turn.new.writer)) c.turn.new.feed c.turn.new.printer) (Ok o) in
     let end = subst P c.in-Ok-Some.field-0-is (c.in-Ok-Some.ensures.told c.args.own.now t.bytes t.items c.requires.limit.1 t.read t.empty) in
-    (told_end _ c.args.own.now _ _ (devices (g.R.Source.seen c.loop-turn.reader) (g.W.Target.seen c.loop-turn.writer))
-    (devices (g.R.Source.seen c.turn.new.reader) (g.W.Target.seen c.turn.new.writer)) c.loop-turn.feed c.turn.new.feed c.loop-turn.printer
-    c.turn.new.printer c.in-Ok-Some.ended t end).1
+    (told_end (devices (g.R.Source.seen c.loop-turn.reader) (g.W.Target.seen c.loop-turn.writer))
+    (devices (g.R.Source.seen c.turn.new.reader) (g.W.Target.seen c.turn.new.writer)) c.turn.new.feed c.turn.new.printer c.in-Ok-Some.ended t end).1
 
 pub returns-in-Err-clause-told : goal.returns-in-Err-clause-told
 returns-in-Err-clause-told g c =
     let t = c.loop-turn.invariant.told in
-    told_fault _ c.args.own.now (devices (g.R.Source.seen c.args.reader.now) (g.W.Target.seen c.args.writer.now))
+    told_fault (devices (g.R.Source.seen c.args.reader.now) (g.W.Target.seen c.args.writer.now))
     (devices (g.R.Source.seen c.loop-turn.reader) (g.W.Target.seen c.loop-turn.writer))
-    (devices (g.R.Source.seen c.turn.new.reader) (g.W.Target.seen c.turn.new.writer)) c.loop-turn.feed c.turn.new.feed c.loop-turn.printer
-    c.turn.new.printer c.in-Err.fault t
+    (devices (g.R.Source.seen c.turn.new.reader) (g.W.Target.seen c.turn.new.writer)) c.turn.new.feed c.turn.new.printer c.in-Err.fault t
     (c.in-Err.ensures.told c.args.own.now t.bytes t.items c.requires.limit.1 t.read t.empty)
 
 pub returns-clause-told : goal.returns-clause-told

@@ -2,10 +2,10 @@ use Rattle.std.proofs.Common.{◌≡◌, ◌-◌, ◌++◌, ℕ, Err, refl, subs
 use Rattle.bt_text.specs.declared.ended.Ended.TheVariants.{Accepted, Refused}
 use Rattle.bt_feed.specs.declared.sink.SinkFault.TheVariants as faults
 use Rattle.bt_feed.specs.declared.pumping.PumpError.{PumpError}
-use Rattle.bt_feed.specs.Pumps.{IsPumpEnd, IsGiven}
-use Rattle.bt_io.specs.Seen.{devices}
+use Rattle.bt_feed.specs.Pumps.{IsPumpEnd, IsGiven, IsEnd}
+use Rattle.bt_io.specs.Seen.{devices, EndRead}
 use Rattle.bt_jobs.specs.Printed.{Prints, form_of, so_far, turn_end}
-use Rattle.bt_jobs.proofs.Printing.{goes_on, ends, is_accepted, is_refused, nothing_of_turn}
+use Rattle.bt_jobs.proofs.Printing.{end_of_turn, write_failed, goes_on, ends, is_accepted, is_refused, nothing_of_turn}
 use Rattle.bt_jobs.proofs.show.turn.Goals as goal
 
 pub returns-in-Ok-clause-told : goal.returns-in-Ok-clause-told
@@ -88,12 +88,60 @@ returns-in-Err-Turns-clause-told g c = λ own b xs le r empty.
 pub returns-in-Err-ReadFault-clause-told : goal.returns-in-Err-ReadFault-clause-told
 returns-in-Err-ReadFault-clause-told g c = λ own b xs le r empty.
     let m = c.in-Err-ReadFault.ensures.moved in
-    (m.0 ++ m.1, m.3, nothing_of_turn own (form_of c.args.printer.now) b (m.0 ++ m.1) xs c.args.feed.now _ (omega (arith, le)) c.one_verdict.ensures.items r)
+    (m.0 ++ m.1, m.3, nothing_of_turn (form_of c.args.printer.now) (m.0 ++ m.1) _ (omega (arith, le)) c.one_verdict.ensures.items r)
 
 pub returns-in-Err-Sink-clause-told : goal.returns-in-Err-Sink-clause-told
 returns-in-Err-Sink-clause-told g c = λ own b xs le r empty.
     let m = c.in-Err-Sink.ensures.moved in
-    (m.0 ++ m.1, m.3, nothing_of_turn own (form_of c.args.printer.now) b (m.0 ++ m.1) xs c.args.feed.now _ (omega (arith, le)) c.one_verdict.ensures.items r)
+    (m.0 ++ m.1, m.3, nothing_of_turn (form_of c.args.printer.now) (m.0 ++ m.1) _ (omega (arith, le)) c.one_verdict.ensures.items r)
 
 pub returns-in-Err-ReadFault-clause-unfailed : goal.returns-in-Err-ReadFault-clause-unfailed
 returns-in-Err-ReadFault-clause-unfailed g c = λ other. absurd (other refl)
+
+pub returns-in-Ok-clause-faults : goal.returns-in-Ok-clause-faults
+returns-in-Ok-clause-faults g c =
+    end_of_turn (Accepted (c.number-messages.result - 1) c.in-Ok.bytes) _ _ _ _ (g.R.Source.seen c.args.reader.now) (g.R.Source.seen c.pump_with.new.reader)
+    c.flush.result c.flush.ensures.flushed c.flush.ensures.fault (c.in-Ok.ensures.end tt)
+
+pub returns-in-Err-Refused-clause-faults : goal.returns-in-Err-Refused-clause-faults
+returns-in-Err-Refused-clause-faults g c =
+    let R : PumpError → Type 0 = λ e. IsEnd (Err e) → EndRead (g.R.Source.seen c.args.reader.now) (g.R.Source.seen c.pump_with.new.reader) in
+    end_of_turn (Refused c.in-Err-Refused.refusal) _ _ _ _ (g.R.Source.seen c.args.reader.now) (g.R.Source.seen c.pump_with.new.reader)
+    c.flush-in-Err-Refused.result c.flush-in-Err-Refused.ensures.flushed c.flush-in-Err-Refused.ensures.fault
+    (subst R c.in-Err-Refused.field-0-is c.in-Err-Refused.ensures.end)
+
+pub returns-in-Ok-clause-calm : goal.returns-in-Ok-clause-calm
+returns-in-Ok-clause-calm g c = c.flush.ensures.calm
+
+pub returns-in-Ok-clause-reads : goal.returns-in-Ok-clause-reads
+returns-in-Ok-clause-reads g c = c.in-Ok.ensures.reads
+
+pub returns-in-Ok-clause-unfailed : goal.returns-in-Ok-clause-unfailed
+returns-in-Ok-clause-unfailed g c = λ _. c.in-Ok.ensures.calm (λ e. absurd cc)
+
+pub returns-in-Ok-clause-write : goal.returns-in-Ok-clause-write
+returns-in-Ok-clause-write g c = write_failed _ c.flush.result c.flush.ensures.failed
+
+pub returns-in-Err-Refused-clause-calm : goal.returns-in-Err-Refused-clause-calm
+returns-in-Err-Refused-clause-calm g c = c.flush-in-Err-Refused.ensures.calm
+
+pub returns-in-Err-Refused-clause-reads : goal.returns-in-Err-Refused-clause-reads
+returns-in-Err-Refused-clause-reads g c = c.in-Err-Refused.ensures.reads
+
+pub returns-in-Err-Refused-clause-unfailed : goal.returns-in-Err-Refused-clause-unfailed
+returns-in-Err-Refused-clause-unfailed g c = λ _. c.in-Err-Refused.ensures.calm (λ e. absurd (let is = c.in-Err-Refused.field-0-is in cc))
+
+pub returns-in-Err-Refused-clause-write : goal.returns-in-Err-Refused-clause-write
+returns-in-Err-Refused-clause-write g c = write_failed _ c.flush-in-Err-Refused.result c.flush-in-Err-Refused.ensures.failed
+
+pub returns-in-Err-Turns-clause-calm : goal.returns-in-Err-Turns-clause-calm
+returns-in-Err-Turns-clause-calm g c = c.flush-in-Err-Turns.ensures.calm
+
+pub returns-in-Err-Turns-clause-reads : goal.returns-in-Err-Turns-clause-reads
+returns-in-Err-Turns-clause-reads g c = c.in-Err-Turns.ensures.reads
+
+pub returns-in-Err-Turns-clause-unfailed : goal.returns-in-Err-Turns-clause-unfailed
+returns-in-Err-Turns-clause-unfailed g c = λ _. c.in-Err-Turns.ensures.calm (λ e. absurd (let is = c.in-Err-Turns.field-0-is in cc))
+
+pub returns-in-Err-Turns-clause-write : goal.returns-in-Err-Turns-clause-write
+returns-in-Err-Turns-clause-write g c = write_failed _ c.flush-in-Err-Turns.result c.flush-in-Err-Turns.ensures.failed
