@@ -80,15 +80,14 @@ row_given (Some i) text p e =
     let same : p ≡ number_and_shape i = cc e in
     ap (λ (p : ℕ × Shape). option_map (framed_by p.0) (fields_in p.1 text)) (sym same)
 
-pub message_given : {E : Type 0} (text name rest : List ℕ) (n : ℕ) (shape : Shape) (old new : List ℕ) (r : Result Bool E) → bytes_eq text (codes "keep-alive")
-    ≡ false → name ≡ word_of text → bytes_eq name (codes "unknown") ≡ false → rest ≡ after_word text
-    → (let p : ℕ × Shape = (n, shape) in Some p ≡ option_map number_and_shape (row_named name ids))
+pub message_given : {E : Type 0} (text rest : List ℕ) (n : ℕ) (shape : Shape) (old new : List ℕ) (r : Result Bool E)
+    → bytes_eq text (codes "keep-alive") ≡ false → IsAfterName text n shape rest
     → IfOk r (Adds (option_map (framed_by n) (fields_in shape rest)) old new) → IfOk r (Adds (message_in text) old new)
-message_given text name rest n shape old new r other word known following row h =
+message_given text rest n shape old new r other row h =
     let p : ℕ × Shape = (n, shape) in
-    let unknown = rw word at known in
-    let row' = rw word at row in
-    let h' = rw following at h in
+    let unknown = row.other in
+    let row' = sym row.row in
+    let h' = rw row.following at h in
     let is : message_in text ≡ option_map (framed_by n) (fields_in shape (after_word text)) =
     rw (other, unknown) (row_given (row_named (word_of text) ids) (after_word text) p row') in
     rw is h'
