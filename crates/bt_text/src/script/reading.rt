@@ -267,8 +267,36 @@ fn put_bytes(id: u8, numbers: &[u8], rest: &[u8], bytes: &mut Vec<u8>) -> Result
     }
 }
 
+/// Appends the message of an id that has no fields.
+#[inline(never)]
+fn put_nothing(id: u8, text: &[u8], bytes: &mut Vec<u8>) -> Result<bool, AllocError>
+    ensures { IfOk result (Adds (option_map (framed_by id) (fields_in Shape.Nothing text.now)) bytes.old.items bytes.new.items) }
+{
+    put_numbers(id, b"", text, bytes)
+}
+
+/// Appends the message of an id and a piece index.
+#[inline(never)]
+fn put_index(id: u8, text: &[u8], bytes: &mut Vec<u8>) -> Result<bool, AllocError>
+    ensures { IfOk result (Adds (option_map (framed_by id) (fields_in Shape.Index text.now)) bytes.old.items bytes.new.items) }
+{
+    match number_following(text) {
+        Some((index, rest)) => put_numbers(id, &index.to_be_bytes(), rest, bytes),
+        None => Ok(false),
+    }
+}
+
+/// Appends the message of an id and the bytes of a field.
+#[inline(never)]
+fn put_field(id: u8, text: &[u8], bytes: &mut Vec<u8>) -> Result<bool, AllocError>
+    requires { length text.now < 2 ^ 32 }
+    ensures { IfOk result (Adds (option_map (framed_by id) (fields_in Shape.Field text.now)) bytes.old.items bytes.new.items) }
+{
+    put_bytes(id, b"", text, bytes)
+}
+
 /// Appends the message of an id and three numbers.
-#[inline(always)]
+#[inline(never)]
 fn put_part(id: u8, text: &[u8], bytes: &mut Vec<u8>) -> Result<bool, AllocError>
     ensures { IfOk result (Adds (option_map (framed_by id) (fields_in Shape.Part text.now)) bytes.old.items bytes.new.items) }
 {
@@ -280,7 +308,7 @@ fn put_part(id: u8, text: &[u8], bytes: &mut Vec<u8>) -> Result<bool, AllocError
 }
 
 /// Appends the message of an id, two numbers and bytes.
-#[inline(always)]
+#[inline(never)]
 fn put_block(id: u8, text: &[u8], bytes: &mut Vec<u8>) -> Result<bool, AllocError>
     requires { length text.now < 2 ^ 32 }
     ensures { IfOk result (Adds (option_map (framed_by id) (fields_in Shape.Block text.now)) bytes.old.items bytes.new.items) }
@@ -294,33 +322,25 @@ fn put_block(id: u8, text: &[u8], bytes: &mut Vec<u8>) -> Result<bool, AllocErro
 
 /// Appends the message of an id whose fields have this shape.
 ///
-/// `COPY` means nothing. The compiler makes a copy of this function for each number, and knows the shape where its one call does.
+/// Where the shape is known this is one call.
 #[inline(always)]
-fn put_fields<const COPY: u8>(
-    shape: Shape,
-    id: u8,
-    text: &[u8],
-    bytes: &mut Vec<u8>,
-) -> Result<bool, AllocError>
+fn put_fields(shape: Shape, id: u8, text: &[u8], bytes: &mut Vec<u8>) -> Result<bool, AllocError>
     requires { length text.now < 2 ^ 32 }
     ensures { IfOk result (Adds (option_map (framed_by id) (fields_in shape text.now)) bytes.old.items bytes.new.items) }
 {
     match shape {
-        Shape::Nothing => put_numbers(id, b"", text, bytes),
-        Shape::Index => match number_following(text) {
-            Some((index, rest)) => put_numbers(id, &index.to_be_bytes(), rest, bytes),
-            None => Ok(false),
-        },
+        Shape::Nothing => put_nothing(id, text, bytes),
+        Shape::Index => put_index(id, text, bytes),
         Shape::Part => put_part(id, text, bytes),
         Shape::Block => put_block(id, text, bytes),
         Shape::Port => put_port(id, text, bytes),
-        Shape::Field => put_bytes(id, b"", text, bytes),
+        Shape::Field => put_field(id, text, bytes),
         Shape::Extended => put_extended(id, text, bytes),
     }
 }
 
 /// Appends the message of an id and a port.
-#[inline(always)]
+#[inline(never)]
 fn put_port(id: u8, text: &[u8], bytes: &mut Vec<u8>) -> Result<bool, AllocError>
     ensures { IfOk result (Adds (option_map (framed_by id) (fields_in Shape.Port text.now)) bytes.old.items bytes.new.items) }
 {
@@ -333,7 +353,7 @@ fn put_port(id: u8, text: &[u8], bytes: &mut Vec<u8>) -> Result<bool, AllocError
 }
 
 /// Appends the message of an id, an extended id and its payload.
-#[inline(always)]
+#[inline(never)]
 fn put_extended(id: u8, text: &[u8], bytes: &mut Vec<u8>) -> Result<bool, AllocError>
     requires { length text.now < 2 ^ 32 }
     ensures { IfOk result (Adds (option_map (framed_by id) (fields_in Shape.Extended text.now)) bytes.old.items bytes.new.items) }
@@ -408,9 +428,6 @@ pub(crate) fn row_of(name: &[u8]) -> Option<(u8, Shape)>
     }
 }
 
-/// The number of the copy of [`put_fields`] for a row that the whole first word names.
-const OTHER: u8 = 255;
-
 /// The id of a name, the shape of its fields, and what follows the name.
 type Named<'a> = (u8, Shape, &'a [u8]);
 
@@ -459,20 +476,16 @@ fn put_other(text: &[u8], bytes: &mut Vec<u8>) -> Result<bool, AllocError>
     Ok(false)
 }
 
-/// Appends the message of a row, whose name is the text's first word. `COPY` is that of [`put_fields`].
+/// Appends the message of a row, whose name is the text's first word.
 #[inline(always)]
-fn put_found<const COPY: u8>(
-    text: &[u8],
-    row: Named<'_>,
-    bytes: &mut Vec<u8>,
-) -> Result<bool, AllocError>
+fn put_found(text: &[u8], row: Named<'_>, bytes: &mut Vec<u8>) -> Result<bool, AllocError>
     requires short { length row.2.now < 2 ^ 32 }
     requires other { bytes_eq text.now (codes "keep-alive") ≡ false }
     requires named { IsAfterName text.now row.0 row.1 row.2.now }
     ensures { IfOk result (Adds (message_in text.now) bytes.old.items bytes.new.items) }
 {
     let (id, shape, rest) = row;
-    put_fields::<COPY>(shape, id, rest, bytes)
+    put_fields(shape, id, rest, bytes)
 }
 
 /// Appends the message of a line that is no keep-alive, by its whole first word.
@@ -483,14 +496,14 @@ fn put_by_word(text: &[u8], bytes: &mut Vec<u8>) -> Result<bool, AllocError>
     ensures { IfOk result (Adds (message_in text.now) bytes.old.items bytes.new.items) }
 {
     match row_by_word(text) {
-        Some(row) => put_found::<OTHER>(text, row, bytes),
+        Some(row) => put_found(text, row, bytes),
         None => put_other(text, bytes),
     }
 }
 
 /// Appends the message of a line that is no keep-alive, where its first word is likely this name of a row.
 #[inline(always)]
-fn put_row<const COPY: u8>(
+fn put_row(
     text: &[u8],
     name: &[u8],
     id: u8,
@@ -503,7 +516,7 @@ fn put_row<const COPY: u8>(
     ensures { IfOk result (Adds (message_in text.now) bytes.old.items bytes.new.items) }
 {
     match after_name(text, name, id, shape) {
-        Some(row) => put_found::<COPY>(text, row, bytes),
+        Some(row) => put_found(text, row, bytes),
         None => put_by_word(text, bytes),
     }
 }
@@ -516,8 +529,8 @@ fn put_row_of_c(text: &[u8], bytes: &mut Vec<u8>) -> Result<bool, AllocError>
     ensures { IfOk result (Adds (message_in text.now) bytes.old.items bytes.new.items) }
 {
     match after_name(text, b"cancel", 8, Shape::Part) {
-        Some(row) => put_found::<8>(text, row, bytes),
-        None => put_row::<0>(text, b"choke", 0, Shape::Nothing, bytes),
+        Some(row) => put_found(text, row, bytes),
+        None => put_row(text, b"choke", 0, Shape::Nothing, bytes),
     }
 }
 
@@ -529,11 +542,11 @@ fn put_row_of_h(text: &[u8], bytes: &mut Vec<u8>) -> Result<bool, AllocError>
     ensures { IfOk result (Adds (message_in text.now) bytes.old.items bytes.new.items) }
 {
     if let Some(row) = after_name(text, b"have", 4, Shape::Index) {
-        return put_found::<4>(text, row, bytes);
+        return put_found(text, row, bytes);
     }
     match after_name(text, b"have-all", 14, Shape::Nothing) {
-        Some(row) => put_found::<14>(text, row, bytes),
-        None => put_row::<15>(text, b"have-none", 15, Shape::Nothing, bytes),
+        Some(row) => put_found(text, row, bytes),
+        None => put_row(text, b"have-none", 15, Shape::Nothing, bytes),
     }
 }
 
@@ -545,8 +558,8 @@ fn put_row_of_p(text: &[u8], bytes: &mut Vec<u8>) -> Result<bool, AllocError>
     ensures { IfOk result (Adds (message_in text.now) bytes.old.items bytes.new.items) }
 {
     match after_name(text, b"piece", 7, Shape::Block) {
-        Some(row) => put_found::<7>(text, row, bytes),
-        None => put_row::<9>(text, b"port", 9, Shape::Port, bytes),
+        Some(row) => put_found(text, row, bytes),
+        None => put_row(text, b"port", 9, Shape::Port, bytes),
     }
 }
 
@@ -558,8 +571,8 @@ fn put_row_of_r(text: &[u8], bytes: &mut Vec<u8>) -> Result<bool, AllocError>
     ensures { IfOk result (Adds (message_in text.now) bytes.old.items bytes.new.items) }
 {
     match after_name(text, b"request", 6, Shape::Part) {
-        Some(row) => put_found::<6>(text, row, bytes),
-        None => put_row::<16>(text, b"reject", 16, Shape::Part, bytes),
+        Some(row) => put_found(text, row, bytes),
+        None => put_row(text, b"reject", 16, Shape::Part, bytes),
     }
 }
 
@@ -573,17 +586,17 @@ fn put_by_letter(text: &[u8], bytes: &mut Vec<u8>) -> Result<bool, AllocError>
     ensures { IfOk result (Adds (message_in text.now) bytes.old.items bytes.new.items) }
 {
     match text.first() {
-        Some(b'a') => put_row::<17>(text, b"allowed-fast", 17, Shape::Index, bytes),
-        Some(b'b') => put_row::<5>(text, b"bitfield", 5, Shape::Field, bytes),
+        Some(b'a') => put_row(text, b"allowed-fast", 17, Shape::Index, bytes),
+        Some(b'b') => put_row(text, b"bitfield", 5, Shape::Field, bytes),
         Some(b'c') => put_row_of_c(text, bytes),
-        Some(b'e') => put_row::<20>(text, b"extended", 20, Shape::Extended, bytes),
+        Some(b'e') => put_row(text, b"extended", 20, Shape::Extended, bytes),
         Some(b'h') => put_row_of_h(text, bytes),
-        Some(b'i') => put_row::<2>(text, b"interested", 2, Shape::Nothing, bytes),
-        Some(b'n') => put_row::<3>(text, b"not-interested", 3, Shape::Nothing, bytes),
+        Some(b'i') => put_row(text, b"interested", 2, Shape::Nothing, bytes),
+        Some(b'n') => put_row(text, b"not-interested", 3, Shape::Nothing, bytes),
         Some(b'p') => put_row_of_p(text, bytes),
         Some(b'r') => put_row_of_r(text, bytes),
-        Some(b's') => put_row::<13>(text, b"suggest", 13, Shape::Index, bytes),
-        Some(b'u') => put_row::<1>(text, b"unchoke", 1, Shape::Nothing, bytes),
+        Some(b's') => put_row(text, b"suggest", 13, Shape::Index, bytes),
+        Some(b'u') => put_row(text, b"unchoke", 1, Shape::Nothing, bytes),
         _ => put_by_word(text, bytes),
     }
 }
