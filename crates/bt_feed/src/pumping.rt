@@ -120,7 +120,8 @@ fn read_once<R: Source, A: Allocator>(
 /// Reads to the end, and gives the sink each item with its offset.
 ///
 /// It reads `max_turns` times at most: into the buffer, which isn't empty, or right into the feed, where many bytes of a
-/// message are still to come. It returns the offset of the stream's end. It takes no memory itself.
+/// message are still to come. The read after such a one takes 4,096 bytes at most. It returns the offset of the stream's end.
+/// It takes no memory itself.
 ///
 /// A refusal, a sink's fault, a failed read and the end stop it at once: no read follows. After a refusal or a sink's
 /// fault, what is left of the piece in the buffer is lost. After `Turns` or `ReadFault` nothing is lost, and another call
