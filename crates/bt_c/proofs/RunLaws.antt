@@ -18,7 +18,7 @@ use Rattle.bt_wire.specs.declared.item.Refusal.{Refusal}
 use Rattle.bt_wire.specs.Streams.{Outcome, IsOutcome, IsVerdict, refusal_at, with_item, awaiting, refusal_at_end, end_inside}
 use Rattle.bt_wire.specs.Streams.{is_complete as is_complete_verdict}
 use Rattle.bt_wire.proofs.HandLaws.{hand-length}
-use Rattle.bt_wire.proofs.StreamLaws.{at_rest, one_more}
+use Rattle.bt_wire.proofs.StreamLaws.{at_rest, message_then}
 use Rattle.bt_wire.proofs.VerdictLaws.{verdict_only}
 use Rattle.bt_wire.proofs.WalkLaws.{refused_here, partial_here, message_size, refused_opening, partial_opening, opening_more}
 use Rattle.bt_c.specs.Readers.{own_of, context_of, order_in, is_on}
@@ -83,7 +83,7 @@ after_message r t b i msg number v lt g h =
     let Q : Order → Type 0 = λ o. IsOutcome c o t.start (number + 1) (drop i.size b) v in
     let R : ℕ → Type 0 = λ n. IsOutcome c (order_after (order_in r.past) msg) n (number + 1) (drop i.size b) v in
     let start : t.start ≡ r.start + length (spell c msg) = ap (λ z. z.start) g.same ∙ ap (λ n. r.start + n) g.begins.size in
-    one_more c (order_in r.past) r.start number b (drop i.size b) msg v lt g.begins.said g.begins.parts
+    message_then lt g.begins.said g.begins.parts
     (subst R start (subst Q g.order (subst P (ap context_of g.same) h)))
 
 after_handshake : (r t : BtReader) (b : List ℕ) (i : BtItem) (h : Handshake) (v : Outcome) → Opens r b t i h

@@ -12,7 +12,7 @@ use Rattle.bt_wire.specs.Messages.{order_after}
 use Rattle.bt_wire.specs.Streams.{Outcome, IsOutcome, with_item}
 use Rattle.bt_wire.proofs.HandLaws.{hand-length, hand_same}
 use Rattle.bt_wire.proofs.SpellLaws.{length-spell}
-use Rattle.bt_wire.proofs.StreamLaws.{nothing_said, one_more}
+use Rattle.bt_wire.proofs.StreamLaws.{nothing_said, message_then}
 use Rattle.bt_wire.proofs.WalkLaws.{refused_opening, partial_opening, opening_more}
 use Rattle.bt_feed.specs.declared.stage.Stage.{Stage}
 use Rattle.bt_feed.specs.declared.stage.Stage.TheVariants as stage
@@ -38,7 +38,7 @@ item_comes (stage.Handshake own) b x (items.Handshake h) v lt p k =
     opening_more own (b ++ x) h v (hand_same own b x (omega arith) ∙ p.0) (record { fits = p.1; parts = parts }) (subst Q (sym rest) (subst P size k))
 item_comes (stage.Message c o s n) b x (items.Message m) v lt p k =
     let P : ℕ → Type 0 = λ size. IsOutcome c (order_after o m) (s + size) (n + 1) x v in
-    one_more c o s n (b ++ x) x m v lt p.0 (ap (λ (y : List ℕ). y ++ x) p.1) (subst P (ap length p.1) k)
+    message_then lt p.0 (ap (λ (y : List ℕ). y ++ x) p.1) (subst P (ap length p.1) k)
 item_comes (stage.Handshake own) b x (items.Message m) v lt p k = absurd p
 item_comes (stage.Message c o s n) b x (items.Handshake h) v lt p k = absurd p
 

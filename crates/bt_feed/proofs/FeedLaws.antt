@@ -14,7 +14,7 @@ use Rattle.bt_wire.specs.Handshakes.{hand, hand_fault}
 use Rattle.bt_wire.specs.Messages.{spell}
 use Rattle.bt_wire.specs.Streams.{Outcome}
 use Rattle.bt_wire.proofs.HandLaws.{one_handshake}
-use Rattle.bt_wire.proofs.SpellLaws.{one_spelling}
+use Rattle.bt_wire.proofs.SpellLaws.{none_begins}
 use Rattle.bt_wire.proofs.StreamLaws.{outcome_only}
 use Rattle.bt_wire.proofs.VerdictLaws.{verdict_only}
 use Rattle.bt_wire.proofs.WindowLaws.{one_fault, fault-spell}
@@ -85,7 +85,7 @@ one_item : (t : Stage) (b : List ℕ) (a c : Item) → limit_of t < 2 ^ 32 → I
 one_item (stage.Handshake own) b (items.Handshake g) (items.Handshake h) lt p q =
     ap items.Handshake (one_handshake g h [] [] p.1 q.1 (append-nil (hand g) ∙ sym p.2 ∙ q.2 ∙ sym (append-nil (hand h)))).0
 one_item (stage.Message d o s i) b (items.Message m) (items.Message n) lt p q =
-    ap items.Message (one_spelling d o o s s m n [] [] lt p.0 q.0 (append-nil (spell d m) ∙ sym p.1 ∙ q.1 ∙ sym (append-nil (spell d n)))).0
+    ap items.Message (none_begins [] [] lt p.0 q.0 (append-nil (spell d m) ∙ sym p.1 ∙ q.1 ∙ sym (append-nil (spell d n)))).0
 one_item (stage.Handshake own) b (items.Message m) c lt p q = absurd p
 one_item (stage.Handshake own) b (items.Handshake g) (items.Message n) lt p q = absurd q
 one_item (stage.Message d o s i) b (items.Handshake g) c lt p q = absurd p

@@ -45,6 +45,8 @@ impl From<AllocError> for FeedError {
 pub struct Feed<A: Allocator = Global> {
     progress: Progress,
     buffer: Buffer<A>,
+    /// The last read of a pump went right into the buffer.
+    is_direct: bool,
 }
 
 impl<A: Allocator> Model for Feed<A> {
@@ -84,6 +86,7 @@ impl<A: Allocator> Feed<A> {
         Ok(Feed {
             progress: Progress::new(Stage::Handshake(own)),
             buffer: Buffer::with_capacity(alloc, (own.limit as usize + 4).max(68))?,
+            is_direct: false,
         })
     }
 
@@ -107,6 +110,7 @@ impl<A: Allocator> Feed<A> {
                 number: 1,
             }),
             buffer: Buffer::with_capacity(alloc, (context.limit as usize + 4).max(68))?,
+            is_direct: false,
         })
     }
 
@@ -176,7 +180,15 @@ impl<A: Allocator> Feed<A> {
         ensures failed { IfSome result (λ r. (R.seen reader.new).failed ≡ counted (is_err r) (R.seen reader.old).failed) }
         ensures ends { IfSome result (λ r. (R.seen reader.new).ends ≡ counted (is_end r 1) (R.seen reader.old).ends) }
     {
-        self.progress.read(&mut self.buffer, reader)
+        let read = self.progress.read(&mut self.buffer, reader);
+        self.is_direct = read.is_some();
+        read
+    }
+
+    /// Whether the last [`Feed::read`] did read.
+    #[inline(always)]
+    pub(crate) fn is_direct(&self) -> bool {
+        self.is_direct
     }
 
     /// The next item, where it is whole: its bytes are held no more from then on. A refusal is given again for ever after.

@@ -84,14 +84,13 @@ const PEEK: usize = 4_096;
 
 /// Reads once: right into the feed, where it holds a part of a long message, and else into the buffer.
 ///
-/// It says how many bytes came, and how many of them are in the buffer. `is_peek`: at most [`PEEK`] bytes are read into the
-/// buffer, so that no more of a long message is copied from there.
+/// It says how many bytes came, and how many of them are in the buffer. After a read right into the feed at most [`PEEK`] bytes are
+/// read into the buffer, so that no more of a long message is copied from there.
 #[inline(always)]
 fn read_once<R: Source, A: Allocator>(
     reader: &mut R,
     feed: &mut Feed<A>,
     buffer: &mut [u8],
-    is_peek: bool,
 ) -> Result<(usize, usize), Failed>
     requires { 0 < length buffer.old }
     ensures some { IfOk result (λ x. (x.1 ≤ length buffer.new) × (length buffer.new ≡ length buffer.old)
@@ -102,6 +101,7 @@ fn read_once<R: Source, A: Allocator>(
     ensures failed { (R.seen reader.new).failed ≡ counted (is_err result) (R.seen reader.old).failed }
     ensures ends { (R.seen reader.new).ends ≡ counted (is_end (came result) 1) (R.seen reader.old).ends }
 {
+    let is_peek = feed.is_direct();
     match feed.read(reader) {
         Some(Ok(count)) => Ok((count, 0)),
         Some(Err(failed)) => Err(failed),
@@ -149,15 +149,13 @@ pub fn pump_with<R: Source, S: Sink, A: Allocator>(
     if let Err(error) = pump_piece(feed, sink, &[]) {
         return Err(error);
     }
-    let mut is_peek = false;
     for _turn in 0..max_turns {
-        match read_once(reader, feed, buffer, is_peek) {
+        match read_once(reader, feed, buffer) {
             Ok((0, _)) => return end(feed),
             Ok((_, count)) => {
                 if let Err(error) = pump_piece(feed, sink, &buffer[..count]) {
                     return Err(error);
                 }
-                is_peek = count == 0;
             }
             Err(_) => return Err(PumpError::ReadFault),
         }

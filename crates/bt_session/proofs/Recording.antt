@@ -10,7 +10,7 @@ use Rattle.bt_wire.specs.Messages.{Message}
 use Rattle.bt_wire.specs.Faults.{IsFault, is_whole}
 use Rattle.bt_wire.specs.Fronts.{BeginsBy, IsPartial}
 use Rattle.bt_wire.specs.Messages.{spell, order_after}
-use Rattle.bt_wire.proofs.SpellLaws.{one_spelling, length-spell, spelled_first, fits}
+use Rattle.bt_wire.proofs.SpellLaws.{none_begins, length-spell, spelled_first, fits}
 use Rattle.bt_wire.proofs.WindowLaws.{fault-spell, one_fault}
 use Rattle.bt_link.specs.ByteLinks.{MayBeSent}
 use Rattle.bt_end.specs.Ends.{Reaction, belief, spelled}
@@ -23,7 +23,7 @@ more_by : {c : Context} {o : Order} {rest : List ℕ} (old new : List Item) (xs 
 more_by {c} {rest} old new xs [] {msg} {n} lt b s e =
     absurd (omega (arith, ap length s.spelled, ap length b.parts, length-append (spell c msg) (drop n rest), length-spell c msg))
 more_by {c} {o} {rest} old new xs (y ∷ ys) {msg} {n} lt b s e =
-    let one = one_spelling c o o 0 0 y msg (flat_map (spell c) ys) (drop n rest) lt s.well.0 b.said (sym s.spelled ∙ b.parts) in
+    let one = none_begins (flat_map (spell c) ys) (drop n rest) lt s.well.0 b.said (sym s.spelled ∙ b.parts) in
     let well = subst (λ (m : Message). MayBeSent c (order_after o m) ys) one.0 s.well.1 in
     record {
       left = ys;

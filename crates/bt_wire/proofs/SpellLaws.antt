@@ -181,11 +181,6 @@ none_begins {c} {o} {p} {s} {t} {m} {n} x y lt q r e =
       sym first.rest ∙ ap (λ (w : List ℕ). drop (window_length w) w) e ∙ second.rest,
     )
 
--- the same, with every value written
-pub one_spelling : (c : Context) (o p : Order) (s t : ℕ) (m n : Message) (x y : List ℕ) → c.limit < 2 ^ 32 → IsSaid c o s m → IsSaid c p t n
-    → spell c m ++ x ≡ spell c n ++ y → (m ≡ n) × (x ≡ y)
-one_spelling c o p s t m n x y lt q r e = none_begins x y lt q r e
-
 -- ---- what the table of ids says of a message is what its value says
 
 abbrev pub shape_in : Fields → Option Shape

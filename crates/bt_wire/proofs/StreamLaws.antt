@@ -108,12 +108,6 @@ message_then {c} {o} {s} {number} {b} {tail} {m} {v} lt said parts h =
       refusal = h.refusal;
     }
 
--- the same, with every value written
-pub one_more : (c : Context) (o : Order) (s number : ℕ) (b tail : List ℕ) (m : Message) (v : Outcome) → c.limit < 2 ^ 32 → IsSaid c o s m
-    → b ≡ spell c m ++ tail
-    → IsOutcome c (order_after o m) (s + length (spell c m)) (number + 1) tail v → IsOutcome c o s number b (with_item s (items.Message m) v)
-one_more c o s number b tail m v lt said parts h = message_then lt said parts h
-
 -- ---- one outcome
 
 -- the shorter of two lists that the same bytes begin with begins the other

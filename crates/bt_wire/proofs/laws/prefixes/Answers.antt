@@ -1,6 +1,6 @@
 use Rattle.std.proofs.Common.{sym, subst, List, ℕ, ◌++◌, None}
 use Rattle.bt_wire.specs.Faults.{IsFault}
-use Rattle.bt_wire.proofs.SpellLaws.{one_spelling}
+use Rattle.bt_wire.proofs.SpellLaws.{none_begins}
 use Rattle.bt_wire.proofs.WindowLaws.{fault-spell, fault_stays, one_fault}
 use Rattle.bt_wire.proofs.laws.prefixes.Goals as goal
 
@@ -15,4 +15,4 @@ returns-clause-last c = λ d o s b x y f m lt e said same.
     absurd cc
 
 pub returns-clause-spelling : goal.returns-clause-spelling
-returns-clause-spelling c = one_spelling
+returns-clause-spelling c = λ d o p s t m n x y lt q r e. none_begins x y lt q r e
