@@ -12,6 +12,7 @@ use Rattle.bt_wire.specs.declared.item.Item.{Item}
 use Rattle.bt_link.specs.LinkLaws.{SamePieces, AreMatched, most_steps}
 use Rattle.bt_link.specs.MessageLinks as M
 use Rattle.bt_session.specs.declared.run.Connection.{Connection}
+use Rattle.bt_session.specs.declared.run.Link.{Link}
 use Rattle.bt_link.specs.declared.link.Step.{Step}
 use Rattle.bt_end.specs.declared.config.Config.{Config}
 use Rattle.bt_end.specs.declared.config.EndError.TheVariants as end_error
@@ -30,6 +31,10 @@ items_in v = v.items
 pub record IsConnectionOf (c : Connection) (d : M.Connection) : Type 0 where
   pub sent : map items_in c.sent ≡ d.left_sent ∷ d.right_sent ∷ []
   pub handled : c.handled ≡ length d.left_handled ∷ length d.right_handled ∷ []
+
+-- what went over the present connection of a link
+abbrev pub present : Link → Connection
+present link = record { sent = link.left.sent ∷ link.right.sent ∷ []; handled = link.left.handled ∷ link.right.handled ∷ [] }
 
 abbrev pub AreConnectionsOf : List Connection → List M.Connection → Type 0
 AreConnectionsOf [] [] = ⊤

@@ -1,12 +1,12 @@
 //! Runs two ends against each other, over bytes, and reports their outcomes, connections and blocks.
-ghost use Rattle.std.specs.Prelude.{◌≡◌, ◌++◌, None, map, IfOk, IfErr, OnOk};
+ghost use Rattle.std.specs.Prelude.{◌≡◌, ◌++◌, ◌∷◌, [], None, map, IfOk, IfErr, OnOk};
 ghost use Rattle.bt_end.specs.Configs.{end_for, config_error};
 ghost use Rattle.bt_end.specs.Ends.{fetched_block};
 ghost use Rattle.bt_end.specs.Sturdy.{IsFetched};
 ghost use Rattle.bt_link.specs.ByteLinks as links;
 ghost use Rattle.bt_session.specs.Nodes.{IsNodeOf};
 ghost use Rattle.bt_session.specs.Runs.{IsLinkOf};
-ghost use Rattle.bt_session.specs.Reports.{block_of, numbered, held_blocks, DoMatch, IsReportOf, IsRun, IsUnstarted, IsUnrun};
+ghost use Rattle.bt_session.specs.Reports.{block_of, blocks_of, present, numbered, held_blocks, DoMatch, IsReportOf, IsRun, IsUnstarted, IsUnrun};
 
 use crate::facts::is_new;
 use crate::matching::is_mismatch;
@@ -15,6 +15,7 @@ use crate::run::{Connection, Link, keep, run};
 use bt_end::{Config, End, EndError};
 use bt_link::{Outcome, Step};
 use std::alloc::{AllocError, Global};
+use std::mem;
 use thiserror::Error;
 
 /// The greatest number of steps of a run.
@@ -96,25 +97,38 @@ fn copy_blocks(alloc: Global, end: &End) -> Result<Vec<(u32, Vec<u8>)>, AllocErr
     Ok(blocks)
 }
 
+/// Copies of the blocks that both ends of a link hold.
+fn copy_both(alloc: Global, link: &Link) -> Result<[Vec<(u32, Vec<u8>)>; 2], AllocError>
+    ensures { IfOk result (λ blocks. map blocks_of blocks ≡ held_blocks link.now.left.end.end.part ∷ held_blocks link.now.right.end.end.part ∷ []) }
+{
+    let left = copy_blocks(alloc, &link.left.end)?;
+    let right = copy_blocks(alloc, &link.right.end)?;
+    Ok([left, right])
+}
+
+/// Puts the present connection after those before it, and keeps the two ends.
+fn close(alloc: Global, link: &mut Link) -> Result<(), AllocError>
+    ensures past { OnOk result (link.new.past.items ≡ link.old.past.items ++ present link.old ∷ []) }
+    ensures ends { (link.new.left.end ≡ link.old.left.end) × (link.new.right.end ≡ link.old.right.end) }
+{
+    let left = mem::replace(&mut link.left.sent, Vec::new(alloc));
+    let right = mem::replace(&mut link.right.sent, Vec::new(alloc));
+    let last = Connection {
+        sent: [left, right],
+        handled: [link.left.handled, link.right.handled],
+    };
+    keep(&mut link.past, last)
+}
+
 /// The report of a link, after steps with these outcomes.
 fn report(alloc: Global, link: Link, outcomes: Vec<Outcome>) -> Result<LinkReport, AllocError>
     ensures outcomes { IfOk result (λ r. r.outcomes ≡ outcomes) }
     ensures rest { IfOk result (λ r. (l : links.Link) → IsLinkOf link l → IsReportOf l r) }
 {
-    let Link {
-        left,
-        right,
-        mut past,
-    } = link;
-    let blocks = [
-        copy_blocks(alloc, &left.end)?,
-        copy_blocks(alloc, &right.end)?,
-    ];
-    let last = Connection {
-        sent: [left.sent, right.sent],
-        handled: [left.handled, right.handled],
-    };
-    keep(&mut past, last)?;
+    let mut link = link;
+    let blocks = copy_both(alloc, &link)?;
+    close(alloc, &mut link)?;
+    let Link { left, right, past } = link;
     Ok(LinkReport {
         outcomes,
         connections: past,
