@@ -505,6 +505,8 @@ STREAMS = [
     (TEN, b"\0\0\0\x0b\x07\0\0\0\x09\xff\xff\xff\xff\xab\xcd", b"68 piece 9 4294967295 2\nok messages=1 bytes=83\n"),
     (TEN, b"\0\0\0\x03\x0aab", b"68 unknown 10 2\nok messages=1 bytes=75\n"),
     (FREE + " --pieces 8", b"\0\0\0\x02\x05\xff", b"68 bitfield 1\nok messages=1 bytes=74\n"),
+    (FREE, b"\0\0\0\0\xff\xff\xff\xff\0\0\0\0", b"68 keep-alive\nrefused message=2 at=72 TooLong\n"),
+    (FREE, b"\0\0\0\x01\x63\0\0\0\0", b"68 unknown 99 0\n73 keep-alive\nok messages=2 bytes=77\n"),
     # first messages
     (SLOW, b"\0\0\0\x01\x0e", b"refused message=1 at=72 NotNegotiated\n"),
     (FREE, b"\0\0\0\x01\x63", b"68 unknown 99 0\nok messages=1 bytes=73\n"),
