@@ -1,5 +1,5 @@
 #!/usr/bin/env python3
-"""Cuts each worked stream after each of its bytes, and tries extremes and floods.
+"""Cuts each worked stream after each of its bytes, and tries lengths, extremes and floods.
 
 usage: tests/cuts.py [PROGRAM]
 
