@@ -1,5 +1,5 @@
 #!/usr/bin/env python3
-"""Cuts each worked stream after each of its bytes, and tries extremes and floods.
+"""Cuts each worked stream after each of its bytes, and tries lengths, extremes and floods.
 
 usage: tests/cuts.py [PROGRAM]
 
@@ -12,13 +12,30 @@ import subprocess
 import sys
 import tempfile
 
-from statuses import HAND, HAVE_9, LINE, ROOT, message, streams
+from statuses import HAND, HASH, HAVE_9, LINE, ROOT, message, streams
 
-# The handshake with another byte 5, and a receiver that wants another info hash.
+
+def other_byte(at):
+    """The handshake with another byte there."""
+    return HAND[:at] + bytes([HAND[at] ^ 1]) + HAND[at + 1:]
+
+
+# The receiver's options, a handshake that it refuses, and the verdict: one byte is another, or another info hash is wanted.
 BAD_HANDS = [
     ("", HAND[:5] + b"O" + HAND[6:], b"refused message=0 at=5 BadProtocol\n"),
     ("--info-hash " + 40 * "0", HAND, b"refused message=0 at=28 WrongInfoHash\n"),
+    ("--info-hash " + HASH, other_byte(0), b"refused message=0 at=0 BadProtocol\n"),
+    ("--info-hash " + HASH, other_byte(1), b"refused message=0 at=1 BadProtocol\n"),
+    ("--info-hash " + HASH, other_byte(5), b"refused message=0 at=5 BadProtocol\n"),
+    ("--info-hash " + HASH, other_byte(19), b"refused message=0 at=19 BadProtocol\n"),
+    ("--info-hash " + 20 * "2d", other_byte(19), b"refused message=0 at=19 BadProtocol\n"),
+    ("--info-hash " + HASH, other_byte(28), b"refused message=0 at=28 WrongInfoHash\n"),
+    ("--info-hash " + HASH, other_byte(47), b"refused message=0 at=28 WrongInfoHash\n"),
+    ("--info-hash " + 20 * "2d", other_byte(67), b"refused message=0 at=28 WrongInfoHash\n"),
 ]
+
+# Handshakes of which a byte is another, and which are read: reserved bits, an info hash where none is wanted, a peer id.
+OTHER_HANDS = [("--info-hash " + HASH, at) for at in (20, 24, 48, 67)] + [("", 28), ("", 47)]
 
 # How many bytes of the message a reason is judged with; the others are judged with the whole message.
 JUDGED = {"TooLong": 4, "UnknownId": 5, "NotNegotiated": 5, "WrongLength": 5, "Late": 5, "Missing": 5}
@@ -132,6 +149,12 @@ EXTREMES = [
     ("", b"\0\0\0\x24\x14\x03" + b"d8:msg_typei0e5:piecei4294967295ee", b"68 metadata-request 4294967295\nok messages=1 bytes=108\n"),
     ("", b"\0\0\0\x24\x14\x03" + b"d8:msg_typei0e5:piecei4294967296ee", b"68 metadata-malformed 34 0\nok messages=1 bytes=108\n"),
     ("--limit 1048576", message(b"\x63" + bytes(1048575)), b"68 unknown 99 1048575\nok messages=1 bytes=1048648\n"),
+    ("--limit 1048576", message(b"\x07\0\0\0\x01\0\0\0\0" + 1048567 * b"e"), b"68 piece 1 0 1048567\nok messages=1 bytes=1048648\n"),
+    ("--limit 1048576", message(b"\x05" + 1048575 * b"e"), b"68 bitfield 1048575\nok messages=1 bytes=1048648\n"),
+    ("--limit 1048576", message(b"\x14\0de" + 1048572 * b"e"),
+     b"68 ext-handshake 2 1048572 size=- ut_metadata=-\nok messages=1 bytes=1048648\n"),
+    ("--limit 1048576", message(b"\x14\x03de" + 1048572 * b"e"), b"68 metadata-malformed 2 1048572\nok messages=1 bytes=1048648\n"),
+    ("--limit 1048576", message(b"\x14\x09" + 1048574 * b"e"), b"68 extended 9 1048574\nok messages=1 bytes=1048648\n"),
     ("--limit 1048576", b"\0\x10\0\x01", b"refused message=1 at=68 TooLong\n"),
     ("--limit 1", b"\0\0\0\x01\x63", b"68 unknown 99 0\nok messages=1 bytes=73\n"),
     ("--limit 1", b"\0\0\0\x02\x63", b"refused message=1 at=68 TooLong\n"),
@@ -144,6 +167,55 @@ def extremes(program):
         if shown(program, options, HAND + rest) != b"0 " + LINE + lines:
             wrong.append("show %s: of a handshake and %.60r" % (options, rest))
     return wrong, len(EXTREMES)
+
+
+# An id, and its least and its greatest length, None for the limit (docs/FORMAT.md, the table of messages).
+LENGTHS = [
+    (0, 1, 1), (1, 1, 1), (2, 1, 1), (3, 1, 1), (4, 5, 5), (5, 1, None), (6, 13, 13), (7, 9, None), (8, 13, 13), (9, 3, 3),
+    (10, 1, None), (12, 1, None), (13, 5, 5), (14, 1, 1), (15, 1, 1), (16, 13, 13), (17, 5, 5), (18, 1, None), (20, 2, None),
+    (99, 1, None), (255, 1, None),
+]
+
+# A number of pieces, and the length of its bitfield.
+BITFIELDS = [(0, 1), (1, 2), (7, 2), (8, 2), (9, 3), (10, 3), (16, 3), (17, 4)]
+
+
+def head(length, number):
+    """The handshake, and then a length and an id."""
+    return HAND + length.to_bytes(4, "big") + bytes([number])
+
+
+def after_head(length):
+    """The verdict where the length is allowed: the message is there, has bytes to come, or is a keep-alive before a further byte."""
+    if length == 1:
+        return "ok messages=1 bytes=73"
+    return "refused message=%d at=73 EndInside" % (1 if length else 2)
+
+
+def lengths_of(number, least, greatest, limit):
+    """The least and the greatest length of an id, one less and one more, and the verdict of each."""
+    most = greatest or limit
+    above = "refused message=1 at=68 " + ("TooLong" if most == limit else "WrongLength")
+    below = after_head(0) if least == 1 else "refused message=1 at=68 WrongLength"
+    return [(least - 1, below), (least, after_head(least)), (most, after_head(most)), (most + 1, above)]
+
+
+def lengths(program):
+    """The lengths of each id under several limits, and of bitfields."""
+    tried = [("--rules free --limit %d" % limit, [(head(length, row[0]), verdict) for row in LENGTHS
+                                                  for length, verdict in lengths_of(*row, limit)])
+             for limit in (13, 262144, 1048576)]
+    wrong = "refused message=1 at=68 WrongLength"
+    tried += [("--rules free --pieces %d" % pieces, [(head(said, 5), after_head(said) if said == length else wrong)
+                                                     for said in range(1, 6)]) for pieces, length in BITFIELDS]
+    tried += [(options + " --rules free", [(other_byte(at) + bytes(4), "ok messages=1 bytes=72")]) for options, at in OTHER_HANDS]
+    found = []
+    for options, rows in tried:
+        verdicts, _ = checked(program, options, [stream for stream, _ in rows])
+        found += ["check %s: of %r: %s, not %s" % (options, stream, got, verdict)
+                  for (stream, verdict), got in zip(rows, verdicts) if got != verdict]
+        found += [] if len(verdicts) == len(rows) else ["check %s: of %d files" % (options, len(rows))]
+    return found, sum(len(rows) for _, rows in tried)
 
 
 def floods(program):
@@ -162,7 +234,7 @@ def floods(program):
 def main():
     program = os.path.abspath(sys.argv[1] if len(sys.argv) > 1 else os.path.join(ROOT, "bt_tool"))
     wrong, tried = [], 0
-    for part in (cuts, cut_lines, extremes, floods):
+    for part in (cuts, cut_lines, extremes, lengths, floods):
         more, count = part(program)
         wrong, tried = wrong + more, tried + count
     for line in wrong:

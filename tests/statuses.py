@@ -500,6 +500,13 @@ STREAMS = [
     (NONE, b"\0\0\0\x01\x05", b"68 bitfield 0\nok messages=1 bytes=73\n"),
     (FREE, b"\0\0\0\x01\x05", b"68 bitfield 0\nok messages=1 bytes=73\n"),
     (NONE, b"\0\0\0\x05\x04\0\0\0\0", b"refused message=1 at=73 BadIndex\n"),
+    # numbers, and payloads of messages of other ids
+    (FREE, b"\0\0\0\x05\x04\xff\xfe\xfd\xfc", b"68 have 4294901244\nok messages=1 bytes=77\n"),
+    (TEN, b"\0\0\0\x0b\x07\0\0\0\x09\xff\xff\xff\xff\xab\xcd", b"68 piece 9 4294967295 2\nok messages=1 bytes=83\n"),
+    (TEN, b"\0\0\0\x03\x0aab", b"68 unknown 10 2\nok messages=1 bytes=75\n"),
+    (FREE + " --pieces 8", b"\0\0\0\x02\x05\xff", b"68 bitfield 1\nok messages=1 bytes=74\n"),
+    (FREE, b"\0\0\0\0\xff\xff\xff\xff\0\0\0\0", b"68 keep-alive\nrefused message=2 at=72 TooLong\n"),
+    (FREE, b"\0\0\0\x01\x63\0\0\0\0", b"68 unknown 99 0\n73 keep-alive\nok messages=2 bytes=77\n"),
     # first messages
     (SLOW, b"\0\0\0\x01\x0e", b"refused message=1 at=72 NotNegotiated\n"),
     (FREE, b"\0\0\0\x01\x63", b"68 unknown 99 0\nok messages=1 bytes=73\n"),
@@ -526,6 +533,7 @@ STREAMS = [
     (BEP, b"\0\0\0\x42\x14\0d1:md11:ut_metadatai2e6:ut_pexi1ee1:pi6881e4:reqqi500e1:v4:teste",
      b"68 ext-handshake 64 0 size=- ut_metadata=2\nok messages=1 bytes=138\n"),
     (FREE, b"\0\0\0\x1b\x14\x03d8:msg_typei0e5:piecei0ee", b"68 metadata-request 0\nok messages=1 bytes=99\n"),
+    (FREE + " --metadata-id 0", b"\0\0\0\x1b\x14\x03d8:msg_typei0e5:piecei0ee", b"68 extended 3 25\nok messages=1 bytes=99\n"),
     (FREE, b"\0\0\0\x1b\x14\x04d8:msg_typei0e5:piecei0ee", b"68 extended 4 25\nok messages=1 bytes=99\n"),
     (FREE, b"\0\0\0\x2e\x14\x03d8:msg_typei1e5:piecei0e10:total_sizei3eeabc",
      b"68 metadata-data 0 3 3\nok messages=1 bytes=118\n"),
@@ -548,6 +556,9 @@ STREAMS = [
     (FREE + " --donthave-id 4 --pieces 9", TAKES_9, b"refused message=1 at=74 BadIndex\n"),
     (FREE + " --donthave-id 4", b"\0\0\0\x05\x14\x04\0\0\x09", b"refused message=1 at=74 BadExtLength\n"),
     (BEP + " --donthave-id 4", b"\0\0\0\x02\x14\x04", b"refused message=1 at=74 BadExtLength\n"),
+    (FREE + " --donthave-id 4 --pieces 10", TAKES_9, b"68 donthave 9\nok messages=1 bytes=78\n"),
+    (BEP + " --donthave-id 4 --pieces 9", b"\0\0\0\x05\x14\x04\0\0\x09", b"refused message=1 at=74 BadExtLength\n"),
+    (BEP + " --donthave-id 4 --pieces 9", b"\0\0\0\x06\x14\x05\0\0\0\x09", b"68 extended 5 4\nok messages=1 bytes=78\n"),
     (FREE, TAKES_9, b"68 extended 4 4\nok messages=1 bytes=78\n"),
     (FREE, b"\0\0\0\x0b\x14\0d1:pi-0ee", b"refused message=1 at=80 BadBencode\n"),
     (FREE, b"\0\0\0\x09\x14\0d1:pi1e", b"refused message=1 at=81 BadBencode\n"),
@@ -555,6 +566,144 @@ STREAMS = [
      b"refused message=1 at=109 BadBencode\n"),
     (FREE, b"\0\0\0\x45\x14\0d1:pllllllllllllllllllllllllllllllleeeeeeeeeeeeeeeeeeeeeeeeeeeeeeee",
      b"68 ext-handshake 67 0 size=- ut_metadata=-\nok messages=1 bytes=141\n"),
+]
+
+# Options of further receivers, whose names say what is missing or known.
+SLOW_TEN = SLOW + " --pieces 10"
+SLOW_BEP = "--rules bep --reserved 0000000000100001"
+BEP_TEN = "--rules bep --pieces 10"
+PLAIN_TEN = "--rules free --pieces 10 --reserved 0000000000000005"
+NO_EXT = "--rules bep --reserved 0000000000000005"
+NARROW = "--rules free --pieces 10 --limit 2"
+NARROW_BEP = "--rules bep --limit 2"
+
+# What comes before a message, and its line.
+FIRST, HAVE_NONE, UNCHOKE = (b"", b""), (b"\0\0\0\x01\x0f", b"68 have-none\n"), (b"\0\0\0\x01\x01", b"68 unchoke\n")
+
+# Extended messages with one fault each: no dictionary, keys out of order, an `m` that is none, a block of 2 bytes for 3.
+NO_INTEGER = b"\0\0\0\x0b\x14\0d1:pi-0ee"
+UNSORTED = b"\0\0\0\x2d\x14\0d13:metadata_sizei3e1:md11:ut_metadatai3eee"
+NO_NAMES = b"\0\0\0\x0a\x14\0d1:mi1ee"
+SHORT = b"\0\0\0\x2d\x14\x03d8:msg_typei1e5:piecei0e10:total_sizei3eeab"
+
+# The receiver's options, what comes before a message, the message, and where in it and why it is refused: each reason alone, and
+# then each two that can hold together, of which the first counts. Then the same for extended messages.
+REASONS = [
+    (FREE, FIRST, b"\0\x04\0\x01", 0, b"TooLong"),
+    (BEP_TEN, FIRST, b"\0\0\0\x01\x63", 4, b"UnknownId"),
+    (SLOW_TEN, FIRST, b"\0\0\0\x01\x0e", 4, b"NotNegotiated"),
+    (SLOW_TEN, FIRST, b"\0\0\0\x01\x0f", 4, b"NotNegotiated"),
+    (SLOW_TEN, UNCHOKE, b"\0\0\0\x05\x0d\0\0\0\x09", 4, b"NotNegotiated"),
+    (SLOW_TEN, UNCHOKE, b"\0\0\0\x0d\x10\0\0\0\x09", 4, b"NotNegotiated"),
+    (SLOW_TEN, UNCHOKE, b"\0\0\0\x05\x11\0\0\0\x09", 4, b"NotNegotiated"),
+    (PLAIN_TEN, FIRST, b"\0\0\0\x02\x14\x04", 4, b"NotNegotiated"),
+    (PLAIN_TEN, FIRST, b"\0\0\0\x01\x14", 4, b"NotNegotiated"),
+    (FREE, FIRST, b"\0\0\0\x04\x04", 0, b"WrongLength"),
+    (FREE, FIRST, b"\0\0\0\x08\x07", 0, b"WrongLength"),
+    (TEN, FIRST, b"\0\0\0\x04\x05", 0, b"WrongLength"),
+    (BEP_TEN, HAVE_NONE, b"\0\0\0\x03\x05\xff\xc0", 4, b"Late"),
+    (BEP_TEN, HAVE_NONE, b"\0\0\0\x01\x0e", 4, b"Late"),
+    (BEP_TEN, HAVE_NONE, b"\0\0\0\x01\x0f", 4, b"Late"),
+    (SLOW_BEP, UNCHOKE, b"\0\0\0\x03\x05\xff\xc0", 4, b"Late"),
+    (BEP_TEN, FIRST, b"\0\0\0\x01\x01", 4, b"Missing"),
+    (TEN, FIRST, b"\0\0\0\x05\x04\0\0\0\x0a", 5, b"BadIndex"),
+    (TEN, FIRST, b"\0\0\0\x0d\x06\0\0\0\x0a\0\0\0\0\0\0\0\0", 5, b"BadIndex"),
+    (TEN, FIRST, b"\0\0\0\x0a\x07\0\0\0\x0a\0\0\0\0a", 5, b"BadIndex"),
+    (TEN, FIRST, b"\0\0\0\x0d\x08\0\0\0\x0a\0\0\0\0\0\0\0\0", 5, b"BadIndex"),
+    (TEN, FIRST, b"\0\0\0\x05\x0d\0\0\0\x0a", 5, b"BadIndex"),
+    (TEN, FIRST, b"\0\0\0\x0d\x10\xff\xff\xff\xff\0\0\0\0\0\0\0\0", 5, b"BadIndex"),
+    (TEN, FIRST, b"\0\0\0\x05\x11\0\0\0\x0a", 5, b"BadIndex"),
+    (NONE, FIRST, b"\0\0\0\x05\x04\0\0\0\0", 5, b"BadIndex"),
+    (TEN, FIRST, b"\0\0\0\x03\x05\xff\xe0", 6, b"SpareBits"),
+    (TEN, FIRST, b"\0\0\0\x03\x05\0\x01", 6, b"SpareBits"),
+    (NARROW, FIRST, b"\0\0\0\x03\x05\xff\xe0", 0, b"TooLong"),
+    (NARROW, FIRST, b"\0\0\0\x05\x04\0\0\0\x0a", 0, b"TooLong"),
+    (BEP_TEN, FIRST, b"\0\x04\0\x01\x63", 0, b"TooLong"),
+    (SLOW_TEN, FIRST, b"\0\x04\0\x01\x0e", 0, b"TooLong"),
+    (FREE, FIRST, b"\0\x04\0\x01\0", 0, b"TooLong"),
+    (SLOW_BEP, UNCHOKE, b"\0\x04\0\x01\x05", 0, b"TooLong"),
+    (BEP_TEN, FIRST, b"\0\x04\0\x01\x07", 0, b"TooLong"),
+    (SLOW_TEN, FIRST, b"\0\0\0\x02\x0e\0", 4, b"NotNegotiated"),
+    (SLOW_BEP, UNCHOKE, b"\0\0\0\x01\x0f", 4, b"NotNegotiated"),
+    (SLOW_TEN, FIRST, b"\0\0\0\x05\x0d\0\0\0\x0a", 4, b"NotNegotiated"),
+    (BEP_TEN, HAVE_NONE, b"\0\0\0\x02\x0f\0", 0, b"WrongLength"),
+    (BEP_TEN, FIRST, b"\0\0\0\x02\x01\0", 0, b"WrongLength"),
+    (TEN, FIRST, b"\0\0\0\x06\x04\0\0\0\x0a\0", 0, b"WrongLength"),
+    (TEN, FIRST, b"\0\0\0\x04\x05\xff\xc0\x01", 0, b"WrongLength"),
+    (BEP_TEN, HAVE_NONE, b"\0\0\0\x03\x05\xff\xe0", 4, b"Late"),
+    (BEP_TEN, FIRST, b"\0\0\0\x05\x04\0\0\0\x0a", 4, b"Missing"),
+    (FREE, FIRST, NO_INTEGER, 12, b"BadBencode"),
+    (FREE, HAVE_NONE, NO_INTEGER, 12, b"BadBencode"),
+    (BEP, FIRST, NO_INTEGER, 12, b"BadBencode"),
+    (BEP, HAVE_NONE, NO_INTEGER, 12, b"BadBencode"),
+    (FREE, FIRST, b"\0\0\0\x09\x14\0d1:pi1e", 13, b"BadBencode"),
+    (FREE, HAVE_NONE, b"\0\0\0\x09\x14\0d1:pi1e", 13, b"BadBencode"),
+    (FREE, FIRST, b"\0\0\0\x02\x14\0", 6, b"BadBencode"),
+    (FREE, HAVE_NONE, b"\0\0\0\x02\x14\0", 6, b"BadBencode"),
+    (BEP, FIRST, b"\0\0\0\x04\x14\x03le", 6, b"BadBencode"),
+    (BEP, HAVE_NONE, b"\0\0\0\x04\x14\x03le", 6, b"BadBencode"),
+    (BEP, FIRST, UNSORTED, 26, b"Unsorted"),
+    (BEP, HAVE_NONE, UNSORTED, 26, b"Unsorted"),
+    (BEP, FIRST, NO_NAMES, 6, b"BadField"),
+    (BEP, HAVE_NONE, NO_NAMES, 6, b"BadField"),
+    (BEP, FIRST, b"\0\0\0\x1b\x14\x03d8:msg_typei1e5:piecei0ee", 6, b"BadField"),
+    (BEP, HAVE_NONE, b"\0\0\0\x1b\x14\x03d8:msg_typei1e5:piecei0ee", 6, b"BadField"),
+    (BEP, FIRST, SHORT, 47, b"BadBlock"),
+    (BEP, HAVE_NONE, SHORT, 47, b"BadBlock"),
+    (NARROW_BEP, FIRST, NO_INTEGER, 0, b"TooLong"),
+    (NARROW_BEP, HAVE_NONE, NO_INTEGER, 0, b"TooLong"),
+    (NARROW_BEP, FIRST, UNSORTED, 0, b"TooLong"),
+    (NARROW_BEP, HAVE_NONE, UNSORTED, 0, b"TooLong"),
+    (NARROW_BEP, FIRST, NO_NAMES, 0, b"TooLong"),
+    (NARROW_BEP, HAVE_NONE, NO_NAMES, 0, b"TooLong"),
+    (NARROW_BEP, FIRST, SHORT, 0, b"TooLong"),
+    (NARROW_BEP, HAVE_NONE, SHORT, 0, b"TooLong"),
+    (NO_EXT, FIRST, b"\0\x04\0\x01\x14", 0, b"TooLong"),
+    (NO_EXT, HAVE_NONE, b"\0\x04\0\x01\x14", 0, b"TooLong"),
+    (NO_EXT, FIRST, NO_INTEGER, 4, b"NotNegotiated"),
+    (NO_EXT, HAVE_NONE, NO_INTEGER, 4, b"NotNegotiated"),
+    (NO_EXT, FIRST, UNSORTED, 4, b"NotNegotiated"),
+    (NO_EXT, HAVE_NONE, UNSORTED, 4, b"NotNegotiated"),
+    (NO_EXT, FIRST, NO_NAMES, 4, b"NotNegotiated"),
+    (NO_EXT, HAVE_NONE, NO_NAMES, 4, b"NotNegotiated"),
+    (NO_EXT, FIRST, SHORT, 4, b"NotNegotiated"),
+    (NO_EXT, HAVE_NONE, SHORT, 4, b"NotNegotiated"),
+    (BEP, FIRST, b"\0\0\0\x0b\x14\0d1:b0:1:a", 15, b"BadBencode"),
+    (BEP, HAVE_NONE, b"\0\0\0\x0b\x14\0d1:b0:1:a", 15, b"BadBencode"),
+    (BEP, FIRST, b"\0\0\0\x09\x14\0d1:mi1e", 13, b"BadBencode"),
+    (BEP, HAVE_NONE, b"\0\0\0\x09\x14\0d1:mi1e", 13, b"BadBencode"),
+    (BEP, FIRST, b"\0\0\0\x2d\x14\x03d8:msg_typei1e5:piecei0e10:total_sizei3eabc", 46, b"BadBencode"),
+    (BEP, HAVE_NONE, b"\0\0\0\x2d\x14\x03d8:msg_typei1e5:piecei0e10:total_sizei3eabc", 46, b"BadBencode"),
+    (BEP, FIRST, b"\0\0\0\x10\x14\0d1:pi1e1:mi1ee", 13, b"Unsorted"),
+    (BEP, HAVE_NONE, b"\0\0\0\x10\x14\0d1:pi1e1:mi1ee", 13, b"Unsorted"),
+    (BEP, FIRST, b"\0\0\0\x1b\x14\x03d5:piecei0e8:msg_typei1ee", 17, b"Unsorted"),
+    (BEP, HAVE_NONE, b"\0\0\0\x1b\x14\x03d5:piecei0e8:msg_typei1ee", 17, b"Unsorted"),
+    (BEP, FIRST, b"\0\0\0\x2d\x14\x03d8:msg_typei1e10:total_sizei3e5:piecei0eeab", 36, b"Unsorted"),
+    (BEP, HAVE_NONE, b"\0\0\0\x2d\x14\x03d8:msg_typei1e10:total_sizei3e5:piecei0eeab", 36, b"Unsorted"),
+]
+
+# A message, and why it is refused as the first, later, and as the first of a connection without the Fast Extension, under the
+# strict rules; None where it isn't. Then whether it counts as one before others (docs/FORMAT.md, "Rules").
+MISSING, LATE, NOT_AGREED, UNKNOWN = b"Missing", b"Late", b"NotNegotiated", b"UnknownId"
+ORDERS = [
+    (b"\0\0\0\0", None, None, None, False),
+    (b"\0\0\0\x01\0", MISSING, None, None, True),
+    (b"\0\0\0\x01\x01", MISSING, None, None, True),
+    (b"\0\0\0\x01\x02", MISSING, None, None, True),
+    (b"\0\0\0\x01\x03", MISSING, None, None, True),
+    (b"\0\0\0\x05\x04\0\0\0\0", MISSING, None, None, True),
+    (b"\0\0\0\x02\x05\0", None, LATE, None, True),
+    (b"\0\0\0\x0d\x06" + bytes(12), MISSING, None, None, True),
+    (b"\0\0\0\x09\x07" + bytes(8), MISSING, None, None, True),
+    (b"\0\0\0\x0d\x08" + bytes(12), MISSING, None, None, True),
+    (b"\0\0\0\x03\x09\0\0", None, None, None, False),
+    (b"\0\0\0\x05\x0d\0\0\0\0", MISSING, None, NOT_AGREED, True),
+    (b"\0\0\0\x01\x0e", None, LATE, NOT_AGREED, True),
+    (b"\0\0\0\x01\x0f", None, LATE, NOT_AGREED, True),
+    (b"\0\0\0\x0d\x10" + bytes(12), MISSING, None, NOT_AGREED, True),
+    (b"\0\0\0\x05\x11\0\0\0\0", MISSING, None, NOT_AGREED, True),
+    (b"\0\0\0\x02\x14\x04", None, None, None, False),
+    (b"\0\0\0\x01\x63", UNKNOWN, UNKNOWN, UNKNOWN, True),
 ]
 
 # The lines of the streams that were recorded between clients (examples/README.md), which are the same under both rules.
@@ -686,9 +835,34 @@ def scripted(rest, verdict, script):
     return [("check", stream, verdict, b"", status), ("unpack", stream, script, b"", 0), ("pack", script, stream, b"", 0)]
 
 
+def reasons():
+    """The receiver's options, what follows the handshake, and the lines that follow the handshake's."""
+    for options, (before, line), refused, at, reason in REASONS:
+        place = 68 + len(before) + at
+        yield options, before + refused, line + b"refused message=%d at=%d %s\n" % (2 if before else 1, place, reason)
+
+
+def judged(options, rest, reason, number, start):
+    """The row of `check` of a stream of which this message is refused at its id, or of which none is."""
+    stream = HAND + rest
+    if reason:
+        return "check " + options, stream, b"refused message=%d at=%d %s\n" % (number, start + 4, reason), b"", 1
+    return "check " + options, stream, b"ok messages=%d bytes=%d\n" % (number, len(stream)), b"", 0
+
+
+def orders():
+    """Each message as the first, later, as the first without the Fast Extension, and before another that has to come first."""
+    for content, first, later, slow, counts in ORDERS:
+        yield judged(BEP, content, first, 1, 68)
+        yield judged(BEP, HAVE_NONE[0] + content, later, 2, 73)
+        yield judged(SLOW_BEP, content, slow, 1, 68)
+        if not first:
+            yield judged(BEP, content + HAVE_NONE[0], LATE if counts else None, 2, 68 + len(content))
+
+
 def streams():
     """The receiver's options, a stream, and its lines."""
-    found = [(options, HAND + rest, b"0 " + LINE + lines) for options, rest, lines in STREAMS]
+    found = [(options, HAND + rest, b"0 " + LINE + lines) for options, rest, lines in [*STREAMS, *reasons()]]
     for options, name, lines in CAPTURES:
         with open(os.path.join(ROOT, "examples", name), "rb") as file:
             stream = file.read()
@@ -723,7 +897,7 @@ def devices(program):
 
 def rows():
     """All rows, those of the tables of streams and mistakes too."""
-    found = ROWS + [(words, HAND, b"", MISTAKE, 2) for words in MISTAKES]
+    found = ROWS + [(words, HAND, b"", MISTAKE, 2) for words in MISTAKES] + list(orders())
     for row in SCRIPTS:
         found += scripted(*row)
     for row in streams():

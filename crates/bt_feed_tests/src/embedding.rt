@@ -1,6 +1,5 @@
-//! What an embedding calls: the items of a piece, the peer's context, one error.
-use crate::feed::{HAND, joined, new_feed, own, read};
-use crate::pumps::{ITEMS, MESSAGES};
+//! What an embedding calls: the peer's context, one error.
+use crate::feed::{HAND, new_feed, own};
 use bt_bencode::ByteString;
 use bt_ext::{Ext, Kind, Registered, Table, dict_of};
 use bt_feed::{
@@ -12,43 +11,6 @@ use bt_wire::{
 };
 use std::alloc::{AllocError, Global};
 use std::test::Fail;
-
-/// Whether the stream in pieces of this size gives the items.
-fn is_read(alloc: Global, feed: &mut Feed, stream: &[u8], size: usize) -> bool {
-    let mut items = Vec::new(alloc);
-    for piece in stream.chunks(size.max(1)) {
-        if read(alloc, feed, piece, &mut items).is_some() {
-            return false;
-        }
-    }
-    items.as_slice() == ITEMS.as_slice()
-}
-
-fn start(feed: &Feed) -> u64 {
-    feed.start()
-}
-
-fn is_read_by(alloc: Global, stream: &[u8], size: usize) -> bool {
-    match new_feed(alloc) {
-        Ok(mut feed) => is_read(alloc, &mut feed, stream, size) && start(&feed) == 242,
-        Err(_) => false,
-    }
-}
-
-fn is_read_in(alloc: Global, size: usize) -> bool {
-    match joined(alloc, HAND, MESSAGES) {
-        Ok(stream) => is_read_by(alloc, &stream, size),
-        Err(_) => false,
-    }
-}
-
-/// Pieces of any length give the items with their offsets.
-#[test]
-fn items_of_pieces(rt: HostRuntime) {
-    for size in [1, 7, 68, 241, 4096] {
-        assert!(rt; is_read_in(rt.alloc(), size), "{size}");
-    }
-}
 
 fn apply(table: &mut Table, item: &Item) -> Result<(), AllocError> {
     match item {

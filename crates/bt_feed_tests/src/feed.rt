@@ -6,7 +6,7 @@ use std::alloc::{AllocError, Global};
 
 const RESERVED: u64 = 0x10_0005;
 
-pub(crate) const INFO_HASH: [u8; 20] = [
+const INFO_HASH: [u8; 20] = [
     0xa9, 0x99, 0x3e, 0x36, 0x47, 0x06, 0x81, 0x6a, 0xba, 0x3e, 0x25, 0x71, 0x78, 0x50, 0xc2, 0x6c,
     0x9c, 0xd0, 0xd8, 0x9d,
 ];
@@ -208,7 +208,7 @@ fn told((at, item): (u64, Item)) -> (u64, u8) {
 }
 
 /// Adds the offset and the id of each item that a piece completes, and says what error ends them, if one does.
-pub(crate) fn read(
+fn read(
     alloc: Global,
     feed: &mut Feed,
     piece: &[u8],

@@ -1,5 +1,5 @@
 //! A pump over devices that move few bytes a call and fail at each call in turn.
-use crate::feed::{HAND, Refused, fault_of_take, joined, new_feed, push, refusal};
+use crate::feed::{HAND, fault_of_take, joined, new_feed, push, refusal};
 use bt_feed::*;
 use bt_wire::Reason;
 use std::alloc::Global;
@@ -69,7 +69,7 @@ pub(crate) const MESSAGES: &[u8; 174] =
 \0\0\0\x2e\x14\x03d8:msg_typei1e5:piecei0e10:total_sizei3eeabc\0\0\0\x01\x0f";
 
 /// Its items, and where each ends.
-pub(crate) const ITEMS: [(u64, u8); 10] = [
+const ITEMS: [(u64, u8); 10] = [
     (0, HANDSHAKE),
     (68, KEEP_ALIVE),
     (72, 4),
@@ -360,75 +360,5 @@ fn reads_nothing(alloc: Global, given: bool) -> bool {
 fn refused_feeds(rt: HostRuntime) {
     for given in [false, true] {
         assert!(rt; reads_nothing(rt.alloc(), given), "{given}");
-    }
-}
-
-/// Whether the pump gives the first `count` items of the bytes of both parts and then refuses them.
-fn is_refused(
-    alloc: Global,
-    front: &[u8],
-    back: &[u8],
-    most: usize,
-    count: usize,
-    refused: Refused,
-) -> bool {
-    let ended = Err(PumpError::Refused(refusal(refused)));
-    match made(alloc, front, back, most, None) {
-        Ok(mut line) => pumps(&mut line, 1000, ended, count),
-        Err(_) => false,
-    }
-}
-
-/// The messages after a handshake, how many items are given, and the refusal.
-const REFUSED: &[(&[u8], usize, Refused)] = &[
-    (b"\0\0\0", 1, (1, 71, Reason::EndInside)),
-    (
-        b"\0\0\0\0\0\0\0\x05\x04\0\0\0",
-        2,
-        (2, 80, Reason::EndInside),
-    ),
-    (
-        b"\0\0\0\0\xff\xff\xff\xff\0\0\0\0",
-        2,
-        (2, 72, Reason::TooLong),
-    ),
-    (
-        b"\0\0\0\0\0\0\0\x04\x04\0\0\0\0",
-        2,
-        (2, 72, Reason::WrongLength),
-    ),
-];
-
-fn is_refused_in_any_reads(alloc: Global, messages: &[u8], count: usize, refused: Refused) -> bool {
-    is_refused(alloc, HAND, messages, 1, count, refused)
-        && is_refused(alloc, HAND, messages, 4096, count, refused)
-}
-
-/// Streams that are refused after their items: at a byte, or where they end.
-#[test]
-fn refused_streams(rt: HostRuntime) {
-    for (messages, count, refused) in REFUSED {
-        assert!(rt;
-            is_refused_in_any_reads(rt.alloc(), messages, *count, *refused),
-            "{messages:?}"
-        );
-    }
-}
-
-fn is_cut(alloc: Global, count: usize) -> bool {
-    match HAND.get(..count) {
-        Some(front) => {
-            let refused = (0, count as u64, Reason::EndInside);
-            is_refused(alloc, front, b"", 9, 0, refused)
-        }
-        None => false,
-    }
-}
-
-/// Streams that end inside the handshake.
-#[test]
-fn cut_handshakes(rt: HostRuntime) {
-    for count in 0..68 {
-        assert!(rt; is_cut(rt.alloc(), count), "{count}");
     }
 }

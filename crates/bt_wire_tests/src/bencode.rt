@@ -1,55 +1,13 @@
-//! Bencoding: payloads read in each way, the limits, and values without a spelling.
+//! Bencoding: payloads that are read, the limits, and values without a spelling.
 use bt_bencode::*;
 use std::alloc::{AllocError, Global};
 
-/// Whether the value is spelled as these bytes.
-pub(crate) fn is_spelled(alloc: Global, value: &Value, bytes: Option<&[u8]>) -> bool {
-    match spell(alloc, value) {
-        Ok(spelled) => {
-            bytes == Some(spelled.as_slice()) && ben_len(value) == spelled.len() as u64
-        }
-        Err(_) => false,
-    }
-}
-
-fn is_fault(error: ReadError, answer: Result<usize, Bad>) -> bool {
-    match (error, answer) {
-        (ReadError::Impossible { at }, Err(Bad::Impossible { at: wanted })) => at == wanted,
-        (ReadError::Cut, Err(Bad::Cut)) => true,
-        _ => false,
-    }
-}
-
-/// Whether reading the payload into memory gives the answer, and a dictionary that is spelled as the payload's first bytes.
-fn is_read(alloc: Global, payload: &[u8], answer: Result<usize, Bad>) -> bool {
-    match read_dict(alloc, payload) {
-        Ok((value, len)) => answer == Ok(len) && is_spelled(alloc, &value, payload.get(..len)),
-        Err(error) => is_fault(error, answer),
-    }
-}
-
-/// Whether checking the payload where it lies gives the answer, and the dictionary's bytes.
+/// Whether checking the payload gives the answer, and the dictionary's bytes.
 fn is_checked(payload: &[u8], answer: Result<usize, Bad>) -> bool {
     match check(payload) {
-        Ok((dict, len)) => answer == Ok(len) && payload.get(..len) == Some(dict.spelled()),
+        Ok((dict, len)) => answer == Ok(len) && dict.spelled().len() == len,
         Err(bad) => answer == Err(bad),
     }
-}
-
-/// How far the payload is that of a dictionary.
-fn place_by(payload: &[u8], answer: Result<usize, Bad>) -> usize {
-    match answer {
-        Ok(len) => len,
-        Err(Bad::Impossible { at }) => at,
-        Err(Bad::Cut) => payload.len(),
-    }
-}
-
-/// Whether all that reads agrees on the payload: the dictionary's length, or why there is none.
-fn agrees(alloc: Global, payload: &[u8], answer: Result<usize, Bad>) -> bool {
-    place(payload) == place_by(payload, answer)
-        && is_checked(payload, answer)
-        && is_read(alloc, payload, answer)
 }
 
 /// A payload, and the length of the dictionary that it begins with, or why there is none.
@@ -122,7 +80,7 @@ const PAYLOADS: &[Row] = &[
 #[test]
 fn payloads(rt: HostRuntime) {
     for (payload, answer) in PAYLOADS {
-        assert!(rt; agrees(rt.alloc(), payload, *answer), "{payload:?}");
+        assert!(rt; is_checked(payload, *answer), "{payload:?}");
     }
 }
 
@@ -133,145 +91,155 @@ const CUT: &[&[u8]] = &[
     b"d1:ai9223372036854775807e1:bl1:xi-5eld0:0:eeee",
 ];
 
-/// The first length at which the payload, cut there, reads otherwise than as cut, or at last as whole.
-fn wrong_cut(alloc: Global, payload: &[u8]) -> Option<usize> {
+/// The first length at which the payload, cut there, is checked otherwise than as cut.
+fn wrong_cut(payload: &[u8]) -> Option<usize> {
     for n in 0..payload.len() {
-        if !agrees(alloc, &payload[..n], Err(Bad::Cut)) {
+        if !is_checked(&payload[..n], Err(Bad::Cut)) {
             return Some(n);
         }
     }
-    if agrees(alloc, payload, Ok(payload.len())) {
-        None
-    } else {
-        Some(payload.len())
-    }
+    None
 }
 
 #[test]
 fn prefixes(rt: HostRuntime) {
     for payload in CUT {
-        let wrong = wrong_cut(rt.alloc(), payload);
-        assert!(rt; wrong.is_none(), "{wrong:?} of {payload:?}");
+        assert!(rt; wrong_cut(payload).is_none(), "{payload:?}");
     }
 }
 
-/// Adds the bytes so many times.
-pub(crate) fn add(to: &mut Vec<u8>, bytes: &[u8], times: usize) -> Result<(), AllocError> {
-    for _ in 0..times {
-        to.extend_from_slice(bytes)?;
-    }
-    Ok(())
+/// The bytes of `front`, then letters `e` up to this length, and then the bytes of `back`.
+pub(crate) fn padded(
+    alloc: Global,
+    front: &[u8],
+    length: usize,
+    back: &[u8],
+) -> Result<Vec<u8>, AllocError> {
+    let mut bytes = front.to_vec(alloc)?;
+    bytes.resize(length, b'e')?;
+    bytes.extend_from_slice(back)?;
+    Ok(bytes)
 }
 
-/// Adds the bytes, and then `len` letters `e`.
-pub(crate) fn fill(to: &mut Vec<u8>, front: &[u8], len: usize) -> Result<(), AllocError> {
-    add(to, front, 1)?;
-    add(to, b"e", len)
-}
+/// A payload's first bytes, up to which length letters `e` follow, its last bytes, and its answer.
+type BuiltRow = (&'static [u8], usize, &'static [u8], Result<usize, Bad>);
 
-/// Bytes, and how often they stand.
-pub(crate) type Part = (&'static [u8], usize);
-
-pub(crate) fn put(to: &mut Vec<u8>, parts: &[Part]) -> Result<(), AllocError> {
-    for (bytes, times) in parts {
-        add(to, bytes, *times)?;
-    }
-    Ok(())
-}
-
-/// What it is, a payload's parts, and its answer.
-type BuiltRow = (&'static str, &'static [Part], Result<usize, Bad>);
-
+/// The deepest nestings: 31 and 32 lists, and 31 and 32 dictionaries. Then strings and keys of 1,048,569, 1,048,570 and
+/// 1,048,576 bytes, cut before the last byte and whole.
 const BUILT: &[BuiltRow] = &[
-    ("31 lists", &[(b"d1:p", 1), (b"l", 31), (b"e", 32)], Ok(67)),
+    (b"d1:plllllllllllllllllllllllllllllll", 67, b"", Ok(67)),
     (
-        "32 lists",
-        &[(b"d1:p", 1), (b"l", 32), (b"e", 33)],
+        b"d1:pllllllllllllllllllllllllllllllll",
+        69,
+        b"",
         Err(Bad::Impossible { at: 35 }),
     ),
     (
-        "31 dictionaries",
-        &[(b"d1:p", 1), (b"d0:", 31), (b"0:", 1), (b"e", 32)],
+        b"d1:pd0:d0:d0:d0:d0:d0:d0:d0:d0:d0:d0:d0:d0:d0:d0:d0:d0:d0:d0:d0:d0:d0:d0:d0:d0:d0:d0:d0:d0:d0:d0:0:",
+        131,
+        b"",
         Ok(131),
     ),
     (
-        "32 dictionaries",
-        &[(b"d1:p", 1), (b"d0:", 32), (b"0:", 1), (b"e", 33)],
+        b"d1:pd0:d0:d0:d0:d0:d0:d0:d0:d0:d0:d0:d0:d0:d0:d0:d0:d0:d0:d0:d0:d0:d0:d0:d0:d0:d0:d0:d0:d0:d0:d0:d0:0:",
+        135,
+        b"",
         Err(Bad::Impossible { at: 97 }),
     ),
-    (
-        "a cut string of 1,048,569 bytes",
-        &[(b"d1:a1048569:", 1), (b"e", 1_048_569)],
-        Err(Bad::Cut),
-    ),
-    (
-        "a string of 1,048,569 bytes",
-        &[(b"d1:a1048569:", 1), (b"e", 1_048_570)],
-        Ok(1_048_582),
-    ),
-    (
-        "a cut string of 1,048,570 bytes",
-        &[(b"d1:a1048570:", 1), (b"e", 1_048_570)],
-        Err(Bad::Cut),
-    ),
-    (
-        "a string of 1,048,570 bytes",
-        &[(b"d1:a1048570:", 1), (b"e", 1_048_571)],
-        Ok(1_048_583),
-    ),
-    (
-        "a cut string of 1,048,576 bytes",
-        &[(b"d1:a1048576:", 1), (b"e", 1_048_576)],
-        Err(Bad::Cut),
-    ),
-    (
-        "a string of 1,048,576 bytes",
-        &[(b"d1:a1048576:", 1), (b"e", 1_048_577)],
-        Ok(1_048_589),
-    ),
-    (
-        "a cut key of 1,048,569 bytes",
-        &[(b"d1048569:", 1), (b"e", 1_048_569)],
-        Err(Bad::Cut),
-    ),
-    (
-        "a key of 1,048,569 bytes",
-        &[(b"d1048569:", 1), (b"e", 1_048_569), (b"i1ee", 1)],
-        Ok(1_048_582),
-    ),
-    (
-        "a cut key of 1,048,570 bytes",
-        &[(b"d1048570:", 1), (b"e", 1_048_570)],
-        Err(Bad::Cut),
-    ),
-    (
-        "a key of 1,048,570 bytes",
-        &[(b"d1048570:", 1), (b"e", 1_048_570), (b"i1ee", 1)],
-        Ok(1_048_583),
-    ),
-    (
-        "a cut key of 1,048,576 bytes",
-        &[(b"d1048576:", 1), (b"e", 1_048_576)],
-        Err(Bad::Cut),
-    ),
-    (
-        "a key of 1,048,576 bytes",
-        &[(b"d1048576:", 1), (b"e", 1_048_576), (b"i1ee", 1)],
-        Ok(1_048_589),
-    ),
+    (b"d1:a1048569:", 1_048_581, b"", Err(Bad::Cut)),
+    (b"d1:a1048569:", 1_048_582, b"", Ok(1_048_582)),
+    (b"d1048569:", 1_048_578, b"", Err(Bad::Cut)),
+    (b"d1048569:", 1_048_578, b"i1ee", Ok(1_048_582)),
+    (b"d1:a1048570:", 1_048_582, b"", Err(Bad::Cut)),
+    (b"d1:a1048570:", 1_048_583, b"", Ok(1_048_583)),
+    (b"d1048570:", 1_048_579, b"", Err(Bad::Cut)),
+    (b"d1048570:", 1_048_579, b"i1ee", Ok(1_048_583)),
+    (b"d1:a1048576:", 1_048_588, b"", Err(Bad::Cut)),
+    (b"d1:a1048576:", 1_048_589, b"", Ok(1_048_589)),
+    (b"d1048576:", 1_048_585, b"", Err(Bad::Cut)),
+    (b"d1048576:", 1_048_585, b"i1ee", Ok(1_048_589)),
 ];
 
-fn is_built(alloc: Global, (_, parts, answer): &BuiltRow) -> bool {
-    let mut payload = Vec::new(alloc);
-    put(&mut payload, parts).is_ok() && agrees(alloc, &payload, *answer)
+fn is_built(alloc: Global, (front, length, back, answer): &BuiltRow) -> bool {
+    match padded(alloc, front, *length, back) {
+        Ok(payload) => is_checked(&payload, *answer),
+        Err(_) => false,
+    }
 }
 
-/// The deepest nestings and the longest strings.
 #[test]
 fn built_payloads(rt: HostRuntime) {
     for row in BUILT {
-        assert!(rt; is_built(rt.alloc(), row), "{}", row.0);
+        assert!(rt; is_built(rt.alloc(), row), "{} {:?}", row.1, row.3);
     }
+}
+
+/// Whether the value is spelled as these bytes.
+pub(crate) fn is_spelled(alloc: Global, value: &Value, bytes: &[u8]) -> bool {
+    match spell(alloc, value) {
+        Ok(spelled) => spelled.as_slice() == bytes && ben_len(value) == spelled.len() as u64,
+        Err(_) => false,
+    }
+}
+
+/// Whether the payload is one dictionary, which is read into memory and spelled as the payload again.
+fn is_read_back(alloc: Global, payload: &[u8]) -> bool {
+    match read_dict(alloc, payload) {
+        Ok((value, len)) => len == payload.len() && is_spelled(alloc, &value, payload),
+        Err(_) => false,
+    }
+}
+
+/// Payloads that aren't read, why, and how far each is that of a dictionary.
+const UNREAD: &[(&[u8], ReadError, usize)] = &[
+    (b"d1:ai01ee", ReadError::Impossible { at: 6 }, 6),
+    (b"d1:a9223", ReadError::Cut, 8),
+];
+
+fn is_unread(alloc: Global, payload: &[u8], error: ReadError, at: usize) -> bool {
+    read_dict(alloc, payload).err() == Some(error) && place(payload) == at
+}
+
+/// Values that are read into memory, and payloads that aren't.
+#[test]
+fn values(rt: HostRuntime) {
+    for payload in CUT {
+        assert!(rt; is_read_back(rt.alloc(), payload), "{payload:?}");
+    }
+    for (payload, error, at) in UNREAD {
+        assert!(rt; is_unread(rt.alloc(), payload, *error, *at), "{at}");
+    }
+}
+
+/// Whether the value's spelling has so many bytes; none where the value is out of range.
+fn has_len(alloc: Global, value: &Value, len: Option<usize>) -> bool {
+    match spell(alloc, value) {
+        Ok(bytes) => len == Some(bytes.len()) && fits(value),
+        Err(error) => len.is_none() && error == SpellError::OutOfRange && !fits(value),
+    }
+}
+
+/// `depth` lists, each in the one before.
+fn nested(alloc: Global, depth: usize) -> Result<Value, AllocError> {
+    let mut items = Vec::new(alloc);
+    for _ in 1..depth {
+        let mut outer = Vec::new(alloc);
+        outer.push(Value::List(Values::from_vec(items)))?;
+        items = outer;
+    }
+    Ok(Value::List(Values::from_vec(items)))
+}
+
+/// A string of `len` bytes.
+fn long(alloc: Global, len: usize) -> Result<ByteString, AllocError> {
+    Ok(ByteString::from_vec(vec![in alloc; b's'; len]?))
+}
+
+/// A dictionary whose one key has `len` bytes.
+fn keyed(alloc: Global, len: usize) -> Result<Value, AllocError> {
+    let mut pairs = Vec::new(alloc);
+    pairs.push((long(alloc, len)?, Value::Int(1)))?;
+    Ok(Value::Dict(Pairs::from_vec(pairs)))
 }
 
 /// A kind of value that has no spelling above some size.
@@ -284,49 +252,12 @@ enum Large {
     Key,
 }
 
-/// A list of this value alone.
-fn listed(alloc: Global, value: Value) -> Result<Value, AllocError> {
-    let mut items = Vec::new(alloc);
-    items.push(value)?;
-    Ok(Value::List(Values::from_vec(items)))
-}
-
-/// `depth` lists, each in the one before.
-fn nested(alloc: Global, depth: usize) -> Result<Value, AllocError> {
-    let mut value = Value::List(Values::from_vec(Vec::new(alloc)));
-    for _ in 1..depth {
-        value = listed(alloc, value)?;
-    }
-    Ok(value)
-}
-
-/// A string of `len` bytes.
-fn long(alloc: Global, len: usize) -> Result<ByteString, AllocError> {
-    Ok(ByteString::from_vec(vec![in alloc; b's'; len]?))
-}
-
-/// A dictionary with this key alone.
-fn keyed(alloc: Global, key: ByteString) -> Result<Value, AllocError> {
-    let mut pairs = Vec::new(alloc);
-    pairs.push((key, Value::Int(1)))?;
-    Ok(Value::Dict(Pairs::from_vec(pairs)))
-}
-
 fn value_of(alloc: Global, kind: &Large, size: usize) -> Result<Value, AllocError> {
     match kind {
         Large::Lists => nested(alloc, size),
         Large::Text => Ok(Value::Bytes(long(alloc, size)?)),
-        Large::Key => keyed(alloc, long(alloc, size)?),
+        Large::Key => keyed(alloc, size),
     }
-}
-
-/// Whether the value's spelling has so many bytes; none where the value is out of range.
-fn has_len(alloc: Global, value: &Value, len: Option<usize>) -> bool {
-    let is_right = match spell(alloc, value) {
-        Ok(bytes) => len == Some(bytes.len()),
-        Err(error) => len.is_none() && error == SpellError::OutOfRange,
-    };
-    is_right && fits(value) == len.is_some()
 }
 
 /// A value's kind and size, and the length of its spelling, if it has one.

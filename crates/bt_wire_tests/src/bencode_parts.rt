@@ -2,11 +2,36 @@
 use bt_bencode::*;
 use std::alloc::Global;
 
-/// Whether the keys of the dictionary's value rise, if that is wanted, or don't.
-fn is_value_sorted(alloc: Global, dict: &DictRef, wanted: bool) -> bool {
-    match dict.to_value(alloc) {
-        Ok(value) => is_sorted(&value) == wanted,
+/// Payloads, and the offset of the first key that isn't above the key before it.
+const ORDERED: &[(&[u8], Option<usize>)] = &[
+    (b"de", None),
+    (b"d1:ai1e1:bi2ee", None),
+    (b"d0:0:1:a0:2:ab0:e", None),
+    (b"d1:ai1e1:ai2ee", Some(7)),
+    (b"d1:b0:1:a0:e", Some(6)),
+    (b"d1:ad1:ci1e1:bi2eee", Some(11)),
+    (b"d1:ale2:aale1:bld1:z0:1:y0:eee", Some(22)),
+    (b"d1:ai7e1:b3:xyz1:ci-1e1:dd1:ei0eee", None),
+    (b"d1:ai1e1:dd1:fi1e1:ei2eee", Some(17)),
+    (b"d1:md1:bi0e1:ai1eee", Some(11)),
+];
+
+/// Whether the first key out of order stands there, and no walk in order goes on where there is one.
+fn is_ordered(payload: &[u8], wanted: Option<usize>) -> bool {
+    match check(payload) {
+        Ok((dict, _)) => {
+            first_unsorted(payload) == wanted
+                && dict.sorted_ints(b"a", b"b", b"c").err() == wanted
+                && dict.sorted_byte_map(b"m", b"n").err() == wanted
+        }
         Err(_) => false,
+    }
+}
+
+#[test]
+fn keys_in_order(rt: HostRuntime) {
+    for (payload, wanted) in ORDERED {
+        assert!(rt; is_ordered(payload, *wanted), "{payload:?}");
     }
 }
 
@@ -16,133 +41,86 @@ type Integers = (Option<i64>, Option<i64>, Option<i64>);
 /// Whether `m` has a map of bytes, and the integer at `n`.
 type Map = (Option<bool>, Option<Option<i64>>);
 
-fn is_found(dict: &DictRef, integers: Result<Integers, usize>, map: Result<Map, usize>) -> bool {
-    dict.sorted_ints(b"a", b"b", b"c") == integers && dict.sorted_byte_map(b"m", b"n") == map
-}
+const NO_INTEGERS: Integers = (None, None, None);
 
-/// Whether the first key out of order stands there, or the keys are in order and these are found.
-fn is_answered(dict: &DictRef, answer: &Answer) -> bool {
-    match answer {
-        Ok((integers, map)) => is_found(dict, Ok(*integers), Ok(*map)),
-        Err(at) => is_found(dict, Err(*at), Err(*at)),
-    }
-}
+const NO_MAP: Map = (None, None);
 
-/// The same by the payload, by its checked dictionary and by the value.
-fn is_ordered(alloc: Global, payload: &[u8], answer: &Answer) -> bool {
+/// Dictionaries whose keys are in order, and what is found of them in one walk.
+const WALKED: &[(&[u8], Integers, Map)] = &[
+    (b"d1:ai1e1:bi2ee", (Some(1), Some(2), None), NO_MAP),
+    (
+        b"d1:ai7e1:b3:xyz1:ci-1e1:dd1:ei0eee",
+        (Some(7), None, Some(-1)),
+        NO_MAP,
+    ),
+    (b"d1:ci9e1:d1:ae", (None, None, Some(9)), NO_MAP),
+    (b"d1:mde1:ni5ee", NO_INTEGERS, (Some(true), Some(Some(5)))),
+    (
+        b"d1:md1:ai0e1:bi255ee1:n1:5e",
+        NO_INTEGERS,
+        (Some(true), Some(None)),
+    ),
+    (b"d1:md1:ai256e1:bi0eee", NO_INTEGERS, (Some(false), None)),
+    (b"d1:mi1ee", NO_INTEGERS, (Some(false), None)),
+];
+
+fn is_walked(payload: &[u8], integers: Integers, map: Map) -> bool {
     match check(payload) {
         Ok((dict, _)) => {
-            first_unsorted(payload) == answer.err()
-                && dict.first_unsorted() == answer.err()
-                && is_value_sorted(alloc, &dict, answer.is_ok())
-                && is_answered(&dict, answer)
+            dict.sorted_ints(b"a", b"b", b"c") == Ok(integers)
+                && dict.sorted_byte_map(b"m", b"n") == Ok(map)
         }
         Err(_) => false,
     }
 }
 
-/// What is found where all keys are in order, or the place of the first key out of order.
-type Answer = Result<(Integers, Map), usize>;
-
-const NO_INTEGERS: Integers = (None, None, None);
-
-const NO_MAP: Map = (None, None);
-
-const ORDERED: &[(&[u8], Answer)] = &[
-    (b"de", Ok((NO_INTEGERS, NO_MAP))),
-    (b"d1:ai1e1:bi2ee", Ok(((Some(1), Some(2), None), NO_MAP))),
-    (b"d0:0:1:a0:2:ab0:e", Ok((NO_INTEGERS, NO_MAP))),
-    (b"d1:ai1e1:ai2ee", Err(7)),
-    (b"d1:b0:1:a0:e", Err(6)),
-    (b"d1:ad1:ci1e1:bi2eee", Err(11)),
-    (b"d1:ale2:aale1:bld1:z0:1:y0:eee", Err(22)),
-    (
-        b"d1:ai7e1:b3:xyz1:ci-1e1:dd1:ei0eee",
-        Ok(((Some(7), None, Some(-1)), NO_MAP)),
-    ),
-    (b"d1:ci9e1:d1:ae", Ok(((None, None, Some(9)), NO_MAP))),
-    (b"d1:ai1e1:dd1:fi1e1:ei2eee", Err(17)),
-    (
-        b"d1:mde1:ni5ee",
-        Ok((NO_INTEGERS, (Some(true), Some(Some(5))))),
-    ),
-    (
-        b"d1:md1:ai0e1:bi255ee1:n1:5e",
-        Ok((NO_INTEGERS, (Some(true), Some(None)))),
-    ),
-    (
-        b"d1:md1:ai256e1:bi0eee",
-        Ok((NO_INTEGERS, (Some(false), None))),
-    ),
-    (b"d1:mi1ee", Ok((NO_INTEGERS, (Some(false), None)))),
-    (b"d1:md1:bi0e1:ai1eee", Err(11)),
-];
-
-/// Payloads with keys in and out of order, and what is found in one walk.
 #[test]
-fn keys_in_order(rt: HostRuntime) {
-    for (payload, answer) in ORDERED {
-        assert!(rt; is_ordered(rt.alloc(), payload, answer), "{payload:?}");
+fn walks_in_order(rt: HostRuntime) {
+    for (payload, integers, map) in WALKED {
+        assert!(rt; is_walked(payload, *integers, *map), "{payload:?}");
     }
 }
 
 /// A dictionary of 34 bytes, with two pairs of the key `a`, and four bytes after it.
 const PAYLOAD: &[u8] = b"d1:ai7e1:b3:xyz1:cd1:ei-1ee1:ai8eetail";
 
-fn has_ints(dict: &DictRef) -> bool {
-    dict.lookup_int(b"a") == Some(7) && dict.lookup_int(b"b").is_none()
-}
+/// A key, the integer and the bytes there, and whether a pair has it.
+const KEYS: &[(&[u8], Option<i64>, Option<&[u8]>, bool)] = &[
+    (b"a", Some(7), None, true),
+    (b"b", None, Some(b"xyz"), true),
+    (b"c", None, None, true),
+    (b"z", None, None, false),
+];
 
-fn has_texts(dict: &DictRef) -> bool {
-    dict.lookup_bytes(b"b") == Some(b"xyz".as_slice()) && dict.lookup_bytes(b"a").is_none()
-}
-
-fn has_keys(dict: &DictRef) -> bool {
-    dict.has(b"c") && !dict.has(b"z")
-}
-
-fn has_inner(dict: &DictRef) -> bool {
-    let is_last = match dict.lookup_dict(b"c") {
-        Some(inner) => inner.lookup_int(b"e") == Some(-1),
-        None => false,
-    };
-    is_last && dict.lookup_dict(b"a").is_none()
-}
-
-fn has_all(payload: &[u8]) -> bool {
-    match check(payload) {
-        Ok((dict, _)) => has_ints(&dict) && has_texts(&dict) && has_keys(&dict) && has_inner(&dict),
+fn is_found(key: &[u8], integer: Option<i64>, text: Option<&[u8]>, has: bool) -> bool {
+    match check(PAYLOAD) {
+        Ok((dict, _)) => {
+            dict.lookup_int(key) == integer
+                && dict.lookup_bytes(key) == text
+                && dict.has(key) == has
+        }
         Err(_) => false,
     }
 }
 
-/// The integer that stands first under the key, if that is an integer.
-fn int_under(value: &Value, key: &[u8]) -> Option<i64> {
-    match lookup(value, key) {
-        Some(Value::Int(n)) => Some(*n),
-        _ => None,
-    }
+/// The integer at `e` of the dictionary at the key.
+fn inner_integer(key: &[u8]) -> Option<i64> {
+    let (dict, _) = check(PAYLOAD).ok()?;
+    dict.lookup_dict(key)?.lookup_int(b"e")
 }
 
-fn has(value: &Value, key: &[u8]) -> bool {
-    lookup(value, key).is_some()
+fn both_integers() -> Option<(Option<i64>, Option<i64>)> {
+    let (dict, _) = check(PAYLOAD).ok()?;
+    Some(dict.lookup_ints(b"c", b"e", b"a"))
 }
 
-/// Whether the payload's value has this integer first under `a`, and no `z`.
-fn has_first(alloc: Global, payload: &[u8], number: i64) -> bool {
-    match read_dict(alloc, payload) {
-        Ok((value, _)) => int_under(&value, b"a") == Some(number) && !has(&value, b"z"),
-        Err(_) => false,
-    }
-}
-
-/// By the bytes of a dictionary, and by values.
 #[test]
 fn look_ups(rt: HostRuntime) {
-    assert!(rt; has_all(PAYLOAD));
-    assert!(rt; has_first(rt.alloc(), PAYLOAD, 7));
-    assert!(rt; has_first(rt.alloc(), b"d1:ai1e1:ai2ee", 1));
-    assert!(rt; !has(&Value::Int(1), b"a"));
+    for (key, integer, text, has) in KEYS {
+        assert!(rt; is_found(key, *integer, *text, *has), "{key:?}");
+    }
+    assert!(rt; inner_integer(b"c") == Some(-1) && inner_integer(b"a").is_none());
+    assert!(rt; both_integers() == Some((Some(-1), Some(7))));
 }
 
 /// The pairs of the payload of 34 bytes.
@@ -163,72 +141,59 @@ fn has_pairs(dict: &DictRef) -> bool {
     pairs.next().is_none()
 }
 
-fn is_of_pairs(payload: &[u8]) -> bool {
-    match check(payload) {
-        Ok((dict, len)) => len == 34 && has_pairs(&dict),
-        Err(_) => false,
-    }
-}
-
 #[test]
 fn pairs_in_order(rt: HostRuntime) {
-    assert!(rt; is_of_pairs(PAYLOAD));
+    assert!(rt; matches!(check(PAYLOAD), Ok((dict, 34)) if has_pairs(&dict)));
 }
 
-/// Whether the string has the two letters `ab`.
-fn is_ab(text: ByteString) -> bool {
-    text.len() == 2 && !text.is_empty() && text.into_vec().as_slice() == b"ab".as_slice()
-}
-
-/// Whether the value is the string `ab`.
-fn is_text(value: Option<Value>) -> bool {
-    match value {
-        Some(Value::Bytes(text)) => is_ab(text),
+/// Whether the value at the key is a list of the number 1 and the string `ab`.
+fn is_list_of_both(value: &Value, key: &[u8]) -> bool {
+    match lookup(value, key) {
+        Some(Value::List(items)) => {
+            matches!(items.as_slice(), [Value::Int(1), Value::Bytes(text)] if is_ab(text))
+        }
         _ => false,
     }
 }
 
-/// Whether the values are the number 1 and the string `ab`.
-fn are_items(values: Values) -> bool {
-    let is_first = matches!(values.as_slice(), [Value::Int(1), _]);
-    is_first && is_text(values.into_vec().pop())
+fn is_ab(text: &ByteString) -> bool {
+    text.as_slice() == b"ab".as_slice() && text.len() == 2 && !text.is_empty()
 }
 
-fn is_k(key: &ByteString) -> bool {
-    key.as_slice() == b"k".as_slice()
-}
-
-/// Whether the value is a list of both items.
-fn is_list(value: Value) -> bool {
+/// Whether the value is the one pair of `k`, by its parts and by a look-up, and its keys are in order.
+fn is_whole(value: &Value) -> bool {
     match value {
-        Value::List(values) => are_items(values),
-        _ => false,
-    }
-}
-
-/// Whether the pair has the key `k` and a list of both items.
-fn is_pair(pair: Option<(ByteString, Value)>) -> bool {
-    match pair {
-        Some((key, value)) => is_k(&key) && is_list(value),
-        None => false,
-    }
-}
-
-fn is_one_pair(pairs: Pairs) -> bool {
-    pairs.as_slice().len() == 1 && is_pair(pairs.into_vec().pop())
-}
-
-/// Whether the value is a dictionary with the one pair.
-fn is_whole(value: Value) -> bool {
-    match value {
-        Value::Dict(pairs) => is_one_pair(pairs),
+        Value::Dict(pairs) => {
+            pairs.as_slice().len() == 1
+                && is_list_of_both(value, b"k")
+                && lookup(value, b"a").is_none()
+                && is_sorted(value)
+        }
         _ => false,
     }
 }
 
 fn is_taken_apart(alloc: Global, payload: &[u8]) -> bool {
     match read_dict(alloc, payload) {
-        Ok((value, _)) => is_whole(value),
+        Ok((value, _)) => is_whole(&value),
+        Err(_) => false,
+    }
+}
+
+/// Whether what is made of no items is taken apart into none.
+fn is_empty_again(alloc: Global) -> bool {
+    ByteString::from_vec(Vec::new(alloc)).into_vec().is_empty()
+        && Values::from_vec(Vec::new(alloc)).into_vec().is_empty()
+        && Pairs::from_vec(Vec::new(alloc)).into_vec().is_empty()
+}
+
+/// Whether the keys of the dictionary's value are out of order.
+fn is_unsorted(alloc: Global, payload: &[u8]) -> bool {
+    match check(payload) {
+        Ok((dict, _)) => match dict.to_value(alloc) {
+            Ok(value) => !is_sorted(&value) && dict.first_unsorted().is_some(),
+            Err(_) => false,
+        },
         Err(_) => false,
     }
 }
@@ -236,6 +201,7 @@ fn is_taken_apart(alloc: Global, payload: &[u8]) -> bool {
 #[test]
 fn parts(rt: HostRuntime) {
     assert!(rt; is_taken_apart(rt.alloc(), b"d1:kli1e2:abee"));
+    assert!(rt; is_empty_again(rt.alloc()) && is_unsorted(rt.alloc(), b"d1:b0:1:a0:e"));
 }
 
 fn is_told(alloc: Global) -> bool {

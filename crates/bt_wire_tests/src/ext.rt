@@ -1,134 +1,11 @@
 //! Extended payloads: the worked payloads, and the extended handshakes of usual clients.
-use crate::bencode::fill;
+use crate::bencode::padded;
 use bt_ext::*;
-use std::alloc::{AllocError, Global};
+use std::alloc::Global;
 
 /// The receiver's ids: `ut_metadata` is 3.
-pub(crate) fn ids() -> Registered {
+fn ids() -> Registered {
     Registered::metadata_only(ExtId::new(3))
-}
-
-fn reason(fault: Option<ViewError>) -> Option<ExtReason> {
-    match fault {
-        Some(ViewError::Unsorted { .. }) => Some(ExtReason::Unsorted),
-        Some(ViewError::BadField) => Some(ExtReason::BadField),
-        Some(ViewError::BadBlock { .. }) => Some(ExtReason::BadBlock),
-        _ => None,
-    }
-}
-
-fn read_fault(fault: Option<ViewError>) -> Option<ExtError> {
-    match fault {
-        Some(ViewError::BadExtLength) => Some(ExtError::BadExtLength),
-        Some(ViewError::BadBencode { at }) => Some(ExtError::BadBencode { at }),
-        Some(ViewError::Unsorted { at }) => Some(ExtError::Unsorted { at }),
-        Some(ViewError::BadField) => Some(ExtError::BadField),
-        Some(ViewError::BadBlock { at }) => Some(ExtError::BadBlock { at }),
-        None => None,
-    }
-}
-
-/// Whether the value is spelled under the id and as the payload.
-fn is_spelled(alloc: Global, value: &Ext, id: u8, payload: &[u8]) -> bool {
-    match spell_ext(alloc, ids(), value) {
-        Ok((own_id, bytes)) => own_id == id && bytes.as_slice() == payload,
-        Err(_) => false,
-    }
-}
-
-/// Whether the value has no fault under the free rules, and this one under the strict ones.
-fn has_reason(value: &Ext, wanted: Option<ExtReason>) -> bool {
-    ext_reason(Rules::Free, value).is_none() && ext_reason(Rules::Bep, value) == wanted
-}
-
-/// Whether the value has the payload's length and bytes, and the fault under the strict rules.
-fn has_value(
-    alloc: Global,
-    value: &Ext,
-    id: u8,
-    payload: &[u8],
-    strict: Option<ViewError>,
-) -> bool {
-    ext_len(ids(), value) == Some(payload.len() as u64)
-        && is_spelled(alloc, value, id, payload)
-        && has_reason(value, reason(strict))
-}
-
-/// Whether a value may be read at all, since it hasn't this fault, and is the right one.
-fn is_value(
-    alloc: Global,
-    value: Ext,
-    id: u8,
-    payload: &[u8],
-    strict: Option<ViewError>,
-    fault: Option<ViewError>,
-) -> bool {
-    fault.is_none() && has_value(alloc, &value, id, payload, strict)
-}
-
-/// The fault under the rules of a payload that has this one under the strict rules: it has to be a dictionary under both.
-fn fault_under(rules: Rules, strict: Option<ViewError>) -> Option<ViewError> {
-    match (rules, strict) {
-        (Rules::Bep, _) | (_, Some(ViewError::BadBencode { .. })) => strict,
-        _ => None,
-    }
-}
-
-/// Whether the payload is read into memory, or isn't for the fault.
-fn is_read(alloc: Global, rules: Rules, id: u8, payload: &[u8], strict: Option<ViewError>) -> bool {
-    match read_ext(alloc, ids(), rules, id, payload) {
-        Ok(value) => {
-            let fault = fault_under(rules, strict);
-            is_value(alloc, value, id, payload, strict, fault)
-        }
-        Err(error) => read_fault(fault_under(rules, strict)) == Some(error),
-    }
-}
-
-fn is_copy(
-    alloc: Global,
-    view: &ExtView,
-    id: u8,
-    payload: &[u8],
-    strict: Option<ViewError>,
-) -> bool {
-    match copy_ext(alloc, view) {
-        Ok(value) => is_value(alloc, value, id, payload, strict, None),
-        Err(_) => false,
-    }
-}
-
-/// Whether the payload is viewed and then copied, or isn't for the fault.
-fn is_copied(
-    alloc: Global,
-    rules: Rules,
-    id: u8,
-    payload: &[u8],
-    strict: Option<ViewError>,
-) -> bool {
-    match view_ext(ids(), rules, id, payload) {
-        Ok(view) => {
-            fault_under(rules, strict).is_none() && is_copy(alloc, &view, id, payload, strict)
-        }
-        Err(error) => fault_under(rules, strict) == Some(error),
-    }
-}
-
-/// Whether the payload is read and spelled again, or has the fault under the rules.
-fn is_answered(
-    alloc: Global,
-    rules: Rules,
-    id: u8,
-    payload: &[u8],
-    strict: Option<ViewError>,
-) -> bool {
-    is_read(alloc, rules, id, payload, strict) && is_copied(alloc, rules, id, payload, strict)
-}
-
-/// Whether both rules answer so.
-fn is_right(alloc: Global, id: u8, payload: &[u8], strict: Option<ViewError>) -> bool {
-    is_answered(alloc, Rules::Free, id, payload, strict)
-        && is_answered(alloc, Rules::Bep, id, payload, strict)
 }
 
 const UNSORTED: &[u8] = b"d13:metadata_sizei3e1:md11:ut_metadatai3eee";
@@ -155,6 +32,12 @@ const DEEPEST: &[u8] = b"d1:pllllllllllllllllllllllllllllllleeeeeeeeeeeeeeeeeeee
 
 /// 32 lists.
 const TOO_DEEP: &[u8] = b"d1:plllllllllllllllllllllllllllllllleeeeeeeeeeeeeeeeeeeeeeeeeeeeeeeee";
+
+/// Every key that usual clients send, the addresses as 4 and 16 bytes.
+const EVERY_KEY: &[u8] =
+    b"d12:complete_agoi-1e1:ei0e4:ipv44:\xc0\x00\x02\x014:ipv616:\x20\x01\x0d\xb8\0\0\0\0\0\0\0\0\0\0\0\x01\
+1:md11:lt_donthavei7e11:upload_onlyi3e11:ut_metadatai2e6:ut_pexi1ee13:metadata_sizei25486e1:pi6881e4:reqqi2000e\
+11:upload_onlyi1e1:v18:libtorrent/2.0.8.06:yourip16:\xfe\x80\0\0\0\0\0\0\0\0\0\0\0\0\0\xffe";
 
 /// Extended handshakes, metadata messages and raw ones: a payload's id, its bytes, and its fault under the strict rules.
 const PAYLOADS: &[(u8, &[u8], Option<ViewError>)] = &[
@@ -255,39 +138,192 @@ const PAYLOADS: &[(u8, &[u8], Option<ViewError>)] = &[
     (3, b"", Some(ViewError::BadBencode { at: 0 })),
     (0, b"i1e", Some(ViewError::BadBencode { at: 0 })),
     (3, b"i1e", Some(ViewError::BadBencode { at: 0 })),
+    (0, EVERY_KEY, None),
+    (0, b"d6:yourip4:\x7f\0\0\x01e", None),
+    (0, b"d12:complete_agoi-9223372036854775808ee", None),
+    (0, b"d1:e1:01:p1:x4:reqqi-1e1:vi2e6:youripi1ee", None),
+    (0, b"deeee", None),
+    (0, b"d1:md11:ut_metadatai0e6:ut_pexi255eee", None),
+    (0, b"d1:md11:ut_metadatai256eee", Some(ViewError::BadField)),
+    (0, b"d1:md11:ut_metadata1:3ee", Some(ViewError::BadField)),
+    (0, b"d1:mde13:metadata_sizei-1ee", Some(ViewError::BadField)),
+    (0, b"d13:metadata_sizei0ee", None),
+    (0, b"d1:v4:test1:mdee", Some(ViewError::Unsorted { at: 10 })),
+    (
+        0,
+        b"d1:md6:ut_pexi1e11:ut_metadatai3eee",
+        Some(ViewError::Unsorted { at: 16 }),
+    ),
+    (
+        0,
+        b"d1:pld1:bi1e1:ai1eeee",
+        Some(ViewError::Unsorted { at: 12 }),
+    ),
+    (
+        0,
+        b"d1:md1:ai1e1:ai2eee",
+        Some(ViewError::Unsorted { at: 11 }),
+    ),
+    (0, b"d2:abi1e1:ai1ee", Some(ViewError::Unsorted { at: 8 })),
+    (
+        3,
+        b"d8:msg_typei1e5:piecei0e10:total_sizei3eeeeee",
+        Some(ViewError::BadBlock { at: 41 }),
+    ),
+    (
+        3,
+        b"d8:msg_typei1e5:piecei4294967296e10:total_sizei3eeeee",
+        Some(ViewError::BadField),
+    ),
+    (3, b"d8:msg_typei0e5:piecei4294967295ee", None),
+    (
+        3,
+        b"d8:msg_typei0e5:piecei4294967296ee",
+        Some(ViewError::BadField),
+    ),
+    (3, b"d8:msg_typei0e5:piecei0e1:xi1ee", None),
+    (
+        3,
+        b"d8:msg_typei0e5:piecei0e5:piecei1ee",
+        Some(ViewError::Unsorted { at: 24 }),
+    ),
+    (3, b"d8:msg_typei3eeeeeee", None),
+    (4, b"i-0ee", None),
 ];
+
+/// The fault under the rules of a payload that has this one under the strict rules: it has to be a dictionary under both.
+fn fault_under(rules: Rules, strict: Option<ViewError>) -> Option<ViewError> {
+    match (rules, strict) {
+        (Rules::Bep, _) | (_, Some(ViewError::BadBencode { .. })) => strict,
+        _ => None,
+    }
+}
+
+/// Whether the payload is viewed under the rules, or isn't for the fault.
+fn is_viewed(rules: Rules, id: u8, payload: &[u8], strict: Option<ViewError>) -> bool {
+    view_ext(ids(), rules, id, payload).err() == fault_under(rules, strict)
+}
 
 #[test]
 fn payloads(rt: HostRuntime) {
     for (id, payload, fault) in PAYLOADS {
         assert!(rt;
-            is_right(rt.alloc(), *id, payload, *fault),
+            is_viewed(Rules::Free, *id, payload, *fault)
+                && is_viewed(Rules::Bep, *id, payload, *fault),
             "{id} {payload:?}"
         );
     }
 }
 
-/// These bytes, and as many letters `e` as make them `length` long.
-pub(crate) fn padded(alloc: Global, front: &[u8], length: usize) -> Result<Vec<u8>, AllocError> {
-    let mut bytes = Vec::new(alloc);
-    fill(&mut bytes, front, length.saturating_sub(front.len()))?;
-    Ok(bytes)
-}
+/// A payload's id, its bytes, and why its value isn't legal under the strict rules.
+type Row = (u8, &'static [u8], Option<ExtReason>);
 
-/// The ids of payloads that are as long as they may be, and their faults under the strict rules.
-const LONGEST: &[(u8, Option<ViewError>)] = &[(0, None), (3, Some(ViewError::BadField)), (9, None)];
+const VALUES: &[Row] = &[
+    (0, LIBTORRENT, None),
+    (0, UNSORTED, Some(ExtReason::Unsorted)),
+    (0, b"d1:mi1ee", Some(ExtReason::BadField)),
+    (3, REQUEST, None),
+    (3, DATA, None),
+    (
+        3,
+        b"d8:msg_typei1e5:piecei0e10:total_sizei3eeab",
+        Some(ExtReason::BadBlock),
+    ),
+    (4, REQUEST, None),
+];
 
-fn is_longest(alloc: Global, id: u8, fault: Option<ViewError>) -> bool {
-    match padded(alloc, b"de", 1_048_574) {
-        Ok(payload) => is_right(alloc, id, payload.as_slice(), fault),
+/// Whether the value is spelled under the id and as the payload.
+fn is_spelled(alloc: Global, value: &Ext, id: u8, payload: &[u8]) -> bool {
+    match spell_ext(alloc, ids(), value) {
+        Ok((own_id, bytes)) => own_id == id && bytes.as_slice() == payload,
         Err(_) => false,
     }
 }
 
-/// Payloads whose many bytes are copied.
+/// Whether the value has the payload's length and bytes, and isn't legal for the reason.
+fn is_value(alloc: Global, value: &Ext, (id, payload, reason): Row) -> bool {
+    ext_len(ids(), value) == Some(payload.len() as u64)
+        && ext_reason(Rules::Bep, value) == reason
+        && is_spelled(alloc, value, id, payload)
+}
+
+fn is_read(alloc: Global, row: Row) -> bool {
+    match read_ext(alloc, ids(), Rules::Free, row.0, row.1) {
+        Ok(value) => is_value(alloc, &value, row),
+        Err(_) => false,
+    }
+}
+
+fn is_copied(alloc: Global, view: &ExtView, row: Row) -> bool {
+    match copy_ext(alloc, view) {
+        Ok(value) => is_value(alloc, &value, row),
+        Err(_) => false,
+    }
+}
+
+fn is_viewed_and_copied(alloc: Global, row: Row) -> bool {
+    match view_ext(ids(), Rules::Free, row.0, row.1) {
+        Ok(view) => is_copied(alloc, &view, row),
+        Err(_) => false,
+    }
+}
+
+/// Payloads that are read into memory, or viewed and copied, are spelled again.
+#[test]
+fn values(rt: HostRuntime) {
+    for row in VALUES {
+        assert!(rt;
+            is_read(rt.alloc(), *row) && is_viewed_and_copied(rt.alloc(), *row),
+            "{:?}",
+            row.1
+        );
+    }
+}
+
+/// A payload's id, its bytes, and why it isn't read under the strict rules.
+const UNREAD: &[(u8, &[u8], ExtError)] = &[
+    (0, b"d1:pi-0ee", ExtError::BadBencode { at: 6 }),
+    (0, UNSORTED, ExtError::Unsorted { at: 20 }),
+    (0, b"d1:mi1ee", ExtError::BadField),
+    (
+        3,
+        b"d8:msg_typei2e5:piecei0ee\0",
+        ExtError::BadBlock { at: 25 },
+    ),
+];
+
+fn is_unread(alloc: Global, id: u8, payload: &[u8], error: ExtError) -> bool {
+    read_ext(alloc, ids(), Rules::Bep, id, payload).err() == Some(error)
+}
+
+#[test]
+fn unread(rt: HostRuntime) {
+    for (id, payload, error) in UNREAD {
+        assert!(rt; is_unread(rt.alloc(), *id, payload, *error), "{payload:?}");
+    }
+}
+
+/// The ids of payloads that are as long as they may be.
+const LONGEST: &[u8] = &[0, 3, 9];
+
+/// Whether a payload whose many bytes are copied is read into memory.
+fn is_longest(alloc: Global, id: u8) -> bool {
+    match padded(alloc, b"de", 1_048_574, b"") {
+        Ok(payload) => has_length(alloc, id, payload.as_slice()),
+        Err(_) => false,
+    }
+}
+
+fn has_length(alloc: Global, id: u8, payload: &[u8]) -> bool {
+    match read_ext(alloc, ids(), Rules::Free, id, payload) {
+        Ok(value) => is_spelled(alloc, &value, id, payload),
+        Err(_) => false,
+    }
+}
+
 #[test]
 fn longest_payloads(rt: HostRuntime) {
-    for (id, fault) in LONGEST {
-        assert!(rt; is_longest(rt.alloc(), *id, *fault), "{id}");
+    for id in LONGEST {
+        assert!(rt; is_longest(rt.alloc(), *id), "{id}");
     }
 }

@@ -1,6 +1,6 @@
 //! Extended payloads: views, ids, fields, kinds, values without a spelling, and the dictionaries that are made.
 use crate::bencode::is_spelled;
-use crate::ext::{DATA, LIBTORRENT, REQUEST, ids};
+use crate::ext::{DATA, LIBTORRENT, REQUEST};
 use bt_bencode::{ByteString, Pairs, SpellError, Value, check, read_dict};
 use bt_ext::*;
 use std::alloc::{AllocError, Global};
@@ -40,39 +40,38 @@ fn views(rt: HostRuntime) {
     }
 }
 
-fn number(id: Option<ExtId>) -> Option<u8> {
+/// Two ids, and whether they can be registered together.
+const PAIRS: &[(u8, u8, bool)] = &[
+    (3, 4, true),
+    (3, 0, true),
+    (0, 4, true),
+    (0, 0, true),
+    (3, 3, false),
+    (255, 1, true),
+];
+
+fn number(id: Option<ExtId>) -> u8 {
     match id {
-        Some(id) => Some(id.get()),
-        None => None,
+        Some(id) => id.get(),
+        None => 0,
     }
 }
 
-/// Whether the id has the number, alone and registered.
-fn has_number(id: u8, wanted: Option<u8>) -> bool {
-    number(ExtId::new(id)) == wanted
-        && number(Registered::metadata_only(ExtId::new(id)).metadata()) == wanted
-}
-
-#[test]
-fn numbers_of_ids(rt: HostRuntime) {
-    for (id, wanted) in [(1, Some(1)), (3, Some(3)), (255, Some(255)), (0, None)] {
-        assert!(rt; has_number(id, wanted), "{id}");
-    }
-}
-
-fn has_client_fields(payload: &[u8]) -> bool {
-    match check(payload) {
-        Ok((dict, _)) => {
-            dict.lookup_int(b"complete_ago") == Some(-1)
-                && dict.lookup_bytes(b"yourip") == Some(b"\x7f\x00\x00\x01".as_slice())
+/// Whether both ids are registered together, or can't be.
+fn are_registered((metadata, donthave, is_right): &(u8, u8, bool)) -> bool {
+    match Registered::new(ExtId::new(*metadata), ExtId::new(*donthave)) {
+        Ok(reg) => {
+            *is_right && number(reg.metadata()) == *metadata && number(reg.donthave()) == *donthave
         }
-        Err(_) => false,
+        Err(SameId) => !*is_right,
     }
 }
 
 #[test]
-fn client_fields(rt: HostRuntime) {
-    assert!(rt; has_client_fields(LIBTORRENT));
+fn registered_ids(rt: HostRuntime) {
+    for row in PAIRS {
+        assert!(rt; are_registered(row), "{} {}", row.0, row.1);
+    }
 }
 
 /// Dictionaries, the kind of metadata message that each is, and the size of the metadata that each announces.
@@ -103,13 +102,6 @@ const FIELDS: &[(&[u8], Kind, Option<u64>)] = &[
     (b"de", Kind::Malformed, None),
 ];
 
-fn is_value(alloc: Global, payload: &[u8], wanted: (Kind, Option<u64>)) -> bool {
-    match read_dict(alloc, payload) {
-        Ok((value, _)) => (kind(&value), metadata_size(&value)) == wanted,
-        Err(_) => false,
-    }
-}
-
 fn is_dict(payload: &[u8], wanted: (Kind, Option<u64>)) -> bool {
     match check(payload) {
         Ok((dict, _)) => (kind_ref(&dict), metadata_size_ref(&dict)) == wanted,
@@ -117,14 +109,28 @@ fn is_dict(payload: &[u8], wanted: (Kind, Option<u64>)) -> bool {
     }
 }
 
-/// By the dictionary's bytes and by its value.
 #[test]
 fn fields(rt: HostRuntime) {
     for (payload, kind, size) in FIELDS {
-        let is_right = is_dict(payload, (*kind, *size))
-            && is_value(rt.alloc(), payload, (*kind, *size));
-        assert!(rt; is_right, "{payload:?}");
+        assert!(rt; is_dict(payload, (*kind, *size)), "{payload:?}");
     }
+}
+
+/// Whether the payload's value is a request for block 0, or else announces so many bytes.
+fn is_value(alloc: Global, payload: &[u8], wanted: Option<u64>) -> bool {
+    match read_dict(alloc, payload) {
+        Ok((value, _)) => {
+            metadata_size(&value) == wanted
+                && (kind(&value) == Kind::Request(0)) == wanted.is_none()
+        }
+        Err(_) => false,
+    }
+}
+
+#[test]
+fn fields_of_values(rt: HostRuntime) {
+    assert!(rt; is_value(rt.alloc(), LIBTORRENT, Some(33236)));
+    assert!(rt; is_value(rt.alloc(), REQUEST, None));
 }
 
 /// What it is, the kind of message, how many bytes follow, and whether they may.
@@ -211,6 +217,24 @@ const BLOCKS: &[(&str, Kind, usize, bool)] = &[
         true,
     ),
     (
+        "more than the second block of 32768",
+        Kind::Data {
+            piece: 1,
+            total: 32768,
+        },
+        16385,
+        false,
+    ),
+    (
+        "less than the second block of 32768",
+        Kind::Data {
+            piece: 1,
+            total: 32768,
+        },
+        16383,
+        false,
+    ),
+    (
         "a third block of 32768",
         Kind::Data {
             piece: 2,
@@ -253,89 +277,59 @@ fn no_bytes(alloc: Global) -> ByteString {
     ByteString::from_vec(Vec::new(alloc))
 }
 
-fn is_raw_unspelled(alloc: Global, id: u8) -> bool {
+fn raw(alloc: Global, id: u8) -> Ext {
     let payload = no_bytes(alloc);
-    is_unspelled(alloc, &ids(), Ext::Raw { id, payload })
+    Ext::Raw { id, payload }
 }
 
-/// Whether a handshake has no spelling that has a number in place of a dictionary.
-fn is_number_unspelled(alloc: Global) -> bool {
+/// A handshake that has a number in place of a dictionary.
+fn numbered(alloc: Global) -> Ext {
     let rest = no_bytes(alloc);
     let dict = Value::Int(1);
-    is_unspelled(alloc, &ids(), Ext::Handshake { dict, rest })
+    Ext::Handshake { dict, rest }
 }
 
-fn is_metadata_unspelled(alloc: Global, reg: &Registered, pairs: Pairs) -> bool {
+fn metadata(alloc: Global) -> Ext {
     let rest = no_bytes(alloc);
-    let dict = Value::Dict(pairs);
-    is_unspelled(alloc, reg, Ext::Metadata { dict, rest })
+    let dict = Value::Dict(Pairs::from_vec(Vec::new(alloc)));
+    Ext::Metadata { dict, rest }
 }
 
-fn no_pairs(alloc: Global) -> Pairs {
-    Pairs::from_vec(Vec::new(alloc))
-}
-
-/// A pair whose key has `len` bytes.
-fn pair(alloc: Global, len: usize) -> Result<Pairs, AllocError> {
-    let key = ByteString::from_vec(vec![in alloc; 0; len]?);
-    let mut pairs = Vec::new(alloc);
-    pairs.push((key, Value::Int(1)))?;
-    Ok(Pairs::from_vec(pairs))
-}
-
-/// Whether metadata has no spelling that has a key of `len` bytes.
-fn is_long_unspelled(alloc: Global, len: usize) -> bool {
-    match pair(alloc, len) {
-        Ok(pairs) => is_metadata_unspelled(alloc, &ids(), pairs),
-        Err(_) => false,
-    }
-}
-
-/// Whether metadata without an id has no spelling.
-fn is_unregistered_unspelled(alloc: Global) -> bool {
-    is_metadata_unspelled(alloc, &Registered::metadata_only(None), no_pairs(alloc))
-}
-
-/// Raw payloads under ids that have a meaning, a number in place of a dictionary, metadata without an id, and a key of
-/// 1,048,577 bytes.
+/// Raw payloads under ids that have a meaning, a number in place of a dictionary, and metadata without an id.
 #[test]
 fn values_without_spelling(rt: HostRuntime) {
-    for id in [0, 3] {
-        assert!(rt; is_raw_unspelled(rt.alloc(), id), "{id}");
-    }
-    assert!(rt; is_number_unspelled(rt.alloc()));
-    assert!(rt; is_unregistered_unspelled(rt.alloc()));
-    assert!(rt; is_long_unspelled(rt.alloc(), 1_048_577));
+    let alloc = rt.alloc();
+    let (three, none) = (registered(3, 0), registered(0, 0));
+    assert!(rt;
+        is_unspelled(alloc, &three, raw(alloc, 0)) && is_unspelled(alloc, &three, raw(alloc, 3))
+    );
+    assert!(rt;
+        is_unspelled(alloc, &three, numbered(alloc)) && is_unspelled(alloc, &none, metadata(alloc))
+    );
 }
 
 fn is_made(alloc: Global, made: Result<Value, AllocError>, bytes: &[u8]) -> bool {
     match made {
-        Ok(value) => is_spelled(alloc, &value, Some(bytes)),
+        Ok(value) => is_spelled(alloc, &value, bytes),
         Err(_) => false,
     }
 }
 
-fn is_request_made(alloc: Global) -> bool {
-    is_made(alloc, dict_of(alloc, Kind::Request(0)), REQUEST)
-}
-
-fn is_data_made(alloc: Global) -> bool {
-    let made = dict_of(alloc, Kind::Data { piece: 0, total: 3 });
-    is_made(alloc, made, b"d8:msg_typei1e5:piecei0e10:total_sizei3ee")
-}
-
-fn is_reject_made(alloc: Global) -> bool {
-    is_made(
-        alloc,
-        dict_of(alloc, Kind::Reject(0)),
-        b"d8:msg_typei2e5:piecei0ee",
-    )
-}
+/// Metadata messages, and their dictionaries.
+const MESSAGES: &[(Kind, &[u8])] = &[
+    (Kind::Request(0), REQUEST),
+    (
+        Kind::Data { piece: 0, total: 3 },
+        b"d8:msg_typei1e5:piecei0e10:total_sizei3ee",
+    ),
+    (Kind::Reject(0), b"d8:msg_typei2e5:piecei0ee"),
+];
 
 #[test]
 fn made_messages(rt: HostRuntime) {
-    let alloc = rt.alloc();
-    assert!(rt; is_request_made(alloc) && is_data_made(alloc) && is_reject_made(alloc));
+    for (kind, bytes) in MESSAGES {
+        assert!(rt; is_made(rt.alloc(), dict_of(rt.alloc(), *kind), bytes));
+    }
 }
 
 /// The ids of `ut_metadata` and `lt_donthave`, 0 for none.

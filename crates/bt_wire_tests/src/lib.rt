@@ -6,18 +6,12 @@ mod bencode;
 #[cfg(test)]
 mod bencode_parts;
 #[cfg(test)]
-mod donthave;
-#[cfg(test)]
 mod ext;
 #[cfg(test)]
 mod ext_parts;
 #[cfg(test)]
 mod tables;
 #[cfg(test)]
-mod wire;
-#[cfg(test)]
 mod wire_handshakes;
 #[cfg(test)]
 mod wire_messages;
-#[cfg(test)]
-mod wire_rows;

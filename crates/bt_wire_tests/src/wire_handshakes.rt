@@ -1,5 +1,5 @@
 //! The handshake: its bytes, what is refused of it and where, and what two ends agree on.
-use crate::wire::{LIMIT, agreed};
+use crate::wire_messages::LIMIT;
 use bitflags::Flags;
 use bt_ext::{Registered, Rules};
 use bt_wire::*;
@@ -43,89 +43,55 @@ fn is_judged(own: &Own, part: &[u8], wanted: Option<Refused>) -> bool {
 /// Whether the bytes are read as the handshake, without a fault.
 fn is_whole(own: &Own, bytes: &[u8]) -> bool {
     match read_opening(own, bytes) {
-        Opening::Whole(read) => read == handshake(),
+        Opening::Whole(read) => read == handshake() && judge_handshake(own, bytes).is_none(),
         _ => false,
     }
 }
 
-/// Whether the bytes are refused from `judged` of them on, and not before.
-fn is_refused_from(own: &Own, bytes: &[u8; 68], judged: usize, refused: Refused) -> bool {
-    for n in 0..=68 {
-        let wanted = if n < judged { None } else { Some(refused) };
-        if !is_judged(own, &bytes[..n], wanted) {
-            return false;
-        }
-    }
-    true
-}
-
-/// The length of the first part of the handshake that is refused, or 68 where the whole isn't read.
-fn wrong_part(own: &Own) -> Option<usize> {
-    for n in 0..68 {
-        if !is_judged(own, &SPELLED[..n], None) {
-            return Some(n);
-        }
-    }
-    if is_whole(own, SPELLED) {
-        None
-    } else {
-        Some(68)
-    }
-}
-
-fn same() -> Option<[u8; 20]> {
-    Some(handshake().info_hash)
-}
-
-#[test]
-fn handshakes(rt: HostRuntime) {
-    assert!(rt; spell_handshake(&handshake()).as_slice() == SPELLED.as_slice());
-    for info_hash in [None, same()] {
-        let wrong = wrong_part(&receiver(Reserved(0), info_hash));
-        assert!(rt; wrong.is_none(), "{wrong:?}");
-    }
-}
-
-/// Whether the receiver has the same info hash, the byte that is changed, from how many bytes on that is refused, where and why.
-type Change = (bool, usize, usize, u64, Reason);
-
-const CHANGED: &[Change] = &[
-    (true, 0, 1, 0, Reason::BadProtocol),
-    (true, 5, 6, 5, Reason::BadProtocol),
-    (true, 19, 20, 19, Reason::BadProtocol),
-    (false, 19, 20, 19, Reason::BadProtocol),
-    (true, 28, 48, 28, Reason::WrongInfoHash),
-    (true, 47, 48, 28, Reason::WrongInfoHash),
-    (false, 67, 48, 28, Reason::WrongInfoHash),
+/// Whether the receiver has the info hash `-` 20 times, a part of a handshake, and how it is refused, if it is.
+const PARTS: &[(bool, &[u8], Option<Refused>)] = &[
+    (false, b"", None),
+    (false, b"\x13BitTorrent protoco", None),
+    (
+        false,
+        b"\x13BitT_",
+        Some(Refused {
+            at: 5,
+            reason: Reason::BadProtocol,
+        }),
+    ),
+    (
+        true,
+        b"\x13BitTorrent protocol\0\0\0\0\0\x10\0\x05-------------------",
+        None,
+    ),
+    (
+        true,
+        b"\x13BitTorrent protocol\0\0\0\0\0\x10\0\x05-------------------_",
+        Some(Refused {
+            at: 28,
+            reason: Reason::WrongInfoHash,
+        }),
+    ),
 ];
 
-/// The handshake with another byte there.
-fn changed_at(n: usize) -> [u8; 68] {
-    let mut bytes = *SPELLED;
-    if let Some(byte) = bytes.get_mut(n) {
-        *byte ^= 1;
-    }
-    bytes
-}
-
-fn is_refused((is_same, changed, judged, at, reason): &Change) -> bool {
-    let info_hash = if *is_same {
-        same()
-    } else {
+fn is_right((given, part, wanted): &(bool, &[u8], Option<Refused>)) -> bool {
+    let info_hash = if *given {
         Some(*b"--------------------")
+    } else {
+        None
     };
-    let refused = Refused {
-        at: *at,
-        reason: *reason,
-    };
-    let own = receiver(Reserved(0), info_hash);
-    is_refused_from(&own, &changed_at(*changed), *judged, refused)
+    is_judged(&receiver(Reserved(0), info_hash), part, *wanted)
 }
 
+/// Every cut of a handshake, and other bytes of it, are tried on the program.
 #[test]
-fn refused_handshakes(rt: HostRuntime) {
-    for row in CHANGED {
-        assert!(rt; is_refused(row), "{}", row.1);
+fn handshakes(rt: HostRuntime) {
+    let own = receiver(Reserved(0), Some(handshake().info_hash));
+    assert!(rt; spell_handshake(&handshake()).as_slice() == SPELLED.as_slice());
+    assert!(rt; is_whole(&own, SPELLED));
+    for row in PARTS {
+        assert!(rt; is_right(row), "{:?}", row.1);
     }
 }
 
@@ -161,8 +127,12 @@ const NEGOTIATIONS: &[Negotiation] = &[
 
 fn is_negotiated((own, peer, fast, ext): &Negotiation) -> bool {
     let answer = Context {
+        fast: *fast,
         ext: *ext,
-        ..agreed(Rules::Bep, *fast, Some(10))
+        pieces: Some(10),
+        reg: Registered::metadata_only(None),
+        rules: Rules::Bep,
+        limit: LIMIT,
     };
     negotiate(&receiver(Reserved(*own), None), Reserved(*peer)) == answer
 }

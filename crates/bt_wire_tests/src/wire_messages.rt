@@ -1,159 +1,195 @@
-//! Each message read and written, the orders of messages, and ids without a spelling of their own.
-use crate::wire::agreed;
-use bt_ext::{Ext, Registered, Rules, spell_ext};
+//! Messages: judged by their first bytes, read, written, and why they may not be.
+use crate::ext_parts::registered;
+use bt_ext::Rules;
 use bt_wire::*;
 use std::alloc::{AllocError, Global};
 
-/// A message's name, its numbers, 0 where it has none, and its bytes.
-type Parts = (&'static str, [u32; 3], &'static [u8]);
+pub(crate) const LIMIT: u32 = 262_144;
 
-fn name(view: &MessageView) -> &'static str {
-    match view {
-        MessageView::KeepAlive => "KeepAlive",
-        MessageView::Choke => "Choke",
-        MessageView::Unchoke => "Unchoke",
-        MessageView::Interested => "Interested",
-        MessageView::NotInterested => "NotInterested",
-        MessageView::Have(_) => "Have",
-        MessageView::Bitfield(_) => "Bitfield",
-        MessageView::Request { .. } => "Request",
-        MessageView::Piece { .. } => "Piece",
-        MessageView::Cancel { .. } => "Cancel",
-        MessageView::Port(_) => "Port",
-        MessageView::Suggest(_) => "Suggest",
-        MessageView::HaveAll => "HaveAll",
-        MessageView::HaveNone => "HaveNone",
-        MessageView::Reject { .. } => "Reject",
-        MessageView::AllowedFast(_) => "AllowedFast",
-        MessageView::Extended(_) => "Extended",
-        MessageView::Unknown { .. } => "Unknown",
+/// The rules, whether both ends have the Fast Extension and the Extension Protocol, the number of pieces, and the limit.
+type Setup = (Rules, bool, bool, Option<u32>, u32);
+
+const FREE: Setup = (Rules::Free, true, true, None, LIMIT);
+
+const TEN: Setup = (Rules::Free, true, true, Some(10), LIMIT);
+
+const NONE: Setup = (Rules::Free, true, true, Some(0), LIMIT);
+
+const SLOW: Setup = (Rules::Free, false, true, None, LIMIT);
+
+const PLAIN: Setup = (Rules::Free, true, false, None, LIMIT);
+
+const BEP: Setup = (Rules::Bep, true, true, Some(10), LIMIT);
+
+const NARROW: Setup = (Rules::Bep, true, true, Some(10), 2);
+
+/// What two ends have agreed on. The receiver's ids are 3 for `ut_metadata` and this one for `lt_donthave`.
+fn agreed((rules, fast, ext, pieces, limit): Setup, donthave: u8) -> Context {
+    Context {
+        fast,
+        ext,
+        pieces,
+        reg: registered(3, donthave),
+        rules,
+        limit,
     }
 }
 
-fn numbers(view: &MessageView) -> [u32; 3] {
-    match view {
-        MessageView::Have(index) | MessageView::Suggest(index) | MessageView::AllowedFast(index) =>
-            [*index, 0, 0],
-        MessageView::Request {
-            index,
-            begin,
-            length,
-        }
-        | MessageView::Cancel {
-            index,
-            begin,
-            length,
-        }
-        | MessageView::Reject {
-            index,
-            begin,
-            length,
-        } => [*index, *begin, *length],
-        MessageView::Piece { index, begin, .. } => [*index, *begin, 0],
-        MessageView::Port(port) => [u32::from(*port), 0, 0],
-        MessageView::Unknown { id, .. } => [u32::from(*id), 0, 0],
-        _ => [0; 3],
+const LONG: Header = Header::Refused {
+    at: 0,
+    reason: Reason::TooLong,
+};
+
+/// A limit, the first bytes of a message, and the judgement on them.
+const HEADERS: &[(u32, &[u8], Header)] = &[
+    (LIMIT, b"", Header::Need(4)),
+    (LIMIT, b"\xff\xff\xff", Header::Need(4)),
+    (LIMIT, b"\xff\xff\xff\xff", LONG),
+    (LIMIT, b"\0\0\0\0", Header::Window(4)),
+    (LIMIT, b"\0\0\0\0\x63", Header::Window(4)),
+    (LIMIT, b"\0\0\0\x01", Header::Need(5)),
+    (LIMIT, b"\0\x04\0\x01", LONG),
+    (LIMIT, b"\0\x04\0\0", Header::Need(5)),
+    (LIMIT, b"\0\x04\0\0\x07", Header::Window(262_148)),
+    (4_294_967_295, b"\xff\xff\xff\xff", Header::Need(5)),
+    (
+        4_294_967_295,
+        b"\xff\xff\xff\xff\x63",
+        Header::Window(4_294_967_299),
+    ),
+];
+
+fn is_judged(limit: u32, head: &[u8], answer: Header) -> bool {
+    let context = agreed((Rules::Free, false, true, None, limit), 0);
+    judge_header(&context, Order::Fresh, head) == answer
+}
+
+#[test]
+fn headers(rt: HostRuntime) {
+    for (limit, head, answer) in HEADERS {
+        assert!(rt; is_judged(*limit, head, *answer), "{head:?}");
     }
 }
 
-fn rest<'a>(view: &MessageView<'a>) -> &'a [u8] {
-    match view {
-        MessageView::Bitfield(bits) => bits,
-        MessageView::Piece { block, .. } => block,
-        MessageView::Unknown { payload, .. } => payload,
-        _ => b"",
+/// No message starts at this offset or later.
+const END: u64 = 1 << 62;
+
+/// Whether a keep-alive that starts there is refused, since the stream is full.
+fn is_full(start: u64) -> bool {
+    match read_front(&agreed(FREE, 0), Order::Fresh, start, b"\0\0\0\0") {
+        Front::Refused(refused) => refused.at == 0 && refused.reason == Reason::StreamFull,
+        _ => false,
     }
 }
 
-fn has_parts(view: &MessageView, wanted: &Parts) -> bool {
-    name(view) == wanted.0 && numbers(view) == wanted.1 && rest(view) == wanted.2
+#[test]
+fn full_streams(rt: HostRuntime) {
+    assert!(rt; is_full(END) && !is_full(END - 1));
 }
 
-/// Whether the message is written as the bytes, or isn't for the fault.
+/// Whether the message is legal and written as the bytes.
 fn is_encoded(
     alloc: Global,
     context: &Context,
     order: Order,
     message: &Message,
-    answer: Result<&[u8], Fault>,
+    bytes: &[u8],
 ) -> bool {
     match encode(alloc, context, order, message) {
-        Ok(encoded) => answer == Ok(encoded.as_slice()),
-        Err(error) => answer.err().map(EncodeError::Illegal) == Some(error),
+        Ok(encoded) => encoded.as_slice() == bytes && legal(context, order, message).is_ok(),
+        Err(_) => false,
     }
 }
 
-/// Whether the message is legal and written as the bytes, or neither for the fault.
-fn is_judged(
-    alloc: Global,
-    context: &Context,
-    order: Order,
-    message: &Message,
-    answer: Result<&[u8], Fault>,
-) -> bool {
-    legal(context, order, message).err() == answer.err()
-        && is_encoded(alloc, context, order, message, answer)
+/// Whether both have the same id and leave the same order.
+fn are_alike(order: Order, message: &Message, view: &MessageView) -> bool {
+    message.id() == view.id() && next(order, message) == next_of_view(order, view)
 }
 
-/// Whether the view is copied as a message that is judged so.
-pub(crate) fn is_copied(
+/// Whether the view is copied as a message that is like it and is written as the bytes.
+fn is_copied(
     alloc: Global,
     context: &Context,
     order: Order,
     view: &MessageView,
-    answer: Result<&[u8], Fault>,
+    bytes: &[u8],
 ) -> bool {
     match copy_message(alloc, view) {
-        Ok(message) => is_judged(alloc, context, order, &message, answer),
-        Err(_) => false,
-    }
-}
-
-/// Whether both leave the same order.
-fn has_order(order: Order, message: &Message, view: &MessageView) -> bool {
-    next(order, message) == next_of_view(order, view)
-}
-
-/// Whether both have the same id and leave the same orders.
-fn is_alike(message: &Message, view: &MessageView) -> bool {
-    message.id() == view.id()
-        && has_order(Order::Fresh, message, view)
-        && has_order(Order::Past, message, view)
-}
-
-/// Whether the extended message's id and payload stand in the window after its header.
-fn has_ext(alloc: Global, reg: Registered, value: &Ext, window: &[u8]) -> bool {
-    match spell_ext(alloc, reg, value) {
-        Ok((id, payload)) => {
-            window.get(5) == Some(&id) && window.get(6..) == Some(payload.as_slice())
+        Ok(message) => {
+            are_alike(order, &message, view) && is_encoded(alloc, context, order, &message, bytes)
         }
         Err(_) => false,
     }
 }
 
-fn has_payload(alloc: Global, context: &Context, message: &Message, window: &[u8]) -> bool {
-    match message {
-        Message::Extended(value) => has_ext(alloc, context.reg, value, window),
-        _ => true,
-    }
-}
-
-/// Whether the message is the one that the window is read as, and is written as the window again.
-fn is_read_back(
-    alloc: Global,
-    context: &Context,
-    order: Order,
-    message: &Message,
-    window: &[u8],
-) -> bool {
-    match read_front(context, order, 0, window) {
+/// Whether the bytes are one message, which is written as the bytes again.
+fn is_read_back(alloc: Global, context: &Context, order: Order, bytes: &[u8]) -> bool {
+    match read_front(context, order, 0, bytes) {
         Front::Whole(view, length) => {
-            length == window.len()
-                && is_alike(message, &view)
-                && has_payload(alloc, context, message, window)
-                && is_judged(alloc, context, order, message, Ok(window))
+            length == bytes.len() && is_copied(alloc, context, order, &view, bytes)
         }
         _ => false,
+    }
+}
+
+/// A message that takes back piece 9, under the id 4 (`lt_donthave`).
+const TAKEN_BACK: &[u8] = b"\0\0\0\x06\x14\x04\0\0\0\x09";
+
+/// Messages of each kind. What `show` prints of them is tried on the program.
+const MESSAGES: &[(Setup, Order, &[u8])] = &[
+    (TEN, Order::Fresh, b"\0\0\0\0"),
+    (TEN, Order::Fresh, b"\0\0\0\x01\0"),
+    (TEN, Order::Fresh, b"\0\0\0\x01\x01"),
+    (TEN, Order::Fresh, b"\0\0\0\x01\x02"),
+    (TEN, Order::Fresh, b"\0\0\0\x01\x03"),
+    (TEN, Order::Fresh, b"\0\0\0\x05\x04\0\0\0\x09"),
+    (FREE, Order::Fresh, b"\0\0\0\x05\x04\xff\xfe\xfd\xfc"),
+    (TEN, Order::Fresh, b"\0\0\0\x03\x05\xff\xc0"),
+    (FREE, Order::Past, b"\0\0\0\x03\x05\xff\xe0"),
+    (NONE, Order::Fresh, b"\0\0\0\x01\x05"),
+    (
+        TEN,
+        Order::Fresh,
+        b"\0\0\0\x0d\x06\0\0\0\x01\0\0\x40\0\0\0\x20\0",
+    ),
+    (TEN, Order::Fresh, b"\0\0\0\x09\x07\0\0\0\x01\0\0\x40\0"),
+    (
+        TEN,
+        Order::Fresh,
+        b"\0\0\0\x0b\x07\0\0\0\x09\xff\xff\xff\xffab",
+    ),
+    (
+        BEP,
+        Order::Past,
+        b"\0\0\0\x0d\x08\0\0\0\x01\0\0\x40\0\0\0\x20\0",
+    ),
+    (SLOW, Order::Fresh, b"\0\0\0\x03\x09\x1a\xe1"),
+    (TEN, Order::Fresh, b"\0\0\0\x05\x0d\0\0\0\x09"),
+    (BEP, Order::Fresh, b"\0\0\0\x01\x0e"),
+    (BEP, Order::Fresh, b"\0\0\0\x01\x0f"),
+    (
+        BEP,
+        Order::Past,
+        b"\0\0\0\x0d\x10\0\0\0\x01\0\0\x40\0\0\0\x20\0",
+    ),
+    (TEN, Order::Fresh, b"\0\0\0\x05\x11\0\0\0\x09"),
+    (SLOW, Order::Fresh, b"\0\0\0\x01\x63"),
+    (TEN, Order::Fresh, b"\0\0\0\x03\x0aab"),
+    (BEP, Order::Past, TAKEN_BACK),
+    (BEP, Order::Past, b"\0\0\0\x04\x14\0de"),
+    (
+        BEP,
+        Order::Fresh,
+        b"\0\0\0\x2e\x14\x03d8:msg_typei1e5:piecei0e10:total_sizei3eeabc",
+    ),
+    (BEP, Order::Fresh, b"\0\0\0\x04\x14\x05le"),
+];
+
+#[test]
+fn messages(rt: HostRuntime) {
+    for (setup, order, bytes) in MESSAGES {
+        let is_right = is_read_back(rt.alloc(), &agreed(*setup, 4), *order, bytes);
+        assert!(rt; is_right, "{bytes:?}");
     }
 }
 
@@ -165,7 +201,7 @@ fn is_fault(error: DecodeError, fault: Option<Refused>) -> bool {
 }
 
 /// Whether the window, which is one whole message by its header, has the fault, or is decoded and written again without one.
-pub(crate) fn is_decoded(
+fn is_decoded(
     alloc: Global,
     context: &Context,
     order: Order,
@@ -176,195 +212,223 @@ pub(crate) fn is_decoded(
         && view_window(context, order, window).err() == fault
         && match decode_window(alloc, context, order, window) {
             Ok(message) => {
-                fault.is_none() && is_read_back(alloc, context, order, &message, window)
+                fault.is_none() && is_encoded(alloc, context, order, &message, window)
             }
             Err(error) => is_fault(error, fault),
         }
 }
 
-/// Whether the bytes are one message, which has these parts and is written as the bytes again, viewed or decoded.
-fn is_message(alloc: Global, (rules, fast, pieces): &Setup, bytes: &[u8], wanted: &Parts) -> bool {
-    let context = agreed(*rules, *fast, *pieces);
-    match read_front(&context, Order::Fresh, 0, bytes) {
+/// Extended messages with one fault each: no dictionary, keys out of order, an `m` that is none, a block of 2 bytes for 3.
+const NO_INTEGER: &[u8] = b"\0\0\0\x0b\x14\0d1:pi-0ee";
+
+const UNSORTED: &[u8] = b"\0\0\0\x2d\x14\0d13:metadata_sizei3e1:md11:ut_metadatai3eee";
+
+const NO_NAMES: &[u8] = b"\0\0\0\x0a\x14\0d1:mi1ee";
+
+const SHORT: &[u8] = b"\0\0\0\x2d\x14\x03d8:msg_typei1e5:piecei0e10:total_sizei3eeab";
+
+/// A message, and the fault of its fields.
+const WINDOWS: &[(&[u8], Option<Refused>)] = &[
+    (b"\0\0\0\x05\x04\0\0\0\x09", None),
+    (
+        b"\0\0\0\x05\x04\0\0\0\x0a",
+        Some(Refused {
+            at: 5,
+            reason: Reason::BadIndex,
+        }),
+    ),
+    (
+        b"\0\0\0\x05\x14\x04\0\0\x09",
+        Some(Refused {
+            at: 6,
+            reason: Reason::BadExtLength,
+        }),
+    ),
+    (
+        NO_INTEGER,
+        Some(Refused {
+            at: 12,
+            reason: Reason::BadBencode,
+        }),
+    ),
+    (
+        UNSORTED,
+        Some(Refused {
+            at: 26,
+            reason: Reason::Unsorted,
+        }),
+    ),
+    (
+        NO_NAMES,
+        Some(Refused {
+            at: 6,
+            reason: Reason::BadField,
+        }),
+    ),
+    (
+        SHORT,
+        Some(Refused {
+            at: 47,
+            reason: Reason::BadBlock,
+        }),
+    ),
+];
+
+#[test]
+fn windows(rt: HostRuntime) {
+    for (window, fault) in WINDOWS {
+        let is_right = is_decoded(rt.alloc(), &agreed(BEP, 4), Order::Past, window, *fault);
+        assert!(rt; is_right, "{window:?}");
+    }
+}
+
+/// Whether the message may not be written for the fault.
+fn is_refused(
+    alloc: Global,
+    context: &Context,
+    order: Order,
+    message: &Message,
+    fault: Fault,
+) -> bool {
+    legal(context, order, message).err() == Some(fault)
+        && encode(alloc, context, order, message).err() == Some(EncodeError::Illegal(fault))
+}
+
+fn is_copy_refused(
+    alloc: Global,
+    context: &Context,
+    order: Order,
+    view: &MessageView,
+    fault: Fault,
+) -> bool {
+    match copy_message(alloc, view) {
+        Ok(message) => is_refused(alloc, context, order, &message, fault),
+        Err(_) => false,
+    }
+}
+
+/// A setup, the receiver's id of `lt_donthave`, the order, a message, and why it may not be written.
+type Illegal = (Setup, u8, Order, &'static [u8], Fault);
+
+/// Each reason that holds of a value.
+const ILLEGAL: &[Illegal] = &[
+    (
+        NARROW,
+        4,
+        Order::Fresh,
+        b"\0\0\0\x05\x04\0\0\0\x0a",
+        Fault::Reason(Reason::TooLong),
+    ),
+    (
+        BEP,
+        4,
+        Order::Fresh,
+        b"\0\0\0\x01\x63",
+        Fault::Reason(Reason::UnknownId),
+    ),
+    (
+        SLOW,
+        4,
+        Order::Fresh,
+        b"\0\0\0\x01\x0e",
+        Fault::Reason(Reason::NotNegotiated),
+    ),
+    (
+        PLAIN,
+        4,
+        Order::Fresh,
+        UNSORTED,
+        Fault::Reason(Reason::NotNegotiated),
+    ),
+    (
+        TEN,
+        4,
+        Order::Fresh,
+        b"\0\0\0\x04\x05\xff\xc0\x01",
+        Fault::Reason(Reason::WrongLength),
+    ),
+    (
+        BEP,
+        4,
+        Order::Past,
+        b"\0\0\0\x03\x05\xff\xe0",
+        Fault::Reason(Reason::Late),
+    ),
+    (
+        BEP,
+        4,
+        Order::Fresh,
+        b"\0\0\0\x05\x04\0\0\0\x0a",
+        Fault::Reason(Reason::Missing),
+    ),
+    (
+        BEP,
+        4,
+        Order::Past,
+        b"\0\0\0\x05\x04\0\0\0\x0a",
+        Fault::Reason(Reason::BadIndex),
+    ),
+    (
+        NONE,
+        4,
+        Order::Fresh,
+        b"\0\0\0\x05\x04\0\0\0\0",
+        Fault::Reason(Reason::BadIndex),
+    ),
+    (
+        TEN,
+        4,
+        Order::Fresh,
+        b"\0\0\0\x03\x05\xff\xe0",
+        Fault::Reason(Reason::SpareBits),
+    ),
+    (
+        BEP,
+        4,
+        Order::Fresh,
+        UNSORTED,
+        Fault::Reason(Reason::Unsorted),
+    ),
+    (
+        BEP,
+        4,
+        Order::Fresh,
+        NO_NAMES,
+        Fault::Reason(Reason::BadField),
+    ),
+    (BEP, 4, Order::Fresh, SHORT, Fault::Reason(Reason::BadBlock)),
+    (
+        (Rules::Bep, true, true, Some(9), LIMIT),
+        4,
+        Order::Past,
+        TAKEN_BACK,
+        Fault::Reason(Reason::BadIndex),
+    ),
+    (BEP, 0, Order::Past, TAKEN_BACK, Fault::Shape),
+];
+
+/// Whether the message, which is read where nearly all are allowed, may not be written for the fault.
+fn is_illegal(alloc: Global, (setup, donthave, order, bytes, fault): &Illegal) -> bool {
+    match read_front(&agreed(FREE, 4), Order::Fresh, 0, bytes) {
         Front::Whole(view, _) => {
-            has_parts(&view, wanted)
-                && is_copied(alloc, &context, Order::Fresh, &view, Ok(bytes))
-                && is_decoded(alloc, &context, Order::Fresh, bytes, None)
+            is_copy_refused(alloc, &agreed(*setup, *donthave), *order, &view, *fault)
         }
         _ => false,
     }
 }
 
-/// The rules, whether both ends have the Fast Extension, and the number of pieces, where it is known.
-type Setup = (Rules, bool, Option<u32>);
-
-const TEN: Setup = (Rules::Free, true, Some(10));
-
-const EIGHT: Setup = (Rules::Free, true, Some(8));
-
-const NONE: Setup = (Rules::Free, true, Some(0));
-
-const FREE: Setup = (Rules::Free, true, None);
-
-const SLOW: Setup = (Rules::Free, false, None);
-
-/// A setup, a message's bytes, and its parts.
-type Row = (Setup, &'static [u8], Parts);
-
-const MESSAGES: &[Row] = &[
-    (TEN, b"\0\0\0\0", ("KeepAlive", [0; 3], b"")),
-    (TEN, b"\0\0\0\x01\0", ("Choke", [0; 3], b"")),
-    (TEN, b"\0\0\0\x01\x01", ("Unchoke", [0; 3], b"")),
-    (TEN, b"\0\0\0\x01\x02", ("Interested", [0; 3], b"")),
-    (TEN, b"\0\0\0\x01\x03", ("NotInterested", [0; 3], b"")),
-    (TEN, b"\0\0\0\x05\x04\0\0\0\x09", ("Have", [9, 0, 0], b"")),
-    (
-        FREE,
-        b"\0\0\0\x05\x04\xff\xfe\xfd\xfc",
-        ("Have", [4294901244, 0, 0], b""),
-    ),
-    (
-        TEN,
-        b"\0\0\0\x03\x05\xff\xc0",
-        ("Bitfield", [0; 3], b"\xff\xc0"),
-    ),
-    (
-        FREE,
-        b"\0\0\0\x03\x05\xff\xe0",
-        ("Bitfield", [0; 3], b"\xff\xe0"),
-    ),
-    (EIGHT, b"\0\0\0\x02\x05\xff", ("Bitfield", [0; 3], b"\xff")),
-    (NONE, b"\0\0\0\x01\x05", ("Bitfield", [0; 3], b"")),
-    (FREE, b"\0\0\0\x01\x05", ("Bitfield", [0; 3], b"")),
-    (
-        TEN,
-        b"\0\0\0\x0d\x06\0\0\0\x01\0\0\x40\0\0\0\x20\0",
-        ("Request", [1, 16384, 8192], b""),
-    ),
-    (
-        TEN,
-        b"\0\0\0\x09\x07\0\0\0\x01\0\0\x40\0",
-        ("Piece", [1, 16384, 0], b""),
-    ),
-    (
-        TEN,
-        b"\0\0\0\x0b\x07\0\0\0\x09\xff\xff\xff\xffab",
-        ("Piece", [9, 4294967295, 0], b"ab"),
-    ),
-    (
-        TEN,
-        b"\0\0\0\x0d\x08\0\0\0\x01\0\0\x40\0\0\0\x20\0",
-        ("Cancel", [1, 16384, 8192], b""),
-    ),
-    (SLOW, b"\0\0\0\x03\x09\x1a\xe1", ("Port", [6881, 0, 0], b"")),
-    (
-        TEN,
-        b"\0\0\0\x05\x0d\0\0\0\x09",
-        ("Suggest", [9, 0, 0], b""),
-    ),
-    (TEN, b"\0\0\0\x01\x0e", ("HaveAll", [0; 3], b"")),
-    (TEN, b"\0\0\0\x01\x0f", ("HaveNone", [0; 3], b"")),
-    (
-        TEN,
-        b"\0\0\0\x0d\x10\0\0\0\x01\0\0\x40\0\0\0\x20\0",
-        ("Reject", [1, 16384, 8192], b""),
-    ),
-    (
-        TEN,
-        b"\0\0\0\x05\x11\0\0\0\x09",
-        ("AllowedFast", [9, 0, 0], b""),
-    ),
-    (SLOW, b"\0\0\0\x01\x63", ("Unknown", [99, 0, 0], b"")),
-    (TEN, b"\0\0\0\x03\x0aab", ("Unknown", [10, 0, 0], b"ab")),
-];
-
 #[test]
-fn messages(rt: HostRuntime) {
-    for (setup, bytes, parts) in MESSAGES {
-        assert!(rt; is_message(rt.alloc(), setup, bytes, parts), "{bytes:?}");
-    }
-}
-
-/// The order after the message, if the message is read in this one.
-fn order_after(context: &Context, order: Order, bytes: &[u8]) -> Option<Order> {
-    match read_front(context, order, 0, bytes) {
-        Front::Whole(view, _) => Some(next_of_view(order, &view)),
-        _ => None,
-    }
-}
-
-/// A message, whether it may come first, later, and first without the Fast Extension, and whether it counts as one before others.
-type OrderRow = (&'static [u8], bool, bool, bool, bool);
-
-const ORDERS: &[OrderRow] = &[
-    (b"\0\0\0\0", true, true, true, false),
-    (b"\0\0\0\x01\0", false, true, true, true),
-    (b"\0\0\0\x01\x01", false, true, true, true),
-    (b"\0\0\0\x01\x02", false, true, true, true),
-    (b"\0\0\0\x01\x03", false, true, true, true),
-    (b"\0\0\0\x05\x04\0\0\0\0", false, true, true, true),
-    (b"\0\0\0\x02\x05\0", true, false, true, true),
-    (
-        b"\0\0\0\x0d\x06\0\0\0\0\0\0\0\0\0\0\0\0",
-        false,
-        true,
-        true,
-        true,
-    ),
-    (b"\0\0\0\x09\x07\0\0\0\0\0\0\0\0", false, true, true, true),
-    (
-        b"\0\0\0\x0d\x08\0\0\0\0\0\0\0\0\0\0\0\0",
-        false,
-        true,
-        true,
-        true,
-    ),
-    (b"\0\0\0\x03\x09\0\0", true, true, true, false),
-    (b"\0\0\0\x05\x0d\0\0\0\0", false, true, false, true),
-    (b"\0\0\0\x01\x0e", true, false, false, true),
-    (b"\0\0\0\x01\x0f", true, false, false, true),
-    (
-        b"\0\0\0\x0d\x10\0\0\0\0\0\0\0\0\0\0\0\0",
-        false,
-        true,
-        false,
-        true,
-    ),
-    (b"\0\0\0\x05\x11\0\0\0\0", false, true, false, true),
-    (b"\0\0\0\x02\x14\x04", true, true, true, false),
-    (b"\0\0\0\x01\x63", false, false, false, false),
-];
-
-/// Whether the order lets the message through or not, and the order that it leaves.
-fn is_ordered(fast: bool, order: Order, bytes: &[u8], is_whole: bool, counts: bool) -> bool {
-    let after = if counts { Order::Past } else { order };
-    let wanted = if is_whole { Some(after) } else { None };
-    order_after(&agreed(Rules::Bep, fast, None), order, bytes) == wanted
-}
-
-fn are_ordered((bytes, first, later, slow_first, counts): &OrderRow) -> bool {
-    is_ordered(true, Order::Fresh, bytes, *first, *counts)
-        && is_ordered(true, Order::Past, bytes, *later, *counts)
-        && is_ordered(false, Order::Fresh, bytes, *slow_first, *counts)
-}
-
-/// The orders under the strict rules.
-#[test]
-fn orders(rt: HostRuntime) {
-    for row in ORDERS {
-        assert!(rt; are_ordered(row), "{:?}", row.0);
+fn illegal(rt: HostRuntime) {
+    for row in ILLEGAL {
+        assert!(rt; is_illegal(rt.alloc(), row), "{:?} {:?}", row.3, row.4);
     }
 }
 
 /// Whether an unknown message of three bytes isn't legal for the fault where two are allowed.
 fn has_fault(alloc: Global, id: u8, fault: Fault) -> bool {
-    let context = Context {
-        limit: 2,
-        ..agreed(Rules::Bep, false, None)
-    };
     let payload = b"abc".as_slice();
     let view = MessageView::Unknown { id, payload };
-    is_copied(alloc, &context, Order::Past, &view, Err(fault))
+    is_copy_refused(alloc, &agreed(NARROW, 4), Order::Past, &view, fault)
 }
 
 const TOO_LONG: Fault = Fault::Reason(Reason::TooLong);
