@@ -4,10 +4,10 @@
 usage: tests/faults.py [PROGRAM]
 
 PROGRAM is the built program, or else the script `bt_tool` at the top of the repository. It is run over a `malloc`, a `read` and a
-`write` that count their calls and refuse or fail the Nth, for N = 1, 2, .. until a run makes fewer. What is wanted follows from
-docs/FORMAT.md: at a fault a prefix of what the command writes is written, standard error has the fault's line alone, and the
-status is 3; otherwise nothing differs. `fetch` has a peer of tests/peers.py; `serve` isn't run here. Without a C compiler, as
-`cc`, nothing is run.
+`write` that count their calls and refuse or fail the Nth, or have it take nothing, for N = 1, 2, .. until a run makes fewer. What
+is wanted follows from docs/FORMAT.md: at a fault a prefix of what the command writes is written, standard error has the fault's
+line alone, and the status is 3; otherwise nothing differs. `fetch` has a peer of tests/peers.py; `serve` isn't run here. Without a
+C compiler, as `cc`, nothing is run.
 """
 import hashlib
 import os
@@ -17,7 +17,7 @@ import sys
 import tempfile
 
 from peers import INFO, Peer, giving, info_of
-from statuses import FETCH, FETCHED, HAND, HASH, HAVE_9, JSON_HAND, LINE, ROOT, TWO, NO_STEPS
+from statuses import FETCH, FETCHED, HAND, HASH, HAVE_9, JSON_HAND, LINE, ROOT, TWO, NO_STEPS, message, naming
 
 # A run makes far fewer calls.
 MOST = 20_000
@@ -35,8 +35,8 @@ extern void *__libc_malloc(size_t);
 extern void *__libc_calloc(size_t, size_t);
 extern void *__libc_realloc(void *, size_t);
 
-enum { MEMORY, READ, WRITE, WIRE, KINDS };
-static const char *const names[KINDS] = { "MEMORY", "READ", "WRITE", "WIRE" };
+enum { MEMORY, READ, WRITE, NOTHING, WIRE, KINDS };
+static const char *const names[KINDS] = { "MEMORY", "READ", "WRITE", "NOTHING", "WIRE" };
 static long wanted[KINDS], calls[KINDS], most[2];
 static int ready;
 
@@ -94,6 +94,7 @@ ssize_t write(int device, const void *from, size_t size) {
     if (!next) next = (ssize_t (*)(int, const void *, size_t))dlsym(RTLD_NEXT, "write");
     if (is_socket(device)) return fails(WIRE) ? failed() : next(device, from, size);
     if (device == 2) return next(device, from, size);
+    if (fails(NOTHING)) return 0;
     return fails(WRITE) ? failed() : next(device, from, at_most(size, 1));
 }
 
@@ -179,8 +180,8 @@ def memory(runner, words, given, parts):
 
 
 def reads(runner, words, given, parts):
-    """Each read fails, of 7 bytes a read: what the bytes before it complete is written."""
-    for most in (1, 7):
+    """Each read fails, of a few bytes a read or of many: what the bytes before it complete is written."""
+    for most in (1, 5, 7, 100):
         for number, answer, was_made in runner.in_turn(words, given, "READ", READ_MOST=most):
             fault = (after(parts, most * (number - 1)), b"fault: read\n", 3)
             if answer != (fault if was_made else (whole(parts), b"", 0)):
@@ -188,18 +189,22 @@ def reads(runner, words, given, parts):
 
 
 def writes(runner, words, given, parts):
-    """Each write fails, of one byte a write: exactly the bytes before it are written; and of any length."""
+    """Each write fails, of one byte a write: exactly the bytes before it are written; and of more, or it takes nothing."""
     ample = whole(parts)
-    for number, answer, was_made in runner.in_turn(words, given, "WRITE", WRITE_MOST=1):
-        if answer != ((ample[:number - 1], b"fault: write\n", 3) if was_made else (ample, b"", 0)):
-            yield "write %d of one byte: %r" % (number, answer)
-    for number, (out, errors, status), was_made in runner.in_turn(words, given, "WRITE", READ_MOST=9):
-        if not was_made:
-            is_right = (out, errors, status) == (ample, b"", 0)
-        else:
-            is_right = ample.startswith(out) and out != ample and (errors, status) == (b"fault: write\n", 3)
-        if not is_right:
-            yield "write %d: %r" % (number, (out, errors, status))
+    # `link` and `loop` write at their end alone.
+    for further in ({},) if words in ("link", "loop") else ({}, {"READ_MOST": 1}):
+        for number, answer, was_made in runner.in_turn(words, given, "WRITE", WRITE_MOST=1, **further):
+            if answer != ((ample[:number - 1], b"fault: write\n", 3) if was_made else (ample, b"", 0)):
+                yield "write %d of one byte %r: %r" % (number, further, answer)
+    for kind, further in (("WRITE", {"READ_MOST": 9}), ("WRITE", {"WRITE_MOST": 9}), ("WRITE", {"READ_MOST": 1, "WRITE_MOST": 9}),
+                          ("NOTHING", {"WRITE_MOST": 9})):
+        for number, (out, errors, status), was_made in runner.in_turn(words, given, kind, **further):
+            if not was_made:
+                is_right = (out, errors, status) == (ample, b"", 0)
+            else:
+                is_right = ample.startswith(out) and out != ample and (errors, status) == (b"fault: write\n", 3)
+            if not is_right:
+                yield "%s %d %r: %r" % (kind, number, further, (out, errors, status))
 
 
 def wires(runner, words, given, parts):
@@ -237,17 +242,23 @@ def two_files(runner):
 
 
 def two_directions(runner):
-    """The calls of a `show` with its other direction fail in turn; the files are those of `two_files`."""
+    """The calls of a `show` with its other direction fail in turn, of a few bytes a read and of many."""
     words = "show --other b a"
-    lines = [b"0 " + LINE, b"68 keep-alive\n", b"72 have 9\n"]
-    ample = (b"".join(lines) + VERDICT, b"", 0)
-    for kind, faults in (("READ", (b"a: fault: read\n", b"b: fault: read\n")), ("MEMORY", (b"fault: memory\n",))):
-        for number, answer, was_made in runner.in_turn(words, b"", kind):
+    # The other direction names 1 as the id of metadata messages, so that 3 is kept raw.
+    for name, content in (("a", STREAM + message(b"\x14\x03\x01")), ("b", HAND + message(b"\0") + naming(1))):
+        with open(os.path.join(runner.work, name), "wb") as file:
+            file.write(content)
+    lines = [b"0 " + LINE, b"68 keep-alive\n", b"72 have 9\n", b"81 extended 3 1\n"]
+    ample = (b"".join(lines) + b"ok messages=3 bytes=88\n", b"", 0)
+    reads = (b"a: fault: read\n", b"b: fault: read\n")
+    for kind, faults, further in (("READ", reads, {}), ("READ", reads, {"READ_MOST": 1}), ("READ", reads, {"READ_MOST": 9}),
+                                  ("MEMORY", (b"fault: memory\n",), {})):
+        for number, answer, was_made in runner.in_turn(words, b"", kind, **further):
             out, errors, status = answer
             is_fault = out in prefixes(lines) and errors in faults and status == 3 and (out == b"" or errors[:1] != b"b")
             # A request may be refused whose answer nothing rests on.
             if not (was_made and is_fault) and (answer != ample or was_made and kind == "READ"):
-                yield "%s: %s %d: %r" % (words, kind, number, answer)
+                yield "%s: %s %d %r: %r" % (words, kind, number, further, answer)
 
 
 def fetching(runner):
@@ -260,6 +271,10 @@ def fetching(runner):
     for number, answer, was_made in runner.in_turn(words, b"", "WRITE", WRITE_MOST=1):
         if answer != ((torrent[:number - 1], fetched + b"fault: write\n", 3) if was_made else (torrent, fetched, 0)):
             yield "%s: write %d: %r" % (words, number, answer)
+    for number, (out, errors, status), was_made in runner.in_turn(words, b"", "NOTHING", WRITE_MOST=9):
+        is_fault = torrent.startswith(out) and out != torrent and (errors, status) == (fetched + b"fault: write\n", 3)
+        if not (is_fault if was_made else (out, errors, status) == (torrent, fetched, 0)):
+            yield "%s: write %d takes nothing: %r" % (words, number, (out, errors, status))
     for number, answer, was_made in runner.in_turn(words, b"", "MEMORY"):
         is_fault = answer in [(b"", errors + b"fault: memory\n", 3) for errors in (b"", fetched)]
         if answer != (torrent, fetched, 0) and not (was_made and is_fault):

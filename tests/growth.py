@@ -17,8 +17,6 @@ import tempfile
 
 ROOT = os.path.dirname(os.path.dirname(os.path.abspath(__file__)))
 TESTS = [
-    ("bt_session_tests", "growth::memory_is_refused_or_nothing_differs"),
-    ("bt_fetch_tests", "failing::memory_is_refused_or_all_is_written"),
     ("bt_fetch_tests", "guests::memory_is_refused_or_all_are_served"),
 ]
 # A run makes far fewer requests.

@@ -137,10 +137,10 @@ def honest(link, count):
         link.send(data(3, link.request()))
 
 
-def giving(info):
-    """An honest peer that has this metadata."""
+def giving(info, info_hash=None):
+    """An honest peer that has this metadata, or one that has it under another info hash."""
     def talk(link, count):
-        greet(link, len(info), info_hash=hashlib.sha1(info).digest())
+        greet(link, len(info), info_hash=info_hash or hashlib.sha1(info).digest())
         while True:
             link.send(data(3, link.request(), info))
     return talk
@@ -316,6 +316,7 @@ ROWS = [
     ([no_extension], "", b"", "@0 no-metadata\n", 1),
     ([false_blocks], "", b"", "@0 mismatch\n", 1),
     ([false_blocks, honest], "", INFO, "@0 mismatch\n@1 fetched\n", 0),
+    ([NOBODY, false_blocks, honest], "", INFO, "@0 unreachable\n@1 mismatch\n@2 fetched\n", 0),
     ([cut, honest], "", INFO, "@0 closed\n@1 fetched\n", 0),
     ([half_size, honest], "", INFO, "@0 closed\n@1 fetched\n", 0),
     ([one_at_a_time], "--patience 2", INFO, "@0 silent\n@0 fetched\n", 0),
@@ -397,6 +398,23 @@ def kept(program):
         print("kept: blocks %r were asked for, expected %r" % (asked, ASKED))
         failed += 1
     return failed, 2
+
+
+def million(program):
+    """One million letters `a`, whose last block is shorter: the third peer gives them. The digest is that of FIPS 180-4."""
+    letters, info_hash = 1000000 * b"a", bytes.fromhex("34aa973cd4c4daa4f61eeb2bdbad27316534016f")
+    ends = "%s unreachable\n%s mismatch\n%s fetched\n", "%s unreachable\n%s no-metadata\n%s no-metadata\n"
+    rows = [("--most 1000000", letters, ends[0], 0), ("--torrent", b"d4:info" + letters + b"e", ends[0], 0),
+            ("--most 999999", b"", ends[1], 1)]
+    failed = 0
+    for words, output, errors, status in rows:
+        peers = [Peer(giving(1000000 * b"b", info_hash)), Peer(giving(letters))]
+        addresses = [nobody()] + [peer.address for peer in peers]
+        done = run(program, info_hash, addresses, words.split())
+        failed += differs("million %s" % words, done, output, errors % tuple(addresses), status)
+        for peer in peers:
+            peer.close()
+    return failed, len(rows)
 
 
 def single(program):
@@ -638,7 +656,7 @@ def memory(program):
 def main(words):
     program = program_of(words)
     failed = count = 0
-    for part in (hostile, kept, single, shown, unread, unwritten, dialled, serving, memory):
+    for part in (hostile, kept, million, single, shown, unread, unwritten, dialled, serving, memory):
         more, tried = part(program)
         failed += more
         count += tried

@@ -8,6 +8,7 @@ docs/FORMAT.md. The texts of help, usage and of mistakes aren't fixed: a row has
 where a text has to have some parts.
 """
 import os
+import re
 import subprocess
 import sys
 import tempfile
@@ -89,11 +90,24 @@ ROWS = [
     ("show", HAND.hex().encode(), b"refused message=0 at=0 BadProtocol\n", Parts(b"hint: ", b"xxd"), 1),
     ("show", LINE, b"refused message=0 at=0 BadProtocol\n", Parts(b"hint: ", b"bt_tool pack"), 1),
     ("show", b"0 " + LINE, b"refused message=0 at=0 BadProtocol\n", Parts(b"hint: ", b"'show'"), 1),
-    ("show", 335 * b"x" + HAND, b"refused message=0 at=0 BadProtocol\n", Parts(b"hint: ", b" 335;", b"tail -c +336"), 1),
+    ("show", b"d8:announc", b"refused message=0 at=0 BadProtocol\n", b"", 1),
+    ("show", 335 * b"x" + HAND, b"refused message=0 at=0 BadProtocol\n",
+     Parts(b"hint: a handshake stands at 335; this reads from there: tail -c +336 FILE | bt_tool show\n"), 1),
     ("check --rules free", HAND + bytes(8) + HAND, b"refused message=3 at=76 TooLong\n", Parts(b"hint: a second ", b" 76;"), 1),
     ("check --rules free", HAND + HAVE_9 + bytes(1024) + b"\xff" * 4, b"refused message=258 at=1101 TooLong\n",
      Parts(b"hint: from 77 on 1024 zero bytes"), 1),
     ("check --rules free", HAND + HAVE_9 + bytes(1020) + b"\xff" * 4, b"refused message=257 at=1097 TooLong\n", b"", 1),
+    ("check --rules free", HAND + bytes(1023) + b"\xff", b"refused message=256 at=1092 EndInside\n", b"", 1),
+    ("check --rules free", HAND + bytes(1024) + b"\xff" * 4, b"refused message=257 at=1092 TooLong\n",
+     Parts(b"hint: from 68 on 1024 zero bytes"), 1),
+    ("check --rules free", HAND + HAND, b"refused message=1 at=68 TooLong\n", Parts(b"hint: a second ", b" 68;"), 1),
+    # what a hint would name comes after the refusal
+    ("show --info-hash " + 40 * "0", HAND + bytes(1024), b"refused message=0 at=28 WrongInfoHash\n", b"", 1),
+    ("show --info-hash " + 40 * "0", HAND + HAND, b"refused message=0 at=28 WrongInfoHash\n", b"", 1),
+    # 65,536 bytes are looked at, and no more
+    ("check --rules free", HAND + 7160 * HAVE_9 + bytes(1028) + b"\xff" * 4, b"refused message=7418 at=65536 TooLong\n",
+     Parts(b"hint: from 64508 on 1028 zero bytes"), 1),
+    ("check --rules free", HAND + 7163 * HAVE_9 + bytes(1024) + b"\xff" * 4, b"refused message=7420 at=65559 TooLong\n", b"", 1),
     ("check --rules free", HAND + bytes(2048), b"ok messages=512 bytes=2116\n", b"", 0),
     ("show", b"x" * 70000 + HAND, b"refused message=0 at=0 BadProtocol\n", b"", 1),
     # fetching and serving
@@ -217,7 +231,14 @@ NO_STEPS = ("connection 1\nleft sent=1 handled=0\n" + LEFT + "right sent=1 handl
             + "left metadata -\nright metadata -\n").encode()
 TWO = ("left watch %s\nright watch %s\n" % (HASH, HASH)).encode()
 
+
+def byte_by_byte(lines):
+    """Each line `deliver SIDE N`, or `delivered N`, as N lines of one byte."""
+    return re.sub(rb"(deliver.*) (\d+)\n", lambda found: int(found[2]) * (found[1] + b" 1\n"), lines)
+
+
 LINK_ROWS = [
+    ("link", byte_by_byte(FETCH), byte_by_byte(FETCHED), b"", 0),
     ("link", FETCH, FETCHED, b"", 0),
     ("link", SAYINGS, SAID, b"", 0),
     ("link", TWO, NO_STEPS, b"", 0),
@@ -239,6 +260,50 @@ LINK_ROWS = [
     ("link", TWO, FULL, b"fault: write\n", 3),
 ]
 ROWS += LINK_ROWS
+
+# Watchers of one torrent, each of which has the settings that follow, and what comes of it.
+LEFT_ONE, RIGHT_ONE = TWO[:TWO.index(b"right")], TWO[TWO.index(b"right"):]
+# The SHA-1 of no bytes.
+NO_BYTES = b"da39a3ee5e6b4b0d3255bfef95601890afd80709\n"
+RUNS, MISMATCH = (NO_STEPS, b"", 0), (b"", b"refused config ConfigMismatch\n", 1)
+BAD_LIMIT, BAD_SIZE = [(b"", b"refused config %s\n" % name, 1) for name in (b"BadLimit", b"BadSize")]
+
+
+def limits(left, right):
+    return b"left limit %d\nright limit %d\n" % (left, right)
+
+
+CONFIGS = [
+    # two receivers
+    (TWO + b"right metadata-id 3\n", RUNS),
+    (TWO + b"right pieces 7\n", RUNS),
+    (TWO + b"left pieces 7\n", RUNS),
+    (TWO + b"left pieces 7\nright pieces 7\n", RUNS),
+    (TWO + b"left pieces 7\nright pieces 8\n", MISMATCH),
+    (TWO + b"left pieces 8\nright pieces 7\n", MISMATCH),
+    (TWO + limits(32769, 32768), MISMATCH),
+    (TWO + limits(32766, 32767), MISMATCH),
+    (TWO + b"right rules free\n", MISMATCH),
+    (LEFT_ONE + b"right watch " + NO_BYTES, MISMATCH),
+    (LEFT_ONE, MISMATCH),
+    (RIGHT_ONE, MISMATCH),
+    # the metadata that is served, and its SHA-1
+    (b"left serve 616263\n" + RIGHT_ONE, RUNS),
+    (LEFT_ONE + b"right serve 616263\n", RUNS),
+    (b"left serve 616264\n" + TWO.replace(b"left watch", b"left info-hash"), MISMATCH),
+    (b"right serve 616264\n" + TWO.replace(b"right watch", b"right info-hash"), MISMATCH),
+    (b"left serve -\n" + TWO.replace(b"left watch", b"left info-hash"), MISMATCH),
+    # an end alone: a wrong limit, no info hash, metadata of no bytes, first cause first
+    (TWO + limits(32767, 32767), BAD_LIMIT),
+    (TWO + limits(32768, 32768), RUNS),
+    (TWO + limits(1048576, 1048576), RUNS),
+    (TWO + limits(1048577, 1048577), BAD_LIMIT),
+    (limits(32767, 32767), BAD_LIMIT),
+    (b"left serve -\nright serve -\n" + limits(32767, 32767), BAD_LIMIT),
+    (b"left serve -\nright watch " + NO_BYTES, BAD_SIZE),
+    (b"left watch " + NO_BYTES + b"right serve -\n", BAD_SIZE),
+]
+ROWS += [("link", script, *wanted) for script, wanted in CONFIGS]
 
 
 def looped(size, digest, items):
@@ -373,6 +438,51 @@ NO_HANDSHAKE = Parts(b"error: ", b"other", b"doesn't begin with a whole handshak
 KEPT = (b"68 extended 3 1", b"ok messages=1 bytes=75")
 JUDGED = (b"refused message=1 at=74 BadBencode",)
 
+UNCHOKE, HAVE_NONE = message(b"\x01"), message(b"\x0f")
+BOTH_EXTENSIONS = (b"68 have-all", b"73 extended 1 1", b"ok messages=2 bytes=80")
+NOT_NEGOTIATED = (b"refused message=1 at=72 NotNegotiated",)
+SEVERAL = "--limit 9 --pieces=7 --rules=bep"
+
+# The receiver's options, what follows the handshake, and what `show` prints of it.
+OPTIONS = [
+    ("", HAVE_9, (b"68 have 9", b"ok messages=1 bytes=77")),
+    ("", HAVE_ALL + RAW_1, BOTH_EXTENSIONS),
+    ("--reserved 80000000001000aF", HAVE_ALL + RAW_1, BOTH_EXTENSIONS),
+    ("--reserved 0000000000000000", HAVE_ALL, NOT_NEGOTIATED),
+    ("--reserved 0000000000000000", RAW_1, NOT_NEGOTIATED),
+    ("--metadata-id 9 --reserved 0000000000000004", HAVE_ALL + RAW_1, (b"68 have-all", b"refused message=2 at=77 NotNegotiated")),
+    ("--metadata-id 1", ASKS_1, (b"68 metadata-request 0", b"ok messages=1 bytes=99")),
+    ("--metadata-id 0", RAW_3, (b"68 extended 3 1", b"ok messages=1 bytes=75")),
+    ("--metadata-id 3", RAW_3, (b"refused message=1 at=74 BadBencode",)),
+    ("--pieces 10", message(b"\x04\0\0\0\x0a"), (b"refused message=1 at=73 BadIndex",)),
+    ("--pieces=10", HAVE_9, (b"68 have 9", b"ok messages=1 bytes=77")),
+    ("--pieces=10", message(b"\x04\0\0\0\x0a"), (b"refused message=1 at=73 BadIndex",)),
+    ("--pieces 0000000000010", HAVE_9, (b"68 have 9", b"ok messages=1 bytes=77")),
+    ("--pieces 0000000000010", message(b"\x04\0\0\0\x0a"), (b"refused message=1 at=73 BadIndex",)),
+    ("--info-hash " + HASH, b"", (b"ok messages=0 bytes=68",)),
+    ("--info-hash " + HASH.upper(), b"", (b"ok messages=0 bytes=68",)),
+    ("--limit=262144", b"\0\x04\0\0", (b"refused message=1 at=72 EndInside",)),
+    ("--limit=262144", b"\0\x04\0\x01", (b"refused message=1 at=68 TooLong",)),
+    ("--limit 262145", b"\0\x04\0\x01", (b"refused message=1 at=72 EndInside",)),
+    ("--limit 262145", b"\0\x04\0\x02", (b"refused message=1 at=68 TooLong",)),
+    (SEVERAL, HAVE_NONE + message(b"\x04\0\0\0\x06"), (b"68 have-none", b"73 have 6", b"ok messages=2 bytes=82")),
+    (SEVERAL, HAVE_NONE + message(b"\x04\0\0\0\x07"), (b"68 have-none", b"refused message=2 at=78 BadIndex")),
+    (SEVERAL, UNCHOKE, (b"refused message=1 at=72 Missing",)),
+    (SEVERAL, b"\0\0\0\x09", (b"refused message=1 at=72 EndInside",)),
+    (SEVERAL, b"\0\0\0\x0a", (b"refused message=1 at=68 TooLong",)),
+]
+ROWS += [("show " + options if options else "", HAND + rest, shown(*lines), b"", int(lines[-1].startswith(b"refused")))
+         for options, rest, lines in OPTIONS]
+# The rules by which a command judges.
+ROWS += [
+    ("show", HAND + UNCHOKE, shown(b"68 unchoke", b"ok messages=1 bytes=73"), b"", 0),
+    ("show --rules bep", HAND + UNCHOKE, shown(b"refused message=1 at=72 Missing"), b"", 1),
+    ("check --rules bep", HAND + UNCHOKE, b"refused message=1 at=72 Missing\n", b"", 1),
+    ("unpack --rules=free", HAND + UNCHOKE, LINE + b"unchoke\n", b"", 0),
+    ("unpack --rules=bep", HAND + UNCHOKE, LINE, b"refused message=1 at=72 Missing\n", 1),
+    ("pack --rules bep", LINE + b"unchoke\n", HAND, b"refused line=2 Missing\n", 1),
+]
+
 # Words, files, standard input, standard output, standard error, exit status. The words are run where the files are.
 FILES = [
     # files
@@ -394,7 +504,12 @@ FILES = [
      b"a: ok messages=0 bytes=68\nb: refused message=0 at=4 EndInside\na: ok messages=0 bytes=68\n", b"", 1),
     ("check a none . b", {"a": HAND, "b": b""}, b"", b"a: ok messages=0 bytes=68\nb: refused message=0 at=0 EndInside\n",
      b"none: fault: read\n.: fault: read\n", 3),
+    (["check", "a", "", "b"], {"a": HAND, "b": HAND}, b"", b"a: ok messages=0 bytes=68\nb: ok messages=0 bytes=68\n",
+     b": fault: read\n", 3),
     ("check a b", {"a": HAND, "b": HAND}, b"", FULL, b"fault: write\n", 3),
+    ("pack -", {}, LINE, HAND, b"", 0),
+    ("--reserved=0000000000000000 show", {"show": HAND + HAVE_ALL}, b"", shown(*NOT_NEGOTIATED), b"", 1),
+    ("- --metadata-id 3 --reserved=0000000000000000", {}, HAND + HAVE_ALL, shown(*NOT_NEGOTIATED), b"", 1),
     ("show none", {}, HAND, b"", b"none: fault: read\n", 3),
     ("show .", {}, HAND, b"", b".: fault: read\n", 3),
     ("check .", {}, HAND, b"", b".: fault: read\n", 3),
@@ -416,6 +531,10 @@ FILES = [
     other_row(hand(NO_FAST) + PEX + naming(3), RAW_3, JUDGED, status=1),
     other_row(hand(NO_FAST) + naming(3), RAW_3, KEPT, "--metadata-id 0"),
     other_row(hand(NO_FAST) + naming(1), ASKS_1, [b"68 metadata-request 0", b"ok messages=1 bytes=99"]),
+    other_row(HAND + message(b"\0") + naming(3), RAW_3, JUDGED, status=1),
+    other_row(hand(NO_FAST) + naming(3) + naming(0), RAW_3, JUDGED, status=1),
+    other_row(hand(FAST) + naming(1), RAW_3, NOT_NEGOTIATED, "--metadata-id 3 --reserved " + NOTHING, 1),
+    other_row(hand(FAST) + naming(1), RAW_3, JUDGED, "--metadata-id 3 --reserved " + NO_FAST, 1),
     # its id of `lt_donthave`, which doesn't count where it is that of `ut_metadata`
     other_row(hand(NO_FAST) + naming(3) + taking(4, 3), TAKES_9, [b"68 donthave 9", b"ok messages=1 bytes=78"]),
     other_row(hand(NO_FAST) + taking(4, 4), TAKES_9, JUDGED, status=1),
@@ -426,6 +545,8 @@ FILES = [
     # what follows a refusal says nothing, and an unfinished message neither
     other_row(hand(NO_FAST) + bytes.fromhex("00000002 00 00") + naming(3), RAW_3, KEPT),
     other_row(hand(NO_FAST) + naming(3)[:-1], RAW_3, KEPT),
+    other_row(hand(NO_FAST) + b"\0\x10\0\x01" + naming(3), RAW_3, KEPT),
+    other_row(hand(NO_FAST) + naming(3) + b"\0", RAW_3, JUDGED, status=1),
     # the same stream
     ("show --other a a", {"a": HAND + naming(1) + RAW_1}, b"",
      shown(b"68 ext-handshake 24 0 size=- ut_metadata=1", b"refused message=2 at=104 BadBencode"), b"", 1),
@@ -433,6 +554,8 @@ FILES = [
     ("check --rules free --other other a", {"other": hand(NO_FAST), "a": HAND + RAW_3}, b"", KEPT[1] + b"\n", b"", 0),
     ("check --other other a", {"other": hand(NO_FAST), "a": HAND + HAVE_9}, b"", b"ok messages=1 bytes=77\n", b"", 0),
     ("unpack --other other a", {"other": hand(NO_FAST), "a": HAND + RAW_3}, b"", LINE + b"extended 3 01\n", b"", 0),
+    ("unpack a --metadata-id 3 --other=other", {"other": hand(NO_FAST), "a": HAND + RAW_3}, b"", LINE,
+     b"refused message=1 at=74 BadBencode\n", 1),
     ("pack --other other a", {"other": hand(NO_FAST), "a": LINE + b"extended 3 01\n"}, b"", HAND + RAW_3, b"", 0),
     ("pack --other other a", {"other": hand(NO_FAST) + naming(3), "a": LINE + b"extended 3 01\n"}, b"", HAND,
      b"refused line=2 BadBencode\n", 1),
@@ -442,6 +565,7 @@ FILES = [
     # another direction that says nothing
     ("show --other other a", {"other": b"", "a": HAND}, b"", b"", NO_HANDSHAKE, 2),
     ("check --other other a", {"other": HAND[:67], "a": HAND}, b"", b"", NO_HANDSHAKE, 2),
+    ("check --other other a", {"other": b"BitTorrent protocol", "a": HAND}, b"", b"", NO_HANDSHAKE, 2),
     ("unpack --other other a", {"other": LINE, "a": HAND}, b"", b"", NO_HANDSHAKE, 2),
     ("pack --other other a", {"other": b"\x13BitTorrent protocoL" + bytes(48), "a": LINE}, b"", b"", NO_HANDSHAKE, 2),
     ("show --other none a", {"a": HAND}, b"", b"", b"none: fault: read\n", 3),
@@ -467,6 +591,123 @@ SCRIPTS = [
      b"have-all\npiece 1 16384 ab0c7f\n"),
     (b"\0\0\0\x02\x14\x04", b"ok messages=1 bytes=74\n", b"extended 4 -\n"),
 ]
+
+# A message, and its line, which `unpack` writes and `pack` reads.
+MESSAGE_LINES = [
+    (b"\0\0\0\0", b"keep-alive"),
+    (b"\0\0\0\x01\0", b"choke"),
+    (b"\0\0\0\x01\x01", b"unchoke"),
+    (b"\0\0\0\x01\x02", b"interested"),
+    (b"\0\0\0\x01\x03", b"not-interested"),
+    (b"\0\0\0\x05\x04\0\0\0\0", b"have 0"),
+    (b"\0\0\0\x05\x04\0\0\0\x09", b"have 9"),
+    (b"\0\0\0\x05\x04\xff\xff\xff\xff", b"have 4294967295"),
+    (b"\0\0\0\x03\x05\xff\xc0", b"bitfield ffc0"),
+    (b"\0\0\0\x01\x05", b"bitfield -"),
+    (b"\0\0\0\x0d\x06\0\0\0\x01\0\0\x40\0\0\0\x40\0", b"request 1 16384 16384"),
+    (b"\0\0\0\x09\x07\0\0\0\x01\0\0\x40\0", b"piece 1 16384 -"),
+    (b"\0\0\0\x0c\x07\0\0\0\x01\0\0\0\0abc", b"piece 1 0 616263"),
+    (b"\0\0\0\x0d\x08\0\0\0\0\0\0\0\0\0\0\0\x01", b"cancel 0 0 1"),
+    (b"\0\0\0\x0d\x08\0\0\0\x01\0\0\0\x02\0\0\0\x03", b"cancel 1 2 3"),
+    (b"\0\0\0\x03\x09\x1a\xe1", b"port 6881"),
+    (b"\0\0\0\x03\x09\xff\xff", b"port 65535"),
+    (b"\0\0\0\x05\x0d\0\0\0\x07", b"suggest 7"),
+    (b"\0\0\0\x01\x0e", b"have-all"),
+    (b"\0\0\0\x01\x0f", b"have-none"),
+    (b"\0\0\0\x0d\x10\0\0\0\x01\0\0\0\x02\0\0\0\x03", b"reject 1 2 3"),
+    (b"\0\0\0\x05\x11\0\0\0\x07", b"allowed-fast 7"),
+    (b"\0\0\0\x0b\x14\0d1:mdeeab", b"extended 0 64313a6d6465656162"),
+    (b"\0\0\0\x1b\x14\x03d8:msg_typei0e5:piecei0ee", b"extended 3 64383a6d73675f74797065693065353a706965636569306565"),
+    (b"\0\0\0\x02\x14\x04", b"extended 4 -"),
+    (b"\0\0\0\x03\x14\x04\xff", b"extended 4 ff"),
+    (b"\0\0\0\x01\x0a", b"unknown 10 -"),
+    (b"\0\0\0\x01\x63", b"unknown 99 -"),
+    (b"\0\0\0\x03\x63\x0a\x0b", b"unknown 99 0a0b"),
+    (b"\0\0\0\x03\x63\x0a\xfb", b"unknown 99 0afb"),
+    (b"\0\0\0\x01\xff", b"unknown 255 -"),
+]
+
+# Messages, and further lines that `pack` reads as them.
+READ_LINES = [
+    (b"\0\0\0\x03\x05\xff\xc0", b"bitfield FFc0"),
+    (b"\0\0\0\x0b\x07\0\0\0\x01\0\0\0\x02\xab\xcd", b"piece 1 2 ABcd"),
+    (b"\0\0\0\x03\x14\xff\x0a", b"extended 255 0A"),
+]
+
+# Texts that are no lines after the first.
+NO_LINES = b"""
+
+-
+have
+have\x20
+have 09
+have 00
+have  9
+have 9\x20
+ have 9
+have 9\r
+have\t9
+have -1
+have +1
+have a
+have 4294967296
+have 10000000000
+have 18446744073709551625
+have 9 9
+HAVE 9
+bitfield
+bitfield\x20
+bitfield f
+bitfield ffg0
+bitfield ff ff
+bitfield --
+bitfield -ff
+request 1 2
+request 1 2 3 4
+piece 1 2
+piece 1 2 3
+port 65536
+port 080
+extended 256 -
+extended 03 -
+extended 3
+extended -
+unknown 9 -
+unknown 20 -
+unknown 256 -
+unknown 099 -
+unknown 99
+unknown 99 9
+choke\x20
+choke -
+keep-alive\x20
+keepalive
+ok
+""".split(b"\n")[1:-1] + [b" ", LINE[:-1]]
+
+# Texts that are no first lines.
+WORDS = LINE.split()
+NO_FIRST_LINES = [
+    b"",
+    b"choke",
+    b"keep-alive",
+    b"handshake",
+    b"handshake 0000000000100005",
+    LINE[:-1] + b" ",
+    LINE[:-1].replace(b" ", b"  ", 1),
+    b"handshake 000000000010005 " + b" ".join(WORDS[2:]),
+    LINE[:-1].replace(b"89d 2d", b"89g 2d"),
+    b" ".join(WORDS[:3]) + b" -",
+    b"H" + LINE[1:-1],
+]
+
+ROWS += [("unpack", HAND + spelled, LINE + line + b"\n", b"", 0) for spelled, line in MESSAGE_LINES]
+# (the block of one line has decimal digits alone)
+ROWS += [("pack", LINE + line + b"\n", HAND + spelled, Parts(b"hint: line 2: piece") if line.endswith(b" 616263") else b"", 0)
+         for spelled, line in MESSAGE_LINES + READ_LINES]
+ROWS += [("pack", LINE + text + b"\n", HAND, Parts(b"refused line=2 Syntax\n"), 1) for text in NO_LINES]
+ROWS += [("pack", text + b"\n", b"", Parts(b"refused line=1 Syntax\n"), 1) for text in NO_FIRST_LINES]
+ROWS += [("pack", b"handshake " + b" ".join(WORDS[1:]).upper() + b"\n", HAND, b"", 0)]
 
 FREE = "--rules free"
 TEN = "--rules free --pieces 10"

@@ -1,9 +1,10 @@
-//! Ends of the tests, and steps of theirs. No function here has a clause, so that a test carries no contract of an end.
+//! Ends of the tests, each over a heap of its own, and steps of theirs.
 use bt_end::{Announce, Config, End, EndError, Role, SayError, Turn, TurnError, Window};
 use bt_ext::{Ext, ExtId, Registered, Rules};
 use bt_feed::MemTarget;
 use bt_wire::{Message, Own, Reserved};
-use std::alloc::{AllocError, Allocator, Global};
+use linked_list_allocator::LocalHeap;
+use std::alloc::{AllocError, Global};
 
 /// The SHA-1 of `abc` (FIPS 180-4).
 const ABC: [u8; 20] = [
@@ -11,15 +12,12 @@ const ABC: [u8; 20] = [
     0x9c, 0xd0, 0xd8, 0x9d,
 ];
 
-const LEFT: [u8; 20] = *b"-BT0001-LLLLLLLLLLLL";
-
-const RIGHT: [u8; 20] = *b"-BT0001-RRRRRRRRRRRR";
-
-/// What a peer without an end says first: the handshake of BEP 3, with the bits of both extensions.
+/// What a peer says first: the handshake of BEP 3, with the bits of both extensions.
 pub(crate) const HAND: &[u8] = b"\x13BitTorrent protocol\0\0\0\0\0\x10\0\x05\
 \xa9\x99\x3e\x36\x47\x06\x81\x6a\xba\x3e\x25\x71\x78\x50\xc2\x6c\x9c\xd0\xd8\x9d-XX0001-000000000000";
 
 /// What an end is for. It wants metadata messages under the id 3, or 9 where it fetches.
+#[derive(Clone, Copy)]
 pub(crate) enum Who {
     Watching,
     /// It watches, registers `lt_donthave` under the id 4 too, and knows the piece count, 10.
@@ -36,72 +34,64 @@ pub(crate) enum Who {
     Fetching(u8),
 }
 
-/// An end that knows both extensions, wants metadata messages under this id, and doesn't know the piece count.
-fn own(id: u8, rules: Rules, limit: u32) -> Own {
+fn own_of(who: Who, rules: Rules, limit: u32) -> Own {
+    let (id, pieces) = match who {
+        Who::Fetching(_) => (9, None),
+        Who::OfTen => (3, Some(10)),
+        _ => (3, None),
+    };
+    let reg = match who {
+        Who::OfTen => Registered::new(ExtId::new(id), ExtId::new(4)),
+        _ => Registered::new(ExtId::new(id), None),
+    };
     Own {
         reserved: Reserved(0x10_0005),
-        info_hash: Some(ABC),
-        pieces: None,
-        reg: Registered::metadata_only(ExtId::new(id)),
+        info_hash: match who {
+            Who::Unhashed => None,
+            _ => Some(ABC),
+        },
+        pieces,
+        reg: reg.unwrap_or(Registered::metadata_only(None)),
         rules,
         limit,
     }
 }
 
-fn own_of(who: &Who, rules: Rules, limit: u32) -> Own {
-    let own_of_three = own(3, rules, limit);
-    match who {
-        Who::OfTen => Own {
-            pieces: Some(10),
-            reg: Registered::new(ExtId::new(3), ExtId::new(4)).unwrap_or(own_of_three.reg),
-            ..own_of_three
-        },
-        Who::Unhashed => Own {
-            info_hash: None,
-            ..own_of_three
-        },
-        Who::Fetching(_) => own(9, rules, limit),
-        _ => own_of_three,
-    }
-}
-
-fn role_of<A: Allocator>(alloc: A, who: &Who) -> Result<Role<A>, AllocError> {
+fn role_of<'a>(heap: &'a LocalHeap, who: Who) -> Result<Role<&'a LocalHeap>, AllocError> {
     match who {
         Who::Watching | Who::OfTen => Ok(Role::Watch),
-        Who::ServingAbc => Ok(Role::Serve(b"abc".to_vec(alloc)?)),
-        Who::ServingSevens => Ok(Role::Serve(vec![in alloc; 7; 16_384]?)),
-        Who::ServingNone | Who::Unhashed => Ok(Role::Serve(Vec::new(alloc))),
+        Who::ServingAbc => Ok(Role::Serve(b"abc".to_vec(heap)?)),
+        Who::ServingSevens => Ok(Role::Serve(vec![in heap; 7; 16_384]?)),
+        Who::ServingNone | Who::Unhashed => Ok(Role::Serve(Vec::new(heap))),
         Who::Fetching(_) => Ok(Role::Fetch),
     }
 }
 
-fn config_of<A: Allocator>(who: &Who, rules: Rules, limit: u32, role: Role<A>) -> Config<A> {
-    let (peer_id, window) = match who {
-        Who::Fetching(blocks) => (RIGHT, Window::new(*blocks).unwrap_or_default()),
-        _ => (LEFT, Window::default()),
+pub(crate) fn made<'a>(
+    heap: &'a LocalHeap,
+    who: Who,
+    rules: Rules,
+    limit: u32,
+) -> Result<End<&'a LocalHeap>, EndError> {
+    let Ok(role) = role_of(heap, who) else {
+        return Err(EndError::Memory);
     };
-    Config {
+    let (peer_id, window) = match who {
+        Who::Fetching(blocks) => (*b"-BT0001-RRRRRRRRRRRR", Window::new(blocks)),
+        _ => (*b"-BT0001-LLLLLLLLLLLL", None),
+    };
+    let config = Config {
         own: own_of(who, rules, limit),
         peer_id,
         announce: Announce::Silent,
-        window,
+        window: window.unwrap_or_default(),
         role,
-    }
-}
-
-pub(crate) fn made<A: Allocator + Copy>(
-    alloc: A,
-    who: &Who,
-    rules: Rules,
-    limit: u32,
-) -> Result<End<A>, EndError> {
-    match role_of(alloc, who) {
-        Ok(role) => End::new(alloc, config_of(who, rules, limit, role)),
-        Err(_) => Err(EndError::Memory),
-    }
+    };
+    End::new(heap, config)
 }
 
 /// A message that is said.
+#[derive(Clone, Copy)]
 pub(crate) enum Saying {
     KeepAlive,
     Unchoke,
@@ -110,42 +100,32 @@ pub(crate) enum Saying {
     DontHave(u32),
 }
 
-fn message(saying: &Saying) -> Message {
-    match saying {
-        Saying::KeepAlive => Message::KeepAlive,
-        Saying::Unchoke => Message::Unchoke,
-        Saying::Have(index) => Message::Have(*index),
-        Saying::HaveNone => Message::HaveNone,
-        Saying::DontHave(index) => Message::Extended(Ext::DontHave(*index)),
-    }
-}
-
 /// A call of an end, and what it answers.
 pub(crate) enum Step {
     /// It takes these bytes, an item, and handles it.
     Handles(&'static [u8]),
     /// It does so, so many times.
     Repeats(usize, &'static [u8]),
-    /// It does so with the long message that the test makes.
-    HandlesLong,
     /// It takes so many of these bytes.
     Takes(&'static [u8], usize),
+    /// It takes 16,384 bytes, all 7, which end an item, and handles it.
+    HandlesSevens,
     Turns(Result<Turn, TurnError>),
     Says(Saying, Result<(), SayError>),
     /// It says keep-alives until memory is refused.
     RunsOut,
     /// Memory is refused for a message, and all is as before.
     Refuses,
-    /// It says one more message, which is the last one that is to be sent.
-    SaysMore,
     /// So many bytes are to be sent.
     Waits(usize),
     /// Just these bytes stand after the first so many that are to be sent.
     Sends(usize, &'static [u8]),
-    /// Just the requests for the first so many of nine blocks stand after the handshakes.
-    Asks(usize),
+    /// The bytes that are to be sent end with these.
+    EndsWith(&'static [u8]),
     /// So many bytes are written.
     Drains(usize),
+    /// So many bytes were sent.
+    Sent(usize),
     /// This metadata was fetched.
     Has(Option<&'static [u8]>),
     Resets,
@@ -157,156 +137,42 @@ pub(crate) enum Step {
     Frees,
 }
 
-/// What is shown, an end, its rules and its limit, and its steps.
-pub(crate) type Row = (&'static str, Who, Rules, u32, &'static [Step]);
-
-pub(crate) fn takes<A: Allocator + Copy>(end: &mut End<A>, bytes: &[u8]) -> usize {
-    end.receive(bytes)
-}
-
-pub(crate) fn turns<A: Allocator + Copy>(
-    end: &mut End<A>,
-    answer: Result<Turn, TurnError>,
-) -> bool {
-    end.turn() == answer
-}
-
-/// Takes these bytes, an item, and handles it.
-fn handles<A: Allocator + Copy>(end: &mut End<A>, bytes: &[u8]) -> bool {
-    takes(end, bytes) == bytes.len() && turns(end, Ok(Turn::Handled))
-}
-
-fn repeats<A: Allocator + Copy>(end: &mut End<A>, times: usize, bytes: &[u8]) -> bool {
-    for _ in 0..times {
-        if !handles(end, bytes) {
-            return false;
-        }
-    }
-    true
-}
-
-fn say<A: Allocator + Copy>(end: &mut End<A>, message: &Message) -> Result<(), SayError> {
-    end.say(message)
-}
-
-fn said<A: Allocator + Copy>(end: &mut End<A>, saying: &Saying) -> Result<(), SayError> {
-    say(end, &message(saying))
-}
-
-fn says<A: Allocator + Copy>(
-    end: &mut End<A>,
-    saying: &Saying,
-    answer: Result<(), SayError>,
-) -> bool {
-    said(end, saying) == answer
-}
-
-/// Says keep-alives until one is refused, or 100,000 times, and says whether memory was refused.
-fn runs_out<A: Allocator + Copy>(end: &mut End<A>) -> bool {
-    for _ in 0..100_000 {
-        match said(end, &Saying::KeepAlive) {
-            Ok(()) => {}
-            Err(SayError::Memory) => return true,
-            Err(_) => return false,
-        }
-    }
-    false
-}
-
-/// How many bytes are to be sent.
-pub(crate) fn waiting<A: Allocator + Copy>(end: &End<A>) -> usize {
-    end.outgoing().len()
-}
-
-/// Whether just these bytes stand after the first `at` that are to be sent.
-fn sends<A: Allocator + Copy>(end: &End<A>, at: usize, bytes: &[u8]) -> bool {
-    end.outgoing().get(at..) == Some(bytes)
-}
-
-/// Whether this metadata was fetched.
-pub(crate) fn has<A: Allocator + Copy>(end: &End<A>, metadata: Option<&[u8]>) -> bool {
-    end.metadata() == metadata
-}
-
-/// What the end is to send, to be compared after a refused call.
-pub(crate) fn outgoing<A: Allocator + Copy>(
-    alloc: Global,
-    end: &End<A>,
-) -> Result<Vec<u8>, AllocError> {
-    end.outgoing().to_vec(alloc)
-}
-
-/// Whether the end is to send these bytes, and has fetched metadata or not.
-pub(crate) fn is_as_before<A: Allocator + Copy>(
-    end: &End<A>,
-    outgoing: &[u8],
-    has_metadata: bool,
-) -> bool {
-    sends(end, 0, outgoing) && has(end, None) != has_metadata
-}
-
-/// Whether memory is refused for a message of an end that is to send these bytes, and all is as before.
-fn is_refused<A: Allocator + Copy>(end: &mut End<A>, outgoing: &[u8]) -> bool {
-    let has_metadata = !has(end, None);
-    says(end, &Saying::Unchoke, Err(SayError::Memory)) && is_as_before(end, outgoing, has_metadata)
-}
-
-fn refuses<A: Allocator + Copy>(alloc: Global, end: &mut End<A>) -> bool {
-    match outgoing(alloc, end) {
-        Ok(bytes) => is_refused(end, bytes.as_slice()),
-        Err(_) => false,
-    }
-}
-
-fn says_more<A: Allocator + Copy>(end: &mut End<A>) -> bool {
-    let at = waiting(end);
-    says(end, &Saying::Unchoke, Ok(())) && sends(end, at, b"\0\0\0\x01\x01")
-}
-
-/// Requests for the blocks 0 to 8.
-const REQUESTS: &[u8; 279] = b"\0\0\0\x1b\x14\x03d8:msg_typei0e5:piecei0ee\
-\0\0\0\x1b\x14\x03d8:msg_typei0e5:piecei1ee\
-\0\0\0\x1b\x14\x03d8:msg_typei0e5:piecei2ee\
-\0\0\0\x1b\x14\x03d8:msg_typei0e5:piecei3ee\
-\0\0\0\x1b\x14\x03d8:msg_typei0e5:piecei4ee\
-\0\0\0\x1b\x14\x03d8:msg_typei0e5:piecei5ee\
-\0\0\0\x1b\x14\x03d8:msg_typei0e5:piecei6ee\
-\0\0\0\x1b\x14\x03d8:msg_typei0e5:piecei7ee\
-\0\0\0\x1b\x14\x03d8:msg_typei0e5:piecei8ee";
-
-/// Whether just the requests for the first blocks follow the handshakes.
-fn asks_for<A: Allocator + Copy>(end: &End<A>, count: usize) -> bool {
-    match REQUESTS.as_slice().get(..count.saturating_mul(31)) {
-        Some(requests) => sends(end, 98, requests),
-        None => false,
-    }
-}
-
-/// Whether a writer takes just so many bytes of those that are to be sent.
-fn drains<A: Allocator + Copy>(alloc: Global, end: &mut End<A>, count: usize) -> bool {
-    let mut writer = MemTarget::new(Vec::new(alloc), 4_096, None);
-    end.drain(&mut writer, count) == Ok(count)
-}
-
-fn resets<A: Allocator + Copy>(end: &mut End<A>) -> bool {
-    end.reset().is_ok()
-}
+/// What is shown, the bytes of the heap, an end, its rules and its limit, and its steps.
+pub(crate) type Row = (&'static str, usize, Who, Rules, u32, &'static [Step]);
 
 /// The heap of an end, and what is taken of it.
 #[derive(Drop)]
-struct Heap<A: Allocator> {
+pub(crate) struct Heap<'a> {
     /// The allocator of the test.
     alloc: Global,
-    own_alloc: A,
-    taken: Vec<Vec<u8, A>>,
+    own: &'a LocalHeap,
+    taken: Vec<Vec<u8, &'a LocalHeap>>,
+    /// How many calls met a refused request for memory: `new`, `turn`, `reset`.
+    pub(crate) refused: [u32; 3],
 }
 
-impl<A: Allocator + Copy> Heap<A> {
+impl<'a> Heap<'a> {
+    /// A heap of which so many bytes are taken; none where that is 0.
+    pub(crate) fn new(
+        alloc: Global,
+        own: &'a LocalHeap,
+        ballast: usize,
+    ) -> Result<Heap<'a>, AllocError> {
+        let mut heap = Heap {
+            alloc,
+            own,
+            taken: Vec::new(alloc),
+            refused: [0; 3],
+        };
+        heap.taken.push(Vec::with_capacity(own, ballast)?)?;
+        Ok(heap)
+    }
+
     /// Takes what is left.
     fn fill(&mut self) -> Result<(), AllocError> {
         for size in [4_096usize, 256, 16] {
             for _ in 0..64 {
-                let Ok(part) = Vec::with_capacity(self.own_alloc, size) else {
+                let Ok(part) = Vec::with_capacity(self.own, size) else {
                     break;
                 };
                 self.taken.push(part)?;
@@ -317,84 +183,175 @@ impl<A: Allocator + Copy> Heap<A> {
 
     /// Whether even a request for one byte is refused.
     fn is_full(&self) -> bool {
-        Vec::<u8, A>::with_capacity(self.own_alloc, 1).is_err()
+        Vec::<u8, &LocalHeap>::with_capacity(self.own, 1).is_err()
     }
 
-    fn fills(&mut self) -> bool {
-        self.fill().is_ok() && self.is_full()
-    }
-
-    fn frees(&mut self) -> bool {
+    /// Counts a refused call, and gives back what was taken.
+    fn give_back(&mut self, call: usize) {
+        if let Some(count) = self.refused.get_mut(call) {
+            *count = count.saturating_add(1);
+        }
         self.taken.clear();
-        true
     }
 }
 
-fn goes<A: Allocator + Copy>(
-    heap: &mut Heap<A>,
-    end: &mut End<A>,
-    step: &Step,
-    long: &[u8],
-) -> bool {
+/// The SHA-1 of what is to be sent, and whether metadata was fetched.
+fn seen(end: &End<&LocalHeap>) -> ([u8; 20], bool) {
+    (sha1::Sha1::digest(end.outgoing()), end.metadata().is_some())
+}
+
+/// Whether a turn answers so. Where memory is refused, all has to be as before, and the same call to succeed once what was taken
+/// is given back.
+fn turns(heap: &mut Heap, end: &mut End<&LocalHeap>, answer: Result<Turn, TurnError>) -> bool {
+    let before = seen(end);
+    let first = end.turn();
+    if first != Err(TurnError::Memory) {
+        return first == answer;
+    }
+    let is_same = seen(end) == before;
+    heap.give_back(1);
+    is_same && end.turn() == answer
+}
+
+/// As `turns`, for a new connection.
+fn resets(heap: &mut Heap, end: &mut End<&LocalHeap>) -> bool {
+    let before = seen(end);
+    if end.reset().is_ok() {
+        return true;
+    }
+    let is_same = seen(end) == before;
+    heap.give_back(2);
+    is_same && end.reset().is_ok()
+}
+
+/// Takes these bytes, an item, and handles it.
+fn handles(heap: &mut Heap, end: &mut End<&LocalHeap>, bytes: &[u8]) -> bool {
+    end.receive(bytes) == bytes.len() && turns(heap, end, Ok(Turn::Handled))
+}
+
+fn repeats(heap: &mut Heap, end: &mut End<&LocalHeap>, times: usize, bytes: &[u8]) -> bool {
+    for _ in 0..times {
+        if !handles(heap, end, bytes) {
+            return false;
+        }
+    }
+    true
+}
+
+/// Takes 16,384 bytes, all 7.
+fn takes_sevens(end: &mut End<&LocalHeap>) -> bool {
+    for _ in 0..1_024 {
+        if end.receive(&[7; 16]) != 16 {
+            return false;
+        }
+    }
+    true
+}
+
+fn said(end: &mut End<&LocalHeap>, saying: Saying) -> Result<(), SayError> {
+    let message = match saying {
+        Saying::KeepAlive => Message::KeepAlive,
+        Saying::Unchoke => Message::Unchoke,
+        Saying::Have(index) => Message::Have(index),
+        Saying::HaveNone => Message::HaveNone,
+        Saying::DontHave(index) => Message::Extended(Ext::DontHave(index)),
+    };
+    end.say(&message)
+}
+
+/// Says keep-alives until one is refused, or 100,000 times, and says whether memory was refused.
+fn runs_out(end: &mut End<&LocalHeap>) -> bool {
+    for _ in 0..100_000 {
+        match said(end, Saying::KeepAlive) {
+            Ok(()) => {}
+            Err(error) => return error == SayError::Memory,
+        }
+    }
+    false
+}
+
+/// Whether memory is refused for a message, and all is as before.
+fn refuses(end: &mut End<&LocalHeap>) -> bool {
+    let before = seen(end);
+    said(end, Saying::Unchoke) == Err(SayError::Memory) && seen(end) == before
+}
+
+/// Whether a writer takes just so many bytes of those that are to be sent.
+fn drains(alloc: Global, end: &mut End<&LocalHeap>, count: usize) -> bool {
+    let mut writer = MemTarget::new(Vec::new(alloc), 4_096, None);
+    end.drain(&mut writer, count) == Ok(count)
+}
+
+/// Notes that so many bytes were sent.
+fn sends(end: &mut End<&LocalHeap>, count: usize) -> bool {
+    let is_there = count <= end.outgoing().len();
+    if is_there {
+        end.sent(count);
+    }
+    is_there
+}
+
+/// A step that says, sends or looks.
+fn shows(alloc: Global, end: &mut End<&LocalHeap>, step: &Step) -> bool {
     match step {
-        Step::Handles(bytes) => handles(end, bytes),
-        Step::Repeats(times, bytes) => repeats(end, *times, bytes),
-        Step::HandlesLong => handles(end, long),
-        Step::Takes(bytes, count) => takes(end, bytes) == *count,
-        Step::Turns(answer) => turns(end, *answer),
-        Step::Says(saying, answer) => says(end, saying, *answer),
+        Step::Takes(bytes, count) => end.receive(bytes) == *count,
+        Step::Says(saying, answer) => said(end, *saying) == *answer,
         Step::RunsOut => runs_out(end),
-        Step::Refuses => refuses(heap.alloc, end),
-        Step::SaysMore => says_more(end),
-        Step::Waits(count) => waiting(end) == *count,
-        Step::Sends(at, bytes) => sends(end, *at, bytes),
-        Step::Asks(count) => asks_for(end, *count),
-        Step::Drains(count) => drains(heap.alloc, end, *count),
-        Step::Has(metadata) => has(end, *metadata),
-        Step::Resets => resets(end),
-        Step::Fills => heap.fills(),
-        Step::IsFull => heap.is_full(),
-        Step::Frees => heap.frees(),
+        Step::Refuses => refuses(end),
+        Step::Waits(count) => end.outgoing().len() == *count,
+        Step::Sends(at, bytes) => end.outgoing().get(*at..) == Some(*bytes),
+        Step::EndsWith(bytes) => end.outgoing().ends_with(bytes),
+        Step::Drains(count) => drains(alloc, end, *count),
+        Step::Sent(count) => sends(end, *count),
+        Step::Has(metadata) => end.metadata() == *metadata,
+        _ => false,
     }
 }
 
-fn first_wrong<A: Allocator + Copy>(
-    heap: &mut Heap<A>,
-    end: &mut End<A>,
-    steps: &[Step],
-    long: &[u8],
-) -> Option<usize> {
+fn goes(heap: &mut Heap, end: &mut End<&LocalHeap>, step: &Step) -> bool {
+    match step {
+        Step::Handles(bytes) => handles(heap, end, bytes),
+        Step::Repeats(times, bytes) => repeats(heap, end, *times, bytes),
+        Step::HandlesSevens => takes_sevens(end) && turns(heap, end, Ok(Turn::Handled)),
+        Step::Turns(answer) => turns(heap, end, *answer),
+        Step::Resets => resets(heap, end),
+        Step::Fills => heap.fill().is_ok() && heap.is_full(),
+        Step::IsFull => heap.is_full(),
+        Step::Frees => {
+            heap.taken.clear();
+            true
+        }
+        _ => shows(heap.alloc, end, step),
+    }
+}
+
+fn first_wrong(heap: &mut Heap, end: &mut End<&LocalHeap>, steps: &[Step]) -> Option<usize> {
     for (number, step) in steps.iter().enumerate() {
-        if !goes(heap, end, step, long) {
+        if !goes(heap, end, step) {
             return Some(number);
         }
     }
     None
 }
 
-fn stumbles<A: Allocator + Copy>(
-    heap: &mut Heap<A>,
-    (_, who, rules, limit, steps): &Row,
-    long: &[u8],
-) -> Option<usize> {
-    match made(heap.own_alloc, who, *rules, *limit) {
-        Ok(mut end) => first_wrong(heap, &mut end, steps, long),
-        Err(_) => Some(0),
+/// Makes an end, and once more with what was taken given back where memory was refused.
+fn made_at_last<'a>(
+    heap: &mut Heap<'a>,
+    (_, _, who, rules, limit, _): &Row,
+) -> Result<End<&'a LocalHeap>, EndError> {
+    match made(heap.own, *who, *rules, *limit) {
+        Err(EndError::Memory) => {
+            heap.give_back(0);
+            made(heap.own, *who, *rules, *limit)
+        }
+        answer => answer,
     }
 }
 
-/// The number of the first step of the row, counted from 0, that doesn't go so. None is taken where no end is made. The long
-/// message is that of the steps `HandlesLong`.
-pub(crate) fn wrong_step<A: Allocator + Copy>(
-    alloc: Global,
-    own_alloc: A,
-    row: &Row,
-    long: &[u8],
-) -> Option<usize> {
-    let mut heap = Heap {
-        alloc,
-        own_alloc,
-        taken: Vec::new(alloc),
-    };
-    stumbles(&mut heap, row, long)
+/// The number of the first step of the row, counted from 0, that doesn't go so. None is taken where no end is made.
+pub(crate) fn wrong_step(heap: &mut Heap, row: &Row) -> Option<usize> {
+    match made_at_last(heap, row) {
+        Ok(mut end) => first_wrong(heap, &mut end, row.5),
+        Err(_) => Some(0),
+    }
 }

@@ -1,25 +1,10 @@
 //! Worked rows of ends that are driven by hand.
-use crate::link::fetched;
 use crate::setting::*;
 use bt_end::{EndError, SayError, Turn, TurnError, Window};
 use bt_ext::Rules;
-use bt_wire::{Fault, Reason, Refusal, frame};
-use std::alloc::{AllocError, Global};
-
-/// The metadata goes over, whole and in single bytes, and the end that served it has nothing more to do.
-fn goes_over(alloc: Global, portion: usize) -> bool {
-    match fetched(alloc, alloc, 262_144, portion, None) {
-        Some(refused) => refused.is_none(),
-        None => false,
-    }
-}
-
-#[test]
-fn metadata_goes_over(rt: HostRuntime) {
-    for portion in [1_000, 1] {
-        assert!(rt; goes_over(rt.alloc(), portion), "in portions of {portion}");
-    }
-}
+use bt_wire::{Fault, Reason, Refusal};
+use linked_list_allocator::LocalHeap;
+use std::alloc::Global;
 
 /// What an end says. Its handshakes have 98 bytes.
 const SAYINGS: &[Step] = &[
@@ -134,39 +119,105 @@ const FLOOD: &[Step] = &[
 
 const TOLD_NINE: &[u8] = b"\0\0\0\x32\x14\0d1:md11:ut_metadatai3ee13:metadata_sizei147456ee";
 
+/// What the first of nine blocks, all 7, begins with.
+const FIRST_OF_NINE: &[u8] = b"\0\0\x40\x30\x14\x09d8:msg_typei1e5:piecei0e10:total_sizei147456ee";
+
 /// Of nine blocks an end asks for as many at once as its window says, and for one more when a block has come.
 const EIGHT_AT_ONCE: &[Step] = &[
     Step::Handles(HAND),
     Step::Handles(TOLD_NINE),
-    Step::Waits(98 + 31 * 8),
-    Step::Asks(8),
-    Step::HandlesLong,
-    Step::Asks(9),
+    Step::Sends(
+        98,
+        b"\0\0\0\x1b\x14\x03d8:msg_typei0e5:piecei0ee\
+\0\0\0\x1b\x14\x03d8:msg_typei0e5:piecei1ee\
+\0\0\0\x1b\x14\x03d8:msg_typei0e5:piecei2ee\
+\0\0\0\x1b\x14\x03d8:msg_typei0e5:piecei3ee\
+\0\0\0\x1b\x14\x03d8:msg_typei0e5:piecei4ee\
+\0\0\0\x1b\x14\x03d8:msg_typei0e5:piecei5ee\
+\0\0\0\x1b\x14\x03d8:msg_typei0e5:piecei6ee\
+\0\0\0\x1b\x14\x03d8:msg_typei0e5:piecei7ee",
+    ),
+    Step::Takes(FIRST_OF_NINE, 52),
+    Step::HandlesSevens,
+    Step::Sends(98 + 31 * 8, b"\0\0\0\x1b\x14\x03d8:msg_typei0e5:piecei8ee"),
 ];
 
 const ONE_AT_ONCE: &[Step] = &[
     Step::Handles(HAND),
     Step::Handles(TOLD_NINE),
-    Step::Waits(98 + 31),
-    Step::Asks(1),
-    Step::HandlesLong,
-    Step::Asks(2),
+    Step::Sends(98, REQUEST),
+    Step::Takes(FIRST_OF_NINE, 52),
+    Step::HandlesSevens,
+    Step::Sends(98 + 31, b"\0\0\0\x1b\x14\x03d8:msg_typei0e5:piecei1ee"),
 ];
 
 const THREE_AT_ONCE: &[Step] = &[
     Step::Handles(HAND),
     Step::Handles(TOLD_NINE),
-    Step::Waits(98 + 31 * 3),
-    Step::Asks(3),
-    Step::HandlesLong,
-    Step::Asks(4),
+    Step::Sends(
+        98,
+        b"\0\0\0\x1b\x14\x03d8:msg_typei0e5:piecei0ee\
+\0\0\0\x1b\x14\x03d8:msg_typei0e5:piecei1ee\
+\0\0\0\x1b\x14\x03d8:msg_typei0e5:piecei2ee",
+    ),
+    Step::Takes(FIRST_OF_NINE, 52),
+    Step::HandlesSevens,
+    Step::Sends(98 + 31 * 3, b"\0\0\0\x1b\x14\x03d8:msg_typei0e5:piecei3ee"),
+];
+
+/// A `piece` message with a block of 16,384 bytes begins so.
+const PIECE: &[u8] = b"\0\0\x40\x09\x07\0\0\0\0\0\0\0\0";
+
+/// With the Fast Extension the first message says what the peer has (BEP 6): none. A block takes no memory.
+const FULL: &[Step] = &[
+    Step::Handles(HAND),
+    Step::Handles(b"\0\0\0\x01\x0f"),
+    Step::Fills,
+    Step::Takes(PIECE, 13),
+    Step::HandlesSevens,
+    Step::Takes(PIECE, 13),
+    Step::HandlesSevens,
+    Step::Takes(PIECE, 13),
+    Step::HandlesSevens,
+    Step::IsFull,
+];
+
+const MISSING: SayError = SayError::Illegal(Fault::Reason(Reason::Missing));
+
+/// What is said with no memory but the room that was reserved, once the peer's handshake is handled.
+const SAID_IN_ROOM: &[Step] = &[
+    Step::Says(Saying::Unchoke, Err(SayError::NotOpen)),
+    Step::Handles(HAND),
+    Step::Fills,
+    Step::Says(Saying::Unchoke, Err(MISSING)),
+    Step::Says(Saying::HaveNone, Ok(())),
+    Step::Says(Saying::Unchoke, Ok(())),
+    Step::Says(Saying::Have(1), Err(SayError::PiecesUnknown)),
+];
+
+/// What is said as long as there is room, and again once there is memory: an unchoke after the last keep-alive.
+const SAID_WHILE_FULL: &[Step] = &[
+    Step::Handles(HAND),
+    Step::Fills,
+    Step::Says(Saying::HaveNone, Ok(())),
+    Step::RunsOut,
+    Step::Refuses,
+    Step::Frees,
+    Step::Says(Saying::Unchoke, Ok(())),
+    Step::EndsWith(b"\0\0\0\0\0\0\0\x01\x01"),
 ];
 
 const LIMIT: u32 = 262_144;
 
+/// The bytes of a heap in which all that an end needs has room, and of a small one.
+const AMPLE: usize = 16_777_216;
+
+const SMALL: usize = 131_072;
+
 const ROWS: &[Row] = &[
     (
         "what an end says",
+        AMPLE,
         Who::Watching,
         Rules::Bep,
         LIMIT,
@@ -174,6 +225,7 @@ const ROWS: &[Row] = &[
     ),
     (
         "pieces are taken back",
+        AMPLE,
         Who::OfTen,
         Rules::Bep,
         LIMIT,
@@ -181,6 +233,7 @@ const ROWS: &[Row] = &[
     ),
     (
         "flood of requests",
+        AMPLE,
         Who::ServingSevens,
         Rules::Free,
         LIMIT,
@@ -188,6 +241,7 @@ const ROWS: &[Row] = &[
     ),
     (
         "false blocks",
+        AMPLE,
         Who::Fetching(8),
         Rules::Free,
         LIMIT,
@@ -195,6 +249,7 @@ const ROWS: &[Row] = &[
     ),
     (
         "eight at once",
+        AMPLE,
         Who::Fetching(8),
         Rules::Free,
         LIMIT,
@@ -202,6 +257,7 @@ const ROWS: &[Row] = &[
     ),
     (
         "one at once",
+        AMPLE,
         Who::Fetching(1),
         Rules::Free,
         LIMIT,
@@ -209,25 +265,64 @@ const ROWS: &[Row] = &[
     ),
     (
         "three at once",
+        AMPLE,
         Who::Fetching(3),
         Rules::Free,
         LIMIT,
         THREE_AT_ONCE,
     ),
-    ("refused peer", Who::Watching, Rules::Free, LIMIT, REFUSED),
+    (
+        "refused peer",
+        AMPLE,
+        Who::Watching,
+        Rules::Free,
+        LIMIT,
+        REFUSED,
+    ),
+    (
+        "a block takes no memory",
+        SMALL,
+        Who::Watching,
+        Rules::Bep,
+        32_768,
+        FULL,
+    ),
+    (
+        "said in reserved room",
+        SMALL,
+        Who::Watching,
+        Rules::Bep,
+        32_768,
+        SAID_IN_ROOM,
+    ),
+    (
+        "said on a full heap",
+        SMALL,
+        Who::Watching,
+        Rules::Bep,
+        32_768,
+        SAID_WHILE_FULL,
+    ),
 ];
 
-/// The message with the first of nine blocks.
-fn first_of_nine(alloc: Global) -> Result<Vec<u8>, AllocError> {
-    let mut fields = vec![in alloc; 7; 47 + 16_384]?;
-    let dict = b"\x09d8:msg_typei1e5:piecei0e10:total_sizei147456ee";
-    fields[..47].copy_from_slice(dict);
-    frame(alloc, 20, fields.as_slice())
+/// The first step that goes otherwise, or that of one more where memory is refused outside the steps that fill the heap.
+fn wrong_over(alloc: Global, own: &LocalHeap, row: &Row) -> Option<usize> {
+    match Heap::new(alloc, own, 0) {
+        Ok(mut heap) => {
+            let wrong = wrong_step(&mut heap, row);
+            if heap.refused == [0; 3] {
+                wrong
+            } else {
+                Some(row.5.len())
+            }
+        }
+        Err(_) => Some(0),
+    }
 }
 
 fn wrong_of(alloc: Global, row: &Row) -> Option<usize> {
-    match first_of_nine(alloc) {
-        Ok(block) => wrong_step(alloc, alloc, row, block.as_slice()),
+    match LocalHeap::new(alloc, row.1) {
+        Ok(own) => wrong_over(alloc, &own, row),
         Err(_) => Some(0),
     }
 }
@@ -264,15 +359,18 @@ const REFUSALS: &[(Who, u32, EndError)] = &[
     (Who::ServingNone, 262_144, EndError::BadSize),
 ];
 
-fn refusal(alloc: Global, who: &Who, limit: u32) -> Option<EndError> {
-    made(alloc, who, Rules::Free, limit).err()
+fn refusal(alloc: Global, who: Who, limit: u32) -> Option<EndError> {
+    match LocalHeap::new(alloc, SMALL) {
+        Ok(heap) => made(&heap, who, Rules::Free, limit).err(),
+        Err(_) => None,
+    }
 }
 
 #[test]
 fn ends_that_are_not_made(rt: HostRuntime) {
     for (who, limit, error) in REFUSALS {
         assert!(rt;
-            refusal(rt.alloc(), who, *limit) == Some(*error),
+            refusal(rt.alloc(), *who, *limit) == Some(*error),
             "{error:?} {limit}"
         );
     }

@@ -1,10 +1,10 @@
 //! Serving over connections in memory, of which calls fail, and where memory is refused.
-use crate::peers::end_of;
-use bt_end::{End, Role};
+use bt_end::{Announce, Config, End, Role, Window};
 use bt_exchange::Connection;
-use bt_ext::Rules;
+use bt_ext::{ExtId, Registered, Rules};
 use bt_io::{Failed, Memory};
 use bt_serve::{Door, Ending, Hospitality, Parting, serve};
+use bt_wire::{Own, Reserved};
 use std::alloc::Global;
 use std::cell::Cell;
 use std::rc::Rc;
@@ -82,6 +82,25 @@ impl<'a> Connection for Leech<'a> {
     }
 }
 
+/// Returns an end that fetches.
+fn fetching(alloc: Global) -> Option<End> {
+    let config = Config {
+        own: Own {
+            reserved: Reserved(0x10_0004),
+            info_hash: Some(ABC),
+            pieces: None,
+            reg: Registered::metadata_only(ExtId::new(9)),
+            rules: Rules::Bep,
+            limit: 32_768,
+        },
+        peer_id: [45; 20],
+        announce: Announce::Nothing,
+        window: Window::default(),
+        role: Role::Fetch,
+    };
+    End::new(alloc, config).ok()
+}
+
 /// Lets in two connections. The first one fails at a call.
 #[derive(Drop)]
 struct Two<'a> {
@@ -109,7 +128,7 @@ impl<'a> Door for Two<'a> {
 
     fn enter(&mut self) -> Option<(Leech<'a>, u64)> {
         let number = self.entered;
-        let end = end_of(self.alloc, ABC, Role::Fetch)?;
+        let end = fetching(self.alloc)?;
         self.entered = number.saturating_add(1);
         let leech = Leech {
             end,
@@ -145,8 +164,7 @@ struct Came {
     second: Option<Parting>,
 }
 
-/// Serves `abc` to two ends.
-fn served(alloc: Global, fails_at: Option<u64>) -> Result<Came, Memory> {
+fn answer(alloc: Global, metadata: &Rc<Vec<u8>>, door: &mut Two) -> Result<(), Memory> {
     let hospitality = Hospitality {
         info_hash: ABC,
         peer_id: [48; 20],
@@ -154,12 +172,11 @@ fn served(alloc: Global, fails_at: Option<u64>) -> Result<Came, Memory> {
         limit: 32_768,
         patience: 60,
     };
-    let Ok(bytes) = b"abc".to_vec(alloc) else {
-        return Err(Memory);
-    };
-    let Ok(metadata) = Rc::new(alloc, bytes) else {
-        return Err(Memory);
-    };
+    serve(alloc, &hospitality, metadata, Some(2), door)
+}
+
+/// Serves the metadata to two ends.
+fn served(alloc: Global, metadata: &Rc<Vec<u8>>, fails_at: Option<u64>) -> Came {
     let fetched = Cell::new(0);
     let mut door = Two {
         alloc,
@@ -170,13 +187,21 @@ fn served(alloc: Global, fails_at: Option<u64>) -> Result<Came, Memory> {
         first: None,
         second: None,
     };
-    let answer = serve(alloc, &hospitality, &metadata, Some(2), &mut door);
-    Ok(Came {
+    let answer = answer(alloc, metadata, &mut door);
+    Came {
         answer,
         fetched: fetched.get(),
         first: door.first,
         second: door.second,
-    })
+    }
+}
+
+/// Returns the metadata, `abc`; none where memory is refused.
+fn metadata(alloc: Global) -> Option<Rc<Vec<u8>>> {
+    match b"abc".to_vec(alloc) {
+        Ok(bytes) => Rc::new(alloc, bytes).ok(),
+        Err(_) => None,
+    }
 }
 
 /// How a connection ends that was served: the handshake, the extended handshake, have none and a block were sent, and the
@@ -219,17 +244,10 @@ fn how(came: &Came) -> Went {
     }
 }
 
-fn tried(alloc: Global, call: u64) -> Went {
-    match served(alloc, Some(call)) {
-        Ok(came) => how(&came),
-        Err(_) => Went::Wrong,
-    }
-}
-
 /// The first call that isn't made; or the call whose failure goes wrong.
-fn first_unmade(alloc: Global) -> Result<u64, u64> {
+fn first_unmade(alloc: Global, metadata: &Rc<Vec<u8>>) -> Result<u64, u64> {
     for call in 1..10_000 {
-        match tried(alloc, call) {
+        match how(&served(alloc, metadata, Some(call))) {
             Went::ClosedFirst => {}
             Went::Unharmed => return Ok(call),
             Went::Wrong => return Err(call),
@@ -238,10 +256,17 @@ fn first_unmade(alloc: Global) -> Result<u64, u64> {
     Err(10_000)
 }
 
+fn goes_on(alloc: Global) -> Result<u64, u64> {
+    match metadata(alloc) {
+        Some(metadata) => first_unmade(alloc, &metadata),
+        None => Err(0),
+    }
+}
+
 /// Where a call of the first connection fails, that one ends, and the second one is served.
 #[test]
 fn each_call_fails(rt: HostRuntime) {
-    let first = first_unmade(rt.alloc());
+    let first = goes_on(rt.alloc());
     assert!(rt; matches!(first, Ok(call) if call > 20), "{first:?}");
 }
 
@@ -255,9 +280,9 @@ fn is_served_or_refused(came: &Came) -> bool {
 }
 
 fn is_right(alloc: Global) -> bool {
-    match served(alloc, None) {
-        Ok(came) => is_served_or_refused(&came),
-        Err(_) => true,
+    match metadata(alloc) {
+        Some(metadata) => is_served_or_refused(&served(alloc, &metadata, None)),
+        None => true,
     }
 }
 

@@ -1,11 +1,7 @@
-//! Tests of `bt_fetch` and `bt_serve`, in a crate of their own, so that these aren't proved twice.
+//! Tests of `bt_serve`, in a crate of their own, so that it isn't proved twice.
+//!
+//! What `bt_fetch` does is shown by runs of `fetch`: `tests/peers.py`, and `tests/faults.py` where calls fail.
 #![tactic(auto)]
 
 #[cfg(test)]
-mod failing;
-#[cfg(test)]
 mod guests;
-#[cfg(test)]
-mod memory;
-#[cfg(test)]
-mod peers;

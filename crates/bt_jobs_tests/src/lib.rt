@@ -1,21 +1,10 @@
-//! Tests of `bt_text`, `bt_jobs` and `bt_cli`, in a crate of their own, so that no code is proved twice for them.
+//! Tests of `bt_text` and `bt_jobs` that no run of the program can make, in a crate of their own, so that no code is proved twice
+//! for them.
 //!
-//! What a run of the program can show is a row of `tests/statuses.py` instead.
+//! All else, of `bt_run`, `bt_hint` and `bt_cli` too, is shown by runs of the program: `tests/statuses.py`, `tests/faults.py`.
 #![tactic(auto)]
 
 #[cfg(test)]
-mod command_line;
-#[cfg(test)]
-mod devices;
-#[cfg(test)]
-mod given;
-#[cfg(test)]
-mod hints;
-#[cfg(test)]
-mod jobs;
-#[cfg(test)]
 mod laws;
 #[cfg(test)]
-mod other;
-#[cfg(test)]
-mod script_lines;
+mod lines;

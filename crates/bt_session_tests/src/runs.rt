@@ -1,55 +1,36 @@
-//! Runs whose ends say messages, or whose fetch isn't done.
-use crate::setting::*;
-use bt_ext::{ExtId, Registered, Rules};
-use bt_session::{Announce, Config, LinkError, LinkReport, Outcome, Role, SayError, Side, Step};
-use bt_wire::{Fault, Own, Reason};
+//! Runs of which `link` prints nothing: pieces that are taken back, and the blocks of a fetch that isn't done.
+use bt_ext::{Ext, ExtId, Registered, Rules};
+use bt_session::{
+    Announce, Config, Connection, LinkError, LinkReport, Outcome, Role, SayError, Side, Step,
+    Window, run_link,
+};
+use bt_wire::{Fault, Message, Own, Reserved};
 use std::alloc::{AllocError, Global};
 
-/// What the left end says, and then turns of the right end.
-const SAYING: &[Move] = &[
-    Move::Say(Side::Left, Saying::Unchoke),
-    Move::Bring(Side::Left, 68),
-    Move::Turn(Side::Left),
-    Move::Say(Side::Left, Saying::Have(9)),
-    Move::Say(Side::Left, Saying::Have(10)),
-    Move::Say(Side::Left, Saying::HaveAll),
-    Move::Bring(Side::Right, 200),
-    Move::Turn(Side::Right),
-    Move::Turn(Side::Right),
-    Move::Turn(Side::Right),
-    Move::Turn(Side::Right),
-    Move::Turn(Side::Right),
-];
-
-const SAID: &[Outcome] = &[
-    Outcome::NotSaid(SayError::NotOpen),
-    Outcome::Delivered(68),
-    Outcome::Handled,
-    Outcome::Said,
-    Outcome::NotSaid(SayError::Illegal(Fault::Reason(Reason::BadIndex))),
-    Outcome::NotSaid(SayError::Illegal(Fault::Reason(Reason::Late))),
-    Outcome::Delivered(95),
-    Outcome::Handled,
-    Outcome::Handled,
-    Outcome::Handled,
-    Outcome::Handled,
-    Outcome::Idle,
-];
+/// A step of a test.
+#[derive(Clone, Copy)]
+enum Move {
+    Deliver(Side, u64),
+    Turn(Side),
+    /// The end takes back piece 9.
+    TakeBack(Side),
+    Reset,
+}
 
 /// Each end takes back a piece: not before it knows the other's id, and under that id.
 const TAKING_BACK: &[Move] = &[
-    Move::Bring(Side::Left, 68),
+    Move::Deliver(Side::Left, 68),
     Move::Turn(Side::Left),
-    Move::Say(Side::Left, Saying::DontHave(9)),
-    Move::Bring(Side::Right, 200),
+    Move::TakeBack(Side::Left),
+    Move::Deliver(Side::Right, 200),
     Move::Turn(Side::Right),
     Move::Turn(Side::Right),
-    Move::Say(Side::Right, Saying::DontHave(9)),
-    Move::Bring(Side::Left, 200),
+    Move::TakeBack(Side::Right),
+    Move::Deliver(Side::Left, 200),
     Move::Turn(Side::Left),
     Move::Turn(Side::Left),
-    Move::Say(Side::Left, Saying::DontHave(9)),
-    Move::Bring(Side::Right, 200),
+    Move::TakeBack(Side::Left),
+    Move::Deliver(Side::Right, 200),
     Move::Turn(Side::Right),
     Move::Turn(Side::Right),
 ];
@@ -71,181 +52,222 @@ const TAKEN_BACK: &[Outcome] = &[
     Outcome::Idle,
 ];
 
-/// An end that watches and knows the piece count, 10.
+/// Both blocks of 16,385 bytes are asked for, and the first one comes.
+const HALF: &[Move] = &[
+    Move::Deliver(Side::Right, 68),
+    Move::Turn(Side::Right),
+    Move::Deliver(Side::Left, 98),
+    Move::Turn(Side::Left),
+    Move::Turn(Side::Left),
+    Move::Deliver(Side::Right, 53),
+    Move::Turn(Side::Right),
+    Move::Deliver(Side::Left, 62),
+    Move::Turn(Side::Left),
+    Move::Turn(Side::Left),
+    Move::Deliver(Side::Right, 16_435),
+    Move::Turn(Side::Right),
+    Move::Reset,
+];
+
+const HALF_DONE: &[Outcome] = &[
+    Outcome::Delivered(68),
+    Outcome::Handled,
+    Outcome::Delivered(98),
+    Outcome::Handled,
+    Outcome::Handled,
+    Outcome::Delivered(53),
+    Outcome::Handled,
+    Outcome::Delivered(62),
+    Outcome::Handled,
+    Outcome::Handled,
+    Outcome::Delivered(16_435),
+    Outcome::Handled,
+    Outcome::Reset,
+];
+
+/// Two ends.
 #[derive(Clone, Copy)]
-enum Watcher {
-    /// It announces this, and wants no metadata messages.
-    Announcing(Announce),
-    /// It announces nothing, and registers `lt_donthave` alone, under this id.
-    TakingBack(u8),
+enum Ends {
+    /// They know the piece count, 10, and register `lt_donthave` alone, under the ids 4 and 5.
+    TakingBack,
+    /// The left one serves 16,385 bytes, all 7, and the right one fetches them, under the ids 3 and 9 of `ut_metadata`.
+    Fetching,
 }
 
-/// The receiver that registers `lt_donthave` alone, or nothing under 0.
-fn own_of(id: u8) -> Own {
-    let none = Registered::metadata_only(None);
-    Own {
-        reg: Registered::new(None, ExtId::new(id)).unwrap_or(none),
-        ..own(0, Rules::Bep, Some(10), 262_144)
-    }
-}
-
-fn watching(watcher: Watcher, peer_id: [u8; 20]) -> Config {
-    let (id, announce) = match watcher {
-        Watcher::Announcing(announce) => (0, announce),
-        Watcher::TakingBack(id) => (id, Announce::Silent),
-    };
-    config(own_of(id), peer_id, announce, Role::Watch)
-}
-
-/// What it shows, the two ends, their moves, the outcomes, and how many items went over the one connection.
+/// Which ends, their steps and outcomes, and how many of them are made; how many connections there are, how many items the left
+/// end sent and handled on the first one, and the right one; and how many bytes, all 7, the right end holds as block 0.
 type Run = (
-    &'static str,
-    Watcher,
-    Watcher,
+    Ends,
     &'static [Move],
     &'static [Outcome],
-    Counts,
+    usize,
+    usize,
+    [(usize, u64); 2],
+    usize,
 );
 
 const RUNS: &[Run] = &[
     (
-        "sayings are judged",
-        Watcher::Announcing(Announce::All),
-        Watcher::Announcing(Announce::Nothing),
-        SAYING,
-        SAID,
-        (4, 1, 3, 4),
-    ),
-    (
-        "pieces are taken back",
-        Watcher::TakingBack(4),
-        Watcher::TakingBack(5),
+        Ends::TakingBack,
         TAKING_BACK,
         TAKEN_BACK,
-        (3, 3, 3, 3),
+        14,
+        1,
+        [(3, 3), (3, 3)],
+        0,
+    ),
+    (
+        Ends::Fetching,
+        HALF,
+        HALF_DONE,
+        12,
+        1,
+        [(4, 4), (4, 3)],
+        16_384,
+    ),
+    // a new connection keeps the block
+    (
+        Ends::Fetching,
+        HALF,
+        HALF_DONE,
+        13,
+        2,
+        [(4, 4), (4, 3)],
+        16_384,
     ),
 ];
 
-/// Whether the report has one connection, these outcomes and these counts.
-fn tells(report: &LinkReport, outcomes: &[Outcome], wanted: Counts) -> bool {
-    let connections = report.connections.as_slice();
-    report.outcomes.as_slice() == outcomes
-        && connections.len() == 1
-        && counts(connections.first()) == wanted
+fn own(reg: Registered, pieces: Option<u32>, info_hash: [u8; 20]) -> Own {
+    Own {
+        reserved: Reserved(0x10_0005),
+        info_hash: Some(info_hash),
+        pieces,
+        reg,
+        rules: Rules::Bep,
+        limit: 262_144,
+    }
 }
 
-fn is_told_by(alloc: Global, (_, left, right, _, outcomes, wanted): &Run, steps: &[Step]) -> bool {
-    match linked(alloc, watching(*left, LEFT), watching(*right, RIGHT), steps) {
-        Ok(report) => tells(&report, outcomes, *wanted),
+/// An end that registers `ut_metadata` or else `lt_donthave` under its id.
+fn config(id: u8, pieces: Option<u32>, info_hash: [u8; 20], role: Role) -> Config {
+    let reg = match pieces {
+        Some(_) => Registered::new(None, ExtId::new(id)),
+        None => Registered::new(ExtId::new(id), None),
+    };
+    Config {
+        own: own(
+            reg.unwrap_or(Registered::metadata_only(None)),
+            pieces,
+            info_hash,
+        ),
+        peer_id: [id; 20],
+        announce: Announce::Silent,
+        window: Window::default(),
+        role,
+    }
+}
+
+fn fetched_of(alloc: Global, metadata: Vec<u8>, steps: &[Step]) -> Result<LinkReport, LinkError> {
+    let info_hash = sha1::Sha1::digest(metadata.as_slice());
+    let left = config(3, None, info_hash, Role::Serve(metadata));
+    run_link(alloc, left, config(9, None, info_hash, Role::Fetch), steps)
+}
+
+fn fetched(alloc: Global, steps: &[Step]) -> Result<LinkReport, LinkError> {
+    match vec![in alloc; 7; 16_385] {
+        Ok(metadata) => fetched_of(alloc, metadata, steps),
+        Err(_) => Err(LinkError::Memory),
+    }
+}
+
+fn taken_back(alloc: Global, steps: &[Step]) -> Result<LinkReport, LinkError> {
+    let left = config(4, Some(10), [1; 20], Role::Watch);
+    run_link(
+        alloc,
+        left,
+        config(5, Some(10), [1; 20], Role::Watch),
+        steps,
+    )
+}
+
+fn linked(alloc: Global, ends: Ends, steps: &[Step]) -> Result<LinkReport, LinkError> {
+    match ends {
+        Ends::TakingBack => taken_back(alloc, steps),
+        Ends::Fetching => fetched(alloc, steps),
+    }
+}
+
+fn has_counts(connections: &[Connection], count: usize, wanted: &[(usize, u64); 2]) -> bool {
+    match connections.first() {
+        Some(first) => {
+            connections.len() == count
+                && (first.sent[0].len(), first.handled[0]) == wanted[0]
+                && (first.sent[1].len(), first.handled[1]) == wanted[1]
+        }
+        None => false,
+    }
+}
+
+fn are_sevens(block: &[u8], size: usize) -> bool {
+    block.len() == size && block.iter().all(|byte| *byte == 7)
+}
+
+/// Whether the right end alone holds a block, the first, of so many bytes, all 7; none where that is 0.
+fn holds(left: &[(u32, Vec<u8>)], right: &[(u32, Vec<u8>)], size: usize) -> bool {
+    match right {
+        [(piece, block)] => *piece == 0 && left.is_empty() && are_sevens(block.as_slice(), size),
+        _ => size == 0 && left.is_empty() && right.is_empty(),
+    }
+}
+
+fn tells(
+    report: &LinkReport,
+    outcomes: &[Outcome],
+    (_, _, _, _, count, counts, held): &Run,
+) -> bool {
+    report.outcomes.as_slice() == outcomes
+        && has_counts(report.connections.as_slice(), *count, counts)
+        && holds(
+            report.blocks[0].as_slice(),
+            report.blocks[1].as_slice(),
+            *held,
+        )
+}
+
+fn is_told_by(alloc: Global, run: &Run, steps: &[Step]) -> bool {
+    match linked(alloc, run.0, steps) {
+        Ok(report) => tells(&report, run.2.get(..run.3).unwrap_or_default(), run),
         Err(_) => false,
     }
 }
 
+fn step_of(next: Move) -> Step {
+    match next {
+        Move::Deliver(side, n) => Step::Deliver(side, n),
+        Move::Turn(side) => Step::Turn(side),
+        Move::TakeBack(side) => Step::Say(side, Message::Extended(Ext::DontHave(9))),
+        Move::Reset => Step::Reset,
+    }
+}
+
+fn steps(alloc: Global, moves: &[Move]) -> Result<Vec<Step>, AllocError> {
+    let mut steps = Vec::new(alloc);
+    for next in moves {
+        steps.push(step_of(*next))?;
+    }
+    Ok(steps)
+}
+
 fn is_told(alloc: Global, run: &Run) -> bool {
-    match steps(alloc, run.3, 1_000) {
+    match steps(alloc, run.1.get(..run.3).unwrap_or_default()) {
         Ok(steps) => is_told_by(alloc, run, steps.as_slice()),
         Err(_) => false,
     }
 }
 
 #[test]
-fn outcomes(rt: HostRuntime) {
-    for run in RUNS {
-        assert!(rt; is_told(rt.alloc(), run), "{}", run.0);
-    }
-}
-
-/// Both blocks of 16,385 bytes are asked for, and the first one comes.
-const HALF: &[Move] = &[
-    Move::Bring(Side::Right, 68),
-    Move::Turn(Side::Right),
-    Move::Bring(Side::Left, 98),
-    Move::Turn(Side::Left),
-    Move::Turn(Side::Left),
-    Move::Bring(Side::Right, 53),
-    Move::Turn(Side::Right),
-    Move::Bring(Side::Left, 62),
-    Move::Turn(Side::Left),
-    Move::Turn(Side::Left),
-    Move::Bring(Side::Right, 16_435),
-    Move::Turn(Side::Right),
-];
-
-/// The steps of the fetch of two blocks up to the first one, and then of a new connection where there is to be one.
-fn half_steps(alloc: Global, is_reset: bool) -> Result<Vec<Step>, AllocError> {
-    let mut steps = steps(alloc, HALF, 20_000)?;
-    if is_reset {
-        steps.push(Step::Reset)?;
-    }
-    Ok(steps)
-}
-
-fn digest(bytes: &[u8]) -> [u8; 20] {
-    sha1::Sha1::digest(bytes)
-}
-
-/// A receiver of metadata that has this info hash.
-fn hashed(id: u8, info_hash: [u8; 20]) -> Own {
-    Own {
-        info_hash: Some(info_hash),
-        ..own(id, Rules::Free, None, 262_144)
-    }
-}
-
-/// Runs these steps with an end that serves this metadata and one that fetches it.
-fn fetched_by(
-    alloc: Global,
-    metadata: Vec<u8>,
-    info_hash: [u8; 20],
-    steps: &[Step],
-) -> Result<LinkReport, LinkError> {
-    let served = Role::Serve(metadata);
-    let left = config(hashed(3, info_hash), LEFT, Announce::Silent, served);
-    let right = config(hashed(9, info_hash), RIGHT, Announce::Silent, Role::Fetch);
-    linked(alloc, left, right, steps)
-}
-
-fn is_block(block: &[u8]) -> bool {
-    block.len() == 16_384 && block.iter().all(|byte| *byte == 7)
-}
-
-/// Whether the first block is the only one that is held, by the right end.
-fn holds_first(report: &LinkReport) -> bool {
-    match report.blocks[1].as_slice() {
-        [(piece, block)] => {
-            *piece == 0 && report.blocks[0].is_empty() && is_block(block.as_slice())
-        }
-        _ => false,
-    }
-}
-
-fn is_held(alloc: Global, metadata: Vec<u8>, steps: &[Step]) -> bool {
-    let info_hash = digest(metadata.as_slice());
-    match fetched_by(alloc, metadata, info_hash, steps) {
-        Ok(report) => all_done(steps, report.outcomes.as_slice()) && holds_first(&report),
-        Err(_) => false,
-    }
-}
-
-/// Whether the first of two blocks of sevens is held after these steps.
-fn is_held_after(alloc: Global, steps: &[Step]) -> bool {
-    match vec![in alloc; 7; 16_385] {
-        Ok(metadata) => is_held(alloc, metadata, steps),
-        Err(_) => false,
-    }
-}
-
-fn is_kept(alloc: Global, is_reset: bool) -> bool {
-    match half_steps(alloc, is_reset) {
-        Ok(steps) => is_held_after(alloc, steps.as_slice()),
-        Err(_) => false,
-    }
-}
-
-/// A report has the blocks of a fetch that isn't done, which a new connection keeps.
-#[test]
-fn blocks_of_an_unfinished_fetch(rt: HostRuntime) {
-    for is_reset in [false, true] {
-        assert!(rt; is_kept(rt.alloc(), is_reset), "{is_reset}");
+fn reports(rt: HostRuntime) {
+    for (number, run) in RUNS.iter().enumerate() {
+        assert!(rt; is_told(rt.alloc(), run), "{number}");
     }
 }
