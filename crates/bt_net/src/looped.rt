@@ -148,18 +148,18 @@ fn print<T: Target>(
 /// Runs the two ends, and writes what came of them.
 fn link<W: Wire, T: Target>(
     alloc: Global,
-    mut left: End,
-    mut right: End,
+    left: &mut End,
+    right: &mut End,
     wire: &mut W,
     writer: &mut T,
 ) -> Result<LoopEnd, ToolFault>
-    ensures linked { IsLinked left right (T.seen writer.old).held (T.seen writer.new).held result }
-    ensures fetches { IsClear (W.seen wire.old) → Fetches left right result }
+    ensures linked { IsLinked left.old right.old (T.seen writer.old).held (T.seen writer.new).held result }
+    ensures fetches { IsClear (W.seen wire.old) → Fetches left.old right.old result }
     ensures net { IsWireFault (W.seen wire.old).counts (W.seen wire.new).counts result }
     ensures failed { result ≡ Err ToolFault.Write → WriteFailed (T.seen writer.old) (T.seen writer.new) }
 {
-    match run_both(alloc, wire, &mut left, &mut right, ROUNDS) {
-        Ok(both) => print(alloc, both, &right, writer),
+    match run_both(alloc, wire, left, right, ROUNDS) {
+        Ok(both) => print(alloc, both, right, writer),
         Err(BothError::Net) => Err(ToolFault::Net),
         Err(BothError::Rounds) => Err(ToolFault::Turns),
         Err(BothError::Memory) => Err(ToolFault::Memory),
@@ -183,13 +183,13 @@ fn run_metadata<W: Wire, T: Target>(
     ensures failed { result ≡ Err ToolFault.Write → WriteFailed (T.seen writer.old) (T.seen writer.new) }
 {
     let hash = Sha1::digest(metadata.as_slice());
-    let left = match serving(alloc, metadata, rules, limit) {
+    let mut left = match serving(alloc, metadata, rules, limit) {
         Ok(left) => left,
         Err(EndError::BadSize) => return Ok(LoopEnd::BadSize),
         Err(_) => return Err(ToolFault::Memory),
     };
     match fetching(alloc, hash, rules, limit) {
-        Ok(right) => link(alloc, left, right, wire, writer),
+        Ok(mut right) => link(alloc, &mut left, &mut right, wire, writer),
         Err(_) => Err(ToolFault::Memory),
     }
 }

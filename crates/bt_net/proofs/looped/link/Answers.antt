@@ -3,12 +3,12 @@ use Rattle.bt_net.proofs.Looping.{linked_so}
 use Rattle.bt_net.proofs.looped.link.Goals as goal
 
 pub returns-in-Ok-clause-linked : goal.returns-in-Ok-clause-linked
-returns-in-Ok-clause-linked g c = linked_so c.args.left c.args.right _ _ c.in-Ok.both _ _ c.print.result c.in-Ok.ensures.left c.in-Ok.ensures.right
+returns-in-Ok-clause-linked g c = linked_so c.args.left.now c.args.right.now _ _ c.in-Ok.both _ _ c.print.result c.in-Ok.ensures.left c.in-Ok.ensures.right
     c.print.ensures.printed
 
 pub returns-in-Ok-clause-fetches : goal.returns-in-Ok-clause-fetches
 returns-in-Ok-clause-fetches g c clear metadata a b pair left right =
-    let start : IsFetchStart metadata (g.W.Connection.seen c.args.wire.now) c.args.left c.args.right = record {
+    let start : IsFetchStart metadata (g.W.Connection.seen c.args.wire.now) c.args.left.now c.args.right.now = record {
       serving = a;
       fetching = b;
       pair = pair;
@@ -22,7 +22,7 @@ returns-in-Ok-clause-fetches g c clear metadata a b pair left right =
 
 pub returns-in-Err-Rounds-clause-fetches : goal.returns-in-Err-Rounds-clause-fetches
 returns-in-Err-Rounds-clause-fetches g c clear metadata a b pair left right =
-    let start : IsFetchStart metadata (g.W.Connection.seen c.args.wire.now) c.args.left c.args.right = record {
+    let start : IsFetchStart metadata (g.W.Connection.seen c.args.wire.now) c.args.left.now c.args.right.now = record {
       serving = a;
       fetching = b;
       pair = pair;
