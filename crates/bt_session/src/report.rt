@@ -1,5 +1,5 @@
 //! Runs two ends against each other, over bytes, and reports their outcomes, connections and blocks.
-ghost use Rattle.std.specs.Prelude.{◌≡◌, ◌++◌, ◌∷◌, [], None, map, IfOk, IfErr, OnOk};
+ghost use Rattle.std.specs.Prelude.{◌≡◌, ◌⊎◌, ◌++◌, ◌∷◌, [], None, map, IfOk, IfErr, OnOk};
 ghost use Rattle.bt_end.specs.Configs.{end_for, config_error};
 ghost use Rattle.bt_end.specs.Ends.{fetched_block};
 ghost use Rattle.bt_end.specs.Sturdy.{IsFetched};
@@ -68,6 +68,21 @@ fn start(alloc: Global, config: Config) -> Result<Node, LinkError>
         Err(EndError::Memory) => Err(LinkError::Memory),
         Err(error) => Err(LinkError::End(error)),
     }
+}
+
+/// The link of two new ends, before its first step.
+fn start_both(alloc: Global, left: Config, right: Config) -> Result<Link, LinkError>
+    ensures made { OnOk result ((config_error left ≡ None) × (config_error right ≡ None)) }
+    ensures link { IfOk result (λ k. IsLinkOf k (links.link_of (end_for left) (end_for right))) }
+    ensures unmade { IfErr result (λ e. IsUnstarted left e ⊎ ((config_error left ≡ None) × IsUnstarted right e)) }
+{
+    let left = start(alloc, left)?;
+    let right = start(alloc, right)?;
+    Ok(Link {
+        left,
+        right,
+        past: Vec::new(alloc),
+    })
 }
 
 /// Adds a copy of the block of this number, where an end holds it.
@@ -154,16 +169,13 @@ pub fn run_link(
     }
     is_new(&left);
     is_new(&right);
-    let left = start(alloc, left)?;
-    let right = start(alloc, right)?;
+    let mut link = match start_both(alloc, left, right) {
+        Ok(link) => link,
+        Err(error) => return Err(error),
+    };
     if steps.len() as u64 > MOST_STEPS {
         return Err(LinkError::TooManySteps);
     }
-    let mut link = Link {
-        left,
-        right,
-        past: Vec::new(alloc),
-    };
     let Ok(outcomes) = run(alloc, &mut link, steps) else {
         return Err(LinkError::Memory);
     };

@@ -18,18 +18,12 @@ returns-in-Ok-report-clause-report c =
     matched_ends c.args.left c.args.right (c.is_mismatch.ensures.same c.if-is_mismatch.false) in
     let a : EndState = end_for c.args.left in
     let b : EndState = end_for c.args.right in
-    let first : Link = record { left = c.in_ok-left.left; right = c.in_ok-right.right; past = c.new.result } in
-    let linked : IsLinkOf first (B.link_of a b) = record {
-      left = c.in_ok-left.ensures.node;
-      right = c.in_ok-right.ensures.node;
-      past = subst (λ (cs : List Connection). AreConnectionsOf cs []) (sym c.new.ensures.items) tt;
-    } in
     let news : AreNew a b = record {
-      left = c.is_new.ensures c.in_ok-left.ensures.made;
-      right = c.is_new-2.ensures c.in_ok-right.ensures.made;
+      left = c.is_new.ensures c.in-Ok.ensures.made.0;
+      right = c.is_new-2.ensures c.in-Ok.ensures.made.1;
       matched = matched;
     } in
-    let t = c.in-Ok.ensures a b news linked in
+    let t = c.in-Ok-run.ensures a b news c.in-Ok.ensures.link in
     record {
       few = omega (arith, c.if-steps-gt-MOST_STEPS.false);
       matched = matched;
