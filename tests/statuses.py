@@ -828,7 +828,7 @@ NO_NAMES = b"\0\0\0\x0a\x14\0d1:mi1ee"
 SHORT = b"\0\0\0\x2d\x14\x03d8:msg_typei1e5:piecei0e10:total_sizei3eeab"
 
 # The receiver's options, what comes before a message, the message, and where in it and why it is refused: each reason alone, and
-# then each two that can hold together, of which the first counts. Then the same for extended messages.
+# then each two that can hold together, of which the first counts.
 REASONS = [
     (FREE, FIRST, b"\0\x04\0\x01", 0, b"TooLong"),
     (BEP_TEN, FIRST, b"\0\0\0\x01\x63", 4, b"UnknownId"),
@@ -873,54 +873,34 @@ REASONS = [
     (TEN, FIRST, b"\0\0\0\x04\x05\xff\xc0\x01", 0, b"WrongLength"),
     (BEP_TEN, HAVE_NONE, b"\0\0\0\x03\x05\xff\xe0", 4, b"Late"),
     (BEP_TEN, FIRST, b"\0\0\0\x05\x04\0\0\0\x0a", 4, b"Missing"),
-    (FREE, FIRST, NO_INTEGER, 12, b"BadBencode"),
-    (FREE, HAVE_NONE, NO_INTEGER, 12, b"BadBencode"),
-    (BEP, FIRST, NO_INTEGER, 12, b"BadBencode"),
-    (BEP, HAVE_NONE, NO_INTEGER, 12, b"BadBencode"),
-    (FREE, FIRST, b"\0\0\0\x09\x14\0d1:pi1e", 13, b"BadBencode"),
-    (FREE, HAVE_NONE, b"\0\0\0\x09\x14\0d1:pi1e", 13, b"BadBencode"),
-    (FREE, FIRST, b"\0\0\0\x02\x14\0", 6, b"BadBencode"),
-    (FREE, HAVE_NONE, b"\0\0\0\x02\x14\0", 6, b"BadBencode"),
-    (BEP, FIRST, b"\0\0\0\x04\x14\x03le", 6, b"BadBencode"),
-    (BEP, HAVE_NONE, b"\0\0\0\x04\x14\x03le", 6, b"BadBencode"),
-    (BEP, FIRST, UNSORTED, 26, b"Unsorted"),
-    (BEP, HAVE_NONE, UNSORTED, 26, b"Unsorted"),
-    (BEP, FIRST, NO_NAMES, 6, b"BadField"),
-    (BEP, HAVE_NONE, NO_NAMES, 6, b"BadField"),
-    (BEP, FIRST, b"\0\0\0\x1b\x14\x03d8:msg_typei1e5:piecei0ee", 6, b"BadField"),
-    (BEP, HAVE_NONE, b"\0\0\0\x1b\x14\x03d8:msg_typei1e5:piecei0ee", 6, b"BadField"),
-    (BEP, FIRST, SHORT, 47, b"BadBlock"),
-    (BEP, HAVE_NONE, SHORT, 47, b"BadBlock"),
-    (NARROW_BEP, FIRST, NO_INTEGER, 0, b"TooLong"),
-    (NARROW_BEP, HAVE_NONE, NO_INTEGER, 0, b"TooLong"),
-    (NARROW_BEP, FIRST, UNSORTED, 0, b"TooLong"),
-    (NARROW_BEP, HAVE_NONE, UNSORTED, 0, b"TooLong"),
-    (NARROW_BEP, FIRST, NO_NAMES, 0, b"TooLong"),
-    (NARROW_BEP, HAVE_NONE, NO_NAMES, 0, b"TooLong"),
-    (NARROW_BEP, FIRST, SHORT, 0, b"TooLong"),
-    (NARROW_BEP, HAVE_NONE, SHORT, 0, b"TooLong"),
-    (NO_EXT, FIRST, b"\0\x04\0\x01\x14", 0, b"TooLong"),
-    (NO_EXT, HAVE_NONE, b"\0\x04\0\x01\x14", 0, b"TooLong"),
-    (NO_EXT, FIRST, NO_INTEGER, 4, b"NotNegotiated"),
-    (NO_EXT, HAVE_NONE, NO_INTEGER, 4, b"NotNegotiated"),
-    (NO_EXT, FIRST, UNSORTED, 4, b"NotNegotiated"),
-    (NO_EXT, HAVE_NONE, UNSORTED, 4, b"NotNegotiated"),
-    (NO_EXT, FIRST, NO_NAMES, 4, b"NotNegotiated"),
-    (NO_EXT, HAVE_NONE, NO_NAMES, 4, b"NotNegotiated"),
-    (NO_EXT, FIRST, SHORT, 4, b"NotNegotiated"),
-    (NO_EXT, HAVE_NONE, SHORT, 4, b"NotNegotiated"),
-    (BEP, FIRST, b"\0\0\0\x0b\x14\0d1:b0:1:a", 15, b"BadBencode"),
-    (BEP, HAVE_NONE, b"\0\0\0\x0b\x14\0d1:b0:1:a", 15, b"BadBencode"),
-    (BEP, FIRST, b"\0\0\0\x09\x14\0d1:mi1e", 13, b"BadBencode"),
-    (BEP, HAVE_NONE, b"\0\0\0\x09\x14\0d1:mi1e", 13, b"BadBencode"),
-    (BEP, FIRST, b"\0\0\0\x2d\x14\x03d8:msg_typei1e5:piecei0e10:total_sizei3eabc", 46, b"BadBencode"),
-    (BEP, HAVE_NONE, b"\0\0\0\x2d\x14\x03d8:msg_typei1e5:piecei0e10:total_sizei3eabc", 46, b"BadBencode"),
-    (BEP, FIRST, b"\0\0\0\x10\x14\0d1:pi1e1:mi1ee", 13, b"Unsorted"),
-    (BEP, HAVE_NONE, b"\0\0\0\x10\x14\0d1:pi1e1:mi1ee", 13, b"Unsorted"),
-    (BEP, FIRST, b"\0\0\0\x1b\x14\x03d5:piecei0e8:msg_typei1ee", 17, b"Unsorted"),
-    (BEP, HAVE_NONE, b"\0\0\0\x1b\x14\x03d5:piecei0e8:msg_typei1ee", 17, b"Unsorted"),
-    (BEP, FIRST, b"\0\0\0\x2d\x14\x03d8:msg_typei1e10:total_sizei3e5:piecei0eeab", 36, b"Unsorted"),
-    (BEP, HAVE_NONE, b"\0\0\0\x2d\x14\x03d8:msg_typei1e10:total_sizei3e5:piecei0eeab", 36, b"Unsorted"),
+]
+
+# The same for extended messages, which are refused alike as the first message and after another.
+EXT_REASONS = [
+    (FREE, NO_INTEGER, 12, b"BadBencode"),
+    (BEP, NO_INTEGER, 12, b"BadBencode"),
+    (FREE, b"\0\0\0\x09\x14\0d1:pi1e", 13, b"BadBencode"),
+    (FREE, b"\0\0\0\x02\x14\0", 6, b"BadBencode"),
+    (BEP, b"\0\0\0\x04\x14\x03le", 6, b"BadBencode"),
+    (BEP, UNSORTED, 26, b"Unsorted"),
+    (BEP, NO_NAMES, 6, b"BadField"),
+    (BEP, b"\0\0\0\x1b\x14\x03d8:msg_typei1e5:piecei0ee", 6, b"BadField"),
+    (BEP, SHORT, 47, b"BadBlock"),
+    (NARROW_BEP, NO_INTEGER, 0, b"TooLong"),
+    (NARROW_BEP, UNSORTED, 0, b"TooLong"),
+    (NARROW_BEP, NO_NAMES, 0, b"TooLong"),
+    (NARROW_BEP, SHORT, 0, b"TooLong"),
+    (NO_EXT, b"\0\x04\0\x01\x14", 0, b"TooLong"),
+    (NO_EXT, NO_INTEGER, 4, b"NotNegotiated"),
+    (NO_EXT, UNSORTED, 4, b"NotNegotiated"),
+    (NO_EXT, NO_NAMES, 4, b"NotNegotiated"),
+    (NO_EXT, SHORT, 4, b"NotNegotiated"),
+    (BEP, b"\0\0\0\x0b\x14\0d1:b0:1:a", 15, b"BadBencode"),
+    (BEP, b"\0\0\0\x09\x14\0d1:mi1e", 13, b"BadBencode"),
+    (BEP, b"\0\0\0\x2d\x14\x03d8:msg_typei1e5:piecei0e10:total_sizei3eabc", 46, b"BadBencode"),
+    (BEP, b"\0\0\0\x10\x14\0d1:pi1e1:mi1ee", 13, b"Unsorted"),
+    (BEP, b"\0\0\0\x1b\x14\x03d5:piecei0e8:msg_typei1ee", 17, b"Unsorted"),
+    (BEP, b"\0\0\0\x2d\x14\x03d8:msg_typei1e10:total_sizei3e5:piecei0eeab", 36, b"Unsorted"),
 ]
 
 # A message, and why it is refused as the first, later, and as the first of a connection without the Fast Extension, under the
@@ -1078,7 +1058,8 @@ def scripted(rest, verdict, script):
 
 def reasons():
     """The receiver's options, what follows the handshake, and the lines that follow the handshake's."""
-    for options, (before, line), refused, at, reason in REASONS:
+    extended = [(options, before, *row) for options, *row in EXT_REASONS for before in (FIRST, HAVE_NONE)]
+    for options, (before, line), refused, at, reason in [*REASONS, *extended]:
         place = 68 + len(before) + at
         yield options, before + refused, line + b"refused message=%d at=%d %s\n" % (2 if before else 1, place, reason)
 

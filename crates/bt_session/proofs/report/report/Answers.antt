@@ -18,7 +18,8 @@ returns-clause-rest c = λ l h.
     record {
       connections = subst (λ (cs : List Connection). AreConnectionsOf cs (l.past ++ B.connection_of l ∷ [])) (sym c.in_ok-close.ensures.past) more;
       blocks = c.in_ok-blocks.ensures ∙ both (held_blocks left.end.end.part) (held_blocks right.end.end.part) (held_blocks l.left.half.end.part)
-          (held_blocks l.right.half.end.part) (ap (λ (a : HalfState). held_blocks a.end.part) h.left.end) (ap (λ (a : HalfState). held_blocks a.end.part) h.right.end);
+          (held_blocks l.right.half.end.part) (ap (λ (a : HalfState). held_blocks a.end.part) h.left.end)
+          (ap (λ (a : HalfState). held_blocks a.end.part) h.right.end);
       ends = both c.close.new.link.left.end c.close.new.link.right.end l.left.half l.right.half (c.in_ok-close.ensures.ends.0 ∙ h.left.end)
           (c.in_ok-close.ensures.ends.1 ∙ h.right.end);
     }
