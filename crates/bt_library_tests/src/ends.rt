@@ -1,5 +1,5 @@
 //! Worked rows of ends that are driven by hand.
-use crate::setting::*;
+use crate::end_setting::*;
 use bt_end::{EndError, SayError, Turn, TurnError, Window};
 use bt_ext::Rules;
 use bt_wire::{Fault, Reason, Refusal};

@@ -1,5 +1,5 @@
 //! Memory that is refused: each growth of an end in turn.
-use crate::setting::*;
+use crate::end_setting::*;
 use bt_end::Turn;
 use bt_ext::Rules;
 use linked_list_allocator::LocalHeap;

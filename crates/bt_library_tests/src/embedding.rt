@@ -173,3 +173,21 @@ fn error_text(rt: HostRuntime) -> Result<(), Fail> {
     assert!(rt; text.as_str() == "message 2 is refused at 72: TooLong");
     Ok(())
 }
+
+/// Whether something is given, and how many bytes the feed takes afterwards.
+///
+/// `tests/library_tests.sh` adds a use of `view` after the push, which the compiler has to refuse: a view lies in the feed.
+fn take_and_push(feed: &mut Feed) -> (bool, usize) {
+    let view = feed.take();
+    let is_given = view.is_ok();
+    let pushed = feed.push(&[0, 0]);
+    (is_given, pushed)
+}
+
+#[test]
+fn a_view_ends_at_the_push(rt: HostRuntime) -> Result<(), Fail> {
+    let mut feed = new_feed(rt.alloc())?;
+    assert_eq!(rt; feed.push(HAND), 68);
+    assert_eq!(rt; take_and_push(&mut feed), (true, 2));
+    Ok(())
+}
