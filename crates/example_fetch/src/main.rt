@@ -64,30 +64,56 @@ fn drive<R: Source, W: Target>(
     Ok(())
 }
 
-/// Drives an end over a connection to a peer, or over standard input.
-fn run(rt: &HostRuntime) -> Result<End, PeerError> {
-    let mut words = env::args(rt)?.skip(1);
-    let (Some(hash), Some(address)) = (words.next(), words.next()) else {
-        let mut end = fetching(rt.alloc(), INFO_HASH)?;
-        let mut kept = MemTarget::new(Vec::new(rt.alloc()), 4096, None);
-        drive(&mut end, &mut Host::new(rt.reader()), &mut kept)?;
-        return Ok(end);
-    };
-    let Ok(info_hash) = <[u8; 20] as FromHex>::from_hex(hash.as_str()) else {
+/// Writes the metadata that an end has, and returns whether all of it was written.
+fn write_fetched(rt: &HostRuntime, end: &End) -> bool {
+    match end.metadata() {
+        Some(metadata) => io::writer(rt).write_all(metadata).is_ok(),
+        None => false,
+    }
+}
+
+/// Fetches the metadata with this SHA-1 and writes it, and returns whether it did.
+fn fetch<R: Source, W: Target>(
+    rt: &HostRuntime,
+    info_hash: [u8; 20],
+    reader: &mut R,
+    writer: &mut W,
+) -> Result<bool, PeerError> {
+    let mut end = fetching(rt.alloc(), info_hash)?;
+    drive(&mut end, reader, writer)?;
+    Ok(write_fetched(rt, &end))
+}
+
+/// Fetches it from the peer at this address. The hash is 40 hex digits.
+fn fetch_from(rt: &HostRuntime, hash: &str, address: &str) -> Result<bool, PeerError> {
+    let Ok(info_hash) = <[u8; 20] as FromHex>::from_hex(hash) else {
         return Err(PeerError::BadConfig);
     };
-    let mut end = fetching(rt.alloc(), info_hash)?;
-    let stream = TcpStream::connect(rt, address.as_str())?;
-    drive(&mut end, &mut Host::new(&stream), &mut Host::new(&stream))?;
-    Ok(end)
+    let stream = TcpStream::connect(rt, address)?;
+    fetch(
+        rt,
+        info_hash,
+        &mut Host::new(&stream),
+        &mut Host::new(&stream),
+    )
+}
+
+/// Fetches over a connection to a peer, or from standard input.
+fn run(rt: &HostRuntime) -> Result<bool, PeerError> {
+    let mut words = env::args(rt)?.skip(1);
+    match (words.next(), words.next()) {
+        (Some(hash), Some(address)) => fetch_from(rt, hash.as_str(), address.as_str()),
+        _ => {
+            let mut kept = MemTarget::new(Vec::new(rt.alloc()), 4096, None);
+            fetch(rt, INFO_HASH, &mut Host::new(rt.reader()), &mut kept)
+        }
+    }
 }
 
 fn main(rt: HostRuntime) -> ExitCode {
     match run(&rt) {
-        Ok(end) => match end.metadata() {
-            Some(metadata) if io::writer(&rt).write_all(metadata).is_ok() => ExitCode::from(0),
-            _ => ExitCode::from(1),
-        },
+        Ok(true) => ExitCode::from(0),
+        Ok(false) => ExitCode::from(1),
         Err(error) => {
             let _ = eprintln!(&rt; "{error}");
             ExitCode::from(1)

@@ -29,8 +29,9 @@ fn own() -> Own {
     }
 }
 
-/// Answers an item of the peer's.
-fn answer(rt: &HostRuntime, sender: &mut Sender, item: &Item) -> Result<(), PeerError> {
+/// Prints an item of the peer's, which begins at the offset `at`, and answers it.
+fn answer(rt: &HostRuntime, sender: &mut Sender, at: u64, item: &Item) -> Result<(), PeerError> {
+    let _ = println!(rt; "< {at} {}", shown(item));
     match item {
         Item::Handshake(theirs) => sender.greet(rt, theirs),
         Item::Message(Message::Interested) => sender.send(rt, &Message::Unchoke),
@@ -49,15 +50,28 @@ fn answer(rt: &HostRuntime, sender: &mut Sender, item: &Item) -> Result<(), Peer
     }
 }
 
-/// Talks to a peer until it closes the connection.
-fn talk<R: Source, W: Target>(
+/// Answers each item that ends with one of these bytes.
+fn answer_all(
     rt: &HostRuntime,
+    feed: &mut Feed,
+    sender: &mut Sender,
+    bytes: &[u8],
+) -> Result<(), PeerError> {
+    for item in feed.items(rt.alloc(), bytes) {
+        let (at, item) = item?;
+        answer(rt, sender, at, &item)?;
+    }
+    Ok(())
+}
+
+/// Talks to a peer until it closes the connection, and returns how many bytes it sent.
+fn converse<R: Source, W: Target>(
+    rt: &HostRuntime,
+    feed: &mut Feed,
+    sender: &mut Sender,
     reader: &mut R,
     writer: &mut W,
-) -> Result<(), PeerError> {
-    let alloc = rt.alloc();
-    let mut feed = Feed::new(alloc, own())?;
-    let mut sender = Sender::new(alloc, own());
+) -> Result<u64, PeerError> {
     sender.begin(*b"-XX0001-peekpeekpeek")?;
     let mut buffer = [0; 4096];
     for _ in 0..u64::MAX {
@@ -66,13 +80,20 @@ fn talk<R: Source, W: Target>(
         if count == 0 {
             break;
         }
-        for item in feed.items(alloc, &buffer[..count]) {
-            let (at, item) = item?;
-            let _ = println!(rt; "< {at} {}", shown(&item));
-            answer(rt, &mut sender, &item)?;
-        }
+        answer_all(rt, feed, sender, &buffer[..count])?;
     }
-    let bytes = feed.finish()?;
+    Ok(feed.finish()?)
+}
+
+/// Makes a feed and a sender, and talks to a peer with them.
+fn talk<R: Source, W: Target>(
+    rt: &HostRuntime,
+    reader: &mut R,
+    writer: &mut W,
+) -> Result<(), PeerError> {
+    let mut feed = Feed::new(rt.alloc(), own())?;
+    let mut sender = Sender::new(rt.alloc(), own());
+    let bytes = converse(rt, &mut feed, &mut sender, reader, writer)?;
     let _ = println!(rt; "{bytes} bytes");
     Ok(())
 }

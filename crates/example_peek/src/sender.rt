@@ -42,11 +42,17 @@ impl Sender {
     }
 
     /// Queues a message, if the peer takes it.
-    pub fn send(&mut self, rt: &HostRuntime, message: &Message) -> Result<(), PeerError> {
+    fn queue(&mut self, alloc: Global, message: &Message) -> Result<(), PeerError> {
         let context = peer_context(&self.own, self.theirs, &self.table);
-        let bytes = encode(rt.alloc(), &context, self.order, message)?;
+        let bytes = encode(alloc, &context, self.order, message)?;
         self.out.queue(bytes.as_slice())?;
         self.order = next(self.order, message);
+        Ok(())
+    }
+
+    /// Queues a message, if the peer takes it, and prints it.
+    pub fn send(&mut self, rt: &HostRuntime, message: &Message) -> Result<(), PeerError> {
+        self.queue(rt.alloc(), message)?;
         let _ = println!(rt; "> {}", shown_message(message));
         Ok(())
     }
@@ -58,18 +64,22 @@ impl Sender {
         Ok(())
     }
 
+    /// Says under which ids this end wants extended messages.
+    fn announce(&mut self, rt: &HostRuntime) -> Result<(), PeerError> {
+        let dict = handshake_dict(rt.alloc(), self.own.reg, None)?;
+        let rest = ByteString::from_vec(Vec::new(rt.alloc()));
+        self.send(rt, &Message::Extended(Ext::Handshake { dict, rest }))
+    }
+
     /// Says what this end has, after the peer's handshake.
     pub fn greet(&mut self, rt: &HostRuntime, theirs: &Handshake) -> Result<(), PeerError> {
-        let alloc = rt.alloc();
         self.theirs = theirs.reserved;
         let context = peer_context(&self.own, self.theirs, &self.table);
         if context.fast {
             self.send(rt, &Message::HaveAll)?;
         }
         if context.ext {
-            let dict = handshake_dict(alloc, self.own.reg, None)?;
-            let rest = ByteString::from_vec(Vec::new(alloc));
-            self.send(rt, &Message::Extended(Ext::Handshake { dict, rest }))?;
+            self.announce(rt)?;
         }
         Ok(())
     }
