@@ -138,11 +138,14 @@ fn wants_input_twice(other: &Option<String>, files: &[String]) -> bool {
     }
 }
 
-/// Returns the option `--json`, which has no value.
-fn json_flag<'a>(alloc: Global) -> Arg<'a> {
-    Arg::new(alloc, "json")
-        .long("json")
-        .action(ArgAction::SetTrue)
+/// Returns an option that has no value.
+fn flag<'a>(alloc: Global, name: &'a str) -> Arg<'a> {
+    Arg::new(alloc, name).long(name).action(ArgAction::SetTrue)
+}
+
+/// Returns an argument that has to be given.
+fn required<'a>(alloc: Global, name: &'a str) -> Arg<'a> {
+    Arg::new(alloc, name).required(true)
 }
 
 /// The options that describe a receiver, each with the name of its value.
@@ -213,18 +216,15 @@ fn link_command<'a>(alloc: Global) -> Result<Command<'a>, AllocError> {
 
 /// Returns the command `fetch` with its options.
 fn fetch_command<'a>(alloc: Global) -> Result<Command<'a>, AllocError> {
-    let torrent = Arg::new(alloc, "torrent")
-        .long("torrent")
-        .action(ArgAction::SetTrue);
     command_of(alloc, "fetch", &FETCH)?
-        .arg(Arg::new(alloc, "INFOHASH").required(true))?
-        .arg(Arg::new(alloc, "ADDRESS").required(true).num_args(1..))?
-        .arg(torrent)
+        .arg(required(alloc, "INFOHASH"))?
+        .arg(required(alloc, "ADDRESS").num_args(1..))?
+        .arg(flag(alloc, "torrent"))
 }
 
 /// Returns the command `serve` with its options.
 fn serve_command<'a>(alloc: Global) -> Result<Command<'a>, AllocError> {
-    command_of(alloc, "serve", &SERVE)?.arg(Arg::new(alloc, "FILE").required(true))
+    command_of(alloc, "serve", &SERVE)?.arg(required(alloc, "FILE"))
 }
 
 /// Returns the command `loop` with its options.
@@ -240,7 +240,7 @@ const COMMANDS: [&str; 8] = [
 /// Returns a command with its options.
 fn command_named<'a>(alloc: Global, name: &'a str) -> Result<Command<'a>, AllocError> {
     match name {
-        "show" => job_command(alloc, name)?.arg(json_flag(alloc)),
+        "show" => job_command(alloc, name)?.arg(flag(alloc, "json")),
         "link" => link_command(alloc),
         "loop" => loop_command(alloc),
         "fetch" => fetch_command(alloc),
