@@ -139,6 +139,31 @@ impl<'a, R: Files + Input + Net + Clock + RandomSource + AllocGlobal, W: Write, 
         format!(in self.host.alloc(); "{name}: ")
     }
 
+    /// Says that the other direction has no handshake, and returns the exit status.
+    fn refuse_other(&mut self, name: &str) -> u8 {
+        match no_handshake(self.host.alloc(), name) {
+            Ok(text) => refuse_words(text.as_str(), &mut self.errors),
+            Err(_) => self.fail(ToolFault::Memory),
+        }
+    }
+
+    /// As `receiver`, with the other direction's input; `prefix` stands before the line of a fault.
+    fn receiver_after(&mut self, prefix: &[u8], name: &str, request: &Request) -> Result<Own, u8>
+        requires { HasLimit request.now.own }
+        ensures { IfOk result HasLimit }
+    {
+        let Some(mut reader) = self.open(name, STREAM_AWAITED) else {
+            return Err(end_by_fault(ToolFault::Read, prefix, false, &mut self.errors));
+        };
+        match receiver_by(self.host.alloc(), &request.own, request.given, &mut reader) {
+            Ok(own) => Ok(own),
+            Err(OtherError::Fault(fault)) => {
+                Err(end_by_fault(fault, prefix, false, &mut self.errors))
+            }
+            Err(OtherError::NoHandshake) => Err(self.refuse_other(name)),
+        }
+    }
+
     /// Returns the receiver, with what the other direction says of it; or the exit status where that can't be read.
     fn receiver(&mut self, request: &Request) -> Result<Own, u8>
         requires { HasLimit request.now.own }
@@ -147,22 +172,9 @@ impl<'a, R: Files + Input + Net + Clock + RandomSource + AllocGlobal, W: Write, 
         let Some(name) = &request.other else {
             return Ok(request.own);
         };
-        let name = name.as_str();
-        let Ok(prefix) = self.prefix(name) else {
-            return Err(self.fail(ToolFault::Memory));
-        };
-        let Some(mut reader) = self.open(name, STREAM_AWAITED) else {
-            return Err(end_by_fault(ToolFault::Read, prefix.as_bytes(), false, &mut self.errors));
-        };
-        match receiver_by(self.host.alloc(), &request.own, request.given, &mut reader) {
-            Ok(own) => Ok(own),
-            Err(OtherError::Fault(fault)) => {
-                Err(end_by_fault(fault, prefix.as_bytes(), false, &mut self.errors))
-            }
-            Err(OtherError::NoHandshake) => match no_handshake(self.host.alloc(), name) {
-                Ok(text) => Err(refuse_words(text.as_str(), &mut self.errors)),
-                Err(_) => Err(self.fail(ToolFault::Memory)),
-            },
+        match self.prefix(name.as_str()) {
+            Ok(prefix) => self.receiver_after(prefix.as_bytes(), name.as_str(), request),
+            Err(_) => Err(self.fail(ToolFault::Memory)),
         }
     }
 
@@ -181,27 +193,41 @@ impl<'a, R: Files + Input + Net + Clock + RandomSource + AllocGlobal, W: Write, 
         }
     }
 
-    /// Does a job on one input, and returns the exit status.
-    fn run_on(&mut self, name: &str, job: Job, own: &Own) -> u8
+    /// Does a job on an input that is open, and returns the exit status.
+    fn run_over(&mut self, prefix: &[u8], reader: Opened<R>, job: Job, own: &Own) -> u8
         requires { HasLimit own.now }
     {
-        let Ok(prefix) = self.prefix(name) else {
-            return self.fail(ToolFault::Memory);
-        };
+        let alloc = self.host.alloc();
+        let mut reader = Kept::new(alloc, reader);
+        let end = do_job(alloc, job, own, &mut reader, &mut self.writer);
+        let is_gone = self.is_gone.get();
+        let status = end_job(job, end, prefix, is_gone, &mut self.errors);
+        say_hint(alloc, end, reader.window(), &mut self.errors);
+        status
+    }
+
+    /// As `run_on`; `prefix` stands before the line of a fault.
+    fn run_after(&mut self, prefix: &[u8], name: &str, job: Job, own: &Own) -> u8
+        requires { HasLimit own.now }
+    {
         let awaited = match job {
             Job::Pack => SCRIPT_AWAITED,
             Job::Show | Job::Json | Job::Check | Job::Unpack => STREAM_AWAITED,
         };
-        let alloc = self.host.alloc();
-        let Some(reader) = self.open(name, awaited) else {
-            return end_by_fault(ToolFault::Read, prefix.as_bytes(), false, &mut self.errors);
-        };
-        let mut reader = Kept::new(alloc, reader);
-        let end = do_job(alloc, job, own, &mut reader, &mut self.writer);
-        let is_gone = self.is_gone.get();
-        let status = end_job(job, end, prefix.as_bytes(), is_gone, &mut self.errors);
-        say_hint(alloc, end, reader.window(), &mut self.errors);
-        status
+        match self.open(name, awaited) {
+            Some(reader) => self.run_over(prefix, reader, job, own),
+            None => end_by_fault(ToolFault::Read, prefix, false, &mut self.errors),
+        }
+    }
+
+    /// Does a job on one input, and returns the exit status.
+    fn run_on(&mut self, name: &str, job: Job, own: &Own) -> u8
+        requires { HasLimit own.now }
+    {
+        match self.prefix(name) {
+            Ok(prefix) => self.run_after(prefix.as_bytes(), name, job, own),
+            Err(_) => self.fail(ToolFault::Memory),
+        }
     }
 
     /// Checks files in turn, a line each, up to a write that fails; returns the greatest of their exit statuses.
@@ -219,14 +245,10 @@ impl<'a, R: Files + Input + Net + Clock + RandomSource + AllocGlobal, W: Write, 
         status
     }
 
-    /// Checks a file; returns the exit status, and whether the output takes more.
-    fn check_named(&mut self, name: &str, own: &Own) -> (u8, bool)
+    /// As `check_named`; `prefix` stands before the file's line.
+    fn check_after(&mut self, prefix: &[u8], name: &str, own: &Own) -> (u8, bool)
         requires { HasLimit own.now }
     {
-        let Ok(prefix) = format!(in self.host.alloc(); "{name}: ") else {
-            return (self.fail(ToolFault::Memory), true);
-        };
-        let prefix = prefix.as_bytes();
         let Some(mut reader) = self.open(name, STREAM_AWAITED) else {
             return (
                 end_by_fault(ToolFault::Read, prefix, false, &mut self.errors),
@@ -251,21 +273,36 @@ impl<'a, R: Files + Input + Net + Clock + RandomSource + AllocGlobal, W: Write, 
         (status, end != Err(ToolFault::Write))
     }
 
+    /// Checks a file; returns the exit status, and whether the output takes more.
+    fn check_named(&mut self, name: &str, own: &Own) -> (u8, bool)
+        requires { HasLimit own.now }
+    {
+        match format!(in self.host.alloc(); "{name}: ") {
+            Ok(prefix) => self.check_after(prefix.as_bytes(), name, own),
+            Err(_) => (self.fail(ToolFault::Memory), true),
+        }
+    }
+
+    /// As `link`; `prefix` stands before the line of a fault.
+    fn link_after(&mut self, prefix: &[u8], name: &str) -> u8 {
+        let Some(mut reader) = self.open(name, SCRIPT_AWAITED) else {
+            return end_by_fault(ToolFault::Read, prefix, false, &mut self.errors);
+        };
+        let end = run_rig(self.host.alloc(), &mut reader, &mut self.writer);
+        let is_gone = self.is_gone.get();
+        end_link(end, prefix, is_gone, &mut self.errors)
+    }
+
     /// Runs the link that a script describes, and returns the exit status.
     fn link(&mut self, files: &[String]) -> u8 {
         let name = match files {
             [] => "-",
             [name, ..] => name.as_str(),
         };
-        let Ok(prefix) = self.prefix(name) else {
-            return self.fail(ToolFault::Memory);
-        };
-        let Some(mut reader) = self.open(name, SCRIPT_AWAITED) else {
-            return end_by_fault(ToolFault::Read, prefix.as_bytes(), false, &mut self.errors);
-        };
-        let end = run_rig(self.host.alloc(), &mut reader, &mut self.writer);
-        let is_gone = self.is_gone.get();
-        end_link(end, prefix.as_bytes(), is_gone, &mut self.errors)
+        match self.prefix(name) {
+            Ok(prefix) => self.link_after(prefix.as_bytes(), name),
+            Err(_) => self.fail(ToolFault::Memory),
+        }
     }
 
     /// Runs two ends over a connection of the process to itself, and returns the exit status.
