@@ -584,7 +584,7 @@ def resident(process):
 
 
 def peak(process, seconds):
-    """The most bytes that are resident until the process ends, or for so many seconds."""
+    """The most bytes that are resident until the process ends, or for `seconds` seconds."""
     most = 0
     end = time.monotonic() + seconds
     while process.poll() is None and time.monotonic() < end:
@@ -594,7 +594,7 @@ def peak(process, seconds):
 
 
 def above(what, got, least, bound):
-    """Whether at most so many bytes more were resident than without a peer."""
+    """Whether at most `bound` bytes more were resident than without a peer."""
     if got > 0 and got - least <= bound:
         return 0
     print("%s: %d bytes more than without a peer, expected up to %d" % (what, got - least, bound))

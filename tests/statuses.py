@@ -307,7 +307,7 @@ ROWS += [("link", script, *wanted) for script, wanted in CONFIGS]
 
 
 def looped(size, digest, items):
-    """What `loop` prints of metadata whose ends send and handle so many items each."""
+    """What `loop` prints of metadata whose ends send and handle `items` items each."""
     line = "sent=%d handled=%d" % (items, items)
     return ("fetched bytes=%d sha1=%s\nleft %s\nright %s\n" % (size, digest, line, line)).encode()
 

@@ -18,7 +18,7 @@ abbrev pub container_of : ℕ → Container
 container_of zero = container.List
 container_of (suc n) = container.Dict
 
--- The containers that so many bits say to be open, the lowest bit's the first.
+-- The `depth` containers that `bits` says to be open, the lowest bit's the first.
 abbrev pub opened : ℕ → ℕ → List Container
 opened zero bits = []
 opened (suc depth) bits = container_of (bits % 2) ∷ opened depth (bits / 2)

@@ -29,7 +29,7 @@ pub struct BtExtended {
     /// 1 the extended handshake, 2 a metadata request, 3 data, 4 a reject, 5 of another type, 6 malformed, 7 raw, 8 a piece
     /// that is taken back (`lt_donthave`).
     pub kind: u8,
-    /// The id of `ut_metadata` that is told, where `has_ut_metadata` is on.
+    /// The id of `ut_metadata` that is announced, where `has_ut_metadata` is on.
     ///
     /// An extended handshake tells it; 0 switches it off.
     pub ut_metadata: u8,

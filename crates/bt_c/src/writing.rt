@@ -283,11 +283,11 @@ fn kind_from(number: u8, piece: u32, total: u64) -> Option<Kind>
     }
 }
 
-/// Writes a metadata message under the id that the peer told.
+/// Writes a metadata message under the id that the peer announced.
 ///
 /// 2 is a request, 3 data with its block, 4 a reject.
 ///
-/// Returns what [`bt_write`] returns, and 4 also where the peer told no id, for any other number, and for a total size that
+/// Returns what [`bt_write`] returns, and 4 also where the peer announced no id, for any other number, and for a total size that
 /// isn't 1 to 2^63 - 1.
 #[unsafe(no_mangle)]
 pub extern "C" fn bt_write_metadata(

@@ -212,7 +212,7 @@ fn are_sevens(block: &[u8], size: usize) -> bool {
     block.len() == size && block.iter().all(|byte| *byte == 7)
 }
 
-/// Whether the right end alone holds a block, the first, of so many bytes, all 7; none where that is 0.
+/// Whether the right end alone holds a block, the first, of `size` bytes, all 7; none where that is 0.
 fn holds(left: &[(u32, Vec<u8>)], right: &[(u32, Vec<u8>)], size: usize) -> bool {
     match right {
         [(piece, block)] => *piece == 0 && left.is_empty() && are_sevens(block.as_slice(), size),

@@ -351,7 +351,7 @@ impl<A: Allocator + Copy> End<A> {
         Ok(())
     }
 
-    /// Asks for at most so many blocks at once from now on. What is asked stays asked.
+    /// Asks for at most `window` blocks at once from now on. What is asked stays asked.
     pub fn set_window(&mut self, window: Window)
         ensures { self.new ≡ with_window window self.old }
     {
@@ -379,7 +379,7 @@ impl<A: Allocator + Copy> End<A> {
 
     /// Returns how far the connection has come, so that a caller can tell a peer that does nothing for the fetch.
     ///
-    /// It changes at the peer's handshake, where the peer tells an id for metadata messages, where the size is told, and at each
+    /// It changes at the peer's handshake, where the peer announces an id for metadata messages, where it announces the size, and at each
     /// block that was asked for and comes or is rejected. Keep-alives, haves and the like change nothing.
     pub fn headway(&self) -> Headway
         ensures { result ≡ headway_of self.now.end }

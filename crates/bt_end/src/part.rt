@@ -38,7 +38,7 @@ pub struct Progress {
 pub struct Headway {
     /// Whether the peer's handshake was handled.
     pub is_open: bool,
-    /// Whether the peer has told an id for metadata messages.
+    /// Whether the peer has announced an id for metadata messages.
     pub is_told: bool,
     /// How far the fetch has come: see [`End::progress`](crate::End::progress).
     pub progress: Option<Progress>,

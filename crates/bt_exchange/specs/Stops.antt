@@ -110,7 +110,7 @@ abbrev pub is_done : Stop → Bool
 is_done stop.Done = true
 is_done other = false
 
--- it made so many steps, at most as many as the limit, and all of them where it stopped for that
+-- it made `steps` steps, at most as many as the limit, and all of them where it stopped for that
 pub record IsExchanged (limits : Limits) (old new : Moment) (e : Stop) : Type 0 where
   pub steps : ℕ
   pub made : IsMade steps old new

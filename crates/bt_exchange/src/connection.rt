@@ -9,7 +9,7 @@ use bt_io::Failed;
 /// A connection to a peer. Its calls may find that nothing can be moved yet, as a socket with a time limit does.
 pub trait Connection {
     /// What was seen of it: the bytes that are left to be read and those that it took, where they are known, the counts of
-    /// its calls, and the time that it told last.
+    /// its calls, and the time that it gave last.
     ghost seen: { Self → Seen };
 
     /// Whether a read gives bytes wherever some are left to be read, and a write takes bytes wherever some are given.

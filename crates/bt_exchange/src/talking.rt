@@ -202,7 +202,7 @@ fn is_alive<A: Allocator + Copy>(sign: Sign, step: Step, before: Headway, end: &
     }
 }
 
-/// Is told of each sign of life, as of the progress of a fetch.
+/// Hears of each sign of life, as of the progress of a fetch.
 pub trait Witness {
     /// The fetch has come this far; `None` where no size is known.
     fn came(&mut self, progress: Option<Progress>);
@@ -253,7 +253,7 @@ fn round<C: Connection, A: Allocator + Copy, W: Witness>(
 /// Makes steps until the connection is done or stops.
 ///
 /// It is done where the metadata is there. It stops where no more of it can come, the connection ends, fails or is silent,
-/// what comes is refused, or as many steps were made as may be. `witness` is told of each sign of life.
+/// what comes is refused, or as many steps were made as may be. `witness` hears of each sign of life.
 pub fn exchange<C: Connection, A: Allocator + Copy, W: Witness>(
     connection: &mut C,
     end: &mut End<A>,

@@ -49,7 +49,7 @@ unsorted_fault (Some at) = Some (error.Unsorted at)
 abbrev pub handshake_fault_of : Tree → Option ViewError
 handshake_fault_of t = first_of (unsorted_fault (unsorted t)) (fault_if (has_bad_field t) error.BadField)
 
--- of a metadata message's dictionary with so many bytes after it
+-- of a metadata message's dictionary with `n` bytes after it
 abbrev pub metadata_fault_of : Tree → ℕ → Option ViewError
 metadata_fault_of t n =
     first_of (unsorted_fault (unsorted t))

@@ -57,7 +57,7 @@ block_count total = (total + 16383) / 16384
 abbrev pub block_len : ℕ → ℕ → ℕ
 block_len total piece = if nat_lt piece (block_count total - 1) then 16384 else total - 16384 * (block_count total - 1)
 
--- so many bytes may follow the dictionary of a message of the kind
+-- whether `n` bytes may follow the dictionary of a message of the kind
 abbrev pub is_block_ok : Kind → ℕ → Bool
 is_block_ok (kind.Request piece) n = n == 0
 is_block_ok (kind.Data piece total) n = if nat_lt piece (block_count total) then n == block_len total piece else false

@@ -1,4 +1,4 @@
-//! The names and ids that a peer told (BEP 10).
+//! The names and ids that a peer announced (BEP 10).
 ghost use Rattle.std.specs.Prelude.{◌≡◌, ◌<◌, ◌≤◌, [], ◌∷◌, ◌++◌, length, OnOk, OnErr, IfOk, IfSome};
 ghost use Rattle.std.specs.Bool.{OnFalse};
 ghost use Rattle.bt_bencode.specs.Trees.{dictionary};
@@ -134,7 +134,7 @@ impl<A: Allocator + Copy> Table<A> {
 
     /// Returns the ids under which the peer wants extensions.
     ///
-    /// Where it told one id for both, that is the one of `ut_metadata` alone.
+    /// Where it announced one id for both, that is the one of `ut_metadata` alone.
     #[tactic(auto, unfolding(crate::specs::Tables::told_ids))]
     pub fn registered(&self) -> Registered
         ensures { result ≡ told_ids self.now }

@@ -15,7 +15,7 @@ use std::alloc::{AllocError, Allocator};
 use std::cmp::Ordering;
 use std::collections::BTreeSet;
 
-/// What the pairs so far told, and their names. The names are in a tree, so that many pairs stay cheap.
+/// What the pairs so far announce, and their names. The names are in a tree, so that many pairs stay cheap.
 #[derive(Drop)]
 struct Told<'a, A: Allocator> {
     names: BTreeSet<&'a [u8], A>,

@@ -106,7 +106,7 @@ window_open c o s i b k n lt e less =
       | inr part ↦ open_by t (take k b) (early_header c o s (take k b) lt ∙ none_before c o b k j.none) part
     ]
 
--- so many bytes are all of the message
+-- the first `n` bytes are all of the message
 pub window_all : (c : Context) (o : Order) (b : List ℕ) (n : ℕ) → header_of c o b ≡ headers.Window n → n ≤ length b → is_whole (take n b) ≡ true
 window_all c o b n e le =
     let w = front_whole c o b n e le in

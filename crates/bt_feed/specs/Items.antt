@@ -20,7 +20,7 @@ GivesItem f piece n (Ok None) g = IsFed f piece [] g × (is_closed g.stage g.hel
 GivesItem f piece n (Err (Refused r)) g = IsFed f (take n piece) [] g × IsAnswer g (Err r)
 GivesItem f piece n (Err Memory) g = (x : ℕ × Item) × IsFed f (take n piece) (x ∷ []) g
 
--- a number above that of the items that are still to come of so many bytes
+-- a number above that of the items that are still to come of `bytes` bytes
 abbrev pub work : FeedState → ℕ → ℕ
 work f bytes = 2 * bytes + min 1 (length f.held)
 

@@ -70,7 +70,7 @@ IsItem (stage.Message c o s n) b (items.Message m) = IsSaid c o s m × (b ≡ sp
 IsItem (stage.Handshake own) b (items.Message m) = ⊥
 IsItem (stage.Message c o s n) b (items.Handshake h) = ⊥
 
--- what is awaited after an item of so many bytes
+-- what is awaited after an item of `size` bytes
 abbrev pub stage_after : Stage → ℕ → Item → Stage
 stage_after (stage.Handshake own) size (items.Handshake h) = stage.Message (negotiated own h.reserved) Fresh size 1
 stage_after (stage.Message c o s n) size (items.Message m) = stage.Message c (order_after o m) (s + size) (n + 1)

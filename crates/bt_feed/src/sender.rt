@@ -9,7 +9,7 @@ use std::alloc::Allocator;
 /// The context that a sender takes its peer to receive in.
 ///
 /// `own` describes the sender, `theirs` is from the peer's handshake, and `table` has what the peer's extended
-/// handshakes told. The context has the ids that the peer told: of an extension that it told none for, none.
+/// handshakes announced. The context has the ids that the peer announced: of an extension that it announced none for, none.
 ///
 /// What is sent is judged in this context; what is received is judged in that of [`negotiate`].
 pub fn peer_context<A: Allocator + Copy>(own: &Own, theirs: Reserved, table: &Table<A>) -> Context

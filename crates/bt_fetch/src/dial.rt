@@ -1,4 +1,4 @@
-//! Where a fetch gets its connections from, and who is told of them.
+//! Where a fetch gets its connections from, and who hears of them.
 ghost use Rattle.std.specs.Prelude.{◌≡◌};
 ghost use Rattle.bt_io.specs.Counts.{one_more};
 
@@ -23,9 +23,9 @@ pub enum Outcome {
     Rejected,
     /// The blocks were those of other metadata, twice.
     Mismatch,
-    /// The peer knows no Extension Protocol, or told no id for metadata messages, or no size within bounds.
+    /// The peer knows no Extension Protocol, or announced no id for metadata messages, or no size within bounds.
     NoMetadata,
-    /// The peer told another size than that of the blocks that are held. It is dialled again.
+    /// The peer announced another size than that of the blocks that are held. It is dialled again.
     OtherSize,
     /// The peer is a client that answers one request at a time. It is dialled again.
     OneAtATime,
@@ -51,7 +51,7 @@ pub trait Dial {
         ensures { dials self.new ≡ dials self.old };
 }
 
-/// Is told how each try goes and how it ended.
+/// Hears how each try goes and how it ended.
 pub trait Report {
     /// The try at the address of this number has come this far.
     fn came(&mut self, address: usize, progress: Progress);

@@ -14,7 +14,7 @@ pub enum Hint {
     Handshake(u64),
     /// They begin with a handshake, and a second one stands at this place.
     SecondHandshake(u64),
-    /// From a place on so many bytes are zero, and read as keep-alives.
+    /// From the first number's place on, as many bytes as the second says are zero, and read as keep-alives.
     KeepAlives(u64, u64),
 }
 

@@ -337,7 +337,7 @@ told_fault {form} {own} {f} {p} start before after g q e t n =
           (texts form own t.items) (texts form own k.0) t.written k.2)),
     )
 
--- after so many turns what is written is a front
+-- after turns without an end, what is written is a prefix
 pub told_so_far : (form : Form) (own : Own) (before after : Devices) (f : FeedState) (p : Printer) → own.limit ≤ 1048576
     → VerdictIsOne → IsToldTo form own before.source.left after.source.left before.target.held after.target.held f p
     → (b : List ℕ) × Consumes before.source.left after.source.left b × IsFrontWritten (items_in form own) (items_in form own) own b before after

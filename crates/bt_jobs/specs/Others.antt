@@ -105,7 +105,7 @@ IsOpen b =
 abbrev pub IsOpenAfter : Option (List ℕ) → Option (List ℕ) → Type 0
 IsOpenAfter left left' = (b : List ℕ) × Consumes left left' b × IsOpen b
 
--- where a fault comes from, by what is seen of the source: from a read that failed, or from so many reads without the end
+-- where a fault comes from, by what is seen of the source: from a read that failed, or from the greatest number of reads without the end
 abbrev pub IsFaultOfOther : Result Announced OtherError → SourceSeen → SourceSeen → Type 0
 IsFaultOfOther (Ok a) before after = after.failed ≡ before.failed
 IsFaultOfOther (Err errors.NoHandshake) before after = after.failed ≡ before.failed

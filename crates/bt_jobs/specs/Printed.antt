@@ -68,7 +68,7 @@ MayBeTold AtEnd (Accepted messages bytes) = AtEnd
 MayBeTold AtEnd (Refused r) = r.reason ≡ EndInside → AtEnd
 
 -- Where a command's answer comes from, by what is seen of its reader: a verdict that stands only at the stream's end from a read that
--- gave it, and a fault of reading from a read that failed or from so many reads
+-- gave it, and a fault of reading from a read that failed or from the greatest number of reads
 abbrev pub IsEndOfReads : Result Ended ToolFault → SourceSeen → SourceSeen → Type 0
 IsEndOfReads (Ok e) before after = MayBeTold (EndRead before after) e
 IsEndOfReads (Err fault.Read) before after = ReadFailed before after

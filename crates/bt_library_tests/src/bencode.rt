@@ -211,7 +211,7 @@ fn values(rt: HostRuntime) {
     }
 }
 
-/// Whether the value's spelling has so many bytes; none where the value is out of range.
+/// Whether the value's spelling has `len` bytes; none where the value is out of range.
 fn has_len(alloc: Global, value: &Value, len: Option<usize>) -> bool {
     match spell(alloc, value) {
         Ok(bytes) => len == Some(bytes.len()) && fits(value),

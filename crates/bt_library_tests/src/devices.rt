@@ -4,7 +4,7 @@ use std::alloc::Global;
 use std::io::Cursor;
 use std::test::Fail;
 
-/// A read of so many bytes, and the bytes that come; none where it fails.
+/// The size of a read, and the bytes that come; none where it fails.
 type Read = (usize, Option<&'static [u8]>);
 
 const READS: &[Read] = &[
@@ -19,7 +19,7 @@ const READS: &[Read] = &[
 
 const HOST_READS: &[Read] = &[(2, Some(b"ab")), (8, Some(b"cde")), (8, Some(b""))];
 
-/// Whether a read of so many bytes gives these, or fails.
+/// Whether a read of `size` bytes gives these, or fails.
 fn reads<S: Source>(source: &mut S, size: usize, wanted: Option<&[u8]>) -> bool {
     let mut buffer = [0; 8];
     let Some(into) = buffer.get_mut(..size) else {

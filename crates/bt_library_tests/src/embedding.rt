@@ -158,7 +158,7 @@ const ERRORS: &[(Cause, PeerError)] = &[
     ),
 ];
 
-/// Each error of a call is told by the one error.
+/// Each error of a call becomes the one error.
 #[test]
 fn one_error(rt: HostRuntime) {
     for (cause, wanted) in ERRORS {

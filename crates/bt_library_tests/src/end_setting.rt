@@ -30,7 +30,7 @@ pub(crate) enum Who {
     ServingNone,
     /// It serves no bytes, and has no info hash.
     Unhashed,
-    /// It asks for so many blocks at once.
+    /// It asks for this many blocks at once.
     Fetching(u8),
 }
 
@@ -104,9 +104,9 @@ pub(crate) enum Saying {
 pub(crate) enum Step {
     /// It takes these bytes, an item, and handles it.
     Handles(&'static [u8]),
-    /// It does so, so many times.
+    /// It does so, this many times.
     Repeats(usize, &'static [u8]),
-    /// It takes so many of these bytes.
+    /// It takes this many of the bytes.
     Takes(&'static [u8], usize),
     /// It takes 16,384 bytes, all 7, which end an item, and handles it.
     HandlesSevens,
@@ -116,15 +116,15 @@ pub(crate) enum Step {
     RunsOut,
     /// Memory is refused for a message, and all is as before.
     Refuses,
-    /// So many bytes are to be sent.
+    /// This many bytes are to be sent.
     Waits(usize),
-    /// Just these bytes stand after the first so many that are to be sent.
+    /// Just these bytes stand at this place and after it, of those that are to be sent.
     Sends(usize, &'static [u8]),
     /// The bytes that are to be sent end with these.
     EndsWith(&'static [u8]),
-    /// So many bytes are written.
+    /// This many bytes are written.
     Drains(usize),
-    /// So many bytes were sent.
+    /// This many bytes were sent.
     Sent(usize),
     /// This metadata was fetched.
     Has(Option<&'static [u8]>),
@@ -152,7 +152,7 @@ pub(crate) struct Heap<'a> {
 }
 
 impl<'a> Heap<'a> {
-    /// A heap of which so many bytes are taken; none where that is 0.
+    /// A heap of which `ballast` bytes are taken.
     pub(crate) fn new(
         alloc: Global,
         own: &'a LocalHeap,
@@ -276,13 +276,13 @@ fn refuses(end: &mut End<&LocalHeap>) -> bool {
     said(end, Saying::Unchoke) == Err(SayError::Memory) && seen(end) == before
 }
 
-/// Whether a writer takes just so many bytes of those that are to be sent.
+/// Whether a writer takes just `count` bytes of those that are to be sent.
 fn drains(alloc: Global, end: &mut End<&LocalHeap>, count: usize) -> bool {
     let mut writer = MemTarget::new(Vec::new(alloc), 4_096, None);
     end.drain(&mut writer, count) == Ok(count)
 }
 
-/// Notes that so many bytes were sent.
+/// Notes that `count` bytes were sent.
 fn sends(end: &mut End<&LocalHeap>, count: usize) -> bool {
     let is_there = count <= end.outgoing().len();
     if is_there {

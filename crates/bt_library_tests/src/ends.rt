@@ -28,7 +28,7 @@ const SAYINGS: &[Step] = &[
 ];
 
 /// A piece is taken back under the peer's id, once that is known, and by a peer under the own one. The end announces both
-/// extensions in 47 bytes. A peer that tells an id for `lt_donthave` is told under that id.
+/// extensions in 47 bytes. A peer that announces an id for `lt_donthave` hears under that id.
 const TAKEN_BACK: &[Step] = &[
     Step::Handles(HAND),
     Step::Sends(
@@ -49,7 +49,7 @@ const TOLD_THREE: &[u8] = b"\0\0\0\x2d\x14\0d1:md11:ut_metadatai3ee13:metadata_s
 /// The block, `abc`, after the dictionary of its data message.
 const BLOCK: &[u8] = b"\0\0\0\x2e\x14\x09d8:msg_typei1e5:piecei0e10:total_sizei3eeabc";
 
-/// An end is told of three bytes and requests their block. Blocks that weren't asked for, of a wrong size and of a wrong SHA-1
+/// An end hears of three bytes and requests their block. Blocks that weren't asked for, of a wrong size and of a wrong SHA-1
 /// come, and are ignored or asked for again; then 20 bytes of the right block, which are forgotten with their connection; and
 /// on a new connection all of it.
 const FALSE_BLOCKS: &[Step] = &[
@@ -335,7 +335,7 @@ fn steps_of_ends(rt: HostRuntime) {
     }
 }
 
-/// So many blocks at once, and whether there is such a window.
+/// A number of blocks at once, and whether there is such a window.
 const WINDOWS: &[(u8, bool)] = &[(0, false), (1, true), (8, true), (9, false), (255, false)];
 
 /// Whether there is such a window or not. That of 8 blocks is the default.

@@ -116,7 +116,7 @@ fn fields(rt: HostRuntime) {
     }
 }
 
-/// Whether the payload's value is a request for block 0, or else announces so many bytes.
+/// Whether the payload's value is a request for block 0, or else announces `wanted` bytes.
 fn is_value(alloc: Global, payload: &[u8], wanted: Option<u64>) -> bool {
     match read_dict(alloc, payload) {
         Ok((value, _)) => {

@@ -92,11 +92,11 @@ enum Begin {
 /// A call of a feed and what it answers, or what is seen then.
 #[derive(Clone, Copy)]
 enum Step {
-    /// It takes so many of these bytes.
+    /// It takes this many of the bytes.
     Push(&'static [u8], usize),
     /// It takes each of these bytes alone, and gives no item.
     PushEach(&'static [u8]),
-    /// It takes so many of these bytes, an item, and no more before it gives that.
+    /// It takes this many of the bytes, an item, and no more before it gives that.
     Item(&'static [u8], usize),
     Nothing,
     Handshake,

@@ -12,11 +12,11 @@ const SENT: &[u8; 98] =
 enum Step {
     Reserve(usize, Result<(), Memory>),
     Queue(&'static [u8], Result<(), Memory>),
-    /// At most so many bytes go to the target.
+    /// At most this many bytes go to the target.
     Drain(usize, Result<usize, WriteFault>),
     /// The outbox holds just these bytes.
     Holds(&'static [u8]),
-    /// The target took just so many bytes of `SENT`, and the outbox holds the others.
+    /// The target took just this many bytes of `SENT`, and the outbox holds the others.
     Sent(usize),
 }
 

@@ -153,7 +153,7 @@ fn has_first(line: &Line, count: usize) -> bool {
     ITEMS.get(..count) == Some(line.sink.items.as_slice())
 }
 
-/// Whether a pump of at most so many turns ends so, and the sink has just the first `count` items then.
+/// Whether a pump of at most `max_turns` turns ends so, and the sink has just the first `count` items then.
 fn pumps(line: &mut Line, max_turns: u64, ended: Result<u64, PumpError>, count: usize) -> bool {
     pumped(line, max_turns) == ended && has_first(line, count)
 }
@@ -205,7 +205,7 @@ fn any_reads(rt: HostRuntime) {
     }
 }
 
-/// Whether the read after so many others fails, the items of the bytes before it are given, and another call goes on.
+/// Whether the read after `before` others fails, the items of the bytes before it are given, and another call goes on.
 fn is_failed(alloc: Global, most: usize, before: usize) -> bool {
     let fails_at = Some((before as u64).wrapping_add(1));
     let Ok(mut line) = made(alloc, HAND, MESSAGES, most, fails_at) else {
@@ -215,7 +215,7 @@ fn is_failed(alloc: Global, most: usize, before: usize) -> bool {
     pumps(&mut line, 1000, Err(PumpError::ReadFault), given) && pumps(&mut line, 1000, Ok(242), 10)
 }
 
-/// The first read of so many bytes, counted from 0, whose failure isn't as wanted.
+/// The first read of `most` bytes, counted from 0, whose failure isn't as wanted.
 fn wrong_failure(alloc: Global, most: usize) -> Option<usize> {
     for before in 0..=242usize.div_ceil(most.max(1)) {
         if !is_failed(alloc, most, before) {

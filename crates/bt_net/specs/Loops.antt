@@ -64,7 +64,7 @@ fetched_lines metadata left right = fetched_line metadata ++ (count_line (codes 
 abbrev pub unfetched_line : List ℕ
 unfetched_line = codes "unfetched\n"
 
--- the ends that began as `l` and `r` handled so many items, and the right one has the metadata
+-- the ends that began as `l` and `r` handled `left` and `right` items, and the right one has the metadata
 pub record IsFetched (l r : HalfState) (metadata : List ℕ) (left right : ℕ) : Type 0 where
   pub left_half : HalfState
   pub right_half : HalfState

@@ -146,7 +146,7 @@ fn id(n: u32) -> Option<Option<ExtId>>
     }
 }
 
-/// The window of so many blocks.
+/// The window of `n` blocks.
 fn window(n: u32) -> Option<Window>
     ensures { result ≡ window_of n }
 {

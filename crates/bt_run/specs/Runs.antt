@@ -33,7 +33,7 @@ IsDone Check own before after (Script r) = ⊥
 IsDone Unpack own before after (Script r) = ⊥
 IsDone Pack own before after (Script r) = IsPackRun own before after r
 
--- Where the end comes from, by what is seen of the source: a fault of reading from a read that failed or from so many reads, and a
+-- Where the end comes from, by what is seen of the source: a fault of reading from a read that failed or from the greatest number of reads, and a
 -- stream's verdict that stands only at its end from a read that gave the end
 abbrev pub IsEndOfInput : JobEnd → SourceSeen → SourceSeen → Type 0
 IsEndOfInput (Stream r) before after = IsEndOfReads r before after

@@ -71,7 +71,7 @@ abbrev pub queued_at : EndState → List (ℕ × Item) → ℕ
 queued_at e [] = 0
 queued_at e (x ∷ xs) = length (react e x.1).queued + queued_at (react e x.1).end xs
 
--- From `start` on, so many items of the peer were handled. What was queued, the handshake and the messages, was sent, but for
+-- From `start` on, the items of the peer that the tally counts were handled. What was queued, the handshake and the messages, was sent, but for
 -- `queued` items.
 pub record IsTally (start now : Moment) (t : Tally) : Type 0 where
   pub moved : IsMoved start now
@@ -91,7 +91,7 @@ pub record IsServed (start now : Moment) (since : ℕ) (t : Tally) : Type 0 wher
 
 -- ---- the end of a connection
 
--- the peer closed it, a call failed, or an item is held for which memory is taken; nothing was moved for so many seconds; or
+-- the peer closed it, a call failed, or an item is held for which memory is taken; nothing was moved for `patience` seconds; or
 -- what came is refused
 abbrev pub IsEnding : ℕ → Moment → Moment → Ending → Type 0
 IsEnding patience start now ending.Closed =

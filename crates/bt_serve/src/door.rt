@@ -1,4 +1,4 @@
-//! Where a server gets its connections from, and who is told how each ended.
+//! Where a server gets its connections from, and who hears how each ended.
 ghost use Rattle.std.specs.Prelude.{◌≡◌, ◌+◌, ◌<◌, nat_lt};
 ghost use Rattle.bt_serve.specs.Doors.{entering};
 
@@ -21,10 +21,10 @@ pub trait Door {
 
     type Link: Connection + Drop;
 
-    /// What is told of a connection once it has ended, as an address.
+    /// What is said of a connection once it has ended, as an address.
     type Name: Copy + Drop;
 
-    /// How many connections are inside: they entered, and their end wasn't told yet.
+    /// How many connections are inside: they entered, and their end wasn't reported yet.
     ghost inside: { Self → ℕ };
 
     /// How many connections may be inside at the same time.
@@ -45,7 +45,7 @@ pub trait Door {
         ensures inside { inside self.new ≡ inside self.old }
         ensures places { places self.new ≡ places self.old };
 
-    /// Is told how a connection ended that was inside.
+    /// Hears how a connection ended that was inside.
     fn ended(&mut self, name: Self::Name, parting: Parting)
         requires { 0 < inside self.old }
         ensures inside { inside self.new + 1 ≡ inside self.old }

@@ -12,7 +12,7 @@ use std::rc::Rc;
 /// The connections that are served at the moment, each with its name.
 type Guests<D> = Vec<(Guest<<D as Door>::Link>, <D as Door>::Name)>;
 
-/// What is told of a connection whose buffers were refused.
+/// What is said of a connection whose buffers were refused.
 const NOT_SERVED: Parting = Parting {
     ending: Ending::Closed,
     sent: 0,
@@ -98,7 +98,7 @@ fn part_all<D: Door>(door: &mut D, guests: &mut Guests<D>)
     }
 }
 
-/// Serves metadata to so many connections, or without end.
+/// Serves metadata to `connections` connections, or without end.
 fn serve_all<D: Door>(
     alloc: Global,
     hospitality: &Hospitality,
@@ -131,10 +131,10 @@ fn serve_all<D: Door>(
     Ok(())
 }
 
-/// Serves metadata to so many connections, or without end.
+/// Serves metadata to `connections` connections, or without end.
 ///
 /// At most as many are served at the same time as the door has places. Each connection that entered has ended when it
-/// returns, and the door was told.
+/// returns, and the door was called with its end.
 ///
 /// # Errors
 /// `Memory` if the buffers of a connection are refused.

@@ -10,7 +10,7 @@ use std::time::{Clock, Duration};
 /// How long a server waits where no connection can go on, in milliseconds.
 const REST: u64 = 5;
 
-/// Is told how each connection over TCP ended.
+/// Hears how each connection over TCP ended.
 pub trait Farewell {
     /// The connection with this other end ended.
     fn ended(&mut self, peer: SocketAddr, parting: Parting);
@@ -27,7 +27,7 @@ pub struct TcpDoor<'a, R: Net + Clock, F: Farewell + Drop> {
 }
 
 impl<'a, R: Net + Clock, F: Farewell + Drop> TcpDoor<'a, R, F> {
-    /// Returns a door with so many places at this listener, whose calls don't wait.
+    /// Returns a door with `places` places at this listener, whose calls don't wait.
     pub fn new(
         runtime: &'a R,
         listener: R::Listener,

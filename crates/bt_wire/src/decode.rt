@@ -98,7 +98,7 @@ fn judge_view(pieces: Option<u32>, view: &ExtView) -> Option<Refused>
     }
 }
 
-/// The fault of a payload, by its place in the message, which has so many bytes.
+/// The fault of a payload, by its place in the message, which has `_length` bytes.
 fn placed(fault: ViewError, _length: usize) -> Refused
     requires { place_in fault + 6 ≤ _length }
     ensures { result ≡ placed_by fault }

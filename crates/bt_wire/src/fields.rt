@@ -129,7 +129,7 @@ fn has_spare_bits(pieces: u32, field: &[u8]) -> bool
     }
 }
 
-/// 2 to the number of spare bits of the last byte, where so many of its bits are used (0 for all).
+/// 2 to the number of spare bits of the last byte, of which `used` bits are used (0 for all).
 fn spare_bound(used: u8) -> u8
     ensures { result ≡ bound_of used }
 {

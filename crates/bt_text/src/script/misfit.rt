@@ -173,7 +173,7 @@ fn follow(
 
 /// Returns the first word of a line that can't stand there.
 ///
-/// It is told by its column and by what is expected in its place.
+/// It is named by its column and by what is expected in its place.
 ///
 /// `first` says that the line is the first of its script. `None` where the text is a line, and without memory.
 pub fn find_misfit(alloc: Global, text: &[u8], first: bool) -> Option<Misfit>

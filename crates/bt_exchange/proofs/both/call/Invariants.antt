@@ -5,7 +5,7 @@ use Rattle.bt_exchange.proofs.Rounds.{HasTurns}
 use Rattle.bt_exchange.proofs.Steps.{left_to_turn}
 use Rattle.bt_exchange.proofs.both.call.Given as goal
 
--- only turns were taken, so many items were handled, and no call was made
+-- only turns were taken, the items that are counted were handled, and no call was made
 abbrev pub invariant-steps : goal.invariant-steps
 invariant-steps g l = record {
   seen : g.W.Connection.seen l.wire ≡ g.W.Connection.seen l.fn.wire;

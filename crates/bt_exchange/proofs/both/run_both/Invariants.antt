@@ -4,7 +4,7 @@ use Rattle.bt_exchange.specs.Rounds.{AreRounds, ends_of}
 use Rattle.bt_exchange.specs.Stops.{IsCalm}
 use Rattle.bt_exchange.proofs.both.run_both.Given as goal
 
--- each round made two calls, of which none failed, and moved a byte; and so many items were handled
+-- each round made two calls, of which none failed, and moved a byte; and the items that are counted were handled
 abbrev pub invariant-loop-round : goal.invariant-loop-round
 invariant-loop-round g l = record {
   calm : IsCalm (g.W.Connection.seen l.fn.wire).counts (g.W.Connection.seen l.wire).counts;

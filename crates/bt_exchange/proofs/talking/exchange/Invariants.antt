@@ -5,7 +5,7 @@ use Rattle.bt_exchange.specs.declared.talking.Sign.TheVariants as sign
 use Rattle.bt_exchange.proofs.Moves.{moment}
 use Rattle.bt_exchange.proofs.talking.exchange.Given as goal
 
--- so many steps were made, with no fault; the metadata isn't there; and since the watch's time all is quiet
+-- the steps that are counted were made, with no fault; the metadata isn't there; and since the watch's time all is quiet
 abbrev pub invariant-loop-round : goal.invariant-loop-round
 invariant-loop-round g l = record {
   made : IsMade l._round (moment (g.C.Connection.seen l.fn.connection) l.fn.hearing l.fn.end) (moment (g.C.Connection.seen l.connection) l.hearing l.end);
