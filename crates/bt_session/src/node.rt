@@ -70,22 +70,31 @@ fn stopped(error: TurnError) -> Result<Outcome, Memory>
     }
 }
 
+/// What an end sends first on a connection, as a list.
+fn opening(alloc: Global, end: &End) -> Result<Vec<Item>, Memory>
+    ensures { IfOk result (λ sent. sent.items ≡ items.Handshake end.now.end.handshake ∷ []) }
+{
+    let mut sent = Vec::new(alloc);
+    match sent.push(Item::Handshake(end.handshake())) {
+        Ok(()) => Ok(sent),
+        Err(_) => Err(Memory),
+    }
+}
+
 impl Node {
     /// An end at the start of a connection.
     pub fn first(alloc: Global, end: End) -> Result<Node, Memory>
         ensures { IfOk result (λ n. (n.end ≡ end) × (n.untaken.bytes ≡ []) × (n.sent.items ≡ items.Handshake end.end.handshake ∷ []) × (n.handled ≡ 0)) }
     {
-        let handshake = end.handshake();
-        let mut sent = Vec::new(alloc);
-        if sent.push(Item::Handshake(handshake)).is_err() {
-            return Err(Memory);
+        match opening(alloc, &end) {
+            Ok(sent) => Ok(Node {
+                end,
+                untaken: Outbox::new(alloc),
+                sent,
+                handled: 0,
+            }),
+            Err(memory) => Err(memory),
         }
-        Ok(Node {
-            end,
-            untaken: Outbox::new(alloc),
-            sent,
-            handled: 0,
-        })
     }
 
     /// The feed takes of the delivered bytes what it may.
@@ -164,11 +173,7 @@ impl Node {
         ensures { IfOk result (λ r. (x : links.Node) → IsNodeOf self.old x → (r.0.items ≡ x.sent) × (r.1 ≡ length x.handled) × IsNodeOf self.new (links.first (renewed x.half.end))) }
     {
         self.end.reset()?;
-        let handshake = self.end.handshake();
-        let mut sent = Vec::new(alloc);
-        if sent.push(Item::Handshake(handshake)).is_err() {
-            return Err(Memory);
-        }
+        let sent = opening(alloc, &self.end)?;
         let before = mem::replace(&mut self.sent, sent);
         let handled = self.handled;
         self.untaken = Outbox::new(alloc);

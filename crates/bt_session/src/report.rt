@@ -1,12 +1,15 @@
 //! Runs two ends against each other, over bytes, and reports their outcomes, connections and blocks.
-ghost use Rattle.std.specs.Prelude.{◌≡◌, ◌⊎◌, ◌++◌, ◌∷◌, [], None, map, IfOk, IfErr, OnOk};
-ghost use Rattle.bt_end.specs.Configs.{end_for, config_error};
+ghost use Rattle.std.specs.Prelude.{◌≡◌, ◌⊎◌, ◌≤◌, ◌++◌, ◌∷◌, [], Err, None, length, map, IfOk, IfErr, OnOk};
+ghost use Rattle.std.specs.Global.{Global};
+ghost use Rattle.bt_end.specs.Configs.{IsMade, end_for, config_error};
+ghost use Rattle.bt_end.specs.declared.config.Config.{Config};
 ghost use Rattle.bt_end.specs.Ends.{fetched_block};
 ghost use Rattle.bt_end.specs.Sturdy.{IsFetched};
 ghost use Rattle.bt_link.specs.ByteLinks as links;
+ghost use Rattle.bt_link.specs.LinkLaws.{most_steps};
 ghost use Rattle.bt_session.specs.Nodes.{IsNodeOf};
-ghost use Rattle.bt_session.specs.Runs.{IsLinkOf};
-ghost use Rattle.bt_session.specs.Reports.{block_of, blocks_of, present, numbered, held_blocks, DoMatch, IsReportOf, IsRun, IsUnstarted, IsUnrun};
+ghost use Rattle.bt_session.specs.Runs.{IsLinkOf, ClosedBy, IsUnfinished};
+ghost use Rattle.bt_session.specs.Reports.{block_of, blocks_of, present, numbered, held_blocks, DoMatch, IsRun, IsUnstarted, IsUnrun};
 
 use crate::facts::is_new;
 use crate::matching::is_mismatch;
@@ -54,6 +57,25 @@ pub struct LinkReport {
     pub ends: [End; 2],
 }
 
+/// What is answered where no end is made, for this cause.
+fn start_error(error: EndError) -> LinkError
+    ensures { (c : Config Global) → IsMade c (Err error) → IsUnstarted c result }
+{
+    match error {
+        EndError::Memory => LinkError::Memory,
+        other => LinkError::End(other),
+    }
+}
+
+/// What a run gives beside the link that it leaves.
+#[derive(Drop)]
+struct Done {
+    /// One for each step.
+    outcomes: Vec<Outcome>,
+    /// The blocks that each end holds.
+    blocks: [Vec<(u32, Vec<u8>)>; 2],
+}
+
 /// An end at the start of its first connection.
 fn start(alloc: Global, config: Config) -> Result<Node, LinkError>
     ensures made { IfOk result (λ _. config_error config ≡ None) }
@@ -65,8 +87,7 @@ fn start(alloc: Global, config: Config) -> Result<Node, LinkError>
             Ok(node) => Ok(node),
             Err(_) => Err(LinkError::Memory),
         },
-        Err(EndError::Memory) => Err(LinkError::Memory),
-        Err(error) => Err(LinkError::End(error)),
+        Err(error) => Err(start_error(error)),
     }
 }
 
@@ -135,21 +156,42 @@ fn close(alloc: Global, link: &mut Link) -> Result<(), AllocError>
     keep(&mut link.past, last)
 }
 
-/// The report of a link, after steps with these outcomes.
-fn report(alloc: Global, link: Link, outcomes: Vec<Outcome>) -> Result<LinkReport, AllocError>
-    ensures outcomes { IfOk result (λ r. r.outcomes ≡ outcomes) }
-    ensures rest { IfOk result (λ r. (l : links.Link) → IsLinkOf link l → IsReportOf l r) }
+/// Does the steps, closes the link, and copies the blocks that both ends hold.
+fn finish(alloc: Global, link: &mut Link, steps: &[Step]) -> Result<Done, LinkError>
+    ensures few { OnOk result (length steps.now ≤ most_steps) }
+    ensures done { IfOk result (λ r. ClosedBy steps.now link.old r.outcomes.items r.blocks link.new) }
+    ensures unfinished { IfErr result (λ e. IsUnfinished steps.now e) }
 {
-    let mut link = link;
-    let blocks = copy_both(alloc, &link)?;
-    close(alloc, &mut link)?;
+    if steps.len() as u64 > MOST_STEPS {
+        return Err(LinkError::TooManySteps);
+    }
+    let Ok(outcomes) = run(alloc, link, steps) else {
+        return Err(LinkError::Memory);
+    };
+    if close(alloc, link).is_err() {
+        return Err(LinkError::Memory);
+    }
+    match copy_both(alloc, link) {
+        Ok(blocks) => Ok(Done { outcomes, blocks }),
+        Err(_) => Err(LinkError::Memory),
+    }
+}
+
+/// The report of a closed link.
+fn report(link: Link, done: Done) -> LinkReport
+    ensures outcomes { result.outcomes ≡ done.outcomes }
+    ensures connections { result.connections ≡ link.past }
+    ensures blocks { result.blocks ≡ done.blocks }
+    ensures ends { result.ends ≡ link.left.end ∷ link.right.end ∷ [] }
+{
     let Link { left, right, past } = link;
-    Ok(LinkReport {
-        outcomes,
+    let blocks = done.blocks;
+    LinkReport {
+        outcomes: done.outcomes,
         connections: past,
         blocks,
         ends: [left.end, right.end],
-    })
+    }
 }
 
 /// Runs two ends against each other, over bytes, step by step.
@@ -173,14 +215,8 @@ pub fn run_link(
         Ok(link) => link,
         Err(error) => return Err(error),
     };
-    if steps.len() as u64 > MOST_STEPS {
-        return Err(LinkError::TooManySteps);
-    }
-    let Ok(outcomes) = run(alloc, &mut link, steps) else {
-        return Err(LinkError::Memory);
-    };
-    match report(alloc, link, outcomes) {
-        Ok(report) => Ok(report),
-        Err(_) => Err(LinkError::Memory),
+    match finish(alloc, &mut link, steps) {
+        Ok(done) => Ok(report(link, done)),
+        Err(error) => Err(error),
     }
 }

@@ -16,3 +16,6 @@ returns-in-Ok-first-clause-node c =
       sent = n.2 ∙ ap (λ (a : HalfState). items.Handshake a.end.handshake ∷ []) end;
       handled = n.3;
     }
+
+pub returns-in-Err-clause-unmade : goal.returns-in-Err-clause-unmade
+returns-in-Err-clause-unmade c = c.start_error.ensures c.args.config c.in-Err.ensures
