@@ -1,9 +1,9 @@
 #!/bin/sh
 # Runs the tests of the libraries, crates/bt_library_tests, and prints one line.
 #
-# They are compiled with checks of each access, index and sum, and run without a proof of the tests. So what a test may call is
-# bounded by no clause, and a test may be as plain as its rows. Then a line is added that uses a view of the feed after the next
-# push, which the compiler has to refuse.
+# They are compiled with checks of each access, index and sum, and run without a proof of the tests, so that nothing looks whether
+# they meet the conditions of what they call. Then a line is added that uses a view of the feed after the next push, which the
+# compiler has to refuse.
 set -eu
 
 root=$(CDPATH='' cd -- "$(dirname -- "$0")/.." && pwd)

@@ -134,7 +134,7 @@ fn serve_all<D: Door>(
 /// Serves metadata to `connections` connections, or without end.
 ///
 /// At most as many are served at the same time as the door has places. Each connection that entered has ended when it
-/// returns, and the door was called with its end.
+/// returns, and [`Door::ended`] was called for it.
 ///
 /// # Errors
 /// `Memory` if the buffers of a connection are refused.
