@@ -9,3 +9,5 @@ pub mod Greeting
 pub mod Refusals
 pub mod Handling
 pub mod Others
+pub mod EventLaws
+pub mod Nexts

@@ -1,5 +1,5 @@
 -- Turns of an end.
-use Rattle.std.proofs.Common.{◌≡◌, ℕ, ◌<◌, Bool, true, false, ◌&&◌, ◌||◌, nat_le, List, ◌++◌, length, Option, None, Some, Result, Ok, Err, refl, sym, ap}
+use Rattle.std.proofs.Common.{◌≡◌, ℕ, ◌<◌, Bool, true, false, ◌&&◌, ◌||◌, nat_le, List, length, Option, None, Some, Result, Ok, Err, refl, sym, ap}
 use Rattle.std.proofs.Common.{subst, ◌∙◌, arith, inl, inr}
 use Rattle.std.specs.Prelude.{is_some, IfSome}
 use Rattle.std.proofs.lemmas.Bool.{le-leb, cases_lt}
@@ -8,20 +8,17 @@ use Rattle.bt_wire.specs.declared.context.Own.{Own}
 use Rattle.bt_wire.specs.declared.handshake.Handshake.{Handshake}
 use Rattle.bt_wire.specs.declared.item.Item.{Item}
 use Rattle.bt_wire.specs.declared.item.Refusal.{Refusal}
-use Rattle.bt_feed.specs.Answers.{IsAnswer, after}
+use Rattle.bt_feed.specs.Answers.{IsAnswer}
 use Rattle.bt_feed.specs.Feeds.{FeedState}
 use Rattle.bt_feed.specs.Progress.{IsFeed}
 use Rattle.bt_feed.specs.Views.{item_of, shown}
 use Rattle.bt_feed.specs.declared.view.View.{View}
 use Rattle.bt_feed.specs.declared.view.TakeError.{TakeError}
-use Rattle.bt_feed.specs.declared.view.TakeError.TheVariants as error
 use Rattle.bt_feed.specs.Stages.{early, is_all, refusal_of, IsItem}
 use Rattle.bt_feed.proofs.FeedLaws.{answer_only, ended_closed}
 use Rattle.bt_feed.proofs.Found.{early_has}
-use Rattle.bt_end.specs.Ends.{EndState, react, spelled}
-use Rattle.bt_end.specs.Halves.{HalfState, high_water, is_ready, is_busy, with_feed, reacted, IsTurned}
-use Rattle.bt_end.specs.declared.end.Turn.TheVariants.{Handled}
-use Rattle.bt_end.specs.declared.end.TurnError.TheVariants as turn_error
+use Rattle.bt_end.specs.Ends.{EndState, react}
+use Rattle.bt_end.specs.Halves.{HalfState, high_water, is_ready, is_busy}
 use Rattle.bt_end.specs.Reactors.{end_of, IsReacted}
 use Rattle.bt_end.specs.Sturdy.{IsEnd, IsPartOf}
 use Rattle.bt_end.specs.Wholes.{half_of}
@@ -73,13 +70,6 @@ pub kept_half : {A : Type 0} → (old new : Inside A) → IsKept old new → hal
 kept_half old new k = same_half (end_of new.reactor) (end_of old.reactor) new.feed old.feed new.reactor.outbox.bytes old.reactor.outbox.bytes k.end k.feed
     k.bytes
 
-pub turned : {A : Type 0} → (mid : Inside A) (f : FeedState) (new : Reactor A) (item : Item) → f ≡ after mid.feed (Ok (Some item))
-    → IsReacted mid.reactor new (react (end_of mid.reactor) item) →
-    half_of (record { feed = f; reactor = new }) ≡ reacted (with_feed (half_of mid) (after mid.feed (Ok (Some item)))) (react (end_of mid.reactor) item)
-turned mid f new item e h =
-    let r = react (end_of mid.reactor) item in
-    same_half (end_of new) r.end f (after mid.feed (Ok (Some item))) new.outbox.bytes (mid.reactor.outbox.bytes ++ spelled r.end r.queued) h.end e h.queued
-
 -- ---- every end stays one
 
 short : (t : Bool) (n : ℕ) → t ≡ true → (t && nat_le high_water n) ≡ false → n < high_water
@@ -108,42 +98,7 @@ turned_sturdy mid f new item h l r =
       part = subst (λ (x : EndState). IsPartOf x.handshake.info_hash x.part) (sym r.end) part;
     }
 
--- ---- the clauses of a turn
-
-pub kept_by : {A : Type 0} → (old mid : Inside A) (r : Reactor A) → mid ≡ record { feed = old.feed; reactor = r } → end_of r ≡ end_of old.reactor
-    → r.outbox.bytes ≡ old.reactor.outbox.bytes → IsKept old mid
-kept_by {A = A} old mid r e p q = record {
-  feed = ap (λ (i : Inside A). i.feed) e;
-  end = ap (λ (i : Inside A). end_of i.reactor) e ∙ p;
-  bytes = ap (λ (i : Inside A). i.reactor.outbox.bytes) e ∙ q;
-}
-
-pub handled : {A : Type 0} → {old mid : Inside A} {a : HalfState} {f : FeedState} {new : Reactor A} (view : View) {x : Result (Option View) TakeError}
-    → half_of old ≡ a → IsKept old mid → is_busy (half_of old) ≡ false →
-    x ≡ Ok (Some view) → IsAnswer mid.feed (shown x) → f ≡ after mid.feed (shown x) → IsReacted mid.reactor new (react (end_of mid.reactor) (item_of view)) →
-    IsTurned a (Ok Handled) (half_of (record { feed = f; reactor = new }))
-handled {old} {mid} {f} {new} view v k b o i e h =
-    let p : half_of mid ≡ half_of old = kept_half old mid k in
-    let busy : is_busy (half_of mid) ≡ false = ap is_busy p ∙ b in
-    let answer : IsAnswer mid.feed (Ok (Some (item_of view))) = subst (λ (y : Result (Option View) TakeError). IsAnswer mid.feed (shown y)) o i in
-    let left : f ≡ after mid.feed (Ok (Some (item_of view))) = e ∙ ap (λ (y : Result (Option View) TakeError). after mid.feed (shown y)) o in
-    subst (λ (y : HalfState). IsTurned y (Ok Handled) (half_of (record { feed = f; reactor = new }))) (p ∙ v) (
-      item_of view,
-      (busy, answer),
-      turned mid f new (item_of view) left h,
-    )
-
-pub refused : {A : Type 0} → {old mid : Inside A} {a : HalfState} {f : FeedState} (r : Refusal) {s : HalfState} {x : Result (Option View) TakeError}
-    → half_of old ≡ a → IsKept old mid → is_busy (half_of old) ≡ false →
-    x ≡ Err (error.Refused r) → IsAnswer mid.feed (shown x) → f ≡ after mid.feed (shown x) → s ≡ half_of (record { feed = f; reactor = mid.reactor })
-    → IsTurned a (Err (turn_error.Refused r)) s
-refused {old} {mid} {f} r {s} v k b o i e q =
-    let p : half_of mid ≡ half_of old = kept_half old mid k in
-    let busy : is_busy (half_of mid) ≡ false = ap is_busy p ∙ b in
-    let answer : IsAnswer mid.feed (Err r) = subst (λ (y : Result (Option View) TakeError). IsAnswer mid.feed (shown y)) o i in
-    let left : f ≡ after mid.feed (Err r) = e ∙ ap (λ (y : Result (Option View) TakeError). after mid.feed (shown y)) o in
-    let same : s ≡ with_feed (half_of mid) (after mid.feed (Err r)) = q ∙ ap (λ (y : FeedState). with_feed (half_of mid) y) left in
-    subst (λ (y : HalfState). IsTurned y (Err (turn_error.Refused r)) s) (p ∙ v) ((busy, answer), same)
+-- ---- the invariant
 
 pub sturdy : {A : Type 0} → {old mid : Inside A} (f : FeedState) {new : Reactor A} (view : View) {x : Result (Option View) TakeError} → IsKept old mid
     → is_busy (half_of old) ≡ false → IsFeed old.feed → IsEnd (half_of old) →

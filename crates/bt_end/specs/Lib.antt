@@ -7,3 +7,5 @@ pub mod Sturdy
 pub mod Wholes
 pub mod Laws
 pub mod Errors
+pub mod Events
+pub mod Nexts

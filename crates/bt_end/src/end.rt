@@ -1,9 +1,12 @@
 //! One end of a connection.
 use crate::config::{Announce, Config, EndError, Role, Window};
+use crate::event::Event;
 use crate::part::{Headway, Part, Progress};
-use crate::reactor::{Plan, Reactor};
+use crate::reactor::Reactor;
 use bt_feed::laws::one_answer;
-use bt_feed::{Feed, Finish, Memory, Outbox, Stage, Target, WriteFault, refusal_in};
+use bt_feed::{
+    Feed, Finish, Memory, Outbox, Stage, TakeError, Target, View, WriteFault, refusal_in,
+};
 use bt_metadata::{BadSize, Server};
 use bt_wire::{Context, Fault, Handshake, Message, Order, Own, Refusal, spell_handshake};
 use std::alloc::{Allocator, Global};
@@ -17,6 +20,17 @@ pub enum Turn {
     Handled,
     /// No whole item is held.
     Idle,
+}
+
+/// An item that was handled.
+#[derive(Drop)]
+pub struct Heard<'a> {
+    /// Where it starts on the stream.
+    pub at: u64,
+    /// What the peer said.
+    pub view: View<'a>,
+    /// What it made of the end.
+    pub event: Event,
 }
 
 /// Why a turn handled nothing.
@@ -111,7 +125,13 @@ ghost use Rattle.bt_io.specs.Seen.{WriteFailed};
 ghost use Rattle.bt_metadata.specs.Blocks.{max_metadata};
 ghost use Rattle.bt_wire.specs.Handshakes.{hand};
 ghost use Rattle.bt_end.specs.Ends.{belief, metadata_of, unopened, renewed, progress_of, headway_of, is_hopeless, fetched_block};
-ghost use Rattle.bt_end.specs.Halves.{IsTurned, IsSaid, high_water, is_ready, connected, received, without_sent, with_window, IsHandled, IsStop};
+ghost use Rattle.std.specs.Io.BufRead.{Rests};
+ghost use types.Logic.{sem};
+ghost use Rattle.bt_end.specs.contracts.end.End.{the_row};
+ghost use Rattle.bt_feed.specs.Answers.{IsAnswer, after};
+ghost use Rattle.bt_feed.specs.Views.{shown};
+ghost use Rattle.bt_end.specs.Nexts.{IsMet, IsHeard, turn_of};
+ghost use Rattle.bt_end.specs.Halves.{IsTurned, with_feed, IsSaid, high_water, is_ready, connected, received, without_sent, with_window, IsHandled, IsStop};
 ghost use Rattle.bt_end.specs.Parts.{part_of, shown_slice};
 ghost use Rattle.bt_end.specs.Configs.{part_for, is_bad_role, IsMade};
 ghost use Rattle.bt_end.specs.Sturdy.{IsPartOf, IsFetched, IsEnd, Sends};
@@ -290,22 +310,62 @@ impl<A: Allocator + Copy> End<A> {
     pub fn turn(&mut self) -> Result<Turn, TurnError>
         ensures { IsTurned self.old result self.new }
     {
+        match self.meet()? {
+            Some((next, _)) => {
+                self.feed.commit(next);
+                Ok(Turn::Handled)
+            }
+            None => Ok(Turn::Idle),
+        }
+    }
+
+    /// Handles the item that is held, if one is, but doesn't take it.
+    ///
+    /// It returns what is awaited after it, and what it made of the end.
+    fn meet(&mut self) -> Result<Option<(Stage, Event)>, TurnError>
+        ensures { IsMet self.old result self.new }
+    {
         if is_busy(&self.feed, &self.reactor.outbox) {
             return Err(TurnError::Busy);
         }
-        let plan = match self.feed.look() {
-            Ok(Some(view)) => self.reactor.plan(&view)?,
-            Ok(None) => return Ok(Turn::Idle),
-            Err(_) => Plan::Nothing,
+        match self.feed.look() {
+            Ok(Some(view)) => {
+                let next = self.feed.following(&view);
+                let plan = self.reactor.plan(&view)?;
+                let event = self.reactor.handle(&view, plan);
+                Ok(Some((next, event)))
+            }
+            Ok(None) => Ok(None),
+            Err(error) => {
+                let refusal = refusal_in(error);
+                self.feed.refuse(refusal);
+                Err(TurnError::Refused(refusal))
+            }
+        }
+    }
+
+    /// Takes the item that was handled.
+    fn hand(&mut self) -> Result<Option<View<'_>>, TakeError>
+        ensures value { IsAnswer self.old.feed (shown result) }
+        ensures* after { sem 𝓛 (Rests (the_row A.row A.Allocator) self.entry (λ new. new ≡ with_feed self.old (after self.old.feed (shown result)))) }
+    {
+        self.feed.take()
+    }
+
+    /// Handles the next item as [`End::turn`] does, and returns what the peer said and what it made of the end.
+    pub fn next(&mut self) -> Result<Option<Heard<'_>>, TurnError>
+        ensures heard { IsHeard self.old result }
+        ensures* after { sem 𝓛 (Rests (the_row A.row A.Allocator) self.entry (λ new. IsTurned self.old (turn_of result) new)) }
+    {
+        let Some((_, event)) = self.meet()? else {
+            return Ok(None);
         };
         one_answer();
-        match self.feed.take() {
-            Ok(Some(view)) => {
-                self.reactor.handle(&view, plan);
-                Ok(Turn::Handled)
-            }
-            Ok(None) => Ok(Turn::Idle),
-            Err(error) => Err(TurnError::Refused(refusal_in(error))),
+        let at = self.feed.start();
+        match self.hand() {
+            Ok(Some(view)) => Ok(Some(Heard { at, view, event })),
+            Ok(None) => unreachable!(),
+            Err(_) => unreachable!(),
         }
     }
 

@@ -7,11 +7,13 @@
 mod config;
 mod end;
 mod errors;
+mod event;
 pub mod laws;
 mod part;
 mod queueing;
 mod reactor;
 
 pub use config::{Announce, Config, EndError, Role, Window};
-pub use end::{End, HIGH_WATER, SayError, Turn, TurnError};
+pub use end::{End, HIGH_WATER, Heard, SayError, Turn, TurnError};
+pub use event::Event;
 pub use part::{Headway, Progress};

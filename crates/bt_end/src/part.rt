@@ -1,12 +1,14 @@
 //! What an end does with metadata.
 ghost use Rattle.std.specs.Prelude.{◌≡◌, ◌<◌, ◌≤◌, option_map, option_copied, IfOk, IfSome};
 ghost use Rattle.bt_metadata.specs.Blocks.{max_metadata};
-ghost use Rattle.bt_end.specs.Ends.{served_size, wanted, with_asked, assembly_of, with_block, brings_mismatch, with_refused, part_kept, metadata_of, progress_of, rejected_of, is_fetching, is_settled, fetched_block};
+ghost use Rattle.bt_end.specs.Ends.{served_size, wanted, with_asked, assembly_of, with_block, with_refused, part_kept, metadata_of, progress_of, rejected_of, is_fetching, is_settled, fetched_block};
+ghost use Rattle.bt_end.specs.Events.{block_event, reject_event};
 ghost use Rattle.bt_end.specs.Sturdy.{IsFetched};
 ghost use Rattle.bt_end.specs.Parts.{part_of, shown_slice, IsReplyOf};
 ghost use Rattle.bt_metadata.specs.Replies.{IsBounded};
 
 use crate::config::Window;
+use crate::event::Event;
 use bt_metadata::{Assembly, NewError, Reply, Server, Unfinished, block_count};
 use std::alloc::{AllocError, Allocator};
 
@@ -123,33 +125,43 @@ impl<A: Allocator + Copy> Part<A> {
         }
     }
 
-    /// Holds a block, and returns whether the blocks are those of other metadata.
+    /// Holds a block, and returns what came of it.
     ///
     /// The block was asked for. The metadata is there when each block is held and the SHA-1 is the info hash; where it is
     /// another, all starts over.
-    pub fn with_block(self, piece: u32, total: u64, block: &[u8]) -> (Part<A>, bool)
+    pub fn with_block(self, piece: u32, total: u64, block: &[u8]) -> (Part<A>, Event)
         ensures part { part_of result.0 ≡ with_block piece total block.now (part_of self) }
-        ensures mismatch { result.1 ≡ brings_mismatch piece total block.now (part_of self) }
+        ensures event { result.1 ≡ block_event piece total block.now (part_of self) }
     {
         match self {
             Part::Fetching(mut assembly) => {
-                let _ = assembly.data(piece, total, block);
+                let lacking = match assembly.data(piece, total, block) {
+                    Ok(()) => Event::Block(piece),
+                    Err(_) => Event::Other,
+                };
                 match assembly.finish() {
-                    Ok(metadata) => (Part::Fetched(metadata), false),
-                    Err(Unfinished::Lacking(assembly)) => (Part::Fetching(assembly), false),
-                    Err(Unfinished::Mismatch(assembly)) => (Part::Fetching(assembly), true),
+                    Ok(metadata) => (Part::Fetched(metadata), Event::Fetched),
+                    Err(Unfinished::Lacking(assembly)) => (Part::Fetching(assembly), lacking),
+                    Err(Unfinished::Mismatch(assembly)) => {
+                        (Part::Fetching(assembly), Event::Mismatched)
+                    }
                 }
             }
-            other => (other, false),
+            other => (other, Event::Other),
         }
     }
 
-    /// Notes that a block that was asked for is refused.
-    pub fn reject(&mut self, piece: u32)
-        ensures { part_of self.new ≡ with_refused piece (part_of self.old) }
+    /// Notes that a block is refused, and returns what came of that.
+    pub fn reject(&mut self, piece: u32) -> Event
+        ensures part { part_of self.new ≡ with_refused piece (part_of self.old) }
+        ensures event { result ≡ reject_event piece (part_of self.old) }
     {
-        if let Part::Fetching(assembly) = self {
-            let _ = assembly.reject(piece);
+        match self {
+            Part::Fetching(assembly) => match assembly.reject(piece) {
+                Ok(()) => Event::Rejected(piece),
+                Err(_) => Event::Other,
+            },
+            _ => Event::Other,
         }
     }
 

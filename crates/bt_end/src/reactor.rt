@@ -1,5 +1,5 @@
 //! What an end does at each item, over what it sends.
-ghost use Rattle.std.specs.Prelude.{◌≡◌, ◌+◌, ◌<◌, ◌≤◌, Some, true, false, length, length as list_length, IfOk, IfSome, OnErr};
+ghost use Rattle.std.specs.Prelude.{◌≡◌, ◌+◌, ◌<◌, ◌≤◌, Some, true, false, [], length, length as list_length, IfOk, IfSome, OnErr};
 ghost use Rattle.bt_bencode.specs.Trees.{dictionary};
 ghost use Rattle.bt_ext.specs.Payloads.{seen};
 ghost use Rattle.bt_feed.specs.Views.{item_of};
@@ -8,6 +8,7 @@ ghost use Rattle.bt_wire.specs.Messages.{IsExtended, body};
 ghost use Rattle.bt_wire.specs.declared.message.Message.TheVariants as messages;
 ghost use Rattle.bt_ext.specs.declared.ext.Ext.TheVariants as ext;
 ghost use Rattle.bt_end.specs.Ends.{agreed, belief, unopened, renewed, announced, queueing, greeted, peer_id, all_wanted, requesting, then_asked, replied, one_more, block_taken, by_kind, at_extended, react, is_hopeless, headway_of};
+ghost use Rattle.bt_end.specs.Events.{answer_event, block_event, kind_event, extended_event, event_of};
 ghost use Rattle.bt_end.specs.Halves.{extended_takes_memory, takes_memory, is_own_made, tells_pieces, unsaid};
 ghost use Rattle.bt_metadata.specs.Blocks.{window};
 ghost use Rattle.bt_end.specs.Parts.{part_of};
@@ -15,6 +16,7 @@ ghost use Rattle.bt_end.specs.Reactors.{end_of, learned, IsPlan, IsPlanOf, IsLes
 
 use crate::config::{Announce, Window};
 use crate::end::{HIGH_WATER, SayError};
+use crate::event::Event;
 use crate::part::{Headway, Part};
 use crate::queueing::{ROOM, put, put_donthave, put_handshake, put_message, put_plain};
 use bt_bencode::DictRef;
@@ -193,18 +195,23 @@ impl<A: Allocator + Copy> Reactor<A> {
 
     /// Queues the answer to a request.
     #[tactic(auto, unfolding(bt_ext::specs::Tables::told_ids))]
-    fn reply(&mut self, piece: u32)
+    fn reply(&mut self, piece: u32) -> Event
         requires room { 16610 ≤ self.old.outbox.room }
-        ensures { IsReacted self.old self.new (replied (end_of self.old) piece) }
+        ensures reacted { IsReacted self.old self.new (replied (end_of self.old) piece) }
+        ensures event { result ≡ kind_event (end_of self.old) (Kind.Request piece) [] }
     {
         let Some(id) = self.peer_id() else {
-            return;
+            return Event::Other;
         };
         match self.part.answer(piece) {
             Reply::Data { total, block } => {
                 put_message(&mut self.outbox, id, Kind::Data { piece, total }, block);
+                Event::Served(piece)
             }
-            Reply::Reject => put_message(&mut self.outbox, id, Kind::Reject(piece), &[]),
+            Reply::Reject => {
+                put_message(&mut self.outbox, id, Kind::Reject(piece), &[]);
+                Event::Declined(piece)
+            }
         }
     }
 
@@ -220,49 +227,60 @@ impl<A: Allocator + Copy> Reactor<A> {
     }
 
     /// Takes a block of the metadata that is fetched.
-    fn take_block(&mut self, piece: u32, total: u64, block: &[u8])
+    fn take_block(&mut self, piece: u32, total: u64, block: &[u8]) -> Event
         ensures end { end_of self.new ≡ block_taken (end_of self.old) piece total block.now }
         ensures outbox { self.new.outbox ≡ self.old.outbox }
+        ensures event { result ≡ block_event piece total block.now (part_of self.old.part) }
     {
         let part = mem::replace(&mut self.part, Part::Awaiting);
-        let (part, is_other) = part.with_block(piece, total, block);
+        let (part, event) = part.with_block(piece, total, block);
         self.part = part;
-        self.mismatches = one_more(is_other, self.mismatches);
+        self.mismatches = one_more(event.is_mismatched(), self.mismatches);
+        event
     }
 
-    fn handle_metadata(&mut self, kind: Kind, block: &[u8])
+    fn handle_metadata(&mut self, kind: Kind, block: &[u8]) -> Event
         requires room { 16610 ≤ self.old.outbox.room }
-        ensures { IsReacted self.old self.new (by_kind (end_of self.old) kind block.now) }
+        ensures reacted { IsReacted self.old self.new (by_kind (end_of self.old) kind block.now) }
+        ensures event { result ≡ kind_event (end_of self.old) kind block.now }
     {
         match kind {
             Kind::Request(piece) => self.reply(piece),
             Kind::Data { piece, total } => {
-                self.take_block(piece, total, block);
+                let event = self.take_block(piece, total, block);
                 self.ask();
+                event
             }
             Kind::Reject(piece) => {
-                self.part.reject(piece);
+                let event = self.part.reject(piece);
                 self.ask();
+                event
             }
-            Kind::Other | Kind::Malformed => {}
+            Kind::Other | Kind::Malformed => Event::Other,
         }
     }
 
-    fn handle_extended(&mut self, ext: &ExtView, plan: Plan<A>)
+    fn handle_extended(&mut self, ext: &ExtView, plan: Plan<A>) -> Event
         requires plan { IsPlanOf (end_of self.old) (seen ext.now) plan }
         requires room { extended_takes_memory (seen ext.now) ≡ true → 16610 ≤ self.old.outbox.room }
-        ensures { IsReacted self.old self.new (at_extended (end_of self.old) (seen ext.now)) }
+        ensures reacted { IsReacted self.old self.new (at_extended (end_of self.old) (seen ext.now)) }
+        ensures event { result ≡ extended_event (end_of self.old) (seen ext.now) }
     {
         match ext {
-            ExtView::Handshake { .. } => {
-                if let Plan::Learn { table, assembly } = plan {
-                    self.learn(table, assembly);
-                }
+            ExtView::Handshake { dict, .. } => {
+                let Plan::Learn { table, assembly } = plan else {
+                    unreachable!();
+                };
+                let size = metadata_size_ref(dict);
+                let begins = assembly.is_some();
+                self.learn(table, assembly);
+                let id = self.peer_id();
                 self.ask();
+                Event::Announced { id, size, begins }
             }
             ExtView::Metadata { dict, rest } => self.handle_metadata(kind_ref(dict), rest),
-            ExtView::DontHave(_) => {}
-            ExtView::Raw { .. } => {}
+            ExtView::DontHave(_) => Event::Other,
+            ExtView::Raw { .. } => Event::Other,
         }
     }
 
@@ -304,20 +322,23 @@ impl<A: Allocator + Copy> Reactor<A> {
     }
 
     /// Handles an item, for which memory was taken. It takes none.
-    pub fn handle(&mut self, view: &View, plan: Plan<A>)
+    pub fn handle(&mut self, view: &View, plan: Plan<A>) -> Event
         requires plan { IsPlan (end_of self.old) (item_of view.now) plan }
         requires room { takes_memory (item_of view.now) ≡ true → 16610 ≤ self.old.outbox.room }
-        ensures { IsReacted self.old self.new (react (end_of self.old) (item_of view.now)) }
+        ensures reacted { IsReacted self.old self.new (react (end_of self.old) (item_of view.now)) }
+        ensures event { result ≡ event_of (end_of self.old) (item_of view.now) }
     {
         match view {
             View::Handshake(handshake) => {
                 let own = self.own;
                 self.greet(negotiate(&own, handshake.reserved));
+                Event::Opened(*handshake)
             }
             View::Message(message) => {
                 self.receives = next_of_view(self.receives, message);
-                if let MessageView::Extended(ext) = message {
-                    self.handle_extended(ext, plan);
+                match message {
+                    MessageView::Extended(ext) => self.handle_extended(ext, plan),
+                    _ => Event::Other,
                 }
             }
         }

@@ -13,3 +13,4 @@ pub mod Stepping
 mod Lent
 mod Passed
 mod Reasons
+mod Committed

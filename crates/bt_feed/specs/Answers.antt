@@ -25,6 +25,14 @@ after f (Ok (Some item)) = record { stage = stage_after f.stage (length f.held) 
 after f (Ok None) = f
 after f (Err r) = record f { refused = Some r }
 
+-- what is awaited once the item is taken that the held bytes are
+abbrev pub IsFollowing : FeedState → Stage → Type 0
+IsFollowing f t = (item : Item) × IsItem f.stage f.held item × (t ≡ stage_after f.stage (length f.held) item)
+
+-- the feed that awaits this, with nothing held
+abbrev pub followed : FeedState → Stage → FeedState
+followed f t = record { stage = t; held = []; refused = f.refused }
+
 -- ---- at the stream's end
 
 abbrev pub or_else : Option Refusal → Option Refusal → Option Refusal

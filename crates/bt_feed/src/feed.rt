@@ -61,14 +61,14 @@ impl<A: Allocator> Model for Feed<A> {
     ghost invariant = { IsSound };
 }
 
-ghost use Rattle.bt_feed.specs.Stages.{limit_of, start_of, number_of, capacity_of, is_closed};
+ghost use Rattle.bt_feed.specs.Stages.{limit_of, start_of, number_of, capacity_of, is_closed, IsItem, stage_after};
 ghost use Rattle.bt_feed.specs.Feeds.{taken, pushed};
 ghost use Rattle.bt_wire.specs.declared.item.Item.{Item};
 ghost use Rattle.bt_io.specs.Counts.{Grew, one_more, counted, is_end};
 ghost use Rattle.bt_feed.specs.Pumps.{IsHanded, IsFed, IsRead};
-ghost use Rattle.bt_feed.specs.Views.{shown};
+ghost use Rattle.bt_feed.specs.Views.{shown, item_of};
 ghost use Rattle.bt_feed.specs.Progress.{IsPartial, IsFeed};
-ghost use Rattle.bt_feed.specs.Answers.{IsAnswer, after, standing, finish_of};
+ghost use Rattle.bt_feed.specs.Answers.{IsAnswer, IsFollowing, followed, after, standing, finish_of};
 ghost use Rattle.std.specs.Io.BufRead.{Rests};
 ghost use types.Logic.{sem};
 ghost use Rattle.bt_feed.specs.contracts.feed.Feed.{the_row};
@@ -208,6 +208,34 @@ impl<A: Allocator> Feed<A> {
         ensures feed { IsFeed self.now }
     {
         self.progress.answer(self.buffer.as_slice())
+    }
+
+    /// What is awaited once the item is taken that [`Feed::look`] gave this view of.
+    #[inline(always)]
+    pub fn following(&self, view: &View) -> Stage
+        requires { IsItem self.now.stage self.now.held (item_of view.now) }
+        ensures { result ≡ stage_after self.now.stage (length self.now.held) (item_of view.now) }
+    {
+        let mut next = self.progress.stage;
+        next.advance(view, self.held());
+        next
+    }
+
+    /// Takes the item that is held, as [`Feed::take`] does, but doesn't judge it again. `next` is what [`Feed::following`] said.
+    #[inline(always)]
+    pub fn commit(&mut self, next: Stage)
+        requires { IsFollowing self.old next }
+        ensures { self.new ≡ followed self.old next }
+    {
+        self.progress.commit(self.buffer.as_slice(), next);
+    }
+
+    /// Gives a refusal again for ever after, as [`Feed::take`] does, that [`Feed::look`] gave.
+    pub fn refuse(&mut self, refusal: Refusal)
+        requires { IsAnswer self.old (Err refusal) }
+        ensures { self.new ≡ after self.old (Err refusal) }
+    {
+        self.progress.refused = Some(refusal);
     }
 
     /// The refusal that stands, if one does.

@@ -6,7 +6,7 @@ ghost use Rattle.bt_feed.specs.Pumps.{IsHanded, IsFed, IsRead};
 ghost use Rattle.bt_feed.specs.Stages.{limit_of, capacity_of, is_closed};
 ghost use Rattle.bt_feed.specs.Feeds.{held_of, state_of};
 ghost use Rattle.bt_feed.specs.Views.{shown};
-ghost use Rattle.bt_feed.specs.Answers.{IsAnswer, IsFound, after, standing, finish_of};
+ghost use Rattle.bt_feed.specs.Answers.{IsAnswer, IsFound, IsFollowing, followed, after, standing, finish_of};
 ghost use Rattle.bt_feed.specs.Progress.{IsPartial, HasWindow, Fills, IsProgress, IsSameItem};
 
 use crate::buffer::Buffer;
@@ -292,6 +292,24 @@ impl Progress {
                 Err(TakeError::Refused(refusal))
             }
         }
+    }
+
+    /// Moves on to what follows the item that the bytes are, without judging them again.
+    #[inline(always)]
+    pub fn commit(&mut self, buffer: &[u8], next: Stage)
+        requires sound { IsProgress self.old buffer.now }
+        requires item { IsFollowing (state_of self.old buffer.now) next }
+        ensures after { state_of self.new buffer.now ≡ followed (state_of self.old buffer.now) next }
+        ensures sound { IsProgress self.new buffer.now }
+        ensures limit { limit_of self.new.stage ≡ limit_of self.old.stage }
+    {
+        let _ = buffer;
+        *self = Progress {
+            stage: next,
+            spent: true,
+            wanted: 0,
+            refused: self.refused,
+        };
     }
 
     /// Returns the refusal that was given, or that of an early fault.
