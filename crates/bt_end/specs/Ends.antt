@@ -40,8 +40,8 @@ pub data Part : Type 0 where
   -- neither serves nor fetches it
   Watching : Part
   Serving : (metadata : List ℕ) → Part
-  -- fetches it; its size isn't known yet
-  Awaiting : Part
+  -- fetches it; its size isn't known yet, and is at most this
+  Awaiting : (most : ℕ) → Part
   Fetching : (assembly : AssemblyState) → Part
   Fetched : (metadata : List ℕ) → Part
 
@@ -170,9 +170,13 @@ then_asked e = if may_ask e then requesting e (all_wanted window e.window e.part
 
 -- ---- extended handshakes
 
+-- the assembly of a fetch that begins with this size: one of metadata, and not above the greatest that is taken
+abbrev pub new_assembly : ℕ → List ℕ → ℕ → Option AssemblyState
+new_assembly most hash size = if nat_lt 0 size && nat_le size (min most max_metadata) then Some (started hash size) else None
+
 -- the assembly of an end that awaits a size, once there is one
 abbrev pub assembly_of : List ℕ → Part → Option ℕ → Option AssemblyState
-assembly_of hash Awaiting (Some size) = if nat_lt 0 size && nat_le size max_metadata then Some (started hash size) else None
+assembly_of hash (Awaiting most) (Some size) = new_assembly most hash size
 assembly_of hash p size = None
 
 abbrev pub begun : Option AssemblyState → Part → Part
@@ -307,9 +311,17 @@ headway_of e = record {
 
 -- it fetches metadata that isn't there yet
 abbrev pub is_fetching : Part → Bool
-is_fetching Awaiting = true
+is_fetching (Awaiting most) = true
 is_fetching (Fetching a) = true
 is_fetching p = false
+
+-- the assembly of a fetching end that begins anew with this size, whatever it holds
+abbrev pub anew : List ℕ → Part → ℕ → Option AssemblyState
+anew hash p size = if is_fetching p then new_assembly max_metadata hash size else None
+
+-- it fetches by this assembly: what it held is dropped, and requests are queued
+abbrev pub restarted : EndState → AssemblyState → Reaction
+restarted e a = then_asked (with_part e (Fetching a))
 
 -- each block is held, or the peer rejected it
 abbrev pub is_settled : Part → Bool
