@@ -28,12 +28,11 @@ use Rattle.bt_wire.specs.declared.reserved.Reserved.{Reserved}
 use Rattle.bt_wire.specs.Handshakes.{negotiated}
 use Rattle.bt_wire.specs.Messages.{order_after, spell}
 use Rattle.bt_metadata.specs.Blocks.{block, max_metadata, window}
-use Rattle.bt_metadata.specs.Assemblies.{AssemblyState, started, is_asked, is_held, is_rejected, is_settled as is_settled_slot, ask_of, asking, with_slots}
+use Rattle.bt_metadata.specs.Assemblies.{AssemblyState, started, is_asked, is_held, is_settled as is_settled_slot, ask_of, asking, with_slots}
 use Rattle.bt_metadata.specs.Assemblies.{with_data, with_reject, is_whole, joined, emptied, disconnected, held_block}
 use Rattle.bt_end.specs.declared.config.Announce.{Announce}
 use Rattle.bt_end.specs.declared.config.Announce.TheVariants.{Silent, All, Nothing}
 use Rattle.bt_end.specs.declared.part.Progress.{Progress}
-use Rattle.bt_end.specs.declared.part.Headway.{Headway}
 
 -- what an end does with metadata
 pub data Part : Type 0 where
@@ -293,21 +292,6 @@ abbrev pub progress_of : Part → Option Progress
 progress_of (Fetching a) = Some (record { size = a.size; blocks = block_count a.size; held = count_by is_held a.slots })
 progress_of (Fetched metadata) = Some (record { size = length metadata; blocks = block_count (length metadata); held = block_count (length metadata) })
 progress_of p = None
-
--- how many blocks the peer rejected
-abbrev pub rejected_of : Part → ℕ
-rejected_of (Fetching a) = count_by is_rejected a.slots
-rejected_of p = 0
-
--- how far a connection has come: whether the peer's handshake is handled, whether the peer has told an id for metadata messages, how
--- far the fetch has come, and how many blocks the peer rejected
-abbrev pub headway_of : EndState → Headway
-headway_of e = record {
-  is_open = is_some e.context;
-  is_told = is_some (peer_id e);
-  progress = progress_of e.part;
-  rejected = rejected_of e.part;
-}
 
 -- it fetches metadata that isn't there yet
 abbrev pub is_fetching : Part → Bool

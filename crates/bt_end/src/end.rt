@@ -1,7 +1,7 @@
 //! One end of a connection.
 use crate::config::{Announce, Config, EndError, Role, Window};
 use crate::event::Event;
-use crate::part::{Headway, Part, Progress};
+use crate::part::{Part, Progress};
 use crate::reactor::Reactor;
 use bt_feed::laws::one_answer;
 use bt_feed::{
@@ -145,7 +145,7 @@ ghost use Rattle.bt_feed.specs.Progress.{IsFeed};
 ghost use Rattle.bt_io.specs.Seen.{WriteFailed};
 ghost use Rattle.bt_metadata.specs.Blocks.{max_metadata};
 ghost use Rattle.bt_wire.specs.Handshakes.{hand};
-ghost use Rattle.bt_end.specs.Ends.{belief, metadata_of, unopened, renewed, progress_of, headway_of, is_hopeless, fetched_block};
+ghost use Rattle.bt_end.specs.Ends.{belief, metadata_of, unopened, renewed, progress_of, is_hopeless, fetched_block};
 ghost use Rattle.std.specs.Io.BufRead.{Rests};
 ghost use types.Logic.{sem};
 ghost use Rattle.bt_end.specs.contracts.end.End.{the_row};
@@ -479,16 +479,6 @@ impl<A: Allocator + Copy> End<A> {
         ensures bounds { IfSome result (λ p. (0 < p.size) × (p.size ≤ max_metadata) × (p.held ≤ p.blocks)) }
     {
         self.reactor.part.progress()
-    }
-
-    /// Returns how far the connection has come, so that a caller can tell a peer that does nothing for the fetch.
-    ///
-    /// It changes at the peer's handshake, where the peer announces an id for metadata messages, where it announces the size, and at each
-    /// block that was asked for and comes or is rejected. Keep-alives, haves and the like change nothing.
-    pub fn headway(&self) -> Headway
-        ensures { result ≡ headway_of self.now.end }
-    {
-        self.reactor.headway()
     }
 
     /// Whether it fetches, and no block can come any more on this connection.

@@ -1,7 +1,7 @@
 //! What an end does with metadata.
 ghost use Rattle.std.specs.Prelude.{◌≡◌, ◌<◌, ◌≤◌, option_map, option_copied, IfOk, IfSome};
 ghost use Rattle.bt_metadata.specs.Blocks.{max_metadata};
-ghost use Rattle.bt_end.specs.Ends.{served_size, wanted, with_asked, new_assembly, assembly_of, anew, with_block, with_refused, part_kept, metadata_of, progress_of, rejected_of, is_fetching, is_settled, fetched_block};
+ghost use Rattle.bt_end.specs.Ends.{served_size, wanted, with_asked, new_assembly, assembly_of, anew, with_block, with_refused, part_kept, metadata_of, progress_of, is_fetching, is_settled, fetched_block};
 ghost use Rattle.bt_end.specs.Events.{block_event, reject_event};
 ghost use Rattle.bt_end.specs.Sturdy.{IsFetched};
 ghost use Rattle.bt_end.specs.Parts.{part_of, shown_slice, IsReplyOf};
@@ -33,19 +33,6 @@ pub struct Progress {
     pub blocks: usize,
     /// How many of them are held.
     pub held: usize,
-}
-
-/// How far a connection of an end has come.
-#[derive(Clone, Copy, PartialEq, Eq, Debug)]
-pub struct Headway {
-    /// Whether the peer's handshake was handled.
-    pub is_open: bool,
-    /// Whether the peer has announced an id for metadata messages.
-    pub is_told: bool,
-    /// How far the fetch has come: see [`End::progress`](crate::End::progress).
-    pub progress: Option<Progress>,
-    /// How many blocks the peer rejected.
-    pub rejected: usize,
 }
 
 /// Makes the assembly of a fetch that begins with this size.
@@ -226,16 +213,6 @@ impl<A: Allocator + Copy> Part<A> {
                 held: block_count(metadata.len()),
             }),
             _ => None,
-        }
-    }
-
-    /// Returns how many blocks the peer rejected.
-    pub fn rejected(&self) -> usize
-        ensures { result ≡ rejected_of (part_of self.now) }
-    {
-        match self {
-            Part::Fetching(assembly) => assembly.rejected(),
-            _ => 0,
         }
     }
 

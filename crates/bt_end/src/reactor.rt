@@ -7,7 +7,7 @@ ghost use Rattle.bt_wire.specs.Legal.{IsLegal};
 ghost use Rattle.bt_wire.specs.Messages.{IsExtended, body};
 ghost use Rattle.bt_wire.specs.declared.message.Message.TheVariants as messages;
 ghost use Rattle.bt_ext.specs.declared.ext.Ext.TheVariants as ext;
-ghost use Rattle.bt_end.specs.Ends.{agreed, belief, unopened, renewed, announced, queueing, greeted, peer_id, all_wanted, requesting, then_asked, replied, one_more, block_taken, by_kind, at_extended, react, is_hopeless, headway_of, anew, restarted};
+ghost use Rattle.bt_end.specs.Ends.{agreed, belief, unopened, renewed, announced, queueing, greeted, peer_id, all_wanted, requesting, then_asked, replied, one_more, block_taken, by_kind, at_extended, react, is_hopeless, anew, restarted};
 ghost use Rattle.bt_end.specs.Events.{answer_event, block_event, kind_event, extended_event, event_of};
 ghost use Rattle.bt_end.specs.Halves.{kind_takes_memory, extended_takes_memory, takes_memory, is_own_made, tells_pieces, unsaid};
 ghost use Rattle.bt_metadata.specs.Blocks.{window};
@@ -17,7 +17,7 @@ ghost use Rattle.bt_end.specs.Reactors.{end_of, learned, IsPlan, IsPlanOf, IsLes
 use crate::config::{Announce, Window};
 use crate::end::{HIGH_WATER, SayError};
 use crate::event::{Event, plain_event};
-use crate::part::{Headway, Part};
+use crate::part::Part;
 use crate::queueing::{ROOM, put, put_donthave, put_handshake, put_message, put_plain};
 use bt_bencode::DictRef;
 use bt_ext::{Ext, ExtView, Kind, Table, kind_ref, metadata_size_ref};
@@ -503,18 +503,6 @@ impl<A: Allocator + Copy> Reactor<A> {
         match self.unsaid(refused, message) {
             Some(error) => Err(error),
             None => self.queue(message),
-        }
-    }
-
-    /// Returns how far the connection has come.
-    pub fn headway(&self) -> Headway
-        ensures { result ≡ headway_of (end_of self.now) }
-    {
-        Headway {
-            is_open: self.context.is_some(),
-            is_told: self.peer_id().is_some(),
-            progress: self.part.progress(),
-            rejected: self.part.rejected(),
         }
     }
 
