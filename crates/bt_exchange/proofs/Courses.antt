@@ -1,5 +1,5 @@
 -- What an end does, put together from its calls.
-use Rattle.std.proofs.Common.{◌≡◌, ℕ, List, [], ◌∷◌, ◌++◌, length, take, Some, Result, Ok, Err, refl, sym, ap, subst, ◌∙◌, ◌≤◌, arith, length-append}
+use Rattle.std.proofs.Common.{◌≡◌, ℕ, List, [], ◌∷◌, ◌++◌, length, take, Option, Some, None, Result, Ok, Err, refl, sym, ap, subst, ◌∙◌, ◌≤◌, arith}
 use Rattle.std.proofs.lemmas.List.{append-nil, append_assoc, take-append-drop}
 use Rattle.bt_wire.specs.declared.item.Item.{Item}
 use Rattle.bt_wire.specs.declared.item.Refusal.{Refusal}
@@ -9,12 +9,13 @@ use Rattle.bt_feed.specs.Stages.{start_of, limit_of, IsItem, Comes}
 use Rattle.bt_feed.proofs.Coming.{item_comes}
 use Rattle.bt_feed.proofs.Moving.{fed_none, fed_both}
 use Rattle.bt_end.specs.Ends.{EndState, react, spelled}
+use Rattle.bt_end.specs.Events.{event_of}
 use Rattle.bt_end.specs.Halves.{HalfState, with_feed, reacted, received, without_sent, IsTurned}
-use Rattle.bt_end.specs.declared.end.Turn.{Turn}
-use Rattle.bt_end.specs.declared.end.Turn.TheVariants.{Handled, Idle}
 use Rattle.bt_end.specs.declared.end.TurnError.{TurnError}
 use Rattle.bt_end.specs.declared.end.TurnError.TheVariants as turn_error
-use Rattle.bt_exchange.specs.Courses.{end_after, replies, Course}
+use Rattle.bt_end.specs.declared.event.Event.{Event}
+use Rattle.bt_exchange.specs.Courses.{end_after, events, replies, Course}
+use Rattle.bt_exchange.specs.Steps.{IsNext}
 
 pub end_both : (e : EndState) (xs ys : List (ℕ × Item)) → end_after e (xs ++ ys) ≡ end_after (end_after e xs) ys
 end_both e [] ys = refl
@@ -26,6 +27,14 @@ replies_both e (x ∷ xs) ys =
     let r = react e x.1 in
     let q : List ℕ = spelled r.end r.queued in
     ap (λ (l : List ℕ). q ++ l) (replies_both r.end xs ys) ∙ sym (append_assoc q (replies r.end xs) (replies (end_after r.end xs) ys))
+
+pub events_both : (e : EndState) (xs ys : List (ℕ × Item)) → events e (xs ++ ys) ≡ events e xs ++ events (end_after e xs) ys
+events_both e [] ys = refl
+events_both e (x ∷ xs) ys = ap (λ (l : List Event). event_of e x.1 ∷ l) (events_both (react e x.1).end xs ys)
+
+pub length_events : (e : EndState) (xs : List (ℕ × Item)) → length (events e xs) ≡ length xs
+length_events e [] = refl
+length_events e (x ∷ xs) = let rest = length_events (react e x.1).end xs in omega (arith, rest)
 
 -- ---- one after the other
 
@@ -50,13 +59,13 @@ course_both a b c h i s t p q =
 
 -- ---- the calls
 
--- a course over which n items came
-abbrev pub CourseOf : HalfState → HalfState → List ℕ → List ℕ → ℕ → Type 0
-CourseOf a b h s n = (p : Course a b h s) × (length p.items ≡ n)
+-- a course whose items make these of the end
+abbrev pub CourseOf : HalfState → HalfState → List ℕ → List ℕ → List Event → Type 0
+CourseOf a b h s es = (p : Course a b h s) × (events a.end p.items ≡ es)
 
-pub course_heard : (a : HalfState) (piece : List ℕ) (n : ℕ) → n ≡ taken a.feed piece → CourseOf a (received a piece) (take n piece) [] 0
+pub course_heard : (a : HalfState) (piece : List ℕ) (n : ℕ) → n ≡ taken a.feed piece → CourseOf a (received a piece) (take n piece) [] []
 course_heard a piece n e =
-    let P : ℕ → Type 0 = λ k. CourseOf a (received a piece) (take k piece) [] 0 in
+    let P : ℕ → Type 0 = λ k. CourseOf a (received a piece) (take k piece) [] [] in
     subst P (sym e) (
       record {
         items = [];
@@ -92,36 +101,38 @@ course_item a item l is =
 abbrev course_refused : (a : HalfState) (r : Refusal) → Course a (with_feed a (after a.feed (Err r))) [] []
 course_refused a r = record { items = []; fed = record { comes = λ later v k. k }; end = refl; bytes = append-nil a.outbox }
 
-to : (a b c : HalfState) (n : ℕ) → b ≡ c → CourseOf a c [] [] n → CourseOf a b [] [] n
-to a b c n e p = let P : HalfState → Type 0 = λ x. CourseOf a x [] [] n in subst P (sym e) p
+to : (a b c : HalfState) (es : List Event) → b ≡ c → CourseOf a c [] [] es → CourseOf a b [] [] es
+to a b c es e p = let P : HalfState → Type 0 = λ x. CourseOf a x [] [] es in subst P (sym e) p
 
--- how many items a turn handles
-abbrev pub turned_items : Result Turn TurnError → ℕ
-turned_items (Ok Handled) = 1
-turned_items other = 0
+-- what the item of a turn makes of the end
+abbrev pub turned_events : Result (Option Event) TurnError → List Event
+turned_events (Ok (Some e)) = e ∷ []
+turned_events other = []
 
-pub course_turned : (a b : HalfState) (r : Result Turn TurnError) → limit_of a.feed.stage ≤ 1048576 → IsTurned a r b → CourseOf a b [] [] (turned_items r)
-course_turned a b (Ok Handled) l h = to a b (reacted (with_feed a (after a.feed (Ok (Some h.0)))) (react a.end h.0)) 1 h.2 (course_item a h.0 l h.1.1, refl)
-course_turned a b (Ok Idle) l h = to a b a 0 h.1 (course_none a, refl)
-course_turned a b (Err (turn_error.Refused r)) l h = to a b (with_feed a (after a.feed (Err r))) 0 h.1 (course_refused a r, refl)
-course_turned a b (Err turn_error.Busy) l h = to a b a 0 h.1 (course_none a, refl)
-course_turned a b (Err turn_error.Memory) l h = to a b a 0 h.3 (course_none a, refl)
+pub course_turned : (a b : HalfState) (r : Result (Option Event) TurnError) → limit_of a.feed.stage ≤ 1048576 → IsNext a r b
+    → CourseOf a b [] [] (turned_events r)
+course_turned a b (Ok (Some e)) l h =
+    let t = h.0 in
+    to a b (reacted (with_feed a (after a.feed (Ok (Some t.0)))) (react a.end t.0)) (e ∷ []) t.2
+    (course_item a t.0 l t.1.1, ap (λ (x : Event). x ∷ []) (sym h.1))
+course_turned a b (Ok None) l h = to a b a [] h.1 (course_none a, refl)
+course_turned a b (Err (turn_error.Refused r)) l h = to a b (with_feed a (after a.feed (Err r))) [] h.1 (course_refused a r, refl)
+course_turned a b (Err turn_error.Busy) l h = to a b a [] h.1 (course_none a, refl)
+course_turned a b (Err turn_error.Memory) l h = to a b a [] h.3 (course_none a, refl)
 
 -- bytes were given, and a turn followed
-pub course_round : (a b c : HalfState) (piece : List ℕ) (n : ℕ) (r : Result Turn TurnError) → limit_of a.feed.stage ≤ 1048576 → n ≡ taken a.feed piece → b
-    ≡ received a piece → IsTurned b r c → CourseOf a c (take n piece) [] (turned_items r)
+pub course_round : (a b c : HalfState) (piece : List ℕ) (n : ℕ) (r : Result (Option Event) TurnError) → limit_of a.feed.stage ≤ 1048576
+    → n ≡ taken a.feed piece → b ≡ received a piece → IsNext b r c → CourseOf a c (take n piece) [] (turned_events r)
 course_round a b c piece n r l e f t =
     let m = received a piece in
-    let turned : IsTurned m r c = let P : HalfState → Type 0 = λ x. IsTurned x r c in subst P f t in
+    let turned : IsNext m r c = let P : HalfState → Type 0 = λ x. IsNext x r c in subst P f t in
     let first = course_heard a piece n e in
     let next = course_turned m c r l turned in
-    let P : List ℕ → Type 0 = λ h. CourseOf a c h [] (turned_items r) in
+    let xs = first.0.items in
+    let ys = next.0.items in
+    let P : List ℕ → Type 0 = λ h. CourseOf a c h [] (turned_events r) in
     subst P (append-nil (take n piece)) (
       course_both a m c (take n piece) [] [] [] first.0 next.0,
-      omega (
-        arith,
-        length-append first.0.items next.0.items,
-        first.1,
-        next.1,
-      ),
+      events_both a.end xs ys ∙ ap (λ (l : List Event). l ++ events (end_after a.end xs) ys) first.1
+          ∙ ap (λ (x : EndState). events x ys) (sym first.0.end) ∙ next.1,
     )

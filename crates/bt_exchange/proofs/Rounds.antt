@@ -32,14 +32,14 @@ pub turns_none : (a : Moment) → HasTurns a a
 turns_none a = (0, refl)
 
 pub turns_on : (a b c : Moment) (p : Bool) (r : Result Step Stop) → is_turn r ≡ true → HasTurns a b → IsExact p b c r → HasTurns a c
-turns_on a b c p (Ok step.Handled) e t h = (suc t.0, (b, t.1, inl h))
+turns_on a b c p (Ok (step.Handled v)) e t h = (suc t.0, (b, t.1, inl h))
 turns_on a b c p (Ok step.Held) e t h = (suc t.0, (b, t.1, inr h))
 turns_on a b c p (Ok step.Moved) e t h = absurd cc
 turns_on a b c p (Ok step.Waited) e t h = absurd cc
 turns_on a b c p (Err f) e t h = absurd cc
 
 pub turn_seen : (b c : Moment) (p : Bool) (r : Result Step Stop) → is_turn r ≡ true → IsExact p b c r → c.seen ≡ b.seen
-turn_seen b c p (Ok step.Handled) e h = h.seen
+turn_seen b c p (Ok (step.Handled v)) e h = h.seen
 turn_seen b c p (Ok step.Held) e h = h.seen
 turn_seen b c p (Ok step.Moved) e h = absurd cc
 turn_seen b c p (Ok step.Waited) e h = absurd cc
@@ -47,7 +47,7 @@ turn_seen b c p (Err f) e h = absurd cc
 
 pub turn_lessens : (b c : Moment) (p : Bool) (r : Result Step Stop) → is_turn r ≡ true → IsExact p b c r
     → left_to_turn c.pending c.half < left_to_turn b.pending b.half
-turn_lessens b c p (Ok step.Handled) e h = handled_lessens b c h
+turn_lessens b c p (Ok (step.Handled v)) e h = handled_lessens b c h
 turn_lessens b c p (Ok step.Held) e h = held_lessens b c h
 turn_lessens b c p (Ok step.Moved) e h = absurd cc
 turn_lessens b c p (Ok step.Waited) e h = absurd cc
@@ -62,7 +62,7 @@ called_by a b c p (Ok step.Moved) w q n e t h =
 called_by a b c p (Ok step.Waited) w q n e t h =
     let is : way.Waited ≡ w = cc in
     subst (λ (x : Way). IsCalled x a c) is (t.0, b, t.1, subst (λ (x : Bool). HasWaited x b c) q h)
-called_by a b c p (Ok step.Handled) w q n e t h = absurd cc
+called_by a b c p (Ok (step.Handled v)) w q n e t h = absurd cc
 called_by a b c p (Ok step.Held) w q n e t h = absurd cc
 called_by a b c p (Err (stop.Refused r)) w q n e t h =
     let is : way.Stopped ≡ w = cc in
@@ -95,7 +95,7 @@ pub net_by : (A : Type 0) (a b : Moment) (r : Result Step Stop) (e : BothError) 
     → IsNet {A = A} a.seen.counts b.seen.counts (Err e)
 net_by A a b (Ok step.Moved) e is h = absurd cc
 net_by A a b (Ok step.Waited) e is h = absurd cc
-net_by A a b (Ok step.Handled) e is h = absurd cc
+net_by A a b (Ok (step.Handled v)) e is h = absurd cc
 net_by A a b (Ok step.Held) e is h = absurd cc
 net_by A a b (Err stop.Closed) e is h =
     let x : both_error.Net ≡ e = cc in
@@ -127,7 +127,7 @@ pub up_one : (a b : Moment) (p : Bool) (r : Result Step Stop) (w : Way) → is_t
 up_one a b p (Ok step.Moved) w n e s (inl h) = omega (arith, h.calls)
 up_one a b p (Ok step.Moved) w n e s (inr h) = omega (arith, h.calls)
 up_one a b p (Ok step.Waited) w n e s h = omega (arith, h.calls)
-up_one a b p (Ok step.Handled) w n e s h = absurd cc
+up_one a b p (Ok (step.Handled v)) w n e s h = absurd cc
 up_one a b p (Ok step.Held) w n e s h = absurd cc
 up_one a b p (Err (stop.Refused r)) w n e s h = absurd (s cc)
 up_one a b p (Err stop.Done) w n e s h = absurd cc

@@ -36,7 +36,7 @@ side_step a b r h =
     record { heard = m.heard; sent = m.sent; course = m.course; items = omega (arith, h.items, items_most r) }
   where
     items_most : (r : Result Step Stop) → items_of r ≤ 1
-    items_most (Ok step.Handled) = omega arith
+    items_most (Ok (step.Handled v)) = omega arith
     items_most (Ok step.Moved) = omega arith
     items_most (Ok step.Waited) = omega arith
     items_most (Ok step.Held) = omega arith
@@ -48,7 +48,7 @@ pub side_last : (a : HalfState) (b c : Moment) (n : ℕ) (r : Result Step Stop) 
 side_last a b c n r e p h = side_and a b.half c.half n p (subst (IsSide b.half c.half) (none r e) (side_step b c r h))
   where
     none : (r : Result Step Stop) → is_turn r ≡ false → items_of r ≡ 0
-    none (Ok step.Handled) e = absurd cc
+    none (Ok (step.Handled v)) e = absurd cc
     none (Ok step.Moved) e = refl
     none (Ok step.Waited) e = refl
     none (Ok step.Held) e = refl

@@ -13,9 +13,10 @@ use Rattle.bt_end.specs.declared.end.Turn.{Turn}
 use Rattle.bt_end.specs.declared.end.Turn.TheVariants.{Handled, Idle}
 use Rattle.bt_end.specs.declared.end.TurnError.{TurnError}
 use Rattle.bt_end.specs.declared.end.TurnError.TheVariants as turn_error
+use Rattle.bt_end.specs.declared.event.Event.{Event}
 use Rattle.bt_exchange.specs.Connections.{Seen, Counts}
 use Rattle.bt_exchange.specs.Courses.{Moment}
-use Rattle.bt_exchange.specs.Steps.{HasTurned, IsExact, at_read, at_write, at_turn}
+use Rattle.bt_exchange.specs.Steps.{HasTurned, IsExact, IsNext, at_read, at_write, at_turn, turn_of}
 use Rattle.bt_exchange.specs.declared.talking.Step.{Step}
 use Rattle.bt_exchange.specs.declared.talking.Stop.{Stop}
 use Rattle.bt_exchange.proofs.Moves.{moment, not_busy, IsFilled, IsWritten, IsGiven}
@@ -23,9 +24,9 @@ use Rattle.bt_exchange.proofs.Moves.{moment, not_busy, IsFilled, IsWritten, IsGi
 -- ---- a read
 
 exact_read : {E : Type 0} (prompt : Bool) (s t : Seen) (a : HalfState) (before bytes : List ℕ) (r : Result (Option ℕ) E)
-    → IsFilled prompt s t a before bytes r → IsExact prompt (moment s before a) (moment t bytes a) (at_read r)
-exact_read prompt s t a before bytes (Ok (Some zero)) f = tt
-exact_read prompt s t a before bytes (Ok (Some (suc n))) f =
+    → length a.outbox ≡ 0 → IsFilled prompt s t before bytes r → IsExact prompt (moment s before a) (moment t bytes a) (at_read r)
+exact_read prompt s t a before bytes (Ok (Some zero)) z f = tt
+exact_read prompt s t a before bytes (Ok (Some (suc n))) z f =
     inr (
     record {
       none = nil_from_length before f.was;
@@ -36,21 +37,21 @@ exact_read prompt s t a before bytes (Ok (Some (suc n))) f =
       calls = ap (λ (x : Counts). x.calls) f.counts;
     }
     )
-exact_read prompt s t a before bytes (Ok None) f = record {
+exact_read prompt s t a before bytes (Ok None) z f = record {
   half = refl;
   pending = f.fills.0 ∙ sym (nil_from_length before f.was);
   coming = f.fills.1;
   gone = f.fills.2;
   calls = ap (λ (x : Counts). x.calls) f.counts;
-  idle = λ p. (nil_from_length a.outbox f.sent, nil_from_length before f.was, f.none p refl);
+  idle = λ p. (nil_from_length a.outbox z, nil_from_length before f.was, f.none p refl);
 }
-exact_read prompt s t a before bytes (Err e) f = tt
+exact_read prompt s t a before bytes (Err e) z f = tt
 
 pub exact_filled : {E : Type 0} (prompt : Bool) (s t : Seen) (a : HalfState) (before bytes : List ℕ) (r : Result (Option ℕ) E) (result : Result Step Stop)
-    → result ≡ at_read r → IsFilled prompt s t a before bytes r → IsExact prompt (moment s before a) (moment t bytes a) result
-exact_filled prompt s t a before bytes r result e f =
+    → result ≡ at_read r → length a.outbox ≡ 0 → IsFilled prompt s t before bytes r → IsExact prompt (moment s before a) (moment t bytes a) result
+exact_filled prompt s t a before bytes r result e z f =
     let P : Result Step Stop → Type 0 = λ x. IsExact prompt (moment s before a) (moment t bytes a) x in
-    subst P (sym e) (exact_read prompt s t a before bytes r f)
+    subst P (sym e) (exact_read prompt s t a before bytes r z f)
 
 -- ---- a write
 
@@ -95,14 +96,19 @@ full_after : (a c : HalfState) (p : List ℕ) → limit_of a.feed.stage ≤ 1048
     → is_closed a.feed.stage (pushed a.feed p).held ≡ true
 full_after a c p l h = item_closed a.feed.stage (pushed a.feed p).held h.0 (omega (arith, l)) h.1.1
 
-has_turned : (s : Seen) (p q piece : List ℕ) (a b c : HalfState) (r : Result Turn TurnError) (n : ℕ) → IsGiven p q piece a b c r n
-    → HasTurned r (moment s p a) (moment s q c)
-has_turned s p q piece a b c r n g =
+plain : (a b : HalfState) (r : Result (Option Event) TurnError) → IsNext a r b → IsTurned a (turn_of r) b
+plain a b (Ok (Some e)) h = h.0
+plain a b (Ok None) h = h
+plain a b (Err e) h = h
+
+has_turned : (s : Seen) (p q piece : List ℕ) (a b c : HalfState) (r : Result (Option Event) TurnError) (n : ℕ) → length a.outbox ≡ 0
+    → IsGiven p q piece a b c r n → HasTurned (turn_of r) (moment s p a) (moment s q c)
+has_turned s p q piece a b c r n z g =
     let B : List ℕ → Type 0 = λ x. (n ≡ taken a.feed x) × (b ≡ received a x) in
     let facts = subst B g.is (g.taken, g.fed) in
-    let turned : IsTurned (received a p) r c = subst (λ (x : HalfState). IsTurned x r c) facts.1 g.turned in
+    let turned : IsTurned (received a p) (turn_of r) c = subst (λ (x : HalfState). IsTurned x (turn_of r) c) facts.1 (plain b c r g.turned) in
     record {
-      sent = nil_from_length a.outbox g.sent;
+      sent = nil_from_length a.outbox z;
       some = omega (arith, g.some);
       turned = turned;
       full = λ e. full_after a c p g.limit (subst (λ (x : Result Turn TurnError). IsTurned (received a p) x c) e turned);
@@ -110,19 +116,20 @@ has_turned s p q piece a b c r n g =
       seen = refl;
     }
 
-exact_turn : (prompt : Bool) (s : Seen) (p q piece : List ℕ) (a b c : HalfState) (r : Result Turn TurnError) (n : ℕ) → IsGiven p q piece a b c r n
-    → IsExact prompt (moment s p a) (moment s q c) (at_turn r)
-exact_turn prompt s p q piece a b c (Ok Handled) n g = has_turned s p q piece a b c (Ok Handled) n g
-exact_turn prompt s p q piece a b c (Ok Idle) n g = has_turned s p q piece a b c (Ok Idle) n g
-exact_turn prompt s p q piece a b c (Err (turn_error.Refused r)) n g = has_turned s p q piece a b c (Err (turn_error.Refused r)) n g
-exact_turn prompt s p q piece a b c (Err turn_error.Busy) n g = absurd (not_busy a b c piece (Err turn_error.Busy) g.sent g.fed g.turned refl)
-exact_turn prompt s p q piece a b c (Err turn_error.Memory) n g = tt
+exact_turn : (prompt : Bool) (s : Seen) (p q piece : List ℕ) (a b c : HalfState) (r : Result (Option Event) TurnError) (n : ℕ) → length a.outbox ≡ 0
+    → IsGiven p q piece a b c r n → IsExact prompt (moment s p a) (moment s q c) (at_turn r)
+exact_turn prompt s p q piece a b c (Ok (Some e)) n z g = has_turned s p q piece a b c (Ok (Some e)) n z g
+exact_turn prompt s p q piece a b c (Ok None) n z g = has_turned s p q piece a b c (Ok None) n z g
+exact_turn prompt s p q piece a b c (Err (turn_error.Refused r)) n z g = has_turned s p q piece a b c (Err (turn_error.Refused r)) n z g
+exact_turn prompt s p q piece a b c (Err turn_error.Busy) n z g = absurd (not_busy a b c piece (Err turn_error.Busy) g.room g.fed g.turned refl)
+exact_turn prompt s p q piece a b c (Err turn_error.Memory) n z g = tt
 
-pub exact_turned : (prompt : Bool) (s : Seen) {p q piece : List ℕ} {a b c : HalfState} {r : Result Turn TurnError} {n : ℕ} {result : Result Step Stop}
-    → result ≡ at_turn r → IsGiven p q piece a b c r n → IsExact prompt (moment s p a) (moment s q c) result
-exact_turned prompt s {p} {q} {piece} {a} {b} {c} {r} {n} e g =
+pub exact_turned : (prompt : Bool) (s : Seen) {p q piece : List ℕ} {a b c : HalfState} {r : Result (Option Event) TurnError} {n : ℕ}
+    {result : Result Step Stop} → result ≡ at_turn r → length a.outbox ≡ 0 → IsGiven p q piece a b c r n
+    → IsExact prompt (moment s p a) (moment s q c) result
+exact_turned prompt s {p} {q} {piece} {a} {b} {c} {r} {n} e z g =
     let P : Result Step Stop → Type 0 = λ x. IsExact prompt (moment s p a) (moment s q c) x in
-    subst P (sym e) (exact_turn prompt s p q piece a b c r n g)
+    subst P (sym e) (exact_turn prompt s p q piece a b c r n z g)
 
 -- ---- turns come to an end
 

@@ -1,26 +1,25 @@
 -- What is seen in a round of an exchange, and in the rounds together.
-use Rattle.std.proofs.Common.{◌≡◌, ◌+◌, ◌<◌, ◌≤◌, ℕ, true, false, List, [], ◌++◌, length, is_some, Some, Result, Ok, Err, refl, sym, ap, subst}
-use Rattle.std.proofs.Common.{◌∙◌, arith}
+use Rattle.std.proofs.Common.{◌≡◌, ◌+◌, ◌<◌, ◌≤◌, ◌&&◌, ℕ, Bool, true, false, not, List, [], ◌∷◌, ◌++◌, length, is_some, Option, Some, None, Result, Ok, Err}
+use Rattle.std.proofs.Common.{refl, sym, ap, subst, ◌∙◌, arith}
 use Rattle.std.proofs.lemmas.List.{append-nil, nil_from_length}
+use Rattle.std.proofs.lemmas.List.Folds.{list_all-append}
 use Rattle.std.proofs.KnownBytes.{Consumes-nil, Appends-nil}
-use Rattle.bt_end.specs.Ends.{EndState, metadata_of, headway_of}
-use Rattle.bt_end.specs.declared.part.Headway.{Headway}
+use Rattle.std.specs.List.{list_all}
+use Rattle.bt_wire.specs.declared.item.Item.{Item}
+use Rattle.bt_io.specs.Counts.{Grew}
+use Rattle.bt_end.specs.Ends.{EndState, metadata_of, is_hopeless}
+use Rattle.bt_end.specs.Halves.{HalfState}
+use Rattle.bt_end.specs.declared.event.Event.{Event}
 use Rattle.bt_exchange.specs.Connections.{Seen, Counts, at_time}
-use Rattle.bt_exchange.specs.Courses.{Moment, IsMoved}
-use Rattle.bt_exchange.specs.Stops.{IsCalm, IsMade, IsAdvanced, IsMark, IsQuiet, IsStep, IsStopped, IsExchanged, items_of, is_still, is_done}
-use Rattle.bt_exchange.specs.declared.talking.Sign.{Sign}
-use Rattle.bt_exchange.specs.declared.talking.Sign.TheVariants as sign
+use Rattle.bt_exchange.specs.Courses.{Moment, IsMoved, end_after, events}
+use Rattle.bt_exchange.specs.Stops.{IsCalm, IsMade, IsAdvanced, IsMark, IsQuiet, IsStep, IsStopped, IsTold, IsExchanged, IsFault, IsOpen}
+use Rattle.bt_exchange.specs.Stops.{has_no_news, items_of, is_done, is_news, no_news, steps_of}
+use Rattle.bt_exchange.specs.Watches.{IsJudged, IsRound, IsRounded, IsVerdict, is_over}
 use Rattle.bt_exchange.specs.declared.talking.Step.{Step}
 use Rattle.bt_exchange.specs.declared.talking.Step.TheVariants as step
 use Rattle.bt_exchange.specs.declared.talking.Stop.{Stop}
 use Rattle.bt_exchange.specs.declared.talking.Stop.TheVariants as stop
-use Rattle.bt_io.specs.Counts.{Grew}
-use Rattle.bt_end.specs.Halves.{HalfState}
-use Rattle.bt_exchange.specs.Courses.{end_after}
-use Rattle.bt_exchange.specs.Stops.{IsFault}
-use Rattle.bt_exchange.specs.Watches.{IsVerdict}
-use Rattle.bt_exchange.specs.declared.talking.Limits.{Limits}
-use Rattle.bt_exchange.proofs.Courses.{course_none}
+use Rattle.bt_exchange.proofs.Courses.{course_none, events_both}
 use Rattle.bt_exchange.proofs.Moves.{moment, moved_none, moved_both, made_none, made_both}
 
 -- ---- the clock
@@ -56,7 +55,7 @@ seen_calm s t e = record { ends = ap (λ (x : Seen). x.counts.ends) e; failed = 
 pub step_calm : (old new : Moment) (st : Step) → IsStep old new (Ok st) → IsCalm old.seen.counts new.seen.counts
 step_calm old new step.Moved h = h
 step_calm old new step.Waited h = h.0
-step_calm old new step.Handled h = seen_calm old.seen new.seen h
+step_calm old new (step.Handled v) h = seen_calm old.seen new.seen h
 step_calm old new step.Held h = seen_calm old.seen new.seen h
 
 pub calm_both : (a b c : Counts) → IsCalm a b → IsCalm b c → IsCalm a c
@@ -75,20 +74,20 @@ fault_after a b c h stop.Mismatch k f = absurd f
 fault_after a b c h stop.Silent k f = absurd f
 fault_after a b c h stop.Rounds k f = absurd f
 
-fault_stops : (limits : Limits) (old new : Moment) (e : Stop) → IsFault old.seen.counts new.seen.counts new.half e → IsStopped limits old new e
-fault_stops limits old new stop.Closed f = f
-fault_stops limits old new stop.Failed f = f
-fault_stops limits old new (stop.Refused r) f = f
-fault_stops limits old new stop.Memory f = f
-fault_stops limits old new stop.Done f = absurd f
-fault_stops limits old new stop.Hopeless f = absurd f
-fault_stops limits old new stop.Mismatch f = absurd f
-fault_stops limits old new stop.Silent f = absurd f
-fault_stops limits old new stop.Rounds f = absurd f
+fault_stops : (until : ℕ) (old new : Moment) (e : Stop) → IsFault old.seen.counts new.seen.counts new.half e → IsStopped until old new e
+fault_stops until old new stop.Closed f = f
+fault_stops until old new stop.Failed f = f
+fault_stops until old new (stop.Refused r) f = f
+fault_stops until old new stop.Memory f = f
+fault_stops until old new stop.Done f = absurd f
+fault_stops until old new stop.Hopeless f = absurd f
+fault_stops until old new stop.Mismatch f = absurd f
+fault_stops until old new stop.Silent f = absurd f
+fault_stops until old new stop.Rounds f = absurd f
 
-pub stopped_fault : (limits : Limits) (start old new : Moment) (e : Stop) → IsCalm start.seen.counts old.seen.counts → IsAdvanced old new (Err e)
-    → IsStopped limits start new e
-stopped_fault limits start old new e k a = fault_stops limits start new e (fault_after start.seen.counts old.seen.counts new.seen.counts new.half e k a.step)
+pub stopped_fault : (until : ℕ) (start old new : Moment) (e : Stop) → IsCalm start.seen.counts old.seen.counts → IsAdvanced old new (Err e)
+    → IsStopped until start new e
+stopped_fault until start old new e k a = fault_stops until start new e (fault_after start.seen.counts old.seen.counts new.seen.counts new.half e k a.step)
 
 not_done : (old new : Counts) (h : HalfState) (e : Stop) → IsFault old new h e → is_done e ≡ false
 not_done old new h stop.Done f = absurd f
@@ -112,22 +111,17 @@ fault_undone old new e a none = not_done old.seen.counts new.seen.counts new.hal
 
 -- ---- a verdict
 
-pub verdict_stops : (limits : Limits) (start new : Moment) (e : Stop) → IsCalm start.seen.counts new.seen.counts → IsVerdict new.half.end (Some e)
-    → IsStopped limits start new e
-verdict_stops limits start new stop.Done k v = (k, v)
-verdict_stops limits start new stop.Mismatch k v = (k, v.1)
-verdict_stops limits start new stop.Hopeless k v = (k, v.1)
-verdict_stops limits start new stop.Closed k v = absurd v
-verdict_stops limits start new stop.Silent k v = absurd v
-verdict_stops limits start new stop.Failed k v = absurd v
-verdict_stops limits start new (stop.Refused r) k v = absurd v
-verdict_stops limits start new stop.Rounds k v = absurd v
-verdict_stops limits start new stop.Memory k v = absurd v
-
-pub stopped_verdict : (limits : Limits) (start old new : Moment) (st : Step) (e : Stop) → IsCalm start.seen.counts old.seen.counts
-    → IsAdvanced old new (Ok st) → IsVerdict new.half.end (Some e) → IsStopped limits start new e
-stopped_verdict limits start old new st e k a v = verdict_stops limits start new e (calm_both start.seen.counts old.seen.counts new.seen.counts k
-    (step_calm old new st a.step)) v
+verdict_stops : (until : ℕ) (start new : Moment) (e : Stop) → IsCalm start.seen.counts new.seen.counts → IsVerdict new.half.end (Some e)
+    → IsStopped until start new e
+verdict_stops until start new stop.Done k v = (k, v)
+verdict_stops until start new stop.Mismatch k v = (k, v.1)
+verdict_stops until start new stop.Hopeless k v = (k, v.1)
+verdict_stops until start new stop.Closed k v = absurd v
+verdict_stops until start new stop.Silent k v = absurd v
+verdict_stops until start new stop.Failed k v = absurd v
+verdict_stops until start new (stop.Refused r) k v = absurd v
+verdict_stops until start new stop.Rounds k v = absurd v
+verdict_stops until start new stop.Memory k v = absurd v
 
 pub verdict_done : (e : EndState) (s : Stop) → IsVerdict e (Some s) → is_done s ≡ is_some (metadata_of e.part)
 verdict_done e stop.Done v = sym v
@@ -162,57 +156,59 @@ fault_not_rounds old new h (stop.Refused x) f r = absurd cc
 fault_not_rounds old new h stop.Rounds f r = absurd f
 fault_not_rounds old new h stop.Memory f r = absurd cc
 
-pub fault_watched : (limits : Limits) (start old new : Moment) (e : Stop) → IsCalm start.seen.counts old.seen.counts → IsAdvanced old new (Err e)
-    → IsStopped limits start new e × (e ≡ stop.Rounds → ⊥)
-fault_watched limits start old new e k a = (stopped_fault limits start old new e k a, fault_not_rounds old.seen.counts new.seen.counts new.half e a.step)
+fault_not_silent : (old new : Counts) (h : HalfState) (e : Stop) → IsFault old new h e → e ≡ stop.Silent → ⊥
+fault_not_silent old new h stop.Done f r = absurd f
+fault_not_silent old new h stop.Hopeless f r = absurd f
+fault_not_silent old new h stop.Mismatch f r = absurd f
+fault_not_silent old new h stop.Closed f r = absurd cc
+fault_not_silent old new h stop.Silent f r = absurd f
+fault_not_silent old new h stop.Failed f r = absurd cc
+fault_not_silent old new h (stop.Refused x) f r = absurd cc
+fault_not_silent old new h stop.Rounds f r = absurd f
+fault_not_silent old new h stop.Memory f r = absurd cc
 
-pub verdict_watched : (limits : Limits) (start old new : Moment) (st : Step) (e : Stop) → IsCalm start.seen.counts old.seen.counts
-    → IsAdvanced old new (Ok st) → IsVerdict new.half.end (Some e) → IsStopped limits start new e × (e ≡ stop.Rounds → ⊥)
-verdict_watched limits start old new st e k a v = (stopped_verdict limits start old new st e k a v, verdict_not_rounds new.half.end e v)
+pub verdict_not_silent : (e : EndState) (s : Stop) → IsVerdict e (Some s) → s ≡ stop.Silent → ⊥
+verdict_not_silent e stop.Done v r = absurd cc
+verdict_not_silent e stop.Mismatch v r = absurd cc
+verdict_not_silent e stop.Hopeless v r = absurd cc
+verdict_not_silent e stop.Closed v r = absurd v
+verdict_not_silent e stop.Silent v r = absurd v
+verdict_not_silent e stop.Failed v r = absurd v
+verdict_not_silent e (stop.Refused x) v r = absurd v
+verdict_not_silent e stop.Rounds v r = absurd v
+verdict_not_silent e stop.Memory v r = absurd v
 
--- ---- the watch
 
-mark_moved : (s : Sign) (t : ℕ) (start new : Moment) → IsMark s t start new → IsMoved start new
-mark_moved s t start new m = moved_both start m.since new m.before m.after
+-- ---- marks: since when no byte was moved
 
-quiet_none : (s : Sign) (m : Moment) → IsQuiet s m m (moved_none m)
-quiet_none sign.Bytes m = (refl, refl)
-quiet_none sign.Progress m = refl
+mark_moved : (t : ℕ) (start new : Moment) → IsMark t start new → IsMoved start new
+mark_moved t start new m = moved_both start m.since new m.before m.after
+
+quiet_none : (m : Moment) → IsQuiet m m (moved_none m)
+quiet_none m = (refl, refl)
 
 nil_both : (xs ys : List ℕ) → xs ≡ [] → ys ≡ [] → xs ++ ys ≡ []
 nil_both xs ys e f = ap (λ (l : List ℕ). l ++ ys) e ∙ f
 
-quiet_both : (s : Sign) (a b c : Moment) (p : IsMoved a b) (q : IsMoved b c) → IsQuiet s a b p → IsQuiet s b c q → IsQuiet s a c (moved_both a b c p q)
-quiet_both sign.Bytes a b c p q e f = (nil_both p.got q.got e.0 f.0, nil_both p.sent q.sent e.1 f.1)
-quiet_both sign.Progress a b c p q e f = f ∙ e
+quiet_both : (a b c : Moment) (p : IsMoved a b) (q : IsMoved b c) → IsQuiet a b p → IsQuiet b c q → IsQuiet a c (moved_both a b c p q)
+quiet_both a b c p q e f = (nil_both p.got q.got e.0 f.0, nil_both p.sent q.sent e.1 f.1)
 
-pub mark_here : (s : Sign) (t : ℕ) (start new : Moment) → IsMoved start new → new.seen.counts.clock ≡ t → IsMark s t start new
-mark_here s t start new m e = record { since = new; before = m; after = moved_none new; quiet = quiet_none s new; clock = e }
+pub mark_here : (t : ℕ) (start new : Moment) → IsMoved start new → new.seen.counts.clock ≡ t → IsMark t start new
+mark_here t start new m e = record { since = new; before = m; after = moved_none new; quiet = quiet_none new; clock = e }
 
-pub mark_on : (s : Sign) (t : ℕ) (start old new : Moment) (p : IsMoved old new) → IsMark s t start old → IsQuiet s old new p → IsMark s t start new
-mark_on s t start old new p m q = record {
+pub mark_on : (t : ℕ) (start old new : Moment) (p : IsMoved old new) → IsMark t start old → IsQuiet old new p → IsMark t start new
+mark_on t start old new p m q = record {
   since = m.since;
   before = m.before;
   after = moved_both m.since old new m.after p;
-  quiet = quiet_both s m.since old new m.after p m.quiet q;
+  quiet = quiet_both m.since old new m.after p m.quiet q;
   clock = m.clock;
 }
 
--- a step that showed no sign of life
-pub quiet_step : (s : Sign) (st : Step) (old new : Moment) (a : IsAdvanced old new (Ok st))
-    → (s ≡ sign.Progress → st ≡ step.Handled → headway_of old.half.end ≡ headway_of new.half.end) → (s ≡ sign.Bytes → is_still (Ok st) ≡ true)
-    → IsQuiet s old new a.made.moved
-quiet_step sign.Bytes st old new a p b = a.still (b refl)
-quiet_step sign.Progress step.Handled old new a p b = sym (p refl refl)
-quiet_step sign.Progress step.Moved old new a p b = ap (λ (x : EndState). headway_of x) (step_end old new (Ok step.Moved) refl a)
-quiet_step sign.Progress step.Waited old new a p b = ap (λ (x : EndState). headway_of x) (step_end old new (Ok step.Waited) refl a)
-quiet_step sign.Progress step.Held old new a p b = ap (λ (x : EndState). headway_of x) (step_end old new (Ok step.Held) refl a)
+pub quiet_clock : (m : Moment) (t : ℕ) → IsQuiet m (moment (at_time t m.seen) m.pending m.half) (moved_clock m t)
+quiet_clock m t = (refl, refl)
 
-pub quiet_clock : (s : Sign) (m : Moment) (t : ℕ) → IsQuiet s m (moment (at_time t m.seen) m.pending m.half) (moved_clock m t)
-quiet_clock sign.Bytes m t = (refl, refl)
-quiet_clock sign.Progress m t = refl
-
--- ---- a round: a step, and then the clock
+-- a step, and then the clock
 
 pub round_made : (old mid : Moment) (s : Seen) (st : Step) (t : ℕ) → IsAdvanced old mid (Ok st) → s ≡ at_time t mid.seen
     → IsMade 1 old (moment s mid.pending mid.half)
@@ -225,61 +221,293 @@ round_calm start old mid s st t k a e =
     let c = calm_both start.seen.counts old.seen.counts mid.seen.counts k (step_calm old mid st a.step) in
     subst P (sym e) (record { ends = c.ends; failed = c.failed })
 
-pub mark_alive : (g : Sign) (start old mid : Moment) (s : Seen) (st : Step) (t u : ℕ) → IsMark g u start old → IsAdvanced old mid (Ok st) → s
-    ≡ at_time t mid.seen → IsMark g t start (moment s mid.pending mid.half)
-mark_alive g start old mid s st t u m a e =
+pub mark_alive : (start old mid : Moment) (s : Seen) (st : Step) (t u : ℕ) → IsMark u start old → IsAdvanced old mid (Ok st) → s
+    ≡ at_time t mid.seen → IsMark t start (moment s mid.pending mid.half)
+mark_alive start old mid s st t u m a e =
     let new = moment s mid.pending mid.half in
-    mark_here g t start new (moved_both start old new (mark_moved g u start old m) (round_made old mid s st t a e).moved) (ap (λ (x : Seen). x.counts.clock) e)
+    mark_here t start new (moved_both start old new (mark_moved u start old m) (round_made old mid s st t a e).moved) (ap (λ (x : Seen). x.counts.clock) e)
 
-pub mark_quiet : {g : Sign} {start old mid : Moment} {s : Seen} (st : Step) (t : ℕ) {u : ℕ} (m : IsMark g u start old) (a : IsAdvanced old mid (Ok st))
-    → IsQuiet g old mid a.made.moved → s ≡ at_time t mid.seen → IsMark g u start (moment s mid.pending mid.half)
-mark_quiet {g} {start} {old} {mid} st t {u} m a q e =
-    let P : Seen → Type 0 = λ x. IsMark g u start (moment x mid.pending mid.half) in
-    let first = mark_on g u start old mid a.made.moved m q in
-    subst P (sym e) (mark_on g u start mid (moment (at_time t mid.seen) mid.pending mid.half) (moved_clock mid t) first (quiet_clock g mid t))
+pub started : (start : Moment) (s : Seen) (t : ℕ) → s ≡ at_time t start.seen → IsMade 0 start (moment s start.pending start.half)
+    × IsCalm start.seen.counts s.counts × IsMark t start (moment s start.pending start.half)
+started start s t e =
+    let P : Seen → Type 0 = λ x. IsMade 0 start (moment x start.pending start.half) × IsCalm start.seen.counts x.counts
+    × IsMark t start (moment x start.pending start.half) in
+    let new = moment (at_time t start.seen) start.pending start.half in
+    subst P (sym e) (made_clock start (at_time t start.seen) t refl, record { ends = refl; failed = refl }, mark_here t start new (moved_clock start t) refl)
 
--- what was known of the headway is still so
-pub headway_on : (g : Sign) (old mid : Moment) (m : IsMoved old mid) (o : Headway) → (g ≡ sign.Progress → o ≡ headway_of old.half.end)
-    → IsQuiet g old mid m → g ≡ sign.Progress → o ≡ headway_of mid.half.end
-headway_on sign.Bytes old mid m o p q e = absurd cc
-headway_on sign.Progress old mid m o p q e = p refl ∙ sym q
+-- ---- news
+
+one_old : (v : Event) → is_news v ≡ false → list_all no_news (v ∷ []) ≡ true
+one_old v e = ap (λ (b : Bool). not b && true) e
+
+-- the step's item was no news
+quiet_of : (old new : Moment) (st : Step) (e : EndState) (a : IsAdvanced old new (Ok st)) → IsJudged st e (Ok None)
+    → has_no_news old.half.end a.made.moved.course.items ≡ true
+quiet_of old new (step.Handled v) e a j = ap (λ (l : List Event). list_all no_news l) a.events ∙ one_old v j.0
+quiet_of old new step.Moved e a j = ap (λ (l : List Event). list_all no_news l) a.events
+quiet_of old new step.Waited e a j = ap (λ (l : List Event). list_all no_news l) a.events
+quiet_of old new step.Held e a j = ap (λ (l : List Event). list_all no_news l) a.events
+
+pub open_of : (old new : Moment) (st : Step) → IsAdvanced old new (Ok st) → IsOpen old.half.end → IsJudged st new.half.end (Ok None) → IsOpen new.half.end
+open_of old new (step.Handled v) a o j = j.1
+open_of old new step.Moved a o j = subst IsOpen (sym (step_end old new (Ok step.Moved) refl a)) o
+open_of old new step.Waited a o j = subst IsOpen (sym (step_end old new (Ok step.Waited) refl a)) o
+open_of old new step.Held a o j = subst IsOpen (sym (step_end old new (Ok step.Held) refl a)) o
+
+pub open_told : (st : Step) (e : EndState) (w : Event) → IsJudged st e (Ok (Some w)) → IsOpen e
+open_told (step.Handled v) e w j = j.2
+open_told step.Moved e w j = absurd j
+open_told step.Waited e w j = absurd j
+open_told step.Held e w j = absurd j
+
+pub done_over : (st : Step) (e : EndState) (s : Stop) → IsJudged st e (Err s) → is_done s ≡ is_some (metadata_of e.part)
+done_over (step.Handled v) e s j = verdict_done e s j
+done_over step.Moved e s j = absurd j
+done_over step.Waited e s j = absurd j
+done_over step.Held e s j = absurd j
+
+-- ---- a round
+
+calm_here : (old new : Moment) (st : Step) → IsAdvanced old new (Ok st) → IsCalm old.seen.counts new.seen.counts
+calm_here old new st a = step_calm old new st a.step
+
+none_first : (m : Moment) → IsCalm m.seen.counts m.seen.counts
+none_first m = record { ends = refl; failed = refl }
+
+pub rounded_fault : (until : ℕ) (old new : Moment) (e : Stop) → IsAdvanced old new (Err e) → IsRounded until old new (Err e)
+rounded_fault until old new e a = record {
+  n = 0;
+  least = omega arith;
+  most = omega arith;
+  made = a.made;
+  once = a.once;
+  round = (
+    stopped_fault until old old new e (none_first old) a,
+    fault_not_rounds old.seen.counts new.seen.counts new.half e a.step,
+    λ s. absurd (fault_not_silent old.seen.counts new.seen.counts new.half e a.step s),
+  );
+}
+
+pub rounded_over : (until : ℕ) (old new : Moment) (st : Step) (s : Stop) → IsAdvanced old new (Ok st) → IsJudged st new.half.end (Err s)
+    → IsRounded until old new (Err s)
+rounded_over until old new (step.Handled v) s a j = record {
+  n = 1;
+  least = omega arith;
+  most = omega arith;
+  made = a.made;
+  once = a.once;
+  round = (
+    verdict_stops until old new s (calm_here old new (step.Handled v) a) j,
+    verdict_not_rounds new.half.end s j,
+    λ e. absurd (verdict_not_silent new.half.end s j e),
+  );
+}
+rounded_over until old new step.Moved s a j = absurd j
+rounded_over until old new step.Waited s a j = absurd j
+rounded_over until old new step.Held s a j = absurd j
+
+pub rounded_told : (until : ℕ) (old new : Moment) (st : Step) (w : Event) → IsAdvanced old new (Ok st) → IsJudged st new.half.end (Ok (Some w))
+    → IsRounded until old new (Ok (Some w))
+rounded_told until old new (step.Handled v) w a j = record {
+  n = 1;
+  least = omega arith;
+  most = omega arith;
+  made = a.made;
+  once = a.once;
+  round = (
+    calm_here old new (step.Handled v) a,
+    j.2,
+    a.events ∙ ap (λ (x : Event). x ∷ []) (sym j.0),
+    ap is_news j.0 ∙ j.1,
+  );
+}
+rounded_told until old new step.Moved w a j = absurd j
+rounded_told until old new step.Waited w a j = absurd j
+rounded_told until old new step.Held w a j = absurd j
+
+-- the same, once the clock was read
+abbrev clocked : (old mid : Moment) (t : ℕ) → IsMoved old mid → IsMoved old (moment (at_time t mid.seen) mid.pending mid.half)
+clocked old mid t m = record {
+  got = m.got;
+  heard = m.heard;
+  sent = m.sent;
+  course = m.course;
+  pending = m.pending;
+  reads = m.reads;
+  writes = m.writes;
+}
+
+abbrev made_at : (old mid : Moment) (st : Step) (t : ℕ) → IsAdvanced old mid (Ok st) → IsMade 1 old (moment (at_time t mid.seen) mid.pending mid.half)
+made_at old mid st t a = record { moved = clocked old mid t a.made.moved; items = a.made.items; calls = a.made.calls; steps = a.made.steps }
+
+calm_at : (old mid : Moment) (st : Step) (t : ℕ) → IsAdvanced old mid (Ok st) → IsCalm old.seen.counts (at_time t mid.seen).counts
+calm_at old mid st t a = let k = calm_here old mid st a in record { ends = k.ends; failed = k.failed }
+
+pub rounded_late : (until : ℕ) (old mid : Moment) (s : Seen) (st : Step) (t : ℕ) → IsAdvanced old mid (Ok st) → IsJudged st mid.half.end (Ok None)
+    → s ≡ at_time t mid.seen → until < t → IsRounded until old (moment s mid.pending mid.half) (Err stop.Silent)
+rounded_late until old mid s st t a j e late =
+    let P : Seen → Type 0 = λ x. IsRounded until old (moment x mid.pending mid.half) (Err stop.Silent) in
+    subst P (sym e) (
+    record {
+      n = 1;
+      least = omega arith;
+      most = omega arith;
+      made = made_at old mid st t a;
+      once = a.once;
+      round = ((calm_at old mid st t a, late), (λ r. absurd cc), λ r. quiet_of old mid st mid.half.end a j);
+    }
+    )
+
+pub rounded_on : (until : ℕ) (old mid : Moment) (s : Seen) (st : Step) (t : ℕ) → IsAdvanced old mid (Ok st) → IsOpen old.half.end
+    → IsJudged st mid.half.end (Ok None) → s ≡ at_time t mid.seen → t ≤ until → IsRounded until old (moment s mid.pending mid.half) (Ok None)
+rounded_on until old mid s st t a o j e on =
+    let P : Seen → Type 0 = λ x. IsRounded until old (moment x mid.pending mid.half) (Ok None) in
+    subst P (sym e) (
+    record {
+      n = 1;
+      least = omega arith;
+      most = omega arith;
+      made = made_at old mid st t a;
+      once = a.once;
+      round = (calm_at old mid st t a, open_of old mid st a o j, on, quiet_of old mid st mid.half.end a j);
+    }
+    )
 
 -- ---- rounds
 
-pub round_next : (a b c : Moment) (n k : ℕ) → 1 ≤ k → k ≤ 1 → IsMade n a b → IsMade k b c → IsMade (n + 1) a c
-round_next a b c n k least most p q =
-    let P : ℕ → Type 0 = λ x. IsMade x a c in
-    subst P (omega (arith, least, most)) (made_both a b c n k p q)
+-- n rounds were made with no news, and in time, of those that may be made
+pub record IsGoing (until may left n : ℕ) (start now : Moment) : Type 0 where
+  pub k : ℕ
+  pub count : k ≡ n
+  pub made : IsMade k start now
+  pub left : left + n ≡ may
+  pub calls : now.seen.counts.calls ≤ start.seen.counts.calls + n
+  pub calm : IsCalm start.seen.counts now.seen.counts
+  pub open : IsOpen now.half.end
+  pub patient : 0 < n → now.seen.counts.clock ≤ until
+  pub quiet : has_no_news start.half.end made.moved.course.items ≡ true
 
-pub stopped_at : (limits : Limits) {a b c : Moment} {n k : ℕ} (e : Stop) → k ≤ 1 → n < limits.rounds → IsMade n a b → IsMade k b c → IsStopped limits a c e
-    × (e ≡ stop.Rounds → ⊥) → IsExchanged limits a c e
-stopped_at limits {a} {b} {c} {n} {k} e most l p q s = record {
-  steps = n + k;
-  made = made_both a b c n k p q;
-  within = omega (arith, most, l);
-  all = λ r. absurd (s.1 r);
-  stop = s.0;
+pub going_first : (until may : ℕ) (start : Moment) → IsOpen start.half.end → IsGoing until may may 0 start start
+going_first until may start o = record {
+  k = 0;
+  count = refl;
+  made = made_none start;
+  left = omega arith;
+  calls = omega arith;
+  calm = none_first start;
+  open = o;
+  patient = λ l. absurd (omega (arith, l));
+  quiet = refl;
 }
 
--- ---- the start
+-- what the items of both make of the end
+told_both : (start mid new : Moment) (p : IsMoved start mid) (q : IsMoved mid new)
+    → events start.half.end (p.course.items ++ q.course.items) ≡ events start.half.end p.course.items ++ events mid.half.end q.course.items
+told_both start mid new p q =
+    events_both start.half.end p.course.items q.course.items
+    ∙ ap (λ (x : EndState). events start.half.end p.course.items ++ events x q.course.items) (sym p.course.end)
 
-pub started : (g : Sign) (start : Moment) (s : Seen) (t : ℕ) → s ≡ at_time t start.seen → IsMade 0 start (moment s start.pending start.half)
-    × IsCalm start.seen.counts s.counts × IsMark g t start (moment s start.pending start.half)
-started g start s t e =
-    let P : Seen → Type 0 = λ x. IsMade 0 start (moment x start.pending start.half) × IsCalm start.seen.counts x.counts
-    × IsMark g t start (moment x start.pending start.half) in
-    let new = moment (at_time t start.seen) start.pending start.half in
-    subst P (sym e) (made_clock start (at_time t start.seen) t refl, record { ends = refl; failed = refl }, mark_here g t start new (moved_clock start t) refl)
+old_both : (start mid new : Moment) (p : IsMoved start mid) (q : IsMoved mid new) → has_no_news start.half.end p.course.items ≡ true
+    → list_all no_news (events mid.half.end q.course.items) ≡ true → has_no_news start.half.end (p.course.items ++ q.course.items) ≡ true
+old_both start mid new p q e f =
+    let es = events start.half.end p.course.items in
+    let fs = events mid.half.end q.course.items in
+    ap (λ (l : List Event). list_all no_news l) (told_both start mid new p q) ∙ list_all-append no_news es fs
+    ∙ ap (λ (b : Bool). b && list_all no_news fs) e ∙ f
 
-pub stopped_first : (limits : Limits) (start : Moment) (e : Stop) → IsVerdict start.half.end (Some e) → IsExchanged limits start start e
-stopped_first limits start e v = record {
+pub going_on : (until may left left' n : ℕ) (start mid new : Moment) → IsGoing until may left n start mid → IsRounded until mid new (Ok None)
+    → left' + (n + 1) ≡ may → IsGoing until may left' (n + 1) start new
+going_on until may left left' n start mid new g r e = record {
+  k = g.k + r.n;
+  count = omega (arith, g.count, r.least, r.most);
+  made = made_both start mid new g.k r.n g.made r.made;
+  left = e;
+  calls = omega (arith, g.calls, r.once);
+  calm = calm_both start.seen.counts mid.seen.counts new.seen.counts g.calm r.round.0;
+  open = r.round.1;
+  patient = λ l. r.round.2;
+  quiet = old_both start mid new g.made.moved r.made.moved g.quiet r.round.3;
+}
+
+stops_after : (until : ℕ) (start mid new : Moment) (e : Stop) → IsCalm start.seen.counts mid.seen.counts → IsStopped until mid new e
+    → IsStopped until start new e
+stops_after until start mid new stop.Done k s = (calm_both start.seen.counts mid.seen.counts new.seen.counts k s.0, s.1)
+stops_after until start mid new stop.Hopeless k s = (calm_both start.seen.counts mid.seen.counts new.seen.counts k s.0, s.1)
+stops_after until start mid new stop.Mismatch k s = (calm_both start.seen.counts mid.seen.counts new.seen.counts k s.0, s.1)
+stops_after until start mid new stop.Silent k s = (calm_both start.seen.counts mid.seen.counts new.seen.counts k s.0, s.1)
+stops_after until start mid new stop.Rounds k s = calm_both start.seen.counts mid.seen.counts new.seen.counts k s
+stops_after until start mid new stop.Closed k s = fault_after start.seen.counts mid.seen.counts new.seen.counts new.half stop.Closed k s
+stops_after until start mid new stop.Failed k s = fault_after start.seen.counts mid.seen.counts new.seen.counts new.half stop.Failed k s
+stops_after until start mid new (stop.Refused r) k s = fault_after start.seen.counts mid.seen.counts new.seen.counts new.half (stop.Refused r) k s
+stops_after until start mid new stop.Memory k s = fault_after start.seen.counts mid.seen.counts new.seen.counts new.half stop.Memory k s
+
+pub exchanged_stop : (until may left left' n : ℕ) (start mid new : Moment) (e : Stop) → IsGoing until may left n start mid
+    → IsRounded until mid new (Err e) → left' + (n + 1) ≡ may → IsExchanged until may left' start new (Err e)
+exchanged_stop until may left left' n start mid new e g r l = record {
+  steps = g.k + r.n;
+  made = made_both start mid new g.k r.n g.made r.made;
+  within = omega (arith, g.count, r.most, l);
+  calls = omega (arith, g.calls, r.once, l);
+  onward = omega arith;
+  all = λ x. absurd (r.round.1 (is_same x));
+  patient = λ x. absurd (r.round.1 (is_same x));
+  silent = λ x. old_both start mid new g.made.moved r.made.moved g.quiet (r.round.2 (is_same x));
+  told = stops_after until start mid new e g.calm r.round.0;
+}
+  where
+    is_same : {A : Type 0} {x y : Stop} → Err {A = A} x ≡ Err y → x ≡ y
+    is_same e = cc
+
+pub exchanged_told : (until may left left' n : ℕ) (start mid new : Moment) (e : Event) → IsGoing until may left n start mid
+    → IsRounded until mid new (Ok (Some e)) → left' + (n + 1) ≡ may → IsExchanged until may left' start new (Ok e)
+exchanged_told until may left left' n start mid new e g r l = record {
+  steps = g.k + r.n;
+  made = made_both start mid new g.k r.n g.made r.made;
+  within = omega (arith, g.count, r.most, l);
+  calls = omega (arith, g.calls, r.once, l);
+  onward = omega (arith, r.least);
+  all = λ x. absurd cc;
+  patient = λ x. absurd cc;
+  silent = λ x. absurd cc;
+  told = (
+    calm_both start.seen.counts mid.seen.counts new.seen.counts g.calm r.round.0,
+    r.round.1,
+    r.round.3,
+    (
+      events start.half.end g.made.moved.course.items,
+      g.quiet,
+      told_both start mid new g.made.moved r.made.moved
+          ∙ ap (λ (l : List Event). events start.half.end g.made.moved.course.items ++ l) r.round.2,
+    ),
+  );
+}
+
+pub exchanged_last : (until may left n : ℕ) (start now : Moment) → n ≡ may → IsGoing until may left n start now
+    → IsExchanged until may left start now (Err stop.Rounds)
+exchanged_last until may left n start now e g = record {
+  steps = g.k;
+  made = g.made;
+  within = omega (arith, g.count, g.left);
+  calls = omega (arith, g.calls, g.left);
+  onward = omega arith;
+  all = λ x. omega (arith, g.left, e);
+  patient = λ x l. g.patient (omega (arith, l, g.count));
+  silent = λ x. absurd cc;
+  told = g.calm;
+}
+
+pub exchanged_first : (until may : ℕ) (start : Moment) (e : Stop) → IsVerdict start.half.end (Some e) → IsExchanged until may may start start (Err e)
+exchanged_first until may start e v = record {
   steps = 0;
   made = made_none start;
   within = omega arith;
-  all = λ r. absurd (verdict_not_rounds start.half.end e v r);
-  stop = verdict_stops limits start start e (record { ends = refl; failed = refl }) v;
+  calls = omega arith;
+  onward = omega arith;
+  all = λ x. absurd (verdict_not_rounds start.half.end e v (is_same x));
+  patient = λ x. absurd (verdict_not_rounds start.half.end e v (is_same x));
+  silent = λ x. refl;
+  told = verdict_stops until start start e (none_first start) v;
 }
-
-pub stopped_last : (limits : Limits) (start new : Moment) (n : ℕ) → n ≡ limits.rounds → IsMade n start new → IsCalm start.seen.counts new.seen.counts
-    → IsExchanged limits start new stop.Rounds
-stopped_last limits start new n e m k = record { steps = n; made = m; within = omega (arith, e); all = λ r. e; stop = k }
+  where
+    is_same : {A : Type 0} {x y : Stop} → Err {A = A} x ≡ Err y → x ≡ y
+    is_same e = cc

@@ -4,7 +4,9 @@ use Rattle.std.specs.Io.KnownBytes.{Consumes, Appends, Keeps}
 use Rattle.bt_wire.specs.declared.item.Item.{Item}
 use Rattle.bt_feed.specs.Pumps.{IsFed}
 use Rattle.bt_end.specs.Ends.{EndState, react, spelled}
+use Rattle.bt_end.specs.Events.{event_of}
 use Rattle.bt_end.specs.Halves.{HalfState}
+use Rattle.bt_end.specs.declared.event.Event.{Event}
 use Rattle.bt_exchange.specs.Connections.{Seen}
 
 -- what was read is there
@@ -19,6 +21,11 @@ Fills old new (Err e) bytes = (bytes ≡ []) × Keeps old.coming new.coming × (
 abbrev pub end_after : EndState → List (ℕ × Item) → EndState
 end_after e [] = e
 end_after e (x ∷ xs) = end_after (react e x.1).end xs
+
+-- what these items make of the end, one after the other
+abbrev pub events : EndState → List (ℕ × Item) → List Event
+events e [] = []
+events e (x ∷ xs) = event_of e x.1 ∷ events (react e x.1).end xs
 
 -- the bytes of all that it queues at them, in order
 abbrev pub replies : EndState → List (ℕ × Item) → List ℕ

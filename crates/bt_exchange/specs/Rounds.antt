@@ -102,7 +102,7 @@ HasRun rounds old new left right left' right' result =
 
 -- a turn, after which there may be another one
 abbrev pub is_turn : Result Step Stop → Bool
-is_turn (Ok step.Handled) = true
+is_turn (Ok (step.Handled e)) = true
 is_turn (Ok step.Held) = true
 is_turn other = false
 

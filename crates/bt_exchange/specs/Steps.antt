@@ -4,11 +4,13 @@ use Rattle.std.specs.Io.KnownBytes.{Consumes, Appends, IsAtEnd}
 use Rattle.bt_io.specs.Counts.{one_more}
 use Rattle.bt_feed.specs.Feeds.{taken, pushed}
 use Rattle.bt_feed.specs.Stages.{is_closed}
+use Rattle.bt_end.specs.Events.{event_of}
 use Rattle.bt_end.specs.Halves.{HalfState, received, without_sent, IsTurned}
 use Rattle.bt_end.specs.declared.end.Turn.{Turn}
 use Rattle.bt_end.specs.declared.end.Turn.TheVariants.{Handled, Idle}
 use Rattle.bt_end.specs.declared.end.TurnError.{TurnError}
 use Rattle.bt_end.specs.declared.end.TurnError.TheVariants as turn_error
+use Rattle.bt_end.specs.declared.event.Event.{Event}
 use Rattle.bt_exchange.specs.Courses.{Moment}
 use Rattle.bt_exchange.specs.declared.talking.Step.{Step}
 use Rattle.bt_exchange.specs.declared.talking.Step.TheVariants as step
@@ -58,7 +60,7 @@ pub record HasWaited (prompt : Bool) (old new : Moment) : Type 0 where
 abbrev pub IsExact : Bool → Moment → Moment → Result Step Stop → Type 0
 IsExact prompt old new (Ok step.Moved) = HasWritten old new ⊎ HasRead old new
 IsExact prompt old new (Ok step.Waited) = HasWaited prompt old new
-IsExact prompt old new (Ok step.Handled) = HasTurned (Ok Handled) old new
+IsExact prompt old new (Ok (step.Handled e)) = HasTurned (Ok Handled) old new
 IsExact prompt old new (Ok step.Held) = HasTurned (Ok Idle) old new
 IsExact prompt old new (Err (stop.Refused r)) = HasTurned (Err (turn_error.Refused r)) old new
 IsExact prompt old new (Err other) = ⊤
@@ -85,9 +87,21 @@ after_write (Ok (Some n)) a = without_sent n a
 after_write other a = a
 
 -- what it answers at a turn
-abbrev pub at_turn : Result Turn TurnError → Result Step Stop
-at_turn (Ok Handled) = Ok step.Handled
-at_turn (Ok Idle) = Ok step.Held
+abbrev pub at_turn : Result (Option Event) TurnError → Result Step Stop
+at_turn (Ok (Some e)) = Ok (step.Handled e)
+at_turn (Ok None) = Ok step.Held
 at_turn (Err (turn_error.Refused r)) = Err (stop.Refused r)
 at_turn (Err turn_error.Busy) = Ok step.Held
 at_turn (Err turn_error.Memory) = Err stop.Memory
+
+-- a turn that tells what its item made of the end
+abbrev pub IsNext : HalfState → Result (Option Event) TurnError → HalfState → Type 0
+IsNext a (Ok (Some e)) b = (t : IsTurned a (Ok Handled) b) × (e ≡ event_of a.end t.0)
+IsNext a (Ok None) b = IsTurned a (Ok Idle) b
+IsNext a (Err f) b = IsTurned a (Err f) b
+
+-- the same turn, without what it tells
+abbrev pub turn_of : Result (Option Event) TurnError → Result Turn TurnError
+turn_of (Ok (Some e)) = Ok Handled
+turn_of (Ok None) = Ok Idle
+turn_of (Err f) = Err f

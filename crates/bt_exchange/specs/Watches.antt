@@ -1,17 +1,18 @@
--- For private contracts: one round of an exchange, and its watch.
-use Rattle.std.specs.Prelude.{◌≡◌, ◌≤◌, Bool, true, false, is_some, Option, Some, None, Result, Ok, Err}
-use Rattle.bt_end.specs.Ends.{EndState, metadata_of, headway_of, is_hopeless}
-use Rattle.bt_exchange.specs.Courses.{Moment}
-use Rattle.bt_exchange.specs.Stops.{IsCalm, IsMark, IsStopped, is_done}
+-- For private contracts: one round of an exchange.
+use Rattle.std.specs.Prelude.{◌≡◌, ◌≤◌, ◌+◌, ℕ, Bool, true, false, List, [], ◌∷◌, is_some, Option, Some, None, Result, Ok, Err, ⊤}
+use Rattle.std.specs.List.{list_all}
+use Rattle.bt_end.specs.Ends.{EndState, metadata_of, is_hopeless}
+use Rattle.bt_end.specs.declared.event.Event.{Event}
+use Rattle.bt_exchange.specs.Courses.{Moment, events}
+use Rattle.bt_exchange.specs.Stops.{IsCalm, IsMade, IsOpen, IsStopped, is_done, is_news, no_news, steps_of}
+use Rattle.bt_exchange.specs.declared.talking.Step.{Step}
+use Rattle.bt_exchange.specs.declared.talking.Step.TheVariants as step
 use Rattle.bt_exchange.specs.declared.talking.Stop.{Stop}
 use Rattle.bt_exchange.specs.declared.talking.Stop.TheVariants as stop
-use Rattle.bt_exchange.specs.declared.talking.Limits.{Limits}
-use Rattle.bt_exchange.specs.declared.talking.Sign.TheVariants as sign
-use Rattle.bt_exchange.specs.declared.talking.Watch.{Watch}
 
 -- whether, and why, a fetch is over
 abbrev pub IsVerdict : EndState → Option Stop → Type 0
-IsVerdict e None = is_some (metadata_of e.part) ≡ false
+IsVerdict e None = IsOpen e
 IsVerdict e (Some stop.Done) = is_some (metadata_of e.part) ≡ true
 IsVerdict e (Some stop.Mismatch) = (is_some (metadata_of e.part) ≡ false) × (2 ≤ e.mismatches)
 IsVerdict e (Some stop.Hopeless) = (is_some (metadata_of e.part) ≡ false) × (is_hopeless e ≡ true)
@@ -21,8 +22,26 @@ abbrev pub is_over : {A : Type 0} → Result A Stop → Bool
 is_over (Ok x) = false
 is_over (Err e) = is_done e
 
--- the watch goes on, or the round stopped
-abbrev pub IsWatched : Limits → Moment → Moment → Result Watch Stop → Type 0
-IsWatched limits start new (Ok w) = IsCalm start.seen.counts new.seen.counts × (limits.sign ≡ sign.Progress → w.headway ≡ headway_of new.half.end)
-    × IsMark limits.sign w.since start new
-IsWatched limits start new (Err e) = IsStopped limits start new e × (e ≡ stop.Rounds → ⊥)
+-- it goes on with no news, and in time; with news; or it stopped
+abbrev pub IsRound : ℕ → (old new : Moment) → List Event → Result (Option Event) Stop → Type 0
+IsRound until old new es (Ok None) = IsCalm old.seen.counts new.seen.counts × IsOpen new.half.end × (new.seen.counts.clock ≤ until)
+    × (list_all no_news es ≡ true)
+IsRound until old new es (Ok (Some e)) = IsCalm old.seen.counts new.seen.counts × IsOpen new.half.end × (es ≡ e ∷ []) × (is_news e ≡ true)
+IsRound until old new es (Err e) = IsStopped until old new e × (e ≡ stop.Rounds → ⊥) × (e ≡ stop.Silent → list_all no_news es ≡ true)
+
+-- a step, or a failed one, and its watch
+pub record IsRounded (until : ℕ) (old new : Moment) (r : Result (Option Event) Stop) : Type 0 where
+  pub n : ℕ
+  pub least : steps_of r ≤ n
+  pub most : n ≤ 1
+  pub made : IsMade n old new
+  pub once : new.seen.counts.calls ≤ old.seen.counts.calls + 1
+  pub round : IsRound until old new (events old.half.end made.moved.course.items) r
+
+-- what a step makes a round, by the end after it
+abbrev pub IsJudged : Step → EndState → Result (Option Event) Stop → Type 0
+IsJudged (step.Handled v) e (Ok None) = (is_news v ≡ false) × IsOpen e
+IsJudged (step.Handled v) e (Ok (Some w)) = (w ≡ v) × (is_news v ≡ true) × IsOpen e
+IsJudged (step.Handled v) e (Err s) = IsVerdict e (Some s)
+IsJudged other e (Ok None) = ⊤
+IsJudged other e r = ⊥

@@ -82,7 +82,7 @@ fn way_of(step: Result<Step, Stop>) -> Result<Way, BothError>
 fn is_turn(step: Result<Step, Stop>) -> bool
     ensures { result ≡ is_turn_step step }
 {
-    matches!(step, Ok(Step::Handled | Step::Held))
+    matches!(step, Ok(Step::Handled(_) | Step::Held))
 }
 
 /// How many items the step handled.
@@ -90,7 +90,7 @@ fn items_in(step: Result<Step, Stop>) -> u64
     ensures { result ≡ items_of step }
 {
     match step {
-        Ok(Step::Handled) => 1,
+        Ok(Step::Handled(_)) => 1,
         _ => 0,
     }
 }
@@ -111,7 +111,7 @@ fn call<W: Wire, A: Allocator + Copy>(
 {
     let mut items = 0u64;
     'steps: loop {
-        let step = advance(wire, end, hearing);
+        let step = advance(wire, end, hearing, true);
         if !is_turn(step) {
             return match way_of(step) {
                 Ok(way) => Ok(Called { items, way }),

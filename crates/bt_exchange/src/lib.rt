@@ -8,6 +8,7 @@ mod mem_wire;
 mod stream;
 mod talking;
 mod tcp;
+mod watch;
 mod wire;
 
 pub use both::{Both, BothError, run_both};
@@ -15,6 +16,7 @@ pub use connection::Connection;
 pub use hearing::Hearing;
 pub use mem_wire::MemWire;
 pub use stream::Stream;
-pub use talking::{Limits, Sign, Step, Stop, Witness, advance, exchange};
+pub use talking::{Step, Stop, advance, exchange};
 pub use tcp::{TcpWire, open_tcp};
+pub use watch::Watch;
 pub use wire::Wire;

@@ -1,16 +1,18 @@
 //! The loop over one connection. Fetching calls [`exchange`], and serving calls [`advance`].
-ghost use Rattle.std.specs.Prelude.{◌≡◌, ◌≢◌, ◌<◌, ◌≤◌, ℕ, Bool, true, false, List, [], length, is_some, Ok, Err, IfOk, IfSome};
+ghost use Rattle.std.specs.Prelude.{◌≡◌, ◌≢◌, ◌<◌, ◌≤◌, ◌+◌, ℕ, Bool, true, false, List, [], length, is_some, Ok, Err, IfOk, IfSome};
 ghost use Rattle.bt_feed.specs.Progress.{IsFeed};
-ghost use Rattle.bt_end.specs.Ends.{metadata_of, headway_of};
+ghost use Rattle.bt_end.specs.Ends.{metadata_of};
+ghost use Rattle.bt_end.specs.Halves.{high_water};
 ghost use Rattle.bt_exchange.specs.Connections.{Seen};
-ghost use Rattle.bt_exchange.specs.Courses.{Moment};
-ghost use Rattle.bt_exchange.specs.Steps.{IsExact, after_write, at_read, at_write, at_turn};
-ghost use Rattle.bt_exchange.specs.Stops.{IsCalm, IsAdvanced, IsMade, IsMark, IsExchanged, is_done, is_still, steps_of};
-ghost use Rattle.bt_exchange.specs.Watches.{IsVerdict, IsWatched, is_over};
+ghost use Rattle.bt_exchange.specs.Steps.{IsExact, IsNext, after_write, at_read, at_write, at_turn};
+ghost use Rattle.bt_exchange.specs.Stops.{HasListened, IsAdvanced, IsExchanged, IsOpen, is_news as is_news_by};
+ghost use Rattle.bt_exchange.specs.Watches.{IsJudged, IsRounded, IsVerdict, is_over};
 
 use crate::connection::Connection;
 use crate::hearing::Hearing;
-use bt_end::{End, Headway, Progress, Turn, TurnError};
+use crate::watch::Watch;
+use bt_end::{End, Event, TurnError};
+use bt_feed::laws::one_answer;
 use bt_io::Failed;
 use bt_wire::Refusal;
 use std::alloc::Allocator;
@@ -22,8 +24,8 @@ pub enum Step {
     Moved,
     /// The connection could move nothing yet.
     Waited,
-    /// Bytes that were read went to the end, which handled an item.
-    Handled,
+    /// Bytes that were read went to the end, which handled an item. This is what the item made of it.
+    Handled(Event),
     /// Bytes that were read went to the end, which holds no whole item yet.
     Held,
 }
@@ -39,7 +41,7 @@ pub enum Stop {
     Mismatch,
     /// The peer closed the connection.
     Closed,
-    /// No sign of life was seen for longer than the patience.
+    /// Nothing was told, and the patience is over.
     Silent,
     /// A call of the connection failed.
     Failed,
@@ -51,46 +53,25 @@ pub enum Stop {
     Memory,
 }
 
-/// What counts as a sign of life.
-#[derive(Clone, Copy, PartialEq, Eq, Debug)]
-pub enum Sign {
-    /// Bytes that were read or written.
-    Bytes,
-    /// The connection came further: see [`End::headway`].
-    Progress,
-}
-
-/// How long an exchange goes on.
-#[derive(Clone, Copy, PartialEq, Eq, Debug)]
-pub struct Limits {
-    /// The number of steps. Each writes once, reads once or handles an item.
-    pub rounds: u64,
-    /// The number of seconds that may pass without a sign of life, by the connection's clock.
-    pub patience: u64,
-    pub sign: Sign,
-}
-
-/// The time of the last sign of life, and how far the connection had come.
-#[derive(Clone, Copy)]
-struct Watch {
-    since: u64,
-    headway: Headway,
-}
-
 /// Makes one step.
 ///
-/// It is a write, where the end has something to send; else a turn, where bytes wait for it; else a read.
+/// It is a write, if the end has something to send and `may_send` says that it may; else a turn, if bytes wait for it; else a
+/// read. While nothing may be sent, less than `HIGH_WATER` bytes wait to be sent.
 pub fn advance<C: Connection, A: Allocator + Copy>(
     connection: &mut C,
     end: &mut End<A>,
     hearing: &mut Hearing<A>,
+    may_send: bool,
 ) -> Result<Step, Stop>
+    requires { may_send ≡ false → length end.old.outbox < high_water }
     ensures advanced { IsAdvanced (record { seen = C.seen connection.old; pending = hearing.old; half = end.old })
         (record { seen = C.seen connection.new; pending = hearing.new; half = end.new }) result }
-    ensures exact { IsExact C.prompt (record { seen = C.seen connection.old; pending = hearing.old; half = end.old })
+    ensures exact { may_send ≡ true → IsExact C.prompt (record { seen = C.seen connection.old; pending = hearing.old; half = end.old })
+        (record { seen = C.seen connection.new; pending = hearing.new; half = end.new }) result }
+    ensures listens { may_send ≡ false → HasListened (record { seen = C.seen connection.old; pending = hearing.old; half = end.old })
         (record { seen = C.seen connection.new; pending = hearing.new; half = end.new }) result }
 {
-    if !end.outgoing().is_empty() {
+    if may_send && !end.outgoing().is_empty() {
         return send(connection, end);
     }
     if !hearing.bytes().is_empty() {
@@ -131,14 +112,26 @@ fn write_step<A: Allocator + Copy>(
     }
 }
 
+/// Handles the next item, and returns what it made of the end.
+fn next_event<A: Allocator + Copy>(end: &mut End<A>) -> Result<Option<Event>, TurnError>
+    ensures { IsNext end.old result end.new }
+{
+    one_answer();
+    match end.next() {
+        Ok(Some(heard)) => Ok(Some(heard.event)),
+        Ok(None) => Ok(None),
+        Err(error) => Err(error),
+    }
+}
+
 /// What a turn makes a step.
-fn turn_step(turned: Result<Turn, TurnError>) -> Result<Step, Stop>
+fn turn_step(turned: Result<Option<Event>, TurnError>) -> Result<Step, Stop>
     requires { turned ≢ Err TurnError.Busy }
     ensures { result ≡ at_turn turned }
 {
     match turned {
-        Ok(Turn::Handled) => Ok(Step::Handled),
-        Ok(Turn::Idle) => Ok(Step::Held),
+        Ok(Some(event)) => Ok(Step::Handled(event)),
+        Ok(None) => Ok(Step::Held),
         Err(TurnError::Refused(refusal)) => Err(Stop::Refused(refusal)),
         Err(TurnError::Busy) => unreachable!(),
         Err(TurnError::Memory) => Err(Stop::Memory),
@@ -163,16 +156,16 @@ fn send<C: Connection, A: Allocator + Copy>(
 /// Gives the end bytes, up to the end of an item, and handles it where it is whole.
 fn take_turn<A: Allocator + Copy>(end: &mut End<A>, hearing: &mut Hearing<A>) -> Result<Step, Stop>
     requires feed { IsFeed end.old.feed }
-    requires sent { length end.old.outbox ≡ 0 }
+    requires room { length end.old.outbox < high_water }
     requires pending { 0 < length hearing.old }
-    ensures advanced { (seen : Seen) → IsAdvanced (record { seen = seen; pending = hearing.old; half = end.old })
+    ensures listened { (seen : Seen) → HasListened (record { seen = seen; pending = hearing.old; half = end.old })
         (record { seen = seen; pending = hearing.new; half = end.new }) result }
-    ensures exact { (seen : Seen) (prompt : Bool) → IsExact prompt (record { seen = seen; pending = hearing.old; half = end.old })
+    ensures exact { (seen : Seen) (prompt : Bool) → length end.old.outbox ≡ 0 → IsExact prompt (record { seen = seen; pending = hearing.old; half = end.old })
         (record { seen = seen; pending = hearing.new; half = end.new }) result }
 {
     let n = end.receive(hearing.bytes());
     hearing.pass(n);
-    turn_step(end.turn())
+    turn_step(next_event(end))
 }
 
 /// Whether, and why, a fetch is over.
@@ -190,93 +183,86 @@ fn verdict<A: Allocator + Copy>(end: &End<A>) -> Option<Stop>
     }
 }
 
-/// Whether a step showed a sign of life, where the connection had come this far before.
-fn is_alive<A: Allocator + Copy>(sign: Sign, step: Step, before: Headway, end: &End<A>) -> bool
-    ensures headway { sign ≡ Sign.Progress → step ≡ Step.Handled → result ≡ false → before ≡ headway_of end.now.end }
-    ensures bytes { sign ≡ Sign.Bytes → result ≡ false → is_still (Ok step) ≡ true }
+/// Whether an event is one that the driver of a fetch is told of.
+fn is_news(event: Event) -> bool
+    ensures { result ≡ is_news_by event }
 {
-    match (sign, step) {
-        (Sign::Bytes, Step::Moved) => true,
-        (Sign::Progress, Step::Handled) => end.headway() != before,
+    match event {
+        Event::Opened(_) | Event::Announced { .. } => true,
+        Event::Block(_) | Event::Rejected(_) | Event::Fetched | Event::Mismatched => true,
         _ => false,
     }
 }
 
-/// Hears of each sign of life, as of the progress of a fetch.
-pub trait Witness {
-    /// The fetch has come this far; `None` where no size is known.
-    fn came(&mut self, progress: Option<Progress>);
+/// What a step says: the event if that is news, or why the fetch is over.
+fn judge<A: Allocator + Copy>(step: Step, end: &End<A>) -> Result<Option<Event>, Stop>
+    ensures { IsJudged step end.now.end result }
+{
+    let Step::Handled(event) = step else {
+        return Ok(None);
+    };
+    match verdict(end) {
+        Some(stop) => Err(stop),
+        None if is_news(event) => Ok(Some(event)),
+        None => Ok(None),
+    }
 }
 
-/// Makes a step, and keeps watch.
-fn round<C: Connection, A: Allocator + Copy, W: Witness>(
+/// Makes a step, and keeps watch. Returns the event if it is news.
+fn round<C: Connection, A: Allocator + Copy>(
     connection: &mut C,
     end: &mut End<A>,
     hearing: &mut Hearing<A>,
-    limits: Limits,
     watch: Watch,
-    witness: &mut W,
-) -> Result<Watch, Stop>
-    requires headway { limits.sign ≡ Sign.Progress → watch.headway ≡ headway_of end.old.end }
-    requires undone { is_some (metadata_of end.old.end.part) ≡ false }
-    ensures made { (n : ℕ) × (steps_of result ≤ n) × (n ≤ 1) × IsMade n (record { seen = C.seen connection.old; pending = hearing.old; half = end.old })
-        (record { seen = C.seen connection.new; pending = hearing.new; half = end.new }) }
-    ensures watched { (start : Moment) → IsMark limits.sign watch.since start (record { seen = C.seen connection.old; pending = hearing.old; half = end.old })
-        → IsCalm start.seen.counts (C.seen connection.old).counts
-        → IsWatched limits start (record { seen = C.seen connection.new; pending = hearing.new; half = end.new }) result }
+    patience: u64,
+) -> Result<Option<Event>, Stop>
+    requires { IsOpen end.old.end }
+    ensures rounded { IsRounded (watch.since + patience) (record { seen = C.seen connection.old; pending = hearing.old; half = end.old })
+        (record { seen = C.seen connection.new; pending = hearing.new; half = end.new }) result }
     ensures done { is_over result ≡ is_some (metadata_of end.new.end.part) }
 {
-    let step = match advance(connection, end, hearing) {
-        Ok(step) => step,
-        Err(stop) => return Err(stop),
-    };
-    if let Step::Handled = step {
-        if let Some(stop) = verdict(end) {
-            return Err(stop);
-        }
+    let step = advance(connection, end, hearing, true)?;
+    if let Some(event) = judge(step, end)? {
+        return Ok(Some(event));
     }
     let now = connection.now();
-    if is_alive(limits.sign, step, watch.headway, end) {
-        let headway = end.headway();
-        witness.came(headway.progress);
-        return Ok(Watch {
-            since: now,
-            headway,
-        });
-    }
-    if now >= watch.since && now - watch.since > limits.patience {
+    if watch.is_over(now, patience) {
         return Err(Stop::Silent);
     }
-    Ok(watch)
+    Ok(None)
 }
 
-/// Makes steps until the connection is done or stops.
+/// Makes steps until there is news of a fetch, and returns it.
 ///
-/// It is done where the metadata is there. It stops where no more of it can come, the connection ends, fails or is silent,
-/// what comes is refused, or as many steps were made as may be. `witness` hears of each sign of life.
-pub fn exchange<C: Connection, A: Allocator + Copy, W: Witness>(
+/// News is each item that does something for the fetch: the peer's handshake, an extended handshake, and a block that was asked
+/// for, which came or was rejected. At most `steps` steps are made, each of which writes once, reads once or handles an item;
+/// `steps` is then the number of those that are left.
+///
+/// # Errors
+/// `Done` if the metadata is there, `Hopeless` or `Mismatch` if no more of it can come, `Silent` if `patience` seconds have passed since
+/// the time of the watch, `Rounds` if no steps are left, and what the connection, what came or the memory stopped.
+pub fn exchange<C: Connection, A: Allocator + Copy>(
     connection: &mut C,
     end: &mut End<A>,
     hearing: &mut Hearing<A>,
-    limits: Limits,
-    witness: &mut W,
-) -> Stop
-    ensures exchanged { IsExchanged limits (record { seen = C.seen connection.old; pending = hearing.old; half = end.old })
+    watch: Watch,
+    patience: u64,
+    steps: &mut u64,
+) -> Result<Event, Stop>
+    ensures exchanged { IsExchanged (watch.since + patience) steps.old steps.new
+        (record { seen = C.seen connection.old; pending = hearing.old; half = end.old })
         (record { seen = C.seen connection.new; pending = hearing.new; half = end.new }) result }
-    ensures done { is_done result ≡ is_some (metadata_of end.new.end.part) }
+    ensures done { is_over result ≡ is_some (metadata_of end.new.end.part) }
 {
     if let Some(stop) = verdict(end) {
-        return stop;
+        return Err(stop);
     }
-    let mut watch = Watch {
-        since: connection.now(),
-        headway: end.headway(),
-    };
-    for _round in 0..limits.rounds {
-        match round(connection, end, hearing, limits, watch, witness) {
-            Ok(next) => watch = next,
-            Err(stop) => return stop,
+    let may = *steps;
+    for made in 0..may {
+        *steps = may - made - 1;
+        if let Some(event) = round(connection, end, hearing, watch, patience)? {
+            return Ok(event);
         }
     }
-    Stop::Rounds
+    Err(Stop::Rounds)
 }

@@ -39,16 +39,16 @@ steps-preserved g c =
     let prompt : Bool = g.W.Connection.prompt in
     let side = subst (IsSide c.steps.end step.new.end) (sym c.items_in.ensures) (side_step (old g at) (new g at) step.result step.ensures.advanced) in
     record {
-      seen = turn_seen (old g at) (new g at) prompt step.result turn step.ensures.exact ∙ c.steps.invariant.seen;
+      seen = turn_seen (old g at) (new g at) prompt step.result turn (step.ensures.exact refl) ∙ c.steps.invariant.seen;
       side = side_both _ _ _ _ _ _ c.steps.invariant.side side c.saturating_add-items.ensures;
-      turns = turns_on (start g at) (old g at) (new g at) prompt step.result turn c.steps.invariant.turns step.ensures.exact;
+      turns = turns_on (start g at) (old g at) (new g at) prompt step.result turn c.steps.invariant.turns (step.ensures.exact refl);
     }
 
 pub steps-smaller : goal.steps-smaller
 steps-smaller g c =
     let at = (goal.at.steps-smaller g c).After-advance-step in
     let turn = sym c.is_turn.ensures ∙ c.if-not-is_turn.false in
-    turn_lessens (old g at) (new g at) g.W.Connection.prompt c.advance-step.result turn c.advance-step.ensures.exact
+    turn_lessens (old g at) (new g at) g.W.Connection.prompt c.advance-step.result turn (c.advance-step.ensures.exact refl)
 
 pub returns-in-Ok-clause-net : goal.returns-in-Ok-clause-net
 returns-in-Ok-clause-net g c =
@@ -69,7 +69,7 @@ returns-in-Ok-clause-made g c moves =
     let at = (goal.at.returns-in-Ok-clause-made g c).After-advance-step in
     let U : Seen → Type 0 = λ s. IsUpBy 1 s.counts.calls (new g at).seen.counts.calls in
     let more = up_one (old g at) (new g at) g.W.Connection.prompt c.advance-step.result c.in-Ok.way (last g w) (way_is g w) moves
-    c.advance-step.ensures.exact in
+    (c.advance-step.ensures.exact refl) in
     subst U c.steps.invariant.seen more
 
 pub returns-in-Ok-clause-side : goal.returns-in-Ok-clause-side
@@ -83,7 +83,7 @@ returns-in-Ok-clause-called g c =
     let w = (goal.at.returns-in-Ok-clause-called g c).In-Ok in
     let at = (goal.at.returns-in-Ok-clause-called g c).After-advance-step in
     called_by (start g at) (old g at) (new g at) g.W.Connection.prompt c.advance-step.result c.in-Ok.way g.met.W.Wire.at_once (last g w) (way_is g w)
-    c.steps.invariant.turns c.advance-step.ensures.exact
+    c.steps.invariant.turns (c.advance-step.ensures.exact refl)
 
 pub returns-in-Err-clause-net : goal.returns-in-Err-clause-net
 returns-in-Err-clause-net g c =
