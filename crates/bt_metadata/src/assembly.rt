@@ -5,7 +5,7 @@ ghost use Rattle.bt_ext.specs.Metadata.{block_count};
 ghost use Rattle.bt_metadata.specs.Blocks.{max_metadata};
 ghost use Rattle.bt_metadata.specs.Assemblies.{is_asked, is_held, is_settled, started, ask_of, asking, with_slots, data_error, with_data, piece_error, with_reject, disconnected, IsFinished, held_block};
 ghost use Rattle.bt_metadata.specs.Unfinished.{IsUnfinished};
-ghost use Rattle.bt_metadata.specs.Sound.{IsAssembly, lacks, asks, holds, rejects, settles, kept_status, error_at, holds_at};
+ghost use Rattle.bt_metadata.specs.Sound.{IsAssembly, lacks, asks, holds, settles, kept_status, error_at, holds_at};
 
 use sha1::Sha1;
 use std::alloc::{AllocError, Allocator, Global};
