@@ -150,7 +150,7 @@ def pcapng(framed, order="<", nano=False):
 A_LINES = """  A Transmission 3.00
     free ok messages=5 bytes=278
     bep  ok messages=5 bytes=278
-    options --reserved 0000000000100005 --metadata-id 2
+    options --reserved 0000000000100005 --metadata-id 2 --donthave-id 7
 """
 B_LINES = """  B libtorrent/2.0.8.0
     free ok messages=6 bytes=25889
@@ -325,6 +325,22 @@ def other_extension():
     ) + "  still open at the capture's end\n"
 
 
+def donthave(ids="11:lt_donthavei7e11:ut_metadatai9e", said="--metadata-id 9 --donthave-id 7", verdict="refused message=1 at=74 BadExtLength"):
+    """B has these ids, and A sends three bytes under 7, where a message that takes back a piece has four."""
+    left, right = handshakes()
+    extended = message(b"\x14\x00d1:md%see" % ids.encode())
+    found = Talk().say("B", right + extended).say("A", left + message(b"\x14\x07\x00\x00\x09"))
+    lines = NAMES + report("-AA0001-000000000000", 77, verdict, verdict, "--reserved 0000000000100005 " + said)
+    size = 68 + len(extended)
+    return pcap(frames(found.packets)), lines + report(
+        "-BB0001-000000000000", size, *2 * ["ok messages=1 bytes=%d" % size], side="B"
+    ) + "  still open at the capture's end\n"
+
+
+ONE_ID = ("11:lt_donthavei7e11:ut_metadatai7e", "--metadata-id 7", "refused message=1 at=74 BadBencode")
+NO_ID = ("11:lt_donthavei0e11:ut_metadatai9e", "--metadata-id 9", "ok messages=1 bytes=77")
+
+
 def without_fast():
     """B hasn't the Fast Extension, so A's first message may be any."""
     left, right = handshakes()[0], hand(b"-BB0001-000000000000", "0000000000100000")
@@ -452,6 +468,9 @@ def rows():
     yield "a fault", ["--pieces", "38"], *fault(), b"", 1
     yield "a fault, shown", ["--pieces", "38", "--show"], fault()[0], fault()[1] + shown(), b"", 1
     yield "the id of another extension", [], *other_extension(), b"", 0
+    yield "an id of lt_donthave", [], *donthave(), b"", 1
+    yield "one id for both extensions", [], *donthave(*ONE_ID), b"", 1
+    yield "no id of lt_donthave", [], *donthave(*NO_ID), b"", 0
     yield "no Fast Extension", [], *without_fast(), b"", 0
     yield "a length below 0", [], *no_length(), b"", 1
     yield "a key exchange", [], *key_exchange(), b"", 0
@@ -506,6 +525,18 @@ def is_written(program, folder):
         with open(os.path.join(folder, "streams", name), "rb") as file:
             found.append(file.read())
     return found == [FETCHING, SERVING]
+
+
+def is_said_again(program, folder, capture):
+    """Whether bt_tool gives btcap's verdicts on the streams that it keeps, with the options that it prints."""
+    lines = run(program, ["--write", os.path.join(folder, "again")], capture, folder)[0]
+    said = re.findall(r"^    free (.*)\n    bep  (.*)\n    options (.*)$", lines, re.M)
+    again = []
+    for name, (_, _, options) in zip(("0-A.bin", "0-B.bin"), said):
+        verdicts = [subprocess.run([program, "check", "--rules", rules, *options.split(), os.path.join(folder, "again", name)],
+                                   capture_output=True, text=True).stdout.strip() for rules in ("free", "bep")]
+        again.append((*verdicts, options))
+    return len(said) == 2 and again == said
 
 
 def read_all(end, size):
@@ -604,9 +635,12 @@ def main():
                 found = run(each, words, capture, folder)
                 if not is_as(found, wanted):
                     wrong.append("%s\nexpected: %s\ngot: %s" % (name, wanted, found))
-        runs += 2
+        runs += 6
         if not is_written(program, folder):
             wrong.append("--write")
+        for capture in (pcap(frames(talk())), donthave()[0], donthave(*ONE_ID)[0], donthave(*NO_ID)[0]):
+            if not is_said_again(program, folder, capture):
+                wrong.append("the options that btcap prints give other verdicts")
         if example("refused.pcap") != fault()[0]:
             wrong.append("examples/refused.pcap isn't the capture of a fault")
         for row in TALKS:
