@@ -3,9 +3,9 @@
 
 usage: tests/dist.py [CHECK..]
 
-CHECK is a function of CHECKS; without any all are run. It copies what a clone has to another folder, and works there with the PATH /usr/bin:/bin and an empty environment. What each program
-prints of the example streams is compared with `bt_tool show`, and `bt_tool show` with the lines of examples/README.md. What needs
-a tool that isn't installed is skipped, and that is said.
+CHECK is a function of CHECKS; without any all are run. It copies what a clone has to another folder, and works there with the PATH
+/usr/bin:/bin and an empty environment. What each program prints of the example streams is compared with `bt_tool show`, and `show`
+with the lines of examples/README.md. What needs a tool that isn't installed is skipped, and that is said.
 """
 import contextlib
 import filecmp
@@ -60,7 +60,8 @@ def run(words, folder, given=b"", environment=None, **how):
 def passes(words, folder, **how):
     """What a command writes that has to end with status 0."""
     done = run(words, folder, **how)
-    assert done.returncode == 0, "%s: status %d\n%s" % (" ".join(map(str, words)), done.returncode, (done.stdout + done.stderr).decode("utf8", "replace"))
+    said = (done.stdout + done.stderr).decode("utf8", "replace")
+    assert done.returncode == 0, "%s: status %d\n%s" % (" ".join(map(str, words)), done.returncode, said)
     return done.stdout
 
 
@@ -68,7 +69,7 @@ def is_refused(done, *parts):
     """Whether the script ended with one line that has these parts, and ran nothing."""
     text = done.stderr.decode()
     wrong = done.returncode != 125 or done.stdout or text.count("\n") != 1 or any(part not in text for part in parts)
-    assert not wrong, "status %d, %r on standard output, and %r where one line has to have %r" % (done.returncode, done.stdout, text, parts)
+    assert not wrong, "status %d, output %r, and %r where one line has to have %r" % (done.returncode, done.stdout, text, parts)
 
 
 def clone(to):
@@ -173,7 +174,8 @@ def tampered(at):
             is_refused(show(at), "SHA256SUMS", "not run")
             is_refused(show(at), "SHA256SUMS", "not run")
             assert run(["tools/dist", "--check"], at, environment={"PATH": os.environ["PATH"]}).returncode == 1
-            assert run(["tools/install", at / "nothing"], at).returncode == 1 and not (at / "nothing").exists(), "installed a changed program"
+            assert run(["tools/install", at / "nothing"], at).returncode == 1, "installed a changed program"
+            assert not (at / "nothing").exists(), "left a folder"
         assert show(at).stdout == FIRST
     with changed(at / "dist/SHA256SUMS", lambda text: text.replace(b"x86_64-linux/bt_tool\n", b"x86_64-linux/another\n")):
         is_refused(show(at), "SHA256SUMS")
@@ -244,7 +246,8 @@ def all_files(at):
     found = {str(it.relative_to(dist)) for it in dist.rglob("*") if it.is_file()}
     assert found - listed == {"README.md", "SHA256SUMS"} and not listed - found, found ^ listed
     for it in found:
-        assert str(at).encode() not in (dist / it).read_bytes() and str(ROOT).encode() not in (dist / it).read_bytes(), "a path in " + it
+        for path in (at, ROOT, "/tmp/"):
+            assert str(path).encode() not in (dist / it).read_bytes(), "the path %s in %s" % (path, it)
     number = passes(["./bt_tool", "--version"], at).decode().split()[1]
     for name, text in help_texts.made(native / "bt_tool", number).items():
         assert (dist / name).read_text() == text, "%s isn't what --help says" % name
@@ -276,8 +279,9 @@ def reads_all(at, words, folder, environment=None):
 def in_c(at):
     if not which("cc"):
         return
+    compile = ["cc", "-O2", "-std=c11", "-Wall", "-Werror", "-I", "dist/x86_64-linux", "crates/bt_c/examples/show.c", "-o", at / "shower"]
     for words in (["dist/x86_64-linux/libbt.a"], ["-Ldist/x86_64-linux", "-lbt", "-Wl,-rpath,%s/dist/x86_64-linux" % at]):
-        passes(["cc", "-O2", "-std=c11", "-Wall", "-Werror", "-I", "dist/x86_64-linux", "crates/bt_c/examples/show.c", *words, "-o", at / "shower"], at)
+        passes([*compile, *words], at)
         reads_all(at, [at / "shower"], at)
     (at / "shower").unlink()
 
@@ -379,9 +383,11 @@ def texts(at):
     for page in [whole, *commands.values()]:
         for row in page.options():
             assert "\\-\\-" + row["name"].replace("-", "\\-") in lines, row
-    asked = "source dist/completions/bt_tool.bash; COMP_WORDS=(bt_tool %s); COMP_CWORD=$((${#COMP_WORDS[@]} - 1)); _bt_tool; echo ${COMPREPLY[@]}"
+    asked = "source dist/completions/bt_tool.bash; COMP_WORDS=(bt_tool %s); COMP_CWORD=$((${#COMP_WORDS[@]} - 1)); _bt_tool; "
+    asked += "echo ${COMPREPLY[@]}"
     if which("bash"):
-        for words, wanted in (("fet", "fetch"), ("fetch --tor", "--torrent"), ("check --rules ''", "free bep"), ("pack --pi", "--pieces")):
+        rows = [("fet", "fetch"), ("fetch --tor", "--torrent"), ("check --rules ''", "free bep"), ("pack --pi", "--pieces")]
+        for words, wanted in rows:
             found = passes(["bash", "-c", asked % words], at).decode().split()
             assert found == wanted.split(), (words, found)
     for shell, name in (("zsh", "_bt_tool"), ("fish", "bt_tool.fish")):

@@ -168,7 +168,8 @@ def zsh(whole, commands):
     text = "#compdef bt_tool\n# Completions of bt_tool for zsh, made from its --help.\n"
     text += "_bt_tool() {\n    if (( CURRENT == 2 )); then\n        local -a commands\n        commands=(\n"
     text += "".join("            '%s:%s'\n" % (name, zsh_text(about[name])) for name in commands)
-    text += "        )\n        _describe command commands\n        _arguments %s\n        return\n    fi\n" % " ".join(map(zsh_option, whole.options()))
+    text += "        )\n        _describe command commands\n"
+    text += "        _arguments %s\n        return\n    fi\n" % " ".join(map(zsh_option, whole.options()))
     text += "    local command=$words[2]\n    shift words\n    (( CURRENT-- ))\n    case $command in\n"
     for name, page in commands.items():
         text += "    %s)\n        _arguments %s \\\n            '*:FILE:_files'\n        ;;\n" % (
@@ -183,7 +184,9 @@ def fish_text(text):
 def fish_option(condition, row):
     words = ["complete -c bt_tool -n '%s' -l %s" % (condition, row["name"])]
     words += ["-s %s" % row["short"]] if row["short"] else []
-    words += ["-x -a '%s'" % " ".join(values_of(row))] if values_of(row) else ["-r"] if row["value"] in FILES else ["-x"] if row["value"] else []
+    if row["value"]:
+        words += ["-r" if row["value"] in FILES else "-x"]
+    words += ["-a '%s'" % " ".join(values_of(row))] if values_of(row) else []
     return " ".join([*words, "-d", fish_text(row["text"])])
 
 
