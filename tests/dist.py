@@ -246,7 +246,7 @@ def all_files(at):
     found = {str(it.relative_to(dist)) for it in dist.rglob("*") if it.is_file()}
     assert found - listed == {"README.md", "SHA256SUMS"} and not listed - found, found ^ listed
     for it in found:
-        for path in (at, ROOT, "/tmp/"):
+        for path in (at, ROOT):
             assert str(path).encode() not in (dist / it).read_bytes(), "the path %s in %s" % (path, it)
     number = passes(["./bt_tool", "--version"], at).decode().split()[1]
     for name, text in help_texts.made(native / "bt_tool", number).items():

@@ -37,12 +37,12 @@ class Maker:
         self.toolchain = self.kit / "toolchain"
 
     def program(self, to):
-        """The program without symbols."""
+        """The program without symbols. The section `.comment`, which names the logic in which it is proved, stays."""
         built = self.over / "bt_tool/out/bt_tool"
         if not built.is_file():
             raise Failed("%s isn't there; `rt ci` builds it" % built)
         # (LLVM's tools are one program, which goes by the name that it is called by)
-        run(["llvm-strip", "--strip-all", "-o", to, built], executable=self.toolchain / "bin/clang")
+        run(["llvm-strip", "--strip-all", "--keep-section=.comment", "-o", to, built], executable=self.toolchain / "bin/clang")
         to.chmod(0o755)
 
     def archive(self, to, kept, *target):
