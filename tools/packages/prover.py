@@ -1,8 +1,8 @@
-"""How the toolchain's prover is called on a crate over libraries that are built. `wrong_bodies` and `c_library` call it."""
+"""How the toolchain's prover is called on a crate over libraries that are built. tests/wrong_bodies and tools/dist call it."""
 import pathlib
 import subprocess
 
-ROOT = pathlib.Path(__file__).resolve().parent.parent
+ROOT = pathlib.Path(__file__).resolve().parent.parent.parent
 CRATES = ROOT / "crates"
 
 
