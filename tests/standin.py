@@ -5,7 +5,8 @@ usage: tests/standin.py MODE TORRENT IP:PORT [BROKEN]         listens there
        tests/standin.py magnet TORRENT --dial IP:PORT OUT [BROKEN]
 
 MODE is seed, leech or magnet: it has all pieces, none, or the info hash alone. It reads the wire by code of its own, which shares
-nothing with the proved reader. Each rule has a name where it is kept, `self.keeps("name")`; the client whose BROKEN it is doesn't keep it.
+nothing with the proved reader. Each rule has a name where it is kept, by the method `keeps`; the client whose BROKEN it is doesn't
+keep it.
 """
 import hashlib
 import os
@@ -86,7 +87,7 @@ class Connection:
         self.choking, self.choked, self.interested, self.served = True, True, False, 0
         self.ids, self.size, self.have, self.handshakes, self.seen = {}, None, set(), 0, {}
         self.asked, self.rejected, self.blocks, self.metadata_asked, self.metadata = [], set(), {}, [], {}
-        self.taken = []
+        self.answered = 0.0
 
     def send(self, data):
         self.end.sendall(data)
@@ -184,14 +185,17 @@ class Connection:
         at, count = 0, 0
         while len(self.buffer) - at >= 4:
             length, = struct.unpack_from(">I", self.buffer, at)
-            if length > LIMIT and self.keeps("a length has a limit"):
-                raise Close
+            if length > LIMIT:
+                self.odd()
+                if not self.deaf and self.keeps("a length has a limit"):
+                    raise Close
             if length > 10000 and not self.keeps("messages may be long"):
                 raise Close
             if len(self.buffer) - at < 4 + length:
                 break
             body, at, count = self.buffer[at + 4:at + 4 + length], at + 4 + length, count + 1
-            self.take(body)
+            if length <= LIMIT:
+                self.take(body)
         self.buffer = self.buffer[at:]
         if self.buffer and not self.keeps("messages may be cut"):
             raise Close
@@ -203,28 +207,35 @@ class Connection:
     def is_question(self, body):
         """Whether it is of the suite's opening or its last question, so that it has nothing odd."""
         last = self.torrent.pieces - 1
-        return (not body or body[:1] in b"\x0e\x0f" and len(body) == 1 and not self.past or b"peertest" in body[:200]
-                or body == b"\x14\x02" + QUESTION or body == b"\x06" + struct.pack(">III", last, 1024, 512) or body == b"\x02")
+        first = b"\x0f" if self.mode == "seed" else b"\x0e\x0f"
+        return (not body or body[:1] in first and len(body) == 1 and not self.past or b"peertest" in body[:200]
+                or body == b"\x14\x02" + QUESTION or body == b"\x06" + struct.pack(">III", last, 1024, 512) or body == b"\x02" and (self.past or not self.both & FAST))
+
+    def odd(self):
+        """What three broken clients do at a message that isn't of the opening."""
+        if not self.keeps("own bytes are right"):
+            self.send(message(99))
+        if not self.keeps("questions are answered after it"):
+            self.deaf = True
+        if not self.keeps("it lives on"):
+            self.client.die()
 
     def counted(self, name):
+        """How often this came."""
         self.seen[name] = self.seen.get(name, 0) + 1
         return self.seen[name]
 
     def take(self, body):
         if not self.is_question(body):
-            if not self.keeps("own bytes are right"):
-                self.send(message(99))
-            if not self.keeps("questions are answered after it"):
-                self.deaf = True
-            if not self.keeps("it lives on"):
-                self.client.die()
+            self.odd()
         if self.deaf:
             return
         if not body:
             self.keep_alive()
             return
         number, fields = body[0], body[1:]
-        self.judge(number, body)
+        if not self.judge(number, body):
+            return
         if number not in NOT_COUNTED:
             self.past = True
         handler = HANDLERS.get(number)
@@ -238,25 +249,29 @@ class Connection:
             raise Close
 
     def judge(self, number, body):
-        """Raises Close for what no peer may send."""
-        if number in FAST_IDS and not self.both & FAST and self.keeps("no Fast message is taken without it"):
-            raise Close
+        """Raises Close for what no peer may send. Says whether the message counts."""
+        if number in FAST_IDS and not self.both & FAST:
+            return self.ignores("no Fast message is taken without it")
         if number == 20 and not self.both & EXTENSIONS:
             raise Close
         if LENGTHS.get(number, len(body)) != len(body) or number == 7 and len(body) < 9 or number == 20 and len(body) < 2:
-            if self.keeps("a wrong length is closed"):
-                raise Close
-            body = body + bytes(20)
+            return self.ignores("a wrong length is closed")
         if number in (0, 1, 2, 3, 4, 8) and not self.keeps("right messages are taken"):
             raise Close
         if number in (5, 14, 15) and self.past:
-            if self.keeps("a bitfield is first" if number == 5 else "have all and have none are first"):
-                raise Close
+            return self.ignores("a bitfield is first" if number == 5 else "have all and have none are first")
         if not self.past and number not in (5, 14, 15) + NOT_COUNTED and number < 20:
             if self.both & FAST or number == 3 and not self.keeps("a bitfield may be left out"):
                 raise Close
         if number == 5:
             self.judge_bitfield(body[1:])
+        return True
+
+    def ignores(self, name):
+        """Raises Close, or says that the message doesn't count."""
+        if self.keeps(name):
+            raise Close
+        return False
 
     def judge_bitfield(self, bits):
         count = self.torrent.pieces
@@ -284,7 +299,7 @@ class Connection:
             self.send(message(1))
 
     def on_have(self, number, fields):
-        index, = struct.unpack(">I", fields[:4].ljust(4, b"\0"))
+        index, = struct.unpack(">I", fields[:4])
         count = self.counted("have")
         if index >= self.torrent.pieces and self.keeps("an index is inside the torrent"):
             raise Close
@@ -323,21 +338,25 @@ class Connection:
         allowed = index == 5 and self.both & FAST and self.keeps("the allowed fast set is given")
         if self.mode != "seed" or self.choking and not allowed:
             self.answer_choked(fields[:12], index, begin, length)
-            return
-        inside = index < self.torrent.pieces and begin + length <= self.torrent.length(index)
-        wants = inside and 0 < length <= BLOCK
-        wants = wants or inside and length > BLOCK and not self.keeps("a request is of 16 KiB at most")
-        wants = wants or not length and not self.keeps("an empty request isn't answered by a block")
-        if not self.keeps("a request beyond the torrent gets no block") and not inside:
-            self.send(message(7, struct.pack(">II", index, begin)))
-            return
-        if wants and (length >= 512 or self.keeps("small blocks are given") or length == 64 or length in (16, 256)):
-            if length == 1608 or self.keeps("the last block is given") or index != self.torrent.pieces - 1 or length == 512:
-                self.block(index, begin, length)
-                return
-        if not self.both & FAST:
+        elif self.wants_block(index, begin, length):
+            self.block(index, begin, length)
+        elif self.both & FAST:
+            self.send(message(16, fields[:12]))
+        else:
             raise Close
-        self.send(message(16, fields[:12]))
+
+    def wants_block(self, index, begin, length):
+        """Whether a request is answered by a block."""
+        if index >= self.torrent.pieces or begin + length > self.torrent.length(index):
+            return not self.keeps("a request beyond the torrent gets no block")
+        if length > BLOCK:
+            return not self.keeps("a request is of 16 KiB at most")
+        if length == 0:
+            return not self.keeps("an empty request isn't answered by a block")
+        if length < 16:
+            return self.keeps("small blocks are given")
+        # (the suite's last question is for 512 bytes)
+        return index < self.torrent.pieces - 1 or length == 512 or self.keeps("the last block is given")
 
     def block(self, index, begin, length):
         data = self.torrent.block(index, begin, length)
@@ -401,7 +420,7 @@ class Connection:
         self.ask()
 
     def on_reject(self, number, fields):
-        block = struct.unpack(">III", fields[:12].ljust(12, b"\0"))
+        block = struct.unpack(">III", fields[:12])
         if block not in self.asked:
             if self.keeps("a reject of nothing is closed"):
                 raise Close
@@ -412,7 +431,7 @@ class Connection:
         self.ask()
 
     def on_advice(self, number, fields):
-        index, = struct.unpack(">I", fields[:4].ljust(4, b"\0"))
+        index, = struct.unpack(">I", fields[:4])
         if index >= self.torrent.pieces:
             raise Close
         if number == 13 and not self.keeps("a suggestion is taken") or number == 17 and not self.keeps("allowed fast is taken"):
@@ -499,15 +518,17 @@ class Connection:
         if rest and not self.keeps("bytes after it are no matter") or len(pairs) > 2 and not self.keeps("further keys are no matter"):
             return
         self.served += 1
+        if not self.keeps("metadata is given"):
+            return
         if self.served > 100 and not self.keeps("many metadata requests are answered"):
             return
         if self.mode == "magnet" and not self.client.metadata:
             if self.keeps("without metadata a request is rejected"):
                 self.metadata_message(2, piece)
             return
-        if self.taken[-1:] == [time.monotonic() // 0.2] and not self.keeps("two requests have two answers"):
+        since, self.answered = time.monotonic() - self.answered, time.monotonic()
+        if since < 0.1 and not self.keeps("two requests have two answers"):
             return
-        self.taken.append(time.monotonic() // 0.2)
         inside = 0 <= piece < self.torrent.blocks()
         if not inside and not self.keeps("a block that isn't there is rejected"):
             self.metadata_message(1, 0, self.torrent.metadata(0), len(self.torrent.info))
@@ -517,8 +538,6 @@ class Connection:
             data = self.torrent.metadata(piece)
             if piece and not self.keeps("the last block is as long as it is"):
                 data = data.ljust(BLOCK, b"\0")
-            if not piece and (b"%d" % piece, "odd") in self.seen:
-                return
             self.metadata_message(1, piece, data, len(self.torrent.info))
 
     def ask_metadata(self):
@@ -545,8 +564,7 @@ class Connection:
                 return
             self.client.metadata = data
             self.mode = "leech"
-            if self.keeps("with the metadata it goes on"):
-                self.interest()
+            self.interest()
 
     def again(self):
         """What was false isn't asked for again on this connection."""

@@ -17,19 +17,24 @@ def alive(pid):
         return False
 
 
-def resident(pid):
-    """The bytes of memory that are resident; None if that can't be known."""
-    try:
-        with open("/proc/%d/status" % pid) as file:
-            return next(1024 * int(line.split()[1]) for line in file if line.startswith("VmRSS:"))
-    except (OSError, StopIteration):
-        return None
+GIVEN = set()
+
+
+def free_port(host):
+    """A port that is free, and that wasn't given before."""
+    while True:
+        with socket.socket(socket.AF_INET6 if ":" in host else socket.AF_INET) as taken:
+            taken.bind((host, 0))
+            port = taken.getsockname()[1]
+        if port not in GIVEN:
+            GIVEN.add(port)
+            return port
 
 
 class Watched:
     """A client that somebody else started, whose process is known or isn't."""
 
-    restarts = False
+    restarts = movable = False
 
     def __init__(self, pid=None):
         self.pid = pid
@@ -53,12 +58,18 @@ class Started:
 
     def __init__(self, command, address, torrent, torrent_path, seconds=40):
         self.command, self.address, self.seconds, self.process, self.folder = command, address, seconds, None, None
+        self.torrent, self.path = torrent, torrent_path
         self.known = {"{torrent}": os.path.abspath(torrent_path), "{hash}": torrent.hash.hex(), "{port}": str(address[1]),
-                      "{address}": "%s:%d" % address}
+                      "{address}": ("[%s]:%d" if ":" in address[0] else "%s:%d") % address}
 
     @property
-    def pid(self):
-        return self.process.pid if self.process else None
+    def movable(self):
+        """Whether several can run at the same time, each at its port."""
+        return "{port}" in self.command or "{address}" in self.command
+
+    def copy(self):
+        """Another one, at a port that is free."""
+        return Started(self.command, (self.address[0], free_port(self.address[0])), self.torrent, self.path, self.seconds)
 
     def start(self):
         """Starts it, and waits until it takes connections. Raises OSError."""

@@ -28,7 +28,7 @@ def serve(link, how, seconds):
     """Answers block requests for some seconds, or one if the fault is of one answer. Returns how many were answered."""
     limit, count = time.monotonic() + seconds, 0
     while not link.end:
-        while link.heard.requests:
+        while link.heard.requests and (link.dry or time.monotonic() < limit):
             answer, more = blocks(link, how, *link.heard.requests.popleft())
             count += 1
             if how == "bytewise":
@@ -64,7 +64,7 @@ def give(link, how, seconds):
     """Answers metadata requests for some seconds. Returns how many came."""
     limit, count = time.monotonic() + seconds, 0
     while not link.end:
-        while link.heard.metadata_requests:
+        while link.heard.metadata_requests and (link.dry or time.monotonic() < limit):
             link.send(metadata(link, how, link.heard.metadata_requests.popleft()))
             count += 1
         if time.monotonic() >= limit:

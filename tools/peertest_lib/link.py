@@ -116,6 +116,10 @@ class Dialler:
     def __init__(self, torrent, address):
         self.torrent, self.address, self.count, self.second = torrent, address, 0, 20 + random.randrange(200)
 
+    def to(self, address):
+        """The same for another client."""
+        return Dialler(self.torrent, address)
+
     def source(self):
         """127.x.y.z, so that no ban and no count of one address holds for the next case."""
         self.count += 1

@@ -43,6 +43,7 @@ class Play:
         link, open_ = self.link, {name: self.fill(value) for name, value in self.case.open.items()}
         link.agree(int(open_.get("reserved", "0000000000100004"), 16))
         if open_.get("handshake") == "no":
+            link.first = open_.get("first") == "sent"
             return
         link.send(wire.handshake(link.reserved, link.torrent.hash, link.peer_id))
         if not link.until(lambda: link.heard.theirs is not None, 2 * self.options.patience):
@@ -137,7 +138,7 @@ class Play:
         words = text.split()
         seconds = float(words.pop()[1:]) if words[-1][0] == "@" else self.options.patience
         least = int(words.pop()[1:]) if words[-1][0] == "x" and words[-1][1:].isdigit() else 1
-        self.link.until(lambda: self.link.heard.count(" ".join(words), self.start) >= least, seconds)
+        self.link.until(lambda: self.link.heard.count(" ".join(words), self.start) >= least, self.options.at_most(seconds))
 
     def step_unchoked(self, _):
         self.link.send(wire.message(2))
@@ -171,11 +172,11 @@ class Play:
 
     def step_serve(self, text):
         how, seconds = text.split()
-        self.counts["blocks asked for"] = faults.serve(self.link, how, 0 if self.link.dry else float(seconds))
+        self.counts["blocks asked for"] = faults.serve(self.link, how, self.options.at_most(float(seconds)))
 
     def step_meta(self, text):
         how, seconds = text.split()
-        self.counts["metadata asked for"] = faults.give(self.link, how, 0 if self.link.dry else float(seconds))
+        self.counts["metadata asked for"] = faults.give(self.link, how, self.options.at_most(float(seconds)))
 
     # The question at the end.
 
@@ -184,7 +185,7 @@ class Play:
         if link.end:
             return "closed"
         if self.kind.startswith("read"):
-            link.pause(float(self.kind.split()[1]))
+            link.pause(self.options.at_most(float(self.kind.split()[1])))
             return "closed" if link.end else "open"
         if self.kind == "none":
             return "open"

@@ -16,9 +16,14 @@ SUSPECT = 3.0
 class Options:
     """Times, and whether this client unchokes at all."""
 
-    def __init__(self, patience=4.0, unchoke=25.0, level="must", jobs=6, settle=0.0):
+    def __init__(self, patience=4.0, unchoke=25.0, level="must", jobs=6, settle=0.0, longest=float("inf")):
+        self.longest = longest
         self.patience, self.unchoke, self.level, self.jobs, self.settle = patience, unchoke, level, jobs, settle
         self.never, self.did = 0, False
+
+    def at_most(self, seconds):
+        """A time that a case states, cut for the suite's own tests."""
+        return min(seconds, self.longest)
 
     def unchoke_wait(self):
         """A client that unchoked nobody in three cases is waited for only a second."""
@@ -41,23 +46,31 @@ def plain_result(case, result, said, seconds=0.0):
                   result=result, said=said, seconds=round(seconds, 3))
 
 
+def lives_on(client, seconds=0.3):
+    """Whether the client still lives a moment later."""
+    limit = time.monotonic() + seconds
+    while client.lives() and time.monotonic() < limit:
+        time.sleep(0.02)
+    return client.lives()
+
+
 class Suite:
     """The cases against one client. `tell` is called with each result."""
 
     def __init__(self, torrent, mode, cases, dialler, client, options, tell=lambda result: None):
         self.torrent, self.mode, self.cases, self.dialler, self.client = torrent, mode, cases, dialler, client
         self.options, self.tell, self.results, self.died = options, tell, {}, []
-        self.peer_id, self.starts, self.lock = "", 0, threading.Lock()
+        self.peer_id, self.starts, self.lock, self.moved = "", 0, threading.Lock(), {}
 
-    def play(self, case):
-        """One case."""
-        begin, link, others, play = time.monotonic(), None, [], None
+    def play(self, case, dialler=None):
+        """One case, with the client that runs or the one of another dialler."""
+        begin, link, others, dialler = time.monotonic(), None, [], dialler or self.dialler
 
         def other():
-            others.append(self.dialler.link())
+            others.append(dialler.link())
             return others[-1]
         try:
-            link = self.dialler.link()
+            link = dialler.link()
             play = Play(case, link, self.mode, self.options)
             play.run(other)
             found = judge.judged(play, self.options.level)
@@ -113,6 +126,11 @@ class Suite:
 
     def run_fresh(self, cases):
         """Cases whose client has to be a new one, since its state belongs to the torrent and not to the connection."""
+        if self.client.movable:
+            self.each(cases, self.options.jobs, self.play_moved, lambda result: False)
+            for case in cases:
+                self.keep(self.moved.pop(case.id))
+            return
         for number, case in enumerate(cases):
             if self.client.restarts:
                 self.start()
@@ -148,8 +166,27 @@ class Suite:
         """Whether the client has died and nobody starts it again."""
         return bool(self.died) and (not self.client.restarts or self.starts > MOST_STARTS)
 
+    def play_moved(self, case):
+        """One case with a new client of its own, at another port."""
+        client = self.client.copy()
+        try:
+            client.start()
+            result = self.play(case, self.dialler.to(client.address))
+            if not lives_on(client):
+                self.dead(case, result, [], client.status())
+        except OSError as error:
+            result = plain_result(case, "error", ["a new client couldn't be started: %s" % error])
+        finally:
+            client.stop()
+        self.moved[case.id] = result
+        return result
+
     def together(self, cases, jobs):
         """Runs the cases until all have or the client died. Returns the results, and when it died."""
+        return self.each(cases, jobs, self.play, lambda result: not self.client.lives() or result["state"] == "unreachable")
+
+    def each(self, cases, jobs, play, is_dead):
+        """Plays the cases, so many at a time, until one leaves a dead client. Returns the results, and when that was."""
         waiting, done, dead = queue.Queue(), [], []
         for case in cases:
             waiting.put(case)
@@ -161,13 +198,13 @@ class Suite:
                 except queue.Empty:
                     return
                 try:
-                    result = self.play(case)
+                    result = play(case)
                 except Exception as error:  # a fault of the suite fails the run and not the thread
                     result = Result(plain_result(case, "error", [repr(error)]), state="error")
                     result.end = time.monotonic()
                 with self.lock:
                     done.append(result)
-                    if not self.client.lives() or result["state"] == "unreachable":
+                    if is_dead(result):
                         dead.append(time.monotonic())
         threads = [threading.Thread(target=work) for _ in range(min(jobs, len(cases)))]
         for thread in threads:
@@ -182,7 +219,7 @@ class Suite:
             for case in suspects:
                 result = results[case.id]
                 others = [other.id for other in suspects if other is not case]
-                self.dead(case, result, others)
+                self.dead(case, result, others, self.client.status())
                 self.keep(result)
             if self.client.restarts and self.starts <= MOST_STARTS:
                 self.start()
@@ -193,18 +230,15 @@ class Suite:
                 self.keep(plain_result(case, "skip", ["the client had died"]))
                 continue
             result = self.play(case)
-            limit = time.monotonic() + 0.3
-            while self.client.lives() and time.monotonic() < limit:
-                time.sleep(0.02)
-            if not self.client.lives() or result["state"] == "unreachable":
-                self.dead(case, result, [])
+            if not lives_on(self.client) or result["state"] == "unreachable":
+                self.dead(case, result, [], self.client.status())
                 self.keep(result)
                 self.start()
             else:
                 self.keep(result)
 
-    def dead(self, case, result, others):
-        status = self.client.status()
+    def dead(self, case, result, others, status):
+        """Gives a death to a case."""
         died = "THE CLIENT DIED" + (" (status %s)" % status if status is not None else "")
         if others:
             died += "; so far it isn't known whether of this case or of " + ", ".join(others[:5])
@@ -229,6 +263,6 @@ class Suite:
 
 def dry(case, torrent, mode, options=None):
     """The stream of a case to a client with all extensions that keeps the connection, and the case's play."""
-    play = Play(case, DryLink(torrent, mode), mode, options or Options(patience=0, unchoke=0))
+    play = Play(case, DryLink(torrent, mode), mode, options or Options(patience=0, unchoke=0, longest=0))
     play.run(lambda: None)
     return bytes(play.link.sent), play
