@@ -57,7 +57,7 @@ MUTANTS = {
     "a bitfield may be left out": "bf.skip",
     "a bitfield may have pieces": "bf.some",
     "spare bits are zero": "bf.spare bf.all-and-spare",
-    "a bitfield has its length": "bf.short bf.long",
+    "a bitfield has its length": "bf.short bf.long bf.empty",
     "a have is taken": "hv.fine",
     "a have may come again": "hv.twice",
     "an index is inside the torrent": "hv.bad/* lc.have-beyond",
@@ -216,6 +216,9 @@ def sound(loaded, subject, failures):
     failures.same("doubled ids", len(known), len(loaded))
     for case in loaded:
         refused = judge.stated(suite.dry(case, subject, case.modes[0])[1])
+        if refused and refused[0] not in ("BadProtocol", "WrongInfoHash", "TooLong", "EndInside"):
+            stream = suite.dry(case, subject, case.modes[0])[0]
+            failures.same("%s: the rules on the rest of its stream" % case.id, rest_of(stream, subject, refused[0]), None)
         decides = any(verdict == "pass" and conditions != "any" for verdict, conditions in case.verdicts)
         said = "differs" if refused else "between"
         wrong = case.wants_close != bool(refused) and decides and case.id.split("/")[0] not in OTHERWISE
@@ -229,6 +232,19 @@ def sound(loaded, subject, failures):
             failures.say("%s: its twin %r isn't a case that is kept in the same modes" % (case.id, case.twin))
         elif judge.stated(suite.dry(twin, subject, twin.modes[0])[1]):
             failures.say("%s: its twin %s is refused" % (case.id, twin.id))
+
+
+def rest_of(stream, subject, reason):
+    """What the rules say of the stream without the messages that they refuse for this reason."""
+    while True:
+        found = judge.verdict_of_stream(stream, subject)
+        if found is None or found[0] != reason:
+            return found
+        begin, end = 0, 68
+        # (a wrong length is refused at the message's start, the others inside it or at its end)
+        while begin < found[1] if reason == "WrongLength" else end < found[1]:
+            begin, end = end, end + 4 + int.from_bytes(stream[end:end + 4], "big")
+        stream = stream[:begin] + stream[end:]
 
 
 # Their question is what comes before the refused bytes, or they may be answered by a reject or a close.
