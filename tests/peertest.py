@@ -253,19 +253,37 @@ OTHERWISE = ("hs.quiet", "hs.quiet-wrong", "rq.beyond")
 
 def right(loaded, subject, failures):
     """The stand-in that is right passes all cases of each mode."""
-    played = 0
-    for mode in cases.MODES:
+    def play(mode):
         chosen = cases.chosen(loaded, mode)
         run, watched = against(subject, mode, chosen, suite.Options(6, 6, "all", WORKERS))
         status = run.run()
         watched.stop()
-        played += len(run.results)
         failures.same("%s: status of the right client" % mode, status, 0)
         for result in run.results.values():
             if result["result"] not in ("pass", "info"):
                 failures.say("right %s %s: %s %s" % (mode, result["id"], result["result"], "; ".join(result["said"])))
         failures.same("%s: cases that were played" % mode, len(run.results), len(chosen))
-    return played
+    at_once([lambda mode=mode: play(mode) for mode in cases.MODES], len(cases.MODES))
+
+
+def at_once(tasks, workers):
+    """Runs the tasks, so many at a time."""
+    waiting = queue.Queue()
+    for task in tasks:
+        waiting.put(task)
+
+    def work():
+        while True:
+            try:
+                task = waiting.get_nowait()
+            except queue.Empty:
+                return
+            task()
+    threads = [threading.Thread(target=work) for _ in range(workers)]
+    for thread in threads:
+        thread.start()
+    for thread in threads:
+        thread.join()
 
 
 def mutants(loaded, subject, failures):
@@ -275,36 +293,27 @@ def mutants(loaded, subject, failures):
     named = {name for call in calls for name in re.findall(r'"([^"]+)"', call)}
     failures.same("rules of the stand-in without a row", sorted(named - set(MUTANTS)), [])
     failures.same("rows without a rule", sorted(set(MUTANTS) - named), [])
-    tasks, covered = queue.Queue(), set()
+    tasks, covered = [], set()
     for broken, patterns in MUTANTS.items():
         for pattern in patterns.split():
             found = [case for case in loaded if fnmatch.fnmatchcase(case.id, pattern)]
             failures.same("%s: cases of %s" % (broken, pattern), bool(found), True)
             for case in found:
                 covered.add(case.id)
-                tasks.put((broken, case))
+                tasks.append(lambda broken=broken, case=case: mutant(subject, failures, broken, case))
     failures.same("cases that no mutant fails", sorted({case.id for case in loaded} - covered), [])
+    at_once(tasks, WORKERS)
 
-    def work():
-        while True:
-            try:
-                broken, case = tasks.get_nowait()
-            except queue.Empty:
-                return
-            run, watched = against(subject, case.modes[0], [case], suite.Options(1.2, 1.2, "all", 1, longest=1.5), broken)
-            status = run.run()
-            watched.stop()
-            result = run.results[case.id]
-            if result["result"] != "fail":
-                failures.say("mutant %r: %s is %s: %s" % (broken, case.id, result["result"], "; ".join(result["said"])))
-            if broken == "it lives on":
-                failures.same("status after a death", status, 4)
-    threads = [threading.Thread(target=work) for _ in range(WORKERS)]
-    for thread in threads:
-        thread.start()
-    for thread in threads:
-        thread.join()
-    return len(MUTANTS)
+
+def mutant(subject, failures, broken, case):
+    """A broken client fails a case."""
+    run, watched = against(subject, case.modes[0], [case], suite.Options(1.2, 1.2, "all", 1, longest=1.5), broken)
+    status = run.run()
+    watched.stop()
+    result = run.results[case.id]
+    if result["result"] != "fail":
+        failures.say("mutant %r: %s is %s: %s" % (broken, case.id, result["result"], "; ".join(result["said"])))
+    failures.same("mutant %r: %s: status" % (broken, case.id), status, 4 if broken == "it lives on" else 1)
 
 
 # The command, by a process of its own.

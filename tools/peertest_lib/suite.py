@@ -183,7 +183,11 @@ class Suite:
 
     def together(self, cases, jobs):
         """Runs the cases until all have or the client died. Returns the results, and when it died."""
-        return self.each(cases, jobs, self.play, lambda result: not self.client.lives() or result["state"] == "unreachable")
+        done, death = self.each(cases, jobs, self.play, lambda result: not self.client.lives() or result["state"] == "unreachable")
+        # A process ends a little later than its connections.
+        if death is None and any(result["state"] == "closed" for result in done) and not lives_on(self.client):
+            death = time.monotonic()
+        return done, death
 
     def each(self, cases, jobs, play, is_dead):
         """Plays the cases, so many at a time, until one leaves a dead client. Returns the results, and when that was."""
