@@ -127,7 +127,7 @@ MUTANTS = {
     "own bytes are right": "hs.early-answer ex.twice-differs mg.size/* mg.meta/* lc.allowed-fast",
     "questions are answered after it":
         "unk.id/* len.big-unknown hv.complete rq.uninterested rq.cancel-beyond rq.first fs.missing fs.piece-unasked-off fs.advice-bad/* "
-        "ex.bad/* ex.unsorted/* ex.trailing/* ex.deep/* ex.deep-dict ex.fields/* ex.v-long ex.many ex.unknown-id ex.off-bit ex.size/* "
+        "ex.bad/* ex.unsorted/* ex.trailing/* ex.deep/* ex.deep-dict ex.fields/* ex.same-ids ex.v-long ex.many ex.unknown-id ex.off-bit ex.size/* "
         "md.data-unasked md.data-odd/* dh.message/*",
     "what is written is right": "",
 }

@@ -12,7 +12,7 @@ STEPS = BYTES + ("refused", "first", "bytewise", "segment", "pause", "wait", "un
                  "ping")
 LINES = ("title", "twin", "between", "differs")
 FLAGS = ("alone", "fresh")
-CONDITIONS = ("any", "closed", "alive", "silent", "open", "got", "no", "count", "least", "most", "crowd")
+CONDITIONS = ("any", "closed", "alive", "silent", "open", "got", "no", "count", "least", "most", "repeats", "crowd")
 
 
 class Rule:

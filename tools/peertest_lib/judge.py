@@ -27,6 +27,10 @@ def holds(condition, play, words):
     if name == "alive":
         # A client that can't be asked counts as alive if it keeps the connection.
         return state == "alive" or state == "open" and play.kind == "auto"
+    if name == "repeats":
+        patterns, _, number = rest.rpartition(" ")
+        again = collections.Counter(word for word in words if heard.Heard.fits(patterns, word))
+        return max(again.values(), default=0) >= int(number)
     patterns, _, number = rest.rpartition(" ") if name in ("count", "least", "most") else (rest, "", "1")
     count = sum(heard.Heard.fits(patterns, word) for word in words)
     return {"got": count > 0, "no": count == 0, "count": count == int(number), "least": count >= int(number),
@@ -72,7 +76,8 @@ def judged(play, level):
         result = "note"
     if result == "note" and case.level in REACH[level]:
         result = "fail" if level != "must" else "note"
-    faults = [fault for fault in link.heard.faults if not fault.startswith(heard.MILD) or case.id == "own.first"]
+    faults = [] if case.open.get("heard") == "any" else link.heard.faults
+    faults = [fault for fault in faults if not fault.startswith(heard.MILD) or case.id == "own.first"]
     if faults or link.heard.false_bytes:
         told += ["it sent what the rules refuse: " + fault for fault in faults[:3]]
         told += ["it sent FALSE BYTES"] * (link.heard.false_bytes > 0)

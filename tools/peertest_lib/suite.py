@@ -3,7 +3,7 @@ import queue
 import threading
 import time
 
-from . import judge
+from . import judge, wire
 from .link import DryLink
 from .play import Play, Skip
 
@@ -142,6 +142,24 @@ class Suite:
     def start(self):
         self.starts += 1
         self.client.start()
+        if self.client.restarts:
+            self.is_ready(self.dialler)
+
+    def is_ready(self, dialler, seconds=20):
+        """Waits until a client that was just started answers a handshake: it may listen before its torrent is loaded."""
+        limit = time.monotonic() + seconds
+        while True:
+            try:
+                link = dialler.link()
+                link.agree(0)
+                link.send(wire.handshake(0, self.torrent.hash, link.peer_id))
+                answered = link.until(lambda: link.heard.theirs is not None, 2)
+                link.close()
+            except OSError:
+                answered = False
+            if answered or time.monotonic() > limit:
+                return answered
+            time.sleep(0.05)
 
     def batch(self, cases, jobs):
         """Some cases at a time. After a death the suspects run one at a time, each until one of them kills the client."""
@@ -171,7 +189,9 @@ class Suite:
         client = self.client.copy()
         try:
             client.start()
-            result = self.play(case, self.dialler.to(client.address))
+            dialler = self.dialler.to(client.address)
+            self.is_ready(dialler)
+            result = self.play(case, dialler)
             if not lives_on(client):
                 self.dead(case, result, [], client.status())
         except OSError as error:
