@@ -33,7 +33,7 @@ function sideOf(it) {
     sent: it.sent, bytes: it.isBegun || it.free ? it.stream.length : 0, skipped: it.skipped, isWhole: it.isWhole, messages: it.items.count,
     client: it.isWhole ? sender.client ?? peerName(sender.peerId) : null, isNamed: sender.client !== null,
     infoHash: sender.infoHash, peerId: peerIdText(sender.peerId), metadataId: sender.metadataId, reserved: reservedText(sender.reserved),
-    free: it.free, bep: it.bep, own, options: own && it.optionWords(),
+    free: it.free, bep: it.bep, own: own && { ...own, reserved: reservedText(own.reserved) }, options: own && it.optionWords(),
     gaps: it.gaps.slice(0, 100), gapCount: it.gaps.length, gapBytes: it.gaps.reduce((sum, { size }) => sum + size, 0),
     repeated: half?.repeated ?? 0, conflicts: half?.conflicts ?? 0, late: half?.late ?? 0, closed: half?.closed ?? null,
   };

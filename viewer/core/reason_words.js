@@ -3,6 +3,7 @@
 /**
  * @typedef {{ rules: string, section: string, title: string, words: string, cure: string, [variant: string]: any }} Reason
  * @typedef {{ title: string, words: string, section: string, cure: string }} ReasonWords
+ * @typedef {{ pieces: number | null, limit: number, isGuessed?: boolean }} Judged what the receiver is, as far as a sentence names it
  */
 
 /** @type {Record<number, string>} */
@@ -24,7 +25,7 @@ function lengthsOf(id, pieces) {
 
 /**
  * What the sentences name.
- * @param {import('./types.js').Verdict} verdict @param {Uint8Array} bytes @param {import('./types.js').Receiver} own
+ * @param {import('./types.js').Verdict} verdict @param {Uint8Array} bytes @param {Judged} own
  */
 function factsOf({ at, start }, bytes, own) {
   const inside = at - start, id = bytes[4], { pieces } = own;
@@ -51,7 +52,7 @@ function variantOf({ reason, message, at, start }, bytes) {
 /**
  * `bytes` are the refused message, as far as it is there.
  * @param {Record<string, Reason>} table @param {import('./types.js').Verdict} verdict @param {Uint8Array} bytes
- * @param {import('./types.js').Receiver} own @returns {ReasonWords}
+ * @param {Judged} own @returns {ReasonWords}
  */
 export function reasonWords(table, verdict, bytes, own) {
   const reason = table[verdict.reason], facts = factsOf(verdict, bytes, own);
