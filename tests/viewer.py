@@ -360,7 +360,7 @@ def check_filter(page):
     page.run("viewer.filters.search('')")
     page.until("viewer.total === 14")
     page.run("document.querySelector('#kinds [data-k=\"6\"]').click()")
-    same("one kind", page.until("viewer.total === 7 && document.querySelectorAll('#rows .row').length"), 7)
+    same("one kind", page.until("viewer.total === 7 && document.querySelectorAll('#rows .row').length === 7 && 7"), 7)
     page.until("[...document.querySelectorAll('#rows .row')].every(row => row.classList.contains('k6'))")
     page.run("document.querySelector('#kinds [data-k=\"6\"]').click()")
     page.until("viewer.total === 14")

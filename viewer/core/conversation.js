@@ -20,10 +20,9 @@ export class Conversation {
     this.shown = directions.map(direction => direction.shown(rules));
     this.hasTimes = directions.some(direction => direction.stream.times !== null);
     this.events = eventsOf(directions, connection, rules);
-    this.rows = orderedRows(directions, this.shown.map(({ count }) => count), this.events, this.hasTimes);
-    /** @type {number[]} the row of each event */
-    this.eventRows = [];
-    this.rows.forEach((row, r) => { if (row >= EVENT) this.eventRows[row - EVENT] = r; });
+    const { rows, eventRows } = orderedRows(directions, this.shown.map(({ count }) => count), this.events, this.hasTimes);
+    this.rows = rows;
+    this.eventRows = eventRows;
     this.matches = new Matcher(this);
   }
 
@@ -58,6 +57,16 @@ export class Conversation {
 
   /** @param {number} row */
   groupOf(row) { return row >= EVENT ? EVENT_GROUP : groupOf(this.codeOf(row)); }
+
+  /** How many rows each group has. */
+  groupCounts() {
+    const counts = new Uint32Array(EVENT_GROUP + 1);
+    counts[EVENT_GROUP] = this.events.length;
+    this.directions.forEach(({ items: { code } }, side) => {
+      for (let k = 0; k < this.shown[side].count; k++) counts[groupOf(code[k])]++;
+    });
+    return counts;
+  }
 
   /**
    * The row of the message that has this byte of a direction, or of the refusal there; or -1.

@@ -56,14 +56,30 @@ class Order {
    */
   choose() { throw new Error('no order'); }
 
-  /** @returns {Uint32Array} */
+  /** The side of which only items are left, or -1. */
+  onlySide() {
+    const { next, counts, done, queues } = this;
+    if (done[0] < queues[0].length || done[1] < queues[1].length) return -1;
+    return next[1] >= counts[1] ? 0 : next[0] >= counts[0] ? 1 : -1;
+  }
+
+  /** The rows, and the row of each event. */
   rows() {
-    const rows = new Uint32Array(this.counts[0] + this.counts[1] + this.queues[0].length + this.queues[1].length);
-    for (let r = 0; r < rows.length; r++) {
+    const { next, done, queues, counts } = this, rows = new Uint32Array(counts[0] + counts[1] + queues[0].length + queues[1].length);
+    /** @type {number[]} */
+    const eventRows = [];
+    let r = 0;
+    while (r < rows.length && this.onlySide() < 0) {
       const chosen = this.choose(), side = chosen & 1;
-      rows[r] = chosen & 2 ? EVENT + this.queues[side][this.done[side]++].k : (side ? SIDE : 0) + this.next[side]++;
+      if (chosen & 2) {
+        const { k } = queues[side][done[side]++];
+        eventRows[k] = r;
+        rows[r++] = EVENT + k;
+      } else rows[r++] = (side ? SIDE : 0) + next[side]++;
     }
-    return rows;
+    const last = this.onlySide();
+    for (let row = (last ? SIDE : 0) + next[Math.max(last, 0)]; r < rows.length; r++, row++) rows[r] = row;
+    return { rows, eventRows };
   }
 }
 

@@ -65,7 +65,7 @@ export class Rows {
    * @param {number} r
    */
   message(r) {
-    const { talk } = this, row = talk.rows[r], made = this.row(r), { stream, own } = talk.directions[made.side], { pieces, limit, isGuessed } = own;
+    const { talk } = this, row = talk.rows[r], made = this.row(r), { stream, own } = talk.directions[made.side], { pieces, limit, isGuessed } = own ?? { pieces: null, limit: 0 };
     const part = row >= EVENT ? this.refusedBytes(talk.events[row - EVENT], stream) : this.itemBytes(row);
     const from = Math.max(0, part.start - part.start % 16 - BYTES_BEFORE), end = part.start + part.bytes.length;
     return { ...made, ...part, own: { pieces, limit, isGuessed }, rules: talk.rules, before: stream.part(from, part.start - from),

@@ -1,7 +1,7 @@
 // What is open: files, their connections, and the conversation that the page shows. It answers the page's questions.
 import { isCapture } from './capture_file.js';
 import { closingOf } from './closing.js';
-import { Conversation, EVENT, EVENT_GROUP } from './conversation.js';
+import { Conversation } from './conversation.js';
 import { describe } from './describe.js';
 import { Direction } from './direction.js';
 import { metadataOf, torrentOf } from './metadata.js';
@@ -120,12 +120,10 @@ export class Session {
     const maker = this.rowMaker = new Rows(talk);
     this.view = null;
     this.search++;
-    const groups = new Uint32Array(EVENT_GROUP + 1);
-    for (const row of talk.rows) groups[talk.groupOf(row)]++;
     const closing = closingOf(talk), remarks = talk.matches.counts();
     const rowOf = (/** @type {number} */ r) => r < 0 ? null : maker.row(r);
     return {
-      ...describe(pair, id, this.torrents), groups, rules, total: talk.rows.length, hasTimes: talk.hasTimes,
+      ...describe(pair, id, this.torrents), groups: talk.groupCounts(), rules, total: talk.rows.length, hasTimes: talk.hasTimes,
       events: talk.events.map((event, k) => ({ ...event, row: talk.eventRows[k] })),
       remarks: remarks.map(side => side.map(({ count, row }, k) => ({ name: REMARKS[k], count, row: rowOf(row) }))),
       closing: closing && { ...closing, lasts: closing.lasts.map(rowOf), cause: closing.cause < 0 ? null : maker.message(closing.cause) },
@@ -215,5 +213,3 @@ export class Session {
     return new Blob(parts);
   }
 }
-
-export { EVENT };
