@@ -3,9 +3,10 @@
 
 usage: tests/peertest.py [PROGRAM [PART..]]
 
-PROGRAM is the built program, or else dist's, or the script `bt_tool` at the top of the repository. The suite is held against what is
-known: the proved rules say of each case's stream what the case says; a client that is right (tests/standin.py) passes all; and for each
-rule there is a mutant of it that breaks only that, which fails. PART is stated, right, mutants, command or ours. The library is libbt.so of dist/x86_64-linux, crates/bt_c/out or BT_LIBRARY.
+PROGRAM is the built program, or else dist's, or the script `bt_tool` at the top of the repository. The suite is held against what
+is known: the proved rules say of each case's stream what the case says; a client that is right (tests/standin.py) passes all; and
+for each rule there is a mutant of it that breaks only that, which fails. PART is stated, right, mutants, command or ours. The
+library is libbt.so of dist/x86_64-linux, of crates/bt_c/out, or BT_LIBRARY.
 """
 import fnmatch
 import json
@@ -126,9 +127,9 @@ MUTANTS = {
     "it lives on": "len.wrong/piece-0 unk.id/99 mg.size/0",
     "own bytes are right": "hs.early-answer ex.twice-differs mg.size/* mg.meta/* lc.allowed-fast",
     "questions are answered after it":
-        "unk.id/* len.big-unknown hv.complete rq.uninterested rq.cancel-beyond rq.first fs.missing fs.piece-unasked-off fs.advice-bad/* "
-        "ex.bad/* ex.unsorted/* ex.trailing/* ex.deep/* ex.deep-dict ex.fields/* ex.same-ids ex.v-long ex.many ex.unknown-id ex.off-bit ex.size/* "
-        "md.data-unasked md.data-odd/* dh.message/*",
+        "unk.id/* len.big-unknown hv.complete rq.uninterested rq.cancel-beyond rq.first fs.missing fs.piece-unasked-off "
+        "fs.advice-bad/* ex.bad/* ex.unsorted/* ex.trailing/* ex.deep/* ex.deep-dict ex.fields/* ex.same-ids ex.v-long ex.many "
+        "ex.unknown-id ex.off-bit ex.size/* md.data-unasked md.data-odd/* dh.message/*",
     "what is written is right": "",
 }
 
@@ -200,13 +201,14 @@ def stated(loaded, subject, failures):
                 with open(path, "wb") as file:
                     file.write(stream)
                 expected[path] = "ok" if said is None else "at=%d %s" % (said[1], said[0])
-        words = [PROGRAM, "check", "--rules", "bep", "--reserved", "0000000000100004", "--pieces", str(subject.pieces), "--metadata-id", "2",
-                 "--info-hash", subject.hash.hex()]
+        words = [PROGRAM, "check", "--rules", "bep", "--reserved", "0000000000100004", "--pieces", str(subject.pieces),
+                 "--metadata-id", "2", "--info-hash", subject.hash.hex()]
         done = subprocess.run(words + sorted(expected), stdout=subprocess.PIPE, stderr=subprocess.DEVNULL)
         found = dict(line.split(": ", 1) for line in done.stdout.decode().splitlines())
         for path, said in expected.items():
             line = found.get(path, "nothing")
-            failures.same("check of %s" % os.path.basename(path), "ok" if line.startswith("ok ") else re.sub(r"^refused message=\d+ ", "", line), said)
+            line = "ok" if line.startswith("ok ") else re.sub(r"^refused message=\d+ ", "", line)
+            failures.same("check of %s" % os.path.basename(path), line, said)
     return len(expected)
 
 
@@ -335,7 +337,8 @@ def lessons(path, failures):
     gate = run(at, "--torrent", path, "--patience", "1", "--start", listener("seed", path, "the handshake is first"))
     failures.same("a gate that fails", gate[0], 3)
     # A client that closes after each message closes the twins too, so that none of its closes counts.
-    twin = run(at, "--torrent", path, "--only", "hv.fine,hv.bad", "--start", listener("seed", path, "a have is taken"), "--level", "all")
+    twin = run(at, "--torrent", path, "--only", "hv.fine,hv.bad", "--level", "all", "--start",
+               listener("seed", path, "a have is taken"))
     failures.same("a close whose twin is closed", (twin[0], twin[1].count("skip  hv.bad/")), (1, 4))
     crash = run(at, "--torrent", path, "--only", "unk.id,ka.one,bf.some,hv.fine,hv.twice,md.get", "--start",
                 listener("seed", path, "it lives on"), "--jobs", "4")
@@ -348,8 +351,8 @@ def lessons(path, failures):
 
 def refusals(path, failures):
     """Addresses that aren't this machine's, and wrong words."""
-    rows = [("192.0.2.9:6881", 2, "isn't on this machine"), ("[2001:db8::1]:6881", 2, "isn't on this machine"), ("0.0.0.0:6881", 2, "isn't on this"),
-            ("127.0.0.1:0", 2, "no port"), ("localhost:1", 2, "is no IP:PORT")]
+    rows = [("192.0.2.9:6881", 2, "isn't on this machine"), ("[2001:db8::1]:6881", 2, "isn't on this machine"),
+            ("0.0.0.0:6881", 2, "isn't on this machine"), ("127.0.0.1:0", 2, "no port"), ("localhost:1", 2, "is no IP:PORT")]
     for address, status, words in rows:
         got = run(address, "--torrent", path)
         failures.same("the address %s" % address, (got[0], words in got[2]), (status, True))
@@ -368,22 +371,21 @@ def outputs(folder, path, failures):
     names = {name: os.path.join(folder, name) for name in ("a.json", "a.xml", "streams", "known")}
     with open(names["known"], "w", encoding="utf8") as file:
         file.write("# what may fail\nmd.unknown-type  it closes\nmd.get  it doesn't fail any more\n")
-    words = [at, "--torrent", path, "--only", "md.get,md.unknown-type,bf.late", "--start", listener("seed", path, "an unknown type is ignored"),
-             "--json", names["a.json"], "--junit", names["a.xml"], "--streams", names["streams"]]
+    words = [at, "--torrent", path, "--only", "md.get,md.unknown-type,bf.late", "--start",
+             listener("seed", path, "an unknown type is ignored"), "--json", names["a.json"], "--junit", names["a.xml"], "--streams", names["streams"]]
     status, text, _ = run(*words)
     failures.same("a failure: status", status, 1)
-    failures.same("its sentence", 'BEP 9, "extension message" (must, paraphrased): a message type that an end doesn\'t know is ignored' in text, True)
+    sentence = 'BEP 9, "extension message" (must, paraphrased): a message type that an end doesn\'t know is ignored'
+    failures.same("its sentence", sentence in text, True)
     with open(names["a.json"], encoding="utf8") as file:
         found = json.load(file)
     failures.same("json", ([case["result"] for case in found["cases"]], found["counts"], found["died"]),
                   (["pass", "pass", "fail"], {"pass": 2, "fail": 1}, []))
     tree = xml.etree.ElementTree.parse(names["a.xml"]).getroot()
-    failures.same("junit", (tree.get("tests"), tree.get("failures"), [case.get("name") for case in tree if case.find("failure") is not None]),
-                  ("3", "1", ["md.unknown-type"]))
+    failed = [case.get("name") for case in tree if case.find("failure") is not None]
+    failures.same("junit", (tree.get("tests"), tree.get("failures"), failed), ("3", "1", ["md.unknown-type"]))
     sent, got = [os.path.join(names["streams"], "bf.late." + end) for end in ("sent", "got")]
-    verdict = subprocess.run([PROGRAM, "check", "--other", got, "--pieces", "38", "--hints", "never", sent], capture_output=True, text=True)
-    if verdict.returncode == 2:
-        verdict = subprocess.run([PROGRAM, "check", "--other", got, "--pieces", "38", sent], capture_output=True, text=True)
+    verdict = subprocess.run([PROGRAM, "check", "--other", got, "--pieces", "38", sent], capture_output=True, text=True)
     failures.same("a stream that was written", verdict.stdout.split()[-1:], ["Late"])
     status, text, _ = run(*words, "--known", names["known"])
     failures.same("a known failure", (status, "md.get is known to fail, and passed" in text), (0, True))
@@ -394,8 +396,9 @@ def outputs(folder, path, failures):
 
 def replays(loaded, subject, path, failures):
     """The script of a case makes its stream, by the program."""
-    chosen = [case for case in loaded if case.id in ("hs.plain", "bf.late", "len.wrong/have-1", "ex.int/2^64", "fs.off/suggest", "hs.wrong-hash",
-                                                     "hs.http", "md.malformed/abc", "lc.served/short", "ka.thousand")]
+    names = ("hs.plain", "bf.late", "len.wrong/have-1", "ex.int/2^64", "fs.off/suggest", "hs.wrong-hash", "hs.http",
+             "md.malformed/abc", "lc.served/short", "ka.thousand")
+    chosen = [case for case in loaded if case.id in names]
     for case in chosen:
         text, stream = replay.script(case, subject, case.modes[0])
         with tempfile.TemporaryDirectory() as folder:
@@ -430,7 +433,8 @@ def ours(path, failures):
     """`serve` has no failure as a seed, and `fetch` none as a client with only the info hash."""
     for mode, (name, words) in OURS:
         at = ["127.0.0.1:%d" % client.free_port("127.0.0.1")] if name == "--start" else []
-        status, text, errors = run(*at, "--torrent", path, "--mode", mode, "--unchoke", "1", "--jobs", "16", "--quiet", name, words % PROGRAM)
+        status, text, errors = run(*at, "--torrent", path, "--mode", mode, "--unchoke", "1", "--jobs", "16", "--quiet", name,
+                                   words % PROGRAM)
         failures.same("%s: %s" % (mode, text + errors), status, 0)
         print(text.splitlines()[-1] if text else errors)
     return len(OURS)

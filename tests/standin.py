@@ -208,8 +208,9 @@ class Connection:
         """Whether it is of the suite's opening or its last question, so that it has nothing odd."""
         last = self.torrent.pieces - 1
         first = b"\x0f" if self.mode == "seed" else b"\x0e\x0f"
+        questions = b"\x14\x02" + QUESTION, b"\x06" + struct.pack(">III", last, 1024, 512)
         return (not body or body[:1] in first and len(body) == 1 and not self.past or b"peertest" in body[:200]
-                or body == b"\x14\x02" + QUESTION or body == b"\x06" + struct.pack(">III", last, 1024, 512) or body == b"\x02" and (self.past or not self.both & FAST))
+                or body in questions or body == b"\x02" and (self.past or not self.both & FAST))
 
     def odd(self):
         """What three broken clients do at a message that isn't of the opening."""
@@ -386,7 +387,8 @@ class Connection:
         if self.mode != "leech" or self.choked or not self.have:
             return
         size = BLOCK if self.keeps("requests are of 16 KiB") else 2 * BLOCK
-        missing = [(index, begin) for index in sorted(self.have - self.client.pieces) for begin in range(0, self.torrent.length(index), size)]
+        wanted = sorted(self.have - self.client.pieces)
+        missing = [(index, begin) for index in wanted for begin in range(0, self.torrent.length(index), size)]
         for index, begin in missing:
             block = index, begin, min(size, self.torrent.length(index) - begin)
             if len(self.asked) < 4 and block not in self.asked and block not in self.rejected and block[:2] not in self.blocks:
@@ -460,7 +462,9 @@ class Connection:
 
     def on_extended_handshake(self, payload):
         self.handshakes += 1
-        if payload == b"de" and not self.keeps("each item is optional") or self.handshakes > 2 and not self.keeps("it may come again"):
+        if payload == b"de" and not self.keeps("each item is optional"):
+            raise Close
+        if self.handshakes > 2 and not self.keeps("it may come again"):
             raise Close
         if self.handshakes > 100 and not self.keeps("it may come often"):
             raise Close
@@ -482,7 +486,8 @@ class Connection:
         if not self.opened:
             time.sleep(0.3)
         size = pairs.get(b"metadata_size")
-        if self.mode == "magnet" and isinstance(size, int) and 0 < size <= 1 << 26 and self.ids.get(b"ut_metadata") and self.size is None:
+        fits = isinstance(size, int) and 0 < size <= 1 << 26
+        if self.mode == "magnet" and fits and self.ids.get(b"ut_metadata") and self.size is None:
             self.size = size
             self.ask_metadata()
 
