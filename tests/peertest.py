@@ -13,6 +13,7 @@ import json
 import os
 import queue
 import re
+import socket
 import subprocess
 import sys
 import tempfile
@@ -209,7 +210,6 @@ def stated(loaded, subject, failures):
             line = found.get(path, "nothing")
             line = "ok" if line.startswith("ok ") else re.sub(r"^refused message=\d+ ", "", line)
             failures.same("check of %s" % os.path.basename(path), line, said)
-    return len(expected)
 
 
 def sound(loaded, subject, failures):
@@ -234,6 +234,16 @@ def sound(loaded, subject, failures):
             failures.say("%s: its twin %r isn't a case that is kept in the same modes" % (case.id, case.twin))
         elif judge.stated(suite.dry(twin, subject, twin.modes[0])[1]):
             failures.say("%s: its twin %s is refused" % (case.id, twin.id))
+
+
+def documented(loaded, failures):
+    """The table of docs/RIG.md has the number of cases of each family."""
+    with open(os.path.join(ROOT, "docs", "RIG.md"), encoding="utf8") as file:
+        rows = re.findall(r"^\| ((?:`[a-z]+`,? ?)+) \| (\d+) \|", file.read(), re.M)
+    families = [(re.findall("`([a-z]+)`", names), int(number)) for names, number in rows]
+    for names, number in families:
+        failures.same("docs/RIG.md: %s" % names, number, sum(case.id.split(".")[0] in names for case in loaded))
+    failures.same("docs/RIG.md: cases", sum(number for _, number in families), len(loaded))
 
 
 def rest_of(stream, subject, reason):
@@ -322,13 +332,13 @@ def mutant(subject, failures, broken, case):
 
 
 def run(*words):
-    done = subprocess.run([SUITE, *words], stdin=subprocess.DEVNULL, capture_output=True, text=True)
+    done = subprocess.run([sys.executable, SUITE, *words], stdin=subprocess.DEVNULL, capture_output=True, text=True)
     return done.returncode, done.stdout, done.stderr
 
 
 def listener(mode, path, broken=""):
     """A command that starts the stand-in at {address}."""
-    return "exec python3 %s %s %s {address} %s" % (STANDIN, mode, path, broken and "'%s'" % broken)
+    return "exec %s %s %s %s {address} %s" % (sys.executable, STANDIN, mode, path, broken and "'%s'" % broken)
 
 
 def lessons(path, failures):
@@ -340,13 +350,13 @@ def lessons(path, failures):
     twin = run(at, "--torrent", path, "--only", "hv.fine,hv.bad", "--level", "all", "--start",
                listener("seed", path, "a have is taken"))
     failures.same("a close whose twin is closed", (twin[0], twin[1].count("skip  hv.bad/")), (1, 4))
-    crash = run(at, "--torrent", path, "--only", "unk.id,ka.one,bf.some,hv.fine,hv.twice,md.get", "--start",
+    crash = run(at, "--torrent", path, "--only", "unk.id/10,unk.id/11,ka.one,bf.some,md.get", "--start",
                 listener("seed", path, "it lives on"), "--jobs", "4")
     died = sorted(set(re.findall(r"fail +(\S+) .*THE CLIENT DIED \(status 70\)", crash[1])))
     # (each message that isn't of the opening or of the last question kills it)
-    failures.same("deaths, each given to its case", (crash[0], len(died), "not known" in crash[1]), (4, 12, False))
+    failures.same("deaths, each given to its case", (crash[0], died, "isn't known" in crash[1]),
+                  (4, ["bf.some", "unk.id/10", "unk.id/11"], False))
     failures.same("the cases without a death", sorted(re.findall(r"pass +(\S+)", crash[1])), ["ka.one", "md.get"])
-    return 4
 
 
 def refusals(path, failures):
@@ -360,9 +370,11 @@ def refusals(path, failures):
     failures.same("nobody listens", run("127.0.0.1:%d" % nobody, "--torrent", path)[0], 3)
     failures.same("an address that is owned", command.address_of("192.0.2.9:6881", ["192.0.2.9"]), ("192.0.2.9", 6881))
     failures.same("the next address", command.address_of("[::1]:6881", []), ("::1", 6881))
+    if socket.has_ipv6 and os.path.exists("/proc/net/if_inet6"):
+        six = run("[::1]:%d" % client.free_port("::1"), "--torrent", path, "--only", "md.get,bf.late", "--start", listener("seed", path))
+        failures.same("over IPv6", six[0], 0)
     for words in (["--torrent", path], ["127.0.0.1:1"], ["--nothing"], ["127.0.0.1:1", "--torrent", path, "--only", "no.such"]):
         failures.same("wrong words %s" % words, run(*words)[0], 2)
-    return len(rows) + 7
 
 
 def outputs(folder, path, failures):
@@ -391,7 +403,6 @@ def outputs(folder, path, failures):
     failures.same("a known failure", (status, "md.get is known to fail, and passed" in text), (0, True))
     listed = run("--list", "--bep", "9", "--mode", "magnet")[1]
     failures.same("the list", ("(paraphrased)" in listed, listed.count('BEP 9, "') == int(listed.split()[-2]) > 0), (True, True))
-    return 8
 
 
 def replays(loaded, subject, path, failures):
@@ -408,17 +419,15 @@ def replays(loaded, subject, path, failures):
                 failures.same("replay of %s" % case.id, (done.returncode, file.read() == stream, done.stderr), (0, True, ""))
     text = run("--replay", "hs.plain", "--torrent", path)[1]
     failures.same("--replay", (text.startswith("#!/bin/sh\n# hs.plain"), "have-none" in text), (True, True))
-    return len(chosen) + 1
 
 
 def dials(path, failures):
     """A client that dials: what it writes is judged."""
     words = ["--torrent", path, "--only", "mg.good,hs.plain,hs.wrong-hash", "--level", "all", "--dial"]
-    command_ = "exec python3 %s magnet %s --dial {addr} {out} " % (STANDIN, path)
+    command_ = "exec %s %s magnet %s --dial {addr} {out} " % (sys.executable, STANDIN, path)
     failures.same("a client that dials", run(*words, command_)[0], 0)
     false = run(*words, command_ + "'what is written is right'")
     failures.same("false metadata", (false[0], false[1].count("FALSE METADATA")), (1, 1))
-    return 2
 
 
 # `serve` and `fetch`.
@@ -437,7 +446,6 @@ def ours(path, failures):
                                    words % PROGRAM)
         failures.same("%s: %s" % (mode, text + errors), status, 0)
         print(text.splitlines()[-1] if text else errors)
-    return len(OURS)
 
 
 def main(words):
@@ -451,20 +459,18 @@ def main(words):
     with tempfile.TemporaryDirectory() as folder:
         path = torrent.make(folder)[0]
         subject = torrent.Torrent(path)
-        if "stated" in wanted:
-            sound(loaded, subject, failures)
-            stated(loaded, subject, failures)
-        if "right" in wanted:
-            right(loaded, subject, failures)
-        if "mutants" in wanted:
-            mutants(loaded, subject, failures)
-        if "command" in wanted:
-            for part in (lessons, refusals, dials):
-                part(path, failures)
-            outputs(folder, path, failures)
-            replays(loaded, subject, path, failures)
-        if "ours" in wanted:
-            ours(path, failures)
+        parts = {
+            "stated": [lambda: documented(loaded, failures), lambda: sound(loaded, subject, failures),
+                       lambda: stated(loaded, subject, failures)],
+            "right": [lambda: right(loaded, subject, failures)],
+            "mutants": [lambda: mutants(loaded, subject, failures)],
+            "command": [lambda: lessons(path, failures), lambda: refusals(path, failures), lambda: dials(path, failures),
+                        lambda: outputs(folder, path, failures), lambda: replays(loaded, subject, path, failures)],
+            "ours": [lambda: ours(path, failures)],
+        }
+        # What plays against a client in this process has it for itself: its answers have a time.
+        for names in (("ours", "command", "stated"), ("right",), ("mutants",)):
+            at_once([part for name in names if name in wanted for part in parts[name]], 8)
     said = "ok" if not failures.count else "%d failed" % failures.count
     print("peertest: %s: %d cases, %d mutants" % (said, len(loaded), len(MUTANTS)))
     if time.monotonic() - begin > 60:

@@ -83,7 +83,7 @@ class Connection:
 
     def __init__(self, client, end):
         self.client, self.torrent, self.mode, self.keeps, self.end = client, client.torrent, client.mode, client.keeps, end
-        self.buffer, self.both, self.past, self.opened, self.deaf = b"", 0, False, False, False
+        self.buffer, self.both, self.past, self.deaf = b"", 0, False, False
         self.choking, self.choked, self.interested, self.served = True, True, False, 0
         self.ids, self.size, self.have, self.handshakes, self.seen = {}, None, set(), 0, {}
         self.asked, self.rejected, self.blocks, self.metadata_asked, self.metadata = [], set(), {}, [], {}
@@ -170,7 +170,6 @@ class Connection:
         told = {b"m": {b"lt_donthave": DONT, b"ut_metadata": UM}, b"reqq": 2500, b"v": b"standin"}
         if self.mode != "magnet":
             told[b"metadata_size"] = len(self.torrent.info)
-        self.opened = True
         self.send(message(20, b"\0" + encode(told)))
 
     def run(self, dials=False):
@@ -483,8 +482,6 @@ class Connection:
             self.ids[b"ut_metadata"] = before
         if before and not self.keeps("ids may change"):
             self.ids[b"ut_metadata"] = before
-        if not self.opened:
-            time.sleep(0.3)
         size = pairs.get(b"metadata_size")
         fits = isinstance(size, int) and 0 < size <= 1 << 26
         if self.mode == "magnet" and fits and self.ids.get(b"ut_metadata") and self.size is None:
@@ -596,7 +593,7 @@ class Client:
     def __init__(self, torrent, mode, broken=None, address=("127.0.0.1", 0)):
         self.torrent, self.mode, self.broken = torrent, mode, broken
         self.pieces, self.metadata, self.count, self.ends, self.dead = set(), b"" if mode == "magnet" else torrent.info, 0, [], False
-        self.door = socket.socket()
+        self.door = socket.socket(socket.AF_INET6 if ":" in address[0] else socket.AF_INET)
         self.door.setsockopt(socket.SOL_SOCKET, socket.SO_REUSEADDR, 1)
         self.door.bind(address)
         self.door.listen(128)
@@ -678,7 +675,7 @@ def dial(path, address, output, broken):
 def main(words):
     if words[2] == "--dial":
         return dial(words[1], words[3], words[4], words[5] if len(words) > 5 else None)
-    host, _, port = words[2].rpartition(":")
+    host, _, port = words[2].replace("[", "").replace("]", "").rpartition(":")
     client = Client(Torrent(words[1]), words[0], words[3] if len(words) > 3 else None, (host, int(port)))
     while not client.dead:
         time.sleep(0.01)

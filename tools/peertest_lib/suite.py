@@ -212,7 +212,7 @@ class Suite:
         """Runs the cases until all have or the client died. Returns the results, and when it died."""
         done, death = self.each(cases, jobs, self.play, self.has_died)
         # A process ends a little later than its connections.
-        if death is None and any(result["state"] == "closed" for result in done) and not lives_on(self.client):
+        if death is None and any(result["state"] == "closed" for result in done) and self.is_gone():
             death = time.monotonic()
         return done, death
 
@@ -220,15 +220,20 @@ class Suite:
         """Whether the client is gone: its process has ended, or nobody listens any more."""
         if not self.client.lives():
             return True
-        if result["state"] != "unreachable" or hasattr(self.dialler, "command"):
-            return False
-        limit = time.monotonic() + 2
-        while time.monotonic() < limit:
+        return result["state"] == "unreachable" and self.is_gone()
+
+    def is_gone(self, seconds=2):
+        """Whether the client's process ends, or nobody listens for some seconds."""
+        limit = time.monotonic() + seconds
+        while self.client.lives():
             try:
-                self.dialler.link().close()
-                return False
+                if not hasattr(self.dialler, "command"):
+                    self.dialler.link().close()
+                return not lives_on(self.client)
             except OSError:
-                time.sleep(0.1)
+                if time.monotonic() > limit:
+                    return True
+                time.sleep(0.02)
         return True
 
     def each(self, cases, jobs, play, is_dead):
@@ -273,7 +278,7 @@ class Suite:
                 self.keep(plain_result(case, "skip", ["the client had died"]))
                 continue
             result = self.play(case)
-            died = not lives_on(self.client) or self.has_died(result)
+            died = self.is_gone()
             if died:
                 self.dead(case, result, [], self.client.status())
             self.keep(result)
