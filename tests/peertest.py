@@ -433,17 +433,21 @@ def dials(path, failures):
 # `serve` and `fetch`.
 
 OURS = [
-    ("seed", ["--start", "exec %s serve --listen {address} --patience 20 --at-once 1024 {torrent}"]),
-    ("magnet", ["--dial", "exec %s fetch {hash} {addr} --patience 2 > {out}"]),
+    ("seed", ["--start", "exec %s serve --listen {address} --patience 20 --at-once 1024 {torrent}"], ""),
+    ("magnet", ["--dial", "exec %s fetch {hash} {addr} --patience 2 > {out}"],
+     "fs.piece-unasked/16384\nfs.piece-unasked/1\nrq.to-leech\n"),
 ]
 
 
-def ours(path, failures):
-    """`serve` has no failure as a seed, and `fetch` none as a client with only the info hash."""
-    for mode, (name, words) in OURS:
+def ours(folder, path, failures):
+    """`serve` fails no case as a seed, and `fetch` as a client with the info hash alone those that docs/FETCH.md names."""
+    for mode, (name, words), known in OURS:
+        listed = os.path.join(folder, "known-" + mode)
+        with open(listed, "w", encoding="utf8") as file:
+            file.write(known)
         at = ["127.0.0.1:%d" % client.free_port("127.0.0.1")] if name == "--start" else []
-        status, text, errors = run(*at, "--torrent", path, "--mode", mode, "--unchoke", "1", "--jobs", "16", "--quiet", name,
-                                   words % PROGRAM)
+        status, text, errors = run(*at, "--torrent", path, "--mode", mode, "--unchoke", "1", "--jobs", "16", "--quiet", "--known",
+                                   listed, name, words % PROGRAM)
         failures.same("%s: %s" % (mode, text + errors), status, 0)
         print(text.splitlines()[-1] if text else errors)
 
@@ -466,7 +470,7 @@ def main(words):
             "mutants": [lambda: mutants(loaded, subject, failures)],
             "command": [lambda: lessons(path, failures), lambda: refusals(path, failures), lambda: dials(path, failures),
                         lambda: outputs(folder, path, failures), lambda: replays(loaded, subject, path, failures)],
-            "ours": [lambda: ours(path, failures)],
+            "ours": [lambda: ours(folder, path, failures)],
         }
         # What plays against a client in this process has it for itself: its answers have a time.
         for names in (("ours", "command", "stated"), ("right",), ("mutants",)):

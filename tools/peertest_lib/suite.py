@@ -152,9 +152,9 @@ class Suite:
             self.is_ready(self.dialler)
         return True
 
-    def is_ready(self, dialler, seconds=20):
+    def is_ready(self, dialler):
         """Waits until a client that was just started answers a handshake: it may listen before its torrent is loaded."""
-        limit = time.monotonic() + seconds
+        limit = time.monotonic() + min(20, 5 * self.options.patience)
         while True:
             try:
                 link = dialler.link()
