@@ -212,7 +212,7 @@ def check_captures(page, folder):
     tests = btcap_tests()
     torrent = keep(os.path.join(folder, "a.torrent"), tests.TORRENT)
     for name, words, capture, wanted, _, status in tests.rows():
-        if status == 2 or callable(wanted) or "BadExtLength" in wanted or "one id for both" in name:
+        if status == 2 or callable(wanted) or "BadExtLength" in wanted:
             continue
         path = keep(os.path.join(folder, "capture.pcap"), capture)
         page.run("viewer.setPieces('%s')" % (words[words.index("--pieces") + 1] if "--pieces" in words else ""))
