@@ -1,6 +1,4 @@
 pub mod Courses
 pub mod Moves
 pub mod Steps
-pub mod Sides
-pub mod Rounds
 pub mod Watches
