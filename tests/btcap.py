@@ -1,5 +1,5 @@
 #!/usr/bin/env python3
-"""Runs tools/btcap on captures that this script writes, and compares its output and exit status; and tools/talk.
+"""Runs tools/btcap on captures that this script writes, and compares its output and exit status; and tools/talk. It also compares the words of reasons with the documents.
 
 usage: tests/btcap.py [PROGRAM]
 
@@ -9,6 +9,7 @@ the second time without it. Where tcpdump is installed and may capture, two ends
 is read too.
 """
 import hashlib
+import json
 import os
 import re
 import shutil
@@ -150,7 +151,7 @@ def pcapng(framed, order="<", nano=False):
 A_LINES = """  A Transmission 3.00
     free ok messages=5 bytes=278
     bep  ok messages=5 bytes=278
-    options --reserved 0000000000100005 --metadata-id 2
+    options --reserved 0000000000100005 --metadata-id 2 --donthave-id 7
 """
 B_LINES = """  B libtorrent/2.0.8.0
     free ok messages=6 bytes=25889
@@ -272,8 +273,9 @@ def handshakes(**how):
     return hand(b"-AA0001-000000000000", **how), hand(b"-BB0001-000000000000", **how)
 
 
-def report(name, sent, free, bep, options="--reserved 0000000000100005 --metadata-id 0", side="A", notes=""):
-    return "  %s %s\n%s    free %s\n    bep  %s\n    options %s\n" % (side, name, notes, free, bep, options)
+def report(name, sent, free, bep, options="--reserved 0000000000100005 --metadata-id 0", side="A", notes="", why=""):
+    why = why and "    why  %s.\n" % why
+    return "  %s %s\n%s    free %s\n    bep  %s\n%s    options %s\n" % (side, name, notes, free, bep, why, options)
 
 
 def empty_b(options="--reserved 0000000000100005 --metadata-id 0", notes=""):
@@ -293,7 +295,8 @@ def fault():
     found.say("A", message(b"\x0f") + message(b"\x04", struct.pack(">I", 38)) + message(b"\x02")).close("B")
     options = "--reserved 0000000000100005 --metadata-id 0 --pieces 38"
     refused = "refused message=2 at=78 BadIndex"
-    lines = NAMES + report("-AA0001-000000000000", 87, refused, refused, options) + empty_b(options)
+    why = "The have message names piece 38, and the torrent has 38 pieces, so the last index is 37"
+    lines = NAMES + report("-AA0001-000000000000", 87, refused, refused, options, why=why) + empty_b(options)
     return pcap(frames(found.packets)), lines + """  B closed first, by FIN, at 0.009000 s
     A had sent 87 bytes, last: refused message=2 at=78 BadIndex
     B had sent 68 bytes, last: %s
@@ -325,6 +328,22 @@ def other_extension():
     ) + "  still open at the capture's end\n"
 
 
+def donthave(ids="11:lt_donthavei7e11:ut_metadatai9e", said="--metadata-id 9 --donthave-id 7", verdict="refused message=1 at=74 BadExtLength"):
+    """B has these ids, and A sends three bytes under 7, where a message that takes back a piece has four."""
+    left, right = handshakes()
+    extended = message(b"\x14\x00d1:md%see" % ids.encode())
+    found = Talk().say("B", right + extended).say("A", left + message(b"\x14\x07\x00\x00\x09"))
+    lines = NAMES + report("-AA0001-000000000000", 77, verdict, verdict, "--reserved 0000000000100005 " + said)
+    size = 68 + len(extended)
+    return pcap(frames(found.packets)), lines + report(
+        "-BB0001-000000000000", size, *2 * ["ok messages=1 bytes=%d" % size], side="B"
+    ) + "  still open at the capture's end\n"
+
+
+ONE_ID = ("11:lt_donthavei7e11:ut_metadatai7e", "--metadata-id 7", "refused message=1 at=74 BadBencode")
+NO_ID = ("11:lt_donthavei0e11:ut_metadatai9e", "--metadata-id 9", "ok messages=1 bytes=77")
+
+
 def without_fast():
     """B hasn't the Fast Extension, so A's first message may be any."""
     left, right = handshakes()[0], hand(b"-BB0001-000000000000", "0000000000100000")
@@ -339,7 +358,8 @@ def no_length():
     left, right = handshakes()
     found = Talk().say("A", left + message(b"\x14\x00d-3:ae")).say("B", right)
     refused = "refused message=1 at=75 BadBencode"
-    lines = NAMES + report("-AA0001-000000000000", 80, refused, refused) + empty_b()
+    why = "The payload has to begin with a bencoded dictionary, and none goes on with the byte 0x2d at 75"
+    lines = NAMES + report("-AA0001-000000000000", 80, refused, refused, why=why) + empty_b()
     return pcap(frames(found.packets)), lines + "  still open at the capture's end\n"
 
 
@@ -371,8 +391,8 @@ def cut_by_itself():
     """A closes inside a message of its own."""
     left, right = handshakes()
     found = Talk().say("A", left + b"\0\0").say("B", right).close("A")
-    cut = "refused message=1 at=70 EndInside"
-    return pcap(frames(found.packets)), NAMES + report("-AA0001-000000000000", 70, cut, cut) + empty_b() + """\
+    cut, why = "refused message=1 at=70 EndInside", "The stream ends inside the length of a message, after 2 of its 4 bytes"
+    return pcap(frames(found.packets)), NAMES + report("-AA0001-000000000000", 70, cut, cut, why=why) + empty_b() + """\
   A closed first, by FIN, at 0.007000 s
     B had sent 68 bytes, last: %s
     A had sent 70 bytes, last: %s
@@ -424,9 +444,90 @@ def with_torrent():
     options = "--reserved 0000000000100005 --metadata-id 0 --pieces 3"
     refused, ok = "refused message=2 at=78 BadIndex", "ok messages=2 bytes=82"
     still = "  still open at the capture's end\n"
-    lines = NAMES + report("-AA0001-000000000000", 82, refused, refused, options) + empty_b(options) + still
+    why = "The have message names piece 3, and the torrent has 3 pieces, so the last index is 2"
+    lines = NAMES + report("-AA0001-000000000000", 82, refused, refused, options, why=why) + empty_b(options) + still
     lines += NAMES.replace("0", "1", 1).replace("51413", "51414") + report("-AA0001-000000000000", 82, ok, ok)
-    return pcap((link, both)), lines + empty_b() + still
+    return pcap((link, both)), lines + empty_b() + still + "  A sent a have of a piece that never came here: 73 have 3\n"
+
+
+def stray():
+    """A segment of 8 bytes that lies wholly before B's stream, and comes after B's first segments."""
+    found = talk()
+    found.insert(9, Packet("B", ACK, found[5].sequence - 20, found[5].acked, b"stray by", 9))
+    return found
+
+
+def number(*values):
+    return struct.pack(">%dI" % len(values), *values)
+
+
+def have(index):
+    return message(b"\x04", number(index))
+
+
+def request(*block):
+    return message(b"\x06", number(*block))
+
+
+def block_of(index, begin, size=1):
+    return message(b"\x07", number(index, begin), bytes(size))
+
+
+def together():
+    """Each remark that needs both directions. A asks, B answers, and B closes with three requests open."""
+    left, right = handshakes()
+    found = Talk().say("A", left + message(b"\x0f")).say("B", right + message(b"\x05", b"\xc0"))
+    found.say("A", request(0, 0, 1))  # 73: B hasn't unchoked A
+    found.say("B", message(b"\x11", number(1)) + message(b"\x01"))  # 74: allows piece 1; 83: unchokes
+    found.say("A", request(1, 0, 1) + request(1, 0, 1) + request(1, 1, 1))  # 90; 107: again; 124
+    # 88: the first request's answer; 102: nobody asked; 116: a byte was asked for, and 2 come
+    found.say("B", block_of(0, 0) + block_of(2, 0) + block_of(1, 0, 2))
+    found.say("A", have(0) + have(5))  # 141: of what B has sent; 150: never came
+    found.say("B", have(0) + have(1) + have(3))  # 131, 140: its bitfield has these; 149: B has it from elsewhere
+    found.say("B", message(b"\x00"))  # 158
+    found.say("A", request(1, 2, 1)).close("B")  # 159: piece 1 is allowed
+    a = report("-AA0001-000000000000", 176, *2 * ["ok messages=8 bytes=176"])
+    b = report("-BB0001-000000000000", 163, *2 * ["ok messages=10 bytes=163"], side="B")
+    return pcap(frames(found.packets)), NAMES + a + b + """\
+  B closed first, by FIN, at 0.023000 s
+    A had sent 176 bytes, last: 159 request 1 2 1
+    B had sent 163 bytes, last: 158 choke
+  A sent a request while it was choked: 73 request 0 0 1
+  A sent a request again before its answer: 107 request 1 0 1
+  A sent 3 requests that got no answer, the first: 107 request 1 0 1
+  A sent a have of a piece that never came here: 150 have 5
+  B sent 2 answers that nobody asked for, the first: 102 piece 2 0 1
+  B sent a have of a piece that never came here: 149 have 3
+"""
+
+
+def dropped():
+    """libtorrent closes at a block of a byte that nobody had asked for: neither direction is refused."""
+    left, right = handshakes()
+    found = Talk().say("A", left + message(b"\x0f")).say("B", right + message(b"\x0f")).say("A", block_of(0, 0)).close("B")
+    a = report("-AA0001-000000000000", 87, *2 * ["ok messages=2 bytes=87"])
+    b = report("-BB0001-000000000000", 73, *2 * ["ok messages=1 bytes=73"], side="B")
+    return pcap(frames(found.packets)), NAMES + a + b + """\
+  B closed first, by FIN, at 0.009000 s
+    A had sent 87 bytes, last: 73 piece 0 0 1
+    B had sent 73 bytes, last: 68 have-none
+  A sent an answer that nobody asked for: 73 piece 0 0 1
+"""
+
+
+def udp(ends, payload):
+    datagram = struct.pack(">HHHH", ends[0][1], ends[1][1], 8 + len(payload), 0) + payload
+    hosts = b"".join(socket.inet_aton(host) for host, _ in ends)
+    return MACS + b"\x08\x00" + struct.pack(">BBHHHBBH", 0x45, 0, 20 + len(datagram), 0, 0, 64, 17, 0) + hosts + datagram
+
+
+def utp():
+    """A connection of uTP: SYN and STATE with the id 7, data with the id 8; and datagrams that are none: a DHT query, another id."""
+    header = lambda kind, id_: struct.pack(">BBHIIIHH", kind << 4 | 1, 0, id_, 1, 2, 3, 4, 5)
+    said = [((A, B), header(4, 7)), ((B, A), header(2, 7)), ((A, B), header(0, 8) + FETCHING[:68]),
+            ((A, B), b"d1:ad2:id20:" + bytes(20) + b"e1:q4:pinge"), ((A, B), header(0, 900))]
+    return pcap((1, [(k, udp(*one)) for k, one in enumerate(said)])), \
+        "uTP  10.0.0.1:51413 > 10.0.0.2:6881  3 packets, not read: this is BitTorrent over UDP (BEP 29)\n"
 
 
 def is_short(out):
@@ -452,6 +553,9 @@ def rows():
     yield "a fault", ["--pieces", "38"], *fault(), b"", 1
     yield "a fault, shown", ["--pieces", "38", "--show"], fault()[0], fault()[1] + shown(), b"", 1
     yield "the id of another extension", [], *other_extension(), b"", 0
+    yield "an id of lt_donthave", [], *donthave(), b"", 1
+    yield "one id for both extensions", [], *donthave(*ONE_ID), b"", 1
+    yield "no id of lt_donthave", [], *donthave(*NO_ID), b"", 0
     yield "no Fast Extension", [], *without_fast(), b"", 0
     yield "a length below 0", [], *no_length(), b"", 1
     yield "a key exchange", [], *key_exchange(), b"", 0
@@ -460,6 +564,10 @@ def rows():
     yield "two connections", [], *twice(), b"", 0
     yield "other bytes again", [], *conflict(), b"", 0
     yield "a torrent", ["--torrent", "TORRENT"], *with_torrent(), b"", 1
+    yield "a segment before the stream", [], pcap(frames(stray())), WHOLE, b"", 0
+    yield "the two directions together", [], *together(), b"", 0
+    yield "a block that nobody asked for", [], *dropped(), b"", 0
+    yield "uTP", [], *utp(), b"no BitTorrent connection in 5 packets", 3
     yield "no packet", [], whole[:24], "", b"no BitTorrent connection in 0 packets", 3
     yield "no handshake", [], pcap(frames(Talk().packets)), "", b"no BitTorrent connection in 3 packets", 3
     yield "no capture", [], b"d8:announce", "", b"neither a pcap nor a pcapng file", 2
@@ -468,6 +576,34 @@ def rows():
     yield "no torrent", ["--torrent", "CAPTURE"], whole, "", b"no torrent", 2
     yield "no program", ["--tool", "/no/such"], whole, "", b"/no/such", 2
     yield "wrong words", ["--piece", "x"], whole, "", b"invalid int", 2
+
+
+# ---- the words of reasons
+
+def documented():
+    """Each reason of the documents' tables, with its places: what stands under At, and under Where or When."""
+    name = next(it for it in ("docs/RULES.md", "docs/FORMAT.md") if os.path.exists(os.path.join(ROOT, it)) and "| BadIndex " in text_of(it))
+    found, head = {}, None
+    for line in text_of(name).splitlines():
+        cells = [cell.strip() for cell in line.strip().strip("|").split("|")] if line.startswith("|") else None
+        if cells is None or cells[0] == "Reason":
+            head = cells
+        elif head and re.match(r"[A-Z]\w+", cells[0]):
+            row = dict(zip(head, cells))
+            found.setdefault(cells[0].split()[0], []).append({"at": row["At"], "where": row["Where"]})
+    return found
+
+
+def text_of(name):
+    with open(os.path.join(ROOT, name), encoding="utf8") as file:
+        return file.read()
+
+
+def reasons_differ():
+    """What the documents and tools/reasons.json say differently of a reason."""
+    table, told = json.loads(text_of("tools/reasons.json")), documented()
+    places = {name: reason["places"] for name, reason in table.items()}
+    return ["%s: %s and %s" % (name, places.get(name), told.get(name)) for name in sorted({*places, *told}) if places.get(name) != told.get(name)]
 
 
 # ---- running
@@ -506,6 +642,18 @@ def is_written(program, folder):
         with open(os.path.join(folder, "streams", name), "rb") as file:
             found.append(file.read())
     return found == [FETCHING, SERVING]
+
+
+def is_said_again(program, folder, capture):
+    """Whether bt_tool gives btcap's verdicts on the streams that it keeps, with the options that it prints."""
+    lines = run(program, ["--write", os.path.join(folder, "again")], capture, folder)[0]
+    said = re.findall(r"^    free (.*)\n    bep  (.*)\n    options (.*)$", lines, re.M)
+    again = []
+    for name, (_, _, options) in zip(("0-A.bin", "0-B.bin"), said):
+        verdicts = [subprocess.run([program, "check", "--rules", rules, *options.split(), os.path.join(folder, "again", name)],
+                                   capture_output=True, text=True).stdout.strip() for rules in ("free", "bep")]
+        again.append((*verdicts, options))
+    return len(said) == 2 and again == said
 
 
 def read_all(end, size):
@@ -604,9 +752,13 @@ def main():
                 found = run(each, words, capture, folder)
                 if not is_as(found, wanted):
                     wrong.append("%s\nexpected: %s\ngot: %s" % (name, wanted, found))
-        runs += 2
+        runs += 7
+        wrong += ["the words of a reason: " + text for text in reasons_differ()]
         if not is_written(program, folder):
             wrong.append("--write")
+        for capture in (pcap(frames(talk())), donthave()[0], donthave(*ONE_ID)[0], donthave(*NO_ID)[0]):
+            if not is_said_again(program, folder, capture):
+                wrong.append("the options that btcap prints give other verdicts")
         if example("refused.pcap") != fault()[0]:
             wrong.append("examples/refused.pcap isn't the capture of a fault")
         for row in TALKS:

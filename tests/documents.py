@@ -5,7 +5,7 @@ usage: tests/documents.py [PROGRAM]
 
 A command stands in an indented block after `$ `; lines after `> ` go on with it. The lines up to the next command or the
 block's end are its standard output, exactly. Standard error has to be empty, but that of the capture tools isn't looked at.
-The commands of one document run in one shell, in a new folder that has `bt_tool`, `examples` and `tools`. `bt_tool` is PROGRAM, or
+The commands of one document run in one shell, in a new folder that has `bt_tool`, `examples`, `tools` and `dist`. `bt_tool` is PROGRAM, or
 the script at the top of the repository, which builds the program where it has to.
 
 A command is skipped that needs a tool which isn't installed, or a file that a skipped command would have made. The two
@@ -22,7 +22,7 @@ import tempfile
 from collections import Counter
 
 ROOT = os.path.dirname(os.path.dirname(os.path.abspath(__file__)))
-DOCUMENTS = ["README.md", "examples/README.md", "docs/CAPTURES.md", "docs/RIG.md"]
+DOCUMENTS = ["README.md", "examples/README.md", "docs/CAPTURES.md", "docs/RIG.md", "dist/README.md"]
 TOOLS = ["tshark", "tcpflow", "editcap", "mergecap", "tcpdump", "xxd"]
 # The names of the files and folders that commands make.
 FILE = re.compile(r"[\w./-]+?(?:\.(?:bin|pcap|txt)|flows)(?![\w-])")
@@ -139,7 +139,7 @@ def run_document(document, folder, made, absent, counts):
 
 
 def make_folder(folder, program):
-    for name in ("examples", "tools"):
+    for name in ("examples", "tools", "dist"):
         os.symlink(os.path.join(ROOT, name), os.path.join(folder, name))
     with open(os.path.join(folder, "bt_tool"), "w") as script:
         script.write('#!/bin/sh\nexec %s "$@"\n' % shlex.quote(program))

@@ -32,7 +32,7 @@ REFUSED = [
     ("show --json", HAND[:5] + b"O", (b'{"verdict":"refused","message":0,"offset":5,"reason":"BadProtocol"}\n', b"", 1)),
     ("check", HAND + b"\0\0\0\x01\x01", (b"refused message=1 at=72 Missing\n", b"", 1)),
     ("unpack", HAND + b"\0\0\0\x04\x04", (LINE, b"refused message=1 at=68 WrongLength\n", 1)),
-    ("pack", LINE + b"have 09\n", (HAND, NO_NUMBER, 1)),
+    ("pack --hints always", LINE + b"have 09\n", (HAND, NO_NUMBER, 1)),
     ("pack --limit 1", LINE + b"unknown 10 " + 1000 * b"0", (HAND, b"refused line=2 Syntax\n", 1)),
 ]
 

@@ -120,6 +120,16 @@ class Link:
             if got[:1] == b"\x14" and got[1:2] != b"\0" and b"8:msg_typei0e" in got:
                 return int(got[got.index(b"5:piecei") + 8:].split(b"e")[0])
 
+    def has_more(self):
+        """Whether more than keep-alives and the like comes within half a second: another request for a block."""
+        self.link.settimeout(0.5)
+        try:
+            self.buffer += self.link.recv(65536)
+        except TimeoutError:
+            pass
+        self.link.settimeout(60)
+        return b"8:msg_typei0e" in self.buffer
+
     def hold(self):
         """Waits until the other end closes."""
         while self.link.recv(65536):
@@ -226,12 +236,70 @@ def one_at_a_time(link, count):
 
 
 def as_rtorrent(link, count):
-    """Has the peer id of rtorrent. On the first connection no request may come."""
+    """Has the peer id of rtorrent. It stops for good at a request that comes before it has answered the one before."""
     link.exactly(68)
     link.send(handshake()[:48] + b"-lt0D80-000000000000", extended(len(INFO)))
-    if count == 1:
-        link.hold()
-        return
+    while True:
+        piece = link.request()
+        if link.has_more():
+            link.hold()
+        link.send(data(3, piece))
+
+
+def in_two_reads(link, count):
+    """An honest peer whose extended handshake comes in two reads."""
+    link.exactly(68)
+    told = extended(len(INFO))
+    link.send(handshake(), told[:20])
+    time.sleep(0.3)
+    link.send(told[20:])
+    while True:
+        link.send(data(3, link.request()))
+
+
+def telling_later(link, count):
+    """Tells nothing of metadata in its first extended handshake, and all of it in the second one."""
+    link.exactly(68)
+    link.send(handshake(), message(20, b"\0d1:mdee"))
+    time.sleep(0.3)
+    link.send(extended(len(INFO)))
+    while True:
+        link.send(data(3, link.request()))
+
+
+def lying_once(link, count):
+    """Tells a false size, takes the requests for it, tells the true one, and is honest from then on."""
+    greet(link, 20000)
+    for _ in range(2):
+        link.request()
+    link.send(extended(len(INFO)))
+    while True:
+        link.send(data(3, link.request()))
+
+
+def lying_each_time(link, count):
+    """Tells another size each time that blocks are asked for."""
+    greet(link, 20000)
+    for size in range(20001, 30000):
+        link.request()
+        link.send(extended(size))
+    link.hold()
+
+
+def false_twice(link, count):
+    """Gives false blocks until each was given twice, and true ones from then on."""
+    greet(link)
+    for _ in range(8):
+        link.send(data(3, link.request(), FALSE))
+    while True:
+        link.send(data(3, link.request()))
+
+
+def false_once(link, count):
+    """Gives false blocks until each was given once, and true ones from then on."""
+    greet(link)
+    for _ in range(4):
+        link.send(data(3, link.request(), FALSE))
     while True:
         link.send(data(3, link.request()))
 
@@ -309,10 +377,19 @@ ROWS = [
     ([rejecting], "", b"", "@0 rejected\n", 1),
     ([rejecting, honest], "", INFO, "@0 rejected\n@1 fetched\n", 0),
     ([telling(0)], "", b"", "@0 no-metadata\n", 1),
-    ([telling(None)], "", b"", "@0 no-metadata\n", 1),
-    ([telling(-1)], "--rules free", b"", "@0 no-metadata\n", 1),
+    ([telling(None)], "--patience 2", b"", "@0 no-metadata\n", 1),
+    ([telling(-1)], "--rules free --patience 2", b"", "@0 no-metadata\n", 1),
     ([telling(67108865)], "", b"", "@0 no-metadata\n", 1),
-    ([telling(len(INFO), 0)], "", b"", "@0 no-metadata\n", 1),
+    ([telling(len(INFO), 0)], "--patience 2", b"", "@0 no-metadata\n", 1),
+    ([telling_later], "--patience 3", INFO, "@0 fetched\n", 0),
+    ([telling(None), honest], "--patience 2", INFO, "@0 no-metadata\n@1 fetched\n", 0),
+    ([in_two_reads], "", INFO, "@0 fetched\n", 0),
+    ([in_two_reads], "--most 49999", b"", "@0 no-metadata\n", 1),
+    ([honest, NOBODY], "", INFO, "@0 fetched\n", 0),
+    ([lying_once], "--patience 3", INFO, "@0 fetched\n", 0),
+    ([lying_each_time], "--patience 2 --window 8", b"", "@0 silent\n", 1),
+    ([false_once], "", INFO, "@0 fetched\n", 0),
+    ([false_twice], "", b"", "@0 mismatch\n", 1),
     ([no_extension], "", b"", "@0 no-metadata\n", 1),
     ([false_blocks], "", b"", "@0 mismatch\n", 1),
     ([false_blocks, honest], "", INFO, "@0 mismatch\n@1 fetched\n", 0),
@@ -330,6 +407,8 @@ ROWS = [
     ([flood(bytes(4))], "--patience 2", b"", "@0 no-metadata\n", 1),
     ([unasked], "", INFO, "@0 fetched\n", 0),
 ]
+# How many connections a peer may see, if more than one.
+CONNECTIONS = {one_at_a_time: 2}
 # The cut peer gives blocks 0 and 1; the second one is then asked for the others alone.
 ASKED = [2, 3]
 
@@ -361,7 +440,7 @@ def differs(what, done, output, errors, status):
 
 
 def hostile(program):
-    failed = 0
+    failed, tried = 0, len(ROWS)
     for talks, words, output, errors, status in ROWS:
         peers = [None if talk is NOBODY else Peer(talk) for talk in talks]
         addresses = [nobody() if peer is None else peer.address for peer in peers]
@@ -376,8 +455,10 @@ def hostile(program):
             failed += 1
         for peer in peers:
             if peer is not None:
+                failed += same("connections of %s %s" % (names, words), str(peer.count <= CONNECTIONS.get(peer.talk, 1)), "True")
+                tried += 1
                 peer.close()
-    return failed, len(ROWS)
+    return failed, tried
 
 
 def kept(program):
@@ -476,20 +557,18 @@ def unwritten(program):
 
 
 def dialled(program):
-    """A peer that gives each reason to be dialled again is dialled three times, and no more."""
+    """A peer that tells another size than the one before it is asked on the same connection, also by the rules for rtorrent."""
     def fickle(link, count):
         link.exactly(68)
-        if count == 1:
-            link.send(handshake()[:48] + b"-lt0D80-000000000000", extended(len(INFO)))
-        else:
-            link.send(handshake(), extended(len(INFO) + count))
+        link.send(handshake()[:48] + b"-lt0D80-000000000000", extended(len(INFO) + 1))
+        link.request()
         link.hold()
     peers = [Peer(half_size), Peer(fickle)]
     done = run(program, HASH, [peer.address for peer in peers], ["--patience", "2"])
     for peer in peers:
         peer.close()
     return (differs("dialled", done, b"", "%s closed\n%s silent\n" % tuple(peer.address for peer in peers), 1)
-            + same("connections", str([peer.count for peer in peers]), "[1, 3]")), 2
+            + same("connections", str([peer.count for peer in peers]), "[1, 1]")), 2
 
 
 class Server:

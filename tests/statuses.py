@@ -25,6 +25,18 @@ class Parts:
         self.parts = parts
 
 
+class Hint:
+    """What standard error has, and after it the line of a hint with these parts, if hints are asked for."""
+
+    def __init__(self, stated, *parts):
+        self.stated, self.parts = stated, parts
+
+    def is_in(self, found):
+        hint = found[len(self.stated):]
+        return (found.startswith(self.stated + b"hint: ") and hint.endswith(b"\n") and hint.count(b"\n") == 1
+                and all(part in hint for part in self.parts))
+
+
 # Input that can't be read, and output that can't be written.
 FOLDER, FULL = object(), object()
 
@@ -41,11 +53,14 @@ LONG = bytes.fromhex("00030d49 07 00000001 00000000") + bytes(200000)
 MISTAKE = Parts(b"error: ", b"Usage: bt_tool ")
 
 NUMBER = "a number from 0 to 4294967295"
+# The file with the digits of the digest over the sources, which `--version` prints.
+with open(os.path.join(ROOT, "crates", "bt_tool", "src", "sources.rt")) as file:
+    VERSION = b"bt_tool 0.2.0 (sources %s)\n" % re.search('"([0-9a-f]{12})"', file.read())[1].encode()
 
 
 def syntax(line, column, expected):
     """What `pack` says of a line that is none."""
-    return b"refused line=%d Syntax\nhint: line %d, column %d: expected %s\n" % (line, line, column, expected.encode())
+    return Hint(b"refused line=%d Syntax\n" % line, b" line %d, column %d: expected %s\n" % (line, column, expected.encode()))
 
 
 # Words, standard input, standard output, standard error, exit status. Words are a list where one is empty or has a space.
@@ -82,32 +97,32 @@ ROWS = [
      JSON_HAND + b'{"verdict":"refused","message":1,"offset":68,"reason":"WrongLength"}\n', b"", 1),
     ("check --json", HAND, b"", MISTAKE, 2),
     # hints
-    ("show", b"\xd4\xc3\xb2\xa1", b"refused message=0 at=0 BadProtocol\n", Parts(b"hint: ", b"pcap"), 1),
-    ("show", b"\n\r\r\n", b"refused message=0 at=0 BadProtocol\n", Parts(b"hint: ", b"pcapng"), 1),
-    ("show", b"\x1f\x8b\x08", b"refused message=0 at=0 BadProtocol\n", Parts(b"hint: ", b"gunzip"), 1),
-    ("check", b"\x16\x03\x01\x02", b"refused message=0 at=0 BadProtocol\n", Parts(b"hint: ", b"TLS"), 1),
-    ("check", b"GET / HTTP/1.1\r\n", b"refused message=0 at=0 BadProtocol\n", Parts(b"hint: ", b"HTTP"), 1),
-    ("show", b"d8:announce3:abce", b"refused message=0 at=0 BadProtocol\n", Parts(b"hint: ", b".torrent"), 1),
-    ("show", HAND.hex().encode(), b"refused message=0 at=0 BadProtocol\n", Parts(b"hint: ", b"xxd"), 1),
-    ("show", LINE, b"refused message=0 at=0 BadProtocol\n", Parts(b"hint: ", b"bt_tool pack"), 1),
-    ("show", b"0 " + LINE, b"refused message=0 at=0 BadProtocol\n", Parts(b"hint: ", b"'show'"), 1),
+    ("show", b"\xd4\xc3\xb2\xa1", b"refused message=0 at=0 BadProtocol\n", Hint(b"", b"pcap"), 1),
+    ("show", b"\n\r\r\n", b"refused message=0 at=0 BadProtocol\n", Hint(b"", b"pcapng"), 1),
+    ("show", b"\x1f\x8b\x08", b"refused message=0 at=0 BadProtocol\n", Hint(b"", b"gunzip"), 1),
+    ("check", b"\x16\x03\x01\x02", b"refused message=0 at=0 BadProtocol\n", Hint(b"", b"TLS"), 1),
+    ("check", b"GET / HTTP/1.1\r\n", b"refused message=0 at=0 BadProtocol\n", Hint(b"", b"HTTP"), 1),
+    ("show", b"d8:announce3:abce", b"refused message=0 at=0 BadProtocol\n", Hint(b"", b".torrent"), 1),
+    ("show", HAND.hex().encode(), b"refused message=0 at=0 BadProtocol\n", Hint(b"", b"xxd"), 1),
+    ("show", LINE, b"refused message=0 at=0 BadProtocol\n", Hint(b"", b"bt_tool pack"), 1),
+    ("show", b"0 " + LINE, b"refused message=0 at=0 BadProtocol\n", Hint(b"", b"'show'"), 1),
     ("show", b"d8:announc", b"refused message=0 at=0 BadProtocol\n", b"", 1),
     ("show", 335 * b"x" + HAND, b"refused message=0 at=0 BadProtocol\n",
-     Parts(b"hint: a handshake stands at 335; this reads from there: tail -c +336 FILE | bt_tool show\n"), 1),
-    ("check --rules free", HAND + bytes(8) + HAND, b"refused message=3 at=76 TooLong\n", Parts(b"hint: a second ", b" 76;"), 1),
+     Hint(b"", b"a handshake stands at 335; this reads from there: tail -c +336 FILE | bt_tool show\n"), 1),
+    ("check --rules free", HAND + bytes(8) + HAND, b"refused message=3 at=76 TooLong\n", Hint(b"", b"a second ", b" 76;"), 1),
     ("check --rules free", HAND + HAVE_9 + bytes(1024) + b"\xff" * 4, b"refused message=258 at=1101 TooLong\n",
-     Parts(b"hint: from 77 on 1024 zero bytes"), 1),
+     Hint(b"", b"from 77 on 1024 zero bytes"), 1),
     ("check --rules free", HAND + HAVE_9 + bytes(1020) + b"\xff" * 4, b"refused message=257 at=1097 TooLong\n", b"", 1),
     ("check --rules free", HAND + bytes(1023) + b"\xff", b"refused message=256 at=1092 EndInside\n", b"", 1),
     ("check --rules free", HAND + bytes(1024) + b"\xff" * 4, b"refused message=257 at=1092 TooLong\n",
-     Parts(b"hint: from 68 on 1024 zero bytes"), 1),
-    ("check --rules free", HAND + HAND, b"refused message=1 at=68 TooLong\n", Parts(b"hint: a second ", b" 68;"), 1),
+     Hint(b"", b"from 68 on 1024 zero bytes"), 1),
+    ("check --rules free", HAND + HAND, b"refused message=1 at=68 TooLong\n", Hint(b"", b"a second ", b" 68;"), 1),
     # what a hint would name comes after the refusal
     ("show --info-hash " + 40 * "0", HAND + bytes(1024), b"refused message=0 at=28 WrongInfoHash\n", b"", 1),
     ("show --info-hash " + 40 * "0", HAND + HAND, b"refused message=0 at=28 WrongInfoHash\n", b"", 1),
     # 65,536 bytes are looked at, and no more
     ("check --rules free", HAND + 7160 * HAVE_9 + bytes(1028) + b"\xff" * 4, b"refused message=7418 at=65536 TooLong\n",
-     Parts(b"hint: from 64508 on 1028 zero bytes"), 1),
+     Hint(b"", b"from 64508 on 1028 zero bytes"), 1),
     ("check --rules free", HAND + 7163 * HAVE_9 + bytes(1024) + b"\xff" * 4, b"refused message=7420 at=65559 TooLong\n", b"", 1),
     ("check --rules free", HAND + bytes(2048), b"ok messages=512 bytes=2116\n", b"", 0),
     ("show", b"x" * 70000 + HAND, b"refused message=0 at=0 BadProtocol\n", b"", 1),
@@ -171,7 +186,7 @@ ROWS = [
     # digits of a block that may be meant as a length
     ("pack", LINE + b"piece 0 0 16384\n", HAND, syntax(2, 11, "bytes in hex, two digits each, or -"), 1),
     ("pack", LINE + b"choke\npiece 0 0 4096\n", HAND + bytes.fromhex("00000001 00 0000000b 07 00000000 00000000 4096"),
-     b'hint: line 3: piece INDEX BEGIN HEX: "4096" is two bytes of a block; a request has a length\n', 0),
+     Hint(b"", b' line 3: piece INDEX BEGIN HEX: "4096" is two bytes of a block; a request has a length\n'), 0),
     ("pack", LINE + b"piece 0 0 ab\n", HAND + bytes.fromhex("0000000a 07 00000000 00000000 ab"), b"", 0),
     ("pack", LINE + b"piece 0 0 0123456789\n", HAND + bytes.fromhex("0000000e 07 00000000 00000000 0123456789"), b"", 0),
     # a line of twice the limit and 256 characters is judged by what it says, a longer one isn't
@@ -183,12 +198,12 @@ ROWS = [
     ("show --pieces 10 --pieces 10", HAND, b"", TEXT, 2),
     ("list", HAND, b"", TEXT, 2),
     ("pack --rules loose", FOLDER, b"", TEXT, 2),
-    ("--help", b"", Parts(b"--metadata-id"), b"", 0),
-    ("-h", b"", Parts(b"Exit status"), b"", 0),
-    ("help", b"", Parts(b"Example"), b"", 0),
-    ("show --help", b"", Parts(b"--info-hash"), b"", 0),
-    ("--version", b"", Parts(b"bt_tool "), b"", 0),
-    ("-V", b"", Parts(b"bt_tool "), b"", 0),
+    ("--help", b"", Parts(b"Usage: bt_tool ", b"bt_tool COMMAND --help"), b"", 0),
+    ("-h", b"", Parts(b"Exit status:"), b"", 0),
+    ("help", b"", Parts(b"Example:"), b"", 0),
+    ("show --limit 0 --help", b"", Parts(b"--info-hash"), b"", 0),
+    ("--version", b"", VERSION, b"", 0),
+    ("-V", b"", VERSION, b"", 0),
     # devices that fail
     ("show", FOLDER, b"", b"fault: read\n", 3),
     ("check", FOLDER, b"", b"fault: read\n", 3),
@@ -362,6 +377,25 @@ LOOP_ROWS = [
 ROWS += LOOP_ROWS
 
 
+# How each command is called, its options, and words of it that are no command line: such as clap finds, and such as the program
+# finds itself.
+RECEIVER = "reserved pieces metadata-id donthave-id info-hash other rules limit hints"
+COMMANDS = {
+    "show": ("bt_tool show [OPTIONS] [FILE]", RECEIVER + " json", ["--connections 1", "--limit 0", "--pieces", "a b"]),
+    "check": ("bt_tool check [OPTIONS] [FILE]..", RECEIVER, ["--json", "--rules all", "--rules bep --rules bep"]),
+    "unpack": ("bt_tool unpack [OPTIONS] [FILE]", RECEIVER, ["--torrent", "--hints no"]),
+    "pack": ("bt_tool pack [OPTIONS] [FILE]", RECEIVER, ["--window 1", "--info-hash 00"]),
+    "link": ("bt_tool link [FILE]", "", ["--limit 32768", "--hints always", "a b"]),
+    "loop": ("bt_tool loop [OPTIONS]", "rules limit", ["--hints always", "--limit 32767", "--rules", "more"]),
+    "fetch": ("bt_tool fetch [OPTIONS] INFOHASH ADDRESS..", "rules limit patience window most torrent",
+              ["", HASH, HASH + " 127.0.0.1:9 --at-once 1", HASH + " 127.0.0.1:9 --window 9", HASH + " a", "0 127.0.0.1:9",
+               HASH + " 127.0.0.1:9 --hints always"]),
+    "serve": ("bt_tool serve [OPTIONS] FILE", "listen rules limit patience connections at-once",
+              ["", "/dev/null --most 1", "/dev/null --at-once 1025", "/dev/null --listen a", "/dev/null a"]),
+}
+ROWS += [("%s %s" % (name, words), HAND, b"", Parts(b"error: ", b"Usage: %s\n" % usage.encode()), 2)
+         for name, (usage, _, mistakes) in COMMANDS.items() for words in mistakes]
+
 # Words that are no command line.
 MISTAKES = [
     [""],
@@ -406,6 +440,10 @@ MISTAKES = [
     ["show", "--limit", "1e3"],
     ["show", "--rules", "bep", "--limit", "0"],
     ["show", "--donthave-id", "3"],
+    ["show", "--hints"],
+    ["show", "--hints", ""],
+    ["show", "--hints", "Always"],
+    ["show", "--hints", "always", "--hints", "always"],
     ["--donthave-id", "3"],
     ["stream.bin"],
     ["show", "--other"],
@@ -459,6 +497,11 @@ def shown(*lines):
 def other_row(other, rest, lines, options="", status=0):
     """`show` of what follows a handshake, with this stream as the other direction."""
     return ("show %s --other other a" % options, {"other": other, "a": HAND + rest}, b"", shown(*lines), b"", status)
+
+
+def lacks(word):
+    """What is said of a first word that stands where a command has to."""
+    return Parts(b"error: a command has to stand before '%s'\n" % word.encode(), b"Usage: bt_tool [COMMAND] [OPTIONS] [FILE]\n")
 
 
 NO_HANDSHAKE = Parts(b"error: ", b"other", b"doesn't begin with a whole handshake", b"Usage: bt_tool ")
@@ -517,9 +560,6 @@ FILES = [
     ("show -", {}, HAND, shown(b"ok messages=0 bytes=68"), b"", 0),
     ("show -- a", {"a": HAND}, b"", shown(b"ok messages=0 bytes=68"), b"", 0),
     ("show show", {"show": HAND}, b"", shown(b"ok messages=0 bytes=68"), b"", 0),
-    ("--pieces 9", {}, HAND + HAVE_9, shown(b"refused message=1 at=73 BadIndex"), b"", 1),
-    ("--pieces=9 a", {"a": HAND + HAVE_9}, b"", shown(b"refused message=1 at=73 BadIndex"), b"", 1),
-    ("-", {}, HAND, shown(b"ok messages=0 bytes=68"), b"", 0),
     ("unpack a", {"a": HAND}, b"", LINE, b"", 0),
     ("pack a", {"a": LINE}, b"", HAND, b"", 0),
     ("link a", {"a": TWO}, b"", NO_STEPS, b"", 0),
@@ -535,8 +575,20 @@ FILES = [
      b": fault: read\n", 3),
     ("check a b", {"a": HAND, "b": HAND}, b"", FULL, b"fault: write\n", 3),
     ("pack -", {}, LINE, HAND, b"", 0),
-    ("--reserved=0000000000000000 show", {"show": HAND + HAVE_ALL}, b"", shown(*NOT_NEGOTIATED), b"", 1),
-    ("- --metadata-id 3 --reserved=0000000000000000", {}, HAND + HAVE_ALL, shown(*NOT_NEGOTIATED), b"", 1),
+    ("show - --metadata-id 3 --reserved=0000000000000000", {}, HAND + HAVE_ALL, shown(*NOT_NEGOTIATED), b"", 1),
+    # options and files without a command
+    ("--pieces 9", {}, HAND + HAVE_9, b"", lacks("--pieces"), 2),
+    ("--pieces=9 a", {"a": HAND + HAVE_9}, b"", b"", lacks("--pieces=9"), 2),
+    ("--pieces 9 show", {}, HAND, b"", lacks("--pieces"), 2),
+    ("--reserved=0000000000000000 show", {"show": HAND}, b"", b"", lacks("--reserved=0000000000000000"), 2),
+    ("--other other", {"other": hand(NO_FAST)}, HAND, b"", lacks("--other"), 2),
+    ("--json", {}, HAND, b"", lacks("--json"), 2),
+    ("--hints always", {}, HAND, b"", lacks("--hints"), 2),
+    ("--unknown", {}, HAND, b"", lacks("--unknown"), 2),
+    ("-p 9", {}, HAND, b"", lacks("-p"), 2),
+    ("-- show", {}, HAND, b"", lacks("--"), 2),
+    ("-", {}, HAND, b"", lacks("-"), 2),
+    ("a", {"a": HAND}, b"", b"", Parts(b"error: ", b"'a'", b"Usage: bt_tool [COMMAND] [OPTIONS] [FILE]\n"), 2),
     ("show none", {}, HAND, b"", b"none: fault: read\n", 3),
     ("show .", {}, HAND, b"", b".: fault: read\n", 3),
     ("check .", {}, HAND, b"", b".: fault: read\n", 3),
@@ -588,7 +640,6 @@ FILES = [
      b"refused line=2 BadBencode\n", 1),
     ("show --other - a", {"a": HAND + RAW_3}, hand(NO_FAST), shown(*KEPT), b"", 0),
     ("show --other other", {"other": hand(NO_FAST)}, HAND + RAW_3, shown(*KEPT), b"", 0),
-    ("--other other", {"other": hand(NO_FAST)}, HAND + RAW_3, shown(*KEPT), b"", 0),
     # another direction that says nothing
     ("show --other other a", {"other": b"", "a": HAND}, b"", b"", NO_HANDSHAKE, 2),
     ("check --other other a", {"other": HAND[:67], "a": HAND}, b"", b"", NO_HANDSHAKE, 2),
@@ -730,10 +781,10 @@ NO_FIRST_LINES = [
 
 ROWS += [("unpack", HAND + spelled, LINE + line + b"\n", b"", 0) for spelled, line in MESSAGE_LINES]
 # (the block of one line has decimal digits alone)
-ROWS += [("pack", LINE + line + b"\n", HAND + spelled, Parts(b"hint: line 2: piece") if line.endswith(b" 616263") else b"", 0)
+ROWS += [("pack", LINE + line + b"\n", HAND + spelled, Hint(b"", b"line 2: piece") if line.endswith(b" 616263") else b"", 0)
          for spelled, line in MESSAGE_LINES + READ_LINES]
-ROWS += [("pack", LINE + text + b"\n", HAND, Parts(b"refused line=2 Syntax\n"), 1) for text in NO_LINES]
-ROWS += [("pack", text + b"\n", b"", Parts(b"refused line=1 Syntax\n"), 1) for text in NO_FIRST_LINES]
+ROWS += [("pack", LINE + text + b"\n", HAND, b"refused line=2 Syntax\n", 1) for text in NO_LINES]
+ROWS += [("pack", text + b"\n", b"", b"refused line=1 Syntax\n", 1) for text in NO_FIRST_LINES]
 ROWS += [("pack", b"handshake " + b" ".join(WORDS[1:]).upper() + b"\n", HAND, b"", 0)]
 
 FREE = "--rules free"
@@ -1135,10 +1186,47 @@ def both_directions():
     return found
 
 
+def on_a_terminal(program, words, given):
+    """What a terminal gets that is standard error."""
+    terminal, end = os.openpty()
+    subprocess.run([program, *words.split()], input=given, stdout=subprocess.DEVNULL, stderr=end)
+    os.write(end, b"END")
+    os.close(end)
+    said = b""
+    while not said.endswith(b"END"):
+        said += os.read(terminal, 4096)
+    os.close(terminal)
+    return said[:-3].replace(b"\r\n", b"\n")
+
+
+def hints_on_a_terminal(program):
+    """Whether a terminal gets a hint, unless that is forbidden."""
+    hint = Hint(b"", b".torrent")
+    found = [on_a_terminal(program, "show" + option, b"d8:announce3:abce")
+             for option in ("", " --hints auto", " --hints always", " --hints never")]
+    return all(hint.is_in(said) for said in found[:3]) and found[3] == b""
+
+
+def has_help(program, name):
+    """Whether the help of a command has its usage, its options and all sections, in lines that a script can read."""
+    usage, options, _ = COMMANDS[name]
+    texts = [run(program, words, b"", None) for words in (name + " --help", name + " -h", "help " + name)]
+    text = texts[0][0].decode()
+    sections = re.findall(r"^(Usage|Options|Example|Exit status):", text, re.M)
+    lines = re.findall(r"^  (?:-\w, |    )--(\S+)(?: <\w+>)? {2,}\S.*$", text, re.M)
+    with_values = re.findall(r"^ +--(\S+) <\w+> .* \[default: .+\]$", text, re.M)
+    return (texts[1:] == [texts[0]] * 2 and texts[0][1:] == (b"", 0) and "\n\nUsage: %s\n" % usage in text
+            and sections == ["Usage", "Options", "Example", "Exit status"] and sorted(lines) == sorted(options.split() + ["help"])
+            and set(lines) - set(with_values) <= {"help", "json", "torrent"}
+            and "\nExample:\n  bt_tool %s " % name in text and "\n  2    The words are no command line" in text)
+
+
 def devices(program):
     """What is tried on pipes and terminals, and whether it was right."""
     found = [("bt_tool %s, whose output nobody reads" % words, ends_quietly(program, words, given)) for words, given in UNREAD]
     found.append(("bt_tool show --other, of a pipe that stays open", needs_no_end(program)))
+    found.append(("bt_tool show, with a hint on a terminal", hints_on_a_terminal(program)))
+    found += [("bt_tool %s --help" % name, has_help(program, name)) for name in COMMANDS]
     found += [("bt_tool %s, on a terminal" % words, is_awaited(program, words, awaited))
               for words, awaited in (("show", b"a stream"), ("check", b"a stream"), ("pack", b"a script"), ("link", b"a script"))]
     return found
@@ -1146,7 +1234,13 @@ def devices(program):
 
 def rows():
     """All rows, those of the tables of streams and mistakes too."""
-    found = ROWS + [(words, HAND, b"", MISTAKE, 2) for words in MISTAKES] + list(orders())
+    found = [row for row in ROWS if not isinstance(row[3], Hint)]
+    found += [(words, HAND, b"", MISTAKE, 2) for words in MISTAKES] + list(orders())
+    for words, given, out, errors, status in ROWS:
+        if isinstance(errors, Hint):
+            found += [(words + option, given, out, said, status)
+                      for option, said in ((" --hints always", errors), ("", errors.stated), (" --hints auto", errors.stated),
+                                           (" --hints never", errors.stated))]
     for row in SCRIPTS:
         found += scripted(*row)
     for row in streams():
@@ -1216,6 +1310,8 @@ def is_awaited(program, words, awaited):
 def is_as(found, wanted):
     if isinstance(wanted, Parts):
         return all(part in found for part in wanted.parts)
+    if isinstance(wanted, Hint):
+        return wanted.is_in(found)
     return bool(found) if wanted is TEXT else wanted is FULL or found == wanted
 
 

@@ -12,7 +12,7 @@
     peer = bt.Writer(own, handshake.reserved)       # what is sent is judged as the peer reads it
     sock.sendall(peer.request(0, 0, 16384))         # raises bt.Refused where the peer would refuse it
 
-The shared object is sought in BT_LIBRARY, beside this file, and in out/ beside it.
+The shared library is looked for in BT_LIBRARY, beside this file, in out/ beside it, and in dist/ of the repository.
 """
 import ctypes as C
 import os
@@ -67,10 +67,11 @@ class _Handshake(C.Structure):
 
 def _load():
     here = os.path.dirname(os.path.abspath(__file__))
-    places = [os.environ.get("BT_LIBRARY"), os.path.join(here, "libbt.so"), os.path.join(here, "out", "libbt.so")]
+    places = [os.environ.get("BT_LIBRARY"), os.path.join(here, "libbt.so"), os.path.join(here, "out", "libbt.so"),
+              os.path.join(here, "..", "..", "dist", "x86_64-linux", "libbt.so")]
     path = next((place for place in places if place and os.path.exists(place)), None)
     if path is None:
-        raise ImportError("libbt.so isn't built; crates/bt_c/build builds it")
+        raise ImportError("there is no libbt.so; crates/bt_c/build builds it")
     library = C.CDLL(path)
     bytes_, size, to = C.c_void_p, C.c_size_t, C.POINTER
     for name, result, arguments in [

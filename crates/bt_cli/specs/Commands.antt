@@ -3,6 +3,7 @@ use Rattle.std.specs.Prelude.{◌≡◌, [], false, None}
 use Rattle.clap.specs.declared.error.kind.ErrorKind.{ErrorKind}
 use Rattle.clap.specs.declared.error.kind.ErrorKind.TheVariants as kinds
 use Rattle.bt_fetch.specs.Wishes.{IsWish}
+use Rattle.bt_run.specs.declared.commands.Hints.TheVariants.{Auto}
 use Rattle.bt_run.specs.declared.commands.Job.TheVariants.{Show}
 use Rattle.bt_run.specs.declared.commands.Notice.{Notice}
 use Rattle.bt_run.specs.declared.commands.Notice.TheVariants.{Help, Version, Usage}
@@ -32,6 +33,7 @@ HasText kind (Told notice text) = notice ≡ kind
 abbrev pub IsShowByDefault : Asked → Type 0
 IsShowByDefault (Run r) = (r.job ≡ Show) × IsDefault r.own × (r.given ≡ record { reserved = false; metadata_id = false; donthave_id = false })
     × (r.other ≡ None)
+    × (r.hints ≡ Auto)
     × (r.files.items ≡ [])
 IsShowByDefault (Link files) = ⊥
 IsShowByDefault (Fetch job) = ⊥

@@ -1,16 +1,19 @@
 -- What the words of the command line say: the options, the files and the command that `clap` found.
-use Rattle.std.specs.Prelude.{◌≡◌, ◌==◌, ℕ, ◌&&◌, ◌||◌, not, Bool, false, List, [], ◌∷◌, map, string_bytes, is_some, unwrap_or, codes, Some, option_map}
-use Rattle.std.specs.Prelude.{if◌then◌else◌}
+use Rattle.std.specs.Prelude.{◌≡◌, ◌==◌, ℕ, ◌&&◌, ◌||◌, not, Bool, true, false, List, [], ◌∷◌, ◌++◌, map, string_bytes, is_some, unwrap_or, codes, Some, option_map}
 use Rattle.std.specs.Str.{bytes_eq}
 use Rattle.clap.specs.declared.parser.matches.Found.{Found}
 use Rattle.clap.specs.Matches.{first_value, matched_of, raw_values}
 use Rattle.bt_wire.specs.declared.context.Own.{Own}
 use Rattle.bt_run.specs.declared.commands.Given.{Given}
 use Rattle.bt_run.specs.declared.commands.Job.{Job}
+use Rattle.bt_run.specs.declared.commands.Job.TheVariants.{Check}
+use Rattle.bt_run.specs.declared.commands.Notice.TheVariants.{Usage}
 use Rattle.bt_run.specs.declared.commands.Request.{Request}
 use Rattle.bt_run.specs.declared.values.Written.{Written}
 use Rattle.bt_run.specs.Commands.{as_json, job_of}
-use Rattle.bt_run.specs.Options.{IsReceiver}
+use Rattle.bt_run.specs.Options.{IsReceiver, hints_in, limit_in, rules_in}
+use Rattle.bt_cli.specs.declared.commands.Asked.{Asked}
+use Rattle.bt_cli.specs.declared.commands.Asked.TheVariants.{Run, Link, Fetch, Serve, Told, Loop}
 
 -- ---- the texts
 
@@ -49,19 +52,39 @@ pub record IsRequested (name : List ℕ) (f : Found) (r : Request) : Type 0 wher
   pub chosen : IsChosen name f r.job r.own
   pub given : r.given ≡ given_in f
   pub other : option_map string_bytes r.other ≡ first_value f (codes "other")
+  pub hints : hints_in (first_value f (codes "hints")) ≡ Some r.hints
   pub files : map string_bytes r.files.items ≡ files_in f
+
+-- what the command with this name asks for, with the options and files found in f; a text where they are wrong
+abbrev pub IsAskedBy : List ℕ → Found → Asked → Type 0
+IsAskedBy name f (Run r) = IsRequested name f r
+IsAskedBy name f (Link files) = (bytes_eq name (codes "link") ≡ true) × (map string_bytes files.items ≡ files_in f)
+IsAskedBy name f (Loop rules limit) =
+    (bytes_eq name (codes "loop") ≡ true) × (rules_in Check (first_value f (codes "rules")) ≡ Some rules)
+    × (limit_in (first_value f (codes "limit")) ≡ Some limit)
+IsAskedBy name f (Fetch job) = bytes_eq name (codes "fetch") ≡ true
+IsAskedBy name f (Serve job) = bytes_eq name (codes "serve") ≡ true
+IsAskedBy name f (Told notice text) = notice ≡ Usage
 
 -- ---- the words
 
 abbrev pub is_text_option : List ℕ → Bool
 is_text_option w = bytes_eq w (codes "-h") || (bytes_eq w (codes "--help") || (bytes_eq w (codes "-V") || bytes_eq w (codes "--version")))
 
--- an option of a job: it begins with '-' and asks for no text
-abbrev pub is_job_option : List ℕ → Bool
-is_job_option [] = false
-is_job_option (c ∷ cs) = (c == 45) && not (is_text_option (c ∷ cs))
+-- a word that begins with '-' and asks for no text: a command is missing before it
+abbrev pub lacks_command : List ℕ → Bool
+lacks_command [] = false
+lacks_command (c ∷ cs) = (c == 45) && not (is_text_option (c ∷ cs))
 
--- options without a command are those of `show`
-abbrev pub with_command : List (List ℕ) → List (List ℕ)
-with_command [] = []
-with_command (w ∷ ws) = if is_job_option w then codes "show" ∷ w ∷ ws else w ∷ ws
+abbrev pub lacks_first : List (List ℕ) → Bool
+lacks_first [] = false
+lacks_first (w ∷ ws) = lacks_command w
+
+-- ---- the texts of the program's own
+
+abbrev pub mistake_words : List ℕ → List ℕ → List ℕ
+mistake_words usage what =
+    codes "error: " ++ (what ++ (codes "\n\nUsage: " ++ (usage ++ codes "\n\nFor more information, try '--help'.\n")))
+
+abbrev pub version_words : List ℕ → List ℕ
+version_words sources = codes "bt_tool 0.2.0 (sources " ++ (sources ++ codes ")\n")

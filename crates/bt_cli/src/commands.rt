@@ -3,8 +3,8 @@ use crate::fetch::FetchJob;
 use crate::serve::ServeJob;
 use bt_ext::Rules;
 pub use bt_run::commands::{
-    DEFAULT_LIMIT, DEFAULT_METADATA_ID, DEFAULT_RESERVED, Given, Job, Notice, Request, default_own,
-    default_rules, pack_status, status, status_of,
+    DEFAULT_LIMIT, DEFAULT_METADATA_ID, DEFAULT_RESERVED, Given, Hints, Job, Notice, Request,
+    default_own, default_rules, pack_status, status, status_of,
 };
 
 /// What the words ask for.

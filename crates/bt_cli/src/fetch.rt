@@ -191,8 +191,7 @@ struct Lines<'a, E: Target> {
     is_shown: bool,
 }
 
-/// Returns the line of a connection's end, but for the address; nothing for a refusal, and where the address is tried again
-/// at once.
+/// Returns the line of a connection's end, without the address; nothing for a refusal.
 fn line_of(outcome: Outcome) -> &'static [u8] {
     match outcome {
         Outcome::Fetched => b" fetched\n",
@@ -202,7 +201,7 @@ fn line_of(outcome: Outcome) -> &'static [u8] {
         Outcome::Rejected => b" rejected\n",
         Outcome::Mismatch => b" mismatch\n",
         Outcome::NoMetadata => b" no-metadata\n",
-        Outcome::Refused(_) | Outcome::OtherSize | Outcome::OneAtATime => b"",
+        Outcome::Refused(_) => b"",
     }
 }
 
@@ -217,6 +216,10 @@ impl<'a, E: Target> Lines<'a, E> {
 }
 
 impl<'a, E: Target> Report for Lines<'a, E> {
+    ghost use Rattle.std.specs.Prelude.{None};
+
+    ghost told = { λ l. None };
+
     fn came(&mut self, address: usize, progress: Progress) {
         if !self.is_terminal {
             return;
@@ -243,10 +246,7 @@ impl<'a, E: Target> Report for Lines<'a, E> {
             say(&line[place..], self.errors);
             return;
         }
-        let line = line_of(outcome);
-        if !line.is_empty() {
-            self.say_line(address, line);
-        }
+        self.say_line(address, line_of(outcome));
     }
 }
 

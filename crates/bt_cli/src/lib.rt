@@ -11,5 +11,6 @@ pub mod link;
 pub mod looped;
 pub mod options;
 pub mod serve;
+mod texts;
 
 pub use bt_run::{hints, notice, other, run, values};

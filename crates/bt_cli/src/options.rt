@@ -1,101 +1,26 @@
 //! The command line, read by `clap`, which no other module uses. The program's `main` calls [`asked`].
-ghost use Rattle.std.specs.Prelude.{◌≡◌, [], IfOk, map, option_map, string_bytes, codes};
+ghost use Rattle.std.specs.Prelude.{◌≡◌, [], IfOk, map, option_map, string_bytes, codes, true, Some};
 ghost use Rattle.std.specs.Str.{bytes_eq};
 ghost use Rattle.clap.specs.Matches.{found_of, first_value};
 ghost use Rattle.clap.specs.Values.{kind_of};
 ghost use Rattle.bt_run.specs.Commands.{HasLimit, HasLoopLimit, job_of, as_json as job_as_json};
-ghost use Rattle.bt_cli.specs.Commands.{HasNotice, IsLimited, IsShowByDefault};
-ghost use Rattle.bt_cli.specs.Options.{IsChosen, IsRequested, IsWritten, files_in, given_in, is_job_option as is_option_by_rule, with_command as words_with_command, json_in};
+ghost use Rattle.bt_run.specs.Options.{rules_in, limit_in};
+ghost use Rattle.bt_cli.specs.Commands.{HasNotice, HasText, IsLimited, IsShowByDefault};
+ghost use Rattle.bt_cli.specs.Options.{IsAskedBy, IsChosen, IsRequested, IsWritten, files_in, given_in, json_in, lacks_command as lacks_command_by_rule, lacks_first, mistake_words, version_words};
 
-use crate::commands::{Asked, Given, Job, Notice, Request, default_own};
+use crate::commands::{Asked, Given, Hints, Job, Notice, Request, default_own};
 use crate::fetch::{Mistake, fetch_asked};
 use crate::serve::serve_asked;
+use crate::texts::{ABOUT, AFTER, CALL, COMMANDS, CommandText, OperandText, OptionText, usage_of};
 use bt_ext::Rules;
-use bt_run::values::{Setting, Written, own_of};
+use bt_run::values::{Setting, Written, own_of, read_hints};
 use bt_wire::Own;
 use clap::error::ErrorKind;
 use clap::{Arg, ArgAction, ArgMatches, Command, Error};
 use std::alloc::{AllocError, Global};
 
-/// The text of `--help`.
-const HELP: &str = "\
-Judges the bytes that a BitTorrent peer sends (BEP 3, 5, 6, 9 and 10).
-
-Usage: bt_tool [COMMAND] [OPTIONS] [FILE]
-
-Commands read FILE, or standard input where none is given or it is '-': 'pack' and 'link' a script, the others a stream,
-from its handshake on. 'loop' reads standard input, 'serve' its own FILE, 'fetch' nothing. Without a command, options and no
-words at all mean 'show'.
-
-Commands:
-  show    Prints a line for each item of the stream, and then the verdict
-  check   Prints the verdict alone; its rules are 'bep' where none are given. Of several files it
-          prints a line each, with the file's name in front
-  unpack  Prints a script: a line for each item, with all of its bytes
-  pack    Writes the stream of a script, up to the first line that isn't taken
-  link    Runs two ends against each other, step by step, as a script of its own says
-  loop    Serves what standard input has at one end of a connection to itself, and fetches it at the other
-  fetch   Fetches the metadata of a torrent from peers: fetch INFOHASH ADDRESS..
-  serve   Serves the metadata of a .torrent, or an info dictionary, to peers: serve FILE
-  help    Prints this text
-
-Options, which describe the receiver of the stream ('link' has none, 'loop' --rules and --limit alone, with
-'bep' and a limit from 32768 on):
-      --other <FILE>      The other direction of the connection, which the receiver sent: it gives the
-                          reserved bits and the ids of ut_metadata and lt_donthave where no option does
-      --reserved <HEX>    The reserved bits that it sent: 16 hex digits [default: 0000000000100005]
-      --pieces <N>        The torrent's pieces: 0 to 4294967295 [default: unknown]
-      --metadata-id <N>   The id under which it announced ut_metadata: 0 to 255, 0 is none [default: 3]
-      --donthave-id <N>   The id under which it announced lt_donthave: 0 to 255, 0 is none [default: 0]
-      --info-hash <HEX>   The one info hash that it accepts: 40 hex digits [default: any]
-      --rules <RULES>     'free' judges what every reader has to, 'bep' also what the BEPs ask of
-                          a sender [default: free; bep for 'check']
-      --limit <N>         The greatest length of a message, its four bytes of length not counted:
-                          1 to 1048576 [default: 262144]
-      --json              Of 'show': a JSON object a line for each item, and one for the verdict
-  -h, --help              Prints this text
-  -V, --version           Prints the name and version (without a command)
-
-Options of 'fetch', whose INFOHASH is 40 hex digits, and each ADDRESS is IP:PORT or [IPv6]:PORT:
-      --rules <RULES>     As above [default: bep]
-      --limit <N>         As above, from 32768 on [default: 262144]
-      --patience <N>      The seconds without progress after which a connection ends [default: 30]
-      --window <N>        How many blocks are asked for at once: 1 to 8 [default: 8, and 1 when a peer that fell silent
-                          is tried again]
-      --most <BYTES>      The greatest size of metadata that is taken: 1 to 67108864 [default: 67108864]
-      --torrent           Writes a .torrent in place of the metadata alone
-
-Options of 'serve', besides --rules, --limit and --patience as above:
-      --listen <ADDRESS>  Where it listens; port 0 takes a free one [default: 127.0.0.1:0]
-      --connections <N>   Ends after this many connections, from 1 on [default: never]
-      --at-once <N>       How many connections are served at the same time: 1 to 1024 [default: 64]
-
-Examples:
-  bt_tool show --other sent-by-receiver.bin stream.bin
-  bt_tool show --pieces 10 --rules bep stream.bin
-  bt_tool show --json stream.bin | jq .item
-  bt_tool check --reserved 0000000000100004 *.bin
-  bt_tool unpack stream.bin > script.txt
-  bt_tool pack script.txt > stream.bin
-  bt_tool link examples/link.txt
-  bt_tool loop < metadata.bin
-  bt_tool fetch --torrent a9993e364706816aba3e25717850c26c9cd0d89d 192.0.2.1:6881 > a.torrent
-  bt_tool serve --listen 127.0.0.1:6881 a.torrent
-
-Exit status:
-  0  the stream or the script is accepted, the link ran, the metadata was fetched, or a text was asked for
-  1  the stream is refused, or a line of the script is, the two ends of a link don't match, nothing was fetched, or the
-     file of 'serve' has no metadata
-  2  the words are no command line, or the file of '--other' doesn't begin with a whole handshake
-  3  a read or a write failed, the network did, there was no memory, or the input had no end
-  141  nobody reads the output any more, as after '| head'
-";
-
-/// How the program is called.
-const CALL: &str = "bt_tool [COMMAND] [OPTIONS] [FILE]";
-
-/// The line that follows a mistake.
-const USAGE: &str = "Usage: bt_tool [COMMAND] [OPTIONS] [FILE]\n";
+/// The name and the version, as `--version` prints them.
+const VERSION: &str = "0.2.0";
 
 /// What is wrong with several files.
 const ONE_FILE: &str = "'check' alone takes more than one file";
@@ -104,20 +29,12 @@ const ONE_FILE: &str = "'check' alone takes more than one file";
 pub const NO_TEXT: &str =
     "error: the words are no text\n\nUsage: bt_tool [COMMAND] [OPTIONS] [FILE]\n";
 
-/// Returns an option with a value.
-fn option<'a>(alloc: Global, name: &'a str, value: &'a str) -> Arg<'a> {
-    Arg::new(alloc, name)
-        .long(name)
-        .value_name(value)
-        .action(ArgAction::Set)
-}
-
 /// Returns the notice that a file of `--other` has no handshake.
 ///
 /// It doesn't begin with a whole one.
 pub fn no_handshake(alloc: Global, name: &str) -> Result<String, AllocError> {
     format!(in alloc;
-        "error: '{name}', the file of '--other', doesn't begin with a whole handshake\n\n{USAGE}"
+        "error: '{name}', the file of '--other', doesn't begin with a whole handshake\n\nUsage: {CALL}\n"
     )
 }
 
@@ -138,127 +55,55 @@ fn wants_input_twice(other: &Option<String>, files: &[String]) -> bool {
     }
 }
 
-/// Returns an option that has no value.
-fn flag<'a>(alloc: Global, name: &'a str) -> Arg<'a> {
-    Arg::new(alloc, name).long(name).action(ArgAction::SetTrue)
-}
-
-/// Returns an argument that has to be given.
-fn required<'a>(alloc: Global, name: &'a str) -> Arg<'a> {
-    Arg::new(alloc, name).required(true)
-}
-
-/// The options that describe a receiver, each with the name of its value.
-const RECEIVER: [(&str, &str); 8] = [
-    ("reserved", "HEX"),
-    ("pieces", "N"),
-    ("metadata-id", "N"),
-    ("donthave-id", "N"),
-    ("info-hash", "HEX"),
-    ("rules", "RULES"),
-    ("limit", "N"),
-    ("other", "FILE"),
-];
-
-/// The options of `fetch`, each with the name of its value.
-const FETCH: [(&str, &str); 5] = [
-    ("rules", "RULES"),
-    ("limit", "N"),
-    ("patience", "SECONDS"),
-    ("window", "N"),
-    ("most", "BYTES"),
-];
-
-/// The options of `serve`, each with the name of its value.
-const SERVE: [(&str, &str); 6] = [
-    ("listen", "ADDRESS"),
-    ("rules", "RULES"),
-    ("limit", "N"),
-    ("patience", "SECONDS"),
-    ("connections", "N"),
-    ("at-once", "N"),
-];
-
-/// The options of `loop`, which both ends have, each with the name of its value.
-const LOOP: [(&str, &str); 2] = [("rules", "RULES"), ("limit", "N")];
-
-/// Returns a command with these options.
-fn command_of<'a>(
-    alloc: Global,
-    name: &'a str,
-    options: &[(&'a str, &'a str)],
-) -> Result<Command<'a>, AllocError> {
-    let mut command = Command::new(alloc, name)
-        .override_usage(CALL)
-        .override_help(HELP);
-    for (name, value) in options {
-        command = command.arg(option(alloc, name, value))?;
+/// Returns an option of a command.
+fn option<'a>(alloc: Global, text: &OptionText) -> Arg<'a> {
+    let argument = Arg::new(alloc, text.name).long(text.name).help(text.help);
+    if text.value.is_empty() {
+        argument.action(ArgAction::SetTrue)
+    } else {
+        argument.value_name(text.value).action(ArgAction::Set)
     }
-    Ok(command)
 }
 
-/// Returns a command with the options that describe a receiver.
-fn job_command<'a>(alloc: Global, name: &'a str) -> Result<Command<'a>, AllocError> {
-    command_of(alloc, name, &RECEIVER)?.arg(files_argument(alloc))
+/// Returns a word of a command that is no option.
+fn operand<'a>(alloc: Global, text: &OperandText) -> Arg<'a> {
+    let argument = Arg::new(alloc, text.name)
+        .help(text.help)
+        .required(text.is_required);
+    if text.is_repeated {
+        let least = if text.is_required { 1 } else { 0 };
+        argument.num_args(least..).action(ArgAction::Append)
+    } else {
+        argument.action(ArgAction::Set)
+    }
 }
-
-/// Returns the argument that the files are.
-fn files_argument<'a>(alloc: Global) -> Arg<'a> {
-    Arg::new(alloc, "FILE")
-        .num_args(0..)
-        .action(ArgAction::Append)
-}
-
-/// Returns the command `link`, which has no options.
-fn link_command<'a>(alloc: Global) -> Result<Command<'a>, AllocError> {
-    command_of(alloc, "link", &[])?.arg(files_argument(alloc))
-}
-
-/// Returns the command `fetch` with its options.
-fn fetch_command<'a>(alloc: Global) -> Result<Command<'a>, AllocError> {
-    command_of(alloc, "fetch", &FETCH)?
-        .arg(required(alloc, "INFOHASH"))?
-        .arg(required(alloc, "ADDRESS").num_args(1..))?
-        .arg(flag(alloc, "torrent"))
-}
-
-/// Returns the command `serve` with its options.
-fn serve_command<'a>(alloc: Global) -> Result<Command<'a>, AllocError> {
-    command_of(alloc, "serve", &SERVE)?.arg(required(alloc, "FILE"))
-}
-
-/// Returns the command `loop` with its options.
-fn loop_command<'a>(alloc: Global) -> Result<Command<'a>, AllocError> {
-    command_of(alloc, "loop", &LOOP)
-}
-
-/// The commands.
-const COMMANDS: [&str; 8] = [
-    "show", "check", "unpack", "pack", "link", "loop", "fetch", "serve",
-];
 
 /// Returns a command with its options.
-fn command_named<'a>(alloc: Global, name: &'a str) -> Result<Command<'a>, AllocError> {
-    match name {
-        "show" => job_command(alloc, name)?.arg(flag(alloc, "json")),
-        "link" => link_command(alloc),
-        "loop" => loop_command(alloc),
-        "fetch" => fetch_command(alloc),
-        "serve" => serve_command(alloc),
-        _ => job_command(alloc, name),
+fn command_of<'a>(alloc: Global, text: &CommandText) -> Result<Command<'a>, AllocError> {
+    let mut command = Command::new(alloc, text.name)
+        .override_usage(text.usage)
+        .about(text.about)
+        .after_help(text.after);
+    for option_text in text.options {
+        command = command.arg(option(alloc, option_text))?;
     }
+    for operand_text in text.operands {
+        command = command.arg(operand(alloc, operand_text))?;
+    }
+    Ok(command)
 }
 
 /// Returns the program with its commands.
 fn command_line<'a>(alloc: Global) -> Result<Command<'a>, AllocError> {
     let mut program = Command::new(alloc, "bt_tool")
-        .version("0.1.0")
+        .version(VERSION)
         .no_binary_name(true)
         .subcommand_required(true)
         .override_usage(CALL)
-        .override_help(HELP);
-    for name in &COMMANDS {
-        program = program.subcommand(command_named(alloc, name)?)?;
+        .about(ABOUT)
+        .after_help(AFTER);
+    for text in &COMMANDS {
+        program = program.subcommand(command_of(alloc, text)?)?;
     }
     Ok(program)
 }
@@ -286,6 +131,13 @@ fn as_json(json: bool, job: Job) -> Job
     }
 }
 
+/// Returns the words of a mistake.
+fn mistake_text(alloc: Global, usage: &str, what: &str) -> Result<String, AllocError>
+    ensures { IfOk result (λ t. string_bytes t ≡ mistake_words usage.now what.now) }
+{
+    format!(in alloc; "error: {what}\n\nUsage: {usage}\n\nFor more information, try '--help'.\n")
+}
+
 /// Returns whether `--json` is given.
 fn is_json(options: &ArgMatches<'_>) -> bool
     ensures { result ≡ json_in (found_of options.now) }
@@ -311,33 +163,47 @@ fn written<'a>(options: &ArgMatches<'a>) -> Written<'a>
     }
 }
 
-/// Returns the text of clap's answer: one that was asked for, or a mistake.
+/// Returns the name, the version, and the first digits of the digest over the sources, as `--version` prints them.
+fn version_text(alloc: Global, sources: &str) -> Result<String, AllocError>
+    ensures { IfOk result (λ t. string_bytes t ≡ version_words sources.now) }
+{
+    format!(in alloc; "bt_tool 0.2.0 (sources {sources})\n")
+}
+
+/// Returns the text of clap's answer: one that was asked for, or a mistake, which a line on the usage follows.
 ///
 /// # Errors
 /// `AllocError` if clap was out of memory, or the text's growth was refused.
-fn told(alloc: Global, error: &Error) -> Result<Asked, AllocError>
+fn told(alloc: Global, error: &Error, usage: &str, sources: &str) -> Result<Asked, AllocError>
     ensures limited { IfOk result IsLimited }
     ensures notice { IfOk result (HasNotice (kind_of error.now)) }
 {
-    let notice = match error.kind() {
-        ErrorKind::OutOfMemory => return Err(AllocError),
-        ErrorKind::DisplayHelp => Notice::Help,
-        ErrorKind::DisplayVersion => Notice::Version,
-        _ => Notice::Usage,
-    };
-    let text = format!(in alloc; "{error}")?;
-    if notice == Notice::Usage && !text.as_str().contains("Usage: ") {
-        return Ok(Asked::Told(notice, format!(in alloc; "{text}\n{USAGE}")?));
+    match error.kind() {
+        ErrorKind::OutOfMemory => Err(AllocError),
+        ErrorKind::DisplayHelp => Ok(Asked::Told(Notice::Help, format!(in alloc; "{error}")?)),
+        ErrorKind::DisplayVersion => {
+            Ok(Asked::Told(Notice::Version, version_text(alloc, sources)?))
+        }
+        _ => Ok(Asked::Told(Notice::Usage, with_usage(alloc, error, usage)?)),
     }
-    Ok(Asked::Told(notice, text))
+}
+
+/// Returns the text of clap's answer to a mistake, with a line on the usage.
+fn with_usage(alloc: Global, error: &Error, usage: &str) -> Result<String, AllocError> {
+    let text = format!(in alloc; "{error}")?;
+    if text.as_str().contains("Usage: ") {
+        return Ok(text);
+    }
+    format!(in alloc; "{text}\nUsage: {usage}\n")
 }
 
 /// Returns the text for words that are no command line.
-fn mistake(alloc: Global, command: &mut Command, what: &str) -> Result<Asked, AllocError>
-    ensures { IfOk result IsLimited }
+fn mistake(alloc: Global, usage: &str, what: &str) -> Result<Asked, AllocError>
+    ensures limited { IfOk result IsLimited }
+    ensures told { IfOk result (HasText Notice.Usage) }
 {
-    let error = command.error(ErrorKind::ValueValidation, what)?;
-    told(alloc, &error)
+    let text = mistake_text(alloc, usage, what)?;
+    Ok(Asked::Told(Notice::Usage, text))
 }
 
 /// Returns the job of a command with the receiver that its options describe, or what is wrong with them.
@@ -428,6 +294,9 @@ fn requested(alloc: Global, name: &str, options: &ArgMatches<'_>) -> Result<Requ
     if files.len() > 1 && job != Job::Check {
         return Err(NoRequest::Wrong(ONE_FILE));
     }
+    let Some(hints) = read_hints(options.get_str("hints")) else {
+        return Err(NoRequest::Wrong("'--hints' takes 'auto', 'always' or 'never'"));
+    };
     let other = other(alloc, options)?;
     if wants_input_twice(&other, &files) {
         return Err(NoRequest::Wrong("'--other' and the stream can't both be standard input"));
@@ -437,13 +306,16 @@ fn requested(alloc: Global, name: &str, options: &ArgMatches<'_>) -> Result<Requ
         own,
         given: given(options),
         other,
+        hints,
         files,
     })
 }
 
 /// Returns the rules and the limit of `loop`, or what is wrong with its options.
 fn looped(options: &ArgMatches<'_>) -> Result<(Rules, u32), &'static str>
-    ensures { IfOk result (λ p. HasLoopLimit p.1) }
+    ensures limited { IfOk result (λ p. HasLoopLimit p.1) }
+    ensures rules { IfOk result (λ p. rules_in Job.Check (first_value (found_of options.now) (codes "rules")) ≡ Some p.0) }
+    ensures limit { IfOk result (λ p. limit_in (first_value (found_of options.now) (codes "limit")) ≡ Some p.1) }
 {
     let (rules, limit) = (options.get_str("rules"), options.get_str("limit"));
     let written = Written {
@@ -478,9 +350,9 @@ fn expected(setting: Setting) -> &'static str {
     }
 }
 
-/// Returns whether a first word is an option of a job, and asks for no text.
-fn is_job_option(word: &str) -> bool
-    ensures { result ≡ is_option_by_rule word.now }
+/// Returns whether a first word begins with '-' and asks for no text, so that a command is missing before it.
+fn lacks_command(word: &str) -> bool
+    ensures { result ≡ lacks_command_by_rule word.now }
 {
     match word {
         "-h" | "--help" | "-V" | "--version" => false,
@@ -488,133 +360,119 @@ fn is_job_option(word: &str) -> bool
     }
 }
 
-/// Returns the words, with `show` before options that have no command.
-fn with_command<'a>(alloc: Global, words: &'a [String]) -> Result<Vec<&'a str>, AllocError>
-    ensures { IfOk result (λ v. map (λ s. s.now) v.items ≡ words_with_command (map string_bytes words.now)) }
-{
-    let mut all = Vec::new(alloc);
-    if let Some(first) = words.first() {
-        if is_job_option(first.as_str()) {
-            all.push("show")?;
-        }
-    }
-    for word in words {
-        all.push(word.as_str())?;
-    }
-    Ok(all)
-}
-
 /// Returns what the files of `link` ask for.
-fn link_asked(
-    alloc: Global,
-    command: &mut Command,
-    options: &ArgMatches<'_>,
-) -> Result<Asked, AllocError>
-    ensures { IfOk result IsLimited }
+fn link_asked(alloc: Global, name: &str, options: &ArgMatches<'_>) -> Result<Asked, AllocError>
+    requires { bytes_eq name.now (codes "link") ≡ true }
+    ensures limited { IfOk result IsLimited }
+    ensures asked { IfOk result (IsAskedBy name.now (found_of options.now)) }
 {
     let files = files(alloc, options)?;
     if files.len() > 1 {
-        return mistake(alloc, command, ONE_FILE);
+        return mistake(alloc, usage_of(name), ONE_FILE);
     }
     Ok(Asked::Link(files))
 }
 
 /// Returns what the options of `loop` ask for.
-fn loop_asked(
-    alloc: Global,
-    command: &mut Command,
-    options: &ArgMatches<'_>,
-) -> Result<Asked, AllocError>
-    ensures { IfOk result IsLimited }
+fn loop_asked(alloc: Global, name: &str, options: &ArgMatches<'_>) -> Result<Asked, AllocError>
+    requires { bytes_eq name.now (codes "loop") ≡ true }
+    ensures limited { IfOk result IsLimited }
+    ensures asked { IfOk result (IsAskedBy name.now (found_of options.now)) }
 {
     match looped(options) {
         Ok((rules, limit)) => Ok(Asked::Loop(rules, limit)),
-        Err(what) => mistake(alloc, command, what),
+        Err(what) => mistake(alloc, usage_of(name), what),
     }
 }
 
 /// Returns what went wrong with the words of `fetch` or `serve`.
-fn mistaken(alloc: Global, command: &mut Command, why: Mistake) -> Result<Asked, AllocError>
-    ensures { IfOk result IsLimited }
+fn mistaken(alloc: Global, name: &str, why: Mistake) -> Result<Asked, AllocError>
+    ensures limited { IfOk result IsLimited }
+    ensures told { IfOk result (HasText Notice.Usage) }
 {
     match why {
-        Mistake::Text(what) => mistake(alloc, command, what),
+        Mistake::Text(what) => mistake(alloc, usage_of(name), what),
         Mistake::Memory => Err(AllocError),
     }
 }
 
 /// Returns what the options and files of a job ask for.
-fn job_asked(
-    alloc: Global,
-    command: &mut Command,
-    name: &str,
-    options: &ArgMatches<'_>,
-) -> Result<Asked, AllocError>
-    ensures { IfOk result IsLimited }
+fn job_asked(alloc: Global, name: &str, options: &ArgMatches<'_>) -> Result<Asked, AllocError>
+    ensures limited { IfOk result IsLimited }
+    ensures asked { IfOk result (IsAskedBy name.now (found_of options.now)) }
 {
     match requested(alloc, name, options) {
         Ok(request) => Ok(Asked::Run(request)),
-        Err(NoRequest::Wrong(what)) => mistake(alloc, command, what),
+        Err(NoRequest::Wrong(what)) => mistake(alloc, usage_of(name), what),
         Err(NoRequest::Memory) => Err(AllocError),
     }
 }
 
 /// Returns what a command asks for with its options and files.
-fn command_asked(
-    alloc: Global,
-    command: &mut Command,
-    name: &str,
-    options: &ArgMatches<'_>,
-) -> Result<Asked, AllocError>
-    ensures { IfOk result IsLimited }
+fn command_asked(alloc: Global, name: &str, options: &ArgMatches<'_>) -> Result<Asked, AllocError>
+    ensures limited { IfOk result IsLimited }
+    ensures asked { IfOk result (IsAskedBy name.now (found_of options.now)) }
 {
     match name {
-        "link" => link_asked(alloc, command, options),
-        "loop" => loop_asked(alloc, command, options),
+        "link" => link_asked(alloc, name, options),
+        "loop" => loop_asked(alloc, name, options),
         "fetch" => match fetch_asked(alloc, options) {
             Ok(job) => Ok(Asked::Fetch(job)),
-            Err(why) => mistaken(alloc, command, why),
+            Err(why) => mistaken(alloc, name, why),
         },
         "serve" => match serve_asked(alloc, options) {
             Ok(job) => Ok(Asked::Serve(job)),
-            Err(why) => mistaken(alloc, command, why),
+            Err(why) => mistaken(alloc, name, why),
         },
-        _ => job_asked(alloc, command, name, options),
+        _ => job_asked(alloc, name, options),
     }
 }
 
-/// Returns what the words of a command ask for.
-fn words_asked<'a>(
-    alloc: Global,
-    command: &mut Command<'a>,
-    words: &'a [&'a str],
-) -> Result<Asked, AllocError>
+/// Returns what words ask for of which the first may be a command.
+fn words_asked(alloc: Global, words: &[String], sources: &str) -> Result<Asked, AllocError>
     ensures { IfOk result IsLimited }
 {
-    let matches = match command.try_get_matches_from_mut(words) {
+    let first = match words.first() {
+        Some(word) => word.as_str(),
+        None => "",
+    };
+    let matches = match command_line(alloc)?.try_get_matches_from(words) {
         Ok(matches) => matches,
-        Err(error) => return told(alloc, &error),
+        Err(error) => return told(alloc, &error, usage_of(first), sources),
     };
     match matches.subcommand() {
-        Some((name, options)) => command_asked(alloc, command, name, options),
-        None => mistake(alloc, command, "a command is missing"),
+        Some((name, options)) => command_asked(alloc, name, options),
+        None => mistake(alloc, CALL, "a command is missing"),
     }
+}
+
+/// Returns the text for an option that stands before a command, or without one.
+fn no_command(alloc: Global, word: &str) -> Result<Asked, AllocError>
+    ensures limited { IfOk result IsLimited }
+    ensures told { IfOk result (HasText Notice.Usage) }
+{
+    let what = format!(in alloc; "a command has to stand before '{word}'")?;
+    mistake(alloc, CALL, what.as_str())
 }
 
 /// Returns what the words after the program's name ask for.
 ///
+/// `sources` are the first digits of the digest over the program's sources.
+///
 /// # Errors
 /// `AllocError` if the program is out of memory.
-pub fn asked(alloc: Global, words: &[String]) -> Result<Asked, AllocError>
+pub fn asked(alloc: Global, words: &[String], sources: &str) -> Result<Asked, AllocError>
     ensures limited { IfOk result IsLimited }
     ensures default { words.now ≡ [] → IfOk result IsShowByDefault }
+    ensures command { lacks_first (map string_bytes words.now) ≡ true → IfOk result (HasText Notice.Usage) }
 {
-    if words.is_empty() {
+    let Some(first) = words.first() else {
         return Ok(show_by_default(alloc));
+    };
+    if lacks_command(first.as_str()) {
+        return no_command(alloc, first.as_str());
     }
-    let words = with_command(alloc, words)?;
-    let mut command = command_line(alloc)?;
-    words_asked(alloc, &mut command, words.as_slice())
+    words_asked(alloc, words, sources)
 }
 
 /// Returns what no words at all ask for.
@@ -631,6 +489,7 @@ fn show_by_default(alloc: Global) -> Asked
             donthave_id: false,
         },
         other: None,
+        hints: Hints::Auto,
         files: Vec::new(alloc),
     })
 }

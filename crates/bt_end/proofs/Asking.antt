@@ -114,7 +114,7 @@ not_asked : (p : Part) → with_asked None p ≡ p
 not_asked (Fetching a) = refl
 not_asked Watching = refl
 not_asked (Serving metadata) = refl
-not_asked Awaiting = refl
+not_asked (Awaiting most) = refl
 not_asked (Fetched metadata) = refl
 
 -- there is no block to ask for

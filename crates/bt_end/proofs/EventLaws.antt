@@ -14,7 +14,7 @@ use Rattle.bt_end.specs.declared.reactor.Reactor.{Reactor}
 use Rattle.bt_end.specs.declared.reactor.Plan.TheVariants.{Learn}
 use Rattle.bt_metadata.specs.Assemblies.{AssemblyState, data_error, with_data, is_whole, joined}
 use Rattle.bt_end.specs.Ends.{Part, Watching, Serving, Awaiting, Fetching, Fetched, EndState, learnt, then_asked, spelled, brings_mismatch}
-use Rattle.bt_end.specs.Events.{block_event, event_of, is_mismatched}
+use Rattle.bt_end.specs.Events.{block_event, plain_event, event_of, is_mismatched}
 use Rattle.bt_end.specs.declared.event.Event.TheVariants as event
 
 by_tests : (whole right known : Bool) (piece : ℕ) →
@@ -31,12 +31,12 @@ mismatched piece total bytes (Fetching a) =
     by_tests (is_whole b) (bytes_eq (sha1 (joined b.slots)) b.info_hash) (is_none (data_error a piece total bytes)) piece
 mismatched piece total bytes Watching = refl
 mismatched piece total bytes (Serving x) = refl
-mismatched piece total bytes Awaiting = refl
+mismatched piece total bytes (Awaiting most) = refl
 mismatched piece total bytes (Fetched x) = refl
 
-pub other_event : (e : EndState) (v : MessageView) → ((x : ExtView) → v ≡ views.Extended x → ⊥) → event.Other ≡ event_of e (items.Message (message_of v))
-other_event e (views.Extended x) h = absurd (h x refl)
-other_event e other h = refl
+pub plain : (e : EndState) (v : MessageView) → ((x : ExtView) → v ≡ views.Extended x → ⊥) → plain_event (message_of v) ≡ event_of e (items.Message (message_of v))
+plain e (views.Extended x) h = absurd (h x refl)
+plain e other h = refl
 
 -- an extended handshake is learnt, and then requests are queued
 pub learn_reacted : {A : Type 0} → (old mid new : Reactor A) (t : Tree) (table : Entries) (assembly : Option AssemblyState)

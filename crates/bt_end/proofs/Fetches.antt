@@ -48,14 +48,14 @@ whole_length a i w = joined_length a.slots a.size i.count w (fits a i)
 found : List ℕ → Part → List ℕ
 found d Watching = d
 found d (Serving m) = d
-found d Awaiting = d
+found d (Awaiting most) = d
 found d (Fetching a) = d
 found d (Fetched m) = m
 
 unfoldable pub is_fetched : Part → Bool
 is_fetched Watching = false
 is_fetched (Serving m) = false
-is_fetched Awaiting = false
+is_fetched (Awaiting most) = false
 is_fetched (Fetching a) = false
 is_fetched (Fetched m) = true
 
@@ -85,6 +85,6 @@ concluded_finished a m i e = by_whole a m (is_whole a) i refl e
 pub progress_bounds : (h : List ℕ) (p : Part) → IsPartOf h p → IfSome (progress_of p) (λ g. (0 < g.size) × (g.size ≤ max_metadata) × (g.held ≤ g.blocks))
 progress_bounds h Watching i = tt
 progress_bounds h (Serving m) i = tt
-progress_bounds h Awaiting i = tt
+progress_bounds h (Awaiting most) i = tt
 progress_bounds h (Fetching a) i = (i.assembly.least, i.assembly.most, omega (arith, count_by-le-length is_held a.slots, i.assembly.count))
 progress_bounds h (Fetched m) i = (i.least, i.most, omega arith)

@@ -31,7 +31,7 @@ asked_fetched : (o : Option ℕ) (p : Part) (d : List ℕ) → with_asked o p �
 unfolding is_fetched
 asked_fetched o Watching d e = e
 asked_fetched o (Serving x) d e = e
-asked_fetched o Awaiting d e = e
+asked_fetched o (Awaiting most) d e = e
 asked_fetched o (Fetching a) d e = let b : false ≡ true = ap is_fetched e in absurd cc
 asked_fetched o (Fetched x) d e = e
 
@@ -43,7 +43,7 @@ refused_fetched : (piece : ℕ) (p : Part) (d : List ℕ) → with_refused piece
 unfolding is_fetched
 refused_fetched piece Watching d e = e
 refused_fetched piece (Serving x) d e = e
-refused_fetched piece Awaiting d e = e
+refused_fetched piece (Awaiting most) d e = e
 refused_fetched piece (Fetching a) d e = let b : false ≡ true = ap is_fetched e in absurd cc
 refused_fetched piece (Fetched x) d e = e
 
@@ -67,7 +67,7 @@ block_fetched : (h : List ℕ) (piece total : ℕ) (bytes : List ℕ) (p : Part)
 unfolding HadOrFetched
 block_fetched h piece total bytes Watching d i e = inl e
 block_fetched h piece total bytes (Serving x) d i e = inl e
-block_fetched h piece total bytes Awaiting d i e = inl e
+block_fetched h piece total bytes (Awaiting most) d i e = inl e
 block_fetched h piece total bytes (Fetching a) d i e =
     let f = concluded_finished (with_data a piece total bytes) d (data_assembly a piece total bytes i.assembly) e in
     inr (a, refl, f.size ∙ unless_size (data_error a piece total bytes) a _ refl)

@@ -1,8 +1,10 @@
 -- What every reaction of an end keeps.
 use Rattle.std.proofs.Common.{◌≡◌, ℕ, zero, suc, Bool, true, false, List, [], ◌∷◌, Option, None, Some, is_some, option_map, unwrap_or, count_by}
-use Rattle.std.proofs.Common.{if◌then◌else◌, refl, ap, ◌∙◌, nat_lt, nat_le, ◌&&◌, arith}
+use Rattle.std.proofs.Common.{if◌then◌else◌, refl, ap, ◌∙◌, nat_lt, nat_le, ◌≤◌, ◌&&◌, arith}
 use Rattle.std.proofs.lemmas.Bool.Decides.{nat_tests}
 use Rattle.std.proofs.lemmas.Slice.Eq.{bytes_eq-Decides}
+use Rattle.std.specs.Prelude.{min, IfSome}
+use Rattle.std.proofs.Math.Nat.{min-le_right, le_trans}
 use Rattle.std.specs.Str.{bytes_eq}
 use Rattle.sha1.specs.Sha1.{sha1}
 use Rattle.bt_bencode.specs.Views.{tree_of}
@@ -22,7 +24,7 @@ use Rattle.bt_metadata.specs.Assemblies.{AssemblyState, is_asked, ask_of, is_who
 use Rattle.bt_metadata.proofs.Kept.{asked_assembly, data_assembly, reject_assembly, started_assembly, disconnected_assembly}
 use Rattle.bt_metadata.specs.declared.assembly.BlockError.{BlockError}
 use Rattle.bt_end.specs.Ends.{Part, Watching, Serving, Awaiting, Fetching, Fetched, EndState, peer_id, may_ask, wanted, all_wanted, with_asked}
-use Rattle.bt_end.specs.Ends.{with_all_asked, with_part, requesting, then_asked, quiet, queueing, reply, assembly_of, begun, learnt, with_block}
+use Rattle.bt_end.specs.Ends.{with_all_asked, with_part, requesting, then_asked, quiet, queueing, reply, anew, is_fetching, assembly_of, begun, learnt, with_block}
 use Rattle.bt_end.specs.Ends.{block_taken, with_refused, by_kind, at_extended, at_message, react, part_kept}
 use Rattle.bt_end.specs.Laws.{DoneStays}
 use Rattle.bt_end.specs.Sturdy.{IsFetch, IsPartOf}
@@ -43,7 +45,7 @@ asked_within most false o k e = absurd cc
 asked_part : (h : List ℕ) (most k : ℕ) (p : Part) → IsPartOf h p → wanted most p ≡ Some k → IsPartOf h (with_asked (Some k) p)
 asked_part h most k Watching i e = i
 asked_part h most k (Serving x) i e = i
-asked_part h most k Awaiting i e = i
+asked_part h most k (Awaiting m) i e = i
 asked_part h most k (Fetching a) i e =
     let w : ask_of a.slots ≡ Some k = asked_within most (nat_lt (count_by is_asked a.slots) most) (ask_of a.slots) k e in
     record { hash_is = i.hash_is; assembly = asked_assembly a k i.assembly w }
@@ -83,7 +85,7 @@ concluded_part h a false w i = i
 block_part : (h : List ℕ) (piece total : ℕ) (bytes : List ℕ) (p : Part) → IsPartOf h p → IsPartOf h (with_block piece total bytes p)
 block_part h piece total bytes Watching i = i
 block_part h piece total bytes (Serving x) i = i
-block_part h piece total bytes Awaiting i = i
+block_part h piece total bytes (Awaiting most) i = i
 block_part h piece total bytes (Fetching a) i =
     let b = with_data a piece total bytes in
     let e : b.info_hash ≡ a.info_hash = unless_hash (data_error a piece total bytes) a _ refl in
@@ -93,28 +95,43 @@ block_part h piece total bytes (Fetched x) i = i
 refused_part : (h : List ℕ) (piece : ℕ) (p : Part) → IsPartOf h p → IsPartOf h (with_refused piece p)
 refused_part h piece Watching i = i
 refused_part h piece (Serving x) i = i
-refused_part h piece Awaiting i = i
+refused_part h piece (Awaiting most) i = i
 refused_part h piece (Fetching a) i = record { hash_is = unless_hash (piece_error a piece) a _ refl ∙ i.hash_is; assembly = reject_assembly a piece i.assembly }
 refused_part h piece (Fetched x) i = i
 
-begun_size : (h : List ℕ) (size : ℕ) (s t : Bool) → nat_lt 0 size ≡ s → nat_le size max_metadata ≡ t
-    → IsPartOf h (begun (if s && t then Some (started h size) else None) Awaiting)
-begun_size h size true true e f = record { hash_is = refl; assembly = started_assembly h size (grind (arith, nat_tests)) (grind (arith, nat_tests)) }
-begun_size h size true false e f = tt
-begun_size h size false t e f = tt
+started_part : (h : List ℕ) (most size : ℕ) → nat_lt 0 size ≡ true → nat_le size (min most max_metadata) ≡ true → IsPartOf h (Fetching (started h size))
+started_part h most size e f =
+    let within : size ≤ min most max_metadata = grind (arith, nat_tests) in
+    record { hash_is = refl; assembly = started_assembly h size (grind (arith, nat_tests)) (le_trans within (min-le_right most max_metadata)) }
+
+begun_size : (h : List ℕ) (most size : ℕ) (s t : Bool) → nat_lt 0 size ≡ s → nat_le size (min most max_metadata) ≡ t
+    → IsPartOf h (begun (if s && t then Some (started h size) else None) (Awaiting most))
+begun_size h most size true true e f = started_part h most size e f
+begun_size h most size true false e f = tt
+begun_size h most size false t e f = tt
 
 begun_part : (h : List ℕ) (p : Part) (size : Option ℕ) → IsPartOf h p → IsPartOf h (begun (assembly_of h p size) p)
 begun_part h Watching size i = i
 begun_part h (Serving x) size i = i
-begun_part h Awaiting None i = i
-begun_part h Awaiting (Some size) i = begun_size h size (nat_lt 0 size) (nat_le size max_metadata) refl refl
+begun_part h (Awaiting most) None i = i
+begun_part h (Awaiting most) (Some size) i = begun_size h most size (nat_lt 0 size) (nat_le size (min most max_metadata)) refl refl
 begun_part h (Fetching a) size i = i
 begun_part h (Fetched x) size i = i
+
+new_part : (h : List ℕ) (most size : ℕ) (r s t : Bool) → nat_lt 0 size ≡ s → nat_le size (min most max_metadata) ≡ t
+    → IfSome (if r then (if s && t then Some (started h size) else None) else None) (λ a. IsPartOf h (Fetching a))
+new_part h most size true true true e f = started_part h most size e f
+new_part h most size true true false e f = tt
+new_part h most size true false t e f = tt
+new_part h most size false s t e f = tt
+
+pub anew_part : (h : List ℕ) (p : Part) (size : ℕ) → IfSome (anew h p size) (λ a. IsPartOf h (Fetching a))
+anew_part h p size = new_part h max_metadata size (is_fetching p) (nat_lt 0 size) (nat_le size (min max_metadata max_metadata)) refl refl
 
 pub kept_part : (h : List ℕ) (p : Part) → IsPartOf h p → IsPartOf h (part_kept p)
 kept_part h Watching i = i
 kept_part h (Serving x) i = i
-kept_part h Awaiting i = i
+kept_part h (Awaiting most) i = i
 kept_part h (Fetching a) i = record { hash_is = i.hash_is; assembly = disconnected_assembly a i.assembly }
 kept_part h (Fetched x) i = i
 
@@ -128,7 +145,7 @@ asked_by : (e : EndState) (t : Bool) → IsPartOf e.handshake.info_hash e.part
 asked_by e true i = requesting_keeps e i
 asked_by e false i = record { own = refl; handshake = refl; part = i }
 
-asked_keeps : (e : EndState) → IsPartOf e.handshake.info_hash e.part → Keeps e (then_asked e).end
+pub asked_keeps : (e : EndState) → IsPartOf e.handshake.info_hash e.part → Keeps e (then_asked e).end
 asked_keeps e i = asked_by e (may_ask e) i
 
 replied_by : (e : EndState) (piece : ℕ) (t : Bool) → IsPartOf e.handshake.info_hash e.part

@@ -1,5 +1,5 @@
 -- Turns of an end.
-use Rattle.std.proofs.Common.{◌≡◌, ℕ, ◌<◌, Bool, true, false, ◌&&◌, ◌||◌, nat_le, List, length, Option, None, Some, Result, Ok, Err, refl, sym, ap}
+use Rattle.std.proofs.Common.{◌≡◌, ℕ, ◌<◌, Bool, true, false, ◌&&◌, ◌||◌, nat_le, List, ◌++◌, length, Option, None, Some, Result, Ok, Err, refl, sym, ap}
 use Rattle.std.proofs.Common.{subst, ◌∙◌, arith, inl, inr}
 use Rattle.std.specs.Prelude.{is_some, IfSome}
 use Rattle.std.proofs.lemmas.Bool.{le-leb, cases_lt}
@@ -17,14 +17,15 @@ use Rattle.bt_feed.specs.declared.view.TakeError.{TakeError}
 use Rattle.bt_feed.specs.Stages.{early, is_all, refusal_of, IsItem}
 use Rattle.bt_feed.proofs.FeedLaws.{answer_only, ended_closed}
 use Rattle.bt_feed.proofs.Found.{early_has}
-use Rattle.bt_end.specs.Ends.{EndState, react}
-use Rattle.bt_end.specs.Halves.{HalfState, high_water, is_ready, is_busy}
+use Rattle.bt_metadata.specs.Assemblies.{AssemblyState}
+use Rattle.bt_end.specs.Ends.{EndState, Fetching, Reaction, react, anew, restarted, with_part, spelled}
+use Rattle.bt_end.specs.Halves.{HalfState, high_water, is_ready, is_busy, reacted, IsBegun}
 use Rattle.bt_end.specs.Reactors.{end_of, IsReacted}
 use Rattle.bt_end.specs.Sturdy.{IsEnd, IsPartOf}
 use Rattle.bt_end.specs.Wholes.{half_of}
 use Rattle.bt_end.specs.declared.end.End.TheInside.{Inside}
 use Rattle.bt_end.specs.declared.reactor.Reactor.{Reactor}
-use Rattle.bt_end.proofs.Reactions.{react_keeps}
+use Rattle.bt_end.proofs.Reactions.{Keeps, react_keeps, asked_keeps, anew_part}
 
 -- ---- a feed that answers an item is ready
 
@@ -82,12 +83,11 @@ short t n a b =
 pub free : (a : HalfState) (item : Item) → IsFeed a.feed → IsItem a.feed.stage a.feed.held item → is_busy a ≡ false → length a.outbox < high_water
 free a item h i b = short (is_ready a.feed) (length a.outbox) (item_ready a.feed item h i) b
 
-pub turned_sturdy : {A : Type 0} → (mid : Inside A) (f : FeedState) (new : Reactor A) (item : Item) → IsEnd (half_of mid)
-    → length mid.reactor.outbox.bytes < high_water →
-    IsReacted mid.reactor new (react (end_of mid.reactor) item) → IsEnd (half_of (record { feed = f; reactor = new }))
-turned_sturdy mid f new item h l r =
-    let e = (react (end_of mid.reactor) item).end in
-    let k = react_keeps (end_of mid.reactor) item h.part in
+pub reacted_sturdy : {A : Type 0} → (mid : Inside A) (f : FeedState) (new : Reactor A) (does : Reaction) → IsEnd (half_of mid)
+    → length mid.reactor.outbox.bytes < high_water → Keeps (end_of mid.reactor) does.end → IsReacted mid.reactor new does
+    → IsEnd (half_of (record { feed = f; reactor = new }))
+reacted_sturdy mid f new does h l k r =
+    let e = does.end in
     let own : new.own ≡ mid.reactor.own = ap (λ (x : EndState). x.own) r.end ∙ k.own in
     let limit : new.own.limit ≡ mid.reactor.own.limit = ap (λ (x : Own). x.limit) own in
     let part : IsPartOf e.handshake.info_hash e.part = subst (λ (x : Handshake). IsPartOf x.info_hash e.part) (sym k.handshake) k.part in
@@ -109,4 +109,37 @@ sturdy {old} {mid} f {new} view k b h s o i r =
     let busy : is_busy (half_of mid) ≡ false = ap is_busy p ∙ b in
     let fed : IsFeed mid.feed = subst IsFeed (sym k.feed) h in
     let answer : IsAnswer mid.feed (Ok (Some (item_of view))) = subst (λ (y : Result (Option View) TakeError). IsAnswer mid.feed (shown y)) o i in
-    turned_sturdy mid f new (item_of view) (subst IsEnd (sym p) s) (free (half_of mid) (item_of view) fed answer busy) r
+    let sound : IsEnd (half_of mid) = subst IsEnd (sym p) s in
+    let k = react_keeps (end_of mid.reactor) (item_of view) sound.part in
+    reacted_sturdy mid f new (react (end_of mid.reactor) (item_of view)) sound (free (half_of mid) (item_of view) fed answer busy) k r
+
+-- ---- a fetch that begins anew
+
+pub begun_sturdy : {A : Type 0} → {old mid : Inside A} {new : Reactor A} (size : ℕ) (a : AssemblyState) {x : Option AssemblyState} → IsKept old mid → IsEnd (half_of old)
+    → length old.reactor.outbox.bytes < high_water → x ≡ Some a → x ≡ anew (end_of old.reactor).handshake.info_hash (end_of old.reactor).part size
+    → IsReacted mid.reactor new (restarted (end_of mid.reactor) a) → IsEnd (half_of (record { feed = mid.feed; reactor = new }))
+begun_sturdy {old} {mid} {new} size a {x} k s l is made r =
+    let p : half_of mid ≡ half_of old = kept_half old mid k in
+    let sound : IsEnd (half_of mid) = subst IsEnd (sym p) s in
+    let few : length mid.reactor.outbox.bytes < high_water = omega (arith, l, ap (length {A = ℕ}) k.bytes) in
+    let e = end_of old.reactor in
+    let some : anew e.handshake.info_hash e.part size ≡ Some a = sym made ∙ is in
+    let part : IsPartOf e.handshake.info_hash (Fetching a) =
+    subst (λ (o : Option AssemblyState). IfSome o (λ b. IsPartOf e.handshake.info_hash (Fetching b))) some (anew_part e.handshake.info_hash e.part size) in
+    let here : IsPartOf (end_of mid.reactor).handshake.info_hash (Fetching a) =
+    subst (λ (y : EndState). IsPartOf y.handshake.info_hash (Fetching a)) (sym k.end) part in
+    let keeps = asked_keeps (with_part (end_of mid.reactor) (Fetching a)) here in
+    reacted_sturdy mid mid.feed new (restarted (end_of mid.reactor) a) sound few (record { own = keeps.own; handshake = keeps.handshake; part = keeps.part }) r
+
+pub begun : {A : Type 0} → {old mid : Inside A} {new : Reactor A} {a : HalfState} (size : ℕ) (b : AssemblyState) {x : Option AssemblyState} → half_of old ≡ a
+    → IsKept old mid → length old.reactor.outbox.bytes < high_water → x ≡ Some b
+    → x ≡ anew (end_of old.reactor).handshake.info_hash (end_of old.reactor).part size → IsReacted mid.reactor new (restarted (end_of mid.reactor) b)
+    → IsBegun a size (Ok true) (half_of (record { feed = mid.feed; reactor = new }))
+begun {old} {mid} {new} {a} size b {x} v k l is made r =
+    let p : half_of mid ≡ half_of old = kept_half old mid k in
+    let does = restarted (end_of mid.reactor) b in
+    let left : half_of (record { feed = mid.feed; reactor = new }) ≡ reacted (half_of mid) does =
+    same_half (end_of new) does.end mid.feed mid.feed new.outbox.bytes (mid.reactor.outbox.bytes ++ spelled does.end does.queued) r.end refl r.queued in
+    let all : IsBegun (half_of old) size (Ok true) (half_of (record { feed = mid.feed; reactor = new })) =
+    (l, (b, sym made ∙ is, left ∙ ap (λ (y : HalfState). reacted y (restarted y.end b)) p)) in
+    subst (λ (y : HalfState). IsBegun y size (Ok true) (half_of (record { feed = mid.feed; reactor = new }))) v all

@@ -8,7 +8,7 @@ use Rattle.bt_end.specs.declared.config.Config.{Config}
 use Rattle.bt_end.specs.declared.config.EndError.{EndError}
 use Rattle.bt_end.specs.declared.config.EndError.TheVariants.{BadLimit, BadConfig, BadSize, Memory}
 use Rattle.bt_end.specs.declared.config.Role.{Role}
-use Rattle.bt_end.specs.declared.config.Role.TheVariants.{Watch, Serve, Share, Fetch}
+use Rattle.bt_end.specs.declared.config.Role.TheVariants.{Watch, Serve, Share, Fetch, FetchUpTo}
 
 -- its messages have at most 32,768 to 1,048,576 bytes
 abbrev pub is_bad_limit : ℕ → Bool
@@ -32,7 +32,8 @@ abbrev pub part_for : {A : Type 0} → Role A → Part
 part_for Watch = Watching
 part_for (Serve metadata) = Serving metadata.items
 part_for (Share metadata) = Serving metadata.value.items
-part_for Fetch = Awaiting
+part_for Fetch = Awaiting max_metadata
+part_for (FetchUpTo most) = Awaiting most
 
 -- its own reserved bits and info hash, and its peer id
 abbrev pub handshake_for : {A : Type 0} → Config A → Handshake

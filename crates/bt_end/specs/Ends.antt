@@ -28,20 +28,19 @@ use Rattle.bt_wire.specs.declared.reserved.Reserved.{Reserved}
 use Rattle.bt_wire.specs.Handshakes.{negotiated}
 use Rattle.bt_wire.specs.Messages.{order_after, spell}
 use Rattle.bt_metadata.specs.Blocks.{block, max_metadata, window}
-use Rattle.bt_metadata.specs.Assemblies.{AssemblyState, started, is_asked, is_held, is_rejected, is_settled as is_settled_slot, ask_of, asking, with_slots}
+use Rattle.bt_metadata.specs.Assemblies.{AssemblyState, started, is_asked, is_held, is_settled as is_settled_slot, ask_of, asking, with_slots}
 use Rattle.bt_metadata.specs.Assemblies.{with_data, with_reject, is_whole, joined, emptied, disconnected, held_block}
 use Rattle.bt_end.specs.declared.config.Announce.{Announce}
 use Rattle.bt_end.specs.declared.config.Announce.TheVariants.{Silent, All, Nothing}
 use Rattle.bt_end.specs.declared.part.Progress.{Progress}
-use Rattle.bt_end.specs.declared.part.Headway.{Headway}
 
 -- what an end does with metadata
 pub data Part : Type 0 where
   -- neither serves nor fetches it
   Watching : Part
   Serving : (metadata : List ℕ) → Part
-  -- fetches it; its size isn't known yet
-  Awaiting : Part
+  -- fetches it; its size isn't known yet, and is at most this
+  Awaiting : (most : ℕ) → Part
   Fetching : (assembly : AssemblyState) → Part
   Fetched : (metadata : List ℕ) → Part
 
@@ -170,9 +169,13 @@ then_asked e = if may_ask e then requesting e (all_wanted window e.window e.part
 
 -- ---- extended handshakes
 
+-- the assembly of a fetch that begins with this size: one of metadata, and not above the greatest that is taken
+abbrev pub new_assembly : ℕ → List ℕ → ℕ → Option AssemblyState
+new_assembly most hash size = if nat_lt 0 size && nat_le size (min most max_metadata) then Some (started hash size) else None
+
 -- the assembly of an end that awaits a size, once there is one
 abbrev pub assembly_of : List ℕ → Part → Option ℕ → Option AssemblyState
-assembly_of hash Awaiting (Some size) = if nat_lt 0 size && nat_le size max_metadata then Some (started hash size) else None
+assembly_of hash (Awaiting most) (Some size) = new_assembly most hash size
 assembly_of hash p size = None
 
 abbrev pub begun : Option AssemblyState → Part → Part
@@ -290,26 +293,19 @@ progress_of (Fetching a) = Some (record { size = a.size; blocks = block_count a.
 progress_of (Fetched metadata) = Some (record { size = length metadata; blocks = block_count (length metadata); held = block_count (length metadata) })
 progress_of p = None
 
--- how many blocks the peer rejected
-abbrev pub rejected_of : Part → ℕ
-rejected_of (Fetching a) = count_by is_rejected a.slots
-rejected_of p = 0
-
--- how far a connection has come: whether the peer's handshake is handled, whether the peer has told an id for metadata messages, how
--- far the fetch has come, and how many blocks the peer rejected
-abbrev pub headway_of : EndState → Headway
-headway_of e = record {
-  is_open = is_some e.context;
-  is_told = is_some (peer_id e);
-  progress = progress_of e.part;
-  rejected = rejected_of e.part;
-}
-
 -- it fetches metadata that isn't there yet
 abbrev pub is_fetching : Part → Bool
-is_fetching Awaiting = true
+is_fetching (Awaiting most) = true
 is_fetching (Fetching a) = true
 is_fetching p = false
+
+-- the assembly of a fetching end that begins anew with this size, whatever it holds
+abbrev pub anew : List ℕ → Part → ℕ → Option AssemblyState
+anew hash p size = if is_fetching p then new_assembly max_metadata hash size else None
+
+-- it fetches by this assembly: what it held is dropped, and requests are queued
+abbrev pub restarted : EndState → AssemblyState → Reaction
+restarted e a = then_asked (with_part e (Fetching a))
 
 -- each block is held, or the peer rejected it
 abbrev pub is_settled : Part → Bool

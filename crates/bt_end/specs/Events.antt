@@ -12,6 +12,7 @@ use Rattle.bt_ext.specs.declared.metadata.Kind.{Kind}
 use Rattle.bt_ext.specs.declared.metadata.Kind.TheVariants as kind
 use Rattle.bt_wire.specs.declared.item.Item.{Item}
 use Rattle.bt_wire.specs.declared.item.Item.TheVariants as items
+use Rattle.bt_wire.specs.Messages.{Message}
 use Rattle.bt_wire.specs.declared.message.Message.TheVariants as m
 use Rattle.bt_metadata.specs.Assemblies.{AssemblyState, piece_error, data_error, with_data, is_whole, joined}
 use Rattle.bt_end.specs.Ends.{EndState, Part, Serving, Fetching, peer_id, learnt, assembly_of}
@@ -51,11 +52,20 @@ extended_event e (ext.Handshake dict rest) = announced_event e (tree_of dict)
 extended_event e (ext.Metadata dict rest) = kind_event e (kind_of (tree_of dict)) rest
 extended_event e x = event.Other
 
+-- a message outside the Extension Protocol (BEP 3): a block of a piece is asked for, or comes
+abbrev pub plain_event : Message → Event
+plain_event (m.Request index begin size) = event.Requested index begin size
+plain_event (m.Piece index begin block) = event.Piece index begin
+plain_event other = event.Other
+
+abbrev pub message_event : EndState → Message → Event
+message_event e (m.Extended x) = extended_event e x
+message_event e other = plain_event other
+
 -- what an item makes of an end
 abbrev pub event_of : EndState → Item → Event
 event_of e (items.Handshake h) = event.Opened h
-event_of e (items.Message (m.Extended x)) = extended_event e x
-event_of e item = event.Other
+event_of e (items.Message msg) = message_event e msg
 
 abbrev pub is_mismatched : Event → Bool
 is_mismatched event.Mismatched = true

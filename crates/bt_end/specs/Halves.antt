@@ -1,6 +1,10 @@
 -- An end with the bytes that it receives and sends: what each of its calls does.
-use Rattle.std.specs.Prelude.{◌≡◌, ℕ, ◌+◌, ◌≤◌, Bool, true, false, ◌&&◌, ◌||◌, nat_le, if◌then◌else◌, List, [], ◌∷◌, ◌++◌, length, drop, Option, Some, None}
+use Rattle.std.specs.Prelude.{◌≡◌, ℕ, ◌+◌, ◌≤◌, ◌<◌, Bool, true, false, ◌&&◌, ◌||◌, nat_le, if◌then◌else◌, List, [], ◌∷◌, ◌++◌, length, drop, Option, Some, None}
 use Rattle.std.specs.Prelude.{is_some, is_none, Result, Ok, Err}
+use Rattle.bt_bencode.specs.Views.{tree_of}
+use Rattle.bt_ext.specs.Metadata.{kind_of}
+use Rattle.bt_ext.specs.declared.metadata.Kind.{Kind}
+use Rattle.bt_ext.specs.declared.metadata.Kind.TheVariants as kind
 use Rattle.bt_ext.specs.declared.ext.Ext.{Ext}
 use Rattle.bt_ext.specs.declared.ext.Ext.TheVariants as ext
 use Rattle.bt_wire.specs.declared.item.Item.{Item}
@@ -16,11 +20,14 @@ use Rattle.bt_feed.specs.declared.stage.Stage.TheVariants as stage
 use Rattle.bt_feed.specs.Answers.{IsAnswer, after, standing}
 use Rattle.bt_feed.specs.Feeds.{FeedState, taken, pushed, waiting}
 use Rattle.bt_feed.specs.Stages.{is_all, is_closed}
-use Rattle.bt_end.specs.Ends.{EndState, Reaction, react, queueing, belief, spelled}
+use Rattle.bt_metadata.specs.Assemblies.{AssemblyState}
+use Rattle.bt_end.specs.Ends.{EndState, Reaction, react, queueing, belief, spelled, anew, restarted}
 use Rattle.bt_end.specs.declared.end.Turn.{Turn}
 use Rattle.bt_end.specs.declared.end.Turn.TheVariants.{Handled, Idle}
 use Rattle.bt_end.specs.declared.end.TurnError.{TurnError}
 use Rattle.bt_end.specs.declared.end.TurnError.TheVariants as turn_error
+use Rattle.bt_end.specs.declared.end.BeginError.{BeginError}
+use Rattle.bt_end.specs.declared.end.BeginError.TheVariants as begin_error
 use Rattle.bt_end.specs.declared.end.SayError.{SayError}
 use Rattle.bt_end.specs.declared.end.SayError.TheVariants as say_error
 
@@ -66,11 +73,17 @@ is_ready f = is_none (standing f) && is_all f.stage f.held
 abbrev pub is_busy : HalfState → Bool
 is_busy a = is_ready a.feed && nat_le high_water (length a.outbox)
 
--- memory is taken for messages that may be queued, the table and an assembly alone
+-- memory is taken only for messages that may be queued, the table and an assembly
+abbrev pub kind_takes_memory : Kind → Bool
+kind_takes_memory kind.Other = false
+kind_takes_memory kind.Malformed = false
+kind_takes_memory k = true
+
 abbrev pub extended_takes_memory : Ext → Bool
+extended_takes_memory (ext.Handshake dict rest) = true
+extended_takes_memory (ext.Metadata dict rest) = kind_takes_memory (kind_of (tree_of dict))
 extended_takes_memory (ext.DontHave index) = false
 extended_takes_memory (ext.Raw id payload) = false
-extended_takes_memory x = true
 
 abbrev pub takes_memory : Item → Bool
 takes_memory (items.Handshake h) = true
@@ -114,6 +127,16 @@ IsStop (Ok x) b = is_closed b.feed.stage b.feed.held ≡ false
 IsStop (Err (turn_error.Refused r)) b = b.feed.refused ≡ Some r
 IsStop (Err turn_error.Busy) b = (is_ready b.feed ≡ true) × (high_water ≤ length b.outbox)
 IsStop (Err turn_error.Memory) b = (item : Item) × IsAnswer b.feed (Ok (Some item)) × (takes_memory item ≡ true)
+
+-- ---- a fetch that begins with another size
+
+-- It begins, or it can't: nothing is fetched, or the size isn't one of metadata. Each error changes nothing.
+abbrev pub IsBegun : HalfState → ℕ → Result Bool BeginError → HalfState → Type 0
+IsBegun a size (Ok true) b =
+    (length a.outbox < high_water) × ((x : AssemblyState) × (anew a.end.handshake.info_hash a.end.part size ≡ Some x) × (b ≡ reacted a (restarted a.end x)))
+IsBegun a size (Ok false) b = (length a.outbox < high_water) × (anew a.end.handshake.info_hash a.end.part size ≡ None) × (b ≡ a)
+IsBegun a size (Err begin_error.Busy) b = (high_water ≤ length a.outbox) × (b ≡ a)
+IsBegun a size (Err begin_error.Memory) b = b ≡ a
 
 -- ---- sayings
 

@@ -12,7 +12,7 @@ use Rattle.bt_metadata.specs.declared.server.Reply.TheVariants as reply
 abbrev pub part_of : {A : Type 0} → Code A → Part
 part_of code.Watching = Watching
 part_of (code.Serving server) = Serving server
-part_of code.Awaiting = Awaiting
+part_of (code.Awaiting most) = Awaiting most
 part_of (code.Fetching assembly) = Fetching assembly
 part_of (code.Fetched metadata) = Fetched metadata.items
 

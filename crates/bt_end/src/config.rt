@@ -34,6 +34,8 @@ pub enum Role<A: Allocator = Global> {
     Share(Rc<Vec<u8, A>, A>),
     /// It fetches it.
     Fetch,
+    /// It fetches it if it has at most this many bytes. A greater size isn't begun, and takes no memory.
+    FetchUpTo(u64),
 }
 
 /// How many blocks an end asks for at once, 1 to `WINDOW`.

@@ -1,13 +1,13 @@
 //! One end of a connection.
 use crate::config::{Announce, Config, EndError, Role, Window};
 use crate::event::Event;
-use crate::part::{Headway, Part, Progress};
+use crate::part::{Part, Progress};
 use crate::reactor::Reactor;
 use bt_feed::laws::one_answer;
 use bt_feed::{
     Feed, Finish, Memory, Outbox, Stage, TakeError, Target, View, WriteFault, refusal_in,
 };
-use bt_metadata::{BadSize, Server};
+use bt_metadata::{BadSize, MAX_METADATA, Server};
 use bt_wire::{Context, Fault, Handshake, Message, Order, Own, Refusal, spell_handshake};
 use std::alloc::{Allocator, Global};
 use std::marker::Model;
@@ -68,6 +68,16 @@ pub enum SayError {
     Memory,
 }
 
+/// Why an end doesn't begin a fetch anew.
+#[derive(Clone, Copy, PartialEq, Eq, Debug, Error)]
+pub enum BeginError {
+    /// Too much waits to be sent.
+    #[error("too much waits to be sent")]
+    Busy,
+    #[error("out of memory")]
+    Memory,
+}
+
 /// The outbox's length, in bytes, from which on an end is busy.
 pub const HIGH_WATER: usize = 1_048_576;
 
@@ -84,6 +94,17 @@ impl From<Memory> for TurnError {
 
     fn from(_: Memory) -> TurnError {
         TurnError::Memory
+    }
+}
+
+impl From<Memory> for BeginError {
+    ghost use Rattle.bt_end.specs.declared.end.BeginError.TheVariants.{Memory};
+    ghost use Rattle.std.specs.Prelude.{◌≡◌};
+
+    ghost from_gives = { λ _ e. e ≡ Memory };
+
+    fn from(_: Memory) -> BeginError {
+        BeginError::Memory
     }
 }
 
@@ -124,14 +145,14 @@ ghost use Rattle.bt_feed.specs.Progress.{IsFeed};
 ghost use Rattle.bt_io.specs.Seen.{WriteFailed};
 ghost use Rattle.bt_metadata.specs.Blocks.{max_metadata};
 ghost use Rattle.bt_wire.specs.Handshakes.{hand};
-ghost use Rattle.bt_end.specs.Ends.{belief, metadata_of, unopened, renewed, progress_of, headway_of, is_hopeless, fetched_block};
+ghost use Rattle.bt_end.specs.Ends.{belief, metadata_of, unopened, renewed, progress_of, is_hopeless, fetched_block};
 ghost use Rattle.std.specs.Io.BufRead.{Rests};
 ghost use types.Logic.{sem};
 ghost use Rattle.bt_end.specs.contracts.end.End.{the_row};
 ghost use Rattle.bt_feed.specs.Answers.{IsAnswer, after};
 ghost use Rattle.bt_feed.specs.Views.{shown};
 ghost use Rattle.bt_end.specs.Nexts.{IsMet, IsHeard, turn_of};
-ghost use Rattle.bt_end.specs.Halves.{IsTurned, with_feed, IsSaid, high_water, is_ready, connected, received, without_sent, with_window, IsHandled, IsStop};
+ghost use Rattle.bt_end.specs.Halves.{IsTurned, with_feed, IsBegun, IsSaid, high_water, is_ready, connected, received, without_sent, with_window, IsHandled, IsStop};
 ghost use Rattle.bt_end.specs.Parts.{part_of, shown_slice};
 ghost use Rattle.bt_end.specs.Configs.{part_for, is_bad_role, IsMade};
 ghost use Rattle.bt_end.specs.Sturdy.{IsPartOf, IsFetched, IsEnd, Sends};
@@ -189,7 +210,8 @@ fn part_for<A: Allocator>(role: Role<A>) -> Result<Part<A>, BadSize>
         Role::Watch => Ok(Part::Watching),
         Role::Serve(metadata) => Ok(Part::Serving(Server::new(metadata)?)),
         Role::Share(metadata) => Ok(Part::Serving(Server::shared(metadata)?)),
-        Role::Fetch => Ok(Part::Awaiting),
+        Role::Fetch => Ok(Part::Awaiting(MAX_METADATA as u64)),
+        Role::FetchUpTo(most) => Ok(Part::Awaiting(most)),
     }
 }
 
@@ -411,6 +433,28 @@ impl<A: Allocator + Copy> End<A> {
         Ok(())
     }
 
+    /// Fetches metadata of `size` bytes from now on, and returns whether it does.
+    ///
+    /// What was held of another size is dropped, and requests are queued. It doesn't if it fetches nothing, if the metadata is there, or if
+    /// the size isn't 1 to `MAX_METADATA`. So a caller goes on over the same connection if the size that a peer announced first was false.
+    ///
+    /// # Errors
+    /// `Busy` if too much waits to be sent, `Memory` if memory is refused. Each changes nothing.
+    pub fn begin(&mut self, size: u64) -> Result<bool, BeginError>
+        ensures { IsBegun self.old size result self.new }
+    {
+        if self.reactor.outbox.bytes().len() >= HIGH_WATER {
+            return Err(BeginError::Busy);
+        }
+        match self.reactor.anew(size)? {
+            Some(assembly) => {
+                self.reactor.restart(assembly);
+                Ok(true)
+            }
+            None => Ok(false),
+        }
+    }
+
     /// Asks for at most `window` blocks at once from now on. What is asked stays asked.
     pub fn set_window(&mut self, window: Window)
         ensures { self.new ≡ with_window window self.old }
@@ -435,16 +479,6 @@ impl<A: Allocator + Copy> End<A> {
         ensures bounds { IfSome result (λ p. (0 < p.size) × (p.size ≤ max_metadata) × (p.held ≤ p.blocks)) }
     {
         self.reactor.part.progress()
-    }
-
-    /// Returns how far the connection has come, so that a caller can tell a peer that does nothing for the fetch.
-    ///
-    /// It changes at the peer's handshake, where the peer announces an id for metadata messages, where it announces the size, and at each
-    /// block that was asked for and comes or is rejected. Keep-alives, haves and the like change nothing.
-    pub fn headway(&self) -> Headway
-        ensures { result ≡ headway_of self.now.end }
-    {
-        self.reactor.headway()
     }
 
     /// Whether it fetches, and no block can come any more on this connection.

@@ -1,8 +1,9 @@
 //! What an item makes of an end, for a caller that wants to know.
 ghost use Rattle.std.specs.Prelude.{◌≡◌};
-ghost use Rattle.bt_end.specs.Events.{is_mismatched};
+ghost use Rattle.bt_wire.specs.Messages.{message_of};
+ghost use Rattle.bt_end.specs.Events.{plain_event, is_mismatched};
 
-use bt_wire::Handshake;
+use bt_wire::{Handshake, MessageView};
 
 /// What an item made of an end.
 #[derive(Clone, Copy, PartialEq, Eq, Debug)]
@@ -30,8 +31,41 @@ pub enum Event {
     Served(u32),
     /// The peer asked for a block of this number, and a reject is to be sent.
     Declined(u32),
+    /// The peer asked for a block of a piece.
+    Requested {
+        index: u32,
+        begin: u32,
+        length: u32,
+    },
+    /// A block of a piece came. An end never asks for one.
+    Piece {
+        index: u32,
+        begin: u32,
+    },
     /// None of these.
     Other,
+}
+
+/// Returns what a message makes of an end that isn't one of the Extension Protocol.
+pub(crate) fn plain_event(message: &MessageView) -> Event
+    ensures { result ≡ plain_event (message_of message.now) }
+{
+    match message {
+        MessageView::Request {
+            index,
+            begin,
+            length,
+        } => Event::Requested {
+            index: *index,
+            begin: *begin,
+            length: *length,
+        },
+        MessageView::Piece { index, begin, .. } => Event::Piece {
+            index: *index,
+            begin: *begin,
+        },
+        _ => Event::Other,
+    }
 }
 
 impl Event {

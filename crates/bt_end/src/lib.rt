@@ -14,6 +14,6 @@ mod queueing;
 mod reactor;
 
 pub use config::{Announce, Config, EndError, Role, Window};
-pub use end::{End, HIGH_WATER, Heard, SayError, Turn, TurnError};
+pub use end::{BeginError, End, HIGH_WATER, Heard, SayError, Turn, TurnError};
 pub use event::Event;
-pub use part::{Headway, Progress};
+pub use part::Progress;

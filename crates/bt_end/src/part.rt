@@ -1,7 +1,7 @@
 //! What an end does with metadata.
 ghost use Rattle.std.specs.Prelude.{◌≡◌, ◌<◌, ◌≤◌, option_map, option_copied, IfOk, IfSome};
 ghost use Rattle.bt_metadata.specs.Blocks.{max_metadata};
-ghost use Rattle.bt_end.specs.Ends.{served_size, wanted, with_asked, assembly_of, with_block, with_refused, part_kept, metadata_of, progress_of, rejected_of, is_fetching, is_settled, fetched_block};
+ghost use Rattle.bt_end.specs.Ends.{served_size, wanted, with_asked, new_assembly, assembly_of, anew, with_block, with_refused, part_kept, metadata_of, progress_of, is_fetching, is_settled, fetched_block};
 ghost use Rattle.bt_end.specs.Events.{block_event, reject_event};
 ghost use Rattle.bt_end.specs.Sturdy.{IsFetched};
 ghost use Rattle.bt_end.specs.Parts.{part_of, shown_slice, IsReplyOf};
@@ -9,7 +9,7 @@ ghost use Rattle.bt_metadata.specs.Replies.{IsBounded};
 
 use crate::config::Window;
 use crate::event::Event;
-use bt_metadata::{Assembly, NewError, Reply, Server, Unfinished, block_count};
+use bt_metadata::{Assembly, MAX_METADATA, NewError, Reply, Server, Unfinished, block_count};
 use std::alloc::{AllocError, Allocator};
 
 /// What an end does with metadata.
@@ -18,8 +18,8 @@ pub enum Part<A: Allocator> {
     /// Neither serves nor fetches it.
     Watching,
     Serving(Server<A>),
-    /// Fetches it; its size isn't known yet.
-    Awaiting,
+    /// Fetches it; its size isn't known yet, and is at most this.
+    Awaiting(u64),
     Fetching(Assembly<A>),
     Fetched(Vec<u8, A>),
 }
@@ -35,17 +35,25 @@ pub struct Progress {
     pub held: usize,
 }
 
-/// How far a connection of an end has come.
-#[derive(Clone, Copy, PartialEq, Eq, Debug)]
-pub struct Headway {
-    /// Whether the peer's handshake was handled.
-    pub is_open: bool,
-    /// Whether the peer has announced an id for metadata messages.
-    pub is_told: bool,
-    /// How far the fetch has come: see [`End::progress`](crate::End::progress).
-    pub progress: Option<Progress>,
-    /// How many blocks the peer rejected.
-    pub rejected: usize,
+/// Makes the assembly of a fetch that begins with this size.
+///
+/// `None` if it isn't the size of metadata, or is above `most`.
+fn new_assembly<A: Allocator + Copy>(
+    alloc: A,
+    most: u64,
+    info_hash: [u8; 20],
+    size: u64,
+) -> Result<Option<Assembly<A>>, AllocError>
+    ensures { IfOk result (λ a. a ≡ new_assembly most info_hash size) }
+{
+    if size > most {
+        return Ok(None);
+    }
+    match Assembly::new(alloc, info_hash, size) {
+        Ok(assembly) => Ok(Some(assembly)),
+        Err(NewError::BadSize) => Ok(None),
+        Err(NewError::Memory) => Err(AllocError),
+    }
 }
 
 impl<A: Allocator + Copy> Part<A> {
@@ -93,7 +101,7 @@ impl<A: Allocator + Copy> Part<A> {
 
     /// Makes the assembly for metadata of this size.
     ///
-    /// `None` where none is awaited or the size isn't one of metadata.
+    /// `None` if none is awaited, or the size isn't one of metadata or is above the greatest that is taken.
     pub fn assembly(
         &self,
         alloc: A,
@@ -102,14 +110,27 @@ impl<A: Allocator + Copy> Part<A> {
     ) -> Result<Option<Assembly<A>>, AllocError>
         ensures { IfOk result (λ a. a ≡ assembly_of info_hash (part_of self.now) size) }
     {
-        let (Part::Awaiting, Some(size)) = (self, size) else {
+        let (Part::Awaiting(most), Some(size)) = (self, size) else {
             return Ok(None);
         };
-        match Assembly::new(alloc, info_hash, size) {
-            Ok(assembly) => Ok(Some(assembly)),
-            Err(NewError::BadSize) => Ok(None),
-            Err(NewError::Memory) => Err(AllocError),
+        new_assembly(alloc, *most, info_hash, size)
+    }
+
+    /// Makes the assembly with which a fetch begins anew with this size.
+    ///
+    /// `None` if nothing is fetched, or the size isn't one of metadata.
+    pub fn anew(
+        &self,
+        alloc: A,
+        info_hash: [u8; 20],
+        size: u64,
+    ) -> Result<Option<Assembly<A>>, AllocError>
+        ensures { IfOk result (λ a. a ≡ anew info_hash (part_of self.now) size) }
+    {
+        if !self.is_fetching() {
+            return Ok(None);
         }
+        new_assembly(alloc, MAX_METADATA as u64, info_hash, size)
     }
 
     /// Asks for the next block, and returns its number.
@@ -195,22 +216,12 @@ impl<A: Allocator + Copy> Part<A> {
         }
     }
 
-    /// Returns how many blocks the peer rejected.
-    pub fn rejected(&self) -> usize
-        ensures { result ≡ rejected_of (part_of self.now) }
-    {
-        match self {
-            Part::Fetching(assembly) => assembly.rejected(),
-            _ => 0,
-        }
-    }
-
     /// Whether it fetches metadata that isn't there yet.
     pub fn is_fetching(&self) -> bool
         ensures { result ≡ is_fetching (part_of self.now) }
     {
         match self {
-            Part::Awaiting | Part::Fetching(_) => true,
+            Part::Awaiting(_) | Part::Fetching(_) => true,
             _ => false,
         }
     }

@@ -7,17 +7,17 @@ ghost use Rattle.bt_wire.specs.Legal.{IsLegal};
 ghost use Rattle.bt_wire.specs.Messages.{IsExtended, body};
 ghost use Rattle.bt_wire.specs.declared.message.Message.TheVariants as messages;
 ghost use Rattle.bt_ext.specs.declared.ext.Ext.TheVariants as ext;
-ghost use Rattle.bt_end.specs.Ends.{agreed, belief, unopened, renewed, announced, queueing, greeted, peer_id, all_wanted, requesting, then_asked, replied, one_more, block_taken, by_kind, at_extended, react, is_hopeless, headway_of};
+ghost use Rattle.bt_end.specs.Ends.{agreed, belief, unopened, renewed, announced, queueing, greeted, peer_id, all_wanted, requesting, then_asked, replied, one_more, block_taken, by_kind, at_extended, react, is_hopeless, anew, restarted};
 ghost use Rattle.bt_end.specs.Events.{answer_event, block_event, kind_event, extended_event, event_of};
-ghost use Rattle.bt_end.specs.Halves.{extended_takes_memory, takes_memory, is_own_made, tells_pieces, unsaid};
+ghost use Rattle.bt_end.specs.Halves.{kind_takes_memory, extended_takes_memory, takes_memory, is_own_made, tells_pieces, unsaid};
 ghost use Rattle.bt_metadata.specs.Blocks.{window};
 ghost use Rattle.bt_end.specs.Parts.{part_of};
 ghost use Rattle.bt_end.specs.Reactors.{end_of, learned, IsPlan, IsPlanOf, IsLesson, IsReacted, IsQueued, IsSpoken, dict_in};
 
 use crate::config::{Announce, Window};
 use crate::end::{HIGH_WATER, SayError};
-use crate::event::Event;
-use crate::part::{Headway, Part};
+use crate::event::{Event, plain_event};
+use crate::part::Part;
 use crate::queueing::{ROOM, put, put_donthave, put_handshake, put_message, put_plain};
 use bt_bencode::DictRef;
 use bt_ext::{Ext, ExtView, Kind, Table, kind_ref, metadata_size_ref};
@@ -62,14 +62,26 @@ pub enum Plan<A: Allocator> {
     },
 }
 
+/// Whether memory is taken for a metadata message: one that may be answered, or after which a request may follow.
+fn kind_takes_memory(kind: Kind) -> bool
+    ensures { result ≡ kind_takes_memory kind }
+{
+    match kind {
+        Kind::Other | Kind::Malformed => false,
+        Kind::Request(_) | Kind::Data { .. } | Kind::Reject(_) => true,
+    }
+}
+
 /// Whether memory is taken for an item.
 fn takes_memory(view: &View) -> bool
     ensures { result ≡ takes_memory (item_of view.now) }
 {
     match view {
         View::Handshake(_) => true,
-        View::Message(MessageView::Extended(ExtView::DontHave(_) | ExtView::Raw { .. })) => false,
-        View::Message(MessageView::Extended(_)) => true,
+        View::Message(MessageView::Extended(ExtView::Handshake { .. })) => true,
+        View::Message(MessageView::Extended(ExtView::Metadata { dict, .. })) => {
+            kind_takes_memory(kind_ref(dict))
+        }
         View::Message(_) => false,
     }
 }
@@ -226,13 +238,37 @@ impl<A: Allocator + Copy> Reactor<A> {
         }
     }
 
+    /// Makes the assembly with which the end begins anew with this size, and room for the requests. The end isn't changed.
+    pub fn anew(&mut self, size: u64) -> Result<Option<Assembly<A>>, Memory>
+        ensures ok { IfOk result (λ a. a ≡ anew self.old.handshake.info_hash (part_of self.old.part) size) }
+        ensures room { IfOk result (λ a. 16610 ≤ self.new.outbox.room) }
+        ensures end { end_of self.new ≡ end_of self.old }
+        ensures bytes { self.new.outbox.bytes ≡ self.old.outbox.bytes }
+    {
+        self.outbox.reserve(ROOM)?;
+        let hash = self.handshake.info_hash;
+        match self.part.anew(self.alloc, hash, size) {
+            Ok(assembly) => Ok(assembly),
+            Err(_) => Err(Memory),
+        }
+    }
+
+    /// Fetches by this assembly from now on, and queues requests.
+    pub fn restart(&mut self, assembly: Assembly<A>)
+        requires room { 16610 ≤ self.old.outbox.room }
+        ensures { IsReacted self.old self.new (restarted (end_of self.old) assembly) }
+    {
+        self.part = Part::Fetching(assembly);
+        self.ask();
+    }
+
     /// Takes a block of the metadata that is fetched.
     fn take_block(&mut self, piece: u32, total: u64, block: &[u8]) -> Event
         ensures end { end_of self.new ≡ block_taken (end_of self.old) piece total block.now }
         ensures outbox { self.new.outbox ≡ self.old.outbox }
         ensures event { result ≡ block_event piece total block.now (part_of self.old.part) }
     {
-        let part = mem::replace(&mut self.part, Part::Awaiting);
+        let part = mem::replace(&mut self.part, Part::Watching);
         let (part, event) = part.with_block(piece, total, block);
         self.part = part;
         self.mismatches = one_more(event.is_mismatched(), self.mismatches);
@@ -240,7 +276,7 @@ impl<A: Allocator + Copy> Reactor<A> {
     }
 
     fn handle_metadata(&mut self, kind: Kind, block: &[u8]) -> Event
-        requires room { 16610 ≤ self.old.outbox.room }
+        requires room { kind_takes_memory kind ≡ true → 16610 ≤ self.old.outbox.room }
         ensures reacted { IsReacted self.old self.new (by_kind (end_of self.old) kind block.now) }
         ensures event { result ≡ kind_event (end_of self.old) kind block.now }
     {
@@ -338,7 +374,7 @@ impl<A: Allocator + Copy> Reactor<A> {
                 self.receives = next_of_view(self.receives, message);
                 match message {
                     MessageView::Extended(ext) => self.handle_extended(ext, plan),
-                    _ => Event::Other,
+                    other => plain_event(other),
                 }
             }
         }
@@ -467,18 +503,6 @@ impl<A: Allocator + Copy> Reactor<A> {
         match self.unsaid(refused, message) {
             Some(error) => Err(error),
             None => self.queue(message),
-        }
-    }
-
-    /// Returns how far the connection has come.
-    pub fn headway(&self) -> Headway
-        ensures { result ≡ headway_of (end_of self.now) }
-    {
-        Headway {
-            is_open: self.context.is_some(),
-            is_told: self.peer_id().is_some(),
-            progress: self.part.progress(),
-            rejected: self.part.rejected(),
         }
     }
 

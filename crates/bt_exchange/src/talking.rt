@@ -12,7 +12,6 @@ use crate::connection::Connection;
 use crate::hearing::Hearing;
 use crate::watch::Watch;
 use bt_end::{End, Event, TurnError};
-use bt_feed::laws::one_answer;
 use bt_io::Failed;
 use bt_wire::Refusal;
 use std::alloc::Allocator;
@@ -114,9 +113,9 @@ fn write_step<A: Allocator + Copy>(
 
 /// Handles the next item, and returns what it made of the end.
 fn next_event<A: Allocator + Copy>(end: &mut End<A>) -> Result<Option<Event>, TurnError>
+    requires { IsFeed end.old.feed }
     ensures { IsNext end.old result end.new }
 {
-    one_answer();
     match end.next() {
         Ok(Some(heard)) => Ok(Some(heard.event)),
         Ok(None) => Ok(None),

@@ -14,3 +14,4 @@ mod Lent
 mod Passed
 mod Reasons
 mod Committed
+mod Shares

@@ -258,6 +258,12 @@ sink_fault (error.Sink f) h = h
 sink_fault error.ReadFault h = absurd h
 sink_fault error.Turns h = absurd h
 
+pub no_sink_fault : (e : PumpError) → IsSinkFault {A = ℕ} (Err e) → IsSinkFault {A = Unit {0}} (Err e)
+no_sink_fault (error.Refused r) h = absurd h
+no_sink_fault (error.Sink f) h = h
+no_sink_fault error.ReadFault h = absurd h
+no_sink_fault error.Turns h = absurd h
+
 -- ---- the end
 
 not_refused : (f : FeedState) (o : Option Refusal) → f.refused ≡ o → IfSome o (λ r. IsAnswer f (Err r)) → is_closed f.stage f.held ≡ false → f.refused ≡ None

@@ -1,5 +1,5 @@
 -- What a pump moves: the bytes of a source through a feed, and its items into a sink.
-use Rattle.std.specs.Prelude.{◌≡◌, ◌⊎◌, ◌≤◌, ℕ, ⊤, false, length, List, [], ◌∷◌, ◌++◌, ◌+◌, take, MatchResult, None, Result, Ok, Err}
+use Rattle.std.specs.Prelude.{◌≡◌, ◌⊎◌, ◌≤◌, ◌<◌, ◌-◌, ◌*◌, ◌^◌, ℕ, Option, Some, ⊤, false, length, List, [], ◌∷◌, ◌++◌, ◌+◌, take, MatchResult, None, Result, Ok, Err}
 use Rattle.std.specs.Io.KnownBytes.{Consumes, Keeps}
 use Rattle.bt_wire.specs.declared.fault.Reason.TheVariants.{EndInside}
 use Rattle.bt_wire.specs.declared.context.Context.{Context}
@@ -80,6 +80,16 @@ abbrev pub IsPump : {S : Type 0} → (S → ℕ × Item → S → Type 0) → (S
 IsPump takes misses read before after r =
     (bytes : List ℕ) × (lost : List ℕ) × (xs : List (ℕ × Item)) × Consumes before.source.left after.source.left (bytes ++ lost)
     × IsGiven takes misses before.sink xs after.sink r × IsPumpEnd before.feed bytes lost xs after.feed r × (length lost ≤ read)
+
+-- of the bytes that were left, if they are known, at most n were read
+abbrev pub ConsumesAtMost : ℕ → Option (List ℕ) → Option (List ℕ) → Type 0
+ConsumesAtMost n None new = ⊤
+ConsumesAtMost n (Some xs) None = ⊥
+ConsumesAtMost n (Some xs) (Some ys) = length xs ≤ length ys + n
+
+-- each read gave at most n bytes, as long as the reads can be counted
+abbrev pub IsReadBy : ℕ → SourceSeen → SourceSeen → Type 0
+IsReadBy n before after = after.reads < 2 ^ 64 - 1 → ConsumesAtMost ((after.reads - before.reads) * n) before.left after.left
 
 -- from the one state of the source to the other it gave bytes with which nothing is refused
 abbrev pub IsOpenTo : FeedState → SourceSeen → SourceSeen → Type 0

@@ -163,6 +163,7 @@ impl<A: Allocator> Feed<A> {
     ) -> (usize, Result<(), SinkFault>)
         ensures within { result.0 ≤ length piece.now }
         ensures held { self.new.held ≡ self.old.held }
+        ensures emptied { OnErr result.1 (self.new.held ≡ []) }
         ensures items { (xs : List (ℕ × Item)) × IsHanded S.takes S.misses sink.old xs sink.new result.1 × IsFed self.old (take result.0 piece.now) xs self.new }
         ensures calm { OnOk result.1 (S.failed sink.new ≡ S.failed sink.old) }
         ensures sink { OnErr result.1 (Grew (S.failed sink.old) (S.failed sink.new)) }
@@ -171,16 +172,22 @@ impl<A: Allocator> Feed<A> {
         self.progress.pass(self.buffer.as_slice(), sink, piece)
     }
 
-    /// Reads bytes of a message that is held in part straight to those that are held, where many of them are still to come.
+    /// Reads at most `most` bytes of a message that is held in part straight to those that are held, if many are still to come.
     #[inline(always)]
-    pub(crate) fn read<R: Source>(&mut self, reader: &mut R) -> Option<Result<usize, Failed>>
+    pub(crate) fn read<R: Source>(
+        &mut self,
+        reader: &mut R,
+        most: usize,
+    ) -> Option<Result<usize, Failed>>
+        requires { 0 < most }
         ensures none { result ≡ None → (self.new ≡ self.old) × (reader.new ≡ reader.old) }
+        ensures few { IfSome result (λ r. IfOk r (λ n. n ≤ most)) }
         ensures read { IfSome result (λ r. IsRead self.old self.new (R.seen reader.old) (R.seen reader.new) r) }
         ensures reads { IfSome result (λ _. (R.seen reader.new).reads ≡ one_more (R.seen reader.old).reads) }
         ensures failed { IfSome result (λ r. (R.seen reader.new).failed ≡ counted (is_err r) (R.seen reader.old).failed) }
         ensures ends { IfSome result (λ r. (R.seen reader.new).ends ≡ counted (is_end r 1) (R.seen reader.old).ends) }
     {
-        let read = self.progress.read(&mut self.buffer, reader);
+        let read = self.progress.read(&mut self.buffer, reader, most);
         self.is_direct = read.is_some();
         read
     }

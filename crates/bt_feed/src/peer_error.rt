@@ -27,8 +27,8 @@ pub enum PeerError {
     /// A message of one's own isn't legal for the peer.
     #[error("a message can't be sent: {0}")]
     Illegal(Fault),
-    /// The limit isn't 1 to 1,048,576.
-    #[error("the limit isn't 1 to 1,048,576")]
+    /// The limit isn't 1 to 1,048,576, or for an end 32,768 to 1,048,576.
+    #[error("the limit isn't 1 to 1,048,576, or for an end 32,768 to 1,048,576")]
     BadLimit,
     /// A stream can't start after offset 2^62.
     #[error("the stream starts after offset 2^62")]

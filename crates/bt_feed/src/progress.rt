@@ -1,5 +1,5 @@
 //! How far a feed is with the item that it awaits.
-ghost use Rattle.std.specs.Prelude.{◌≡◌, ◌+◌, ◌-◌, ◌<◌, ◌≤◌, ◌⊎◌, ◌++◌, false, true, List, ℕ, length, take, min, None, Err, IfSome, OnOk, OnErr, is_err};
+ghost use Rattle.std.specs.Prelude.{◌≡◌, ◌+◌, ◌-◌, ◌<◌, ◌≤◌, ◌⊎◌, ◌++◌, false, true, List, ℕ, length, take, min, [], None, Err, IfOk, IfSome, OnOk, OnErr, is_err};
 ghost use Rattle.bt_wire.specs.declared.item.Item.{Item};
 ghost use Rattle.bt_io.specs.Counts.{Grew, one_more, counted, is_end};
 ghost use Rattle.bt_feed.specs.Pumps.{IsHanded, IsFed, IsRead};
@@ -166,18 +166,21 @@ impl Progress {
         append_up_to(buffer, length, piece)
     }
 
-    /// Reads bytes of the present message straight into the buffer.
+    /// Reads at most `most` bytes of the present message straight into the buffer.
     ///
-    /// It does so where many of them are still to come.
+    /// It does so if many of them are still to come.
     #[inline(always)]
     pub fn read<R: Source, A: Allocator>(
         &self,
         buffer: &mut Buffer<A>,
         reader: &mut R,
+        most: usize,
     ) -> Option<Result<usize, Failed>>
         requires sound { IsProgress self.now buffer.old.items }
         requires room { capacity_of self.now.stage ≤ buffer.old.capacity }
+        requires most { 0 < most }
         ensures none { result ≡ None → (buffer.new ≡ buffer.old) × (reader.new ≡ reader.old) }
+        ensures few { IfSome result (λ r. IfOk r (λ n. n ≤ most)) }
         ensures read { IfSome result (λ r. IsRead (state_of self.now buffer.old.items) (state_of self.now buffer.new.items)
             (R.seen reader.old) (R.seen reader.new) r) }
         ensures reads { IfSome result (λ _. (R.seen reader.new).reads ≡ one_more (R.seen reader.old).reads) }
@@ -189,7 +192,8 @@ impl Progress {
         if self.spent || self.wanted < buffer.len() + MANY {
             return None;
         }
-        Some(buffer.read(reader, self.wanted))
+        let goal = self.wanted.min(buffer.len().saturating_add(most));
+        Some(buffer.read(reader, goal))
     }
 
     /// Gives the sink the whole messages at the front of a piece.
@@ -205,6 +209,7 @@ impl Progress {
         requires { IsProgress self.old buffer.now }
         ensures within { result.0 ≤ length piece.now }
         ensures held { held_of self.new buffer.now ≡ held_of self.old buffer.now }
+        ensures emptied { OnErr result.1 (held_of self.new buffer.now ≡ []) }
         ensures items { (xs : List (ℕ × Item)) × IsHanded S.takes S.misses sink.old xs sink.new result.1
             × IsFed (state_of self.old buffer.now) (take result.0 piece.now) xs (state_of self.new buffer.now) }
         ensures calm { OnOk result.1 (S.failed sink.new ≡ S.failed sink.old) }

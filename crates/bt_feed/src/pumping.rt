@@ -6,7 +6,7 @@ ghost use Rattle.bt_wire.specs.declared.fault.Reason.TheVariants as reasons;
 ghost use Rattle.bt_wire.specs.declared.item.Item.{Item};
 ghost use Rattle.bt_io.specs.Counts.{Grew, one_more, counted, is_end};
 ghost use Rattle.bt_io.specs.Seen.{EndRead, ReadFailed};
-ghost use Rattle.bt_feed.specs.Pumps.{IsGiven, IsEnd, IsEndOf, IsPump, pump_state, IsOpenTo, IsPieceEnd, IsSinkFault, IsReadOn, came};
+ghost use Rattle.bt_feed.specs.Pumps.{IsGiven, IsEnd, IsEndOf, IsPump, pump_state, IsOpenTo, IsPieceEnd, IsSinkFault, IsReadOn, IsReadBy, ConsumesAtMost, came};
 ghost use Rattle.bt_feed.specs.Stages.{limit_of, is_closed};
 
 use crate::feed::Feed;
@@ -44,6 +44,7 @@ fn pump_piece<S: Sink, A: Allocator>(
     ensures items { (xs : List (ℕ × Item)) × IsGiven S.takes S.misses sink.old xs sink.new result × IsPieceEnd feed.old piece.now xs feed.new result }
     ensures sink { IsSinkFault result → Grew (S.failed sink.old) (S.failed sink.new) }
     ensures quiet { (IsSinkFault result → ⊥) → S.failed sink.new ≡ S.failed sink.old }
+    ensures emptied { IsSinkFault result → feed.new.held ≡ [] }
     ensures limit { limit_of feed.new.stage ≤ 1048576 }
 {
     let mut at = 0;
@@ -95,6 +96,8 @@ fn read_once<R: Source, A: Allocator>(
     requires { 0 < length buffer.old }
     ensures some { IfOk result (λ x. (x.1 ≤ length buffer.new) × (length buffer.new ≡ length buffer.old)
         × IsReadOn feed.old feed.new (R.seen reader.old) (R.seen reader.new) (take x.1 buffer.new)) }
+    ensures few { IfOk result (λ x. x.0 ≤ length buffer.old) }
+    ensures consumed { ConsumesAtMost (length buffer.old) (R.seen reader.old).left (R.seen reader.new).left }
     ensures none { IfOk result (λ x. x.0 ≡ 0 → (feed.new ≡ feed.old) × Consumes (R.seen reader.old).left (R.seen reader.new).left []) }
     ensures err { OnErr result ((feed.new ≡ feed.old) × Keeps (R.seen reader.old).left (R.seen reader.new).left) }
     ensures reads { (R.seen reader.new).reads ≡ one_more (R.seen reader.old).reads }
@@ -102,7 +105,7 @@ fn read_once<R: Source, A: Allocator>(
     ensures ends { (R.seen reader.new).ends ≡ counted (is_end (came result) 1) (R.seen reader.old).ends }
 {
     let is_peek = feed.is_direct();
-    match feed.read(reader) {
+    match feed.read(reader, buffer.len()) {
         Some(Ok(count)) => Ok((count, 0)),
         Some(Err(failed)) => Err(failed),
         None => {
@@ -119,9 +122,9 @@ fn read_once<R: Source, A: Allocator>(
 
 /// Reads to the end, and gives the sink each item with its offset.
 ///
-/// It reads `max_turns` times at most: into the buffer, which isn't empty, or right into the feed, where many bytes of a
-/// message are still to come. The read after such a one takes 4,096 bytes at most. It returns the offset of the stream's end.
-/// It takes no memory itself.
+/// It reads `max_turns` times at most, each time no more bytes than the buffer has, which isn't empty: into the buffer, or right
+/// into the feed if many bytes of a message are still to come. The read after such a one takes 4,096 bytes at most. It returns the
+/// offset of the stream's end. It takes no memory itself.
 ///
 /// A refusal, a sink's fault, a failed read and the end stop it at once: no read follows. After a refusal or a sink's
 /// fault, what is left of the piece in the buffer is lost. After `Turns` or `ReadFault` nothing is lost, and another call
@@ -143,6 +146,8 @@ pub fn pump_with<R: Source, S: Sink, A: Allocator>(
     ensures calm { result ≢ Err PumpError.ReadFault → (R.seen reader.new).failed ≡ (R.seen reader.old).failed }
     ensures sink { IsSinkFault result → Grew (S.failed sink.old) (S.failed sink.new) }
     ensures quiet { (IsSinkFault result → ⊥) → S.failed sink.new ≡ S.failed sink.old }
+    ensures emptied { IsSinkFault result → feed.new.held ≡ [] }
+    ensures share { IsReadBy (length buffer.old) (R.seen reader.old) (R.seen reader.new) }
     ensures needed { ((R.seen reader.new).reads ≡ (R.seen reader.old).reads)
         ⊎ ((before : R) × IsOpenTo feed.old (R.seen reader.old) (R.seen before) × ((R.seen reader.new).reads ≤ (R.seen before).reads + 1)) }
 {
@@ -179,6 +184,8 @@ pub fn pump<R: Source, S: Sink, A: Allocator>(
     ensures calm { result ≢ Err PumpError.ReadFault → (R.seen reader.new).failed ≡ (R.seen reader.old).failed }
     ensures sink { IsSinkFault result → Grew (S.failed sink.old) (S.failed sink.new) }
     ensures quiet { (IsSinkFault result → ⊥) → S.failed sink.new ≡ S.failed sink.old }
+    ensures emptied { IsSinkFault result → feed.new.held ≡ [] }
+    ensures share { IsReadBy 4096 (R.seen reader.old) (R.seen reader.new) }
     ensures needed { ((R.seen reader.new).reads ≡ (R.seen reader.old).reads)
         ⊎ ((before : R) × IsOpenTo feed.old (R.seen reader.old) (R.seen before) × ((R.seen reader.new).reads ≤ (R.seen before).reads + 1)) }
 {

@@ -1,12 +1,16 @@
 -- What a connection leaves of an end's handshake.
-use Rattle.std.proofs.Common.{◌≡◌, ℕ, List, [], ◌∷◌, sym, ap, subst, ◌∙◌, refl, Result, Ok, Err, OnOk}
+use Rattle.std.proofs.Common.{◌≡◌, ℕ, ◌+◌, Bool, true, false, if◌then◌else◌, List, [], ◌∷◌, Option, Result, Ok, Err, sym, ap, subst, ◌∙◌, refl, add-one}
 use Rattle.bt_wire.specs.declared.item.Item.{Item}
 use Rattle.bt_wire.specs.declared.handshake.Handshake.{Handshake}
-use Rattle.bt_end.specs.Ends.{EndState, react, renewed}
-use Rattle.bt_end.specs.Halves.{HalfState, connected}
+use Rattle.bt_metadata.specs.Blocks.{window}
+use Rattle.bt_end.specs.Ends.{EndState, Fetching, all_wanted, may_ask, quiet, react, renewed, requesting, with_part}
+use Rattle.bt_end.specs.Halves.{HalfState, connected, IsBegun}
+use Rattle.bt_end.specs.declared.end.BeginError.{BeginError}
+use Rattle.bt_end.specs.declared.end.BeginError.TheVariants as begin_error
 use Rattle.bt_end.specs.Sturdy.{IsPartOf, IsEnd}
 use Rattle.bt_end.proofs.Reactions.{react_keeps}
 use Rattle.bt_exchange.specs.Courses.{end_after, IsMoved, Moment}
+use Rattle.bt_fetch.specs.Tries.{AreAsked, IsAsked}
 
 after_keeps : (e : EndState) (xs : List (ℕ × Item)) → IsPartOf e.handshake.info_hash e.part → (end_after e xs).handshake ≡ e.handshake
 after_keeps e [] i = refl
@@ -19,10 +23,20 @@ after_keeps e (x ∷ xs) i =
 pub shut_keeps : (e : EndState) (a : HalfState) → a ≡ connected (renewed e) → a.end.handshake ≡ e.handshake
 shut_keeps e a r = ap (λ (h : HalfState). h.end.handshake) r
 
-pub one_keeps : (e : EndState) (a b : Moment) → a.half ≡ connected (renewed e) → IsEnd a.half → IsMoved a b → b.half.end.handshake ≡ e.handshake
-one_keeps e a b r s m =
-    ap (λ (x : EndState). x.handshake) m.course.end ∙ after_keeps a.half.end m.course.items s.part ∙ ap (λ (h : HalfState). h.end.handshake) r
+pub moved_keeps : (a b : Moment) → IsEnd a.half → IsMoved a b → b.half.end.handshake ≡ a.half.end.handshake
+moved_keeps a b s m = ap (λ (x : EndState). x.handshake) m.course.end ∙ after_keeps a.half.end m.course.items s.part
 
-pub so_ok : {A E : Type 0} (P : Type 0) (r : Result A E) → P → OnOk r P
-so_ok P (Ok x) p = p
-so_ok P (Err e) p = tt
+ask_by : (e : EndState) (t : Bool) → (if t then requesting e (all_wanted window e.window e.part) else quiet e).end.handshake ≡ e.handshake
+ask_by e true = refl
+ask_by e false = refl
+
+pub begun_keeps : (a b : HalfState) (size : ℕ) (r : Result Bool BeginError) → IsBegun a size r b → b.end.handshake ≡ a.end.handshake
+begun_keeps a b size (Ok true) h =
+    let e = with_part a.end (Fetching h.1.0) in
+    ap (λ (x : HalfState). x.end.handshake) h.1.2 ∙ ask_by e (may_ask e)
+begun_keeps a b size (Ok false) h = ap (λ (x : HalfState). x.end.handshake) h.2
+begun_keeps a b size (Err begin_error.Busy) h = ap (λ (x : HalfState). x.end.handshake) h.1
+begun_keeps a b size (Err begin_error.Memory) h = ap (λ (x : HalfState). x.end.handshake) h
+
+pub asked_more : (n : ℕ) (a b c : Option (List ℕ)) → AreAsked n a b → IsAsked b c n → AreAsked (n + 1) a c
+asked_more n a b c h k = subst (λ (x : ℕ). AreAsked x a c) (sym (add-one n)) (b, h, k)

@@ -1,3 +1,4 @@
 pub mod Wishes
 pub mod Outcomes
 pub mod Fetches
+pub mod Tries

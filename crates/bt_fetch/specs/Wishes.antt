@@ -1,8 +1,12 @@
 -- What the end that fetches is made with.
-use Rattle.std.specs.Prelude.{◌≤◌, Some, None}
+use Rattle.std.specs.Prelude.{ℕ, ◌≤◌, Some, None, unwrap_or}
 use Rattle.bt_ext.specs.Ids.{metadata_only}
+use Rattle.bt_metadata.specs.Blocks.{window}
 use Rattle.bt_wire.specs.declared.context.Own.{Own}
 use Rattle.bt_wire.specs.declared.handshake.Handshake.{Handshake}
+use Rattle.bt_end.specs.Ends.{Awaiting, unopened}
+use Rattle.bt_end.specs.Halves.{HalfState, connected}
+use Rattle.bt_end.specs.declared.config.Announce.TheVariants as announce
 use Rattle.bt_fetch.specs.declared.wish.Wish.{Wish}
 
 -- the limit is that of an end
@@ -22,3 +26,11 @@ own_of w = record {
 
 abbrev pub handshake_of : Wish → Handshake
 handshake_of w = record { reserved = record { 0 = 1048580 }; info_hash = w.info_hash; peer_id = w.peer_id }
+
+-- how many blocks are asked for at once on a first connection
+abbrev pub first_window : Wish → ℕ
+first_window w = unwrap_or w.window window
+
+-- a new end that says it has no piece, and fetches metadata of at most so many bytes
+abbrev pub fetching_end : Wish → HalfState
+fetching_end w = connected (unopened (own_of w) (handshake_of w) announce.Nothing (first_window w) (Awaiting w.most))

@@ -1,9 +1,10 @@
 //! Where a fetch gets its connections from, and who hears of them.
 ghost use Rattle.std.specs.Prelude.{◌≡◌};
 ghost use Rattle.bt_io.specs.Counts.{one_more};
+ghost use Rattle.bt_fetch.specs.Tries.{IsAdded};
 
 use bt_end::Progress;
-use bt_exchange::{Connection, Witness};
+use bt_exchange::Connection;
 use bt_wire::Refusal;
 
 /// How a try at an address ended.
@@ -23,61 +24,48 @@ pub enum Outcome {
     Rejected,
     /// The blocks were those of other metadata, twice.
     Mismatch,
-    /// The peer knows no Extension Protocol, or announced no id for metadata messages, or no size within bounds.
+    /// The peer knows no Extension Protocol, told a size that isn't taken, or told no size or no id until the patience passed.
     NoMetadata,
-    /// The peer announced another size than that of the blocks that are held. It is dialled again.
-    OtherSize,
-    /// The peer is a client that answers one request at a time. It is dialled again.
-    OneAtATime,
 }
 
 /// Opens connections to the addresses of a list.
 pub trait Dial {
-    ghost use Rattle.std.specs.Prelude.{ℕ};
+    ghost use Rattle.std.specs.Prelude.{ℕ, List, Option};
 
     type Link: Connection + Drop;
 
     /// How often it was asked for a connection, up to 2^64 - 1.
     ghost dials: { Self → ℕ };
 
-    /// Opens a connection to the address of this number; `None` where that fails.
+    /// The numbers of the addresses that it was asked for, in order, if they are known.
+    ghost dialled: { Self → Option (List ℕ) };
+
+    /// Opens a connection to the address of this number; `None` if that fails.
     ///
     /// Numbers count from 0.
     fn dial(&mut self, address: usize) -> Option<Self::Link>
-        ensures { dials self.new ≡ one_more (dials self.old) };
+        ensures count { dials self.new ≡ one_more (dials self.old) }
+        ensures address { IsAdded (dialled self.old) (dialled self.new) address };
 
     /// Waits a moment before the same address is dialled again.
     fn pause(&mut self)
-        ensures { dials self.new ≡ dials self.old };
+        ensures count { dials self.new ≡ dials self.old }
+        ensures address { dialled self.new ≡ dialled self.old };
 }
 
 /// Hears how each try goes and how it ended.
 pub trait Report {
+    ghost use Rattle.std.specs.Prelude.{ℕ, List, Option, ◌×◌};
+    ghost use Rattle.bt_fetch.specs.declared.dial.Outcome.{Outcome};
+
+    /// The tries that it heard the end of, in order, if they are known.
+    ghost told: { Self → Option (List (ℕ × Outcome)) };
+
     /// The try at the address of this number has come this far.
-    fn came(&mut self, address: usize, progress: Progress);
+    fn came(&mut self, address: usize, progress: Progress)
+        ensures { told self.new ≡ told self.old };
 
     /// The try at the address of this number ended.
-    fn ended(&mut self, address: usize, outcome: Outcome);
-}
-
-/// A report of the try at one address.
-#[derive(Drop)]
-pub struct Told<'a, T: Report> {
-    report: &'a mut T,
-    address: usize,
-}
-
-impl<'a, T: Report> Told<'a, T> {
-    /// Returns the report of the try at this address.
-    pub fn new(report: &'a mut T, address: usize) -> Told<'a, T> {
-        Told { report, address }
-    }
-}
-
-impl<'a, T: Report> Witness for Told<'a, T> {
-    fn came(&mut self, progress: Option<Progress>) {
-        if let Some(progress) = progress {
-            self.report.came(self.address, progress);
-        }
-    }
+    fn ended(&mut self, address: usize, outcome: Outcome)
+        ensures { IsAdded (told self.old) (told self.new) (address, outcome) };
 }

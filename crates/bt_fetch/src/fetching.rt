@@ -1,27 +1,22 @@
 //! A fetch over several connections, one after the other.
-ghost use Rattle.std.specs.Prelude.{◌≡◌, ◌+◌, ◌-◌, ◌^◌, ◌<◌, ◌≤◌, ℕ, true, false, Err, length, take, min, is_some, IfOk, OnOk, MatchResult};
+ghost use Rattle.std.specs.Prelude.{◌≡◌, ◌≢◌, ◌+◌, ◌-◌, ◌*◌, ◌^◌, ◌<◌, ◌≤◌, ℕ, true, false, Err, length, take, min, is_some, IfOk, OnOk, MatchResult};
 ghost use Rattle.std.specs.Io.KnownBytes.{Appends};
 ghost use Rattle.bt_io.specs.Counts.{one_more};
 ghost use Rattle.bt_io.specs.Seen.{WriteFailed};
 ghost use Rattle.bt_end.specs.Ends.{metadata_of};
-ghost use Rattle.bt_fetch.specs.Wishes.{IsWish, handshake_of};
-ghost use Rattle.bt_exchange.specs.Courses.{Moment};
-ghost use Rattle.bt_exchange.specs.Stops.{IsStopped};
+ghost use Rattle.bt_fetch.specs.Wishes.{IsWish};
 ghost use Rattle.bt_fetch.specs.Outcomes.{IsOutcome};
+ghost use Rattle.bt_fetch.specs.Tries.{AreAsked, IsAdded, IsAsked};
 ghost use Rattle.bt_fetch.specs.Fetches.{file_of, IsWritten};
 
-use crate::dial::{Dial, Outcome, Report, Told};
-use crate::glimpse::Glimpse;
-use crate::screen::{Objection, Screen};
-use crate::wish::{Wish, fetching_end, first_window, own_of};
+use crate::dial::{Dial, Outcome, Report};
+use crate::talk::{Visited, talk_over};
+use crate::wish::{Wish, fetching_end, first_window};
 use bt_end::{End, Window};
-use bt_exchange::{Hearing, Limits, Sign, Stop, exchange};
+use bt_exchange::Hearing;
 use bt_io::{Memory, Target, write_front};
 use std::alloc::{AllocError, Global};
 use thiserror::Error;
-
-/// How many steps a connection may have.
-const ROUNDS: u64 = 1 << 32;
 
 /// Why nothing, or not all, was written.
 #[derive(Clone, Copy, PartialEq, Eq, Debug, Error)]
@@ -47,34 +42,11 @@ impl From<Memory> for FetchError {
     }
 }
 
-/// Returns how a try ended whose exchange stopped so.
+/// Makes one try at an address, and reports it. What was fetched stays.
 ///
 /// # Errors
-/// `Memory` if the exchange ran out of memory.
-fn outcome_of(end: &End, stop: Stop, objection: Option<Objection>) -> Result<Outcome, Memory>
-    ensures { (limits : Limits) (old new : Moment) → new.half ≡ end.now → IsStopped limits old new stop → IfOk result (λ outcome. IsOutcome end.now outcome) }
-{
-    match (stop, objection) {
-        (Stop::Failed, Some(Objection::NoMetadata)) => Ok(Outcome::NoMetadata),
-        (Stop::Failed, Some(Objection::OtherSize)) => Ok(Outcome::OtherSize),
-        (Stop::Failed, Some(Objection::OneAtATime)) => Ok(Outcome::OneAtATime),
-        (Stop::Done, _) => Ok(Outcome::Fetched),
-        (Stop::Refused(refusal), _) => Ok(Outcome::Refused(refusal)),
-        (Stop::Hopeless, _) if end.belief().ext => Ok(Outcome::Rejected),
-        (Stop::Hopeless, _) => Ok(Outcome::NoMetadata),
-        (Stop::Mismatch, _) => Ok(Outcome::Mismatch),
-        (Stop::Silent | Stop::Rounds, _) => Ok(Outcome::Silent),
-        (Stop::Closed | Stop::Failed, _) => Ok(Outcome::Closed),
-        (Stop::Memory, _) => Err(Memory),
-    }
-}
-
-/// Makes one try at an address. What was fetched stays.
-///
-/// # Errors
-/// `Memory` if a buffer of the new connection, or of what came over it, is refused.
-fn visit<D: Dial, T: Report>(
-    alloc: Global,
+/// `Memory` if memory for the new connection, or for what came over it, is refused.
+fn attempt<D: Dial, T: Report>(
     wish: &Wish,
     address: usize,
     is_wide: bool,
@@ -82,93 +54,41 @@ fn visit<D: Dial, T: Report>(
     report: &mut T,
     end: &mut End,
     hearing: &mut Hearing,
-) -> Result<Outcome, Memory>
+) -> Result<Visited, Memory>
     ensures handshake { end.new.end.handshake ≡ end.old.end.handshake }
-    ensures dials { OnOk result (D.dials dial.new ≡ one_more (D.dials dial.old)) }
-    ensures outcome { IfOk result (λ outcome. IsOutcome end.new outcome) }
+    ensures dials { D.dials dial.new ≤ D.dials dial.old + 1 }
+    ensures dialled { OnOk result (D.dials dial.new ≡ one_more (D.dials dial.old)) }
+    ensures address { OnOk result (IsAdded (D.dialled dial.old) (D.dialled dial.new) address) }
+    ensures told { IfOk result (λ visited. IsAdded (T.told report.old) (T.told report.new) (address, visited.outcome)) }
+    ensures outcome { IfOk result (λ visited. IsOutcome end.new visited.outcome) }
 {
     end.reset()?;
-    let _ = end.outgoing();
     hearing.clear();
-    let Some(link) = dial.dial(address) else {
-        return Ok(Outcome::Unreachable);
-    };
-    let limits = Limits {
-        rounds: ROUNDS,
-        patience: wish.patience,
-        sign: Sign::Progress,
-    };
-    let size = end.progress().map(|progress| progress.size);
-    let mut screen = Screen::new(
-        link,
-        Glimpse::new(alloc, own_of(wish), is_wide),
-        wish.most,
-        size,
-    );
-    let mut told = Told::new(report, address);
-    let stop = exchange(&mut screen, end, hearing, limits, &mut told);
-    outcome_of(end, stop, screen.objection())
-}
-
-/// What follows a try.
-#[derive(Clone, Copy, PartialEq, Eq)]
-enum Next {
-    /// The address isn't tried again.
-    Leave,
-    /// It is tried again, and blocks are asked for one at a time.
-    Narrow,
-    /// It is tried again by a new end, which holds no block.
-    Anew,
-}
-
-/// Returns what follows a try that ended so.
-fn next_of(is_wide: bool, end: &End, outcome: Outcome) -> Next {
-    match outcome {
-        Outcome::OtherSize => Next::Anew,
-        Outcome::OneAtATime => Next::Narrow,
-        Outcome::Silent if is_wide => match end.progress() {
-            Some(progress) if progress.held + 1 < progress.blocks => Next::Narrow,
-            _ => Next::Leave,
+    let visited = match dial.dial(address) {
+        Some(mut link) => talk_over(wish, address, is_wide, &mut link, report, end, hearing)?,
+        None => Visited {
+            outcome: Outcome::Unreachable,
+            is_wide,
         },
-        _ => Next::Leave,
+    };
+    report.ended(address, visited.outcome);
+    Ok(visited)
+}
+
+/// Whether the peer may be one that stops for good if several blocks are asked for at once.
+///
+/// What is asked can't be taken back on the same connection.
+fn may_be_stuck(end: &End, visited: Visited) -> bool {
+    match (visited.outcome, end.progress()) {
+        (Outcome::Silent, Some(progress)) => {
+            visited.is_wide && progress.held + 1 < progress.blocks
+        }
+        _ => false,
     }
 }
 
-/// Makes one try at an address and reports it. It returns the window of the try that is to follow, if one is.
-fn attempt<D: Dial, T: Report>(
-    alloc: Global,
-    wish: &Wish,
-    address: usize,
-    window: Window,
-    dial: &mut D,
-    report: &mut T,
-    end: &mut End,
-    hearing: &mut Hearing,
-) -> Result<Option<Window>, Memory>
-    requires wish { IsWish wish.now }
-    requires handshake { end.old.end.handshake ≡ handshake_of wish.now }
-    ensures handshake { end.new.end.handshake ≡ handshake_of wish.now }
-    ensures dials { OnOk result (D.dials dial.new ≡ one_more (D.dials dial.old)) }
-{
-    end.set_window(window);
-    let is_wide = wish.window.is_none() && window.get() > 1;
-    let outcome = visit(alloc, wish, address, is_wide, dial, report, end, hearing)?;
-    report.ended(address, outcome);
-    let next = next_of(is_wide, end, outcome);
-    if next == Next::Leave {
-        return Ok(None);
-    }
-    dial.pause();
-    if next == Next::Narrow {
-        return Ok(Window::new(1));
-    }
-    *end = fetching_end(alloc, wish)?;
-    Ok(Some(window))
-}
-
-/// Makes at most three tries at an address.
+/// Makes a try at an address, and a second one if blocks are to be asked for one at a time.
 fn visit_address<D: Dial, T: Report>(
-    alloc: Global,
     wish: &Wish,
     address: usize,
     dial: &mut D,
@@ -176,25 +96,30 @@ fn visit_address<D: Dial, T: Report>(
     end: &mut End,
     hearing: &mut Hearing,
 ) -> Result<(), Memory>
-    requires wish { IsWish wish.now }
-    requires handshake { end.old.end.handshake ≡ handshake_of wish.now }
-    ensures handshake { end.new.end.handshake ≡ handshake_of wish.now }
+    requires undone { is_some (metadata_of end.old.end.part) ≡ false }
+    ensures handshake { end.new.end.handshake ≡ end.old.end.handshake }
     ensures dials { OnOk result (min (D.dials dial.old + 1) (2 ^ 64 - 1) ≤ D.dials dial.new) }
+    ensures most { D.dials dial.new ≤ D.dials dial.old + 2 }
+    ensures address { OnOk result (IsAsked (D.dialled dial.old) (D.dialled dial.new) address) }
 {
     let first = first_window(wish);
-    let Some(second) = attempt(alloc, wish, address, first, dial, report, end, hearing)? else {
+    end.set_window(first);
+    let is_wide = wish.window.is_none() && first.get() > 1;
+    let visited = attempt(wish, address, is_wide, dial, report, end, hearing)?;
+    if !may_be_stuck(end, visited) {
+        return Ok(());
+    }
+    let Some(one) = Window::new(1) else {
         return Ok(());
     };
-    let Some(third) = attempt(alloc, wish, address, second, dial, report, end, hearing)? else {
-        return Ok(());
-    };
-    attempt(alloc, wish, address, third, dial, report, end, hearing)?;
+    dial.pause();
+    end.set_window(one);
+    attempt(wish, address, false, dial, report, end, hearing)?;
     Ok(())
 }
 
 /// Tries the addresses in turn until the metadata is there.
 fn visit_all<D: Dial, T: Report>(
-    alloc: Global,
     wish: &Wish,
     addresses: usize,
     dial: &mut D,
@@ -202,13 +127,14 @@ fn visit_all<D: Dial, T: Report>(
     end: &mut End,
     hearing: &mut Hearing,
 ) -> Result<(), Memory>
-    requires wish { IsWish wish.now }
-    requires handshake { end.old.end.handshake ≡ handshake_of wish.now }
-    ensures handshake { end.new.end.handshake ≡ handshake_of wish.now }
+    requires undone { is_some (metadata_of end.old.end.part) ≡ false }
+    ensures handshake { end.new.end.handshake ≡ end.old.end.handshake }
+    ensures most { D.dials dial.new ≤ D.dials dial.old + 2 * addresses }
+    ensures asked { OnOk result ((n : ℕ) × (n ≤ addresses) × AreAsked n (D.dialled dial.old) (D.dialled dial.new)) }
     ensures dials { OnOk result (is_some (metadata_of end.new.end.part) ≡ false → min (D.dials dial.old + addresses) (2 ^ 64 - 1) ≤ D.dials dial.new) }
 {
     for address in 0..addresses {
-        visit_address(alloc, wish, address, dial, report, end, hearing)?;
+        visit_address(wish, address, dial, report, end, hearing)?;
         if end.metadata().is_some() {
             return Ok(());
         }
@@ -285,9 +211,11 @@ pub fn fetch<D: Dial, T: Report, W: Target>(
     ensures written { IsWritten torrent wish.now.info_hash (W.seen writer.old).held (W.seen writer.new).held result }
     ensures fault { result ≡ Err FetchError.Write → WriteFailed (W.seen writer.old) (W.seen writer.new) }
     ensures tries { result ≡ Err FetchError.NotFetched → min (D.dials dial.old + addresses) (2 ^ 64 - 1) ≤ D.dials dial.new }
+    ensures most { D.dials dial.new ≤ D.dials dial.old + 2 * addresses }
+    ensures asked { result ≢ Err FetchError.Memory → (n : ℕ) × (n ≤ addresses) × AreAsked n (D.dialled dial.old) (D.dialled dial.new) }
 {
     let mut end = fetching_end(alloc, wish)?;
     let mut hearing = Hearing::new(alloc)?;
-    visit_all(alloc, wish, addresses, dial, report, &mut end, &mut hearing)?;
+    visit_all(wish, addresses, dial, report, &mut end, &mut hearing)?;
     put_out(alloc, torrent, &end, writer)
 }

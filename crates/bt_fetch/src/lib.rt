@@ -6,8 +6,7 @@
 
 mod dial;
 mod fetching;
-mod glimpse;
-mod screen;
+mod talk;
 mod tcp;
 mod wish;
 

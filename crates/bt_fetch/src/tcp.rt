@@ -45,7 +45,11 @@ fn open<R: Net>(net: &R, address: &SocketAddr) -> io::Result<R::Stream> {
 impl<'a, R: Net + Clock> Dial for TcpDial<'a, R> {
     type Link = Stream<R::Stream, &'a R>;
 
+    ghost use Rattle.std.specs.Prelude.{None};
+
     ghost dials = { λ d. d.dials };
+
+    ghost dialled = { λ d. None };
 
     fn dial(&mut self, address: usize) -> Option<Stream<R::Stream, &'a R>> {
         self.dials = self.dials.saturating_add(1);

@@ -1,6 +1,6 @@
 //! What is to be fetched, and the end that fetches it.
 ghost use Rattle.std.specs.Prelude.{◌≡◌, IfOk};
-ghost use Rattle.bt_fetch.specs.Wishes.{IsWish, own_of, handshake_of};
+ghost use Rattle.bt_fetch.specs.Wishes.{IsWish, own_of, first_window as first_window_of, fetching_end as fetching_end_of};
 
 use bt_end::{Announce, Config, End, Role, Window};
 use bt_ext::{ExtId, Registered, Rules};
@@ -26,7 +26,7 @@ pub struct Wish {
     pub limit: u32,
     /// The seconds without progress after which a connection ends.
     pub patience: u64,
-    /// How many blocks are asked for at once. `None` is 8, and 1 on a second connection to a peer that fell silent.
+    /// How many blocks are asked for at once. `None` is 8; and 1 for rtorrent, and on a second connection to a peer that fell silent.
     pub window: Option<Window>,
     /// The greatest size of metadata in bytes that is taken.
     pub most: u64,
@@ -47,7 +47,9 @@ pub fn own_of(wish: &Wish) -> Own
 }
 
 /// Returns how many blocks are asked for at once on a first connection.
-pub fn first_window(wish: &Wish) -> Window {
+pub fn first_window(wish: &Wish) -> Window
+    ensures { result ≡ first_window_of wish.now }
+{
     match wish.window {
         Some(window) => window,
         None => Window::default(),
@@ -60,14 +62,14 @@ pub fn first_window(wish: &Wish) -> Window {
 /// `Memory` if its buffers are refused.
 pub fn fetching_end(alloc: Global, wish: &Wish) -> Result<End, Memory>
     requires { IsWish wish.now }
-    ensures { IfOk result (λ end. end.end.handshake ≡ handshake_of wish.now) }
+    ensures { IfOk result (λ end. end ≡ fetching_end_of wish.now) }
 {
     let config = Config {
         own: own_of(wish),
         peer_id: wish.peer_id,
         announce: Announce::Nothing,
         window: first_window(wish),
-        role: Role::Fetch,
+        role: Role::FetchUpTo(wish.most),
     };
     match End::new(alloc, config) {
         Ok(end) => Ok(end),

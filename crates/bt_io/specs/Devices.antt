@@ -1,5 +1,5 @@
 -- What the devices of std and of memory tell: their bytes and their counts.
-use Rattle.std.specs.Prelude.{ℕ, List, drop, Option}
+use Rattle.std.specs.Prelude.{ℕ, List, drop, Option, vec_capacity}
 use Rattle.bt_io.specs.Seen.{SourceSeen, TargetSeen}
 use Rattle.bt_io.specs.declared.host.Host.{Host}
 use Rattle.bt_io.specs.declared.memory.MemSource.{MemSource}
@@ -44,6 +44,10 @@ source_counts s = record { calls = s.calls; failed = s.failed; ends = s.ends }
 
 abbrev pub target_held : MemTarget → List ℕ
 target_held t = t.bytes.items
+
+-- how many bytes it has room for without a growth
+abbrev pub target_room : MemTarget → ℕ
+target_room t = vec_capacity t.bytes
 
 abbrev pub target_most : MemTarget → ℕ
 target_most t = t.most

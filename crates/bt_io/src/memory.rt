@@ -1,5 +1,5 @@
 //! Devices in memory, which move a given number of bytes a call and fail at a given call. Tests call it.
-ghost use Rattle.std.specs.Prelude.{◌≡◌, ◌≤◌, ◌<◌, ◌↔◌, Some, vec_len, length, min, is_err, IfOk, IsErr};
+ghost use Rattle.std.specs.Prelude.{◌≡◌, ◌+◌, ◌≤◌, ◌<◌, ◌⊎◌, ◌↔◌, Some, vec_len, length, min, is_err, IfOk, IsErr};
 ghost use Rattle.std.specs.Io.{ReadsAtMost, WritesAtMost};
 ghost use Rattle.std.specs.Io.KnownBytes.{ReadConsumes, WriteAppends};
 ghost use Rattle.bt_io.specs.Counts.{one_more, counted as raised, is_end, is_stuck};
@@ -77,7 +77,7 @@ impl Source for MemSource {
 
 /// A target in memory, which takes at most `most` bytes a call.
 ///
-/// It fails once, at the call `fails_at`, counted from 1. With `most` 0 it takes nothing.
+/// It fails at the call `fails_at`, counted from 1, and if it has to grow and memory is refused. With `most` 0 it takes nothing.
 #[derive(Drop)]
 pub struct MemTarget {
     bytes: Vec<u8>,
@@ -115,7 +115,7 @@ impl MemTarget {
 }
 
 impl Target for MemTarget {
-    ghost use Rattle.bt_io.specs.Devices.{target_held, target_most, target_fails_at, target_counts, target_seen};
+    ghost use Rattle.bt_io.specs.Devices.{target_held, target_room, target_most, target_fails_at, target_counts, target_seen};
 
     ghost seen = { λ t. target_seen (Some (target_held t)) (target_counts t) };
 
@@ -127,6 +127,8 @@ impl Target for MemTarget {
             ≡ raised (is_stuck result (length from.now)) (target_counts self.old).failed }
         ensures moved { IfOk result (λ n. n ≡ min (length from.now) (target_most self.old)) }
         ensures fails { target_fails_at self.old ≡ Some (target_counts self.new).calls → IsErr result }
+        ensures only { IsErr result → (target_fails_at self.old ≡ Some (target_counts self.new).calls)
+            ⊎ (target_room self.old < length (target_held self.old) + min (length from.now) (target_most self.old)) }
     {
         self.calls = self.calls.saturating_add(1);
         let count = from.len().min(self.most);

@@ -176,7 +176,7 @@ fn error_text(rt: HostRuntime) -> Result<(), Fail> {
 
 /// Whether something is given, and how many bytes the feed takes afterwards.
 ///
-/// `tests/library_tests.sh` adds a use of `view` after the push, which the compiler has to refuse: a view lies in the feed.
+/// `tests/late_view` adds a use of `view` after the push, which the compiler has to refuse: a view lies in the feed.
 fn take_and_push(feed: &mut Feed) -> (bool, usize) {
     let view = feed.take();
     let is_given = view.is_ok();

@@ -1,6 +1,6 @@
 //! Tests of the crates that an embedder calls: `bt_bencode`, `bt_ext`, `bt_wire`, `bt_io`, `bt_feed`, `bt_metadata` and `bt_end`.
 //!
-//! `tests/library_tests.sh` runs them, compiled with checks and without a proof of the tests themselves.
+//! `rt ci` proves and runs them. While you write, `rt try --test` in this crate's folder runs them without a proof.
 #![tactic(auto)]
 
 #[cfg(test)]

@@ -7,6 +7,7 @@ use Rattle.bt_wire.specs.declared.handshake.Handshake.{Handshake}
 use Rattle.bt_wire.specs.declared.item.Item.{Item}
 use Rattle.bt_wire.specs.declared.item.Item.TheVariants as items
 use Rattle.bt_wire.specs.Messages.{Message}
+use Rattle.bt_metadata.specs.Blocks.{max_metadata}
 use Rattle.bt_end.specs.Ends.{EndState, Reaction, Part, Awaiting, served_size, react, request_for}
 use Rattle.bt_link.specs.FetchLaws.{IsFetchPair}
 use Rattle.bt_link.specs.LinkLaws.{source_of, IsMetadata}
@@ -156,8 +157,8 @@ pending_later hand greet true old rest js is h e = e
 -- The part p of the end that fetches. The blocks `answered`, whose requests were answered, haven't come yet, nor the blocks `waiting`, whose
 -- requests are under way. In all, `asked` blocks were asked for.
 abbrev pub PartIs : Heard → List ℕ → EndState → Part → List ℕ → List ℕ → ℕ → Type 0
-PartIs Unheard metadata b p answered waiting asked = (p ≡ Awaiting) × (answered ≡ []) × (waiting ≡ []) × (asked ≡ 0)
-PartIs Opened metadata b p answered waiting asked = (p ≡ Awaiting) × (answered ≡ []) × (waiting ≡ []) × (asked ≡ 0)
+PartIs Unheard metadata b p answered waiting asked = (p ≡ Awaiting max_metadata) × (answered ≡ []) × (waiting ≡ []) × (asked ≡ 0)
+PartIs Opened metadata b p answered waiting asked = (p ≡ Awaiting max_metadata) × (answered ≡ []) × (waiting ≡ []) × (asked ≡ 0)
 PartIs Known metadata b p answered waiting asked =
     IsAsked metadata b.window p (answered ++ waiting) × (asked + lacking p ≡ block_count (length metadata))
 

@@ -45,7 +45,7 @@ pub record IsUnderWay (metadata : List ℕ) (s : AssemblyState) (asked : List �
 abbrev pub IsFetchOf : List ℕ → Part → List ℕ → Type 0
 IsFetchOf metadata Watching asked = ⊥
 IsFetchOf metadata (Serving other) asked = ⊥
-IsFetchOf metadata Awaiting asked = ⊥
+IsFetchOf metadata (Awaiting most) asked = ⊥
 IsFetchOf metadata (Fetching s) asked = IsUnderWay metadata s asked
 IsFetchOf metadata (Fetched all) asked = (all ≡ metadata) × (asked ≡ [])
 
@@ -170,8 +170,8 @@ not_all_held zero h = absurd (omega (arith, h))
 not_all_held (suc n) h = refl
 
 begins_by : (metadata hash : List ℕ) → IsMetadata metadata → sha1 metadata ≡ hash → (room : Bool) → room ≡ true
-    → IsFetchOf metadata (begun (if room then Some (started hash (length metadata)) else None) Awaiting) []
-    × (lacking (begun (if room then Some (started hash (length metadata)) else None) Awaiting) ≡ block_count (length metadata))
+    → IsFetchOf metadata (begun (if room then Some (started hash (length metadata)) else None) (Awaiting max_metadata)) []
+    × (lacking (begun (if room then Some (started hash (length metadata)) else None) (Awaiting max_metadata)) ≡ block_count (length metadata))
 begins_by metadata hash h e true is =
     let n : ℕ = block_count (length metadata) in (
       record {
@@ -187,8 +187,8 @@ begins_by metadata hash h e false is = absurd cc
 
 -- an end that awaits a size begins to fetch: nothing is asked for, and each block lacks
 pub fetch_begins : (metadata hash : List ℕ) → IsMetadata metadata → sha1 metadata ≡ hash
-    → IsFetchOf metadata (begun (assembly_of hash Awaiting (Some (length metadata))) Awaiting) []
-    × (lacking (begun (assembly_of hash Awaiting (Some (length metadata))) Awaiting) ≡ block_count (length metadata))
+    → IsFetchOf metadata (begun (assembly_of hash (Awaiting max_metadata) (Some (length metadata))) (Awaiting max_metadata)) []
+    × (lacking (begun (assembly_of hash (Awaiting max_metadata) (Some (length metadata))) (Awaiting max_metadata)) ≡ block_count (length metadata))
 fetch_begins metadata hash h e =
     let least : ltb 0 (length metadata) ≡ true = lt-ltb 0 (length metadata) h.least in
     let most : leb (length metadata) max_metadata ≡ true = le-leb (length metadata) max_metadata h.most in
@@ -241,7 +241,7 @@ asks_one metadata w k (Fetching s) asked f e =
 asks_one metadata w k (Fetched all) asked f e = absurd cc
 asks_one metadata w k Watching asked f e = absurd f
 asks_one metadata w k (Serving other) asked f e = absurd f
-asks_one metadata w k Awaiting asked f e = absurd f
+asks_one metadata w k (Awaiting most) asked f e = absurd f
 
 -- with as many asked as may be, none is wanted
 none_wanted : (metadata : List ℕ) (w : ℕ) (p : Part) (asked : List ℕ) → IsFetchOf metadata p asked → w ≤ length asked → wanted w p ≡ None
@@ -251,7 +251,7 @@ none_wanted metadata w (Fetching s) asked f full =
 none_wanted metadata w (Fetched all) asked f full = refl
 none_wanted metadata w Watching asked f full = absurd f
 none_wanted metadata w (Serving other) asked f full = absurd f
-none_wanted metadata w Awaiting asked f full = absurd f
+none_wanted metadata w (Awaiting most) asked f full = absurd f
 
 asks_none : (metadata : List ℕ) (w : ℕ) (p : Part) (asked : List ℕ) → IsFetchOf metadata p asked → length asked ≤ w → wanted w p ≡ None
     → AsksAll metadata w p asked []
@@ -304,7 +304,7 @@ fetch_below metadata (Fetching s) asked f = all_below (block_count (length metad
 fetch_below metadata (Fetched all) asked f = subst (λ (ks : List ℕ). AreBelow (block_count (length metadata)) ks) (sym f.1) tt
 fetch_below metadata Watching asked f = absurd f
 fetch_below metadata (Serving other) asked f = absurd f
-fetch_below metadata Awaiting asked f = absurd f
+fetch_below metadata (Awaiting most) asked f = absurd f
 
 -- ---- a block that comes
 
@@ -370,7 +370,7 @@ fetch_takes metadata (Fetching s) k ks f =
 fetch_takes metadata (Fetched all) k ks f = absurd cc
 fetch_takes metadata Watching k ks f = absurd f
 fetch_takes metadata (Serving other) k ks f = absurd f
-fetch_takes metadata Awaiting k ks f = absurd f
+fetch_takes metadata (Awaiting most) k ks f = absurd f
 
 -- ---- the end
 
@@ -392,4 +392,4 @@ fetch_ends metadata w (Fetching s) least f none =
     absurd (both_ways (is_whole s) f.lacks (all_held s.slots f.unrejected f.asks (past_all s.slots lacks)))
 fetch_ends metadata w Watching least f none = absurd f
 fetch_ends metadata w (Serving other) least f none = absurd f
-fetch_ends metadata w Awaiting least f none = absurd f
+fetch_ends metadata w (Awaiting most) least f none = absurd f

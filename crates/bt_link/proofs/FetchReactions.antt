@@ -27,7 +27,7 @@ use Rattle.bt_wire.specs.Handshakes.{negotiated}
 use Rattle.bt_wire.specs.Messages.{Message, spell, order_after}
 use Rattle.bt_wire.specs.declared.message.Message.TheVariants as m
 use Rattle.bt_wire.proofs.SpellLaws.{length-spell}
-use Rattle.bt_metadata.specs.Blocks.{block, window}
+use Rattle.bt_metadata.specs.Blocks.{block, window, max_metadata}
 use Rattle.bt_end.specs.declared.config.Announce.{Announce}
 use Rattle.bt_end.specs.declared.config.Announce.TheVariants as announce
 use Rattle.bt_end.specs.Ends.{EndState, Reaction, Part, Serving, Awaiting, served_size, peer_id, quiet, queueing, react, announced, then_asked, may_ask}
@@ -317,14 +317,14 @@ asks_on metadata b e asked f id most is few =
       queued = refl;
     })
 
-begins : (metadata hash : List ℕ) (p : Part) (n : Option ℕ) → IsMetadata metadata → sha1 metadata ≡ hash → p ≡ Awaiting → n ≡ Some (length metadata)
+begins : (metadata hash : List ℕ) (p : Part) (n : Option ℕ) → IsMetadata metadata → sha1 metadata ≡ hash → p ≡ Awaiting max_metadata → n ≡ Some (length metadata)
     → IsFetchOf metadata (begun (assembly_of hash p n) p) [] × (lacking (begun (assembly_of hash p n) p) ≡ block_count (length metadata))
 begins metadata hash p n sized is awaits known =
     subst (λ (q : Part). IsFetchOf metadata (begun (assembly_of hash q n) q) [] × (lacking (begun (assembly_of hash q n) q) ≡ block_count (length metadata)))
-    (sym awaits) (subst (λ (o : Option ℕ). IsFetchOf metadata (begun (assembly_of hash Awaiting o) Awaiting) []
-    × (lacking (begun (assembly_of hash Awaiting o) Awaiting) ≡ block_count (length metadata))) (sym known) (fetch_begins metadata hash sized is))
+    (sym awaits) (subst (λ (o : Option ℕ). IsFetchOf metadata (begun (assembly_of hash (Awaiting max_metadata) o) (Awaiting max_metadata)) []
+    × (lacking (begun (assembly_of hash (Awaiting max_metadata) o) (Awaiting max_metadata)) ≡ block_count (length metadata))) (sym known) (fetch_begins metadata hash sized is))
 
-pub fetcher_learns : {metadata : List ℕ} {a b e : EndState} → IsFetchPair metadata a b → IsMetadata metadata → IsFetcher b Opened e → e.part ≡ Awaiting
+pub fetcher_learns : {metadata : List ℕ} {a b e : EndState} → IsFetchPair metadata a b → IsMetadata metadata → IsFetcher b Opened e → e.part ≡ Awaiting max_metadata
     → Asks metadata b [] (block_count (length metadata)) (react e (items.Message (greeting_message a.own.reg (Some (length metadata)))))
 fetcher_learns {metadata} {a} {b} {e} p sized f awaits =
     let n : Option ℕ = Some (length metadata) in

@@ -30,7 +30,7 @@ abbrev serving : EndState
 serving = unopened (own (Some 3)) (hand (own (Some 3))) announce.Silent 8 (Serving (97 ∷ 98 ∷ 99 ∷ []))
 
 abbrev fetching : EndState
-fetching = unopened (own (Some 9)) (hand (own (Some 9))) announce.Silent 8 Awaiting
+fetching = unopened (own (Some 9)) (hand (own (Some 9))) announce.Silent 8 (Awaiting 67108864)
 
 -- Metadata of three bytes is fetched, on a second connection, since the first is lost before its block is handled. What is sent
 -- on each has 68, 49 and 50 bytes, and 68, 30 and 31.
@@ -95,7 +95,7 @@ abbrev server_of : List ℕ → EndState
 server_of metadata = unopened (known_by metadata (Some 3)) (hand_for metadata) announce.Nothing 8 (Serving metadata)
 
 abbrev fetcher_of : List ℕ → EndState
-fetcher_of metadata = unopened (known_by metadata (Some 9)) (hand_for metadata) announce.Nothing 8 Awaiting
+fetcher_of metadata = unopened (known_by metadata (Some 9)) (hand_for metadata) announce.Nothing 8 (Awaiting 67108864)
 
 digest_length : (metadata : List ℕ) → length (sha1 metadata) ≡ 20
 unfolding sha1 digest_bytes

@@ -57,7 +57,7 @@ pub record IsFetch (metadata : List ℕ) (a : AssemblyState) : Type 0 where
 abbrev pub IsPartFor : Option (List ℕ) → Part → Type 0
 IsPartFor source Watching = Unit {0}
 IsPartFor source (Serving metadata) = Unit {0}
-IsPartFor source Awaiting = Unit {0}
+IsPartFor source (Awaiting most) = Unit {0}
 IsPartFor source (Fetching a) = (metadata : List ℕ) × (source ≡ Some metadata) × IsFetch metadata a
 IsPartFor source (Fetched metadata) = source ≡ Some metadata
 

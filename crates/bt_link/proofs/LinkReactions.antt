@@ -5,7 +5,7 @@ use Rattle.std.proofs.Common.{map, count_by, Option, Some, None, refl, sym, ap, 
 use Rattle.std.proofs.lemmas.Bool.{ltb-true}
 use Rattle.std.proofs.lemmas.List.{length-map}
 use Rattle.std.specs.Option.{ForSome}
-use Rattle.std.specs.Prelude.{unwrap_or, option_and_then, option_map, nat_lt, nat_le, is_some, ◌||◌}
+use Rattle.std.specs.Prelude.{unwrap_or, option_and_then, option_map, nat_lt, nat_le, min, is_some, ◌||◌}
 use Rattle.std.specs.Str.{bytes_eq}
 use Rattle.sha1.specs.Sha1.{sha1}
 use Rattle.bt_bencode.specs.Trees.{Tree}
@@ -175,14 +175,14 @@ one_asked b most k (Fetching s) end for asks =
     (omega (arith, sized.most, within.0), (metadata, for.1, asked_fetch metadata s k for.2 next))
 one_asked b most k Watching end for asks = absurd cc
 one_asked b most k (Serving metadata) end for asks = absurd cc
-one_asked b most k Awaiting end for asks = absurd cc
+one_asked b most k (Awaiting m) end for asks = absurd cc
 one_asked b most k (Fetched metadata) end for asks = absurd cc
 
 asked_served : (k : ℕ) (p : Part) → source_of (with_asked (Some k) p) ≡ source_of p
 asked_served k (Fetching s) = refl
 asked_served k Watching = refl
 asked_served k (Serving metadata) = refl
-asked_served k Awaiting = refl
+asked_served k (Awaiting m) = refl
 asked_served k (Fetched metadata) = refl
 
 more_asked : (b : EndState) (n most : ℕ) (p : Part) → IsConfigured b → IsPartFor (source_of b.part) p
@@ -306,14 +306,14 @@ both_told reg es table h =
 
 -- a size that is told is that of the metadata that is served
 started_for : (hash metadata : List ℕ) (n : ℕ) (source : Option (List ℕ)) → IsMetadata metadata → n ≡ length metadata → source ≡ Some metadata
-    → (room : Bool) → IsPartFor source (begun (if room then Some (started hash n) else None) Awaiting)
-started_for hash metadata n source sized e is true = (metadata, is, started_fetch metadata hash n sized e)
-started_for hash metadata n source sized e is false = tt
+    → (m : ℕ) (room : Bool) → IsPartFor source (begun (if room then Some (started hash n) else None) (Awaiting m))
+started_for hash metadata n source sized e is m true = (metadata, is, started_fetch metadata hash n sized e)
+started_for hash metadata n source sized e is m false = tt
 
 size_served : (p : Part) (n : ℕ) → served_size p ≡ Some n → (metadata : List ℕ) × (source_of p ≡ Some metadata) × (n ≡ length metadata)
 size_served (Serving metadata) n e = (metadata, refl, cc)
 size_served Watching n e = absurd cc
-size_served Awaiting n e = absurd cc
+size_served (Awaiting m) n e = absurd cc
 size_served (Fetching s) n e = absurd cc
 size_served (Fetched metadata) n e = absurd cc
 
@@ -323,20 +323,20 @@ begun_part hash b Watching end for size e = tt
 begun_part hash b (Serving metadata) end for size e = tt
 begun_part hash b (Fetching s) end for size e = for
 begun_part hash b (Fetched metadata) end for size e = for
-begun_part hash b Awaiting end for None e = tt
-begun_part hash b Awaiting end for (Some n) e =
+begun_part hash b (Awaiting m) end for None e = tt
+begun_part hash b (Awaiting m) end for (Some n) e =
     let h = size_served b.part n (sym e) in
-    started_for hash h.0 n (source_of b.part) (end.serves h.0 h.1) h.2 h.1 (nat_lt 0 n && nat_le n max_metadata)
+    started_for hash h.0 n (source_of b.part) (end.serves h.0 h.1) h.2 h.1 m (nat_lt 0 n && nat_le n (min m max_metadata))
 
 begun_served : (hash : List ℕ) (p : Part) (size : Option ℕ) → source_of (begun (assembly_of hash p size) p) ≡ source_of p
 begun_served hash Watching size = refl
 begun_served hash (Serving metadata) size = refl
 begun_served hash (Fetching s) size = refl
 begun_served hash (Fetched metadata) size = refl
-begun_served hash Awaiting None = refl
-begun_served hash Awaiting (Some n) = by_room (nat_lt 0 n && nat_le n max_metadata)
+begun_served hash (Awaiting m) None = refl
+begun_served hash (Awaiting m) (Some n) = by_room (nat_lt 0 n && nat_le n (min m max_metadata))
   where
-    by_room : (room : Bool) → source_of (begun (if room then Some (started hash n) else None) Awaiting) ≡ None
+    by_room : (room : Bool) → source_of (begun (if room then Some (started hash n) else None) (Awaiting m)) ≡ None
     by_room true = refl
     by_room false = refl
 
@@ -383,7 +383,7 @@ data_part : (b : EndState) (p : Part) (metadata : List ℕ) (k : ℕ) → IsConf
     → IsPartFor (source_of b.part) (with_block k (length metadata) (block metadata k) p)
 data_part b Watching metadata k end is lt for = tt
 data_part b (Serving own) metadata k end is lt for = tt
-data_part b Awaiting metadata k end is lt for = tt
+data_part b (Awaiting m) metadata k end is lt for = tt
 data_part b (Fetched all) metadata k end is lt for = for
 data_part b (Fetching s) metadata k end is lt for =
     let same : for.0 ≡ metadata = some_same for.0 metadata (sym for.1 ∙ is) in
@@ -398,7 +398,7 @@ data_part b (Fetching s) metadata k end is lt for =
 data_served : (p : Part) (k total : ℕ) (bytes : List ℕ) → source_of (with_block k total bytes p) ≡ source_of p
 data_served Watching k total bytes = refl
 data_served (Serving own) k total bytes = refl
-data_served Awaiting k total bytes = refl
+data_served (Awaiting m) k total bytes = refl
 data_served (Fetched all) k total bytes = refl
 data_served (Fetching s) k total bytes =
     let n : AssemblyState = with_data s k total bytes in
@@ -407,14 +407,14 @@ data_served (Fetching s) k total bytes =
 reject_part : (b : EndState) (p : Part) (k : ℕ) → IsPartFor (source_of b.part) p → IsPartFor (source_of b.part) (with_refused k p)
 reject_part b Watching k for = tt
 reject_part b (Serving own) k for = tt
-reject_part b Awaiting k for = tt
+reject_part b (Awaiting m) k for = tt
 reject_part b (Fetched all) k for = for
 reject_part b (Fetching s) k for = (for.0, for.1, reject_fetch for.0 s k for.2)
 
 reject_served : (p : Part) (k : ℕ) → source_of (with_refused k p) ≡ source_of p
 reject_served Watching k = refl
 reject_served (Serving own) k = refl
-reject_served Awaiting k = refl
+reject_served (Awaiting m) k = refl
 reject_served (Fetched all) k = refl
 reject_served (Fetching s) k = refl
 
@@ -442,7 +442,7 @@ reply_right {a} {b} {e} {c} k peer h own end agreed few is p serves = by_part p 
     by_part : (p : Part) → source_of p ≡ source_of a.part → Reacts a b e.sends c (queueing e (m.Extended (reply p k) ∷ []))
     by_part (Serving metadata) is_served = by_count metadata (sym is_served) (nat_lt k (block_count (length metadata))) refl
     by_part Watching is_served = rejects
-    by_part Awaiting is_served = rejects
+    by_part (Awaiting m) is_served = rejects
     by_part (Fetching s) is_served = rejects
     by_part (Fetched metadata) is_served = rejects
 
@@ -500,7 +500,7 @@ agreed_fast a b = and-comm (sets_fast a.own.reserved) (sets_fast b.own.reserved)
 size_of_served : (p : Part) → served_size p ≡ option_map length (source_of p)
 size_of_served Watching = refl
 size_of_served (Serving metadata) = refl
-size_of_served Awaiting = refl
+size_of_served (Awaiting m) = refl
 size_of_served (Fetching s) = refl
 size_of_served (Fetched metadata) = refl
 

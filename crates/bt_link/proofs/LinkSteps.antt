@@ -485,14 +485,14 @@ new_flow {a} {b} {e} {f} enda endb h still other fresh closed quiet =
 kept_part : (source : Option (List ℕ)) (p : Part) → IsPartFor source p → IsPartFor source (part_kept p)
 kept_part source Watching h = tt
 kept_part source (Serving metadata) h = tt
-kept_part source Awaiting h = tt
+kept_part source (Awaiting most) h = tt
 kept_part source (Fetching s) h = (h.0, h.1, disconnected_fetch h.0 s h.2)
 kept_part source (Fetched metadata) h = h
 
 kept_source : (p : Part) → source_of (part_kept p) ≡ source_of p
 kept_source Watching = refl
 kept_source (Serving metadata) = refl
-kept_source Awaiting = refl
+kept_source (Awaiting most) = refl
 kept_source (Fetching s) = refl
 kept_source (Fetched metadata) = refl
 

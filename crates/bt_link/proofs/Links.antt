@@ -234,7 +234,7 @@ steps_go a b (s ∷ ss) (o ∷ os) l j r h written small told =
 first_part : (p : Part) → IsFirstPart p → (source : Option (List ℕ)) → IsPartFor source p
 first_part Watching h source = tt
 first_part (Serving metadata) h source = tt
-first_part Awaiting h source = tt
+first_part (Awaiting most) h source = tt
 first_part (Fetching s) h source = absurd h
 first_part (Fetched metadata) h source = absurd h
 
@@ -358,7 +358,7 @@ handled_in_order a b ss os k h is =
 fetches : (source : Option (List ℕ)) (p : Part) → IsPartFor source p → FetchesFrom source p
 fetches source Watching h = record { blocks = λ s e. absurd cc; whole = λ m e. absurd cc }
 fetches source (Serving metadata) h = record { blocks = λ s e. absurd cc; whole = λ m e. absurd cc }
-fetches source Awaiting h = record { blocks = λ s e. absurd cc; whole = λ m e. absurd cc }
+fetches source (Awaiting most) h = record { blocks = λ s e. absurd cc; whole = λ m e. absurd cc }
 fetches source (Fetching a) h = record {
   blocks = λ s e. let same : a ≡ s = cc in (h.0, h.1, subst (λ (x : AssemblyState). HoldsBlocksOf h.0 x) same h.2.holds);
   whole = λ m e. absurd cc;

@@ -5,7 +5,7 @@ use Rattle.sha1.specs.Sha1.{sha1}
 use Rattle.bt_ext.specs.Ids.{metadata_id}
 use Rattle.bt_ext.specs.Metadata.{block_count}
 use Rattle.bt_wire.specs.Handshakes.{negotiated}
-use Rattle.bt_metadata.specs.Blocks.{window}
+use Rattle.bt_metadata.specs.Blocks.{window, max_metadata}
 use Rattle.bt_end.specs.Ends.{EndState, Serving, Awaiting, metadata_of}
 use Rattle.bt_link.specs.LinkLaws.{IsNew, AreMatched}
 use Rattle.bt_link.specs.MessageLinks.{Link, link_of, after_all, AreOutcomes, total}
@@ -21,7 +21,7 @@ pub record IsFetchPair (metadata : List ℕ) (a b : EndState) : Type 0 where
   pub right : IsNew b
   pub matched : AreMatched a b
   pub serves : a.part ≡ Serving metadata
-  pub awaits : b.part ≡ Awaiting
+  pub awaits : b.part ≡ Awaiting max_metadata
   pub hash : sha1 metadata ≡ b.handshake.info_hash
   pub left_extended : (negotiated a.own b.own.reserved).ext ≡ true
   pub right_extended : (negotiated b.own a.own.reserved).ext ≡ true

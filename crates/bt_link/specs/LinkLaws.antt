@@ -41,7 +41,7 @@ pub record IsConfigured (a : EndState) : Type 0 where
 abbrev pub IsFirstPart : Part → Type 0
 IsFirstPart Watching = ⊤
 IsFirstPart (Serving metadata) = ⊤
-IsFirstPart Awaiting = ⊤
+IsFirstPart (Awaiting most) = ⊤
 IsFirstPart other = ⊥
 
 -- an end before its first connection

@@ -11,8 +11,8 @@ use Rattle.std.proofs.lemmas.Grind.{common_steps}
 use Rattle.bt_metadata.specs.declared.assembly.Status.{Status}
 use Rattle.bt_metadata.specs.declared.assembly.Status.TheVariants as status
 use Rattle.bt_metadata.specs.Blocks.{block_size}
-use Rattle.bt_metadata.specs.Assemblies.{Slot, Lacking, Held, is_lacking, is_asked, is_held, is_rejected, is_settled, is_asked_in, kept, joined, block_in}
-use Rattle.bt_metadata.specs.Sound.{slot_of, slots_of, lacks, asks, holds, rejects, settles, kept_status, asks_at, holds_at}
+use Rattle.bt_metadata.specs.Assemblies.{Slot, Lacking, Held, is_lacking, is_asked, is_held, is_settled, is_asked_in, kept, joined, block_in}
+use Rattle.bt_metadata.specs.Sound.{slot_of, slots_of, lacks, asks, holds, settles, kept_status, asks_at, holds_at}
 
 pub length-slots : (ss : List Status) (d : List ℕ) → length (slots_of ss d) ≡ length ss
 length-slots [] d = refl
@@ -37,12 +37,6 @@ held_slot status.Lacking b = refl
 held_slot status.Asked b = refl
 held_slot status.Rejected b = refl
 held_slot status.Held b = refl
-
-rejected_slot : (s : Status) (b : List ℕ) → is_rejected (slot_of s b) ≡ rejects s
-rejected_slot status.Lacking b = refl
-rejected_slot status.Asked b = refl
-rejected_slot status.Rejected b = refl
-rejected_slot status.Held b = refl
 
 settled_slot : (s : Status) (b : List ℕ) → is_settled (slot_of s b) ≡ settles s
 settled_slot status.Lacking b = refl
@@ -81,16 +75,6 @@ held_from-slots (s ∷ ss) d n =
 
 pub count_held-slots : (ss : List Status) (d : List ℕ) → count_by is_held (slots_of ss d) ≡ count_by holds ss
 count_held-slots ss d = held_from-slots ss d 0
-
-rejected_from-slots : (ss : List Status) (d : List ℕ) (n : ℕ) → fold (λ a x. a + cond (is_rejected x) 1 0) n (slots_of ss d)
-    ≡ fold (λ a x. a + cond (rejects x) 1 0) n ss
-rejected_from-slots [] d n = refl
-rejected_from-slots (s ∷ ss) d n =
-    ap (λ b. fold (λ a x. a + cond (is_rejected x) 1 0) (n + cond b 1 0) (slots_of ss (drop block_size d))) (rejected_slot s (take block_size d))
-    ∙ rejected_from-slots ss (drop block_size d) (n + cond (rejects s) 1 0)
-
-pub count_rejected-slots : (ss : List Status) (d : List ℕ) → count_by is_rejected (slots_of ss d) ≡ count_by rejects ss
-count_rejected-slots ss d = rejected_from-slots ss d 0
 
 pub all_settled-slots : (ss : List Status) (d : List ℕ) → list_all is_settled (slots_of ss d) ≡ list_all settles ss
 all_settled-slots [] d = refl

@@ -39,12 +39,6 @@ is_held Asked = false
 is_held Rejected = false
 is_held (Held b) = true
 
-abbrev pub is_rejected : Slot → Bool
-is_rejected Lacking = false
-is_rejected Asked = false
-is_rejected Rejected = true
-is_rejected (Held b) = false
-
 -- it is held or rejected: it can't come any more on this connection
 abbrev pub is_settled : Slot → Bool
 is_settled Lacking = false

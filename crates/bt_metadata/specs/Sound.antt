@@ -50,12 +50,6 @@ holds status.Asked = false
 holds status.Rejected = false
 holds status.Held = true
 
-abbrev pub rejects : Status → Bool
-rejects status.Lacking = false
-rejects status.Asked = false
-rejects status.Rejected = true
-rejects status.Held = false
-
 abbrev pub settles : Status → Bool
 settles status.Lacking = false
 settles status.Asked = false

@@ -3,9 +3,9 @@ ghost use Rattle.std.specs.Prelude.{◌≡◌, ◌⊎◌, ◌↔◌, ◌+◌, �
 ghost use Rattle.std.specs.List.{list_all};
 ghost use Rattle.bt_ext.specs.Metadata.{block_count};
 ghost use Rattle.bt_metadata.specs.Blocks.{max_metadata};
-ghost use Rattle.bt_metadata.specs.Assemblies.{is_asked, is_held, is_rejected, is_settled, started, ask_of, asking, with_slots, data_error, with_data, piece_error, with_reject, disconnected, IsFinished, held_block};
+ghost use Rattle.bt_metadata.specs.Assemblies.{is_asked, is_held, is_settled, started, ask_of, asking, with_slots, data_error, with_data, piece_error, with_reject, disconnected, IsFinished, held_block};
 ghost use Rattle.bt_metadata.specs.Unfinished.{IsUnfinished};
-ghost use Rattle.bt_metadata.specs.Sound.{IsAssembly, lacks, asks, holds, rejects, settles, kept_status, error_at, holds_at};
+ghost use Rattle.bt_metadata.specs.Sound.{IsAssembly, lacks, asks, holds, settles, kept_status, error_at, holds_at};
 
 use sha1::Sha1;
 use std::alloc::{AllocError, Allocator, Global};
@@ -137,16 +137,6 @@ fn count_held(states: &[Status]) -> usize
         .count()
 }
 
-/// How many blocks are rejected.
-fn count_rejected(states: &[Status]) -> usize
-    ensures { result ≡ count_by rejects states.now }
-{
-    states
-        .iter()
-        .filter(|state| **state == Status::Rejected)
-        .count()
-}
-
 /// Whether each block is held or rejected.
 fn is_settled(states: &[Status]) -> bool
     ensures { result ≡ list_all settles states.now }
@@ -252,13 +242,6 @@ impl<A: Allocator> Assembly<A> {
         ensures { result ≡ count_by is_held self.now.slots }
     {
         count_held(&self.states)
-    }
-
-    /// How many blocks are rejected.
-    pub fn rejected(&self) -> usize
-        ensures { result ≡ count_by is_rejected self.now.slots }
-    {
-        count_rejected(&self.states)
     }
 
     /// Whether each block is held or rejected, so that no more can come.

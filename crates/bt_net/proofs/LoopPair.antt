@@ -19,7 +19,7 @@ serving_end rules limit metadata =
     unopened (own_by rules limit (sha1 metadata) 3) (handshake_by (sha1 metadata) (codes "-BT0001-LLLLLLLLLLLL")) Silent window (Serving metadata)
 
 abbrev pub fetching_end : Rules → ℕ → List ℕ → EndState
-fetching_end rules limit hash = unopened (own_by rules limit hash 9) (handshake_by hash (codes "-BT0001-RRRRRRRRRRRR")) Silent window Awaiting
+fetching_end rules limit hash = unopened (own_by rules limit hash 9) (handshake_by hash (codes "-BT0001-RRRRRRRRRRRR")) Silent window (Awaiting max_metadata)
 
 same_byte : (n k : ℕ) → n < 256 → Some n ≡ Some k → k < 256
 same_byte n k lt e = let same : n ≡ k = cc in omega (arith, lt, same)
@@ -69,7 +69,7 @@ pub loop_pair : (rules : Rules) (limit : ℕ) (metadata : List ℕ) → 32768 �
 loop_pair rules limit metadata least most size = record {
   left = new_end rules limit (sha1 metadata) (codes "-BT0001-LLLLLLLLLLLL") (Serving metadata) (least, most) (digest_length metadata, refl) left_ids
       (λ m e. let same : metadata ≡ m = cc in subst IsMetadata same (sized metadata size)) tt;
-  right = new_end rules limit (sha1 metadata) (codes "-BT0001-RRRRRRRRRRRR") Awaiting (least, most) (digest_length metadata, refl) right_ids
+  right = new_end rules limit (sha1 metadata) (codes "-BT0001-RRRRRRRRRRRR") (Awaiting max_metadata) (least, most) (digest_length metadata, refl) right_ids
       (λ m e. absurd (cc)) tt;
   matched = record { hash = refl; limit = refl; rules = refl; pieces = tt };
   serves = refl;

@@ -49,7 +49,7 @@ left_end rules limit metadata =
 
 -- the right end fetches metadata of this SHA-1
 abbrev pub right_end : Rules → ℕ → List ℕ → HalfState
-right_end rules limit hash = connected (unopened (own_by rules limit hash 9) (handshake_by hash (codes "-BT0001-RRRRRRRRRRRR")) Silent window Awaiting)
+right_end rules limit hash = connected (unopened (own_by rules limit hash 9) (handshake_by hash (codes "-BT0001-RRRRRRRRRRRR")) Silent window (Awaiting max_metadata))
 
 -- ---- what is written
 

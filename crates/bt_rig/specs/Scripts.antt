@@ -6,7 +6,7 @@ use Rattle.sha1.specs.Sha1.{sha1}
 use Rattle.bt_ext.specs.declared.ids.Rules.TheVariants.{Bep}
 use Rattle.bt_ext.specs.Ids.{registered, metadata_only}
 use Rattle.bt_wire.specs.declared.context.Own.{Own}
-use Rattle.bt_metadata.specs.Blocks.{window}
+use Rattle.bt_metadata.specs.Blocks.{window, max_metadata}
 use Rattle.bt_end.specs.declared.config.Announce.{Announce}
 use Rattle.bt_end.specs.declared.config.Announce.TheVariants.{Silent}
 use Rattle.bt_end.specs.declared.config.Config.{Config}
@@ -49,7 +49,7 @@ with_part s part = record s { part = part }
 abbrev pub with_config_setting : Setup → Setting → Setup
 with_config_setting s (settings.Watch hash) = with_part (with_hash s hash) Watching
 with_config_setting s (settings.Serve metadata) = with_part (with_hash s (sha1 metadata)) (Serving metadata)
-with_config_setting s (settings.Fetch hash) = with_part (with_hash s hash) Awaiting
+with_config_setting s (settings.Fetch hash) = with_part (with_hash s hash) (Awaiting max_metadata)
 with_config_setting s (settings.InfoHash hash) = with_hash s hash
 with_config_setting s (settings.PeerId peer_id) = record s { peer_id = peer_id }
 with_config_setting s (settings.Reserved bits) = with_own s (record s.own { reserved = record { 0 = bits } })

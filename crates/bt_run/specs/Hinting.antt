@@ -1,10 +1,12 @@
 -- What standard error gets after a refused stream, and after a script, by the first bytes of the input.
-use Rattle.std.specs.Prelude.{◌≡◌, ◌⊎◌, ℕ, List, [], Ok, Err}
+use Rattle.std.specs.Prelude.{◌≡◌, ◌⊎◌, ℕ, List, [], Ok, Err, Bool, true, false}
 use Rattle.bt_text.specs.declared.ended.Ended.TheVariants as ends
 use Rattle.bt_io.specs.Seen.{TargetSeen}
 use Rattle.bt_hint.specs.declared.finding.Hint.{Hint}
 use Rattle.bt_hint.specs.Hints.{HasMark, hint_line}
 use Rattle.bt_jobs.specs.PackHints.{IsPackHint}
+use Rattle.bt_run.specs.declared.commands.Hints.{Hints}
+use Rattle.bt_run.specs.declared.commands.Hints.TheVariants.{Auto, Always, Never}
 use Rattle.bt_run.specs.declared.run.JobEnd.{JobEnd}
 use Rattle.bt_run.specs.declared.run.JobEnd.TheVariants.{Stream, Script}
 use Rattle.bt_run.specs.Runs.{IsSaid}
@@ -17,6 +19,13 @@ IsHintText (Stream (Err f)) bytes text = ⊥
 IsHintText (Script (Ok end)) bytes text = IsPackHint end bytes text
 IsHintText (Script (Err f)) bytes text = ⊥
 
--- nothing is said, or the line of a hint
-abbrev pub IsHinted : JobEnd → List ℕ → TargetSeen → TargetSeen → Type 0
-IsHinted end bytes before after = (text : List ℕ) × ((text ≡ []) ⊎ IsHintText end bytes text) × IsSaid text before after
+-- a script that reads standard error gets no hint unless it asks for one
+abbrev pub are_wanted : Hints → Bool → Bool
+are_wanted Auto is_terminal = is_terminal
+are_wanted Always is_terminal = true
+are_wanted Never is_terminal = false
+
+-- nothing is said, or the line of a hint if one is wanted
+abbrev pub IsHinted : Bool → JobEnd → List ℕ → TargetSeen → TargetSeen → Type 0
+IsHinted wanted end bytes before after =
+    (text : List ℕ) × ((text ≡ []) ⊎ ((wanted ≡ true) × IsHintText end bytes text)) × IsSaid text before after

@@ -12,6 +12,8 @@ use Rattle.bt_ext.specs.declared.ids.Rules.{Rules}
 use Rattle.bt_ext.specs.declared.ids.Rules.TheVariants.{Free, Bep}
 use Rattle.bt_ext.specs.Ids.{extension_id, metadata_id, donthave_id, are_same}
 use Rattle.bt_wire.specs.declared.context.Own.{Own}
+use Rattle.bt_run.specs.declared.commands.Hints.{Hints}
+use Rattle.bt_run.specs.declared.commands.Hints.TheVariants.{Auto, Always, Never}
 use Rattle.bt_run.specs.declared.commands.Job.{Job}
 use Rattle.bt_run.specs.declared.values.Setting.{Setting}
 use Rattle.bt_run.specs.declared.values.Setting.TheVariants as settings
@@ -79,6 +81,16 @@ rules_in job t = value_of (default_rules job) rules_of t
 
 abbrev pub limit_in : Option (List ℕ) → Option ℕ
 limit_in t = value_of 262144 (number_in 1 1048576) t
+
+abbrev pub hints_of : List ℕ → Option Hints
+hints_of t =
+    if bytes_eq t (codes "auto") then Some Auto
+    else if bytes_eq t (codes "always") then Some Always
+    else if bytes_eq t (codes "never") then Some Never
+    else None
+
+abbrev pub hints_in : Option (List ℕ) → Option Hints
+hints_in t = value_of Auto hints_of t
 
 -- ---- the receiver
 

@@ -52,6 +52,17 @@ pub struct Given {
     pub donthave_id: bool,
 }
 
+/// When standard error gets a hint.
+#[derive(Clone, Copy, PartialEq, Eq, Debug)]
+pub enum Hints {
+    /// If standard error is a terminal.
+    Auto,
+    /// Each time.
+    Always,
+    /// At no time.
+    Never,
+}
+
 /// A job, with its receiver and its files.
 #[derive(Debug, Drop)]
 pub struct Request {
@@ -63,6 +74,8 @@ pub struct Request {
     pub given: Given,
     /// The file that has the other direction, if one is given.
     pub other: Option<String>,
+    /// When a hint is said.
+    pub hints: Hints,
     /// The files that are read, in turn. None of them is standard input.
     pub files: Vec<String>,
 }

@@ -1,4 +1,4 @@
-//! The receiver that the options describe, from their texts. `bt_cli` calls [`own_of`].
+//! The receiver that the options describe, from their texts, and when hints are said. `bt_cli` calls it.
 ghost use Rattle.std.specs.Prelude.{◌≡◌, ◌≤◌, ℕ, List, option_map, option_and_then, IfOk, IfErr, IfSome, MatchResult, Some};
 ghost use Rattle.std.specs.Char.{is_ascii_digit};
 ghost use Rattle.std.specs.List.{list_all};
@@ -14,12 +14,15 @@ ghost use Rattle.bt_run.specs.Options.{
   info_hash_in,
   rules_in,
   limit_in,
+  hints_in,
   IsReceiver,
   IsWrong,
   first_wrong,
 };
 
-use crate::commands::{DEFAULT_LIMIT, DEFAULT_METADATA_ID, DEFAULT_RESERVED, Job, default_rules};
+use crate::commands::{
+    DEFAULT_LIMIT, DEFAULT_METADATA_ID, DEFAULT_RESERVED, Hints, Job, default_rules,
+};
 use bt_ext::{ExtId, Registered, Rules};
 use bt_wire::{Own, Reserved};
 use hex::FromHex;
@@ -175,6 +178,19 @@ fn read_limit(text: Option<&str>) -> Option<u32>
     match text {
         None => Some(DEFAULT_LIMIT),
         Some(digits) => number_within(digits, 1, 1_048_576),
+    }
+}
+
+/// Returns when a hint is said, by the text of `--hints`; `None` if that is no value of it.
+pub fn read_hints(text: Option<&str>) -> Option<Hints>
+    ensures { result ≡ hints_in (option_map (λ s. s.now) text.entry) }
+{
+    match text {
+        None => Some(Hints::Auto),
+        Some(name) if name == "auto" => Some(Hints::Auto),
+        Some(name) if name == "always" => Some(Hints::Always),
+        Some(name) if name == "never" => Some(Hints::Never),
+        Some(_) => None,
     }
 }
 

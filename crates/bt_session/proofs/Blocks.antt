@@ -18,7 +18,7 @@ none_below k (s ∷ ss) = refl
 pub none_yet : (p : Part) → [] ≡ blocks_below 0 p
 none_yet Watching = refl
 none_yet (Serving metadata) = refl
-none_yet Awaiting = refl
+none_yet (Awaiting most) = refl
 none_yet (Fetching a) = none_below 0 a.slots
 none_yet (Fetched metadata) = refl
 
@@ -38,7 +38,7 @@ slot_more k (suc i) (s ∷ ss) =
 pub block_more : (i : ℕ) (p : Part) → blocks_below (i + 1) p ≡ blocks_below i p ++ numbered i (fetched_block p i)
 block_more i Watching = refl
 block_more i (Serving metadata) = refl
-block_more i Awaiting = refl
+block_more i (Awaiting most) = refl
 block_more i (Fetching a) =
     let e : 0 + i ≡ i = omega arith in
     let one : i + 1 ≡ suc i = omega arith in
@@ -50,6 +50,6 @@ block_more i (Fetched metadata) = refl
 pub all_below : (p : Part) → IsFetched p → blocks_below 4096 p ≡ held_blocks p
 all_below Watching h = refl
 all_below (Serving metadata) h = refl
-all_below Awaiting h = refl
+all_below (Awaiting most) h = refl
 all_below (Fetching a) h = ap (blocks_from 0) (take_all 4096 a.slots (omega (arith, h.count, h.most)))
 all_below (Fetched metadata) h = refl

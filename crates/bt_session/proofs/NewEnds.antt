@@ -14,7 +14,7 @@ use Rattle.bt_session.specs.Reports.{DoMatch}
 use Rattle.bt_end.specs.declared.config.Config.{Config}
 use Rattle.bt_end.specs.declared.config.EndError.TheVariants.{BadLimit, BadConfig, BadSize}
 use Rattle.bt_end.specs.declared.config.Role.{Role}
-use Rattle.bt_end.specs.declared.config.Role.TheVariants.{Watch, Serve, Share, Fetch}
+use Rattle.bt_end.specs.declared.config.Role.TheVariants.{Watch, Serve, Share, Fetch, FetchUpTo}
 
 no_error : (x y z : Bool) → (if x then Some BadLimit else (if y then Some BadConfig else (if z then Some BadSize else None))) ≡ None → (x ≡ false)
     × (y ≡ false) × (z ≡ false)
@@ -38,6 +38,7 @@ sized_items items e =
 sized : (role : Role Global) → is_bad_role role ≡ false → ForSome (source_of (part_for role)) (λ metadata. IsMetadata metadata)
 sized Watch e m h = absurd cc
 sized Fetch e m h = absurd cc
+sized (FetchUpTo most) e m h = absurd cc
 sized (Serve metadata) e m h =
     let same : metadata.items ≡ m = cc in
     subst (λ (x : List ℕ). IsMetadata x) same (sized_items metadata.items e)
@@ -50,6 +51,7 @@ first Watch = tt
 first (Serve metadata) = tt
 first (Share metadata) = tt
 first Fetch = tt
+first (FetchUpTo most) = tt
 
 hash_length : (o : Option (List ℕ)) → is_none o ≡ false → IfSome o (λ h. length h ≡ 20) → (o ≡ Some (unwrap_or o [])) × (length (unwrap_or o []) ≡ 20)
 hash_length (Some h) e l = (refl, l)

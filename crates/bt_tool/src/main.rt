@@ -3,10 +3,12 @@
 
 mod piped;
 mod program;
+mod sources;
 
 use bt_cli::options::{NO_TEXT, asked};
 use bt_text::ended::ToolFault;
 use program::Program;
+use sources::SOURCES;
 use std::cell::Cell;
 use std::io::IsTerminal;
 use std::process::ExitCode;
@@ -36,7 +38,7 @@ fn main(rt: HostRuntime) -> ExitCode {
         is_watched,
     );
     let status = match words(&rt) {
-        Ok(words) => match asked(rt.alloc(), &words) {
+        Ok(words) => match asked(rt.alloc(), &words, SOURCES) {
             Ok(asked) => program.answer(&asked),
             Err(_) => program.fail(ToolFault::Memory),
         },

@@ -8,7 +8,7 @@ use crate::piped::Piped;
 use bt_cli::commands::{Asked, Job, Notice, Request};
 use bt_cli::ending::{end_by_fault, end_job, end_link, end_loop, end_text};
 use bt_cli::fetch::{FetchJob, end_fetch, run_fetch};
-use bt_cli::hints::say_hint;
+use bt_cli::hints::{are_wanted, say_hint};
 use bt_cli::notice::refuse_words;
 use bt_cli::options::{is_input, no_handshake};
 use bt_cli::other::receiver_by;
@@ -186,45 +186,47 @@ impl<'a, R: Files + Input + Net + Clock + RandomSource + AllocGlobal, W: Write, 
             Err(status) => return status,
         };
         match request.files.as_slice() {
-            [] => self.run_on("-", request.job, &own),
-            [name] => self.run_on(name.as_str(), request.job, &own),
+            [] => self.run_on("-", request, &own),
+            [name] => self.run_on(name.as_str(), request, &own),
             names => self.check_each(names, &own),
         }
     }
 
     /// Does a job on an input that is open, and returns the exit status.
-    fn run_over(&mut self, prefix: &[u8], reader: Opened<R>, job: Job, own: &Own) -> u8
+    fn run_over(&mut self, prefix: &[u8], reader: Opened<R>, request: &Request, own: &Own) -> u8
         requires { HasLimit own.now }
     {
         let alloc = self.host.alloc();
+        let job = request.job;
         let mut reader = Kept::new(alloc, reader);
         let end = do_job(alloc, job, own, &mut reader, &mut self.writer);
         let is_gone = self.is_gone.get();
         let status = end_job(job, end, prefix, is_gone, &mut self.errors);
-        say_hint(alloc, end, reader.window(), &mut self.errors);
+        let is_wanted = are_wanted(request.hints, self.is_watched);
+        say_hint(alloc, is_wanted, end, reader.window(), &mut self.errors);
         status
     }
 
     /// As `run_on`; `prefix` stands before the line of a fault.
-    fn run_after(&mut self, prefix: &[u8], name: &str, job: Job, own: &Own) -> u8
+    fn run_after(&mut self, prefix: &[u8], name: &str, request: &Request, own: &Own) -> u8
         requires { HasLimit own.now }
     {
-        let awaited = match job {
+        let awaited = match request.job {
             Job::Pack => SCRIPT_AWAITED,
             Job::Show | Job::Json | Job::Check | Job::Unpack => STREAM_AWAITED,
         };
         match self.open(name, awaited) {
-            Some(reader) => self.run_over(prefix, reader, job, own),
+            Some(reader) => self.run_over(prefix, reader, request, own),
             None => end_by_fault(ToolFault::Read, prefix, false, &mut self.errors),
         }
     }
 
     /// Does a job on one input, and returns the exit status.
-    fn run_on(&mut self, name: &str, job: Job, own: &Own) -> u8
+    fn run_on(&mut self, name: &str, request: &Request, own: &Own) -> u8
         requires { HasLimit own.now }
     {
         match self.prefix(name) {
-            Ok(prefix) => self.run_after(prefix.as_bytes(), name, job, own),
+            Ok(prefix) => self.run_after(prefix.as_bytes(), name, request, own),
             Err(_) => self.fail(ToolFault::Memory),
         }
     }

@@ -1,4 +1,4 @@
-use Rattle.std.proofs.Common.{◌∙◌, ◌++◌, [], take, Ok, Err, refl, sym, subst, inl, inr, arith, append_assoc, length-take, rules}
+use Rattle.std.proofs.Common.{◌∙◌, ◌++◌, [], take, Ok, Err, refl, sym, subst, inl, inr, arith, append_assoc, length-take, length, rules}
 use Rattle.std.proofs.KnownBytes.{Consumes-nil, Consumes-trans, Consumes-kept}
 use Rattle.std.proofs.lemmas.Bool.{ne_eqb}
 use Rattle.std.proofs.lemmas.List.{append-nil}
@@ -7,7 +7,8 @@ use Rattle.bt_feed.specs.Feeds.{FeedState}
 use Rattle.bt_feed.specs.declared.pumping.PumpError.TheVariants as error
 use Rattle.bt_feed.specs.Pumps.{IsFed, IsPumpEnd, IsPieceEnd}
 use Rattle.bt_feed.proofs.Moving.{took_both, given_more, given_end, fed_none, fed_both, fed_on, stopped_by, not_at_end, ended_open, open_to, ended_last}
-use Rattle.bt_feed.proofs.Moving.{sink_fault}
+use Rattle.bt_feed.proofs.Moving.{sink_fault, no_sink_fault}
+use Rattle.bt_feed.proofs.Shares.{counted_reads, counted_more, not_read, read_more}
 use Rattle.bt_feed.proofs.pumping.pump_with.Goals as goal
 
 pub returns-in-Err-clause-moved : goal.returns-in-Err-clause-moved
@@ -109,6 +110,8 @@ loop-turn-preserved g c =
       limit = c.in_default-pump_piece.ensures.limit;
       waits = done.1;
       size = c.in-Ok.ensures.some.1 ∙ c.loop-turn.invariant.size;
+      share = read_more (length c.args.buffer.now) c.loop-turn._turn (length c.loop-turn.buffer) _ (g.R.Source.seen c.loop-turn.reader).left _
+          c.loop-turn.invariant.share c.read_once.ensures.consumed c.loop-turn.invariant.size;
       moved = (
         (m.0 ++ w.0) ++ piece,
         m.1 ++ xs,
@@ -179,3 +182,32 @@ returns-clause-needed g c =
           c.loop-turn.invariant.limit c.loop-turn.invariant.waits m.2,
       omega arith,
     )
+
+pub returns-in-Err-clause-share : goal.returns-in-Err-clause-share
+returns-in-Err-clause-share g c = not_read (length c.args.buffer.now) (g.R.Source.seen c.args.reader.now)
+
+pub returns-in-Ok-eq0-default-clause-share : goal.returns-in-Ok-eq0-default-clause-share
+returns-in-Ok-eq0-default-clause-share g c =
+    counted_more (length c.args.buffer.now) c.loop-turn._turn (length c.loop-turn.buffer) (g.R.Source.seen c.args.reader.now) (g.R.Source.seen c.loop-turn.reader)
+    (g.R.Source.seen c.read_once.new.reader) c.loop-turn.invariant.reads.0 c.read_once.ensures.reads c.loop-turn.invariant.share c.read_once.ensures.consumed c.loop-turn.invariant.size
+
+pub returns-in-Err-pump_piece-clause-share : goal.returns-in-Err-pump_piece-clause-share
+returns-in-Err-pump_piece-clause-share g c =
+    counted_more (length c.args.buffer.now) c.loop-turn._turn (length c.loop-turn.buffer) (g.R.Source.seen c.args.reader.now) (g.R.Source.seen c.loop-turn.reader)
+    (g.R.Source.seen c.read_once.new.reader) c.loop-turn.invariant.reads.0 c.read_once.ensures.reads c.loop-turn.invariant.share c.read_once.ensures.consumed c.loop-turn.invariant.size
+
+pub returns-in-Err-read_once-clause-share : goal.returns-in-Err-read_once-clause-share
+returns-in-Err-read_once-clause-share g c =
+    counted_more (length c.args.buffer.now) c.loop-turn._turn (length c.loop-turn.buffer) (g.R.Source.seen c.args.reader.now) (g.R.Source.seen c.loop-turn.reader)
+    (g.R.Source.seen c.read_once.new.reader) c.loop-turn.invariant.reads.0 c.read_once.ensures.reads c.loop-turn.invariant.share c.read_once.ensures.consumed c.loop-turn.invariant.size
+
+pub returns-clause-share : goal.returns-clause-share
+returns-clause-share g c =
+    counted_reads (length c.args.buffer.now) c.loop-turn._turn (g.R.Source.seen c.args.reader.now) (g.R.Source.seen c.loop-turn.reader) c.loop-turn.invariant.reads.0
+    c.loop-turn.invariant.share
+
+pub returns-in-Err-clause-emptied : goal.returns-in-Err-clause-emptied
+returns-in-Err-clause-emptied g c = λ h. c.in-Err.ensures.emptied (no_sink_fault c.in-Err.error h)
+
+pub returns-in-Err-pump_piece-clause-emptied : goal.returns-in-Err-pump_piece-clause-emptied
+returns-in-Err-pump_piece-clause-emptied g c = λ h. c.in-Err-pump_piece.ensures.emptied (no_sink_fault c.in-Err-pump_piece.error h)

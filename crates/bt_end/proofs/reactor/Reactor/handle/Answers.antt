@@ -7,7 +7,7 @@ use Rattle.bt_wire.specs.declared.context.Order.{Order}
 use Rattle.bt_wire.specs.declared.message.Message.TheVariants as views
 use Rattle.bt_end.specs.Ends.{EndState, Reaction, at_extended, at_message, greeted, quiet}
 use Rattle.bt_end.specs.Reactors.{end_of, IsReacted}
-use Rattle.bt_end.proofs.EventLaws.{other_event}
+use Rattle.bt_end.proofs.EventLaws.{plain}
 use Rattle.bt_end.proofs.reactor.Reactor.handle.Goals as goal
 
 quiet_at : (e : EndState) (v : MessageView) → ((x : ExtView) → v ≡ views.Extended x → ⊥) → at_message e (message_of v) ≡ quiet e
@@ -51,4 +51,5 @@ pub returns-in-Extended-clause-event : goal.returns-in-Extended-clause-event
 returns-in-Extended-clause-event g c = rw (c.in-Message.is, c.in-Extended.is) c.handle_extended.ensures.event
 
 pub returns-in_default-clause-event : goal.returns-in_default-clause-event
-returns-in_default-clause-event g c = rw c.in-Message.is (other_event (end_of c.args.self.now) c.in-Message.message c.in_default.not-Extended)
+returns-in_default-clause-event g c =
+    rw c.in-Message.is (c.plain_event.ensures ∙ plain (end_of c.args.self.now) c.in-Message.message c.in_default.not-Extended)

@@ -16,4 +16,4 @@ returns-clause-sound g c =
     let h = grown (λ (bytes : List ℕ). Consumes left left' bytes) (Keeps left left') c.read.result c.args.buffer.now.items c.read.new.self.items
     c.read.ensures.read c.read.ensures.err in
     progress_read c.args.self.now c.args.buffer.now.items c.read.new.self.items h.0 c.requires.sound c.if-self.false (omega (arith, c.if-self-len.false)) h.1
-    c.read.ensures.within
+    (omega (arith, c.read.ensures.within, c.min-goal.ensures))

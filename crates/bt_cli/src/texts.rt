@@ -1,0 +1,401 @@
+//! The commands in words: how each is called, what it does, and its options. The module `options` makes them `clap`'s, and `clap`
+//! makes the texts of `--help` of them.
+
+/// An option of a command.
+#[derive(Clone, Copy, Debug)]
+pub(crate) struct OptionText {
+    pub name: &'static str,
+    /// The name of its value; nothing if it takes none.
+    pub value: &'static str,
+    /// What it is, its values, and its default in brackets.
+    pub help: &'static str,
+}
+
+/// A word of a command that is no option.
+#[derive(Clone, Copy, Debug)]
+pub(crate) struct OperandText {
+    pub name: &'static str,
+    pub is_required: bool,
+    pub is_repeated: bool,
+    pub help: &'static str,
+}
+
+/// A command.
+#[derive(Clone, Copy, Debug)]
+pub(crate) struct CommandText {
+    pub name: &'static str,
+    pub usage: &'static str,
+    pub about: &'static str,
+    pub options: &'static [OptionText],
+    pub operands: &'static [OperandText],
+    /// An example, and the exit statuses.
+    pub after: &'static str,
+}
+
+const RESERVED: OptionText = OptionText {
+    name: "reserved",
+    value: "HEX",
+    help: "Reserved bits that the receiver sent: 16 hex digits [default: 0000000000100005]",
+};
+
+const PIECES: OptionText = OptionText {
+    name: "pieces",
+    value: "N",
+    help: "Number of pieces of the torrent: 0 to 4294967295 [default: unknown]",
+};
+
+const METADATA_ID: OptionText = OptionText {
+    name: "metadata-id",
+    value: "N",
+    help: "Id that the receiver announced for ut_metadata: 0 to 255, 0 for none [default: 3]",
+};
+
+const DONTHAVE_ID: OptionText = OptionText {
+    name: "donthave-id",
+    value: "N",
+    help: "Id that the receiver announced for lt_donthave: 0 to 255, 0 for none [default: 0]",
+};
+
+const INFO_HASH: OptionText = OptionText {
+    name: "info-hash",
+    value: "HEX",
+    help: "Only info hash that is accepted: 40 hex digits [default: any]",
+};
+
+const OTHER: OptionText = OptionText {
+    name: "other",
+    value: "FILE",
+    help: "Stream that the receiver sent; it gives the bits and ids that no option gives [default: none]",
+};
+
+const FREE: OptionText = OptionText {
+    name: "rules",
+    value: "RULES",
+    help: "Rules by which is judged: 'free' (lenient) or 'bep' (strict) [default: free]",
+};
+
+const BEP: OptionText = OptionText {
+    name: "rules",
+    value: "RULES",
+    help: "Rules by which is judged: 'free' (lenient) or 'bep' (strict) [default: bep]",
+};
+
+const LIMIT: OptionText = OptionText {
+    name: "limit",
+    value: "N",
+    help: "Greatest length of a message, without its prefix: 1 to 1048576 [default: 262144]",
+};
+
+const LIMIT_OF_ENDS: OptionText = OptionText {
+    name: "limit",
+    value: "N",
+    help: "Greatest length of a message, without its prefix: 32768 to 1048576 [default: 262144]",
+};
+
+const HINTS: OptionText = OptionText {
+    name: "hints",
+    value: "WHEN",
+    help: "When standard error gets a hint: 'always', 'never' or 'auto' (on a terminal) [default: auto]",
+};
+
+const JSON: OptionText = OptionText {
+    name: "json",
+    value: "",
+    help: "Prints a JSON object a line: one for each item, and one for the verdict",
+};
+
+const PATIENCE: OptionText = OptionText {
+    name: "patience",
+    value: "SECONDS",
+    help: "Seconds without progress after which a connection ends: 1 to 86400 [default: 30]",
+};
+
+const WINDOW: OptionText = OptionText {
+    name: "window",
+    value: "N",
+    help: "Blocks that are asked for at once: 1 to 8 [default: 8, and 1 if a silent peer is tried again]",
+};
+
+const MOST: OptionText = OptionText {
+    name: "most",
+    value: "BYTES",
+    help: "Greatest size of metadata that is taken: 1 to 67108864 [default: 67108864]",
+};
+
+const TORRENT: OptionText = OptionText {
+    name: "torrent",
+    value: "",
+    help: "Writes a .torrent in place of the metadata alone",
+};
+
+const LISTEN: OptionText = OptionText {
+    name: "listen",
+    value: "ADDRESS",
+    help: "Where it listens: IP:PORT or [IPv6]:PORT; port 0 takes a free one [default: 127.0.0.1:0]",
+};
+
+const CONNECTIONS: OptionText = OptionText {
+    name: "connections",
+    value: "N",
+    help: "Connections after which it ends: 1 to 4294967295 [default: none, it goes on]",
+};
+
+const AT_ONCE: OptionText = OptionText {
+    name: "at-once",
+    value: "N",
+    help: "Connections that are served at the same time: 1 to 1024 [default: 64]",
+};
+
+const STREAM: OperandText = OperandText {
+    name: "FILE",
+    is_required: false,
+    is_repeated: true,
+    help: "A stream, from its handshake on; standard input if there is no FILE, or if it is '-'",
+};
+
+const SCRIPT: OperandText = OperandText {
+    name: "FILE",
+    is_required: false,
+    is_repeated: true,
+    help: "A script; standard input if there is no FILE, or if it is '-'",
+};
+
+const INFOHASH: OperandText = OperandText {
+    name: "INFOHASH",
+    is_required: true,
+    is_repeated: false,
+    help: "SHA-1 of the metadata: 40 hex digits",
+};
+
+const ADDRESS: OperandText = OperandText {
+    name: "ADDRESS",
+    is_required: true,
+    is_repeated: true,
+    help: "A peer: IP:PORT or [IPv6]:PORT; they are tried in turn",
+};
+
+const METADATA: OperandText = OperandText {
+    name: "FILE",
+    is_required: true,
+    is_repeated: false,
+    help: "A .torrent, or an info dictionary alone",
+};
+
+const SHOW: CommandText = CommandText {
+    name: "show",
+    usage: "bt_tool show [OPTIONS] [FILE]",
+    about: "Prints a line for each item of a stream, and then the verdict",
+    options: &[
+        RESERVED,
+        PIECES,
+        METADATA_ID,
+        DONTHAVE_ID,
+        INFO_HASH,
+        OTHER,
+        FREE,
+        LIMIT,
+        HINTS,
+        JSON,
+    ],
+    operands: &[STREAM],
+    after: "\
+Example:
+  bt_tool show --pieces 10 --rules bep stream.bin
+
+Exit status:
+  0    The stream is accepted
+  1    The stream is refused
+  2    The words are no command line, or the file of '--other' doesn't begin with a whole handshake
+  3    A read or a write failed, the program is out of memory, or the input has no end
+  141  Nobody reads the output any more, as after '| head'",
+};
+
+const CHECK: CommandText = CommandText {
+    name: "check",
+    usage: "bt_tool check [OPTIONS] [FILE]..",
+    about: "Prints the verdict on a stream; of several files a line each, with the file's name in front",
+    options: &[
+        RESERVED,
+        PIECES,
+        METADATA_ID,
+        DONTHAVE_ID,
+        INFO_HASH,
+        OTHER,
+        BEP,
+        LIMIT,
+        HINTS,
+    ],
+    operands: &[STREAM],
+    after: "\
+Example:
+  bt_tool check --reserved 0000000000100004 *.bin
+
+Exit status:
+  0    Each stream is accepted
+  1    A stream is refused
+  2    The words are no command line, or the file of '--other' doesn't begin with a whole handshake
+  3    A read or a write failed, the program is out of memory, or the input has no end
+  141  Nobody reads the output any more, as after '| head'",
+};
+
+const UNPACK: CommandText = CommandText {
+    name: "unpack",
+    usage: "bt_tool unpack [OPTIONS] [FILE]",
+    about: "Prints the script of a stream: a line for each item, with all of its bytes",
+    options: &[
+        RESERVED,
+        PIECES,
+        METADATA_ID,
+        DONTHAVE_ID,
+        INFO_HASH,
+        OTHER,
+        FREE,
+        LIMIT,
+        HINTS,
+    ],
+    operands: &[STREAM],
+    after: "\
+Example:
+  bt_tool unpack stream.bin > script.txt
+
+Exit status:
+  0    The stream is accepted
+  1    The stream is refused
+  2    The words are no command line, or the file of '--other' doesn't begin with a whole handshake
+  3    A read or a write failed, the program is out of memory, or the input has no end
+  141  Nobody reads the output any more, as after '| head'",
+};
+
+const PACK: CommandText = CommandText {
+    name: "pack",
+    usage: "bt_tool pack [OPTIONS] [FILE]",
+    about: "Writes the stream of a script, up to the first line that is refused",
+    options: &[
+        RESERVED,
+        PIECES,
+        METADATA_ID,
+        DONTHAVE_ID,
+        INFO_HASH,
+        OTHER,
+        FREE,
+        LIMIT,
+        HINTS,
+    ],
+    operands: &[SCRIPT],
+    after: "\
+Example:
+  bt_tool pack script.txt > stream.bin
+
+Exit status:
+  0    The script is accepted
+  1    A line of the script is refused
+  2    The words are no command line, or the file of '--other' doesn't begin with a whole handshake
+  3    A read or a write failed, the program is out of memory, or the input has no end
+  141  Nobody reads the output any more, as after '| head'",
+};
+
+const LINK: CommandText = CommandText {
+    name: "link",
+    usage: "bt_tool link [FILE]",
+    about: "Runs two ends against each other, step by step, as a script of its own says",
+    options: &[],
+    operands: &[SCRIPT],
+    after: "\
+Example:
+  bt_tool link examples/link.txt
+
+Exit status:
+  0    The link ran
+  1    A line of the script is refused, or the two ends don't match
+  2    The words are no command line
+  3    A read or a write failed, the program is out of memory, or the input has no end
+  141  Nobody reads the output any more, as after '| head'",
+};
+
+const LOOP: CommandText = CommandText {
+    name: "loop",
+    usage: "bt_tool loop [OPTIONS]",
+    about: "Serves the metadata of standard input at one end of a connection to itself, and fetches it at the other",
+    options: &[BEP, LIMIT_OF_ENDS],
+    operands: &[],
+    after: "\
+Example:
+  bt_tool loop < metadata.bin
+
+Exit status:
+  0    The metadata was fetched
+  1    Nothing was fetched, or the metadata has a wrong size
+  2    The words are no command line
+  3    A read or a write failed, the connection did, or the program is out of memory
+  141  Nobody reads the output any more, as after '| head'",
+};
+
+const FETCH: CommandText = CommandText {
+    name: "fetch",
+    usage: "bt_tool fetch [OPTIONS] INFOHASH ADDRESS..",
+    about: "Fetches the metadata of a torrent from peers (BEP 9), and writes it on standard output",
+    options: &[BEP, LIMIT_OF_ENDS, PATIENCE, WINDOW, MOST, TORRENT],
+    operands: &[INFOHASH, ADDRESS],
+    after: "\
+Example:
+  bt_tool fetch --torrent a9993e364706816aba3e25717850c26c9cd0d89d 192.0.2.1:6881 > a.torrent
+
+Exit status:
+  0    The metadata was fetched
+  1    No peer gave the metadata
+  2    The words are no command line
+  3    A write failed, or the program is out of memory
+  141  Nobody reads the output any more, as after '| head'",
+};
+
+const SERVE: CommandText = CommandText {
+    name: "serve",
+    usage: "bt_tool serve [OPTIONS] FILE",
+    about: "Serves the metadata of a torrent to peers (BEP 9), and prints a line for each connection",
+    options: &[LISTEN, BEP, LIMIT_OF_ENDS, PATIENCE, CONNECTIONS, AT_ONCE],
+    operands: &[METADATA],
+    after: "\
+Example:
+  bt_tool serve --listen 127.0.0.1:6881 a.torrent
+
+Exit status:
+  0    As many connections as '--connections' says have ended
+  1    FILE has no metadata
+  2    The words are no command line
+  3    FILE can't be read, it can't listen there, or the program is out of memory",
+};
+
+/// The commands.
+pub(crate) const COMMANDS: [CommandText; 8] = [SHOW, CHECK, UNPACK, PACK, LINK, LOOP, FETCH, SERVE];
+
+/// How the program is called.
+pub(crate) const CALL: &str = "bt_tool [COMMAND] [OPTIONS] [FILE]";
+
+/// What the program does.
+pub(crate) const ABOUT: &str =
+    "Judges the bytes that a BitTorrent peer sends (BEP 3, 5, 6, 9 and 10)";
+
+/// What follows the commands in the program's help.
+pub(crate) const AFTER: &str = "\
+'bt_tool COMMAND --help' prints the options, an example and the exit statuses of a command. Options stand after
+the command. No words at all mean 'show' of standard input.
+
+Example:
+  bt_tool show --other sent-by-receiver.bin stream.bin
+
+Exit status:
+  0    The stream or the script is accepted, or the command did its work
+  1    The stream or the script is refused, or the command got no result
+  2    The words are no command line
+  3    A read or a write failed, the network did, or the program is out of memory
+  141  Nobody reads the output any more, as after '| head'";
+
+/// Returns how the command with this name is called, or the program if there is no such command.
+pub(crate) fn usage_of(name: &str) -> &'static str {
+    for command in &COMMANDS {
+        if command.name == name {
+            return command.usage;
+        }
+    }
+    CALL
+}

@@ -1,0 +1,427 @@
+#!/usr/bin/env python3
+"""Uses dist/ as somebody who has a clone and no toolchain, and installs it.
+
+usage: tests/dist.py [CHECK..]
+
+CHECK is a function of CHECKS; without any all are run. It copies what a clone has to another folder, and works there with the PATH
+/usr/bin:/bin and an empty environment. What each program prints of the example streams is compared with `bt_tool show`, and `show`
+with the lines of examples/README.md. What needs a tool that isn't installed is skipped, and that is said.
+"""
+import contextlib
+import filecmp
+import functools
+import glob
+import os
+import pathlib
+import re
+import shlex
+import shutil
+import subprocess
+import sys
+import tempfile
+import time
+
+sys.dont_write_bytecode = True
+ROOT = pathlib.Path(__file__).resolve().parent.parent
+sys.path.insert(0, str(ROOT / "tools/packages"))
+import help_texts
+import wheel
+
+NOWHERE = 65534
+CLEAN = {"PATH": "/usr/bin:/bin", "LC_ALL": "C.UTF-8"}
+FIRST = b"""0 handshake 0000000000100005 a9993e364706816aba3e25717850c26c9cd0d89d 2d5858303030312d303030303030303030303030
+68 keep-alive
+72 have 9
+ok messages=2 bytes=81
+"""
+# The last lines of `show` under the rules `free` and `bep`, by examples/README.md.
+VERDICTS = {
+    "first.bin": ("ok messages=2 bytes=81", "refused message=2 at=76 Missing"),
+    "fetching.bin": ("ok messages=5 bytes=278", "ok messages=5 bytes=278"),
+    "serving.bin": ("ok messages=6 bytes=25889", "ok messages=6 bytes=25889"),
+    "downloading.bin": ("ok messages=80 bytes=1280", "ok messages=80 bytes=1280"),
+}
+SKIPPED = []
+
+
+def which(tool):
+    """Whether a tool is there; if it isn't, says so at the end."""
+    found = shutil.which(tool)
+    if not found:
+        SKIPPED.append("%s isn't installed" % tool)
+    return found
+
+
+def run(words, folder, given=b"", environment=None, **how):
+    words = list(map(str, words))
+    return subprocess.run(words, cwd=folder, input=given, env={**CLEAN, **(environment or {})}, capture_output=True, timeout=300, **how)
+
+
+def passes(words, folder, **how):
+    """What a command writes that has to end with status 0."""
+    done = run(words, folder, **how)
+    said = (done.stdout + done.stderr).decode("utf8", "replace")
+    assert done.returncode == 0, "%s: status %d\n%s" % (" ".join(map(str, words)), done.returncode, said)
+    return done.stdout
+
+
+def is_refused(done, *parts):
+    """Whether the script ended with one line that has these parts, and ran nothing."""
+    text = done.stderr.decode()
+    wrong = done.returncode != 125 or done.stdout or text.count("\n") != 1 or any(part not in text for part in parts)
+    assert not wrong, "status %d, output %r, and %r where one line has to have %r" % (done.returncode, done.stdout, text, parts)
+
+
+def clone(to):
+    """Copies the files that a clone would have once all is committed."""
+    names = subprocess.run(["git", "ls-files", "-co", "--exclude-standard", "-z"], cwd=ROOT, stdout=subprocess.PIPE)
+    found = names.stdout.decode().split("\0") if names.returncode == 0 else []
+    if not found:
+        shutil.copytree(ROOT, to, symlinks=True, dirs_exist_ok=True, ignore=shutil.ignore_patterns("out", ".git"))
+    for name in filter(None, found):
+        if os.path.lexists(ROOT / name):
+            (to / name).parent.mkdir(parents=True, exist_ok=True)
+            shutil.copy2(ROOT / name, to / name, follow_symlinks=False)
+
+
+@contextlib.contextmanager
+def changed(file, change):
+    """A file with another content, with the times that it had; afterwards it is as it was."""
+    was, times = file.read_bytes(), file.stat()
+    try:
+        file.write_bytes(change(was))
+        os.utime(file, ns=(times.st_atime_ns, times.st_mtime_ns))
+        yield
+    finally:
+        file.write_bytes(was)
+        os.utime(file, ns=(times.st_atime_ns, times.st_mtime_ns))
+
+
+def show(at):
+    return run(["./bt_tool", "show"], at, (at / "examples/first.bin").read_bytes())
+
+
+def least(words, folder, times=15):
+    """The least seconds of some runs."""
+    found = []
+    for _ in range(times):
+        start = time.perf_counter()
+        passes(words, folder)
+        found.append(time.perf_counter() - start)
+    return min(found)
+
+
+# ---- the script bt_tool ----
+
+
+def first_run(at):
+    """A fresh clone answers in a second, and later calls cost at most 50 ms more than the program itself."""
+    start = time.perf_counter()
+    done = show(at)
+    took = time.perf_counter() - start
+    assert (done.stdout, done.stderr, done.returncode) == (FIRST, b"", 0), done
+    assert took < 1, "the first run took %.2f s" % took
+    more = least(["./bt_tool", "--version"], at) - least(["dist/x86_64-linux/bt_tool", "--version"], at)
+    assert more < 0.05, "bt_tool takes %.0f ms more than the program" % (1000 * more)
+    outside = at / "linked"
+    outside.symlink_to(at / "bt_tool")
+    assert passes([outside, "--version"], "/") == passes(["dist/x86_64-linux/bt_tool", "--version"], at), "by a symbolic link"
+    outside.unlink()
+
+
+def version(at):
+    digest = (at / "dist/SOURCES").read_text().strip()
+    said = passes(["./bt_tool", "--version"], at).decode()
+    assert re.fullmatch(r"bt_tool \d+\.\d+\.\d+ \(sources %s\)\n" % digest[:12], said), said
+    assert passes(["tools/sources"], at).decode().strip() == digest, "tools/sources"
+    start = time.perf_counter()
+    passes(["tools/dist", "--check"], at, environment={"PATH": os.environ["PATH"]})
+    assert time.perf_counter() - start < 2, "tools/dist --check takes more than a second or two"
+
+
+def sources(at):
+    """What changes the digest and what doesn't. Times of files that are set back deceive nobody."""
+    more = lambda text: text + b"\n"
+    spec, proof = (next((at / "crates/bt_wire" / part).rglob("*.antt")) for part in ("specs", "proofs"))
+    for file in (spec, proof, at / "crates/bt_bench/src/main.rt", at / "CHANGELOG.md", at / "crates/bt_tool/src/sources.rt"):
+        with changed(file, more):
+            assert show(at).stdout == FIRST, "%s changed" % file.name
+    with changed(at / "crates.txt", lambda text: b"# a comment\n" + text.replace(b"bt_bench:", b"bt_bench : ")):
+        assert show(at).stdout == FIRST, "a comment in crates.txt"
+    swaps = [("crates.txt", b"bt_io: thiserror", b"bt_io: thiserror itoa"), ("README.md", b"rattle-kit-", b"rattle-kit-9"),
+             ("crates/bt_c/bt.h", b"/*", b"/* "), ("crates/bt_c/bt.py", b"import os", b"import  os"),
+             ("crates/bt_wire/src/lib.rt", b"//!", b"//!  ")]
+    for name, old, new in swaps:
+        with changed(at / name, lambda text: text.replace(old, new, 1)):
+            is_refused(show(at), "other sources", "'rt'", "README.md")
+            assert run(["tools/dist", "--check"], at, environment={"PATH": os.environ["PATH"]}).returncode == 1, name
+            # (the answer is kept)
+            is_refused(show(at), "other sources")
+        assert show(at).stdout == FIRST, "%s as it was" % name
+    added = at / "crates/bt_io/src/another.rt"
+    added.write_text("\n")
+    is_refused(show(at), "other sources")
+    added.unlink()
+    assert show(at).stdout == FIRST
+
+
+def tampered(at):
+    """A program with another byte isn't run, before and after a right one was."""
+    program = at / "dist/x86_64-linux/bt_tool"
+    flip = lambda text: text[:-1] + bytes([text[-1] ^ 1])
+    for _ in range(2):
+        with changed(program, flip):
+            is_refused(show(at), "SHA256SUMS", "not run")
+            is_refused(show(at), "SHA256SUMS", "not run")
+            assert run(["tools/dist", "--check"], at, environment={"PATH": os.environ["PATH"]}).returncode == 1
+            assert run(["tools/install", at / "nothing"], at).returncode == 1, "installed a changed program"
+            assert not (at / "nothing").exists(), "left a folder"
+        assert show(at).stdout == FIRST
+    with changed(at / "dist/SHA256SUMS", lambda text: text.replace(b"x86_64-linux/bt_tool\n", b"x86_64-linux/another\n")):
+        is_refused(show(at), "SHA256SUMS")
+    assert show(at).stdout == FIRST
+
+
+def other_machines(at):
+    """Another processor, a C library that is too old, no loader: one line says so."""
+    tools = at / "fake"
+    tools.mkdir()
+    (tools / "uname").write_text("#!/bin/sh\necho Linux aarch64\n")
+    (tools / "uname").chmod(0o755)
+    done = run(["./bt_tool", "show"], at, environment={"PATH": "%s:%s" % (tools, CLEAN["PATH"])})
+    is_refused(done, "Linux on x86-64", "Linux aarch64", "'rt'", "README.md")
+    shutil.rmtree(tools)
+    old = b"#!/bin/sh\necho \"$0: /lib/libc.so.6: version 'GLIBC_2.99' not found\" >&2\nexit 1\n"
+    program, listed = at / "dist/x86_64-linux/bt_tool", at / "dist/SHA256SUMS"
+    for text, said in ((old, "'GLIBC_2.99' not found"), (b"#!/no/such/loader\n", "doesn't start here")):
+        with changed(program, lambda _: text), changed(listed, lambda rows: rows.replace(*sums_of(text, rows))):
+            is_refused(show(at), said, "'rt'", "README.md")
+    assert show(at).stdout == FIRST
+
+
+def sums_of(text, rows):
+    """The sum of the program in SHA256SUMS, and that of this text."""
+    old = re.search(rb"(\w+)  x86_64-linux/bt_tool\n", rows)[1]
+    return old, subprocess.run(["sha256sum"], input=text, stdout=subprocess.PIPE, check=True).stdout[:64]
+
+
+def built_here(at):
+    """Without dist's program, the one in out/ is run if no source is newer."""
+    shutil.move(at / "dist", at / "away")
+    is_refused(show(at), "there is no dist/x86_64-linux/bt_tool")
+    out = at / "crates/bt_tool/out"
+    out.mkdir(exist_ok=True)
+    (out / "bt_tool").write_text("#!/bin/sh\necho built here\n")
+    (out / "bt_tool").chmod(0o755)
+    (out / "built").touch()
+    assert show(at).stdout == b"built here\n"
+    os.utime(at / "crates/bt_io/src/lib.rt", (time.time() + 60, time.time() + 60))
+    is_refused(show(at), "'rt'")
+    os.utime(at / "crates/bt_io/src/lib.rt")
+    shutil.rmtree(out)
+    shutil.move(at / "away", at / "dist")
+    assert show(at).stdout == FIRST
+
+
+def not_writable(at):
+    """A clone of another user, in which no mark can be kept."""
+    shutil.rmtree(at / "crates/bt_tool/out", ignore_errors=True)
+    os.chmod(at / "crates/bt_tool", 0o555)
+    user = {"user": NOWHERE, "group": NOWHERE, "extra_groups": []} if os.geteuid() == 0 else {}
+    for _ in range(2):
+        done = run(["./bt_tool", "show"], at, (at / "examples/first.bin").read_bytes(), **user)
+        assert (done.stdout, done.stderr) == (FIRST, b""), done
+    assert not (at / "crates/bt_tool/out").exists()
+    os.chmod(at / "crates/bt_tool", 0o755)
+
+
+# ---- what dist/ has ----
+
+
+def all_files(at):
+    """Each file but two is listed with its sum, and the texts and the wheel are what the program and the library give."""
+    dist, native = at / "dist", at / "dist/x86_64-linux"
+    passes(["sha256sum", "--quiet", "--strict", "-c", "SHA256SUMS"], dist)
+    listed = {row.partition("  ")[2] for row in (dist / "SHA256SUMS").read_text().splitlines()}
+    found = {str(it.relative_to(dist)) for it in dist.rglob("*") if it.is_file()}
+    assert found - listed == {"README.md", "SHA256SUMS"} and not listed - found, found ^ listed
+    for it in found:
+        for path in (at, ROOT):
+            assert str(path).encode() not in (dist / it).read_bytes(), "the path %s in %s" % (path, it)
+    number = passes(["./bt_tool", "--version"], at).decode().split()[1]
+    for name, text in help_texts.made(native / "bt_tool", number).items():
+        assert (dist / name).read_text() == text, "%s isn't what --help says" % name
+    assert filecmp.cmp(native / "bt.h", at / "crates/bt_c/bt.h", shallow=False)
+    with tempfile.TemporaryDirectory() as room:
+        again = pathlib.Path(room) / "wheel"
+        wheel.make(again, number, (at / "crates/bt_c/bt.py").read_bytes(), (native / "libbt.so").read_bytes())
+        assert filecmp.cmp(again, dist / wheel.file_name(number), shallow=False), "the wheel is another one"
+
+
+@functools.lru_cache(maxsize=None)
+def shown(at, name, rules):
+    """What `show` prints of an example, whose last line has to be that of the table, and its status."""
+    done = run(["./bt_tool", "show", "--rules", rules], at, (at / "examples" / name).read_bytes())
+    assert done.stdout.decode().splitlines()[-1] == VERDICTS[name][rules == "bep"], done.stdout
+    return done.stdout, done.returncode
+
+
+def reads_all(at, words, folder, environment=None):
+    """A program over the library prints what `show` prints, of each example under both rules."""
+    names = sorted(os.path.basename(it) for it in glob.glob(str(at / "examples/*.bin")))
+    assert names == sorted(VERDICTS), names
+    for name in names:
+        for rules in ("free", "bep"):
+            done = run(words, folder, (at / "examples" / name).read_bytes(), {**(environment or {}), "RULES": rules})
+            assert (done.stdout, done.returncode) == shown(at, name, rules), "%s of %s under %s: %r" % (words[0], name, rules, done)
+
+
+def in_c(at):
+    if not which("cc"):
+        return
+    compile = ["cc", "-O2", "-std=c11", "-Wall", "-Werror", "-I", "dist/x86_64-linux", "crates/bt_c/examples/show.c", "-o", at / "shower"]
+    for words in (["dist/x86_64-linux/libbt.a"], ["-Ldist/x86_64-linux", "-lbt", "-Wl,-rpath,%s/dist/x86_64-linux" % at]):
+        passes([*compile, *words], at)
+        reads_all(at, [at / "shower"], at)
+    (at / "shower").unlink()
+
+
+def in_python(at):
+    """The wheel in a fresh environment, without network."""
+    with tempfile.TemporaryDirectory() as name:
+        room = pathlib.Path(name)
+        made = run([sys.executable, "-m", "venv", room / "venv"], room)
+        if made.returncode != 0:
+            SKIPPED.append("python's venv isn't installed")
+            return
+        python = room / "venv/bin/python"
+        passes([python, "-m", "pip", "install", "--no-index", "--disable-pip-version-check", *(at / "dist").glob("*.whl")], room)
+        # (beside the copy there is no bt.py)
+        shutil.copyfile(at / "crates/bt_c/examples/show.py", room / "show.py")
+        place = passes([python, "-c", "import bt; print(bt.__file__)"], room).decode()
+        assert place.startswith(str(room / "venv")), place
+        reads_all(at, [python, "show.py"], room)
+        passes([python, "-m", "pip", "uninstall", "-y", "--disable-pip-version-check", wheel.NAME], room)
+        assert run([python, "-c", "import bt"], room).returncode != 0, "the wheel isn't gone"
+
+
+def in_javascript(at):
+    if not which("node"):
+        return
+    node = [shutil.which("node")]
+    module = "new WebAssembly.Module(require('fs').readFileSync('dist/bt.wasm'))"
+    if run([*node, "-e", module], at).returncode != 0:
+        node.append("--experimental-wasm-memory64")
+        if run([*node, "-e", module], at).returncode != 0:
+            SKIPPED.append("this node has no 64-bit memories")
+            return
+    imports = passes([*node, "-p", "WebAssembly.Module.imports(%s).length" % module], at)
+    assert imports == b"0\n", "bt.wasm wants imports"
+    reads_all(at, [*node, "crates/bt_c/examples/show.mjs"], at)
+
+
+# ---- tools/install ----
+
+
+def everything(folder):
+    return sorted(str(it.relative_to(folder)) for it in folder.rglob("*"))
+
+
+def installed(at):
+    with tempfile.TemporaryDirectory() as name:
+        room = pathlib.Path(name)
+        prefix = room / "a prefix"
+        (prefix / "lib").mkdir(parents=True)
+        (prefix / "lib/other").write_text("of another program\n")
+        before = everything(room)
+        for _ in range(2):
+            passes(["tools/install", prefix], at)
+        assert passes([prefix / "bin/bt_tool", "--version"], room) == passes(["./bt_tool", "--version"], at)
+        for it in ("share/man/man1/bt_tool.1", "share/bash-completion/completions/bt_tool", "share/zsh/site-functions/_bt_tool",
+                   "share/fish/vendor_completions.d/bt_tool.fish", "include/bt.h", "lib/libbt.a", "lib/libbt.so", "lib/pkgconfig/bt.pc"):
+            assert (prefix / it).is_file(), it
+        python = shutil.which("python3", path=CLEAN["PATH"])
+        if python:
+            place, = prefix.glob("lib/python3*/site-packages")
+            shutil.copyfile(at / "crates/bt_c/examples/show.py", room / "show.py")
+            reads_all(at, [python, "-B", room / "show.py"], room, {"PYTHONPATH": str(place)})
+            (room / "show.py").unlink()
+        passes(["tools/install", "--uninstall", prefix], at)
+        assert everything(room) == before, "left: %r" % (set(everything(room)) ^ set(before))
+        assert run(["tools/install", "--uninstall", prefix], at).returncode == 1, "removed twice"
+        assert run(["tools/install", "--wrong"], at).returncode == 1
+        passes(["tools/install"], at, environment={"HOME": str(room / "home")})
+        assert (room / "home/.local/bin/bt_tool").is_file()
+        passes(["tools/install", "--uninstall"], at, environment={"HOME": str(room / "home")})
+        assert not (room / "home/.local/bin").exists()
+
+
+def packaged(at):
+    """With DESTDIR, and a C program by pkg-config."""
+    with tempfile.TemporaryDirectory() as name:
+        room = pathlib.Path(name)
+        passes(["tools/install", "/opt/bt"], at, environment={"DESTDIR": str(room / "stage")})
+        described = (room / "stage/opt/bt/lib/pkgconfig/bt.pc").read_text()
+        assert str(room) not in described and "prefix=/opt/bt\n" in described, described
+        passes(["tools/install", "--uninstall", "/opt/bt"], at, environment={"DESTDIR": str(room / "stage")})
+        assert not [it for it in (room / "stage").rglob("*") if not it.is_dir()], everything(room)
+        if not which("pkg-config") or not which("cc"):
+            return
+        passes(["tools/install", room / "here"], at)
+        for place in (room / "here/lib/pkgconfig", at / "dist/x86_64-linux"):
+            flags = passes(["pkg-config", "--cflags", "--libs", "bt"], room, environment={"PKG_CONFIG_PATH": str(place)}).decode()
+            passes(["cc", at / "crates/bt_c/examples/show.c", *shlex.split(flags), "-o", room / "shower"], room)
+            libraries = place.parent if place.name == "pkgconfig" else place
+            reads_all(at, [room / "shower"], room, {"LD_LIBRARY_PATH": str(libraries)})
+
+
+def texts(at):
+    """The completions offer the commands and their options, and the man page is read without a warning."""
+    lines = (at / "dist/man/bt_tool.1").read_text()
+    whole, commands = help_texts.pages(at / "dist/x86_64-linux/bt_tool")
+    assert {"show", "check", "unpack", "pack", "link", "loop", "fetch", "serve"} <= {*commands}, commands.keys()
+    for page in [whole, *commands.values()]:
+        for row in page.options():
+            assert "\\-\\-" + row["name"].replace("-", "\\-") in lines, row
+    asked = "source dist/completions/bt_tool.bash; COMP_WORDS=(bt_tool %s); COMP_CWORD=$((${#COMP_WORDS[@]} - 1)); _bt_tool; "
+    asked += "echo ${COMPREPLY[@]}"
+    if which("bash"):
+        rows = [("fet", "fetch"), ("fetch --tor", "--torrent"), ("check --rules ''", "free bep"), ("pack --pi", "--pieces")]
+        for words, wanted in rows:
+            found = passes(["bash", "-c", asked % words], at).decode().split()
+            assert found == wanted.split(), (words, found)
+    for shell, name in (("zsh", "_bt_tool"), ("fish", "bt_tool.fish")):
+        if which(shell):
+            passes([shell, "-n", "dist/completions/" + name], at)
+    if which("groff"):
+        done = run(["groff", "-man", "-ww", "-Tutf8", "dist/man/bt_tool.1"], at)
+        assert done.returncode == 0 and not done.stderr, done.stderr
+
+
+CHECKS = [first_run, version, sources, tampered, other_machines, built_here, not_writable, all_files, in_c, in_python, in_javascript,
+          installed, packaged, texts]
+
+
+def main():
+    if not (ROOT / "dist/SHA256SUMS").is_file():
+        print("dist: failed: there is no dist/SHA256SUMS: tools/dist makes dist/")
+        return 1
+    wrong, chosen = 0, [it for it in CHECKS if it.__name__ in sys.argv[1:]] or CHECKS
+    with tempfile.TemporaryDirectory(prefix="dist-") as name:
+        at = pathlib.Path(name) / "a clone"
+        clone(at)
+        os.chmod(name, 0o755)
+        for check in chosen:
+            try:
+                check(at)
+            except (AssertionError, OSError, subprocess.SubprocessError) as fault:
+                wrong += 1
+                print("dist: wrong: %s: %s" % (check.__name__, fault))
+    for why in sorted({*SKIPPED}):
+        print("dist: skipped in part, since %s" % why)
+    print("dist: %s %d checks" % ("failed: %d wrong of" % wrong if wrong else "ok:", len(chosen)))
+    return int(wrong > 0)
+
+
+if __name__ == "__main__":
+    sys.exit(main())

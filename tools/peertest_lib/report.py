@@ -1,0 +1,87 @@
+"""Results as lines, JSON, JUnit and streams."""
+import collections
+import json
+import os
+from xml.sax.saxutils import escape, quoteattr
+
+from . import judge
+
+
+def line(result):
+    """One line for a case, and the sentence below it if it failed."""
+    text = "%-5s %-30s %6.2f s  %s" % (result["result"], result["id"], result["seconds"], "; ".join(result["said"]))
+    if result["result"] == "fail":
+        text += '\n      %s, "%s" (%s, paraphrased): %s' % (result["bep"], result["section"], result["level"], result["text"])
+    return text
+
+
+def listed(cases):
+    """The cases with the sentences that they rest on."""
+    lines = []
+    for case in cases:
+        lines.append("%-30s %-6s %s" % (case.id, case.level, case.title))
+        lines.append('%37s %s, "%s" (paraphrased): %s' % ("", case.rule.bep, case.rule.section, case.rule.text))
+    return "\n".join(lines + ["%d cases" % len(cases)])
+
+
+def counts(results):
+    return collections.Counter(result["result"] for result in results)
+
+
+def summary(name, mode, results, seconds, died):
+    found = counts(results)
+    parts = ["%d %s" % (found[word], word) for word in judge.RESULTS if found[word] or word in ("pass", "fail")]
+    text = "peertest: %s%s: %d cases in %.1f s: %s" % (mode, " " + name if name else "", len(results), seconds, ", ".join(parts))
+    return text + ("; THE CLIENT DIED in " + ", ".join(died) if died else "")
+
+
+def write_json(path, suite, results, seconds):
+    content = {"suite": "peertest", "mode": suite.mode, "peer_id": suite.peer_id, "seconds": round(seconds, 1),
+               "counts": counts(results), "died": suite.died, "sentences": "paraphrased", "cases": results}
+    with open(path, "w", encoding="utf8") as file:
+        json.dump(content, file, indent=1)
+        file.write("\n")
+
+
+def junit_case(result):
+    said = "; ".join(result["said"])
+    head = ' <testcase classname=%s name=%s time="%.3f">' % (quoteattr("peertest." + result["id"].split(".")[0]), quoteattr(result["id"]),
+                                                           result["seconds"])
+    sentence = '%s, "%s" (%s, paraphrased): %s' % (result["bep"], result["section"], result["level"], result["text"])
+    inner = {"fail": "<failure message=%s>%s</failure>" % (quoteattr(said), escape(sentence)),
+             "error": "<error message=%s/>" % quoteattr(said), "skip": "<skipped message=%s/>" % quoteattr(said)}
+    return head + inner.get(result["result"], "<system-out>%s</system-out>" % escape("%s: %s" % (result["result"], said))) + "</testcase>\n"
+
+
+def write_junit(path, suite, results, seconds):
+    found = counts(results)
+    with open(path, "w", encoding="utf8") as file:
+        file.write('<?xml version="1.0" encoding="UTF-8"?>\n<testsuite name=%s tests="%d" failures="%d" errors="%d" skipped="%d" time="%.1f">\n'
+                   % (quoteattr("peertest " + suite.mode), len(results), found["fail"], found["error"], found["skip"], seconds))
+        file.writelines(junit_case(result) for result in results)
+        file.write("</testsuite>\n")
+
+
+def write_streams(folder, results):
+    """Both directions of each case, for `bt_tool show --other`."""
+    os.makedirs(folder, exist_ok=True)
+    for result in results:
+        for end, content in (("sent", result.sent), ("got", result.got)):
+            with open(os.path.join(folder, "%s.%s" % (result["id"].replace("/", "~"), end)), "wb") as file:
+                file.write(content)
+
+
+def read_known(path):
+    """The ids that may fail, one a line, with a reason after it."""
+    with open(path, encoding="utf8") as file:
+        lines = [line.split("#", 1)[0].split() for line in file]
+    return [words[0] for words in lines if words]
+
+
+def forgive(results, known):
+    """Failures that are known become notes; returns the known ids that passed."""
+    for result in results:
+        if result["id"] in known and result["result"] == "fail" and result.get("state") != "died":
+            result["result"], result["said"] = "note", ["known"] + result["said"]
+            result["known"] = True
+    return [result["id"] for result in results if result["id"] in known and result["result"] in ("pass", "info")]

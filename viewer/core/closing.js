@@ -1,0 +1,99 @@
+// Who closed first, after what, and what may be the reason. None of it is proved.
+import { CODE } from './items.js';
+import { EVENT } from './conversation.js';
+import { PieceSet } from './piece_set.js';
+
+/** @typedef {import('./conversation.js').Conversation} Conversation */
+
+const NEAR_ROWS = 200;          // a remark that far before a close may be its reason
+
+/** @param {import('./types.js').TalkEvent} event */
+const isWrong = event => event.kind === 'refused' && event.verdict.reason !== 'EndInside';
+
+/**
+ * Of a side the last row before row `upto`: a message, or a refusal that no cut is. -1 if there is none.
+ * @param {Conversation} talk @param {number} side @param {number} upto
+ */
+function lastRow(talk, side, upto) {
+  for (let r = upto - 1; r >= 0; r--) {
+    const row = talk.rows[r];
+    if (talk.sideOf(row) === side && (row < EVENT || isWrong(talk.events[row - EVENT]))) return r;
+  }
+  return -1;
+}
+
+/**
+ * The first refusal of a side before row `upto`, by every reader or by the strict rules alone.
+ * @param {Conversation} talk @param {number} side @param {number} upto
+ */
+function refusalRow(talk, side, upto) {
+  const found = ['refused', 'bep'].map(kind => talk.events.findIndex((event, k) => event.kind === kind && event.side === side && talk.eventRows[k] < upto));
+  const k = found.find(one => one >= 0);
+  return k === undefined ? -1 : talk.eventRows[k];
+}
+
+/**
+ * The last answer or request with a remark, not far before row `upto`, or -1.
+ * @param {Conversation} talk @param {number} side @param {number} upto
+ */
+function remarkRow(talk, side, upto) {
+  for (let r = upto - 1; r >= Math.max(0, upto - NEAR_ROWS); r--) {
+    if (talk.matches.flags[r] && talk.sideOf(talk.rows[r]) === side) return r;
+  }
+  return -1;
+}
+
+/**
+ * Whether a side said that it has all pieces.
+ * @param {Conversation} talk @param {number} side
+ */
+function isSeed(talk, side) {
+  const { items, own, stream } = talk.directions[side], had = new PieceSet(), pieces = own?.pieces ?? null;
+  for (let k = 0; k < talk.shown[side].count; k++) {
+    if (items.code[k] === CODE.haveAll) return true;
+    if (pieces === null) continue;
+    if (items.code[k] === CODE.have) had.add(items.a[k]);
+    else if (items.code[k] === CODE.bitfield) had.addBits(stream.part(items.start[k] + 5, items.c[k]));
+  }
+  if (!pieces || pieces > 1 << 20) return false;
+  for (let index = 0; index < pieces; index++) if (!had.has(index)) return false;
+  return true;
+}
+
+/**
+ * The greatest index that a side named, or -1.
+ * @param {Conversation} talk @param {number} side
+ */
+function greatestIndex(talk, side) {
+  const { items } = talk.directions[side], named = new Set([CODE.have, CODE.request, CODE.piece, CODE.suggest, CODE.allowedFast, CODE.reject, CODE.cancel]);
+  let most = -1;
+  for (let k = 0; k < talk.shown[side].count; k++) if (named.has(items.code[k])) most = Math.max(most, items.a[k]);
+  return most;
+}
+
+/**
+ * The end that closed first, what both had sent by then, and the row that may be the reason, with what kind of row that is. Of a
+ * connection that no end closed, the first refusal. Null if there is neither.
+ * @param {Conversation} talk
+ */
+export function closingOf(talk) {
+  const k = talk.events.findIndex(event => event.isFirst);
+  if (k < 0) {
+    const rows = [0, 1].map(side => refusalRow(talk, side, talk.rows.length)).filter(row => row >= 0);
+    return rows.length ? { event: null, row: -1, lasts: [-1, -1], kind: 'refusal', cause: Math.min(...rows) } : null;
+  }
+  const event = talk.events[k], row = talk.eventRows[k], other = 1 - event.side;
+  return { event, row, lasts: [0, 1].map(side => lastRow(talk, side, row)), ...causeOf(talk, event.side, other, row) };
+}
+
+/** @param {Conversation} talk @param {number} closer @param {number} other @param {number} upto */
+function causeOf(talk, closer, other, upto) {
+  const refusal = refusalRow(talk, other, upto);
+  if (refusal >= 0) return { kind: 'refusal', cause: refusal };
+  if (talk.directions[1 - other].gaps.length || talk.directions[other].gaps.length) return { kind: 'gap', cause: lastRow(talk, other, upto) };
+  const remark = remarkRow(talk, other, upto);
+  if (remark >= 0) return { kind: 'remark', cause: remark, most: greatestIndex(talk, other), isCounted: talk.directions[other].own?.pieces != null };
+  if (isSeed(talk, 0) && isSeed(talk, 1)) return { kind: 'seeds', cause: lastRow(talk, other, upto) };
+  const last = lastRow(talk, other, upto), most = greatestIndex(talk, other);
+  return { kind: last < 0 ? 'nothing' : 'last', cause: last, most, isCounted: talk.directions[other].own?.pieces != null };
+}

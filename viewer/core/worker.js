@@ -1,0 +1,57 @@
+// The worker: it keeps what is open, and answers the page's calls.
+import { FileBytes } from './file_bytes.js';
+import { ProvedReader } from './proved_reader.js';
+import { Session } from './session.js';
+
+const FIRST_BYTES = 4 << 20;
+
+/** @type {Session | null} */
+let session = null;
+
+/** @param {string} phase @param {number} part */
+const progress = (phase, part) => postMessage({ progress: { phase, part } });
+
+/**
+ * A file as it is, or unpacked if it is compressed by gzip.
+ * @param {Blob} file
+ */
+async function unpacked(file) {
+  const head = new Uint8Array(await file.slice(0, 2).arrayBuffer());
+  if (head[0] !== 0x1f || head[1] !== 0x8b) return file;
+  progress('unpacking', 0.5);
+  const { DecompressionStream } = /** @type {any} */ (self);
+  return new Response(file.stream().pipeThrough(new DecompressionStream('gzip'))).blob();
+}
+
+/** @type {Record<string, (given: any) => any>} */
+const calls = {
+  /** @param {{ wasm: Uint8Array }} given */
+  async start({ wasm }) { session = new Session(await ProvedReader.make(wasm), progress); },
+
+  /** @param {{ files: { name: string, file: Blob }[] }} given */
+  async open({ files }) {
+    const opened = [];
+    for (const { name, file } of files) {
+      const bytes = FileBytes.ofBlob(await unpacked(file));
+      if (bytes.length) bytes.part(0, Math.min(bytes.length, FIRST_BYTES));
+      opened.push({ name, bytes });
+    }
+    return session.open(opened);
+  },
+
+  options: given => session.setOptions(given),
+  select: given => session.select(given),
+  summary: () => session.summary(),
+  filter: given => session.filter(given),
+  rows: given => session.rows(given),
+  placeOf: given => session.placeOf(given),
+  rowAt: given => session.rowAt(given),
+  message: given => session.message(given),
+  lines: given => session.lines(given),
+  stream: given => session.stream(given),
+};
+
+onmessage = async ({ data: { id, call, given } }) => {
+  try { postMessage({ id, answer: await calls[call](given) }); }
+  catch (error) { postMessage({ id, error: error instanceof Error ? error.message : String(error) }); }
+};

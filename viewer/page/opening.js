@@ -1,0 +1,66 @@
+// Ways to open files: the chooser, dropping, the examples of the page.
+import { $, $$, plural } from './dom.js';
+
+/** @typedef {import('./app.js').App} App */
+
+/** @param {string} text */
+export const decode = text => Uint8Array.from(atob(text.trim()), sign => sign.charCodeAt(0));
+
+/**
+ * The examples that are part of this page, and the piece count of their torrents, without which an index isn't judged.
+ * @type {Record<string, string>}
+ */
+const PIECES = { refused: '38', small: '' };
+
+/** @param {string} name */
+const exampleBytes = name => decode($(`#example-${name}`).textContent);
+
+/**
+ * The name of the example that a file is, or undefined.
+ * @param {Blob} file
+ */
+async function exampleOf(file) {
+  for (const name of Object.keys(PIECES)) {
+    const bytes = exampleBytes(name);
+    if (bytes.length !== file.size) continue;
+    const given = new Uint8Array(await file.arrayBuffer());
+    if (bytes.every((byte, k) => byte === given[k])) return name;
+  }
+  return undefined;
+}
+
+/** @param {App} app @param {File[]} files */
+export async function openFiles(app, files) {
+  if (!files.length) return;
+  const name = files.length === 1 ? await exampleOf(files[0]) : undefined;
+  if (name && !$('#pieces').value && PIECES[name]) await app.setPieces(PIECES[name], `This is the example of the page. Its torrent has ${PIECES[name]} pieces.`);
+  await app.open(files.map(file => ({ name: file.name, file })), files.length === 1 ? files[0].name : plural(files.length, 'file'));
+}
+
+/** @param {App} app @param {string} name @param {string} [pieces] */
+export async function openExample(app, name, pieces = PIECES[name]) {
+  if (!(name in PIECES)) return;
+  await app.setPieces(pieces ?? '');
+  await app.open([{ name: `${name}.pcap`, file: new Blob([exampleBytes(name)]) }], `${name}.pcap`);
+}
+
+/** @param {App} app */
+export function bindOpening(app) {
+  const chooser = $('#chooser');
+  for (const button of $$('.choose')) button.onclick = () => chooser.click();
+  for (const button of $$('[data-example]')) button.onclick = () => openExample(app, button.dataset.example);
+  chooser.onchange = async () => {
+    await openFiles(app, [...chooser.files]);
+    chooser.value = '';
+  };
+  addEventListener('dragover', event => {
+    event.preventDefault();
+    document.body.classList.add('drag');
+  });
+  addEventListener('dragleave', event => { if (!event.relatedTarget) document.body.classList.remove('drag'); });
+  addEventListener('drop', event => {
+    event.preventDefault();
+    document.body.classList.remove('drag');
+    openFiles(app, [...event.dataTransfer.files]);
+  });
+}
