@@ -588,7 +588,8 @@ def rows():
 
 def documented():
     """Each reason of the documents' tables, with its places: what stands under At, and under Where or When."""
-    name = next(it for it in ("docs/RULES.md", "docs/FORMAT.md") if os.path.exists(os.path.join(ROOT, it)) and "| BadIndex " in text_of(it))
+    names = [name for name in ("docs/RULES.md", "docs/FORMAT.md") if os.path.exists(os.path.join(ROOT, name))]
+    name = next(name for name in names if "| BadIndex " in text_of(name))
     found, head = {}, None
     for line in text_of(name).splitlines():
         cells = [cell.strip() for cell in line.strip().strip("|").split("|")] if line.startswith("|") else None
@@ -609,7 +610,8 @@ def reasons_differ():
     """What the documents and tools/reasons.json say differently of a reason."""
     table, told = json.loads(text_of("tools/reasons.json")), documented()
     places = {name: reason["places"] for name, reason in table.items()}
-    return ["%s: %s and %s" % (name, places.get(name), told.get(name)) for name in sorted({*places, *told}) if places.get(name) != told.get(name)]
+    differing = [name for name in sorted({*places, *told}) if places.get(name) != told.get(name)]
+    return ["%s: %s and %s" % (name, places.get(name), told.get(name)) for name in differing]
 
 
 # ---- running
