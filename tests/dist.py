@@ -263,7 +263,8 @@ def all_files(at):
 def shown(at, name, rules):
     """What `show` prints of an example, whose last line has to be that of the table, and its status."""
     done = run(["./bt_tool", "show", "--rules", rules], at, (at / "examples" / name).read_bytes())
-    assert done.stdout.decode().splitlines()[-1] == VERDICTS[name][rules == "bep"], done.stdout
+    last = VERDICTS[name][rules == "bep"]
+    assert done.stdout.decode().endswith("\n%s\n" % last), "show of %s under %s: %r" % (name, rules, done)
     return done.stdout, done.returncode
 
 
@@ -417,9 +418,9 @@ def main():
         for check in chosen:
             try:
                 check(at)
-            except (AssertionError, OSError, subprocess.SubprocessError) as fault:
+            except Exception as fault:
                 wrong += 1
-                print("dist: wrong: %s: %s" % (check.__name__, fault))
+                print("dist: wrong: %s: %s: %s" % (check.__name__, type(fault).__name__, fault))
     for why in sorted({*SKIPPED}):
         print("dist: skipped in part, since %s" % why)
     print("dist: %s %d checks" % ("failed: %d wrong of" % wrong if wrong else "ok:", len(chosen)))
