@@ -20,6 +20,7 @@ import subprocess
 import sys
 import tempfile
 import time
+import zipfile
 
 sys.dont_write_bytecode = True
 ROOT = pathlib.Path(__file__).resolve().parent.parent
@@ -262,7 +263,8 @@ def all_files(at):
 def shown(at, name, rules):
     """What `show` prints of an example, whose last line has to be that of the table, and its status."""
     done = run(["./bt_tool", "show", "--rules", rules], at, (at / "examples" / name).read_bytes())
-    assert done.stdout.decode().splitlines()[-1] == VERDICTS[name][rules == "bep"], done.stdout
+    last = VERDICTS[name][rules == "bep"]
+    assert done.stdout.decode().endswith("\n%s\n" % last), "show of %s under %s: %r" % (name, rules, done)
     return done.stdout, done.returncode
 
 
@@ -290,14 +292,16 @@ def in_python(at):
     """The wheel in a fresh environment, without network."""
     with tempfile.TemporaryDirectory() as name:
         room = pathlib.Path(name)
-        made = run([sys.executable, "-m", "venv", room / "venv"], room)
-        if made.returncode != 0:
-            SKIPPED.append("python's venv isn't installed")
-            return
-        python = room / "venv/bin/python"
-        passes([python, "-m", "pip", "install", "--no-index", "--disable-pip-version-check", *(at / "dist").glob("*.whl")], room)
+        found, = (at / "dist").glob("*.whl")
         # (beside the copy there is no bt.py)
         shutil.copyfile(at / "crates/bt_c/examples/show.py", room / "show.py")
+        if run([sys.executable, "-m", "venv", room / "venv"], room).returncode != 0:
+            SKIPPED.append("python's venv isn't installed: the wheel was unpacked by hand")
+            zipfile.ZipFile(found).extractall(room / "unpacked")
+            reads_all(at, [sys.executable, "-B", "show.py"], room, {"PYTHONPATH": str(room / "unpacked")})
+            return
+        python = room / "venv/bin/python"
+        passes([python, "-m", "pip", "install", "--no-index", "--disable-pip-version-check", found], room)
         place = passes([python, "-c", "import bt; print(bt.__file__)"], room).decode()
         assert place.startswith(str(room / "venv")), place
         reads_all(at, [python, "show.py"], room)
@@ -414,9 +418,9 @@ def main():
         for check in chosen:
             try:
                 check(at)
-            except (AssertionError, OSError, subprocess.SubprocessError) as fault:
+            except Exception as fault:
                 wrong += 1
-                print("dist: wrong: %s: %s" % (check.__name__, fault))
+                print("dist: wrong: %s: %s: %s" % (check.__name__, type(fault).__name__, fault))
     for why in sorted({*SKIPPED}):
         print("dist: skipped in part, since %s" % why)
     print("dist: %s %d checks" % ("failed: %d wrong of" % wrong if wrong else "ok:", len(chosen)))
