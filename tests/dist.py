@@ -102,12 +102,13 @@ def show(at):
     return run(["./bt_tool", "show"], at, (at / "examples/first.bin").read_bytes())
 
 
-def least(words, folder, times=15):
-    """The least seconds of some runs."""
+def least(words, folder, times=15, before=lambda: None, **how):
+    """The least seconds of some runs, since other programs may run beside them."""
     found = []
     for _ in range(times):
+        before()
         start = time.perf_counter()
-        passes(words, folder)
+        passes(words, folder, **how)
         found.append(time.perf_counter() - start)
     return min(found)
 
@@ -117,10 +118,9 @@ def least(words, folder, times=15):
 
 def first_run(at):
     """A fresh clone answers in a second, and later calls cost at most 50 ms more than the program itself."""
-    start = time.perf_counter()
     done = show(at)
-    took = time.perf_counter() - start
     assert (done.stdout, done.stderr, done.returncode) == (FIRST, b"", 0), done
+    took = least(["./bt_tool", "--version"], at, 5, lambda: shutil.rmtree(at / "crates/bt_tool/out"))
     assert took < 1, "the first run took %.2f s" % took
     more = least(["./bt_tool", "--version"], at) - least(["dist/x86_64-linux/bt_tool", "--version"], at)
     assert more < 0.05, "bt_tool takes %.0f ms more than the program" % (1000 * more)
@@ -135,9 +135,8 @@ def version(at):
     said = passes(["./bt_tool", "--version"], at).decode()
     assert re.fullmatch(r"bt_tool \d+\.\d+\.\d+ \(sources %s\)\n" % digest[:12], said), said
     assert passes(["tools/sources"], at).decode().strip() == digest, "tools/sources"
-    start = time.perf_counter()
-    passes(["tools/dist", "--check"], at, environment={"PATH": os.environ["PATH"]})
-    assert time.perf_counter() - start < 2, "tools/dist --check takes more than a second or two"
+    took = least(["tools/dist", "--check"], at, 3, environment={"PATH": os.environ["PATH"]})
+    assert took < 1, "tools/dist --check takes %.2f s" % took
 
 
 def sources(at):
