@@ -9,7 +9,7 @@ pub loop-made-init : goal.loop-made-init
 loop-made-init g c = record { going = going_first _ _ _ c.in_default.ensures }
 
 pub round-requires : goal.round-requires
-round-requires g c = c.loop-made.invariant.going.open
+round-requires g c = c.loop-made.invariant.going.goes
 
 pub returns-in_err-event-clause-exchanged : goal.returns-in_err-event-clause-exchanged
 returns-in_err-event-clause-exchanged g c = exchanged_stop _ _ c.loop-made.steps _ c.loop-made.made _ _ _ _ c.loop-made.invariant.going
@@ -30,4 +30,4 @@ returns-clause-exchanged g c = exchanged_last _ _ _ c.loop-made.made _ _ (omega 
     c.loop-made.invariant.going
 
 pub returns-clause-done : goal.returns-clause-done
-returns-clause-done g c = sym c.loop-made.invariant.going.open.undone
+returns-clause-done g c = sym c.loop-made.invariant.going.goes.undone
