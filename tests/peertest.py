@@ -380,7 +380,7 @@ def refusals(path, failures):
         got = run(address, "--torrent", path)
         failures.same("the address %s" % address, (got[0], words in got[2]), (status, True))
     nobody = client.free_port("127.0.0.1")
-    failures.same("nobody listens", run("127.0.0.1:%d" % nobody, "--torrent", path)[0], 3)
+    failures.same("nobody listens", run("127.0.0.1:%d" % nobody, "--torrent", path, "--patience", "0.2")[0], 3)
     failures.same("an address that is owned", command.address_of("192.0.2.9:6881", ["192.0.2.9"]), ("192.0.2.9", 6881))
     failures.same("the next address", command.address_of("[::1]:6881", []), ("::1", 6881))
     if socket.has_ipv6 and os.path.exists("/proc/net/if_inet6"):

@@ -148,13 +148,13 @@ class Suite:
         except OSError:
             self.gone = True
             return False
-        if self.client.restarts:
-            self.is_ready(self.dialler)
+        if not hasattr(self.dialler, "command"):
+            self.is_ready(self.dialler, min(20, 5 * self.options.patience) if self.client.restarts else 2 * self.options.patience)
         return True
 
-    def is_ready(self, dialler):
+    def is_ready(self, dialler, seconds=20):
         """Waits until a client that was just started answers a handshake: it may listen before its torrent is loaded."""
-        limit = time.monotonic() + min(20, 5 * self.options.patience)
+        limit = time.monotonic() + seconds
         while True:
             try:
                 link = dialler.link()
@@ -164,7 +164,7 @@ class Suite:
                 link.close()
             except OSError:
                 answered = False
-            if answered or time.monotonic() > limit:
+            if answered or time.monotonic() > limit or not self.client.lives():
                 return answered
             time.sleep(0.05)
 
