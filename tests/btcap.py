@@ -1,5 +1,6 @@
 #!/usr/bin/env python3
-"""Runs tools/btcap on captures that this script writes, and compares its output and exit status; and tools/talk. It also compares the words of reasons with the documents.
+"""Runs tools/btcap on captures that this script writes, and compares its output and exit status; and tools/talk. It also compares
+the words of the reasons with the documents.
 
 usage: tests/btcap.py [PROGRAM]
 
@@ -328,20 +329,25 @@ def other_extension():
     ) + "  still open at the capture's end\n"
 
 
-def donthave(ids="11:lt_donthavei7e11:ut_metadatai9e", said="--metadata-id 9 --donthave-id 7", verdict="refused message=1 at=74 BadExtLength"):
+SHORT = "A message that takes back a piece has four bytes after its extended id, and this one has another number"
+
+
+def donthave(ids="11:lt_donthavei7e11:ut_metadatai9e", said="--metadata-id 9 --donthave-id 7",
+             verdict="refused message=1 at=74 BadExtLength", why=SHORT):
     """B has these ids, and A sends three bytes under 7, where a message that takes back a piece has four."""
     left, right = handshakes()
     extended = message(b"\x14\x00d1:md%see" % ids.encode())
     found = Talk().say("B", right + extended).say("A", left + message(b"\x14\x07\x00\x00\x09"))
-    lines = NAMES + report("-AA0001-000000000000", 77, verdict, verdict, "--reserved 0000000000100005 " + said)
+    lines = NAMES + report("-AA0001-000000000000", 77, verdict, verdict, "--reserved 0000000000100005 " + said, why=why)
     size = 68 + len(extended)
     return pcap(frames(found.packets)), lines + report(
         "-BB0001-000000000000", size, *2 * ["ok messages=1 bytes=%d" % size], side="B"
     ) + "  still open at the capture's end\n"
 
 
-ONE_ID = ("11:lt_donthavei7e11:ut_metadatai7e", "--metadata-id 7", "refused message=1 at=74 BadBencode")
-NO_ID = ("11:lt_donthavei0e11:ut_metadatai9e", "--metadata-id 9", "ok messages=1 bytes=77")
+ONE_ID = ("11:lt_donthavei7e11:ut_metadatai7e", "--metadata-id 7", "refused message=1 at=74 BadBencode",
+          "The payload has to begin with a bencoded dictionary, and none goes on with the byte 0x00 at 74")
+NO_ID = ("11:lt_donthavei0e11:ut_metadatai9e", "--metadata-id 9", "ok messages=1 bytes=77", "")
 
 
 def without_fast():
@@ -501,6 +507,38 @@ def together():
 """
 
 
+def choked():
+    """Requests that get no answer: B answers a later one, and chokes after another. A closes after one that B never could answer."""
+    left, right = handshakes()
+    found = Talk().say("A", left + message(b"\x0f")).say("B", right + message(b"\x0e") + message(b"\x01"))
+    found.say("A", request(0, 0, 1) + request(0, 1, 1)).say("B", block_of(0, 1))  # 73, 90
+    found.say("A", request(0, 2, 1)).say("B", message(b"\x00")).say("A", request(0, 3, 1)).close("A")  # 107, 124
+    a = report("-AA0001-000000000000", 141, *2 * ["ok messages=5 bytes=141"])
+    b = report("-BB0001-000000000000", 97, *2 * ["ok messages=4 bytes=97"], side="B")
+    return pcap(frames(found.packets)), NAMES + a + b + """\
+  A closed first, by FIN, at 0.017000 s
+    B had sent 97 bytes, last: 92 choke
+    A had sent 141 bytes, last: 124 request 0 3 1
+  A sent a request while it was choked: 124 request 0 3 1
+  A sent 2 requests that got no answer, the first: 73 request 0 0 1
+"""
+
+
+def passed_over():
+    """B answers the second of three requests, and A closes: the first got no answer, and the third may be under way."""
+    left, right = handshakes()
+    found = Talk().say("A", left + message(b"\x0f")).say("B", right + message(b"\x0e") + message(b"\x01"))
+    found.say("A", request(0, 0, 1) + request(0, 1, 1)).say("B", block_of(0, 1)).say("A", request(0, 2, 1)).close("A")
+    a = report("-AA0001-000000000000", 124, *2 * ["ok messages=4 bytes=124"])
+    b = report("-BB0001-000000000000", 92, *2 * ["ok messages=3 bytes=92"], side="B")
+    return pcap(frames(found.packets)), NAMES + a + b + """\
+  A closed first, by FIN, at 0.013000 s
+    B had sent 92 bytes, last: 78 piece 0 1 1
+    A had sent 124 bytes, last: 107 request 0 2 1
+  A sent a request that got no answer: 73 request 0 0 1
+"""
+
+
 def dropped():
     """libtorrent closes at a block of a byte that nobody had asked for: neither direction is refused."""
     left, right = handshakes()
@@ -566,6 +604,8 @@ def rows():
     yield "a torrent", ["--torrent", "TORRENT"], *with_torrent(), b"", 1
     yield "a segment before the stream", [], pcap(frames(stray())), WHOLE, b"", 0
     yield "the two directions together", [], *together(), b"", 0
+    yield "requests without an answer", [], *choked(), b"", 0
+    yield "a request that is passed over", [], *passed_over(), b"", 0
     yield "a block that nobody asked for", [], *dropped(), b"", 0
     yield "uTP", [], *utp(), b"no BitTorrent connection in 5 packets", 3
     yield "no packet", [], whole[:24], "", b"no BitTorrent connection in 0 packets", 3
@@ -582,7 +622,8 @@ def rows():
 
 def documented():
     """Each reason of the documents' tables, with its places: what stands under At, and under Where or When."""
-    name = next(it for it in ("docs/RULES.md", "docs/FORMAT.md") if os.path.exists(os.path.join(ROOT, it)) and "| BadIndex " in text_of(it))
+    names = [name for name in ("docs/RULES.md", "docs/FORMAT.md") if os.path.exists(os.path.join(ROOT, name))]
+    name = next(name for name in names if "| BadIndex " in text_of(name))
     found, head = {}, None
     for line in text_of(name).splitlines():
         cells = [cell.strip() for cell in line.strip().strip("|").split("|")] if line.startswith("|") else None
@@ -603,7 +644,8 @@ def reasons_differ():
     """What the documents and tools/reasons.json say differently of a reason."""
     table, told = json.loads(text_of("tools/reasons.json")), documented()
     places = {name: reason["places"] for name, reason in table.items()}
-    return ["%s: %s and %s" % (name, places.get(name), told.get(name)) for name in sorted({*places, *told}) if places.get(name) != told.get(name)]
+    differing = [name for name in sorted({*places, *told}) if places.get(name) != told.get(name)]
+    return ["%s: %s and %s" % (name, places.get(name), told.get(name)) for name in differing]
 
 
 # ---- running

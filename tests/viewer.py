@@ -125,7 +125,8 @@ def side_lines(k, side, closes, told):
         if not verdict["ok"] and not note and (rules == "bep" or side["free"] != side["bep"]):
             yield "    why  %s" % (told.get("%d%s" % (k, rules)) or told.get("%dfree" % k))
     if side["isWhole"]:
-        yield "    options %s%s" % (side["options"], " (guessed: its receiver's handshake isn't there)" if side["own"]["isGuessed"] else "")
+        yield "    options %s%s" % (side["options"], " (guessed: its receiver's handshake isn't there)" if side["own"]["isGuessed"]
+            else "")
 
 
 def closing_lines(it):
@@ -146,7 +147,8 @@ def closing_lines(it):
 def remark_lines(page):
     """The remarks of the summary."""
     return page.run("""(() => {
-        const card = [...document.querySelectorAll('#summary .card')].find(one => one.querySelector('h3').firstChild.textContent === 'Remarks');
+        const cards = [...document.querySelectorAll('#summary .card')];
+        const card = cards.find(one => one.querySelector('h3').firstChild.textContent === 'Remarks');
         return card ? [...card.querySelectorAll('p')].map(line => '  ' + line.textContent.replace(/\\u202f/g, '')) : [];
     })()""")
 
@@ -157,7 +159,8 @@ def shown_lines(page):
         event, offset, words = row.get("event"), row["offset"], row["words"]
         if event and event["kind"] == "close":
             words = "(%s)" % event["word"]
-        names = [name for bit, name in enumerate(("unasked", "choked", "again", "unanswered", "elsewhere")) if row["flags"] >> bit & 1]
+        names = [name for bit, name in enumerate(("unasked", "choked", "again", "unanswered", "elsewhere"))
+            if row["flags"] >> bit & 1]
         yield "  %11.6f %s %d %s%s" % (row["time"], "AB"[row["side"]], offset, words, "  (%s)" % ", ".join(names) if names else "")
 
 
@@ -173,23 +176,26 @@ def as_btcap(page, listed, is_shown=False):
             continue
         page.run("viewer.openConnection(%d)" % connections[number]["id"])
         it, told = page.run("viewer.it"), sentences(page)
-        closes = sorted((side["closed"]["time"], side["closed"]["packet"], k) for k, side in enumerate(it["sides"]) if side["closed"])
+        closes = sorted((side["closed"]["time"], side["closed"]["packet"], k) for k, side in enumerate(it["sides"])
+            if side["closed"])
         lines.append(head)
         for k, side in enumerate(it["sides"]):
             lines += side_lines(k, side, closes, told)
         lines += [*closing_lines(it), *remark_lines(page), *(shown_lines(page) if is_shown else ())]
     for it in listed["facts"]["utp"]:
-        lines.append("uTP  %s > %s  %d packets, not read: this is BitTorrent over UDP (BEP 29)" % (*map(long_address, it["ends"]), it["packets"]))
+        lines.append("uTP  %s > %s  %d packets, not read: this is BitTorrent over UDP (BEP 29)" % (*map(long_address, it["ends"]),
+            it["packets"]))
     return "\n".join(lines) + ("\n" if lines else "")
 
 
 def softened(wanted, found):
-    """btcap's text without what the page says otherwise: names without a client, how many bytes before a close, the end of the line of
-    another protocol, and the id of lt_donthave, which the library for C doesn't have."""
+    """btcap's text without what the page says otherwise: names without a client, how many bytes before a close, the end of the line
+    of another protocol, and the id of lt_donthave, which the library for C doesn't have."""
     wanted = re.sub(r"had sent \d+ bytes, last", "had sent * bytes, last", wanted)
     wanted = re.sub(r"(no BitTorrent handshake).*", r"\1", re.sub(r" --donthave-id \d+", "", wanted))
     lines, other = wanted.splitlines(), found.splitlines()
-    lines = [re.sub(r"^(  [AB]) .*", r"\1 *", line) if k < len(other) and re.fullmatch(r"  [AB] \*", other[k]) else line for k, line in enumerate(lines)]
+    lines = [re.sub(r"^(  [AB]) .*", r"\1 *", line) if k < len(other) and re.fullmatch(r"  [AB] \*", other[k]) else line for k,
+        line in enumerate(lines)]
     return "\n".join(lines) + ("\n" if lines else "")
 
 
@@ -207,7 +213,7 @@ def check_captures(page, folder):
     tests = btcap_tests()
     torrent = keep(os.path.join(folder, "a.torrent"), tests.TORRENT)
     for name, words, capture, wanted, _, status in tests.rows():
-        if status == 2 or callable(wanted) or "BadExtLength" in wanted or "one id for both" in name:
+        if status == 2 or callable(wanted) or "BadExtLength" in wanted:
             continue
         path = keep(os.path.join(folder, "capture.pcap"), capture)
         page.run("viewer.setPieces('%s')" % (words[words.index("--pieces") + 1] if "--pieces" in words else ""))
@@ -279,9 +285,10 @@ def check_lines(page, program):
             other = ["--other", example(names[1 - names.index(name)])] if len(names) == 2 else []
             for rules in ("free", "bep"):
                 for words in ([], ["--json"]):
-                    wanted = subprocess.run([program, "show", "--rules", rules, *words, *other, example(name)], capture_output=True).stdout
-                    found = page.run("viewer.backend.call('lines', {id: 0, side: %d, rules: '%s', json: %s}).then(lines => lines.text())"
-                                     % (known.index(name), rules, str(bool(words)).lower()))
+                    wanted = subprocess.run([program, "show", "--rules", rules, *words, *other, example(name)],
+                        capture_output=True).stdout
+                    asked = "viewer.backend.call('lines', {id: 0, side: %d, rules: '%s', json: %s}).then(lines => lines.text())"
+                    found = page.run(asked % (known.index(name), rules, str(bool(words)).lower()))
                     same("show %s %s %s" % (rules, words, name), found, wanted.decode())
 
 
@@ -291,8 +298,8 @@ def text_at(page, selector):
     return page.run("document.querySelector('%s')?.textContent ?? null" % selector)
 
 
-WHY = ("B closed the connection, by FIN, 2.00 ms after A sent a message that is refused: the have message names piece 38, and the torrent "
-       "has 38 pieces, so the last index is 37.")
+WHY = ("B closed the connection, by FIN, 2.00 ms after A sent a message that is refused: the have message names piece 38, and the "
+       "torrent has 38 pieces, so the last index is 37.")
 
 
 def check_refusal(page, folder):
@@ -314,7 +321,8 @@ def check_refusal(page, folder):
     capture = content(example("refused.pcap"))
     page.run("viewer.setPieces('')")
     opened(page, [keep(os.path.join(folder, "other.pcap"), capture[:24] + capture[24:].replace(b"-AA0001-", b"-AA0002-"))])
-    same("no piece count", text_at(page, ".whytext").split('"have 38"')[1], ". No piece count is known, so nobody judged whether piece 38 exists: "
+    same("no piece count", text_at(page, ".whytext").split('"have 38"')[1],
+        ". No piece count is known, so nobody judged whether piece 38 exists: "
          "type the count above, or drop the .torrent.byte 73 ↘")
 
 
@@ -329,6 +337,10 @@ def drop(page, name, as_name):
     page.until("Number(document.body.dataset.opened ?? 0) > %d" % before)
 
 
+# What the inspector shows, when it shows this row.
+SHOWN = "document.body.dataset.shown === '%d' && document.querySelector('.ititle .chip').textContent"
+
+
 def check_keys(page):
     page.open("file://%s#example=small&theme=dark" % PAGE)
     page.run("viewer.pick(0)")
@@ -339,12 +351,13 @@ def check_keys(page):
     same("then k", page.until("viewer.selected === 2 && 2"), 2)
     page.run("viewer.pickRow(4, true)")
     page.key("m")
-    same("m goes to the answer", page.until("document.body.dataset.shown === '11' && document.querySelector('.ititle .chip').textContent"), "metadata-data")
+    same("m goes to the answer", page.until(SHOWN % 11), "metadata-data")
     same("the mark of a dictionary", text_at(page, ".treehead .proved"), "∎ 45 bytes")
     page.key("n")
-    same("n goes to the close", page.until("document.body.dataset.shown === '13' && document.querySelector('.ititle .chip').textContent"), "RST")
+    same("n goes to the close", page.until(SHOWN % 13), "RST")
     page.key("s")
-    same("the summary", page.until("document.body.dataset.tab === 'summary' && document.querySelectorAll('#summary .card canvas').length"), 4)
+    charts = "document.querySelectorAll('#summary .card canvas').length"
+    same("the summary", page.until("document.body.dataset.tab === 'summary' && " + charts), 4)
     page.key("s")
     page.key("t")
     same("the other theme", page.run("document.documentElement.dataset.theme"), "light")
@@ -355,8 +368,8 @@ def check_keys(page):
 
 
 def check_filter(page):
-    same("search", page.run("(document.querySelector('#search').value = 'metadata-data 1', viewer.filters.search('metadata-data 1'), 0)"), 0)
-    same("its rows", page.until("viewer.total === 1 && document.querySelector('#count').textContent"), "1 of 14 rows")
+    page.run("viewer.filters.search('metadata-data 1')")
+    same("the rows of a search", page.until("viewer.total === 1 && document.querySelector('#count').textContent"), "1 of 14 rows")
     page.run("viewer.filters.search('')")
     page.until("viewer.total === 14")
     page.run("document.querySelector('#kinds [data-k=\"6\"]').click()")
@@ -377,10 +390,11 @@ def check_reach(page):
     page.run("location.hash = '#at=0-A-247'")
     same("another link", page.until("document.body.dataset.shown === '5' && viewer.row.words"), "metadata-request 1")
     label = "0.000188 s, A sends metadata-request 1, at 247"
-    same("a row's text", page.until("document.querySelector('#rows [aria-selected=true]')?.getAttribute('aria-label') === '%s' && 1" % label), 1)
+    selected = "document.querySelector('#rows [aria-selected=true]')?.getAttribute('aria-label')"
+    same("a row's text", page.until("%s === '%s' && 1" % (selected, label)), 1)
     same("the selected row", page.run("document.querySelector('#rows').getAttribute('aria-activedescendant')"), "row-5")
-    same("pictures have a text", page.run("[...document.querySelectorAll('canvas')].every(one => one.getAttribute('aria-label').length > 10)"), True)
-    same("buttons have a name", page.run("[...document.querySelectorAll('button')].every(one => (one.textContent.trim() || one.ariaLabel).length > 0)"), True)
+    for tag, text in (("canvas", "one.ariaLabel"), ("button", "(one.textContent.trim() || one.ariaLabel)")):
+        same("each %s has a text" % tag, page.run("[...document.querySelectorAll('%s')].every(one => %s.length > 0)" % (tag, text)), True)
     page.run("window.print = () => { window.printed = document.querySelectorAll('#print li').length; }")
     page.key("p")
     same("printed rows", page.until("window.printed"), 14)
@@ -410,7 +424,8 @@ def check_build(folder):
     """The page is what the sources give, and made twice it is the same."""
     made = [os.path.join(folder, name) for name in ("one.html", "two.html")]
     for path in made:
-        subprocess.run([os.path.join(ROOT, "viewer/build"), "--wasm", LIBRARY, "--out", path], check=True, stdout=subprocess.DEVNULL)
+        subprocess.run([os.path.join(ROOT, "viewer/build"), "--wasm", LIBRARY, "--out", path], check=True,
+            stdout=subprocess.DEVNULL)
     same("two builds are equal", content(made[0]) == content(made[1]), True)
     same("dist/viewer.html is what viewer/build makes", content(made[0]) == content(PAGE), True)
 
@@ -420,7 +435,8 @@ def check_fuzz():
         print("viewer: no fuzz: node isn't installed")
         return
     files = [example(name) for name in ("small.pcap", "refused.pcap", "fetching.bin", "downloading.bin")]
-    words = ["node", "--experimental-wasm-memory64", "--no-warnings", os.path.join(ROOT, "tests/page/fuzz.mjs"), str(FUZZ_RUNS), "46", LIBRARY]
+    words = ["node", "--experimental-wasm-memory64", "--no-warnings", os.path.join(ROOT, "tests/page/fuzz.mjs"), str(FUZZ_RUNS),
+        "46", LIBRARY]
     ended = subprocess.run([*words, *files], capture_output=True, text=True)
     if "bad option" in ended.stderr:
         print("viewer: no fuzz: this node has no memories of 64 bits")
@@ -450,7 +466,8 @@ def main():
             check_filter(page)
             check_reach(page)
             check_files(page, folder)
-        same("complaints", [one for one in page.complaints() if "127.0.0.1:9" not in one and "Content Security Policy" not in one], [])
+        same("complaints", [one for one in page.complaints() if "127.0.0.1:9" not in one and "Content Security Policy" not in one],
+            [])
     finally:
         page.close()
     check_fuzz()

@@ -1,8 +1,9 @@
 """What the client sends, read by the proved reader, as lines of `show`.
 
-Each byte goes through the reader under the strict rules. A message that it refuses is noted as a fault of the client, and reading goes
-on after it if its end is known. Two answers aren't noted, since the standard asks for them and the rules refuse them: a reject of a
-request whose index is beyond the torrent (BEP 6), and a metadata reject that repeats a number which no block has (BEP 9).
+Each byte goes through the reader under the strict rules. A message that it refuses is noted as a fault of the client, and
+reading goes on after it if its end is known. Two answers aren't noted, since the standard asks for them and the rules refuse
+them: a reject of a request whose index is beyond the torrent (BEP 6), and a metadata reject that repeats a number which no
+block has (BEP 9).
 """
 import collections
 import fnmatch
@@ -15,6 +16,8 @@ LIMIT = 1048576
 HOPELESS = ("BadProtocol", "WrongInfoHash", "TooLong", "StreamFull")
 # A client that never says which pieces it has breaks one rule, and not one in each case.
 MILD = ("Missing",)
+# The names of messages that have only numbers, and how many bytes these have.
+NAMES = {number: (name, {4: 4, 13: 4, 17: 4, 6: 12, 8: 12, 16: 12}.get(number, 0)) for name, number in wire.NUMBERS.items()}
 KINDS = {0: "request", 1: "data", 2: "reject"}
 
 
@@ -89,8 +92,10 @@ class Heard:
     def lenient(self, body):
         """The words of a refused message, and whether it is an answer that the standard asks for."""
         number, fields = body[0], body[1:]
-        if number == 16 and len(fields) == 12 and self.reason == "BadIndex":
-            return "reject %d %d %d" % struct.unpack(">III", fields), wire.message(6, fields) in self.sent
+        if number in NAMES and len(fields) == NAMES[number][1] and self.reason in ("BadIndex", "Missing", "Late"):
+            numbers = ["%d" % value for value in struct.unpack(">%dI" % (len(fields) // 4), fields)]
+            lawful = number == 16 and self.reason == "BadIndex" and wire.message(6, fields) in self.sent
+            return " ".join([NAMES[number][0]] + numbers), lawful
         if number == 20 and fields:
             pairs, rest = wholly(fields[1:])
             kind, piece = KINDS.get(pairs.get(b"msg_type")), pairs.get(b"piece")
@@ -153,7 +158,8 @@ class Heard:
                 self.metadata_requests.append(item.piece)
             return "%s %d" % (item.name, item.piece)
         if kind == bt.METADATA_DATA:
-            return "metadata-data %d %d %d" % (item.piece, item.total_size, len(item.rest)) + self.block(item.piece, item.total_size, item.rest)
+            words = "metadata-data %d %d %d" % (item.piece, item.total_size, len(item.rest))
+            return words + self.block(item.piece, item.total_size, item.rest)
         return item.name
 
     def raw(self, item):

@@ -83,8 +83,9 @@ class Play:
             return
         if "af" in self.case.need:
             link.until(lambda: bool(heard.fast_set), 1.5)
-        has = {"accepts": True, "fast": heard.theirs & wire.FAST, "nofast": not heard.theirs & wire.FAST, "ext": heard.theirs & wire.EXTENSIONS,
-               "um": heard.um, "dont": heard.dont, "af": heard.fast_set, "data": link.torrent.data is not None or link.dry}
+        has = {"accepts": True, "fast": heard.theirs & wire.FAST, "nofast": not heard.theirs & wire.FAST,
+               "ext": heard.theirs & wire.EXTENSIONS, "um": heard.um, "dont": heard.dont, "af": heard.fast_set,
+               "data": link.torrent.data is not None or link.dry}
         for need in self.case.need:
             if not has[need] and not link.end:
                 raise Skip("the client has no " + NEEDS[need] if need != "data" else "needs --data")
@@ -204,7 +205,9 @@ class Play:
     def answered(self, patterns, start):
         """Whether one of the patterns comes. Its event belongs to the question, and not to the case."""
         events = self.link.heard.events
-        if not self.link.until(lambda: self.link.heard.count(patterns, start) > 0, self.options.patience):
+        # After a flood the client may still be reading.
+        seconds = self.options.at_most(5 * self.options.patience) if self.case.alone else self.options.patience
+        if not self.link.until(lambda: self.link.heard.count(patterns, start) > 0, seconds):
             return False
         for at in range(start, len(events)):
             if self.link.heard.fits(patterns, events[at][1]):

@@ -22,7 +22,7 @@ function causeText(closing, { reasons, remarks }) {
   if (!cause) return '';
   if (kind === 'refusal') return lower(reasonWords(reasons, cause.event.verdict, cause.bytes, cause.own).words);
   if (kind === 'remark') return `${remarks[remarksOf(cause.flags)[0]].one}, "${cause.words}"${uncounted(closing)}`;
-  return `"${cause.event ? cause.words : cause.words}"`;
+  return `"${cause.words}"`;
 }
 
 /** @param {any} it the connection @param {{ reasons: any, remarks: any }} tables */
@@ -34,7 +34,8 @@ export function whyText(it, tables) {
   }
   const { event, kind, cause } = closing, text = causeText(closing, tables), sender = cause && 'AB'[cause.side];
   const what = cause?.event?.kind === 'bep' ? 'a message that only the strict rules "bep" refuse' : 'a message that is refused';
-  if (!event) return it.isRaw ? `The stream has ${what}: ${text}.` : `${sender} sent ${what}, and no close follows in the capture: ${text}.`;
+  if (!event) return it.isRaw ? `The stream has ${what}: ${text}.`
+    : `${sender} sent ${what}, and no close follows in the capture: ${text}.`;
   const closed = `${'AB'[event.side]} closed the connection, by ${event.word}`;
   const after = cause && cause.time !== null ? `${spanText(event.time - cause.time)} after ` : 'after ';
   switch (kind) {
@@ -43,7 +44,9 @@ export function whyText(it, tables) {
     case 'seeds': return `${closed}, ${after}the last message of ${sender}, ${text}: both ends have all pieces.`;
     case 'gap': return `${closed}. The capture has a gap, so what came before isn't all known.`;
     case 'nothing': return `${closed}, before ${'AB'[1 - event.side]} sent a message.`;
-    default: return `${closed}, ${after}the last message of ${sender}, ${text}. Nothing that ${sender} sent is refused${uncounted(closing)}.`;
+    case 'metadata': return `${closed}, ${after}the last block of the metadata, ${text}: all of it was there then.`;
+    default: return `${closed}, ${after}the last message of ${sender}, ${text}. ` +
+      `Nothing that ${sender} sent is refused${uncounted(closing)}.`;
   }
 }
 
@@ -52,10 +55,13 @@ export function whyText(it, tables) {
  * @param {HTMLElement} root @param {any} it @param {{ reasons: any, remarks: any }} tables @param {(row: number) => void} onJump
  */
 export function drawWhy(root, it, tables, onJump) {
-  const { closing } = it, text = whyText(it, tables), level = closing?.kind === 'refusal' ? closing.cause.event.kind : closing?.kind === 'remark' ? 'remark' : 'plain';
+  const { closing } = it, text = whyText(it, tables), level = closing?.kind === 'refusal' ? closing.cause.event.kind
+    : closing?.kind === 'remark' ? 'remark' : 'plain';
   root.className = `why-${level}`;
   const place = closing?.cause && (closing.cause.event ? closing.cause.event.place : closing.cause.offset);
   root.replaceChildren(h('span.whyhead', closing?.event ? 'Why did it close?' : 'What happened?'), closing?.cause
-    ? h('button.whytext', { title: 'goes to the row and its bytes', onclick: () => onJump(closing.cause.r) }, text, h('span.whyplace', `byte ${place} ↘`))
-    : h('span.whytext', text), h('span.unproved', { title: 'the cause is this page’s guess. What is refused, and where, is the proved reader’s' }, 'a guess'));
+    ? h('button.whytext', { title: 'goes to the row and its bytes', onclick: () => onJump(closing.cause.r) }, text,
+      h('span.whyplace', `byte ${place} ↘`))
+    : h('span.whytext', text), h('span.unproved',
+      { title: 'the cause is this page’s guess. What is refused, and where, is the proved reader’s' }, 'a guess'));
 }
