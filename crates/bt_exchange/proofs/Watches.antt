@@ -178,7 +178,6 @@ verdict_not_silent e (stop.Refused x) v r = absurd v
 verdict_not_silent e stop.Rounds v r = absurd v
 verdict_not_silent e stop.Memory v r = absurd v
 
-
 -- ---- marks: since when no byte was moved
 
 mark_moved : (t : ℕ) (start new : Moment) → IsMark t start new → IsMoved start new
