@@ -14,6 +14,7 @@ import glob
 import os
 import pathlib
 import re
+import resource
 import shlex
 import shutil
 import subprocess
@@ -103,14 +104,19 @@ def show(at):
 
 
 def least(words, folder, times=15, before=lambda: None, **how):
-    """The least seconds of some runs, since other programs may run beside them."""
+    """The least processor seconds of some runs. (Seconds on the clock would be those of what runs beside them, too.)"""
     found = []
     for _ in range(times):
         before()
-        start = time.perf_counter()
+        start = spent()
         passes(words, folder, **how)
-        found.append(time.perf_counter() - start)
+        found.append(spent() - start)
     return min(found)
+
+
+def spent():
+    used = resource.getrusage(resource.RUSAGE_CHILDREN)
+    return used.ru_utime + used.ru_stime
 
 
 # ---- the script bt_tool ----

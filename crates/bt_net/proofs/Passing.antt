@@ -2,7 +2,7 @@
 use Rattle.std.proofs.Common.{◌≡◌, ◌⊎◌, inl, inr, ℕ, zero, suc, ◌+◌, ◌-◌, ◌*◌, ◌≤◌, ◌<◌, ◌==◌, ◌&&◌, min, Bool, true, false, List, [], ◌∷◌, ◌++◌, length, take, drop, Option, Result, Ok, Err}
 use Rattle.std.proofs.Common.{refl, sym, ap, subst, ◌∙◌, arith, add-one, length-append, length-drop, length-take-le, nat_lt, take-add, take-take}
 use Rattle.std.proofs.lemmas.Bool.{ne_eqb}
-use Rattle.std.proofs.lemmas.List.{drop-drop, drop_at, take_all, take_at}
+use Rattle.std.proofs.lemmas.List.{drop-drop, drop_at, take_all, take_at, take-append-le}
 use Rattle.std.specs.Io.KnownBytes.{Consumes, Appends}
 use Rattle.std.proofs.KnownBytes.{Consumes-nil, Consumes-trans}
 use Rattle.bt_io.specs.Counts.{Grew, counted, one_more}
@@ -15,7 +15,7 @@ use Rattle.bt_end.proofs.Handling.{idle_used}
 use Rattle.bt_link.specs.declared.link.Side.{Side}
 use Rattle.bt_link.specs.declared.link.Side.TheVariants.{Left, Right}
 use Rattle.bt_net.specs.Rounds.{IsSent, IsFilled, IsTaken, IsCarried, IsSkipped, IsWay, IsHalt, IsRound, IsHalted, Ends, AreRounds, ends_of, is_quiet, is_halt, capped}
-use Rattle.bt_net.specs.Rounds.{HasRun, Passes, Exchanges}
+use Rattle.bt_net.specs.Rounds.{HasRun, Passes, Exchanges, halt_of}
 use Rattle.bt_net.specs.declared.both.Handled.{Handled}
 use Rattle.bt_net.specs.declared.both.Halt.{Halt}
 use Rattle.bt_net.specs.declared.both.Halt.TheVariants as halt
@@ -79,18 +79,19 @@ filling_first at s bytes = record {
 }
 
 -- a call put n bytes more after them
-pub filling_more : {E : Type 0} {at : Side} {s t u : WireSeen} {old sub : List ℕ} {done n : ℕ} (new : List ℕ) (room : ℕ) → IsFilling at s t old done → 1 ≤ n
-    → Receives {E = E} at t u (Ok n) sub → IsCall {E = E} t u (Ok n) room → new ≡ take done old ++ sub → IsFilling at s u new (done + n)
-filling_more {at} {s} {t} {u} {old} {sub} {done} {n} new room f le r call is =
+pub filling_more : {E : Type 0} {at : Side} {s t u : WireSeen} {old : List ℕ} {done n : ℕ} (new sub after : List ℕ) (room : ℕ) → IsFilling at s t old done → 1 ≤ n
+    → Receives {E = E} at t u (Ok n) sub → IsCall {E = E} t u (Ok n) room → new ≡ take done old ++ (sub ++ after) → IsFilling at s u new (done + n)
+filling_more {at} {s} {t} {u} {old} {done} {n} new sub after room f le r call is =
     let front : length (take done old) ≡ done = length-take-le done old f.within in
-    let first : take done new ≡ take done old = ap (take done) is ∙ take_at (take done old) sub done front in
-    let later : drop done new ≡ sub = ap (drop done) is ∙ drop_at (take done old) sub done front in
+    let first : take done new ≡ take done old = ap (take done) is ∙ take_at (take done old) (sub ++ after) done front in
+    let later : take n (drop done new) ≡ take n sub =
+    ap (λ (x : List ℕ). take n (drop done x)) is ∙ ap (take n) (drop_at (take done old) (sub ++ after) done front) ∙ take-append-le n sub after r.0 in
     let all : take (done + n) new ≡ take done old ++ take n sub =
-    take-add done n new ∙ ap (λ (x : List ℕ). x ++ take n (drop done new)) first ∙ ap (λ (x : List ℕ). take done old ++ take n x) later in
+    take-add done n new ∙ ap (λ (x : List ℕ). x ++ take n (drop done new)) first ∙ ap (λ (x : List ℕ). take done old ++ x) later in
     let both : Consumes (coming at s) (coming at u) (take done old ++ take n sub) =
     Consumes-trans (coming at s) (coming at t) (coming at u) (take done old) (take n sub) f.comes r.1 in
     record {
-      within = omega (arith, r.0, ap (length {A = ℕ}) is, length-append (take done old) sub, front);
+      within = omega (arith, r.0, ap (length {A = ℕ}) is, length-append (take done old) (sub ++ after), length-append sub after, front);
       comes = subst (Consumes (coming at s) (coming at u)) (sym all) both;
       back = r.2 ∙ f.back;
       calls = λ e. omega (arith, call.calls, f.least);
@@ -124,7 +125,9 @@ under_way_first a bytes = record {
   within = omega arith;
   count = 0;
   items_are = refl;
-  follows = λ ends k stop b h. (ends, h, omega arith);
+  follows = λ ends k stop b h.
+      let same : k ≡ 0 + k = omega arith in
+      (ends, subst (λ (x : ℕ). AreHandled ends a bytes x stop b) same h, omega arith);
 }
 
 -- a turn that handled an item
@@ -238,7 +241,8 @@ pub more_rounds : (n : ℕ) (old middle new : Ends) (m k : ℕ) → AreRounds n 
     → IsRound middle.seen new.seen middle.left new.left middle.right new.right m k
     → new.left_items ≡ middle.left_items + m → new.right_items ≡ middle.right_items + k → AreRounds (n + 1) old new
 more_rounds n old middle new m k h x left right =
-    subst (λ (i : ℕ). AreRounds i old new) (add-one n) (middle, h, m, k, x, left, right)
+    let all : AreRounds (suc n) old new = (middle, h, m, k, x, left, right) in
+    subst (λ (i : ℕ). AreRounds i old new) (sym (add-one n)) all
 
 -- as many rounds were made, and the items that are counted were handled in them
 pub record IsRunning (rounds : ℕ) (s t : WireSeen) (l l' r r' : HalfState) (h : Handled) : Type 0 where
@@ -299,16 +303,21 @@ pub passes_stopped : {s u t : WireSeen} {a a' b b' : HalfState} {n k : ℕ} (fro
     → Passes from s t a a' b b' (Err halt.Stopped)
 passes_stopped from bytes e is sent size filled h = (e, length h.ends, is, carried from bytes (Err e) sent size filled h)
 
+pub passes_err : {s u t : WireSeen} {a a' b b' : HalfState} {n k : ℕ} (from : Side) (bytes : List ℕ) (e : TurnError) → IsSent from s u a a' n
+    → length bytes ≡ n → IsFilled (other from) u t bytes → IsTaken b bytes k (Err e) b' → Passes from s t a a' b b' (Err (halt_of e))
+passes_err from bytes (turn_error.Refused r) sent size filled h = passes_stopped from bytes (turn_error.Refused r) refl sent size filled h
+passes_err from bytes turn_error.Busy sent size filled h = passes_stopped from bytes turn_error.Busy refl sent size filled h
+passes_err from bytes turn_error.Memory sent size filled h = filled.calm ∙ sent.calm
+
 pub exchanges_both : {s u t : WireSeen} {l l' r r' x y : HalfState} {m n : ℕ} (h : Handled) → is_quiet l r ≡ false → Passes Left s u l x r y (Ok n)
     → Passes Right u t y r' x l' (Ok m) → h.left ≡ m → h.right ≡ n → Exchanges s t l l' r r' (Ok h)
-exchanges_both {u} {x} {y} h some goes comes left right =
-    (
-      comes.0,
-      goes.0,
-      left ∙ comes.1,
-      right ∙ goes.1,
-      record { some = some; seen = u; left = x; right = y; goes = goes.2; comes = comes.2 },
-    )
+exchanges_both {u} {x} {y} h some goes comes left right = (
+  comes.0,
+  goes.0,
+  left ∙ comes.1,
+  right ∙ goes.1,
+  record { some = some; seen = u; left = x; right = y; goes = goes.2; comes = comes.2 },
+)
 
 pub exchanges_first : {s t : WireSeen} {l l' r r' : HalfState} (e : Halt) → Passes Left s t l l' r r' (Err e) → Exchanges s t l l' r r' (Err e)
 exchanges_first halt.Stopped w = inl w

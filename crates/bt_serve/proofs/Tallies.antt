@@ -394,3 +394,9 @@ short_on old new r t s short z =
       ap (length {A = ℕ}) none,
       ap (length {A = ℕ}) (s.silent z),
     )
+
+-- how it ended, with its counts
+pub parting_ended : (patience : ℕ) (start now : Moment) (t : Tally) (e : Ending) → IsEnded patience start now t e
+    → (length now.half.outbox ≡ 0 → t.queued ≡ 0)
+    → IsParting patience start now (record { ending = e; sent = t.sent; handled = t.handled })
+parting_ended patience start now t e k settled = record { queued = t.queued; ended = k; settled = settled }
