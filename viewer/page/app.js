@@ -86,7 +86,8 @@ export class App {
     this.list.reset(0);
     this.total = 0;
     for (const id of ['#why', '#kinds', '#summary', '#overview', '#count']) $(id).replaceChildren();
-    const utp = utpPackets(facts), what = utp ? ` ${plural(utp, 'packet is', 'packets are')} uTP, BitTorrent over UDP, which isn't read.` : '';
+    const utp = utpPackets(facts);
+    const what = utp ? ` ${plural(utp, 'packet is', 'packets are')} uTP, BitTorrent over UDP, which isn't read.` : '';
     $('#ends').replaceChildren(h('div.end.missing', h('b', 'No BitTorrent connection over TCP'),
       h('div.dim', `The capture has ${plural(facts.packets, 'packet')}; ${grouped(facts.skipped)} of them aren't TCP.${what}`)));
     this.inspector.clear('No TCP connection of this capture has a BitTorrent handshake.');
