@@ -341,6 +341,24 @@ def listener(mode, path, broken=""):
     return "exec %s %s %s %s {address} %s" % (sys.executable, STANDIN, mode, path, broken and "'%s'" % broken)
 
 
+def separate(loaded, subject, failures):
+    """Each case has a source address of its own, and one that changes what the client has a client of its own."""
+    chosen = [case for case in loaded if case.id in ("ka.one", "bf.some", "hv.fine")]
+    played, watched = against(subject, "seed", chosen, suite.Options(6, 6, "all", 1))
+    played.run()
+    failures.same("source addresses", len(set(watched.client.sources)), len(chosen))
+    watched.stop()
+    chosen = [case for case in loaded if case.id in ("lc.good", "lc.served/short", "lc.garbage")]
+    played, watched = against(subject, "leech", chosen, suite.Options(6, 6, "all", 1))
+    played.run()
+    failures.same("connections of the first client", len(watched.client.sources), 0)
+    played.client = client.Watched()
+    played.run()
+    failures.same("cases that need a new client, without --start", [played.results[case.id]["result"] for case in chosen],
+                  ["pass", "skip", "skip"])
+    watched.stop()
+
+
 def lessons(path, failures):
     """What false findings taught: the gate, the twin, the crash, the new client; and the statuses."""
     at = "127.0.0.1:%d" % client.free_port("127.0.0.1")
@@ -481,7 +499,7 @@ def main(words):
                        lambda: stated(loaded, subject, failures)],
             "right": [lambda: right(loaded, subject, failures)],
             "mutants": [lambda: mutants(loaded, subject, failures)],
-            "command": [lambda: lessons(path, failures), lambda: refusals(path, failures), lambda: dials(path, failures),
+            "command": [lambda: separate(loaded, subject, failures), lambda: lessons(path, failures), lambda: refusals(path, failures), lambda: dials(path, failures),
                         lambda: outputs(folder, path, failures), lambda: replays(loaded, subject, path, failures)],
             "ours": [lambda: ours(folder, path, failures)],
         }
