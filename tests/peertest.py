@@ -402,7 +402,8 @@ def refusals(path, failures):
     failures.same("an address that is owned", command.address_of("192.0.2.9:6881", ["192.0.2.9"]), ("192.0.2.9", 6881))
     failures.same("the next address", command.address_of("[::1]:6881", []), ("::1", 6881))
     if socket.has_ipv6 and os.path.exists("/proc/net/if_inet6"):
-        six = run("[::1]:%d" % client.free_port("::1"), "--torrent", path, "--only", "md.get,bf.late", "--start", listener("seed", path))
+        six = run("[::1]:%d" % client.free_port("::1"), "--torrent", path, "--only", "md.get,bf.late", "--start",
+                  listener("seed", path))
         failures.same("over IPv6", six[0], 0)
     for words in (["--torrent", path], ["127.0.0.1:1"], ["--nothing"], ["127.0.0.1:1", "--torrent", path, "--only", "no.such"]):
         failures.same("wrong words %s" % words, run(*words)[0], 2)
@@ -415,7 +416,8 @@ def outputs(folder, path, failures):
     with open(names["known"], "w", encoding="utf8") as file:
         file.write("# what may fail\nmd.unknown-type  it closes\nmd.get  it doesn't fail any more\n")
     words = [at, "--torrent", path, "--only", "md.get,md.unknown-type,bf.late", "--start",
-             listener("seed", path, "an unknown type is ignored"), "--json", names["a.json"], "--junit", names["a.xml"], "--streams", names["streams"]]
+             listener("seed", path, "an unknown type is ignored"), "--json", names["a.json"], "--junit", names["a.xml"],
+             "--streams", names["streams"]]
     status, text, _ = run(*words)
     failures.same("a failure: status", status, 1)
     sentence = 'BEP 9, "extension message" (must, paraphrased): a message type that an end doesn\'t know is ignored'
@@ -499,7 +501,8 @@ def main(words):
                        lambda: stated(loaded, subject, failures)],
             "right": [lambda: right(loaded, subject, failures)],
             "mutants": [lambda: mutants(loaded, subject, failures)],
-            "command": [lambda: separate(loaded, subject, failures), lambda: lessons(path, failures), lambda: refusals(path, failures), lambda: dials(path, failures),
+            "command": [lambda: separate(loaded, subject, failures), lambda: lessons(path, failures),
+                        lambda: refusals(path, failures), lambda: dials(path, failures),
                         lambda: outputs(folder, path, failures), lambda: replays(loaded, subject, path, failures)],
             "ours": [lambda: ours(folder, path, failures)],
         }
