@@ -17,7 +17,7 @@ returns-in_err-event-clause-exchanged g c =
     let p = err_from_is_err_and c.from_residual.result c.from_residual.ensures.1 in
     rw (p.1, p.2) (
     exchanged_stop _ _ c.loop-made.steps _ c.loop-made.made _ _ _ _ c.loop-made.invariant.going c.in_err-event.ensures.rounded
-        (omega (arith, c.loop-made-test.true))
+    (omega (arith, c.loop-made-test.true))
     )
 
 pub returns-in-Some-2-clause-exchanged : goal.returns-in-Some-2-clause-exchanged
