@@ -56,8 +56,8 @@ fn attempt<D: Dial, T: Report>(
     hearing: &mut Hearing,
 ) -> Result<Visited, Memory>
     ensures handshake { end.new.end.handshake ≡ end.old.end.handshake }
-    ensures dials { D.dials dial.new ≤ D.dials dial.old + 1 }
-    ensures dialled { OnOk result (D.dials dial.new ≡ one_more (D.dials dial.old)) }
+    ensures dials { OnOk result (D.dials dial.new ≡ one_more (D.dials dial.old)) }
+    ensures most { D.dials dial.new ≤ D.dials dial.old + 1 }
     ensures address { OnOk result (IsAdded (D.dialled dial.old) (D.dialled dial.new) address) }
     ensures told { IfOk result (λ visited. IsAdded (T.told report.old) (T.told report.new) (address, visited.outcome)) }
     ensures outcome { IfOk result (λ visited. IsOutcome end.new visited.outcome) }
