@@ -243,7 +243,7 @@ came {s} {t} {a} from c clear =
 carried_turns : {a b : EndState} {stop : Result Unit TurnError} {s t : WireSeen} {x x' y y' : HalfState} {items n k m : ℕ} (from : Side)
     (f : Follows a b (other from) n y x k m) (c : IsCarried from stop s t x x' y y' items) → coming (other from) s ≡ Some []
     → (d : HasDelivered a b (other from) f.link n y c.bytes) × HasTaken a b (other from) d.link (n + length c.bytes) (length c.ends) stop y'
-carried_turns {x} {y} {y'} from f c clear =
+carried_turns {stop} {x} {y} {y'} from f c clear =
     let bytes = came from c clear in
     let d = delivers (other from) f.link y x c.bytes f.reached f.own_is.half f.own_is.untaken f.other_is.half bytes.1 (omega (arith, c.most)) in
     (d, takes (other from) c.ends d.link y y' c.bytes c.used stop d.reached d.own c.handled)
@@ -277,7 +277,7 @@ carried_follows {x} {x'} {y} {y'} {items} {k} {m} from f c clear =
     }
 
 -- how many bytes go one way
-pub way_bytes : {from : Side} {s t : WireSeen} {x x' y y' : HalfState} {items : ℕ} → IsWay from s t x x' y y' items → ℕ
+abbrev pub way_bytes : {from : Side} {s t : WireSeen} {x x' y y' : HalfState} {items : ℕ} → IsWay from s t x x' y y' items → ℕ
 way_bytes (inl c) = length c.bytes
 way_bytes (inr n) = 0
 
@@ -296,7 +296,6 @@ IsEmpty s = (coming Left s ≡ Some []) × (coming Right s ≡ Some [])
 pub way_follows : {a b : EndState} {s t : WireSeen} {x x' y y' : HalfState} {items n k m : ℕ} (from : Side)
     (f : Follows a b (other from) n y x k m) (w : IsWay from s t x x' y y' items) → coming (other from) s ≡ Some []
     → Follows a b (other from) (n + way_bytes w) y' x' (k + items) m
-unfolding way_bytes
 way_follows from f (inl c) clear = carried_follows from f c clear
 way_follows from f (inr n) clear = skipped_follows n.sender n.receiver n.none f
 
@@ -309,8 +308,8 @@ way_clear from (inr n) to back = (ap (coming (other from)) n.seen ∙ to, ap (co
 -- ---- an end that stops
 
 abbrev pub IsStopping : Outcome → Type 0
-IsStopping (outcome.Refused r) = ⊤
-IsStopping outcome.Busy = ⊤
+IsStopping (outcome.Refused r) = Unit {0}
+IsStopping outcome.Busy = Unit {0}
 IsStopping other = ⊥
 
 -- steps of the byte link, of which the last one is a refusal, or finds that too much waits to be sent

@@ -146,7 +146,6 @@ record IsThere (a b : EndState) (n : ℕ) (e : Ends) : Type 0 where
 -- one of the two ways moves a byte at least
 some_moved : {s u t : WireSeen} {l l' r r' x y : HalfState} {m n : ℕ} (g : IsWay Left s u l x r y n) (c : IsWay Right u t y r' x l' m)
     → is_quiet l r ≡ false → 1 ≤ way_bytes g + way_bytes c
-unfolding way_bytes
 some_moved (inl g) c some = omega (arith, g.least)
 some_moved (inr g) (inl c) some = omega (arith, c.least)
 some_moved (inr g) (inr c) some = absurd (not_both g c some)

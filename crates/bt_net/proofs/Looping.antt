@@ -1,5 +1,5 @@
 -- What a loop writes, put together from its parts.
-use Rattle.std.proofs.Common.{◌≡◌, ◌⊎◌, ℕ, List, false, length, Option, Some, None, Result, Ok, Err, inl, inr, refl, sym, ap, subst, ◌∙◌}
+use Rattle.std.proofs.Common.{◌≡◌, ◌⊎◌, ℕ, ◌+◌, ◌*◌, ◌≤◌, List, false, length, Option, Some, None, Result, Ok, Err, inl, inr, refl, sym, ap, subst, ◌∙◌}
 use Rattle.std.specs.Io.KnownBytes.{Appends}
 use Rattle.bt_io.specs.Seen.{AppendsPrefix}
 use Rattle.sha1.specs.Sha1.{sha1}
@@ -14,9 +14,9 @@ use Rattle.bt_net.specs.declared.looped.LoopEnd.TheVariants.{Fetched, Unfetched,
 use Rattle.bt_net.specs.declared.both.Handled.{Handled}
 use Rattle.bt_net.specs.declared.both.Halt.{Halt}
 use Rattle.bt_net.specs.declared.both.Halt.TheVariants as halt
-use Rattle.bt_net.specs.Rounds.{HasRun, IsRun}
+use Rattle.bt_net.specs.Rounds.{HasRun, capped, ends_of}
 use Rattle.bt_net.specs.Wires.{WireSeen}
-use Rattle.bt_net.specs.Loops.{left_end, right_end, IsLooped, IsPrinted, IsLinked, IsFetched, IsUnfetched, IsOutput, IsWireFault, IsWrite, fetched_lines}
+use Rattle.bt_net.specs.Loops.{left_end, right_end, IsLooped, IsPrinted, IsLinked, IsFetched, IsUnfetched, IsUnended, IsOutput, IsWireFault, IsWrite, fetched_lines}
 use Rattle.bt_net.specs.Loops.{most_rounds, unfetched_line}
 use Rattle.bt_net.proofs.Passing.{rounds_calls, halted_calm}
 
@@ -95,6 +95,19 @@ run_calm s t l r l' r' h run = (rounds_calls run.2.0 _ _ run.2.2).0
 
 pub stopped_calm : (s t : WireSeen) (l r l' r' : HalfState) → HasRun most_rounds s t l l' r r' (Err halt.Stopped) → t.failed ≡ s.failed
 stopped_calm s t l r l' r' run = halted_calm run.2.4 ∙ (rounds_calls run.2.0 _ _ run.2.3).0
+
+-- ---- a run that makes as many rounds as may be
+
+pub unended_by : (s t : WireSeen) (l r l' r' : HalfState) (e : Halt) → e ≡ halt.Rounds → HasRun most_rounds s t l l' r r' (Err e) → IsUnended s t l r
+unended_by s t l r l' r' e is run =
+    record { left_half = l'; right_half = r'; run = subst (λ (x : Halt). HasRun most_rounds s t l l' r r' (Err x)) is run }
+
+-- each round made two calls
+pub unended_calm : (rounds : ℕ) (s t : WireSeen) (l r l' r' : HalfState) (e : Halt) → e ≡ halt.Rounds → HasRun rounds s t l l' r r' (Err e)
+    → (t.failed ≡ s.failed) × (capped (s.calls + 2 * rounds) ≤ t.calls)
+unended_calm rounds s t l r l' r' e is run =
+    let h : HasRun rounds s t l l' r r' (Err halt.Rounds) = subst (λ (x : Halt). HasRun rounds s t l l' r r' (Err x)) is run in
+    rounds_calls rounds (ends_of s l r 0 0) (ends_of t l' r' h.0 h.1) h.2.0
 
 -- ---- from the metadata on
 

@@ -34,11 +34,11 @@ abbrev pub delivered : List Outcome → ℕ
 delivered [] = 0
 delivered (o ∷ os) = delivered_by o + delivered os
 
--- the node x is this end, with no delivered byte left untaken, and it handled as many items
-pub record IsEndOf (half : HalfState) (items : ℕ) (x : B.Node) : Type 0 where
-  pub half : x.half ≡ half
+-- the node x is this end, with no delivered byte left untaken, and it handled as many items as the count says
+pub record IsEndOf (end : HalfState) (count : ℕ) (x : B.Node) : Type 0 where
+  pub half : x.half ≡ end
   pub untaken : x.untaken ≡ []
-  pub items : length x.handled ≡ items
+  pub items : length x.handled ≡ count
 
 -- Steps of the byte link of new ends, with their outcomes, lead to these ends. Nothing is said or reset, and nothing is on the wire. Each
 -- of n rounds delivered a byte at least.

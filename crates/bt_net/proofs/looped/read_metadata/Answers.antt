@@ -1,4 +1,4 @@
-use Rattle.std.proofs.Common.{◌++◌, take}
+use Rattle.std.proofs.Common.{◌++◌, take, length-append, length-take-le, rules}
 use Rattle.std.proofs.KnownBytes.{Consumes-trans}
 use Rattle.bt_net.proofs.looped.read_metadata.Goals as goal
 
@@ -9,4 +9,5 @@ returns-in-Err-extend_from_slice-clause-input g c =
       old ++ more,
       Consumes-trans (g.R.Source.seen c.args.reader.now).left (g.R.Source.seen c.reads.reader).left (g.R.Source.seen c.read.new.self).left old more
           c.reads.invariant.read c.in-Ok.ensures.bytes.0,
+      search (rules, length-append old more, length-take-le c.in-Ok.count c.read.new.into, c.reads.invariant.short, c.in-Ok.ensures.bytes),
     )

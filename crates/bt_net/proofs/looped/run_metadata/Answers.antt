@@ -7,12 +7,12 @@ use Rattle.bt_net.proofs.looped.run_metadata.Goals as goal
 
 pub returns-in-Ok-fetching-clause-looped : goal.returns-in-Ok-fetching-clause-looped
 returns-in-Ok-fetching-clause-looped g c =
-    looped_so c.args.rules c.args.limit c.args.metadata.items _ _ c.link.result c.in-Ok.ensures.end
+    looped_so _ _ c.args.rules c.args.limit c.args.metadata.items _ _ c.link.result c.in-Ok.ensures.end
     (c.digest-hash.ensures ∙ ap sha1 c.as_slice.ensures.value) c.in-Ok-fetching.ensures c.in-Ok.ensures.size
     c.link.ensures.linked
 
 pub returns-in-Ok-fetching-clause-unread : goal.returns-in-Ok-fetching-clause-unread
-returns-in-Ok-fetching-clause-unread g c = never_read _ _ _ _ _ c.link.ensures.linked
+returns-in-Ok-fetching-clause-unread g c = never_read _ _ _ _ _ _ _ c.link.ensures.linked
 
 pub returns-in-Ok-fetching-clause-fetches : goal.returns-in-Ok-fetching-clause-fetches
 returns-in-Ok-fetching-clause-fetches g c clear =
