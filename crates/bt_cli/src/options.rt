@@ -12,8 +12,8 @@ use crate::commands::{Asked, Given, Hints, Job, Notice, Request, default_own};
 use crate::fetch::{Mistake, fetch_asked};
 use crate::serve::serve_asked;
 use crate::texts::{
-    ABOUT, AFTER, CALL, CHECK, CommandText, FETCH, LINK, LOOP, OperandText, OptionText, PACK, SERVE, SHOW, UNPACK,
-    usage_of,
+    ABOUT, AFTER, CALL, CHECK, CommandText, FETCH, LINK, LOOP, OperandText, OptionText, PACK,
+    SERVE, SHOW, UNPACK, usage_of,
 };
 use bt_ext::Rules;
 use bt_run::values::{Setting, Written, own_of, read_hints};

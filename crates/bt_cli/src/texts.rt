@@ -182,12 +182,19 @@ const METADATA: OperandText = OperandText {
 };
 
 const SHOW_USAGE: &str = "bt_tool show [OPTIONS] [FILE]";
+
 const CHECK_USAGE: &str = "bt_tool check [OPTIONS] [FILE]..";
+
 const UNPACK_USAGE: &str = "bt_tool unpack [OPTIONS] [FILE]";
+
 const PACK_USAGE: &str = "bt_tool pack [OPTIONS] [FILE]";
+
 const LINK_USAGE: &str = "bt_tool link [FILE]";
+
 const LOOP_USAGE: &str = "bt_tool loop [OPTIONS]";
+
 const FETCH_USAGE: &str = "bt_tool fetch [OPTIONS] INFOHASH ADDRESS..";
+
 const SERVE_USAGE: &str = "bt_tool serve [OPTIONS] FILE";
 
 pub(crate) const SHOW: CommandText = CommandText {
