@@ -11,7 +11,10 @@ ghost use Rattle.bt_cli.specs.Options.{IsAskedBy, IsChosen, IsRequested, IsWritt
 use crate::commands::{Asked, Given, Hints, Job, Notice, Request, default_own};
 use crate::fetch::{Mistake, fetch_asked};
 use crate::serve::serve_asked;
-use crate::texts::{ABOUT, AFTER, CALL, COMMANDS, CommandText, OperandText, OptionText, usage_of};
+use crate::texts::{
+    ABOUT, AFTER, CALL, CHECK, CommandText, FETCH, LINK, LOOP, OperandText, OptionText, PACK,
+    SERVE, SHOW, UNPACK, usage_of,
+};
 use bt_ext::Rules;
 use bt_run::values::{Setting, Written, own_of, read_hints};
 use bt_wire::Own;
@@ -93,19 +96,63 @@ fn command_of<'a>(alloc: Global, text: &CommandText) -> Result<Command<'a>, Allo
     Ok(command)
 }
 
+/// Returns the command `show`.
+fn show_command<'a>(alloc: Global) -> Result<Command<'a>, AllocError> {
+    command_of(alloc, &SHOW)
+}
+
+/// Returns the command `check`.
+fn check_command<'a>(alloc: Global) -> Result<Command<'a>, AllocError> {
+    command_of(alloc, &CHECK)
+}
+
+/// Returns the command `unpack`.
+fn unpack_command<'a>(alloc: Global) -> Result<Command<'a>, AllocError> {
+    command_of(alloc, &UNPACK)
+}
+
+/// Returns the command `pack`.
+fn pack_command<'a>(alloc: Global) -> Result<Command<'a>, AllocError> {
+    command_of(alloc, &PACK)
+}
+
+/// Returns the command `link`.
+fn link_command<'a>(alloc: Global) -> Result<Command<'a>, AllocError> {
+    command_of(alloc, &LINK)
+}
+
+/// Returns the command `loop`.
+fn loop_command<'a>(alloc: Global) -> Result<Command<'a>, AllocError> {
+    command_of(alloc, &LOOP)
+}
+
+/// Returns the command `fetch`.
+fn fetch_command<'a>(alloc: Global) -> Result<Command<'a>, AllocError> {
+    command_of(alloc, &FETCH)
+}
+
+/// Returns the command `serve`.
+fn serve_command<'a>(alloc: Global) -> Result<Command<'a>, AllocError> {
+    command_of(alloc, &SERVE)
+}
+
 /// Returns the program with its commands.
 fn command_line<'a>(alloc: Global) -> Result<Command<'a>, AllocError> {
-    let mut program = Command::new(alloc, "bt_tool")
+    Command::new(alloc, "bt_tool")
         .version(VERSION)
         .no_binary_name(true)
         .subcommand_required(true)
         .override_usage(CALL)
         .about(ABOUT)
-        .after_help(AFTER);
-    for text in &COMMANDS {
-        program = program.subcommand(command_of(alloc, text)?)?;
-    }
-    Ok(program)
+        .after_help(AFTER)
+        .subcommand(show_command(alloc)?)?
+        .subcommand(check_command(alloc)?)?
+        .subcommand(unpack_command(alloc)?)?
+        .subcommand(pack_command(alloc)?)?
+        .subcommand(link_command(alloc)?)?
+        .subcommand(loop_command(alloc)?)?
+        .subcommand(fetch_command(alloc)?)?
+        .subcommand(serve_command(alloc)?)
 }
 
 /// Returns the job of a command, or `None` where there is no such command.

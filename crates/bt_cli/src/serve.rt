@@ -141,9 +141,7 @@ impl<'a, W: Target> Farewell for Lines<'a, W> {
 fn hash_of(metadata: &[u8]) -> [u8; 20]
     ensures { result ≡ sha1 metadata.now }
 {
-    let mut digest = Sha1::new();
-    digest.update(metadata);
-    digest.finalize()
+    Sha1::digest(metadata)
 }
 
 /// Returns what the error of reading a file says.

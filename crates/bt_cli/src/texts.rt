@@ -181,9 +181,25 @@ const METADATA: OperandText = OperandText {
     help: "A .torrent, or an info dictionary alone",
 };
 
-const SHOW: CommandText = CommandText {
+const SHOW_USAGE: &str = "bt_tool show [OPTIONS] [FILE]";
+
+const CHECK_USAGE: &str = "bt_tool check [OPTIONS] [FILE]..";
+
+const UNPACK_USAGE: &str = "bt_tool unpack [OPTIONS] [FILE]";
+
+const PACK_USAGE: &str = "bt_tool pack [OPTIONS] [FILE]";
+
+const LINK_USAGE: &str = "bt_tool link [FILE]";
+
+const LOOP_USAGE: &str = "bt_tool loop [OPTIONS]";
+
+const FETCH_USAGE: &str = "bt_tool fetch [OPTIONS] INFOHASH ADDRESS..";
+
+const SERVE_USAGE: &str = "bt_tool serve [OPTIONS] FILE";
+
+pub(crate) const SHOW: CommandText = CommandText {
     name: "show",
-    usage: "bt_tool show [OPTIONS] [FILE]",
+    usage: SHOW_USAGE,
     about: "Prints a line for each item of a stream, and then the verdict",
     options: &[
         RESERVED,
@@ -210,9 +226,9 @@ Exit status:
   141  Nobody reads the output any more, as after '| head'",
 };
 
-const CHECK: CommandText = CommandText {
+pub(crate) const CHECK: CommandText = CommandText {
     name: "check",
-    usage: "bt_tool check [OPTIONS] [FILE]..",
+    usage: CHECK_USAGE,
     about: "Prints the verdict on a stream; of several files a line each, with the file's name in front",
     options: &[
         RESERVED,
@@ -238,9 +254,9 @@ Exit status:
   141  Nobody reads the output any more, as after '| head'",
 };
 
-const UNPACK: CommandText = CommandText {
+pub(crate) const UNPACK: CommandText = CommandText {
     name: "unpack",
-    usage: "bt_tool unpack [OPTIONS] [FILE]",
+    usage: UNPACK_USAGE,
     about: "Prints the script of a stream: a line for each item, with all of its bytes",
     options: &[
         RESERVED,
@@ -266,9 +282,9 @@ Exit status:
   141  Nobody reads the output any more, as after '| head'",
 };
 
-const PACK: CommandText = CommandText {
+pub(crate) const PACK: CommandText = CommandText {
     name: "pack",
-    usage: "bt_tool pack [OPTIONS] [FILE]",
+    usage: PACK_USAGE,
     about: "Writes the stream of a script, up to the first line that is refused",
     options: &[
         RESERVED,
@@ -294,9 +310,9 @@ Exit status:
   141  Nobody reads the output any more, as after '| head'",
 };
 
-const LINK: CommandText = CommandText {
+pub(crate) const LINK: CommandText = CommandText {
     name: "link",
-    usage: "bt_tool link [FILE]",
+    usage: LINK_USAGE,
     about: "Runs two ends against each other, step by step, as a script of its own says",
     options: &[],
     operands: &[SCRIPT],
@@ -312,9 +328,9 @@ Exit status:
   141  Nobody reads the output any more, as after '| head'",
 };
 
-const LOOP: CommandText = CommandText {
+pub(crate) const LOOP: CommandText = CommandText {
     name: "loop",
-    usage: "bt_tool loop [OPTIONS]",
+    usage: LOOP_USAGE,
     about: "Serves the metadata of standard input at one end of a connection to itself, and fetches it at the other",
     options: &[BEP, LIMIT_OF_ENDS],
     operands: &[],
@@ -330,9 +346,9 @@ Exit status:
   141  Nobody reads the output any more, as after '| head'",
 };
 
-const FETCH: CommandText = CommandText {
+pub(crate) const FETCH: CommandText = CommandText {
     name: "fetch",
-    usage: "bt_tool fetch [OPTIONS] INFOHASH ADDRESS..",
+    usage: FETCH_USAGE,
     about: "Fetches the metadata of a torrent from peers (BEP 9), and writes it on standard output",
     options: &[BEP, LIMIT_OF_ENDS, PATIENCE, WINDOW, MOST, TORRENT],
     operands: &[INFOHASH, ADDRESS],
@@ -348,9 +364,9 @@ Exit status:
   141  Nobody reads the output any more, as after '| head'",
 };
 
-const SERVE: CommandText = CommandText {
+pub(crate) const SERVE: CommandText = CommandText {
     name: "serve",
-    usage: "bt_tool serve [OPTIONS] FILE",
+    usage: SERVE_USAGE,
     about: "Serves the metadata of a torrent to peers (BEP 9), and prints a line for each connection",
     options: &[LISTEN, BEP, LIMIT_OF_ENDS, PATIENCE, CONNECTIONS, AT_ONCE],
     operands: &[METADATA],
@@ -364,9 +380,6 @@ Exit status:
   2    The words are no command line
   3    FILE can't be read, it can't listen there, or the program is out of memory",
 };
-
-/// The commands.
-pub(crate) const COMMANDS: [CommandText; 8] = [SHOW, CHECK, UNPACK, PACK, LINK, LOOP, FETCH, SERVE];
 
 /// How the program is called.
 pub(crate) const CALL: &str = "bt_tool [COMMAND] [OPTIONS] [FILE]";
@@ -392,10 +405,15 @@ Exit status:
 
 /// Returns how the command with this name is called, or the program if there is no such command.
 pub(crate) fn usage_of(name: &str) -> &'static str {
-    for command in &COMMANDS {
-        if command.name == name {
-            return command.usage;
-        }
+    match name {
+        "show" => SHOW_USAGE,
+        "check" => CHECK_USAGE,
+        "unpack" => UNPACK_USAGE,
+        "pack" => PACK_USAGE,
+        "link" => LINK_USAGE,
+        "loop" => LOOP_USAGE,
+        "fetch" => FETCH_USAGE,
+        "serve" => SERVE_USAGE,
+        _ => CALL,
     }
-    CALL
 }
