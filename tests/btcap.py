@@ -581,16 +581,20 @@ def rows():
 # ---- the words of reasons
 
 def documented():
-    """Each reason of the documents' tables, with its places: what stands under At, and under Where or When."""
-    name = next(it for it in ("docs/RULES.md", "docs/FORMAT.md") if os.path.exists(os.path.join(ROOT, it)) and "| BadIndex " in text_of(it))
+    """Each reason of docs/RULES.md, with its rules, its places (what stands under At and under When) and its section."""
     found, head = {}, None
-    for line in text_of(name).splitlines():
+    for line in text_of("docs/RULES.md").splitlines():
         cells = [cell.strip() for cell in line.strip().strip("|").split("|")] if line.startswith("|") else None
         if cells is None or cells[0] == "Reason":
             head = cells
         elif head and re.match(r"[A-Z]\w+", cells[0]):
             row = dict(zip(head, cells))
-            found.setdefault(cells[0].split()[0], []).append({"at": row["At"], "where": row["Where"]})
+            reason = found.setdefault(cells[0], {"places": []})
+            if "When" in row:
+                reason["rules"] = row["Rules"]
+                reason["places"].append({"at": row["At"], "where": row["When"]})
+            else:
+                reason["section"] = row["Section"]
     return found
 
 
@@ -602,8 +606,8 @@ def text_of(name):
 def reasons_differ():
     """What the documents and tools/reasons.json say differently of a reason."""
     table, told = json.loads(text_of("tools/reasons.json")), documented()
-    places = {name: reason["places"] for name, reason in table.items()}
-    return ["%s: %s and %s" % (name, places.get(name), told.get(name)) for name in sorted({*places, *told}) if places.get(name) != told.get(name)]
+    wanted = {name: {key: reason[key] for key in ("places", "rules", "section")} for name, reason in table.items()}
+    return ["%s: %s and %s" % (name, wanted.get(name), told.get(name)) for name in sorted({*wanted, *told}) if wanted.get(name) != told.get(name)]
 
 
 # ---- running

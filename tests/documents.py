@@ -3,14 +3,16 @@
 
 usage: tests/documents.py [PROGRAM]
 
-A command stands in an indented block after `$ `; lines after `> ` go on with it. The lines up to the next command or the
-block's end are its standard output, exactly. Standard error has to be empty, but that of the capture tools isn't looked at.
-The commands of one document run in one shell, in a new folder that has `bt_tool`, `examples`, `tools` and `dist`. `bt_tool` is PROGRAM, or
-the script at the top of the repository, which builds the program where it has to.
+A command stands after `$ ` in a block that is fenced as ```console, or indented; lines after `> ` go on with it. The lines up to the next
+command or the block's end are its standard output, exactly. Standard error has to be empty, but that of the capture tools isn't looked at.
+It also looks whether links lead to files, whether the picture of a stream has its bytes, and whether the blocks of docs/RATTLE.md stand in the
+examples. The commands of one document run in one shell, in a new folder that has `bt_tool`, `examples`, `tools` and `dist`. `bt_tool` is
+PROGRAM, or the script at the top of the repository, which builds the program if it has to.
 
 A command is skipped that needs a tool which isn't installed, or a file that a skipped command would have made. The two
 directions of examples/small.pcap are there all the same: this script reads them itself.
 """
+import glob
 import os
 import re
 import shlex
@@ -22,7 +24,8 @@ import tempfile
 from collections import Counter
 
 ROOT = os.path.dirname(os.path.dirname(os.path.abspath(__file__)))
-DOCUMENTS = ["README.md", "examples/README.md", "docs/CAPTURES.md", "docs/RIG.md", "dist/README.md"]
+DOCUMENTS = ["README.md", "examples/README.md", "docs/CAPTURES.md", "docs/RIG.md", "docs/RULES.md", "docs/COMMANDS.md", "docs/FETCH.md",
+             "dist/README.md"]
 TOOLS = ["tshark", "tcpflow", "editcap", "mergecap", "tcpdump", "xxd"]
 # The names of the files and folders that commands make.
 FILE = re.compile(r"[\w./-]+?(?:\.(?:bin|pcap|txt)|flows)(?![\w-])")
@@ -61,17 +64,22 @@ def directions(capture):
 
 def sessions(path):
     """The commands of a document: line number, command and shown output."""
-    found, indent, lines = [], None, content(path).decode().split("\n")
+    found, indent, fence, lines = [], None, False, content(path).decode().split("\n")
     for number, line in enumerate(lines, 1):
-        begin = re.match(r"( {4,})\$ (.*)", line)
-        if begin:
-            indent = begin[1]
+        mark = re.match(r" *```", line)
+        if mark:
+            fence = not fence
+            indent = line[:line.index("`")] if line.strip() == "```console" else None
+            continue
+        begin = re.match((indent or "") + r"()\$ (.*)" if fence and indent is not None else r"( {4,})\$ (.*)", line)
+        if begin and (indent is not None or not fence):
+            indent = indent if fence else begin[1]
             found.append((number, [begin[2]], []))
-        elif indent and line.startswith(indent + "> ") and not found[-1][2]:
+        elif indent is not None and found and line.startswith(indent + "> ") and not found[-1][2]:
             found[-1][1].append(line[len(indent) + 2:])
-        elif indent and (line.startswith(indent) or not line.strip()):
+        elif indent is not None and (line.startswith(indent) or not line.strip()):
             found[-1][2].append(line[len(indent):])
-        else:
+        elif not fence:
             indent = None
     for number, command, shown in found:
         while shown and not shown[-1]:
@@ -138,6 +146,31 @@ def run_document(document, folder, made, absent, counts):
     return wrong
 
 
+def pictured():
+    """The bytes of the picture in docs/RULES.md, which are those of examples/first.bin."""
+    rows = re.findall(r"^ *(\d+)  ((?:[0-9a-f]{2} )*[0-9a-f]{2})(?: {2}.*)?$", content(os.path.join(ROOT, "docs/RULES.md")).decode(), re.M)
+    found = b""
+    for at, digits in rows:
+        if int(at) != len(found):
+            return ["docs/RULES.md: the picture has %s at %d\n" % (at, len(found))]
+        found += bytes.fromhex(digits)
+    return [] if found == content(os.path.join(ROOT, "examples/first.bin")) else ["docs/RULES.md: other bytes than in examples/first.bin\n"]
+
+
+def unquoted():
+    """The blocks of docs/RATTLE.md that don't stand in an example as they are."""
+    sources = [content(path).decode() for path in glob.glob(os.path.join(ROOT, "crates/example_*/src/*.rt"))]
+    blocks = re.findall(r"^```rust\n(.*?)^```$", content(os.path.join(ROOT, "docs/RATTLE.md")).decode(), re.M | re.S)
+    return ["docs/RATTLE.md: no part of an example:\n" + block for block in blocks if not any(block in source for source in sources)]
+
+
+def dead_links(document):
+    """The links to files that aren't there."""
+    folder, text = os.path.dirname(os.path.join(ROOT, document)), content(os.path.join(ROOT, document)).decode()
+    links = [link.split("#")[0] for link in re.findall(r"\]\(([^):]+)\)", text)]
+    return ["%s: no such file: %s\n" % (document, link) for link in links if link and not os.path.exists(os.path.join(folder, link))]
+
+
 def make_folder(folder, program):
     for name in ("examples", "tools", "dist"):
         os.symlink(os.path.join(ROOT, name), os.path.join(folder, name))
@@ -155,6 +188,9 @@ def main():
             wrong.append("examples/small.pcap: from %s to %s: other bytes than in %s\n" % (*ends, example))
     if captured:
         wrong.append("examples/small.pcap: bytes of another connection: %s\n" % captured.keys())
+    wrong += pictured() + unquoted()
+    for path in glob.glob(os.path.join(ROOT, "**/*.md"), recursive=True):
+        wrong += dead_links(os.path.relpath(path, ROOT))
     if subprocess.run([program, "--version"], stdout=subprocess.DEVNULL).returncode:
         sys.exit("documents: failed: %s --version" % program)
     absent, counts = {tool for tool in TOOLS if not shutil.which(tool)}, Counter()
