@@ -1,5 +1,6 @@
 #!/usr/bin/env python3
-"""Runs tools/btcap on captures that this script writes, and compares its output and exit status; and tools/talk. It also compares the words of reasons with the documents.
+"""Runs tools/btcap on captures that this script writes, and compares its output and exit status; and tools/talk. It also compares
+the words of the reasons with the documents.
 
 usage: tests/btcap.py [PROGRAM]
 
@@ -328,20 +329,25 @@ def other_extension():
     ) + "  still open at the capture's end\n"
 
 
-def donthave(ids="11:lt_donthavei7e11:ut_metadatai9e", said="--metadata-id 9 --donthave-id 7", verdict="refused message=1 at=74 BadExtLength"):
+SHORT = "A message that takes back a piece has four bytes after its extended id, and this one has another number"
+
+
+def donthave(ids="11:lt_donthavei7e11:ut_metadatai9e", said="--metadata-id 9 --donthave-id 7",
+             verdict="refused message=1 at=74 BadExtLength", why=SHORT):
     """B has these ids, and A sends three bytes under 7, where a message that takes back a piece has four."""
     left, right = handshakes()
     extended = message(b"\x14\x00d1:md%see" % ids.encode())
     found = Talk().say("B", right + extended).say("A", left + message(b"\x14\x07\x00\x00\x09"))
-    lines = NAMES + report("-AA0001-000000000000", 77, verdict, verdict, "--reserved 0000000000100005 " + said)
+    lines = NAMES + report("-AA0001-000000000000", 77, verdict, verdict, "--reserved 0000000000100005 " + said, why=why)
     size = 68 + len(extended)
     return pcap(frames(found.packets)), lines + report(
         "-BB0001-000000000000", size, *2 * ["ok messages=1 bytes=%d" % size], side="B"
     ) + "  still open at the capture's end\n"
 
 
-ONE_ID = ("11:lt_donthavei7e11:ut_metadatai7e", "--metadata-id 7", "refused message=1 at=74 BadBencode")
-NO_ID = ("11:lt_donthavei0e11:ut_metadatai9e", "--metadata-id 9", "ok messages=1 bytes=77")
+ONE_ID = ("11:lt_donthavei7e11:ut_metadatai7e", "--metadata-id 7", "refused message=1 at=74 BadBencode",
+          "The payload has to begin with a bencoded dictionary, and none goes on with the byte 0x00 at 74")
+NO_ID = ("11:lt_donthavei0e11:ut_metadatai9e", "--metadata-id 9", "ok messages=1 bytes=77", "")
 
 
 def without_fast():

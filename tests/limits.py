@@ -271,8 +271,17 @@ def stack(program):
     return wrong
 
 
+def too_long(program):
+    """the metadata of `loop` is too long"""
+    with tempfile.TemporaryFile() as file:
+        # One byte more than the greatest metadata is read, and what follows isn't: the file's offset says so.
+        os.ftruncate(file.fileno(), 67_108_865 + 200_000)
+        wrong = unlike("loop of 67308865 bytes", program.run("loop", source=file), (b"", b"refused size\n", 1))
+        return wrong + unlike("the offset after loop", os.lseek(file.fileno(), 0, os.SEEK_CUR), 67_108_865)
+
+
 PARTS = [standard_input, standard_output, full_pipe, standard_error, lost_reader, slow_writer, open_input, shown_at_once,
-         descriptors, address_space, stack]
+         too_long, descriptors, address_space, stack]
 
 
 def unlisted():

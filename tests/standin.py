@@ -83,7 +83,7 @@ class Connection:
 
     def __init__(self, client, end):
         self.client, self.torrent, self.mode, self.keeps, self.end = client, client.torrent, client.mode, client.keeps, end
-        self.buffer, self.both, self.past, self.opened, self.deaf = b"", 0, False, False, False
+        self.buffer, self.both, self.past, self.deaf = b"", 0, False, False
         self.choking, self.choked, self.interested, self.served = True, True, False, 0
         self.ids, self.size, self.have, self.handshakes, self.seen = {}, None, set(), 0, {}
         self.asked, self.rejected, self.blocks, self.metadata_asked, self.metadata = [], set(), {}, [], {}
@@ -170,7 +170,6 @@ class Connection:
         told = {b"m": {b"lt_donthave": DONT, b"ut_metadata": UM}, b"reqq": 2500, b"v": b"standin"}
         if self.mode != "magnet":
             told[b"metadata_size"] = len(self.torrent.info)
-        self.opened = True
         self.send(message(20, b"\0" + encode(told)))
 
     def run(self, dials=False):
@@ -208,8 +207,9 @@ class Connection:
         """Whether it is of the suite's opening or its last question, so that it has nothing odd."""
         last = self.torrent.pieces - 1
         first = b"\x0f" if self.mode == "seed" else b"\x0e\x0f"
+        questions = b"\x14\x02" + QUESTION, b"\x06" + struct.pack(">III", last, 1024, 512)
         return (not body or body[:1] in first and len(body) == 1 and not self.past or b"peertest" in body[:200]
-                or body == b"\x14\x02" + QUESTION or body == b"\x06" + struct.pack(">III", last, 1024, 512) or body == b"\x02" and (self.past or not self.both & FAST))
+                or body in questions or body == b"\x02" and (self.past or not self.both & FAST))
 
     def odd(self):
         """What three broken clients do at a message that isn't of the opening."""
@@ -386,7 +386,8 @@ class Connection:
         if self.mode != "leech" or self.choked or not self.have:
             return
         size = BLOCK if self.keeps("requests are of 16 KiB") else 2 * BLOCK
-        missing = [(index, begin) for index in sorted(self.have - self.client.pieces) for begin in range(0, self.torrent.length(index), size)]
+        wanted = sorted(self.have - self.client.pieces)
+        missing = [(index, begin) for index in wanted for begin in range(0, self.torrent.length(index), size)]
         for index, begin in missing:
             block = index, begin, min(size, self.torrent.length(index) - begin)
             if len(self.asked) < 4 and block not in self.asked and block not in self.rejected and block[:2] not in self.blocks:
@@ -460,7 +461,9 @@ class Connection:
 
     def on_extended_handshake(self, payload):
         self.handshakes += 1
-        if payload == b"de" and not self.keeps("each item is optional") or self.handshakes > 2 and not self.keeps("it may come again"):
+        if payload == b"de" and not self.keeps("each item is optional"):
+            raise Close
+        if self.handshakes > 2 and not self.keeps("it may come again"):
             raise Close
         if self.handshakes > 100 and not self.keeps("it may come often"):
             raise Close
@@ -479,10 +482,9 @@ class Connection:
             self.ids[b"ut_metadata"] = before
         if before and not self.keeps("ids may change"):
             self.ids[b"ut_metadata"] = before
-        if not self.opened:
-            time.sleep(0.3)
         size = pairs.get(b"metadata_size")
-        if self.mode == "magnet" and isinstance(size, int) and 0 < size <= 1 << 26 and self.ids.get(b"ut_metadata") and self.size is None:
+        fits = isinstance(size, int) and 0 < size <= 1 << 26
+        if self.mode == "magnet" and fits and self.ids.get(b"ut_metadata") and self.size is None:
             self.size = size
             self.ask_metadata()
 
@@ -591,7 +593,7 @@ class Client:
     def __init__(self, torrent, mode, broken=None, address=("127.0.0.1", 0)):
         self.torrent, self.mode, self.broken = torrent, mode, broken
         self.pieces, self.metadata, self.count, self.ends, self.dead = set(), b"" if mode == "magnet" else torrent.info, 0, [], False
-        self.door = socket.socket()
+        self.door = socket.socket(socket.AF_INET6 if ":" in address[0] else socket.AF_INET)
         self.door.setsockopt(socket.SOL_SOCKET, socket.SO_REUSEADDR, 1)
         self.door.bind(address)
         self.door.listen(128)
@@ -673,7 +675,7 @@ def dial(path, address, output, broken):
 def main(words):
     if words[2] == "--dial":
         return dial(words[1], words[3], words[4], words[5] if len(words) > 5 else None)
-    host, _, port = words[2].rpartition(":")
+    host, _, port = words[2].replace("[", "").replace("]", "").rpartition(":")
     client = Client(Torrent(words[1]), words[0], words[3] if len(words) > 3 else None, (host, int(port)))
     while not client.dead:
         time.sleep(0.01)

@@ -7,6 +7,7 @@ PROGRAM is the built program, or else the script `bt_tool` at the top of the rep
 docs/RULES.md and docs/COMMANDS.md. The texts of help, usage and of mistakes aren't fixed: a row has TEXT where some text has to be, and Parts
 where a text has to have some parts.
 """
+import hashlib
 import os
 import re
 import subprocess
@@ -321,6 +322,30 @@ CONFIGS = [
 ROWS += [("link", script, *wanted) for script, wanted in CONFIGS]
 
 
+def naming_ids(settings, size, metadata):
+    """A link whose left end has these settings, and its extended handshake: a dictionary of `size` bytes, which names `metadata`."""
+    said = ("delivered 68\nhandled\nconnection 1\nleft sent=2 handled=1\n" + LEFT + "68 ext-handshake %d 0 size=- ut_metadata=%s\n"
+            % (size, metadata) + "right sent=1 handled=0\n" + RIGHT + "left metadata -\nright metadata -\n")
+    lines = "".join("left %s\n" % setting for setting in settings.split(", "))
+    return ("link", TWO + lines.encode() + b"deliver left 68\nturn left\n", said.encode(), b"", 0)
+
+
+# An end names both ids that its last lines have, in whatever order these stand, unless they are equal. `d1:md`, `11:ut_metadatai9e` and
+# `ee` are 24 bytes, and `11:lt_donthavei3e` 17 more.
+ROWS += [
+    naming_ids("donthave-id 3, metadata-id 9", 41, "9"),
+    naming_ids("metadata-id 9, donthave-id 3", 41, "9"),
+    naming_ids("donthave-id 4, metadata-id 4, metadata-id 5", 41, "5"),
+    naming_ids("metadata-id 4, donthave-id 4, metadata-id 3", 41, "3"),
+    naming_ids("donthave-id 4, metadata-id 4", 24, "4"),
+    naming_ids("metadata-id 4, donthave-id 4", 24, "4"),
+    naming_ids("donthave-id 3", 24, "3"),
+    naming_ids("donthave-id 4, donthave-id 0", 24, "3"),
+    naming_ids("donthave-id 3, metadata-id 0", 24, "-"),
+    naming_ids("metadata-id 0", 7, "-"),
+]
+
+
 def looped(size, digest, items):
     """What `loop` prints of metadata whose ends send and handle `items` items each."""
     line = "sent=%d handled=%d" % (items, items)
@@ -337,6 +362,8 @@ LOOP_ROWS = [
     ("loop --rules free --limit 32768", b"abc", looped(3, HASH, 3), b"", 0),
     ("loop --rules bep --limit 1048576", b"abc", looped(3, HASH, 3), b"", 0),
     ("loop", b"", b"", b"refused size\n", 1),
+    # one byte more than 32 MiB: 2,049 blocks
+    ("loop", (2 ** 25 + 1) * b"a", looped(2 ** 25 + 1, hashlib.sha1((2 ** 25 + 1) * b"a").hexdigest(), 2051), b"", 0),
     ("loop --limit 32767", b"abc", b"", MISTAKE, 2),
     ("loop --limit 1048577", b"abc", b"", MISTAKE, 2),
     ("loop --rules all", b"abc", b"", MISTAKE, 2),

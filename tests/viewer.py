@@ -125,7 +125,8 @@ def side_lines(k, side, closes, told):
         if not verdict["ok"] and not note and (rules == "bep" or side["free"] != side["bep"]):
             yield "    why  %s" % (told.get("%d%s" % (k, rules)) or told.get("%dfree" % k))
     if side["isWhole"]:
-        yield "    options %s%s" % (side["options"], " (guessed: its receiver's handshake isn't there)" if side["own"]["isGuessed"] else "")
+        yield "    options %s%s" % (side["options"], " (guessed: its receiver's handshake isn't there)" if side["own"]["isGuessed"]
+            else "")
 
 
 def closing_lines(it):
@@ -157,7 +158,8 @@ def shown_lines(page):
         event, offset, words = row.get("event"), row["offset"], row["words"]
         if event and event["kind"] == "close":
             words = "(%s)" % event["word"]
-        names = [name for bit, name in enumerate(("unasked", "choked", "again", "unanswered", "elsewhere")) if row["flags"] >> bit & 1]
+        names = [name for bit, name in enumerate(("unasked", "choked", "again", "unanswered", "elsewhere"))
+            if row["flags"] >> bit & 1]
         yield "  %11.6f %s %d %s%s" % (row["time"], "AB"[row["side"]], offset, words, "  (%s)" % ", ".join(names) if names else "")
 
 
@@ -173,13 +175,15 @@ def as_btcap(page, listed, is_shown=False):
             continue
         page.run("viewer.openConnection(%d)" % connections[number]["id"])
         it, told = page.run("viewer.it"), sentences(page)
-        closes = sorted((side["closed"]["time"], side["closed"]["packet"], k) for k, side in enumerate(it["sides"]) if side["closed"])
+        closes = sorted((side["closed"]["time"], side["closed"]["packet"], k) for k, side in enumerate(it["sides"])
+            if side["closed"])
         lines.append(head)
         for k, side in enumerate(it["sides"]):
             lines += side_lines(k, side, closes, told)
         lines += [*closing_lines(it), *remark_lines(page), *(shown_lines(page) if is_shown else ())]
     for it in listed["facts"]["utp"]:
-        lines.append("uTP  %s > %s  %d packets, not read: this is BitTorrent over UDP (BEP 29)" % (*map(long_address, it["ends"]), it["packets"]))
+        lines.append("uTP  %s > %s  %d packets, not read: this is BitTorrent over UDP (BEP 29)" % (*map(long_address, it["ends"]),
+            it["packets"]))
     return "\n".join(lines) + ("\n" if lines else "")
 
 
@@ -189,7 +193,8 @@ def softened(wanted, found):
     wanted = re.sub(r"had sent \d+ bytes, last", "had sent * bytes, last", wanted)
     wanted = re.sub(r"(no BitTorrent handshake).*", r"\1", re.sub(r" --donthave-id \d+", "", wanted))
     lines, other = wanted.splitlines(), found.splitlines()
-    lines = [re.sub(r"^(  [AB]) .*", r"\1 *", line) if k < len(other) and re.fullmatch(r"  [AB] \*", other[k]) else line for k, line in enumerate(lines)]
+    lines = [re.sub(r"^(  [AB]) .*", r"\1 *", line) if k < len(other) and re.fullmatch(r"  [AB] \*", other[k]) else line for k,
+        line in enumerate(lines)]
     return "\n".join(lines) + ("\n" if lines else "")
 
 
@@ -207,7 +212,7 @@ def check_captures(page, folder):
     tests = btcap_tests()
     torrent = keep(os.path.join(folder, "a.torrent"), tests.TORRENT)
     for name, words, capture, wanted, _, status in tests.rows():
-        if status == 2 or callable(wanted) or "BadExtLength" in wanted or "one id for both" in name:
+        if status == 2 or callable(wanted) or "BadExtLength" in wanted:
             continue
         path = keep(os.path.join(folder, "capture.pcap"), capture)
         page.run("viewer.setPieces('%s')" % (words[words.index("--pieces") + 1] if "--pieces" in words else ""))
@@ -279,7 +284,8 @@ def check_lines(page, program):
             other = ["--other", example(names[1 - names.index(name)])] if len(names) == 2 else []
             for rules in ("free", "bep"):
                 for words in ([], ["--json"]):
-                    wanted = subprocess.run([program, "show", "--rules", rules, *words, *other, example(name)], capture_output=True).stdout
+                    wanted = subprocess.run([program, "show", "--rules", rules, *words, *other, example(name)],
+                        capture_output=True).stdout
                     found = page.run("viewer.backend.call('lines', {id: 0, side: %d, rules: '%s', json: %s}).then(lines => lines.text())"
                                      % (known.index(name), rules, str(bool(words)).lower()))
                     same("show %s %s %s" % (rules, words, name), found, wanted.decode())
@@ -314,7 +320,8 @@ def check_refusal(page, folder):
     capture = content(example("refused.pcap"))
     page.run("viewer.setPieces('')")
     opened(page, [keep(os.path.join(folder, "other.pcap"), capture[:24] + capture[24:].replace(b"-AA0001-", b"-AA0002-"))])
-    same("no piece count", text_at(page, ".whytext").split('"have 38"')[1], ". No piece count is known, so nobody judged whether piece 38 exists: "
+    same("no piece count", text_at(page, ".whytext").split('"have 38"')[1],
+        ". No piece count is known, so nobody judged whether piece 38 exists: "
          "type the count above, or drop the .torrent.byte 73 ↘")
 
 
@@ -410,7 +417,8 @@ def check_build(folder):
     """The page is what the sources give, and made twice it is the same."""
     made = [os.path.join(folder, name) for name in ("one.html", "two.html")]
     for path in made:
-        subprocess.run([os.path.join(ROOT, "viewer/build"), "--wasm", LIBRARY, "--out", path], check=True, stdout=subprocess.DEVNULL)
+        subprocess.run([os.path.join(ROOT, "viewer/build"), "--wasm", LIBRARY, "--out", path], check=True,
+            stdout=subprocess.DEVNULL)
     same("two builds are equal", content(made[0]) == content(made[1]), True)
     same("dist/viewer.html is what viewer/build makes", content(made[0]) == content(PAGE), True)
 
@@ -420,7 +428,8 @@ def check_fuzz():
         print("viewer: no fuzz: node isn't installed")
         return
     files = [example(name) for name in ("small.pcap", "refused.pcap", "fetching.bin", "downloading.bin")]
-    words = ["node", "--experimental-wasm-memory64", "--no-warnings", os.path.join(ROOT, "tests/page/fuzz.mjs"), str(FUZZ_RUNS), "46", LIBRARY]
+    words = ["node", "--experimental-wasm-memory64", "--no-warnings", os.path.join(ROOT, "tests/page/fuzz.mjs"), str(FUZZ_RUNS),
+        "46", LIBRARY]
     ended = subprocess.run([*words, *files], capture_output=True, text=True)
     if "bad option" in ended.stderr:
         print("viewer: no fuzz: this node has no memories of 64 bits")
@@ -450,7 +459,8 @@ def main():
             check_filter(page)
             check_reach(page)
             check_files(page, folder)
-        same("complaints", [one for one in page.complaints() if "127.0.0.1:9" not in one and "Content Security Policy" not in one], [])
+        same("complaints", [one for one in page.complaints() if "127.0.0.1:9" not in one and "Content Security Policy" not in one],
+            [])
     finally:
         page.close()
     check_fuzz()

@@ -1,5 +1,5 @@
-// Broken captures must not break the viewer: node --experimental-wasm-memory64 tests/page/fuzz.mjs RUNS SEED WASM FILE..
-// Each run changes bytes of a file, drops and swaps packets, and reads it as the viewer's worker does. The rows have to be all messages and
+// Broken captures must not break the viewer: node --experimental-wasm-memory64 tests/page/fuzz.mjs RUNS SEED WASM FILE.. Each run
+// changes bytes of a file, drops and swaps packets, and reads it as the viewer's worker does. The rows have to be all messages and
 // events, each once, in the order of time, and those of each side in its own order.
 import fs from 'node:fs';
 import { NEEDS_MEMORY64, ProvedReader } from '../../viewer/core/proved_reader.js';
@@ -8,7 +8,8 @@ import { FileBytes } from '../../viewer/core/file_bytes.js';
 import { Session } from '../../viewer/core/session.js';
 import { parseTree } from '../../viewer/core/bencode_tree.js';
 
-const [runs, first, wasm, ...files] = process.argv.slice(2), library = fs.readFileSync(wasm), reader = await ProvedReader.make(library);
+const [runs, first, wasm, ...files] = process.argv.slice(2), library = fs.readFileSync(wasm),
+  reader = await ProvedReader.make(library);
 let state = Number(first) || 1;
 const random = n => {
   state = Math.imul(state ^ state >>> 15, 0x2c1b3c6d) + 0x9e3779b9 >>> 0;

@@ -79,7 +79,8 @@ class Started:
         for name, value in self.known.items():
             words = words.replace(name, value)
         with open(os.path.join(self.folder, "client.log"), "wb") as log:
-            self.process = subprocess.Popen(["sh", "-c", words], stdin=subprocess.DEVNULL, stdout=log, stderr=log, start_new_session=True)
+            self.process = subprocess.Popen(["sh", "-c", words], stdin=subprocess.DEVNULL, stdout=log, stderr=log,
+                                            start_new_session=True)
         limit = time.monotonic() + self.seconds
         while True:
             try:

@@ -1,7 +1,6 @@
 """The command line of tools/peertest."""
 import argparse
 import ipaddress
-import os
 import sys
 import tempfile
 import time
@@ -135,15 +134,13 @@ def play(words):
 
 def finish(words, run, loaded, known):
     begin = time.monotonic()
-    try:
-        run.start()
-    except OSError:
+    if not run.start():
         print("peertest: %s doesn't listen at %s" % (words.start, words.address), file=sys.stderr)
         return 3
     gate = run.gate(loaded)
     if gate["result"] != "pass":
-        print("peertest: the client takes no correct connection: %s\nIs the torrent loaded and checked? Does it take plain TCP, without "
-              "encryption, from this machine?" % "; ".join(gate["said"]), file=sys.stderr)
+        print("peertest: the client takes no correct connection: %s" % "; ".join(gate["said"]), file=sys.stderr)
+        print("Is the torrent loaded and checked? Does it take plain TCP, without encryption, from this machine?", file=sys.stderr)
         return 3
     status = run.run()
     results = [run.results[case.id] for case in run.cases if case.id in run.results]

@@ -1,8 +1,9 @@
 """What the client sends, read by the proved reader, as lines of `show`.
 
-Each byte goes through the reader under the strict rules. A message that it refuses is noted as a fault of the client, and reading goes
-on after it if its end is known. Two answers aren't noted, since the standard asks for them and the rules refuse them: a reject of a
-request whose index is beyond the torrent (BEP 6), and a metadata reject that repeats a number which no block has (BEP 9).
+Each byte goes through the reader under the strict rules. A message that it refuses is noted as a fault of the client, and
+reading goes on after it if its end is known. Two answers aren't noted, since the standard asks for them and the rules refuse
+them: a reject of a request whose index is beyond the torrent (BEP 6), and a metadata reject that repeats a number which no
+block has (BEP 9).
 """
 import collections
 import fnmatch
@@ -153,7 +154,8 @@ class Heard:
                 self.metadata_requests.append(item.piece)
             return "%s %d" % (item.name, item.piece)
         if kind == bt.METADATA_DATA:
-            return "metadata-data %d %d %d" % (item.piece, item.total_size, len(item.rest)) + self.block(item.piece, item.total_size, item.rest)
+            words = "metadata-data %d %d %d" % (item.piece, item.total_size, len(item.rest))
+            return words + self.block(item.piece, item.total_size, item.rest)
         return item.name
 
     def raw(self, item):

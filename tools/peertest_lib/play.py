@@ -83,8 +83,9 @@ class Play:
             return
         if "af" in self.case.need:
             link.until(lambda: bool(heard.fast_set), 1.5)
-        has = {"accepts": True, "fast": heard.theirs & wire.FAST, "nofast": not heard.theirs & wire.FAST, "ext": heard.theirs & wire.EXTENSIONS,
-               "um": heard.um, "dont": heard.dont, "af": heard.fast_set, "data": link.torrent.data is not None or link.dry}
+        has = {"accepts": True, "fast": heard.theirs & wire.FAST, "nofast": not heard.theirs & wire.FAST,
+               "ext": heard.theirs & wire.EXTENSIONS, "um": heard.um, "dont": heard.dont, "af": heard.fast_set,
+               "data": link.torrent.data is not None or link.dry}
         for need in self.case.need:
             if not has[need] and not link.end:
                 raise Skip("the client has no " + NEEDS[need] if need != "data" else "needs --data")

@@ -2,10 +2,6 @@
 from . import proved, suite
 
 
-def octal(data):
-    return "".join("\\%o" % byte if not 32 < byte < 127 or byte in b"\\%'\"" else chr(byte) for byte in data)
-
-
 def printf(data):
     """A command that writes the bytes; a long run of one byte is made by head and tr."""
     lines, at = [], 0
@@ -18,7 +14,6 @@ def printf(data):
         end = at
         while end < len(data) and end - at < 40 and not (end + 64 <= len(data) and len(set(data[end:end + 64])) == 1):
             end += 1
-        # A `\\ooo` of fewer than three digits may not have a digit after it.
         lines.append("printf '%s'" % "".join("\\%03o" % byte for byte in data[at:end]))
         at = end
     return lines

@@ -45,19 +45,21 @@ def write_json(path, suite, results, seconds):
 
 def junit_case(result):
     said = "; ".join(result["said"])
-    head = ' <testcase classname=%s name=%s time="%.3f">' % (quoteattr("peertest." + result["id"].split(".")[0]), quoteattr(result["id"]),
-                                                           result["seconds"])
+    family = quoteattr("peertest." + result["id"].split(".")[0])
+    head = ' <testcase classname=%s name=%s time="%.3f">' % (family, quoteattr(result["id"]), result["seconds"])
     sentence = '%s, "%s" (%s, paraphrased): %s' % (result["bep"], result["section"], result["level"], result["text"])
+    passed = "<system-out>%s</system-out>" % escape("%s: %s" % (result["result"], said))
     inner = {"fail": "<failure message=%s>%s</failure>" % (quoteattr(said), escape(sentence)),
              "error": "<error message=%s/>" % quoteattr(said), "skip": "<skipped message=%s/>" % quoteattr(said)}
-    return head + inner.get(result["result"], "<system-out>%s</system-out>" % escape("%s: %s" % (result["result"], said))) + "</testcase>\n"
+    return head + inner.get(result["result"], passed) + "</testcase>\n"
 
 
 def write_junit(path, suite, results, seconds):
     found = counts(results)
     with open(path, "w", encoding="utf8") as file:
-        file.write('<?xml version="1.0" encoding="UTF-8"?>\n<testsuite name=%s tests="%d" failures="%d" errors="%d" skipped="%d" time="%.1f">\n'
-                   % (quoteattr("peertest " + suite.mode), len(results), found["fail"], found["error"], found["skip"], seconds))
+        head = '<testsuite name=%s tests="%d" failures="%d" errors="%d" skipped="%d" time="%.1f">\n'
+        file.write('<?xml version="1.0" encoding="UTF-8"?>\n')
+        file.write(head % (quoteattr("peertest " + suite.mode), len(results), found["fail"], found["error"], found["skip"], seconds))
         file.writelines(junit_case(result) for result in results)
         file.write("</testsuite>\n")
 

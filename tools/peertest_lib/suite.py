@@ -61,6 +61,7 @@ class Suite:
         self.torrent, self.mode, self.cases, self.dialler, self.client = torrent, mode, cases, dialler, client
         self.options, self.tell, self.results, self.died = options, tell, {}, []
         self.peer_id, self.starts, self.lock, self.moved = "", 0, threading.Lock(), {}
+        self.gone = False
 
     def play(self, case, dialler=None):
         """One case, with the client that runs or the one of another dialler."""
@@ -140,14 +141,20 @@ class Suite:
             self.batch([case], 1)
 
     def start(self):
+        """Starts the client, and says whether it came up."""
         self.starts += 1
-        self.client.start()
+        try:
+            self.client.start()
+        except OSError:
+            self.gone = True
+            return False
         if self.client.restarts:
             self.is_ready(self.dialler)
+        return True
 
-    def is_ready(self, dialler, seconds=20):
+    def is_ready(self, dialler):
         """Waits until a client that was just started answers a handshake: it may listen before its torrent is loaded."""
-        limit = time.monotonic() + seconds
+        limit = time.monotonic() + min(20, 5 * self.options.patience)
         while True:
             try:
                 link = dialler.link()
@@ -181,8 +188,8 @@ class Suite:
             self.keep(plain_result(case, "skip", ["the client had died"]))
 
     def stopped(self):
-        """Whether the client has died and nobody starts it again."""
-        return bool(self.died) and (not self.client.restarts or self.starts > MOST_STARTS)
+        """Whether the client has died and isn't started again."""
+        return self.gone or bool(self.died) and (not self.client.restarts or self.starts > MOST_STARTS)
 
     def play_moved(self, case):
         """One case with a new client of its own, at another port."""
@@ -203,11 +210,31 @@ class Suite:
 
     def together(self, cases, jobs):
         """Runs the cases until all have or the client died. Returns the results, and when it died."""
-        done, death = self.each(cases, jobs, self.play, lambda result: not self.client.lives() or result["state"] == "unreachable")
+        done, death = self.each(cases, jobs, self.play, self.has_died)
         # A process ends a little later than its connections.
-        if death is None and any(result["state"] == "closed" for result in done) and not lives_on(self.client):
+        if death is None and any(result["state"] == "closed" for result in done) and self.is_gone():
             death = time.monotonic()
         return done, death
+
+    def has_died(self, result):
+        """Whether the client is gone: its process has ended, or nobody listens any more."""
+        if not self.client.lives():
+            return True
+        return result["state"] == "unreachable" and self.is_gone()
+
+    def is_gone(self, seconds=2):
+        """Whether the client's process ends, or nobody listens for some seconds."""
+        limit = time.monotonic() + seconds
+        while self.client.lives():
+            try:
+                if not hasattr(self.dialler, "command"):
+                    self.dialler.link().close()
+                return not lives_on(self.client)
+            except OSError:
+                if time.monotonic() > limit:
+                    return True
+                time.sleep(0.02)
+        return True
 
     def each(self, cases, jobs, play, is_dead):
         """Plays the cases, so many at a time, until one leaves a dead client. Returns the results, and when that was."""
@@ -240,32 +267,40 @@ class Suite:
     def blame(self, suspects, results, jobs):
         """Finds the case that killed the client."""
         if not self.client.restarts or len(suspects) == 1 and jobs == 1:
-            for case in suspects:
-                result = results[case.id]
-                others = [other.id for other in suspects if other is not case]
-                self.dead(case, result, others, self.client.status())
-                self.keep(result)
+            self.blame_all(suspects, results)
             if self.client.restarts and self.starts <= MOST_STARTS:
                 self.start()
             return
+        before = len(self.died)
         self.start()
         for case in suspects:
-            if self.stopped() and self.starts > MOST_STARTS:
+            if self.stopped() and (self.gone or self.starts > MOST_STARTS):
                 self.keep(plain_result(case, "skip", ["the client had died"]))
                 continue
             result = self.play(case)
-            if not lives_on(self.client) or result["state"] == "unreachable":
+            died = self.is_gone()
+            if died:
                 self.dead(case, result, [], self.client.status())
-                self.keep(result)
+            self.keep(result)
+            if died:
                 self.start()
-            else:
-                self.keep(result)
+        if len(self.died) == before:
+            self.died.append("one of %s, not again by itself" % ", ".join(case.id for case in suspects[:5]))
+
+    def blame_all(self, suspects, results):
+        """Gives a death that can't be tried again to what ran at the time."""
+        kept = ("alive", "skip")
+        likely = [case for case in suspects if results[case.id]["state"] not in kept] or suspects
+        for case in suspects:
+            if case in likely:
+                self.dead(case, results[case.id], [other.id for other in likely if other is not case], self.client.status())
+            self.keep(results[case.id])
 
     def dead(self, case, result, others, status):
         """Gives a death to a case."""
         died = "THE CLIENT DIED" + (" (status %s)" % status if status is not None else "")
         if others:
-            died += "; so far it isn't known whether of this case or of " + ", ".join(others[:5])
+            died += "; so far it isn't known whether in this case or in " + ", ".join(others[:5])
         result["result"], result["state"] = "fail", "died"
         result["said"] = result["said"] + [died]
         self.died.append(case.id)

@@ -13,8 +13,8 @@ const MOST_OPTIONS = 65536;
 /**
  * A packet: `view` shows its first `seen` bytes at `at`; its `captured` bytes start at `offset` of the file, and on the wire it had
  * `wire` bytes.
- * @typedef {{ number: number, link: number, seconds: number, offset: number, captured: number, wire: number, view: DataView, at: number,
- *   seen: number }} Packet
+ * @typedef {{ number: number, link: number, seconds: number, offset: number, captured: number, wire: number, view: DataView, at:
+ *  number, seen: number }} Packet
  */
 
 /** @param {Uint8Array} head */
@@ -108,7 +108,8 @@ class PcapngReader {
     if (kind === 1 && size >= 8) {
       const shown = Math.min(size, MOST_OPTIONS);
       window.show(body, shown);
-      this.faces.push([window.view.getUint16(window.base, little), timeUnit(window.view, window.base + 8, window.base + shown, little)]);
+      this.faces.push([window.view.getUint16(window.base, little),
+        timeUnit(window.view, window.base + 8, window.base + shown, little)]);
     } else if ((kind === 2 || kind === 6) && size >= 20) this.readPacket(kind, body, size);
     else if (kind === 3 && size >= 4 && this.faces.length) {
       window.show(body, 4);

@@ -27,7 +27,8 @@ function lastRow(talk, side, upto) {
  * @param {Conversation} talk @param {number} side @param {number} upto
  */
 function refusalRow(talk, side, upto) {
-  const found = ['refused', 'bep'].map(kind => talk.events.findIndex((event, k) => event.kind === kind && event.side === side && talk.eventRows[k] < upto));
+  const found = ['refused', 'bep'].map(kind => talk.events.findIndex((event, k) => event.kind === kind && event.side === side &&
+    talk.eventRows[k] < upto));
   const k = found.find(one => one >= 0);
   return k === undefined ? -1 : talk.eventRows[k];
 }
@@ -65,7 +66,8 @@ function isSeed(talk, side) {
  * @param {Conversation} talk @param {number} side
  */
 function greatestIndex(talk, side) {
-  const { items } = talk.directions[side], named = new Set([CODE.have, CODE.request, CODE.piece, CODE.suggest, CODE.allowedFast, CODE.reject, CODE.cancel]);
+  const { items } = talk.directions[side],
+    named = new Set([CODE.have, CODE.request, CODE.piece, CODE.suggest, CODE.allowedFast, CODE.reject, CODE.cancel]);
   let most = -1;
   for (let k = 0; k < talk.shown[side].count; k++) if (named.has(items.code[k])) most = Math.max(most, items.a[k]);
   return most;
@@ -90,9 +92,11 @@ export function closingOf(talk) {
 function causeOf(talk, closer, other, upto) {
   const refusal = refusalRow(talk, other, upto);
   if (refusal >= 0) return { kind: 'refusal', cause: refusal };
-  if (talk.directions[1 - other].gaps.length || talk.directions[other].gaps.length) return { kind: 'gap', cause: lastRow(talk, other, upto) };
+  if (talk.directions[1 - other].gaps.length || talk.directions[other].gaps.length) return { kind: 'gap',
+    cause: lastRow(talk, other, upto) };
   const remark = remarkRow(talk, other, upto);
-  if (remark >= 0) return { kind: 'remark', cause: remark, most: greatestIndex(talk, other), isCounted: talk.directions[other].own?.pieces != null };
+  if (remark >= 0) return { kind: 'remark', cause: remark, most: greatestIndex(talk, other),
+    isCounted: talk.directions[other].own?.pieces != null };
   if (isSeed(talk, 0) && isSeed(talk, 1)) return { kind: 'seeds', cause: lastRow(talk, other, upto) };
   const last = lastRow(talk, other, upto), most = greatestIndex(talk, other);
   return { kind: last < 0 ? 'nothing' : 'last', cause: last, most, isCounted: talk.directions[other].own?.pieces != null };

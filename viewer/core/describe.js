@@ -7,7 +7,8 @@ const BARS = 48;
  * The printable bytes of a peer id, and the others in hex.
  * @param {Uint8Array} id
  */
-const peerIdText = id => Array.from(id, byte => byte > 32 && byte < 127 ? String.fromCharCode(byte) : `\\x${byte.toString(16).padStart(2, '0')}`).join('');
+const peerIdText = id => Array.from(id, byte => byte > 32 && byte < 127 ? String.fromCharCode(byte)
+  : `\\x${byte.toString(16).padStart(2, '0')}`).join('');
 
 /** @param {bigint} reserved */
 const reservedText = reserved => reserved.toString(16).padStart(16, '0');
@@ -30,9 +31,11 @@ function sparkOf({ stream }, connection) {
 function sideOf(it) {
   const { sender, half, own } = it;
   return {
-    sent: it.sent, bytes: it.isBegun || it.free ? it.stream.length : 0, skipped: it.skipped, isWhole: it.isWhole, messages: it.items.count,
+    sent: it.sent, bytes: it.isBegun || it.free ? it.stream.length : 0, skipped: it.skipped, isWhole: it.isWhole,
+      messages: it.items.count,
     client: it.isWhole ? sender.client ?? peerName(sender.peerId) : null, isNamed: sender.client !== null,
-    infoHash: sender.infoHash, peerId: peerIdText(sender.peerId), metadataId: sender.metadataId, reserved: reservedText(sender.reserved),
+    infoHash: sender.infoHash, peerId: peerIdText(sender.peerId), metadataId: sender.metadataId,
+      reserved: reservedText(sender.reserved),
     free: it.free, bep: it.bep, own: own && { ...own, reserved: reservedText(own.reserved) }, options: own && it.optionWords(),
     gaps: it.gaps.slice(0, 100), gapCount: it.gaps.length, gapBytes: it.gaps.reduce((sum, { size }) => sum + size, 0),
     repeated: half?.repeated ?? 0, conflicts: half?.conflicts ?? 0, late: half?.late ?? 0, closed: half?.closed ?? null,

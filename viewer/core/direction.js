@@ -16,7 +16,8 @@ const HANDSHAKES_READ = 200;    // extended handshakes whose names are taken
 const FIRST_BATCHES = 16;       // extended handshakes come among the first messages
 
 /** @returns {import('./types.js').Sender} */
-const unknownSender = () => ({ reserved: 0n, infoHash: '', peerId: new Uint8Array(0), metadataId: null, client: null, extensions: new Map() });
+const unknownSender = () => ({ reserved: 0n, infoHash: '', peerId: new Uint8Array(0), metadataId: null, client: null,
+  extensions: new Map() });
 
 export class Direction {
   /**
@@ -53,7 +54,8 @@ export class Direction {
   hearSender(reader, isAsked) {
     if (!this.isWhole) return;
     const head = this.stream.part(0, HANDSHAKE_BYTES), { sender } = this;
-    Object.assign(sender, { reserved: BigInt(`0x${hexOf(head.subarray(20, 28))}`), infoHash: hexOf(head.subarray(28, 48)), peerId: head.slice(48) });
+    Object.assign(sender, { reserved: BigInt(`0x${hexOf(head.subarray(20, 28))}`), infoHash: hexOf(head.subarray(28, 48)),
+      peerId: head.slice(48) });
     let batches = 0, heard = 0;
     /** @type {import('./types.js').Receiver} */
     const own = { reserved: EVERY_EXTENSION, limit: LONGEST_MESSAGE, pieces: null, metadataId: 0, strict: false };
@@ -77,7 +79,8 @@ export class Direction {
     this.sender.client ??= clientOf(dictionary);
     for (const { key, child } of childOf(dictionary, parseTree(dictionary).root, 'm')?.children ?? []) {
       if (!key || child?.type !== 'integer' || !(Number(child.value) > 0)) continue;
-      this.sender.extensions.set(Number(child.value), printable(dictionary.subarray(key.body, Math.min(key.end, key.body + 40)), '.'));
+      this.sender.extensions.set(Number(child.value),
+        printable(dictionary.subarray(key.body, Math.min(key.end, key.body + 40)), '.'));
     }
   }
 
@@ -87,7 +90,8 @@ export class Direction {
    */
   receiver(other, options) {
     const heard = other.isWhole ? other.sender : null;
-    const guess = options.isRaw ? { reserved: EVERY_EXTENSION, metadataId: USUAL_METADATA_ID } : { reserved: this.sender.reserved, metadataId: 0 };
+    const guess = options.isRaw ? { reserved: EVERY_EXTENSION, metadataId: USUAL_METADATA_ID }
+      : { reserved: this.sender.reserved, metadataId: 0 };
     return {
       reserved: options.reserved ?? (heard ? heard.reserved : guess.reserved),
       metadataId: options.metadataId ?? (heard ? heard.metadataId ?? 0 : guess.metadataId),
@@ -100,7 +104,8 @@ export class Direction {
 
   /**
    * Reads the stream. Items are taken under `free`; those before a refusal under `bep` are the same.
-   * @param {import('./proved_reader.js').ProvedReader} reader @param {Direction} other @param {import('./types.js').Options} options
+   * @param {import('./proved_reader.js').ProvedReader} reader @param {Direction} other @param {import('./types.js').Options}
+   *  options
    */
   judge(reader, other, options) {
     const own = this.own = this.receiver(other, options);
@@ -114,7 +119,8 @@ export class Direction {
   /** The receiver as options of bt_tool. */
   optionWords() {
     const { reserved, metadataId, pieces, infoHash, limit } = this.own;
-    return [`--reserved ${reserved.toString(16).padStart(16, '0')}`, `--metadata-id ${metadataId}`, pieces === null ? '' : `--pieces ${pieces}`,
+    return [`--reserved ${reserved.toString(16).padStart(16, '0')}`, `--metadata-id ${metadataId}`, pieces === null ? ''
+      : `--pieces ${pieces}`,
       infoHash ? `--info-hash ${infoHash}` : '', limit === USUAL_LIMIT ? '' : `--limit ${limit}`].filter(Boolean).join(' ');
   }
 

@@ -1,5 +1,5 @@
-// One direction of a TCP connection, put together from its segments as spans of the file, in the order of the stream. No byte is copied.
-// Of bytes that were sent twice the first ones count. Nothing of this is proved.
+// One direction of a TCP connection, put together from its segments as spans of the file, in the order of the stream. No byte is
+// copied. Of bytes that were sent twice the first ones count. Nothing of this is proved.
 import { FIN, RST, SYN } from './packet_headers.js';
 import { Stream } from './stream.js';
 

@@ -1,4 +1,5 @@
-// From a captured packet to the TCP segment or UDP datagram in it: Ethernet with VLAN tags, Linux cooked (both versions), loopback, raw IP.
+// From a captured packet to the TCP segment or UDP datagram in it: Ethernet with VLAN tags, Linux cooked (both versions), loopback,
+// raw IP.
 
 export const FIN = 1, SYN = 2, RST = 4, ACK = 16;
 export const TCP = 6, UDP = 17;

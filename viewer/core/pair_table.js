@@ -1,5 +1,5 @@
-// A map from two numbers of 32 bits to a number from 0 to 2^32 - 2: what a request asks for, and where it stands. A Map of millions of
-// requests takes ten times as long.
+// A map from two numbers of 32 bits to a number from 0 to 2^32 - 2: what a request asks for, and where it stands. A Map of millions
+// of requests takes ten times as long.
 
 export class PairTable {
   constructor() {

@@ -2,7 +2,8 @@
 import { printable } from './text.js';
 
 /** @type {Record<string, string>} */
-const CLIENTS = { LT: 'libtorrent (rasterbar)', lt: 'libtorrent (rakshasa)', TR: 'Transmission', qB: 'qBittorrent', DE: 'Deluge', UT: 'µTorrent',
+const CLIENTS = { LT: 'libtorrent (rasterbar)', lt: 'libtorrent (rakshasa)', TR: 'Transmission', qB: 'qBittorrent', DE: 'Deluge',
+  UT: 'µTorrent',
   UM: 'µTorrent Mac', BT: 'BitTorrent', AZ: 'Vuze', KT: 'KTorrent', WW: 'WebTorrent', BI: 'BiglyBT', FD: 'Free Download Manager' };
 
 /** @param {Uint8Array} peerId */

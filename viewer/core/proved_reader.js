@@ -3,7 +3,8 @@
 
 const MORE_ITEMS = 1, REFUSED = 2;
 
-const REASONS = ['', 'BadProtocol', 'WrongInfoHash', 'TooLong', 'UnknownId', 'NotNegotiated', 'WrongLength', 'BadIndex', 'SpareBits', 'Late',
+const REASONS = ['', 'BadProtocol', 'WrongInfoHash', 'TooLong', 'UnknownId', 'NotNegotiated', 'WrongLength', 'BadIndex',
+  'SpareBits', 'Late',
   'Missing', 'BadBencode', 'Unsorted', 'BadField', 'BadBlock', 'StreamFull', 'EndInside', 'BadExtLength'];
 
 const ABI = 1;

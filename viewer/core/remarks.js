@@ -98,7 +98,8 @@ export class Matcher {
 
   /** @param {number} r @param {number} side @param {number} k @param {number} code */
   takeRequest(r, side, k, code) {
-    const mine = this.sides[side], other = this.sides[1 - side], { hasTimes, directions } = this.talk, { a, b } = directions[side].items;
+    const mine = this.sides[side], other = this.sides[1 - side], { hasTimes, directions } = this.talk,
+      { a, b } = directions[side].items;
     if (hasTimes && mine.asked.get(code, a[k], b[k]) >= 0) this.flags[r] |= AGAIN;
     mine.asked.set(code, a[k], b[k], r);
     if (code !== CODE.request) return;
@@ -130,8 +131,8 @@ export class Matcher {
   }
 
   /**
-   * With the Fast Extension a request gets a block or a reject (BEP 6). Those that got none count if the other end did what comes later:
-   * it answered a later request, choked, or closed first.
+   * With the Fast Extension a request gets a block or a reject (BEP 6). Those that got none count if the other end did what comes
+   * later: it answered a later request, choked, or closed first.
    * @param {number} closer
    */
   markUnanswered(closer) {

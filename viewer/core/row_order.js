@@ -8,7 +8,8 @@ import { PairTable } from './pair_table.js';
 export const EVENT = 0xfff00000, SIDE = 0x80000000;
 
 /** @param {number} code */
-export const isAnswer = code => code === CODE.piece || code === CODE.reject || code === CODE.metadataData || code === CODE.metadataReject;
+export const isAnswer = code => code === CODE.piece || code === CODE.reject || code === CODE.metadataData ||
+  code === CODE.metadataReject;
 /** @param {number} code */
 export const isRequest = code => code === CODE.request || code === CODE.metadataRequest;
 
@@ -65,7 +66,8 @@ class Order {
 
   /** The rows, and the row of each event. */
   rows() {
-    const { next, done, queues, counts } = this, rows = new Uint32Array(counts[0] + counts[1] + queues[0].length + queues[1].length);
+    const { next, done, queues, counts } = this,
+      rows = new Uint32Array(counts[0] + counts[1] + queues[0].length + queues[1].length);
     /** @type {number[]} */
     const eventRows = [];
     let r = 0;
@@ -118,7 +120,8 @@ class TimeOrder extends Order {
   }
 
   /** @param {TalkEvent} event @param {number} side */
-  isBefore(event, side) { return event.time < this.time[side] || (event.time === this.time[side] && event.packet < this.packet[side]); }
+  isBefore(event, side) { return event.time < this.time[side] ||
+    (event.time === this.time[side] && event.packet < this.packet[side]); }
 
   choose() {
     if (this.last >= 0) this.look(this.last);

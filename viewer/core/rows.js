@@ -30,8 +30,10 @@ export class Rows {
   row(r) {
     const { talk } = this, { rows, matches } = talk, row = rows[r], time = talk.timeOf(row);
     const made = {
-      r, time, packet: talk.packetOf(row), words: this.words(row), group: talk.groupOf(row), name: talk.nameOf(row), side: talk.sideOf(row),
-      flags: matches.flags[r], bands: [matches.stateAt(0, r), matches.stateAt(1, r)], delta: r && time !== null ? time - talk.timeOf(rows[r - 1]) : null,
+      r, time, packet: talk.packetOf(row), words: this.words(row), group: talk.groupOf(row), name: talk.nameOf(row),
+        side: talk.sideOf(row),
+      flags: matches.flags[r], bands: [matches.stateAt(0, r), matches.stateAt(1, r)], delta: r && time !== null
+        ? time - talk.timeOf(rows[r - 1]) : null,
     };
     if (row < EVENT) return { ...made, ...this.itemOf(row), ...this.mateOf(r, time) };
     const event = talk.events[row - EVENT];
@@ -65,7 +67,8 @@ export class Rows {
    * @param {number} r
    */
   message(r) {
-    const { talk } = this, row = talk.rows[r], made = this.row(r), { stream, own } = talk.directions[made.side], { pieces, limit, isGuessed } = own ?? { pieces: null, limit: 0 };
+    const { talk } = this, row = talk.rows[r], made = this.row(r), { stream, own } = talk.directions[made.side],
+      { pieces, limit, isGuessed } = own ?? { pieces: null, limit: 0 };
     const part = row >= EVENT ? this.refusedBytes(talk.events[row - EVENT], stream) : this.itemBytes(row);
     const from = Math.max(0, part.start - part.start % 16 - BYTES_BEFORE), end = part.start + part.bytes.length;
     return { ...made, ...part, own: { pieces, limit, isGuessed }, rules: talk.rules, before: stream.part(from, part.start - from),
@@ -76,7 +79,8 @@ export class Rows {
   itemBytes(row) {
     const { items, read } = this.talk.directions[row >>> 31], k = row & 0x7fffffff;
     return {
-      start: items.start[k], bytes: read(items.start[k], items.sizeOf(k)), line: lineOf(items, k, read), json: jsonOf(items, k, read), left: 0, whole: 0,
+      start: items.start[k], bytes: read(items.start[k], items.sizeOf(k)), line: lineOf(items, k, read),
+        json: jsonOf(items, k, read), left: 0, whole: 0,
       fields: { code: items.code[k], a: items.a[k], b: items.b[k], c: items.c[k], wide: items.wide.get(k)?.toString() ?? null },
     };
   }
@@ -87,7 +91,8 @@ export class Rows {
     const empty = { line: '', json: '', fields: null, left: 0, whole: 0 };
     if (!event.verdict) return { ...empty, start: Math.min(event.place, stream.length), bytes: new Uint8Array(0) };
     const { start, at, message } = event.verdict, left = stream.length - start;
-    const whole = left >= 4 && message > 0 ? new DataView(stream.part(start, 4).buffer).getUint32(0) + 4 : message === 0 ? Math.min(left, 68) : left;
+    const whole = left >= 4 && message > 0 ? new DataView(stream.part(start, 4).buffer).getUint32(0) + 4 : message === 0
+      ? Math.min(left, 68) : left;
     const shown = whole <= Math.min(left, MOST_REFUSED) ? whole : Math.min(left, at - start + 16);
     return { ...empty, start, bytes: stream.part(start, Math.max(shown, Math.min(left, at - start + 1))), whole, left };
   }

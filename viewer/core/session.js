@@ -16,8 +16,8 @@ import { Traffic } from './traffic.js';
 /**
  * @typedef {import('./file_bytes.js').FileBytes} FileBytes
  * @typedef {{ name: string, bytes: FileBytes }} OpenFile
- * @typedef {{ number: number, connection: import('./traffic.js').Connection | null, directions: Direction[], names: string[], isRaw: boolean,
- *   metadata?: import('./types.js').Info | null }} Pair two directions of a connection
+ * @typedef {{ number: number, connection: import('./traffic.js').Connection | null, directions: Direction[], names: string[],
+ *  isRaw: boolean, metadata?: import('./types.js').Info | null }} Pair two directions of a connection
  */
 
 const MOST_TORRENT = 64 << 20;
@@ -56,7 +56,8 @@ export class Session {
     let learned = null;
     for (const file of files) {
       if (!file.bytes.length) throw new Error(`${file.name} is empty`);
-      const head = file.bytes.part(0, 16), torrent = head[0] === 0x64 && file.bytes.length <= MOST_TORRENT ? torrentOf(file.bytes.part(0, MOST_TORRENT)) : null;
+      const head = file.bytes.part(0, 16), torrent = head[0] === 0x64 && file.bytes.length <= MOST_TORRENT
+        ? torrentOf(file.bytes.part(0, MOST_TORRENT)) : null;
       if (isCapture(head)) captures.push(file);
       else if (torrent?.pieces) this.torrents.set((learned = torrent).infoHash, torrent);
       else raw.push(file);
@@ -82,8 +83,10 @@ export class Session {
     facts.utp.push(...traffic.utp.list());
     traffic.connections.forEach((connection, number) => {
       const directions = connection.halves.map(half => new Direction(half.stream(), half.gaps(), half));
-      if (directions.some(it => it.isBegun)) this.pairs.push({ number, connection, directions, names: connection.ends, isRaw: false });
-      else if (connection.halves.some(half => half.places.length)) facts.others.push({ number, ends: connection.ends, bytes: directions.map(it => it.sent) });
+      if (directions.some(it => it.isBegun)) this.pairs.push({ number, connection, directions, names: connection.ends,
+        isRaw: false });
+      else if (connection.halves.some(half => half.places.length)) facts.others.push({ number, ends: connection.ends,
+        bytes: directions.map(it => it.sent) });
     });
   }
 
@@ -126,14 +129,16 @@ export class Session {
       ...describe(pair, id, this.torrents), groups: talk.groupCounts(), rules, total: talk.rows.length, hasTimes: talk.hasTimes,
       events: talk.events.map((event, k) => ({ ...event, row: talk.eventRows[k] })),
       remarks: remarks.map(side => side.map(({ count, row }, k) => ({ name: REMARKS[k], count, row: rowOf(row) }))),
-      closing: closing && { ...closing, lasts: closing.lasts.map(rowOf), cause: closing.cause < 0 ? null : maker.message(closing.cause) },
+      closing: closing && { ...closing, lasts: closing.lasts.map(rowOf), cause: closing.cause < 0 ? null
+        : maker.message(closing.cause) },
       isOrderGuessed: !talk.hasTimes && pair.directions.every(it => it.isBegun),
     };
   }
 
   /** The counts and charts of the connection that is shown. */
   summary() {
-    const { directions, metadata } = this.current, known = this.torrents.get(directions.find(it => it.isWhole)?.sender.infoHash) ?? metadata;
+    const { directions, metadata } = this.current, known = this.torrents.get(directions.find(it => it.isWhole)?.sender.infoHash) ??
+      metadata;
     return summarise(this.talk, directions.find(it => it.own?.pieces != null)?.own.pieces ?? known?.pieces ?? null);
   }
 
@@ -153,7 +158,8 @@ export class Session {
         await new Promise(next => setTimeout(next));
         if (mine !== this.search) return null;
       }
-      const isShown = groups[talk.groupOf(rows[r])] && (side < 0 || talk.sideOf(rows[r]) === side) && (!isRemarked || matches.flags[r] !== 0);
+      const isShown = groups[talk.groupOf(rows[r])] && (side < 0 || talk.sideOf(rows[r]) === side) &&
+        (!isRemarked || matches.flags[r] !== 0);
       if (isShown && (!wanted || rowMaker.words(rows[r]).toLowerCase().includes(wanted))) found.push(r);
     }
     this.view = Uint32Array.from(found);
@@ -193,7 +199,8 @@ export class Session {
    * @param {{ id: number, side: number, rules: string, json: boolean }} given
    */
   lines({ id, side, rules, json }) {
-    const direction = this.pairs[id].directions[side], { count, verdict } = direction.shown(rules), make = json ? jsonOf : lineOf, parts = [];
+    const direction = this.pairs[id].directions[side], { count, verdict } = direction.shown(rules), make = json ? jsonOf : lineOf,
+      parts = [];
     for (let from = 0; from < count; from += LINES_AT_ONCE) {
       const lines = [];
       for (let k = from; k < Math.min(from + LINES_AT_ONCE, count); k++) lines.push(make(direction.items, k, direction.read), '\n');

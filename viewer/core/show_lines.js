@@ -43,14 +43,16 @@ function jsonFieldsOf(items, k, read) {
   switch (code) {
     case CODE.handshake: {
       const all = read(start, 68), peerId = all.subarray(48);
-      return { reserved: hexOf(all.subarray(20, 28)), info_hash: hexOf(all.subarray(28, 48)), peer_id: hexOf(peerId), peer_id_text: utf8Of(peerId) };
+      return { reserved: hexOf(all.subarray(20, 28)), info_hash: hexOf(all.subarray(28, 48)), peer_id: hexOf(peerId),
+        peer_id_text: utf8Of(peerId) };
     }
     case CODE.have: case CODE.suggest: case CODE.allowedFast: case CODE.dontHave: return { index: a };
     case CODE.request: case CODE.cancel: case CODE.reject: return { index: a, begin: b, length: c };
     case CODE.piece: return { index: a, begin: b, bytes: c };
     case CODE.bitfield: return { bytes: c };
     case CODE.port: return { port: a };
-    case CODE.extHandshake: return { dictionary: b, rest: c, metadata_size: items.wide.get(k) ?? null, ut_metadata: a < 256 ? a : null,
+    case CODE.extHandshake: return { dictionary: b, rest: c, metadata_size: items.wide.get(k) ?? null, ut_metadata: a < 256 ? a
+      : null,
       client: clientOf(read(start + 6, b)) };
     case CODE.metadataRequest: case CODE.metadataReject: return { piece: a };
     case CODE.metadataData: return { piece: a, total_size: items.wide.get(k), bytes: c };

@@ -15,5 +15,6 @@ export function spreadOf(list) {
     const part = (Math.log10(Math.max(one, LEAST)) - low) / (high - low);
     bars[Math.min(BARS - 1, Math.max(0, Math.floor(part * BARS)))]++;
   }
-  return { count: sorted.length, least: sorted[0], half: at(0.5), nine: at(0.9), most: sorted[sorted.length - 1], bars, low: 10 ** low, high: 10 ** high };
+  return { count: sorted.length, least: sorted[0], half: at(0.5), nine: at(0.9), most: sorted[sorted.length - 1], bars,
+    low: 10 ** low, high: 10 ** high };
 }

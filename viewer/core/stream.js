@@ -31,7 +31,8 @@ export class Stream {
    * A whole file as a stream.
    * @param {import('./file_bytes.js').FileBytes} file
    */
-  static raw(file) { return file.length ? new Stream(file, [0], [0], [file.length], null, null) : new Stream(file, [], [], [], null, null); }
+  static raw(file) { return file.length ? new Stream(file, [0], [0], [file.length], null, null)
+    : new Stream(file, [], [], [], null, null); }
 
   /**
    * The span that has the byte at this place.
@@ -75,7 +76,8 @@ export class Stream {
     const offsets = this.offsets.slice(k), sizes = this.sizes.slice(k);
     offsets[0] += inside;
     sizes[0] -= inside;
-    return new Stream(this.file, starts, offsets, sizes, this.times && [...this.times.subarray(k)], this.packets && [...this.packets.subarray(k)]);
+    return new Stream(this.file, starts, offsets, sizes, this.times && [...this.times.subarray(k)], this.packets &&
+      [...this.packets.subarray(k)]);
   }
 
   /**

@@ -126,7 +126,8 @@ class Summariser {
       side.heldNow = this.pieces;
     } else {
       const bits = stream.part(items.start[k] + 5, Math.min(items.c[k], MOST_PIECES / 8));
-      for (let index = 0; index < Math.min(this.pieces, bits.length * 8); index++) if (bits[index >> 3] & 128 >> (index & 7)) side.own(index);
+      for (let index = 0; index < Math.min(this.pieces,
+        bits.length * 8); index++) if (bits[index >> 3] & 128 >> (index & 7)) side.own(index);
     }
     side.held[bin] = side.heldNow;
   }

@@ -54,16 +54,19 @@ function eventsOfSide(directions, connection, side, rules) {
   const direction = directions[side], { verdict } = direction.shown(rules), closed = connection?.halves[side].closed;
   /** @type {TalkEvent[]} */
   const found = [];
-  const put = (/** @type {keyof typeof RANK} */ kind, /** @type {any} */ more) => found.push({ side, kind, rank: RANK[kind], ...more });
+  const put = (/** @type {keyof typeof RANK} */ kind, /** @type {any} */ more) =>
+    found.push({ side, kind, rank: RANK[kind], ...more });
   if (direction.skipped > 0) put('exchange', { size: direction.skipped, ...arrivalOf(direction, 0, connection) });
   if (verdict && !verdict.ok) {
     const cut = verdict.reason === 'EndInside' ? whyCut(directions, connection, side) : null;
     put(cut ? 'cut' : 'refused', { verdict, cut, rules, ...arrivalOf(direction, verdict.at, connection) });
   }
-  if (rules === 'free' && differs(direction)) put('bep', { verdict: direction.bep, rules: 'bep', ...arrivalOf(direction, direction.bep.at, connection) });
+  if (rules === 'free' && differs(direction)) put('bep',
+    { verdict: direction.bep, rules: 'bep', ...arrivalOf(direction, direction.bep.at, connection) });
   if (direction.gaps.length) {
     const [gap] = direction.gaps;
-    put('gap', { size: gap.size, more: direction.gaps.length - 1, ...arrivalOf(direction, Math.max(gap.at - 1, 0), connection), place: gap.at });
+    put('gap', { size: gap.size, more: direction.gaps.length - 1, ...arrivalOf(direction, Math.max(gap.at - 1, 0), connection),
+      place: gap.at });
   }
   if (closed) put('close', { word: closed.kind, time: closed.time, packet: closed.packet, place: direction.stream.length });
   return found;

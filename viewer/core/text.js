@@ -15,4 +15,5 @@ export function utf8Of(bytes) {
  * Printable ASCII as it is, and a sign for each other byte.
  * @param {Uint8Array} bytes @param {string} sign
  */
-export const printable = (bytes, sign) => Array.from(bytes, byte => byte > 31 && byte < 127 ? String.fromCharCode(byte) : sign).join('');
+export const printable = (bytes, sign) => Array.from(bytes, byte => byte > 31 && byte < 127 ? String.fromCharCode(byte)
+  : sign).join('');

@@ -1,15 +1,16 @@
 // The shapes of what the modules pass to one another. No code.
 
 /**
- * What the proved reader says of a stream: accepted, with its messages and bytes; or refused, with the message, the offset at which that
- * starts, the offset of the refusal, and its reason.
- * @typedef {{ ok: boolean, messages?: number, bytes?: number, message?: number, start?: number, at?: number, reason?: string }} Verdict
+ * What the proved reader says of a stream: accepted, with its messages and bytes; or refused, with the message, the offset at which
+ * that starts, the offset of the refusal, and its reason.
+ * @typedef {{ ok: boolean, messages?: number, bytes?: number, message?: number, start?: number, at?: number, reason?: string }}
+ *  Verdict
  */
 
 /**
  * Who receives a direction: what the reader judges it by. Without an info hash any is accepted; `pieces` null is unknown.
- * @typedef {{ reserved: bigint, limit: number, pieces: number | null, metadataId: number, strict?: boolean, infoHash?: string | null,
- *   isGuessed?: boolean }} Receiver
+ * @typedef {{ reserved: bigint, limit: number, pieces: number | null, metadataId: number, strict?: boolean, infoHash?: string |
+ *  null, isGuessed?: boolean }} Receiver
  */
 
 /**
@@ -46,9 +47,10 @@
  */
 
 /**
- * A part of a bencoded value. `at` and `end` are its first byte and the one after its last; `body` is where a byte string's bytes start.
- * @typedef {{ type: string, at: number, end: number, body?: number, value?: string,
- *   children?: { key?: BencodeNode, child: BencodeNode }[] }} BencodeNode
+ * A part of a bencoded value. `at` and `end` are its first byte and the one after its last; `body` is where a byte string's bytes
+ * start.
+ * @typedef {{ type: string, at: number, end: number, body?: number, value?: string, children?: { key?: BencodeNode, child:
+ *  BencodeNode }[] }} BencodeNode
  */
 
 export {};

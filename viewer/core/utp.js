@@ -22,7 +22,8 @@ export class UtpFlows {
   }
 
   /**
-   * The two ends of a connection use an id and the next one, so a datagram counts if there is another with its id or a neighbour of it.
+   * The two ends of a connection use an id and the next one, so a datagram counts if there is another with its id or a neighbour of
+   * it.
    * @returns {{ ends: [string, string], packets: number }[]}
    */
   list() {

@@ -66,7 +66,8 @@ export class App {
    * @param {number} id
    */
   async openAsked(id) {
-    const place = placeOf(askedBy(location.hash).get('at')), found = place ? this.listed.connections.findIndex((/** @type {any} */ it) => it.number === place.number) : -1;
+    const place = placeOf(askedBy(location.hash).get('at')), found = place
+      ? this.listed.connections.findIndex((/** @type {any} */ it) => it.number === place.number) : -1;
     await this.openConnection(Math.min(found >= 0 ? found : id, this.listed.connections.length - 1));
     if (found >= 0) await this.goTo(place);
   }
@@ -90,8 +91,10 @@ export class App {
   }
 
   drawFile() {
-    const { facts, connections } = this.listed, utp = facts.utp.reduce((/** @type {number} */ sum, /** @type {any} */ it) => sum + it.packets, 0);
-    const parts = [bytesText(facts.size), facts.packets ? plural(facts.packets, 'packet') : null, plural(connections.length, 'connection'),
+    const { facts, connections } = this.listed,
+      utp = facts.utp.reduce((/** @type {number} */ sum, /** @type {any} */ it) => sum + it.packets, 0);
+    const parts = [bytesText(facts.size), facts.packets ? plural(facts.packets, 'packet') : null,
+      plural(connections.length, 'connection'),
       utp ? `${plural(utp, 'packet')} of uTP, not read` : null, facts.isCut ? 'ends inside a packet' : null];
     $('#file').replaceChildren(h('b', this.names), h('span.dim', parts.filter(Boolean).join(' · ')));
     document.title = `${this.names} · Peer wire`;
@@ -103,14 +106,16 @@ export class App {
     this.summary = null;
     this.selected = this.mate = -1;
     this.row = null;
-    const it = this.it = await this.backend.call('select', { id, rules: this.rules }), onJump = (/** @type {number} */ row) => this.jump(row);
+    const it = this.it = await this.backend.call('select', { id, rules: this.rules }), onJump = (/** @type {number} */ row) =>
+      this.jump(row);
     this.drawList();
     drawEnds($('#ends'), it, { lines: (side, json) => this.saveLines(side, json), stream: side => this.saveStream(side) });
     drawWhy($('#why'), it, this.tables, onJump);
     this.filters.draw(it.groups);
     $('#guess').hidden = !it.isOrderGuessed;
     await this.filter(false);
-    const first = it.events.find((/** @type {any} */ event) => event.kind === 'refused') ?? it.events.find((/** @type {any} */ event) => event.kind === 'bep');
+    const first = it.events.find((/** @type {any} */ event) => event.kind === 'refused') ??
+      it.events.find((/** @type {any} */ event) => event.kind === 'bep');
     if (first) await this.pickRow(first.row, true); else if (this.total) await this.pick(0);
     // the rows are there before the summary is made
     const summary = await this.backend.call('summary');
@@ -161,7 +166,8 @@ export class App {
     const answer = await this.backend.call('filter', this.filters.asked);
     if (!answer) return;
     this.total = answer.total;
-    $('#count').textContent = answer.isAll ? plural(answer.total, 'row') : `${grouped(answer.total)} of ${plural(this.it.total, 'row')}`;
+    $('#count').textContent = answer.isAll ? plural(answer.total, 'row')
+      : `${grouped(answer.total)} of ${plural(this.it.total, 'row')}`;
     this.list.reset(answer.total);
     $('#norows').hidden = answer.total > 0;
     if (isKept && answer.total && this.selected >= 0) await this.pickRow(this.selected, true);
@@ -169,7 +175,8 @@ export class App {
 
   /** @param {number} step */
   nextMark(step) {
-    const marks = this.it.events.map((/** @type {any} */ event) => event.row).sort((/** @type {number} */ x, /** @type {number} */ y) => (x - y) * step);
+    const marks = this.it.events.map((/** @type {any} */ event) =>
+      event.row).sort((/** @type {number} */ x, /** @type {number} */ y) => (x - y) * step);
     const found = marks.find((/** @type {number} */ row) => (row - this.selected) * step > 0);
     if (found !== undefined) this.pickRow(found, true);
   }

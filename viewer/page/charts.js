@@ -38,7 +38,8 @@ function drawMark(pen, { kind, side, part }, width, height) {
 
 /**
  * A side's bytes by kind. Small messages are as important as blocks, so the height goes by the logarithm.
- * @param {CanvasRenderingContext2D} pen @param {Float64Array[]} groups @param {number} side @param {number} most @param {number} width
+ * @param {CanvasRenderingContext2D} pen @param {Float64Array[]} groups @param {number} side @param {number} most @param {number}
+ *  width
  * @param {number} height
  */
 function drawBins(pen, groups, side, most, width, height) {
@@ -46,7 +47,8 @@ function drawBins(pen, groups, side, most, width, height) {
   for (let k = 0; k < n; k++) {
     const weights = groups.map(group => Math.log2(1 + group[k])), all = weights.reduce((x, y) => x + y, 0);
     if (!all) continue;
-    const sum = groups.reduce((total, group) => total + group[k], 0), tall = Math.log2(1 + sum) / Math.log2(1 + most) * (middle - 7) + 1.5;
+    const sum = groups.reduce((total, group) => total + group[k], 0),
+      tall = Math.log2(1 + sum) / Math.log2(1 + most) * (middle - 7) + 1.5;
     let at = 0;
     weights.forEach((weight, group) => {
       const part = tall * weight / all;
@@ -63,13 +65,16 @@ function drawBins(pen, groups, side, most, width, height) {
  */
 export function drawOverview(parent, summary, cursor) {
   const { bins, marks, hasTimes, last } = summary, kinds = marks.map((/** @type {any} */ mark) => mark.kind).join(', ');
-  const { pen, width, height } = canvasIn(parent, parent.clientHeight, `Bytes over ${hasTimes ? 'time' : 'messages'}, by kind. Marks: ${kinds || 'none'}.`);
+  const { pen, width, height } = canvasIn(parent, parent.clientHeight,
+    `Bytes over ${hasTimes ? 'time' : 'messages'}, by kind. Marks: ${kinds || 'none'}.`);
   pen.clearRect(0, 0, width, height);
   let most = 1;
-  for (const side of bins) for (let k = 0; k < side[0].length; k++) most = Math.max(most, side.reduce((/** @type {number} */ sum, /** @type {any} */ group) => sum + group[k], 0));
+  for (const side of bins) for (let k = 0; k < side[0].length; k++) most = Math.max(most,
+    side.reduce((/** @type {number} */ sum, /** @type {any} */ group) => sum + group[k], 0));
   pen.fillStyle = color('--line');
   pen.fillRect(0, Math.round(height / 2), width, 1);
-  bins.forEach((/** @type {Float64Array[]} */ groups, /** @type {number} */ side) => drawBins(pen, groups, side, most, width, height));
+  bins.forEach((/** @type {Float64Array[]} */ groups, /** @type {number} */ side) =>
+    drawBins(pen, groups, side, most, width, height));
   for (const mark of marks) drawMark(pen, mark, width, height);
   if (cursor !== null) {
     pen.fillStyle = color('--text');
@@ -92,13 +97,16 @@ export function drawOverview(parent, summary, cursor) {
  * @param {HTMLElement} parent @param {Series[]} series @param {Axes} axes
  */
 export function drawLines(parent, series, axes) {
-  const { pen, width, height } = canvasIn(parent, LINES_HEIGHT, axes.text), box = { left: 58, right: width - 8, top: 10, bottom: height - 20 };
-  const highest = Math.max(1, ...series.map(({ values }) => values.reduce((x, y) => Math.max(x, y), 0))), steps = highest < 3 ? Math.ceil(highest) : 3;
+  const { pen, width, height } = canvasIn(parent, LINES_HEIGHT, axes.text),
+    box = { left: 58, right: width - 8, top: 10, bottom: height - 20 };
+  const highest = Math.max(1, ...series.map(({ values }) => values.reduce((x, y) => Math.max(x, y), 0))), steps = highest < 3
+    ? Math.ceil(highest) : 3;
   const most = axes.isWhole ? Math.ceil(highest / steps) * steps : highest;
   drawAxes(pen, box, axes, most, steps);
   for (const { values, color: name, isFilled, dash } of series) {
     pen.beginPath();
-    values.forEach((value, k) => pen.lineTo(box.left + (box.right - box.left) * (k + 1) / values.length, box.bottom - (box.bottom - box.top) * value / most));
+    values.forEach((value, k) => pen.lineTo(box.left + (box.right - box.left) * (k + 1) / values.length,
+      box.bottom - (box.bottom - box.top) * value / most));
     pen.strokeStyle = pen.fillStyle = color(name);
     pen.lineWidth = 1.6;
     pen.setLineDash(dash ?? []);
@@ -114,7 +122,8 @@ export function drawLines(parent, series, axes) {
 }
 
 /**
- * @param {CanvasRenderingContext2D} pen @param {{ left: number, right: number, top: number, bottom: number }} box @param {Axes} axes
+ * @param {CanvasRenderingContext2D} pen @param {{ left: number, right: number, top: number, bottom: number }} box @param {Axes}
+ *  axes
  * @param {number} most @param {number} steps
  */
 function drawAxes(pen, { left, right, top, bottom }, { span, hasTimes, unit }, most, steps) {
@@ -145,7 +154,8 @@ function drawAxes(pen, { left, right, top, bottom }, { span, hasTimes, unit }, m
  */
 export function drawHistogram(parent, spread, name) {
   const text = `From request to block: from ${spanText(spread.least)} to ${spanText(spread.most)}, median ${spanText(spread.half)}`;
-  const { pen, width, height } = canvasIn(parent, HISTOGRAM_HEIGHT, text), bottom = height - 18, n = spread.bars.length, most = Math.max(...spread.bars);
+  const { pen, width, height } = canvasIn(parent, HISTOGRAM_HEIGHT, text), bottom = height - 18, n = spread.bars.length,
+    most = Math.max(...spread.bars);
   pen.fillStyle = color('--line');
   pen.fillRect(0, bottom, width, 1);
   pen.fillStyle = color(name);
@@ -164,15 +174,18 @@ export function drawHistogram(parent, spread, name) {
 
 /**
  * A cell for each piece: whether its owner has it, and how much of it was sent in this capture.
- * @param {HTMLElement} parent @param {Uint8Array} has @param {Float64Array} moved @param {number | null} pieceLength @param {string} name
+ * @param {HTMLElement} parent @param {Uint8Array} has @param {Float64Array} moved @param {number | null} pieceLength @param
+ *  {string} name
  */
 export function drawPieces(parent, has, moved, pieceLength, name) {
   const n = has.length, wide = parent.clientWidth, held = has.reduce((sum, one) => sum + one, 0);
   let size = 16;
   while (size > 1.5 && Math.floor(wide / size) * Math.floor(MAP_HEIGHT / size) < n) size -= size > 6 ? 1 : 0.5;
   const across = Math.max(1, Math.floor(wide / size)), down = Math.min(Math.ceil(n / across), Math.ceil(MAP_HIGHEST / size));
-  const { pen } = canvasIn(parent, Math.max(size, down * size), `${grouped(held)} of ${grouped(n)} pieces`), box = size - (size > 5 ? 1.5 : size > 3 ? 0.5 : 0);
-  const on = color(name), off = color('--line'), sent = color('--g4'), most = pieceLength ?? moved.reduce((x, y) => Math.max(x, y), 1);
+  const { pen } = canvasIn(parent, Math.max(size, down * size), `${grouped(held)} of ${grouped(n)} pieces`),
+    box = size - (size > 5 ? 1.5 : size > 3 ? 0.5 : 0);
+  const on = color(name), off = color('--line'), sent = color('--g4'), most = pieceLength ??
+    moved.reduce((x, y) => Math.max(x, y), 1);
   for (let k = 0; k < Math.min(n, across * down); k++) {
     const x = k % across * size, y = Math.floor(k / across) * size, part = Math.min(1, moved[k] / most) * box;
     pen.fillStyle = has[k] ? on : off;

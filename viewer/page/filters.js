@@ -4,8 +4,10 @@ import { GROUPS } from '../core/items.js';
 
 const NAMES = [...GROUPS, 'events'];
 /** @type {Record<string, string>} */
-const TITLES = { state: 'choke, unchoke, interested, not-interested', have: 'have, bitfield, have-all, have-none, suggest, allowed-fast',
-  cancel: 'cancel, reject', extended: 'extended handshake, metadata, other extensions', other: 'keep-alive, port, unknown', events: 'refusals, gaps, closes' };
+const TITLES = { state: 'choke, unchoke, interested, not-interested',
+  have: 'have, bitfield, have-all, have-none, suggest, allowed-fast',
+  cancel: 'cancel, reject', extended: 'extended handshake, metadata, other extensions', other: 'keep-alive, port, unknown',
+    events: 'refusals, gaps, closes' };
 const TYPING_PAUSE = 160;
 
 export class Filters {
@@ -58,8 +60,10 @@ export class Filters {
   /** @param {Uint32Array} counts how many rows each kind has */
   draw(counts) {
     this.counts = counts;
-    $('#kinds').replaceChildren(...NAMES.flatMap((name, k) => counts[k] ? [h(`button.kind.g${k}`, { class: this.groups[k] ? 'on' : '', title: TITLES[name] ?? name,
-      'data-k': k, 'aria-pressed': String(this.groups[k]), onclick: (/** @type {MouseEvent} */ event) => this.pick(k, event) }, name, h('span', grouped(counts[k])))] : []));
+    $('#kinds').replaceChildren(...NAMES.flatMap((name, k) => counts[k]
+      ? [h(`button.kind.g${k}`, { class: this.groups[k] ? 'on' : '', title: TITLES[name] ?? name,
+      'data-k': k, 'aria-pressed': String(this.groups[k]), onclick: (/** @type {MouseEvent} */ event) => this.pick(k, event) },
+        name, h('span', grouped(counts[k])))] : []));
     for (const button of $$('#sides button')) press(button, Number(button.dataset.side) === this.side);
     press($('#only'), this.isRemarked);
   }

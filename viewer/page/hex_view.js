@@ -34,7 +34,8 @@ export class HexView {
   }
 
   /**
-   * Shows bytes that start at the offset `start`. Fields and `bad` count from bytes[0]. The bytes before and after are drawn faintly.
+   * Shows bytes that start at the offset `start`. Fields and `bad` count from bytes[0]. The bytes before and after are drawn
+   * faintly.
    * @param {Uint8Array} bytes @param {number} start @param {Field[]} fields @param {number} [bad]
    * @param {{ before?: ArrayLike<number>, after?: ArrayLike<number> }} around
    */
@@ -63,7 +64,8 @@ export class HexView {
   /** @param {number} at */
   reveal(at) {
     const { root } = this, line = Math.floor((at + this.lead) / this.wide) * HEIGHT;
-    if (line < root.scrollTop || line > root.scrollTop + root.clientHeight - 2 * HEIGHT) root.scrollTop = Math.max(0, line - root.clientHeight / 2);
+    if (line < root.scrollTop || line > root.scrollTop + root.clientHeight - 2 * HEIGHT) root.scrollTop = Math.max(0,
+      line - root.clientHeight / 2);
   }
 
   /**

@@ -1,5 +1,5 @@
-// What is selected: what it means, its fields, its dictionary as a tree, its bytes. Values of fields are those of the proved reader; where
-// they stand in the bytes follows from the standards' layout; the tree is this page's own.
+// What is selected: what it means, its fields, its dictionary as a tree, its bytes. Values of fields are those of the proved
+// reader; where they stand in the bytes follows from the standards' layout; the tree is this page's own.
 import { h, copyText, grouped, plural, spanText } from './dom.js';
 import { EVENT_NAMES, MESSAGES } from './message_words.js';
 import { fieldsOf } from './message_fields.js';
@@ -56,7 +56,8 @@ export class Inspector {
     for (const line of this.body.querySelectorAll('.lit')) line.classList.remove('lit');
     const inner = this.fields[field];
     for (let k = field; k >= 0; k--) {
-      const { from, to } = this.fields[k], line = from <= inner.from && to >= inner.to && this.body.querySelector(`[data-f="${k}"]`);
+      const { from, to } = this.fields[k], line = from <= inner.from && to >= inner.to &&
+        this.body.querySelector(`[data-f="${k}"]`);
       if (line) {
         line.classList.add('lit');
         return;
@@ -73,7 +74,8 @@ export class Inspector {
     this.fields = found.slice();
     this.body.replaceChildren(...[
       verdict && this.refusal(message, bad, found),
-      remarksOf(message.flags).map(name => h('div.note', h('b', capital(this.tables.remarks[name].one)), '. ', this.tables.remarks[name].words)),
+      remarksOf(message.flags).map(name => h('div.note', h('b', capital(this.tables.remarks[name].one)), '. ',
+        this.tables.remarks[name].words)),
       found.length > 0 && fieldTable(found, message.start, bad), dictionary >= 0 && this.tree(message, dictionary),
     ].flat().filter(Boolean));
     this.body.scrollTop = 0;
@@ -83,25 +85,32 @@ export class Inspector {
   /** @param {any} message */
   title(message) {
     const { event, name, group, side, start, size, bytes } = message;
-    const place = event ? `at ${grouped(event.place)}` : `message ${message.message} · offset ${grouped(start)} · ${plural(size, 'byte')}`;
-    return h('div.ititle', h(`span.chip.g${group}`, { class: event ? `ev-${event.kind}` : '' }, event ? event.word ?? EVENT_NAMES[event.kind] : name),
-      h('span.iarrow', side === 0 ? 'A → B' : 'B → A'), h('span.iplace', place), !event && proved('This item is what the proved reader read.'), h('span.grow'),
-      !event && copyButton('line', message.line), !event && copyButton('JSON', message.json), bytes.length > 0 && copyButton('hex', hexOf(bytes)));
+    const place = event ? `at ${grouped(event.place)}`
+      : `message ${message.message} · offset ${grouped(start)} · ${plural(size, 'byte')}`;
+    return h('div.ititle', h(`span.chip.g${group}`, { class: event ? `ev-${event.kind}` : '' }, event ? event.word ??
+      EVENT_NAMES[event.kind] : name),
+      h('span.iarrow', side === 0 ? 'A → B' : 'B → A'), h('span.iplace', place), !event &&
+        proved('This item is what the proved reader read.'), h('span.grow'),
+      !event && copyButton('line', message.line), !event && copyButton('JSON', message.json), bytes.length > 0 &&
+        copyButton('hex', hexOf(bytes)));
   }
 
   /** @param {any} message */
   meta(message) {
     const { event, name, time, packet, latency, mate, mateName } = message, told = !event && MESSAGES[name];
     const isRequest = name === 'request' || name === 'metadata-request';
-    const delay = typeof latency === 'number' ? `${mateName} ${spanText(latency)} ${isRequest ? 'later' : 'earlier'}` : `its ${mateName}`;
+    const delay = typeof latency === 'number' ? `${mateName} ${spanText(latency)} ${isRequest ? 'later' : 'earlier'}`
+      : `its ${mateName}`;
     return h('div.imeta', told && h('span', told[0]), time !== null && h('span', `${time.toFixed(6)} s`),
-      packet !== null && h('span', { title: 'the packet that has the last byte, counted from 1 as Wireshark does' }, `packet ${grouped(packet)}`),
+      packet !== null && h('span', { title: 'the packet that has the last byte, counted from 1 as Wireshark does' },
+        `packet ${grouped(packet)}`),
       mate !== undefined && h('button.link', { onclick: () => this.onJump(mate) }, `${delay} ↗`));
   }
 
   /** @param {any} message @param {number} bad @param {Field[]} found */
   refusal(message, bad, found) {
-    const { event, bytes, own, left } = message, { verdict, kind } = event, told = reasonWords(this.tables.reasons, verdict, bytes, own);
+    const { event, bytes, own, left } = message, { verdict, kind } = event,
+      told = reasonWords(this.tables.reasons, verdict, bytes, own);
     const field = found.find(one => bad >= one.from && bad < one.to);
     return h('div.refusal', { class: kind, role: 'alert' },
       h('div.rtitle', told.title, proved('The place and the reason are the proved reader’s.', ' proved verdict')),
@@ -110,7 +119,8 @@ export class Inspector {
         h('span', `message ${verdict.message}, byte ${grouped(verdict.at)}${field ? ` (${field.name})` : ''}`)),
       told.cure && h('div.rhint', told.cure),
       kind === 'cut' && h('div.rhint', `The stream ends here because of ${event.cut}: it isn't the sender's fault.`),
-      kind === 'refused' && left > 0 && h('div.rhint', `What follows isn't read: ${plural(left, 'byte')} from the start of this message.`),
+      kind === 'refused' && left > 0 && h('div.rhint',
+        `What follows isn't read: ${plural(left, 'byte')} from the start of this message.`),
       kind === 'bep' && h('div.rhint', 'The rules "free" accept it, and the stream is read on.'));
   }
 
@@ -118,7 +128,8 @@ export class Inspector {
   tree(message, dictionary) {
     const { bytes, fields, start } = message, tree = parseTree(bytes, dictionary), isJudged = fields && fields.code !== CODE.extRaw;
     const isSame = isJudged && tree.end - dictionary === fields.b;
-    const note = isSame ? proved('This page’s tree ends where the proved reader says that the dictionary ends.', ` ${plural(fields.b, 'byte')}`)
+    const note = isSame ? proved('This page’s tree ends where the proved reader says that the dictionary ends.',
+      ` ${plural(fields.b, 'byte')}`)
       : h('span.small', fields ? "the reader doesn't judge it" : 'as far as it can be read');
     return [h('div.treehead', 'Dictionary', note), h('div.tree', { html: treeHtml(bytes, tree.root, this.fields, start) })];
   }
@@ -147,9 +158,11 @@ function subtitle({ event, name }) {
 
 /** @param {Field[]} found @param {number} start @param {number} bad */
 function fieldTable(found, start, bad) {
-  return h('table.fields', h('tbody', found.map((field, k) => h('tr', { 'data-f': k, class: bad >= field.from && bad < field.to ? 'badrow' : '' },
+  return h('table.fields', h('tbody', found.map((field, k) =>
+    h('tr', { 'data-f': k, class: bad >= field.from && bad < field.to ? 'badrow' : '' },
     h('td.fat', grouped(start + field.from)), h('td', h(`span.swatch.f-${field.kind}`), field.name),
-    h('td.fvalue', { class: String(field.value).length > 18 ? 'long' : '' }, String(field.value ?? '')), h('td.fnote', field.note ?? '')))));
+    h('td.fvalue', { class: String(field.value).length > 18 ? 'long' : '' }, String(field.value ?? '')),
+      h('td.fnote', field.note ?? '')))));
 }
 
 /** @param {string} what @param {string} text */

@@ -42,7 +42,8 @@ function bindControls() {
   bindDialog('#keys', [$('#keysbutton')]);
   addEventListener('resize', () => app.redraw());
   addEventListener('hashchange', () => {
-    const place = placeOf(askedBy(location.hash).get('at')), id = place && app.listed ? app.listed.connections.findIndex((/** @type {any} */ it) => it.number === place.number) : -1;
+    const place = placeOf(askedBy(location.hash).get('at')), id = place && app.listed
+      ? app.listed.connections.findIndex((/** @type {any} */ it) => it.number === place.number) : -1;
     if (id >= 0) (id === app.id ? Promise.resolve() : app.openConnection(id)).then(() => app.goTo(place));
   });
 }

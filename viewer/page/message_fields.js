@@ -35,7 +35,8 @@ function handshakeFields(bytes) {
   const list = new FieldList(bytes), reserved = bytes.length >= 28 ? list.view.getBigUint64(20) : 0n;
   list.put(0, 1, 'length', "name's length", bytes[0]);
   list.put(1, 20, 'text', 'protocol', printable(bytes.subarray(1, 20), '·'));
-  list.put(20, 28, 'reserved', 'reserved', hexOf(bytes.subarray(20, 28)), BITS.filter(([bit]) => reserved & bit).map(([, name]) => name).join(', ') || 'no extension');
+  list.put(20, 28, 'reserved', 'reserved', hexOf(bytes.subarray(20, 28)),
+    BITS.filter(([bit]) => reserved & bit).map(([, name]) => name).join(', ') || 'no extension');
   list.put(28, 48, 'index', 'info hash', hexOf(bytes.subarray(28, 48)));
   list.put(48, 68, 'id', 'peer id', printable(bytes.subarray(48, 68), '·'));
   return { found: list.fields, dictionary: -1 };
@@ -47,11 +48,13 @@ function extendedFields(list, fields) {
   list.put(5, 6, 'begin', 'extended id', bytes[5], bytes[5] === 0 ? 'the extended handshake' : 'as the receiver numbered it');
   if (isRaw) {
     const isDictionary = bytes[6] === DICTIONARY;
-    list.put(6, end, isDictionary ? 'dict' : 'block', 'payload', plural(Math.max(0, end - 6), 'byte'), fields ? 'not judged' : null);
+    list.put(6, end, isDictionary ? 'dict' : 'block', 'payload', plural(Math.max(0, end - 6), 'byte'), fields ? 'not judged'
+      : null);
     return isDictionary ? 6 : -1;
   }
   list.put(6, 6 + fields.b, 'dict', 'dictionary', plural(fields.b, 'byte'));
-  if (fields.c) list.put(6 + fields.b, end, 'block', fields.code === CODE.metadataData ? 'block' : 'rest', plural(fields.c, 'byte'));
+  if (fields.c) list.put(6 + fields.b, end, 'block', fields.code === CODE.metadataData ? 'block' : 'rest',
+    plural(fields.c, 'byte'));
   return 6;
 }
 
@@ -70,7 +73,8 @@ function payloadFields(list, id) {
   if (INDEX_BEGIN_LENGTH.has(id)) list.putWord(13, 'size', 'length', 'bytes of the block');
   else if (id === PIECE) list.put(13, end, 'block', 'block', plural(Math.max(0, end - 13), 'byte'));
   else if (id === BITFIELD) {
-    list.put(5, end, 'block', 'bits', plural(Math.max(0, end - 5), 'byte'), `${grouped(bitsSet(bytes.subarray(5)))} of at most ${grouped((end - 5) * 8)} pieces`);
+    list.put(5, end, 'block', 'bits', plural(Math.max(0, end - 5), 'byte'),
+      `${grouped(bitsSet(bytes.subarray(5)))} of at most ${grouped((end - 5) * 8)} pieces`);
   } else if (id === PORT) list.put(5, 7, 'index', 'port', end >= 7 ? list.view.getUint16(5) : '…');
   else if (!INDEX.has(id) && end > 5) list.put(5, end, 'block', 'payload', plural(end - 5, 'byte'));
 }

@@ -26,7 +26,8 @@ export const MESSAGES = {
   'metadata-other': ['BEP 9, "extension message"', 'A metadata message of a type that BEP 9 does not have.'],
   'metadata-malformed': ['BEP 9, "extension message"', 'A key that the type needs is missing, or its value is no such number.'],
   extended: ['BEP 10, "extension protocol"', "A message of an extension other than ut_metadata. Its payload isn't judged."],
-  unknown: ['not in BEP 3, 5, 6 or 10', 'The standards that are read here have no such id. The rules "free" keep it, "bep" refuses it.'],
+  unknown: ['not in BEP 3, 5, 6 or 10',
+    'The standards that are read here have no such id. The rules "free" keep it, "bep" refuses it.'],
 };
 
 /**
@@ -37,4 +38,5 @@ export const BITS = [[0x4n, 'Fast', 'Fast Extension (BEP 6)'], [0x1n, 'DHT', 'di
   [0x100000n, 'Ext', 'Extension Protocol (BEP 10)']];
 
 /** @type {Record<string, string>} */
-export const EVENT_NAMES = { refused: 'refused', cut: 'cut off', bep: 'refused under bep', gap: 'gap', close: 'close', exchange: 'key exchange' };
+export const EVENT_NAMES = { refused: 'refused', cut: 'cut off', bep: 'refused under bep', gap: 'gap', close: 'close',
+  exchange: 'key exchange' };

@@ -33,7 +33,8 @@ async function exampleOf(file) {
 export async function openFiles(app, files) {
   if (!files.length) return;
   const name = files.length === 1 ? await exampleOf(files[0]) : undefined;
-  if (name && !$('#pieces').value && PIECES[name]) await app.setPieces(PIECES[name], `This is the example of the page. Its torrent has ${PIECES[name]} pieces.`);
+  if (name && !$('#pieces').value && PIECES[name]) await app.setPieces(PIECES[name],
+    `This is the example of the page. Its torrent has ${PIECES[name]} pieces.`);
   await app.open(files.map(file => ({ name: file.name, file })), files.length === 1 ? files[0].name : plural(files.length, 'file'));
 }
 

@@ -29,7 +29,8 @@ const DETAILS = {
   extended: ({ extension, a, c }) => `${extension ? `<b>${escape(extension)}</b> ` : ''}${dim('id')} ${a} ${dim('with')} ${grouped(c)} ${dim('bytes')}`,
   'ext-handshake': row => {
     const [, size, id] = /size=(\S+) ut_metadata=(\S+)$/.exec(row.words) ?? ['', '-', '-'];
-    const parts = [`<b>${escape(row.client ?? '')}</b>`, size === '-' ? '' : `${dim('metadata')} ${grouped(size)}`, id === '-' ? '' : `${dim('ut_metadata')} ${id}`];
+    const parts = [`<b>${escape(row.client ?? '')}</b>`, size === '-' ? '' : `${dim('metadata')} ${grouped(size)}`, id === '-' ? ''
+      : `${dim('ut_metadata')} ${id}`];
     return parts.filter(Boolean).join(' ');
   },
   'metadata-data': ({ a, c, words }) => `<b>${grouped(a)}</b> ${dim('·')} ${kib(c)} ${dim('of')} ${kib(Number(words.split(' ')[2]))}`,
@@ -81,7 +82,8 @@ export function rowText(row, remarks) {
 
 /** @param {any} row @param {string} lane */
 function rowHtml(row, lane) {
-  const [a, b] = row.bands, isAsked = row.name === 'request' || row.name === 'metadata-request', none = '<span class="lane none"></span>';
+  const [a, b] = row.bands, isAsked = row.name === 'request' || row.name === 'metadata-request',
+    none = '<span class="lane none"></span>';
   const latency = isAsked && typeof row.latency === 'number' ? `<span class="lat">${spanText(row.latency)}</span>` : '';
   const delta = row.delta === null || row.delta < 1.5e-6 ? '' : `+${spanText(row.delta)}`;
   return `<span class="bands"><i class="${bandOf(a, b)}"></i><i class="${bandOf(b, a)}"></i></span>` +

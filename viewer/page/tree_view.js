@@ -7,7 +7,8 @@ import { hexOf, printable } from '../core/text.js';
 const MOST_CHILDREN = 500, TEXT_SHOWN = 120, HEX_SHOWN = 32;
 /** @type {Record<string, string>} */
 const MEANINGS = { m: 'names of extensions, with the ids under which the sender wants them', v: 'client', p: 'listening port',
-  reqq: 'how many requests it queues at most', metadata_size: 'bytes of the info dictionary', total_size: 'bytes of the whole metadata',
+  reqq: 'how many requests it queues at most', metadata_size: 'bytes of the info dictionary',
+    total_size: 'bytes of the whole metadata',
   upload_only: '1: wants no pieces', e: '1: prefers encryption', complete_ago: 'seconds since it was complete' };
 /** @type {Record<string, string>} */
 const TYPES = { 0: 'request', 1: 'data', 2: 'reject' };
@@ -15,7 +16,8 @@ const TYPES = { 0: 'request', 1: 'data', 2: 'reject' };
 /** @param {Uint8Array} bytes @param {BencodeNode} node */
 function stringHtml(bytes, node) {
   const body = bytes.subarray(node.body, Math.min(node.end, node.body + TEXT_SHOWN)), size = node.end - node.body;
-  if (body.every(byte => byte > 31 && byte < 127)) return `<q>${escape(String.fromCharCode(...body))}${size > TEXT_SHOWN ? '…' : ''}</q>`;
+  if (body.every(byte => byte > 31 &&
+    byte < 127)) return `<q>${escape(String.fromCharCode(...body))}${size > TEXT_SHOWN ? '…' : ''}</q>`;
   return `<code>${hexOf(body.subarray(0, HEX_SHOWN))}${size > HEX_SHOWN ? '…' : ''}</code>`;
 }
 
@@ -48,11 +50,13 @@ class TreeLines {
 
   /** @param {BencodeNode} node @param {BencodeNode | undefined} key @param {number} depth */
   walk(node, key, depth) {
-    const { bytes } = this, keyBytes = key ? bytes.subarray(key.body, key.end) : new Uint8Array(0), name = printable(keyBytes.subarray(0, 60), '.');
+    const { bytes } = this, keyBytes = key ? bytes.subarray(key.body, key.end) : new Uint8Array(0),
+      name = printable(keyBytes.subarray(0, 60), '.');
     const from = key ? key.at : node.at, whole = this.add(from, node.end < 0 ? bytes.length : node.end, 'dict', name || node.type);
     if (key) this.add(key.at, key.end, 'key', `key ${name}`);
     const isText = keyBytes.every(byte => byte > 31 && byte < 127);
-    const label = key ? `<span class="tkey">${escape(isText ? name : hexOf(keyBytes))}</span>` : '', meaning = key ? meaningOf(name, bytes, node) : '';
+    const label = key ? `<span class="tkey">${escape(isText ? name : hexOf(keyBytes))}</span>` : '', meaning = key
+      ? meaningOf(name, bytes, node) : '';
     const head = `<div class="tline" data-f="${whole}" style="--d:${depth}"><span class="tat">${this.base + from}</span>${label}`;
     if (node.children) this.container(node, head, meaning, depth);
     else {

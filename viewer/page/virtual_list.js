@@ -1,5 +1,5 @@
-// A list of any number of rows of one height, of which those in sight are drawn. Rows come a page at a time. A browser's element can't be
-// as high as ten million rows, so a long list scrolls by its own place.
+// A list of any number of rows of one height, of which those in sight are drawn. Rows come a page at a time. A browser's element
+// can't be as high as ten million rows, so a long list scrolls by its own place.
 import { h } from './dom.js';
 
 const PAGE = 128, PAGES_KEPT = 64, HIGHEST = 6000000;
@@ -12,7 +12,8 @@ const PAGE = 128, PAGES_KEPT = 64, HIGHEST = 6000000;
 export class VirtualList {
   /**
    * @param {HTMLElement} root
-   * @param {{ height: number, fetch: (from: number, to: number) => Promise<any[]>, draw: Draw, onPick: (place: number) => void }} how
+   * @param {{ height: number, fetch: (from: number, to: number) => Promise<any[]>, draw: Draw, onPick: (place: number) => void }}
+   *  how
    */
   constructor(root, { height, fetch, draw, onPick }) {
     this.root = root;
@@ -119,7 +120,8 @@ export class VirtualList {
       this.layer.style.transform = `translateY(${this.root.scrollTop + (from - this.top) * this.height}px)`;
       this.layer.innerHTML = parts.join('');
       const selected = this.layer.querySelector('[aria-selected=true]');
-      if (selected) this.root.setAttribute('aria-activedescendant', selected.id); else this.root.removeAttribute('aria-activedescendant');
+      if (selected) this.root.setAttribute('aria-activedescendant',
+        selected.id); else this.root.removeAttribute('aria-activedescendant');
     });
   }
 

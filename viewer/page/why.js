@@ -34,7 +34,8 @@ export function whyText(it, tables) {
   }
   const { event, kind, cause } = closing, text = causeText(closing, tables), sender = cause && 'AB'[cause.side];
   const what = cause?.event?.kind === 'bep' ? 'a message that only the strict rules "bep" refuse' : 'a message that is refused';
-  if (!event) return it.isRaw ? `The stream has ${what}: ${text}.` : `${sender} sent ${what}, and no close follows in the capture: ${text}.`;
+  if (!event) return it.isRaw ? `The stream has ${what}: ${text}.`
+    : `${sender} sent ${what}, and no close follows in the capture: ${text}.`;
   const closed = `${'AB'[event.side]} closed the connection, by ${event.word}`;
   const after = cause && cause.time !== null ? `${spanText(event.time - cause.time)} after ` : 'after ';
   switch (kind) {
@@ -52,10 +53,13 @@ export function whyText(it, tables) {
  * @param {HTMLElement} root @param {any} it @param {{ reasons: any, remarks: any }} tables @param {(row: number) => void} onJump
  */
 export function drawWhy(root, it, tables, onJump) {
-  const { closing } = it, text = whyText(it, tables), level = closing?.kind === 'refusal' ? closing.cause.event.kind : closing?.kind === 'remark' ? 'remark' : 'plain';
+  const { closing } = it, text = whyText(it, tables), level = closing?.kind === 'refusal' ? closing.cause.event.kind
+    : closing?.kind === 'remark' ? 'remark' : 'plain';
   root.className = `why-${level}`;
   const place = closing?.cause && (closing.cause.event ? closing.cause.event.place : closing.cause.offset);
   root.replaceChildren(h('span.whyhead', closing?.event ? 'Why did it close?' : 'What happened?'), closing?.cause
-    ? h('button.whytext', { title: 'goes to the row and its bytes', onclick: () => onJump(closing.cause.r) }, text, h('span.whyplace', `byte ${place} ↘`))
-    : h('span.whytext', text), h('span.unproved', { title: 'the cause is this page’s guess. What is refused, and where, is the proved reader’s' }, 'a guess'));
+    ? h('button.whytext', { title: 'goes to the row and its bytes', onclick: () => onJump(closing.cause.r) }, text,
+      h('span.whyplace', `byte ${place} ↘`))
+    : h('span.whytext', text), h('span.unproved',
+      { title: 'the cause is this page’s guess. What is refused, and where, is the proved reader’s' }, 'a guess'));
 }

@@ -3,6 +3,4 @@ pub mod Courses
 pub mod Stops
 pub mod Steps
 pub mod Boths
-pub mod Rounds
 pub mod Watches
-pub mod MemWires

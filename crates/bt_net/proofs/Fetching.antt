@@ -1,43 +1,34 @@
 -- A run of an end that serves metadata and an end that fetches it ends with the metadata.
-use Rattle.std.proofs.Common.{◌≡◌, ℕ, ◌*◌, ◌^◌, ◌<◌, ◌≤◌, inl, inr, min, Bool, true, false, ◌&&◌, ◌||◌, ◌==◌, nat_le, is_some, List, [], ◌∷◌, ◌++◌}
-use Rattle.std.proofs.Common.{length, Option, Some, None, Ok, Err, refl, sym, ap, subst, ◌∙◌, arith, append-nil}
-use Rattle.std.proofs.lemmas.Bool.{cases_Bool}
-use Rattle.std.specs.Io.KnownBytes.{IsAtEnd}
+use Rattle.std.proofs.Common.{◌≡◌, ℕ, zero, suc, ◌+◌, ◌^◌, ◌<◌, ◌≤◌, ◌⊎◌, inl, inr, min, Bool, true, false, ◌&&◌, ◌==◌, nat_le, List, [], ◌∷◌, ◌++◌}
+use Rattle.std.proofs.Common.{length, drop, slice_get, Option, Some, Ok, Err, refl, sym, ap, subst, ◌∙◌, arith, append-nil}
+use Rattle.std.proofs.lemmas.Bool.{eqb-true}
+use Rattle.std.proofs.lemmas.List.{nil_from_length}
 use Rattle.bt_ext.specs.Metadata.{block_count}
-use Rattle.bt_wire.specs.declared.fault.Refused.{Refused as Fault}
-use Rattle.bt_wire.specs.declared.item.Refusal.{Refusal}
-use Rattle.bt_feed.specs.declared.stage.Stage.{Stage}
-use Rattle.bt_feed.specs.declared.stage.Stage.TheVariants as stage
-use Rattle.bt_feed.specs.Answers.{after}
-use Rattle.bt_feed.specs.Feeds.{FeedState}
-use Rattle.bt_feed.specs.Stages.{early, is_all, is_closed, HasFault, refusal_of}
-use Rattle.bt_feed.proofs.Found.{early_has}
+use Rattle.bt_feed.specs.Feeds.{taken}
+use Rattle.bt_feed.specs.Stages.{is_closed}
 use Rattle.bt_metadata.specs.Blocks.{max_metadata}
 use Rattle.bt_end.specs.Ends.{EndState, metadata_of}
-use Rattle.bt_end.specs.Halves.{HalfState, high_water, is_ready, is_busy, with_feed}
-use Rattle.bt_exchange.specs.Boths.{is_fetched}
-use Rattle.bt_exchange.specs.Connections.{Seen}
-use Rattle.bt_exchange.specs.Courses.{Moment}
-use Rattle.bt_exchange.specs.Rounds.{Ends, at_left, at_right, IsEnded}
-use Rattle.bt_exchange.specs.declared.both.BothError.TheVariants as both_error
+use Rattle.bt_end.specs.Halves.{HalfState, high_water, is_ready, is_busy, received, with_feed}
 use Rattle.bt_link.specs.ByteLinks as B
 use Rattle.bt_link.specs.MessageLinks as M
 use Rattle.bt_link.specs.LinkLaws.{IsMetadata, IsWritten, AreWritten, IsHonestRun, source_of}
 use Rattle.std.specs.Option.{ForSome}
-use Rattle.bt_link.specs.FetchLaws.{IsFetchPair, IsMove, AreMoves, IsQuiet, most_bytes, FetchIsShort, FetchIsWhole}
+use Rattle.bt_link.specs.FetchLaws.{IsFetchPair, IsMove, AreMoves, IsQuiet, most_bytes, FetchIsShort, FetchIsWhole, FetchIsFree}
 use Rattle.bt_link.specs.declared.link.Outcome.{Outcome}
 use Rattle.bt_link.specs.declared.link.Outcome.TheVariants as outcome
 use Rattle.bt_link.specs.declared.link.Side.{Side}
 use Rattle.bt_link.specs.declared.link.Side.TheVariants.{Left, Right}
 use Rattle.bt_link.specs.declared.link.Step.{Step}
 use Rattle.bt_link.specs.declared.link.Step.TheVariants as step
-use Rattle.bt_link.proofs.FetchRuns.{fetch_is_short, fetch_is_whole}
+use Rattle.bt_link.proofs.FetchRuns.{fetch_is_short, fetch_is_whole, fetch_is_free}
 use Rattle.bt_link.proofs.Links.{byte_link_is_message_link, nothing_is_refused}
-use Rattle.bt_net.specs.Runs.{IsClear, begun, delivered, IsGiven, AreStepsTo, RunFetches}
+use Rattle.bt_net.specs.Rounds.{Ends, IsRound, IsWay, IsHalted, AreRounds, is_quiet}
+use Rattle.bt_net.specs.Runs.{IsClear, begun, IsEndOf, delivered, AreStepsTo, RoundsAreSteps, RunFetches}
+use Rattle.bt_net.specs.Wires.{WireSeen}
+use Rattle.bt_net.specs.declared.both.Halt.TheVariants as halt
+use Rattle.bt_net.proofs.Carried.{steps_both, moves_both, Follows, IsEmpty, IsStopped, follows_at_other, IsStopping, halt_stops, starts, way_bytes, way_clear, way_follows}
+use Rattle.bt_net.proofs.Passing.{not_both}
 use Rattle.bt_net.proofs.Counted.{counted, last_steps, last_outcomes, quiet_after}
-use Rattle.bt_net.proofs.Feeding.{fed_none, given_none}
-use Rattle.bt_net.proofs.Followed.{rounds_follow, last_follows, rounds_are_steps, halted_stops, IsStill, round_still}
-use Rattle.bt_net.proofs.Turned.{steps_both, moves_both, Follows, IsRested, IsStopped, stops}
 
 -- ---- as many outcomes as steps
 
@@ -125,15 +116,89 @@ honest metadata a b ss os short f m = record {
 
 -- ---- no end stops
 
-never_stopped : (metadata : List ℕ) (a b : EndState) → FetchIsShort → IsFetchPair metadata a b → IsStopped a b → ⊥
-never_stopped metadata a b short f st =
-    let run : IsHonestRun a b st.steps st.outcomes = honest metadata a b st.steps st.outcomes short f st.moves in
-    nothing_is_refused a b st.steps st.outcomes st.link run st.are st.refused.0 st.refused.1 st.refused.2
+never_by : (metadata : List ℕ) (a b : EndState) (ss : List Step) (os : List Outcome) (l : B.Link) (n : ℕ) (o : Outcome) → FetchIsShort → FetchIsFree
+    → IsFetchPair metadata a b → AreMoves ss → B.AreSteps (B.link_of a b) ss os l → IsStopping o → slice_get os n ≡ Some o → ⊥
+never_by metadata a b ss os l n (outcome.Refused r) short free f moves are stops there =
+    nothing_is_refused a b ss os l (honest metadata a b ss os short f moves) are n r there
+never_by metadata a b ss os l n outcome.Busy short free f moves are stops there =
+    let told = (byte_link_is_message_link a b ss os l (honest metadata a b ss os short f moves) are).0 in
+    free metadata a b ss os n f moves told there
+never_by metadata a b ss os l n outcome.Handled short free f moves are stops there = stops
+never_by metadata a b ss os l n outcome.Idle short free f moves are stops there = stops
+never_by metadata a b ss os l n outcome.Said short free f moves are stops there = stops
+never_by metadata a b ss os l n (outcome.NotSaid e) short free f moves are stops there = stops
+never_by metadata a b ss os l n (outcome.Delivered k) short free f moves are stops there = stops
+never_by metadata a b ss os l n outcome.Reset short free f moves are stops there = stops
+
+never_stopped : (metadata : List ℕ) (a b : EndState) → FetchIsShort → FetchIsFree → IsFetchPair metadata a b → IsStopped a b → ⊥
+never_stopped metadata a b short free f st =
+    never_by metadata a b st.steps st.outcomes st.link st.at st.why short free f st.moves st.are st.stops st.there
+
+-- ---- rounds
+
+-- After n rounds, seen from the left: nothing is on its way, and n bytes were delivered at least.
+record IsThere (a b : EndState) (n : ℕ) (e : Ends) : Type 0 where
+  empty : IsEmpty e.seen
+  bytes : ℕ
+  follows : Follows a b Left bytes e.left e.right e.left_items e.right_items
+  least : n ≤ bytes
+
+-- one of the two ways moves a byte at least
+some_moved : {s u t : WireSeen} {l l' r r' x y : HalfState} {m n : ℕ} (g : IsWay Left s u l x r y n) (c : IsWay Right u t y r' x l' m)
+    → is_quiet l r ≡ false → 1 ≤ way_bytes g + way_bytes c
+unfolding way_bytes
+some_moved (inl g) c some = omega (arith, g.least)
+some_moved (inr g) (inl c) some = omega (arith, c.least)
+some_moved (inr g) (inr c) some = absurd (not_both g c some)
+
+round_follows : {a b : EndState} {n : ℕ} (e f : Ends) (m k : ℕ) → IsThere a b n e → IsRound e.seen f.seen e.left f.left e.right f.right m k
+    → f.left_items ≡ e.left_items + m → f.right_items ≡ e.right_items + k → IsThere a b (suc n) f
+round_follows {a} {b} {n} e f m k h x left right =
+    let to_right = way_follows Left (follows_at_other Left h.follows) x.goes h.empty.1 in
+    let clear = way_clear Left x.goes h.empty.1 h.empty.0 in
+    let to_left = way_follows Right (follows_at_other Right to_right) x.comes clear.1 in
+    let done = way_clear Right x.comes clear.1 clear.0 in
+    let P : ℕ → ℕ → Type 0 = λ v w. Follows a b Left (h.bytes + way_bytes x.goes + way_bytes x.comes) f.left f.right v w in
+    record {
+      empty = done;
+      bytes = h.bytes + way_bytes x.goes + way_bytes x.comes;
+      follows = subst (P f.left_items) (sym right) (subst (λ (v : ℕ). P v (e.right_items + k)) (sym left) to_left);
+      least = omega (arith, h.least, some_moved x.goes x.comes x.some);
+    }
+
+rounds_follow : (a b : EndState) (s : WireSeen) (n : ℕ) (new : Ends) → IsClear s → AreRounds n (begun a b s) new → IsThere a b n new
+rounds_follow a b s zero new clear h =
+    subst (IsThere a b 0) (sym h) (record { empty = clear; bytes = 0; follows = starts a b; least = omega arith })
+rounds_follow a b s (suc n) new clear h =
+    round_follows h.0 new h.2 h.3 (rounds_follow a b s n h.0 clear h.1) h.4 h.5 h.6
+
+pub rounds_are_steps : RoundsAreSteps
+rounds_are_steps a b s n new clear h =
+    let there = rounds_follow a b s n new clear h in
+    let f = there.follows in
+    record {
+      clear = there.empty;
+      steps = f.reached.steps;
+      outcomes = f.reached.outcomes;
+      link = f.link;
+      are = f.reached.are;
+      moves = f.reached.moves;
+      left = f.own_is;
+      right = f.other_is;
+      least = omega (arith, there.least, f.reached.all);
+    }
+
+halted_stops : {a b : EndState} {n : ℕ} (e f : Ends) → IsThere a b n e → IsHalted e.seen f.seen e.left f.left e.right f.right → IsStopped a b
+halted_stops e f h (inl w) = halt_stops Left (follows_at_other Left h.follows) w h.empty.1
+halted_stops e f h (inr w) =
+    let to_right = way_follows Left (follows_at_other Left h.follows) w.4 h.empty.1 in
+    let clear = way_clear Left w.4 h.empty.1 h.empty.0 in
+    halt_stops Right (follows_at_other Right to_right) w.5 clear.1
 
 -- ---- few rounds
 
 few_rounds : (metadata : List ℕ) (a b : EndState) (n : ℕ) (new : Ends) → FetchIsShort → IsFetchPair metadata a b → AreStepsTo a b n new
-    → n ≤ 2 * most_bytes (length metadata)
+    → n ≤ most_bytes (length metadata)
 few_rounds metadata a b n new short f st =
     let run = honest metadata a b st.steps st.outcomes short f st.moves in
     let told = (byte_link_is_message_link a b st.steps st.outcomes st.link run st.are).0 in
@@ -143,67 +208,28 @@ few_rounds metadata a b n new short f st =
 
 -- ---- the end of a run
 
--- an end of the link with nothing to send and nothing untaken
+-- an end of the link with nothing to send and nothing untaken, which awaits more
 record IsIdle (x : B.Node) : Type 0 where
   sent : x.half.outbox ≡ []
   untaken : x.untaken ≡ []
-  rested : IsRested x.half
-
-idle_node : (x : B.Node) (m : Moment) (coming : List ℕ) → IsGiven m.half (m.pending ++ coming) x → IsStill m → IsRested m.half
-    → m.seen.coming ≡ Some coming → IsIdle x
-idle_node x m coming g still rested is =
-    let none : coming ≡ [] = subst IsAtEnd is still.coming in
-    let bytes : m.pending ++ coming ≡ [] = ap (λ (p : List ℕ). p ++ coming) still.pending ∙ none in
-    let same = given_none x m.half (m.pending ++ coming) bytes g in
-    record {
-      sent = ap (λ (h : HalfState). h.outbox) same.0 ∙ still.sent;
-      untaken = same.1;
-      rested = subst IsRested (sym same.0) rested;
-    }
+  awaits : is_closed x.half.feed.stage x.half.feed.held ≡ false
 
 and_false : (x : Bool) → (x && false) ≡ false
 and_false true = refl
 and_false false = refl
 
-free : (a : HalfState) → a.outbox ≡ [] → is_busy a ≡ false
-free a e = ap (λ (o : List ℕ). is_ready a.feed && nat_le high_water (length o)) e ∙ and_false (is_ready a.feed)
+free_of : (a : HalfState) → a.outbox ≡ [] → is_busy a ≡ false
+free_of a e = ap (λ (o : List ℕ). is_ready a.feed && nat_le high_water (length o)) e ∙ and_false (is_ready a.feed)
 
-none_whole : (t : Stage) → is_all t [] ≡ false
-none_whole (stage.Handshake own) = refl
-none_whole (stage.Message c o s n) = refl
+with_held : HalfState → List ℕ → HalfState
+with_held h held = with_feed h (record h.feed { held = held })
 
--- steps of the byte link of two new ends lead to this link, and nothing is said or reset
-record IsReached (a b : EndState) (l : B.Link) : Type 0 where
-  steps : List Step
-  outcomes : List Outcome
-  are : B.AreSteps (B.link_of a b) steps outcomes l
-  moves : AreMoves steps
-
--- an end that holds nothing and yet awaits nothing more refuses: its stream is longer than may be
-overlong : {a b : EndState} {l : B.Link} (s : Side) (e : Option Fault) → IsReached a b l → IsIdle (B.seen_from s l).own
-    → (B.seen_from s l).own.half.feed.held ≡ [] → early (B.seen_from s l).own.half.feed.stage [] ≡ e
-    → (is_some e || is_all (B.seen_from s l).own.half.feed.stage []) ≡ true → IsStopped a b
-overlong {l} s None r idle none is closed =
-    absurd (let open_ = none_whole (B.seen_from s l).own.half.feed.stage in cc)
-overlong {a} {b} {l} s (Some f) reached idle none is closed =
-    let x : HalfState = (B.seen_from s l).own.half in
-    let r : Refusal = refusal_of x.feed.stage f in
-    let fault : HasFault x.feed.stage x.feed.held f =
-    subst (λ (h : List ℕ). HasFault x.feed.stage h f) (sym none) (early_has x.feed.stage [] f is) in
-    stops a b s reached.steps reached.outcomes l (with_feed x (after x.feed (Err r))) r reached.are reached.moves ((free x idle.sent, (f, fault, refl)), refl)
-
--- it awaits more, or it stops
-awaits : {a b : EndState} {l : B.Link} (s : Side) → IsReached a b l → IsIdle (B.seen_from s l).own → (IsStopped a b → ⊥)
-    → is_closed (B.seen_from s l).own.half.feed.stage (B.seen_from s l).own.half.feed.held ≡ false
-awaits {l} s reached idle never =
-    let f : FeedState = (B.seen_from s l).own.half.feed in
-    elim idle.rested [
-      | inl open_ ↦ open_
-      | inr none ↦ elim (cases_Bool (is_closed f.stage f.held)) [
-        | inl closed ↦ absurd (never (overlong s (early f.stage []) reached idle none refl (ap (is_closed f.stage) (sym none) ∙ closed)))
-        | inr open_ ↦ open_
-      ]
-    ]
+fed_none : (x : B.Node) → x.untaken ≡ [] → B.fed x ≡ x
+unfolding with_held
+fed_none x e =
+    let F : List ℕ → B.Node = λ u. record x { half = received x.half u; untaken = drop (taken x.half.feed u) u } in
+    let G : List ℕ → List ℕ → B.Node = λ h u. record x { half = with_held x.half h; untaken = u } in
+    ap F e ∙ ap (λ (h : List ℕ). G h []) (append-nil x.half.feed.held) ∙ ap (G x.half.feed.held) (sym e)
 
 no_bytes : (p : B.Pair) → p.own.untaken ≡ [] → p.other.half.outbox ≡ [] → B.delivers p 0 ≡ p
 no_bytes p none empty =
@@ -211,15 +237,13 @@ no_bytes p none empty =
     let untaken : p.own.untaken ++ [] ≡ p.own.untaken = append-nil p.own.untaken in
     ap F untaken ∙ ap (λ (x : B.Node). record { own = x; other = p.other }) (fed_none p.own none)
 
-idle_turn : (p : B.Pair) → p.own.untaken ≡ [] → p.own.half.outbox ≡ [] → is_closed p.own.half.feed.stage p.own.half.feed.held ≡ false
-    → B.IsTurn p outcome.Idle p
-idle_turn p none empty open_ =
-    (p.own, (((free p.own.half empty, open_), refl), refl), ap (λ (x : B.Node). record { own = x; other = p.other }) (sym (fed_none p.own none)))
+idle_turn : (p : B.Pair) → IsIdle p.own → B.IsTurn p outcome.Idle p
+idle_turn p idle =
+    (p.own, (((free_of p.own.half idle.sent, idle.awaits), refl), refl), ap (λ (x : B.Node). record { own = x; other = p.other }) (sym (fed_none p.own idle.untaken)))
 
 -- nothing more comes of a byte more and of a turn
-last_are : {a b : EndState} {l : B.Link} → IsReached a b l → IsIdle l.left → IsIdle l.right → (IsStopped a b → ⊥)
-    → B.AreSteps l last_steps last_outcomes l
-last_are {l} reached x y never =
+last_are : {l : B.Link} → IsIdle l.left → IsIdle l.right → B.AreSteps l last_steps last_outcomes l
+last_are {l} x y =
     let left : B.Pair = B.seen_from Left l in
     let right : B.Pair = B.seen_from Right l in
     let none_left : 0 ≡ min 1 (length l.right.half.outbox) = omega (arith, ap (length {A = ℕ}) y.sent) in
@@ -227,8 +251,8 @@ last_are {l} reached x y never =
     let to_left : left ≡ B.delivers left (min 1 (length l.right.half.outbox)) = sym (no_bytes left x.untaken y.sent) ∙ ap (B.delivers left) none_left in
     let to_right : right ≡ B.delivers right (min 1 (length l.left.half.outbox)) =
     sym (no_bytes right y.untaken x.sent) ∙ ap (B.delivers right) none_right in
-    let of_left = idle_turn left x.untaken x.sent (awaits Left reached x never) in
-    let of_right = idle_turn right y.untaken y.sent (awaits Right reached y never) in (
+    let of_left = idle_turn left x in
+    let of_right = idle_turn right y in (
       l,
       (left, (ap outcome.Delivered none_left, to_left), refl),
       (
@@ -238,55 +262,54 @@ last_are {l} reached x y never =
       ),
     )
 
--- the end of the right node is that of the right end
-right_end : (x : B.Node) (half : HalfState) (bytes : List ℕ) → IsGiven half bytes x → x.half.end ≡ half.end
-right_end x half bytes g = ap (λ (h : HalfState). h.end) g.0
+idle_node : (x : B.Node) (half : HalfState) (items : ℕ) → IsEndOf half items x → half.outbox ≡ [] → is_closed half.feed.stage half.feed.held ≡ false → IsIdle x
+idle_node x half items is empty awaits = record {
+  sent = ap (λ (h : HalfState). h.outbox) is.half ∙ empty;
+  untaken = is.untaken;
+  awaits = subst (λ (h : HalfState). is_closed h.feed.stage h.feed.held ≡ false) (sym is.half) awaits;
+}
 
-still_fetched : (metadata : List ℕ) (a b : EndState) (n : ℕ) (new : Ends) → FetchIsShort → FetchIsWhole → IsFetchPair metadata a b
-    → Follows a b n Left (at_left new) new.right → IsStill (at_left new) → IsStill (at_right new)
-    → metadata_of new.right.half.end.part ≡ Some metadata
-still_fetched metadata a b n new short whole f st left right =
-    let x : IsIdle st.link.left = idle_node st.link.left (at_left new) st.coming st.own left st.own_rested st.is_coming in
-    let y : IsIdle st.link.right = idle_node st.link.right (at_right new) st.going st.other right st.other_rested st.is_going in
-    let reached : IsReached a b st.link = record { steps = st.steps; outcomes = st.outcomes; are = st.are; moves = st.moves } in
-    let last = last_are reached x y (never_stopped metadata a b short f) in
-    let steps : List Step = st.steps ++ last_steps in
-    let outcomes : List Outcome = st.outcomes ++ last_outcomes in
+outbox_empty : (a : HalfState) → (length a.outbox == 0) ≡ true → a.outbox ≡ []
+outbox_empty a e = let none = eqb-true (length a.outbox) 0 e in nil_from_length a.outbox (omega (arith, none))
+
+quiet_parts : (l r : HalfState) → is_quiet l r ≡ true → (l.outbox ≡ []) × (r.outbox ≡ [])
+quiet_parts l r e = let parts = both_true (length l.outbox == 0) (length r.outbox == 0) e in (outbox_empty l parts.0, outbox_empty r parts.1)
+  where
+    both_true : (x y : Bool) → (x && y) ≡ true → (x ≡ true) × (y ≡ true)
+    both_true true y e = (refl, e)
+    both_true false y e = absurd cc
+
+quiet_fetched : (metadata : List ℕ) (a b : EndState) (n : ℕ) (new : Ends) → FetchIsShort → FetchIsWhole → IsFetchPair metadata a b
+    → IsThere a b n new → is_quiet new.left new.right ≡ true → metadata_of new.right.end.part ≡ Some metadata
+quiet_fetched metadata a b n new short whole f there quiet =
+    let none = quiet_parts new.left new.right quiet in
+    let st = there.follows in
+    let r = st.reached in
+    let x : IsIdle st.link.left = idle_node st.link.left new.left new.left_items st.own_is none.0 st.own_open in
+    let y : IsIdle st.link.right = idle_node st.link.right new.right new.right_items st.other_is none.1 st.other_open in
+    let last = last_are x y in
+    let steps : List Step = r.steps ++ last_steps in
+    let outcomes : List Outcome = r.outcomes ++ last_outcomes in
     let are : B.AreSteps (B.link_of a b) steps outcomes st.link =
-    steps_both st.steps last_steps st.outcomes last_outcomes (B.link_of a b) st.link st.link st.are last in
-    let moves : AreMoves steps = moves_both st.steps last_steps st.moves (tt, (tt, (tt, (tt, tt)))) in
+    steps_both r.steps last_steps r.outcomes last_outcomes (B.link_of a b) st.link st.link r.are last in
+    let moves : AreMoves steps = moves_both r.steps last_steps r.moves (tt, (tt, (tt, (tt, tt)))) in
     let agree = byte_link_is_message_link a b steps outcomes st.link (honest metadata a b steps outcomes short f moves) are in
-    let count = same_count st.steps st.outcomes (B.link_of a b) st.link st.are in
+    let count = same_count r.steps r.outcomes (B.link_of a b) st.link r.are in
     let l : M.Link = M.link_of a b in
-    let parts = outcomes_parts st.steps last_steps st.outcomes last_outcomes l count agree.0 in
-    let c = counted a b st.steps st.outcomes st.moves parts.0 in
-    let quiet : IsQuiet (M.after_all l steps outcomes) = subst IsQuiet (sym (after_both st.steps last_steps st.outcomes last_outcomes l count))
-    (quiet_after (M.after_all l st.steps st.outcomes) (delivered st.outcomes) c parts.1) in
-    let there : metadata_of (M.after_all l steps outcomes).right.end.part ≡ Some metadata = whole metadata a b steps outcomes f moves quiet in
+    let parts = outcomes_parts r.steps last_steps r.outcomes last_outcomes l count agree.0 in
+    let c = counted a b r.steps r.outcomes r.moves parts.0 in
+    let quiet_link : IsQuiet (M.after_all l steps outcomes) = subst IsQuiet (sym (after_both r.steps last_steps r.outcomes last_outcomes l count))
+    (quiet_after (M.after_all l r.steps r.outcomes) (delivered r.outcomes) c parts.1) in
+    let fetched : metadata_of (M.after_all l steps outcomes).right.end.part ≡ Some metadata = whole metadata a b steps outcomes f moves quiet_link in
     let part : EndState → Option (List ℕ) = λ e. metadata_of e.part in
-    ap part (sym (right_end st.link.right new.right.half (new.right.pending ++ st.going) st.other)) ∙ ap part agree.1.right ∙ there
-
-fetched_so : (left right : HalfState) (metadata : List ℕ) → metadata_of right.end.part ≡ Some metadata → left.outbox ≡ [] → right.outbox ≡ []
-    → is_fetched left right ≡ true
-fetched_so left right metadata there e f =
-    let P : Option (List ℕ) → List ℕ → List ℕ → Bool = λ o x y. is_some o && ((length x == 0) && (length y == 0)) in
-    ap (λ (o : Option (List ℕ)). P o left.outbox right.outbox) there ∙ ap (λ (x : List ℕ). P (Some metadata) x right.outbox) e
-    ∙ ap (λ (y : List ℕ). P (Some metadata) [] y) f
-
-ended : {metadata : List ℕ} {a b : EndState} (s : Seen) (rounds : ℕ) (new : Ends) (stopped : Bool) → FetchIsShort → FetchIsWhole
-    → IsFetchPair metadata a b → IsClear s → IsEnded stopped rounds (begun a b s) new
-    → (stopped ≡ false) × (metadata_of new.right.half.end.part ≡ Some metadata) × (is_fetched new.left.half new.right.half ≡ true)
-ended {metadata} {a} {b} s rounds new true short whole f clear h =
-    absurd (never_stopped metadata a b short f (halted_stops a b h.0 h.2.0 new (rounds_follow a b s h.0 h.2.0 clear h.2.1) h.2.2))
-ended {metadata} {a} {b} s rounds new false short whole f clear h =
-    let st = last_follows a b h.0 false h.2.0 new (rounds_follow a b s h.0 h.2.0 clear h.2.1) h.2.2 in
-    let still = round_still h.2.0 new h.2.2 in
-    let there = still_fetched metadata a b h.0 new short whole f st still.0 still.1 in
-    (refl, there, fetched_so new.left.half new.right.half metadata there still.0.sent still.1.sent)
+    ap (λ (h : HalfState). part h.end) (sym st.other_is.half) ∙ ap part agree.1.right ∙ fetched
 
 pub run_fetches : RunFetches
-run_fetches metadata a b s rounds new (Ok x) f clear h = ended s rounds new x.stopped fetch_is_short fetch_is_whole f clear h
-run_fetches metadata a b s rounds new (Err both_error.Rounds) f clear h =
-    few_rounds metadata a b rounds new fetch_is_short f (rounds_are_steps a b s rounds new clear h)
-run_fetches metadata a b s rounds new (Err both_error.Net) f clear h = tt
-run_fetches metadata a b s rounds new (Err both_error.Memory) f clear h = tt
+run_fetches metadata a b s rounds new (Ok x) f clear h =
+    quiet_fetched metadata a b h.0 new fetch_is_short fetch_is_whole f (rounds_follow a b s h.0 new clear h.2) h.3
+run_fetches metadata a b s rounds new (Err halt.Stopped) f clear h =
+    never_stopped metadata a b fetch_is_short fetch_is_free f (halted_stops h.2 new (rounds_follow a b s h.0 h.2 clear h.3) h.4)
+run_fetches metadata a b s rounds new (Err halt.Rounds) f clear h =
+    few_rounds metadata a b rounds new fetch_is_short f (rounds_are_steps a b s rounds new clear h.0)
+run_fetches metadata a b s rounds new (Err halt.Net) f clear h = tt
+run_fetches metadata a b s rounds new (Err halt.Memory) f clear h = tt

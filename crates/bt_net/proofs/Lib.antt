@@ -1,8 +1,7 @@
-pub mod Looping
-pub mod Feeding
-pub mod Turned
-pub mod Followed
+pub mod Carried
 pub mod Counted
 pub mod Fetching
-pub mod LoopPair
 pub mod LoopFetch
+pub mod LoopPair
+pub mod Looping
+pub mod Passing

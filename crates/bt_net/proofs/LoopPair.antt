@@ -43,6 +43,9 @@ sized metadata e =
     let parts = neither (eqb (length metadata) 0) (ltb max_metadata (length metadata)) e in
     record { least = above_0 (length metadata) parts.0; most = ltb-false max_metadata (length metadata) parts.1 }
 
+pub not_long : (metadata : List ℕ) → is_bad_size (length metadata) ≡ false → length metadata ≤ max_metadata
+not_long metadata e = (sized metadata e).most
+
 new_end : {id : ℕ} (rules : Rules) (limit : ℕ) (hash peer : List ℕ) (part : Part) → (32768 ≤ limit) × (limit ≤ 1048576)
     → (length hash ≡ 20) × (length peer ≡ 20) → HaveBytes (metadata_only (Some id)) → ForSome (source_of part) (λ m. IsMetadata m) → IsFirstPart part
     → IsNew (unopened (own_by rules limit hash id) (handshake_by hash peer) Silent window part)

@@ -1,27 +1,27 @@
 -- Two ends over a wire, as steps of the byte link of two ends; and what comes of a fetch.
-use Rattle.std.specs.Prelude.{◌≡◌, ℕ, ◌+◌, ◌*◌, ◌≤◌, false, true, List, [], ◌∷◌, ◌++◌, length, drop, Some, Result, Ok, Err, ⊤}
+use Rattle.std.specs.Prelude.{◌≡◌, ℕ, ◌+◌, ◌≤◌, List, [], ◌∷◌, length, drop, Some, Result, Ok, Err, ⊤}
 use Rattle.bt_feed.specs.Feeds.{taken}
 use Rattle.bt_end.specs.Ends.{EndState, metadata_of}
 use Rattle.bt_end.specs.Halves.{HalfState, connected, received}
-use Rattle.bt_exchange.specs.Boths.{is_fetched}
-use Rattle.bt_exchange.specs.Connections.{Seen}
-use Rattle.bt_exchange.specs.Rounds.{Ends, AreRounds, IsRun, ends_of}
-use Rattle.bt_exchange.specs.declared.both.Both.{Both}
-use Rattle.bt_exchange.specs.declared.both.BothError.{BothError}
-use Rattle.bt_exchange.specs.declared.both.BothError.TheVariants.{Rounds}
 use Rattle.bt_link.specs.ByteLinks as B
 use Rattle.bt_link.specs.FetchLaws.{IsFetchPair, AreMoves, most_bytes}
 use Rattle.bt_link.specs.declared.link.Outcome.{Outcome}
 use Rattle.bt_link.specs.declared.link.Outcome.TheVariants as outcome
 use Rattle.bt_link.specs.declared.link.Step.{Step}
+use Rattle.bt_net.specs.Wires.{WireSeen}
+use Rattle.bt_net.specs.Rounds.{Ends, AreRounds, IsRun, ends_of}
+use Rattle.bt_net.specs.declared.both.Handled.{Handled}
+use Rattle.bt_net.specs.declared.both.Halt.{Halt}
+use Rattle.bt_net.specs.declared.both.Halt.TheVariants as halt
 
--- nothing is on its way, in either direction
-abbrev pub IsClear : Seen → Type 0
-IsClear s = (s.coming ≡ Some []) × (s.gone ≡ Some [])
+-- The wire tells its bytes, and nothing is on its way, in either direction. (A wire in memory tells them, and a connection of the
+-- system doesn't.)
+abbrev pub IsClear : WireSeen → Type 0
+IsClear s = (s.to_left ≡ Some []) × (s.to_right ≡ Some [])
 
 -- two ends at the start of a connection, over a wire of which `s` is seen
-abbrev pub begun : EndState → EndState → Seen → Ends
-begun a b s = ends_of s [] [] (connected a) (connected b)
+abbrev pub begun : EndState → EndState → WireSeen → Ends
+begun a b s = ends_of s (connected a) (connected b) 0 0
 
 -- ---- rounds as steps
 
@@ -34,42 +34,45 @@ abbrev pub delivered : List Outcome → ℕ
 delivered [] = 0
 delivered (o ∷ os) = delivered_by o + delivered os
 
--- the node x is the end `half`, to which `bytes` were delivered: the feed took of them what it may, and the rest is untaken
-abbrev pub IsGiven : HalfState → List ℕ → B.Node → Type 0
-IsGiven half bytes x = (x.half ≡ received half bytes) × (x.untaken ≡ drop (taken half.feed bytes) bytes)
+-- the node x is this end, with no delivered byte left untaken, and it handled as many items
+pub record IsEndOf (half : HalfState) (items : ℕ) (x : B.Node) : Type 0 where
+  pub half : x.half ≡ half
+  pub untaken : x.untaken ≡ []
+  pub items : length x.handled ≡ items
 
--- Steps of the byte link of new ends, with their outcomes, lead to these ends. Nothing is said or reset. The link delivers bytes when
--- they are written, so a node is the end that was given what is pending for it and what is on its way to it. Each of n rounds moved
--- a byte at least, and each delivered byte is written once and read once: so n and the bytes that are still to be read are at most
--- twice the delivered bytes.
+-- Steps of the byte link of new ends, with their outcomes, lead to these ends. Nothing is said or reset, and nothing is on the wire. Each
+-- of n rounds delivered a byte at least.
 pub record AreStepsTo (a b : EndState) (n : ℕ) (new : Ends) : Type 0 where
-  pub coming : List ℕ
-  pub going : List ℕ
-  pub is_coming : new.seen.coming ≡ Some coming
-  pub is_going : new.seen.gone ≡ Some going
+  pub clear : IsClear new.seen
   pub steps : List Step
   pub outcomes : List Outcome
   pub link : B.Link
   pub are : B.AreSteps (B.link_of a b) steps outcomes link
   pub moves : AreMoves steps
-  pub left : IsGiven new.left.half (new.left.pending ++ coming) link.left
-  pub right : IsGiven new.right.half (new.right.pending ++ going) link.right
-  pub least : n + length coming + length going ≤ 2 * delivered outcomes
+  pub left : IsEndOf new.left new.left_items link.left
+  pub right : IsEndOf new.right new.right_items link.right
+  pub least : n ≤ delivered outcomes
 
 -- rounds of two ends over a wire, on which nothing was at first, are steps of their byte link
 abbrev pub RoundsAreSteps : Type 0
-RoundsAreSteps = (a b : EndState) (s : Seen) (n : ℕ) (new : Ends) → IsClear s → AreRounds n (begun a b s) new → AreStepsTo a b n new
+RoundsAreSteps = (a b : EndState) (s : WireSeen) (n : ℕ) (new : Ends) → IsClear s → AreRounds n (begun a b s) new → AreStepsTo a b n new
 
 -- ---- a fetch
 
--- no end stopped, the metadata is there, and nothing is to be sent; and if it stopped for the rounds, they were few
-abbrev pub FetchesIn : List ℕ → ℕ → Ends → Result Both BothError → Type 0
-FetchesIn metadata rounds new (Ok b) =
-    (b.stopped ≡ false) × (metadata_of new.right.half.end.part ≡ Some metadata) × (is_fetched new.left.half new.right.half ≡ true)
-FetchesIn metadata rounds new (Err Rounds) = rounds ≤ 2 * most_bytes (length metadata)
+-- no end stops the run, and the metadata is there when it ends; and if it stopped for the rounds, they were few
+abbrev pub FetchesIn : List ℕ → ℕ → Ends → Result Handled Halt → Type 0
+FetchesIn metadata rounds new (Ok h) = metadata_of new.right.end.part ≡ Some metadata
+FetchesIn metadata rounds new (Err halt.Stopped) = ⊥
+FetchesIn metadata rounds new (Err halt.Rounds) = rounds ≤ most_bytes (length metadata)
 FetchesIn metadata rounds new (Err e) = ⊤
 
 -- a run of an end that serves metadata and an end that fetches it
 abbrev pub RunFetches : Type 0
-RunFetches = (metadata : List ℕ) (a b : EndState) (s : Seen) (rounds : ℕ) (new : Ends) (result : Result Both BothError)
+RunFetches = (metadata : List ℕ) (a b : EndState) (s : WireSeen) (rounds : ℕ) (new : Ends) (result : Result Handled Halt)
     → IsFetchPair metadata a b → IsClear s → IsRun rounds (begun a b s) new result → FetchesIn metadata rounds new result
+
+-- ---- for proofs
+
+-- the node x is the end `half`, to which `bytes` were delivered: the feed took of them what it may, and the rest is untaken
+abbrev pub IsGiven : HalfState → List ℕ → B.Node → Type 0
+IsGiven half bytes x = (x.half ≡ received half bytes) × (x.untaken ≡ drop (taken half.feed bytes) bytes)

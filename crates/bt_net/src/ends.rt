@@ -18,6 +18,7 @@ pub fn serving(alloc: Global, metadata: Vec<u8>, rules: Rules, limit: u32) -> Re
     ensures end { IfOk result (λ end. end ≡ left_end rules limit metadata.items) }
     ensures size { IfOk result (λ end. is_bad_size (length metadata.items) ≡ false) }
     ensures bad { result ≡ Err EndError.BadSize → is_bad_size (length metadata.items) ≡ true }
+    ensures each { is_bad_size (length metadata.items) ≡ true → result ≡ Err EndError.BadSize }
 {
     let hash = Sha1::digest(metadata.as_slice());
     End::new(

@@ -1,8 +1,16 @@
 //! Two ends over a connection of the process to itself: what the command `loop` does.
 #![tactic(auto)]
 
+mod both;
 mod ends;
 pub mod laws;
 mod looped;
+mod mem_wire;
+mod tcp;
+mod wire;
 
+pub use both::{Halt, Handled, run_both};
 pub use looped::{LoopEnd, ROUNDS, run_loop, status};
+pub use mem_wire::MemWire;
+pub use tcp::{TcpWire, open_tcp};
+pub use wire::{Wire, WireFault};

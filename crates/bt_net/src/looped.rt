@@ -1,17 +1,16 @@
 //! `loop` on any devices: metadata is read, served by one end, and fetched by another over a wire. The command line calls
 //! [`run_loop`].
-ghost use Rattle.std.specs.Prelude.{◌≡◌, ◌≢◌, ◌≤◌, ◌++◌, true, codes, decimal, length, is_some, Some, Ok, Err, List, ℕ, IfOk, OnOk, OnErr};
+ghost use Rattle.std.specs.Prelude.{◌≡◌, ◌≢◌, ◌≤◌, ◌+◌, ◌++◌, codes, decimal, length, true, Ok, Err, IfOk, OnOk, OnErr};
 ghost use Rattle.hex.specs.Hex.{encode_lower};
-ghost use Rattle.std.specs.Io.KnownBytes.{Consumes};
-ghost use Rattle.bt_end.specs.Ends.{metadata_of};
+ghost use Rattle.bt_end.specs.Configs.{is_bad_size};
 ghost use Rattle.bt_io.specs.Seen.{EndRead, ReadFailed, WriteFailed};
-ghost use Rattle.bt_net.specs.Loops.{IsInput, IsLooped, IsLinked, IsPrinted, IsTimely, IsWireFault, IsWrite, count_line, fetched_line, fetched_lines, status_of};
-ghost use Rattle.bt_net.specs.Loops.{Fetches, IsFetching};
+ghost use Rattle.bt_net.specs.Loops.{Fetches, IsFetching, IsInput, IsLinked, IsLoop, IsLooped, IsPrinted, IsWireFault, IsWrite, count_line, fetched_line, fetched_lines, status_of};
 ghost use Rattle.bt_net.specs.Runs.{IsClear};
 
+use crate::both::{Halt, Handled, run_both};
 use crate::ends::{fetching, serving};
+use crate::wire::Wire;
 use bt_end::{End, EndError};
-use bt_exchange::{Both, BothError, Wire, run_both};
 use bt_ext::Rules;
 use bt_io::{Source, Target, write_front};
 use bt_metadata::MAX_METADATA;
@@ -21,27 +20,32 @@ use sha1::Sha1;
 use std::alloc::{AllocError, Global};
 
 /// The greatest number of rounds.
-pub const ROUNDS: u64 = 2_097_152;
+pub const ROUNDS: u64 = 1_048_576;
+
+/// How many bytes are read at once, at most.
+const SIZE: usize = 65_536;
 
 /// How a loop ended.
 #[derive(Clone, Copy, PartialEq, Eq, Debug)]
 pub enum LoopEnd {
     /// The right end has the metadata, and nothing is under way.
     Fetched,
-    /// The ends moved no more bytes, or one refused what came, before that.
+    /// Nothing is under way any more, and the right end has no metadata; or an end refused what came, or was busy.
     Unfetched,
     /// The size of what was read isn't 1 to 67,108,864.
     BadSize,
 }
 
-/// Reads to the end, or until it is more than metadata may be.
+/// Reads to the end, or one byte more than metadata may have.
 fn read_metadata<R: Source>(alloc: Global, reader: &mut R) -> Result<Vec<u8>, ToolFault>
-    ensures { IsInput (R.seen reader.old).left (R.seen reader.new).left (EndRead (R.seen reader.old) (R.seen reader.new)) (ReadFailed (R.seen reader.old) (R.seen reader.new)) result }
+    ensures once { (R.seen reader.new).ends ≤ (R.seen reader.old).ends + 1 }
+    ensures input { IsInput (R.seen reader.old).left (R.seen reader.new).left (EndRead (R.seen reader.old) (R.seen reader.new)) (ReadFailed (R.seen reader.old) (R.seen reader.new)) result }
 {
     let mut metadata = Vec::new(alloc);
-    let mut buffer = [0; 65536];
+    let mut buffer = [0; SIZE];
     'reads: loop {
-        match reader.read(&mut buffer) {
+        let most = SIZE.min(MAX_METADATA + 1 - metadata.len());
+        match reader.read(&mut buffer[..most]) {
             Ok(0) => return Ok(metadata),
             Ok(count) => {
                 match metadata.extend_from_slice(&buffer[..count]) {
@@ -122,24 +126,20 @@ fn write_lines<T: Target>(writer: &mut T, lines: &[u8], end: LoopEnd) -> Result<
     Ok(end)
 }
 
-/// Writes what came of two ends.
+/// Writes what came of two ends that have nothing more to send.
 fn print<T: Target>(
     alloc: Global,
-    both: Both,
+    handled: Handled,
     right: &End,
     writer: &mut T,
 ) -> Result<LoopEnd, ToolFault>
-    ensures printed { IsPrinted both right.now (T.seen writer.old).held (T.seen writer.new).held result }
-    ensures fetched { both.fetched ≡ true → is_some (metadata_of right.now.end.part) ≡ true → result ≢ Ok LoopEnd.Unfetched }
+    ensures printed { IsPrinted handled right.now (T.seen writer.old).held (T.seen writer.new).held result }
     ensures failed { result ≡ Err ToolFault.Write → WriteFailed (T.seen writer.old) (T.seen writer.new) }
 {
-    if !both.fetched {
-        return write_lines(writer, b"unfetched\n", LoopEnd::Unfetched);
-    }
     let Some(metadata) = right.metadata() else {
         return write_lines(writer, b"unfetched\n", LoopEnd::Unfetched);
     };
-    match lines_of(alloc, metadata, both.left, both.right) {
+    match lines_of(alloc, metadata, handled.left, handled.right) {
         Ok(lines) => write_lines(writer, lines.as_slice(), LoopEnd::Fetched),
         Err(_) => Err(ToolFault::Memory),
     }
@@ -153,16 +153,17 @@ fn link<W: Wire, T: Target>(
     wire: &mut W,
     writer: &mut T,
 ) -> Result<LoopEnd, ToolFault>
-    ensures linked { IsLinked left.old right.old (T.seen writer.old).held (T.seen writer.new).held result }
+    ensures linked { IsLinked (W.seen wire.old) (W.seen wire.new) left.old right.old (T.seen writer.old).held (T.seen writer.new).held result }
     ensures fetches { IsClear (W.seen wire.old) → Fetches left.old right.old result }
-    ensures net { IsWireFault (W.seen wire.old).counts (W.seen wire.new).counts result }
+    ensures net { IsWireFault (W.seen wire.old) (W.seen wire.new) result }
     ensures failed { result ≡ Err ToolFault.Write → WriteFailed (T.seen writer.old) (T.seen writer.new) }
 {
-    match run_both(alloc, wire, left, right, ROUNDS) {
-        Ok(both) => print(alloc, both, right, writer),
-        Err(BothError::Net) => Err(ToolFault::Net),
-        Err(BothError::Rounds) => Err(ToolFault::Turns),
-        Err(BothError::Memory) => Err(ToolFault::Memory),
+    match run_both(wire, left, right, ROUNDS) {
+        Ok(handled) => print(alloc, handled, right, writer),
+        Err(Halt::Stopped) => write_lines(writer, b"unfetched\n", LoopEnd::Unfetched),
+        Err(Halt::Net) => Err(ToolFault::Net),
+        Err(Halt::Rounds) => Err(ToolFault::Turns),
+        Err(Halt::Memory) => Err(ToolFault::Memory),
     }
 }
 
@@ -176,10 +177,11 @@ fn run_metadata<W: Wire, T: Target>(
     limit: u32,
 ) -> Result<LoopEnd, ToolFault>
     requires { (32768 ≤ limit) × (limit ≤ 1048576) }
-    ensures looped { IsLooped rules limit metadata.items (T.seen writer.old).held (T.seen writer.new).held result }
+    ensures looped { IsLooped (W.seen wire.old) (W.seen wire.new) rules limit metadata.items (T.seen writer.old).held (T.seen writer.new).held result }
     ensures fetches { IsClear (W.seen wire.old) → IsFetching metadata.items result }
     ensures unread { result ≢ Err ToolFault.Read }
-    ensures net { IsWireFault (W.seen wire.old).counts (W.seen wire.new).counts result }
+    ensures bad { is_bad_size (length metadata.items) ≡ true → result ≡ Ok LoopEnd.BadSize }
+    ensures net { IsWireFault (W.seen wire.old) (W.seen wire.new) result }
     ensures failed { result ≡ Err ToolFault.Write → WriteFailed (T.seen writer.old) (T.seen writer.new) }
 {
     let hash = Sha1::digest(metadata.as_slice());
@@ -196,15 +198,15 @@ fn run_metadata<W: Wire, T: Target>(
 
 /// Fetches metadata from an end of its own, over the wire.
 ///
-/// It reads the metadata to the reader's end, serves it at one end of the wire, fetches it at the other, and writes what
-/// came of it.
+/// It reads the metadata to the reader's end, or 67,108,865 bytes of it. It serves it at one end of the wire, fetches it at the
+/// other, and writes what came of it.
 ///
-/// The left end serves under the id 3, and the right one fetches under the id 9. The wire is used once all is read.
+/// The left end serves under the id 3, and the right one fetches under the id 9. The wire is used after all is read. In a round each
+/// side in turn sends at most 4,096 bytes, and the other side handles them. The run ends when no side has anything to send.
 ///
 /// # Errors
-/// `Read` and `Write` where a device failed, `Net` where a call of the wire failed, took nothing or gave the end, `Turns` after
-/// 2,097,152 rounds, and `Memory` where a growth was refused. After `Write` a prefix of the output is written, and after the others
-/// nothing.
+/// `Read` and `Write` if a device failed, `Net` if a call of the wire failed or moved nothing, `Turns` after 1,048,576 rounds, and
+/// `Memory` if a growth was refused. After `Write` a prefix of the output is written, and after the others nothing.
 pub fn run_loop<R: Source, T: Target, W: Wire>(
     alloc: Global,
     reader: &mut R,
@@ -214,11 +216,11 @@ pub fn run_loop<R: Source, T: Target, W: Wire>(
     limit: u32,
 ) -> Result<LoopEnd, ToolFault>
     requires { (32768 ≤ limit) × (limit ≤ 1048576) }
-    ensures looped { (text : List ℕ) × Consumes (R.seen reader.old).left (R.seen reader.new).left text × IsLooped rules limit text (T.seen writer.old).held (T.seen writer.new).held result }
-    ensures fetches { (text : List ℕ) × Consumes (R.seen reader.old).left (R.seen reader.new).left text × (IsClear (W.seen wire.old) → IsFetching text result) }
-    ensures end { IsTimely (EndRead (R.seen reader.old) (R.seen reader.new)) result }
+    ensures is_loop { IsLoop (R.seen reader.old).left (R.seen reader.new).left (EndRead (R.seen reader.old) (R.seen reader.new))
+        (W.seen wire.old) (W.seen wire.new) rules limit (T.seen writer.old).held (T.seen writer.new).held result }
+    ensures once { (R.seen reader.new).ends ≤ (R.seen reader.old).ends + 1 }
     ensures read { result ≡ Err ToolFault.Read → ReadFailed (R.seen reader.old) (R.seen reader.new) }
-    ensures net { IsWireFault (W.seen wire.old).counts (W.seen wire.new).counts result }
+    ensures net { IsWireFault (W.seen wire.old) (W.seen wire.new) result }
     ensures failed { result ≡ Err ToolFault.Write → WriteFailed (T.seen writer.old) (T.seen writer.new) }
 {
     match read_metadata(alloc, reader) {

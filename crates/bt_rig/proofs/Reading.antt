@@ -9,7 +9,7 @@ use Rattle.bt_rig.specs.declared.entry.Entry.{Entry}
 use Rattle.bt_rig.specs.declared.entry.Entry.TheVariants.{Set, Do}
 use Rattle.bt_rig.specs.declared.entry.Setting.{Setting}
 use Rattle.bt_rig.specs.Entries.{Says, IsReading}
-use Rattle.bt_rig.specs.Scripts.{Draft, start, is_skipped, Takes, skips, sets, does, AreTaken, IsTaken, AreWhole, ended_lines, HasLine, IsScript, IsWrongAt}
+use Rattle.bt_rig.specs.Scripts.{Draft, Plan, settled, start, is_skipped, Takes, skips, sets, does, AreTaken, IsTaken, AreWhole, ended_lines, HasLine, IsScript, IsWrongAt}
 
 -- ---- a line
 
@@ -85,6 +85,14 @@ wrong_last text rest number d h none wrong =
       count = h.count;
     }
 
-pub all_read : (text rest : List ℕ) (number : ℕ) (d next : Draft) → IsReadTo text rest number d → IsCut rest None → Takes d rest next → IsScript text next
-all_read text rest number d next h none taken =
-    record { before = h.before; line = rest; lines = last_line text rest number d h none; taken = taken_more start d next h.before rest h.taken taken }
+pub all_read : (text rest : List ℕ) (number : ℕ) (d next : Draft) (p : Plan) → IsReadTo text rest number d → IsCut rest None → Takes d rest next
+    → p ≡ settled next → IsScript text p
+all_read text rest number d next p h none taken plan =
+    record {
+      before = h.before;
+      line = rest;
+      lines = last_line text rest number d h none;
+      draft = next;
+      taken = taken_more start d next h.before rest h.taken taken;
+      plan = plan;
+    }

@@ -10,7 +10,7 @@ use Rattle.bt_text.specs.declared.ended.ToolFault.TheVariants.{Read, Write, Memo
 use Rattle.bt_rig.specs.declared.script.Script.{Script}
 use Rattle.bt_rig.specs.declared.run.RigEnd.{RigEnd}
 use Rattle.bt_rig.specs.declared.run.RigEnd.TheVariants.{Ran, Syntax, Size, Unrun}
-use Rattle.bt_rig.specs.Scripts.{draft_of, IsScript, IsWrongAt}
+use Rattle.bt_rig.specs.Scripts.{plan_of, IsScript, IsWrongAt}
 use Rattle.bt_rig.specs.Runs.{IsInput, IsPrinted, IsRunOf, IsFinished, IsTimely, IsTextRun, IsRigRun}
 
 pub finished_so : (s : Script) (r : LinkReport) (h k : TargetSeen) (x : Result RigEnd ToolFault) → IsRunOf s r → IsPrinted r h k x
@@ -25,7 +25,7 @@ finished_so s r h k (Err Memory) run p = p
 finished_so s r h k (Err Turns) run p = absurd p
 finished_so s r h k (Err Net) run p = absurd p
 
-pub ended_so : (text : List ℕ) (s : Script) (h k : TargetSeen) (x : Result RigEnd ToolFault) → IsScript text (draft_of s)
+pub ended_so : (text : List ℕ) (s : Script) (h k : TargetSeen) (x : Result RigEnd ToolFault) → IsScript text (plan_of s)
     → IsFinished s h k x → IsTextRun text h k x
 ended_so text s h k (Ok Ran) is p = (s, is, p.0, p.1, p.2)
 ended_so text s h k (Ok (Syntax n)) is p = absurd p
@@ -53,9 +53,9 @@ rig_so text l m h k (Err Memory) read at p = (text, read, p)
 rig_so text l m h k (Err Turns) read at p = absurd p
 rig_so text l m h k (Err Net) read at p = absurd p
 
-pub script_by : (text : List ℕ) (r : Result Script ℕ) (s : Script) → MatchResult r (λ s. IsScript text (draft_of s)) (IsWrongAt text) → r ≡ Ok s
-    → IsScript text (draft_of s)
-script_by text r s h e = subst (λ (x : Result Script ℕ). MatchResult x (λ s. IsScript text (draft_of s)) (IsWrongAt text)) e h
+pub script_by : (text : List ℕ) (r : Result Script ℕ) (s : Script) → MatchResult r (λ s. IsScript text (plan_of s)) (IsWrongAt text) → r ≡ Ok s
+    → IsScript text (plan_of s)
+script_by text r s h e = subst (λ (x : Result Script ℕ). MatchResult x (λ s. IsScript text (plan_of s)) (IsWrongAt text)) e h
 
 pub rig_by : {f : Option (Vec ℕ)} {v : Vec ℕ} {bytes : List ℕ} (l m : SourceSeen) (h k : TargetSeen) (x : Result RigEnd ToolFault)
     → IsInput l m (Ok f) → f ≡ Some v → bytes ≡ v.items → IsTextRun bytes h k x

@@ -1,5 +1,5 @@
 -- What a run of a script does to its reader and its writer.
-use Rattle.std.specs.Prelude.{◌≡◌, ◌≢◌, ℕ, ◌<◌, ◌≤◌, ⊤, List, [], ◌++◌, length, codes, Option, Some, None, Result, Ok, Err, MatchResult}
+use Rattle.std.specs.Prelude.{◌≡◌, ◌≢◌, ℕ, ◌+◌, ◌<◌, ◌≤◌, ⊤, List, [], ◌++◌, length, codes, Option, Some, None, Result, Ok, Err, MatchResult}
 use Rattle.std.specs.Global.{Vec}
 use Rattle.std.specs.Io.KnownBytes.{Consumes, Appends}
 use Rattle.bt_io.specs.Seen.{SourceSeen, TargetSeen, Devices, EndRead, ReadFailed, WriteFailed, AppendsPrefix}
@@ -17,7 +17,7 @@ use Rattle.bt_text.specs.Lines.{refused_line}
 use Rattle.bt_rig.specs.declared.script.Script.{Script}
 use Rattle.bt_rig.specs.declared.run.RigEnd.{RigEnd}
 use Rattle.bt_rig.specs.declared.run.RigEnd.TheVariants.{Ran, Syntax, Size, Unrun}
-use Rattle.bt_rig.specs.Scripts.{draft_of, IsScript, IsWrongAt}
+use Rattle.bt_rig.specs.Scripts.{plan_of, IsScript, IsWrongAt}
 use Rattle.bt_rig.specs.Shown.{report_lines}
 
 -- as many bytes as a script may have
@@ -29,6 +29,7 @@ most_script = 16777216
 -- the whole input was read, or more of it than a script may have; or a read failed, or memory was refused
 abbrev pub IsInput : SourceSeen → SourceSeen → Result (Option (Vec ℕ)) ToolFault → Type 0
 IsInput before after (Ok (Some text)) = Consumes before.left after.left text.items × (length text.items ≤ most_script) × EndRead before after
+    × (after.ends ≤ before.ends + 1)
 IsInput before after (Ok None) = (text : List ℕ) × Consumes before.left after.left text × (most_script < length text)
 IsInput before after (Err Read) = (text : List ℕ) × Consumes before.left after.left text × ReadFailed before after
 IsInput before after (Err Memory) = (text : List ℕ) × Consumes before.left after.left text
@@ -74,8 +75,8 @@ IsFinished s before after other = ⊥
 abbrev pub IsEnd : List ℕ → Option (List ℕ) → Option (List ℕ) → RigEnd → Type 0
 IsEnd text held held' Size = (most_script < length text) × (held' ≡ held)
 IsEnd text held held' (Syntax n) = IsWrongAt text n × (held' ≡ held)
-IsEnd text held held' Ran = (s : Script) × IsScript text (draft_of s) × (r : LinkReport) × IsRunOf s r × Appends held held' (report_lines r)
-IsEnd text held held' (Unrun e) = (s : Script) × IsScript text (draft_of s) × IsUnrunOf s e × (held' ≡ held)
+IsEnd text held held' Ran = (s : Script) × IsScript text (plan_of s) × (r : LinkReport) × IsRunOf s r × Appends held held' (report_lines r)
+IsEnd text held held' (Unrun e) = (s : Script) × IsScript text (plan_of s) × IsUnrunOf s e × (held' ≡ held)
 
 -- the input's end was read, but where it is too long
 abbrev pub IsTimely : Type 0 → RigEnd → Type 0
@@ -86,7 +87,7 @@ IsTimely AtEnd other = AtEnd
 abbrev pub IsFault : List ℕ → Type 0 → TargetSeen → TargetSeen → ToolFault → Type 0
 IsFault text Unread before after Read = (after.held ≡ before.held) × Unread
 IsFault text Unread before after Write =
-    (s : Script) × IsScript text (draft_of s) × (r : LinkReport) × IsRunOf s r × AppendsPrefix before.held after.held (report_lines r)
+    (s : Script) × IsScript text (plan_of s) × (r : LinkReport) × IsRunOf s r × AppendsPrefix before.held after.held (report_lines r)
     × WriteFailed before after
 IsFault text Unread before after Memory = after.held ≡ before.held
 IsFault text Unread before after Turns = ⊥

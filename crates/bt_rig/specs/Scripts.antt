@@ -1,10 +1,10 @@
 -- The script of a link: settings of two ends, and then steps.
 use Rattle.std.specs.Global.{Global}
-use Rattle.std.specs.Prelude.{◌≡◌, ℕ, ◌+◌, ◌==◌, Bool, true, false, List, [], ◌∷◌, ◌++◌, length, codes, Some, None, ⊤}
+use Rattle.std.specs.Prelude.{◌≡◌, ℕ, ◌+◌, ◌==◌, Bool, true, false, List, [], ◌∷◌, ◌++◌, length, codes, Option, Some, None, ⊤}
 use Rattle.std.specs.List.{flat_map}
 use Rattle.sha1.specs.Sha1.{sha1}
 use Rattle.bt_ext.specs.declared.ids.Rules.TheVariants.{Bep}
-use Rattle.bt_ext.specs.Ids.{registered, metadata_only, metadata_id, donthave_id}
+use Rattle.bt_ext.specs.Ids.{registered, metadata_only}
 use Rattle.bt_wire.specs.declared.context.Own.{Own}
 use Rattle.bt_metadata.specs.Blocks.{window, max_metadata}
 use Rattle.bt_end.specs.declared.config.Announce.{Announce}
@@ -20,6 +20,8 @@ use Rattle.bt_rig.specs.declared.entry.Entry.TheVariants.{Set, Do}
 use Rattle.bt_rig.specs.declared.entry.Setting.{Setting}
 use Rattle.bt_rig.specs.declared.entry.Setting.TheVariants as settings
 use Rattle.bt_rig.specs.declared.script.Script.{Script}
+use Rattle.bt_rig.specs.declared.script.Outline.{Outline as Outlined}
+use Rattle.bt_rig.specs.declared.script.Draft.{Draft as Drafted}
 use Rattle.bt_rig.specs.Entries.{Says}
 
 -- ---- an end's config as values
@@ -34,16 +36,6 @@ pub record Setup : Type 0 where
 abbrev pub setup_of : Config Global → Setup
 setup_of c = record { own = c.own; peer_id = c.peer_id; announce = c.announce; window = c.window; part = part_for c.role }
 
--- the end watches, and its info hash isn't known yet
-abbrev pub default_setup : ℕ → List ℕ → Setup
-default_setup id peer_id = record {
-  own = record { reserved = record { 0 = 0x100005 }; info_hash = None; pieces = None; reg = metadata_only (Some id); rules = Bep; limit = 262144 };
-  peer_id = peer_id;
-  announce = Silent;
-  window = window;
-  part = Watching;
-}
-
 abbrev pub with_own : Setup → Own → Setup
 with_own s own = record s { own = own }
 
@@ -53,36 +45,64 @@ with_hash s hash = with_own s (record s.own { info_hash = Some hash })
 abbrev pub with_part : Setup → Part → Setup
 with_part s part = record s { part = part }
 
--- an end that serves metadata has its SHA-1 as info hash; an id for `lt_donthave` that is that of `ut_metadata` doesn't count
-abbrev pub with_setting : Setup → Setting → Setup
-with_setting s (settings.Watch hash) = with_part (with_hash s hash) Watching
-with_setting s (settings.Serve metadata) = with_part (with_hash s (sha1 metadata)) (Serving metadata)
-with_setting s (settings.Fetch hash) = with_part (with_hash s hash) (Awaiting max_metadata)
-with_setting s (settings.InfoHash hash) = with_hash s hash
-with_setting s (settings.PeerId peer_id) = record s { peer_id = peer_id }
-with_setting s (settings.Reserved bits) = with_own s (record s.own { reserved = record { 0 = bits } })
-with_setting s (settings.Rules rules) = with_own s (record s.own { rules = rules })
-with_setting s (settings.Announce announce) = record s { announce = announce }
-with_setting s (settings.Pieces n) = with_own s (record s.own { pieces = Some n })
-with_setting s (settings.Limit n) = with_own s (record s.own { limit = n })
-with_setting s (settings.MetadataId id) = with_own s (record s.own { reg = registered id (donthave_id s.own.reg) })
-with_setting s (settings.DonthaveId id) = with_own s (record s.own { reg = registered (metadata_id s.own.reg) id })
-with_setting s (settings.Window n) = record s { window = n }
+-- an end that serves metadata has its SHA-1 as info hash
+abbrev pub with_config_setting : Setup → Setting → Setup
+with_config_setting s (settings.Watch hash) = with_part (with_hash s hash) Watching
+with_config_setting s (settings.Serve metadata) = with_part (with_hash s (sha1 metadata)) (Serving metadata)
+with_config_setting s (settings.Fetch hash) = with_part (with_hash s hash) (Awaiting max_metadata)
+with_config_setting s (settings.InfoHash hash) = with_hash s hash
+with_config_setting s (settings.PeerId peer_id) = record s { peer_id = peer_id }
+with_config_setting s (settings.Reserved bits) = with_own s (record s.own { reserved = record { 0 = bits } })
+with_config_setting s (settings.Rules rules) = with_own s (record s.own { rules = rules })
+with_config_setting s (settings.Announce announce) = record s { announce = announce }
+with_config_setting s (settings.Pieces n) = with_own s (record s.own { pieces = Some n })
+with_config_setting s (settings.Limit n) = with_own s (record s.own { limit = n })
+with_config_setting s (settings.Window n) = record s { window = n }
+with_config_setting s (settings.MetadataId id) = s
+with_config_setting s (settings.DonthaveId id) = s
+
+-- ---- what the lines so far say of an end
+
+-- a config that registers no id, and the ids that the last lines name
+pub record Outline : Type 0 where
+  pub setup : Setup
+  pub metadata : Option ℕ
+  pub donthave : Option ℕ
+
+-- the end watches, and its info hash isn't known yet
+abbrev pub default_outline : Option ℕ → List ℕ → Outline
+default_outline id peer_id = record {
+  setup = record {
+    own = record { reserved = record { 0 = 0x100005 }; info_hash = None; pieces = None; reg = metadata_only None; rules = Bep; limit = 262144 };
+    peer_id = peer_id;
+    announce = Silent;
+    window = window;
+    part = Watching;
+  };
+  metadata = id;
+  donthave = None;
+}
+
+abbrev pub with_setting : Outline → Setting → Outline
+with_setting o (settings.MetadataId id) = record o { metadata = id }
+with_setting o (settings.DonthaveId id) = record o { donthave = id }
+with_setting o other = record o { setup = with_config_setting o.setup other }
+
+-- the config, with both ids: that of `lt_donthave` isn't registered where both are equal
+abbrev pub settled_setup : Outline → Setup
+settled_setup o = with_own o.setup (record o.setup.own { reg = registered o.metadata o.donthave })
 
 -- ---- what the lines so far say
 
 pub record Draft : Type 0 where
-  pub left : Setup
-  pub right : Setup
+  pub left : Outline
+  pub right : Outline
   pub steps : List Step
-
-abbrev pub draft_of : Script → Draft
-draft_of s = record { left = setup_of s.left; right = setup_of s.right; steps = s.steps.items }
 
 abbrev pub start : Draft
 start = record {
-  left = default_setup 3 (codes "-BT0001-LLLLLLLLLLLL");
-  right = default_setup 9 (codes "-BT0001-RRRRRRRRRRRR");
+  left = default_outline (Some 3) (codes "-BT0001-LLLLLLLLLLLL");
+  right = default_outline (Some 9) (codes "-BT0001-RRRRRRRRRRRR");
   steps = [];
 }
 
@@ -92,6 +112,21 @@ with_side d Right setting = record d { right = with_setting d.right setting }
 
 abbrev pub with_step : Draft → Step → Draft
 with_step d step = record d { steps = d.steps ++ step ∷ [] }
+
+-- ---- what a whole script says
+
+pub record Plan : Type 0 where
+  pub left : Setup
+  pub right : Setup
+  pub steps : List Step
+
+abbrev pub plan_of : Script → Plan
+plan_of s = record { left = setup_of s.left; right = setup_of s.right; steps = s.steps.items }
+
+abbrev pub settled : Draft → Plan
+settled d = record { left = settled_setup d.left; right = settled_setup d.right; steps = d.steps }
+
+-- ---- lines
 
 -- an empty line, and one that begins with `#`, says nothing
 abbrev pub is_skipped : List ℕ → Bool
@@ -139,12 +174,15 @@ pub record HasLine (text : List ℕ) (before : List (List ℕ)) (line tail : Lis
 
 -- ---- a whole script
 
--- all lines are taken, the last too, which no line feed ends (it may be empty)
-pub record IsScript (text : List ℕ) (d : Draft) : Type 0 where
+-- All lines are taken, the last too, which no line feed ends (it may be empty). Then the settings of both ends are settled: of each
+-- name the last line counts, in whatever order the names stand.
+pub record IsScript (text : List ℕ) (p : Plan) : Type 0 where
   pub before : List (List ℕ)
   pub line : List ℕ
   pub lines : HasLine text before line []
-  pub taken : AreTaken start (before ++ line ∷ []) d
+  pub draft : Draft
+  pub taken : AreTaken start (before ++ line ∷ []) draft
+  pub plan : p ≡ settled draft
 
 -- the first line that isn't taken, counted from 1
 pub record IsWrongAt (text : List ℕ) (number : ℕ) : Type 0 where
@@ -156,3 +194,11 @@ pub record IsWrongAt (text : List ℕ) (number : ℕ) : Type 0 where
   pub taken : AreTaken start before draft
   pub wrong : (next : Draft) → Takes draft line next → ⊥
   pub count : number ≡ length before + 1
+
+-- ---- for private contracts
+
+abbrev pub outline_of : Outlined → Outline
+outline_of o = record { setup = setup_of o.config; metadata = o.metadata; donthave = o.donthave }
+
+abbrev pub draft_of : Drafted → Draft
+draft_of d = record { left = outline_of d.left; right = outline_of d.right; steps = d.steps.items }

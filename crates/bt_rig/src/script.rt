@@ -1,6 +1,6 @@
 //! The script of a link: what its lines say of two ends, and the steps of their run.
 ghost use Rattle.std.specs.Prelude.{◌≡◌, ◌<◌, ◌^◌, ◌≤◌, ℕ, length, IfOk, OnOk, MatchResult};
-ghost use Rattle.bt_rig.specs.Scripts.{setup_of, draft_of, start, default_setup, with_setting, with_side, with_step, IsTaken, IsScript, IsWrongAt, is_skipped};
+ghost use Rattle.bt_rig.specs.Scripts.{settled_setup, settled, plan_of, draft_of, outline_of, start, setup_of, default_outline, with_config_setting, with_setting, with_side, IsTaken, IsScript, IsWrongAt, is_skipped};
 
 use crate::entry::{Entry, Setting, read_entry};
 use bt_ext::{ExtId, Registered, Rules};
@@ -21,29 +21,27 @@ pub struct Script {
     pub steps: Vec<Step>,
 }
 
-/// The config of an end of which no line says anything.
-fn default_config(id: Option<ExtId>, peer_id: [u8; 20]) -> Config
-    ensures { (n : ℕ) → id ≡ Some n → setup_of result ≡ default_setup n peer_id }
-{
-    Config {
-        own: Own {
-            reserved: Reserved(0x10_0005),
-            info_hash: None,
-            pieces: None,
-            reg: Registered::metadata_only(id),
-            rules: Rules::Bep,
-            limit: 262_144,
-        },
-        peer_id,
-        announce: Announce::Silent,
-        window: Window::default(),
-        role: Role::Watch,
-    }
+/// What the lines so far say of an end.
+///
+/// Its config registers no id yet, since two equal ids are judged when all lines are read.
+#[derive(Drop)]
+struct Outline {
+    config: Config,
+    metadata: Option<ExtId>,
+    donthave: Option<ExtId>,
 }
 
-/// Changes a config as a line says.
-fn change(config: &mut Config, setting: Setting)
-    ensures { setup_of config.new ≡ with_setting (setup_of config.old) setting }
+/// What the lines so far say.
+#[derive(Drop)]
+struct Draft {
+    left: Outline,
+    right: Outline,
+    steps: Vec<Step>,
+}
+
+/// Changes a config as a line says that names no extended id.
+fn change_config(config: &mut Config, setting: Setting)
+    ensures { setup_of config.new ≡ with_config_setting (setup_of config.old) setting }
 {
     match setting {
         Setting::Serve(metadata) => {
@@ -65,15 +63,58 @@ fn change(config: &mut Config, setting: Setting)
         Setting::Announce(announce) => config.announce = announce,
         Setting::Pieces(count) => config.own.pieces = Some(count),
         Setting::Limit(limit) => config.own.limit = limit,
-        Setting::MetadataId(id) => {
-            let donthave = config.own.reg.donthave();
-            config.own.reg = Registered::preferring_metadata(id, donthave);
-        }
-        Setting::DonthaveId(id) => {
-            let metadata = config.own.reg.metadata();
-            config.own.reg = Registered::preferring_metadata(metadata, id);
-        }
         Setting::Window(window) => config.window = window,
+        Setting::MetadataId(_) | Setting::DonthaveId(_) => {}
+    }
+}
+
+impl Outline {
+    /// An end of which no line says anything.
+    fn new(id: Option<ExtId>, peer_id: [u8; 20]) -> Outline
+        ensures { outline_of result ≡ default_outline id peer_id }
+    {
+        Outline {
+            config: Config {
+                own: Own {
+                    reserved: Reserved(0x10_0005),
+                    info_hash: None,
+                    pieces: None,
+                    reg: Registered::metadata_only(None),
+                    rules: Rules::Bep,
+                    limit: 262_144,
+                },
+                peer_id,
+                announce: Announce::Silent,
+                window: Window::default(),
+                role: Role::Watch,
+            },
+            metadata: id,
+            donthave: None,
+        }
+    }
+
+    /// Changes it as a line says.
+    fn change(&mut self, setting: Setting)
+        ensures { outline_of self.new ≡ with_setting (outline_of self.old) setting }
+    {
+        match setting {
+            Setting::MetadataId(id) => self.metadata = id,
+            Setting::DonthaveId(id) => self.donthave = id,
+            other => change_config(&mut self.config, other),
+        }
+    }
+
+    /// The config, with the ids that the last lines name.
+    fn settle(self) -> Config
+        ensures { setup_of result ≡ settled_setup (outline_of self) }
+    {
+        let Outline {
+            mut config,
+            metadata,
+            donthave,
+        } = self;
+        config.own.reg = Registered::preferring_metadata(metadata, donthave);
+        config
     }
 }
 
@@ -87,25 +128,37 @@ fn is_comment(line: &[u8]) -> bool
     }
 }
 
-impl Script {
-    /// A script without lines.
-    fn new(alloc: Global) -> Script
+impl Draft {
+    /// What no line says.
+    fn new(alloc: Global) -> Draft
         ensures { draft_of result ≡ start }
     {
-        Script {
-            left: default_config(ExtId::new(3), *b"-BT0001-LLLLLLLLLLLL"),
-            right: default_config(ExtId::new(9), *b"-BT0001-RRRRRRRRRRRR"),
+        Draft {
+            left: Outline::new(ExtId::new(3), *b"-BT0001-LLLLLLLLLLLL"),
+            right: Outline::new(ExtId::new(9), *b"-BT0001-RRRRRRRRRRRR"),
             steps: Vec::new(alloc),
         }
     }
 
-    /// Changes an end's config.
+    /// The script, when all lines are read.
+    fn settle(self) -> Script
+        ensures { plan_of result ≡ settled (draft_of self) }
+    {
+        let Draft { left, right, steps } = self;
+        Script {
+            left: left.settle(),
+            right: right.settle(),
+            steps,
+        }
+    }
+
+    /// Changes what is said of an end.
     fn set(&mut self, side: Side, setting: Setting)
         ensures { draft_of self.new ≡ with_side (draft_of self.old) side setting }
     {
         match side {
-            Side::Left => change(&mut self.left, setting),
-            Side::Right => change(&mut self.right, setting),
+            Side::Left => self.left.change(setting),
+            Side::Right => self.right.change(setting),
         }
     }
 
@@ -140,25 +193,25 @@ impl Script {
 /// `AllocError` where a growth was refused.
 pub fn read_script(alloc: Global, text: &[u8]) -> Result<Result<Script, u64>, AllocError>
     requires { length text.now < 2 ^ 32 }
-    ensures { IfOk result (λ r. MatchResult r (λ s. IsScript text.now (draft_of s)) (IsWrongAt text.now)) }
+    ensures { IfOk result (λ r. MatchResult r (λ s. IsScript text.now (plan_of s)) (IsWrongAt text.now)) }
 {
-    let mut script = Script::new(alloc);
+    let mut draft = Draft::new(alloc);
     let mut number: u64 = 1;
     let mut rest = text;
     'lines: loop {
         match split_line(rest) {
             Some((line, after)) => {
-                if !script.take(alloc, line)? {
+                if !draft.take(alloc, line)? {
                     return Ok(Err(number));
                 }
                 number += 1;
                 rest = after;
             }
             None => {
-                if !script.take(alloc, rest)? {
+                if !draft.take(alloc, rest)? {
                     return Ok(Err(number));
                 }
-                return Ok(Ok(script));
+                return Ok(Ok(draft.settle()));
             }
         }
     }

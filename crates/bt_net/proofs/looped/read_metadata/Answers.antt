@@ -2,8 +2,8 @@ use Rattle.std.proofs.Common.{◌++◌, take}
 use Rattle.std.proofs.KnownBytes.{Consumes-trans}
 use Rattle.bt_net.proofs.looped.read_metadata.Goals as goal
 
-pub returns-in-Err-extend_from_slice : goal.returns-in-Err-extend_from_slice
-returns-in-Err-extend_from_slice g c =
+pub returns-in-Err-extend_from_slice-clause-input : goal.returns-in-Err-extend_from_slice-clause-input
+returns-in-Err-extend_from_slice-clause-input g c =
     let old = c.reads.metadata.items in
     let more = take c.in-Ok.count c.read.new.into in (
       old ++ more,

@@ -4,7 +4,7 @@ use Rattle.bt_rig.proofs.Reading.{IsReadTo}
 use Rattle.bt_rig.proofs.script.read_script.Given as goal
 
 abbrev pub invariant-lines : goal.invariant-lines
-invariant-lines l = IsReadTo l.text l.rest l.number (draft_of l.script)
+invariant-lines l = IsReadTo l.text l.rest l.number (draft_of l.draft)
 
 abbrev pub decreases-lines : goal.decreases-lines
 decreases-lines l = length l.rest
