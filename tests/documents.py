@@ -6,7 +6,7 @@ usage: tests/documents.py [PROGRAM]
 A command stands after `$ ` in a block that is fenced as ```console, or indented; lines after `> ` go on with it. The lines up to the next
 command or the block's end are its standard output, exactly. Standard error has to be empty, but that of the capture tools isn't looked at.
 It also looks whether links lead to files, whether the picture of a stream has its bytes, and whether the blocks of docs/RATTLE.md stand in the
-examples. The commands of one document run in one shell, in a new folder that has `bt_tool`, `examples`, `tools` and `dist`. `bt_tool` is
+examples, and whether the mutants and the laws that docs/PROVED.md names are there. The commands of one document run in one shell, in a new folder that has `bt_tool`, `examples`, `tools` and `dist`. `bt_tool` is
 PROGRAM, or the script at the top of the repository, which builds the program if it has to.
 
 A command is skipped that needs a tool which isn't installed, or a file that a skipped command would have made. The two
@@ -164,6 +164,18 @@ def unquoted():
     return ["docs/RATTLE.md: no part of an example:\n" + block for block in blocks if not any(block in source for source in sources)]
 
 
+def unproved():
+    """What docs/PROVED.md gets wrong: a mutant that isn't in must-fail/, or a law that it doesn't name."""
+    text = content(os.path.join(ROOT, "docs/PROVED.md")).decode()
+    mutants = re.findall(r"`(bt_\w+)/([\w-]+-[\w-]+)`", text)
+    wrong = ["docs/PROVED.md: no such mutant: %s/%s\n" % it for it in mutants
+             if not os.path.exists(os.path.join(ROOT, "crates", it[0], "must-fail", it[1] + ".edit"))]
+    for path in glob.glob(os.path.join(ROOT, "crates/bt_*/src/**/*laws.rt"), recursive=True):
+        laws = [] if "_tests/" in path else re.findall(r"^pub fn (\w+)", content(path).decode(), re.M)
+        wrong += ["docs/PROVED.md: the law %s isn't named\n" % law for law in laws if "`%s`" % law not in text]
+    return wrong
+
+
 def dead_links(document):
     """The links to files that aren't there."""
     folder, text = os.path.dirname(os.path.join(ROOT, document)), content(os.path.join(ROOT, document)).decode()
@@ -188,7 +200,7 @@ def main():
             wrong.append("examples/small.pcap: from %s to %s: other bytes than in %s\n" % (*ends, example))
     if captured:
         wrong.append("examples/small.pcap: bytes of another connection: %s\n" % captured.keys())
-    wrong += pictured() + unquoted()
+    wrong += pictured() + unquoted() + unproved()
     for path in glob.glob(os.path.join(ROOT, "**/*.md"), recursive=True):
         wrong += dead_links(os.path.relpath(path, ROOT))
     if subprocess.run([program, "--version"], stdout=subprocess.DEVNULL).returncode:
