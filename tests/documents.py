@@ -77,7 +77,7 @@ def sessions(path):
             found.append((number, [begin[2]], []))
         elif indent is not None and found and line.startswith(indent + "> ") and not found[-1][2]:
             found[-1][1].append(line[len(indent) + 2:])
-        elif indent is not None and (line.startswith(indent) or not line.strip()):
+        elif indent is not None and found and (line.startswith(indent) or not line.strip()):
             found[-1][2].append(line[len(indent):])
         elif not fence:
             indent = None
