@@ -507,6 +507,38 @@ def together():
 """
 
 
+def choked():
+    """Requests that get no answer: B answers a later one, and chokes after another. A closes after one that B never could answer."""
+    left, right = handshakes()
+    found = Talk().say("A", left + message(b"\x0f")).say("B", right + message(b"\x0e") + message(b"\x01"))
+    found.say("A", request(0, 0, 1) + request(0, 1, 1)).say("B", block_of(0, 1))  # 73, 90
+    found.say("A", request(0, 2, 1)).say("B", message(b"\x00")).say("A", request(0, 3, 1)).close("A")  # 107, 124
+    a = report("-AA0001-000000000000", 141, *2 * ["ok messages=5 bytes=141"])
+    b = report("-BB0001-000000000000", 97, *2 * ["ok messages=4 bytes=97"], side="B")
+    return pcap(frames(found.packets)), NAMES + a + b + """\
+  A closed first, by FIN, at 0.017000 s
+    B had sent 97 bytes, last: 92 choke
+    A had sent 141 bytes, last: 124 request 0 3 1
+  A sent a request while it was choked: 124 request 0 3 1
+  A sent 2 requests that got no answer, the first: 73 request 0 0 1
+"""
+
+
+def passed_over():
+    """B answers the second of three requests, and A closes: the first got no answer, and the third may be under way."""
+    left, right = handshakes()
+    found = Talk().say("A", left + message(b"\x0f")).say("B", right + message(b"\x0e") + message(b"\x01"))
+    found.say("A", request(0, 0, 1) + request(0, 1, 1)).say("B", block_of(0, 1)).say("A", request(0, 2, 1)).close("A")
+    a = report("-AA0001-000000000000", 124, *2 * ["ok messages=4 bytes=124"])
+    b = report("-BB0001-000000000000", 92, *2 * ["ok messages=3 bytes=92"], side="B")
+    return pcap(frames(found.packets)), NAMES + a + b + """\
+  A closed first, by FIN, at 0.013000 s
+    B had sent 92 bytes, last: 78 piece 0 1 1
+    A had sent 124 bytes, last: 107 request 0 2 1
+  A sent a request that got no answer: 73 request 0 0 1
+"""
+
+
 def dropped():
     """libtorrent closes at a block of a byte that nobody had asked for: neither direction is refused."""
     left, right = handshakes()
@@ -572,6 +604,8 @@ def rows():
     yield "a torrent", ["--torrent", "TORRENT"], *with_torrent(), b"", 1
     yield "a segment before the stream", [], pcap(frames(stray())), WHOLE, b"", 0
     yield "the two directions together", [], *together(), b"", 0
+    yield "requests without an answer", [], *choked(), b"", 0
+    yield "a request that is passed over", [], *passed_over(), b"", 0
     yield "a block that nobody asked for", [], *dropped(), b"", 0
     yield "uTP", [], *utp(), b"no BitTorrent connection in 5 packets", 3
     yield "no packet", [], whole[:24], "", b"no BitTorrent connection in 0 packets", 3

@@ -634,8 +634,9 @@ def serving(program):
         failed += same("served", metadata, INFO)
         metadata, fourth = leech(server, True)
         failed += same("served bytewise", metadata, INFO)
-        # Sent: the handshake, and but for the first two peers the extended handshake, have none and four blocks.
-        expected = ["%s sent=1 handled=0 silent" % first, "%s sent=1 handled=0 refused message=0 at=0 BadProtocol" % second,
+        # Sent: nothing to the first two peers, whose handshake didn't come, and else the handshake, the extended handshake, have none
+        # and four blocks.
+        expected = ["%s sent=0 handled=0 silent" % first, "%s sent=0 handled=0 refused message=0 at=0 BadProtocol" % second,
                     "%s sent=7 handled=6 closed" % third, "%s sent=7 handled=6 closed" % fourth]
         lines, status = server.end()
         failed += same("lines", lines, sorted(expected)) + same("status", str(status), "0")
@@ -651,6 +652,137 @@ def serving(program):
         lines, status = server.end()
         failed += same("ends", str((len(lines), status)), "(2, 0)")
     return failed, 9
+
+
+def request(index, begin, length):
+    """Asks for a block of a piece (BEP 3)."""
+    return message(6, struct.pack(">III", index, begin, length))
+
+
+def rejected(index, begin, length):
+    """The reject of it (BEP 6)."""
+    return message(16, struct.pack(">III", index, begin, length))
+
+
+def rest_of(link):
+    """All that comes until the other end closes."""
+    got = link.buffer
+    while True:
+        more = link.link.recv(65536)
+        if not more:
+            return got
+        got += more
+
+
+def bytes_within(link, seconds):
+    """What comes within some seconds."""
+    link.link.settimeout(seconds)
+    try:
+        return link.link.recv(65536)
+    except TimeoutError:
+        return b""
+    finally:
+        link.link.settimeout(60)
+
+
+# The info dictionary has 2,495 pieces, 0 to 2494: 49,900 bytes of SHA-1s, 20 for each.
+PIECES = 2495
+ASKED = [(0, 0, 16384), (2494, 16384, 16384), (7, 3, 1)]
+HAVE_NONE = message(15, b"")
+HELLO = message(20, b"\0d1:md11:ut_metadatai3ee13:metadata_sizei%dee" % len(INFO))
+NO_PIECES = b"d6:lengthi1e4:name1:a12:piece lengthi16384e6:pieces21:" + bytes(21) + b"e"
+
+
+def pieces(program):
+    """What a peer gets that asks `serve` for pieces, sends one, or counts them wrongly."""
+    requests = b"".join(request(*block) for block in ASKED)
+    rejects = b"".join(rejected(*block) for block in ASKED)
+    none = handshake() + HAVE_NONE
+    # What each peer sends, what it gets after the handshake, and its line's end. An offset is that of a refused message's index, or of its start.
+    # Items sent: the handshake, the extended handshake, have none if both know the Fast Extension, and the rejects.
+    rows = [("rejects", none + requests, HELLO + HAVE_NONE + rejects, "sent=6 handled=5 closed"),
+            ("more rejects than wait", none + 7000 * requests, HELLO + HAVE_NONE + 7000 * rejects, "sent=21003 handled=21002 closed"),
+            ("no rejects without Fast", handshake("0000000000100000") + requests, HELLO, "sent=2 handled=4 closed"),
+            ("no Extension Protocol", handshake("0000000000000004") + HAVE_NONE + requests, HAVE_NONE + rejects, "sent=5 handled=5 closed"),
+            ("a block", none + message(7, bytes(8) + b"block"), HELLO + HAVE_NONE, "sent=3 handled=3 unasked"),
+            ("a block without Fast", handshake("0000000000100000") + message(7, bytes(8) + b"block"), HELLO, "sent=2 handled=2 unasked"),
+            ("a rejected request and a block", none + request(*ASKED[0]) + message(7, bytes(8)), HELLO + HAVE_NONE + rejected(*ASKED[0]),
+             "sent=4 handled=4 unasked"),
+            ("a request beyond the last piece", none + request(PIECES, 0, 1), HELLO + HAVE_NONE, "sent=3 handled=2 refused message=2 at=78 BadIndex"),
+            ("a have beyond the last piece", none + message(4, struct.pack(">I", PIECES)), HELLO + HAVE_NONE,
+             "sent=3 handled=2 refused message=2 at=78 BadIndex"),
+            ("the last piece", none + message(4, struct.pack(">I", PIECES - 1)), HELLO + HAVE_NONE, "sent=3 handled=3 closed"),
+            ("a bitfield", handshake() + message(5, b"\xff" * 311 + b"\xfe"), HELLO + HAVE_NONE, "sent=3 handled=2 closed"),
+            ("a bitfield of a byte less", handshake() + message(5, b"\xff" * 311), HELLO + HAVE_NONE,
+             "sent=3 handled=1 refused message=1 at=68 WrongLength"),
+            ("another info hash", handshake(info_hash=bytes(20)) + HAVE_NONE, None, "sent=0 handled=0 refused message=0 at=28 WrongInfoHash"),
+            ("half a handshake", handshake()[:47], None, "sent=0 handled=0 closed")]
+    failed = 0
+    with tempfile.NamedTemporaryFile() as file:
+        file.write(INFO)
+        file.flush()
+        server = Server(program, file.name, "--connections", str(len(rows) + 1), "--patience", "20")
+        expected = []
+        late, address = server.connect()
+        failed += same("before the handshake", bytes_within(late, 1), b"")
+        late.send(handshake()[:67])
+        failed += same("before its last byte", bytes_within(late, 1), b"")
+        late.send(handshake()[67:])
+        failed += same("after it", late.exactly(68)[:48] + late.exactly(len(HELLO + HAVE_NONE)), handshake()[:48] + HELLO + HAVE_NONE)
+        late.link.close()
+        for name, sent, got, end in rows:
+            link, other = server.connect()
+            sender = threading.Thread(target=link.send, args=(sent,), daemon=True)
+            sender.start()
+            if got is not None:
+                failed += same(name, link.exactly(68)[:48], handshake()[:48]) + same(name, link.exactly(len(got)), got)
+            sender.join()
+            if end.endswith("closed"):
+                link.link.shutdown(socket.SHUT_WR)
+            failed += same("after " + name, rest_of(link), b"")
+            expected.append("%s %s" % (other, end))
+        lines, status = server.end()
+        failed += same("lines", lines, sorted(expected + ["%s sent=3 handled=1 closed" % address])) + same("status", str(status), "0")
+
+        # Of a string that isn't 20 bytes for each piece the count isn't known, and nothing is rejected.
+        file.seek(0)
+        file.truncate()
+        file.write(NO_PIECES)
+        file.flush()
+        server = Server(program, file.name, "--connections", "1")
+        link, other = server.connect()
+        link.send(handshake(info_hash=hashlib.sha1(NO_PIECES).digest()) + HAVE_NONE + requests)
+        link.exactly(68)
+        link.receive(), link.receive()
+        failed += same("the count isn't known", bytes_within(link, 1), b"")
+        link.link.close()
+        failed += same("its line", server.end()[0], ["%s sent=3 handled=5 closed" % other])
+    return failed, 2 * len(rows) + 7
+
+
+def one_write(program):
+    """Each line of `serve` comes by one write: a packet of its own."""
+    ours, theirs = socket.socketpair(socket.AF_UNIX, socket.SOCK_SEQPACKET)
+    ours.settimeout(60)
+    with tempfile.NamedTemporaryFile() as file:
+        file.write(INFO)
+        file.flush()
+        server = subprocess.Popen([program, "serve", file.name, "--connections", "2"], stdin=subprocess.DEVNULL, stdout=theirs)
+        theirs.close()
+        packets = [ours.recv(65536).decode()]
+        port = int(packets[0].rsplit(":", 1)[1])
+        ends = []
+        for sent, end in ((handshake() + HAVE_NONE, "sent=3 handled=2 closed"), (bytes(68), "sent=0 handled=0 refused message=0 at=0 BadProtocol")):
+            link = Link(socket.create_connection(("127.0.0.1", port)))
+            ends.append("127.0.0.1:%d %s\n" % (link.link.getsockname()[1], end))
+            link.send(sent)
+            if end.endswith("closed"):
+                link.exactly(68 + len(HELLO + HAVE_NONE))
+            link.link.close()
+            packets.append(ours.recv(65536).decode())
+        server.wait(timeout=60)
+    expected = ["serving %s size=%d on 127.0.0.1:%d\n" % (HASH.hex(), len(INFO), port)] + ends
+    return same("packets", packets, expected), 1
 
 
 def resident(process):
@@ -735,7 +867,7 @@ def memory(program):
 def main(words):
     program = program_of(words)
     failed = count = 0
-    for part in (hostile, kept, million, single, shown, unread, unwritten, dialled, serving, memory):
+    for part in (hostile, kept, million, single, shown, unread, unwritten, dialled, serving, pieces, one_write, memory):
         more, tried = part(program)
         failed += more
         count += tried

@@ -147,7 +147,8 @@ def closing_lines(it):
 def remark_lines(page):
     """The remarks of the summary."""
     return page.run("""(() => {
-        const card = [...document.querySelectorAll('#summary .card')].find(one => one.querySelector('h3').firstChild.textContent === 'Remarks');
+        const cards = [...document.querySelectorAll('#summary .card')];
+        const card = cards.find(one => one.querySelector('h3').firstChild.textContent === 'Remarks');
         return card ? [...card.querySelectorAll('p')].map(line => '  ' + line.textContent.replace(/\\u202f/g, '')) : [];
     })()""")
 
@@ -188,8 +189,8 @@ def as_btcap(page, listed, is_shown=False):
 
 
 def softened(wanted, found):
-    """btcap's text without what the page says otherwise: names without a client, how many bytes before a close, the end of the line of
-    another protocol, and the id of lt_donthave, which the library for C doesn't have."""
+    """btcap's text without what the page says otherwise: names without a client, how many bytes before a close, the end of the line
+    of another protocol, and the id of lt_donthave, which the library for C doesn't have."""
     wanted = re.sub(r"had sent \d+ bytes, last", "had sent * bytes, last", wanted)
     wanted = re.sub(r"(no BitTorrent handshake).*", r"\1", re.sub(r" --donthave-id \d+", "", wanted))
     lines, other = wanted.splitlines(), found.splitlines()
@@ -286,8 +287,8 @@ def check_lines(page, program):
                 for words in ([], ["--json"]):
                     wanted = subprocess.run([program, "show", "--rules", rules, *words, *other, example(name)],
                         capture_output=True).stdout
-                    found = page.run("viewer.backend.call('lines', {id: 0, side: %d, rules: '%s', json: %s}).then(lines => lines.text())"
-                                     % (known.index(name), rules, str(bool(words)).lower()))
+                    asked = "viewer.backend.call('lines', {id: 0, side: %d, rules: '%s', json: %s}).then(lines => lines.text())"
+                    found = page.run(asked % (known.index(name), rules, str(bool(words)).lower()))
                     same("show %s %s %s" % (rules, words, name), found, wanted.decode())
 
 
@@ -297,8 +298,8 @@ def text_at(page, selector):
     return page.run("document.querySelector('%s')?.textContent ?? null" % selector)
 
 
-WHY = ("B closed the connection, by FIN, 2.00 ms after A sent a message that is refused: the have message names piece 38, and the torrent "
-       "has 38 pieces, so the last index is 37.")
+WHY = ("B closed the connection, by FIN, 2.00 ms after A sent a message that is refused: the have message names piece 38, and the "
+       "torrent has 38 pieces, so the last index is 37.")
 
 
 def check_refusal(page, folder):
@@ -336,6 +337,10 @@ def drop(page, name, as_name):
     page.until("Number(document.body.dataset.opened ?? 0) > %d" % before)
 
 
+# What the inspector shows, when it shows this row.
+SHOWN = "document.body.dataset.shown === '%d' && document.querySelector('.ititle .chip').textContent"
+
+
 def check_keys(page):
     page.open("file://%s#example=small&theme=dark" % PAGE)
     page.run("viewer.pick(0)")
@@ -346,12 +351,13 @@ def check_keys(page):
     same("then k", page.until("viewer.selected === 2 && 2"), 2)
     page.run("viewer.pickRow(4, true)")
     page.key("m")
-    same("m goes to the answer", page.until("document.body.dataset.shown === '11' && document.querySelector('.ititle .chip').textContent"), "metadata-data")
+    same("m goes to the answer", page.until(SHOWN % 11), "metadata-data")
     same("the mark of a dictionary", text_at(page, ".treehead .proved"), "∎ 45 bytes")
     page.key("n")
-    same("n goes to the close", page.until("document.body.dataset.shown === '13' && document.querySelector('.ititle .chip').textContent"), "RST")
+    same("n goes to the close", page.until(SHOWN % 13), "RST")
     page.key("s")
-    same("the summary", page.until("document.body.dataset.tab === 'summary' && document.querySelectorAll('#summary .card canvas').length"), 4)
+    charts = "document.querySelectorAll('#summary .card canvas').length"
+    same("the summary", page.until("document.body.dataset.tab === 'summary' && " + charts), 4)
     page.key("s")
     page.key("t")
     same("the other theme", page.run("document.documentElement.dataset.theme"), "light")
@@ -362,8 +368,8 @@ def check_keys(page):
 
 
 def check_filter(page):
-    same("search", page.run("(document.querySelector('#search').value = 'metadata-data 1', viewer.filters.search('metadata-data 1'), 0)"), 0)
-    same("its rows", page.until("viewer.total === 1 && document.querySelector('#count').textContent"), "1 of 14 rows")
+    page.run("viewer.filters.search('metadata-data 1')")
+    same("the rows of a search", page.until("viewer.total === 1 && document.querySelector('#count').textContent"), "1 of 14 rows")
     page.run("viewer.filters.search('')")
     page.until("viewer.total === 14")
     page.run("document.querySelector('#kinds [data-k=\"6\"]').click()")
@@ -384,10 +390,11 @@ def check_reach(page):
     page.run("location.hash = '#at=0-A-247'")
     same("another link", page.until("document.body.dataset.shown === '5' && viewer.row.words"), "metadata-request 1")
     label = "0.000188 s, A sends metadata-request 1, at 247"
-    same("a row's text", page.until("document.querySelector('#rows [aria-selected=true]')?.getAttribute('aria-label') === '%s' && 1" % label), 1)
+    selected = "document.querySelector('#rows [aria-selected=true]')?.getAttribute('aria-label')"
+    same("a row's text", page.until("%s === '%s' && 1" % (selected, label)), 1)
     same("the selected row", page.run("document.querySelector('#rows').getAttribute('aria-activedescendant')"), "row-5")
-    same("pictures have a text", page.run("[...document.querySelectorAll('canvas')].every(one => one.getAttribute('aria-label').length > 10)"), True)
-    same("buttons have a name", page.run("[...document.querySelectorAll('button')].every(one => (one.textContent.trim() || one.ariaLabel).length > 0)"), True)
+    for tag, text in (("canvas", "one.ariaLabel"), ("button", "(one.textContent.trim() || one.ariaLabel)")):
+        same("each %s has a text" % tag, page.run("[...document.querySelectorAll('%s')].every(one => %s.length > 0)" % (tag, text)), True)
     page.run("window.print = () => { window.printed = document.querySelectorAll('#print li').length; }")
     page.key("p")
     same("printed rows", page.until("window.printed"), 14)

@@ -75,21 +75,21 @@ function greatestIndex(talk, side) {
 
 /**
  * The end that closed first, what both had sent by then, and the row that may be the reason, with what kind of row that is. Of a
- * connection that no end closed, the first refusal. Null if there is neither.
- * @param {Conversation} talk
+ * connection that no end closed, the first refusal. Null if there is neither. `hasMetadata`: it carried all of the metadata.
+ * @param {Conversation} talk @param {boolean} hasMetadata
  */
-export function closingOf(talk) {
+export function closingOf(talk, hasMetadata) {
   const k = talk.events.findIndex(event => event.isFirst);
   if (k < 0) {
     const rows = [0, 1].map(side => refusalRow(talk, side, talk.rows.length)).filter(row => row >= 0);
     return rows.length ? { event: null, row: -1, lasts: [-1, -1], kind: 'refusal', cause: Math.min(...rows) } : null;
   }
   const event = talk.events[k], row = talk.eventRows[k], other = 1 - event.side;
-  return { event, row, lasts: [0, 1].map(side => lastRow(talk, side, row)), ...causeOf(talk, event.side, other, row) };
+  return { event, row, lasts: [0, 1].map(side => lastRow(talk, side, row)), ...causeOf(talk, other, row, hasMetadata) };
 }
 
-/** @param {Conversation} talk @param {number} closer @param {number} other @param {number} upto */
-function causeOf(talk, closer, other, upto) {
+/** @param {Conversation} talk @param {number} other @param {number} upto @param {boolean} hasMetadata */
+function causeOf(talk, other, upto, hasMetadata) {
   const refusal = refusalRow(talk, other, upto);
   if (refusal >= 0) return { kind: 'refusal', cause: refusal };
   if (talk.directions[1 - other].gaps.length || talk.directions[other].gaps.length) return { kind: 'gap',
@@ -99,5 +99,7 @@ function causeOf(talk, closer, other, upto) {
     isCounted: talk.directions[other].own?.pieces != null };
   if (isSeed(talk, 0) && isSeed(talk, 1)) return { kind: 'seeds', cause: lastRow(talk, other, upto) };
   const last = lastRow(talk, other, upto), most = greatestIndex(talk, other);
+  // many clients open a connection for the metadata alone
+  if (last >= 0 && hasMetadata && talk.nameOf(talk.rows[last]) === 'metadata-data') return { kind: 'metadata', cause: last };
   return { kind: last < 0 ? 'nothing' : 'last', cause: last, most, isCounted: talk.directions[other].own?.pieces != null };
 }

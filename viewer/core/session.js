@@ -31,7 +31,8 @@ export class Session {
     this.progress = progress;
     /** @type {Pair[]} */ this.pairs = [];
     /** @type {Map<string, import('./types.js').Info>} */ this.torrents = new Map();
-    /** @type {import('./types.js').Options} */ this.options = { pieces: null, limit: null, reserved: null, metadataId: null, infoHash: null };
+    /** @type {import('./types.js').Options} */
+    this.options = { pieces: null, limit: null, reserved: null, metadataId: null, infoHash: null };
     this.facts = this.emptyFacts(0);
     /** @type {Pair | null} */ this.current = null;
     /** @type {Conversation | null} */ this.talk = null;
@@ -123,7 +124,7 @@ export class Session {
     const maker = this.rowMaker = new Rows(talk);
     this.view = null;
     this.search++;
-    const closing = closingOf(talk), remarks = talk.matches.counts();
+    const closing = closingOf(talk, pair.metadata !== null), remarks = talk.matches.counts();
     const rowOf = (/** @type {number} */ r) => r < 0 ? null : maker.row(r);
     return {
       ...describe(pair, id, this.torrents), groups: talk.groupCounts(), rules, total: talk.rows.length, hasTimes: talk.hasTimes,

@@ -44,7 +44,8 @@ export class App {
     try {
       const listed = await this.backend.call('open', { files }), { learned } = listed;
       this.listed = listed;
-      if (learned) say(`${learned.name ?? 'The torrent'} has ${plural(learned.pieces, 'piece')}. Indexes and bitfields of its connections are judged now.`);
+      const judged = 'Indexes and bitfields of its connections are judged now.';
+      if (learned) say(`${learned.name ?? 'The torrent'} has ${plural(learned.pieces, 'piece')}. ${judged}`);
       if (listed.connections.length || listed.facts.packets) {
         if (!learned || !this.names) this.names = names;
         document.body.classList.remove('landing');
@@ -256,7 +257,9 @@ export class App {
   /** @param {number} side */
   async saveStream(side) { save(`${this.it.number}-${'AB'[side]}.bin`, await this.backend.call('stream', { id: this.id, side })); }
 
-  async copyLink() { if (await copyText(location.href)) say('The link to this row is copied. It names the row; the file is opened by hand.'); }
+  async copyLink() {
+    if (await copyText(location.href)) say('The link to this row is copied. It names the row; the file is opened by hand.');
+  }
 
   print() { return printRows(this); }
 }

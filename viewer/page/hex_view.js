@@ -126,7 +126,8 @@ export class HexView {
       if (isLast) open = CLOSED;
     }
     const place = (this.start + at).toString(16).padStart(8, '0');
-    return `<div class="hexline"><span class="hexat">${place}</span><span class="hexbytes">${hex}</span><span class="hextext">${text}</span></div>`;
+    return `<div class="hexline"><span class="hexat">${place}</span><span class="hexbytes">${hex}</span>` +
+      `<span class="hextext">${text}</span></div>`;
   }
 }
 

@@ -150,7 +150,7 @@ function subtitle({ event, name }) {
   switch (event.kind) {
     case 'gap': return `${plural(event.size, 'byte was', 'bytes were')} sent that the capture lacks. This direction is read up to here.`;
     case 'close': return 'The end closed its direction.';
-    case 'exchange': return `${plural(event.size, 'byte')} of a key exchange come before the handshake: message stream encryption with plain text. ` +
+    case 'exchange': return `${plural(event.size, 'byte')} of a key exchange come before the handshake, of message stream encryption. ` +
       'Offsets are counted from the handshake.';
     default: return '';
   }

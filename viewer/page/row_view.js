@@ -26,7 +26,8 @@ const DETAILS = {
   request: blockHtml, cancel: blockHtml, reject: blockHtml, piece: blockHtml,
   bitfield: ({ c }) => `${dim('of')} ${grouped(c)} ${dim(c === 1 ? 'byte' : 'bytes')}`,
   unknown: ({ code, c }) => `${dim('id')} <b>${code}</b> ${dim('with')} ${grouped(c)} ${dim('bytes')}`,
-  extended: ({ extension, a, c }) => `${extension ? `<b>${escape(extension)}</b> ` : ''}${dim('id')} ${a} ${dim('with')} ${grouped(c)} ${dim('bytes')}`,
+  extended: ({ extension, a, c }) =>
+    `${extension ? `<b>${escape(extension)}</b> ` : ''}${dim('id')} ${a} ${dim('with')} ${grouped(c)} ${dim('bytes')}`,
   'ext-handshake': row => {
     const [, size, id] = /size=(\S+) ut_metadata=(\S+)$/.exec(row.words) ?? ['', '-', '-'];
     const parts = [`<b>${escape(row.client ?? '')}</b>`, size === '-' ? '' : `${dim('metadata')} ${grouped(size)}`, id === '-' ? ''
@@ -38,10 +39,12 @@ const DETAILS = {
 
 /** @type {Record<string, (event: any) => string>} */
 const EVENT_DETAILS = {
-  refused: ({ verdict, rules }) => `<b>${verdict.reason}</b> ${dim(`at ${grouped(verdict.at)} · message ${verdict.message} · rules ${rules}`)}`,
+  refused: ({ verdict, rules }) =>
+    `<b>${verdict.reason}</b> ${dim(`at ${grouped(verdict.at)} · message ${verdict.message} · rules ${rules}`)}`,
   bep: ({ verdict }) => `<b>${verdict.reason}</b> ${dim(`at ${grouped(verdict.at)} · the rules "free" read on`)}`,
   cut: ({ cut }) => dim(`inside a message, by ${cut}`),
-  gap: ({ size, more }) => `${grouped(size)} ${dim(`bytes aren't in the capture${more ? `, and ${more} more gaps` : ''}; not read from here on`)}`,
+  gap: ({ size, more }) =>
+    `${grouped(size)} ${dim(`bytes aren't in the capture${more ? `, and ${more} more gaps` : ''}; not read from here on`)}`,
   close: ({ isFirst }) => dim(isFirst ? 'closed first' : 'closed'),
   exchange: ({ size }) => `${grouped(size)} ${dim('bytes before the handshake')}`,
 };
@@ -64,7 +67,8 @@ const eventName = ({ event }) => event.kind === 'close' ? event.word : EVENT_NAM
  */
 function laneHtml(row, remarks) {
   const { event } = row;
-  if (event) return `<span class="chip ev-${event.kind}">${eventName(row)}</span><span class="det">${EVENT_DETAILS[event.kind](event)}</span>`;
+  const chip = (/** @type {string} */ kind, /** @type {string} */ name) => `<span class="chip ${kind}">${name}</span>`;
+  if (event) return `${chip(`ev-${event.kind}`, eventName(row))}<span class="det">${EVENT_DETAILS[event.kind](event)}</span>`;
   const marks = remarksOf(row.flags).map(name => `<em title="${escape(remarks[name].words)}">${name}</em>`).join('');
   return `<span class="chip g${row.group}">${row.name}</span><span class="det">${DETAILS[row.name]?.(row) ?? ''}</span>${marks}`;
 }
@@ -97,7 +101,9 @@ function rowHtml(row, lane) {
  * @param {{ selected: number, mate: number }} app @param {Record<string, any>} remarks @returns {import('./virtual_list.js').Draw}
  */
 export const drawRows = (app, remarks) => ({
-  classes: row => ` s${row.side}${row.r === app.selected ? ' on' : ''}${row.r === app.mate ? ' mate' : ''}${row.event ? ` event e-${row.event.kind}` : ` k${row.group}`}`,
+  classes: row => ` s${row.side}${row.r === app.selected ? ' on' : ''}${row.r === app.mate ? ' mate' : ''}` +
+    (row.event ? ` event e-${row.event.kind}` : ` k${row.group}`),
   label: row => escape(rowText(row, remarks)),
-  html: row => rowHtml(row, `<span class="lane" title="${escape(`${row.offset} ${row.words}`)}">${laneHtml(row, remarks)}<span class="lead"></span></span>`),
+  html: row => rowHtml(row, `<span class="lane" title="${escape(`${row.offset} ${row.words}`)}">${laneHtml(row, remarks)}` +
+    '<span class="lead"></span></span>'),
 });

@@ -70,9 +70,11 @@ class TreeLines {
   /** @param {BencodeNode} node @param {string} head @param {string} meaning @param {number} depth */
   container(node, head, meaning, depth) {
     const count = node.children.length;
-    this.lines.push(`${head}<span class="tkind">${node.type}</span><span class="tnote">${count}${meaning ? ` · ${escape(meaning)}` : ''}</span></div>`);
+    const note = `${count}${meaning ? ` · ${escape(meaning)}` : ''}`;
+    this.lines.push(`${head}<span class="tkind">${node.type}</span><span class="tnote">${note}</span></div>`);
     for (const { key, child } of node.children.slice(0, MOST_CHILDREN)) if (child) this.walk(child, key, depth + 1);
-    if (count > MOST_CHILDREN) this.lines.push(`<div class="tline" style="--d:${depth + 1}"><span class="tat"></span>… ${count - MOST_CHILDREN} more</div>`);
+    if (count <= MOST_CHILDREN) return;
+    this.lines.push(`<div class="tline" style="--d:${depth + 1}"><span class="tat"></span>… ${count - MOST_CHILDREN} more</div>`);
   }
 }
 

@@ -22,7 +22,7 @@ function causeText(closing, { reasons, remarks }) {
   if (!cause) return '';
   if (kind === 'refusal') return lower(reasonWords(reasons, cause.event.verdict, cause.bytes, cause.own).words);
   if (kind === 'remark') return `${remarks[remarksOf(cause.flags)[0]].one}, "${cause.words}"${uncounted(closing)}`;
-  return `"${cause.event ? cause.words : cause.words}"`;
+  return `"${cause.words}"`;
 }
 
 /** @param {any} it the connection @param {{ reasons: any, remarks: any }} tables */
@@ -44,7 +44,9 @@ export function whyText(it, tables) {
     case 'seeds': return `${closed}, ${after}the last message of ${sender}, ${text}: both ends have all pieces.`;
     case 'gap': return `${closed}. The capture has a gap, so what came before isn't all known.`;
     case 'nothing': return `${closed}, before ${'AB'[1 - event.side]} sent a message.`;
-    default: return `${closed}, ${after}the last message of ${sender}, ${text}. Nothing that ${sender} sent is refused${uncounted(closing)}.`;
+    case 'metadata': return `${closed}, ${after}the last block of the metadata, ${text}: all of it was there then.`;
+    default: return `${closed}, ${after}the last message of ${sender}, ${text}. ` +
+      `Nothing that ${sender} sent is refused${uncounted(closing)}.`;
   }
 }
 

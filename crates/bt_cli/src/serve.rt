@@ -1,6 +1,7 @@
 //! The command `serve`: what its words ask for, the service, its lines, and the exit status. The module `options` and the
 //! program's `main` call it.
-ghost use Rattle.std.specs.Prelude.{IfOk};
+ghost use Rattle.std.specs.Prelude.{◌≡◌, IfOk};
+ghost use Rattle.sha1.specs.Sha1.{sha1};
 ghost use Rattle.bt_run.specs.Commands.{HasLoopLimit};
 
 use crate::fetch::{DEFAULT_LIMIT, DEFAULT_PATIENCE, Mistake, drawn_peer_id, number_or, rules_in};
@@ -99,34 +100,47 @@ pub fn serve_asked(alloc: Global, options: &ArgMatches<'_>) -> Result<ServeJob, 
     })
 }
 
-/// Says on standard output how each connection ended.
+/// Says on standard output how each connection ended, each line by one write.
 #[derive(Drop)]
 struct Lines<'a, W: Target> {
     alloc: Global,
     writer: &'a mut W,
 }
 
+/// Returns how a connection ended, as the last word of its line. A refusal is written into the array.
+fn last_word<'a>(ending: Ending, line: &'a mut [u8; 160]) -> &'a [u8] {
+    match ending {
+        Ending::Closed => b"closed\n",
+        Ending::Silent => b"silent\n",
+        Ending::Unasked => b"unasked\n",
+        Ending::Refused(refusal) => {
+            let place = verdict_line(Ended::Refused(refusal), line);
+            &line[place..]
+        }
+    }
+}
+
+/// Returns a connection's line.
+fn line_of(alloc: Global, peer: SocketAddr, parting: Parting) -> Result<Vec<u8>, AllocError> {
+    let (sent, handled) = (parting.sent, parting.handled);
+    let mut text = format!(in alloc; "{peer} sent={sent} handled={handled} ")?.into_bytes();
+    let mut line = [0; 160];
+    text.extend_from_slice(last_word(parting.ending, &mut line))?;
+    Ok(text)
+}
+
 impl<'a, W: Target> Farewell for Lines<'a, W> {
     fn ended(&mut self, peer: SocketAddr, parting: Parting) {
-        let (sent, handled) = (parting.sent, parting.handled);
-        let Ok(text) = format!(in self.alloc; "{peer} sent={sent} handled={handled} ") else {
-            return;
-        };
-        say(text.as_str().as_bytes(), self.writer);
-        match parting.ending {
-            Ending::Closed => say(b"closed\n", self.writer),
-            Ending::Silent => say(b"silent\n", self.writer),
-            Ending::Refused(refusal) => {
-                let mut line = [0; 160];
-                let place = verdict_line(Ended::Refused(refusal), &mut line);
-                say(&line[place..], self.writer);
-            }
+        if let Ok(text) = line_of(self.alloc, peer, parting) {
+            say(text.as_slice(), self.writer);
         }
     }
 }
 
 /// Returns the SHA-1 of the metadata.
-fn hash_of(metadata: &[u8]) -> [u8; 20] {
+fn hash_of(metadata: &[u8]) -> [u8; 20]
+    ensures { result ≡ sha1 metadata.now }
+{
     let mut digest = Sha1::new();
     digest.update(metadata);
     digest.finalize()
@@ -141,7 +155,7 @@ fn fault_of(error: &io::Error) -> Service {
     }
 }
 
-/// Says the first line: the info hash, the size, and where the server listens.
+/// Says the first line, by one write: the info hash, the size, and where the server listens.
 fn announce<W: Target>(
     alloc: Global,
     info_hash: &[u8; 20],
@@ -151,10 +165,11 @@ fn announce<W: Target>(
 ) -> Result<(), AllocError> {
     let mut digits = [0u8; 40];
     let _ = hex::encode_to_slice(info_hash, &mut digits);
-    say(b"serving ", writer);
-    say(&digits, writer);
-    let text = format!(in alloc; " size={size} on {address}\n")?;
-    say(text.as_str().as_bytes(), writer);
+    let mut text = b"serving ".to_vec(alloc)?;
+    text.extend_from_slice(&digits)?;
+    let rest = format!(in alloc; " size={size} on {address}\n")?;
+    text.extend_from_slice(rest.as_str().as_bytes())?;
+    say(text.as_slice(), writer);
     Ok(())
 }
 

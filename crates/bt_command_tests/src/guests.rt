@@ -3,7 +3,7 @@ use bt_end::{Announce, Config, End, Role, Window};
 use bt_exchange::Connection;
 use bt_ext::{ExtId, Registered, Rules};
 use bt_io::{Failed, Memory};
-use bt_serve::{Door, Ending, Hospitality, Parting, serve};
+use bt_serve::{Door, Ending, Hospitality, Parting, piece_count, serve};
 use bt_wire::{Own, Reserved};
 use std::alloc::Global;
 use std::cell::Cell;
@@ -290,4 +290,22 @@ fn is_right(alloc: Global) -> bool {
 #[test]
 fn memory_is_refused_or_all_are_served(rt: HostRuntime) {
     assert!(rt; is_right(rt.alloc()));
+}
+
+/// Info dictionaries, and how many pieces they have: 20 bytes of `pieces` for each (BEP 3).
+const PIECES: [(&[u8], Option<u32>); 7] = [
+    (b"d6:pieces0:e", Some(0)),
+    (b"d6:pieces20:aaaaaaaaaaaaaaaaaaaae", Some(1)),
+    (b"d6:lengthi1e6:pieces40:aaaaaaaaaaaaaaaaaaaabbbbbbbbbbbbbbbbbbbbe", Some(2)),
+    (b"d6:pieces19:aaaaaaaaaaaaaaaaaaae", None),
+    (b"d6:piecesi20ee", None),
+    (b"d6:pieces20:aaaaaaaaaaaaaaaaaaaaee", None),
+    (b"abc", None),
+];
+
+#[test]
+fn pieces_are_counted(rt: HostRuntime) {
+    for (info, pieces) in PIECES {
+        assert!(rt; piece_count(info) == pieces);
+    }
 }

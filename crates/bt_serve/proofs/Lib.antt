@@ -1,3 +1,4 @@
 pub mod Files
-pub mod Counting
+pub mod Services
+pub mod Reacting
 pub mod Tallies

@@ -1,224 +1,399 @@
 -- The counts of a connection that is served, from step to step.
-use Rattle.std.proofs.Common.{◌≡◌, ◌⊎◌, ℕ, ◌+◌, ◌-◌, ◌^◌, ◌<◌, true, false, List, [], ◌∷◌, ◌++◌, length, min, drop, flat_map, Result, Ok, Err, inl}
-use Rattle.std.proofs.Common.{inr, refl, sym, ap, subst, ◌∙◌, arith, length-append, length-drop}
-use Rattle.std.proofs.Math.Seq.{drop-append_seam}
-use Rattle.std.proofs.lemmas.List.{append-nil}
+use Rattle.std.proofs.Common.{◌≡◌, ◌⊎◌, ℕ, ◌+◌, ◌<◌, Bool, true, false, ◌||◌, nat_lt, List, [], ◌∷◌, ◌++◌, length, Option, None, Some, Result, Ok, Err, inl, inr, refl, sym, ap, subst, ◌∙◌}
+use Rattle.std.proofs.Common.{arith, length-append}
+use Rattle.std.proofs.Math.Bool.{or-false}
+use Rattle.std.proofs.lemmas.Bool.{ltb-true}
+use Rattle.std.proofs.lemmas.List.{append-nil, nil_from_length}
+use Rattle.std.proofs.KnownBytes.{Consumes-nil, Appends-nil}
+use Rattle.bt_wire.specs.declared.context.Context.{Context}
 use Rattle.bt_wire.specs.declared.item.Item.{Item}
-use Rattle.bt_wire.specs.Messages.{spell}
-use Rattle.bt_end.specs.Ends.{EndState, react, belief}
-use Rattle.bt_end.specs.Halves.{HalfState}
+use Rattle.bt_wire.specs.Messages.{Message}
+use Rattle.bt_feed.proofs.Moving.{fed_none}
+use Rattle.bt_end.specs.Ends.{EndState, Reaction, belief, react}
+use Rattle.bt_end.specs.Events.{event_of}
+use Rattle.bt_end.specs.Halves.{HalfState, high_water}
+use Rattle.bt_end.specs.declared.event.Event.{Event}
+use Rattle.bt_io.specs.Counts.{Grew}
 use Rattle.bt_exchange.specs.Boths.{capped}
-use Rattle.bt_exchange.specs.Connections.{Seen, at_time}
+use Rattle.bt_exchange.specs.Connections.{Seen, Counts, at_time}
 use Rattle.bt_exchange.specs.Courses.{Moment, IsMoved, end_after, replies}
-use Rattle.bt_exchange.specs.Stops.{IsAdvanced, IsFault, is_still, items_of}
-use Rattle.bt_exchange.specs.declared.talking.Sign.TheVariants as sign
+use Rattle.bt_exchange.specs.Stops.{HasListened, IsAdvanced, IsCalm, IsFault, IsStep, is_still, items_of}
 use Rattle.bt_exchange.specs.declared.talking.Step.{Step}
 use Rattle.bt_exchange.specs.declared.talking.Step.TheVariants as step
 use Rattle.bt_exchange.specs.declared.talking.Stop.{Stop}
 use Rattle.bt_exchange.specs.declared.talking.Stop.TheVariants as stop
-use Rattle.bt_exchange.proofs.Moves.{moment, moved_both}
-use Rattle.bt_exchange.proofs.Watches.{calm_both, fault_after, mark_alive, mark_on, moved_clock, quiet_clock, round_calm, started, step_calm}
-use Rattle.bt_serve.specs.Guests.{AreMessages, IsEnding, IsParting, IsServed, IsSettled, IsStepped, IsTally, ended_by, moves, queued_at, serving_end}
+use Rattle.bt_serve.specs.Guests.{IsEnded, IsEnding, IsParting, IsQuietSince, IsServed, IsServer, IsStepped, IsTally, ended_by, is_unasked, serving_end, with_all_sent, with_item}
+use Rattle.bt_serve.specs.Services.{IsServing, IsUnsaid, answer_to, end_served, has_piece, is_piece, queued_at, queued_by, said, saying, served_at}
 use Rattle.bt_serve.specs.declared.guest.Ending.{Ending}
 use Rattle.bt_serve.specs.declared.guest.Ending.TheVariants as ending
 use Rattle.bt_serve.specs.declared.guest.Hospitality.{Hospitality}
 use Rattle.bt_serve.specs.declared.guest.Tally.{Tally}
+use Rattle.bt_serve.proofs.Reacting.{queued_of, server_at}
+use Rattle.bt_serve.proofs.Services.{moment, one_item, piece_both, queued_both, serving_both, serving_heard, serving_none, serving_still}
 
--- ---- what is queued
+pub nil_both : (xs ys : List ℕ) → xs ≡ [] → ys ≡ [] → xs ++ ys ≡ []
+nil_both xs ys e f = ap (λ (l : List ℕ). l ++ ys) e ∙ f
 
-pub queued_both : (e : EndState) (xs ys : List (ℕ × Item)) → queued_at e (xs ++ ys) ≡ queued_at e xs + queued_at (end_after e xs) ys
-queued_both e [] ys = omega arith
-queued_both e (x ∷ xs) ys =
-    let r = react e x.1 in
-    let rest : queued_at r.end (xs ++ ys) ≡ queued_at r.end xs + queued_at (end_after r.end xs) ys = queued_both r.end xs ys in
-    omega (arith, rest)
+-- ---- calm
 
-pub queued_none : (e : EndState) (xs : List (ℕ × Item)) → length xs ≡ 0 → queued_at e xs ≡ 0
-queued_none e [] z = refl
-queued_none e (x ∷ xs) z = absurd (omega (arith, z))
+seen_calm : (s t : Seen) → t ≡ s → IsCalm s.counts t.counts
+seen_calm s t e = record { ends = ap (λ (x : Seen). x.counts.ends) e; failed = ap (λ (x : Seen). x.counts.failed) e }
 
--- one item's messages are counted
-pub queued_one : (e : EndState) (xs : List (ℕ × Item)) (n : ℕ) → length xs ≡ 1 → length (replies e xs) < 2 ^ 32 → AreMessages (replies e xs) n → n
-    ≡ queued_at e xs
-queued_one e [] n z lt m = absurd (omega (arith, z))
-queued_one e (x ∷ []) n z lt m =
-    let r = react e x.1 in
-    let same : n ≡ length r.queued = m (belief r.end) r.queued (append-nil (flat_map (spell (belief r.end)) r.queued)) lt in
-    omega (arith, same)
-queued_one e (x ∷ y ∷ xs) n z lt m = absurd (omega (arith, z))
+step_calm : (old new : Moment) (st : Step) → IsStep old new (Ok st) → IsCalm old.seen.counts new.seen.counts
+step_calm old new step.Moved h = h
+step_calm old new step.Waited h = h.0
+step_calm old new (step.Handled e) h = seen_calm old.seen new.seen h
+step_calm old new step.Held h = seen_calm old.seen new.seen h
+
+calm_both : (a b c : Counts) → IsCalm a b → IsCalm b c → IsCalm a c
+calm_both a b c p q = record { ends = q.ends ∙ p.ends; failed = q.failed ∙ p.failed }
+
+fault_after : (a b c : Counts) (h : HalfState) (e : Stop) → IsCalm a b → IsFault b c h e → IsFault a c h e
+fault_after a b c h stop.Closed k f = (subst (λ (x : ℕ). Grew x c.ends) k.ends f.0, f.1 ∙ k.failed)
+fault_after a b c h stop.Failed k f = (subst (λ (x : ℕ). Grew x c.failed) k.failed f.0, f.1 ∙ k.ends)
+fault_after a b c h (stop.Refused r) k f = (calm_both a b c k f.0, f.1)
+fault_after a b c h stop.Memory k f = (calm_both a b c k f.0, f.1)
+fault_after a b c h stop.Done k f = absurd f
+fault_after a b c h stop.Hopeless k f = absurd f
+fault_after a b c h stop.Mismatch k f = absurd f
+fault_after a b c h stop.Silent k f = absurd f
+fault_after a b c h stop.Rounds k f = absurd f
 
 -- ---- counts
 
-pub tally_on : (start old new : Moment) (t u : Tally) → IsTally start old t → (m : IsMoved old new) → u.handled ≡ capped (t.handled + length m.course.items)
-    → capped (u.sent + u.queued) ≡ capped ((t.sent + t.queued) + queued_at old.half.end m.course.items) → IsTally start new u
-tally_on start old new t u k m handled queued =
+abbrev pub tally_on : (start old new : Moment) (t u : Tally) → IsTally start old t → (m : IsServing old new) → u.handled
+    ≡ capped (t.handled + length m.course.items) → capped (u.sent + u.queued) ≡ capped ((t.sent + t.queued) + queued_at old.half.end m.course.items)
+    → (t.handled ≡ 0 → m.sent ≡ []) → IsTally start new u
+tally_on start old new t u k m handled queued silent =
     let xs = k.moved.course.items in
     let ys = m.course.items in
     let both : length (xs ++ ys) ≡ length xs + length ys = length-append xs ys in
-    let all : queued_at start.half.end (xs ++ ys) ≡ queued_at start.half.end xs + queued_at (end_after start.half.end xs) ys =
+    let all : queued_at start.half.end (xs ++ ys) ≡ queued_at start.half.end xs + queued_at (end_served start.half.end xs) ys =
     queued_both start.half.end xs ys in
-    let end : queued_at old.half.end ys ≡ queued_at (end_after start.half.end xs) ys = ap (λ (e : EndState). queued_at e ys) k.moved.course.end in
+    let end : queued_at old.half.end ys ≡ queued_at (end_served start.half.end xs) ys = ap (λ (e : EndState). queued_at e ys) k.moved.course.end in
     record {
-      moved = moved_both start old new k.moved m;
+      moved = serving_both start old new k.moved m;
       handled = omega (arith, handled, k.handled, both);
       queued = omega (arith, queued, k.queued, all, end);
+      silent = λ z. nil_both k.moved.sent m.sent (k.silent (omega (arith, both, z))) (silent (omega (arith, k.handled, both, z)));
     }
 
--- ---- a step
+-- all that waited is sent
+abbrev pub tally_sent : (start now : Moment) (t : Tally) → IsTally start now t → IsTally start now (with_all_sent t)
+tally_sent start now t k = record { moved = k.moved; handled = k.handled; queued = omega (arith, k.queued); silent = k.silent }
 
--- what is known of the counts after a step that queued these bytes
-pub record IsNoted (old new : Moment) (r : Result Step Stop) (t u : Tally) (q : List ℕ) : Type 0 where
-  pub handled : u.handled ≡ capped (t.handled + items_of r)
-  pub quiet : items_of r ≡ 0 → capped (u.sent + u.queued) ≡ capped (t.sent + t.queued)
-  pub queued : items_of r ≡ 1 → (n : ℕ) × AreMessages q n × (capped (u.sent + u.queued) ≡ capped ((t.sent + t.queued) + n))
-  pub bytes : q ≡ drop (min (length old.half.outbox) (length new.half.outbox)) new.half.outbox
-  pub bound : length new.half.outbox < 2 ^ 32
-  pub settled : IsSettled new u
+-- no block of a piece came before, and none or one now
+unasked_on : (start old new : Moment) (k : IsServing start old) (m : IsServing old new) → has_piece start.half.end k.course.items ≡ false
+    → has_piece start.half.end (serving_both start old new k m).course.items ≡ has_piece old.half.end m.course.items
+unasked_on start old new k m none =
+    piece_both start.half.end k.course.items m.course.items
+    ∙ ap (λ (b : Bool). b || has_piece (end_served start.half.end k.course.items) m.course.items) none
+    ∙ ap (λ (e : EndState). has_piece e m.course.items) (sym k.course.end)
 
-none_or_one : (r : Result Step Stop) → (items_of r ≡ 0) ⊎ ((items_of r ≡ 1) × (is_still r ≡ true))
-none_or_one (Ok step.Handled) = inr (refl, refl)
-none_or_one (Ok step.Moved) = inl refl
-none_or_one (Ok step.Waited) = inl refl
-none_or_one (Ok step.Held) = inl refl
-none_or_one (Err e) = inl refl
+-- ---- bytes that move
 
--- what was queued are the replies
-replied : (old new : Moment) (m : IsMoved old new) (q : List ℕ) → m.sent ≡ [] → q
-    ≡ drop (min (length old.half.outbox) (length new.half.outbox)) new.half.outbox → q ≡ replies old.half.end m.course.items
-replied old new m q none e =
-    let before = old.half.outbox in
-    let reply = replies old.half.end m.course.items in
-    let all : new.half.outbox ≡ before ++ reply = sym (m.course.bytes ∙ ap (λ (l : List ℕ). l ++ new.half.outbox) none) in
-    let size : length new.half.outbox ≡ length before + length reply = ap (length {A = ℕ}) all ∙ length-append before reply in
-    let at : min (length before) (length new.half.outbox) ≡ length before = omega (arith, size) in
-    e ∙ ap (λ (n : ℕ). drop n new.half.outbox) at ∙ ap (λ (l : List ℕ). drop (length before) l) all ∙ drop-append_seam before reply
-
-pub tally_step : (start old new : Moment) (r : Result Step Stop) (t u : Tally) (q : List ℕ) → IsNoted old new r t u q → IsTally start old t
-    → IsAdvanced old new r → IsTally start new u
-tally_step start old new r t u q n k a =
-    let m = a.made.moved in
-    let xs = m.course.items in
-    let handled : u.handled ≡ capped (t.handled + length xs) = omega (arith, n.handled, a.items) in
-    let queued : capped (u.sent + u.queued) ≡ capped ((t.sent + t.queued) + queued_at old.half.end xs) =
-    elim (none_or_one r) [
-      | inl z ↦ omega (arith, n.quiet z, queued_none old.half.end xs (a.items ∙ z))
-      | inr o ↦
-          let count = n.queued o.0 in
-          let same : q ≡ replies old.half.end xs = replied old new m q (a.still o.1).1 n.bytes in
-          let size : length q < 2 ^ 32 = omega (
-            arith,
-            n.bound,
-            ap (length {A = ℕ}) n.bytes,
-            length-drop (min (length old.half.outbox) (length new.half.outbox)) new.half.outbox,
-          ) in
-          let one : count.0 ≡ queued_at old.half.end xs = queued_one old.half.end xs count.0 (a.items ∙ o.0)
-          (subst (λ (l : List ℕ). length l < 2 ^ 32) same size) (subst (λ (l : List ℕ). AreMessages l count.0) same count.1) in
-          omega (arith, count.2, one)
-    ] in
-    tally_on start old new t u k m handled queued
-
-pub stepped_still : {start old new : Moment} (r : Result Step Stop) {since : ℕ} {t u : Tally} {q : List ℕ} → moves r ≡ false → IsNoted old new r t u q
-    → IsServed start old since t → IsAdvanced old new r → IsStepped start new since u r
-stepped_still (Ok step.Moved) f n k a = absurd cc
-stepped_still {start} {old} {new} (Ok step.Waited) {since} {t} {u} {q} f n k a = record {
-  calm = calm_both start.seen.counts old.seen.counts new.seen.counts k.calm (step_calm old new step.Waited a.step);
-  mark = mark_on sign.Bytes since start old new a.made.moved k.mark (a.still refl);
-  tally = tally_step start old new (Ok step.Waited) t u q n k.tally a;
-  settled = n.settled;
+quiet_on : (t : ℕ) (start old new : Moment) (m : IsServing old new) → (m.got ≡ []) × (m.sent ≡ []) → IsQuietSince t start old → IsQuietSince t start new
+quiet_on t start old new m still q = record {
+  since = q.since;
+  before = q.before;
+  after = serving_both q.since old new q.after m;
+  quiet = (nil_both q.after.got m.got q.quiet.0 still.0, nil_both q.after.sent m.sent q.quiet.1 still.1);
+  clock = q.clock;
 }
-stepped_still {start} {old} {new} (Ok step.Handled) {since} {t} {u} {q} f n k a = record {
-  calm = calm_both start.seen.counts old.seen.counts new.seen.counts k.calm (step_calm old new step.Handled a.step);
-  mark = mark_on sign.Bytes since start old new a.made.moved k.mark (a.still refl);
-  tally = tally_step start old new (Ok step.Handled) t u q n k.tally a;
-  settled = n.settled;
-}
-stepped_still {start} {old} {new} (Ok step.Held) {since} {t} {u} {q} f n k a = record {
-  calm = calm_both start.seen.counts old.seen.counts new.seen.counts k.calm (step_calm old new step.Held a.step);
-  mark = mark_on sign.Bytes since start old new a.made.moved k.mark (a.still refl);
-  tally = tally_step start old new (Ok step.Held) t u q n k.tally a;
-  settled = n.settled;
-}
-stepped_still {start} {old} {new} (Err e) {t} {u} {q} f n k a = (
-  tally_step start old new (Err e) t u q n k.tally a,
-  n.settled,
-  fault_after start.seen.counts old.seen.counts new.seen.counts new.half e k.calm a.step,
-)
 
--- the clock was read
-tally_clock : (start mid : Moment) (t : ℕ) (u : Tally) → IsTally start mid u → IsTally start (moment (at_time t mid.seen) mid.pending mid.half) u
-tally_clock start mid t u k = tally_on start mid (moment (at_time t mid.seen) mid.pending mid.half) u u k (moved_clock mid t) (omega (arith, k.handled))
-    (omega arith)
+quiet_here : (t : ℕ) (start now : Moment) → IsServing start now → now.seen.counts.clock ≡ t → IsQuietSince t start now
+quiet_here t start now m e = record { since = now; before = m; after = serving_none now; quiet = (refl, refl); clock = e }
 
-pub served_clock : (start mid : Moment) (s : Seen) (since t : ℕ) (u : Tally) → s ≡ at_time t mid.seen → IsServed start mid since u
-    → IsServed start (moment s mid.pending mid.half) since u
-served_clock start mid s since t u e k =
-    let new = moment (at_time t mid.seen) mid.pending mid.half in
-    let P : Seen → Type 0 = λ x. IsServed start (moment x mid.pending mid.half) since u in
+-- ---- a step that handled nothing
+
+-- the end before a step that handled nothing
+same_end : (old new : Moment) (m : IsMoved old new) → length m.course.items ≡ 0 → new.half.end ≡ old.half.end
+same_end old new m none = m.course.end ∙ ap (end_after old.half.end) (nil_from_length m.course.items none)
+
+-- a step that handled nothing, and sent nothing as long as nothing was handled
+pub record IsStillStep (old new : Moment) (t : Tally) (r : Result Step Stop) : Type 0 where
+  pub advanced : IsAdvanced old new r
+  pub none : items_of r ≡ 0
+  pub silent : t.handled ≡ 0 → advanced.made.moved.sent ≡ []
+
+-- the counts are those of before
+tally_still : (start old new : Moment) (t : Tally) (r : Result Step Stop) → IsStillStep old new t r → (k : IsTally start old t)
+    → has_piece start.half.end k.moved.course.items ≡ false
+    → (u : IsTally start new t) × (has_piece start.half.end u.moved.course.items ≡ false)
+tally_still start old new t r s k none =
+    let z : length s.advanced.made.moved.course.items ≡ 0 = s.advanced.items ∙ s.none in
+    let m = serving_still old new s.advanced.made.moved z in
+    let items : length m.serving.course.items ≡ 0 = ap (length {A = ℕ × Item}) m.items in
+    let queued : queued_at old.half.end m.serving.course.items ≡ 0 = ap (queued_at old.half.end) m.items in
+    (
+      tally_on start old new t t k m.serving (omega (arith, k.handled, items)) (omega (arith, queued)) (λ h. m.sent ∙ s.silent h),
+      unasked_on start old new k.moved m.serving none ∙ ap (has_piece old.half.end) m.items,
+    )
+
+server_still : (old new : Moment) (t : Tally) (r : Result Step Stop) → IsStillStep old new t r → IsServer old.half.end → IsServer new.half.end
+server_still old new t r s k = subst IsServer (sym (same_end old new s.advanced.made.moved (s.advanced.items ∙ s.none))) k
+
+-- nothing was moved
+pub served_still : {start old new : Moment} {since : ℕ} {t : Tally} (st : Step) → is_still (Ok st) ≡ true → IsStillStep old new t (Ok st)
+    → IsServed start old since t → IsServed start new since t
+served_still {start} {old} {new} {since} {t} st still s k =
+    let z : length s.advanced.made.moved.course.items ≡ 0 = s.advanced.items ∙ s.none in
+    let m = serving_still old new s.advanced.made.moved z in
+    let quiet = s.advanced.still still in
+    let u = tally_still start old new t (Ok st) s k.tally k.unasked in
+    record {
+      calm = calm_both start.seen.counts old.seen.counts new.seen.counts k.calm (step_calm old new st s.advanced.step);
+      quiet = quiet_on since start old new m.serving (m.got ∙ quiet.0, m.sent ∙ quiet.1) k.quiet;
+      tally = u.0;
+      unasked = u.1;
+      server = server_still old new t (Ok st) s k.server;
+    }
+
+-- ---- the clock
+
+abbrev clocked : Moment → Seen → Moment
+clocked m s = moment s m.pending m.half
+
+-- reading the clock moves nothing
+abbrev serving_clock : (m : Moment) (t : ℕ) → IsServing m (clocked m (at_time t m.seen))
+serving_clock m t = record {
+  got = [];
+  heard = [];
+  sent = [];
+  course = record { items = []; fed = fed_none m.half.feed; end = refl; bytes = append-nil m.half.outbox };
+  pending = append-nil m.pending;
+  reads = Consumes-nil m.seen.coming;
+  writes = Appends-nil m.seen.gone;
+}
+
+tally_clock : (start mid : Moment) (t : ℕ) (u : Tally) (k : IsTally start mid u) → has_piece start.half.end k.moved.course.items ≡ false
+    → (v : IsTally start (clocked mid (at_time t mid.seen)) u) × (has_piece start.half.end v.moved.course.items ≡ false)
+tally_clock start mid t u k none =
+    let new = clocked mid (at_time t mid.seen) in
+    let m = serving_clock mid t in
+    (
+      tally_on start mid new u u k m (omega (arith, k.handled)) (omega arith) (λ h. refl),
+      unasked_on start mid new k.moved m none,
+    )
+
+pub served_clock : {start mid : Moment} {since : ℕ} {u : Tally} (s : Seen) (t : ℕ) → s ≡ at_time t mid.seen → IsServed start mid since u
+    → IsServed start (clocked mid s) since u
+served_clock {start} {mid} {since} {u} s t e k =
+    let new = clocked mid (at_time t mid.seen) in
+    let P : Seen → Type 0 = λ x. IsServed start (clocked mid x) since u in
+    let v = tally_clock start mid t u k.tally k.unasked in
     subst P (sym e) (record {
       calm = record { ends = k.calm.ends; failed = k.calm.failed };
-      mark = mark_on sign.Bytes since start mid new (moved_clock mid t) k.mark (quiet_clock sign.Bytes mid t);
-      tally = tally_clock start mid t u k.tally;
-      settled = k.settled;
+      quiet = quiet_on since start mid new (serving_clock mid t) (refl, refl) k.quiet;
+      tally = v.0;
+      unasked = v.1;
+      server = k.server;
     })
 
-pub stepped_moved : {start old mid : Moment} {s : Seen} (r : Result Step Stop) {since : ℕ} (time : ℕ) {t u : Tally} {q : List ℕ} → moves r ≡ true
-    → s ≡ at_time time mid.seen → IsNoted old mid r t u q → IsServed start old since t → IsAdvanced old mid r
-    → IsStepped start (moment s mid.pending mid.half) time u r
-stepped_moved {start} {old} {mid} {s} (Ok step.Moved) {since} time {t} {u} {q} f e n k a =
-    let P : Seen → Type 0 = λ x. IsTally start (moment x mid.pending mid.half) u in
+-- bytes were moved, and the clock was read
+pub served_moved : {start old mid : Moment} {since : ℕ} {u : Tally} (s : Seen) (t : ℕ) → s ≡ at_time t mid.seen → IsStillStep old mid u (Ok step.Moved)
+    → IsServed start old since u → IsServed start (clocked mid s) t u
+served_moved {start} {old} {mid} {since} {u} s t e still k =
+    let new = clocked mid (at_time t mid.seen) in
+    let P : Seen → Type 0 = λ x. IsServed start (clocked mid x) t u in
+    let w = tally_still start old mid u (Ok step.Moved) still k.tally k.unasked in
+    let calm = calm_both start.seen.counts old.seen.counts mid.seen.counts k.calm (step_calm old mid step.Moved still.advanced.step) in
+    let v = tally_clock start mid t u w.0 w.1 in
+    subst P (sym e) (record {
+      calm = record { ends = calm.ends; failed = calm.failed };
+      quiet = quiet_here t start new (serving_both start mid new w.0.moved (serving_clock mid t)) refl;
+      tally = v.0;
+      unasked = v.1;
+      server = server_still old mid u (Ok step.Moved) still k.server;
+    })
+
+-- ---- a step that handled an item
+
+-- it was handled, and what is said at it is queued then; it sent nothing as long as nothing was handled
+pub record IsHeardStep (old mid : Moment) (half : HalfState) (t : Tally) (e : Event) : Type 0 where
+  pub advanced : IsAdvanced old mid (Ok (step.Handled e))
+  pub answered : half ≡ said (answer_to (belief mid.half.end) e) mid.half
+  pub silent : t.handled ≡ 0 → advanced.made.moved.sent ≡ []
+
+belief_said : (o : Option Message) (r : Reaction) → belief (saying o r).end ≡ belief r.end
+belief_said None r = refl
+belief_said (Some msg) r = refl
+
+-- the counts, and whether a block of a piece came
+pub heard : {start old mid : Moment} {half : HalfState} {since : ℕ} {t : Tally} (e : Event) (n : ℕ) → n ≡ queued_by (belief half.end) e
+    → IsHeardStep old mid half t e → IsServed start old since t
+    → ((u : IsTally start (moment mid.seen mid.pending half) (with_item n t)) × (has_piece start.half.end u.moved.course.items ≡ is_piece e))
+    × IsQuietSince since start (moment mid.seen mid.pending half) × IsServer half.end × IsCalm start.seen.counts mid.seen.counts
+heard {start} {old} {mid} {half} {since} {t} e n is s k =
+    let new = moment mid.seen mid.pending half in
+    let a = s.advanced in
+    let c = serving_heard old mid a.made.moved half e a.events s.answered in
+    let x = c.item in
+    let r = react old.half.end x.1 in
+    let end : half.end ≡ (served_at old.half.end x.1).end = c.serving.course.end ∙ ap (end_served old.half.end) c.items in
+    let same : belief half.end ≡ belief r.end = ap belief end ∙ belief_said (answer_to (belief r.end) (event_of old.half.end x.1)) r in
+    let count : n ≡ queued_by (belief r.end) (event_of old.half.end x.1) =
+    is ∙ ap (λ (b : Context). queued_by b e) same ∙ ap (queued_by (belief r.end)) c.event in
+    let one : length (served_at old.half.end x.1).queued ≡ queued_by (belief r.end) (event_of old.half.end x.1) = queued_of old.half.end x.1 k.server in
+    let all : queued_at old.half.end c.serving.course.items ≡ queued_at old.half.end (x ∷ []) = ap (queued_at old.half.end) c.items in
+    let items : length c.serving.course.items ≡ 1 = ap (length {A = ℕ × Item}) c.items in
+    let quiet = a.still refl in
+    let piece : has_piece old.half.end c.serving.course.items ≡ is_piece e = ap (has_piece old.half.end) c.items
+    ∙ or-false (is_piece (event_of old.half.end x.1)) ∙ ap is_piece (sym c.event) in
+    (
+      (
+        tally_on start old new t (with_item n t) k.tally c.serving (omega (arith, items)) (omega (arith, all, one, count)) (λ z. c.sent ∙ s.silent z),
+        unasked_on start old new k.tally.moved c.serving k.unasked ∙ piece,
+      ),
+      quiet_on since start old new c.serving (c.got ∙ quiet.0, c.sent ∙ quiet.1) k.quiet,
+      subst IsServer (sym end) (server_at old.half.end x.1 k.server),
+      calm_both start.seen.counts old.seen.counts mid.seen.counts k.calm (step_calm old mid (step.Handled e) a.step),
+    )
+
+-- it goes on
+pub served_heard : {start old mid : Moment} {half : HalfState} {since : ℕ} {t : Tally} (e : Event) (n : ℕ) → n ≡ queued_by (belief half.end) e
+    → is_piece e ≡ false → IsHeardStep old mid half t e → IsServed start old since t
+    → IsServed start (moment mid.seen mid.pending half) since (with_item n t)
+served_heard e n is piece s k =
+    let h = heard e n is s k in
+    record { calm = h.3; quiet = h.1; tally = h.0.0; unasked = h.0.1 ∙ piece; server = h.2 }
+
+-- a block of a piece ended it
+pub ended_unasked : {start old mid : Moment} {half : HalfState} {since : ℕ} {t : Tally} (e : Event) (n : ℕ) → n ≡ queued_by (belief half.end) e
+    → is_piece e ≡ true → IsHeardStep old mid half t e → IsServed start old since t
+    → (patience : ℕ) → IsEnded patience start (moment mid.seen mid.pending half) (with_item n t) ending.Unasked
+ended_unasked {start} {old} {mid} {half} {since} {t} e n is piece s k patience =
+    let h = heard e n is s k in
     record {
-      calm = round_calm start old mid s step.Moved time k.calm a e;
-      mark = mark_alive sign.Bytes start old mid s step.Moved time since k.mark a e;
-      tally = subst P (sym e) (tally_clock start mid time u (tally_step start old mid (Ok step.Moved) t u q n k.tally a));
-      settled = n.settled;
+      last = moment mid.seen mid.pending half;
+      answered = (with_item n t).handled;
+      tally = h.0.0;
+      unasked = h.0.1 ∙ piece;
+      ending = ((refl, refl), h.3);
     }
-stepped_moved (Ok step.Waited) time f e n k a = absurd cc
-stepped_moved (Ok step.Handled) time f e n k a = absurd cc
-stepped_moved (Ok step.Held) time f e n k a = absurd cc
-stepped_moved (Err x) time f e n k a = absurd cc
+
+-- its answer couldn't be queued
+pub ended_left : {start old mid : Moment} {since : ℕ} {t : Tally} (e : Event) (half : HalfState) → half ≡ mid.half → IsAdvanced old mid (Ok (step.Handled e))
+    → IsUnsaid mid.half e → IsServed start old since t
+    → (patience : ℕ) → IsEnded patience start (moment mid.seen mid.pending half) (with_item 0 t) ending.Closed
+ended_left {start} {old} {mid} {since} {t} e half same a u k patience =
+    let one = one_item old.half.end a.made.moved.course.items e a.events in
+    let unsaid : IsUnsaid mid.half (event_of old.half.end one.0.1) = subst (IsUnsaid mid.half) one.2 u in
+    let P : HalfState → Type 0 = λ x. IsEnded patience start (moment mid.seen mid.pending x) (with_item 0 t) ending.Closed in
+    let q = k.tally in
+    subst P (sym same) (record {
+      last = old;
+      answered = t.handled;
+      tally = record { moved = q.moved; handled = q.handled; queued = omega (arith, q.queued); silent = q.silent };
+      unasked = k.unasked;
+      ending = inr (
+        calm_both start.seen.counts old.seen.counts mid.seen.counts k.calm (step_calm old mid (step.Handled e) a.step),
+        (refl, (a.made.moved, (one.0, one.1, unsaid))),
+      );
+    })
 
 -- ---- the end of a connection
 
 -- nothing was moved for so long
-pub parting_silent : (patience : ℕ) (start now : Moment) (since : ℕ) (t : Tally) → IsServed start now since t → since + patience < now.seen.counts.clock
+pub parting_silent : (patience : ℕ) (start now : Moment) (since : ℕ) (t : Tally) → IsServed start now since t
+    → (length now.half.outbox ≡ 0 → t.queued ≡ 0) → since + patience < now.seen.counts.clock
     → IsParting patience start now (record { ending = ending.Silent; sent = t.sent; handled = t.handled })
-parting_silent patience start now since t k long = record { queued = t.queued; tally = k.tally; settled = k.settled; ending = (k.calm, (since, k.mark, long)) }
+parting_silent patience start now since t k settled long = record {
+  queued = t.queued;
+  ended = record { last = now; answered = t.handled; tally = k.tally; unasked = k.unasked; ending = ((refl, refl), k.calm, (since, k.quiet, long)) };
+  settled = settled;
+}
+
+ending_of : (patience : ℕ) (start now : Moment) (n : ℕ) (e : Stop) → IsFault start.seen.counts now.seen.counts now.half e
+    → IsEnding patience start now now n n (ended_by e) × (is_unasked (ended_by e) ≡ false)
+ending_of patience start now n stop.Closed f = (inl ((refl, refl), inl f), refl)
+ending_of patience start now n stop.Failed f = (inl ((refl, refl), inr (inl f)), refl)
+ending_of patience start now n stop.Memory f = (inl ((refl, refl), inr (inr f)), refl)
+ending_of patience start now n (stop.Refused r) f = (((refl, refl), f), refl)
+ending_of patience start now n stop.Done f = absurd f
+ending_of patience start now n stop.Hopeless f = absurd f
+ending_of patience start now n stop.Mismatch f = absurd f
+ending_of patience start now n stop.Silent f = absurd f
+ending_of patience start now n stop.Rounds f = absurd f
 
 -- a step failed
-ending_of : (patience : ℕ) (start now : Moment) (e : Stop) → IsFault start.seen.counts now.seen.counts now.half e → IsEnding patience start now (ended_by e)
-ending_of patience start now stop.Closed f = inl f
-ending_of patience start now stop.Failed f = inr (inl f)
-ending_of patience start now stop.Memory f = inr (inr f)
-ending_of patience start now (stop.Refused r) f = f
-ending_of patience start now stop.Done f = absurd f
-ending_of patience start now stop.Hopeless f = absurd f
-ending_of patience start now stop.Mismatch f = absurd f
-ending_of patience start now stop.Silent f = absurd f
-ending_of patience start now stop.Rounds f = absurd f
+pub ended_failed : {start old new : Moment} {since : ℕ} {t : Tally} (e : Stop) (x : Ending) → x ≡ ended_by e → IsStillStep old new t (Err e)
+    → IsServed start old since t → (patience : ℕ) → IsEnded patience start new t x
+ended_failed {start} {old} {new} {since} {t} e x is s k patience =
+    let u = tally_still start old new t (Err e) s k.tally k.unasked in
+    let end = ending_of patience start new t.handled e
+    (fault_after start.seen.counts old.seen.counts new.seen.counts new.half e k.calm s.advanced.step) in
+    let P : Ending → Type 0 = λ y. IsEnded patience start new t y in
+    subst P (sym is) (record { last = new; answered = t.handled; tally = u.0; unasked = u.1 ∙ sym end.1; ending = end.0 })
 
-pub parting_stopped : (patience : ℕ) (start now : Moment) (since : ℕ) (t : Tally) (e : Stop) (x : Ending) → x ≡ ended_by e
-    → IsStepped start now since t (Err e) → IsParting patience start now (record { ending = x; sent = t.sent; handled = t.handled })
-parting_stopped patience start now since t e x is k =
-    let P : Ending → Type 0 = λ y. IsEnding patience start now y in
-    record { queued = t.queued; tally = k.0; settled = k.1; ending = subst P (sym is) (ending_of patience start now e k.2) }
+-- all that waited is sent
+pub stepped_sent : (start now : Moment) (since : ℕ) (t : Tally) (r : Result Step Ending) → IsStepped start now since t r
+    → IsStepped start now since (with_all_sent t) r
+stepped_sent start now since t (Ok st) k =
+    record { calm = k.calm; quiet = k.quiet; tally = tally_sent start now t k.tally; unasked = k.unasked; server = k.server }
+stepped_sent start now since t (Err e) k = λ patience.
+    let x = k patience in
+    record {
+      last = x.last;
+      answered = x.answered;
+      tally = tally_sent start x.last (record { queued = t.queued; sent = t.sent; handled = x.answered }) x.tally;
+      unasked = x.unasked;
+      ending = x.ending;
+    }
 
 -- ---- the start
 
-pub served_first : (h : Hospitality) (metadata : List ℕ) (old s : Seen) (p : List ℕ) (a : HalfState) (t : ℕ) → s ≡ at_time t old → p ≡ []
-    → a ≡ serving_end h metadata
-    → IsServed (moment old [] (serving_end h metadata)) (moment s p a) t (record { queued = 1; sent = 0; handled = 0 })
-served_first h metadata old s p a t clock empty is =
-    let end = serving_end h metadata in
+pub served_first : (h : Hospitality) (pieces : Option ℕ) (metadata : List ℕ) (old s : Seen) (p : List ℕ) (a : HalfState) (t : ℕ) → s ≡ at_time t old
+    → p ≡ [] → a ≡ serving_end h pieces metadata
+    → IsServed (moment old [] (serving_end h pieces metadata)) (moment s p a) t (record { queued = 1; sent = 0; handled = 0 })
+served_first h pieces metadata old s p a t clock empty is =
+    let end = serving_end h pieces metadata in
     let start = moment old [] end in
-    let q = started sign.Bytes start s t clock in
-    let none : length q.0.moved.course.items ≡ 0 = omega (arith, q.0.items) in
-    let nothing : queued_at end.end q.0.moved.course.items ≡ 0 = queued_none end.end q.0.moved.course.items none in
+    let new = clocked start (at_time t old) in
+    let m = serving_clock start t in
     let one : Tally = record { queued = 1; sent = 0; handled = 0 } in
-    let first : IsServed start (moment s [] end) t one = record {
-      calm = q.1;
-      mark = q.2;
-      tally = record { moved = q.0.moved; handled = omega (arith, none); queued = omega (arith, nothing) };
-      settled = λ z. absurd cc;
+    let first : IsServed start new t one = record {
+      calm = record { ends = refl; failed = refl };
+      quiet = quiet_here t start new m refl;
+      tally = record { moved = m; handled = refl; queued = refl; silent = λ z. refl };
+      unasked = refl;
+      server = record { part = refl; announce = refl };
     } in
-    let pending : IsServed start (moment s p end) t one = subst (λ (x : List ℕ). IsServed start (moment s x end) t one) (sym empty) first in
+    let seen : IsServed start (moment s [] end) t one = subst (λ (x : Seen). IsServed start (moment x [] end) t one) (sym clock) first in
+    let pending : IsServed start (moment s p end) t one = subst (λ (x : List ℕ). IsServed start (moment s x end) t one) (sym empty) seen in
     subst (λ (x : HalfState). IsServed start (moment s p x) t one) (sym is) pending
+
+-- ---- whether it may send
+
+-- a step sent nothing as long as nothing was handled
+pub held : (old new : Moment) (r : Result Step Stop) (t : Tally) (may : Bool) → may ≡ nat_lt 0 t.handled → IsAdvanced old new r
+    → (may ≡ false → HasListened old new r) → (a : IsAdvanced old new r) × (t.handled ≡ 0 → a.made.moved.sent ≡ [])
+held old new r t true is a l = (a, λ z. absurd (omega (arith, z, ltb-true 0 t.handled (sym is))))
+held old new r t false is a l = let h = l refl in (h.0, λ z. h.1)
+
+pub still_step : (old new : Moment) (r : Result Step Stop) (t : Tally) (may : Bool) → may ≡ nat_lt 0 t.handled → IsAdvanced old new r
+    → (may ≡ false → HasListened old new r) → items_of r ≡ 0 → IsStillStep old new t r
+still_step old new r t may is a l none = let h = held old new r t may is a l in record { advanced = h.0; none = none; silent = h.1 }
+
+pub heard_step : (old mid : Moment) (e : Event) (t : Tally) (may : Bool) (half : HalfState) → may ≡ nat_lt 0 t.handled → IsAdvanced old mid (Ok (step.Handled e))
+    → (may ≡ false → HasListened old mid (Ok (step.Handled e))) → half ≡ said (answer_to (belief mid.half.end) e) mid.half → IsHeardStep old mid half t e
+heard_step old mid e t may half is a l said_is =
+    let h = held old mid (Ok (step.Handled e)) t may is a l in
+    record { advanced = h.0; answered = said_is; silent = h.1 }
+
+-- as long as nothing was handled, no more waits to be sent than before
+pub short_on : (old new : Moment) (r : Result Step Stop) (t : Tally) → IsStillStep old new t r → (t.handled ≡ 0 → length old.half.outbox < high_water)
+    → t.handled ≡ 0 → length new.half.outbox < high_water
+short_on old new r t s short z =
+    let m = s.advanced.made.moved in
+    let reply = replies old.half.end m.course.items in
+    let none : reply ≡ [] = ap (replies old.half.end) (nil_from_length m.course.items (s.advanced.items ∙ s.none)) in
+    omega (
+      arith,
+      short z,
+      ap (length {A = ℕ}) m.course.bytes,
+      length-append old.half.outbox reply,
+      length-append m.sent new.half.outbox,
+      ap (length {A = ℕ}) none,
+      ap (length {A = ℕ}) (s.silent z),
+    )

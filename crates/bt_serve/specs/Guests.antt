@@ -1,24 +1,23 @@
 -- A connection that is served: what its counts and its end say, from its start to a later moment.
-use Rattle.std.specs.Prelude.{◌≡◌, ℕ, ◌+◌, ◌<◌, ◌≤◌, ◌^◌, ◌⊎◌, Bool, true, false, List, [], ◌∷◌, ◌++◌, length, flat_map, Option, Some, None, Result, Ok, Err}
-use Rattle.std.specs.Borrow.{Bor}
-use Rattle.bt_wire.specs.declared.context.Context.{Context}
+use Rattle.std.specs.Prelude.{◌≡◌, ℕ, ◌+◌, ◌<◌, ◌≤◌, ◌⊎◌, Bool, true, false, List, [], ◌∷◌, length, Option, Some, None, Result, Ok, Err}
 use Rattle.bt_wire.specs.declared.context.Own.{Own}
 use Rattle.bt_wire.specs.declared.handshake.Handshake.{Handshake}
 use Rattle.bt_wire.specs.declared.item.Item.{Item}
-use Rattle.bt_wire.specs.Messages.{Message, spell}
 use Rattle.bt_ext.specs.Ids.{metadata_only}
 use Rattle.bt_metadata.specs.Blocks.{window}
-use Rattle.bt_end.specs.Ends.{EndState, react, Serving, unopened}
+use Rattle.bt_end.specs.Ends.{EndState, Part, Serving, unopened}
+use Rattle.bt_end.specs.Events.{event_of}
 use Rattle.bt_end.specs.Halves.{HalfState, connected}
+use Rattle.bt_end.specs.declared.config.Announce.{Announce}
 use Rattle.bt_end.specs.declared.config.Announce.TheVariants as announce
 use Rattle.bt_exchange.specs.Boths.{capped}
 use Rattle.bt_exchange.specs.Courses.{Moment, IsMoved}
-use Rattle.bt_exchange.specs.Stops.{IsCalm, IsFault, IsMark, IsSilent}
-use Rattle.bt_exchange.specs.declared.talking.Sign.TheVariants as sign
+use Rattle.bt_exchange.specs.Stops.{IsCalm, IsFault}
 use Rattle.bt_exchange.specs.declared.talking.Step.{Step}
 use Rattle.bt_exchange.specs.declared.talking.Step.TheVariants as step
 use Rattle.bt_exchange.specs.declared.talking.Stop.{Stop}
 use Rattle.bt_exchange.specs.declared.talking.Stop.TheVariants as stop
+use Rattle.bt_serve.specs.Services.{IsServing, IsUnsaid, has_piece, queued_at}
 use Rattle.bt_serve.specs.declared.door.Parting.{Parting}
 use Rattle.bt_serve.specs.declared.guest.Ending.{Ending}
 use Rattle.bt_serve.specs.declared.guest.Ending.TheVariants as ending
@@ -32,12 +31,13 @@ use Rattle.bt_serve.specs.declared.guest.Tally.{Tally}
 abbrev pub IsHospitality : Hospitality → Type 0
 IsHospitality h = (32768 ≤ h.limit) × (h.limit ≤ 1048576)
 
--- it receives for this info hash, with the Extension Protocol and the Fast Extension, metadata messages under id 3
-abbrev pub own_of : Hospitality → Own
-own_of h = record {
+-- It receives for this info hash and this many pieces, with the Extension Protocol and the Fast Extension, metadata messages under
+-- id 3.
+abbrev pub own_of : Hospitality → Option ℕ → Own
+own_of h pieces = record {
   reserved = record { 0 = 1048580 };
   info_hash = Some h.info_hash;
-  pieces = None;
+  pieces = pieces;
   reg = metadata_only (Some 3);
   rules = h.rules;
   limit = h.limit;
@@ -47,77 +47,110 @@ abbrev pub handshake_of : Hospitality → Handshake
 handshake_of h = record { reserved = record { 0 = 1048580 }; info_hash = h.info_hash; peer_id = h.peer_id }
 
 -- a new end that serves the metadata, and says that it has no piece
-abbrev pub serving_end : Hospitality → List ℕ → HalfState
-serving_end h metadata = connected (unopened (own_of h) (handshake_of h) announce.Nothing window (Serving metadata))
+abbrev pub serving_end : Hospitality → Option ℕ → List ℕ → HalfState
+serving_end h pieces metadata = connected (unopened (own_of h pieces) (handshake_of h) announce.Nothing window (Serving metadata))
 
--- ---- messages as bytes
+-- it serves, and announces that it has no piece
+abbrev pub is_serving : Part → Bool
+is_serving (Serving metadata) = true
+is_serving p = false
 
--- what is left of bytes that begin with a message is found
-abbrev pub IsLeft : Option (Bor (List ℕ)) → List ℕ → Type 0
-IsLeft None rest = ⊥
-IsLeft (Some bytes) rest = bytes.now ≡ rest
+abbrev pub is_nothing : Announce → Bool
+is_nothing announce.Nothing = true
+is_nothing a = false
 
-abbrev pub FindsRest : List ℕ → Option (Bor (List ℕ)) → Type 0
-FindsRest bytes found = (c : Context) (m : Message) (rest : List ℕ) → bytes ≡ spell c m ++ rest → length bytes < 2 ^ 32 → IsLeft found rest
-
--- n messages are spelled so
-abbrev pub AreMessages : List ℕ → ℕ → Type 0
-AreMessages bytes n = (c : Context) (ms : List Message) → bytes ≡ flat_map (spell c) ms → length bytes < 2 ^ 32 → n ≡ length ms
+pub record IsServer (e : EndState) : Type 0 where
+  pub part : is_serving e.part ≡ true
+  pub announce : is_nothing e.announce ≡ true
 
 -- ---- counts
 
--- how many messages an end queues at these items
-abbrev pub queued_at : EndState → List (ℕ × Item) → ℕ
-queued_at e [] = 0
-queued_at e (x ∷ xs) = length (react e x.1).queued + queued_at (react e x.1).end xs
-
--- From `start` on, the items of the peer that the tally counts were handled. What was queued, the handshake and the messages, was sent, but for
--- `queued` items.
+-- From `start` on, the items of the peer that the tally counts were handled and answered. What was queued, the handshake and the messages, was
+-- sent, except for `queued` items. Nothing was sent before the first item was handled, which is the peer's handshake (BEP 3: the end that
+-- is connected to sends its handshake once it knows the info hash).
 pub record IsTally (start now : Moment) (t : Tally) : Type 0 where
-  pub moved : IsMoved start now
+  pub moved : IsServing start now
   pub handled : t.handled ≡ capped (length moved.course.items)
   pub queued : capped (t.sent + t.queued) ≡ capped (1 + queued_at start.half.end moved.course.items)
+  pub silent : length moved.course.items ≡ 0 → moved.sent ≡ []
 
--- where nothing waits to be sent, no item does
-abbrev pub IsSettled : Moment → Tally → Type 0
-IsSettled now t = length now.half.outbox ≡ 0 → t.queued ≡ 0
+-- when nothing waits to be sent, no item does
+abbrev pub IsSettled : HalfState → Tally → Type 0
+IsSettled a t = length a.outbox ≡ 0 → t.queued ≡ 0
 
--- no call failed, nothing was moved since this time, and these are the counts
+-- at this time, by the connection's clock, it was the moment since which no byte was moved
+pub record IsQuietSince (time : ℕ) (start now : Moment) : Type 0 where
+  pub since : Moment
+  pub before : IsServing start since
+  pub after : IsServing since now
+  pub quiet : (after.got ≡ []) × (after.sent ≡ [])
+  pub clock : since.seen.counts.clock ≡ time
+
+-- no call failed, nothing was moved since this time, these are the counts, and no block of a piece came
 pub record IsServed (start now : Moment) (since : ℕ) (t : Tally) : Type 0 where
   pub calm : IsCalm start.seen.counts now.seen.counts
-  pub mark : IsMark sign.Bytes since start now
+  pub quiet : IsQuietSince since start now
   pub tally : IsTally start now t
-  pub settled : IsSettled now t
+  pub unasked : has_piece start.half.end tally.moved.course.items ≡ false
+  pub server : IsServer now.half.end
 
 -- ---- the end of a connection
 
--- the peer closed it, a call failed, or an item is held for which memory is taken; nothing was moved for `patience` seconds; or
--- what came is refused
-abbrev pub IsEnding : ℕ → Moment → Moment → Ending → Type 0
-IsEnding patience start now ending.Closed =
+-- each item was answered, `handled` of them
+abbrev pub AreAnswered : Moment → Moment → ℕ → ℕ → Type 0
+AreAnswered last now answered handled = (last ≡ now) × (answered ≡ handled)
+
+-- one more item was handled, but what was to be said at it can't be queued: too much waits to be sent, or out of memory
+abbrev pub IsLeft : Moment → Moment → ℕ → ℕ → Type 0
+IsLeft last now answered handled = (handled ≡ capped (answered + 1))
+    × ((m : IsMoved last now) × ((x : ℕ × Item) × (m.course.items ≡ x ∷ []) × IsUnsaid now.half (event_of last.half.end x.1)))
+
+-- the peer closed it, a call failed, or an item is held for which memory is taken
+abbrev pub IsClosed : Moment → Moment → Type 0
+IsClosed start now =
     IsFault start.seen.counts now.seen.counts now.half stop.Closed
     ⊎ (IsFault start.seen.counts now.seen.counts now.half stop.Failed ⊎ IsFault start.seen.counts now.seen.counts now.half stop.Memory)
-IsEnding patience start now ending.Silent = IsCalm start.seen.counts now.seen.counts × IsSilent sign.Bytes patience start now
-IsEnding patience start now (ending.Refused r) = IsFault start.seen.counts now.seen.counts now.half (stop.Refused r)
 
--- how it ended, with its counts: all that was queued was sent, but for `queued` items, and none of these where nothing waits
+-- Why a connection ended, over which `answered` items were handled and answered up to `last`: it is closed, or the last item can't be answered; or
+-- nothing was moved for more than `patience` seconds; or a block of a piece came; or what came is refused.
+abbrev pub IsEnding : ℕ → Moment → Moment → Moment → ℕ → ℕ → Ending → Type 0
+IsEnding patience start last now answered handled ending.Closed =
+    (AreAnswered last now answered handled × IsClosed start now) ⊎ (IsCalm start.seen.counts now.seen.counts × IsLeft last now answered handled)
+IsEnding patience start last now answered handled ending.Silent = AreAnswered last now answered handled × IsCalm start.seen.counts now.seen.counts
+    × ((time : ℕ) × IsQuietSince time start now × (time + patience < now.seen.counts.clock))
+IsEnding patience start last now answered handled ending.Unasked = AreAnswered last now answered handled × IsCalm start.seen.counts now.seen.counts
+IsEnding patience start last now answered handled (ending.Refused r) =
+    AreAnswered last now answered handled × IsFault start.seen.counts now.seen.counts now.half (stop.Refused r)
+
+abbrev pub is_unasked : Ending → Bool
+is_unasked ending.Unasked = true
+is_unasked other = false
+
+-- how it ended: the counts up to the last item that was answered, and a block of a piece came or not
+pub record IsEnded (patience : ℕ) (start now : Moment) (t : Tally) (e : Ending) : Type 0 where
+  pub last : Moment
+  pub answered : ℕ
+  pub tally : IsTally start last (record { queued = t.queued; sent = t.sent; handled = answered })
+  pub unasked : has_piece start.half.end tally.moved.course.items ≡ is_unasked e
+  pub ending : IsEnding patience start last now answered t.handled e
+
+-- the same with its counts: all that was queued was sent, except for `queued` items, and each of these if nothing waits
 pub record IsParting (patience : ℕ) (start now : Moment) (p : Parting) : Type 0 where
   pub queued : ℕ
-  pub tally : IsTally start now (record { queued = queued; sent = p.sent; handled = p.handled })
+  pub ended : IsEnded patience start now (record { queued = queued; sent = p.sent; handled = p.handled }) p.ending
   pub settled : length now.half.outbox ≡ 0 → queued ≡ 0
-  pub ending : IsEnding patience start now p.ending
 
 -- ---- for private contracts
 
 -- a step moved bytes
-abbrev pub moves : Result Step Stop → Bool
+abbrev pub moves : Result Step Ending → Bool
 moves (Ok step.Moved) = true
 moves other = false
 
 -- a step, and what is so after it
-abbrev pub IsStepped : Moment → Moment → ℕ → Tally → Result Step Stop → Type 0
+abbrev pub IsStepped : Moment → Moment → ℕ → Tally → Result Step Ending → Type 0
 IsStepped start now since t (Ok st) = IsServed start now since t
-IsStepped start now since t (Err e) = IsTally start now t × IsSettled now t × IsFault start.seen.counts now.seen.counts now.half e
+IsStepped start now since t (Err e) = (patience : ℕ) → IsEnded patience start now t e
 
 -- the connection goes on, or has ended
 abbrev pub IsTended : ℕ → Moment → Moment → ℕ → Tally → Result Pace Parting → Type 0
@@ -128,3 +161,11 @@ IsTended patience start now since t (Err p) = IsParting patience start now p
 abbrev pub ended_by : Stop → Ending
 ended_by (stop.Refused r) = ending.Refused r
 ended_by other = ending.Closed
+
+-- the tally with these messages queued, and an item handled
+abbrev pub with_item : ℕ → Tally → Tally
+with_item n t = record { queued = capped (t.queued + n); sent = t.sent; handled = capped (t.handled + 1) }
+
+-- all that was queued is sent
+abbrev pub with_all_sent : Tally → Tally
+with_all_sent t = record { queued = 0; sent = capped (t.sent + t.queued); handled = t.handled }

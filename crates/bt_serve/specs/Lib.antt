@@ -1,3 +1,4 @@
 pub mod Doors
 pub mod Files
 pub mod Guests
+pub mod Services

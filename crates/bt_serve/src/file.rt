@@ -1,6 +1,6 @@
 //! The file that is served: a .torrent, or an info dictionary (BEP 3, "metainfo files").
 ghost use Rattle.std.specs.Prelude.{◌≡◌, ◌+◌, ◌≤◌, drop, take, length, option_map, IfOk, IfSome};
-ghost use Rattle.bt_serve.specs.Files.{IsFoundIn, IsInfoIn, IsInfoKept};
+ghost use Rattle.bt_serve.specs.Files.{IsFoundIn, IsInfoIn, IsInfoKept, IsPieceCount, pieces_in};
 
 use bt_bencode::{DictRef, check};
 use std::alloc::{AllocError, Global};
@@ -33,6 +33,34 @@ pub fn info_in(file: &[u8]) -> Option<&[u8]>
         return None;
     }
     info_of(file, &dict)
+}
+
+/// Returns how many pieces these SHA-1s are for; `None` if they aren't 20 bytes for each of at most 2^32 - 1 pieces.
+fn count_of(hashes: &[u8]) -> Option<u32>
+    ensures { result ≡ pieces_in hashes.now }
+{
+    if hashes.len() % 20 != 0 {
+        return None;
+    }
+    u32::try_from(hashes.len() / 20).ok()
+}
+
+/// Returns how many pieces the torrent of an info dictionary has.
+///
+/// Its string `pieces` has 20 bytes for each piece (BEP 3, "info dictionary"). `None` if it has no such string.
+pub fn piece_count(info: &[u8]) -> Option<u32>
+    ensures { IsPieceCount info.now result }
+{
+    let Ok((dict, size)) = check(info) else {
+        return None;
+    };
+    if size < info.len() {
+        return None;
+    }
+    match dict.lookup_bytes(b"pieces") {
+        None => None,
+        Some(hashes) => count_of(hashes),
+    }
 }
 
 /// Returns the place at which a part of the bytes stands first.

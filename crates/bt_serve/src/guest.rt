@@ -1,17 +1,18 @@
 //! One connection that is served.
-ghost use Rattle.std.specs.Prelude.{◌≡◌, ◌+◌, ◌<◌, ◌≤◌, ◌^◌, ℕ, true, List, [], length, flat_map, IfOk, IfSome};
-ghost use Rattle.bt_wire.specs.Messages.{Message, spell};
+ghost use Rattle.std.specs.Prelude.{◌≡◌, ◌+◌, ◌<◌, ◌≤◌, ℕ, [], length, true, false, Ok, IfOk};
+ghost use Rattle.bt_end.specs.Ends.{belief};
+ghost use Rattle.bt_end.specs.Halves.{high_water};
 ghost use Rattle.bt_exchange.specs.Boths.{capped};
 ghost use Rattle.bt_exchange.specs.Courses.{Moment};
-ghost use Rattle.bt_exchange.specs.Stops.{items_of};
-ghost use Rattle.bt_serve.specs.Guests.{AreMessages, FindsRest, IsHospitality, IsParting, IsServed, IsStepped, IsTended, ended_by, moves, serving_end};
+ghost use Rattle.bt_serve.specs.Guests.{IsHospitality, IsParting, IsServed, IsSettled, IsStepped, IsTended, ended_by, moves, serving_end, with_all_sent, with_item};
+ghost use Rattle.bt_serve.specs.Services.{IsAnswered, is_piece, is_rejecting, queued_by};
 
 use crate::door::Parting;
-use bt_end::{Announce, Config, End, Role, Window};
-use bt_exchange::{Connection, Hearing, Step, Stop, advance};
+use bt_end::{Announce, Config, End, Event, Role, SayError, Window};
+use bt_exchange::{Connection, Hearing, Step, Stop, Watch, advance};
 use bt_ext::{ExtId, Registered, Rules};
 use bt_io::Memory;
-use bt_wire::{Own, Refusal, Reserved};
+use bt_wire::{Context, Message, Own, Refusal, Reserved};
 use std::alloc::Global;
 use std::rc::Rc;
 
@@ -40,10 +41,12 @@ pub struct Hospitality {
 /// Why a served connection ended.
 #[derive(Clone, Copy, PartialEq, Eq, Debug)]
 pub enum Ending {
-    /// The peer closed it, a call of it failed, or there was no memory for what came.
+    /// The peer closed it, a call of it failed, there was no memory for what came, or a reject couldn't be queued.
     Closed,
     /// Nothing was moved for longer than the patience.
     Silent,
+    /// The peer sent a block of a piece, which was never asked for.
+    Unasked,
     /// What the peer sent is refused.
     Refused(Refusal),
 }
@@ -63,9 +66,10 @@ pub struct Guest<L: Connection + Drop> {
     link: L,
     end: End,
     hearing: Hearing,
-    /// When something was moved last, in seconds of the connection's clock.
-    since: u64,
+    /// When something was moved last.
+    watch: Watch,
     tally: Tally,
+    ghost short: { tally.handled ≡ 0 → length end.outbox < high_water },
 }
 
 /// Whether a connection can go on at once.
@@ -84,10 +88,11 @@ pub enum Pace {
 fn serving_end(
     alloc: Global,
     hospitality: &Hospitality,
+    pieces: Option<u32>,
     metadata: &Rc<Vec<u8>>,
 ) -> Result<End, Memory>
     requires { IsHospitality hospitality.now }
-    ensures { IfOk result (λ end. end ≡ serving_end hospitality.now metadata.now.value.items) }
+    ensures { IfOk result (λ end. end ≡ serving_end hospitality.now pieces metadata.now.value.items) }
 {
     let Ok(shared) = metadata.clone() else {
         return Err(Memory);
@@ -96,7 +101,7 @@ fn serving_end(
         own: Own {
             reserved: Reserved(RESERVED),
             info_hash: Some(hospitality.info_hash),
-            pieces: None,
+            pieces,
             reg: Registered::metadata_only(ExtId::new(METADATA_ID)),
             rules: hospitality.rules,
             limit: hospitality.limit,
@@ -112,67 +117,79 @@ fn serving_end(
     }
 }
 
-/// Returns what follows the first message of these bytes; `None` where no whole message is left.
-#[tactic(auto, unfolding(bt_wire::specs::Numbers::number32))]
-fn after_first(bytes: &[u8]) -> Option<&[u8]>
-    ensures found { FindsRest bytes.now result }
-    ensures shorter { IfSome result (λ rest. length rest.now + 4 ≤ length bytes.now) }
+/// Whether requests for blocks of pieces are answered: both ends know the Fast Extension, and the piece count is known (BEP 6).
+fn is_rejecting(context: &Context) -> bool
+    ensures { result ≡ is_rejecting context.now }
 {
-    if bytes.len() < 4 {
-        return None;
-    }
-    let size = u32::from_be_bytes([bytes[0], bytes[1], bytes[2], bytes[3]]) as usize;
-    if bytes.len() - 4 < size {
-        return None;
-    }
-    Some(&bytes[4 + size..])
+    context.fast && context.pieces.is_some()
 }
 
-/// Returns how many messages the bytes are, each with its four bytes of length.
-fn count_messages(bytes: &[u8]) -> u64
-    ensures { AreMessages bytes.now result }
+/// Rejects the block that is asked for, if one is and requests are answered.
+///
+/// # Errors
+/// That of [`End::say`]. Nothing changes then.
+fn answer(end: &mut End, event: Event) -> Result<(), SayError>
+    ensures { IsAnswered end.old event result end.new }
 {
-    let mut rest = bytes;
-    let mut count = 0u64;
-    for _message in 0..bytes.len() {
-        match after_first(rest) {
-            None => return count,
-            Some(after) => {
-                rest = after;
-                count = count.saturating_add(1);
-            }
+    let Event::Requested {
+        index,
+        begin,
+        length,
+    } = event
+    else {
+        return Ok(());
+    };
+    if !is_rejecting(&end.belief()) {
+        return Ok(());
+    }
+    end.say(&Message::Reject {
+        index,
+        begin,
+        length,
+    })
+}
+
+/// Returns how many messages are queued at an event: the end's own and the reject.
+fn queued_by(context: &Context, event: Event) -> u64
+    ensures { result ≡ queued_by context.now event }
+{
+    match event {
+        Event::Opened(_) => u64::from(context.ext) + u64::from(context.fast),
+        Event::Served(_) | Event::Declined(_) => 1,
+        Event::Requested { .. } => u64::from(is_rejecting(context)),
+        _ => 0,
+    }
+}
+
+/// Whether a block of a piece came.
+fn is_piece(event: Event) -> bool
+    ensures { result ≡ is_piece event }
+{
+    matches!(event, Event::Piece { .. })
+}
+
+impl Tally {
+    /// Returns the counts with this many messages queued, and an item handled.
+    fn with_item(self, queued: u64) -> Tally
+        ensures { result ≡ with_item queued self }
+    {
+        Tally {
+            queued: self.queued.saturating_add(queued),
+            sent: self.sent,
+            handled: self.handled.saturating_add(1),
         }
     }
-    count
-}
 
-/// Whether a step moved bytes.
-fn has_moved(done: Result<Step, Stop>) -> bool
-    ensures { result ≡ moves done }
-{
-    match done {
-        Ok(Step::Moved) => true,
-        _ => false,
+    /// Returns the counts when all that was queued is sent.
+    fn with_all_sent(self) -> Tally
+        ensures { result ≡ with_all_sent self }
+    {
+        Tally {
+            queued: 0,
+            sent: self.sent.saturating_add(self.queued),
+            handled: self.handled,
+        }
     }
-}
-
-/// Returns the counts after a step, at which these bytes were queued.
-fn noted(tally: Tally, done: Result<Step, Stop>, queued: &[u8], is_empty: bool) -> Tally
-    ensures handled { result.handled ≡ capped (tally.handled + items_of done) }
-    ensures quiet { items_of done ≡ 0 → capped (result.sent + result.queued) ≡ capped (tally.sent + tally.queued) }
-    ensures queued { items_of done ≡ 1 → (n : ℕ) × AreMessages queued.now n × (capped (result.sent + result.queued) ≡ capped ((tally.sent + tally.queued) + n)) }
-    ensures settled { is_empty ≡ true → result.queued ≡ 0 }
-{
-    let mut new = tally;
-    if let Ok(Step::Handled) = done {
-        new.handled = new.handled.saturating_add(1);
-        new.queued = new.queued.saturating_add(count_messages(queued));
-    }
-    if is_empty {
-        new.sent = new.sent.saturating_add(new.queued);
-        new.queued = 0;
-    }
-    new
 }
 
 /// Returns how a connection ended over which a step failed so.
@@ -193,15 +210,17 @@ impl<L: Connection + Drop> Guest<L> {
     pub fn new(
         alloc: Global,
         hospitality: &Hospitality,
+        pieces: Option<u32>,
         metadata: &Rc<Vec<u8>>,
         link: L,
     ) -> Result<Guest<L>, Memory>
         requires { IsHospitality hospitality.now }
-        ensures { IfOk result (λ guest. IsServed
-            (record { seen = L.seen link; pending = []; half = serving_end hospitality.now metadata.now.value.items })
-            (record { seen = L.seen guest.link; pending = guest.hearing; half = guest.end }) guest.since guest.tally) }
+        ensures served { IfOk result (λ guest. IsServed
+            (record { seen = L.seen link; pending = []; half = serving_end hospitality.now pieces metadata.now.value.items })
+            (record { seen = L.seen guest.link; pending = guest.hearing; half = guest.end }) guest.watch.since guest.tally) }
+        ensures settled { IfOk result (λ guest. IsSettled guest.end guest.tally) }
     {
-        let end = serving_end(alloc, hospitality, metadata)?;
+        let end = serving_end(alloc, hospitality, pieces, metadata)?;
         let hearing = Hearing::new(alloc)?;
         let mut link = link;
         let since = link.now();
@@ -209,7 +228,7 @@ impl<L: Connection + Drop> Guest<L> {
             link,
             end,
             hearing,
-            since,
+            watch: Watch { since },
             tally: Tally {
                 queued: 1,
                 sent: 0,
@@ -218,18 +237,55 @@ impl<L: Connection + Drop> Guest<L> {
         })
     }
 
-    /// Makes a step, and counts what it did.
-    fn step(&mut self) -> Result<Step, Stop>
-        ensures { (start : Moment) → IsServed start (record { seen = L.seen self.old.link; pending = self.old.hearing; half = self.old.end }) self.old.since self.old.tally
-            → IsStepped start (record { seen = L.seen self.new.link; pending = self.new.hearing; half = self.new.end }) self.new.since self.new.tally result }
+    /// Makes a step, and answers what came. Nothing is sent before the peer's handshake came and fits (BEP 3).
+    ///
+    /// # Errors
+    /// Why the connection ends.
+    fn act(&mut self) -> Result<Step, Ending>
+        ensures since { moves result ≡ false → self.new.watch ≡ self.old.watch }
+        ensures stepped { (start : Moment)
+            → IsServed start (record { seen = L.seen self.old.link; pending = self.old.hearing; half = self.old.end }) self.old.watch.since self.old.tally
+            → IsStepped start (record { seen = L.seen self.new.link; pending = self.new.hearing; half = self.new.end }) self.new.watch.since self.new.tally result }
     {
-        let before = self.end.outgoing().len();
-        let done = advance(&mut self.link, &mut self.end, &mut self.hearing);
-        let outgoing = self.end.outgoing();
-        let (_, queued) = outgoing.split_at(before.min(outgoing.len()));
-        self.tally = noted(self.tally, done, queued, outgoing.is_empty());
-        if has_moved(done) {
-            self.since = self.link.now();
+        let may_send = self.tally.handled > 0;
+        match advance(&mut self.link, &mut self.end, &mut self.hearing, may_send) {
+            Ok(Step::Handled(event)) => {
+                let tally = self.tally;
+                self.tally = tally.with_item(0);
+                if answer(&mut self.end, event).is_err() {
+                    return Err(Ending::Closed);
+                }
+                self.tally = tally.with_item(queued_by(&self.end.belief(), event));
+                if is_piece(event) {
+                    return Err(Ending::Unasked);
+                }
+                Ok(Step::Handled(event))
+            }
+            Ok(Step::Moved) => {
+                self.watch = Watch {
+                    since: self.link.now(),
+                };
+                Ok(Step::Moved)
+            }
+            Ok(step) => Ok(step),
+            Err(stop) => Err(ending_of(stop)),
+        }
+    }
+
+    /// Makes a step, and counts what it did.
+    ///
+    /// # Errors
+    /// Why the connection ends.
+    fn step(&mut self) -> Result<Step, Ending>
+        ensures since { moves result ≡ false → self.new.watch ≡ self.old.watch }
+        ensures stepped { (start : Moment)
+            → IsServed start (record { seen = L.seen self.old.link; pending = self.old.hearing; half = self.old.end }) self.old.watch.since self.old.tally
+            → IsStepped start (record { seen = L.seen self.new.link; pending = self.new.hearing; half = self.new.end }) self.new.watch.since self.new.tally result }
+        ensures settled { IsSettled self.new.end self.new.tally }
+    {
+        let done = self.act();
+        if self.end.outgoing().is_empty() {
+            self.tally = self.tally.with_all_sent();
         }
         done
     }
@@ -247,25 +303,27 @@ impl<L: Connection + Drop> Guest<L> {
 
     /// Makes steps until the peer has to be waited for.
     ///
-    /// It stops too where others are to have their turn.
+    /// It stops too if others are to have their turn.
     ///
     /// # Errors
     /// How the connection ended.
     pub fn tend(&mut self, patience: u64) -> Result<Pace, Parting>
-        ensures { (start : Moment) → IsServed start (record { seen = L.seen self.old.link; pending = self.old.hearing; half = self.old.end }) self.old.since self.old.tally
-            → IsTended patience start (record { seen = L.seen self.new.link; pending = self.new.hearing; half = self.new.end }) self.new.since self.new.tally result }
+        ensures patient { result ≡ Ok Pace.Waits → (L.seen self.new.link).counts.clock ≤ self.new.watch.since + patience }
+        ensures tended { (start : Moment)
+            → IsServed start (record { seen = L.seen self.old.link; pending = self.old.hearing; half = self.old.end }) self.old.watch.since self.old.tally
+            → IsTended patience start (record { seen = L.seen self.new.link; pending = self.new.hearing; half = self.new.end }) self.new.watch.since self.new.tally result }
     {
         for _step in 0..STEPS {
             match self.step() {
                 Ok(Step::Waited) => {
                     let now = self.link.now();
-                    if now >= self.since && now - self.since > patience {
+                    if self.watch.is_over(now, patience) {
                         return Err(self.parting(Ending::Silent));
                     }
                     return Ok(Pace::Waits);
                 }
                 Ok(_) => {}
-                Err(stop) => return Err(self.parting(ending_of(stop))),
+                Err(ending) => return Err(self.parting(ending)),
             }
         }
         Ok(Pace::GoesOn)

@@ -10,7 +10,7 @@ mod serving;
 mod tcp;
 
 pub use door::{Door, Parting};
-pub use file::{info_in, into_info};
+pub use file::{info_in, into_info, piece_count};
 pub use guest::{Ending, Hospitality};
 pub use serving::serve;
 pub use tcp::{Farewell, TcpDoor, listen};

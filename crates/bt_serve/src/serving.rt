@@ -3,6 +3,7 @@ ghost use Rattle.std.specs.Prelude.{◌≡◌, ◌+◌, ◌<◌, ◌≤◌, vec_
 ghost use Rattle.bt_serve.specs.Guests.{IsHospitality};
 
 use crate::door::{Door, Parting};
+use crate::file::piece_count;
 use crate::guest::{Ending, Guest, Hospitality, Pace};
 use bt_exchange::Connection;
 use bt_io::Memory;
@@ -23,6 +24,7 @@ const NOT_SERVED: Parting = Parting {
 fn let_in<D: Door>(
     alloc: Global,
     hospitality: &Hospitality,
+    pieces: Option<u32>,
     metadata: &Rc<Vec<u8>>,
     door: &mut D,
     guests: &mut Guests<D>,
@@ -35,7 +37,7 @@ fn let_in<D: Door>(
     let Some((link, name)) = door.enter() else {
         return Ok(false);
     };
-    let Ok(guest) = Guest::new(alloc, hospitality, metadata, link) else {
+    let Ok(guest) = Guest::new(alloc, hospitality, pieces, metadata, link) else {
         door.ended(name, NOT_SERVED);
         return Err(Memory);
     };
@@ -102,6 +104,7 @@ fn part_all<D: Door>(door: &mut D, guests: &mut Guests<D>)
 fn serve_all<D: Door>(
     alloc: Global,
     hospitality: &Hospitality,
+    pieces: Option<u32>,
     metadata: &Rc<Vec<u8>>,
     connections: Option<u64>,
     door: &mut D,
@@ -118,7 +121,7 @@ fn serve_all<D: Door>(
             return Ok(());
         }
         let is_open = door.has_place() && connections != Some(entered);
-        let came = is_open && let_in(alloc, hospitality, metadata, door, guests)?;
+        let came = is_open && let_in(alloc, hospitality, pieces, metadata, door, guests)?;
         if came {
             entered = entered.saturating_add(1);
         }
@@ -148,8 +151,9 @@ pub fn serve<D: Door>(
     requires hospitality { IsHospitality hospitality.now }
     ensures told { D.inside door.new ≡ D.inside door.old }
 {
+    let pieces = piece_count(Rc::as_ref(metadata).as_slice());
     let mut guests: Guests<D> = Vec::new(alloc);
-    let served = serve_all(alloc, hospitality, metadata, connections, door, &mut guests);
+    let served = serve_all(alloc, hospitality, pieces, metadata, connections, door, &mut guests);
     part_all(door, &mut guests);
     served
 }

@@ -1,10 +1,10 @@
 use Rattle.bt_exchange.specs.Courses.{Moment}
-use Rattle.bt_exchange.proofs.Moves.{moment}
 use Rattle.bt_serve.specs.Guests.{IsServed}
+use Rattle.bt_serve.proofs.Services.{moment}
 use Rattle.bt_serve.proofs.guest.Guest.tend.Given as goal
 
 -- no call failed so far
 abbrev pub invariant-loop-step : goal.invariant-loop-step
 invariant-loop-step g l = (start : Moment) → IsServed start (moment (g.L.Connection.seen l.fn.self.link) l.fn.self.hearing l.fn.self.end)
-    l.fn.self.since l.fn.self.tally
-    → IsServed start (moment (g.L.Connection.seen l.self.link) l.self.hearing l.self.end) l.self.since l.self.tally
+    l.fn.self.watch.since l.fn.self.tally
+    → IsServed start (moment (g.L.Connection.seen l.self.link) l.self.hearing l.self.end) l.self.watch.since l.self.tally
