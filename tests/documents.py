@@ -4,19 +4,17 @@
 usage: tests/documents.py [PROGRAM]
 
 A command stands after `$ ` in a block that is fenced as ```console, or indented; lines after `> ` go on with it. The lines up to the next
-command or the block's end are its standard output, exactly. Standard error has to be empty, but that of the capture tools isn't looked at.
+command or the block's end are its standard output, exactly. Standard error has to be empty.
 It also looks whether links lead to files, whether the picture of a stream has its bytes, and whether the blocks of docs/RATTLE.md stand in the
 examples, and whether the mutants and the laws that docs/PROVED.md names are there. The commands of one document run in one shell, in a new folder that has `bt_tool`, `examples`, `tools` and `dist`. `bt_tool` is
 PROGRAM, or the script at the top of the repository, which builds the program if it has to.
 
-A command is skipped that needs a tool which isn't installed, or a file that a skipped command would have made. The two
-directions of examples/small.pcap are there all the same: this script reads them itself.
+This script reads examples/small.pcap itself: its two directions have to be the examples of which it was made.
 """
 import glob
 import os
 import re
 import shlex
-import shutil
 import struct
 import subprocess
 import sys
@@ -26,15 +24,10 @@ from collections import Counter
 ROOT = os.path.dirname(os.path.dirname(os.path.abspath(__file__)))
 DOCUMENTS = ["README.md", "examples/README.md", "docs/CAPTURES.md", "docs/RIG.md", "docs/RULES.md", "docs/COMMANDS.md", "docs/FETCH.md",
              "dist/README.md"]
-TOOLS = ["tshark", "tcpflow", "editcap", "mergecap", "tcpdump", "xxd"]
-# The names of the files and folders that commands make.
-FILE = re.compile(r"[\w./-]+?(?:\.(?:bin|pcap|txt)|flows)(?![\w-])")
-# What the capture tools make of the two directions.
+# The two directions of examples/small.pcap.
 DIRECTIONS = {
-    ("127.0.0.1:51413", "127.0.0.1:6881"):
-        ("examples/fetching.bin", ["node0.bin", "flows/127.000.000.001.51413-127.000.000.001.06881"]),
-    ("127.0.0.1:6881", "127.0.0.1:51413"):
-        ("examples/serving.bin", ["node1.bin", "flows/127.000.000.001.06881-127.000.000.001.51413"]),
+    ("127.0.0.1:51413", "127.0.0.1:6881"): "examples/fetching.bin",
+    ("127.0.0.1:6881", "127.0.0.1:51413"): "examples/serving.bin",
 }
 
 
@@ -115,31 +108,13 @@ class Shell:
         self.process.communicate()
 
 
-def stand_in(command, folder, made):
-    """Puts the files there that a skipped command would have made of the two directions."""
-    for name, found in made.items():
-        path = os.path.join(folder, name)
-        if " " + name.split("/")[0] in command and not os.path.exists(path):
-            os.makedirs(os.path.dirname(path), exist_ok=True)
-            with open(path, "wb") as file:
-                file.write(found)
-
-
-def run_document(document, folder, made, absent, counts):
-    """Runs a document's commands in the folder, and gives what went wrong. `lacking` has the files that weren't made."""
-    shell, wrong, lacking = Shell(folder), [], {}
+def run_document(document, folder, counts):
+    """Runs a document's commands in the folder, and gives what went wrong."""
+    shell, wrong = Shell(folder), []
     for number, command, shown in sessions(os.path.join(ROOT, document)):
-        tools = {tool for tool in TOOLS if re.search(r"(?<![\w./-])%s(?![\w.-])" % tool, command)}
-        files = [name for name in FILE.findall(command) if not os.path.exists(os.path.join(folder, name))]
-        needed = (tools & absent).union(*(lacking.get(name, ()) for name in files))
-        if needed:
-            stand_in(command, folder, made)
-            lacking.update((name, needed) for name in files)
-            counts.update(needed, skipped=1)
-            continue
         out, errors = shell.run(command)
         counts.update(commands=1, outputs=bool(shown))
-        if out != shown or errors and not tools:
+        if out != shown or errors:
             wrong.append("%s:%d: %s\nexpected:\n%sgot:\n%s" % (document, number, command, shown, out)
                          + ("on standard error:\n" + errors if errors else ""))
     shell.close()
@@ -193,30 +168,23 @@ def make_folder(folder, program):
 
 def main():
     program = os.path.abspath(sys.argv[1] if len(sys.argv) > 1 else os.path.join(ROOT, "bt_tool"))
-    captured, made, wrong = directions(content(os.path.join(ROOT, "examples/small.pcap"))), {}, []
-    for ends, (example, names) in DIRECTIONS.items():
-        made.update((name, content(os.path.join(ROOT, example))) for name in names)
-        if captured.pop(ends, b"") != made[names[0]]:
-            wrong.append("examples/small.pcap: from %s to %s: other bytes than in %s\n" % (*ends, example))
-    if captured:
-        wrong.append("examples/small.pcap: bytes of another connection: %s\n" % captured.keys())
+    wrong = [] if directions(content(os.path.join(ROOT, "examples/small.pcap"))) == {
+        ends: content(os.path.join(ROOT, example)) for ends, example in DIRECTIONS.items()
+    } else ["examples/small.pcap: not the two directions of which it was made\n"]
     wrong += pictured() + unquoted() + unproved()
     for path in glob.glob(os.path.join(ROOT, "**/*.md"), recursive=True):
         wrong += dead_links(os.path.relpath(path, ROOT))
     if subprocess.run([program, "--version"], stdout=subprocess.DEVNULL).returncode:
         sys.exit("documents: failed: %s --version" % program)
-    absent, counts = {tool for tool in TOOLS if not shutil.which(tool)}, Counter()
+    counts = Counter()
     for document in DOCUMENTS:
         with tempfile.TemporaryDirectory(prefix="documents-") as folder:
             make_folder(folder, program)
-            wrong += run_document(document, folder, made, absent, counts)
-    for tool in sorted(tool for tool in absent if counts[tool]):
-        print("documents: skipped: %d commands that need %s, which isn't installed" % (counts[tool], tool))
+            wrong += run_document(document, folder, counts)
     for text in wrong:
         print("documents: wrong: " + text, end="")
     verdict = "failed: %d wrong of" % len(wrong) if wrong else "ok:"
-    numbers = (counts["commands"], counts["outputs"], counts["skipped"])
-    print("documents: %s %d commands, %d outputs compared, %d skipped" % (verdict, *numbers))
+    print("documents: %s %d commands, %d outputs compared" % (verdict, counts["commands"], counts["outputs"]))
     sys.exit(1 if wrong else 0)
 
 
