@@ -354,9 +354,22 @@ def lessons(path, failures):
                 listener("seed", path, "it lives on"), "--jobs", "4")
     died = sorted(set(re.findall(r"fail +(\S+) .*THE CLIENT DIED \(status 70\)", crash[1])))
     # (each message that isn't of the opening or of the last question kills it)
-    failures.same("deaths, each given to its case", (crash[0], died, "isn't known" in crash[1]),
+    failures.same("deaths, each given to its case", (crash[0], died, "in this case or" in crash[1]),
                   (4, ["bf.some", "unk.id/10", "unk.id/11"], False))
     failures.same("the cases without a death", sorted(re.findall(r"pass +(\S+)", crash[1])), ["ka.one", "md.get"])
+    # A client that the suite didn't start: the death is seen by its process, and the rest isn't run.
+    port = client.free_port("127.0.0.1")
+    with subprocess.Popen([sys.executable, STANDIN, "seed", path, "127.0.0.1:%d" % port, "it lives on"]) as watched:
+        while watched.poll() is None:
+            try:
+                socket.create_connection(("127.0.0.1", port), 1).close()
+                break
+            except OSError:
+                time.sleep(0.05)
+        words = ["--only", "unk.id/10,ka.one,md.get,bf.some", "--jobs", "1", "--pid", str(watched.pid)]
+        status, text, _ = run("127.0.0.1:%d" % port, "--torrent", path, *words)
+    failures.same("a death of a client that wasn't started", (status, re.findall(r"^(pass|fail|skip) +(\S+)", text, re.M)),
+                  (4, [("pass", "ka.one"), ("fail", "unk.id/10"), ("skip", "bf.some"), ("skip", "md.get")]))
 
 
 def refusals(path, failures):
@@ -367,7 +380,7 @@ def refusals(path, failures):
         got = run(address, "--torrent", path)
         failures.same("the address %s" % address, (got[0], words in got[2]), (status, True))
     nobody = client.free_port("127.0.0.1")
-    failures.same("nobody listens", run("127.0.0.1:%d" % nobody, "--torrent", path)[0], 3)
+    failures.same("nobody listens", run("127.0.0.1:%d" % nobody, "--torrent", path, "--patience", "0.2")[0], 3)
     failures.same("an address that is owned", command.address_of("192.0.2.9:6881", ["192.0.2.9"]), ("192.0.2.9", 6881))
     failures.same("the next address", command.address_of("[::1]:6881", []), ("::1", 6881))
     if socket.has_ipv6 and os.path.exists("/proc/net/if_inet6"):

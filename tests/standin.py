@@ -637,8 +637,8 @@ class Client:
         end.close()
 
     def talk(self, end):
-        end.setsockopt(socket.IPPROTO_TCP, socket.TCP_NODELAY, 1)
         try:
+            end.setsockopt(socket.IPPROTO_TCP, socket.TCP_NODELAY, 1)
             Connection(self, end).run()
         except (Close, OSError):
             pass

@@ -1,6 +1,7 @@
 """The command line of tools/peertest."""
 import argparse
 import ipaddress
+import os
 import sys
 import tempfile
 import time
@@ -171,6 +172,10 @@ def main(arguments):
             return 0
         proved.load(words.library)
         return play(words)
+    except BrokenPipeError:
+        # Nobody reads the output any more, as after `| head`.
+        os.dup2(os.open(os.devnull, os.O_WRONLY), sys.stdout.fileno())
+        return 141
     except (Usage, proved.Missing, OSError) as error:
         print("peertest: %s" % error, file=sys.stderr)
         return 2

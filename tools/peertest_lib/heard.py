@@ -16,6 +16,8 @@ LIMIT = 1048576
 HOPELESS = ("BadProtocol", "WrongInfoHash", "TooLong", "StreamFull")
 # A client that never says which pieces it has breaks one rule, and not one in each case.
 MILD = ("Missing",)
+# The names of messages that have only numbers, and how many bytes these have.
+NAMES = {number: (name, {4: 4, 13: 4, 17: 4, 6: 12, 8: 12, 16: 12}.get(number, 0)) for name, number in wire.NUMBERS.items()}
 KINDS = {0: "request", 1: "data", 2: "reject"}
 
 
@@ -90,8 +92,10 @@ class Heard:
     def lenient(self, body):
         """The words of a refused message, and whether it is an answer that the standard asks for."""
         number, fields = body[0], body[1:]
-        if number == 16 and len(fields) == 12 and self.reason == "BadIndex":
-            return "reject %d %d %d" % struct.unpack(">III", fields), wire.message(6, fields) in self.sent
+        if number in NAMES and len(fields) == NAMES[number][1] and self.reason in ("BadIndex", "Missing", "Late"):
+            numbers = ["%d" % value for value in struct.unpack(">%dI" % (len(fields) // 4), fields)]
+            lawful = number == 16 and self.reason == "BadIndex" and wire.message(6, fields) in self.sent
+            return " ".join([NAMES[number][0]] + numbers), lawful
         if number == 20 and fields:
             pairs, rest = wholly(fields[1:])
             kind, piece = KINDS.get(pairs.get(b"msg_type")), pairs.get(b"piece")

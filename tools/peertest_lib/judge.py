@@ -10,7 +10,7 @@ from . import heard, proved, wire
 
 RESULTS = ("pass", "note", "info", "fail", "skip", "error")
 REACH = {"must": ("must",), "should": ("must", "should"), "all": ("must", "should", "may", "own")}
-QUIET = ("(asked)", "keep-alive", "have ", "ext-handshake")
+QUIET = ("(asked)", "keep-alive", "have ", "allowed-fast ", "ext-handshake")
 STATES = {"alive": "kept, answers", "silent": "kept, answers nothing", "open": "kept"}
 
 
@@ -47,7 +47,8 @@ def verdict_of(play, words):
 
 def came(words):
     """What came, in short."""
-    counts = collections.Counter(word for word in words if not word.startswith(QUIET))
+    told = ["handshake" if word.startswith("handshake ") else word for word in words if not word.startswith(QUIET)]
+    counts = collections.Counter(told)
     told = [word + (" x%d" % count if count > 1 else "") for word, count in counts.items()]
     return told[:4] + (["%d more kinds" % (len(told) - 4)] if len(told) > 4 else [])
 

@@ -205,7 +205,9 @@ class Play:
     def answered(self, patterns, start):
         """Whether one of the patterns comes. Its event belongs to the question, and not to the case."""
         events = self.link.heard.events
-        if not self.link.until(lambda: self.link.heard.count(patterns, start) > 0, self.options.patience):
+        # After a flood the client may still be reading.
+        seconds = self.options.at_most(5 * self.options.patience) if self.case.alone else self.options.patience
+        if not self.link.until(lambda: self.link.heard.count(patterns, start) > 0, seconds):
             return False
         for at in range(start, len(events)):
             if self.link.heard.fits(patterns, events[at][1]):

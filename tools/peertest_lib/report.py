@@ -21,6 +21,9 @@ def listed(cases):
     for case in cases:
         lines.append("%-30s %-6s %s" % (case.id, case.level, case.title))
         lines.append('%37s %s, "%s" (paraphrased): %s' % ("", case.rule.bep, case.rule.section, case.rule.text))
+        for name, text in (("between the two directions", case.between), ("the proved rules differ", case.differs)):
+            if text:
+                lines.append("%37s %s: %s" % ("", name, text))
     return "\n".join(lines + ["%d cases" % len(cases)])
 
 

@@ -148,13 +148,13 @@ class Suite:
         except OSError:
             self.gone = True
             return False
-        if self.client.restarts:
-            self.is_ready(self.dialler)
+        if not hasattr(self.dialler, "command"):
+            self.is_ready(self.dialler, min(20, 5 * self.options.patience) if self.client.restarts else 2 * self.options.patience)
         return True
 
-    def is_ready(self, dialler):
+    def is_ready(self, dialler, seconds=20):
         """Waits until a client that was just started answers a handshake: it may listen before its torrent is loaded."""
-        limit = time.monotonic() + min(20, 5 * self.options.patience)
+        limit = time.monotonic() + seconds
         while True:
             try:
                 link = dialler.link()
@@ -164,7 +164,7 @@ class Suite:
                 link.close()
             except OSError:
                 answered = False
-            if answered or time.monotonic() > limit:
+            if answered or time.monotonic() > limit or not self.client.lives():
                 return answered
             time.sleep(0.05)
 
@@ -289,18 +289,19 @@ class Suite:
 
     def blame_all(self, suspects, results):
         """Gives a death that can't be tried again to what ran at the time."""
-        kept = ("alive", "skip")
-        likely = [case for case in suspects if results[case.id]["state"] not in kept] or suspects
+        likely = [case for case in suspects if results[case.id]["state"] not in ("alive", "skip", "unreachable")] or suspects
         for case in suspects:
             if case in likely:
                 self.dead(case, results[case.id], [other.id for other in likely if other is not case], self.client.status())
+            elif results[case.id]["state"] == "unreachable":
+                results[case.id] = plain_result(case, "skip", ["the client had died"])
             self.keep(results[case.id])
 
     def dead(self, case, result, others, status):
         """Gives a death to a case."""
         died = "THE CLIENT DIED" + (" (status %s)" % status if status is not None else "")
         if others:
-            died += "; so far it isn't known whether in this case or in " + ", ".join(others[:5])
+            died += ", in this case or in %s: --start or --jobs 1 tells" % ", ".join(others[:5])
         result["result"], result["state"] = "fail", "died"
         result["said"] = result["said"] + [died]
         self.died.append(case.id)

@@ -296,7 +296,10 @@ fn memory_is_refused_or_all_are_served(rt: HostRuntime) {
 const PIECES: [(&[u8], Option<u32>); 7] = [
     (b"d6:pieces0:e", Some(0)),
     (b"d6:pieces20:aaaaaaaaaaaaaaaaaaaae", Some(1)),
-    (b"d6:lengthi1e6:pieces40:aaaaaaaaaaaaaaaaaaaabbbbbbbbbbbbbbbbbbbbe", Some(2)),
+    (
+        b"d6:lengthi1e6:pieces40:aaaaaaaaaaaaaaaaaaaabbbbbbbbbbbbbbbbbbbbe",
+        Some(2),
+    ),
     (b"d6:pieces19:aaaaaaaaaaaaaaaaaaae", None),
     (b"d6:piecesi20ee", None),
     (b"d6:pieces20:aaaaaaaaaaaaaaaaaaaaee", None),

@@ -336,6 +336,11 @@ not_busy a b c piece r room f h e =
     (and_parts (is_ready (received a piece).feed) (nat_le high_water (length a.outbox)) busy).1 in
     omega (arith, leb-true high_water (length a.outbox) high, room)
 
+-- all that may be sent is none: so little waits to be sent
+pub room_of : (b : Bool) (n w : ℕ) → (b ≡ true → w ≡ n) → (b ≡ false → n < high_water) → w ≡ 0 → n < high_water
+room_of true n w all room none = omega (arith, all refl, none)
+room_of false n w all room none = room refl
+
 -- The end had little to send, and got pending bytes. A turn followed.
 pub record IsGiven (p q piece : List ℕ) (a b c : HalfState) (r : Result (Option Event) TurnError) (n : ℕ) : Type 0 where
   pub limit : limit_of a.feed.stage ≤ 1048576

@@ -383,7 +383,7 @@ pub record IsGoing (until may left n : ℕ) (start now : Moment) : Type 0 where
   pub left : left + n ≡ may
   pub calls : now.seen.counts.calls ≤ start.seen.counts.calls + n
   pub calm : IsCalm start.seen.counts now.seen.counts
-  pub open : IsOpen now.half.end
+  pub goes : IsOpen now.half.end
   pub patient : 0 < n → now.seen.counts.clock ≤ until
   pub quiet : has_no_news start.half.end made.moved.course.items ≡ true
 
@@ -395,7 +395,7 @@ going_first until may start o = record {
   left = omega arith;
   calls = omega arith;
   calm = none_first start;
-  open = o;
+  goes = o;
   patient = λ l. absurd (omega (arith, l));
   quiet = refl;
 }
@@ -424,7 +424,7 @@ going_on until may left left' n start mid new g r e = record {
   left = e;
   calls = omega (arith, g.calls, r.once);
   calm = calm_both start.seen.counts mid.seen.counts new.seen.counts g.calm r.round.0;
-  open = r.round.1;
+  goes = r.round.1;
   patient = λ l. r.round.2;
   quiet = old_both start mid new g.made.moved r.made.moved g.quiet r.round.3;
 }

@@ -116,7 +116,7 @@ is_news (event.Block k) = true
 is_news (event.Rejected k) = true
 is_news event.Fetched = true
 is_news event.Mismatched = true
-is_news other = false
+is_news e = false
 
 abbrev pub no_news : Event → Bool
 no_news e = not (is_news e)

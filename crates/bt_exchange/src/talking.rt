@@ -70,13 +70,25 @@ pub fn advance<C: Connection, A: Allocator + Copy>(
     ensures listens { may_send ≡ false → HasListened (record { seen = C.seen connection.old; pending = hearing.old; half = end.old })
         (record { seen = C.seen connection.new; pending = hearing.new; half = end.new }) result }
 {
-    if may_send && !end.outgoing().is_empty() {
+    let waiting = sendable(end, may_send);
+    if waiting > 0 {
         return send(connection, end);
     }
     if !hearing.bytes().is_empty() {
         return take_turn(end, hearing);
     }
     read_step(hearing.fill(connection))
+}
+
+/// Returns how many bytes may be sent.
+fn sendable<A: Allocator + Copy>(end: &End<A>, may_send: bool) -> usize
+    ensures feed { IsFeed end.now.feed }
+    ensures most { result ≤ length end.now.outbox }
+    ensures all { may_send ≡ true → result ≡ length end.now.outbox }
+    ensures none { may_send ≡ false → result ≡ 0 }
+{
+    let waiting = end.outgoing().len();
+    if may_send { waiting } else { 0 }
 }
 
 /// What a read makes a step.
@@ -113,9 +125,9 @@ fn write_step<A: Allocator + Copy>(
 
 /// Handles the next item, and returns what it made of the end.
 fn next_event<A: Allocator + Copy>(end: &mut End<A>) -> Result<Option<Event>, TurnError>
-    requires { IsFeed end.old.feed }
     ensures { IsNext end.old result end.new }
 {
+    let _ = end.outgoing();
     match end.next() {
         Ok(Some(heard)) => Ok(Some(heard.event)),
         Ok(None) => Ok(None),

@@ -55,7 +55,7 @@ pub trait Dial {
 
 /// Hears how each try goes and how it ended.
 pub trait Report {
-    ghost use Rattle.std.specs.Prelude.{ℕ, List, Option, ◌×◌};
+    ghost use Rattle.std.specs.Prelude.{ℕ, List, Option};
     ghost use Rattle.bt_fetch.specs.declared.dial.Outcome.{Outcome};
 
     /// The tries that it heard the end of, in order, if they are known.

@@ -2,19 +2,23 @@
 use Rattle.std.proofs.Common.{◌≡◌, ◌⊎◌, inl, inr, ℕ, zero, suc, ◌+◌, ◌-◌, ◌*◌, ◌≤◌, ◌<◌, ◌==◌, ◌&&◌, min, Bool, true, false, List, [], ◌∷◌, ◌++◌, length, take, drop, Option, Result, Ok, Err}
 use Rattle.std.proofs.Common.{refl, sym, ap, subst, ◌∙◌, arith, add-one, length-append, length-drop, length-take-le, nat_lt, take-add, take-take}
 use Rattle.std.proofs.lemmas.Bool.{ne_eqb}
-use Rattle.std.proofs.lemmas.List.{drop-drop, drop_at, take_all, take_at}
+use Rattle.std.proofs.lemmas.List.{drop-drop, drop_at, take_all, take_at, take-append-le}
 use Rattle.std.specs.Io.KnownBytes.{Consumes, Appends}
 use Rattle.std.proofs.KnownBytes.{Consumes-nil, Consumes-trans}
 use Rattle.bt_io.specs.Counts.{Grew, counted, one_more}
 use Rattle.bt_feed.specs.Feeds.{taken}
 use Rattle.bt_end.specs.Halves.{HalfState, received, without_sent, stopping, IsTurned, AreHandled}
-use Rattle.bt_end.specs.declared.end.Turn.TheVariants.{Handled, Idle}
+use Rattle.bt_end.specs.declared.end.Turn.TheVariants as turn
 use Rattle.bt_end.specs.declared.end.TurnError.{TurnError}
 use Rattle.bt_end.specs.declared.end.TurnError.TheVariants as turn_error
 use Rattle.bt_end.proofs.Handling.{idle_used}
 use Rattle.bt_link.specs.declared.link.Side.{Side}
 use Rattle.bt_link.specs.declared.link.Side.TheVariants.{Left, Right}
 use Rattle.bt_net.specs.Rounds.{IsSent, IsFilled, IsTaken, IsCarried, IsSkipped, IsWay, IsHalt, IsRound, IsHalted, Ends, AreRounds, ends_of, is_quiet, is_halt, capped}
+use Rattle.bt_net.specs.Rounds.{HasRun, Passes, Exchanges, halt_of}
+use Rattle.bt_net.specs.declared.both.Handled.{Handled}
+use Rattle.bt_net.specs.declared.both.Halt.{Halt}
+use Rattle.bt_net.specs.declared.both.Halt.TheVariants as halt
 use Rattle.bt_net.specs.Wires.{WireSeen, IsCall, Sends, Receives, coming, other}
 
 -- ---- calls
@@ -75,18 +79,19 @@ filling_first at s bytes = record {
 }
 
 -- a call put n bytes more after them
-pub filling_more : {E : Type 0} {at : Side} {s t u : WireSeen} {old sub : List ℕ} {done n : ℕ} (new : List ℕ) (room : ℕ) → IsFilling at s t old done → 1 ≤ n
-    → Receives {E = E} at t u (Ok n) sub → IsCall {E = E} t u (Ok n) room → new ≡ take done old ++ sub → IsFilling at s u new (done + n)
-filling_more {at} {s} {t} {u} {old} {sub} {done} {n} new room f le r call is =
+pub filling_more : {E : Type 0} {at : Side} {s t u : WireSeen} {old : List ℕ} {done n : ℕ} (new sub after : List ℕ) (room : ℕ) → IsFilling at s t old done → 1 ≤ n
+    → Receives {E = E} at t u (Ok n) sub → IsCall {E = E} t u (Ok n) room → new ≡ take done old ++ (sub ++ after) → IsFilling at s u new (done + n)
+filling_more {at} {s} {t} {u} {old} {done} {n} new sub after room f le r call is =
     let front : length (take done old) ≡ done = length-take-le done old f.within in
-    let first : take done new ≡ take done old = ap (take done) is ∙ take_at (take done old) sub done front in
-    let later : drop done new ≡ sub = ap (drop done) is ∙ drop_at (take done old) sub done front in
+    let first : take done new ≡ take done old = ap (take done) is ∙ take_at (take done old) (sub ++ after) done front in
+    let later : take n (drop done new) ≡ take n sub =
+    ap (λ (x : List ℕ). take n (drop done x)) is ∙ ap (take n) (drop_at (take done old) (sub ++ after) done front) ∙ take-append-le n sub after r.0 in
     let all : take (done + n) new ≡ take done old ++ take n sub =
-    take-add done n new ∙ ap (λ (x : List ℕ). x ++ take n (drop done new)) first ∙ ap (λ (x : List ℕ). take done old ++ take n x) later in
+    take-add done n new ∙ ap (λ (x : List ℕ). x ++ take n (drop done new)) first ∙ ap (λ (x : List ℕ). take done old ++ x) later in
     let both : Consumes (coming at s) (coming at u) (take done old ++ take n sub) =
     Consumes-trans (coming at s) (coming at t) (coming at u) (take done old) (take n sub) f.comes r.1 in
     record {
-      within = omega (arith, r.0, ap (length {A = ℕ}) is, length-append (take done old) sub, front);
+      within = omega (arith, r.0, ap (length {A = ℕ}) is, length-append (take done old) (sub ++ after), length-append sub after, front);
       comes = subst (Consumes (coming at s) (coming at u)) (sym all) both;
       back = r.2 ∙ f.back;
       calls = λ e. omega (arith, call.calls, f.least);
@@ -120,12 +125,14 @@ under_way_first a bytes = record {
   within = omega arith;
   count = 0;
   items_are = refl;
-  follows = λ ends k stop b h. (ends, h, omega arith);
+  follows = λ ends k stop b h.
+      let same : k ≡ 0 + k = omega arith in
+      (ends, subst (λ (x : ℕ). AreHandled ends a bytes x stop b) same h, omega arith);
 }
 
 -- a turn that handled an item
 pub under_way_more : {a now : HalfState} {items more : ℕ} (next : HalfState) {bytes rest : List ℕ} {n t : ℕ} → rest ≡ drop n bytes → t ≡ taken now.feed rest
-    → t ≤ length rest → more ≡ min (items + 1) 18446744073709551615 → IsUnderWay a bytes n now items → IsTurned (received now rest) (Ok Handled) next
+    → t ≤ length rest → more ≡ min (items + 1) 18446744073709551615 → IsUnderWay a bytes n now items → IsTurned (received now rest) (Ok turn.Handled) next
     → IsUnderWay a bytes (n + t) next more
 under_way_more {a} {now} {items} {more} next {bytes} {rest} {n} {t} r e le m u h = record {
   within = omega (arith, le, ap (length {A = ℕ}) r, length-drop n bytes, u.within);
@@ -234,4 +241,93 @@ pub more_rounds : (n : ℕ) (old middle new : Ends) (m k : ℕ) → AreRounds n 
     → IsRound middle.seen new.seen middle.left new.left middle.right new.right m k
     → new.left_items ≡ middle.left_items + m → new.right_items ≡ middle.right_items + k → AreRounds (n + 1) old new
 more_rounds n old middle new m k h x left right =
-    subst (λ (i : ℕ). AreRounds i old new) (add-one n) (middle, h, m, k, x, left, right)
+    let all : AreRounds (suc n) old new = (middle, h, m, k, x, left, right) in
+    subst (λ (i : ℕ). AreRounds i old new) (sym (add-one n)) all
+
+-- as many rounds were made, and the items that are counted were handled in them
+pub record IsRunning (rounds : ℕ) (s t : WireSeen) (l l' r r' : HalfState) (h : Handled) : Type 0 where
+  pub at_left : ℕ
+  pub at_right : ℕ
+  pub left : h.left ≡ capped at_left
+  pub right : h.right ≡ capped at_right
+  pub rounds_are : AreRounds rounds (ends_of s l r 0 0) (ends_of t l' r' at_left at_right)
+
+pub running_first : (s : WireSeen) (l r : HalfState) (h : Handled) → h.left ≡ 0 → h.right ≡ 0 → IsRunning 0 s s l l r r h
+running_first s l r h e f =
+    record { at_left = 0; at_right = 0; left = omega (arith, e); right = omega (arith, f); rounds_are = refl }
+
+pub running_more : {s t u : WireSeen} {l l' l'' r r' r'' : HalfState} {i : ℕ} {h more : Handled} (k : Handled) → IsRunning i s t l l' r r' h
+    → Exchanges t u l' l'' r' r'' (Ok more) → k.left ≡ min (h.left + more.left) 18446744073709551615
+    → k.right ≡ min (h.right + more.right) 18446744073709551615 → IsRunning (i + 1) s u l l'' r r'' k
+running_more {s} {t} {u} {l} {l'} {l''} {r} {r'} {r''} {i} k run x left right = record {
+  at_left = run.at_left + x.0;
+  at_right = run.at_right + x.1;
+  left = omega (arith, left, run.left, x.2);
+  right = omega (arith, right, run.right, x.3);
+  rounds_are = more_rounds i (ends_of s l r 0 0) (ends_of t l' r' run.at_left run.at_right) (ends_of u l'' r'' (run.at_left + x.0) (run.at_right + x.1))
+      x.0 x.1 run.rounds_are x.4 refl refl;
+}
+
+pub running_quiet : {s t : WireSeen} {l l' r r' : HalfState} {i : ℕ} {h : Handled} (rounds : ℕ) → IsRunning i s t l l' r r' h → i ≤ rounds
+    → is_quiet l' r' ≡ true → HasRun rounds s t l l' r r' (Ok h)
+running_quiet {i} rounds run le quiet = (run.at_left, run.at_right, (i, le, run.rounds_are, quiet, run.left, run.right))
+
+pub running_halt : {s t u : WireSeen} {l l' l'' r r' r'' : HalfState} {i : ℕ} {h : Handled} (rounds : ℕ) (e : Halt) → IsRunning i s t l l' r r' h → i < rounds
+    → Exchanges t u l' l'' r' r'' (Err e) → HasRun rounds s u l l'' r r'' (Err e)
+running_halt {s} {t} {l} {l'} {r} {r'} {i} rounds halt.Stopped run lt x =
+    (run.at_left, run.at_right, (i, lt, ends_of t l' r' run.at_left run.at_right, run.rounds_are, x))
+running_halt rounds halt.Rounds run lt x = absurd x
+running_halt {s} {t} {l} {l'} {r} {r'} {i} rounds halt.Net run lt x =
+    let calm = (rounds_calls i (ends_of s l r 0 0) (ends_of t l' r' run.at_left run.at_right) run.rounds_are).0 in
+    (run.at_left, run.at_right, λ below. omega (arith, calm, x (omega (arith, calm, below)), below))
+running_halt {s} {t} {l} {l'} {r} {r'} {i} rounds halt.Memory run lt x =
+    (run.at_left, run.at_right, x ∙ (rounds_calls i (ends_of s l r 0 0) (ends_of t l' r' run.at_left run.at_right) run.rounds_are).0)
+
+pub running_all : {s t : WireSeen} {l l' r r' : HalfState} {i : ℕ} {h : Handled} (rounds : ℕ) → IsRunning i s t l l' r r' h → i ≡ rounds
+    → is_quiet l' r' ≡ false → HasRun rounds s t l l' r r' (Err halt.Rounds)
+running_all {s} {t} {l} {l'} {r} {r'} rounds run all loud =
+    let A : ℕ → Type 0 = λ n. AreRounds n (ends_of s l r 0 0) (ends_of t l' r' run.at_left run.at_right) in
+    (run.at_left, run.at_right, (subst A all run.rounds_are, loud))
+
+-- ---- one way, and a round, by what they answer
+
+pub passes_skipped : (from : Side) (s : WireSeen) (a b : HalfState) → a.outbox ≡ [] → Passes from s s a a b b (Ok 0)
+passes_skipped from s a b empty = (0, omega arith, inr (record { empty = empty; seen = refl; sender = refl; receiver = refl; none = refl }))
+
+pub passes : {s u t : WireSeen} {a a' b b' : HalfState} {n k : ℕ} (from : Side) (bytes : List ℕ) → IsSent from s u a a' n
+    → length bytes ≡ n → IsFilled (other from) u t bytes → IsTaken b bytes k (Ok tt) b' → Passes from s t a a' b b' (Ok k)
+passes from bytes sent size filled h = (length h.ends, h.count, inl (carried from bytes (Ok tt) sent size filled h))
+
+pub passes_stopped : {s u t : WireSeen} {a a' b b' : HalfState} {n k : ℕ} (from : Side) (bytes : List ℕ) (e : TurnError) → is_halt e ≡ true
+    → IsSent from s u a a' n → length bytes ≡ n → IsFilled (other from) u t bytes → IsTaken b bytes k (Err e) b'
+    → Passes from s t a a' b b' (Err halt.Stopped)
+passes_stopped from bytes e is sent size filled h = (e, length h.ends, is, carried from bytes (Err e) sent size filled h)
+
+pub passes_err : {s u t : WireSeen} {a a' b b' : HalfState} {n k : ℕ} (from : Side) (bytes : List ℕ) (e : TurnError) → IsSent from s u a a' n
+    → length bytes ≡ n → IsFilled (other from) u t bytes → IsTaken b bytes k (Err e) b' → Passes from s t a a' b b' (Err (halt_of e))
+passes_err from bytes (turn_error.Refused r) sent size filled h = passes_stopped from bytes (turn_error.Refused r) refl sent size filled h
+passes_err from bytes turn_error.Busy sent size filled h = passes_stopped from bytes turn_error.Busy refl sent size filled h
+passes_err from bytes turn_error.Memory sent size filled h = filled.calm ∙ sent.calm
+
+pub exchanges_both : {s u t : WireSeen} {l l' r r' x y : HalfState} {m n : ℕ} (h : Handled) → is_quiet l r ≡ false → Passes Left s u l x r y (Ok n)
+    → Passes Right u t y r' x l' (Ok m) → h.left ≡ m → h.right ≡ n → Exchanges s t l l' r r' (Ok h)
+exchanges_both {u} {x} {y} h some goes comes left right = (
+  comes.0,
+  goes.0,
+  left ∙ comes.1,
+  right ∙ goes.1,
+  record { some = some; seen = u; left = x; right = y; goes = goes.2; comes = comes.2 },
+)
+
+pub exchanges_first : {s t : WireSeen} {l l' r r' : HalfState} (e : Halt) → Passes Left s t l l' r r' (Err e) → Exchanges s t l l' r r' (Err e)
+exchanges_first halt.Stopped w = inl w
+exchanges_first halt.Rounds w = absurd w
+exchanges_first halt.Net w = w
+exchanges_first halt.Memory w = w
+
+pub exchanges_second : {s u t : WireSeen} {l l' r r' x y : HalfState} {n : ℕ} (e : Halt) → Passes Left s u l x r y (Ok n)
+    → Passes Right u t y r' x l' (Err e) → Exchanges s t l l' r r' (Err e)
+exchanges_second {u} {x} {y} halt.Stopped goes w = inr (u, x, y, goes.0, goes.2, w)
+exchanges_second halt.Rounds goes w = absurd w
+exchanges_second halt.Net goes w = λ below. omega (arith, way_calm goes.2, w (omega (arith, way_calm goes.2, below)), below)
+exchanges_second halt.Memory goes w = w ∙ way_calm goes.2

@@ -154,3 +154,8 @@ Exchanges s t l l' r r' (Err halt.Stopped) = IsHalted s t l l' r r'
 Exchanges s t l l' r r' (Err halt.Rounds) = ⊥
 Exchanges s t l l' r r' (Err halt.Net) = Grew s.failed t.failed
 Exchanges s t l l' r r' (Err halt.Memory) = t.failed ≡ s.failed
+
+-- what a turn's error makes of a run
+abbrev pub halt_of : TurnError → Halt
+halt_of turn_error.Memory = halt.Memory
+halt_of other = halt.Stopped

@@ -3,7 +3,7 @@ ghost use Rattle.std.specs.Prelude.{◌≡◌, ◌≤◌, ◌<◌, false, length
 ghost use Rattle.bt_io.specs.Counts.{Grew};
 ghost use Rattle.bt_end.specs.Halves.{received, IsTurned};
 ghost use Rattle.bt_feed.specs.Feeds.{taken};
-ghost use Rattle.bt_net.specs.Rounds.{Exchanges, HasRun, IsFilled, IsSent, IsTaken, Passes, capped, is_quiet as is_quiet_by};
+ghost use Rattle.bt_net.specs.Rounds.{Exchanges, HasRun, IsFilled, IsSent, IsTaken, Passes, capped, halt_of, is_quiet as is_quiet_by};
 
 use crate::wire::{Wire, WireFault, other};
 use bt_end::{End, Turn, TurnError};
@@ -106,7 +106,18 @@ fn take_turns<A: Allocator + Copy>(end: &mut End<A>, bytes: &[u8]) -> (u64, Resu
     }
 }
 
+/// What a turn's error makes of the run.
+fn halt_by(error: TurnError) -> Halt
+    ensures { result ≡ halt_of error }
+{
+    match error {
+        TurnError::Refused(_) | TurnError::Busy => Halt::Stopped,
+        TurnError::Memory => Halt::Memory,
+    }
+}
+
 /// Sends bytes of the sender's, and lets the receiver handle them. Returns how many items it handled.
+#[tactic(auto, using(crate::proofs::Passing::passes_err))]
 fn pass<W: Wire, A: Allocator + Copy>(
     wire: &mut W,
     from: Side,
@@ -127,8 +138,7 @@ fn pass<W: Wire, A: Allocator + Copy>(
     };
     match take_turns(receiver, &buffer[..count]) {
         (items, Ok(())) => Ok(items),
-        (_, Err(TurnError::Memory)) => Err(Halt::Memory),
-        (_, Err(_)) => Err(Halt::Stopped),
+        (_, Err(error)) => Err(halt_by(error)),
     }
 }
 

@@ -45,22 +45,6 @@ with_hash s hash = with_own s (record s.own { info_hash = Some hash })
 abbrev pub with_part : Setup → Part → Setup
 with_part s part = record s { part = part }
 
--- an end that serves metadata has its SHA-1 as info hash
-abbrev pub with_config_setting : Setup → Setting → Setup
-with_config_setting s (settings.Watch hash) = with_part (with_hash s hash) Watching
-with_config_setting s (settings.Serve metadata) = with_part (with_hash s (sha1 metadata)) (Serving metadata)
-with_config_setting s (settings.Fetch hash) = with_part (with_hash s hash) (Awaiting max_metadata)
-with_config_setting s (settings.InfoHash hash) = with_hash s hash
-with_config_setting s (settings.PeerId peer_id) = record s { peer_id = peer_id }
-with_config_setting s (settings.Reserved bits) = with_own s (record s.own { reserved = record { 0 = bits } })
-with_config_setting s (settings.Rules rules) = with_own s (record s.own { rules = rules })
-with_config_setting s (settings.Announce announce) = record s { announce = announce }
-with_config_setting s (settings.Pieces n) = with_own s (record s.own { pieces = Some n })
-with_config_setting s (settings.Limit n) = with_own s (record s.own { limit = n })
-with_config_setting s (settings.Window n) = record s { window = n }
-with_config_setting s (settings.MetadataId id) = s
-with_config_setting s (settings.DonthaveId id) = s
-
 -- ---- what the lines so far say of an end
 
 -- a config that registers no id, and the ids that the last lines name
@@ -83,10 +67,24 @@ default_outline id peer_id = record {
   donthave = None;
 }
 
+abbrev pub with_setup : Outline → Setup → Outline
+with_setup o s = record o { setup = s }
+
+-- an end that serves metadata has its SHA-1 as info hash
 abbrev pub with_setting : Outline → Setting → Outline
+with_setting o (settings.Watch hash) = with_setup o (with_part (with_hash o.setup hash) Watching)
+with_setting o (settings.Serve metadata) = with_setup o (with_part (with_hash o.setup (sha1 metadata)) (Serving metadata))
+with_setting o (settings.Fetch hash) = with_setup o (with_part (with_hash o.setup hash) (Awaiting max_metadata))
+with_setting o (settings.InfoHash hash) = with_setup o (with_hash o.setup hash)
+with_setting o (settings.PeerId peer_id) = with_setup o (record o.setup { peer_id = peer_id })
+with_setting o (settings.Reserved bits) = with_setup o (with_own o.setup (record o.setup.own { reserved = record { 0 = bits } }))
+with_setting o (settings.Rules rules) = with_setup o (with_own o.setup (record o.setup.own { rules = rules }))
+with_setting o (settings.Announce announce) = with_setup o (record o.setup { announce = announce })
+with_setting o (settings.Pieces n) = with_setup o (with_own o.setup (record o.setup.own { pieces = Some n }))
+with_setting o (settings.Limit n) = with_setup o (with_own o.setup (record o.setup.own { limit = n }))
+with_setting o (settings.Window n) = with_setup o (record o.setup { window = n })
 with_setting o (settings.MetadataId id) = record o { metadata = id }
 with_setting o (settings.DonthaveId id) = record o { donthave = id }
-with_setting o other = record o { setup = with_config_setting o.setup other }
 
 -- the config, with both ids: that of `lt_donthave` isn't registered where both are equal
 abbrev pub settled_setup : Outline → Setup

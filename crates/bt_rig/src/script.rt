@@ -1,6 +1,6 @@
 //! The script of a link: what its lines say of two ends, and the steps of their run.
 ghost use Rattle.std.specs.Prelude.{◌≡◌, ◌<◌, ◌^◌, ◌≤◌, ℕ, length, IfOk, OnOk, MatchResult};
-ghost use Rattle.bt_rig.specs.Scripts.{settled_setup, settled, plan_of, draft_of, outline_of, start, setup_of, default_outline, with_config_setting, with_setting, with_side, IsTaken, IsScript, IsWrongAt, is_skipped};
+ghost use Rattle.bt_rig.specs.Scripts.{settled_setup, settled, plan_of, draft_of, outline_of, start, setup_of, default_outline, with_setting, with_side, IsTaken, IsScript, IsWrongAt, is_skipped};
 
 use crate::entry::{Entry, Setting, read_entry};
 use bt_ext::{ExtId, Registered, Rules};
@@ -39,35 +39,6 @@ struct Draft {
     steps: Vec<Step>,
 }
 
-/// Changes a config as a line says that names no extended id.
-fn change_config(config: &mut Config, setting: Setting)
-    ensures { setup_of config.new ≡ with_config_setting (setup_of config.old) setting }
-{
-    match setting {
-        Setting::Serve(metadata) => {
-            config.own.info_hash = Some(Sha1::digest(metadata.as_slice()));
-            config.role = Role::Serve(metadata.into_vec());
-        }
-        Setting::Watch(hash) => {
-            config.own.info_hash = Some(hash);
-            config.role = Role::Watch;
-        }
-        Setting::Fetch(hash) => {
-            config.own.info_hash = Some(hash);
-            config.role = Role::Fetch;
-        }
-        Setting::InfoHash(hash) => config.own.info_hash = Some(hash),
-        Setting::PeerId(peer_id) => config.peer_id = peer_id,
-        Setting::Reserved(bits) => config.own.reserved = Reserved(bits),
-        Setting::Rules(rules) => config.own.rules = rules,
-        Setting::Announce(announce) => config.announce = announce,
-        Setting::Pieces(count) => config.own.pieces = Some(count),
-        Setting::Limit(limit) => config.own.limit = limit,
-        Setting::Window(window) => config.window = window,
-        Setting::MetadataId(_) | Setting::DonthaveId(_) => {}
-    }
-}
-
 impl Outline {
     /// An end of which no line says anything.
     fn new(id: Option<ExtId>, peer_id: [u8; 20]) -> Outline
@@ -97,10 +68,30 @@ impl Outline {
     fn change(&mut self, setting: Setting)
         ensures { outline_of self.new ≡ with_setting (outline_of self.old) setting }
     {
+        let config = &mut self.config;
         match setting {
+            Setting::Serve(metadata) => {
+                config.own.info_hash = Some(Sha1::digest(metadata.as_slice()));
+                config.role = Role::Serve(metadata.into_vec());
+            }
+            Setting::Watch(hash) => {
+                config.own.info_hash = Some(hash);
+                config.role = Role::Watch;
+            }
+            Setting::Fetch(hash) => {
+                config.own.info_hash = Some(hash);
+                config.role = Role::Fetch;
+            }
+            Setting::InfoHash(hash) => config.own.info_hash = Some(hash),
+            Setting::PeerId(peer_id) => config.peer_id = peer_id,
+            Setting::Reserved(bits) => config.own.reserved = Reserved(bits),
+            Setting::Rules(rules) => config.own.rules = rules,
+            Setting::Announce(announce) => config.announce = announce,
+            Setting::Pieces(count) => config.own.pieces = Some(count),
+            Setting::Limit(limit) => config.own.limit = limit,
             Setting::MetadataId(id) => self.metadata = id,
             Setting::DonthaveId(id) => self.donthave = id,
-            other => change_config(&mut self.config, other),
+            Setting::Window(window) => config.window = window,
         }
     }
 

@@ -69,8 +69,7 @@ asked_by : (e : EndState) (t : Bool) → IsServer e
     × (length (if t then requesting e (all_wanted window e.window e.part) else quiet e).queued ≡ 0)
 asked_by e false s = (s, refl)
 asked_by e true s =
-    let none = none_wanted e.window e.part s.part in
-    (
+    let none = none_wanted e.window e.part s.part in (
       record {
         part = ap (λ (ks : List ℕ). is_serving (with_all_asked ks e.part)) none ∙ s.part;
         announce = s.announce;

@@ -133,16 +133,15 @@ answered a b c s r (Some msg) end bytes is =
     let q : List ℕ = flat_map f (msg ∷ []) in
     let box : c.outbox ≡ b.outbox ++ q = ap (λ (x : HalfState). x.outbox) is
     ∙ ap (λ (e : EndState). b.outbox ++ flat_map (spell (belief e)) (msg ∷ [])) end in
-    let both : flat_map f (r.queued ++ (msg ∷ [])) ≡ flat_map f r.queued ++ q = flat_map-append f r.queued (msg ∷ []) in
-    (
+    let both : flat_map f (r.queued ++ (msg ∷ [])) ≡ flat_map f r.queued ++ q = flat_map-append f r.queued (msg ∷ []) in (
       ap (λ (x : HalfState). x.end) is ∙ ap (λ (e : EndState). (saying (Some msg) (record { end = e; queued = r.queued })).end) end,
       ap (λ (l : List ℕ). a.outbox ++ (l ++ [])) both
-      ∙ ap (λ (l : List ℕ). a.outbox ++ l) (append-nil (flat_map f r.queued ++ q))
-      ∙ sym (append_assoc a.outbox (flat_map f r.queued) q)
-      ∙ ap (λ (l : List ℕ). (a.outbox ++ l) ++ q) (sym (append-nil (flat_map f r.queued)))
-      ∙ ap (λ (l : List ℕ). l ++ q) bytes
-      ∙ append_assoc s b.outbox q
-      ∙ ap (λ (l : List ℕ). s ++ l) (sym box),
+          ∙ ap (λ (l : List ℕ). a.outbox ++ l) (append-nil (flat_map f r.queued ++ q))
+          ∙ sym (append_assoc a.outbox (flat_map f r.queued) q)
+          ∙ ap (λ (l : List ℕ). (a.outbox ++ l) ++ q) (sym (append-nil (flat_map f r.queued)))
+          ∙ ap (λ (l : List ℕ). l ++ q) bytes
+          ∙ append_assoc s b.outbox q
+          ∙ ap (λ (l : List ℕ). s ++ l) (sym box),
     )
 
 one_of : (a b c : HalfState) (h s : List ℕ) (xs : List (ℕ × Item)) (e : Event) → IsFed a.feed h xs b.feed → b.end ≡ end_after a.end xs
@@ -156,8 +155,7 @@ one_of a b c h s (x ∷ []) e fed end bytes same told is =
     let o : answer_to (belief b.end) e ≡ answer_to (belief r.end) ev =
     ap (λ (y : EndState). answer_to (belief y) e) end ∙ ap (λ (y : Event). answer_to (belief r.end) y) (sym told') in
     let is' : c ≡ said (answer_to (belief r.end) ev) b = is ∙ ap (λ (y : Option Message). said y b) o in
-    let both = answered a b c s r (answer_to (belief r.end) ev) end bytes is' in
-    (
+    let both = answered a b c s r (answer_to (belief r.end) ev) end bytes is' in (
       record {
         items = x ∷ [];
         fed = subst (λ (f : FeedState). IsFed a.feed h (x ∷ []) f) (sym same) fed;

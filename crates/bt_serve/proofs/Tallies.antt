@@ -124,8 +124,7 @@ tally_still start old new t r s k none =
     let z : length s.advanced.made.moved.course.items ≡ 0 = s.advanced.items ∙ s.none in
     let m = serving_still old new s.advanced.made.moved z in
     let items : length m.serving.course.items ≡ 0 = ap (length {A = ℕ × Item}) m.items in
-    let queued : queued_at old.half.end m.serving.course.items ≡ 0 = ap (queued_at old.half.end) m.items in
-    (
+    let queued : queued_at old.half.end m.serving.course.items ≡ 0 = ap (queued_at old.half.end) m.items in (
       tally_on start old new t t k m.serving (omega (arith, k.handled, items)) (omega (arith, queued)) (λ h. m.sent ∙ s.silent h),
       unasked_on start old new k.moved m.serving none ∙ ap (has_piece old.half.end) m.items,
     )
@@ -170,8 +169,7 @@ tally_clock : (start mid : Moment) (t : ℕ) (u : Tally) (k : IsTally start mid 
     → (v : IsTally start (clocked mid (at_time t mid.seen)) u) × (has_piece start.half.end v.moved.course.items ≡ false)
 tally_clock start mid t u k none =
     let new = clocked mid (at_time t mid.seen) in
-    let m = serving_clock mid t in
-    (
+    let m = serving_clock mid t in (
       tally_on start mid new u u k m (omega (arith, k.handled)) (omega arith) (λ h. refl),
       unasked_on start mid new k.moved m none,
     )
@@ -239,8 +237,7 @@ heard {start} {old} {mid} {half} {since} {t} e n is s k =
     let items : length c.serving.course.items ≡ 1 = ap (length {A = ℕ × Item}) c.items in
     let quiet = a.still refl in
     let piece : has_piece old.half.end c.serving.course.items ≡ is_piece e = ap (has_piece old.half.end) c.items
-    ∙ or-false (is_piece (event_of old.half.end x.1)) ∙ ap is_piece (sym c.event) in
-    (
+    ∙ or-false (is_piece (event_of old.half.end x.1)) ∙ ap is_piece (sym c.event) in (
       (
         tally_on start old new t (with_item n t) k.tally c.serving (omega (arith, items)) (omega (arith, all, one, count)) (λ z. c.sent ∙ s.silent z),
         unasked_on start old new k.tally.moved c.serving k.unasked ∙ piece,
@@ -397,3 +394,9 @@ short_on old new r t s short z =
       ap (length {A = ℕ}) none,
       ap (length {A = ℕ}) (s.silent z),
     )
+
+-- how it ended, with its counts
+pub parting_ended : (patience : ℕ) (start now : Moment) (t : Tally) (e : Ending) → IsEnded patience start now t e
+    → (length now.half.outbox ≡ 0 → t.queued ≡ 0)
+    → IsParting patience start now (record { ending = e; sent = t.sent; handled = t.handled })
+parting_ended patience start now t e k settled = record { queued = t.queued; ended = k; settled = settled }

@@ -153,7 +153,15 @@ pub fn serve<D: Door>(
 {
     let pieces = piece_count(Rc::as_ref(metadata).as_slice());
     let mut guests: Guests<D> = Vec::new(alloc);
-    let served = serve_all(alloc, hospitality, pieces, metadata, connections, door, &mut guests);
+    let served = serve_all(
+        alloc,
+        hospitality,
+        pieces,
+        metadata,
+        connections,
+        door,
+        &mut guests,
+    );
     part_all(door, &mut guests);
     served
 }
