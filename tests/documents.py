@@ -3,13 +3,14 @@
 
 usage: tests/documents.py [PROGRAM]
 
-A command stands after `$ ` in a block that is fenced as ```console, or indented; lines after `> ` go on with it. The lines up to the next
-command or the block's end are its standard output, exactly. Standard error has to be empty.
-It also looks whether links lead to files, whether the picture of a stream has its bytes, and whether the blocks of docs/RATTLE.md stand in the
-examples, and whether the mutants and the laws that docs/PROVED.md names are there. The commands of one document run in one shell, in a new folder that has `bt_tool`, `examples`, `tools` and `dist`. `bt_tool` is
-PROGRAM, or the script at the top of the repository, which builds the program if it has to.
+A command stands after `$ ` in a block that is fenced as ```console, or indented; lines after `> ` go on with it. The lines up to
+the next command or the block's end are its standard output, exactly. Standard error has to be empty. The commands of one document run
+in one shell, in a new folder that has `bt_tool`, `examples`, `tools` and `dist`. `bt_tool` is PROGRAM, or the script at the top of the
+repository, which builds the program if it has to.
 
-This script reads examples/small.pcap itself: its two directions have to be the examples of which it was made.
+It also looks whether links lead to files, whether the picture of a stream has its bytes, whether the blocks of docs/RATTLE.md stand in
+the examples, whether the mutants, laws and calls that docs/PROVED.md and docs/API.md name are there, and whether examples/small.pcap has
+the two directions of which it was made.
 """
 import glob
 import os
@@ -151,6 +152,17 @@ def unproved():
     return wrong
 
 
+def uncalled():
+    """The calls of docs/API.md that no crate has."""
+    wrong, crate = [], ""
+    for named, calls in re.findall(r"^\| (?:`(\w+)` )?\| (`.*?`) \|", content(os.path.join(ROOT, "docs/API.md")).decode(), re.M):
+        crate = named or crate
+        code = b"".join(content(path) for path in glob.glob(os.path.join(ROOT, "crates", crate, "src/**/*.rt"), recursive=True)).decode()
+        names = [call.split("::")[-1] for call in re.findall(r"`([\w:]+)`", calls)]
+        wrong += ["docs/API.md: %s has no %s\n" % (crate, name) for name in names if not re.search(r"pub fn %s\b" % name, code)]
+    return wrong
+
+
 def dead_links(document):
     """The links to files that aren't there."""
     folder, text = os.path.dirname(os.path.join(ROOT, document)), content(os.path.join(ROOT, document)).decode()
@@ -171,7 +183,7 @@ def main():
     wrong = [] if directions(content(os.path.join(ROOT, "examples/small.pcap"))) == {
         ends: content(os.path.join(ROOT, example)) for ends, example in DIRECTIONS.items()
     } else ["examples/small.pcap: not the two directions of which it was made\n"]
-    wrong += pictured() + unquoted() + unproved()
+    wrong += pictured() + unquoted() + unproved() + uncalled()
     for path in glob.glob(os.path.join(ROOT, "**/*.md"), recursive=True):
         wrong += dead_links(os.path.relpath(path, ROOT))
     if subprocess.run([program, "--version"], stdout=subprocess.DEVNULL).returncode:
