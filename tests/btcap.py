@@ -691,7 +691,7 @@ def is_written(program, folder):
 def is_said_again(program, folder, capture):
     """Whether bt_tool gives btcap's verdicts on the streams that it keeps, with the options that it prints."""
     lines = run(program, ["--write", os.path.join(folder, "again")], capture, folder)[0]
-    said = re.findall(r"^    free (.*)\n    bep  (.*)\n    options (.*)$", lines, re.M)
+    said = re.findall(r"^    free (.*)\n    bep  (.*)\n(?:    why  .*\n)?    options (.*)$", lines, re.M)
     again = []
     for name, (_, _, options) in zip(("0-A.bin", "0-B.bin"), said):
         verdicts = [subprocess.run([program, "check", "--rules", rules, *options.split(), os.path.join(folder, "again", name)],
