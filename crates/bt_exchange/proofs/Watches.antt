@@ -178,7 +178,6 @@ verdict_not_silent e (stop.Refused x) v r = absurd v
 verdict_not_silent e stop.Rounds v r = absurd v
 verdict_not_silent e stop.Memory v r = absurd v
 
-
 -- ---- marks: since when no byte was moved
 
 mark_moved : (t : ℕ) (start new : Moment) → IsMark t start new → IsMoved start new
@@ -380,7 +379,7 @@ pub record IsGoing (until may left n : ℕ) (start now : Moment) : Type 0 where
   pub k : ℕ
   pub count : k ≡ n
   pub made : IsMade k start now
-  pub left : left + n ≡ may
+  pub rest : left + n ≡ may
   pub calls : now.seen.counts.calls ≤ start.seen.counts.calls + n
   pub calm : IsCalm start.seen.counts now.seen.counts
   pub goes : IsOpen now.half.end
@@ -392,7 +391,7 @@ going_first until may start o = record {
   k = 0;
   count = refl;
   made = made_none start;
-  left = omega arith;
+  rest = omega arith;
   calls = omega arith;
   calm = none_first start;
   goes = o;
@@ -421,7 +420,7 @@ going_on until may left left' n start mid new g r e = record {
   k = g.k + r.n;
   count = omega (arith, g.count, r.least, r.most);
   made = made_both start mid new g.k r.n g.made r.made;
-  left = e;
+  rest = e;
   calls = omega (arith, g.calls, r.once);
   calm = calm_both start.seen.counts mid.seen.counts new.seen.counts g.calm r.round.0;
   goes = r.round.1;
@@ -441,6 +440,16 @@ stops_after until start mid new stop.Failed k s = fault_after start.seen.counts 
 stops_after until start mid new (stop.Refused r) k s = fault_after start.seen.counts mid.seen.counts new.seen.counts new.half (stop.Refused r) k s
 stops_after until start mid new stop.Memory k s = fault_after start.seen.counts mid.seen.counts new.seen.counts new.half stop.Memory k s
 
+abbrev failed : Stop → Result Event Stop
+failed e = Err e
+
+abbrev stop_or : Stop → Result Event Stop → Stop
+stop_or d (Err e) = e
+stop_or d other = d
+
+is_same : (x y : Stop) → failed x ≡ failed y → x ≡ y
+is_same x y e = ap (stop_or x) e
+
 pub exchanged_stop : (until may left left' n : ℕ) (start mid new : Moment) (e : Stop) → IsGoing until may left n start mid
     → IsRounded until mid new (Err e) → left' + (n + 1) ≡ may → IsExchanged until may left' start new (Err e)
 exchanged_stop until may left left' n start mid new e g r l = record {
@@ -449,14 +458,11 @@ exchanged_stop until may left left' n start mid new e g r l = record {
   within = omega (arith, g.count, r.most, l);
   calls = omega (arith, g.calls, r.once, l);
   onward = omega arith;
-  all = λ x. absurd (r.round.1 (is_same x));
-  patient = λ x. absurd (r.round.1 (is_same x));
-  silent = λ x. old_both start mid new g.made.moved r.made.moved g.quiet (r.round.2 (is_same x));
+  all = λ x. absurd (r.round.1 (is_same e stop.Rounds x));
+  patient = λ x. absurd (r.round.1 (is_same e stop.Rounds x));
+  silent = λ x. old_both start mid new g.made.moved r.made.moved g.quiet (r.round.2 (is_same e stop.Silent x));
   told = stops_after until start mid new e g.calm r.round.0;
 }
-  where
-    is_same : {A : Type 0} {x y : Stop} → Err {A = A} x ≡ Err y → x ≡ y
-    is_same e = cc
 
 pub exchanged_told : (until may left left' n : ℕ) (start mid new : Moment) (e : Event) → IsGoing until may left n start mid
     → IsRounded until mid new (Ok (Some e)) → left' + (n + 1) ≡ may → IsExchanged until may left' start new (Ok e)
@@ -487,10 +493,10 @@ pub exchanged_last : (until may left n : ℕ) (start now : Moment) → n ≡ may
 exchanged_last until may left n start now e g = record {
   steps = g.k;
   made = g.made;
-  within = omega (arith, g.count, g.left);
-  calls = omega (arith, g.calls, g.left);
+  within = omega (arith, g.count, g.rest);
+  calls = omega (arith, g.calls, g.rest);
   onward = omega arith;
-  all = λ x. omega (arith, g.left, e);
+  all = λ x. omega (arith, g.rest, e);
   patient = λ x l. g.patient (omega (arith, l, g.count));
   silent = λ x. absurd cc;
   told = g.calm;
@@ -503,11 +509,8 @@ exchanged_first until may start e v = record {
   within = omega arith;
   calls = omega arith;
   onward = omega arith;
-  all = λ x. absurd (verdict_not_rounds start.half.end e v (is_same x));
-  patient = λ x. absurd (verdict_not_rounds start.half.end e v (is_same x));
+  all = λ x. absurd (verdict_not_rounds start.half.end e v (is_same e stop.Rounds x));
+  patient = λ x. absurd (verdict_not_rounds start.half.end e v (is_same e stop.Rounds x));
   silent = λ x. refl;
   told = verdict_stops until start start e (none_first start) v;
 }
-  where
-    is_same : {A : Type 0} {x y : Stop} → Err {A = A} x ≡ Err y → x ≡ y
-    is_same e = cc

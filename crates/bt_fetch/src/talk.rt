@@ -72,7 +72,8 @@ fn outcome_of(end: &End, stop: Stop, lacks: bool) -> Result<Outcome, Memory>
 fn is_untaken(event: Event, most: u64) -> bool {
     match event {
         Event::Announced {
-            size: Some(size), ..
+            size: Some(size),
+            ..
         } => size == 0 || size > most,
         _ => false,
     }
