@@ -341,6 +341,24 @@ def listener(mode, path, broken=""):
     return "exec %s %s %s %s {address} %s" % (sys.executable, STANDIN, mode, path, broken and "'%s'" % broken)
 
 
+def separate(loaded, subject, failures):
+    """Each case has a source address of its own, and one that changes what the client has a client of its own."""
+    chosen = [case for case in loaded if case.id in ("ka.one", "bf.some", "hv.fine")]
+    played, watched = against(subject, "seed", chosen, suite.Options(6, 6, "all", 1))
+    played.run()
+    failures.same("source addresses", len(set(watched.client.sources)), len(chosen))
+    watched.stop()
+    chosen = [case for case in loaded if case.id in ("lc.good", "lc.served/short", "lc.garbage")]
+    played, watched = against(subject, "leech", chosen, suite.Options(6, 6, "all", 1))
+    played.run()
+    failures.same("connections of the first client", len(watched.client.sources), 0)
+    played.client = client.Watched()
+    played.run()
+    failures.same("cases that need a new client, without --start", [played.results[case.id]["result"] for case in chosen],
+                  ["pass", "skip", "skip"])
+    watched.stop()
+
+
 def lessons(path, failures):
     """What false findings taught: the gate, the twin, the crash, the new client; and the statuses."""
     at = "127.0.0.1:%d" % client.free_port("127.0.0.1")
@@ -384,7 +402,8 @@ def refusals(path, failures):
     failures.same("an address that is owned", command.address_of("192.0.2.9:6881", ["192.0.2.9"]), ("192.0.2.9", 6881))
     failures.same("the next address", command.address_of("[::1]:6881", []), ("::1", 6881))
     if socket.has_ipv6 and os.path.exists("/proc/net/if_inet6"):
-        six = run("[::1]:%d" % client.free_port("::1"), "--torrent", path, "--only", "md.get,bf.late", "--start", listener("seed", path))
+        six = run("[::1]:%d" % client.free_port("::1"), "--torrent", path, "--only", "md.get,bf.late", "--start",
+                  listener("seed", path))
         failures.same("over IPv6", six[0], 0)
     for words in (["--torrent", path], ["127.0.0.1:1"], ["--nothing"], ["127.0.0.1:1", "--torrent", path, "--only", "no.such"]):
         failures.same("wrong words %s" % words, run(*words)[0], 2)
@@ -397,7 +416,8 @@ def outputs(folder, path, failures):
     with open(names["known"], "w", encoding="utf8") as file:
         file.write("# what may fail\nmd.unknown-type  it closes\nmd.get  it doesn't fail any more\n")
     words = [at, "--torrent", path, "--only", "md.get,md.unknown-type,bf.late", "--start",
-             listener("seed", path, "an unknown type is ignored"), "--json", names["a.json"], "--junit", names["a.xml"], "--streams", names["streams"]]
+             listener("seed", path, "an unknown type is ignored"), "--json", names["a.json"], "--junit", names["a.xml"],
+             "--streams", names["streams"]]
     status, text, _ = run(*words)
     failures.same("a failure: status", status, 1)
     sentence = 'BEP 9, "extension message" (must, paraphrased): a message type that an end doesn\'t know is ignored'
@@ -481,7 +501,8 @@ def main(words):
                        lambda: stated(loaded, subject, failures)],
             "right": [lambda: right(loaded, subject, failures)],
             "mutants": [lambda: mutants(loaded, subject, failures)],
-            "command": [lambda: lessons(path, failures), lambda: refusals(path, failures), lambda: dials(path, failures),
+            "command": [lambda: separate(loaded, subject, failures), lambda: lessons(path, failures),
+                        lambda: refusals(path, failures), lambda: dials(path, failures),
                         lambda: outputs(folder, path, failures), lambda: replays(loaded, subject, path, failures)],
             "ours": [lambda: ours(folder, path, failures)],
         }

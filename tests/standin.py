@@ -592,7 +592,8 @@ class Client:
 
     def __init__(self, torrent, mode, broken=None, address=("127.0.0.1", 0)):
         self.torrent, self.mode, self.broken = torrent, mode, broken
-        self.pieces, self.metadata, self.count, self.ends, self.dead = set(), b"" if mode == "magnet" else torrent.info, 0, [], False
+        self.pieces, self.metadata = set(), b"" if mode == "magnet" else torrent.info
+        self.count, self.ends, self.sources, self.dead = 0, [], [], False
         self.door = socket.socket(socket.AF_INET6 if ":" in address[0] else socket.AF_INET)
         self.door.setsockopt(socket.SOL_SOCKET, socket.SO_REUSEADDR, 1)
         self.door.bind(address)
@@ -616,9 +617,10 @@ class Client:
     def accept(self):
         while True:
             try:
-                end, _ = self.door.accept()
+                end, source = self.door.accept()
             except OSError:
                 return
+            self.sources.append(source[0])
             self.ends = [one for one in self.ends if one.fileno() >= 0]
             self.ends.append(end)
             if len(self.ends) > 90 and not self.keeps("a crowd is no reason to close"):

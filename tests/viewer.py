@@ -321,9 +321,15 @@ def check_refusal(page, folder):
     capture = content(example("refused.pcap"))
     page.run("viewer.setPieces('')")
     opened(page, [keep(os.path.join(folder, "other.pcap"), capture[:24] + capture[24:].replace(b"-AA0001-", b"-AA0002-"))])
-    same("no piece count", text_at(page, ".whytext").split('"have 38"')[1],
-        ". No piece count is known, so nobody judged whether piece 38 exists: "
-         "type the count above, or drop the .torrent.byte 73 ↘")
+    same("no piece count", text_at(page, ".whytext").split("last message of A, ")[1],
+         '"interested". Nothing that A sent is refused. No piece count is known, so nobody judged whether piece 38 exists: '
+         "type the count above, or drop the .torrent.byte 82 ↘")
+    opened(page, [keep(os.path.join(folder, "unasked.pcap"), btcap_tests().dropped()[0])])
+    same("a remark as the reason", text_at(page, ".whytext"),
+         'B closed the connection, by FIN, 2.00 ms after A sent an answer that nobody asked for, "piece 0 0 1".byte 73 ↘')
+    opened(page, [example("small.pcap")])
+    same("metadata as the reason", text_at(page, ".whytext"), "A closed the connection, by RST, 100 ms after the last block of the "
+         'metadata, "metadata-data 1 25486 9102": all of it was there then.byte 16736 ↘')
 
 
 def drop(page, name, as_name):

@@ -2,6 +2,7 @@
 import { CODE } from './items.js';
 import { EVENT } from './conversation.js';
 import { PieceSet } from './piece_set.js';
+import { CHOKED, UNANSWERED, UNASKED } from './remarks.js';
 
 /** @typedef {import('./conversation.js').Conversation} Conversation */
 
@@ -34,12 +35,12 @@ function refusalRow(talk, side, upto) {
 }
 
 /**
- * The last answer or request with a remark, not far before row `upto`, or -1.
- * @param {Conversation} talk @param {number} side @param {number} upto
+ * The last row of a side with one of these remarks, not far before row `upto`, or -1.
+ * @param {Conversation} talk @param {number} side @param {number} upto @param {number} flags
  */
-function remarkRow(talk, side, upto) {
+function remarkRow(talk, side, upto, flags) {
   for (let r = upto - 1; r >= Math.max(0, upto - NEAR_ROWS); r--) {
-    if (talk.matches.flags[r] && talk.sideOf(talk.rows[r]) === side) return r;
+    if (talk.matches.flags[r] & flags && talk.sideOf(talk.rows[r]) === side) return r;
   }
   return -1;
 }
@@ -90,16 +91,16 @@ export function closingOf(talk, hasMetadata) {
 
 /** @param {Conversation} talk @param {number} other @param {number} upto @param {boolean} hasMetadata */
 function causeOf(talk, other, upto, hasMetadata) {
-  const refusal = refusalRow(talk, other, upto);
+  const refusal = refusalRow(talk, other, upto), last = lastRow(talk, other, upto);
   if (refusal >= 0) return { kind: 'refusal', cause: refusal };
-  if (talk.directions[1 - other].gaps.length || talk.directions[other].gaps.length) return { kind: 'gap',
-    cause: lastRow(talk, other, upto) };
-  const remark = remarkRow(talk, other, upto);
-  if (remark >= 0) return { kind: 'remark', cause: remark, most: greatestIndex(talk, other),
-    isCounted: talk.directions[other].own?.pieces != null };
-  if (isSeed(talk, 0) && isSeed(talk, 1)) return { kind: 'seeds', cause: lastRow(talk, other, upto) };
-  const last = lastRow(talk, other, upto), most = greatestIndex(talk, other);
+  if (talk.directions.some(({ gaps }) => gaps.length)) return { kind: 'gap', cause: last };
+  const wrong = remarkRow(talk, other, upto, UNASKED | CHOKED);
+  if (wrong >= 0) return { kind: 'remark', cause: wrong };
+  if (isSeed(talk, 0) && isSeed(talk, 1)) return { kind: 'seeds', cause: last };
   // many clients open a connection for the metadata alone
   if (last >= 0 && hasMetadata && talk.nameOf(talk.rows[last]) === 'metadata-data') return { kind: 'metadata', cause: last };
-  return { kind: last < 0 ? 'nothing' : 'last', cause: last, most, isCounted: talk.directions[other].own?.pieces != null };
+  const open = remarkRow(talk, other, upto, UNANSWERED);
+  if (open >= 0) return { kind: 'remark', cause: open };
+  const isCounted = talk.directions[other].own?.pieces != null;
+  return { kind: last < 0 ? 'nothing' : 'last', cause: last, most: isCounted ? -1 : greatestIndex(talk, other) };
 }

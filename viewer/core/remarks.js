@@ -7,7 +7,7 @@ import { STOPS, firstClose } from './talk_events.js';
 
 /** The remarks; a row's flags have a bit for each. */
 export const REMARKS = ['unasked', 'choked', 'again', 'unanswered', 'elsewhere'];
-const UNASKED = 1, CHOKED = 2, AGAIN = 4, UNANSWERED = 8, ELSEWHERE = 16;
+export const UNASKED = 1, CHOKED = 2, AGAIN = 4, UNANSWERED = 8, ELSEWHERE = 16;
 const FAST = 4n;
 const MOST_BITFIELD = 1 << 20;
 

@@ -1,7 +1,7 @@
 // The page's state, and what happens when it changes: files are opened, a connection or a row is chosen, rules and options change.
 import { $, $$, bytesText, copyText, grouped, h, plural, save, say } from './dom.js';
 import { Backend } from './backend.js';
-import { drawConnections, utpOf } from './connection_list.js';
+import { drawConnections } from './connection_list.js';
 import { drawEnds } from './ends.js';
 import { drawOverview } from './charts.js';
 import { drawRows } from './row_view.js';
@@ -81,19 +81,20 @@ export class App {
 
   showNone() {
     const { facts } = this.listed;
-    this.it = null;
+    this.it = this.summary = null;
     drawConnections($('#connections'), this.listed, -1, () => {});
     this.list.reset(0);
     this.total = 0;
-    for (const id of ['#why', '#kinds', '#summary']) $(id).replaceChildren();
+    for (const id of ['#why', '#kinds', '#summary', '#overview', '#count']) $(id).replaceChildren();
+    const utp = utpPackets(facts);
+    const what = utp ? ` ${plural(utp, 'packet is', 'packets are')} uTP, BitTorrent over UDP, which isn't read.` : '';
     $('#ends').replaceChildren(h('div.end.missing', h('b', 'No BitTorrent connection over TCP'),
-      h('div.dim', `in ${plural(facts.packets, 'packet')}; ${grouped(facts.skipped)} of them aren't TCP.`), utpOf(facts)));
+      h('div.dim', `The capture has ${plural(facts.packets, 'packet')}; ${grouped(facts.skipped)} of them aren't TCP.${what}`)));
     this.inspector.clear('No TCP connection of this capture has a BitTorrent handshake.');
   }
 
   drawFile() {
-    const { facts, connections } = this.listed,
-      utp = facts.utp.reduce((/** @type {number} */ sum, /** @type {any} */ it) => sum + it.packets, 0);
+    const { facts, connections } = this.listed, utp = utpPackets(facts);
     const parts = [bytesText(facts.size), facts.packets ? plural(facts.packets, 'packet') : null,
       plural(connections.length, 'connection'),
       utp ? `${plural(utp, 'packet')} of uTP, not read` : null, facts.isCut ? 'ends inside a packet' : null];
@@ -272,6 +273,9 @@ function showProgress({ phase, part }) {
   bar.querySelector('i').style.width = `${part * 100}%`;
   bar.querySelector('span').textContent = `${phase} ${Math.floor(part * 100)} %`;
 }
+
+/** @param {{ utp: { packets: number }[] }} facts */
+const utpPackets = ({ utp }) => utp.reduce((sum, { packets }) => sum + packets, 0);
 
 /** What the user typed of the receivers; null where a field is empty or isn't such a value. */
 function optionsTyped() {

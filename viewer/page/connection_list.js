@@ -66,7 +66,7 @@ function othersOf({ others }) {
 }
 
 /** @param {any} facts */
-export function utpOf({ utp }) {
+function utpOf({ utp }) {
   if (!utp.length) return null;
   return h('details.others', { open: true }, h('summary', 'uTP, which is not read'),
     utp.slice(0, OTHERS_SHOWN).map((/** @type {any} */ it) =>

@@ -10,7 +10,7 @@ const lower = text => text[0].toLowerCase() + text.slice(1);
  * What the sentence ends with if nobody judged an index, since the piece count isn't known.
  * @param {any} closing
  */
-const uncounted = ({ most, isCounted }) => most >= 0 && !isCounted
+const uncounted = ({ most }) => most >= 0
   ? `. No piece count is known, so nobody judged whether piece ${most} exists: type the count above, or drop the .torrent` : '';
 
 /**
@@ -21,7 +21,7 @@ function causeText(closing, { reasons, remarks }) {
   const { kind, cause } = closing;
   if (!cause) return '';
   if (kind === 'refusal') return lower(reasonWords(reasons, cause.event.verdict, cause.bytes, cause.own).words);
-  if (kind === 'remark') return `${remarks[remarksOf(cause.flags)[0]].one}, "${cause.words}"${uncounted(closing)}`;
+  if (kind === 'remark') return `${remarks[remarksOf(cause.flags)[0]].one}, "${cause.words}"`;
   return `"${cause.words}"`;
 }
 

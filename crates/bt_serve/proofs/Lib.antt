@@ -2,3 +2,4 @@ pub mod Files
 pub mod Services
 pub mod Reacting
 pub mod Tallies
+mod Answering

@@ -139,14 +139,15 @@ fn answer(end: &mut End, event: Event) -> Result<(), SayError>
     else {
         return Ok(());
     };
-    if !is_rejecting(&end.belief()) {
-        return Ok(());
+    if is_rejecting(&end.belief()) {
+        end.say(&Message::Reject {
+            index,
+            begin,
+            length,
+        })
+    } else {
+        Ok(())
     }
-    end.say(&Message::Reject {
-        index,
-        begin,
-        length,
-    })
 }
 
 /// Returns how many messages are queued at an event: the end's own and the reject.
@@ -252,8 +253,9 @@ impl<L: Connection + Drop> Guest<L> {
             Ok(Step::Handled(event)) => {
                 let tally = self.tally;
                 self.tally = tally.with_item(0);
-                if answer(&mut self.end, event).is_err() {
-                    return Err(Ending::Closed);
+                match answer(&mut self.end, event) {
+                    Ok(()) => {}
+                    Err(_) => return Err(Ending::Closed),
                 }
                 self.tally = tally.with_item(queued_by(&self.end.belief(), event));
                 if is_piece(event) {
@@ -267,7 +269,8 @@ impl<L: Connection + Drop> Guest<L> {
                 };
                 Ok(Step::Moved)
             }
-            Ok(step) => Ok(step),
+            Ok(Step::Waited) => Ok(Step::Waited),
+            Ok(Step::Held) => Ok(Step::Held),
             Err(stop) => Err(ending_of(stop)),
         }
     }

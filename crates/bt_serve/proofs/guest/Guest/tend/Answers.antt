@@ -16,8 +16,8 @@ returns-then-is_over-clause-tended g c = λ start k.
     (parting_silent c.args.patience start new guest.watch.since guest.tally served c.in-Ok-Waited.ensures.settled
     (omega (arith, c.is_over.ensures.over c.if-is_over.true, ap (λ (x : Seen). x.counts.clock) c.now-now.ensures)))
 
-pub returns-else-is_over-clause-tended : goal.returns-else-is_over-clause-tended
-returns-else-is_over-clause-tended g c = λ start k.
+pub returns-in-Ok-Waited-clause-tended : goal.returns-in-Ok-Waited-clause-tended
+returns-in-Ok-Waited-clause-tended g c = λ start k.
     served_clock (g.L.Connection.seen c.now-now.new.self) c.now-now.result c.now-now.ensures
     (c.in-Ok-Waited.ensures.stepped start (c.loop-step.invariant start k))
 
@@ -28,3 +28,6 @@ returns-in-Err-clause-tended g c = λ start k.
     subst (λ (p : Parting). IsParting c.args.patience start new p) (sym c.parting-in-Err.ensures)
     (parting_ended c.args.patience start new guest.tally c.in-Err.ending
     (c.in-Err.ensures.stepped start (c.loop-step.invariant start k) c.args.patience) c.in-Err.ensures.settled)
+
+pub loop-step-preserved : goal.loop-step-preserved
+loop-step-preserved g c = λ start k. c.in-Ok.ensures.stepped start (c.loop-step.invariant start k)
