@@ -272,15 +272,15 @@ pub running_quiet : {s t : WireSeen} {l l' r r' : HalfState} {i : ℕ} {h : Hand
     → is_quiet l' r' ≡ true → HasRun rounds s t l l' r r' (Ok h)
 running_quiet {i} rounds run le quiet = (run.at_left, run.at_right, (i, le, run.rounds_are, quiet, run.left, run.right))
 
-pub running_halt : {s t u : WireSeen} {l l' l'' r r' r'' : HalfState} {i : ℕ} {h : Handled} (rounds : ℕ) (e : Halt) → IsRunning i s t l l' r r' h → i < rounds
-    → Exchanges t u l' l'' r' r'' (Err e) → HasRun rounds s u l l'' r r'' (Err e)
-running_halt {s} {t} {l} {l'} {r} {r'} {i} rounds halt.Stopped run lt x =
+pub running_halt : {s t : WireSeen} {l l' r r' : HalfState} {i : ℕ} {h : Handled} (u : WireSeen) (l'' r'' : HalfState) (rounds : ℕ) (e : Halt)
+    → IsRunning i s t l l' r r' h → i < rounds → Exchanges t u l' l'' r' r'' (Err e) → HasRun rounds s u l l'' r r'' (Err e)
+running_halt {s} {t} {l} {l'} {r} {r'} {i} u l'' r'' rounds halt.Stopped run lt x =
     (run.at_left, run.at_right, (i, lt, ends_of t l' r' run.at_left run.at_right, run.rounds_are, x))
-running_halt rounds halt.Rounds run lt x = absurd x
-running_halt {s} {t} {l} {l'} {r} {r'} {i} rounds halt.Net run lt x =
+running_halt u l'' r'' rounds halt.Rounds run lt x = absurd x
+running_halt {s} {t} {l} {l'} {r} {r'} {i} u l'' r'' rounds halt.Net run lt x =
     let calm = (rounds_calls i (ends_of s l r 0 0) (ends_of t l' r' run.at_left run.at_right) run.rounds_are).0 in
     (run.at_left, run.at_right, λ below. omega (arith, calm, x (omega (arith, calm, below)), below))
-running_halt {s} {t} {l} {l'} {r} {r'} {i} rounds halt.Memory run lt x =
+running_halt {s} {t} {l} {l'} {r} {r'} {i} u l'' r'' rounds halt.Memory run lt x =
     (run.at_left, run.at_right, x ∙ (rounds_calls i (ends_of s l r 0 0) (ends_of t l' r' run.at_left run.at_right) run.rounds_are).0)
 
 pub running_all : {s t : WireSeen} {l l' r r' : HalfState} {i : ℕ} {h : Handled} (rounds : ℕ) → IsRunning i s t l l' r r' h → i ≡ rounds
@@ -289,7 +289,7 @@ running_all {s} {t} {l} {l'} {r} {r'} rounds run all loud =
     let A : ℕ → Type 0 = λ n. AreRounds n (ends_of s l r 0 0) (ends_of t l' r' run.at_left run.at_right) in
     (run.at_left, run.at_right, (subst A all run.rounds_are, loud))
 
--- ---- one way, and a round, by what they answer
+-- ---- one way, by what it answers
 
 pub passes_skipped : (from : Side) (s : WireSeen) (a b : HalfState) → a.outbox ≡ [] → Passes from s s a a b b (Ok 0)
 passes_skipped from s a b empty = (0, omega arith, inr (record { empty = empty; seen = refl; sender = refl; receiver = refl; none = refl }))
@@ -309,25 +309,12 @@ passes_err from bytes (turn_error.Refused r) sent size filled h = passes_stopped
 passes_err from bytes turn_error.Busy sent size filled h = passes_stopped from bytes turn_error.Busy refl sent size filled h
 passes_err from bytes turn_error.Memory sent size filled h = filled.calm ∙ sent.calm
 
-pub exchanges_both : {s u t : WireSeen} {l l' r r' x y : HalfState} {m n : ℕ} (h : Handled) → is_quiet l r ≡ false → Passes Left s u l x r y (Ok n)
-    → Passes Right u t y r' x l' (Ok m) → h.left ≡ m → h.right ≡ n → Exchanges s t l l' r r' (Ok h)
-exchanges_both {u} {x} {y} h some goes comes left right = (
-  comes.0,
-  goes.0,
-  left ∙ comes.1,
-  right ∙ goes.1,
-  record { some = some; seen = u; left = x; right = y; goes = goes.2; comes = comes.2 },
-)
-
-pub exchanges_first : {s t : WireSeen} {l l' r r' : HalfState} (e : Halt) → Passes Left s t l l' r r' (Err e) → Exchanges s t l l' r r' (Err e)
-exchanges_first halt.Stopped w = inl w
-exchanges_first halt.Rounds w = absurd w
-exchanges_first halt.Net w = w
-exchanges_first halt.Memory w = w
-
-pub exchanges_second : {s u t : WireSeen} {l l' r r' x y : HalfState} {n : ℕ} (e : Halt) → Passes Left s u l x r y (Ok n)
-    → Passes Right u t y r' x l' (Err e) → Exchanges s t l l' r r' (Err e)
-exchanges_second {u} {x} {y} halt.Stopped goes w = inr (u, x, y, goes.0, goes.2, w)
-exchanges_second halt.Rounds goes w = absurd w
-exchanges_second halt.Net goes w = λ below. omega (arith, way_calm goes.2, w (omega (arith, way_calm goes.2, below)), below)
-exchanges_second halt.Memory goes w = w ∙ way_calm goes.2
+-- the receiver stopped, given what was filled at the front of a buffer
+pub passes_halt : {s u t : WireSeen} {a a' b b' : HalfState} {n k : ℕ} {stop : Result Unit TurnError} (from at : Side) (into rest : List ℕ) (e : TurnError)
+    (h : Halt) → length into ≡ n → IsSent from s u a a' n → at ≡ other from → IsFilled at u t into → IsTaken b (take n (into ++ rest)) k stop b'
+    → stop ≡ Err e → h ≡ halt_of e → Passes from s t a a' b b' (Err h)
+passes_halt {s} {u} {t} {a} {a'} {b} {b'} {n} {k} {stop} from at into rest e h size sent side filled h' is by =
+    let there = subst (λ (x : Side). IsFilled x u t into) side filled in
+    let whole = subst (λ (x : List ℕ). IsTaken b x k stop b') (take_at into rest n size) h' in
+    let stopped = subst (λ (x : Result Unit TurnError). IsTaken b into k x b') is whole in
+    subst (λ (x : Halt). Passes from s t a a' b b' (Err x)) (sym by) (passes_err from into e sent size there stopped)

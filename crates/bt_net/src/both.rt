@@ -117,7 +117,6 @@ fn halt_by(error: TurnError) -> Halt
 }
 
 /// Sends bytes of the sender's, and lets the receiver handle them. Returns how many items it handled.
-#[tactic(auto, using(crate::proofs::Passing::passes_err))]
 fn pass<W: Wire, A: Allocator + Copy>(
     wire: &mut W,
     from: Side,

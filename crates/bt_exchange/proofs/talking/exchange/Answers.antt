@@ -1,4 +1,5 @@
 use Rattle.std.proofs.Common.{sym, arith}
+use Rattle.std.proofs.lemmas.Result.{err_from_is_err_and}
 use Rattle.bt_exchange.proofs.Watches.{exchanged_first, exchanged_last, exchanged_stop, exchanged_told, going_first, going_on}
 use Rattle.bt_exchange.proofs.talking.exchange.Goals as goal
 
@@ -12,8 +13,12 @@ pub round-requires : goal.round-requires
 round-requires g c = c.loop-made.invariant.going.goes
 
 pub returns-in_err-event-clause-exchanged : goal.returns-in_err-event-clause-exchanged
-returns-in_err-event-clause-exchanged g c = exchanged_stop _ _ c.loop-made.steps _ c.loop-made.made _ _ _ _ c.loop-made.invariant.going
-    c.in_err-event.ensures.rounded (omega (arith, c.loop-made-test.true))
+returns-in_err-event-clause-exchanged g c =
+    let p = err_from_is_err_and c.from_residual.result c.from_residual.ensures.1 in
+    rw (p.1, p.2) (
+    exchanged_stop _ _ c.loop-made.steps _ c.loop-made.made _ _ _ _ c.loop-made.invariant.going c.in_err-event.ensures.rounded
+    (omega (arith, c.loop-made-test.true))
+    )
 
 pub returns-in-Some-2-clause-exchanged : goal.returns-in-Some-2-clause-exchanged
 returns-in-Some-2-clause-exchanged g c = exchanged_told _ _ c.loop-made.steps _ c.loop-made.made _ _ _ c.in-Some-2.event c.loop-made.invariant.going
