@@ -621,17 +621,20 @@ def rows():
 # ---- the words of reasons
 
 def documented():
-    """Each reason of the documents' tables, with its places: what stands under At, and under Where or When."""
-    names = [name for name in ("docs/RULES.md", "docs/FORMAT.md") if os.path.exists(os.path.join(ROOT, name))]
-    name = next(name for name in names if "| BadIndex " in text_of(name))
+    """Each reason of docs/RULES.md, with its rules, its places (what stands under At and under When) and its section."""
     found, head = {}, None
-    for line in text_of(name).splitlines():
+    for line in text_of("docs/RULES.md").splitlines():
         cells = [cell.strip() for cell in line.strip().strip("|").split("|")] if line.startswith("|") else None
         if cells is None or cells[0] == "Reason":
             head = cells
         elif head and re.match(r"[A-Z]\w+", cells[0]):
             row = dict(zip(head, cells))
-            found.setdefault(cells[0].split()[0], []).append({"at": row["At"], "where": row["Where"]})
+            reason = found.setdefault(cells[0], {"places": []})
+            if "When" in row:
+                reason["rules"] = row["Rules"]
+                reason["places"].append({"at": row["At"], "where": row["When"]})
+            else:
+                reason["section"] = row["Section"]
     return found
 
 
@@ -643,9 +646,8 @@ def text_of(name):
 def reasons_differ():
     """What the documents and tools/reasons.json say differently of a reason."""
     table, told = json.loads(text_of("tools/reasons.json")), documented()
-    places = {name: reason["places"] for name, reason in table.items()}
-    differing = [name for name in sorted({*places, *told}) if places.get(name) != told.get(name)]
-    return ["%s: %s and %s" % (name, places.get(name), told.get(name)) for name in differing]
+    wanted = {name: {key: reason[key] for key in ("places", "rules", "section")} for name, reason in table.items()}
+    return ["%s: %s and %s" % (name, wanted.get(name), told.get(name)) for name in sorted({*wanted, *told}) if wanted.get(name) != told.get(name)]
 
 
 # ---- running
@@ -689,7 +691,7 @@ def is_written(program, folder):
 def is_said_again(program, folder, capture):
     """Whether bt_tool gives btcap's verdicts on the streams that it keeps, with the options that it prints."""
     lines = run(program, ["--write", os.path.join(folder, "again")], capture, folder)[0]
-    said = re.findall(r"^    free (.*)\n    bep  (.*)\n    options (.*)$", lines, re.M)
+    said = re.findall(r"^    free (.*)\n    bep  (.*)\n(?:    why  .*\n)?    options (.*)$", lines, re.M)
     again = []
     for name, (_, _, options) in zip(("0-A.bin", "0-B.bin"), said):
         verdicts = [subprocess.run([program, "check", "--rules", rules, *options.split(), os.path.join(folder, "again", name)],

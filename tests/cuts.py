@@ -4,7 +4,7 @@
 usage: tests/cuts.py [PROGRAM]
 
 PROGRAM is the built program, or else the script `bt_tool` at the top of the repository. The verdict of a cut stream follows from
-that of the whole one and from docs/FORMAT.md: it is the refusal of the whole stream where the bytes with which that is judged are
+that of the whole one and from docs/RULES.md: it is the refusal of the whole stream where the bytes with which that is judged are
 there, else `ok` at a message's end, else EndInside at the cut.
 """
 import os
@@ -169,7 +169,7 @@ def extremes(program):
     return wrong, len(EXTREMES)
 
 
-# An id, and its least and its greatest length, None for the limit (docs/FORMAT.md, the table of messages).
+# An id, and its least and its greatest length, None for the limit (docs/RULES.md, the table of messages).
 LENGTHS = [
     (0, 1, 1), (1, 1, 1), (2, 1, 1), (3, 1, 1), (4, 5, 5), (5, 1, None), (6, 13, 13), (7, 9, None), (8, 13, 13), (9, 3, 3),
     (10, 1, None), (12, 1, None), (13, 5, 5), (14, 1, 1), (15, 1, 1), (16, 13, 13), (17, 5, 5), (18, 1, None), (20, 2, None),

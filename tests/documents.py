@@ -3,18 +3,19 @@
 
 usage: tests/documents.py [PROGRAM]
 
-A command stands in an indented block after `$ `; lines after `> ` go on with it. The lines up to the next command or the
-block's end are its standard output, exactly. Standard error has to be empty, but that of the capture tools isn't looked at.
-The commands of one document run in one shell, in a new folder that has `bt_tool`, `examples`, `tools` and `dist`. `bt_tool` is PROGRAM, or
-the script at the top of the repository, which builds the program where it has to.
+A command stands after `$ ` in a block that is fenced as ```console, or indented; lines after `> ` go on with it. The lines up to
+the next command or the block's end are its standard output, exactly. Standard error has to be empty. The commands of one document run
+in one shell, in a new folder that has `bt_tool`, `examples`, `tools` and `dist`. `bt_tool` is PROGRAM, or the script at the top of the
+repository, which builds the program if it has to.
 
-A command is skipped that needs a tool which isn't installed, or a file that a skipped command would have made. The two
-directions of examples/small.pcap are there all the same: this script reads them itself.
+It also looks whether links lead to files, whether the picture of a stream has its bytes, whether the blocks of docs/RATTLE.md stand in
+the examples, whether the mutants, laws and calls that docs/PROVED.md and docs/API.md name are there, and whether examples/small.pcap has
+the two directions of which it was made.
 """
+import glob
 import os
 import re
 import shlex
-import shutil
 import struct
 import subprocess
 import sys
@@ -22,16 +23,12 @@ import tempfile
 from collections import Counter
 
 ROOT = os.path.dirname(os.path.dirname(os.path.abspath(__file__)))
-DOCUMENTS = ["README.md", "examples/README.md", "docs/CAPTURES.md", "docs/RIG.md", "dist/README.md"]
-TOOLS = ["tshark", "tcpflow", "editcap", "mergecap", "tcpdump", "xxd"]
-# The names of the files and folders that commands make.
-FILE = re.compile(r"[\w./-]+?(?:\.(?:bin|pcap|txt)|flows)(?![\w-])")
-# What the capture tools make of the two directions.
+DOCUMENTS = ["README.md", "examples/README.md", "docs/CAPTURES.md", "docs/RIG.md", "docs/RULES.md", "docs/COMMANDS.md", "docs/FETCH.md",
+             "dist/README.md"]
+# The two directions of examples/small.pcap.
 DIRECTIONS = {
-    ("127.0.0.1:51413", "127.0.0.1:6881"):
-        ("examples/fetching.bin", ["node0.bin", "flows/127.000.000.001.51413-127.000.000.001.06881"]),
-    ("127.0.0.1:6881", "127.0.0.1:51413"):
-        ("examples/serving.bin", ["node1.bin", "flows/127.000.000.001.06881-127.000.000.001.51413"]),
+    ("127.0.0.1:51413", "127.0.0.1:6881"): "examples/fetching.bin",
+    ("127.0.0.1:6881", "127.0.0.1:51413"): "examples/serving.bin",
 }
 
 
@@ -61,17 +58,22 @@ def directions(capture):
 
 def sessions(path):
     """The commands of a document: line number, command and shown output."""
-    found, indent, lines = [], None, content(path).decode().split("\n")
+    found, indent, fence, lines = [], None, False, content(path).decode().split("\n")
     for number, line in enumerate(lines, 1):
-        begin = re.match(r"( {4,})\$ (.*)", line)
-        if begin:
-            indent = begin[1]
+        mark = re.match(r" *```", line)
+        if mark:
+            fence = not fence
+            indent = line[:line.index("`")] if line.strip() == "```console" else None
+            continue
+        begin = re.match((indent or "") + r"()\$ (.*)" if fence and indent is not None else r"( {4,})\$ (.*)", line)
+        if begin and (indent is not None or not fence):
+            indent = indent if fence else begin[1]
             found.append((number, [begin[2]], []))
-        elif indent and line.startswith(indent + "> ") and not found[-1][2]:
+        elif indent is not None and found and line.startswith(indent + "> ") and not found[-1][2]:
             found[-1][1].append(line[len(indent) + 2:])
-        elif indent and (line.startswith(indent) or not line.strip()):
+        elif indent is not None and found and (line.startswith(indent) or not line.strip()):
             found[-1][2].append(line[len(indent):])
-        else:
+        elif not fence:
             indent = None
     for number, command, shown in found:
         while shown and not shown[-1]:
@@ -107,35 +109,65 @@ class Shell:
         self.process.communicate()
 
 
-def stand_in(command, folder, made):
-    """Puts the files there that a skipped command would have made of the two directions."""
-    for name, found in made.items():
-        path = os.path.join(folder, name)
-        if " " + name.split("/")[0] in command and not os.path.exists(path):
-            os.makedirs(os.path.dirname(path), exist_ok=True)
-            with open(path, "wb") as file:
-                file.write(found)
-
-
-def run_document(document, folder, made, absent, counts):
-    """Runs a document's commands in the folder, and gives what went wrong. `lacking` has the files that weren't made."""
-    shell, wrong, lacking = Shell(folder), [], {}
+def run_document(document, folder, counts):
+    """Runs a document's commands in the folder, and gives what went wrong."""
+    shell, wrong = Shell(folder), []
     for number, command, shown in sessions(os.path.join(ROOT, document)):
-        tools = {tool for tool in TOOLS if re.search(r"(?<![\w./-])%s(?![\w.-])" % tool, command)}
-        files = [name for name in FILE.findall(command) if not os.path.exists(os.path.join(folder, name))]
-        needed = (tools & absent).union(*(lacking.get(name, ()) for name in files))
-        if needed:
-            stand_in(command, folder, made)
-            lacking.update((name, needed) for name in files)
-            counts.update(needed, skipped=1)
-            continue
         out, errors = shell.run(command)
         counts.update(commands=1, outputs=bool(shown))
-        if out != shown or errors and not tools:
+        if out != shown or errors:
             wrong.append("%s:%d: %s\nexpected:\n%sgot:\n%s" % (document, number, command, shown, out)
                          + ("on standard error:\n" + errors if errors else ""))
     shell.close()
     return wrong
+
+
+def pictured():
+    """The bytes of the picture in docs/RULES.md, which are those of examples/first.bin."""
+    rows = re.findall(r"^ *(\d+)  ((?:[0-9a-f]{2} )*[0-9a-f]{2})(?: {2}.*)?$", content(os.path.join(ROOT, "docs/RULES.md")).decode(), re.M)
+    found = b""
+    for at, digits in rows:
+        if int(at) != len(found):
+            return ["docs/RULES.md: the picture has %s at %d\n" % (at, len(found))]
+        found += bytes.fromhex(digits)
+    return [] if found == content(os.path.join(ROOT, "examples/first.bin")) else ["docs/RULES.md: other bytes than in examples/first.bin\n"]
+
+
+def unquoted():
+    """The blocks of docs/RATTLE.md that don't stand in an example as they are."""
+    sources = [content(path).decode() for path in glob.glob(os.path.join(ROOT, "crates/example_*/src/*.rt"))]
+    blocks = re.findall(r"^```rust\n(.*?)^```$", content(os.path.join(ROOT, "docs/RATTLE.md")).decode(), re.M | re.S)
+    return ["docs/RATTLE.md: no part of an example:\n" + block for block in blocks if not any(block in source for source in sources)]
+
+
+def unproved():
+    """What docs/PROVED.md gets wrong: a mutant that isn't in must-fail/, or a law that it doesn't name."""
+    text = content(os.path.join(ROOT, "docs/PROVED.md")).decode()
+    mutants = re.findall(r"`(bt_\w+)/([\w-]+-[\w-]+)`", text)
+    wrong = ["docs/PROVED.md: no such mutant: %s/%s\n" % it for it in mutants
+             if not os.path.exists(os.path.join(ROOT, "crates", it[0], "must-fail", it[1] + ".edit"))]
+    for path in glob.glob(os.path.join(ROOT, "crates/bt_*/src/**/*laws.rt"), recursive=True):
+        laws = [] if "_tests/" in path else re.findall(r"^pub fn (\w+)", content(path).decode(), re.M)
+        wrong += ["docs/PROVED.md: the law %s isn't named\n" % law for law in laws if "`%s`" % law not in text]
+    return wrong
+
+
+def uncalled():
+    """The calls of docs/API.md that no crate has."""
+    wrong, crate = [], ""
+    for named, calls in re.findall(r"^\| (?:`(\w+)` )?\| (`.*?`) \|", content(os.path.join(ROOT, "docs/API.md")).decode(), re.M):
+        crate = named or crate
+        code = b"".join(content(path) for path in glob.glob(os.path.join(ROOT, "crates", crate, "src/**/*.rt"), recursive=True)).decode()
+        names = [call.split("::")[-1] for call in re.findall(r"`([\w:]+)`", calls)]
+        wrong += ["docs/API.md: %s has no %s\n" % (crate, name) for name in names if not re.search(r"pub fn %s\b" % name, code)]
+    return wrong
+
+
+def dead_links(document):
+    """The links to files that aren't there."""
+    folder, text = os.path.dirname(os.path.join(ROOT, document)), content(os.path.join(ROOT, document)).decode()
+    links = [link.split("#")[0] for link in re.findall(r"\]\(([^):]+)\)", text)]
+    return ["%s: no such file: %s\n" % (document, link) for link in links if link and not os.path.exists(os.path.join(folder, link))]
 
 
 def make_folder(folder, program):
@@ -148,27 +180,23 @@ def make_folder(folder, program):
 
 def main():
     program = os.path.abspath(sys.argv[1] if len(sys.argv) > 1 else os.path.join(ROOT, "bt_tool"))
-    captured, made, wrong = directions(content(os.path.join(ROOT, "examples/small.pcap"))), {}, []
-    for ends, (example, names) in DIRECTIONS.items():
-        made.update((name, content(os.path.join(ROOT, example))) for name in names)
-        if captured.pop(ends, b"") != made[names[0]]:
-            wrong.append("examples/small.pcap: from %s to %s: other bytes than in %s\n" % (*ends, example))
-    if captured:
-        wrong.append("examples/small.pcap: bytes of another connection: %s\n" % captured.keys())
+    wrong = [] if directions(content(os.path.join(ROOT, "examples/small.pcap"))) == {
+        ends: content(os.path.join(ROOT, example)) for ends, example in DIRECTIONS.items()
+    } else ["examples/small.pcap: not the two directions of which it was made\n"]
+    wrong += pictured() + unquoted() + unproved() + uncalled()
+    for path in glob.glob(os.path.join(ROOT, "**/*.md"), recursive=True):
+        wrong += dead_links(os.path.relpath(path, ROOT))
     if subprocess.run([program, "--version"], stdout=subprocess.DEVNULL).returncode:
         sys.exit("documents: failed: %s --version" % program)
-    absent, counts = {tool for tool in TOOLS if not shutil.which(tool)}, Counter()
+    counts = Counter()
     for document in DOCUMENTS:
         with tempfile.TemporaryDirectory(prefix="documents-") as folder:
             make_folder(folder, program)
-            wrong += run_document(document, folder, made, absent, counts)
-    for tool in sorted(tool for tool in absent if counts[tool]):
-        print("documents: skipped: %d commands that need %s, which isn't installed" % (counts[tool], tool))
+            wrong += run_document(document, folder, counts)
     for text in wrong:
         print("documents: wrong: " + text, end="")
     verdict = "failed: %d wrong of" % len(wrong) if wrong else "ok:"
-    numbers = (counts["commands"], counts["outputs"], counts["skipped"])
-    print("documents: %s %d commands, %d outputs compared, %d skipped" % (verdict, *numbers))
+    print("documents: %s %d commands, %d outputs compared" % (verdict, counts["commands"], counts["outputs"]))
     sys.exit(1 if wrong else 0)
 
 

@@ -5,7 +5,7 @@ usage: tests/faults.py [PROGRAM]
 
 PROGRAM is the built program, or else the script `bt_tool` at the top of the repository. It is run over a `malloc`, a `read` and a
 `write` that count their calls and refuse or fail the Nth, or have it take nothing, for N = 1, 2, .. until a run makes fewer. What
-is wanted follows from docs/FORMAT.md: at a fault a prefix of what the command writes is written, standard error has the fault's
+is wanted follows from docs/COMMANDS.md: at a fault a prefix of what the command writes is written, standard error has the fault's
 line alone, and the status is 3; otherwise nothing differs. `fetch` has a peer of tests/peers.py; `serve` isn't run here. Without a
 C compiler, as `cc`, nothing is run.
 """

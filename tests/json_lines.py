@@ -4,7 +4,7 @@
 usage: tests/json_lines.py [PROGRAM [FILE..]]
 
 PROGRAM is the built program, or else the script `bt_tool` at the top of the repository. FILEs are streams to compare besides
-those that this script makes. The fields' names are those of docs/FORMAT.md.
+those that this script makes. The fields' names are those of docs/COMMANDS.md.
 """
 import json
 import os

@@ -4,7 +4,7 @@
 usage: tests/limits.py [PROGRAM]
 
 PROGRAM is the built program, or else the script `bt_tool` at the top of the repository. Each part of `PARTS` checks a row of the
-table "Under limits" of docs/FORMAT.md, and says which. What is wanted follows from the rules for faults there.
+second table of docs/COMMANDS.md, "Limits", and says which. What is wanted follows from the rules for faults there.
 """
 import fcntl
 import os
@@ -285,15 +285,15 @@ PARTS = [standard_input, standard_output, full_pipe, standard_error, lost_reader
 
 
 def unlisted():
-    """The parts whose row isn't in the table of docs/FORMAT.md."""
-    with open(os.path.join(ROOT, "docs/FORMAT.md")) as file:
+    """The parts whose row isn't in the table of docs/COMMANDS.md."""
+    with open(os.path.join(ROOT, "docs/COMMANDS.md")) as file:
         text = file.read()
     return [part.__doc__ for part in PARTS if "\n| %s |" % part.__doc__ not in text]
 
 
 def main():
     program = Program(os.path.abspath(sys.argv[1] if len(sys.argv) > 1 else os.path.join(ROOT, "bt_tool")))
-    wrong = ["no row in docs/FORMAT.md: " + row for row in unlisted()]
+    wrong = ["no row in docs/COMMANDS.md: " + row for row in unlisted()]
     for part in PARTS:
         wrong += ["%s: bt_tool %s" % (part.__doc__, line) for line in part(program)]
     for line in wrong:

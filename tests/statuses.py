@@ -4,7 +4,7 @@
 usage: tests/statuses.py [PROGRAM]
 
 PROGRAM is the built program, or else the script `bt_tool` at the top of the repository. What is expected was worked out from
-docs/FORMAT.md. The texts of help, usage and of mistakes aren't fixed: a row has TEXT where some text has to be, and Parts
+docs/RULES.md and docs/COMMANDS.md. The texts of help, usage and of mistakes aren't fixed: a row has TEXT where some text has to be, and Parts
 where a text has to have some parts.
 """
 import hashlib
@@ -982,7 +982,7 @@ EXT_REASONS = [
 ]
 
 # A message, and why it is refused as the first, later, and as the first of a connection without the Fast Extension, under the
-# strict rules; None where it isn't. Then whether it counts as one before others (docs/FORMAT.md, "Rules").
+# strict rules; None where it isn't. Then whether it counts as one before others (docs/RULES.md, "Rules").
 MISSING, LATE, NOT_AGREED, UNKNOWN = b"Missing", b"Late", b"NotNegotiated", b"UnknownId"
 ORDERS = [
     (b"\0\0\0\0", None, None, None, False),
