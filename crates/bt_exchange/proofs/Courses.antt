@@ -10,7 +10,7 @@ use Rattle.bt_feed.proofs.Coming.{item_comes}
 use Rattle.bt_feed.proofs.Moving.{fed_none, fed_both}
 use Rattle.bt_end.specs.Ends.{EndState, react, spelled}
 use Rattle.bt_end.specs.Events.{event_of}
-use Rattle.bt_end.specs.Halves.{HalfState, with_feed, reacted, received, without_sent, IsTurned}
+use Rattle.bt_end.specs.Halves.{HalfState, with_feed, reacted, received, without_sent}
 use Rattle.bt_end.specs.declared.end.TurnError.{TurnError}
 use Rattle.bt_end.specs.declared.end.TurnError.TheVariants as turn_error
 use Rattle.bt_end.specs.declared.event.Event.{Event}

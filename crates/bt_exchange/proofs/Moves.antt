@@ -24,7 +24,7 @@ use Rattle.bt_exchange.specs.declared.talking.Step.{Step}
 use Rattle.bt_exchange.specs.declared.talking.Step.TheVariants as step
 use Rattle.bt_exchange.specs.declared.talking.Stop.{Stop}
 use Rattle.bt_exchange.specs.declared.talking.Stop.TheVariants as stop
-use Rattle.bt_exchange.proofs.Courses.{course_none, course_both, course_sent, course_round, events_both, length_events, turned_events, CourseOf}
+use Rattle.bt_exchange.proofs.Courses.{course_none, course_both, course_sent, course_round, length_events, CourseOf}
 
 abbrev pub moment : Seen → List ℕ → HalfState → Moment
 moment s p a = record { seen = s; pending = p; half = a }

@@ -1,20 +1,19 @@
 -- What is seen in a round of an exchange, and in the rounds together.
-use Rattle.std.proofs.Common.{◌≡◌, ◌+◌, ◌<◌, ◌≤◌, ◌&&◌, ℕ, Bool, true, false, not, List, [], ◌∷◌, ◌++◌, length, is_some, Option, Some, None, Result, Ok, Err}
+use Rattle.std.proofs.Common.{◌≡◌, ◌+◌, ◌<◌, ◌≤◌, ◌&&◌, ℕ, Bool, true, false, not, List, [], ◌∷◌, ◌++◌, length, is_some, Some, None, Result, Ok, Err}
 use Rattle.std.proofs.Common.{refl, sym, ap, subst, ◌∙◌, arith}
 use Rattle.std.proofs.lemmas.List.{append-nil, nil_from_length}
 use Rattle.std.proofs.lemmas.List.Folds.{list_all-append}
 use Rattle.std.proofs.KnownBytes.{Consumes-nil, Appends-nil}
 use Rattle.std.specs.List.{list_all}
-use Rattle.bt_wire.specs.declared.item.Item.{Item}
 use Rattle.bt_io.specs.Counts.{Grew}
-use Rattle.bt_end.specs.Ends.{EndState, metadata_of, is_hopeless}
+use Rattle.bt_end.specs.Ends.{EndState, metadata_of}
 use Rattle.bt_end.specs.Halves.{HalfState}
 use Rattle.bt_end.specs.declared.event.Event.{Event}
 use Rattle.bt_exchange.specs.Connections.{Seen, Counts, at_time}
 use Rattle.bt_exchange.specs.Courses.{Moment, IsMoved, end_after, events}
-use Rattle.bt_exchange.specs.Stops.{IsCalm, IsMade, IsAdvanced, IsMark, IsQuiet, IsStep, IsStopped, IsTold, IsExchanged, IsFault, IsOpen}
-use Rattle.bt_exchange.specs.Stops.{has_no_news, items_of, is_done, is_news, no_news, steps_of}
-use Rattle.bt_exchange.specs.Watches.{IsJudged, IsRound, IsRounded, IsVerdict, is_over}
+use Rattle.bt_exchange.specs.Stops.{IsCalm, IsMade, IsAdvanced, IsMark, IsQuiet, IsStep, IsStopped, IsExchanged, IsFault, IsOpen}
+use Rattle.bt_exchange.specs.Stops.{has_no_news, items_of, is_done, is_news, no_news}
+use Rattle.bt_exchange.specs.Watches.{IsJudged, IsRounded, IsVerdict}
 use Rattle.bt_exchange.specs.declared.talking.Step.{Step}
 use Rattle.bt_exchange.specs.declared.talking.Step.TheVariants as step
 use Rattle.bt_exchange.specs.declared.talking.Stop.{Stop}

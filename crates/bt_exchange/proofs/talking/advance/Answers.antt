@@ -1,4 +1,4 @@
-use Rattle.std.proofs.Common.{◌≡◌, false, length, sym, ◌∙◌, arith}
+use Rattle.std.proofs.Common.{length, arith}
 use Rattle.bt_exchange.proofs.Moves.{IsFilled, listened_filled, room_of}
 use Rattle.bt_exchange.proofs.Steps.{exact_filled}
 use Rattle.bt_exchange.proofs.talking.advance.Given.{Over}
