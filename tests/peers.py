@@ -687,7 +687,7 @@ def bytes_within(link, seconds):
 
 # The info dictionary has 2,495 pieces, 0 to 2494: 49,900 bytes of SHA-1s, 20 for each.
 PIECES = 2495
-ASKED = [(0, 0, 16384), (2494, 16384, 16384), (7, 3, 1)]
+REQUESTS = [(0, 0, 16384), (2494, 16384, 16384), (7, 3, 1)]
 HAVE_NONE = message(15, b"")
 HELLO = message(20, b"\0d1:md11:ut_metadatai3ee13:metadata_sizei%dee" % len(INFO))
 NO_PIECES = b"d6:lengthi1e4:name1:a12:piece lengthi16384e6:pieces21:" + bytes(21) + b"e"
@@ -695,8 +695,8 @@ NO_PIECES = b"d6:lengthi1e4:name1:a12:piece lengthi16384e6:pieces21:" + bytes(21
 
 def pieces(program):
     """What a peer gets that asks `serve` for pieces, sends one, or counts them wrongly."""
-    requests = b"".join(request(*block) for block in ASKED)
-    rejects = b"".join(rejected(*block) for block in ASKED)
+    requests = b"".join(request(*block) for block in REQUESTS)
+    rejects = b"".join(rejected(*block) for block in REQUESTS)
     none = handshake() + HAVE_NONE
     # What each peer sends, what it gets after the handshake, and its line's end. An offset is that of a refused message's index, or of its start.
     # Items sent: the handshake, the extended handshake, have none if both know the Fast Extension, and the rejects.
@@ -706,7 +706,7 @@ def pieces(program):
             ("no Extension Protocol", handshake("0000000000000004") + HAVE_NONE + requests, HAVE_NONE + rejects, "sent=5 handled=5 closed"),
             ("a block", none + message(7, bytes(8) + b"block"), HELLO + HAVE_NONE, "sent=3 handled=3 unasked"),
             ("a block without Fast", handshake("0000000000100000") + message(7, bytes(8) + b"block"), HELLO, "sent=2 handled=2 unasked"),
-            ("a rejected request and a block", none + request(*ASKED[0]) + message(7, bytes(8)), HELLO + HAVE_NONE + rejected(*ASKED[0]),
+            ("a rejected request and a block", none + request(*REQUESTS[0]) + message(7, bytes(8)), HELLO + HAVE_NONE + rejected(*REQUESTS[0]),
              "sent=4 handled=4 unasked"),
             ("a request beyond the last piece", none + request(PIECES, 0, 1), HELLO + HAVE_NONE, "sent=3 handled=2 refused message=2 at=78 BadIndex"),
             ("a have beyond the last piece", none + message(4, struct.pack(">I", PIECES)), HELLO + HAVE_NONE,
