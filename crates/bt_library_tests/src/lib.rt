@@ -18,6 +18,8 @@ mod ends;
 #[cfg(test)]
 mod ends_memory;
 #[cfg(test)]
+mod events;
+#[cfg(test)]
 mod ext;
 #[cfg(test)]
 mod ext_parts;
