@@ -123,7 +123,7 @@ impl From<Memory> for EndError {
 
 /// A peer without its socket: it answers, and fetches or serves metadata (BEP 9).
 ///
-/// A contract sees the end as values, its feed and the bytes that are to be sent.
+/// A contract sees the end as values, its feed and the bytes that are to be sent. A fetch over a connection repeats this:
 ///
 /// ```rust
 /// let waiting = end.outgoing().len();

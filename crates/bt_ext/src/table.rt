@@ -23,7 +23,7 @@ const MAX_NAME: usize = 255;
 /// The peer's names of extensions and the ids under which it wants them (BEP 10).
 ///
 /// A contract sees the names with their ids: a finite map of at most 256 names, each once and of at most 255 bytes, and ids
-/// from 1 to 255.
+/// from 1 to 255. To apply an extended handshake's payload and look up an id:
 ///
 /// ```rust
 /// match check(payload) {

@@ -41,7 +41,7 @@ impl From<AllocError> for FeedError {
 /// An incremental parser of a stream of one peer.
 ///
 /// It has the item that it awaits and the bytes of that item that have come; the buffer is reserved once. However the stream is
-/// split into chunks, the items, the refusal and its offset are the same.
+/// split into chunks, the items, the refusal and its offset are the same. A loop over the items of a chunk:
 ///
 /// ```rust
 /// for item in feed.items(rt.alloc(), bytes) {

@@ -11,7 +11,7 @@ use std::alloc::Allocator;
 /// `own` describes you, `theirs` is from the peer's handshake (`Reserved(0)` before it has come), and `table` has what the peer's
 /// extended handshakes announced. The context has the ids that the peer announced, and none for an extension without one.
 ///
-/// What you receive is checked by another context, that of `bt_wire::negotiate`.
+/// What you receive is checked by another context, that of `bt_wire::negotiate`. See the example of `bt_wire::encode`.
 pub fn peer_context<A: Allocator + Copy>(own: &Own, theirs: Reserved, table: &Table<A>) -> Context
     ensures { result ≡ peer_context own.now theirs table.now }
 {

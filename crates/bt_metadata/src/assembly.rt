@@ -81,7 +81,7 @@ impl From<AllocError> for NewError {
 
 /// Reassembles metadata from blocks; each block is requested once (BEP 9).
 ///
-/// A contract sees its size, its SHA-1, and what is known of each block. An answer to a request is handled like this:
+/// A contract sees its size, its SHA-1, and what is known of each block. `bt_end` handles the answer to a request like this:
 ///
 /// ```rust
 /// let lacking = match assembly.data(piece, total, block) {

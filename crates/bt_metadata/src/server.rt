@@ -45,7 +45,9 @@ impl<A: Allocator> Store<A> {
     }
 }
 
-/// Metadata that is served, seen by contracts as its bytes.
+/// Serves metadata in blocks (BEP 9). A contract sees its bytes.
+///
+/// The length of a block of sevens, in a test:
 ///
 /// ```rust
 /// match server.answer(piece) {

@@ -42,7 +42,7 @@ pub enum ItemText<'a> {
     Message(&'a Message),
 }
 
-/// Prints an item as `show` does, without its offset.
+/// Makes an item printable as `show` prints it, without its offset.
 ///
 /// ```rust
 /// let _ = println!(rt; "< {at} {}", shown(item));
@@ -56,7 +56,7 @@ pub fn shown(item: &Item) -> ItemText<'_>
     }
 }
 
-/// Prints a message as `show` does, without its offset.
+/// Makes a message printable as `show` prints it, without its offset.
 pub fn shown_message(message: &Message) -> ItemText<'_>
     ensures { item_in result ≡ Item.Message message.now }
 {

@@ -8,6 +8,8 @@ use bt_ext::{Registered, Rules};
 
 /// The receiver of a stream. Without an info hash it accepts every info hash.
 ///
+/// A receiver of the torrent's one piece, with the Fast Extension and the Extension Protocol:
+///
 /// ```rust
 /// Own {
 ///     reserved: Reserved(Reserved::FAST.0 | Reserved::EXT.0),
@@ -55,14 +57,12 @@ pub struct Context {
     pub limit: u32,
 }
 
-/// Whether a message has come that ends the time for a bitfield.
-///
-/// After such a message no bitfield, have all or have none may come (BEP 3, BEP 6).
+/// Whether a bitfield, have all or have none may still come (BEP 3, BEP 6).
 #[derive(Clone, Copy, PartialEq, Eq, Debug)]
 pub enum Order {
-    /// None has come: only keep-alive, port, extended and unknown messages.
+    /// It may: only keep-alive, port, extended and unknown messages have come.
     Fresh,
-    /// Such a message has come.
+    /// It may not: another message has come.
     Past,
 }
 

@@ -10,7 +10,7 @@ use bt_ext::{Ext, ExtView};
 /// A message, over its bytes `B` and its extended payload `E`.
 ///
 /// See BEP 3, "peer messages", BEP 5, BEP 6 and BEP 10. `index` is a piece's, `begin` and `length` are in bytes within it. A
-/// message whose id isn't known is kept with its payload.
+/// message whose id isn't known is kept with its payload. A program answers messages like this:
 ///
 /// ```rust
 /// Item::Message(Message::Interested) => sender.send(rt, &Message::Unchoke),
