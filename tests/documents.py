@@ -9,8 +9,8 @@ in one shell, in a new folder that has `bt_tool`, `examples`, `tools` and `dist`
 repository, which builds the program if it has to.
 
 It also looks whether links lead to files, whether the picture of a stream has its bytes, whether the blocks of docs/RATTLE.md stand in
-the examples and those of doc comments in some code, whether the mutants, laws and calls that docs/PROVED.md and docs/API.md name are there, and whether examples/small.pcap has
-the two directions of which it was made.
+the examples and those of doc comments in the code of a crate, whether the mutants, laws and calls that docs/PROVED.md and docs/API.md
+name are there, and whether examples/small.pcap has the two directions of which it was made.
 """
 import glob
 import os
@@ -148,7 +148,8 @@ def uncompiled():
     for path, of in lines.items():
         comments = "\n".join(line.strip()[4:].strip() if line.strip().startswith("///") else "\0" for line in of)
         blocks = re.findall(r"^```rust\n([^\0]*?)\n```$", comments, re.M)
-        wrong += ["%s: not in any code:\n%s\n" % (os.path.relpath(path, ROOT), block) for block in blocks if not any(block in code for code in codes)]
+        missing = [block for block in blocks if not any(block in code for code in codes)]
+        wrong += ["%s: not in any code:\n%s\n" % (os.path.relpath(path, ROOT), block) for block in missing]
     return wrong
 
 

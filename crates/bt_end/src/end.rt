@@ -237,8 +237,8 @@ impl<A: Allocator + Copy> End<A> {
     /// Makes an end on a new connection, with its handshake to be sent.
     ///
     /// # Errors
-    /// The first that applies: `BadLimit` if the limit isn't 32,768 to 1,048,576, `BadConfig` if there is no info hash, `BadSize` if
-    /// the metadata to serve doesn't have 1 to `MAX_METADATA` bytes, `Memory` when out of memory.
+    /// The first that applies: `BadLimit` if the limit isn't 32,768 to 1,048,576, `BadConfig` if there is no info hash,
+    /// `BadSize` if the metadata to serve doesn't have 1 to `MAX_METADATA` bytes, `Memory` when out of memory.
     pub fn new(alloc: A, config: Config<A>) -> Result<End<A>, EndError>
         ensures { IsMade config result }
     {
@@ -298,7 +298,7 @@ impl<A: Allocator + Copy> End<A> {
 
     /// Returns the bytes that are to be sent.
     ///
-    /// They are fewer than [`HIGH_WATER`] and one message of the limit's length.
+    /// They are fewer than [`HIGH_WATER`], the end's limit and 4 together.
     pub fn outgoing(&self) -> &[u8]
         ensures value { result.now ≡ self.now.outbox }
         ensures bound { length result.now < high_water + self.now.end.own.limit + 4 }
@@ -486,8 +486,9 @@ impl<A: Allocator + Copy> End<A> {
 
     /// Fetches metadata of `size` bytes from now on, and returns whether it does.
     ///
-    /// Blocks of another size are dropped, and requests are queued. It doesn't if the end fetches nothing, if it has the metadata, or if
-    /// `size` isn't 1 to `MAX_METADATA`. With it a caller goes on over the same connection if the size that a peer announced was false.
+    /// Blocks of another size are dropped, and requests are queued. It doesn't if the end fetches nothing, if it has the
+    /// metadata, or if `size` isn't 1 to `MAX_METADATA`. With it a caller goes on over the same connection if the size that a
+    /// peer announced was false.
     ///
     /// # Errors
     /// `Busy` if at least [`HIGH_WATER`] bytes wait to be sent, `Memory` when out of memory. The end is then unchanged.
@@ -536,9 +537,9 @@ impl<A: Allocator + Copy> End<A> {
 
     /// Returns whether it fetches, and no block can come any more on this connection.
     ///
-    /// None can come, whatever the peer sends, if the end has no id of its own for metadata messages, if not both peers support the
-    /// Extension Protocol (BEP 10), or if each block that hasn't come was rejected. A peer that announced no id for metadata messages
-    /// can announce one later, so this isn't hopeless yet.
+    /// None can come, whatever the peer sends, if the end has no id of its own for metadata messages, if not both peers
+    /// support the Extension Protocol (BEP 10), or if each block that hasn't come was rejected. A peer that announced no id
+    /// for metadata messages can announce one later, so this isn't hopeless yet.
     pub fn is_hopeless(&self) -> bool
         ensures { result ≡ is_hopeless self.now.end }
     {
@@ -561,8 +562,8 @@ impl<A: Allocator + Copy> End<A> {
     /// bytes, which may be none: after `Busy` once less waits to be sent.
     ///
     /// # Errors
-    /// `Refused` if an item is refused, now or before. `Busy` if an item is whole and at least [`HIGH_WATER`] bytes wait to be sent.
-    /// `Memory` when out of memory.
+    /// `Refused` if an item is refused, now or before. `Busy` if an item is whole and at least [`HIGH_WATER`] bytes wait to
+    /// be sent. `Memory` when out of memory.
     pub fn handle(&mut self, bytes: &[u8]) -> (usize, Result<(), TurnError>)
         ensures handled { IsHandled self.old bytes.now result.0 result.1 self.new }
         ensures stop { IsStop result.1 self.new }

@@ -292,9 +292,9 @@ impl<A: Allocator + Copy> Table<A> {
 
     /// Applies the pairs of `m` in an extended handshake's dictionary, in order.
     ///
-    /// Nothing changes if `m` is no dictionary. Of several pairs with one name the first counts. A pair with a name of more
-    /// than 255 bytes, or with a value that is no integer from 0 to 255, does nothing. The value 0 removes the name.
-    /// Another value replaces the name's id, or adds the name if the table has fewer than 256 names.
+    /// See BEP 10. Nothing changes if `m` is no dictionary. Of several pairs with one name the first counts. A pair with a
+    /// name of more than 255 bytes, or with a value that is no integer from 0 to 255, does nothing. The value 0 removes the
+    /// name. Another value replaces the name's id, or adds the name if the table has fewer than 256 names.
     ///
     /// # Errors
     /// `AllocError` when out of memory; the table is then unchanged.

@@ -42,8 +42,8 @@ pub fn queued_may_be_sent()
 
 /// States that a fetch from an end that serves ends with the metadata.
 ///
-/// The two ends send few bytes. Once each has handled all that the other one sent, the metadata is there; and no step finds that too
-/// much waits to be sent.
+/// The two ends send few bytes. Once each has handled all that the other one sent, the metadata is there; and no step finds
+/// that too much waits to be sent.
 pub fn fetch_ends()
     ensures short { FetchIsShort }
     ensures whole { FetchIsWhole }

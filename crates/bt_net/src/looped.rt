@@ -199,9 +199,9 @@ fn run_metadata<W: Wire, T: Target>(
 
 /// Serves metadata at one end of a connection, and fetches it at the other one.
 ///
-/// It reads the metadata to the reader's end, or 67,108,865 bytes of it, and then uses the connection. It writes what came of it. The
-/// left end serves under the id 3, and the right one fetches under the id 9. In a round each side sends at most 4,096 bytes, and the
-/// other side handles them. The run ends when no side has anything to send.
+/// It reads the metadata to the reader's end, or 67,108,865 bytes of it, and then uses the connection. It writes what came of
+/// it. The left end serves under the id 3, and the right one fetches under the id 9. In a round each side sends at most 4,096
+/// bytes, and the other side handles them. The run ends when no side has anything to send.
 ///
 /// # Errors
 /// `Read` if a read failed. `Write` if a write failed or took no byte. `Net` if a call of the connection failed or moved no byte.

@@ -26,7 +26,8 @@ pub fn put(word: &[u8], text: &mut [u8], at: usize) -> usize
 
 /// Writes a word of known length at the offset `at`; returns the offset after it.
 ///
-/// It is copied from a place of its own, which the compiler sees to be apart from the text. So it doesn't test that before it copies.
+/// It is copied from a place of its own, which the compiler sees to be apart from the text. So it doesn't test that before it
+/// copies.
 #[inline(always)]
 pub fn put_word<const N: usize>(word: &[u8; N], text: &mut [u8], at: usize) -> usize
     requires { at + length word.now ≤ length text.old }

@@ -8,7 +8,7 @@ use bt_ext::{Registered, Rules};
 
 /// The receiver of a stream. Without an info hash it accepts every info hash.
 ///
-/// A receiver of the torrent's one piece, with the Fast Extension and the Extension Protocol:
+/// A receiver with the Fast Extension and the Extension Protocol, for a torrent of one piece:
 ///
 /// ```rust
 /// Own {

@@ -23,7 +23,7 @@ use std::alloc::{AllocError, Global};
 
 /// Parses the bytes of one message as parts of them.
 ///
-/// `judge_header` returned `Window` for these bytes, with their length. It doesn't allocate.
+/// See BEP 3, "peer messages". `judge_header` returned `Window` for these bytes, with their length. It doesn't allocate.
 ///
 /// # Errors
 /// The first fault of the fields, and its offset in the message: `BadIndex` or `SpareBits`, and of an extended message
@@ -301,7 +301,7 @@ pub fn copy_message(alloc: Global, view: &MessageView) -> Result<Message, AllocE
 
 /// Parses the bytes of one message.
 ///
-/// `judge_header` returned `Window` for these bytes, with their length.
+/// See BEP 3, "peer messages". `judge_header` returned `Window` for these bytes, with their length.
 ///
 /// # Errors
 /// `Refused` with the first fault of the fields and its offset in the message, as [`view_window`] returns it. `Memory` if

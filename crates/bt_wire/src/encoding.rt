@@ -153,8 +153,8 @@ fn judge_index(pieces: Option<u32>, value: &Ext) -> Option<Reason>
 
 /// Encodes a message if it is legal for the receiver.
 ///
-/// `context` is the receiver's: to send to a peer, that of `bt_feed::peer_context`. `order` is the order of what was sent
-/// before. With an `Outbox`, in a struct that sends:
+/// See BEP 3, "peer messages". `context` is the receiver's: to send to a peer, that of `bt_feed::peer_context`. `order` is
+/// the order of what was sent before. With an `Outbox`, in a struct that sends:
 ///
 /// ```rust
 /// let context = peer_context(&self.own, self.theirs, &self.table);

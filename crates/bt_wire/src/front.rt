@@ -23,7 +23,7 @@ pub const END: u64 = 1 << 62;
 
 /// Parses the message that the bytes begin with.
 ///
-/// It starts at the offset `start` of its stream. It doesn't allocate.
+/// See BEP 3, "peer messages". It starts at the offset `start` of its stream. It doesn't allocate.
 #[inline(always)]
 pub fn read_front<'a>(context: &Context, order: Order, start: u64, bytes: &'a [u8]) -> Front<'a>
     ensures { IsFront context.now order start bytes.now result }

@@ -192,7 +192,8 @@ fn push_decoded(digits: &[u8], bytes: &mut Vec<u8>) -> Result<bool, AllocError>
 
 /// Appends the length, the id and the bytes of the numbers of a message.
 ///
-/// `size` bytes follow. The numbers' count is known at the place where this is inlined, so one copy of fixed size appends all of it.
+/// `size` bytes follow. The numbers' count is known at the place where this is inlined, so one copy of fixed size appends all
+/// of it.
 #[inline(always)]
 fn push_begin(id: u8, numbers: &[u8], size: usize, bytes: &mut Vec<u8>) -> Result<(), AllocError>
     requires { (length numbers.now ≤ 12) × (size < 2 ^ 31) }
@@ -683,8 +684,9 @@ fn put_handshake(text: &[u8], bytes: &mut Vec<u8>) -> Result<bool, AllocError>
 
 /// Parses a line of a script, and replaces `bytes` by those that it names.
 ///
-/// The text is without its line feed. The first line of a script names the 68 bytes of a handshake (BEP 3), each other one the
-/// length, id and fields of a message, whether that is legal or not. It returns false for what is no line; `bytes` is then of no use.
+/// The text is without its line feed. The first line of a script names the 68 bytes of a handshake (BEP 3), each other one
+/// the length, id and fields of a message, whether that is legal or not. It returns false for what is no line; `bytes` is
+/// then of no use.
 ///
 /// # Errors
 /// `AllocError` when out of memory. At most one allocation is made.

@@ -1,7 +1,7 @@
 //! The line of an item, with all of its bytes.
 //!
-//! A line is written directly into a text that has room for it; the call returns the offset after the line. Or it is appended, with at
-//! most one allocation.
+//! A line is written directly into a text that has room for it; the call returns the offset after the line. Or it is
+//! appended, with at most one allocation.
 ghost use Rattle.std.specs.Prelude.{◌≡◌, ◌≤◌, ◌+◌, ◌-◌, ◌*◌, ◌^◌, ◌++◌, length, take, min, codes, decimal, vec_len, unwrap_or, IfOk, OnOk};
 ghost use Rattle.hex.specs.Hex.{encode_lower};
 ghost use Rattle.bt_ext.specs.Payloads.{ext_id, payload_of, seen as seen_ext};
@@ -181,7 +181,8 @@ pub fn room_for(view: &MessageView) -> usize
 
 /// Writes the line of a message at the offset `at`; returns the offset after it.
 ///
-/// It ends with a line feed, and `read_line` parses it. The id of a metadata message (BEP 9) is the one that the receiver registers.
+/// It ends with a line feed, and `read_line` parses it. The id of a metadata message (BEP 9) is the one that the receiver
+/// registers.
 #[inline(always)]
 pub fn put_message_line(own: &Own, view: &MessageView, text: &mut [u8], at: usize) -> usize
     requires { at + (160 + 2 * kept_of (message_of view.now)) ≤ length text.old }
