@@ -9,8 +9,8 @@ in one shell, in a new folder that has `bt_tool`, `examples`, `tools` and `dist`
 repository, which builds the program if it has to.
 
 It also looks whether links lead to files, whether the picture of a stream has its bytes, whether the blocks of docs/RATTLE.md stand in
-the examples, whether the mutants, laws and calls that docs/PROVED.md and docs/API.md name are there, and whether examples/small.pcap has
-the two directions of which it was made.
+the examples and those of doc comments in the code of a crate, whether the mutants, laws and calls that docs/PROVED.md and docs/API.md
+name are there, and whether examples/small.pcap has the two directions of which it was made.
 """
 import glob
 import os
@@ -140,6 +140,19 @@ def unquoted():
     return ["docs/RATTLE.md: no part of an example:\n" + block for block in blocks if not any(block in source for source in sources)]
 
 
+def uncompiled():
+    """The blocks of doc comments that don't stand in the code of a crate as they are, except for indentation."""
+    lines = {path: content(path).decode().splitlines() for path in glob.glob(os.path.join(ROOT, "crates/*/src/**/*.rt"), recursive=True)}
+    codes = ["\n".join(line.strip() for line in of if not line.strip().startswith("//")) for of in lines.values()]
+    wrong = []
+    for path, of in lines.items():
+        comments = "\n".join(line.strip()[4:].strip() if line.strip().startswith("///") else "\0" for line in of)
+        blocks = re.findall(r"^```rust\n([^\0]*?)\n```$", comments, re.M)
+        missing = [block for block in blocks if not any(block in code for code in codes)]
+        wrong += ["%s: not in any code:\n%s\n" % (os.path.relpath(path, ROOT), block) for block in missing]
+    return wrong
+
+
 def unproved():
     """What docs/PROVED.md gets wrong: a mutant that isn't in must-fail/, or a law that it doesn't name."""
     text = content(os.path.join(ROOT, "docs/PROVED.md")).decode()
@@ -183,7 +196,7 @@ def main():
     wrong = [] if directions(content(os.path.join(ROOT, "examples/small.pcap"))) == {
         ends: content(os.path.join(ROOT, example)) for ends, example in DIRECTIONS.items()
     } else ["examples/small.pcap: not the two directions of which it was made\n"]
-    wrong += pictured() + unquoted() + unproved() + uncalled()
+    wrong += pictured() + unquoted() + uncompiled() + unproved() + uncalled()
     for path in glob.glob(os.path.join(ROOT, "**/*.md"), recursive=True):
         wrong += dead_links(os.path.relpath(path, ROOT))
     if subprocess.run([program, "--version"], stdout=subprocess.DEVNULL).returncode:

@@ -1,4 +1,4 @@
-//! Checked slices: a dictionary where it lies, its look-ups and its pairs. They take no memory.
+//! Dictionaries as validated slices of a payload: look-ups and pairs. Only `to_value` allocates.
 ghost use Rattle.std.specs.Prelude.{◌≡◌, IfOk, IfErr, IfSome, Option, Some, None, option_map, option_and_then, is_some};
 ghost use Rattle.bt_bencode.specs.Trees.{Tree, dictionary};
 ghost use Rattle.bt_bencode.specs.Bencoding.{BeginsWith, Fits, Spells, IsSpelling};
@@ -17,7 +17,14 @@ use crate::tree::Value;
 use std::alloc::{AllocError, Global};
 use std::marker::Model;
 
-/// A slice that was checked: it spells one fitting dictionary, whose pairs are its `tree`.
+/// A slice that was validated: it encodes one dictionary within the limits.
+///
+/// A contract sees the dictionary's pairs as its `tree`. The integer at `e` of the dictionary at a key:
+///
+/// ```rust
+/// let (dict, _) = check(PAYLOAD).ok()?;
+/// dict.lookup_dict(key)?.lookup_int(b"e")
+/// ```
 // It has no `impl Model`: a value inside a view that borrows from a `&mut self` must have none.
 #[derive(Clone, Copy)]
 pub struct DictRef<'a> {
@@ -26,14 +33,19 @@ pub struct DictRef<'a> {
 }
 
 impl<'a> DictRef<'a> {
-    /// The dictionary's spelling.
+    /// Returns the bytes that encode the dictionary.
     pub fn spelled(&self) -> &'a [u8]
         ensures { Spells self.now.tree.0 result.now }
     {
         self.bytes
     }
 
-    /// The dictionary as a value. It takes memory for each string, each list and each dictionary of it that isn't empty.
+    /// Copies the dictionary into a value.
+    ///
+    /// It allocates for each string, each list and each dictionary that isn't empty.
+    ///
+    /// # Errors
+    /// `AllocError` when out of memory.
     pub fn to_value(&self, alloc: Global) -> Result<Value, AllocError>
         ensures { IfOk result (λ v. v ≡ Value.Dict self.now.tree.0) }
     {
@@ -41,19 +53,21 @@ impl<'a> DictRef<'a> {
         Ok(value)
     }
 
-    /// The offset of the first key, at any depth, that isn't above the key before it.
+    /// Returns the offset of the first key, at any depth, that is out of order.
+    ///
+    /// A key is out of order if it isn't above the key before it (BEP 3: keys "appear in sorted order").
     pub fn first_unsorted(&self) -> Option<usize>
         ensures { result ≡ unsorted (dictionary self.now.tree.0) }
     {
         first_unsorted(self.spelled())
     }
 
-    /// The integers at three keys, if all keys are in order, in one walk.
+    /// Returns the integers at three keys in one walk, if all keys are in order.
     ///
-    /// They are those that [`DictRef::lookup_int`] finds. In order are the keys of each dictionary, at any depth.
+    /// Each integer is the one that [`DictRef::lookup_int`] finds. The keys of each dictionary, at any depth, must be in order.
     ///
     /// # Errors
-    /// The offset that [`DictRef::first_unsorted`] finds.
+    /// The offset of the first key that is out of order, as [`DictRef::first_unsorted`] finds it.
     pub fn sorted_ints(
         &self,
         first: &[u8],
@@ -76,14 +90,14 @@ impl<'a> DictRef<'a> {
         }
     }
 
-    /// Judges a map of bytes and reads an integer, if all keys are in order, in one walk.
+    /// Returns what a map of bytes and an integer are, if all keys are in order.
     ///
-    /// The first result is whether the value at `map` is a dictionary whose values are all integers from 0 to 255. The
-    /// second is the integer at `key`, or `Some(None)`: the value there is of another kind. Each is `None` where no pair
-    /// has its key. In order are the keys of each dictionary, at any depth.
+    /// The first result says whether the value at `map` is a dictionary whose values are all integers from 0 to 255. The
+    /// second is the integer at `key`, or `Some(None)` if the value there is of another kind. Each is `None` if no pair
+    /// has its key. The keys of each dictionary, at any depth, must be in order. It makes one walk.
     ///
     /// # Errors
-    /// The offset that [`DictRef::first_unsorted`] finds.
+    /// The offset of the first key that is out of order, as [`DictRef::first_unsorted`] finds it.
     pub fn sorted_byte_map(
         &self,
         map: &[u8],
@@ -101,14 +115,16 @@ impl<'a> DictRef<'a> {
         }
     }
 
-    /// Whether a pair has the key.
+    /// Returns whether a pair has the key.
     pub fn has(&self, key: &[u8]) -> bool
         ensures { result ≡ is_some (value_at key.now self.now.tree.0) }
     {
         self.value_after(key).is_some()
     }
 
-    /// The integer of the first pair with the key. `None`: its value is of another kind.
+    /// Returns the integer of the first pair with the key.
+    ///
+    /// `None`: no pair has the key, or its value is of another kind.
     #[inline(always)]
     pub fn lookup_int(&self, key: &[u8]) -> Option<i64>
         ensures { result ≡ option_and_then integer_of (value_at key.now self.now.tree.0) }
@@ -121,9 +137,8 @@ impl<'a> DictRef<'a> {
 
     /// Looks up two integers in one walk.
     ///
-    /// They are the integer at `inner` in the dictionary at `outer`, and the integer at `key`.
-    ///
-    /// They are those that [`DictRef::lookup_dict`] and [`DictRef::lookup_int`] find.
+    /// The first is the integer at `inner` in the dictionary at `outer`, the second the integer at `key`. They are those that
+    /// [`DictRef::lookup_dict`] and [`DictRef::lookup_int`] find.
     pub fn lookup_ints(&self, outer: &[u8], inner: &[u8], key: &[u8]) -> (Option<i64>, Option<i64>)
         ensures inner { result.0 ≡ option_and_then (inner_integer inner.now) (value_at outer.now self.now.tree.0) }
         ensures own { result.1 ≡ option_and_then integer_of (value_at key.now self.now.tree.0) }
@@ -139,7 +154,9 @@ impl<'a> DictRef<'a> {
         }
     }
 
-    /// The bytes of the first pair with the key. `None`: its value is of another kind.
+    /// Returns the byte string of the first pair with the key.
+    ///
+    /// `None`: no pair has the key, or its value is of another kind.
     pub fn lookup_bytes(&self, key: &[u8]) -> Option<&'a [u8]>
         ensures { option_map (λ s. s.now) result ≡ option_and_then string_of (value_at key.now self.now.tree.0) }
     {
@@ -149,9 +166,9 @@ impl<'a> DictRef<'a> {
         }
     }
 
-    /// The dictionary of the first pair with the key.
+    /// Returns the dictionary of the first pair with the key.
     ///
-    /// `None`: there is no such pair, or its value is of another kind.
+    /// `None`: no pair has the key, or its value is of another kind.
     pub fn lookup_dict(&self, key: &[u8]) -> Option<DictRef<'a>>
         ensures { option_map (λ d. d.tree.0) result ≡ option_and_then dictionary_of (value_at key.now self.now.tree.0) }
     {
@@ -162,7 +179,7 @@ impl<'a> DictRef<'a> {
         }
     }
 
-    /// The pairs in order: the key, and the value where it is an integer.
+    /// Returns the pairs in order: each key, and the value if it is an integer.
     pub fn int_pairs(&self) -> IntPairs<'a>
         ensures { result ≡ self.now.tree.0 }
     {
@@ -171,7 +188,7 @@ impl<'a> DictRef<'a> {
         }
     }
 
-    /// The bytes from the value of the first pair with the key on.
+    /// Returns the bytes from the value of the first pair with the key on.
     #[inline(always)]
     fn value_after(&self, key: &[u8]) -> Option<&'a [u8]>
         ensures value { FindsValue result (value_at key.now self.now.tree.0) }
@@ -183,7 +200,7 @@ impl<'a> DictRef<'a> {
     }
 }
 
-/// The value that was found, if it is there and an integer.
+/// Returns the value that was found, if there is one and it is an integer.
 fn found_int(found: Option<&[u8]>) -> Option<i64>
     requires { IfSome found (λ bytes. HasValue bytes.now) }
     ensures { (o : Option Tree) → FindsValue found.entry o → result ≡ option_and_then integer_of o }
@@ -194,13 +211,13 @@ fn found_int(found: Option<&[u8]>) -> Option<i64>
     }
 }
 
-/// The dictionary that the payload begins with, and its length in bytes.
+/// Parses the dictionary that the payload begins with; returns its length too.
 ///
-/// See BEP 3, "bencoding". What follows the dictionary isn't looked at, and each byte is passed once.
+/// See BEP 3, "bencoding". The length is in bytes. What follows the dictionary isn't looked at. Nothing is copied.
 ///
 /// # Errors
-/// `Impossible` with the place of the first byte with which no fitting dictionary goes on, `Cut` where the whole payload
-/// begins one and holds none.
+/// `Impossible` with the offset of the first byte that can't be part of a dictionary within the limits. `Cut` if the payload
+/// is truncated: it begins such a dictionary and ends before the dictionary does.
 #[inline(always)]
 pub fn check(payload: &[u8]) -> Result<(DictRef<'_>, usize), Bad>
     ensures ok { IfOk result (λ x. BeginsWith payload.now x.0.tree.0 x.1) }
@@ -215,7 +232,9 @@ pub fn check(payload: &[u8]) -> Result<(DictRef<'_>, usize), Bad>
     ))
 }
 
-/// The pairs that are left, seen as pairs of a key and a tree. It gives each key, and its value where that is an integer.
+/// Iterates over pairs: each key, and its value if it is an integer.
+///
+/// A contract sees the pairs that are left as pairs of a key and a tree.
 #[derive(Drop)]
 pub struct IntPairs<'a> {
     rest: &'a [u8],

@@ -1,4 +1,4 @@
-//! Which values fit. The functions here recurse by the value's nesting, and by no more than 33 levels.
+//! Which values are within the limits. The functions here recurse by the value's nesting, and by no more than 33 levels.
 ghost use Rattle.std.specs.Prelude.{◌↔◌, IsTrue};
 ghost use Rattle.bt_bencode.specs.Bencoding.{Fits};
 ghost use Rattle.bt_bencode.specs.Room.{FitsIn, AllFitIn, PairsFitIn};
@@ -7,17 +7,17 @@ ghost use Rattle.bt_bencode.specs.Views.{tree_of};
 use crate::tree::{Pairs, Value, Values};
 use crate::{MAX_NESTING, MAX_STRING};
 
-/// Whether a value's strings are short enough, and its nesting flat enough.
+/// Returns whether a value's strings are short enough and its nesting flat enough.
 ///
-/// Strings and keys have at most `MAX_STRING` bytes, and lists and dictionaries nest at most `MAX_NESTING` deep, the
-/// outermost counted 1. It takes no memory.
+/// Strings and keys have at most `MAX_STRING` bytes. Lists and dictionaries nest at most `MAX_NESTING` deep, and the
+/// outermost counts as 1. It doesn't allocate.
 pub fn fits(value: &Value) -> bool
     ensures { IsTrue result ↔ Fits (tree_of value.now) }
 {
     fits_in(MAX_NESTING, value)
 }
 
-/// Whether the value fits where `room` more lists and dictionaries may nest.
+/// Returns whether the value fits if `room` more lists and dictionaries may nest.
 #[cycle(fits)]
 fn fits_in(room: usize, value: &Value) -> bool
     ensures { IsTrue result ↔ FitsIn room (tree_of value.now) }

@@ -1,6 +1,6 @@
-//! One walk over a checked dictionary that judges the order of its keys and finds values by the way.
+//! One walk over a validated dictionary that checks the order of its keys and finds values on its way.
 //!
-//! Methods of a checked slice call it. It takes no memory, and recurses by the nesting of what it walks over.
+//! It doesn't allocate, and recurses by the nesting of what it walks over.
 ghost use Rattle.std.specs.Prelude.{◌≡◌, ℕ, ◌<◌, ◌∷◌, ◌++◌, List, length, None, IfOk, IfErr, if◌then◌else◌, Some, option_map};
 ghost use Rattle.std.specs.Str.{bytes_eq};
 ghost use Rattle.bt_bencode.specs.Trees.{Tree, Pairs};
@@ -96,7 +96,7 @@ fn walk_map(value: &[u8]) -> Result<(bool, &[u8]), usize>
     }
 }
 
-/// What was seen at the key before, or else what is seen of this name's value.
+/// Returns `before`, or `seen` if nothing was seen yet and `name` is the key.
 #[inline(always)]
 fn seen_at(before: Option<bool>, name: &[u8], key: &[u8], seen: bool) -> Option<bool>
     ensures { result ≡ first_seen before (if bytes_eq name.now key.now then Some seen else None) }
@@ -107,10 +107,10 @@ fn seen_at(before: Option<bool>, name: &[u8], key: &[u8], seen: bool) -> Option<
     }
 }
 
-/// The bytes from the values of the first pairs with the three keys on.
+/// Returns the bytes from the values of the first pairs with the three keys on.
 ///
 /// # Errors
-/// The offset of the first key out of order.
+/// The offset in `pairs` of the first key that is out of order.
 pub fn find_in_order<'a>(
     pairs: &'a [u8],
     first: &[u8],
@@ -148,12 +148,12 @@ pub fn find_in_order<'a>(
     Ok((one, two, three))
 }
 
-/// Whether `map` has a map of bytes, and the bytes from the value at `key` on.
+/// Returns whether `map` has a map of bytes, and the bytes from `key`'s value on.
 ///
-/// Both are of the first pair with the key.
+/// Both are of the first pair with their key.
 ///
 /// # Errors
-/// The offset of the first key out of order.
+/// The offset in `pairs` of the first key that is out of order.
 pub fn judge_map_in_order<'a>(
     pairs: &'a [u8],
     map: &[u8],

@@ -1,5 +1,6 @@
-//! How long a value's spelling is. `ben_len` recurses by the value's nesting, which a caller's own value may have
-//! as deep as it likes.
+//! The length of a value's encoding.
+//!
+//! `ben_len` recurses by the value's nesting, which has no limit in a value that a caller makes.
 ghost use Rattle.std.specs.Prelude.{◌≡◌, ◌+◌, ◌-◌, ◌^◌, ◌≤◌, length, min};
 ghost use Rattle.std.specs.Fmt.{decimal, signed_decimal};
 ghost use Rattle.bt_bencode.specs.Bencoding.{ben, ben_all, ben_pairs};
@@ -7,7 +8,7 @@ ghost use Rattle.bt_bencode.specs.Views.{tree_of};
 
 use crate::tree::{Pairs, Value, Values};
 
-/// How many digits a number has.
+/// Returns how many decimal digits a number has.
 fn decimal_len(n: u64) -> u64
     ensures value { result ≡ length (decimal n) }
     ensures short { result ≤ 20 }
@@ -15,7 +16,7 @@ fn decimal_len(n: u64) -> u64
     if n < 10 { 1 } else { decimal_len(n / 10) + 1 }
 }
 
-/// How many bytes a signed number's text has.
+/// Returns how many bytes the decimal text of a signed number has.
 fn int_len(n: i64) -> u64
     ensures value { result ≡ length (signed_decimal n) }
     ensures short { result ≤ 21 }
@@ -27,14 +28,16 @@ fn int_len(n: i64) -> u64
     }
 }
 
-/// The length of a string's spelling, at most 2^64 - 1.
+/// Returns the length of a string's encoding, at most 2^64 - 1.
 fn string_len(len: usize) -> u64
     ensures { result ≡ min (length (decimal len) + 1 + len) (2 ^ 64 - 1) }
 {
     (decimal_len(len as u64) + 1).saturating_add(len as u64)
 }
 
-/// The length of a value's spelling in bytes, at most 2^64 - 1. It takes no memory.
+/// Returns the length of a value's encoding in bytes, at most 2^64 - 1.
+///
+/// It doesn't allocate.
 #[cycle(ben_len)]
 pub fn ben_len(value: &Value) -> u64
     ensures { result ≡ min (length (ben (tree_of value.now))) (2 ^ 64 - 1) }

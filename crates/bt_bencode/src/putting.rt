@@ -1,11 +1,11 @@
-//! Spellings that are written from the end of an array to its front, so that they take no memory.
+//! Encoding from the end of an array to its front, without an allocation.
 ghost use Rattle.std.specs.Prelude.{◌≡◌, ◌≤◌, ◌<◌, ◌+◌, ◌++◌, ◌∷◌, pos, length, drop, decimal};
 ghost use Rattle.bt_bencode.specs.Trees.{integer};
 ghost use Rattle.bt_bencode.specs.Bencoding.{ben, ben_string};
 
 use itoa::write_digits;
 
-/// Puts bytes in front of the place, and says where they start.
+/// Writes bytes before the offset `at`; returns the offset at which they start.
 pub fn put_bytes(bytes: &[u8], text: &mut [u8], at: usize) -> usize
     requires { (length bytes.now ≤ at) × (at ≤ length text.old) }
     ensures room { result + length bytes.now ≡ at }
@@ -17,7 +17,7 @@ pub fn put_bytes(bytes: &[u8], text: &mut [u8], at: usize) -> usize
     front
 }
 
-/// Puts a number's digits in front of the place, and says where they start.
+/// Writes a number's digits before the offset `at`, and returns where they start.
 fn put_digits(n: u64, text: &mut [u8], at: usize) -> usize
     requires { (20 ≤ at) × (at ≤ length text.old) }
     ensures room { (result ≤ at) × (at ≤ result + 20) }
@@ -27,9 +27,9 @@ fn put_digits(n: u64, text: &mut [u8], at: usize) -> usize
     write_digits(n, text, at)
 }
 
-/// Puts the spelling of an integer in front of the place, and says where it starts.
+/// Encodes an integer before the offset `at`, and returns where it starts.
 ///
-/// There are at least 22 bytes before the place.
+/// `at` is at least 22.
 pub fn put_number(n: u64, text: &mut [u8], at: usize) -> usize
     requires { (22 ≤ at) × (at ≤ length text.old) }
     ensures room { (result ≤ at) × (at ≤ result + 22) }
@@ -41,9 +41,9 @@ pub fn put_number(n: u64, text: &mut [u8], at: usize) -> usize
     put_bytes(b"i", text, place)
 }
 
-/// Puts the spelling of a key in front of the place, and says where it starts.
+/// Encodes a key before the offset `at`, and returns where it starts.
 ///
-/// There are at least the key's bytes and 21 more before the place.
+/// `at` is at least the key's length and 21 more.
 pub fn put_key(key: &[u8], text: &mut [u8], at: usize) -> usize
     requires { (21 + length key.now ≤ at) × (at ≤ length text.old) }
     ensures room { (result ≤ at) × (at ≤ result + 21 + length key.now) }

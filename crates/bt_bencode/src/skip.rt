@@ -1,5 +1,6 @@
-//! What follows a value in a checked spelling, and what stands at a key. It takes no memory. Skipping a value recurses
-//! by its nesting, which is at most 32 in what the public calls hand in.
+//! Skipping a value in validated bytes, and finding the value of a key.
+//!
+//! It doesn't allocate. Skipping recurses by the value's nesting, which is at most 32 after validation.
 ghost use Rattle.std.specs.Prelude.{◌≡◌, ℕ, ◌<◌, ◌∷◌, ◌++◌, List, length, option_map};
 ghost use Rattle.bt_bencode.specs.Trees.{Tree, Trees, Pairs};
 ghost use Rattle.bt_bencode.specs.Bencoding.{ben, ben_all, ben_pairs, InRange, AllInRange, PairsInRange};
@@ -10,7 +11,7 @@ ghost use Rattle.bt_bencode.specs.Readable.{FindsValue, HasValue, HasItems, HasP
 
 use crate::read::{following, read_int, split_string};
 
-/// What follows the value in front.
+/// Returns what follows the value that `bytes` begins with.
 #[cycle(skip)]
 pub fn skip_value(bytes: &[u8]) -> &[u8]
     requires { HasValue bytes.now }
@@ -25,7 +26,7 @@ pub fn skip_value(bytes: &[u8]) -> &[u8]
     }
 }
 
-/// What follows the value in front.
+/// Returns what follows the value that `bytes` begins with.
 ///
 /// Inline, so that an integer or a byte string costs no call.
 #[cycle(skip)]
@@ -70,8 +71,8 @@ fn skip_pairs(bytes: &[u8]) -> &[u8]
     following(rest)
 }
 
-/// The bytes from the value of the first pair with the key on.
-// Inline, so that a literal key is compared by its length first, and mostly by that alone.
+/// Returns the bytes from the value of the first pair with the key on.
+// Inline, so that a literal key is compared by its length first, and mostly by nothing else.
 #[inline(always)]
 pub fn find<'a>(pairs: &'a [u8], key: &[u8]) -> Option<&'a [u8]>
     requires { HasPairs pairs.now }
@@ -88,7 +89,7 @@ pub fn find<'a>(pairs: &'a [u8], key: &[u8]) -> Option<&'a [u8]>
     None
 }
 
-/// What was found for the key before, or else the value of a pair with this name, where that is the key.
+/// Returns `before`, or `value` if nothing was found yet and `name` is the key.
 #[inline(always)]
 pub fn found_at<'a>(
     before: Option<&'a [u8]>,
@@ -104,7 +105,9 @@ pub fn found_at<'a>(
     }
 }
 
-/// The bytes from the values of the first pairs with the two keys on, in one walk.
+/// Returns the bytes from the values of the first pairs with the two keys on.
+///
+/// It makes one walk over the pairs.
 pub fn find_two<'a>(
     pairs: &'a [u8],
     first: &[u8],
@@ -129,7 +132,9 @@ pub fn find_two<'a>(
     (one, two)
 }
 
-/// The integer at the key in the value in front, if that is a dictionary.
+/// Returns the integer at `key` in the value that `value` begins with.
+///
+/// `None` if that is no dictionary, or has no integer at the key.
 pub fn inner_int(value: &[u8], key: &[u8]) -> Option<i64>
     requires { HasValue value.now }
     ensures { (t : Tree) (more : List ℕ) → InRange t → value.now ≡ ben t ++ more → result ≡ inner_integer key.now t }
@@ -143,7 +148,7 @@ pub fn inner_int(value: &[u8], key: &[u8]) -> Option<i64>
     }
 }
 
-/// The value in front, if it is an integer, and what follows it.
+/// Returns the value in front, if it is an integer, and what follows it.
 #[inline(always)]
 pub fn split_int(value: &[u8]) -> (Option<i64>, &[u8])
     requires { HasValue value.now }
@@ -158,7 +163,7 @@ pub fn split_int(value: &[u8]) -> (Option<i64>, &[u8])
     }
 }
 
-/// The value in front, if it is an integer.
+/// Returns the value that `value` begins with, if it is an integer.
 #[inline(always)]
 pub fn int_in(value: &[u8]) -> Option<i64>
     requires { HasValue value.now }
@@ -171,7 +176,7 @@ pub fn int_in(value: &[u8]) -> Option<i64>
     }
 }
 
-/// The value in front, if it is a byte string.
+/// Returns the value that `value` begins with, if it is a byte string.
 #[inline(always)]
 pub fn text_in(value: &[u8]) -> Option<&[u8]>
     requires { HasValue value.now }

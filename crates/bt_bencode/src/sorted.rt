@@ -1,4 +1,4 @@
-//! The order of keys: whether a value's keys rise, and the first key of a spelling that isn't above the one before.
+//! The order of keys: whether a value's keys rise, and the first key in encoded bytes that isn't above the one before.
 ghost use Rattle.std.specs.Prelude.{◌≡◌, ◌↔◌, IsTrue, ℕ, ◌<◌, ◌∷◌, ◌++◌, List, length, None, IfOk, IfErr};
 ghost use Rattle.std.specs.Option.{option_copied};
 ghost use Rattle.bt_bencode.specs.Trees.{Tree, Trees, Pairs as PairsOfTrees, dictionary};
@@ -11,9 +11,9 @@ use crate::read::{following, read_int, split_string};
 use crate::tree::{Pairs, Value, Values};
 use std::cmp::Ordering;
 
-/// Whether the keys of each dictionary, at any depth, are sorted.
+/// Returns whether the keys of each dictionary, at any depth, are sorted.
 ///
-/// BEP 3: keys "appear in sorted order (sorted as raw strings)", so each is above the one before it. It takes no memory,
+/// BEP 3: keys "appear in sorted order (sorted as raw strings)", so each is above the one before it. It doesn't allocate,
 /// and recurses by the value's nesting.
 #[cycle(is_sorted)]
 pub fn is_sorted(value: &Value) -> bool
@@ -53,7 +53,7 @@ fn pairs_are_sorted(pairs: &Pairs) -> bool
     true
 }
 
-/// Whether the key is above the last one, if there is one.
+/// Returns whether the key is above the last one, or there is no last one.
 pub fn is_above(last: Option<&[u8]>, key: &[u8]) -> bool
     ensures { result ≡ is_above (option_copied last.entry) key.now }
 {
@@ -63,7 +63,10 @@ pub fn is_above(last: Option<&[u8]>, key: &[u8]) -> bool
     }
 }
 
-/// What follows the value in front, or the offset in it.
+/// Returns what follows the value in front, if its keys are in order.
+///
+/// # Errors
+/// The offset in `bytes` of the first key, at any depth, that isn't above the key before it.
 #[cycle(walk)]
 pub fn walk_value(bytes: &[u8]) -> Result<&[u8], usize>
     requires { HasValue bytes.now }
@@ -136,9 +139,10 @@ fn walk_pairs(bytes: &[u8]) -> Result<&[u8], usize>
     Ok(following(rest))
 }
 
-/// The offset of the first key, at any depth, that isn't above the key before it.
+/// Returns the offset of the first key, at any depth, that is out of order.
 ///
-/// The payload begins with a fitting dictionary. It takes no memory.
+/// A key is out of order if it isn't above the key before it. The payload begins with a dictionary within the limits. It
+/// doesn't allocate.
 pub fn first_unsorted(payload: &[u8]) -> Option<usize>
     requires { (ps : PairsOfTrees) × (n : ℕ) × BeginsWith payload.now ps n }
     ensures { (ps : PairsOfTrees) (n : ℕ) → BeginsWith payload.now ps n → result ≡ unsorted (dictionary ps) }

@@ -1,4 +1,4 @@
-//! Values into bytes. Only a value that fits is written, so writing recurses by no more than 32 levels.
+//! Encoding of values. Only a value within the limits is encoded, so the functions recurse by no more than 32 levels.
 ghost use Rattle.std.specs.Prelude.{◌≡◌, ◌↔◌, ◌++◌, Err, OnOk, IfOk};
 ghost use Rattle.bt_bencode.specs.Bencoding.{ben, ben_string, Fits};
 ghost use Rattle.bt_bencode.specs.Trees.{integer, list, dictionary};
@@ -11,12 +11,14 @@ use itoa::Buffer;
 use std::alloc::{AllocError, Global};
 use std::fmt::{self, Display};
 
-/// Why a value isn't written.
+/// Why a value isn't encoded.
 #[derive(Clone, Copy, Debug, PartialEq, Eq)]
 pub enum SpellError {
-    /// The value doesn't fit: a string or a key is too long, or it nests too deep.
+    /// The value isn't within the limits.
+    ///
+    /// A string or a key is too long, or it nests too deep.
     OutOfRange,
-    /// The room for the spelling was refused.
+    /// Out of memory.
     Memory,
 }
 
@@ -97,10 +99,12 @@ fn push_dict(out: &mut Vec<u8>, pairs: &Pairs) -> Result<(), AllocError>
     Ok(())
 }
 
-/// The one spelling of a value, in one allocation of its length (BEP 3).
+/// Encodes a value (BEP 3, "bencoding").
+///
+/// It makes one allocation, of the encoding's length.
 ///
 /// # Errors
-/// `OutOfRange` exactly where the value doesn't fit, `Memory` where the room was refused.
+/// `OutOfRange` exactly if the value isn't within the limits (see [`fits`](crate::fits)), `Memory` when out of memory.
 pub fn spell(alloc: Global, value: &Value) -> Result<Vec<u8>, SpellError>
     ensures ok { IfOk result (λ bytes. Fits (tree_of value.now) × (bytes.items ≡ ben (tree_of value.now))) }
     ensures out_of_range { (result ≡ Err SpellError.OutOfRange) ↔ ¬ Fits (tree_of value.now) }
@@ -115,7 +119,12 @@ pub fn spell(alloc: Global, value: &Value) -> Result<Vec<u8>, SpellError>
     Ok(out)
 }
 
-/// Appends the spelling of a value that fits. With room for it no memory is taken.
+/// Appends the encoding of a value within the limits.
+///
+/// It doesn't allocate if `out` has room for the encoding.
+///
+/// # Errors
+/// `AllocError` when out of memory.
 pub fn append_value(out: &mut Vec<u8>, value: &Value) -> Result<(), AllocError>
     requires { Fits (tree_of value.now) }
     ensures { OnOk result (out.new.items ≡ out.old.items ++ ben (tree_of value.now)) }

@@ -19,13 +19,15 @@ impl Model for ByteString {
     ghost view = { λ b. b.bytes.items };
 }
 
-/// Bencoded data (BEP 3, "bencoding").
+/// A value of bencoded data (BEP 3, "bencoding").
 #[cycle(value)]
 #[derive(Debug, Drop)]
 pub enum Value {
     /// An integer, from -2^63 to 2^63 - 1.
     Int(i64),
-    /// A byte string of any length; one of more than `MAX_STRING` bytes doesn't fit.
+    /// A byte string of any length.
+    ///
+    /// One of more than `MAX_STRING` bytes isn't within the limits.
     Bytes(ByteString),
     /// A list.
     List(Values),
@@ -61,7 +63,7 @@ impl Model for Values {
 
 /// The pairs of a dictionary in the order in which they are written.
 ///
-/// A clause sees them as pairs of a key and a tree.
+/// A contract sees them as pairs of a key and a tree.
 #[cycle(value)]
 #[derive(Debug, Drop)]
 pub struct Pairs {
@@ -88,28 +90,28 @@ impl Model for Pairs {
 }
 
 impl ByteString {
-    /// The byte string of these bytes. It takes no memory.
+    /// Makes a byte string of these bytes, without an allocation.
     pub fn from_vec(bytes: Vec<u8>) -> ByteString
         ensures { result ≡ bytes.items }
     {
         ByteString { bytes }
     }
 
-    /// The bytes, given back without taking memory.
+    /// Returns the bytes, without an allocation.
     pub fn into_vec(self) -> Vec<u8>
         ensures { result.items ≡ self }
     {
         self.bytes
     }
 
-    /// The bytes.
+    /// Returns the bytes.
     pub fn as_slice(&self) -> &[u8]
         ensures { result.now ≡ self.now }
     {
         &self.bytes
     }
 
-    /// How many bytes it has.
+    /// Returns how many bytes it has.
     pub fn len(&self) -> usize
         ensures value { result ≡ length self.now }
         ensures small { result < 2 ^ 63 }
@@ -118,7 +120,7 @@ impl ByteString {
         bytes.len()
     }
 
-    /// Whether it has no byte.
+    /// Returns whether it has no byte.
     pub fn is_empty(&self) -> bool
         ensures { result ≡ (length self.now == 0) }
     {
@@ -127,21 +129,21 @@ impl ByteString {
 }
 
 impl Values {
-    /// The list of these values. It takes no memory.
+    /// Makes a list of these values, without an allocation.
     pub fn from_vec(values: Vec<Value>) -> Values
         ensures { result ≡ trees_of values.items }
     {
         Values { values }
     }
 
-    /// The values, given back without taking memory.
+    /// Returns the values, without an allocation.
     pub fn into_vec(self) -> Vec<Value>
         ensures { trees_of result.items ≡ self }
     {
         self.values
     }
 
-    /// The values in order.
+    /// Returns the values in order.
     pub fn as_slice(&self) -> &[Value]
         ensures { trees_of result.now ≡ self.now }
     {
@@ -150,21 +152,21 @@ impl Values {
 }
 
 impl Pairs {
-    /// The dictionary of these pairs. It takes no memory.
+    /// Makes a dictionary of these pairs, without an allocation.
     pub fn from_vec(pairs: Vec<(ByteString, Value)>) -> Pairs
         ensures { result ≡ pairs_of pairs.items }
     {
         Pairs { pairs }
     }
 
-    /// The pairs, given back without taking memory.
+    /// Returns the pairs, without an allocation.
     pub fn into_vec(self) -> Vec<(ByteString, Value)>
         ensures { pairs_of result.items ≡ self }
     {
         self.pairs
     }
 
-    /// The pairs in order.
+    /// Returns the pairs in order.
     pub fn as_slice(&self) -> &[(ByteString, Value)]
         ensures { pairs_of result.now ≡ self.now }
     {
@@ -172,7 +174,9 @@ impl Pairs {
     }
 }
 
-/// What the first pair with the key has; `None` for what is no dictionary. It takes no memory.
+/// Returns the value of the first pair with the key, without an allocation.
+///
+/// `None` if no pair has the key, or `value` is no dictionary.
 pub fn lookup<'a>(value: &'a Value, key: &[u8]) -> Option<&'a Value>
     ensures { option_map (λ v. tree_of v.now) result ≡ lookup_of key.now (tree_of value.now) }
 {

@@ -1,4 +1,4 @@
-//! What an end is made with.
+//! What an end is made of, and why one can't be made.
 ghost use Rattle.std.specs.Prelude.{◌≡◌, ◌<◌, ◌≤◌};
 ghost use Rattle.std.specs.Option.{SomeIff};
 ghost use Rattle.bt_metadata.specs.Blocks.{window};
@@ -10,37 +10,39 @@ use std::marker::Model;
 use std::rc::Rc;
 use thiserror::Error;
 
-/// What an end says of its pieces after the handshakes (BEP 6).
+/// What an end says about its pieces after the handshakes (BEP 6).
 ///
-/// It says it if both ends know the Fast Extension.
+/// It says it if both peers support the Fast Extension.
 #[derive(Clone, Copy, PartialEq, Eq, Debug)]
 pub enum Announce {
-    /// Nothing.
+    /// It says nothing.
     Silent,
-    /// That it has all.
+    /// It has all pieces: have all.
     All,
-    /// That it has none.
+    /// It has no piece: have none.
     Nothing,
 }
 
 /// What an end does with metadata (BEP 9).
 #[derive(Debug, Drop)]
 pub enum Role<A: Allocator = Global> {
-    /// It neither serves nor fetches it.
+    /// It neither serves nor fetches metadata.
     Watch,
     /// It serves this metadata, of 1 to `MAX_METADATA` bytes.
     Serve(Vec<u8, A>),
-    /// It serves this metadata, of 1 to `MAX_METADATA` bytes, which other ends serve too.
+    /// It serves this metadata, of 1 to `MAX_METADATA` bytes, as other ends do.
     Share(Rc<Vec<u8, A>, A>),
-    /// It fetches it.
+    /// It fetches metadata.
     Fetch,
-    /// It fetches it if it has at most this many bytes. A greater size isn't begun, and takes no memory.
+    /// It fetches metadata of at most this many bytes.
+    ///
+    /// A greater size isn't fetched, and nothing is allocated for it.
     FetchUpTo(u64),
 }
 
-/// How many blocks an end asks for at once, 1 to `WINDOW`.
+/// How many requests an end has outstanding at once, 1 to `WINDOW`.
 ///
-/// Some peers answer one request at a time, others are slow with one. A clause sees the number.
+/// Some peers answer one request at a time, others are slow with one. A contract sees the number.
 #[derive(Clone, Copy, Debug, PartialEq, Eq)]
 pub struct Window {
     blocks: u8,
@@ -60,7 +62,7 @@ impl Model for Window {
 }
 
 impl Window {
-    /// As many blocks; `None` where they aren't 1 to `WINDOW`.
+    /// Makes a window of this many blocks; `None` if they aren't 1 to `WINDOW`.
     pub fn new(blocks: u8) -> Option<Window>
         ensures { SomeIff result ((0 < blocks) × (blocks ≤ window)) blocks }
     {
@@ -71,7 +73,7 @@ impl Window {
         }
     }
 
-    /// The number, 1 to `WINDOW`.
+    /// Returns the number of blocks, 1 to `WINDOW`.
     pub fn get(self) -> usize
         ensures same { result ≡ self }
         ensures bounds { (0 < result) × (result ≤ window) }
@@ -88,19 +90,21 @@ impl Default for Window {
     }
 }
 
-/// What an end is made with.
+/// What an end is made of.
 #[derive(Debug, Drop)]
 pub struct Config<A: Allocator = Global> {
-    /// How it receives. Its info hash has to be there, and its limit is 32,768 to 1,048,576.
+    /// The end as a receiver.
+    ///
+    /// It needs an info hash and a limit of 32,768 to 1,048,576 bytes.
     pub own: Own,
     pub peer_id: [u8; 20],
     pub announce: Announce,
-    /// How many blocks a fetching end asks for at once.
+    /// How many requests an end that fetches has outstanding at once.
     pub window: Window,
     pub role: Role<A>,
 }
 
-/// Why an end can't be made. Where several hold, the first is given.
+/// Why an end can't be made. If several causes apply, the first is returned.
 #[derive(Clone, Copy, PartialEq, Eq, Debug, Error)]
 pub enum EndError {
     /// The limit isn't 32,768 to 1,048,576.
@@ -109,7 +113,7 @@ pub enum EndError {
     /// There is no info hash.
     #[error("there is no info hash")]
     BadConfig,
-    /// The size of the metadata that is to be served isn't 1 to 67,108,864.
+    /// The metadata to serve doesn't have 1 to 67,108,864 bytes.
     #[error("the size of the metadata isn't 1 to 67,108,864")]
     BadSize,
     #[error("out of memory")]

@@ -1,4 +1,4 @@
-//! One end of a connection.
+//! An end of a connection: its calls and their errors. What an item makes of it is in `reactor`.
 use crate::config::{Announce, Config, EndError, Role, Window};
 use crate::event::Event;
 use crate::part::{Part, Progress};
@@ -13,75 +13,77 @@ use std::alloc::{Allocator, Global};
 use std::marker::Model;
 use thiserror::Error;
 
-/// What a turn did.
+/// What a call of [`End::turn`] did.
 #[derive(Clone, Copy, PartialEq, Eq, Debug)]
 pub enum Turn {
     /// An item was handled.
     Handled,
-    /// No whole item is held.
+    /// No whole item is buffered.
     Idle,
 }
 
 /// An item that was handled.
 #[derive(Drop)]
 pub struct Heard<'a> {
-    /// Where it starts on the stream.
+    /// The offset at which it starts on the stream.
     pub at: u64,
-    /// What the peer said.
+    /// The item.
     pub view: View<'a>,
-    /// What it made of the end.
+    /// What it did to the end.
     pub event: Event,
 }
 
-/// Why a turn handled nothing.
+/// Why no item was handled.
 #[derive(Clone, Copy, PartialEq, Eq, Debug, Error)]
 pub enum TurnError {
     /// The item is refused, now or before.
     #[error("message {} at {}: {}", .0.message, .0.at, .0.reason)]
     Refused(Refusal),
-    /// Too much waits to be sent.
+    /// Too much waits to be sent: at least [`HIGH_WATER`] bytes.
     #[error("too much waits to be sent")]
     Busy,
     #[error("out of memory")]
     Memory,
 }
 
-/// Why an end doesn't say a message.
+/// Why an end doesn't send a message.
 #[derive(Clone, Copy, PartialEq, Eq, Debug, Error)]
 pub enum SayError {
-    /// The peer's handshake isn't handled yet, or what came from it is refused.
+    /// The peer's handshake isn't handled yet, or the peer was refused.
     #[error("the connection isn't open")]
     NotOpen,
-    /// Too much waits to be sent.
+    /// Too much waits to be sent: at least [`HIGH_WATER`] bytes.
     #[error("too much waits to be sent")]
     Busy,
-    /// An end makes extended messages itself.
+    /// An end makes extended messages itself, except `lt_donthave`.
     #[error("an end makes extended messages itself")]
     Extended,
-    /// The message tells of pieces, and the piece count isn't known.
+    /// The message has a piece index or is a bitfield; the piece count isn't known.
     #[error("the piece count isn't known")]
     PiecesUnknown,
-    /// The peer, as the end takes it to be, would refuse it.
+    /// The message isn't legal for the peer, as far as its handshakes tell.
     #[error("the peer would refuse the message")]
     Illegal(Fault),
     #[error("out of memory")]
     Memory,
 }
 
-/// Why an end doesn't begin a fetch anew.
+/// Why an end doesn't begin a fetch.
 #[derive(Clone, Copy, PartialEq, Eq, Debug, Error)]
 pub enum BeginError {
-    /// Too much waits to be sent.
+    /// Too much waits to be sent: at least [`HIGH_WATER`] bytes.
     #[error("too much waits to be sent")]
     Busy,
     #[error("out of memory")]
     Memory,
 }
 
-/// The outbox's length, in bytes, from which on an end is busy.
+/// From this many bytes on that wait to be sent, an end is busy.
 pub const HIGH_WATER: usize = 1_048_576;
 
-/// The least limit of an end, so that each message that it makes and receives fits.
+/// The least limit of an end in bytes.
+///
+/// Each message that it makes, and each block, is within it.
 const MIN_LIMIT: u32 = 32_768;
 
 const MAX_LIMIT: u32 = 1_048_576;
@@ -119,7 +121,23 @@ impl From<Memory> for EndError {
     }
 }
 
-/// One end of a connection to a peer. A clause sees the end as values, its feed and the bytes that are to be sent.
+/// A peer without its socket: it answers, and fetches or serves metadata (BEP 9).
+///
+/// A contract sees the end as values, its feed and the bytes that are to be sent. A fetch over a connection repeats this:
+///
+/// ```rust
+/// let waiting = end.outgoing().len();
+/// end.drain(writer, waiting)?;
+/// if end.metadata().is_some() || end.is_hopeless() {
+///     break;
+/// }
+/// let count = reader.read(&mut buffer)?;
+/// if count == 0 {
+///     break;
+/// }
+/// let (_, handled) = end.handle(&buffer[..count]);
+/// handled?;
+/// ```
 #[derive(Drop)]
 pub struct End<A: Allocator = Global> {
     feed: Feed<A>,
@@ -157,7 +175,7 @@ ghost use Rattle.bt_end.specs.Parts.{part_of, shown_slice};
 ghost use Rattle.bt_end.specs.Configs.{part_for, is_bad_role, IsMade};
 ghost use Rattle.bt_end.specs.Sturdy.{IsPartOf, IsFetched, IsEnd, Sends};
 
-/// Whether a whole item is held in a feed that isn't refused.
+/// Returns whether a whole item is buffered in a feed that isn't refused.
 fn is_ready<A: Allocator>(feed: &Feed<A>) -> bool
     ensures { result ≡ is_ready feed.now }
 {
@@ -167,21 +185,21 @@ fn is_ready<A: Allocator>(feed: &Feed<A>) -> bool
     }
 }
 
-/// Does nothing: its contract says what is so of every feed.
+/// Does nothing: its contract states what holds for every feed.
 fn is_sound<A: Allocator>(feed: &Feed<A>)
     ensures { IsFeed feed.now }
 {
     let _ = feed.start();
 }
 
-/// Whether it is, but too much waits to be sent.
+/// Returns whether an item is ready and the outbox is full.
 fn is_busy<A: Allocator>(feed: &Feed<A>, outbox: &Outbox<A>) -> bool
     ensures { result ≡ (is_ready feed.now && nat_le high_water (length outbox.now.bytes)) }
 {
     outbox.bytes().len() >= HIGH_WATER && is_ready(feed)
 }
 
-/// A feed that awaits the peer's handshake, and an outbox that holds the own one.
+/// Makes a feed that awaits a handshake, and an outbox with the end's own.
 fn connect<A: Allocator + Copy>(
     alloc: A,
     own: &Own,
@@ -200,7 +218,7 @@ fn connect<A: Allocator + Copy>(
     Ok((feed, outbox))
 }
 
-/// What a role is at first.
+/// Returns the state in which a role begins.
 fn part_for<A: Allocator>(role: Role<A>) -> Result<Part<A>, BadSize>
     ensures ok { IfOk result (λ part. (is_bad_role role ≡ false) × (part_of part ≡ part_for role)) }
     ensures start { (hash : List ℕ) → IfOk result (λ part. IsPartOf hash (part_of part)) }
@@ -216,7 +234,11 @@ fn part_for<A: Allocator>(role: Role<A>) -> Result<Part<A>, BadSize>
 }
 
 impl<A: Allocator + Copy> End<A> {
-    /// An end on a new connection. Its handshake is to be sent.
+    /// Makes an end on a new connection, with its handshake to be sent.
+    ///
+    /// # Errors
+    /// The first that applies: `BadLimit` if the limit isn't 32,768 to 1,048,576, `BadConfig` if there is no info hash,
+    /// `BadSize` if the metadata to serve doesn't have 1 to `MAX_METADATA` bytes, `Memory` when out of memory.
     pub fn new(alloc: A, config: Config<A>) -> Result<End<A>, EndError>
         ensures { IsMade config result }
     {
@@ -245,7 +267,7 @@ impl<A: Allocator + Copy> End<A> {
         Ok(End::unopened(alloc, own, handshake, announce, window, part)?)
     }
 
-    /// An end on a new connection.
+    /// Makes an end on a new connection.
     fn unopened(
         alloc: A,
         own: Own,
@@ -263,9 +285,9 @@ impl<A: Allocator + Copy> End<A> {
         Ok(End { feed, reactor })
     }
 
-    /// Takes bytes from the peer, and says how many.
+    /// Takes bytes from the peer, and returns how many.
     ///
-    /// It takes them up to the end of the present item, or the byte with which that is refused.
+    /// It takes them up to the end of the current item, or up to the byte with which that is refused. It handles nothing.
     pub fn receive(&mut self, bytes: &[u8]) -> usize
         ensures taken { result ≡ taken self.old.feed bytes.now }
         ensures end { self.new ≡ received self.old bytes.now }
@@ -274,9 +296,9 @@ impl<A: Allocator + Copy> End<A> {
         self.feed.push(bytes)
     }
 
-    /// The bytes that are to be sent.
+    /// Returns the bytes that are to be sent.
     ///
-    /// They are fewer than `HIGH_WATER`, and one message of the limit's length more.
+    /// They are fewer than [`HIGH_WATER`], the end's limit and 4 together.
     pub fn outgoing(&self) -> &[u8]
         ensures value { result.now ≡ self.now.outbox }
         ensures bound { length result.now < high_water + self.now.end.own.limit + 4 }
@@ -287,7 +309,9 @@ impl<A: Allocator + Copy> End<A> {
         self.reactor.outbox.bytes()
     }
 
-    /// Drops the first n of them, which were sent.
+    /// Drops the first `n` of the bytes that are to be sent.
+    ///
+    /// They were sent: `n` is at most the length of [`End::outgoing`].
     pub fn sent(&mut self, n: usize)
         requires { n ≤ length self.old.outbox }
         ensures { self.new ≡ without_sent n self.old }
@@ -295,9 +319,12 @@ impl<A: Allocator + Copy> End<A> {
         self.reactor.outbox.drop_front(n);
     }
 
-    /// Writes at most `max` bytes of the outbox, and drops those that were taken.
+    /// Writes at most `max` of the bytes that are to be sent; returns how many.
     ///
-    /// It drops them also at a fault.
+    /// It drops what was written. Without an error that is `max` bytes, or all if there are fewer.
+    ///
+    /// # Errors
+    /// `WriteFault` if a write failed or took no byte before that; the bytes that were written are dropped.
     pub fn drain<W: Target>(&mut self, writer: &mut W, max: usize) -> Result<usize, WriteFault>
         ensures count { IfOk result (λ n. n ≡ min max (length self.old.outbox)) }
         ensures sends { IfOk result (λ n. Sends self.old self.new (W.seen writer.old) (W.seen writer.new) n) }
@@ -309,9 +336,9 @@ impl<A: Allocator + Copy> End<A> {
         self.reactor.outbox.drain(writer, max)
     }
 
-    /// The metadata that was fetched.
+    /// Returns the metadata that was fetched.
     ///
-    /// It has 1 to `MAX_METADATA` bytes, and its SHA-1 is the info hash.
+    /// It has 1 to `MAX_METADATA` bytes, and its SHA-1 is the info hash (BEP 9).
     pub fn metadata(&self) -> Option<&[u8]>
         ensures value { shown_slice result ≡ metadata_of self.now.end.part }
         ensures right { IfSome result (λ m. sha1 m.now ≡ self.now.end.handshake.info_hash) }
@@ -320,7 +347,7 @@ impl<A: Allocator + Copy> End<A> {
         self.reactor.part.metadata()
     }
 
-    /// The block `piece`, if it is held and not all of the metadata is there yet.
+    /// Returns the block `piece`, if it has come and the metadata isn't complete.
     pub fn block(&self, piece: u32) -> Option<&[u8]>
         ensures value { option_copied result ≡ fetched_block self.now.end.part piece }
         ensures assembly { IsFetched self.now.end.part }
@@ -328,7 +355,13 @@ impl<A: Allocator + Copy> End<A> {
         self.reactor.part.block(piece)
     }
 
-    /// Handles the next item, where it is whole and not too much waits to be sent. Out of memory nothing changes.
+    /// Handles the next item, if one is whole.
+    ///
+    /// It answers the peer: what is to be sent is in [`End::outgoing`] then.
+    ///
+    /// # Errors
+    /// `Refused` if the item is refused, now or before: close the connection. `Busy` if an item is whole and at least
+    /// [`HIGH_WATER`] bytes wait to be sent. `Memory` when out of memory. After `Busy` and `Memory` nothing has changed.
     pub fn turn(&mut self) -> Result<Turn, TurnError>
         ensures { IsTurned self.old result self.new }
     {
@@ -341,9 +374,9 @@ impl<A: Allocator + Copy> End<A> {
         }
     }
 
-    /// Handles the item that is held, if one is, but doesn't take it.
+    /// Handles the item that is buffered, if it is whole, but doesn't take it.
     ///
-    /// It returns what is awaited after it, and what it made of the end.
+    /// It returns what is awaited after it, and what it did to the end.
     fn meet(&mut self) -> Result<Option<(Stage, Event)>, TurnError>
         ensures { IsMet self.old result self.new }
     {
@@ -374,7 +407,13 @@ impl<A: Allocator + Copy> End<A> {
         self.feed.take()
     }
 
-    /// Handles the next item as [`End::turn`] does, and returns what the peer said and what it made of the end.
+    /// Handles the next item, and returns the item and what it did to the end.
+    ///
+    /// `None` if no item is whole. Give bytes by [`End::receive`], and call this until it returns `None`; then give the rest.
+    ///
+    /// # Errors
+    /// `Refused` if the item is refused, now or before: close the connection. `Busy` if an item is whole and at least
+    /// [`HIGH_WATER`] bytes wait to be sent. `Memory` when out of memory. After `Busy` and `Memory` nothing has changed.
     pub fn next(&mut self) -> Result<Option<Heard<'_>>, TurnError>
         ensures heard { IsHeard self.old result }
         ensures* after { sem 𝓛 (Rests (the_row A.row A.Allocator) self.entry (λ new. IsTurned self.old (turn_of result) new)) }
@@ -391,7 +430,12 @@ impl<A: Allocator + Copy> End<A> {
         }
     }
 
-    /// Says a message, where the peer, as the end takes it to be, wouldn't refuse it. Each refusal changes nothing.
+    /// Queues a message if it is legal for the peer, as far as its handshakes tell.
+    ///
+    /// # Errors
+    /// The first that applies; the end is then unchanged. `NotOpen` before the peer's handshake and after a refusal, `Busy` if at
+    /// least [`HIGH_WATER`] bytes wait to be sent, `Extended` for an extended message other than `lt_donthave`, `PiecesUnknown` for
+    /// a piece index or a bitfield without a known piece count, `Illegal` if the peer would refuse it, `Memory` when out of memory.
     pub fn say(&mut self, message: &Message) -> Result<(), SayError>
         ensures { IsSaid self.old message.now result self.new }
     {
@@ -399,28 +443,35 @@ impl<A: Allocator + Copy> End<A> {
         self.reactor.say(refused, message)
     }
 
-    /// The context that it takes the peer to receive in.
+    /// Returns the context by which the end encodes: that in which the peer receives.
+    ///
+    /// It is known as far as the peer's handshakes tell, with the end's own piece count, rules and limit.
     pub fn belief(&self) -> Context
         ensures { result ≡ belief self.now.end }
     {
         self.reactor.belief()
     }
 
-    /// The order in which it sends.
+    /// Returns the order of the messages that the end has queued on this connection.
     pub fn sending(&self) -> Order
         ensures { result ≡ self.now.end.sends }
     {
         self.reactor.sends
     }
 
-    /// The handshake that it sends.
+    /// Returns the handshake that the end sends.
     pub fn handshake(&self) -> Handshake
         ensures { result ≡ self.now.end.handshake }
     {
         self.reactor.handshake
     }
 
-    /// Begins a new connection. What was fetched stays, and the blocks that are held do. Out of memory nothing changes.
+    /// Begins a new connection, with the end's handshake to be sent.
+    ///
+    /// The metadata and the blocks that have come stay; bytes that wait to be sent are dropped.
+    ///
+    /// # Errors
+    /// `Memory` when out of memory; the end is then unchanged.
     pub fn reset(&mut self) -> Result<(), Memory>
         ensures ok { OnOk result (self.new ≡ connected (renewed self.old.end)) }
         ensures memory { OnErr result (self.new ≡ self.old) }
@@ -435,11 +486,12 @@ impl<A: Allocator + Copy> End<A> {
 
     /// Fetches metadata of `size` bytes from now on, and returns whether it does.
     ///
-    /// What was held of another size is dropped, and requests are queued. It doesn't if it fetches nothing, if the metadata is there, or if
-    /// the size isn't 1 to `MAX_METADATA`. So a caller goes on over the same connection if the size that a peer announced first was false.
+    /// Blocks of another size are dropped, and requests are queued. It doesn't if the end fetches nothing, if it has the
+    /// metadata, or if `size` isn't 1 to `MAX_METADATA`. With it a caller goes on over the same connection if the size that a
+    /// peer announced was false.
     ///
     /// # Errors
-    /// `Busy` if too much waits to be sent, `Memory` if memory is refused. Each changes nothing.
+    /// `Busy` if at least [`HIGH_WATER`] bytes wait to be sent, `Memory` when out of memory. The end is then unchanged.
     pub fn begin(&mut self, size: u64) -> Result<bool, BeginError>
         ensures { IsBegun self.old size result self.new }
     {
@@ -455,25 +507,27 @@ impl<A: Allocator + Copy> End<A> {
         }
     }
 
-    /// Asks for at most `window` blocks at once from now on. What is asked stays asked.
+    /// Has at most `window` requests outstanding from now on.
+    ///
+    /// Requests that are outstanding stay so.
     pub fn set_window(&mut self, window: Window)
         ensures { self.new ≡ with_window window self.old }
     {
         self.reactor.window = window;
     }
 
-    /// How often, on this connection, the blocks were those of other metadata.
+    /// Returns how often all blocks came and weren't those of the metadata.
     ///
-    /// Each block was held then, and their SHA-1 wasn't the info hash. The fetch started over. The count stays at 2^64 - 1.
+    /// Their SHA-1 wasn't the info hash, and the fetch started over. The count is that of this connection, at most 2^64 - 1.
     pub fn mismatches(&self) -> u64
         ensures { result ≡ self.now.end.mismatches }
     {
         self.reactor.mismatches
     }
 
-    /// How far the fetch has come.
+    /// Returns how far the fetch has come.
     ///
-    /// `None`: no size is known, or nothing is fetched. An end that is done holds all blocks.
+    /// `None` if no size is known, or nothing is fetched. An end that has the metadata has all blocks.
     pub fn progress(&self) -> Option<Progress>
         ensures value { result ≡ progress_of self.now.end.part }
         ensures bounds { IfSome result (λ p. (0 < p.size) × (p.size ≤ max_metadata) × (p.held ≤ p.blocks)) }
@@ -481,18 +535,18 @@ impl<A: Allocator + Copy> End<A> {
         self.reactor.part.progress()
     }
 
-    /// Whether it fetches, and no block can come any more on this connection.
+    /// Returns whether it fetches, and no block can come any more on this connection.
     ///
-    /// None can come, whatever the peer sends, where the end has no id of its own for metadata messages, where not both ends know the Extension Protocol
-    /// (BEP 10), and where each block that isn't held was rejected. A peer that announced no id for metadata messages can
-    /// announce one later, so that alone isn't hopeless.
+    /// None can come, whatever the peer sends, if the end has no id of its own for metadata messages, if not both peers
+    /// support the Extension Protocol (BEP 10), or if each block that hasn't come was rejected. A peer that announced no id
+    /// for metadata messages can announce one later, so this isn't hopeless yet.
     pub fn is_hopeless(&self) -> bool
         ensures { result ≡ is_hopeless self.now.end }
     {
         self.reactor.is_hopeless()
     }
 
-    /// Takes what the feed may take of the bytes, and handles the item that it then holds.
+    /// Takes what the feed takes of the bytes, and handles the item if it is whole.
     fn round(&mut self, bytes: &[u8]) -> (usize, Result<Turn, TurnError>)
         ensures taken { result.0 ≡ taken self.old.feed bytes.now }
         ensures turned { IsTurned (received self.old bytes.now) result.1 self.new }
@@ -502,10 +556,14 @@ impl<A: Allocator + Copy> End<A> {
         (taken, self.turn())
     }
 
-    /// Receives these bytes and handles the items in them. It says how many bytes were used, and why it stopped.
+    /// Takes these bytes and handles the items in them; returns how many it used.
     ///
-    /// With `Ok`, all bytes were used, and no whole item is left. After `Busy` and `Memory` call it again with the rest of the
-    /// bytes, which may be none: after `Busy` once less waits to be sent. A refusal stays.
+    /// It goes on until no whole item is left, and all bytes are used. After `Busy` and `Memory` call it again with the rest of the
+    /// bytes, which may be none: after `Busy` once less waits to be sent.
+    ///
+    /// # Errors
+    /// `Refused` if an item is refused, now or before. `Busy` if an item is whole and at least [`HIGH_WATER`] bytes wait to
+    /// be sent. `Memory` when out of memory.
     pub fn handle(&mut self, bytes: &[u8]) -> (usize, Result<(), TurnError>)
         ensures handled { IsHandled self.old bytes.now result.0 result.1 self.new }
         ensures stop { IsStop result.1 self.new }

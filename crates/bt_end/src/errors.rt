@@ -1,4 +1,4 @@
-//! The errors of an end as the one error of an embedding.
+//! The errors of an end, as the one error of a program that talks to a peer.
 ghost use Rattle.std.specs.Prelude.{◌≡◌};
 ghost use Rattle.bt_end.specs.Errors.{of_turn, of_say, of_end};
 

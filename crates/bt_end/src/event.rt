@@ -1,52 +1,52 @@
-//! What an item makes of an end, for a caller that wants to know.
+//! What an item did to an end.
 ghost use Rattle.std.specs.Prelude.{◌≡◌};
 ghost use Rattle.bt_wire.specs.Messages.{message_of};
 ghost use Rattle.bt_end.specs.Events.{plain_event, is_mismatched};
 
 use bt_wire::{Handshake, MessageView};
 
-/// What an item made of an end.
+/// What an item did to an end.
 #[derive(Clone, Copy, PartialEq, Eq, Debug)]
 pub enum Event {
-    /// The peer's handshake was handled, and was this: the connection is open.
+    /// The peer's handshake was handled, and is this one: the connection is open.
     Opened(Handshake),
     /// The peer's extended handshake was handled.
     Announced {
         /// The id under which the peer wants metadata messages from now on.
         id: Option<u8>,
-        /// The size of metadata that this handshake tells.
+        /// The size of metadata in bytes that this handshake announces.
         size: Option<u64>,
         /// Whether metadata of this size is fetched from now on.
         begins: bool,
     },
-    /// The block of this number was asked for, and is held. Others lack.
+    /// The block of this number was requested, and has come. Others are missing.
     Block(u32),
-    /// The block of this number was asked for, and the peer rejected it.
+    /// The block of this number was requested, and the peer rejected it.
     Rejected(u32),
-    /// The last block came, and the metadata is there.
+    /// The last block came, and the metadata is complete.
     Fetched,
-    /// The last block came, and the blocks are those of other metadata. The fetch started over.
+    /// The last block came, and the SHA-1 isn't the info hash. The fetch started over.
     Mismatched,
-    /// The peer asked for the block of this number, which is to be sent.
+    /// The peer requested the block of this number, which is queued.
     Served(u32),
-    /// The peer asked for a block of this number, and a reject is to be sent.
+    /// The peer requested a block of this number, and a reject is queued.
     Declined(u32),
-    /// The peer asked for a block of a piece.
+    /// The peer requested a block of a piece: answering is up to the caller.
     Requested {
         index: u32,
         begin: u32,
         length: u32,
     },
-    /// A block of a piece came. An end never asks for one.
+    /// A block of a piece came. An end never requests one itself.
     Piece {
         index: u32,
         begin: u32,
     },
-    /// None of these.
+    /// The item did none of these.
     Other,
 }
 
-/// Returns what a message makes of an end that isn't one of the Extension Protocol.
+/// Returns what a message that isn't extended does to an end.
 pub(crate) fn plain_event(message: &MessageView) -> Event
     ensures { result ≡ plain_event (message_of message.now) }
 {
@@ -69,7 +69,7 @@ pub(crate) fn plain_event(message: &MessageView) -> Event
 }
 
 impl Event {
-    /// Whether the blocks that came are those of other metadata.
+    /// Returns whether the blocks that came are those of other metadata.
     pub fn is_mismatched(self) -> bool
         ensures { result ≡ is_mismatched self }
     {

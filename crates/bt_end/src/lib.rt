@@ -1,7 +1,7 @@
-//! One end of a connection: it answers the peer, and fetches or serves metadata.
+//! A peer without its socket: it answers the other peer, and fetches or serves metadata (BEP 9).
 //!
 //! Bytes from the peer go in by [`End::receive`], [`End::turn`] handles an item of them, and [`End::outgoing`] has the bytes
-//! that the peer is to get. No socket is used here: the caller moves the bytes.
+//! that the peer is to get. The caller moves the bytes.
 #![tactic(auto)]
 
 mod config;

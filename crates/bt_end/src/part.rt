@@ -1,4 +1,4 @@
-//! What an end does with metadata.
+//! The metadata of an end: none, served, or fetched so far.
 ghost use Rattle.std.specs.Prelude.{◌≡◌, ◌<◌, ◌≤◌, option_map, option_copied, IfOk, IfSome};
 ghost use Rattle.bt_metadata.specs.Blocks.{max_metadata};
 ghost use Rattle.bt_end.specs.Ends.{served_size, wanted, with_asked, new_assembly, assembly_of, anew, with_block, with_refused, part_kept, metadata_of, progress_of, is_fetching, is_settled, fetched_block};
@@ -15,10 +15,10 @@ use std::alloc::{AllocError, Allocator};
 /// What an end does with metadata.
 #[derive(Drop)]
 pub enum Part<A: Allocator> {
-    /// Neither serves nor fetches it.
+    /// It neither serves nor fetches metadata.
     Watching,
     Serving(Server<A>),
-    /// Fetches it; its size isn't known yet, and is at most this.
+    /// It fetches metadata whose size isn't known yet, and is at most this many bytes.
     Awaiting(u64),
     Fetching(Assembly<A>),
     Fetched(Vec<u8, A>),
@@ -31,7 +31,7 @@ pub struct Progress {
     pub size: u64,
     /// How many blocks the metadata has.
     pub blocks: usize,
-    /// How many of them are held.
+    /// How many of them have come.
     pub held: usize,
 }
 
@@ -57,7 +57,7 @@ fn new_assembly<A: Allocator + Copy>(
 }
 
 impl<A: Allocator + Copy> Part<A> {
-    /// The size of the metadata that is served.
+    /// Returns the size in bytes of the metadata that is served.
     pub fn served_size(&self) -> Option<u64>
         ensures value { result ≡ served_size (part_of self.now) }
     {
@@ -67,7 +67,7 @@ impl<A: Allocator + Copy> Part<A> {
         }
     }
 
-    /// The metadata that was fetched.
+    /// Returns the metadata that was fetched.
     pub fn metadata(&self) -> Option<&[u8]>
         ensures { shown_slice result ≡ metadata_of (part_of self.now) }
     {
@@ -77,7 +77,7 @@ impl<A: Allocator + Copy> Part<A> {
         }
     }
 
-    /// The block of this number, where it is held by an end that is fetching.
+    /// Returns the block `piece`, if it has come and the metadata isn't complete.
     pub fn block(&self, piece: u32) -> Option<&[u8]>
         ensures value { option_copied result ≡ fetched_block (part_of self.now) piece }
         ensures assembly { IsFetched (part_of self.now) }
@@ -88,7 +88,7 @@ impl<A: Allocator + Copy> Part<A> {
         }
     }
 
-    /// The answer to a request for a block.
+    /// Returns the answer to a request for the block `piece`.
     pub fn answer(&self, piece: u32) -> Reply<'_>
         ensures reply { IsReplyOf (part_of self.now) piece result }
         ensures bounds { IsBounded result }
@@ -99,9 +99,12 @@ impl<A: Allocator + Copy> Part<A> {
         }
     }
 
-    /// Makes the assembly for metadata of this size.
+    /// Makes the assembly for metadata of this size in bytes.
     ///
-    /// `None` if none is awaited, or the size isn't one of metadata or is above the greatest that is taken.
+    /// `None` if none is awaited, or the size isn't one of metadata or is above the greatest that is fetched.
+    ///
+    /// # Errors
+    /// `AllocError` when out of memory.
     pub fn assembly(
         &self,
         alloc: A,
@@ -116,9 +119,12 @@ impl<A: Allocator + Copy> Part<A> {
         new_assembly(alloc, *most, info_hash, size)
     }
 
-    /// Makes the assembly with which a fetch begins anew with this size.
+    /// Makes the assembly with which a fetch starts over with this size in bytes.
     ///
     /// `None` if nothing is fetched, or the size isn't one of metadata.
+    ///
+    /// # Errors
+    /// `AllocError` when out of memory.
     pub fn anew(
         &self,
         alloc: A,
@@ -133,9 +139,9 @@ impl<A: Allocator + Copy> Part<A> {
         new_assembly(alloc, MAX_METADATA as u64, info_hash, size)
     }
 
-    /// Asks for the next block, and returns its number.
+    /// Returns the next block to request, and marks it as requested.
     ///
-    /// `None` while as many are asked as may be at once.
+    /// `None` while as many requests are outstanding as `window` allows, or if there is no such block.
     pub fn ask(&mut self, window: Window) -> Option<u32>
         ensures value { result ≡ wanted window (part_of self.old) }
         ensures state { part_of self.new ≡ with_asked result (part_of self.old) }
@@ -146,10 +152,9 @@ impl<A: Allocator + Copy> Part<A> {
         }
     }
 
-    /// Holds a block, and returns what came of it.
+    /// Stores a block that was requested, and returns what it did.
     ///
-    /// The block was asked for. The metadata is there when each block is held and the SHA-1 is the info hash; where it is
-    /// another, all starts over.
+    /// The metadata is complete when each block has come and the SHA-1 is the info hash; if it is another, the fetch starts over.
     pub fn with_block(self, piece: u32, total: u64, block: &[u8]) -> (Part<A>, Event)
         ensures part { part_of result.0 ≡ with_block piece total block.now (part_of self) }
         ensures event { result.1 ≡ block_event piece total block.now (part_of self) }
@@ -172,7 +177,7 @@ impl<A: Allocator + Copy> Part<A> {
         }
     }
 
-    /// Notes that a block is refused, and returns what came of that.
+    /// Marks a block as rejected, and returns what that did.
     pub fn reject(&mut self, piece: u32) -> Event
         ensures part { part_of self.new ≡ with_refused piece (part_of self.old) }
         ensures event { result ≡ reject_event piece (part_of self.old) }
@@ -186,7 +191,7 @@ impl<A: Allocator + Copy> Part<A> {
         }
     }
 
-    /// Forgets what is asked and rejected, for a new connection.
+    /// Forgets what is requested and rejected, for a new connection.
     pub fn disconnect(&mut self)
         ensures { part_of self.new ≡ part_kept (part_of self.old) }
     {
@@ -197,7 +202,7 @@ impl<A: Allocator + Copy> Part<A> {
 
     /// Returns how far the fetch has come.
     ///
-    /// Nothing where no size is known, or nothing is fetched.
+    /// `None` if no size is known, or nothing is fetched.
     pub fn progress(&self) -> Option<Progress>
         ensures { result ≡ progress_of (part_of self.now) }
     {
@@ -216,7 +221,7 @@ impl<A: Allocator + Copy> Part<A> {
         }
     }
 
-    /// Whether it fetches metadata that isn't there yet.
+    /// Returns whether it fetches metadata that isn't complete.
     pub fn is_fetching(&self) -> bool
         ensures { result ≡ is_fetching (part_of self.now) }
     {
@@ -226,7 +231,7 @@ impl<A: Allocator + Copy> Part<A> {
         }
     }
 
-    /// Whether each block is held, or the peer rejected it.
+    /// Returns whether each block has come, or the peer rejected it.
     pub fn is_settled(&self) -> bool
         ensures { result ≡ is_settled (part_of self.now) }
     {

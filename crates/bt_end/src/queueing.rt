@@ -1,4 +1,4 @@
-//! Messages that are put into an outbox where room for them is made, so that they take no memory.
+//! Messages that are encoded into an outbox that has room for them, without an allocation.
 ghost use Rattle.std.specs.Prelude.{◌≡◌, ℕ, ◌+◌, ◌-◌, ◌<◌, ◌≤◌, ◌^◌, ◌++◌, ◌∷◌, [], List, length, length as list_length, OnOk, OnErr};
 ghost use Rattle.std.specs.Option.{ForSome};
 ghost use Rattle.bt_bencode.specs.Bencoding.{ben};
@@ -13,8 +13,9 @@ use bt_feed::{Memory, Outbox};
 use bt_wire::Fields;
 use std::alloc::Allocator;
 
-/// As many bytes as a message with a block may have, and its dictionary as `DictText` has it: more than any message that an
-/// end makes.
+/// More bytes than any message that an end makes.
+///
+/// The longest has a block and the dictionary before it.
 pub const ROOM: usize = 16_610;
 
 /// Appends bytes to those that are to be sent.
@@ -45,7 +46,7 @@ fn put_extended<A: Allocator>(outbox: &mut Outbox<A>, id: u8, dict: &[u8], rest:
     put(outbox, rest);
 }
 
-/// Puts a metadata message, with these bytes after its dictionary.
+/// Queues a metadata message, with the bytes `rest` after its dictionary.
 pub fn put_message<A: Allocator>(outbox: &mut Outbox<A>, id: u8, kind: Kind, rest: &[u8])
     requires kind { IsMade kind }
     requires rest { length rest.now ≤ 16384 }
@@ -59,9 +60,9 @@ pub fn put_message<A: Allocator>(outbox: &mut Outbox<A>, id: u8, kind: Kind, res
     put_extended(outbox, id, &text[start..], rest);
 }
 
-/// Puts an extended handshake into the outbox.
+/// Queues an extended handshake (BEP 10).
 ///
-/// It has the end's registered ids and the size of metadata that it serves, if it serves any.
+/// It has the end's registered ids and the size in bytes of the metadata that it serves, if it serves any.
 pub fn put_handshake<A: Allocator>(outbox: &mut Outbox<A>, reg: Registered, size: Option<u64>)
     requires room { 226 ≤ outbox.old.room }
     ensures bytes { outbox.new.bytes ≡ outbox.old.bytes ++ framed 0 (ben (handshake_tree reg size) ++ []) }
@@ -73,9 +74,12 @@ pub fn put_handshake<A: Allocator>(outbox: &mut Outbox<A>, reg: Registered, size
     put_extended(outbox, 0, &text[start..], &[]);
 }
 
-/// Puts a message that takes back a piece into the outbox.
+/// Queues `lt_donthave` for a piece, under the peer's id.
 ///
-/// It makes room for it, and writes it under the peer's id.
+/// It makes room for it.
+///
+/// # Errors
+/// `Memory` when out of memory; the bytes to be sent are then unchanged.
 pub fn put_donthave<A: Allocator>(outbox: &mut Outbox<A>, id: u8, index: u32) -> Result<(), Memory>
     ensures ok { OnOk result (outbox.new.bytes ≡ outbox.old.bytes ++ framed id (index_bytes index)) }
     ensures err { OnErr result (outbox.new.bytes ≡ outbox.old.bytes) }
@@ -119,7 +123,12 @@ fn put_fields<A: Allocator>(outbox: &mut Outbox<A>, fields: &Fields)
     }
 }
 
-/// Makes room for a message that isn't extended, and puts it there. The bytes after its length are `length`.
+/// Queues a message that isn't extended; `length` is its length prefix.
+///
+/// It makes room for it.
+///
+/// # Errors
+/// `Memory` when out of memory; the bytes to be sent are then unchanged.
 pub fn put_plain<A: Allocator>(
     outbox: &mut Outbox<A>,
     length: u32,

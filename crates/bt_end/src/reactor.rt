@@ -1,4 +1,4 @@
-//! What an end does at each item, over what it sends.
+//! What each item does to an end, and what the end sends for it. The bytes that come are the feed's.
 ghost use Rattle.std.specs.Prelude.{◌≡◌, ◌+◌, ◌<◌, ◌≤◌, Some, true, false, [], length, length as list_length, IfOk, IfSome, OnErr};
 ghost use Rattle.bt_bencode.specs.Trees.{dictionary};
 ghost use Rattle.bt_ext.specs.Payloads.{seen};
@@ -30,12 +30,12 @@ use bt_wire::{
 use std::alloc::Allocator;
 use std::mem;
 
-/// An end but for its feed.
+/// An end without its feed.
 #[derive(Drop)]
 pub struct Reactor<A: Allocator> {
     pub alloc: A,
     pub own: Own,
-    /// The one that it sends.
+    /// The handshake that it sends.
     pub handshake: Handshake,
     pub announce: Announce,
     pub window: Window,
@@ -45,24 +45,28 @@ pub struct Reactor<A: Allocator> {
     pub sends: Order,
     pub table: Table<A>,
     pub part: Part<A>,
-    /// How often, on this connection, the blocks that came were those of other metadata.
+    /// How often all blocks came and the SHA-1 wasn't the info hash.
+    ///
+    /// It counts on this connection.
     pub mismatches: u64,
     pub outbox: Outbox<A>,
 }
 
-/// What memory was taken for, before an item is handled.
+/// What was allocated before an item is handled.
 #[derive(Drop)]
 pub enum Plan<A: Allocator> {
-    /// Room in the outbox alone, or nothing.
+    /// Only room in the outbox, or nothing.
     Nothing,
-    /// The table as it will be, and an assembly that begins.
+    /// The table as it will be, and an assembly for a fetch that begins.
     Learn {
         table: Table<A>,
         assembly: Option<Assembly<A>>,
     },
 }
 
-/// Whether memory is taken for a metadata message: one that may be answered, or after which a request may follow.
+/// Returns whether a metadata message needs an allocation.
+///
+/// It does if it may be answered, or if a request may follow it.
 fn kind_takes_memory(kind: Kind) -> bool
     ensures { result ≡ kind_takes_memory kind }
 {
@@ -72,7 +76,7 @@ fn kind_takes_memory(kind: Kind) -> bool
     }
 }
 
-/// Whether memory is taken for an item.
+/// Returns whether an item needs an allocation.
 fn takes_memory(view: &View) -> bool
     ensures { result ≡ takes_memory (item_of view.now) }
 {
@@ -104,7 +108,7 @@ fn dict_in<'a>(view: &View<'a>) -> Option<DictRef<'a>>
 }
 
 impl<A: Allocator + Copy> Reactor<A> {
-    /// An end before its first connection.
+    /// Makes an end before its first connection.
     pub fn new(
         alloc: A,
         own: Own,
@@ -133,7 +137,7 @@ impl<A: Allocator + Copy> Reactor<A> {
         }
     }
 
-    /// The id under which the peer wants metadata messages.
+    /// Returns the id under which the peer wants metadata messages.
     fn peer_id(&self) -> Option<u8>
         ensures value { result ≡ peer_id (end_of self.now) }
         ensures above { IfSome result (λ id. 0 < id) }
@@ -141,7 +145,7 @@ impl<A: Allocator + Copy> Reactor<A> {
         self.table.id_of(b"ut_metadata")
     }
 
-    /// Queues what is said of the pieces.
+    /// Queues what the end says about its pieces.
     fn announce(&mut self)
         requires room { 5 ≤ self.old.outbox.room }
         ensures { IsReacted self.old self.new (queueing (end_of self.old) (announced self.old.announce)) }
@@ -159,7 +163,7 @@ impl<A: Allocator + Copy> Reactor<A> {
         }
     }
 
-    /// Opens the end, and queues what is said first.
+    /// Opens the end, and queues its first messages.
     fn greet(&mut self, context: Context)
         requires room { 16610 ≤ self.old.outbox.room }
         ensures { IsReacted self.old self.new (greeted (end_of self.old) context) }
@@ -227,7 +231,7 @@ impl<A: Allocator + Copy> Reactor<A> {
         }
     }
 
-    /// Takes the peer's names and ids, and begins the assembly.
+    /// Applies the peer's names and ids, and begins the assembly.
     fn learn(&mut self, table: Table<A>, assembly: Option<Assembly<A>>)
         ensures end { end_of self.new ≡ learned (end_of self.old) table assembly }
         ensures outbox { self.new.outbox ≡ self.old.outbox }
@@ -238,7 +242,12 @@ impl<A: Allocator + Copy> Reactor<A> {
         }
     }
 
-    /// Makes the assembly with which the end begins anew with this size, and room for the requests. The end isn't changed.
+    /// Makes the assembly for metadata of `size` bytes, and room for the requests.
+    ///
+    /// It changes the end's room only. `None` if the end fetches nothing, or `size` isn't one of metadata.
+    ///
+    /// # Errors
+    /// `Memory` when out of memory.
     pub fn anew(&mut self, size: u64) -> Result<Option<Assembly<A>>, Memory>
         ensures ok { IfOk result (λ a. a ≡ anew self.old.handshake.info_hash (part_of self.old.part) size) }
         ensures room { IfOk result (λ a. 16610 ≤ self.new.outbox.room) }
@@ -320,7 +329,7 @@ impl<A: Allocator + Copy> Reactor<A> {
         }
     }
 
-    /// The table and the assembly that an extended handshake with this dictionary makes.
+    /// Makes the table and the assembly that an extended handshake leads to.
     fn lesson(&self, dict: &DictRef) -> Result<Plan<A>, Memory>
         ensures { IfOk result (λ plan. IsLesson (end_of self.now) (dictionary dict.now.tree.0) plan) }
     {
@@ -340,7 +349,10 @@ impl<A: Allocator + Copy> Reactor<A> {
         }
     }
 
-    /// Takes the memory for what handling an item will need. The end isn't changed.
+    /// Allocates what handling an item will need. Only the room of the end changes.
+    ///
+    /// # Errors
+    /// `Memory` when out of memory; it comes only for an item for which something is allocated.
     pub fn plan(&mut self, view: &View) -> Result<Plan<A>, Memory>
         ensures ok { IfOk result (λ plan. IsPlan (end_of self.old) (item_of view.now) plan) }
         ensures room { IfOk result (λ plan. takes_memory (item_of view.now) ≡ true → 16610 ≤ self.new.outbox.room) }
@@ -357,7 +369,9 @@ impl<A: Allocator + Copy> Reactor<A> {
         }
     }
 
-    /// Handles an item, for which memory was taken. It takes none.
+    /// Handles an item, with what was allocated for it, and returns what it did.
+    ///
+    /// It doesn't allocate.
     pub fn handle(&mut self, view: &View, plan: Plan<A>) -> Event
         requires plan { IsPlan (end_of self.old) (item_of view.now) plan }
         requires room { takes_memory (item_of view.now) ≡ true → 16610 ≤ self.old.outbox.room }
@@ -380,7 +394,9 @@ impl<A: Allocator + Copy> Reactor<A> {
         }
     }
 
-    /// What both agreed on; nothing before the peer's handshake.
+    /// Returns what both peers have agreed on.
+    ///
+    /// That is no extension before the peer's handshake.
     fn agreed(&self) -> Context
         ensures { result ≡ agreed (end_of self.now) }
     {
@@ -390,7 +406,7 @@ impl<A: Allocator + Copy> Reactor<A> {
         }
     }
 
-    /// The context that it takes the peer to receive in.
+    /// Returns the context by which the end encodes: that in which the peer receives.
     pub fn belief(&self) -> Context
         ensures { result ≡ belief (end_of self.now) }
     {
@@ -405,7 +421,7 @@ impl<A: Allocator + Copy> Reactor<A> {
         }
     }
 
-    /// Whether a message has a piece index, or is a bitfield.
+    /// Returns whether a message has a piece index, or is a bitfield.
     fn tells_pieces(&self, message: &Message) -> bool
         ensures { result ≡ tells_pieces (end_of self.now) message.now }
     {
@@ -423,7 +439,7 @@ impl<A: Allocator + Copy> Reactor<A> {
         }
     }
 
-    /// Why it says nothing, whatever the message would be judged.
+    /// Returns why the end doesn't send a message, before it is checked for the peer.
     fn unsaid(&self, refused: bool, message: &Message) -> Option<SayError>
         ensures { result ≡ unsaid (end_of self.now) refused (length self.now.outbox.bytes) message.now }
     {
@@ -440,7 +456,7 @@ impl<A: Allocator + Copy> Reactor<A> {
         }
     }
 
-    /// Puts a message that takes back a piece, and may be sent, into the outbox.
+    /// Queues an `lt_donthave` that is legal.
     fn take_back(&mut self, index: u32) -> Result<(), SayError>
         requires { IsLegal (belief (end_of self.old)) self.old.sends (messages.Extended (ext.DontHave index)) }
         ensures { IsQueued self.old (messages.Extended (ext.DontHave index)) result self.new }
@@ -496,7 +512,14 @@ impl<A: Allocator + Copy> Reactor<A> {
         }
     }
 
-    /// Says a message. Each refusal changes nothing.
+    /// Queues a message if it is legal for the peer, as far as its handshakes tell.
+    ///
+    /// `refused` says whether the peer was refused.
+    ///
+    /// # Errors
+    /// The first that applies; the end is then unchanged. `NotOpen` before the peer's handshake and after a refusal, `Busy` if at
+    /// least `HIGH_WATER` bytes wait to be sent, `Extended` for an extended message other than `lt_donthave`, `PiecesUnknown` for
+    /// a piece index or a bitfield without a known piece count, `Illegal` if the peer would refuse it, `Memory` when out of memory.
     pub fn say(&mut self, refused: bool, message: &Message) -> Result<(), SayError>
         ensures { IsSpoken self.old refused message.now result self.new }
     {
@@ -506,7 +529,7 @@ impl<A: Allocator + Copy> Reactor<A> {
         }
     }
 
-    /// Whether it fetches, and on this connection no block can come any more.
+    /// Returns whether it fetches, and no block can come any more on this connection.
     pub fn is_hopeless(&self) -> bool
         ensures { result ≡ is_hopeless (end_of self.now) }
     {
@@ -518,7 +541,7 @@ impl<A: Allocator + Copy> Reactor<A> {
             && (self.own.reg.metadata().is_none() || is_closed || self.part.is_settled())
     }
 
-    /// The end on a new connection, whose first bytes to be sent are these.
+    /// Begins a new connection, with these bytes to be sent first.
     pub fn renew(&mut self, outbox: Outbox<A>)
         ensures end { end_of self.new ≡ renewed (end_of self.old) }
         ensures outbox { self.new.outbox ≡ outbox }
@@ -533,7 +556,9 @@ impl<A: Allocator + Copy> Reactor<A> {
     }
 }
 
-/// Whether an end makes it itself: a message of the Extension Protocol, but one that takes back a piece.
+/// Returns whether the message is extended, and isn't `lt_donthave`.
+///
+/// An end makes such messages itself.
 fn is_own_made(message: &Message) -> bool
     ensures { result ≡ is_own_made message.now }
 {

@@ -1,10 +1,13 @@
-//! Copies of bytes. The modules that keep a name or a payload call it.
+//! Copies of bytes.
 ghost use Rattle.std.specs.Prelude.{◌≡◌, IfOk};
 
 use bt_bencode::ByteString;
 use std::alloc::{AllocError, Global};
 
-/// A byte string of its own with these bytes.
+/// Copies bytes into a byte string of its own.
+///
+/// # Errors
+/// `AllocError` when out of memory.
 pub fn copy_bytes(alloc: Global, bytes: &[u8]) -> Result<ByteString, AllocError>
     ensures { IfOk result (λ s. s ≡ bytes.now) }
 {

@@ -1,5 +1,5 @@
-//! The dictionaries that an end writes, as bytes (BEP 9, BEP 10). They are written from the end of an array to its front, and
-//! take no memory.
+//! Encoding of the dictionaries that an end sends (BEP 9, BEP 10), from the end of an array to its front, without an
+//! allocation.
 ghost use Rattle.std.specs.Prelude.{◌≡◌, ◌≤◌, ◌<◌, ◌+◌, ◌^◌, ◌++◌, ◌∷◌, [], ℕ, List, pos, codes, length, drop};
 ghost use Rattle.std.specs.Option.{ForSome};
 ghost use Rattle.bt_bencode.specs.Trees.{integer, dictionary, Pairs, no_pairs, pair};
@@ -11,7 +11,7 @@ use crate::ids::{ExtId, Registered};
 use crate::metadata::Kind;
 use bt_bencode::{put_bytes, put_key, put_number};
 
-/// Room for any of them.
+/// An array with room for any of these dictionaries.
 pub type DictText = [u8; 220];
 
 /// Puts the end of a dictionary at the array's end, and says where it starts.
@@ -52,9 +52,9 @@ fn put_typed(msg_type: u8, piece: u32, text: &mut DictText, at: usize) -> usize
     put_bytes(b"d", text, place)
 }
 
-/// Writes the dictionary of a metadata message at the array's end.
+/// Encodes the dictionary of a metadata message at the array's end.
 ///
-/// The message is a request, data or a reject. Returns where the dictionary starts.
+/// The message is a request, data or a reject. It returns the offset at which the dictionary starts.
 pub fn message_text(kind: Kind, text: &mut DictText) -> usize
     requires { IsMade kind }
     ensures room { result ≤ 220 }
@@ -108,10 +108,10 @@ fn put_m(reg: Registered, text: &mut DictText, at: usize) -> usize
     put_bytes(b"d", text, place)
 }
 
-/// Writes the dictionary of an end's extended handshake at the array's end.
+/// Encodes the dictionary of an extended handshake at the array's end.
 ///
-/// It has the end's registered ids, and the size of the metadata that it serves, if it serves any. Returns where the
-/// dictionary starts.
+/// It has the registered ids in `m`, and the size in bytes of the metadata that is served, if it is given. It returns the
+/// offset at which the dictionary starts.
 pub fn handshake_text(reg: Registered, size: Option<u64>, text: &mut DictText) -> usize
     ensures room { result ≤ 220 }
     ensures text { drop result text.new ≡ ben (handshake_tree reg size) }

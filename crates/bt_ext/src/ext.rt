@@ -1,4 +1,4 @@
-//! The values that extended payloads are, as trees or as parts of the payload, and why one is refused.
+//! The values of extended payloads, owned or as parts of the payload, and the errors of parsing them.
 ghost use Rattle.std.specs.Prelude.{◌≡◌};
 
 use bt_bencode::{ByteString, DictRef, Value};
@@ -12,37 +12,39 @@ pub enum Ext {
     Handshake { dict: Value, rest: ByteString },
     /// A metadata message (BEP 9): a dictionary, and the block after it.
     Metadata { dict: Value, rest: ByteString },
-    /// The sender has the piece of this index no more (`lt_donthave`).
+    /// The sender doesn't have the piece of this index any more (`lt_donthave`).
     DontHave(u32),
     /// A message under an id that the receiver didn't register.
     Raw { id: u8, payload: ByteString },
 }
 
-/// An extended payload as parts of the slice that it was read from.
+/// An extended payload as parts of the slice that was parsed.
 #[derive(Clone, Copy)]
 pub enum ExtView<'a> {
     /// The extended handshake (BEP 10): a dictionary, and the bytes after it.
     Handshake { dict: DictRef<'a>, rest: &'a [u8] },
     /// A metadata message (BEP 9): a dictionary, and the block after it.
     Metadata { dict: DictRef<'a>, rest: &'a [u8] },
-    /// The sender has the piece of this index no more (`lt_donthave`).
+    /// The sender doesn't have the piece of this index any more (`lt_donthave`).
     DontHave(u32),
     /// A message under an id that the receiver didn't register.
     Raw { id: u8, payload: &'a [u8] },
 }
 
-/// Why a payload is refused. Places are counted from its start.
+/// Why a payload is refused. Offsets are counted from its start.
 #[derive(Clone, Copy, Debug, PartialEq, Eq)]
 pub enum ViewError {
-    /// It has to be a piece index, and hasn't four bytes.
+    /// The payload has to be a piece index, and doesn't have four bytes.
     BadExtLength,
-    /// It has to begin with a dictionary: its first `at` bytes begin a fitting one, and no more of them do.
+    /// The payload has to begin with a dictionary within the limits, and doesn't.
+    ///
+    /// `at` is the offset of the first byte that can't be part of one, or the payload's length if it is truncated.
     BadBencode { at: usize },
-    /// At `at` a key starts that isn't above the key before it.
+    /// The key at offset `at` isn't above the key before it.
     Unsorted { at: usize },
-    /// A field of the wrong kind.
+    /// A field of the dictionary has the wrong kind.
     BadField,
-    /// The dictionary ends at `at`, and what follows has the wrong length.
+    /// The dictionary ends at offset `at`, and what follows has the wrong length.
     BadBlock { at: usize },
 }
 
@@ -79,20 +81,22 @@ impl Display for ViewError {
 
 impl std::error::Error for ViewError {}
 
-/// Why no value is read. Places are counted from the payload's start.
+/// Why no value is parsed. Offsets are counted from the payload's start.
 #[derive(Clone, Copy, Debug, PartialEq, Eq)]
 pub enum ExtError {
-    /// It has to be a piece index, and hasn't four bytes.
+    /// The payload has to be a piece index, and doesn't have four bytes.
     BadExtLength,
-    /// It has to begin with a dictionary: its first `at` bytes begin a fitting one, and no more of them do.
+    /// The payload has to begin with a dictionary within the limits, and doesn't.
+    ///
+    /// `at` is the offset of the first byte that can't be part of one, or the payload's length if it is truncated.
     BadBencode { at: usize },
-    /// At `at` a key starts that isn't above the key before it.
+    /// The key at offset `at` isn't above the key before it.
     Unsorted { at: usize },
-    /// A field of the wrong kind.
+    /// A field of the dictionary has the wrong kind.
     BadField,
-    /// The dictionary ends at `at`, and what follows has the wrong length.
+    /// The dictionary ends at offset `at`, and what follows has the wrong length.
     BadBlock { at: usize },
-    /// A request for memory was refused.
+    /// Out of memory.
     Memory,
 }
 
@@ -149,7 +153,7 @@ impl From<AllocError> for ExtError {
     }
 }
 
-/// The first reason for which rules refuse a value that has a spelling.
+/// Why rules refuse a value that can be encoded.
 #[derive(Clone, Copy, Debug, PartialEq, Eq)]
 pub enum ExtReason {
     /// A key isn't above the key before it.

@@ -1,4 +1,4 @@
-//! The fields of an extended handshake (BEP 10, BEP 9), in trees and in checked slices.
+//! The fields of an extended handshake (BEP 10, BEP 9), in values and in validated slices.
 ghost use Rattle.std.specs.Prelude.{◌≡◌, codes, Option, option_map, option_and_then};
 ghost use Rattle.bt_bencode.specs.Trees.{Tree, dictionary};
 ghost use Rattle.bt_bencode.specs.Keys.{lookup_of};
@@ -8,7 +8,7 @@ ghost use Rattle.bt_ext.specs.Fields.{int_at, byte_of, id_value, has_bad_id, is_
 
 use bt_bencode::{DictRef, Pairs, Value, lookup};
 
-/// The integer at a key.
+/// Returns the integer of the first pair with the key.
 pub fn int_at(dict: &Value, key: &[u8]) -> Option<i64>
     ensures { result ≡ int_at key.now (tree_of dict.now) }
 {
@@ -18,7 +18,7 @@ pub fn int_at(dict: &Value, key: &[u8]) -> Option<i64>
     }
 }
 
-/// An id of one byte.
+/// Returns an integer that is an id of one byte, 0 to 255.
 pub fn byte_of(value: Option<i64>) -> Option<u8>
     ensures { result ≡ byte_of value }
 {
@@ -26,7 +26,7 @@ pub fn byte_of(value: Option<i64>) -> Option<u8>
     u8::try_from(n).ok()
 }
 
-/// The id that a value of `m` is.
+/// Returns the id of one byte that a value of `m` is.
 pub fn id_value(value: &Value) -> Option<u8>
     ensures { result ≡ id_value (tree_of value.now) }
 {
@@ -36,7 +36,7 @@ pub fn id_value(value: &Value) -> Option<u8>
     }
 }
 
-/// A number of at least 0.
+/// Returns a number that is at least 0.
 fn natural(value: Option<i64>) -> Option<u64>
     ensures { result ≡ option_and_then natural value }
 {
@@ -44,16 +44,18 @@ fn natural(value: Option<i64>) -> Option<u64>
     u64::try_from(n).ok()
 }
 
-/// The size of the metadata that an extended handshake announces (BEP 9).
+/// Returns the size of the metadata that an extended handshake announces (BEP 9).
 ///
-/// It is the value of the first pair `metadata_size`, if that is an integer of at least 0.
+/// It is the value in bytes of the first pair `metadata_size`, if that is an integer of at least 0.
 pub fn metadata_size(dict: &Value) -> Option<u64>
     ensures { result ≡ size_of (tree_of dict.now) }
 {
     natural(int_at(dict, b"metadata_size"))
 }
 
-/// Like [`metadata_size`], over a checked slice.
+/// Returns the size of the metadata that an extended handshake announces (BEP 9).
+///
+/// It is what [`metadata_size`] returns for the dictionary as a value.
 pub fn metadata_size_ref(dict: &DictRef) -> Option<u64>
     ensures { result ≡ size_of (dictionary dict.now.tree.0) }
 {
@@ -113,14 +115,16 @@ fn bad_size_by(size: Option<Option<i64>>) -> bool
     }
 }
 
-/// Whether an extended handshake's dictionary has a field of the wrong kind.
+/// Returns whether an extended handshake has a field of the wrong kind (BEP 10).
 pub fn bad_field(dict: &Value) -> bool
     ensures { result ≡ has_bad_field (tree_of dict.now) }
 {
     bad_m(dict) || bad_size(dict)
 }
 
-/// Like [`bad_field`], by whether `m` is a map of bytes, and by the integer that `metadata_size` is.
+/// Returns whether an extended handshake has a field of the wrong kind (BEP 10).
+///
+/// `m` says whether the value there is a map of bytes, and `size` is the integer at `metadata_size`.
 pub fn bad_field_by(m: Option<bool>, size: Option<Option<i64>>) -> bool
     ensures { (t : Tree) → m ≡ option_map is_byte_map (lookup_of (codes "m") t) → size ≡ option_map integer_of (lookup_of (codes "metadata_size") t)
         → result ≡ has_bad_field t }

@@ -6,17 +6,21 @@ ghost use Rattle.bt_ext.specs.Ids.{registered, metadata_only, metadata_id, donth
 use std::marker::Model;
 use thiserror::Error;
 
-/// What a receiver judges.
+/// What a receiver checks.
 #[derive(Clone, Copy, Debug, PartialEq, Eq)]
 pub enum Rules {
-    /// Syntax, negotiation and lengths; and piece indexes and spare bits where the piece count is known.
+    /// Lenient rules.
+    ///
+    /// They check syntax, negotiation and lengths; and piece indexes and spare bits if the piece count is known.
     Free,
-    /// Also unknown ids and first messages, and of dictionaries the order of keys, the kinds of fields and the lengths of
-    /// blocks.
+    /// Strict rules.
+    ///
+    /// They also check unknown ids and first messages, and of dictionaries the order of keys, the kinds of fields and the
+    /// lengths of blocks.
     Bep,
 }
 
-/// An extended id that names an extension: 1 to 255. A clause sees its number.
+/// An extended id that names an extension: 1 to 255. A contract sees its number.
 #[derive(Clone, Copy, Debug, PartialEq, Eq)]
 pub struct ExtId {
     id: u8,
@@ -35,14 +39,14 @@ impl Model for ExtId {
 }
 
 impl ExtId {
-    /// The id of this number; `None` for 0, which is the extended handshake's.
+    /// Makes an id of this number; `None` for 0, which is the extended handshake's.
     pub fn new(id: u8) -> Option<ExtId>
         ensures { SomeIff result (0 < id) id }
     {
         if id == 0 { None } else { Some(ExtId { id }) }
     }
 
-    /// The number, 1 to 255.
+    /// Returns the number, 1 to 255.
     pub fn get(self) -> u8
         ensures same { result ≡ self }
         ensures above { 0 < result }
@@ -51,7 +55,7 @@ impl ExtId {
     }
 }
 
-/// Two extensions can't have one id.
+/// Two extensions were given one id.
 #[derive(Clone, Copy, Debug, PartialEq, Eq, Error)]
 #[error("two extensions under one id")]
 pub struct SameId;
@@ -69,7 +73,7 @@ impl Registered {
     /// Either may be missing.
     ///
     /// # Errors
-    /// `SameId` where both are there and equal.
+    /// `SameId` if both are given and equal.
     pub fn new(metadata: Option<ExtId>, donthave: Option<ExtId>) -> Result<Registered, SameId>
         ensures ids { IfOk result (λ reg. reg ≡ registered metadata donthave) }
         ensures metadata { IfOk result (λ reg. metadata_id reg ≡ metadata) }
@@ -88,7 +92,7 @@ impl Registered {
         Ok(reg)
     }
 
-    /// Registers both ids, or that of `ut_metadata` alone where they are equal.
+    /// Registers both ids, or only that of `ut_metadata` if they are equal.
     pub fn preferring_metadata(metadata: Option<ExtId>, donthave: Option<ExtId>) -> Registered
         ensures { result ≡ registered metadata donthave }
     {
@@ -102,7 +106,7 @@ impl Registered {
         reg
     }
 
-    /// Registers the id of `ut_metadata` (BEP 9) alone, or none.
+    /// Registers only the id of `ut_metadata` (BEP 9), or none.
     pub fn metadata_only(metadata: Option<ExtId>) -> Registered
         ensures ids { result ≡ metadata_only metadata }
         ensures metadata { metadata_id result ≡ metadata }
@@ -118,7 +122,7 @@ impl Registered {
         }
     }
 
-    /// The registered id of `ut_metadata`.
+    /// Returns the registered id of `ut_metadata`.
     pub fn metadata(&self) -> Option<ExtId>
         ensures { result ≡ metadata_id self.now }
     {
@@ -128,7 +132,7 @@ impl Registered {
         Some(id)
     }
 
-    /// The registered id of `lt_donthave`.
+    /// Returns the registered id of `lt_donthave`.
     pub fn donthave(&self) -> Option<ExtId>
         ensures { result ≡ donthave_id self.now }
     {
@@ -141,7 +145,7 @@ impl Registered {
         }
     }
 
-    /// Whether the id is the registered one of `ut_metadata`.
+    /// Returns whether the id is the registered one of `ut_metadata`.
     pub(crate) fn is_metadata(&self, id: u8) -> bool
         ensures { result ≡ is_metadata self.now id }
     {
@@ -151,7 +155,7 @@ impl Registered {
         }
     }
 
-    /// Whether the id is the registered one of `lt_donthave`.
+    /// Returns whether the id is the registered one of `lt_donthave`.
     pub(crate) fn is_donthave(&self, id: u8) -> bool
         ensures { result ≡ is_donthave self.now id }
     {
@@ -161,14 +165,14 @@ impl Registered {
         }
     }
 
-    /// Whether a payload under the id begins with a dictionary.
+    /// Returns whether a payload under the id begins with a dictionary.
     pub(crate) fn needs_dict(&self, id: u8) -> bool
         ensures { result ≡ needs_dict self.now id }
     {
         id == 0 || self.is_metadata(id)
     }
 
-    /// Whether a payload under the id has a meaning.
+    /// Returns whether the id has a meaning: it is 0, or registered.
     pub fn is_known(&self, id: u8) -> bool
         ensures { result ≡ is_known self.now id }
     {

@@ -22,7 +22,7 @@ fn total_of(value: Option<i64>) -> Option<u64>
     if n > 0 { Some(n as u64) } else { None }
 }
 
-/// The kind by the integers of the three fields.
+/// Returns the kind of a metadata message by the integers of its three fields.
 pub fn kind_by(msg_type: Option<i64>, piece: Option<i64>, total: Option<i64>) -> Kind
     ensures { result ≡ kind_by msg_type piece total }
 {
@@ -41,7 +41,7 @@ pub fn kind_by(msg_type: Option<i64>, piece: Option<i64>, total: Option<i64>) ->
     }
 }
 
-/// The kind of the metadata message that has this dictionary.
+/// Returns the kind of the metadata message that has this dictionary (BEP 9).
 pub fn kind(dict: &Value) -> Kind
     ensures { result ≡ kind_of (tree_of dict.now) }
 {
@@ -52,12 +52,14 @@ pub fn kind(dict: &Value) -> Kind
     )
 }
 
-/// Like [`kind`], over a checked slice.
+/// Returns the kind of the metadata message that has this dictionary (BEP 9).
+///
+/// It is what [`kind`] returns for the dictionary as a value.
 pub fn kind_ref(dict: &DictRef) -> Kind
     ensures { result ≡ kind_of (dictionary dict.now.tree.0) }
 {
     let msg_type = dict.lookup_int(b"msg_type");
-    // A data message alone has a size; in a request it would be sought to the dictionary's end.
+    // Only a data message has a size; in a request it would be sought to the dictionary's end.
     let total = match msg_type {
         Some(1) => dict.lookup_int(b"total_size"),
         _ => None,

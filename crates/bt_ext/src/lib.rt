@@ -1,4 +1,4 @@
-//! Extended payloads (BEP 10, BEP 9): their values, the fields of their dictionaries, and the peer's names and ids.
+//! Extended payloads (BEP 10, BEP 9): their values, the fields of their dictionaries, and the names and ids of a peer.
 #![tactic(auto)]
 
 mod bytes;

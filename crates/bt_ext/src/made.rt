@@ -1,4 +1,4 @@
-//! The dictionaries that an end writes (BEP 9, BEP 10). Their keys are sorted.
+//! The dictionaries that an end sends (BEP 9, BEP 10), as values. Their keys are sorted.
 ghost use Rattle.std.specs.Prelude.{◌≡◌, ◌<◌, ◌^◌, [], ◌∷◌, ◌++◌, IfOk, OnOk, pos, codes};
 ghost use Rattle.std.specs.Option.{ForSome};
 ghost use Rattle.bt_bencode.specs.Views.{tree_of, pairs_of};
@@ -74,7 +74,12 @@ fn push_kind(
     }
 }
 
-/// The dictionary of a request, a data message or a reject. A data message's total is 1 to 2^63 - 1.
+/// Makes the dictionary of a request, a data message or a reject (BEP 9).
+///
+/// The `total` of a data message, in bytes, is 1 to 2^63 - 1.
+///
+/// # Errors
+/// `AllocError` when out of memory.
 pub fn dict_of(alloc: Global, kind: Kind) -> Result<Value, AllocError>
     requires { IsMade kind }
     ensures { IfOk result (λ v. tree_of v ≡ message_tree kind) }
@@ -124,10 +129,13 @@ fn push_size(
     }
 }
 
-/// The dictionary of an end's extended handshake.
+/// Makes the dictionary of an extended handshake (BEP 10).
 ///
-/// It has `m` with the end's registered ids, if there are any, and the size of the metadata that the end
-/// serves, if it serves any.
+/// It has `m` with the registered ids, if there are any. `size` is the size in bytes of the metadata that the sender serves;
+/// it is below 2^63.
+///
+/// # Errors
+/// `AllocError` when out of memory.
 pub fn handshake_dict(
     alloc: Global,
     reg: Registered,

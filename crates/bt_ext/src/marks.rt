@@ -1,4 +1,5 @@
-//! Marks of names: a name whose mark isn't set is none of those that set theirs. `table` passes over names by them.
+//! Marks of names: a name whose mark isn't set is none of those that set theirs. With them most names are passed over
+//! without a search.
 ghost use Rattle.std.specs.Prelude.{◌≡◌, ◌<◌, length, slice_index_or, false, true, IfOk};
 ghost use Rattle.std.specs.List.{slice_set};
 ghost use Rattle.bt_ext.specs.Holding.{mark_of};
@@ -8,7 +9,7 @@ use std::alloc::{AllocError, Allocator};
 /// How many marks there are. The names of a full table set at most one of 64.
 const MARKS: usize = 16384;
 
-/// The mark of a name.
+/// Returns the mark of a name.
 fn mark_of(name: &[u8]) -> usize
     ensures value { result ≡ mark_of name.now }
     ensures inside { result < 16384 }
@@ -20,14 +21,17 @@ fn mark_of(name: &[u8]) -> usize
     mark
 }
 
-/// Marks of which none is set.
+/// Makes marks of which none is set.
+///
+/// # Errors
+/// `AllocError` when out of memory.
 pub fn no_marks<A: Allocator>(alloc: A) -> Result<Vec<bool, A>, AllocError>
     ensures { IfOk result (λ marks. length marks.items ≡ 16384) }
 {
     vec![in alloc; false; MARKS]
 }
 
-/// Whether the mark of a name is set.
+/// Returns whether the mark of a name is set.
 pub fn has_mark(marks: &[bool], name: &[u8]) -> bool
     requires { length marks.now ≡ 16384 }
     ensures { result ≡ slice_index_or marks.now (mark_of name.now) false }

@@ -1,35 +1,36 @@
-//! Metadata messages (BEP 9).
+//! Metadata messages (BEP 9), except their parsing.
 ghost use Rattle.std.specs.Prelude.{◌≡◌};
 ghost use Rattle.bt_ext.specs.Metadata.{is_malformed, is_block_ok};
 
 /// What a metadata message is.
 #[derive(Clone, Copy, PartialEq, Eq)]
 pub enum Kind {
-    /// Asks for a piece.
+    /// Requests a block (BEP 9 calls it a piece).
     Request(u32),
-    /// Has a piece, and tells the size of the whole metadata, which is at least 1.
+    /// Has a block, and announces the size of the whole metadata in bytes, at least 1.
     Data { piece: u32, total: u64 },
-    /// Refuses a piece.
+    /// Rejects a request for a block.
     Reject(u32),
     /// Of a type that BEP 9 doesn't have.
     Other,
-    /// A key that its type needs is missing or has no fitting integer.
+    /// A key that its type needs is missing, or its value is no integer in range.
     Malformed,
 }
 
-/// How long a block is, but for the last one.
+/// The length of a block, except the last one.
 const BLOCK: u64 = 16_384;
 
-/// Whether a message is of the kind `Malformed`.
+/// Returns whether a message is of the kind `Malformed`.
 pub fn is_malformed(kind: Kind) -> bool
     ensures { result ≡ is_malformed kind }
 {
     matches!(kind, Kind::Malformed)
 }
 
-/// Whether `rest_len` bytes may follow the dictionary of a message of this kind. A data message's piece is one of the
-/// metadata's blocks and has its length, 16,384 bytes or in the last block what is left; nothing follows the dictionary
-/// of a request or a reject.
+/// Returns whether `rest_len` bytes may follow the dictionary of a message.
+///
+/// The block of a data message is one of the metadata's and has its length: 16,384 bytes, or what is left for the last block.
+/// Nothing follows the dictionary of a request or a reject.
 pub fn block_ok(kind: Kind, rest_len: usize) -> bool
     ensures { result ≡ is_block_ok kind rest_len }
 {

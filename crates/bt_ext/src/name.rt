@@ -1,4 +1,4 @@
-//! A name that a table keeps, over the table's allocator.
+//! A name that a table stores, over the table's allocator.
 ghost use Rattle.std.specs.Prelude.{◌≡◌, IfOk};
 
 use std::alloc::{AllocError, Allocator};
@@ -19,7 +19,10 @@ impl<A: Allocator> Model for Name<A> {
 }
 
 impl<A: Allocator> Name<A> {
-    /// A name of its own with these bytes.
+    /// Copies these bytes into a name.
+    ///
+    /// # Errors
+    /// `AllocError` when out of memory.
     pub fn copied(alloc: A, bytes: &[u8]) -> Result<Name<A>, AllocError>
         ensures { IfOk result (λ name. name ≡ bytes.now) }
     {
@@ -28,7 +31,7 @@ impl<A: Allocator> Name<A> {
         })
     }
 
-    /// The bytes.
+    /// Returns the bytes.
     pub fn as_slice(&self) -> &[u8]
         ensures { result.now ≡ self.now }
     {

@@ -1,4 +1,4 @@
-//! What a value is written as, and why rules refuse it.
+//! Encoding of extended values, and why rules refuse one.
 ghost use Rattle.std.specs.Prelude.{◌≡◌, ◌++◌, ◌^◌, ◌-◌, length, min, ◌≤◌, Some, Err, IfOk, IfErr, IsTrue, ◌↔◌, is_some, MatchOption, OnOk, ◌∷◌, unwrap_or};
 ghost use Rattle.bt_bencode.specs.Keys.{unsorted};
 ghost use Rattle.bt_bencode.specs.Bencoding.{ben};
@@ -23,7 +23,7 @@ fn is_dict(dict: &Value) -> bool
     }
 }
 
-/// The extended id of a value.
+/// Returns the extended id of a value.
 fn id_of(reg: Registered, value: &Ext) -> Option<u8>
     ensures { result ≡ ext_id reg value.now }
 {
@@ -44,7 +44,7 @@ fn id_of(reg: Registered, value: &Ext) -> Option<u8>
     }
 }
 
-/// Whether its dictionary, if its kind has one, is one that fits.
+/// Returns whether the value's dictionary, if it has one, is within the limits.
 fn has_parts(value: &Ext) -> bool
     ensures { IsTrue result ↔ HasParts value.now }
 {
@@ -59,7 +59,7 @@ fn has_parts(value: &Ext) -> bool
     }
 }
 
-/// The extended id of a value that has a spelling of its own.
+/// Returns the extended id of a value that can be encoded.
 fn own_id(reg: Registered, value: &Ext) -> Option<u8>
     ensures { MatchOption result (HasNoSpelling reg value.now) (λ id. HasParts value.now × (ext_id reg value.now ≡ Some id)) }
 {
@@ -81,9 +81,9 @@ fn payload_len(value: &Ext) -> u64
     }
 }
 
-/// The length of the payload of a value that has a spelling of its own.
+/// Returns the length of the payload of a value in bytes, at most 2^64 - 1.
 ///
-/// It is at most 2^64 - 1. The call takes no memory.
+/// `None` if the value can't be encoded. It doesn't allocate.
 pub fn ext_len(reg: Registered, value: &Ext) -> Option<u64>
     ensures { MatchOption result (HasNoSpelling reg value.now)
         (λ n. HasSpelling reg value.now × (n ≡ min (length (payload_of value.now)) (2 ^ 64 - 1))) }
@@ -117,11 +117,11 @@ fn spell_payload(alloc: Global, value: &Ext) -> Result<Vec<u8>, SpellError>
     }
 }
 
-/// The extended id and the payload of a value.
+/// Encodes a value into its extended id and its payload.
 ///
 /// # Errors
-/// `OutOfRange` if the value has no spelling of its own: its dictionary is none or doesn't fit, it is raw under an id
-/// with a meaning, or no id is registered for it.
+/// `OutOfRange` if the value can't be encoded: its dictionary is none or isn't within the limits, it is raw under an id
+/// with a meaning, or no id is registered for it. `Memory` when out of memory.
 pub fn spell_ext(alloc: Global, reg: Registered, value: &Ext) -> Result<(u8, Vec<u8>), SpellError>
     ensures ok { IfOk result (λ x. IsExt reg value.now x.0 x.1.items) }
     ensures out_of_range { (result ≡ Err SpellError.OutOfRange) ↔ HasNoSpelling reg value.now }
@@ -143,9 +143,9 @@ fn append_dict(out: &mut Vec<u8>, dict: &Value, rest: &ByteString) -> Result<(),
     out.extend_from_slice(rest.as_slice())
 }
 
-/// Appends the payload of a value that has a spelling of its own.
+/// Appends the payload of a value that can be encoded.
 ///
-/// With room for it no memory is taken.
+/// It doesn't allocate if `out` has room for it.
 fn append_payload(out: &mut Vec<u8>, value: &Ext) -> Result<(), AllocError>
     requires { HasParts value.now }
     ensures { OnOk result (out.new.items ≡ out.old.items ++ payload_of value.now) }
@@ -160,7 +160,10 @@ fn append_payload(out: &mut Vec<u8>, value: &Ext) -> Result<(), AllocError>
 
 /// Appends the extended id and the payload of a value.
 ///
-/// The value has a spelling of its own. With room for both no memory is taken.
+/// The value can be encoded. It doesn't allocate if `out` has room for both.
+///
+/// # Errors
+/// `AllocError` when out of memory.
 pub fn append_ext(out: &mut Vec<u8>, reg: Registered, value: &Ext) -> Result<(), AllocError>
     requires { HasSpelling reg value.now }
     ensures { OnOk result (out.new.items ≡ out.old.items ++ (unwrap_or (ext_id reg value.now) 0 ∷ payload_of value.now)) }
@@ -175,9 +178,9 @@ fn is_unsorted(dict: &Value) -> bool
     !is_sorted(dict)
 }
 
-/// The first reason for which the rules refuse a value.
+/// Returns the first reason for which the rules refuse a value.
 ///
-/// The value has a spelling of its own. The call takes no memory.
+/// The value can be encoded. It doesn't allocate.
 pub fn ext_reason(rules: Rules, value: &Ext) -> Option<ExtReason>
     ensures { result ≡ reason_of rules value.now }
 {

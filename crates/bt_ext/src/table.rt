@@ -1,4 +1,4 @@
-//! The names and ids that a peer announced (BEP 10).
+//! The names and ids that a peer announced (BEP 10). Which pairs of `m` count is in `told`.
 ghost use Rattle.std.specs.Prelude.{◌≡◌, ◌<◌, ◌≤◌, [], ◌∷◌, ◌++◌, length, OnOk, OnErr, IfOk, IfSome};
 ghost use Rattle.std.specs.Bool.{OnFalse};
 ghost use Rattle.bt_bencode.specs.Trees.{dictionary};
@@ -20,8 +20,17 @@ const MAX_NAMES: usize = 256;
 /// The longest name that a table keeps.
 const MAX_NAME: usize = 255;
 
-/// The peer's names of extensions and the ids under which it wants them. A clause sees the names with their ids: a
-/// finite map of at most 256 names, each once and of at most 255 bytes, and ids from 1 to 255.
+/// The peer's names of extensions and the ids under which it wants them (BEP 10).
+///
+/// A contract sees the names with their ids: a finite map of at most 256 names, each once and of at most 255 bytes, and ids
+/// from 1 to 255. To apply an extended handshake's payload and look up an id:
+///
+/// ```rust
+/// match check(payload) {
+///     Ok((dict, _)) => table.apply_ref(&dict).is_ok() && table.id_of(name) == id,
+///     Err(_) => false,
+/// }
+/// ```
 #[derive(Debug, Drop)]
 pub struct Table<A: Allocator = Global> {
     entries: Vec<(Name<A>, u8), A>,
@@ -38,7 +47,7 @@ impl<A: Allocator> Model for Table<A> {
     ghost invariant = { λ t. IsTable t.entries.items };
 }
 
-/// The place of a name.
+/// Returns the index of a name.
 fn place_of<A: Allocator>(entries: &[(Name<A>, u8)], name: &[u8]) -> Option<usize>
     ensures { HoldsAt name.now entries.now result }
 {
@@ -64,7 +73,7 @@ fn push_entry<A: Allocator + Copy>(
     Ok(())
 }
 
-/// Adds copies of entries where there are none yet.
+/// Appends copies of entries; there are none yet.
 fn push_entries<A: Allocator + Copy>(
     entries: &mut Vec<(Name<A>, u8), A>,
     copied: &[(Name<A>, u8)],
@@ -114,7 +123,7 @@ fn enter<A: Allocator + Copy>(
 }
 
 impl<A: Allocator + Copy> Table<A> {
-    /// A table without a name.
+    /// Makes a table without a name, without an allocation.
     pub fn new(alloc: A) -> Table<A>
         ensures { result ≡ [] }
     {
@@ -123,7 +132,7 @@ impl<A: Allocator + Copy> Table<A> {
         }
     }
 
-    /// The id of a name, 1 to 255.
+    /// Returns the id of a name, 1 to 255.
     pub fn id_of(&self, name: &[u8]) -> Option<u8>
         ensures value { result ≡ id_of_name name.now self.now }
         ensures above { IfSome result (λ id. 0 < id) }
@@ -134,7 +143,7 @@ impl<A: Allocator + Copy> Table<A> {
 
     /// Returns the ids under which the peer wants extensions.
     ///
-    /// Where it announced one id for both, that is the one of `ut_metadata` alone.
+    /// If it announced one id for both, that is only the id of `ut_metadata`.
     #[tactic(auto, unfolding(crate::specs::Tables::told_ids))]
     pub fn registered(&self) -> Registered
         ensures { result ≡ told_ids self.now }
@@ -153,7 +162,10 @@ impl<A: Allocator + Copy> Table<A> {
         }
     }
 
-    /// A table with the same names and ids.
+    /// Copies the table.
+    ///
+    /// # Errors
+    /// `AllocError` when out of memory.
     pub fn copy(&self) -> Result<Table<A>, AllocError>
         ensures { IfOk result (λ t. t ≡ self.now) }
     {
@@ -219,7 +231,7 @@ impl<A: Allocator + Copy> Table<A> {
         Ok(())
     }
 
-    /// Takes what a short `m` tells.
+    /// Applies what a short `m` announces.
     fn enter_few(&mut self, told: &[(&[u8], u8)]) -> Result<(), AllocError>
         ensures { OnOk result (self.new ≡ entered_all (entries_of told.now) self.old) }
     {
@@ -244,7 +256,9 @@ impl<A: Allocator + Copy> Table<A> {
         Ok(())
     }
 
-    /// Takes what a long `m` tells, most of it of names that the table neither has nor takes.
+    /// Applies what a long `m` announces.
+    ///
+    /// Most of its names the table doesn't have, and has no room for.
     fn enter_many(&mut self, told: &[(&[u8], u8)]) -> Result<(), AllocError>
         ensures { OnOk result (self.new ≡ entered_all (entries_of told.now) self.old) }
     {
@@ -252,7 +266,7 @@ impl<A: Allocator + Copy> Table<A> {
         self.enter_each(&mut marks, told)
     }
 
-    /// Takes what an `m` tells.
+    /// Applies what an `m` announces.
     fn enter_told(&mut self, told: &[(&[u8], u8)]) -> Result<(), AllocError>
         ensures { OnOk result (self.new ≡ entered_all (entries_of told.now) self.old) }
     {
@@ -278,12 +292,12 @@ impl<A: Allocator + Copy> Table<A> {
 
     /// Applies the pairs of `m` in an extended handshake's dictionary, in order.
     ///
-    /// Where `m` is no dictionary, nothing changes. Of pairs with one name the first counts. A pair with a name of more
-    /// than 255 bytes, or with a value that is no integer from 0 to 255, does nothing. The value 0 removes the name.
-    /// Another value replaces the name's id, or adds the name if fewer than 256 names are there.
+    /// See BEP 10. Nothing changes if `m` is no dictionary. Of several pairs with one name the first counts. A pair with a
+    /// name of more than 255 bytes, or with a value that is no integer from 0 to 255, does nothing. The value 0 removes the
+    /// name. Another value replaces the name's id, or adds the name if the table has fewer than 256 names.
     ///
     /// # Errors
-    /// `AllocError` if memory was refused. The table is then as before.
+    /// `AllocError` when out of memory; the table is then unchanged.
     pub fn apply(&mut self, dict: &Value) -> Result<(), AllocError>
         ensures ok { OnOk result (self.new ≡ applied (tree_of dict.now) self.old) }
         ensures table { IsTable self.new }
@@ -293,7 +307,12 @@ impl<A: Allocator + Copy> Table<A> {
         self.enter_all(&told)
     }
 
-    /// Like [`Table::apply`], over a checked slice.
+    /// Applies the pairs of `m` in an extended handshake's dictionary, in order.
+    ///
+    /// It does what [`Table::apply`] does with the dictionary as a value.
+    ///
+    /// # Errors
+    /// `AllocError` when out of memory; the table is then unchanged.
     pub fn apply_ref(&mut self, dict: &DictRef) -> Result<(), AllocError>
         ensures ok { OnOk result (self.new ≡ applied (dictionary dict.now.tree.0) self.old) }
         ensures table { IsTable self.new }

@@ -1,4 +1,4 @@
-//! What the `m` of an extended handshake tells (BEP 10).
+//! What the `m` of an extended handshake announces (BEP 10), without a table.
 ghost use Rattle.std.specs.Prelude.{◌≡◌, ℕ, List, [], ◌++◌, IfOk, OnOk, true, not, if◌then◌else◌};
 ghost use Rattle.std.specs.List.{list_any};
 ghost use Rattle.std.specs.Option.{option_copied};
@@ -15,7 +15,9 @@ use std::alloc::{AllocError, Allocator};
 use std::cmp::Ordering;
 use std::collections::BTreeSet;
 
-/// What the pairs so far announce, and their names. The names are in a tree, so that many pairs stay cheap.
+/// What the pairs so far announce, and their names.
+///
+/// The names are in a tree, so that many pairs stay cheap.
 #[derive(Drop)]
 struct Told<'a, A: Allocator> {
     names: BTreeSet<&'a [u8], A>,
@@ -59,7 +61,7 @@ impl<'a, A: Allocator + Copy> Told<'a, A> {
         Ok(())
     }
 
-    /// Takes pairs, where none has been taken yet.
+    /// Takes pairs; none has been taken yet.
     fn tell_all(&mut self, m: &'a Pairs) -> Result<(), AllocError>
         requires names { names_of self.old.names ≡ [] }
         requires entries { entries_of self.old.entries.items ≡ [] }
@@ -71,7 +73,7 @@ impl<'a, A: Allocator + Copy> Told<'a, A> {
         Ok(())
     }
 
-    /// Like [`tell_all`](Told::tell_all), over a checked slice.
+    /// Takes the pairs of a validated slice; none has been taken yet.
     fn tell_all_ref(&mut self, m: &DictRef<'a>) -> Result<(), AllocError>
         requires names { names_of self.old.names ≡ [] }
         requires entries { entries_of self.old.entries.items ≡ [] }
@@ -94,7 +96,7 @@ fn is_above(last: Option<&[u8]>, name: &[u8]) -> bool
     }
 }
 
-/// Adds what a pair with a new name tells.
+/// Appends what a pair with a new name announces.
 fn add_told<'a, A: Allocator>(
     entries: &mut Vec<(&'a [u8], u8), A>,
     name: &'a [u8],
@@ -108,8 +110,9 @@ fn add_told<'a, A: Allocator>(
     Ok(())
 }
 
-/// Adds what the pairs tell, as far as each name is above the one before it, so that none stands twice; and says whether
-/// each is.
+/// Appends what the pairs announce, as far as their names rise.
+///
+/// It returns whether all names rise; then no name comes twice.
 fn add_rising<'a, A: Allocator>(
     entries: &mut Vec<(&'a [u8], u8), A>,
     m: &'a Pairs,
@@ -129,7 +132,9 @@ fn add_rising<'a, A: Allocator>(
     Ok(true)
 }
 
-/// Like [`add_rising`], over a checked slice.
+/// Appends what the pairs of a slice announce, as far as their names rise.
+///
+/// It returns whether all names rise; then no name comes twice.
 fn add_rising_ref<'a, A: Allocator>(
     entries: &mut Vec<(&'a [u8], u8), A>,
     m: &DictRef<'a>,
@@ -148,7 +153,7 @@ fn add_rising_ref<'a, A: Allocator>(
     Ok(true)
 }
 
-/// What the pairs tell, in any order of their names.
+/// Returns what the pairs announce, in any order of their names.
 fn in_any_order<'a, A: Allocator + Copy>(
     alloc: A,
     m: &'a Pairs,
@@ -161,7 +166,7 @@ fn in_any_order<'a, A: Allocator + Copy>(
     Ok(entries)
 }
 
-/// Like [`in_any_order`], over a checked slice.
+/// Returns what the pairs of a slice announce, in any order of their names.
 fn in_any_order_ref<'a, A: Allocator + Copy>(
     alloc: A,
     m: &DictRef<'a>,
@@ -202,7 +207,12 @@ fn told_by_ref<'a, A: Allocator + Copy>(
     }
 }
 
-/// The names and ids that an extended handshake's dictionary tells.
+/// Returns the names and ids that an extended handshake's dictionary announces.
+///
+/// They are in the order of their pairs, and of several pairs with one name the first counts.
+///
+/// # Errors
+/// `AllocError` when out of memory.
 pub fn told_of<'a, A: Allocator + Copy>(
     alloc: A,
     dict: &'a Value,
@@ -215,7 +225,12 @@ pub fn told_of<'a, A: Allocator + Copy>(
     }
 }
 
-/// Like [`told_of`], over a checked slice.
+/// Returns the names and ids that an extended handshake's dictionary announces.
+///
+/// It is what [`told_of`] returns for the dictionary as a value.
+///
+/// # Errors
+/// `AllocError` when out of memory.
 pub fn told_of_ref<'a, A: Allocator + Copy>(
     alloc: A,
     dict: &DictRef<'a>,

@@ -1,4 +1,4 @@
-//! From an extended id and a payload to the value that they are.
+//! Parsing of an extended payload.
 ghost use Rattle.std.specs.Prelude.{◌≡◌, ◌≢◌, ◌++◌, ◌<◌, ◌^◌, None, length, IfOk, IfErr, IfSome};
 ghost use Rattle.bt_bencode.specs.Trees.{dictionary};
 ghost use Rattle.bt_bencode.specs.Bencoding.{ben, Fits, IsPlace};
@@ -16,7 +16,10 @@ use crate::metadata::{block_ok, is_malformed};
 use bt_bencode::{Bad, ByteString, DictRef, Value, check};
 use std::alloc::{AllocError, Global};
 
-/// The dictionary in front and what follows it, or the place where none goes on.
+/// Returns the dictionary in front and what follows it.
+///
+/// # Errors
+/// The offset of the first byte that can't be part of a dictionary, or the payload's length if it is truncated.
 #[inline(always)]
 fn split_dict(payload: &[u8]) -> Result<(DictRef<'_>, &[u8]), usize>
     ensures ok { IfOk result (λ x. Fits (dictionary x.0.tree.0) × (payload.now ≡ ben (dictionary x.0.tree.0) ++ x.1.now)) }
@@ -29,7 +32,7 @@ fn split_dict(payload: &[u8]) -> Result<(DictRef<'_>, &[u8]), usize>
     }
 }
 
-/// The piece index that a payload is, if it has four bytes.
+/// Returns the piece index that a payload of four bytes is.
 fn read_index(payload: &[u8]) -> Option<u32>
     ensures none { result ≡ None → length payload.now ≢ 4 }
     ensures some { IfSome result (λ index. (index < 2 ^ 32) × (payload.now ≡ index_bytes index)) }
@@ -40,7 +43,10 @@ fn read_index(payload: &[u8]) -> Option<u32>
     Some(u32::from_be_bytes([payload[0], payload[1], payload[2], payload[3]]))
 }
 
-/// The value that the id and the payload are, or why they are none.
+/// Returns the value that the id and the payload are.
+///
+/// # Errors
+/// Why they are none.
 #[inline(always)]
 fn shape<'a>(reg: Registered, id: u8, payload: &'a [u8]) -> Result<ExtView<'a>, ViewError>
     ensures ok { IfOk result (λ v. IsExt reg (seen v) id payload.now) }
@@ -92,7 +98,7 @@ fn metadata_fault(dict: &DictRef, rest_len: usize) -> Option<ViewError>
     }
 }
 
-/// The first fault that the rules judge.
+/// Returns the first fault that the rules check.
 #[inline(always)]
 fn fault_in(rules: Rules, view: &ExtView) -> Option<ViewError>
     ensures { result ≡ fault_of rules (seen view.now) }
@@ -108,9 +114,13 @@ fn fault_in(rules: Rules, view: &ExtView) -> Option<ViewError>
     }
 }
 
-/// Reads an extended payload as parts of it.
+/// Parses an extended payload as parts of it, by the receiver's ids and rules.
 ///
-/// It is read under the ids and the rules of the receiver. The call takes no memory.
+/// See BEP 10 and BEP 9. It doesn't allocate.
+///
+/// # Errors
+/// `BadExtLength`, `BadBencode`, `Unsorted`, `BadField` or `BadBlock`: the first fault of the payload. The last three come
+/// only with strict rules.
 #[inline(always)]
 pub fn view_ext<'a>(
     reg: Registered,
@@ -140,7 +150,10 @@ fn copy_parts(alloc: Global, dict: &DictRef, rest: &[u8]) -> Result<(Value, Byte
     Ok((dict, rest))
 }
 
-/// The value that a view is.
+/// Copies a view into a value.
+///
+/// # Errors
+/// `AllocError` when out of memory.
 pub fn copy_ext(alloc: Global, view: &ExtView) -> Result<Ext, AllocError>
     ensures { IfOk result (λ e. e ≡ seen view.now) }
 {
@@ -161,7 +174,13 @@ pub fn copy_ext(alloc: Global, view: &ExtView) -> Result<Ext, AllocError>
     }
 }
 
-/// Reads an extended payload, under the ids and the rules of the receiver.
+/// Parses an extended payload by the receiver's ids and rules.
+///
+/// See BEP 10 and BEP 9.
+///
+/// # Errors
+/// `BadExtLength`, `BadBencode`, `Unsorted`, `BadField` or `BadBlock`: the first fault of the payload, the last three only with
+/// strict rules. `Memory` if the payload has no fault and memory runs out.
 pub fn read_ext(
     alloc: Global,
     reg: Registered,

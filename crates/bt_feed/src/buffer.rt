@@ -1,4 +1,4 @@
-//! The bytes that a feed holds, in memory that is reserved once. A source can put bytes right after them.
+//! The buffer of a feed: memory that is reserved once, into which a source can read directly.
 ghost use Rattle.std.specs.Prelude.{◌≡◌, ℕ, List, ◌+◌, ◌<◌, ◌≤◌, [], ◌++◌, length, OnErr, IfOk, is_err, replicate, vec_len, vec_capacity};
 ghost use Rattle.std.specs.Io.KnownBytes.{Consumes, Keeps};
 ghost use Rattle.bt_io.specs.Counts.{one_more, counted, is_end};
@@ -7,11 +7,13 @@ use bt_io::{Failed, Source};
 use std::alloc::{AllocError, Allocator};
 use std::marker::Model;
 
-/// The bytes that are held. Those after them are kept from before, so that they can be lent without being filled again.
+/// The bytes that are buffered.
+///
+/// Those after them are kept from before, so that they can be lent to a source without being filled again.
 #[derive(Drop)]
 pub struct Buffer<A: Allocator> {
     bytes: Vec<u8, A>,
-    /// How many bytes at the front are held.
+    /// How many bytes at the front are buffered.
     size: usize,
 }
 
@@ -43,7 +45,10 @@ fn lengthen<A: Allocator>(bytes: &mut Vec<u8, A>, goal: usize)
 }
 
 impl<A: Allocator> Buffer<A> {
-    /// Nothing is held, and there is room for `n` bytes.
+    /// Makes an empty buffer with room for `n` bytes.
+    ///
+    /// # Errors
+    /// `AllocError` when out of memory.
     pub fn with_capacity(alloc: A, n: usize) -> Result<Buffer<A>, AllocError>
         ensures { IfOk result (λ b. (b.items ≡ []) × (n ≤ b.capacity)) }
     {
@@ -53,7 +58,7 @@ impl<A: Allocator> Buffer<A> {
         })
     }
 
-    /// The bytes that are held.
+    /// Returns the bytes that are buffered.
     #[inline(always)]
     pub fn as_slice(&self) -> &[u8]
         ensures { result.now ≡ self.now.items }
@@ -61,7 +66,7 @@ impl<A: Allocator> Buffer<A> {
         &self.bytes.as_slice()[..self.size]
     }
 
-    /// How many bytes are held.
+    /// Returns how many bytes are buffered.
     #[inline(always)]
     pub fn len(&self) -> usize
         ensures { result ≡ length self.now.items }
@@ -69,7 +74,7 @@ impl<A: Allocator> Buffer<A> {
         self.size
     }
 
-    /// Lets all bytes go.
+    /// Drops all bytes. The room stays.
     #[inline(always)]
     pub fn clear(&mut self)
         ensures items { self.new.items ≡ [] }
@@ -78,7 +83,7 @@ impl<A: Allocator> Buffer<A> {
         self.size = 0;
     }
 
-    /// Puts bytes after those that are held.
+    /// Appends bytes for which there is room.
     #[inline(always)]
     pub fn append(&mut self, bytes: &[u8])
         requires { length self.old.items + length bytes.now ≤ self.old.capacity }
@@ -94,9 +99,12 @@ impl<A: Allocator> Buffer<A> {
         self.size += bytes.len();
     }
 
-    /// Reads bytes right after those that are held, and returns how many came.
+    /// Reads bytes to the end of the buffer, and returns how many came.
     ///
-    /// At most `goal` bytes are held then.
+    /// At most `goal` bytes are buffered then.
+    ///
+    /// # Errors
+    /// `Failed` if the read failed; the buffered bytes are then unchanged.
     pub fn read<R: Source>(&mut self, reader: &mut R, goal: usize) -> Result<usize, Failed>
         requires room { goal ≤ self.old.capacity }
         requires some { length self.old.items < goal }

@@ -1,18 +1,18 @@
-//! A sink that keeps nothing. `check` of the program pumps into it.
+//! A sink that keeps nothing.
 ghost use Rattle.std.specs.Prelude.{◌≡◌};
 ghost use Rattle.bt_feed.specs.Sinks.{discarded};
 
 use crate::sink::{Sink, SinkFault};
 use crate::view::View;
 
-/// A sink that takes every item and keeps none, for a stream that is judged alone.
+/// A sink that takes every item and keeps none, for a stream that is only checked.
 #[derive(Drop)]
 pub struct Discard {
     items: u64,
 }
 
 impl Discard {
-    /// A sink that has taken none.
+    /// Makes a sink that has taken no item.
     pub fn new() -> Discard
         ensures { discarded result ≡ 0 }
     {

@@ -1,4 +1,4 @@
-//! A feed: bytes of a stream go in, in any pieces, and its items come out. Pumps and ends call it.
+//! The incremental parser of a stream. Reading from a source and iterating over items are in other modules.
 ghost use Rattle.std.specs.Prelude.{◌≡◌, ◌+◌, ◌<◌, ◌≤◌, ◌^◌, ◌⊎◌, ◌↔◌, ℕ, List, [], length, take, None, Err, IfOk, IfSome, IsErrOf, OnOk, OnErr, is_err};
 
 use crate::buffer::Buffer;
@@ -12,7 +12,7 @@ use std::alloc::{AllocError, Allocator, Global};
 use std::marker::Model;
 use thiserror::Error;
 
-/// The greatest limit that a receiver may have.
+/// The greatest limit that a receiver may have, in bytes.
 const MAX_LIMIT: u32 = 1_048_576;
 
 /// Why a feed can't be made.
@@ -38,14 +38,22 @@ impl From<AllocError> for FeedError {
     }
 }
 
-/// A stream that comes in any pieces: what it awaits, and the bytes it holds.
+/// An incremental parser of a stream of one peer.
 ///
-/// The buffer is reserved once.
+/// It has the item that it awaits and the bytes of that item that have come; the buffer is reserved once. However the stream is
+/// split into chunks, the items, the refusal and its offset are the same. A loop over the items of a chunk:
+///
+/// ```rust
+/// for item in feed.items(rt.alloc(), bytes) {
+///     let (at, item) = item?;
+///     answer(rt, sender, at, &item)?;
+/// }
+/// ```
 #[derive(Drop)]
 pub struct Feed<A: Allocator = Global> {
     progress: Progress,
     buffer: Buffer<A>,
-    /// The last read of a pump went right into the buffer.
+    /// Whether the last read of a pump went directly into the buffer.
     is_direct: bool,
 }
 
@@ -74,7 +82,12 @@ ghost use types.Logic.{sem};
 ghost use Rattle.bt_feed.specs.contracts.feed.Feed.{the_row};
 
 impl<A: Allocator> Feed<A> {
-    /// A feed for a whole stream, from its handshake on.
+    /// Makes a parser of a whole stream, which begins with a handshake.
+    ///
+    /// `own` describes the receiver of the stream. The larger of 68 and `own.limit` + 4 bytes are reserved.
+    ///
+    /// # Errors
+    /// `BadLimit` exactly if the limit isn't 1 to 1,048,576, `Memory` when out of memory.
     pub fn new(alloc: A, own: Own) -> Result<Feed<A>, FeedError>
         ensures ok { IfOk result (λ feed. feed ≡ record { stage = Stage.Handshake own; held = []; refused = None }) }
         ensures limit { IsErrOf result FeedError.BadLimit ↔ ((own.limit ≡ 0) ⊎ (1048576 < own.limit)) }
@@ -90,7 +103,13 @@ impl<A: Allocator> Feed<A> {
         })
     }
 
-    /// A feed for the messages after a handshake, from this offset of the stream on.
+    /// Makes a parser of the messages from the offset `base` of a stream on.
+    ///
+    /// `order` is the order of the messages before them. The larger of 68 and `context.limit` + 4 bytes are reserved.
+    ///
+    /// # Errors
+    /// `BadLimit` exactly if the limit isn't 1 to 1,048,576; else `BadBase` exactly if `base` is above 2^62. `Memory` when out of
+    /// memory.
     pub fn new_at(alloc: A, context: Context, order: Order, base: u64) -> Result<Feed<A>, FeedError>
         ensures ok { IfOk result (λ feed. feed ≡ record { stage = Stage.Message context order base 1; held = []; refused = None }) }
         ensures limit { IsErrOf result FeedError.BadLimit ↔ ((context.limit ≡ 0) ⊎ (1048576 < context.limit)) }
@@ -114,7 +133,7 @@ impl<A: Allocator> Feed<A> {
         })
     }
 
-    /// Where the present item starts on the stream.
+    /// Returns the offset at which the current item starts.
     #[inline(always)]
     pub fn start(&self) -> u64
         ensures value { result ≡ start_of self.now.stage }
@@ -123,7 +142,7 @@ impl<A: Allocator> Feed<A> {
         self.progress.stage.start()
     }
 
-    /// The present item's number: 0 for the handshake, k for the k-th message after it.
+    /// Returns the number of the current item: 0 for the handshake, then 1, 2, ..
     pub fn number(&self) -> u64
         ensures value { result ≡ number_of self.now.stage }
         ensures feed { IsFeed self.now }
@@ -131,17 +150,17 @@ impl<A: Allocator> Feed<A> {
         self.progress.stage.number()
     }
 
-    /// How many bytes of the present item are held.
+    /// Returns how many bytes of the current item are buffered.
     pub fn held(&self) -> usize
         ensures { result ≡ length self.now.held }
     {
         self.progress.held(self.buffer.as_slice()).len()
     }
 
-    /// Takes bytes up to the end of the present item, and says how many.
+    /// Takes bytes up to the end of the current item, and returns how many.
     ///
-    /// It takes them up to the byte with which the item is refused, if it is. It takes none while a whole item is held,
-    /// and none after a refusal. The call takes no memory.
+    /// If the item is refused, it takes them up to the byte with which it is. It takes none while a whole item is buffered,
+    /// and none after a refusal. It doesn't allocate.
     #[inline(always)]
     pub fn push(&mut self, piece: &[u8]) -> usize
         ensures taken { result ≡ taken self.old piece.now }
@@ -153,8 +172,10 @@ impl<A: Allocator> Feed<A> {
         self.progress.fill(&mut self.buffer, piece)
     }
 
-    /// Gives the sink the whole messages at the front of a piece, where nothing is held or refused, as pushing and taking them
-    /// would, but without a copy. It says how many bytes they have, and whether the sink took them all.
+    /// Gives the sink the whole messages that the chunk begins with.
+    ///
+    /// It copies none of them. It does so if no byte is buffered and nothing was refused, and has the effect of pushing and
+    /// taking them. It returns how many bytes they have, and whether the sink took them all.
     #[inline(always)]
     pub(crate) fn pass<S: Sink>(
         &mut self,
@@ -172,7 +193,9 @@ impl<A: Allocator> Feed<A> {
         self.progress.pass(self.buffer.as_slice(), sink, piece)
     }
 
-    /// Reads at most `most` bytes of a message that is held in part straight to those that are held, if many are still to come.
+    /// Reads at most `most` bytes of the current message directly into the buffer.
+    ///
+    /// It does so if a part of the message is buffered and at least 32,768 bytes are missing; `None` if it doesn't.
     #[inline(always)]
     pub(crate) fn read<R: Source>(
         &mut self,
@@ -192,14 +215,18 @@ impl<A: Allocator> Feed<A> {
         read
     }
 
-    /// Whether the last [`Feed::read`] did read.
+    /// Returns whether the last [`Feed::read`] did read.
     #[inline(always)]
     pub(crate) fn is_direct(&self) -> bool {
         self.is_direct
     }
 
-    /// The next item, where it is whole: its bytes are held no more from then on. A refusal is given again for ever after.
-    /// It takes no memory.
+    /// Returns the current item if it is whole, and goes on to the next one.
+    ///
+    /// `None` if it isn't whole yet. It doesn't allocate.
+    ///
+    /// # Errors
+    /// `Refused` if the item is refused. The refusal stays: each later call returns it again.
     #[inline(always)]
     pub fn take(&mut self) -> Result<Option<View<'_>>, TakeError>
         ensures value { IsAnswer self.old (shown result) }
@@ -209,7 +236,10 @@ impl<A: Allocator> Feed<A> {
         self.progress.give(self.buffer.as_slice())
     }
 
-    /// What `take` would answer.
+    /// Returns what [`Feed::take`] would return, and changes nothing.
+    ///
+    /// # Errors
+    /// `Refused` if the item is refused, now or before.
     pub fn look(&self) -> Result<Option<View<'_>>, TakeError>
         ensures value { IsAnswer self.now (shown result) }
         ensures feed { IsFeed self.now }
@@ -217,7 +247,7 @@ impl<A: Allocator> Feed<A> {
         self.progress.answer(self.buffer.as_slice())
     }
 
-    /// What is awaited once the item is taken that [`Feed::look`] gave this view of.
+    /// Returns what is awaited after the item that [`Feed::look`] returned as `view`.
     #[inline(always)]
     pub fn following(&self, view: &View) -> Stage
         requires { IsItem self.now.stage self.now.held (item_of view.now) }
@@ -228,7 +258,9 @@ impl<A: Allocator> Feed<A> {
         next
     }
 
-    /// Takes the item that is held, as [`Feed::take`] does, but doesn't judge it again. `next` is what [`Feed::following`] said.
+    /// Goes on to the next item without a second check of the current one.
+    ///
+    /// `next` is what [`Feed::following`] returned for it. It has the effect of [`Feed::take`].
     #[inline(always)]
     pub fn commit(&mut self, next: Stage)
         requires { IsFollowing self.old next }
@@ -237,7 +269,7 @@ impl<A: Allocator> Feed<A> {
         self.progress.commit(self.buffer.as_slice(), next);
     }
 
-    /// Gives a refusal again for ever after, as [`Feed::take`] does, that [`Feed::look`] gave.
+    /// Makes a refusal that [`Feed::look`] returned stay, as [`Feed::take`] does.
     pub fn refuse(&mut self, refusal: Refusal)
         requires { IsAnswer self.old (Err refusal) }
         ensures { self.new ≡ after self.old (Err refusal) }
@@ -245,19 +277,20 @@ impl<A: Allocator> Feed<A> {
         self.progress.refused = Some(refusal);
     }
 
-    /// The refusal that stands, if one does.
+    /// Returns the refusal of the stream, if there is one.
     ///
-    /// It is the one that `take` gave, or that of held bytes that begin no item.
+    /// It is the one that [`Feed::take`] returned, or that of buffered bytes that can't begin an item.
     pub fn refusal(&self) -> Option<Refusal>
         ensures { result ≡ standing self.now }
     {
         self.progress.refusal(self.buffer.as_slice())
     }
 
-    /// The verdict if the stream ends here: the offset of its end, or a refusal.
+    /// Returns the length of the stream in bytes, if it may end here.
     ///
     /// # Errors
-    /// The refusal, or `Untaken` if a whole item is held that `take` hasn't judged.
+    /// `Refused` if the stream is refused, or ends inside an item (`EndInside`). `Untaken` if a whole item is buffered that
+    /// [`Feed::take`] hasn't checked.
     pub fn finish(&self) -> Result<u64, Finish>
         ensures { result ≡ finish_of self.now }
     {

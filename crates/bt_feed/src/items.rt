@@ -1,4 +1,4 @@
-//! The items that a piece of a stream completes, one after the other. Embeddings loop over them.
+//! Iteration over the items that a chunk of a stream completes.
 ghost use Rattle.std.specs.Prelude.{◌≡◌, ◌≤◌, ◌<◌, ◌-◌, ◌∷◌, ℕ, length, IfOk, IfSome, false};
 ghost use Rattle.bt_feed.specs.Items.{GivesItem, work, IsStart, GivesAll, GivesUpTo};
 
@@ -8,12 +8,12 @@ use bt_wire::{Item, Refusal};
 use std::alloc::{AllocError, Allocator, Global};
 use thiserror::Error;
 
-/// Why a piece gives no further item.
+/// Why a chunk has no further item.
 #[derive(Clone, Copy, PartialEq, Eq, Debug, Error)]
 pub enum ItemError {
     #[error("message {} at {}: {}", .0.message, .0.at, .0.reason)]
     Refused(Refusal),
-    /// The item is lost.
+    /// Out of memory: the item is lost.
     #[error("out of memory")]
     Memory,
 }
@@ -29,7 +29,7 @@ impl From<AllocError> for ItemError {
     }
 }
 
-/// Takes bytes up to the end of the next item, says how many, and copies the item.
+/// Takes bytes up to the end of the next item; returns how many, and the item.
 fn next_item<A: Allocator>(
     alloc: Global,
     feed: &mut Feed<A>,
@@ -53,9 +53,9 @@ fn next_item<A: Allocator>(
     (taken, given)
 }
 
-/// The items of a piece: an iterator, which [`Feed::items`] makes.
+/// An iterator over the items of a chunk, which [`Feed::items`] makes.
 ///
-/// It ends after the last item that the piece completes, and after the first error.
+/// It ends after the last item that the chunk completes, and after the first error.
 #[derive(Drop)]
 pub struct Items<'a, A: Allocator = Global> {
     alloc: Global,
@@ -65,11 +65,11 @@ pub struct Items<'a, A: Allocator = Global> {
 }
 
 impl<A: Allocator> Feed<A> {
-    /// Returns the items that a piece completes, copied.
+    /// Parses a chunk: returns the items that it completes, copied.
     ///
-    /// Each has the offset at which it starts.
-    ///
-    /// The loop over them takes all bytes of the piece, up to a refusal. What belongs to no whole item is held.
+    /// Each comes with the offset at which it starts on the stream. A loop over them takes all bytes of the chunk, up to a refusal.
+    /// The bytes of an incomplete item are buffered. An item is `Err` if the stream is refused (`Refused`), or when out of memory
+    /// (`Memory`); the iterator then ends.
     pub fn items<'a>(&'a mut self, alloc: Global, piece: &'a [u8]) -> Items<'a, A>
         ensures start { IsStart result self.old piece.now }
         ensures all { GivesAll result self.old piece.now }

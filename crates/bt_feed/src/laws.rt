@@ -1,4 +1,4 @@
-//! Laws on the definitions, each the contract of a function that does nothing, but for `closed_has_ended`.
+//! Theorems about the definitions. Each is the contract of a function with an empty body, except `closed_has_ended`.
 ghost use Rattle.std.specs.Prelude.{◌≡◌, ◌≤◌, true};
 ghost use Rattle.bt_feed.specs.Stages.{limit_of, is_closed};
 ghost use Rattle.bt_feed.specs.Progress.{IsPartial};
@@ -6,15 +6,16 @@ ghost use Rattle.bt_feed.specs.Laws.{IsEnded, EndedIsClosed, ClosedStays, TakenI
 
 use crate::stage::Stage;
 
-/// What has ended is closed, and stays so.
+/// States that bytes that encode an item or have a fault are closed, and stay so.
 pub fn ended_is_closed()
     ensures ended { EndedIsClosed }
     ensures stays { ClosedStays }
 {}
 
-/// Bytes that are closed are the spelling of a legal item, or have a fault.
+/// States that closed bytes encode a legal item or have a fault.
 ///
-/// So it is where they go on no further than where they are closed. The function finds which, and keeps nothing.
+/// The bytes are those of one item, up to the first with which they are closed. The function finds which of both, and keeps
+/// nothing.
 pub fn closed_has_ended(stage: &Stage, held: &[u8])
     requires limit { limit_of stage.now ≤ 1048576 }
     requires partial { IsPartial stage.now held.now }
@@ -23,20 +24,22 @@ pub fn closed_has_ended(stage: &Stage, held: &[u8])
     let _ = stage.judge(held);
 }
 
-/// A push takes the fewest bytes with which the item is closed.
+/// States that a push takes the fewest bytes with which the item is closed.
 ///
-/// Pieces may be cut anywhere.
+/// Two pushes leave what one push of the joined bytes leaves.
 pub fn pushes()
     ensures least { TakenIsLeast }
     ensures join { PushesJoin }
 {}
 
-/// A feed has one answer.
+/// States that a feed has one answer.
 pub fn one_answer()
     ensures { AnswerIsOne }
 {}
 
-/// The outcome of the bytes that a feed holds and those that follow.
+/// States what comes of the buffered bytes and those that follow.
+///
+/// It is an item and what comes after it, a refusal, or nothing yet; and at the end of the stream what `finish` returns.
 pub fn outcomes()
     ensures item { ItemComes }
     ensures fault { FaultComes }

@@ -1,4 +1,6 @@
-//! A feed: the items of a stream whose bytes come in any pieces, over one buffer that is reserved once.
+//! Incremental parsing of a stream: its items, however it is split into chunks, over one buffer that is reserved once.
+//!
+//! What is sent isn't parsed here; `peer_context` is what encoding needs to know of the peer.
 #![tactic(auto)]
 
 mod buffer;

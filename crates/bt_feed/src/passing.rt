@@ -1,4 +1,4 @@
-//! Whole messages, handed on where they lie in a piece.
+//! Whole messages in a chunk, given to a sink without a copy.
 ghost use Rattle.std.specs.Prelude.{◌≡◌, ◌+◌, ◌^◌, ◌≤◌, ◌<◌, ℕ, List, length, take, None, OnOk, OnErr, IfSome, is_err};
 ghost use Rattle.bt_wire.specs.declared.item.Item.{Item};
 ghost use Rattle.bt_wire.specs.declared.item.Item.TheVariants as items;
@@ -23,7 +23,7 @@ const KEEP_ALIVE: u8 = 254;
 /// The number of the copy for ids that have no meaning.
 const OTHER: u8 = 255;
 
-/// What was handed on to a sink.
+/// What was given to a sink.
 ///
 /// How many messages, how many bytes they have, the order after them, and whether the sink took them all.
 #[derive(Drop)]
@@ -42,12 +42,12 @@ struct Given {
     taken: Result<(), SinkFault>,
 }
 
-/// Gives the sink the message at the front of the bytes, which is at this offset of the stream.
+/// Gives the sink the message in front, which is at offset `at` of the stream.
 ///
 /// `None`: no whole message is there, or it is refused.
 ///
-/// `COPY` means nothing. The compiler makes a copy of this function for each number, and inlines it where its one call is. There
-/// the message's id is known, so its kind isn't looked at again.
+/// `COPY` has no meaning of its own: the compiler makes a copy of this function for each number, and inlines it at its one call.
+/// There the message's id is known, so its kind isn't looked at again.
 #[inline(always)]
 fn pass_one<S: Sink, const COPY: u8>(
     context: &Context,
@@ -78,9 +78,9 @@ fn pass_one<S: Sink, const COPY: u8>(
     })
 }
 
-/// Like [`pass_one`], for an extended message.
+/// Gives the sink the message in front, if it is an extended message.
 ///
-/// Other messages are left. The test, which holds where this is called, tells the compiler the id.
+/// Other messages are left. The test, which holds at the one call, tells the compiler the id.
 #[inline(never)]
 fn pass_extended<S: Sink>(
     context: &Context,
@@ -105,7 +105,7 @@ fn leads_keep_alive(rest: &[u8]) -> bool {
     rest.len() >= 4 && u32::from_be_bytes([rest[0], rest[1], rest[2], rest[3]]) == 0
 }
 
-/// Like [`pass_one`], with a copy of it for each id.
+/// Gives the sink the message in front, by a copy of [`pass_one`] for each id.
 #[inline(always)]
 fn pass_by_id<S: Sink>(
     context: &Context,
@@ -139,7 +139,7 @@ fn pass_by_id<S: Sink>(
     }
 }
 
-/// Like [`pass_by_id`], with a copy of it for a keep-alive too.
+/// Gives the sink the message in front, which may be a keep-alive.
 #[inline(always)]
 fn pass_next<S: Sink>(
     context: &Context,
@@ -158,9 +158,9 @@ fn pass_next<S: Sink>(
     pass_by_id(context, order, at, sink, rest)
 }
 
-/// Gives the sink the messages at the front of a piece.
+/// Gives the sink the messages that a chunk begins with.
 ///
-/// They begin at this offset of the stream, and go up to one that isn't whole or is refused.
+/// The chunk begins at the offset `start` of the stream. It goes on up to a message that isn't whole or is refused.
 #[inline(always)]
 pub fn pass_messages<S: Sink>(
     context: &Context,

@@ -1,4 +1,4 @@
-//! One error for the calls that an embedding makes, so that it writes none of its own.
+//! One error for all calls of a program that talks to a peer, so that it needs none of its own.
 ghost use Rattle.std.specs.Prelude.{◌≡◌};
 ghost use Rattle.bt_feed.specs.Errors.{of_feed, of_item, of_take, of_finish, of_sink, of_pump, of_encode, of_kind};
 ghost use Rattle.std.specs.IoError.{error_kind};
@@ -15,8 +15,9 @@ use std::alloc::{AllocError, AllocFailed};
 use std::io;
 use thiserror::Error;
 
-/// What ends a conversation with a peer. `?` makes it of the error of each call of this crate and of
-/// `bt_end`, and of `encode`.
+/// Why a conversation with a peer ends.
+///
+/// `?` makes it of the error of each call of this crate and of `bt_end`, of the error of `encode`, and of an I/O error.
 #[derive(Clone, Copy, PartialEq, Eq, Debug, Error)]
 pub enum PeerError {
     #[error("out of memory")]
@@ -24,38 +25,42 @@ pub enum PeerError {
     /// The peer broke the rules: the number of the message, the offset in the peer's stream, and the reason.
     #[error("message {} is refused at {}: {}", .0.message, .0.at, .0.reason)]
     Refused(Refusal),
-    /// A message of one's own isn't legal for the peer.
+    /// Your message isn't legal for the peer.
     #[error("a message can't be sent: {0}")]
     Illegal(Fault),
     /// The limit isn't 1 to 1,048,576, or for an end 32,768 to 1,048,576.
     #[error("the limit isn't 1 to 1,048,576, or for an end 32,768 to 1,048,576")]
     BadLimit,
-    /// A stream can't start after offset 2^62.
+    /// The stream starts after offset 2^62.
     #[error("the stream starts after offset 2^62")]
     BadBase,
     #[error("a read failed")]
     Read,
     #[error("a write failed")]
     Write,
-    /// A device failed that doesn't say whether it read or wrote.
+    /// An I/O error that doesn't say whether it came from a read or a write.
     #[error("a device failed")]
     Device,
-    /// The given number of reads was made.
+    /// The given number of reads was made, and the stream hasn't ended.
     #[error("too many reads")]
     Turns,
-    /// At the stream's end a whole item was held that wasn't taken.
+    /// At the end of the stream a whole item was buffered that wasn't taken.
     #[error("an item is held that wasn't taken")]
     Untaken,
-    /// An end has too much that waits to be sent: write some of it, and call again.
+    /// Too much waits to be sent: write some of it, and call again.
     #[error("too much waits to be sent")]
     Busy,
-    /// An end's connection isn't open: the peer's handshake hasn't come, or the peer was refused.
+    /// The connection of an end isn't open.
+    ///
+    /// The peer's handshake hasn't come, or the peer was refused.
     #[error("the connection isn't open")]
     NotOpen,
-    /// An end doesn't say this message: it is extended, or tells of pieces whose count isn't known.
+    /// An end doesn't send this message.
+    ///
+    /// It is extended, or it has a piece index or is a bitfield and the piece count isn't known.
     #[error("an end doesn't say this message")]
     NotSaid,
-    /// An end can't be made of this config.
+    /// No end can be made of this config.
     #[error("an end can't be made of this config")]
     BadConfig,
 }

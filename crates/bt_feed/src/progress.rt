@@ -1,4 +1,4 @@
-//! How far a feed is with the item that it awaits.
+//! The current item of a feed: how much of it has come, and what its bytes are.
 ghost use Rattle.std.specs.Prelude.{◌≡◌, ◌+◌, ◌-◌, ◌<◌, ◌≤◌, ◌⊎◌, ◌++◌, false, true, List, ℕ, length, take, min, [], None, Err, IfOk, IfSome, OnOk, OnErr, is_err};
 ghost use Rattle.bt_wire.specs.declared.item.Item.{Item};
 ghost use Rattle.bt_io.specs.Counts.{Grew, one_more, counted, is_end};
@@ -23,18 +23,18 @@ use std::alloc::Allocator;
 #[derive(Drop)]
 pub struct Progress {
     pub stage: Stage,
-    /// They belong to an item that was taken.
+    /// Whether they belong to an item that was taken.
     pub spent: bool,
-    /// How many bytes the present message has, once its header is judged, and 0 before.
+    /// How many bytes the current message has; 0 before its header is checked.
     pub wanted: usize,
-    /// The refusal that was given.
+    /// The refusal that was returned.
     pub refused: Option<Refusal>,
 }
 
-/// So many bytes that are still to come are read straight into the buffer.
+/// From this many missing bytes on, they are read directly into the buffer.
 const MANY: usize = 32_768;
 
-/// Appends bytes up to a length within the capacity, and says how many.
+/// Appends bytes up to a length within the capacity, and returns how many.
 #[inline(always)]
 fn append_up_to<A: Allocator>(buffer: &mut Buffer<A>, goal: usize, bytes: &[u8]) -> usize
     requires held { length buffer.old.items ≤ goal }
@@ -49,7 +49,7 @@ fn append_up_to<A: Allocator>(buffer: &mut Buffer<A>, goal: usize, bytes: &[u8])
 }
 
 impl Progress {
-    /// Nothing has come.
+    /// Makes the progress of a feed to which nothing has come.
     pub fn new(stage: Stage) -> Progress
         ensures { result ≡ record { stage = stage; spent = false; wanted = 0; refused = None } }
     {
@@ -61,7 +61,7 @@ impl Progress {
         }
     }
 
-    /// The bytes of the present item.
+    /// Returns the bytes of the current item.
     #[inline(always)]
     pub fn held<'a>(&self, buffer: &'a [u8]) -> &'a [u8]
         ensures { result.now ≡ held_of self.now buffer.now }
@@ -69,7 +69,7 @@ impl Progress {
         if self.spent { &[] } else { buffer }
     }
 
-    /// Appends to the buffer up to the next place where bytes are judged, and says how many.
+    /// Appends bytes up to the next place where they are checked; returns how many.
     fn step<A: Allocator>(&mut self, buffer: &mut Buffer<A>, piece: &[u8]) -> usize
         requires sound { IsProgress self.old buffer.old.items }
         requires room { capacity_of self.old.stage ≤ buffer.old.capacity }
@@ -91,7 +91,9 @@ impl Progress {
         }
     }
 
-    /// Appends to the buffer until the item is closed, or all, where its header isn't judged yet.
+    /// Appends to the buffer until the item is closed, or all.
+    ///
+    /// Its header isn't checked yet.
     #[cold]
     #[inline(never)]
     fn fill_by_steps<A: Allocator>(&mut self, buffer: &mut Buffer<A>, piece: &[u8]) -> usize
@@ -115,7 +117,7 @@ impl Progress {
         }
     }
 
-    /// Lets the bytes of a taken item go.
+    /// Drops the bytes of an item that was taken.
     #[inline(always)]
     fn refresh<A: Allocator>(&mut self, buffer: &mut Buffer<A>)
         requires sound { IsProgress self.old buffer.old.items }
@@ -131,7 +133,9 @@ impl Progress {
         }
     }
 
-    /// How many bytes the present message has, which is judged where it lies if nothing is held; 0 where that isn't known.
+    /// Returns how many bytes the current message has; 0 if that isn't known.
+    ///
+    /// It is checked in the chunk if nothing is buffered.
     #[inline(always)]
     fn length(&self, buffer: &[u8], piece: &[u8]) -> usize
         requires sound { IsProgress self.now buffer.now }
@@ -146,7 +150,7 @@ impl Progress {
         }
     }
 
-    /// Appends to the buffer until the item is closed, or all.
+    /// Appends to the buffer until the item is closed, or all; returns how many bytes.
     #[inline(always)]
     pub fn fill<A: Allocator>(&mut self, buffer: &mut Buffer<A>, piece: &[u8]) -> usize
         requires sound { IsProgress self.old buffer.old.items }
@@ -166,9 +170,9 @@ impl Progress {
         append_up_to(buffer, length, piece)
     }
 
-    /// Reads at most `most` bytes of the present message straight into the buffer.
+    /// Reads at most `most` bytes of the current message directly into the buffer.
     ///
-    /// It does so if many of them are still to come.
+    /// It does so if at least 32,768 bytes of it are missing; `None` if it doesn't.
     #[inline(always)]
     pub fn read<R: Source, A: Allocator>(
         &self,
@@ -196,9 +200,12 @@ impl Progress {
         Some(buffer.read(reader, goal))
     }
 
-    /// Gives the sink the whole messages at the front of a piece.
+    /// Gives the sink the whole messages that a chunk begins with.
     ///
-    /// It does so where nothing is held or refused, and returns how many bytes they have and whether the sink took them all.
+    /// It does so if nothing is buffered or refused. It returns how many bytes they have, and whether the sink took them all.
+    ///
+    /// # Errors
+    /// The error of the sink, which didn't take the last one.
     #[inline(always)]
     pub fn pass<S: Sink>(
         &mut self,
@@ -236,7 +243,10 @@ impl Progress {
         (passed.bytes, passed.taken)
     }
 
-    /// The item that the bytes are, or their fault.
+    /// Returns the item that the bytes are, if they are a whole one.
+    ///
+    /// # Errors
+    /// The fault of the item, with its offset in it.
     #[inline(always)]
     fn find<'a>(&self, held: &'a [u8]) -> Result<Option<View<'a>>, Refused>
         requires limit { limit_of self.now.stage ≤ 1048576 }
@@ -258,7 +268,10 @@ impl Progress {
         self.stage.judge(held)
     }
 
-    /// What the feed answers.
+    /// Returns the current item, if it is whole.
+    ///
+    /// # Errors
+    /// `Refused` if the item is refused.
     #[inline(always)]
     pub fn answer<'a>(&self, buffer: &'a [u8]) -> Result<Option<View<'a>>, TakeError>
         requires { IsProgress self.now buffer.now }
@@ -270,7 +283,10 @@ impl Progress {
         }
     }
 
-    /// What the feed answers, and moves on to what follows it.
+    /// Returns the current item, if it is whole, and goes on to the next one.
+    ///
+    /// # Errors
+    /// `Refused` if the item is refused, now or before.
     #[inline(always)]
     pub fn give<'a>(&mut self, buffer: &'a [u8]) -> Result<Option<View<'a>>, TakeError>
         requires { IsProgress self.old buffer.now }
@@ -299,7 +315,7 @@ impl Progress {
         }
     }
 
-    /// Moves on to what follows the item that the bytes are, without judging them again.
+    /// Goes on to what follows the item that the bytes are, without a second check.
     #[inline(always)]
     pub fn commit(&mut self, buffer: &[u8], next: Stage)
         requires sound { IsProgress self.old buffer.now }
@@ -317,9 +333,9 @@ impl Progress {
         };
     }
 
-    /// Returns the refusal that was given, or that of an early fault.
+    /// Returns the refusal that was returned, or that of an early fault.
     ///
-    /// An early fault is judged before all of the item is there.
+    /// An early fault is found before all of the item has come.
     #[cold]
     #[inline(never)]
     pub fn refusal(&self, buffer: &[u8]) -> Option<Refusal>
@@ -335,7 +351,10 @@ impl Progress {
         }
     }
 
-    /// What the feed says at the stream's end.
+    /// Returns the length of the stream in bytes, if it may end here.
+    ///
+    /// # Errors
+    /// `Refused` if the stream is refused, or ends inside an item. `Untaken` if a whole item is buffered.
     #[cold]
     #[inline(never)]
     pub fn finish(&self, buffer: &[u8]) -> Result<u64, Finish>

@@ -1,4 +1,4 @@
-//! From a source through a feed into a sink.
+//! Parsing of all that a source has, into a sink.
 ghost use Rattle.std.specs.Prelude.{◌≡◌, ◌⊎◌, ◌+◌, ◌-◌, ◌^◌, ◌≤◌, ◌≢◌, ℕ, List, ◌<◌, min, length, false, Err, OnOk};
 ghost use Rattle.std.specs.Prelude.{[], take, IfOk, OnErr, is_err};
 ghost use Rattle.std.specs.Io.KnownBytes.{Consumes, Keeps};
@@ -18,13 +18,13 @@ use bt_wire::Refusal;
 use std::alloc::Allocator;
 use thiserror::Error;
 
-/// Why a pump stopped before the end of an accepted stream.
+/// Why a pump stopped before the end of a legal stream.
 #[derive(Clone, Copy, PartialEq, Eq, Debug, Error)]
 pub enum PumpError {
     /// A read failed.
     #[error("read")]
     ReadFault,
-    /// That many reads were made without the end.
+    /// The given number of reads was made, and the stream hasn't ended.
     #[error("turns")]
     Turns,
     /// The stream is refused.
@@ -35,7 +35,7 @@ pub enum PumpError {
     Sink(SinkFault),
 }
 
-/// Gives the sink the items that a piece completes.
+/// Gives the sink the items that a chunk completes.
 fn pump_piece<S: Sink, A: Allocator>(
     feed: &mut Feed<A>,
     sink: &mut S,
@@ -67,7 +67,7 @@ fn pump_piece<S: Sink, A: Allocator>(
     }
 }
 
-/// The verdict if the stream ends here, where no whole item is held.
+/// Returns the length of the stream if it may end here; no whole item is buffered.
 fn end<A: Allocator>(feed: &Feed<A>) -> Result<u64, PumpError>
     requires { is_closed feed.now.stage feed.now.held ≡ false }
     ensures end { IsEndOf feed.now result }
@@ -80,13 +80,15 @@ fn end<A: Allocator>(feed: &Feed<A>) -> Result<u64, PumpError>
     }
 }
 
-/// How many bytes are read at most after a read right into the feed, where another long message may begin.
+/// How many bytes are read at most after a read directly into the feed.
+///
+/// Another long message may begin there.
 const PEEK: usize = 4_096;
 
-/// Reads once: right into the feed, where it holds a part of a long message, and else into the buffer.
+/// Reads once: into the feed if it has part of a long message, else into `buffer`.
 ///
-/// It says how many bytes came, and how many of them are in the buffer. After a read right into the feed at most [`PEEK`] bytes are
-/// read into the buffer, so that no more of a long message is copied from there.
+/// It returns how many bytes came, and how many of them are in the buffer. After a read directly into the feed at most [`PEEK`]
+/// bytes are read into the buffer, so that no more of a long message is copied from there.
 #[inline(always)]
 fn read_once<R: Source, A: Allocator>(
     reader: &mut R,
@@ -120,15 +122,18 @@ fn read_once<R: Source, A: Allocator>(
     }
 }
 
-/// Reads to the end, and gives the sink each item with its offset.
+/// Parses a source to its end, gives the sink each item, and returns the length.
 ///
-/// It reads `max_turns` times at most, each time no more bytes than the buffer has, which isn't empty: into the buffer, or right
-/// into the feed if many bytes of a message are still to come. The read after such a one takes 4,096 bytes at most. It returns the
-/// offset of the stream's end. It takes no memory itself.
+/// The length is that of the stream, in bytes. Each item comes with its offset. `buffer` isn't empty. A read takes at most as many
+/// bytes as the buffer has, into the buffer, or directly into the feed if many bytes of a message are missing; the read after
+/// such a one takes 4,096 bytes at most. It doesn't allocate, except what the sink does.
 ///
-/// A refusal, a sink's fault, a failed read and the end stop it at once: no read follows. After a refusal or a sink's
-/// fault, what is left of the piece in the buffer is lost. After `Turns` or `ReadFault` nothing is lost, and another call
-/// goes on.
+/// # Errors
+/// Each stops it at once; no read follows.
+///
+/// `Refused` if the stream is refused, or ends inside an item. `Sink` if the sink didn't take an item. After these two, the rest of
+/// the chunk in the buffer is lost. `ReadFault` if a read failed. `Turns` after `max_turns` reads. After these two nothing is
+/// lost, and another call goes on.
 pub fn pump_with<R: Source, S: Sink, A: Allocator>(
     reader: &mut R,
     feed: &mut Feed<A>,
@@ -168,7 +173,17 @@ pub fn pump_with<R: Source, S: Sink, A: Allocator>(
     Err(PumpError::Turns)
 }
 
-/// Like [`pump_with`], with reads of at most 4,096 bytes.
+/// Parses a source to its end, with reads of at most 4,096 bytes.
+///
+/// It gives the sink each item with its offset, and returns the length of the stream in bytes. It doesn't allocate, except what
+/// the sink does.
+///
+/// # Errors
+/// Each stops it at once; no read follows.
+///
+/// `Refused` if the stream is refused, or ends inside an item. `Sink` if the sink didn't take an item. After these two, the rest of
+/// the chunk that was read is lost. `ReadFault` if a read failed. `Turns` after `max_turns` reads. After these two nothing is
+/// lost, and another call goes on.
 pub fn pump<R: Source, S: Sink, A: Allocator>(
     reader: &mut R,
     feed: &mut Feed<A>,

@@ -1,4 +1,4 @@
-//! What a sender judges by: the context in which its peer receives. Embeddings that send call it.
+//! The context for sending to a peer.
 ghost use Rattle.std.specs.Prelude.{◌≡◌};
 ghost use Rattle.bt_feed.specs.Senders.{peer_context};
 
@@ -6,12 +6,12 @@ use bt_ext::Table;
 use bt_wire::{Context, Own, Reserved, negotiate};
 use std::alloc::Allocator;
 
-/// The context that a sender takes its peer to receive in.
+/// Returns the context to use for encoding messages to the peer.
 ///
-/// `own` describes the sender, `theirs` is from the peer's handshake, and `table` has what the peer's extended
-/// handshakes announced. The context has the ids that the peer announced: of an extension that it announced none for, none.
+/// `own` describes you, `theirs` is from the peer's handshake (`Reserved(0)` before it has come), and `table` has what the peer's
+/// extended handshakes announced. The context has the ids that the peer announced, and none for an extension without one.
 ///
-/// What is sent is judged in this context; what is received is judged in that of [`negotiate`].
+/// What you receive is checked by another context, that of `bt_wire::negotiate`. See the example of `bt_wire::encode`.
 pub fn peer_context<A: Allocator + Copy>(own: &Own, theirs: Reserved, table: &Table<A>) -> Context
     ensures { result ≡ peer_context own.now theirs table.now }
 {

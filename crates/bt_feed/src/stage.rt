@@ -1,4 +1,4 @@
-//! The item that a feed awaits, and what its bytes show.
+//! The item that a feed awaits, and what its bytes say about it.
 ghost use Rattle.std.specs.Prelude.{◌≡◌, ◌+◌, ◌<◌, ◌≤◌, ◌^◌, length};
 ghost use Rattle.bt_feed.specs.Stages.{start_of, number_of, limit_of, refusal_of, stage_after};
 ghost use Rattle.bt_feed.specs.Views.{item_of};
@@ -11,7 +11,7 @@ use bt_wire::{
     judge_header, negotiate, next_of_view, read_front, read_opening,
 };
 
-/// A message starts below this offset.
+/// The offset below which a message starts.
 pub(crate) const END: u64 = 1 << 62;
 
 /// What a feed awaits: the handshake, or the message `number` from `start` on.
@@ -26,14 +26,14 @@ pub enum Stage {
     },
 }
 
-/// How many bytes of an item are judged together.
+/// How many bytes of an item are checked together.
 #[derive(Clone, Copy)]
 pub(crate) enum Goal {
     /// Nothing may be added.
     Closed,
-    /// So many, with which it may be closed.
+    /// This many bytes; the item may be closed then.
     Until(usize),
-    /// All of the message.
+    /// All bytes of the message.
     Window(usize),
 }
 
@@ -52,7 +52,7 @@ fn judge_start(context: &Context, order: Order, start: u64, bytes: &[u8]) -> Hea
 }
 
 impl Stage {
-    /// The number of the item.
+    /// Returns the number of the item: 0 for the handshake.
     #[inline(always)]
     pub fn number(&self) -> u64
         ensures { result ≡ number_of self.now }
@@ -63,7 +63,7 @@ impl Stage {
         }
     }
 
-    /// Where the item starts on the stream.
+    /// Returns the offset at which the item starts.
     #[inline(always)]
     pub(crate) fn start(&self) -> u64
         ensures { result ≡ start_of self.now }
@@ -74,7 +74,7 @@ impl Stage {
         }
     }
 
-    /// The refusal for a fault of the item.
+    /// Returns the refusal for a fault of the item.
     #[cold]
     #[inline(never)]
     pub(crate) fn refusal(&self, fault: Refused) -> Refusal
@@ -88,7 +88,7 @@ impl Stage {
         }
     }
 
-    /// Moves on to what follows an item of `size` bytes.
+    /// Goes on to what follows an item of `size` bytes.
     #[inline(always)]
     pub(crate) fn advance(&mut self, view: &View, size: usize)
         requires start { start_of self.old + size < 2 ^ 64 }
@@ -122,7 +122,10 @@ impl Stage {
         }
     }
 
-    /// The item that the bytes are, or their fault.
+    /// Returns the item that the bytes are, if they are a whole one.
+    ///
+    /// # Errors
+    /// The fault of the item, with its offset in it.
     #[cold]
     #[inline(never)]
     pub(crate) fn judge<'a>(&self, held: &'a [u8]) -> Result<Option<View<'a>>, Refused>
@@ -149,7 +152,10 @@ impl Stage {
         }
     }
 
-    /// The fault that is judged before all of the item is there, or whether all of it is there.
+    /// Returns whether all of the item is there.
+    ///
+    /// # Errors
+    /// The fault that is found before all of the item is there.
     #[cold]
     #[inline(never)]
     pub(crate) fn early(&self, held: &[u8]) -> Result<bool, Refused>
@@ -173,7 +179,7 @@ impl Stage {
         }
     }
 
-    /// How many bytes of the item are judged together, where these are there.
+    /// Returns how many bytes of the item are checked together, after these.
     #[cold]
     #[inline(never)]
     pub(crate) fn next_goal(&self, held: &[u8]) -> Goal
@@ -206,7 +212,7 @@ impl Stage {
         }
     }
 
-    /// How many bytes the message has whose first ones these are, or 0 where that isn't judged yet.
+    /// Returns how many bytes the message has; 0 if too few of them are there.
     #[inline(always)]
     pub(crate) fn window_of(&self, bytes: &[u8]) -> usize
         ensures { 0 < result → HasWindow self.now bytes.now result }

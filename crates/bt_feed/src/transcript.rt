@@ -1,4 +1,4 @@
-//! All items of a list of pieces, with the refusal and the rest. Callers that hold a whole stream call it.
+//! Parsing of a stream that is there as a list of chunks.
 ghost use Rattle.std.specs.Prelude.{◌≡◌, ◌+◌, ◌<◌, ◌≤◌, ◌^◌, ◌⊎◌, ◌↔◌, ◌++◌, ℕ, List, [], Option, false, Err, IfOk, IsErrOf, MatchOption, flat_map};
 ghost use Rattle.bt_wire.specs.declared.context.Own.{Own};
 ghost use Rattle.bt_wire.specs.declared.item.Item.{Item};
@@ -15,9 +15,9 @@ use crate::view::{refusal_in, to_item};
 use bt_wire::{Item, Own, Refusal};
 use std::alloc::{AllocError, Global};
 
-/// What is read of a stream: its items with their offsets, and what follows them.
+/// All that is parsed of a stream: items with their offsets, and what follows.
 ///
-/// That is a refusal, or nothing; and how many bytes of an unfinished or a refused item are held.
+/// That is a refusal, or nothing; and how many bytes of an incomplete or a refused item are left.
 #[derive(Drop)]
 pub struct Transcript {
     pub items: Vec<(u64, Item)>,
@@ -25,7 +25,7 @@ pub struct Transcript {
     pub rest: u64,
 }
 
-/// Reads a piece, up to its end or a refusal.
+/// Parses a chunk, up to its end or a refusal.
 fn read_piece(
     alloc: Global,
     feed: &mut Feed,
@@ -50,7 +50,7 @@ fn read_piece(
     }
 }
 
-/// Reads the pieces that follow, up to their end or a refusal.
+/// Parses the chunks that follow, up to their end or a refusal.
 fn read_pieces(alloc: Global, mut feed: Feed, pieces: &[Vec<u8>]) -> Result<Transcript, AllocError>
     ensures { IfOk result (λ t. (own : Own) (all : List ℕ) → Reads (Stage.Handshake own) all [] feed (flat_map (λ piece. piece.items) pieces.now) → is_closed feed.stage feed.held ≡ false
         → IsTranscript own all t.items.items t.refused t.rest) }
@@ -72,7 +72,11 @@ fn read_pieces(alloc: Global, mut feed: Feed, pieces: &[Vec<u8>]) -> Result<Tran
     })
 }
 
-/// Reads a stream that comes in these pieces, as if it came in one.
+/// Parses a stream that comes in these chunks, as if it came in one.
+///
+/// # Errors
+/// `BadLimit` exactly if the limit of `own` isn't 1 to 1,048,576, `Memory` when out of memory. A refusal is no error: it is in
+/// the transcript.
 pub fn read_all(alloc: Global, own: Own, pieces: &[Vec<u8>]) -> Result<Transcript, FeedError>
     // It is a transcript of the joined bytes,
     ensures verdict { IfOk result (λ t. IsTranscript own (flat_map (λ piece. piece.items) pieces.now) t.items.items t.refused t.rest) }

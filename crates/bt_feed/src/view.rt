@@ -1,4 +1,4 @@
-//! What a feed answers: views of items, refusals, and what holds at the end. Callers of a feed read them.
+//! What a feed returns: views of items, refusals, and what is wrong at the end of a stream.
 ghost use Rattle.std.specs.Prelude.{◌≡◌, IfOk, IfErr};
 ghost use Rattle.bt_feed.specs.Views.{item_of, KeepsBytes};
 
@@ -6,31 +6,31 @@ use bt_wire::{Handshake, Item, MessageView, Refusal, copy_message};
 use std::alloc::{AllocError, Global};
 use thiserror::Error;
 
-/// An item whose bytes are those of the feed's buffer.
+/// An item whose bytes are those of the feed's buffer, valid until the next push.
 #[derive(Drop)]
 pub enum View<'a> {
     Handshake(Handshake),
     Message(MessageView<'a>),
 }
 
-/// Why a feed gives no item.
+/// Why a feed returns no item.
 #[derive(Clone, Copy, PartialEq, Eq, Debug, Error)]
 pub enum TakeError {
     #[error("message {} at {}: {}", .0.message, .0.at, .0.reason)]
     Refused(Refusal),
 }
 
-/// Why a stream isn't accepted that ends here.
+/// Why a stream may not end here.
 #[derive(Clone, Copy, PartialEq, Eq, Debug, Error)]
 pub enum Finish {
     #[error("message {} at {}: {}", .0.message, .0.at, .0.reason)]
     Refused(Refusal),
-    /// A whole item is held that wasn't taken.
+    /// A whole item is buffered that wasn't taken.
     #[error("an item is held that wasn't taken")]
     Untaken,
 }
 
-/// The refusal that the error is.
+/// Returns the refusal that the error is.
 pub fn refusal_in(error: TakeError) -> Refusal
     ensures { error ≡ TakeError.Refused result }
 {
@@ -39,7 +39,10 @@ pub fn refusal_in(error: TakeError) -> Refusal
     }
 }
 
-/// The item that a view is, with memory of its own. It takes memory only for bytes that a message keeps.
+/// Copies a view into an item. It allocates only for bytes that a message keeps.
+///
+/// # Errors
+/// `AllocError` when out of memory; it comes only for a message that keeps bytes, as a bitfield or a block.
 pub fn to_item(alloc: Global, view: &View) -> Result<Item, AllocError>
     ensures ok { IfOk result (λ item. item ≡ item_of view.now) }
     ensures err { IfErr result (λ _. KeepsBytes view.now) }

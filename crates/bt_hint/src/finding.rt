@@ -1,20 +1,20 @@
-//! The hint that the first bytes of a refused stream give. The command line calls it.
+//! The hint that the first bytes of a refused stream give.
 ghost use Rattle.std.specs.Prelude.{◌≡◌, true, IfSome};
 ghost use Rattle.bt_hint.specs.Hints.{HasMark, begins as begins_with, protocol};
 
 use crate::kind::{Kind, PROTOCOL, begins, kind_of};
 use crate::places::{find_handshake, find_keep_alives};
 
-/// What the bytes tell. Places are offsets in the stream.
+/// What the first bytes say. Numbers are offsets in the stream, and in bytes.
 #[derive(Clone, Copy, PartialEq, Eq, Debug)]
 pub enum Hint {
     /// They begin as another kind of file.
     Is(Kind),
-    /// They begin with no handshake, and one stands at this place.
+    /// They begin with no handshake, and one begins at this offset.
     Handshake(u64),
-    /// They begin with a handshake, and a second one stands at this place.
+    /// They begin with a handshake, and a second one begins at this offset.
     SecondHandshake(u64),
-    /// From the first number's place on, as many bytes as the second says are zero, and read as keep-alives.
+    /// A long run of keep-alives, which are zeros: its offset and its length.
     KeepAlives(u64, u64),
 }
 
@@ -46,9 +46,9 @@ fn inside(bytes: &[u8], at: u64) -> Option<Hint>
     Some(Hint::KeepAlives(start as u64, size as u64))
 }
 
-/// Returns what the first bytes tell of a stream that is refused at `at`.
+/// Returns what the first bytes say of a stream that is refused at offset `at`.
 ///
-/// A place is within these bytes, and not after `at`, unless there is no handshake at the start.
+/// An offset in it is within these bytes, and not after `at`, unless there is no handshake at the start.
 pub fn hint_of(bytes: &[u8], at: u64) -> Option<Hint>
     ensures { IfSome result (HasMark bytes.now) }
 {

@@ -1,11 +1,11 @@
-//! A source whose first bytes are kept. The program reads its input through it, and asks for a hint by them.
+//! A source whose first bytes are kept.
 ghost use Rattle.std.specs.Prelude.{◌≡◌, ◌⊎◌, ◌++◌, [], take};
 ghost use Rattle.bt_hint.specs.Windows.{source_of, kept_of, room_of};
 
 use bt_io::{Failed, Source};
 use std::alloc::Global;
 
-/// The most bytes that are kept.
+/// The greatest number of bytes that are kept.
 pub const WINDOW: usize = 65_536;
 
 /// A source, and its first bytes, [`WINDOW`] of them at most.
@@ -16,7 +16,9 @@ pub struct Kept<R> {
     room: usize,
 }
 
-/// Keeps bytes, as far as there is room. Once memory was refused there is no more room.
+/// Keeps bytes, as far as there is room; returns how much room is left.
+///
+/// When memory has run out there is no more room.
 fn keep(bytes: &mut Vec<u8>, room: usize, more: &[u8]) -> usize
     ensures { (bytes.new.items ≡ bytes.old.items ++ take room more.now) ⊎ ((bytes.new.items ≡ bytes.old.items) × (result ≡ 0)) }
 {
@@ -28,7 +30,7 @@ fn keep(bytes: &mut Vec<u8>, room: usize, more: &[u8]) -> usize
 }
 
 impl<R> Kept<R> {
-    /// The source, of which nothing is kept yet.
+    /// Makes a source of which nothing is kept yet.
     pub fn new(alloc: Global, source: R) -> Kept<R>
         ensures source { source_of result ≡ source }
         ensures kept { kept_of result ≡ [] }
@@ -41,7 +43,7 @@ impl<R> Kept<R> {
         }
     }
 
-    /// The bytes that are kept: the first that were read.
+    /// Returns the bytes that are kept: the first that were read.
     pub fn window(&self) -> &[u8]
         ensures { result.now ≡ kept_of self.now }
     {

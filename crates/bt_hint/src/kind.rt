@@ -1,4 +1,4 @@
-//! Kinds of files that are given in place of a stream by mistake. The module `finding` calls it.
+//! Kinds of files that are given in place of a stream by mistake.
 ghost use Rattle.std.specs.Prelude.{◌≡◌};
 ghost use Rattle.bt_hint.specs.Hints.{begins, is_capture, is_http, is_hex, is_tls, is_torrent, is_lines, kind_in};
 

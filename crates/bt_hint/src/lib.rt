@@ -1,6 +1,4 @@
-//! What the first bytes of a refused stream tell: another kind of file, a handshake further on, a gap that was filled.
-//!
-//! The command line keeps these bytes by [`Kept`], asks [`hint_of`], and writes the answer by [`hint_line`].
+//! What the first bytes of a refused stream say: another kind of file, a handshake further on, a gap that was filled with zeros.
 #![tactic(auto)]
 
 mod finding;

@@ -1,4 +1,4 @@
-//! The line of a hint. The command line writes it on standard error.
+//! The line of a hint.
 ghost use Rattle.std.specs.Prelude.{◌≡◌, ◌++◌, decimal, IfOk, OnOk};
 ghost use Rattle.bt_hint.specs.Hints.{hint_line as line_of, hint_words as words_of, kind_text as text_of};
 
@@ -77,7 +77,7 @@ fn push_words(hint: Hint, line: &mut Vec<u8>) -> Result<(), AllocError>
 /// Returns the line of a hint, with its line feed.
 ///
 /// # Errors
-/// `AllocError` if the program is out of memory.
+/// `AllocError` when out of memory.
 pub fn hint_line(alloc: Global, hint: Hint) -> Result<Vec<u8>, AllocError>
     ensures { IfOk result (λ line. line.items ≡ line_of hint) }
 {

@@ -1,4 +1,4 @@
-//! Places in a stream: a handshake further on, and a long run of keep-alives. The module `finding` calls it.
+//! Offsets in a stream: a handshake further on, and a long run of keep-alives.
 ghost use Rattle.std.specs.Prelude.{◌≡◌, ◌<◌, ◌≤◌, ◌+◌, IfSome, drop, length};
 ghost use Rattle.std.specs.Int.{w32, from_be_bytes};
 ghost use Rattle.bt_hint.specs.Hints.{AreKeepAlives, HandshakeAt};
@@ -8,7 +8,7 @@ use crate::kind::{PROTOCOL, begins};
 /// The least bytes of keep-alives in a row that count as many.
 const MANY: usize = 1024;
 
-/// Returns the first place after the bytes' start where a handshake begins.
+/// Returns the first offset above 0 at which a handshake begins.
 pub fn find_handshake(bytes: &[u8]) -> Option<usize>
     ensures found { IfSome result (λ n. (0 < n) × HandshakeAt bytes.now n) }
     ensures within { IfSome result (λ n. n < length bytes.now) }
@@ -31,7 +31,7 @@ fn span(bytes: &[u8], place: usize) -> Option<usize>
     if size <= rest.len() { Some(size) } else { None }
 }
 
-/// Returns the place and the size of the first long run of keep-alives.
+/// Returns the offset and the size in bytes of the first long run of keep-alives.
 pub fn find_keep_alives(bytes: &[u8]) -> Option<(usize, usize)>
     ensures { IfSome result (λ p. (1024 ≤ p.1) × AreKeepAlives bytes.now p.0 p.1) }
 {

@@ -1,8 +1,8 @@
-//! Counts of calls, which stay at 2^64 - 1. The devices of this crate call it.
+//! Counts of calls. They stay at 2^64 - 1.
 ghost use Rattle.std.specs.Prelude.{◌≡◌};
 ghost use Rattle.bt_io.specs.Counts.{counted as raised};
 
-/// The count after a call that is counted or isn't. It stays at 2^64 - 1 once there.
+/// Returns the count, one more if `is_counted`, at most 2^64 - 1.
 pub fn counted(is_counted: bool, count: u64) -> u64
     ensures { result ≡ raised is_counted count }
 {

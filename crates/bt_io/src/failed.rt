@@ -1,7 +1,7 @@
-//! The error of a device. Sources and targets answer it.
+//! The error of a source or a target.
 use thiserror::Error;
 
-/// A read or a write failed.
+/// An I/O error: a read or a write failed.
 #[derive(Clone, Copy, PartialEq, Eq, Debug, Error)]
 #[error("failed")]
 pub struct Failed;

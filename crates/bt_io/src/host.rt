@@ -1,4 +1,4 @@
-//! A reader or a writer of std as a device. The program wraps its standard input and output so.
+//! A reader or a writer of std as a source or a target.
 ghost use Rattle.std.specs.Prelude.{◌≡◌};
 ghost use Rattle.bt_io.specs.Devices.{host_device, host_counts, no_calls, source_seen, target_seen};
 
@@ -18,7 +18,7 @@ pub struct Host<T> {
 }
 
 impl<T> Host<T> {
-    /// The device, with no call made.
+    /// Makes a source or a target of a reader or a writer of std.
     pub fn new(device: T) -> Host<T>
         ensures device { host_device result ≡ device }
         ensures counts { host_counts result ≡ no_calls }

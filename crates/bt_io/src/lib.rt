@@ -1,7 +1,6 @@
 //! Where bytes come from and where they go: sources and targets that count their calls, and an outbox of bytes to be sent.
 //!
-//! Nothing here knows of BitTorrent. A pump of `bt_feed` reads a `Source`; the commands write to a `Target`; an end of a
-//! connection keeps what it sends in an `Outbox`.
+//! Nothing here knows of BitTorrent.
 #![tactic(auto)]
 
 mod counts;

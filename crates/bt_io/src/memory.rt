@@ -1,4 +1,4 @@
-//! Devices in memory, which move a given number of bytes a call and fail at a given call. Tests call it.
+//! Sources and targets in memory, which move a given number of bytes a call and fail at a given call.
 ghost use Rattle.std.specs.Prelude.{◌≡◌, ◌+◌, ◌≤◌, ◌<◌, ◌⊎◌, ◌↔◌, Some, vec_len, length, min, is_err, IfOk, IsErr};
 ghost use Rattle.std.specs.Io.{ReadsAtMost, WritesAtMost};
 ghost use Rattle.std.specs.Io.KnownBytes.{ReadConsumes, WriteAppends};
@@ -9,7 +9,7 @@ use crate::failed::Failed;
 use crate::source::Source;
 use crate::target::Target;
 
-/// A source of bytes in memory, which gives at most `most` bytes a call.
+/// A source in memory, which returns at most `most` bytes a call.
 ///
 /// It fails once, at the call `fails_at`, counted from 1.
 #[derive(Drop)]
@@ -28,7 +28,9 @@ pub struct MemSource {
 impl MemSource {
     ghost use Rattle.bt_io.specs.Devices.{source_left, source_most, source_fails_at, source_counts, no_calls};
 
-    /// The source, with no call made.
+    /// Makes a source of these bytes. `most` is above 0.
+    ///
+    /// It returns at most `most` bytes a call, and fails once, at the call `fails_at`, counted from 1.
     pub fn new(bytes: Vec<u8>, most: usize, fails_at: Option<u64>) -> MemSource
         requires { 0 < most }
         ensures left { source_left result ≡ bytes.items }
@@ -77,7 +79,7 @@ impl Source for MemSource {
 
 /// A target in memory, which takes at most `most` bytes a call.
 ///
-/// It fails at the call `fails_at`, counted from 1, and if it has to grow and memory is refused. With `most` 0 it takes nothing.
+/// It fails at the call `fails_at`, counted from 1, and if it has to grow and memory runs out. With `most` 0 it takes nothing.
 #[derive(Drop)]
 pub struct MemTarget {
     bytes: Vec<u8>,
@@ -90,7 +92,9 @@ pub struct MemTarget {
 impl MemTarget {
     ghost use Rattle.bt_io.specs.Devices.{target_held, target_most, target_fails_at, target_counts, no_calls};
 
-    /// The target, which holds these bytes, with no call made.
+    /// Makes a target that has these bytes, and appends what is written to them.
+    ///
+    /// It takes at most `most` bytes a call, and fails at the call `fails_at`, counted from 1.
     pub fn new(bytes: Vec<u8>, most: usize, fails_at: Option<u64>) -> MemTarget
         ensures held { target_held result ≡ bytes.items }
         ensures most { target_most result ≡ most }
@@ -106,7 +110,7 @@ impl MemTarget {
         }
     }
 
-    /// The bytes that it holds.
+    /// Returns the bytes that were written, after those that it was made with.
     pub fn bytes(&self) -> &[u8]
         ensures { result.now ≡ target_held self.now }
     {

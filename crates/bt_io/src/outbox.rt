@@ -1,4 +1,4 @@
-//! What is to be sent.
+//! A buffer of bytes to be sent. It grows, and drops what was sent.
 ghost use Rattle.std.specs.Prelude.{◌≡◌, ℕ, ◌+◌, ◌-◌, ◌*◌, ◌<◌, ◌≤◌, [], ◌++◌, length, take, drop, min, max, IfOk, OnOk, OnErr, IsOk, vec_len, vec_capacity};
 ghost use Rattle.std.specs.Io.KnownBytes.{Appends};
 ghost use Rattle.bt_io.specs.Seen.{WriteFailed};
@@ -9,23 +9,30 @@ use std::alloc::{Allocator, Global};
 use std::marker::Model;
 use thiserror::Error;
 
-/// A growth was refused.
+/// Out of memory.
 #[derive(Clone, Copy, PartialEq, Eq, Debug, Error)]
 #[error("out of memory")]
 pub struct Memory;
 
-/// A write failed, or took nothing.
+/// A write failed, or took no byte.
 #[derive(Clone, Copy, PartialEq, Eq, Debug, Error)]
 #[error("a write failed")]
 pub struct WriteFault;
 
 /// The bytes that are to be sent, in order.
+///
+/// All that waits is written like this:
+///
+/// ```rust
+/// let waiting = self.out.bytes().len();
+/// self.out.drain(writer, waiting)?;
+/// ```
 #[derive(Drop)]
 pub struct Outbox<A: Allocator = Global> {
     buffer: Vec<u8, A>,
-    /// How many bytes at the buffer's front are gone.
+    /// How many bytes at the buffer's front were dropped.
     at: usize,
-    /// How many bytes the buffer was made for, with those that are gone.
+    /// How many bytes the buffer was made for, with those that were dropped.
     size: usize,
 }
 
@@ -53,7 +60,9 @@ fn close_gap<A: Allocator>(buffer: &mut Vec<u8, A>, at: &mut usize)
     *at = 0;
 }
 
-/// Makes the buffer larger, for n bytes more, and to twice its length where there is memory for that.
+/// Makes the buffer larger, for `n` more bytes.
+///
+/// It grows to twice its length if there is memory for that.
 fn enlarge<A: Allocator>(buffer: &mut Vec<u8, A>, size: &mut usize, n: usize) -> Result<(), Memory>
     requires { size.old < vec_len buffer.old + n }
     ensures items { buffer.new.items ≡ buffer.old.items }
@@ -75,7 +84,9 @@ fn enlarge<A: Allocator>(buffer: &mut Vec<u8, A>, size: &mut usize, n: usize) ->
     Ok(())
 }
 
-/// Closes the gap before the bytes from `at` on, where no more bytes move than were dropped.
+/// Closes the gap before the bytes if no more bytes move than were dropped.
+///
+/// The bytes are those from `at` on.
 fn close_wide_gap<A: Allocator>(buffer: &mut Vec<u8, A>, at: &mut usize)
     requires { at.old ≤ vec_len buffer.old }
     ensures bytes { drop at.new buffer.new.items ≡ drop at.old buffer.old.items }
@@ -88,8 +99,10 @@ fn close_wide_gap<A: Allocator>(buffer: &mut Vec<u8, A>, at: &mut usize)
     }
 }
 
-/// Makes room for n bytes more after those from `at` on. The gap before them is closed where no more bytes move than were
-/// dropped, or where no memory is left, so that the buffer never grows for the sake of dropped bytes.
+/// Makes room for `n` more bytes after those from `at` on.
+///
+/// The gap before them is closed if no more bytes move than were dropped, or if memory runs out, so that the buffer never grows
+/// for dropped bytes.
 fn make_room<A: Allocator>(
     buffer: &mut Vec<u8, A>,
     at: &mut usize,
@@ -140,7 +153,7 @@ pub fn write_front<W: Target>(writer: &mut W, bytes: &[u8]) -> usize
 }
 
 impl<A: Allocator> Outbox<A> {
-    /// An outbox with no bytes. It takes no memory.
+    /// Makes an outbox with no bytes, without an allocation.
     pub fn new(alloc: A) -> Outbox<A>
         ensures { result ≡ record { bytes = []; room = 0 } }
     {
@@ -151,10 +164,13 @@ impl<A: Allocator> Outbox<A> {
         }
     }
 
-    /// Makes room for `n` bytes more, so that queuing them takes no memory.
+    /// Makes room for `n` more bytes, so that queuing them doesn't allocate.
     ///
-    /// Dropped bytes make no buffer grow: where the room is `n` bytes and as many as are held, the buffer stays. One that
+    /// Dropped bytes make no buffer grow: if the room is `n` bytes and as many as are held, the buffer stays. One that
     /// grows has at most four times the bytes that are held, and `n`.
+    ///
+    /// # Errors
+    /// `Memory` when out of memory; the outbox is then unchanged. It never comes if there is room for `n` bytes.
     pub fn reserve(&mut self, n: usize) -> Result<(), Memory>
         ensures bytes { self.new.bytes ≡ self.old.bytes }
         ensures room { self.old.room ≤ self.new.room }
@@ -167,7 +183,12 @@ impl<A: Allocator> Outbox<A> {
         make_room(&mut self.buffer, &mut self.at, &mut self.size, n)
     }
 
-    /// Puts these bytes after the others. The buffer stays or grows as in [`Outbox::reserve`], for as many bytes as these are.
+    /// Appends bytes to those that are to be sent.
+    ///
+    /// The buffer stays or grows as in [`Outbox::reserve`], for as many bytes as these are.
+    ///
+    /// # Errors
+    /// `Memory` when out of memory; the outbox is then unchanged. It never comes if there is room for the bytes.
     pub fn queue(&mut self, bytes: &[u8]) -> Result<(), Memory>
         ensures ok { OnOk result (self.new.bytes ≡ self.old.bytes ++ bytes.now) }
         ensures room { OnOk result (self.old.room ≤ self.new.room + length bytes.now) }
@@ -183,14 +204,14 @@ impl<A: Allocator> Outbox<A> {
         }
     }
 
-    /// The bytes that are to be sent.
+    /// Returns the bytes that are to be sent.
     pub fn bytes(&self) -> &[u8]
         ensures { result.now ≡ self.now.bytes }
     {
         &self.buffer.as_slice()[self.at..]
     }
 
-    /// Drops the first n bytes. None of the others moves.
+    /// Drops the first `n` bytes, which are at most all. None of the others moves.
     pub fn drop_front(&mut self, n: usize)
         requires { n ≤ length self.old.bytes }
         ensures { self.new ≡ without_front n self.old }
@@ -202,9 +223,12 @@ impl<A: Allocator> Outbox<A> {
         }
     }
 
-    /// Writes at most `max` bytes from the front, and drops those that were taken.
+    /// Writes at most `max` bytes from the front, drops them, and returns how many.
     ///
-    /// It drops them also at a fault. The call takes no memory.
+    /// Without an error that is `max`, or all bytes if there are fewer. It doesn't allocate.
+    ///
+    /// # Errors
+    /// `WriteFault` if a write failed or took no byte before that; the bytes that were written are dropped.
     pub fn drain<W: Target>(&mut self, writer: &mut W, max: usize) -> Result<usize, WriteFault>
         ensures count { IfOk result (λ n. n ≡ min max (length self.old.bytes)) }
         ensures sends { IfOk result (λ n. Sends self.old self.new (W.seen writer.old) (W.seen writer.new) n) }

@@ -1,4 +1,4 @@
-//! Where bytes come from. A pump reads a `Source`.
+//! Where bytes come from.
 ghost use Rattle.std.specs.Prelude.{◌≡◌, length, is_err};
 ghost use Rattle.std.specs.Io.{ReadsAtMost};
 ghost use Rattle.std.specs.Io.KnownBytes.{ReadConsumes};
@@ -9,11 +9,15 @@ use crate::failed::Failed;
 
 /// What bytes are read from.
 pub trait Source {
-    /// The bytes that are left, where they are known, and the counts of the reads.
+    /// The bytes that are left, if they are known, and the counts of the reads.
     ghost seen: { Self → SourceSeen };
 
-    /// Puts bytes at the front of the given ones, and says how many. A read of 0 into what isn't empty is the end, and a
-    /// source that tells its bytes gives it only where none is left.
+    /// Reads bytes to the front of `into`, and returns how many.
+    ///
+    /// A read of 0 bytes into a buffer that isn't empty is the end. A source that knows its bytes returns it only if none is left.
+    ///
+    /// # Errors
+    /// `Failed` if the read failed.
     fn read(&mut self, into: &mut [u8]) -> Result<usize, Failed>
         ensures bound { ReadsAtMost result into.new }
         ensures bytes { ReadConsumes (seen self.old).left (seen self.new).left result into.new }

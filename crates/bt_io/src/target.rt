@@ -1,4 +1,4 @@
-//! Where bytes go. Commands and outboxes write to a `Target`.
+//! Where bytes go.
 ghost use Rattle.std.specs.Prelude.{◌≡◌, length};
 ghost use Rattle.std.specs.Io.{WritesAtMost};
 ghost use Rattle.std.specs.Io.KnownBytes.{WriteAppends};
@@ -9,10 +9,13 @@ use crate::failed::Failed;
 
 /// What bytes are written to.
 pub trait Target {
-    /// The bytes that it holds, where they are known, and the counts of the writes.
+    /// The bytes that it has, if they are known, and the counts of the writes.
     ghost seen: { Self → TargetSeen };
 
-    /// Takes bytes from the front of the given ones, and says how many.
+    /// Writes bytes from the front of `from`, and returns how many.
+    ///
+    /// # Errors
+    /// `Failed` if the write failed.
     fn write(&mut self, from: &[u8]) -> Result<usize, Failed>
         ensures bound { WritesAtMost result from.now }
         ensures bytes { WriteAppends (seen self.old).held (seen self.new).held result from.now }

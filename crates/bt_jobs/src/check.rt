@@ -1,4 +1,4 @@
-//! `check`: the verdict of a stream alone, or with the stream's name. The command line calls it.
+//! The command `check`: only the verdict of a stream, or the stream's name and the verdict.
 ghost use Rattle.std.specs.Prelude.{◌≡◌, ◌≢◌, ◌≤◌, ◌+◌, ◌^◌, ◌++◌, Err, IfErr};
 ghost use Rattle.bt_io.specs.Seen.{devices, WriteFailed};
 ghost use Rattle.bt_text.specs.Lines.{verdict_line as verdict_words};
@@ -12,10 +12,13 @@ use bt_text::lines::verdict_line;
 use bt_wire::{Own, laws};
 use std::alloc::Global;
 
-/// Writes the line of a stream's verdict, and returns the verdict.
+/// Checks a stream and writes its verdict's line; returns the verdict.
+///
+/// `own` describes the receiver of the stream.
 ///
 /// # Errors
-/// Those of `run_show`.
+/// `Read` if a read failed. `Write` if a write failed or took no byte. `Memory` when out of memory. `Turns` after 4,294,967,296
+/// reads without the end.
 pub fn run_check<R: Source, W: Target>(
     alloc: Global,
     reader: &mut R,
@@ -33,10 +36,13 @@ pub fn run_check<R: Source, W: Target>(
     run_check_after(alloc, b"", reader, writer, own)
 }
 
-/// Writes `prefix` and then the line of a stream's verdict; returns the verdict.
+/// Checks a stream, writes `prefix` and its verdict's line; returns the verdict.
+///
+/// `own` describes the receiver of the stream.
 ///
 /// # Errors
-/// Those of `run_show`.
+/// `Read` if a read failed. `Write` if a write failed or took no byte. `Memory` when out of memory. `Turns` after 4,294,967,296
+/// reads without the end.
 pub fn run_check_after<R: Source, W: Target>(
     alloc: Global,
     prefix: &[u8],

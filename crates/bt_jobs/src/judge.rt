@@ -1,4 +1,4 @@
-//! Judges whole items one after the other, each where it lies. `pack` calls it.
+//! Checks of whole items one after the other, without a copy of them.
 ghost use Rattle.std.specs.Prelude.{◌≡◌, ◌≤◌, ◌<◌, ◌^◌};
 ghost use Rattle.bt_feed.specs.Feeds.{waiting};
 ghost use Rattle.bt_feed.specs.Stages.{number_of, start_of};
@@ -18,7 +18,7 @@ const OTHER: u8 = 255;
 
 /// What is known of a stream whose items come one at a time.
 ///
-/// Callers see it as a feed that holds nothing.
+/// A contract sees it as a feed that has no bytes.
 #[derive(Drop)]
 pub struct Judge {
     stage: Stage,
@@ -36,7 +36,7 @@ impl Model for Judge {
 }
 
 impl Judge {
-    /// Returns a judge that awaits the handshake of a stream.
+    /// Makes a judge that awaits the handshake of a stream.
     pub fn new(own: Own) -> Judge
         requires { own.limit ≤ 1048576 }
         ensures { result ≡ waiting (Stage.Handshake own) }
@@ -46,9 +46,7 @@ impl Judge {
         }
     }
 
-    /// Returns the number of the next item.
-    ///
-    /// It is 0 for the handshake, and k for the k-th message after it.
+    /// Returns the number of the next item: 0 for the handshake, then 1, 2, ..
     pub fn number(&self) -> u64
         ensures value { result ≡ number_of self.now.stage }
         ensures range { result < 2 ^ 63 }
@@ -66,10 +64,10 @@ impl Judge {
         }
     }
 
-    /// Takes bytes that are one whole item, and returns whether they are.
+    /// Returns whether bytes are one whole item, and goes on to the next if they are.
     ///
     /// # Errors
-    /// The reason why the bytes are refused. They aren't taken then.
+    /// The reason why the bytes are refused; nothing changes then.
     #[inline(always)]
     pub fn take_item(&mut self, bytes: &[u8]) -> Result<bool, Reason>
         ensures { IsJudged self.old bytes.now self.new result }
@@ -95,7 +93,7 @@ impl Judge {
         }
     }
 
-    /// Like [`Judge::take_copy`], for an extended message.
+    /// Returns whether bytes are one whole item, by the copy for an extended message.
     #[inline(never)]
     fn take_extended(&mut self, bytes: &[u8]) -> Result<bool, Reason>
         ensures { IsJudged self.old bytes.now self.new result }
@@ -103,9 +101,9 @@ impl Judge {
         self.take_copy::<EXTENDED>(bytes)
     }
 
-    /// Like [`Judge::take_item`].
+    /// Returns whether bytes are one whole item, and goes on to the next if they are.
     ///
-    /// `COPY` means nothing. The compiler makes a copy of this function for each number. Where its one call is, the message's
+    /// `COPY` has no meaning of its own: the compiler makes a copy of this function for each number. At its one call the message's
     /// id is known, so its kind isn't looked at again.
     #[inline(always)]
     fn take_copy<const COPY: u8>(&mut self, bytes: &[u8]) -> Result<bool, Reason>

@@ -1,6 +1,6 @@
-//! What each command does with a source and a target: `show`, `check`, `unpack` and `pack`.
+//! The commands `show`, `check`, `unpack` and `pack`, over any source and target. Files and options don't belong here.
 //!
-//! A crate with a command of its own uses [`printer::Printer`] for the lines of items, and [`output::write_out`] to write them.
+//! [`printer::Printer`] makes the lines of items, and [`output::write_out`] writes all of some bytes.
 #![tactic(auto)]
 
 mod check;

@@ -1,4 +1,4 @@
-//! What the other direction of a connection says of the receiver: `--other` of the command line reads it.
+//! What one direction of a connection announces about its sender, which is the receiver of the other one (`--other`).
 ghost use Rattle.std.specs.Prelude.{◌≡◌, ◌+◌, ◌-◌, ◌≤◌, ◌^◌, ◌<◌, ℕ, min, List, length, false, Ok, OnOk, IfErr, ok_or, option_and_then};
 ghost use Rattle.bt_bencode.specs.Trees.{dictionary};
 ghost use Rattle.bt_io.specs.Seen.{ReadFailed};
@@ -17,26 +17,28 @@ use bt_wire::{MessageView, Own, Reserved, laws};
 use std::alloc::Global;
 use thiserror::Error;
 
-/// What a sender's stream says of the sender as a receiver.
+/// What a sender's stream announces about it as a receiver.
 #[derive(Clone, Copy, PartialEq, Eq, Debug)]
 pub struct Announced {
     /// The reserved bits of its handshake.
     pub reserved: Reserved,
     /// The id under which it wants `ut_metadata` (BEP 10).
     ///
-    /// It is that of its first extended handshake that names one.
+    /// It is that of the first extended handshake that has one.
     pub metadata: Option<ExtId>,
-    /// The id under which it wants `lt_donthave`, found likewise.
+    /// The id under which it wants `lt_donthave`.
+    ///
+    /// It is that of the first extended handshake that has one.
     pub donthave: Option<ExtId>,
 }
 
-/// Why a stream says nothing of its sender.
+/// Why a stream doesn't say how its sender receives.
 #[derive(Clone, Copy, PartialEq, Eq, Debug, Error)]
 pub enum OtherError {
     /// The stream doesn't begin with a whole handshake.
     #[error("no handshake")]
     NoHandshake,
-    /// It can't be read.
+    /// The stream can't be read.
     #[error("{0}")]
     Fault(ToolFault),
 }
@@ -183,12 +185,13 @@ fn turn<R: Source>(
     }
 }
 
-/// Returns what the stream that `reader` gives says of its sender. It reads until all is known, to the stream's end, or to
-/// its refusal.
+/// Returns what the stream that `reader` has announces about its sender.
+///
+/// It reads until all is known, to the end of the stream, or to a refusal.
 ///
 /// # Errors
-/// - `NoHandshake` if the stream doesn't begin with a whole handshake.
-/// - `Fault(Read)` if a read failed, `Fault(Memory)` if a growth was refused, `Fault(Turns)` after 4,294,967,296 reads.
+/// `NoHandshake` if the stream doesn't begin with a whole handshake. `Fault(Read)` if a read failed, `Fault(Memory)` when out of
+/// memory, `Fault(Turns)` after 4,294,967,296 reads.
 pub fn read_other<R: Source>(alloc: Global, reader: &mut R) -> Result<Announced, OtherError>
     ensures learnt { IsLearnt (R.seen reader.old) (R.seen reader.new) result }
     ensures faults { IsFaultOfOther result (R.seen reader.old) (R.seen reader.new) }

@@ -1,4 +1,4 @@
-//! Writing all of some bytes. The commands and the printer write with it.
+//! Writing all of some bytes.
 ghost use Rattle.std.specs.Prelude.{◌≡◌, OnOk, OnErr, IfErr};
 ghost use Rattle.bt_io.specs.Seen.{WriteFailed};
 ghost use Rattle.bt_jobs.specs.Printed.{IsWrittenOut};
@@ -9,7 +9,7 @@ use bt_text::ended::ToolFault;
 /// Writes all of `bytes`, and returns `answer`.
 ///
 /// # Errors
-/// `Write` if a write failed or took nothing. A prefix of `bytes` is written then.
+/// `Write` if a write failed or took no byte; a prefix of `bytes` is written then.
 pub fn write_out<W: Target, T: Drop>(
     writer: &mut W,
     bytes: &[u8],

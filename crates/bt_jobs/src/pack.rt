@@ -1,4 +1,4 @@
-//! `pack`: the bytes that a script's lines name, as long as they are a stream's items. The command line calls it.
+//! The command `pack`: a script is encoded into a stream.
 ghost use Rattle.std.specs.Prelude.{◌≡◌, ◌≢◌, ◌≤◌, ◌++◌, ℕ, List, [], None, min, ◌+◌, ◌-◌, ◌^◌, IfOk, Err};
 ghost use Rattle.bt_wire.specs.declared.context.Own.{Own as Receiver};
 ghost use Rattle.bt_io.specs.Seen.{devices, ReadFailed, WriteFailed};
@@ -16,9 +16,9 @@ use bt_text::splitting::split_line;
 use bt_wire::Own;
 use std::alloc::{AllocError, Global};
 
-/// Takes a line, which stands without its line feed, and adds the bytes that it names; or returns why it isn't taken.
+/// Appends the bytes that a line names, or returns why it isn't accepted.
 ///
-/// The bytes are judged where they are added, and go away if they are refused.
+/// The line is without its line feed. The bytes are checked where they are appended, and are removed if they are refused.
 fn take_line(
     judge: &mut Judge,
     text: &[u8],
@@ -48,7 +48,7 @@ fn take_line(
     }
 }
 
-/// Adds bytes to those of the present line, and returns whether the line isn't too long with them.
+/// Appends bytes to the current line; returns whether it isn't too long then.
 fn hold(line: &mut Vec<u8>, more: &[u8], limit: u32) -> Result<bool, AllocError>
     requires { limit ≤ 1048576 }
     ensures { IfOk result (IsHeld limit line.old.items more.now line.new.items) }
@@ -60,10 +60,10 @@ fn hold(line: &mut Vec<u8>, more: &[u8], limit: u32) -> Result<bool, AllocError>
     Ok(true)
 }
 
-/// Completes a line, and takes it.
+/// Completes a line, and accepts it or not.
 ///
-/// `text` is the line's last part. `line` holds its first part if an earlier read cut the line, and is empty otherwise. The
-/// line is copied only if it was cut. After a line is taken, `line` is empty.
+/// `text` is the line's last part. `line` has its first part if an earlier read split the line, and is empty otherwise. The
+/// line is copied only if it was split. After a line is accepted, `line` is empty.
 fn take_ended(
     judge: &mut Judge,
     line: &mut Vec<u8>,
@@ -87,7 +87,9 @@ fn take_ended(
     Ok(answer)
 }
 
-/// Takes the lines that a piece of the script ends, and keeps the first part of the next; or returns why one isn't taken.
+/// Accepts the lines that a chunk of the script ends.
+///
+/// It keeps the first part of the next line, and returns why a line isn't accepted.
 fn take_piece(
     judge: &mut Judge,
     line: &mut Vec<u8>,
@@ -128,7 +130,9 @@ fn counts(judge: &Judge) -> PackEnd
     }
 }
 
-/// Takes the last line, which may lack its line feed, and returns how the script ends.
+/// Accepts the last line or not, and returns how the script ends.
+///
+/// The line may lack its line feed.
 fn end_script(
     judge: &mut Judge,
     line: &[u8],
@@ -158,12 +162,14 @@ fn end_script(
     }
 }
 
-/// Reads a script and writes the bytes that its lines name.
+/// Encodes a script into a stream, up to the first line that isn't accepted.
 ///
-/// It goes up to the first line that isn't taken. It returns the counts of the stream, or that line and the reason.
+/// It writes the bytes, and returns the counts of the stream, or that line and the reason. `own` describes the receiver of the
+/// stream.
 ///
 /// # Errors
-/// Those of `run_show`. A prefix of the bytes of lines that are taken is written then.
+/// `Read` if a read failed. `Write` if a write failed or took no byte. `Memory` when out of memory. `Turns` after 4,294,967,296
+/// reads without the end. A prefix of the bytes of accepted lines is written then.
 pub fn run_pack<R: Source, W: Target>(
     alloc: Global,
     reader: &mut R,
@@ -182,7 +188,7 @@ pub fn run_pack<R: Source, W: Target>(
     ensures local { result ≢ Err ToolFault.Net }
 {
     let mut judge = Judge::new(*own);
-    // Room for the longest line and its bytes, so that the first line of a read takes no memory: `piece 0 0 `, and after it
+    // Room for the longest line and its bytes, so that the first line of a read doesn't allocate: `piece 0 0 `, and after it
     // the digits of limit + 123 bytes, which follow 13 others.
     let Ok(mut line) = Vec::with_capacity(alloc, 2 * own.limit as usize + 256) else {
         return Err(ToolFault::Memory);

@@ -1,5 +1,5 @@
 //! The hint after a script: the first word of a refused line that can't stand there, or a short block that may be meant as a
-//! length. The command line writes it.
+//! length.
 ghost use Rattle.std.specs.Prelude.{ℕ, List, IfSome};
 ghost use Rattle.bt_text.specs.Misfits.{IsDecimalBlock};
 ghost use Rattle.bt_jobs.specs.PackHints.{IsLineAt, IsPackHint};
@@ -45,11 +45,9 @@ fn first_decimal(text: &[u8]) -> Option<(u64, &[u8])>
     None
 }
 
-/// Returns the line that is said of a script after it is packed.
+/// Returns the line of a hint for a script that was packed.
 ///
-/// `None` where nothing is said, and where there is no memory for it.
-///
-/// `text` is the script's begin, and `is_all` says that it is all of it.
+/// `None` if there is no hint, or when out of memory. `text` is the start of the script, and `is_all` says that it is all of it.
 pub fn pack_hint(alloc: Global, end: PackEnd, text: &[u8], is_all: bool) -> Option<Vec<u8>>
     ensures { IfSome result (λ hint. IsPackHint end text.now hint.items) }
 {

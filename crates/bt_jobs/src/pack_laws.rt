@@ -1,19 +1,19 @@
-//! Laws of packing: a stream's script packs to that stream. Readers cite them, and tests call them.
+//! Theorems about packing. Each is the contract of a function with an empty body.
 ghost use Rattle.bt_jobs.specs.PackLaws.{LinesAreOne, ScriptPacks, PackIsOne};
 
-/// A text has its lines alone.
+/// States that a text has only one list of lines.
 pub fn one_split()
     ensures { LinesAreOne }
 {}
 
-/// An accepted stream is what the script of its items packs to.
+/// States that the script of an accepted stream's items packs to that stream.
 ///
 /// The options are the same.
 pub fn script_packs()
     ensures { ScriptPacks }
 {}
 
-/// The lines of a script pack to one stream, and to one end.
+/// States that the lines of a script pack to one stream, and to one end.
 pub fn one_packing()
     ensures { PackIsOne }
 {}

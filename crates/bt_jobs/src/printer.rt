@@ -1,4 +1,4 @@
-//! The text of a stream's items, until it is written. `show` and `unpack` give it to the pump as their sink.
+//! The text of a stream's items, until it is written.
 ghost use Rattle.std.specs.Prelude.{◌≡◌, ◌≢◌, ◌+◌, ◌<◌, ◌≤◌, ℕ, List, [], ◌++◌, length, take, vec_len, OnOk, OnErr, IfOk, IfErr};
 ghost use Rattle.std.specs.Io.KnownBytes.{Appends};
 ghost use Rattle.bt_io.specs.Seen.{WriteFailed};
@@ -21,7 +21,7 @@ use bt_text::script::writing::{HANDSHAKE_ROOM, put_handshake_line, put_message_l
 use bt_wire::{Handshake, MessageView, Own};
 use std::alloc::{AllocError, Global};
 
-/// What is written for an item.
+/// The form in which an item is written.
 #[derive(Clone, Copy, PartialEq, Eq, Debug)]
 pub enum Form {
     /// A line with its offset.
@@ -35,7 +35,7 @@ pub enum Form {
 /// How many bytes of room a message's line needs.
 const LINE_ROOM: usize = 160;
 
-/// How many bytes the text grows by where it has no room.
+/// How many bytes the text grows by if it has no room.
 const GROWTH: usize = 8192;
 
 /// A sink that turns items into text, and keeps the text until it is written.
@@ -301,7 +301,7 @@ fn add_other(
 }
 
 impl Printer {
-    /// A printer without text.
+    /// Makes a printer without text.
     pub fn new(alloc: Global, form: Form) -> Printer
         ensures form { form_of result ≡ form }
         ensures text { text_in result ≡ [] }
@@ -318,7 +318,10 @@ impl Printer {
         }
     }
 
-    /// Adds the verdict's line.
+    /// Appends the verdict's line.
+    ///
+    /// # Errors
+    /// `AllocError` when out of memory.
     pub fn verdict(&mut self, ended: Ended) -> Result<(), AllocError>
         ensures { OnOk result (text_in self.new ≡ text_in self.old ++ verdict_words ended) }
     {
@@ -326,7 +329,10 @@ impl Printer {
         Ok(())
     }
 
-    /// Adds the verdict's JSON object.
+    /// Appends the verdict's JSON object.
+    ///
+    /// # Errors
+    /// `AllocError` when out of memory.
     pub fn verdict_object(&mut self, ended: Ended) -> Result<(), AllocError>
         ensures { OnOk result (text_in self.new ≡ text_in self.old ++ verdict_object ended) }
     {
@@ -339,7 +345,7 @@ impl Printer {
     /// Writes the text, which is then empty, and returns `answer`.
     ///
     /// # Errors
-    /// `Write` if a write failed or took nothing. A prefix of the text is written then.
+    /// `Write` if a write failed or took no byte; a prefix of the text is written then.
     pub fn flush<W: Target, T: Drop>(&mut self, writer: &mut W, answer: T) -> Result<T, ToolFault>
         ensures flushed { IsFlushed answer (text_in self.old) (W.seen writer.old).held (W.seen writer.new).held (text_in self.new) result }
         ensures failed { OnErr result (WriteFailed (W.seen writer.old) (W.seen writer.new)) }

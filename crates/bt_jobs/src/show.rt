@@ -1,4 +1,4 @@
-//! `show`, `show --json` and `unpack`: the text of a stream's items, and its verdict. The command line calls them.
+//! The commands `show`, `show --json` and `unpack`: the text of a stream's items, and its verdict.
 ghost use Rattle.std.specs.Prelude.{◌≡◌, ◌≢◌, ◌+◌, ◌-◌, ◌≤◌, ◌^◌, ◌<◌, ℕ, List, [], ◌++◌, length, OnOk, Err};
 ghost use Rattle.bt_io.specs.Seen.{devices, WriteFailed};
 ghost use Rattle.bt_wire.specs.declared.item.Item.{Item};
@@ -13,7 +13,7 @@ use bt_text::ended::{Ended, ToolFault};
 use bt_wire::{Own, laws};
 use std::alloc::{AllocError, Global};
 
-/// The greatest count of reads that a command makes.
+/// The greatest number of reads that a command makes.
 pub const MAX_READS: u64 = 1 << 32;
 
 /// Reads once into the buffer, and writes the text of the items that the read completes. At the stream's end it returns how
@@ -48,7 +48,7 @@ fn turn<R: Source, W: Target>(
     }
 }
 
-/// Reads the stream to its end, and writes the text of its items turn by turn.
+/// Reads the stream to its end, and writes the text of its items after each read.
 fn tell<R: Source, W: Target>(
     alloc: Global,
     reader: &mut R,
@@ -93,10 +93,9 @@ fn push_verdict(printer: &mut Printer, form: &Form, ended: Ended) -> Result<(), 
     }
 }
 
-/// Writes the text of each item of the stream in this form, and then that of the verdict; returns the verdict.
+/// Writes the text of each item in this form, and then that of the verdict.
 ///
-/// # Errors
-/// Those of `run_show`.
+/// It returns the verdict. Its errors are those of [`run_show`].
 fn run_form<R: Source, W: Target>(
     alloc: Global,
     form: &Form,
@@ -125,13 +124,11 @@ fn run_form<R: Source, W: Target>(
 
 /// Writes a line for each item and then the verdict's line; returns the verdict.
 ///
-/// The lines of what was read are written before more is read.
+/// The lines of what was read are written before more is read. `own` describes the receiver of the stream.
 ///
 /// # Errors
-/// - `Read` if a read failed.
-/// - `Write` if a write failed or took nothing.
-/// - `Memory` if a growth was refused.
-/// - `Turns` after 4,294,967,296 reads without the end.
+/// `Read` if a read failed. `Write` if a write failed or took no byte. `Memory` when out of memory. `Turns` after 4,294,967,296
+/// reads without the end.
 pub fn run_show<R: Source, W: Target>(
     alloc: Global,
     reader: &mut R,
@@ -151,10 +148,12 @@ pub fn run_show<R: Source, W: Target>(
 
 /// Writes a JSON object for each item and for the verdict; returns the verdict.
 ///
-/// Each stands on a line of its own. The objects of what was read are written before more is read.
+/// Each has a line of its own. The objects of what was read are written before more is read. `own` describes the receiver of the
+/// stream.
 ///
 /// # Errors
-/// Those of `run_show`.
+/// `Read` if a read failed. `Write` if a write failed or took no byte. `Memory` when out of memory. `Turns` after 4,294,967,296
+/// reads without the end.
 pub fn run_json<R: Source, W: Target>(
     alloc: Global,
     reader: &mut R,
@@ -174,10 +173,11 @@ pub fn run_json<R: Source, W: Target>(
 
 /// Writes the script of a stream's items, and returns the verdict.
 ///
-/// The script goes up to the stream's end or a refusal.
+/// The script goes up to the end of the stream or a refusal. `own` describes the receiver of the stream.
 ///
 /// # Errors
-/// Those of `run_show`.
+/// `Read` if a read failed. `Write` if a write failed or took no byte. `Memory` when out of memory. `Turns` after 4,294,967,296
+/// reads without the end.
 pub fn run_unpack<R: Source, W: Target>(
     alloc: Global,
     reader: &mut R,

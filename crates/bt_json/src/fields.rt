@@ -1,4 +1,4 @@
-//! Fields of an object: a name and a number, a text, or null. The modules `items` and `lines` call it.
+//! Fields of a JSON object: a name and a number, a text, or null.
 ghost use Rattle.std.specs.Prelude.{◌≡◌, ◌++◌, OnOk, option_map};
 ghost use Rattle.hex.specs.Hex.{encode_lower};
 ghost use Rattle.bt_json.specs.Objects.{a_field, a_number, a_text, number_or_null, text_or_null};
@@ -7,7 +7,10 @@ use json::Writer;
 use std::alloc::{AllocError, Global};
 use std::str::from_utf8;
 
-/// Adds a field with a number.
+/// Appends a field with a number.
+///
+/// # Errors
+/// `AllocError` when out of memory.
 #[tactic(auto, using(crate::proofs::FieldLaws::field_is))]
 pub fn number(name: &str, n: u64, out: &mut Writer) -> Result<(), AllocError>
     ensures tokens { OnOk result (out.new.tokens ≡ out.old.tokens ++ a_number name.now n) }
@@ -17,7 +20,10 @@ pub fn number(name: &str, n: u64, out: &mut Writer) -> Result<(), AllocError>
     out.u64(n)
 }
 
-/// Adds a field with a text.
+/// Appends a field with a text.
+///
+/// # Errors
+/// `AllocError` when out of memory.
 #[tactic(auto, using(crate::proofs::FieldLaws::field_is))]
 pub fn text(name: &str, value: &str, out: &mut Writer) -> Result<(), AllocError>
     ensures tokens { OnOk result (out.new.tokens ≡ out.old.tokens ++ a_text name.now value.now) }
@@ -27,7 +33,10 @@ pub fn text(name: &str, value: &str, out: &mut Writer) -> Result<(), AllocError>
     out.string(value)
 }
 
-/// Adds a field with bytes in hex.
+/// Appends a field with bytes in hex.
+///
+/// # Errors
+/// `AllocError` when out of memory.
 pub fn hex_text(alloc: Global, name: &str, bytes: &[u8], out: &mut Writer) -> Result<(), AllocError>
     ensures tokens { OnOk result (out.new.tokens ≡ out.old.tokens ++ a_text name.now (encode_lower bytes.now)) }
     ensures before { out.new.before ≡ out.old.before }
@@ -36,7 +45,10 @@ pub fn hex_text(alloc: Global, name: &str, bytes: &[u8], out: &mut Writer) -> Re
     text(name, digits.as_str(), out)
 }
 
-/// Adds a field with a number, or null for none.
+/// Appends a field with a number, or with null for `None`.
+///
+/// # Errors
+/// `AllocError` when out of memory.
 #[tactic(auto, using(crate::proofs::FieldLaws::field_is))]
 pub fn number_if(name: &str, n: Option<u64>, out: &mut Writer) -> Result<(), AllocError>
     ensures tokens { OnOk result (out.new.tokens ≡ out.old.tokens ++ a_field name.now (number_or_null n)) }
@@ -49,9 +61,12 @@ pub fn number_if(name: &str, n: Option<u64>, out: &mut Writer) -> Result<(), All
     }
 }
 
-/// Adds a field with the text that bytes are.
+/// Appends a field with a text, or with null.
 ///
-/// It is null where they are no UTF-8 or there are none.
+/// It is null for `None`, and if the bytes aren't UTF-8.
+///
+/// # Errors
+/// `AllocError` when out of memory.
 #[tactic(auto, using(crate::proofs::FieldLaws::field_is, crate::proofs::FieldLaws::is_text, crate::proofs::FieldLaws::is_no_text))]
 pub fn text_if(name: &str, bytes: Option<&[u8]>, out: &mut Writer) -> Result<(), AllocError>
     ensures tokens { OnOk result (out.new.tokens ≡ out.old.tokens ++ a_field name.now (text_or_null (option_map (λ s. s.now) bytes.entry))) }

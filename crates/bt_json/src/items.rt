@@ -1,4 +1,4 @@
-//! The fields of an item. The module `lines` calls it.
+//! The fields of an item in JSON.
 ghost use Rattle.std.specs.Prelude.{◌≡◌, ◌++◌, ℕ, List, codes, length, OnOk};
 ghost use Rattle.bt_bencode.specs.Trees.{dictionary};
 ghost use Rattle.bt_bencode.specs.declared.tree.Value.TheVariants as value;
@@ -123,7 +123,10 @@ fn put_ext(payload: &ExtView, out: &mut Writer) -> Result<(), AllocError>
     }
 }
 
-/// Adds the fields of a message.
+/// Appends the fields of a message.
+///
+/// # Errors
+/// `AllocError` when out of memory.
 pub fn put_message(view: &MessageView, out: &mut Writer) -> Result<(), AllocError>
     ensures tokens { OnOk result ((own : Own) → out.new.tokens ≡ out.old.tokens ++ message_fields own (message_of view.now)) }
     ensures before { out.new.before ≡ out.old.before }
@@ -166,7 +169,10 @@ pub fn put_message(view: &MessageView, out: &mut Writer) -> Result<(), AllocErro
     }
 }
 
-/// Adds the fields of a handshake.
+/// Appends the fields of a handshake.
+///
+/// # Errors
+/// `AllocError` when out of memory.
 pub fn put_handshake(
     alloc: Global,
     handshake: &Handshake,

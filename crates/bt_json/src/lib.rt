@@ -1,6 +1,4 @@
 //! The lines of `show --json`: a JSON object (RFC 8259) for each item, and one for the verdict.
-//!
-//! The printer of `bt_jobs` calls [`handshake_line`] and [`message_line`], and the command [`verdict_line`].
 #![tactic(auto)]
 
 mod fields;

@@ -1,4 +1,4 @@
-//! The lines: an object for an item, and one for the verdict.
+//! Lines of JSON: an object for an item, and one for the verdict.
 ghost use Rattle.std.specs.Prelude.{◌≡◌, ◌++◌, ◌∷◌, List, [], IfOk, OnOk};
 ghost use Rattle.json.specs.Token.{Token, begin_object};
 ghost use Rattle.bt_wire.specs.Messages.{message_of};
@@ -34,10 +34,10 @@ fn end(mut out: Writer, lines: &mut Vec<u8>) -> Result<(), AllocError>
     Ok(())
 }
 
-/// Adds the line of a message at this offset.
+/// Appends the line of a message at the offset `at` of its stream.
 ///
 /// # Errors
-/// `AllocError` if the growth of the text was refused. The text is empty then.
+/// `AllocError` when out of memory; `lines` is then empty.
 pub fn message_line(
     alloc: Global,
     at: u64,
@@ -52,10 +52,10 @@ pub fn message_line(
     end(out, lines)
 }
 
-/// Adds the line of a handshake at this offset.
+/// Appends the line of a handshake at the offset `at` of its stream.
 ///
 /// # Errors
-/// `AllocError` if the growth of the text was refused. The text is empty then.
+/// `AllocError` when out of memory; `lines` is then empty.
 pub fn handshake_line(
     alloc: Global,
     at: u64,
@@ -90,10 +90,10 @@ fn put_verdict(ended: Ended, out: &mut Writer) -> Result<(), AllocError>
     }
 }
 
-/// Adds the verdict's line.
+/// Appends the line of a verdict.
 ///
 /// # Errors
-/// `AllocError` if the growth of the text was refused. The text is empty then.
+/// `AllocError` when out of memory; `lines` is then empty.
 pub fn verdict_line(alloc: Global, ended: Ended, lines: &mut Vec<u8>) -> Result<(), AllocError>
     ensures { OnOk result (lines.new.items ≡ lines.old.items ++ verdict_words ended) }
 {

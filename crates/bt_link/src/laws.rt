@@ -1,17 +1,17 @@
-//! Laws of the links of two ends, over the definitions alone.
+//! Theorems about links of two ends. Each is the contract of a function with an empty body.
 ghost use Rattle.bt_link.specs.LinkLaws.{ByteLinkIsMessageLink, MessageLinkIsByteLink, NothingIsRefused, HandledInOrder, FetchedIsServed, FewStepsStaySmall, OutcomesAreOne, QueuedMayBeSent};
 ghost use Rattle.bt_link.specs.FetchLaws.{FetchIsShort, FetchIsWhole, FetchIsFree};
 
-/// Two ends over bytes do what two ends over values do.
+/// States that two ends over bytes do what two ends over messages do.
 ///
-/// However the bytes are cut and whenever they come, the outcomes are the same, the ends are, and so are the items that each
+/// However the bytes are split and whenever they come, the outcomes are the same, the ends are, and so are the items that each
 /// sends and handles on each connection.
 pub fn links_agree()
     ensures bytes { ByteLinkIsMessageLink }
     ensures messages { MessageLinkIsByteLink }
 {}
 
-/// Two honest ends never refuse each other.
+/// States that two honest ends never refuse each other.
 ///
 /// The items that an end handled on a connection are a prefix of those that the other one sent. The blocks and the metadata
 /// that an end fetched are those that the other one serves.
@@ -21,27 +21,29 @@ pub fn honest_ends()
     ensures fetched { FetchedIsServed }
 {}
 
-/// In 4,294,967,296 steps no direction of a connection has 2^62 bytes.
+/// States that 4,294,967,296 steps send fewer than 2^62 bytes in each direction.
+///
+/// It is so on each connection.
 pub fn runs_stay_small()
     ensures { FewStepsStaySmall }
 {}
 
-/// Steps have one list of outcomes.
+/// States that steps have only one list of outcomes.
 pub fn one_outcome()
     ensures { OutcomesAreOne }
 {}
 
-/// Each message that an end queues may be sent.
+/// States that each message that an end queues is legal for the other end.
 ///
-/// The context is the one that it believes the other end to have.
+/// The context is that of `End::belief`.
 pub fn queued_may_be_sent()
     ensures { QueuedMayBeSent }
 {}
 
-/// A fetch from an end that serves ends with the metadata.
+/// States that a fetch from an end that serves ends with the metadata.
 ///
-/// The two ends send few bytes. Once each has handled all that the other one sent, the metadata is there; and no turn finds that too
-/// much waits to be sent.
+/// The two ends send few bytes. Once each has handled all that the other one sent, the metadata is there; and no step finds
+/// that too much waits to be sent.
 pub fn fetch_ends()
     ensures short { FetchIsShort }
     ensures whole { FetchIsWhole }

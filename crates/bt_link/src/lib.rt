@@ -1,4 +1,4 @@
-//! The link of two ends: its steps and their outcomes, and the laws that two ends obey. `bt_session` runs it.
+//! Two linked ends: the steps of a link, their outcomes, and what is proved of them. No link is run here.
 #![tactic(auto)]
 
 pub mod laws;

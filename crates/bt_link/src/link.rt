@@ -1,4 +1,4 @@
-//! The steps of a run of two linked ends, and their outcomes: `run_link` takes the ones and reports the others.
+//! The steps of a run of two linked ends, and their outcomes.
 use bt_end::SayError;
 use bt_wire::{Message, Refusal};
 
@@ -12,13 +12,13 @@ pub enum Side {
 /// A step of a run.
 #[derive(Debug, Drop)]
 pub enum Step {
-    /// The end handles an item.
+    /// The end handles an item, if one is whole.
     Turn(Side),
-    /// The end says a message.
+    /// The end queues a message.
     Say(Side, Message),
     /// `Deliver(side, n)`: up to `n` bytes that the other end sent become readable for this one.
     Deliver(Side, u64),
-    /// A new connection: all bytes under way are lost.
+    /// A new connection begins: bytes that haven't been handled are lost.
     Reset,
 }
 
@@ -27,15 +27,15 @@ pub enum Step {
 pub enum Outcome {
     /// The end handled an item.
     Handled,
-    /// No whole item is there to be handled.
+    /// No whole item was there to be handled.
     Idle,
-    /// Too many bytes wait to be sent.
+    /// Too many bytes waited to be sent.
     Busy,
     /// The end refused an item.
     Refused(Refusal),
-    /// The message is sent.
+    /// The message was queued.
     Said,
-    /// The message isn't sent.
+    /// The message wasn't queued.
     NotSaid(SayError),
     /// `n` bytes were delivered.
     Delivered(u64),

@@ -1,4 +1,4 @@
-//! Metadata that is put together from its blocks (BEP 9).
+//! Reassembly of metadata from its blocks (BEP 9).
 ghost use Rattle.std.specs.Prelude.{◌≡◌, ◌⊎◌, ◌↔◌, ◌+◌, ◌<◌, ◌≤◌, ◌++◌, Some, None, length, map, take, drop, count_by, position, slice_get, option_copied, IfOk, IfSome, IsErrOf, MatchResult};
 ghost use Rattle.std.specs.List.{list_all};
 ghost use Rattle.bt_ext.specs.Metadata.{block_count};
@@ -15,10 +15,10 @@ use thiserror::Error;
 /// The greatest size of metadata, in bytes.
 pub const MAX_METADATA: usize = 67_108_864;
 
-/// How many bytes a block has, but for the last one.
+/// The length of a block in bytes, except the last one.
 pub(crate) const BLOCK: usize = 16_384;
 
-/// How many blocks may be asked for at once.
+/// The greatest number of outstanding requests.
 pub const WINDOW: usize = 8;
 
 /// What is known of a block.
@@ -31,7 +31,7 @@ pub(crate) enum Status {
 }
 
 impl Status {
-    /// What is known of the block on another connection.
+    /// Returns what is known of the block on another connection.
     fn kept(self) -> Status
         ensures { result ≡ kept_status self }
     {
@@ -42,7 +42,7 @@ impl Status {
     }
 }
 
-/// Why metadata of a size can't be put together.
+/// Why no assembly of a size is made.
 #[derive(Clone, Copy, PartialEq, Eq, Debug, Error)]
 pub enum NewError {
     /// The size isn't 1 to 67,108,864.
@@ -52,16 +52,16 @@ pub enum NewError {
     Memory,
 }
 
-/// Why a block isn't taken.
+/// Why a block isn't accepted.
 #[derive(Clone, Copy, PartialEq, Eq, Debug, Error)]
 pub enum BlockError {
     /// The metadata has no block of this number.
     #[error("there is no such block")]
     PieceRange,
-    /// It wasn't asked for, or has been answered.
+    /// The block wasn't requested, or has been answered.
     #[error("the block wasn't asked for")]
     NotAsked,
-    /// The message tells another size of the metadata.
+    /// The message announces another size of the metadata.
     #[error("another size of the metadata")]
     WrongTotal,
     /// The block has another length.
@@ -79,12 +79,27 @@ impl From<AllocError> for NewError {
     }
 }
 
-/// Metadata that is put together from blocks, each of which is asked for once. A clause sees its size, its SHA-1, and what
-/// is known of each block.
+/// Reassembles metadata from blocks; each block is requested once (BEP 9).
+///
+/// A contract sees its size, its SHA-1, and what is known of each block. `bt_end` handles the answer to a request like this:
+///
+/// ```rust
+/// let lacking = match assembly.data(piece, total, block) {
+///     Ok(()) => Event::Block(piece),
+///     Err(_) => Event::Other,
+/// };
+/// match assembly.finish() {
+///     Ok(metadata) => (Part::Fetched(metadata), Event::Fetched),
+///     Err(Unfinished::Lacking(assembly)) => (Part::Fetching(assembly), lacking),
+///     Err(Unfinished::Mismatch(assembly)) => {
+///         (Part::Fetching(assembly), Event::Mismatched)
+///     }
+/// }
+/// ```
 #[derive(Drop)]
 pub struct Assembly<A: Allocator = Global> {
     info_hash: [u8; 20],
-    /// The metadata, with zeros where a block isn't held.
+    /// The metadata, with zeros for blocks that haven't come.
     bytes: Vec<u8, A>,
     states: Vec<Status, A>,
 }
@@ -100,16 +115,18 @@ impl<A: Allocator> Model for Assembly<A> {
     ghost invariant = { IsSound };
 }
 
-/// Why `finish` gives no metadata, and the assembly back.
+/// Why `finish` returns no metadata. It gives the assembly back.
 #[derive(Drop)]
 pub enum Unfinished<A: Allocator = Global> {
-    /// A block isn't held. The assembly is as it was.
+    /// A block hasn't come. The assembly is unchanged.
     Lacking(Assembly<A>),
-    /// The SHA-1 isn't the info hash. Nothing is held, asked or rejected any more.
+    /// The SHA-1 isn't the info hash. The assembly has no block any more.
+    ///
+    /// None is requested or rejected either.
     Mismatch(Assembly<A>),
 }
 
-/// The first block that is neither held, asked nor rejected.
+/// Returns the first block that hasn't come, isn't requested and wasn't rejected.
 fn first_lacking(states: &[Status]) -> Option<usize>
     ensures first { result ≡ position lacks states.now }
     ensures within { IfSome result (λ k. k < length states.now) }
@@ -117,7 +134,7 @@ fn first_lacking(states: &[Status]) -> Option<usize>
     states.iter().position(|state| *state == Status::Lacking)
 }
 
-/// How many blocks are asked.
+/// Returns how many blocks are requested.
 fn count_asked(states: &[Status]) -> usize
     ensures { result ≡ count_by asks states.now }
 {
@@ -127,7 +144,7 @@ fn count_asked(states: &[Status]) -> usize
         .count()
 }
 
-/// How many blocks are held.
+/// Returns how many blocks have come.
 fn count_held(states: &[Status]) -> usize
     ensures { result ≡ count_by holds states.now }
 {
@@ -137,21 +154,21 @@ fn count_held(states: &[Status]) -> usize
         .count()
 }
 
-/// Whether each block is held or rejected.
+/// Returns whether each block has come or was rejected.
 fn is_settled(states: &[Status]) -> bool
     ensures { result ≡ list_all settles states.now }
 {
     states.iter().all(|state| *state == Status::Held || *state == Status::Rejected)
 }
 
-/// Whether each block is held.
+/// Returns whether each block has come.
 fn is_whole(states: &[Status]) -> bool
     ensures { result ≡ list_all holds states.now }
 {
     states.iter().all(|state| *state == Status::Held)
 }
 
-/// The place of a block that was asked for.
+/// Returns the index of a block that was requested.
 fn asked_at(states: &[Status], piece: u32) -> Result<usize, BlockError>
     ensures { MatchResult result (λ k. (k ≡ piece) × (k < length states.now) × (error_at states.now piece ≡ None)) (λ e. error_at states.now piece ≡ Some e) }
 {
@@ -165,14 +182,14 @@ fn asked_at(states: &[Status], piece: u32) -> Result<usize, BlockError>
     }
 }
 
-/// Whether the block of this number is held.
+/// Returns whether the block of this number has come.
 fn is_held(states: &[Status], piece: usize) -> bool
     ensures { result ≡ holds_at (slice_get states.now piece) }
 {
     piece < states.len() && states[piece] == Status::Held
 }
 
-/// Forgets what is asked and rejected.
+/// Forgets what is requested and rejected.
 fn forget(states: &mut [Status])
     ensures { states.new ≡ map kept_status states.old }
 {
@@ -181,7 +198,7 @@ fn forget(states: &mut [Status])
     }
 }
 
-/// How many blocks metadata of this size in bytes has.
+/// Returns how many blocks metadata of `size` bytes has.
 pub fn block_count(size: usize) -> usize
     ensures { result ≡ block_count size }
 {
@@ -197,7 +214,12 @@ fn store(bytes: &mut [u8], at: usize, block: &[u8])
 }
 
 impl<A: Allocator + Copy> Assembly<A> {
-    /// Metadata of this SHA-1 and size in bytes, of which nothing is held. All memory is taken here.
+    /// Makes an assembly of `size` bytes with this info hash, and no block.
+    ///
+    /// All memory is allocated here.
+    ///
+    /// # Errors
+    /// `BadSize` exactly if the size isn't 1 to `MAX_METADATA`, `Memory` when out of memory.
     pub fn new(alloc: A, info_hash: [u8; 20], size: u64) -> Result<Assembly<A>, NewError>
         ensures ok { IfOk result (λ a. a ≡ started info_hash size) }
         ensures size { IsErrOf result NewError.BadSize ↔ ((size ≡ 0) ⊎ (max_metadata < size)) }
@@ -215,7 +237,7 @@ impl<A: Allocator + Copy> Assembly<A> {
 }
 
 impl<A: Allocator> Assembly<A> {
-    /// The size of the metadata in bytes, 1 to `MAX_METADATA`.
+    /// Returns the size of the metadata in bytes, 1 to `MAX_METADATA`.
     pub fn size(&self) -> u64
         ensures value { result ≡ self.now.size }
         ensures assembly { IsAssembly self.now }
@@ -223,35 +245,35 @@ impl<A: Allocator> Assembly<A> {
         self.bytes.len() as u64
     }
 
-    /// How many blocks are asked, at most `WINDOW`.
+    /// Returns how many requests are outstanding, at most `WINDOW`.
     pub fn asked(&self) -> usize
         ensures { result ≡ count_by is_asked self.now.slots }
     {
         count_asked(&self.states)
     }
 
-    /// How many blocks the metadata has.
+    /// Returns how many blocks the metadata has.
     pub fn blocks(&self) -> usize
         ensures { result ≡ block_count self.now.size }
     {
         self.states.len()
     }
 
-    /// How many blocks are held.
+    /// Returns how many blocks have come.
     pub fn held(&self) -> usize
         ensures { result ≡ count_by is_held self.now.slots }
     {
         count_held(&self.states)
     }
 
-    /// Whether each block is held or rejected, so that no more can come.
+    /// Returns whether each block has come or was rejected, so that no more can come.
     pub fn is_settled(&self) -> bool
         ensures { result ≡ list_all is_settled self.now.slots }
     {
         is_settled(&self.states)
     }
 
-    /// The block of this number, where it is held.
+    /// Returns the block `piece`, if it has come.
     pub fn block(&self, piece: u32) -> Option<&[u8]>
         ensures value { option_copied result ≡ held_block self.now piece }
         ensures assembly { IsAssembly self.now }
@@ -264,9 +286,10 @@ impl<A: Allocator> Assembly<A> {
         Some(&self.bytes[at..(at + BLOCK).min(self.bytes.len())])
     }
 
-    /// The least block that isn't held, asked or rejected. It is asked from then on.
+    /// Returns the next block to request, and marks it as requested.
     ///
-    /// There is none while `WINDOW` blocks are asked.
+    /// It is the lowest one that hasn't come, isn't requested and wasn't rejected. `None` while `WINDOW` requests are outstanding,
+    /// or if there is no such block.
     pub fn ask(&mut self) -> Option<u32>
         ensures value { result ≡ ask_of self.old.slots }
         ensures state { self.new ≡ with_slots self.old (asking result self.old.slots) }
@@ -279,10 +302,13 @@ impl<A: Allocator> Assembly<A> {
         Some(k as u32)
     }
 
-    /// Holds a block that was asked for.
+    /// Stores the block `piece`, which was requested.
+    ///
+    /// `total` is the size in bytes that the message announces.
     ///
     /// # Errors
-    /// What is wrong, judged in the order of `BlockError`: nothing changes then.
+    /// The first that applies; the assembly is then unchanged. `PieceRange` if there is no such block, `NotAsked` if it isn't
+    /// requested, `WrongTotal` if `total` isn't the size, `WrongSize` if the block has another length.
     pub fn data(&mut self, piece: u32, total: u64, block: &[u8]) -> Result<(), BlockError>
         ensures value { MatchResult result (λ _. data_error self.old piece total block.now ≡ None) (λ e. data_error self.old piece total block.now ≡ Some e) }
         ensures state { self.new ≡ with_data self.old piece total block.now }
@@ -301,7 +327,12 @@ impl<A: Allocator> Assembly<A> {
         Ok(())
     }
 
-    /// Notes that a block that was asked for is refused. It isn't asked for again on this connection.
+    /// Marks the requested block `piece` as rejected.
+    ///
+    /// It isn't requested again on this connection.
+    ///
+    /// # Errors
+    /// `PieceRange` if there is no such block, else `NotAsked` if it isn't requested; the assembly is then unchanged.
     pub fn reject(&mut self, piece: u32) -> Result<(), BlockError>
         ensures value { MatchResult result (λ _. piece_error self.old piece ≡ None) (λ e. piece_error self.old piece ≡ Some e) }
         ensures state { self.new ≡ with_reject self.old piece }
@@ -311,14 +342,18 @@ impl<A: Allocator> Assembly<A> {
         Ok(())
     }
 
-    /// Forgets what is asked and rejected, for a new connection. Held blocks stay.
+    /// Forgets what is requested and rejected, for a new connection. Blocks stay.
     pub fn disconnect(&mut self)
         ensures { self.new ≡ disconnected self.old }
     {
         forget(&mut self.states);
     }
 
-    /// The metadata, where each block is held and the SHA-1 is the info hash.
+    /// Returns the metadata, if each block has come and their SHA-1 is the info hash.
+    ///
+    /// # Errors
+    /// `Lacking` if a block hasn't come, with the assembly unchanged. `Mismatch` if the SHA-1 isn't the info hash, with an
+    /// assembly that has no block.
     pub fn finish(mut self) -> Result<Vec<u8, A>, Unfinished<A>>
         ensures { MatchResult result (λ v. IsFinished self v.items) (IsUnfinished self) }
     {

@@ -1,23 +1,23 @@
-//! Laws over the definitions alone.
+//! Theorems about the definitions. Each is the contract of a function with an empty body.
 ghost use Rattle.bt_metadata.specs.Laws.{WholeIsServed, ServedIsTaken, ServedIsHeld};
 
-/// An assembly that holds each of a server's blocks has the server's metadata.
+/// States that all of a server's blocks make the server's metadata.
 ///
 /// The metadata has the assembly's size.
 pub fn whole_is_served()
     ensures { WholeIsServed }
 {}
 
-/// An assembly takes the block that it asked for.
+/// States that an assembly accepts the block that it requested, from a server.
 ///
-/// The server's metadata has its size.
+/// The server's metadata has the assembly's size.
 pub fn served_is_taken()
     ensures { ServedIsTaken }
 {}
 
-/// An assembly goes on to hold a server's blocks alone.
+/// States that an assembly has only a server's blocks after the server's answer.
 ///
-/// It did so before the server's block came.
+/// It had only those before.
 pub fn served_is_held()
     ensures { ServedIsHeld }
 {}

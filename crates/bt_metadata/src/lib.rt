@@ -1,6 +1,6 @@
-//! The metadata of a torrent (BEP 9): put together from blocks that come in any order, and served in blocks.
+//! The metadata of a torrent (BEP 9): reassembled from blocks that come in any order, and served in blocks.
 //!
-//! An end of a connection fetches by an [`Assembly`] and serves by a [`Server`].
+//! Messages and connections don't belong here.
 #![tactic(auto)]
 
 mod assembly;

@@ -10,12 +10,12 @@ use std::marker::Model;
 use std::rc::Rc;
 use thiserror::Error;
 
-/// Metadata of this size isn't served: it isn't 1 to 67,108,864.
+/// Metadata of this size isn't served: it isn't 1 to 67,108,864 bytes.
 #[derive(Clone, Copy, PartialEq, Eq, Debug, Error)]
 #[error("the size isn't 1 to 67,108,864")]
 pub struct BadSize;
 
-/// What a request for a block is answered with (BEP 9, "extension message").
+/// The answer to a request for a block (BEP 9, "extension message").
 #[derive(Clone, Copy, Debug)]
 pub enum Reply<'a> {
     /// The block, and the size of the whole metadata in bytes.
@@ -24,10 +24,10 @@ pub enum Reply<'a> {
     Reject,
 }
 
-/// Where the metadata of a server is kept.
+/// Where the metadata of a server is stored.
 #[derive(Drop)]
 enum Store<A: Allocator> {
-    /// By the server alone.
+    /// By only this server.
     Own(Vec<u8, A>),
     /// By several servers.
     Shared(Rc<Vec<u8, A>, A>),
@@ -45,7 +45,18 @@ impl<A: Allocator> Store<A> {
     }
 }
 
-/// Metadata that is served, seen as its bytes.
+/// Serves metadata in blocks (BEP 9). A contract sees its bytes.
+///
+/// The length of a block of sevens, in a test:
+///
+/// ```rust
+/// match server.answer(piece) {
+///     Reply::Data { total, block } if total == server.size() && block.ends_with(b"\x07") => {
+///         Some(block.len())
+///     }
+///     _ => None,
+/// }
+/// ```
 #[derive(Drop)]
 pub struct Server<A: Allocator = Global> {
     store: Store<A>,
@@ -63,7 +74,10 @@ impl<A: Allocator> Model for Server<A> {
 }
 
 impl<A: Allocator> Server<A> {
-    /// A server of this metadata, which has 1 to `MAX_METADATA` bytes. It takes no memory.
+    /// Makes a server of this metadata, without an allocation.
+    ///
+    /// # Errors
+    /// `BadSize` exactly if the metadata doesn't have 1 to `MAX_METADATA` bytes.
     pub fn new(metadata: Vec<u8, A>) -> Result<Server<A>, BadSize>
         ensures ok { IfOk result (λ server. server ≡ metadata.items) }
         ensures size { IsErr result ↔ ((length metadata.items ≡ 0) ⊎ (max_metadata < length metadata.items)) }
@@ -76,7 +90,10 @@ impl<A: Allocator> Server<A> {
         })
     }
 
-    /// A server of metadata that others serve too, which has 1 to `MAX_METADATA` bytes. It takes no memory.
+    /// Makes a server of metadata that others serve too, without an allocation.
+    ///
+    /// # Errors
+    /// `BadSize` exactly if the metadata doesn't have 1 to `MAX_METADATA` bytes.
     pub fn shared(metadata: Rc<Vec<u8, A>, A>) -> Result<Server<A>, BadSize>
         ensures ok { IfOk result (λ server. server ≡ metadata.value.items) }
         ensures size { IsErr result ↔ ((length metadata.value.items ≡ 0) ⊎ (max_metadata < length metadata.value.items)) }
@@ -90,7 +107,7 @@ impl<A: Allocator> Server<A> {
         })
     }
 
-    /// The size of the metadata in bytes, 1 to `MAX_METADATA`.
+    /// Returns the size of the metadata in bytes, 1 to `MAX_METADATA`.
     pub fn size(&self) -> u64
         ensures value { result ≡ length self.now }
         ensures bounds { (0 < result) × (result ≤ max_metadata) }
@@ -98,7 +115,9 @@ impl<A: Allocator> Server<A> {
         self.store.bytes().len() as u64
     }
 
-    /// The answer to a request for a block: the block, or a reject if there is none.
+    /// Returns the answer to a request for the block `piece`.
+    ///
+    /// It is a reject if there is no such block (BEP 9).
     pub fn answer(&self, piece: u32) -> Reply<'_>
         ensures reply { IsReply self.now piece result }
         ensures bounds { IsBounded result }

@@ -1,4 +1,4 @@
-//! Two ends over one wire, in rounds. The module `looped` calls it.
+//! Two ends over one connection, in rounds.
 ghost use Rattle.std.specs.Prelude.{◌≡◌, ◌≤◌, ◌<◌, false, length, Ok, Err, IfOk, OnErr};
 ghost use Rattle.bt_io.specs.Counts.{Grew};
 ghost use Rattle.bt_end.specs.Halves.{received, IsTurned};
@@ -11,7 +11,7 @@ use bt_session::Side;
 use std::alloc::Allocator;
 use thiserror::Error;
 
-/// How many bytes a call sends, at most.
+/// The greatest number of bytes that a call sends.
 const PIECE: usize = 4_096;
 
 /// How many items the ends handled, each up to 2^64 - 1.
@@ -27,10 +27,10 @@ pub enum Halt {
     /// An end refused what came, or too much waited to be sent there.
     #[error("stopped")]
     Stopped,
-    /// A call of the wire failed, or moved nothing.
+    /// A call of the connection failed, or moved no byte.
     #[error("net")]
     Net,
-    /// As many rounds were made as may be.
+    /// The given number of rounds was made.
     #[error("rounds")]
     Rounds,
     #[error("out of memory")]
@@ -74,7 +74,7 @@ fn fill<W: Wire>(wire: &mut W, at: Side, into: &mut [u8]) -> Result<(), WireFaul
     Ok(())
 }
 
-/// Gives the end what it takes of the bytes, and lets it take one turn.
+/// Gives the end what it takes of the bytes, and handles one item.
 fn take_turn<A: Allocator + Copy>(
     end: &mut End<A>,
     bytes: &[u8],
@@ -87,7 +87,7 @@ fn take_turn<A: Allocator + Copy>(
     (taken, end.turn())
 }
 
-/// Gives the end these bytes, and lets it take turns until all are used and one is idle.
+/// Gives the end these bytes, until all are used and no whole item is left.
 ///
 /// It returns how many items were handled, up to 2^64 - 1, and why it stopped before.
 fn take_turns<A: Allocator + Copy>(end: &mut End<A>, bytes: &[u8]) -> (u64, Result<(), TurnError>)
@@ -106,7 +106,7 @@ fn take_turns<A: Allocator + Copy>(end: &mut End<A>, bytes: &[u8]) -> (u64, Resu
     }
 }
 
-/// What a turn's error makes of the run.
+/// Returns what a turn's error means for the run.
 fn halt_by(error: TurnError) -> Halt
     ensures { result ≡ halt_of error }
 {
@@ -116,7 +116,9 @@ fn halt_by(error: TurnError) -> Halt
     }
 }
 
-/// Sends bytes of the sender's, and lets the receiver handle them. Returns how many items it handled.
+/// Sends bytes of the sender, and lets the receiver handle them.
+///
+/// It returns how many items the receiver handled.
 fn pass<W: Wire, A: Allocator + Copy>(
     wire: &mut W,
     from: Side,
@@ -172,12 +174,12 @@ fn is_quiet<A: Allocator + Copy>(left: &End<A>, right: &End<A>) -> bool
 
 /// Runs two ends against each other, in rounds, until none has anything to send.
 ///
-/// In a round each side in turn, the left one first, sends at most 4,096 bytes by one call. They are received at the other side, which
-/// takes turns until all of them are used and a turn is idle. So nothing is on its way between two rounds.
+/// In a round each side, the left one first, sends at most 4,096 bytes by one call. They are received at the other side, which
+/// handles all whole items in them. So nothing is on its way between two rounds. It returns how many items the ends handled.
 ///
 /// # Errors
-/// `Stopped` if an end refuses what comes, or if too much waits to be sent there; `Net` if a call of the wire fails or moves nothing;
-/// `Rounds` after as many rounds; and `Memory`.
+/// `Stopped` if an end refuses what comes, or if too much waits to be sent there. `Net` if a call of the connection fails or moves
+/// no byte. `Rounds` after `rounds` rounds. `Memory` when out of memory.
 pub fn run_both<W: Wire, A: Allocator + Copy>(
     wire: &mut W,
     left: &mut End<A>,

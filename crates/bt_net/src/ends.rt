@@ -12,7 +12,10 @@ use std::alloc::Global;
 /// The reserved bits of both: those of the Fast Extension, of the DHT and of the Extension Protocol.
 const RESERVED: u64 = 0x10_0005;
 
-/// Makes the end that serves the metadata.
+/// Makes the end that serves the metadata; `limit` is in bytes.
+///
+/// # Errors
+/// `BadSize` exactly if the metadata doesn't have 1 to 67,108,864 bytes, `Memory` when out of memory.
 pub fn serving(alloc: Global, metadata: Vec<u8>, rules: Rules, limit: u32) -> Result<End, EndError>
     requires { (32768 ≤ limit) × (limit ≤ 1048576) }
     ensures end { IfOk result (λ end. end ≡ left_end rules limit metadata.items) }
@@ -40,7 +43,10 @@ pub fn serving(alloc: Global, metadata: Vec<u8>, rules: Rules, limit: u32) -> Re
     )
 }
 
-/// Makes the end that fetches metadata of this SHA-1.
+/// Makes the end that fetches metadata of this SHA-1; `limit` is in bytes.
+///
+/// # Errors
+/// `Memory` when out of memory.
 pub fn fetching(alloc: Global, hash: [u8; 20], rules: Rules, limit: u32) -> Result<End, EndError>
     requires { (32768 ≤ limit) × (limit ≤ 1048576) }
     ensures { IfOk result (λ end. end ≡ right_end rules limit hash) }

@@ -1,19 +1,19 @@
-//! Laws of two ends over a wire, over the definitions alone.
+//! Theorems about two ends over a connection. Each is the contract of a function with an empty body.
 ghost use Rattle.bt_net.specs.Runs.{RoundsAreSteps, RunFetches};
 
-/// Rounds of two ends over a wire are steps of the byte link of these ends.
+/// States that rounds of two ends over a connection are steps of their link.
 ///
-/// Nothing is on the wire at first, and it tells its bytes. What is sent and received is a delivery of the link, and a turn that
-/// handles an item is a turn of it. A turn that finds no whole item changes nothing there. So what `bt_link` proves of the link of
-/// two ends holds of them.
+/// Nothing is on its way at first, and the connection's bytes are known. What is sent and received is a delivery of the link, and
+/// a turn that handles an item is a turn of it. A turn that finds no whole item changes nothing there. So what `bt_link` proves of
+/// the link of two ends holds for them.
 pub fn rounds_are_steps()
     ensures { RoundsAreSteps }
 {}
 
-/// A run of an end that serves metadata and an end that fetches it ends with the metadata.
+/// States that a run of an end that serves and one that fetches has the metadata.
 ///
-/// Nothing is on the wire at first, and it tells its bytes, as a wire in memory does. No end stops the run. If it ends before as many
-/// rounds as may be made, the right end has the metadata, and nothing is to be sent.
+/// Nothing is on its way at first, and the connection's bytes are known, as in memory. No end stops the run. If it ends before as
+/// many rounds as may be made, the right end has the metadata, and nothing is to be sent.
 pub fn run_fetches()
     ensures { RunFetches }
 {}

@@ -1,4 +1,4 @@
-//! Two ends over a connection of the process to itself: what the command `loop` does.
+//! The command `loop`: two ends over a connection of the process to itself. Connections to others aren't made here.
 #![tactic(auto)]
 
 mod both;

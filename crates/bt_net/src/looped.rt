@@ -1,5 +1,4 @@
-//! `loop` on any devices: metadata is read, served by one end, and fetched by another over a wire. The command line calls
-//! [`run_loop`].
+//! The command `loop` on any source and target: metadata is read, served by one end, and fetched by another one.
 ghost use Rattle.std.specs.Prelude.{◌≡◌, ◌≢◌, ◌≤◌, ◌+◌, ◌++◌, codes, decimal, length, true, Ok, Err, IfOk, OnOk, OnErr};
 ghost use Rattle.hex.specs.Hex.{encode_lower};
 ghost use Rattle.bt_end.specs.Configs.{is_bad_size};
@@ -22,15 +21,17 @@ use std::alloc::{AllocError, Global};
 /// The greatest number of rounds.
 pub const ROUNDS: u64 = 1_048_576;
 
-/// How many bytes are read at once, at most.
+/// The greatest number of bytes that a read takes.
 const SIZE: usize = 65_536;
 
 /// How a loop ended.
 #[derive(Clone, Copy, PartialEq, Eq, Debug)]
 pub enum LoopEnd {
-    /// The right end has the metadata, and nothing is under way.
+    /// The right end has the metadata, and nothing is on its way.
     Fetched,
-    /// Nothing is under way any more, and the right end has no metadata; or an end refused what came, or was busy.
+    /// The right end has no metadata.
+    ///
+    /// Nothing is on its way any more; or an end refused what came, or was busy.
     Unfetched,
     /// The size of what was read isn't 1 to 67,108,864.
     BadSize,
@@ -196,17 +197,16 @@ fn run_metadata<W: Wire, T: Target>(
     }
 }
 
-/// Fetches metadata from an end of its own, over the wire.
+/// Serves metadata at one end of a connection, and fetches it at the other one.
 ///
-/// It reads the metadata to the reader's end, or 67,108,865 bytes of it. It serves it at one end of the wire, fetches it at the
-/// other, and writes what came of it.
-///
-/// The left end serves under the id 3, and the right one fetches under the id 9. The wire is used after all is read. In a round each
-/// side in turn sends at most 4,096 bytes, and the other side handles them. The run ends when no side has anything to send.
+/// It reads the metadata to the reader's end, or 67,108,865 bytes of it, and then uses the connection. It writes what came of
+/// it. The left end serves under the id 3, and the right one fetches under the id 9. In a round each side sends at most 4,096
+/// bytes, and the other side handles them. The run ends when no side has anything to send.
 ///
 /// # Errors
-/// `Read` and `Write` if a device failed, `Net` if a call of the wire failed or moved nothing, `Turns` after 1,048,576 rounds, and
-/// `Memory` if a growth was refused. After `Write` a prefix of the output is written, and after the others nothing.
+/// `Read` if a read failed. `Write` if a write failed or took no byte. `Net` if a call of the connection failed or moved no byte.
+/// `Turns` after 1,048,576 rounds. `Memory` when out of memory. After `Write` a prefix of the output is written, after the others
+/// nothing.
 pub fn run_loop<R: Source, T: Target, W: Wire>(
     alloc: Global,
     reader: &mut R,
@@ -231,7 +231,7 @@ pub fn run_loop<R: Source, T: Target, W: Wire>(
 
 /// Returns the exit status of a loop.
 ///
-/// 0 where it fetched, 1 where it didn't, and 3 for a fault.
+/// It is 0 if the metadata was fetched, 1 if it wasn't, and 3 after a fault.
 pub fn status(end: &Result<LoopEnd, ToolFault>) -> u8
     ensures { result ≡ status_of end.now }
 {

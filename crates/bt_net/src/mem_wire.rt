@@ -1,4 +1,4 @@
-//! A wire in memory, which moves a given number of bytes a call and fails at a given call. Tests call it.
+//! A connection in memory, which moves a given number of bytes a call and fails at a given call.
 ghost use Rattle.std.specs.Prelude.{◌≡◌, ◌≤◌, ◌<◌, [], Ok, Some, length};
 ghost use Rattle.std.specs.Io.{WritesAtMost};
 ghost use Rattle.std.specs.Io.KnownBytes.{ReadConsumes, WriteAppends};
@@ -9,7 +9,7 @@ use crate::wire::{Wire, WireFault, failed_after};
 use bt_session::Side;
 use std::alloc::Global;
 
-/// A wire of bytes in memory.
+/// A connection in memory.
 ///
 /// It moves at most `most` bytes a call, and fails once, at the call `fails_at`, counted from 1.
 #[derive(Drop)]
@@ -53,7 +53,7 @@ fn take(lane: &mut Vec<u8>, into: &mut [u8], most: usize) -> usize
 impl MemWire {
     ghost use Rattle.bt_net.specs.MemWires.{wire_seen};
 
-    /// Makes a wire with nothing on its way and no call made.
+    /// Makes a connection with nothing on its way and no call made. `most` is above 0.
     pub fn new(alloc: Global, most: usize, fails_at: Option<u64>) -> MemWire
         requires { 0 < most }
         ensures to_left { (wire_seen result).to_left ≡ Some [] }

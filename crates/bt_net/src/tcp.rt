@@ -1,4 +1,4 @@
-//! One connection of the process to itself. The program's `loop` calls it.
+//! A TCP connection of the process to itself.
 ghost use Rattle.std.specs.Prelude.{◌≡◌, ◌≤◌, length, IfOk};
 
 use crate::wire::{Wire, WireFault, failed_after};
@@ -7,7 +7,7 @@ use std::io;
 use std::io::{ErrorKind, Read, Write};
 use std::net::{Ipv4Addr, Net, OpenListener, OpenStream, SocketAddr, TcpListener, TcpStream};
 
-/// The two ends of a connection. A call waits for the system.
+/// The two ends of a connection. A call blocks.
 #[derive(Drop)]
 pub struct TcpWire<S: Read + Write + Drop> {
     left: S,
@@ -16,7 +16,10 @@ pub struct TcpWire<S: Read + Write + Drop> {
     failed: u64,
 }
 
-/// Connects the process to itself on 127.0.0.1. A stranger's connection is refused.
+/// Connects the process to itself on 127.0.0.1; another process is refused.
+///
+/// # Errors
+/// The I/O error of the call that failed; `ConnectionRefused` if another process connected.
 pub fn open_tcp<R: Net>(net: &R) -> io::Result<TcpWire<R::Stream>> {
     let listener = TcpListener::bind(net, SocketAddr::from((Ipv4Addr::LOCALHOST, 0u16)))?;
     let left = TcpStream::connect(net, listener.local_addr()?)?;

@@ -1,4 +1,4 @@
-//! A line of a link's script, from its text to what it says.
+//! Parsing of a line of a link script.
 ghost use Rattle.std.specs.Prelude.{◌≡◌, ◌==◌, ◌≤◌, ◌<◌, ◌^◌, ◌+◌, length, position, option_map, option_and_then, IfOk, IfSome};
 ghost use Rattle.std.specs.Str.{bytes_eq};
 ghost use Rattle.bt_text.specs.ScriptReading.{seen, number_in_word, bytes_in_word};
@@ -31,7 +31,7 @@ use bt_text::script::reading::plain_number;
 use hex::{FromHex, FromHexError};
 use std::alloc::{AllocError, Global};
 
-/// What a line says of an end.
+/// What a line sets for an end.
 #[derive(Debug, Drop)]
 pub enum Setting {
     /// The end serves this metadata, whose SHA-1 is its info hash.
@@ -46,23 +46,23 @@ pub enum Setting {
     PeerId([u8; 20]),
     /// The end's reserved bits, as a big-endian number.
     Reserved(u64),
-    /// The rules by which the end judges.
+    /// The rules by which the end checks.
     Rules(Rules),
-    /// What the end says of its pieces after the handshakes.
+    /// What the end says about its pieces after the handshakes (BEP 6).
     Announce(Announce),
     /// How many pieces the torrent has.
     Pieces(u32),
-    /// The greatest length of a message.
+    /// The greatest length prefix of a message, in bytes.
     Limit(u32),
     /// The end's id of `ut_metadata` (BEP 9), or none.
     MetadataId(Option<ExtId>),
     /// The end's id of `lt_donthave`, or none.
     DonthaveId(Option<ExtId>),
-    /// How many blocks a fetching end asks for at once.
+    /// How many requests a fetching end has outstanding at once.
     Window(Window),
 }
 
-/// What a line says.
+/// What a line asks for.
 #[derive(Debug, Drop)]
 pub enum Entry {
     /// A setting of an end.
@@ -71,7 +71,7 @@ pub enum Entry {
     Do(Step),
 }
 
-/// The place of the first space.
+/// Returns the offset of the first space.
 fn first_space(text: &[u8]) -> Option<usize>
     ensures value { result ≡ position (λ c. c == 32) text.now }
     ensures within { IfSome result (λ n. n < length text.now) }
@@ -79,7 +79,7 @@ fn first_space(text: &[u8]) -> Option<usize>
     text.iter().position(|byte| *byte == b' ')
 }
 
-/// What stands before the first space and after it.
+/// Splits a text at its first space.
 #[tactic(auto, using(std::proofs::lemmas::List::take_rest))]
 fn cut(text: &[u8]) -> Option<(&[u8], &[u8])>
     ensures value { option_map (λ p. (p.0.now, p.1.now)) result ≡ cut_of text.now }
@@ -166,7 +166,7 @@ fn rules(word: &[u8]) -> Option<Rules>
     }
 }
 
-/// What a word says of an end's pieces.
+/// Returns what an end says about its pieces, by a word.
 fn announce(word: &[u8]) -> Option<Announce>
     ensures { result ≡ announce_of word.now }
 {
@@ -181,7 +181,7 @@ fn announce(word: &[u8]) -> Option<Announce>
     }
 }
 
-/// The bytes that a word says in hex digits of either case, or `-` for none.
+/// Returns the bytes that hex digits of either case name, or `-` for none.
 #[tactic(auto, unfolding(bt_text::specs::ScriptReading::bytes_in_word))]
 fn bytes(alloc: Global, word: &[u8]) -> Result<Option<ByteString>, AllocError>
     ensures { IfOk result (λ bytes. bytes ≡ bytes_in_word word.now) }
@@ -199,7 +199,7 @@ fn bytes(alloc: Global, word: &[u8]) -> Result<Option<ByteString>, AllocError>
     }
 }
 
-/// The setting of a name and its value that keeps no bytes of any length.
+/// Returns the setting of a name and its value, if it keeps no bytes.
 fn short_setting(name: &[u8], value: &[u8]) -> Option<Setting>
     ensures { result ≡ short_setting_of name.now value.now }
 {
@@ -270,7 +270,9 @@ fn delivery(text: &[u8]) -> Option<Entry>
     Some(Entry::Do(Step::Deliver(side, u64::from(count))))
 }
 
-/// The setting of a side, or a step that says no message, by the first word of its line and what stands after it.
+/// Returns what a line asks for, if it queues no message.
+///
+/// `word` is the line's first word, and `rest` is what follows it.
 fn entry_by(alloc: Global, word: &[u8], rest: &[u8]) -> Result<Option<Entry>, AllocError>
     ensures { IfOk result (λ entry. entry ≡ entry_by (word.now, rest.now)) }
 {
@@ -286,7 +288,7 @@ fn entry_by(alloc: Global, word: &[u8], rest: &[u8]) -> Result<Option<Entry>, Al
     }
 }
 
-/// What a line says that says no message.
+/// Returns what a line asks for, if it queues no message.
 fn plain_entry(alloc: Global, text: &[u8]) -> Result<Option<Entry>, AllocError>
     ensures { IfOk result (λ entry. entry ≡ entry_in text.now) }
 {
@@ -299,7 +301,7 @@ fn plain_entry(alloc: Global, text: &[u8]) -> Result<Option<Entry>, AllocError>
     }
 }
 
-/// The side that says something, and the words of the message.
+/// Returns the side that queues a message, and the words of the message.
 fn said(text: &[u8]) -> Option<(Side, &[u8])>
     ensures value { seen result ≡ said_in text.now }
     ensures short { IfSome result (λ p. length p.1.now ≤ length text.now) }
@@ -308,10 +310,10 @@ fn said(text: &[u8]) -> Option<(Side, &[u8])>
     if is(word, b"say") { sided(rest) } else { None }
 }
 
-/// Reads a line, which stands without its line feed. It answers `None` for what is no line.
+/// Parses a line, which is given without its line feed; `None` if it is none.
 ///
 /// # Errors
-/// `AllocError` where a growth was refused.
+/// `AllocError` when out of memory.
 pub fn read_entry(alloc: Global, text: &[u8]) -> Result<Option<Entry>, AllocError>
     requires { length text.now < 2 ^ 32 }
     ensures { IfOk result (IsReading text.now) }

@@ -14,7 +14,7 @@ use bt_ext::{Ext, Kind, kind, metadata_size};
 use bt_wire::{Handshake, Item, Message};
 use std::alloc::AllocError;
 
-/// The id of `ut_metadata` that an extended handshake tells.
+/// Returns the id of `ut_metadata` that an extended handshake announces.
 fn told(dict: &Value) -> Option<u64>
     ensures { result ≡ told_id (tree_of dict.now) }
 {
@@ -27,7 +27,7 @@ fn told(dict: &Value) -> Option<u64>
     }
 }
 
-/// Appends a name, the length of a dictionary's spelling, and how many bytes follow it.
+/// Appends a name, a dictionary's length, and how many bytes follow it.
 fn push_lengths(
     name: &[u8],
     dict: &Value,
@@ -233,6 +233,9 @@ fn push_item_line(at: u64, item: &Item, text: &mut Vec<u8>) -> Result<(), AllocE
 }
 
 /// Appends a line for each item of a direction, with its offset.
+///
+/// # Errors
+/// `AllocError` when out of memory.
 pub fn push_items(sent: &[Item], text: &mut Vec<u8>) -> Result<(), AllocError>
     ensures { OnOk result (text.new.items ≡ text.old.items ++ item_lines 0 sent.now) }
 {

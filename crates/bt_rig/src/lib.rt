@@ -1,6 +1,4 @@
-//! The link of two ends, run from a script: what the command `link` of the program does.
-//!
-//! [`run_rig`] reads two configs and a list of steps as lines, runs the link of `bt_session`, and writes what came of it.
+//! The command `link`: two linked ends, run by a script. Running without a script is in `bt_session`.
 #![tactic(auto)]
 
 mod entry;

@@ -1,4 +1,4 @@
-//! A message that an end of a link is to say, from the words of a script's line.
+//! A message that an end of a link is to send, from the words of a script's line.
 ghost use Rattle.std.specs.Prelude.{◌≡◌, ◌<◌, ◌^◌, length, IfOk};
 ghost use Rattle.bt_rig.specs.Entries.{lenient, IsMessageReading, IsSpelledBy};
 
@@ -9,7 +9,7 @@ use bt_wire::laws::prefixes;
 use bt_wire::{Context, Front, Message, Order, copy_message, read_front};
 use std::alloc::{AllocError, Global};
 
-/// A context that allows every message that any end's limit does.
+/// Returns a context that allows every message that any end's limit does.
 fn lenient_context() -> Context
     ensures { result ≡ lenient }
 {
@@ -23,7 +23,7 @@ fn lenient_context() -> Context
     }
 }
 
-/// The message that bytes spell, all of them.
+/// Returns the message that all of the bytes encode.
 fn spelled(alloc: Global, bytes: &[u8]) -> Result<Option<Message>, AllocError>
     ensures { IfOk result (IsSpelledBy bytes.now) }
 {
@@ -42,10 +42,10 @@ fn spelled(alloc: Global, bytes: &[u8]) -> Result<Option<Message>, AllocError>
 
 /// Returns the message whose line in a script these words are.
 ///
-/// `None` where they are no line, or the line's bytes are no message.
+/// `None` if they are no line, or the line's bytes are no message.
 ///
 /// # Errors
-/// `AllocError` where a growth was refused.
+/// `AllocError` when out of memory.
 pub fn read_message(alloc: Global, words: &[u8]) -> Result<Option<Message>, AllocError>
     requires { length words.now < 2 ^ 32 }
     ensures { IfOk result (IsMessageReading words.now) }

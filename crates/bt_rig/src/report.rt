@@ -1,4 +1,4 @@
-//! The lines of what came of a run: outcomes, connections and metadata.
+//! The lines of a run's report: outcomes, connections and metadata.
 ghost use Rattle.std.specs.Prelude.{◌≡◌, ◌++◌, decimal, codes, OnOk};
 ghost use Rattle.std.specs.List.{flat_map};
 ghost use Rattle.bt_end.specs.Ends.{metadata_of};
@@ -71,7 +71,7 @@ fn push_refusal(refusal: Refusal, text: &mut Vec<u8>) -> Result<(), AllocError>
     Ok(())
 }
 
-/// Appends that a message isn't said, and why.
+/// Appends that a message isn't queued, and why.
 #[tactic(auto, using(std::proofs::lemmas::List::append_assoc))]
 fn push_not_said(error: SayError, text: &mut Vec<u8>) -> Result<(), AllocError>
     ensures { OnOk result (text.new.items ≡ text.old.items ++ (codes "not-said " ++ say_error_words error)) }
@@ -207,7 +207,10 @@ fn push_ends(ends: &[End; 2], text: &mut Vec<u8>) -> Result<(), AllocError>
     push_metadata(b"right", right, text)
 }
 
-/// Appends the lines of what came of a run.
+/// Appends the lines of a run's report.
+///
+/// # Errors
+/// `AllocError` when out of memory.
 #[tactic(auto, using(std::proofs::lemmas::List::append_assoc))]
 pub fn push_report(report: &LinkReport, text: &mut Vec<u8>) -> Result<(), AllocError>
     ensures { OnOk result (text.new.items ≡ text.old.items ++ report_lines report.now) }

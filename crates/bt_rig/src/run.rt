@@ -1,4 +1,4 @@
-//! A script that is read, run and reported. The command line calls [`run_rig`].
+//! A script that is read, run and reported.
 ghost use Rattle.std.specs.Prelude.{◌≡◌, ◌<◌, ◌^◌, length, IfOk, IfErr};
 ghost use Rattle.bt_io.specs.Seen.{devices};
 ghost use Rattle.bt_rig.specs.Runs.{
@@ -26,13 +26,15 @@ pub const MAX_SCRIPT: usize = 16_777_216;
 /// How a run of a script ended.
 #[derive(Clone, Copy, PartialEq, Eq, Debug)]
 pub enum RigEnd {
-    /// The link ran, and its report is written.
+    /// The script was run, and its report is written.
     Ran,
-    /// The line with this number, counted from 1, is the first that isn't one or may not stand there.
+    /// The line `line` is the first that is none or may not stand there.
+    ///
+    /// Lines are counted from 1.
     Syntax { line: u64 },
     /// The script has more than `MAX_SCRIPT` bytes.
     Size,
-    /// The link isn't run: its configs don't match, or an end can't be made.
+    /// The script wasn't run: its configs don't match, or an end can't be made.
     Unrun(LinkError),
 }
 
@@ -113,11 +115,13 @@ fn run_text<W: Target>(alloc: Global, text: &[u8], writer: &mut W) -> Result<Rig
     }
 }
 
-/// Reads a script to its end, runs its link, and writes what came of it.
+/// Reads a script to its end, runs it, and writes its report.
+///
+/// A script that isn't run is no error: [`RigEnd`] says why.
 ///
 /// # Errors
-/// `Read` and `Write` where a device failed, and `Memory` where a growth was refused. After `Write` a prefix of the report is
-/// written, and after the others nothing.
+/// `Read` if a read failed. `Write` if a write failed or took no byte. `Memory` when out of memory. After `Write` a prefix of the
+/// report is written, after the others nothing.
 pub fn run_rig<R: Source, W: Target>(
     alloc: Global,
     reader: &mut R,
@@ -134,7 +138,7 @@ pub fn run_rig<R: Source, W: Target>(
 
 /// Returns the exit status of a run.
 ///
-/// 0 where the link ran, 1 where the script is refused, and 3 for a fault.
+/// It is 0 if the script was run, 1 if it wasn't, and 3 after a fault.
 pub fn status(end: &Result<RigEnd, ToolFault>) -> u8
     ensures { result ≡ status_of end.now }
 {

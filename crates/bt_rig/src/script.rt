@@ -1,4 +1,4 @@
-//! The script of a link: what its lines say of two ends, and the steps of their run.
+//! A link script: what its lines set for two ends, and the steps of their run.
 ghost use Rattle.std.specs.Prelude.{◌≡◌, ◌<◌, ◌^◌, ◌≤◌, ℕ, length, IfOk, OnOk, MatchResult};
 ghost use Rattle.bt_rig.specs.Scripts.{settled_setup, settled, plan_of, draft_of, outline_of, start, setup_of, default_outline, with_setting, with_side, IsTaken, IsScript, IsWrongAt, is_skipped};
 
@@ -10,7 +10,7 @@ use bt_wire::{Own, Reserved};
 use sha1::Sha1;
 use std::alloc::{AllocError, Global};
 
-/// What a script says: two configs and the steps of their run.
+/// What a script asks for: two configs and the steps of their run.
 #[derive(Debug, Drop)]
 pub struct Script {
     /// The left end.
@@ -21,9 +21,9 @@ pub struct Script {
     pub steps: Vec<Step>,
 }
 
-/// What the lines so far say of an end.
+/// What the lines so far set for an end.
 ///
-/// Its config registers no id yet, since two equal ids are judged when all lines are read.
+/// Its config has no ids yet, since two equal ids are checked when all lines are parsed.
 #[derive(Drop)]
 struct Outline {
     config: Config,
@@ -31,7 +31,7 @@ struct Outline {
     donthave: Option<ExtId>,
 }
 
-/// What the lines so far say.
+/// What the lines so far ask for.
 #[derive(Drop)]
 struct Draft {
     left: Outline,
@@ -40,7 +40,7 @@ struct Draft {
 }
 
 impl Outline {
-    /// An end of which no line says anything.
+    /// Makes an end for which no line sets anything.
     fn new(id: Option<ExtId>, peer_id: [u8; 20]) -> Outline
         ensures { outline_of result ≡ default_outline id peer_id }
     {
@@ -64,7 +64,7 @@ impl Outline {
         }
     }
 
-    /// Changes it as a line says.
+    /// Changes the end as a line says.
     fn change(&mut self, setting: Setting)
         ensures { outline_of self.new ≡ with_setting (outline_of self.old) setting }
     {
@@ -109,7 +109,7 @@ impl Outline {
     }
 }
 
-/// Whether a line says nothing: it is empty or begins with `#`.
+/// Returns whether a line asks for nothing: it is empty or begins with `#`.
 fn is_comment(line: &[u8]) -> bool
     ensures { result ≡ is_skipped line.now }
 {
@@ -120,7 +120,7 @@ fn is_comment(line: &[u8]) -> bool
 }
 
 impl Draft {
-    /// What no line says.
+    /// Makes the draft before the first line.
     fn new(alloc: Global) -> Draft
         ensures { draft_of result ≡ start }
     {
@@ -131,7 +131,7 @@ impl Draft {
         }
     }
 
-    /// The script, when all lines are read.
+    /// Returns the script, when all lines are parsed.
     fn settle(self) -> Script
         ensures { plan_of result ≡ settled (draft_of self) }
     {
@@ -143,7 +143,7 @@ impl Draft {
         }
     }
 
-    /// Changes what is said of an end.
+    /// Changes what is set for an end.
     fn set(&mut self, side: Side, setting: Setting)
         ensures { draft_of self.new ≡ with_side (draft_of self.old) side setting }
     {
@@ -153,7 +153,7 @@ impl Draft {
         }
     }
 
-    /// Takes a line, and says whether it is one that may stand there.
+    /// Takes a line, and returns whether it is one that may stand there.
     fn take(&mut self, alloc: Global, line: &[u8]) -> Result<bool, AllocError>
         requires { length line.now < 2 ^ 32 }
         ensures { IfOk result (IsTaken (draft_of self.old) line.now (draft_of self.new)) }
@@ -178,10 +178,12 @@ impl Draft {
     }
 }
 
-/// Reads a script. It answers the number, counted from 1, of the first line that isn't one or may not stand there.
+/// Parses a script.
+///
+/// An inner `Err` has the number, counted from 1, of the first line that is none or may not stand there.
 ///
 /// # Errors
-/// `AllocError` where a growth was refused.
+/// `AllocError` when out of memory.
 pub fn read_script(alloc: Global, text: &[u8]) -> Result<Result<Script, u64>, AllocError>
     requires { length text.now < 2 ^ 32 }
     ensures { IfOk result (λ r. MatchResult r (λ s. IsScript text.now (plan_of s)) (IsWrongAt text.now)) }

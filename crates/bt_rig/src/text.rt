@@ -1,4 +1,4 @@
-//! Text that is written at the end of other text.
+//! Numbers, names and hex appended to a text.
 ghost use Rattle.std.specs.Prelude.{◌≡◌, ◌++◌, decimal, OnOk};
 ghost use Rattle.hex.specs.Hex.{encode_lower};
 ghost use Rattle.bt_text.specs.Lines.{spaced, or_dash};
@@ -7,6 +7,9 @@ use itoa::write_digits;
 use std::alloc::AllocError;
 
 /// Appends a number.
+///
+/// # Errors
+/// `AllocError` when out of memory.
 pub fn push_number(n: u64, text: &mut Vec<u8>) -> Result<(), AllocError>
     ensures { OnOk result (text.new.items ≡ text.old.items ++ decimal n) }
 {
@@ -16,6 +19,9 @@ pub fn push_number(n: u64, text: &mut Vec<u8>) -> Result<(), AllocError>
 }
 
 /// Appends a space and a number.
+///
+/// # Errors
+/// `AllocError` when out of memory.
 #[tactic(auto, using(std::proofs::lemmas::List::append_assoc))]
 pub fn push_spaced(n: u64, text: &mut Vec<u8>) -> Result<(), AllocError>
     ensures { OnOk result (text.new.items ≡ text.old.items ++ spaced n) }
@@ -25,6 +31,9 @@ pub fn push_spaced(n: u64, text: &mut Vec<u8>) -> Result<(), AllocError>
 }
 
 /// Appends a number, or `-` for none.
+///
+/// # Errors
+/// `AllocError` when out of memory.
 pub fn push_number_or_dash(n: Option<u64>, text: &mut Vec<u8>) -> Result<(), AllocError>
     ensures { OnOk result (text.new.items ≡ text.old.items ++ or_dash n) }
 {
@@ -35,6 +44,9 @@ pub fn push_number_or_dash(n: Option<u64>, text: &mut Vec<u8>) -> Result<(), All
 }
 
 /// Appends bytes in lower-case hex.
+///
+/// # Errors
+/// `AllocError` when out of memory.
 pub fn push_hex(bytes: &[u8], text: &mut Vec<u8>) -> Result<(), AllocError>
     ensures { OnOk result (text.new.items ≡ text.old.items ++ encode_lower bytes.now) }
 {
@@ -46,6 +58,9 @@ pub fn push_hex(bytes: &[u8], text: &mut Vec<u8>) -> Result<(), AllocError>
 }
 
 /// Appends a name and a number.
+///
+/// # Errors
+/// `AllocError` when out of memory.
 #[tactic(auto, using(std::proofs::lemmas::List::append_assoc))]
 pub fn push_one(name: &[u8], n: u64, text: &mut Vec<u8>) -> Result<(), AllocError>
     ensures { OnOk result (text.new.items ≡ text.old.items ++ (name.now ++ spaced n)) }
@@ -55,6 +70,9 @@ pub fn push_one(name: &[u8], n: u64, text: &mut Vec<u8>) -> Result<(), AllocErro
 }
 
 /// Appends a name and two numbers.
+///
+/// # Errors
+/// `AllocError` when out of memory.
 #[tactic(auto, using(std::proofs::lemmas::List::append_assoc))]
 pub fn push_two(name: &[u8], n: u64, m: u64, text: &mut Vec<u8>) -> Result<(), AllocError>
     ensures { OnOk result (text.new.items ≡ text.old.items ++ (name.now ++ (spaced n ++ spaced m))) }
@@ -64,6 +82,9 @@ pub fn push_two(name: &[u8], n: u64, m: u64, text: &mut Vec<u8>) -> Result<(), A
 }
 
 /// Appends a name and three numbers.
+///
+/// # Errors
+/// `AllocError` when out of memory.
 #[tactic(auto, using(std::proofs::lemmas::List::append_assoc))]
 pub fn push_three(name: &[u8], n: u64, m: u64, k: u64, text: &mut Vec<u8>) -> Result<(), AllocError>
     ensures { OnOk result (text.new.items ≡ text.old.items ++ (name.now ++ (spaced n ++ (spaced m ++ spaced k)))) }

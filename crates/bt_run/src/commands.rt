@@ -1,4 +1,4 @@
-//! The jobs and what they are done for, and the exit statuses. `bt_cli` and the module `run` call it.
+//! The commands on a stream, what they are done for, and the exit statuses.
 ghost use Rattle.std.specs.Prelude.{◌≡◌};
 ghost use Rattle.bt_run.specs.Commands.{IsDefault, notice_status, status_of as status_by, pack_status_of as pack_status_by, default_rules as rules_by_default};
 
@@ -6,34 +6,34 @@ use bt_ext::{ExtId, Registered, Rules};
 use bt_text::ended::{Ended, PackEnd, ToolFault};
 use bt_wire::{Own, Reserved};
 
-/// The reserved bits where none are given: those of the Fast Extension, of the DHT and of the Extension Protocol.
+/// The default reserved bits: Fast Extension, DHT and Extension Protocol.
 pub const DEFAULT_RESERVED: u64 = 0x10_0005;
 
-/// The id of `ut_metadata` where none is given.
+/// The id of `ut_metadata` by default.
 pub const DEFAULT_METADATA_ID: u8 = 3;
 
-/// The greatest length of a message where none is given.
+/// The greatest length prefix of a message by default, in bytes.
 pub const DEFAULT_LIMIT: u32 = 262_144;
 
-/// The kind of a text that is printed in place of a job.
+/// The kind of a text that is printed in place of a command's output.
 #[derive(Clone, Copy, PartialEq, Eq, Debug)]
 pub enum Notice {
     /// What the program does and how it is called.
     Help,
     /// The program's name and version.
     Version,
-    /// What is wrong with the words, which are no command line.
+    /// What is wrong with the arguments.
     Usage,
 }
 
-/// What is done with a stream, or with a script.
+/// A command on a stream or a script.
 #[derive(Clone, Copy, PartialEq, Eq, Debug)]
 pub enum Job {
     /// A line for each item, and the verdict.
     Show,
     /// A JSON object for each item, and one for the verdict.
     Json,
-    /// The verdict alone.
+    /// Only the verdict.
     Check,
     /// The script of the items.
     Unpack,
@@ -41,7 +41,7 @@ pub enum Job {
     Pack,
 }
 
-/// What an option gives of that which the other direction says too.
+/// Which options are given that the other direction announces too.
 #[derive(Clone, Copy, PartialEq, Eq, Debug)]
 pub struct Given {
     /// `--reserved` is given.
@@ -59,28 +59,28 @@ pub enum Hints {
     Auto,
     /// Each time.
     Always,
-    /// At no time.
+    /// Never.
     Never,
 }
 
-/// A job, with its receiver and its files.
+/// A command, with its receiver and its files.
 #[derive(Debug, Drop)]
 pub struct Request {
-    /// What is done.
+    /// The command.
     pub job: Job,
-    /// The receiver, by the options and their defaults.
+    /// The receiver of the stream, by the options and their defaults.
     pub own: Own,
-    /// What of the receiver an option gives.
+    /// Which of the receiver's options are given.
     pub given: Given,
-    /// The file that has the other direction, if one is given.
+    /// The file with the other direction, if it is given.
     pub other: Option<String>,
-    /// When a hint is said.
+    /// When a hint is printed.
     pub hints: Hints,
-    /// The files that are read, in turn. None of them is standard input.
+    /// The files to read, in order; none for standard input.
     pub files: Vec<String>,
 }
 
-/// Returns the exit status after a notice: 0, or 2 where the words are no command line.
+/// Returns the exit status after a notice: 2 for wrong arguments, else 0.
 pub fn status_of(notice: Notice) -> u8
     ensures { result ≡ notice_status notice }
 {
@@ -112,7 +112,7 @@ pub fn pack_status(end: &Result<PackEnd, ToolFault>) -> u8
     }
 }
 
-/// Returns the rules by which a job judges where none are given.
+/// Returns the rules of a command by default.
 pub fn default_rules(job: Job) -> Rules
     ensures { result ≡ rules_by_default job }
 {
@@ -122,10 +122,10 @@ pub fn default_rules(job: Job) -> Rules
     }
 }
 
-/// Returns the receiver where no option is given.
+/// Returns the receiver by default.
 ///
-/// It has the bits of the Fast Extension, of the DHT and of the Extension Protocol, any info hash, an unknown count of pieces,
-/// `ut_metadata` under id 3, no id for `lt_donthave`, the free rules, and messages of at most 262,144 bytes.
+/// It has the bits of the Fast Extension, of the DHT and of the Extension Protocol, any info hash, an unknown piece count,
+/// `ut_metadata` under id 3, no id for `lt_donthave`, the lenient rules, and messages of at most 262,144 bytes.
 pub fn default_own() -> Own
     ensures { IsDefault result }
 {

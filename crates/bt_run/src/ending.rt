@@ -1,7 +1,7 @@
-//! What the program says at its end, and its exit status. The program's `main` calls it after its work.
+//! What the program prints at its end, and its exit status.
 //!
-//! `prefix` is what stands before the line of a failed read: the input's name, or nothing for standard input.
-//! `is_gone` says that a write failed since nobody reads the output. The program says nothing then, as other tools of a
+//! `prefix` comes before the line of a failed read: the input's name, or nothing for standard input.
+//! `is_gone` says that a write failed since the output pipe is closed. The program prints nothing then, as other tools of a
 //! shell do.
 ghost use Rattle.std.specs.Prelude.{◌≡◌, ◌++◌};
 ghost use Rattle.bt_run.specs.Runs.{IsSaid, fault_in};
@@ -14,10 +14,10 @@ use bt_jobs::output::write_out;
 use bt_text::ended::ToolFault;
 use bt_text::lines::fault_line;
 
-/// The exit status where nobody reads the output: that of a program which SIGPIPE ended.
+/// The exit status if the output pipe is closed, as after SIGPIPE.
 const CUT: u8 = 141;
 
-/// Writes two texts on standard error, as far as that takes them.
+/// Writes two texts on standard error, as far as it takes them.
 pub fn say_both<E: Target>(prefix: &[u8], text: &[u8], errors: &mut E)
     ensures { IsSaid (prefix.now ++ text.now) (E.seen errors.old) (E.seen errors.new) }
 {
@@ -27,7 +27,7 @@ pub fn say_both<E: Target>(prefix: &[u8], text: &[u8], errors: &mut E)
     }
 }
 
-/// Says which fault ended the program, and returns the exit status.
+/// Prints which fault ended the program, and returns the exit status.
 pub fn end_by_fault<E: Target>(fault: ToolFault, prefix: &[u8], is_gone: bool, errors: &mut E) -> u8
     ensures said { IsSaid (fault_words is_gone prefix.now fault) (E.seen errors.old) (E.seen errors.new) }
     ensures status { result ≡ fault_status is_gone fault }
@@ -58,7 +58,7 @@ fn fault_of(end: JobEnd) -> Option<ToolFault>
     }
 }
 
-/// Says what a job's end has to say on standard error, and returns the exit status.
+/// Prints on standard error what a command's end asks for; returns the status.
 pub fn end_job<E: Target>(job: Job, end: JobEnd, prefix: &[u8], is_gone: bool, errors: &mut E) -> u8
     ensures said { IsSaid (job_words is_gone prefix.now job end) (E.seen errors.old) (E.seen errors.new) }
     ensures status { result ≡ job_status is_gone end }
@@ -72,7 +72,7 @@ pub fn end_job<E: Target>(job: Job, end: JobEnd, prefix: &[u8], is_gone: bool, e
     }
 }
 
-/// Says why a text wasn't printed, where it wasn't, and returns the exit status.
+/// Prints why a text wasn't printed, if it wasn't, and returns the exit status.
 pub fn end_text<E: Target>(end: Result<(), ToolFault>, is_gone: bool, errors: &mut E) -> u8
     ensures said { IsSaid (text_words is_gone end) (E.seen errors.old) (E.seen errors.new) }
     ensures status { result ≡ text_status is_gone end }

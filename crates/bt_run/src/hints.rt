@@ -1,4 +1,4 @@
-//! The hint that standard error gets after a refused stream, or after a script. The program's `main` calls it after a job.
+//! Printing of the hint for a refused stream, or for a script.
 ghost use Rattle.std.specs.Prelude.{◌≡◌, IfSome, true};
 ghost use Rattle.bt_run.specs.Hinting.{IsHinted, IsHintText, are_wanted as are_wanted_by_rule};
 
@@ -10,7 +10,9 @@ use bt_jobs::pack_hint;
 use bt_text::ended::Ended;
 use std::alloc::Global;
 
-/// Returns whether hints are said, by the option `--hints` and by whether standard error is a terminal.
+/// Returns whether a hint is printed.
+///
+/// `is_terminal` says whether standard error is a terminal.
 pub fn are_wanted(hints: Hints, is_terminal: bool) -> bool
     ensures { result ≡ are_wanted_by_rule hints is_terminal }
 {
@@ -40,9 +42,9 @@ fn hint_text(alloc: Global, is_wanted: bool, end: JobEnd, window: &[u8]) -> Opti
     }
 }
 
-/// Says on standard error the hint of a refused stream or script.
+/// Prints on standard error the hint for a refused stream or script.
 ///
-/// Nothing is said if no hint is wanted, or if the input's first bytes give none.
+/// Nothing is printed if no hint is wanted, or if the input's first bytes give none.
 pub fn say_hint<E: Target>(
     alloc: Global,
     is_wanted: bool,

@@ -1,7 +1,6 @@
-//! A job of the command line: the receiver that its options describe, the job done on any devices, and its end.
+//! A command on a stream: the receiver that its options describe, the command itself on any source and target, and its end.
 //!
-//! The program's `main` lets [`other::receiver_by`] complete the receiver and does the job by [`run::do_job`]; [`ending`] says
-//! how that ended, [`hints`] what the first bytes tell, and [`notice`] what is wrong with words. `bt_cli` reads the words.
+//! Parsing of arguments and opening of files don't belong here.
 #![tactic(auto)]
 
 pub mod commands;

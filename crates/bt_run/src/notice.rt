@@ -1,4 +1,4 @@
-//! Texts that are printed in place of a job: what is wrong with the words. The program's `main` calls it.
+//! Texts that are printed in place of a command's output.
 ghost use Rattle.std.specs.Prelude.{◌≡◌};
 ghost use Rattle.bt_run.specs.Runs.{IsSaid};
 
@@ -6,7 +6,7 @@ use crate::commands::{Notice, status_of};
 use crate::run::say;
 use bt_feed::Target;
 
-/// Says what is wrong with the words, and returns the exit status.
+/// Prints what is wrong with the arguments, and returns the exit status, 2.
 pub fn refuse_words<E: Target>(text: &str, errors: &mut E) -> u8
     ensures said { IsSaid text.now (E.seen errors.old) (E.seen errors.new) }
     ensures status { result ≡ 2 }

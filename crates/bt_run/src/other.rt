@@ -1,4 +1,4 @@
-//! The receiver, by what its own stream says of it: `--other`. The program's `main` calls it.
+//! The receiver, completed by what its own stream announces: `--other`.
 ghost use Rattle.std.specs.Prelude.{◌≡◌, IfOk, if◌then◌else◌};
 ghost use Rattle.bt_ext.specs.Ids.{metadata_id, donthave_id};
 ghost use Rattle.bt_run.specs.Commands.{HasLimit};
@@ -11,7 +11,7 @@ use bt_jobs::{Announced, OtherError, read_other};
 use bt_wire::Own;
 use std::alloc::Global;
 
-/// Returns the id of `ut_metadata`: the option's, or else what the receiver's own stream says.
+/// Returns the id of `ut_metadata`: the option's, else the announced one.
 fn metadata_by(own: &Own, given: Given, said: &Announced) -> Option<ExtId>
     ensures { result ≡ (if given.metadata_id then metadata_id own.now.reg else said.now.metadata) }
 {
@@ -22,7 +22,7 @@ fn metadata_by(own: &Own, given: Given, said: &Announced) -> Option<ExtId>
     }
 }
 
-/// Returns the id of `lt_donthave`: the option's, or else what the receiver's own stream says.
+/// Returns the id of `lt_donthave`: the option's, else the announced one.
 fn donthave_by(own: &Own, given: Given, said: &Announced) -> Option<ExtId>
     ensures { result ≡ (if given.donthave_id then donthave_id own.now.reg else said.now.donthave) }
 {
@@ -33,7 +33,9 @@ fn donthave_by(own: &Own, given: Given, said: &Announced) -> Option<ExtId>
     }
 }
 
-/// Returns the receiver, with what its own stream says of it in place of the defaults. What an option gives stays.
+/// Returns the receiver, with what its own stream announces.
+///
+/// That takes the place of the defaults. What an option gives stays.
 fn informed(own: &Own, given: Given, said: &Announced) -> Own
     ensures { result ≡ informed_by_rule own.now given said.now }
 {
@@ -51,10 +53,13 @@ fn informed(own: &Own, given: Given, said: &Announced) -> Own
     }
 }
 
-/// Returns the receiver, informed by its own stream, which `reader` gives.
+/// Returns the receiver with what its own stream, that of `reader`, announces.
+///
+/// What an option gives stays.
 ///
 /// # Errors
-/// Those of `read_other`.
+/// `NoHandshake` if the stream doesn't begin with a whole handshake. `Fault(Read)` if a read failed, `Fault(Memory)` when out of
+/// memory, `Fault(Turns)` after 4,294,967,296 reads.
 pub fn receiver_by<R: Source>(
     alloc: Global,
     own: &Own,

@@ -1,5 +1,4 @@
-//! A job on any devices: what it writes, what standard error gets, and the exit status. The program's `main` calls
-//! [`do_job`], and `ending` the others.
+//! A command on any source and target: what it writes, what standard error gets, and the exit status.
 ghost use Rattle.std.specs.Prelude.{◌≡◌, ◌≢◌, ◌≤◌, ◌+◌, ◌^◌, Some};
 ghost use Rattle.bt_io.specs.Seen.{devices, WriteFailed};
 ghost use Rattle.bt_text.specs.Lines.{verdict_line as verdict_words, refused_line as refused_words};
@@ -15,7 +14,7 @@ use bt_text::lines::{fault_line, refused_line, verdict_line};
 use bt_wire::Own;
 use std::alloc::Global;
 
-/// How a job ended.
+/// How a command ended.
 #[derive(Clone, Copy, PartialEq, Eq, Debug)]
 pub enum JobEnd {
     /// The end of `show`, `check` or `unpack`.
@@ -24,9 +23,9 @@ pub enum JobEnd {
     Script(Result<PackEnd, ToolFault>),
 }
 
-/// Does a job for the receiver `own`.
+/// Runs a command for the receiver `own`.
 ///
-/// It reads `reader`, and writes the job's output on `writer`.
+/// It reads `reader`, and writes the command's output on `writer`.
 pub fn do_job<R: Source, W: Target>(
     alloc: Global,
     job: Job,
@@ -50,7 +49,7 @@ pub fn do_job<R: Source, W: Target>(
     }
 }
 
-/// Writes a text on standard error, as far as that takes it.
+/// Writes a text on standard error, as far as it takes it.
 pub fn say<E: Target>(text: &[u8], errors: &mut E)
     ensures { IsSaid text.now (E.seen errors.old) (E.seen errors.new) }
 {
@@ -69,7 +68,9 @@ fn say_verdict<E: Target>(ended: Ended, errors: &mut E)
     say(&line[place..], errors);
 }
 
-/// Writes on standard error which line of a script is refused, and why.
+/// Prints on standard error which line of a script is refused, and why.
+///
+/// `number` is counted from 1.
 pub fn say_refused<E: Target>(number: u64, reason: ScriptReason, errors: &mut E)
     ensures { IsSaid (refused_words number reason) (E.seen errors.old) (E.seen errors.new) }
 {
@@ -78,7 +79,7 @@ pub fn say_refused<E: Target>(number: u64, reason: ScriptReason, errors: &mut E)
     say(&line[place..], errors);
 }
 
-/// Writes on standard error what a job's end has to say there.
+/// Prints on standard error what a command's end asks for.
 pub(crate) fn report<E: Target>(job: Job, end: JobEnd, errors: &mut E)
     ensures { IsSaid (complaint job end) (E.seen errors.old) (E.seen errors.new) }
 {
@@ -96,7 +97,7 @@ pub(crate) fn report<E: Target>(job: Job, end: JobEnd, errors: &mut E)
     }
 }
 
-/// Returns the exit status of a job's end.
+/// Returns the exit status for a command's end.
 pub fn exit_status(end: JobEnd) -> u8
     ensures { result ≡ exit_status_of end }
 {

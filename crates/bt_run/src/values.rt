@@ -1,4 +1,4 @@
-//! The receiver that the options describe, from their texts, and when hints are said. `bt_cli` calls it.
+//! The receiver that the texts of options describe, and when hints are printed. Finding the options isn't done here.
 ghost use Rattle.std.specs.Prelude.{◌≡◌, ◌≤◌, ℕ, List, option_map, option_and_then, IfOk, IfErr, IfSome, MatchResult, Some};
 ghost use Rattle.std.specs.Char.{is_ascii_digit};
 ghost use Rattle.std.specs.List.{list_all};
@@ -27,7 +27,7 @@ use bt_ext::{ExtId, Registered, Rules};
 use bt_wire::{Own, Reserved};
 use hex::FromHex;
 
-/// The options as they were written; `None` where one isn't given.
+/// The texts of the options; `None` if one isn't given.
 #[derive(Clone, Copy, Debug)]
 pub struct Written<'a> {
     /// `--reserved`
@@ -65,16 +65,16 @@ pub enum Setting {
     Limit,
 }
 
-/// Returns whether the text is decimal digits alone.
+/// Returns whether the text has only decimal digits.
 fn are_digits(text: &[u8]) -> bool
     ensures { result ≡ list_all is_ascii_digit text.now }
 {
     text.iter().all(|byte| byte.is_ascii_digit())
 }
 
-/// Returns the number that decimal digits write.
+/// Parses a decimal number below 2^32 without a sign.
 ///
-/// It is below 2^32 and has no sign; leading zeros are allowed.
+/// Leading zeros are allowed; `None` for any other text.
 #[tactic(auto, using(crate::proofs::Numbers::parsed_number, crate::proofs::Numbers::other_text))]
 pub fn number(text: &str) -> Option<u32>
     ensures { result ≡ number_of text.now }
@@ -85,7 +85,9 @@ pub fn number(text: &str) -> Option<u32>
     text.parse::<u32>().ok()
 }
 
-/// Returns the number that [`number`] reads, if it is from `low` to `high`.
+/// Parses a decimal number from `low` to `high`, without a sign.
+///
+/// Leading zeros are allowed; `None` for any other text.
 pub fn number_within(text: &str, low: u32, high: u32) -> Option<u32>
     ensures { result ≡ number_in low high text.now }
 {
@@ -181,7 +183,9 @@ fn read_limit(text: Option<&str>) -> Option<u32>
     }
 }
 
-/// Returns when a hint is said, by the text of `--hints`; `None` if that is no value of it.
+/// Returns when a hint is printed, by the text of `--hints`.
+///
+/// `None` if that is no value of it.
 pub fn read_hints(text: Option<&str>) -> Option<Hints>
     ensures { result ≡ hints_in (option_map (λ s. s.now) text.entry) }
 {
@@ -194,7 +198,7 @@ pub fn read_hints(text: Option<&str>) -> Option<Hints>
     }
 }
 
-/// Returns the receiver that the options of a job describe.
+/// Returns the receiver that the options of a command describe.
 ///
 /// # Errors
 /// The first option, in the order of `Setting`, whose text is no value of it.

@@ -1,4 +1,4 @@
-//! Facts about numbers and lengths that the types of values hold: for the contracts of a run alone.
+//! Facts about numbers and lengths that the types of values imply, for contracts of a run.
 ghost use Rattle.std.specs.Prelude.{◌≡◌, ◌<◌, ◌^◌, None, length, IfSome};
 ghost use Rattle.bt_ext.specs.Ids.{metadata_id, donthave_id};
 ghost use Rattle.bt_wire.specs.Messages.{IsInRange, AreInRange, IsIdInRange, fields_of, id_of};
@@ -48,7 +48,7 @@ fn has_numbers(message: &Message)
     }
 }
 
-/// The id and the numbers of a message are those of its fields.
+/// Does nothing: states that a message's id and numbers are in their ranges.
 pub fn is_written(message: &Message)
     ensures { IsInRange bare message.now }
 {
@@ -98,7 +98,7 @@ fn has_donthave_byte(registered: &Registered)
     }
 }
 
-/// An end that is made of a config is a new one.
+/// Does nothing: states that an end that is made of a config is a new one.
 pub fn is_new(config: &Config)
     ensures { config_error config.now ≡ None → IsNew (end_for config.now) }
 {

@@ -1,7 +1,6 @@
-//! A session of two peers: two ends linked to each other, run by a list of steps.
+//! A session of two peers: two ends linked to each other in memory, run by a list of steps.
 //!
-//! [`run_link`] runs two ends against each other, over bytes. The parts of a session stand in `bt_metadata`, `bt_end` and
-//! `bt_link`, and are passed on; `bt_link` has the laws of two ends too.
+//! [`run_link`] runs them. The ends, the steps and the theorems about links are in crates below.
 #![tactic(auto)]
 
 mod facts;

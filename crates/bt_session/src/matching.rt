@@ -40,7 +40,10 @@ fn are_apart(left: &Own, right: &Own) -> bool
         || differ(left.pieces, right.pieces)
 }
 
-/// Whether two configs don't match.
+/// Returns whether two configs don't match.
+///
+/// They match if their limits, rules and info hashes are the same, the piece counts are the same if both are known, and the
+/// metadata to serve has the info hash as its SHA-1.
 pub fn is_mismatch(left: &Config, right: &Config) -> bool
     ensures same { result ≡ false → DoMatch left.now right.now }
     ensures other { result ≡ true → DoMatch left.now right.now → ⊥ }

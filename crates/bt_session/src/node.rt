@@ -1,4 +1,4 @@
-//! An end of a link, with the bytes on their way to it and the items that it sent: each step of a run calls one of its methods.
+//! An end of a link, with the bytes on their way to it and the items that it sent.
 ghost use Rattle.std.specs.Prelude.{◌≡◌, ◌-◌, ◌^◌, ◌<◌, ◌≤◌, ◌++◌, ◌∷◌, [], length, drop, min, IfOk};
 ghost use Rattle.bt_wire.specs.declared.item.Item.TheVariants as items;
 ghost use Rattle.bt_end.specs.Ends.{renewed};
@@ -16,7 +16,7 @@ use std::mem;
 #[derive(Drop)]
 pub struct Node {
     pub end: End,
-    /// The delivered bytes that its feed hasn't taken.
+    /// The delivered bytes that the end hasn't taken.
     pub untaken: Outbox,
     /// What it sent on this connection.
     pub sent: Vec<Item>,
@@ -32,7 +32,9 @@ fn rest(bytes: &[u8], n: usize) -> &[u8]
     &bytes[n..]
 }
 
-/// Adds the messages that `bytes` spell to `sent`, where `first` is the order of the first one.
+/// Appends the messages that `bytes` encode to `sent`.
+///
+/// `first` is the order before the first one.
 fn record(
     alloc: Global,
     context: &Context,
@@ -70,7 +72,7 @@ fn stopped(error: TurnError) -> Result<Outcome, Memory>
     }
 }
 
-/// What an end sends first on a connection, as a list.
+/// Makes the list of what an end sends first on a connection.
 fn opening(alloc: Global, end: &End) -> Result<Vec<Item>, Memory>
     ensures { IfOk result (λ sent. sent.items ≡ items.Handshake end.now.end.handshake ∷ []) }
 {
@@ -82,7 +84,10 @@ fn opening(alloc: Global, end: &End) -> Result<Vec<Item>, Memory>
 }
 
 impl Node {
-    /// An end at the start of a connection.
+    /// Makes an end of a link, at the start of a connection.
+    ///
+    /// # Errors
+    /// `Memory` when out of memory.
     pub fn first(alloc: Global, end: End) -> Result<Node, Memory>
         ensures { IfOk result (λ n. (n.end ≡ end) × (n.untaken.bytes ≡ []) × (n.sent.items ≡ items.Handshake end.end.handshake ∷ []) × (n.handled ≡ 0)) }
     {
@@ -126,7 +131,12 @@ impl Node {
         }
     }
 
-    /// The end handles an item, if one is there, and then its feed takes what it may.
+    /// Handles an item, if one is whole, and takes delivered bytes after it.
+    ///
+    /// A refusal by the end, and that it is busy, are outcomes.
+    ///
+    /// # Errors
+    /// `Memory` when out of memory.
     pub fn turn(&mut self, alloc: Global) -> Result<Outcome, Memory>
         ensures { IfOk result (λ o. (x : links.Node) → IsNodeOf self.old x → MayHandle x → (y : links.Node) × links.TurnGives x o y × IsNodeOf self.new (links.fed y)) }
     {
@@ -135,7 +145,12 @@ impl Node {
         Ok(outcome)
     }
 
-    /// The end says a message.
+    /// Queues a message, if the end sends it.
+    ///
+    /// That the end doesn't send it is an outcome.
+    ///
+    /// # Errors
+    /// `Memory` when out of memory.
     pub fn say(&mut self, alloc: Global, message: &Message) -> Result<Outcome, Memory>
         ensures { IfOk result (λ o. (x : links.Node) → IsNodeOf self.old x → links.MayBeRecorded x message.now → (y : links.Node) × links.SayGives x message.now o y × IsNodeOf self.new y) }
     {
@@ -155,7 +170,10 @@ impl Node {
         }
     }
 
-    /// Delivers up to `n` bytes that the other end sent, and says how many.
+    /// Delivers up to `n` bytes that the other end sent, and returns how many.
+    ///
+    /// # Errors
+    /// `Memory` when out of memory.
     pub fn deliver(&mut self, other: &mut Node, n: u64) -> Result<u64, Memory>
         ensures { IfOk result (λ k. (p : links.Pair) → IsNodeOf self.old p.own → IsNodeOf other.old p.other
             → (k ≡ min n (length p.other.half.outbox)) × IsNodeOf self.new (links.delivers p k).own × IsNodeOf other.new (links.delivers p k).other) }
@@ -168,7 +186,12 @@ impl Node {
         Ok(count as u64)
     }
 
-    /// Begins a new connection. Gives the items that were sent on the last one, and how many were handled.
+    /// Begins a new connection; returns what was sent and handled on the last one.
+    ///
+    /// That is the items that the end sent, and how many items it handled.
+    ///
+    /// # Errors
+    /// `Memory` when out of memory.
     pub fn renew(&mut self, alloc: Global) -> Result<(Vec<Item>, u64), Memory>
         ensures { IfOk result (λ r. (x : links.Node) → IsNodeOf self.old x → (r.0.items ≡ x.sent) × (r.1 ≡ length x.handled) × IsNodeOf self.new (links.first (renewed x.half.end))) }
     {

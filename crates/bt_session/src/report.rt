@@ -1,4 +1,4 @@
-//! Runs two ends against each other, over bytes, and reports their outcomes, connections and blocks.
+//! A run of two linked ends, and its report.
 ghost use Rattle.std.specs.Prelude.{◌≡◌, ◌⊎◌, ◌≤◌, ◌++◌, ◌∷◌, [], Err, None, length, map, IfOk, IfErr, OnOk};
 ghost use Rattle.std.specs.Global.{Global};
 ghost use Rattle.bt_end.specs.Configs.{IsMade, end_for, config_error};
@@ -27,10 +27,14 @@ pub const MOST_STEPS: u64 = 4_294_967_296;
 /// The greatest number of blocks of metadata, each of 16,384 bytes (BEP 9).
 const MOST_BLOCKS: u32 = 4_096;
 
-/// Why two ends aren't run against each other. The first that holds is answered, `Memory` at any point.
+/// Why two ends aren't run against each other.
+///
+/// The first that applies is returned, `Memory` at any point.
 #[derive(Clone, Copy, PartialEq, Eq, Debug, Error)]
 pub enum LinkError {
-    /// The info hashes, limits, rules or known piece counts differ, or metadata that is to be served has another SHA-1.
+    /// The configs don't match.
+    ///
+    /// The info hashes, limits, rules or known piece counts differ, or the metadata to serve has another SHA-1 than the info hash.
     #[error("the configs don't match")]
     ConfigMismatch,
     #[error("{0}")]
@@ -42,14 +46,14 @@ pub enum LinkError {
     Memory,
 }
 
-/// The report of a run; the left end first.
+/// The report of a run. The left end comes first.
 #[derive(Drop)]
 pub struct LinkReport {
-    /// One for each step.
+    /// An outcome for each step.
     pub outcomes: Vec<Outcome>,
-    /// One more than there are resets.
+    /// The connections: one more than there are resets.
     pub connections: Vec<Connection>,
-    /// The blocks that each end holds while it fetches.
+    /// The blocks of metadata that isn't complete, of each end.
     ///
     /// They come with their numbers, in rising order.
     pub blocks: [Vec<(u32, Vec<u8>)>; 2],
@@ -57,7 +61,7 @@ pub struct LinkReport {
     pub ends: [End; 2],
 }
 
-/// What is answered where no end is made, for this cause.
+/// Returns the error of a run for that of an end that can't be made.
 fn start_error(error: EndError) -> LinkError
     ensures { (c : Config Global) → IsMade c (Err error) → IsUnstarted c result }
 {
@@ -67,12 +71,12 @@ fn start_error(error: EndError) -> LinkError
     }
 }
 
-/// What a run gives beside the link that it leaves.
+/// What a run returns beside the link that it leaves.
 #[derive(Drop)]
 struct Done {
     /// One for each step.
     outcomes: Vec<Outcome>,
-    /// The blocks that each end holds.
+    /// The blocks that have come to each end.
     blocks: [Vec<(u32, Vec<u8>)>; 2],
 }
 
@@ -106,7 +110,7 @@ fn start_both(alloc: Global, left: Config, right: Config) -> Result<Link, LinkEr
     })
 }
 
-/// Adds a copy of the block of this number, where an end holds it.
+/// Appends a copy of the block of this number, if it has come to the end.
 fn copy_block(
     alloc: Global,
     end: &End,
@@ -122,7 +126,7 @@ fn copy_block(
     Ok(())
 }
 
-/// Copies of the blocks that an end holds, with their numbers, in rising order.
+/// Copies the blocks that have come to an end, with their numbers, in order.
 fn copy_blocks(alloc: Global, end: &End) -> Result<Vec<(u32, Vec<u8>)>, AllocError>
     ensures { IfOk result (λ blocks. map block_of blocks.items ≡ held_blocks end.now.end.part) }
 {
@@ -133,7 +137,7 @@ fn copy_blocks(alloc: Global, end: &End) -> Result<Vec<(u32, Vec<u8>)>, AllocErr
     Ok(blocks)
 }
 
-/// Copies of the blocks that both ends of a link hold.
+/// Copies the blocks that have come to both ends of a link.
 fn copy_both(alloc: Global, link: &Link) -> Result<[Vec<(u32, Vec<u8>)>; 2], AllocError>
     ensures { IfOk result (λ blocks. map blocks_of blocks ≡ held_blocks link.now.left.end.end.part ∷ held_blocks link.now.right.end.end.part ∷ []) }
 {
@@ -156,7 +160,7 @@ fn close(alloc: Global, link: &mut Link) -> Result<(), AllocError>
     keep(&mut link.past, last)
 }
 
-/// Does the steps, closes the link, and copies the blocks that both ends hold.
+/// Does the steps, closes the link, and copies the blocks that have come.
 fn finish(alloc: Global, link: &mut Link, steps: &[Step]) -> Result<Done, LinkError>
     ensures few { OnOk result (length steps.now ≤ most_steps) }
     ensures done { IfOk result (λ r. ClosedBy steps.now link.old r.outcomes.items r.blocks link.new) }
@@ -194,7 +198,12 @@ fn report(link: Link, done: Done) -> LinkReport
     }
 }
 
-/// Runs two ends against each other, over bytes, step by step.
+/// Runs two ends against each other, step by step.
+///
+/// # Errors
+/// The first that applies. `ConfigMismatch` if the info hashes, limits, rules or known piece counts differ, or metadata to serve
+/// has another SHA-1 than the info hash. `End` if an end can't be made. `TooManySteps` if there are more than 4,294,967,296
+/// steps. `Memory` when out of memory, at any point.
 pub fn run_link(
     alloc: Global,
     left: Config,

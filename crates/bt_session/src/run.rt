@@ -1,4 +1,4 @@
-//! The link of two ends as a run changes it, step by step.
+//! The link of two ends as a run changes it, step by step. Its report is made elsewhere.
 ghost use Rattle.std.specs.Prelude.{◌≡◌, ◌≤◌, ◌++◌, ◌∷◌, [], length, IfOk, OnOk};
 ghost use Rattle.bt_link.specs.declared.link.Step.TheVariants as steps;
 ghost use Rattle.bt_link.specs.ByteLinks as links;
@@ -12,7 +12,7 @@ use bt_link::{Outcome, Side, Step};
 use bt_wire::{Item, Message};
 use std::alloc::{AllocError, Global};
 
-/// What went over a connection; the left end first.
+/// What went over a connection. The left end comes first.
 #[derive(Debug, Drop)]
 pub struct Connection {
     /// What each end sent.
@@ -21,7 +21,7 @@ pub struct Connection {
     pub handled: [u64; 2],
 }
 
-/// Two ends, and the connections before the present one.
+/// Two ends, and the connections before the current one.
 #[derive(Drop)]
 pub struct Link {
     pub left: Node,
@@ -29,7 +29,10 @@ pub struct Link {
     pub past: Vec<Connection>,
 }
 
-/// Adds a connection after the others.
+/// Appends a connection to the others.
+///
+/// # Errors
+/// `AllocError` when out of memory.
 pub fn keep(past: &mut Vec<Connection>, connection: Connection) -> Result<(), AllocError>
     ensures { OnOk result (past.new.items ≡ past.old.items ++ connection ∷ []) }
 {
@@ -83,7 +86,10 @@ impl Link {
         }
     }
 
-    /// Does a step.
+    /// Does a step, and returns its outcome.
+    ///
+    /// # Errors
+    /// `Memory` when out of memory.
     pub fn step(&mut self, alloc: Global, step: &Step) -> Result<Outcome, Memory>
         ensures written { IsWritten step.now }
         ensures done { IfOk result (λ o. (l : links.Link) → IsLinkOf self.old l → EachMayHandle l → (k : links.Link) × links.IsStep l step.now o k × IsLinkOf self.new k) }
@@ -97,7 +103,10 @@ impl Link {
     }
 }
 
-/// Does the steps.
+/// Does the steps, and returns their outcomes.
+///
+/// # Errors
+/// `AllocError` when out of memory.
 pub fn run(alloc: Global, link: &mut Link, steps: &[Step]) -> Result<Vec<Outcome>, AllocError>
     requires { length steps.now ≤ most_steps }
     ensures { IfOk result (λ outcomes. DoneBy steps.now link.old outcomes.items link.new) }

@@ -1,13 +1,13 @@
-//! The text of a stream: the lines of `show`, and the scripts that `unpack` writes and `pack` reads.
+//! The text of a stream: the lines of `show`, and the scripts that `unpack` writes and `pack` parses.
 //!
 //! - [`lines`]: the line of a message, of a handshake, of a verdict, of a refused line and of a fault.
-//! - [`putting`]: words, numbers and offsets put into a text that has room for them.
-//! - [`script`]: the line of an item with all of its bytes, written and read.
+//! - [`putting`]: words, numbers and offsets written into a buffer that has room for them.
+//! - [`script`]: the line of an item with all of its bytes, encoded and parsed.
 //! - [`ended`]: how a command ends.
 //! - [`shown`]: items of one's own as text, and the names of ids.
 //! - [`splitting`]: the lines of a text.
 //!
-//! The commands of `bt_jobs` and the command line of `bt_cli` stand on it.
+//! JSON isn't here, nor is reading or writing of files.
 #![tactic(auto)]
 
 pub mod ended;

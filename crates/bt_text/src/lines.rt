@@ -1,7 +1,7 @@
-//! The lines of `show`, and those of standard error. The commands and the command line call it.
+//! The lines of `show`, and those that commands write on standard error.
 //!
-//! A message's line is put right into a text. Other lines of a varying length are written into an array, from its end to its
-//! start; the call returns where the line starts.
+//! A message's line is written directly into a text. Other lines of variable length are written into an array, from its end to
+//! its start; the call returns the offset at which the line starts.
 ghost use Rattle.std.specs.Prelude.{◌≡◌, ◌≤◌, ◌+◌, ◌*◌, ℕ, List, ◌++◌, length, take, drop, codes, decimal};
 ghost use Rattle.hex.specs.Hex.{encode_lower};
 ghost use Rattle.bt_bencode.specs.Bencoding.{ben};
@@ -23,7 +23,7 @@ use bt_ext::{ExtView, Kind, kind_ref};
 use bt_wire::{Handshake, MessageView};
 use itoa::write_digits;
 
-/// Room for a line.
+/// An array with room for a line.
 pub type Line = [u8; 160];
 
 /// Puts a number before the place.
@@ -93,7 +93,7 @@ fn announced(dict: &DictRef) -> (Option<u64>, Option<u64>)
     (byte_in(id), natural_in(size))
 }
 
-/// Returns the length of the dictionary's spelling.
+/// Returns the length of the dictionary's encoding.
 fn dict_length(dict: &DictRef) -> u64
     ensures { result ≡ length (ben (dictionary dict.now.tree.0)) }
 {
@@ -275,7 +275,9 @@ fn put_words(view: &MessageView, text: &mut [u8], at: usize) -> usize
     }
 }
 
-/// Puts a message's line at the place; returns the place after it.
+/// Writes a message's line at the offset `place` of the text; returns its end.
+///
+/// `at` is the message's offset in its stream. There is room for 160 bytes.
 #[inline(always)]
 pub fn put_message(
     offset: &mut Offset,
@@ -294,6 +296,8 @@ pub fn put_message(
 }
 
 /// Writes a handshake's line at the end of the array; returns where it starts.
+///
+/// `at` is the handshake's offset in its stream.
 pub fn handshake_line(at: u64, handshake: &Handshake, line: &mut Line) -> usize
     ensures room { result ≤ 160 }
     ensures text { (own : Own) → drop result line.new ≡ line_of own (at, items.Handshake handshake.now) }
@@ -308,7 +312,7 @@ pub fn handshake_line(at: u64, handshake: &Handshake, line: &mut Line) -> usize
     number(at, line, place)
 }
 
-/// Writes the verdict's line at the end of the array, and returns where it starts.
+/// Writes the verdict's line at the end of the array; returns where it starts.
 pub fn verdict_line(ended: Ended, line: &mut Line) -> usize
     ensures room { result ≤ 160 }
     ensures text { drop result line.new ≡ verdict_words ended }
@@ -343,9 +347,9 @@ fn script_name_of(reason: ScriptReason) -> &'static [u8]
     }
 }
 
-/// Writes the line of a refused line of a script; returns where it starts.
+/// Writes why a line of a script is refused; returns where the text starts.
 ///
-/// It stands at the end of the array.
+/// It is at the end of the array. `number_of_line` is counted from 1.
 pub fn refused_line(number_of_line: u64, reason: ScriptReason, line: &mut Line) -> usize
     ensures room { result ≤ 160 }
     ensures text { drop result line.new ≡ refused_words number_of_line reason }
@@ -357,7 +361,7 @@ pub fn refused_line(number_of_line: u64, reason: ScriptReason, line: &mut Line) 
     word(b"refused line=", line, place)
 }
 
-/// Returns the line that a fault gets on standard error.
+/// Returns the line for a fault, which goes to standard error.
 pub fn fault_line(fault: ToolFault) -> &'static [u8]
     ensures { result.now ≡ fault_words fault }
 {

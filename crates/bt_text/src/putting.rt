@@ -1,7 +1,6 @@
-//! Words and numbers put into a text that has room for them, from a place on. The lines of `show` and of `unpack` are written by
-//! these.
+//! Words and numbers written into a buffer that has room for them, from an offset on.
 //!
-//! A call returns the place after what it put.
+//! A call returns the offset after what it wrote.
 ghost use Rattle.std.specs.Prelude.{◌≡◌, ◌+◌, ◌-◌, ◌*◌, ◌/◌, ◌%◌, ◌^◌, ◌<◌, ◌≤◌, [], ◌∷◌, ◌++◌, length, take, codes, decimal};
 ghost use Rattle.bt_text.specs.Lines.{spaced};
 
@@ -12,7 +11,7 @@ static PAIRS: [u8; 200] =
     *b"0001020304050607080910111213141516171819202122232425262728293031323334353637383940414243444546474849\
 5051525354555657585960616263646566676869707172737475767778798081828384858687888990919293949596979899";
 
-/// Puts a word.
+/// Writes a word at the offset `at`; returns the offset after it.
 #[inline(always)]
 pub fn put(word: &[u8], text: &mut [u8], at: usize) -> usize
     requires { at + length word.now ≤ length text.old }
@@ -25,9 +24,10 @@ pub fn put(word: &[u8], text: &mut [u8], at: usize) -> usize
     end
 }
 
-/// Puts a word of a known length.
+/// Writes a word of known length at the offset `at`; returns the offset after it.
 ///
-/// It is copied from a place of its own, which the compiler sees to be apart from the text. So it doesn't test that before it copies.
+/// It is copied from a place of its own, which the compiler sees to be apart from the text. So it doesn't test that before it
+/// copies.
 #[inline(always)]
 pub fn put_word<const N: usize>(word: &[u8; N], text: &mut [u8], at: usize) -> usize
     requires { at + length word.now ≤ length text.old }
@@ -110,7 +110,9 @@ fn put_long(n: u64, text: &mut [u8], at: usize) -> usize
     put(&digits[from..], text, at)
 }
 
-/// Puts a number.
+/// Writes a number at the offset `at`; returns the offset after it.
+///
+/// There is room for 20 bytes.
 #[inline(never)]
 pub fn put_number(n: u64, text: &mut [u8], at: usize) -> usize
     requires { at + 20 ≤ length text.old }
@@ -128,7 +130,7 @@ pub fn put_number(n: u64, text: &mut [u8], at: usize) -> usize
     put_four(n % 10_000, text, at)
 }
 
-/// Puts a name, a number and the line's end.
+/// Writes a name, a number and a line feed; returns the offset after them.
 #[inline(always)]
 pub fn put_one<const N: usize>(name: &[u8; N], n: u64, text: &mut [u8], at: usize) -> usize
     requires { at + (21 + length name.now) ≤ length text.old }
@@ -153,7 +155,7 @@ fn end_two(n: u64, m: u64, text: &mut [u8], at: usize) -> usize
     put_one(b" ", m, text, place)
 }
 
-/// Puts a name, two numbers and the line's end.
+/// Writes a name, two numbers and a line feed; returns the offset after them.
 #[inline(always)]
 pub fn put_two<const N: usize>(name: &[u8; N], n: u64, m: u64, text: &mut [u8], at: usize) -> usize
     requires { at + (42 + length name.now) ≤ length text.old }
@@ -177,7 +179,7 @@ fn end_three(n: u64, m: u64, k: u64, text: &mut [u8], at: usize) -> usize
     put_two(b" ", m, k, text, place)
 }
 
-/// Puts a name, three numbers and the line's end.
+/// Writes a name, three numbers and a line feed; returns the offset after them.
 #[inline(always)]
 pub fn put_three<const N: usize>(
     name: &[u8; N],
@@ -196,7 +198,7 @@ pub fn put_three<const N: usize>(
     end_three(n, m, k, text, place)
 }
 
-/// The digits of offsets but for their last four, which offsets that follow each other mostly share.
+/// The digits of an offset without the last four: nearby offsets share them.
 #[derive(Drop)]
 pub struct Offset {
     /// The least offset that has these digits.
@@ -210,7 +212,7 @@ pub struct Offset {
 }
 
 impl Offset {
-    /// The digits of 10,000.
+    /// Makes the digits of 10,000.
     pub fn new() -> Offset {
         let mut digits = [0; 20];
         digits[0] = b'1';
@@ -263,7 +265,9 @@ impl Offset {
         put_long(at, text, place)
     }
 
-    /// Puts an offset.
+    /// Writes the offset `at` at the offset `place` of the text; returns the end.
+    ///
+    /// There is room for 24 bytes.
     #[inline(never)]
     pub fn put(&mut self, at: u64, text: &mut [u8], place: usize) -> usize
         requires { place + 24 ≤ length text.old }

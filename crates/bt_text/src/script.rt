@@ -1,4 +1,4 @@
-//! Scripts: a line of text for each item of a stream, with all of its bytes. `unpack` writes them and `pack` reads them.
+//! Scripts: a line of text for each item of a stream, with all of its bytes.
 pub mod laws;
 pub mod misfit;
 pub mod reading;

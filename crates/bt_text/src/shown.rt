@@ -1,4 +1,4 @@
-//! Items as text, in the words of `show`, and the names of ids. Embeddings print them.
+//! Items as text, in the words of `show`, and the names of ids.
 ghost use Rattle.std.specs.Prelude.{◌≡◌, option_map};
 ghost use Rattle.bt_wire.specs.Ids.{ids, row_in};
 ghost use Rattle.bt_text.specs.Shown.{item_in};
@@ -8,7 +8,7 @@ use bt_ext::{Ext, Kind, kind, metadata_size};
 use bt_wire::{Fields, Handshake, Item, Message};
 use std::fmt;
 
-/// Returns the name of a message's id, and `None` for an id without a meaning.
+/// Returns the name of a message's id; `None` for an id without a meaning.
 pub fn id_name(id: u8) -> Option<&'static str>
     ensures { option_map (λ name. name.now) result ≡ option_map (λ row. row.name) (row_in id ids) }
 {
@@ -33,16 +33,20 @@ pub fn id_name(id: u8) -> Option<&'static str>
     }
 }
 
-/// What is shown of an item.
+/// What is printed of an item.
 ///
-/// [`shown`] and [`shown_message`] make it, and `{}` writes it.
+/// [`shown`] and [`shown_message`] make it, and `{}` prints it.
 #[derive(Clone, Copy)]
 pub enum ItemText<'a> {
     Handshake(&'a Handshake),
     Message(&'a Message),
 }
 
-/// Shows an item in the words of `show`, without its offset.
+/// Makes an item printable as `show` prints it, without its offset.
+///
+/// ```rust
+/// let _ = println!(rt; "< {at} {}", shown(item));
+/// ```
 pub fn shown(item: &Item) -> ItemText<'_>
     ensures { item_in result ≡ item.now }
 {
@@ -52,7 +56,7 @@ pub fn shown(item: &Item) -> ItemText<'_>
     }
 }
 
-/// Shows a message in the words of `show`, without its offset.
+/// Makes a message printable as `show` prints it, without its offset.
 pub fn shown_message(message: &Message) -> ItemText<'_>
     ensures { item_in result ≡ Item.Message message.now }
 {

@@ -1,10 +1,10 @@
-//! The lines of a text. `pack` (`bt_jobs`) and the scripts of `link` (`bt_rig`) are split by it.
+//! The lines of a text, which line feeds end.
 ghost use Rattle.std.specs.Prelude.{◌≡◌, ◌==◌, ◌<◌, ◌≤◌, position, length, option_map, IfSome};
 ghost use Rattle.bt_text.specs.Splitting.{IsCut};
 
 use memchr::memchr;
 
-/// Returns the place of the first line feed.
+/// Returns the offset of the first line feed.
 fn first_feed(text: &[u8]) -> Option<usize>
     ensures { result ≡ position (λ c. c == 10) text.now }
 {
@@ -13,7 +13,7 @@ fn first_feed(text: &[u8]) -> Option<usize>
 
 /// Returns the text's first line, and what follows its line feed.
 ///
-/// `None`: the text has no line feed.
+/// `None` if the text has no line feed.
 pub fn split_line(text: &[u8]) -> Option<(&[u8], &[u8])>
     ensures cut { IsCut text.now (option_map (λ p. (p.0.now, p.1.now)) result) }
     ensures shorter { IfSome result (λ p. length p.1.now < length text.now) }

@@ -1,4 +1,4 @@
-//! One message read from its bytes. A feed reads its items by it.
+//! Parsing of one message, once its header is checked.
 ghost use Rattle.std.specs.Prelude.{◌≡◌, ◌≢◌, ◌<◌, ◌^◌, ◌+◌, ◌∷◌, ◌≤◌, ◌-◌, length, drop, IfOk, IfErr, true, Some};
 ghost use Rattle.bt_wire.specs.Faults.{IsFault, said_id, allows, size_of, placed_by, index_fault};
 ghost use Rattle.bt_ext.specs.Payloads.{seen};
@@ -21,12 +21,12 @@ use bt_bencode::ByteString;
 use bt_ext::{ExtView, ViewError, copy_ext, view_ext};
 use std::alloc::{AllocError, Global};
 
-/// Reads the bytes of one message as parts of them.
+/// Parses the bytes of one message as parts of them.
 ///
-/// `judge_header` has let the bytes be a window. The call takes no memory.
+/// See BEP 3, "peer messages". `judge_header` returned `Window` for these bytes, with their length. It doesn't allocate.
 ///
 /// # Errors
-/// The first fault of the fields, and its place in the message: `BadIndex` or `SpareBits`, and of an extended message
+/// The first fault of the fields, and its offset in the message: `BadIndex` or `SpareBits`, and of an extended message
 /// `BadIndex`, `BadExtLength`, `BadBencode`, `Unsorted`, `BadField` or `BadBlock`, in this order.
 #[inline(always)]
 pub fn view_window<'a>(
@@ -47,7 +47,7 @@ pub fn view_window<'a>(
         return view_extended(context, order, window);
     }
     let view = read_fields(window);
-    // Judged by the bytes, so that a view that nobody reads needn't be made.
+    // Checked on the bytes, so that a view that nobody reads needn't be made.
     match judge_bytes(context, id, length, suffix(window, 5)) {
         Some(refused) => Err(refused),
         None => Ok(view),
@@ -85,7 +85,7 @@ fn view_extended<'a>(
     }
 }
 
-/// The fault of an extended value whose piece index isn't below the known piece count.
+/// Returns the fault of an extended value: its piece index isn't below the count.
 fn judge_view(pieces: Option<u32>, view: &ExtView) -> Option<Refused>
     ensures { result ≡ index_fault pieces (seen view.now) }
 {
@@ -127,7 +127,7 @@ fn placed(fault: ViewError, _length: usize) -> Refused
     }
 }
 
-/// The message of a window, by its id, but for an extended one.
+/// The message of a window, by its id, except an extended one.
 #[tactic(auto, unfolding(crate::specs::Parts::made))]
 #[inline(always)]
 fn read_fields<'a>(window: &'a [u8]) -> MessageView<'a>
@@ -241,7 +241,10 @@ fn copy_unknown(alloc: Global, id: u8, payload: &[u8]) -> Result<Message, AllocE
     Ok(Message::Unknown { id, payload })
 }
 
-/// The message that a view is, with memory of its own.
+/// Copies a view into a message. It allocates only for bytes of variable length.
+///
+/// # Errors
+/// `AllocError` when out of memory; it comes only for a message that keeps bytes, as a bitfield or a block.
 pub fn copy_message(alloc: Global, view: &MessageView) -> Result<Message, AllocError>
     ensures ok { IfOk result (λ m. m ≡ message_of view.now) }
     ensures err { IfErr result (λ _. (c : Context) → keeps_bytes (fields_of c (message_of view.now)) ≡ true) }
@@ -296,10 +299,13 @@ pub fn copy_message(alloc: Global, view: &MessageView) -> Result<Message, AllocE
     }
 }
 
-/// Reads the bytes of one message, where `judge_header` lets them be a window.
+/// Parses the bytes of one message.
+///
+/// See BEP 3, "peer messages". `judge_header` returned `Window` for these bytes, with their length.
 ///
 /// # Errors
-/// As `view_window`, and `Memory` where there is no fault and memory was refused.
+/// `Refused` with the first fault of the fields and its offset in the message, as [`view_window`] returns it. `Memory` if
+/// there is no fault and memory runs out.
 pub fn decode_window(
     alloc: Global,
     context: &Context,

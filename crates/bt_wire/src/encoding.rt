@@ -1,4 +1,4 @@
-//! What is legal, and the bytes of a legal message. Ends and callers that write messages call it.
+//! Which messages are legal for a receiver, and their encoding.
 ghost use Rattle.std.specs.Prelude.{◌≡◌, ◌↔◌, ◌+◌, ◌-◌, ◌<◌, ◌≤◌, ◌^◌, ◌∷◌, ◌++◌, min, unwrap_or, option_map, IsTrue, IsOk, IfErr, IfOk, OnOk, MatchOption, length as list_length};
 ghost use Rattle.bt_wire.specs.Numbers.{be32};
 ghost use Rattle.bt_wire.specs.Legal.{IsLegal, IsRefusedFor, Refuses, IsEncoded};
@@ -32,7 +32,9 @@ fn fields_length(fields: &Fields) -> usize
     }
 }
 
-/// How many bytes follow the length, at most 2^64 - 1; `None` where the value has no spelling of its own.
+/// Returns how many bytes follow the length prefix, at most 2^64 - 1.
+///
+/// `None` if the message can't be encoded.
 fn shaped_length(context: &Context, message: &Message) -> Option<u64>
     ensures { MatchOption result (¬ IsShaped context.now message.now)
         (λ length. IsShaped context.now message.now × (length ≡ min (list_length (body context.now message.now)) (2 ^ 64 - 1))) }
@@ -51,12 +53,13 @@ fn shaped_length(context: &Context, message: &Message) -> Option<u64>
     }
 }
 
-/// Whether the message may be sent, or why not.
+/// Checks whether a message is legal for the receiver.
 ///
 /// # Errors
-/// `Shape` where the value has no spelling of its own, and else the reason for which its spelling is refused: the first
-/// of `TooLong`, `UnknownId`, `NotNegotiated`, `WrongLength`, `Late`, `Missing`, `BadIndex`, `SpareBits`, and of an extended
-/// message `Unsorted`, `BadField`, `BadBlock` and `BadIndex`.
+/// `Shape` if the message can't be encoded: its extended value has no id or no dictionary within the limits, or an id with a
+/// meaning is given as unknown. Else the reason for which the receiver refuses its encoding: the first of `TooLong`,
+/// `UnknownId`, `NotNegotiated`, `WrongLength`, `Late`, `Missing`, `BadIndex`, `SpareBits`, and of an extended message
+/// `Unsorted`, `BadField`, `BadBlock` and `BadIndex`.
 pub fn legal(context: &Context, order: Order, message: &Message) -> Result<(), Fault>
     ensures exactly { IsOk result ↔ IsLegal context.now order message.now }
     ensures fault { IfErr result (Refuses context.now order message.now) }
@@ -65,10 +68,12 @@ pub fn legal(context: &Context, order: Order, message: &Message) -> Result<(), F
     Ok(())
 }
 
-/// How many bytes follow the length of a message that may be sent. It takes no memory.
+/// Returns how many bytes follow the length prefix of a legal message.
+///
+/// It doesn't allocate.
 ///
 /// # Errors
-/// As [`legal`].
+/// `Shape` if the message can't be encoded, else the reason for which the receiver refuses it, as [`legal`] returns them.
 pub fn legal_length(context: &Context, order: Order, message: &Message) -> Result<u32, Fault>
     ensures legal { IfOk result (λ _. IsLegal context.now order message.now) }
     ensures length { IfOk result (λ length. length ≡ list_length (body context.now message.now)) }
@@ -136,7 +141,7 @@ fn reason_from(reason: ExtReason) -> Reason
     }
 }
 
-/// Why a piece index isn't below the known piece count, if the value is one.
+/// Returns why a piece index isn't legal, if the value is one.
 fn judge_index(pieces: Option<u32>, value: &Ext) -> Option<Reason>
     ensures { result ≡ option_map (λ f. f.reason) (index_fault pieces value.now) }
 {
@@ -146,10 +151,20 @@ fn judge_index(pieces: Option<u32>, value: &Ext) -> Option<Reason>
     }
 }
 
-/// The bytes of a message that may be sent.
+/// Encodes a message if it is legal for the receiver.
+///
+/// See BEP 3, "peer messages". `context` is the receiver's: to send to a peer, that of `bt_feed::peer_context`. `order` is
+/// the order of what was sent before. With an `Outbox`, in a struct that sends:
+///
+/// ```rust
+/// let context = peer_context(&self.own, self.theirs, &self.table);
+/// let bytes = encode(alloc, &context, self.order, message)?;
+/// self.out.queue(bytes.as_slice())?;
+/// self.order = next(self.order, message);
+/// ```
 ///
 /// # Errors
-/// `Illegal` as `legal`, and `Memory` where the message may be sent and memory was refused.
+/// `Illegal` if the message isn't legal, with the fault that [`legal`] returns. `Memory` if it is legal and memory runs out.
 pub fn encode(
     alloc: Global,
     context: &Context,

@@ -1,4 +1,4 @@
-//! Why bytes or a message are refused. Each call that refuses answers with these.
+//! Why bytes or a message are refused: reasons, faults and their offsets.
 ghost use Rattle.std.specs.Prelude.{◌≡◌, ◌≤◌, length};
 ghost use Rattle.bt_wire.specs.Reasons.{reason_name};
 ghost use Rattle.bt_wire.specs.declared.fault.DecodeError.TheVariants as decode;
@@ -8,47 +8,51 @@ use std::alloc::AllocError;
 use std::fmt::{self, Display};
 use thiserror::Error;
 
-/// Why a stream is refused. Strict rules are `Rules::Bep`.
+/// Why a stream is refused. `Rules::Bep` are the strict rules.
 #[derive(Clone, Copy, PartialEq, Eq, Debug)]
 pub enum Reason {
     /// The stream doesn't begin with the protocol's length and name (BEP 3).
     BadProtocol,
-    /// The handshake names another torrent.
+    /// The handshake has another info hash than the receiver's (BEP 3).
     WrongInfoHash,
-    /// The length is above the receiver's limit.
+    /// The length prefix is above the receiver's limit.
     TooLong,
-    /// Strict rules alone: an id without a meaning.
+    /// Only with strict rules: an id without a meaning.
     UnknownId,
-    /// The id belongs to an extension that not both ends have.
+    /// The id belongs to an extension that not both peers support (BEP 6, BEP 10).
     NotNegotiated,
-    /// The length isn't one that the id has.
+    /// The message's length isn't one that its id allows.
     WrongLength,
     /// The piece index isn't below the known piece count.
     BadIndex,
-    /// A bit of the bitfield past the last piece is 1 (BEP 3).
+    /// A bit of the bitfield after the last piece is 1 (BEP 3).
     SpareBits,
-    /// Strict rules alone: a bitfield, have all or have none that isn't the first message that counts (BEP 3, BEP 6).
+    /// Only with strict rules: a bitfield, have all or have none comes too late.
+    ///
+    /// It has to be the first message, except keep-alive, port, extended and unknown messages (BEP 3, BEP 6).
     Late,
-    /// Strict rules alone: another message stands where the Fast Extension asks for one of them (BEP 6).
+    /// Only with strict rules: another message comes before one of these three.
+    ///
+    /// With the Fast Extension one of them has to come first (BEP 6).
     Missing,
-    /// The extended payload begins with no dictionary (BEP 10).
+    /// The extended payload doesn't begin with a dictionary (BEP 10).
     BadBencode,
-    /// Strict rules alone: a key of the dictionary isn't above the one before it (BEP 3).
+    /// Only with strict rules: a key isn't above the one before it (BEP 3).
     Unsorted,
-    /// Strict rules alone: a field of the dictionary has the wrong kind (BEP 9, BEP 10).
+    /// Only with strict rules: a field has the wrong kind (BEP 9, BEP 10).
     BadField,
-    /// Strict rules alone: the block after the dictionary has the wrong length (BEP 9).
+    /// Only with strict rules: the block has the wrong length (BEP 9).
     BadBlock,
-    /// The message would start at 2^62 or later.
+    /// The message would start at offset 2^62 or later.
     StreamFull,
     /// The stream ends inside its handshake or a message.
     EndInside,
-    /// The extended payload has to be a piece index, and hasn't four bytes.
+    /// The extended payload has to be a piece index, and doesn't have four bytes.
     BadExtLength,
 }
 
 impl Reason {
-    /// Returns its name, as verdicts and scripts have it.
+    /// Returns the reason's name, as the commands print it. It has at most 20 bytes.
     pub fn name(self) -> &'static str
         ensures name { result.now ≡ reason_name self }
         ensures short { length result.now ≤ 20 }
@@ -88,13 +92,13 @@ impl Display for Reason {
 
 impl std::error::Error for Reason {}
 
-/// Where the id of a message stands, counted from the message's start: after the four bytes of its length.
+/// The offset of a message's id: after the four bytes of its length.
 pub(crate) const ID_AT: u64 = 4;
 
-/// Where its fields begin: after the id.
+/// The offset of a message's fields: after the id.
 pub(crate) const FIELDS_AT: u64 = 5;
 
-/// Where an extended payload begins: after the extended id.
+/// The offset of an extended payload: after the extended id.
 pub(crate) const PAYLOAD_AT: u64 = 6;
 
 /// Why bytes are refused, and where.
@@ -106,9 +110,9 @@ pub struct Refused {
     pub reason: Reason,
 }
 
-/// Why a value isn't legal.
+/// Why a message isn't legal for a receiver.
 ///
-/// It has no spelling of its own, or its spelling is refused.
+/// It can't be encoded (`Shape`), or the receiver refuses its encoding.
 #[derive(Clone, Copy, PartialEq, Eq, Debug)]
 pub enum Fault {
     Shape,
@@ -144,9 +148,9 @@ impl Display for EncodeError {
 
 impl std::error::Error for EncodeError {}
 
-/// Why a window isn't decoded.
+/// Why the bytes of a message aren't parsed.
 ///
-/// It has this fault at this place, or there is no memory.
+/// They have this fault at this offset, or memory ran out.
 #[derive(Clone, Copy, PartialEq, Eq, Debug)]
 pub enum DecodeError {
     Refused { at: u64, reason: Reason },
@@ -164,12 +168,12 @@ impl Display for DecodeError {
 
 impl std::error::Error for DecodeError {}
 
-/// What the first bytes of a message say.
+/// What the first bytes of a message say about it.
 #[derive(Clone, Copy, PartialEq, Eq)]
 pub enum Header {
-    /// This many bytes are needed, 4 or 5.
+    /// More bytes are needed: this many in all, 4 or 5.
     Need(u8),
-    /// The message has this many bytes, those of its length counted.
+    /// The message has this many bytes, with its length prefix.
     Window(u64),
     Refused { at: u64, reason: Reason },
 }

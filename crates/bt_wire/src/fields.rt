@@ -1,4 +1,4 @@
-//! What follows a message's id, by its shape.
+//! What follows a message's id, by its shape, and the checks of indexes and spare bits.
 ghost use Rattle.std.specs.Prelude.{◌≡◌, ◌+◌, nat_le, IfSome, Some, None, length as list_length, true, if◌then◌else◌};
 ghost use Rattle.bt_wire.specs.Bitfields.{field_bytes, has_spare};
 ghost use Rattle.bt_wire.specs.Messages.{seen, fields_of, AreInRange};
@@ -37,8 +37,9 @@ pub enum Fields<'a> {
     Payload(&'a [u8]),
 }
 
-/// The fault of the fields of a message of this length: an index that isn't below the known piece count, or a bit past
-/// the last piece.
+/// Returns the fault of the fields of a message; `length` is its length prefix.
+///
+/// It is an index that isn't below the known piece count, or a bit after the last piece.
 #[inline(always)]
 fn judge_fields(pieces: Option<u32>, length: u32, fields: &Fields) -> Option<Refused>
     requires { IsSized pieces (seen fields.now) }
@@ -58,7 +59,10 @@ fn judge_fields(pieces: Option<u32>, length: u32, fields: &Fields) -> Option<Ref
     }
 }
 
-/// Like [`judge_fields`], over a message. An extended message has no such fields.
+/// Returns the fault of a message's fields; `length` is its length prefix.
+///
+/// It is an index that isn't below the known piece count, or a bit after the last piece. An extended message has no such
+/// fields.
 pub fn judge_message(context: &Context, length: u32, message: &Message) -> Option<Refused>
     requires { IsSized context.now.pieces (fields_of context.now message.now) }
     ensures value { result ≡ broken_field context.now.pieces length (fields_of context.now message.now) }
@@ -70,9 +74,9 @@ pub fn judge_message(context: &Context, length: u32, message: &Message) -> Optio
     }
 }
 
-/// Like [`judge_fields`], over the bytes after the id.
+/// Returns the fault of the fields after the id; `length` is the length prefix.
 ///
-/// The message has the length prefix `length`.
+/// It is an index that isn't below the known piece count, or a bit after the last piece.
 #[inline(always)]
 pub fn judge_bytes(context: &Context, id: u8, length: u32, bytes: &[u8]) -> Option<Refused>
     requires { allows (size_of context.now id) (list_length bytes.now + 1) ≡ true }
@@ -104,7 +108,7 @@ fn judge_index(pieces: u32, index: u32) -> Option<Refused>
     None
 }
 
-/// The fault of a bitfield, where the message has this length.
+/// Returns the fault of a bitfield in a message with this length prefix.
 fn judge_bits(pieces: u32, length: u32, bits: &[u8]) -> Option<Refused>
     requires { list_length bits.now ≡ field_bytes pieces }
     ensures { result ≡ (if has_spare (Some pieces) bits.now then Some (record { at = 3 + length; reason = Reason.SpareBits }) else None) }
@@ -118,7 +122,9 @@ fn judge_bits(pieces: u32, length: u32, bits: &[u8]) -> Option<Refused>
     None
 }
 
-/// Whether a bit past the last piece is 1 (BEP 3: "Spare bits at the end are set to zero").
+/// Returns whether a bit after the last piece is 1.
+///
+/// BEP 3: "Spare bits at the end are set to zero".
 fn has_spare_bits(pieces: u32, field: &[u8]) -> bool
     requires { list_length field.now ≡ field_bytes pieces }
     ensures { result ≡ has_spare (Some pieces) field.now }

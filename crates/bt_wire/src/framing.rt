@@ -1,13 +1,16 @@
-//! A message made of any id and any fields, which judges nothing. `pack` of the program calls it.
+//! Encoding of a message with any id and any fields. Nothing is checked here.
 ghost use Rattle.std.specs.Prelude.{◌≡◌, ◌+◌, ◌-◌, ◌<◌, ◌^◌, ◌∷◌, ◌++◌, length, IfOk};
 ghost use Rattle.bt_wire.specs.Numbers.{be32};
 
 use std::alloc::{AllocError, Global};
 
-/// The bytes of a message with this id and these fields (BEP 3, "peer messages").
+/// Encodes a message with this id and these fields (BEP 3, "peer messages").
 ///
-/// They are the length of both in four bytes, the id and the fields. Nothing is judged, and the id may be any. The
+/// It writes the length of both in four bytes, the id and the fields. Nothing is checked, and the id may be any. The
 /// fields have fewer than 2^32 - 1 bytes, so that the length fits.
+///
+/// # Errors
+/// `AllocError` when out of memory.
 pub fn frame(alloc: Global, id: u8, fields: &[u8]) -> Result<Vec<u8>, AllocError>
     requires { length fields.now < 2 ^ 32 - 1 }
     ensures { IfOk result (λ bytes. bytes.items ≡ be32 (1 + length fields.now) ++ id ∷ fields.now) }

@@ -1,4 +1,4 @@
-//! The message at the front of a stream.
+//! The message that bytes begin with, for a caller that has them in one slice.
 ghost use Rattle.std.specs.Prelude.{◌≡◌, ◌<◌, ◌^◌};
 ghost use Rattle.bt_wire.specs.Fronts.{IsFront};
 
@@ -8,9 +8,9 @@ use crate::fault::{Header, Reason, Refused};
 use crate::header::judge_header;
 use crate::message::MessageView;
 
-/// What a stream begins with.
+/// What bytes begin with.
 ///
-/// A fault, less than a message, or a message and its length.
+/// A fault, less than a message, or a message and its length in bytes.
 #[derive(Drop)]
 pub enum Front<'a> {
     Refused(Refused),
@@ -18,12 +18,12 @@ pub enum Front<'a> {
     Whole(MessageView<'a>, usize),
 }
 
-/// A message starts below this offset.
+/// The offset below which a message starts.
 pub const END: u64 = 1 << 62;
 
-/// Reads the message that the bytes begin with.
+/// Parses the message that the bytes begin with.
 ///
-/// It starts at the offset `start` of its stream. The call takes no memory.
+/// See BEP 3, "peer messages". It starts at the offset `start` of its stream. It doesn't allocate.
 #[inline(always)]
 pub fn read_front<'a>(context: &Context, order: Order, start: u64, bytes: &'a [u8]) -> Front<'a>
     ensures { IsFront context.now order start bytes.now result }

@@ -1,4 +1,4 @@
-//! The handshake of BEP 3, read and written. Feeds and ends call it.
+//! The handshake of BEP 3: parsing and encoding.
 ghost use Rattle.std.specs.Prelude.{◌≡◌, length};
 ghost use Rattle.bt_wire.specs.Numbers.{be64};
 ghost use Rattle.bt_wire.specs.Fronts.{IsOpening};
@@ -8,7 +8,7 @@ use crate::context::Own;
 use crate::fault::{Reason, Refused};
 use crate::reserved::Reserved;
 
-/// What a peer sends first.
+/// What a peer sends first (BEP 3, "peer protocol").
 #[derive(Clone, Copy, PartialEq, Eq, Debug)]
 pub struct Handshake {
     pub reserved: Reserved,
@@ -19,7 +19,7 @@ pub struct Handshake {
 /// What a handshake begins with: the length of the protocol's name, and the name.
 const PROTOCOL: &[u8; 20] = b"\x13BitTorrent protocol";
 
-/// The 68 bytes of a handshake.
+/// Encodes a handshake (BEP 3, "peer protocol").
 pub fn spell_handshake(handshake: &Handshake) -> [u8; 68]
     ensures { result ≡ hand handshake.now }
 {
@@ -31,10 +31,10 @@ pub fn spell_handshake(handshake: &Handshake) -> [u8; 68]
     bytes
 }
 
-/// The fault of the bytes of a handshake, as many as are there, and its place.
+/// Returns the fault of the bytes of a handshake, as far as they have come.
 ///
-/// The fault is the first byte that differs from the fixed ones; or the info hash, once 48 bytes are there, if it isn't
-/// the wanted one.
+/// The fault is the first byte that differs from the fixed ones; or, once 48 bytes are there, the info hash if it isn't
+/// the wanted one. Its offset is counted from the start of the handshake.
 #[tactic(auto, unfolding(crate::specs::Handshakes::hand_fault))]
 pub fn judge_handshake(own: &Own, bytes: &[u8]) -> Option<Refused>
     ensures { result ≡ hand_fault own.now bytes.now }
@@ -85,7 +85,7 @@ pub enum Opening {
     Whole(Handshake),
 }
 
-/// Reads the handshake at the front of a stream.
+/// Parses the handshake that a stream begins with (BEP 3).
 pub fn read_opening(own: &Own, bytes: &[u8]) -> Opening
     ensures { IsOpening own.now bytes.now result }
 {

@@ -1,4 +1,4 @@
-//! The first five bytes of a message: its length, or why it is refused. A feed calls it before it reads more.
+//! The first five bytes of a message: its length, or why it is refused. The fields after them are checked elsewhere.
 ghost use Rattle.std.specs.Prelude.{◌≡◌, ◌≤◌, ℕ, true, Some, None};
 ghost use Rattle.bt_wire.specs.Ids.{shape_by, kind_of as kind_at};
 ghost use Rattle.bt_wire.specs.Faults.{allows, size_by, field_size, is_agreed as agrees, is_strict as judges_strictly, is_late as comes_late, is_missing as lacks_opening};
@@ -12,7 +12,7 @@ use crate::ids::{Kind, Needs, Shape, Turn, kind_of};
 use crate::numbers::number_at_front;
 use bt_ext::Rules;
 
-/// Whether a message of this kind may have this length, its id counted.
+/// Returns whether a message of this kind may have this length prefix.
 #[inline(always)]
 fn is_allowed(context: &Context, kind: Option<Kind>, length: u32) -> bool
     ensures { result ≡ allows (size_by context.now (shape_by kind)) length }
@@ -31,7 +31,7 @@ fn is_allowed(context: &Context, kind: Option<Kind>, length: u32) -> bool
     }
 }
 
-/// Whether a bitfield may have this length, its id counted.
+/// Returns whether a bitfield may have this length prefix.
 #[inline(always)]
 fn is_field_length(pieces: Option<u32>, length: u32) -> bool
     ensures { result ≡ allows (field_size pieces) length }
@@ -42,7 +42,7 @@ fn is_field_length(pieces: Option<u32>, length: u32) -> bool
     }
 }
 
-/// Whether both ends have agreed on the extension that the message needs.
+/// Returns whether both peers support the extension that the message needs.
 #[inline(always)]
 fn is_agreed(context: &Context, kind: Option<Kind>) -> bool
     ensures { result ≡ agrees context.now kind }
@@ -67,7 +67,7 @@ fn is_strict(context: &Context) -> bool
     }
 }
 
-/// Whether a bitfield, have all or have none comes after a message that counts (BEP 3, BEP 6).
+/// Returns whether a bitfield, have all or have none is late (BEP 3, BEP 6).
 #[inline(always)]
 fn is_late(order: Order, kind: Option<Kind>) -> bool
     ensures { result ≡ comes_late order kind }
@@ -85,7 +85,7 @@ fn is_late(order: Order, kind: Option<Kind>) -> bool
     }
 }
 
-/// Whether the Fast Extension asks for one of these three first (BEP 6).
+/// Returns whether the Fast Extension asks for one of these three first (BEP 6).
 #[inline(always)]
 fn is_missing(context: &Context, order: Order, kind: Option<Kind>) -> bool
     ensures { result ≡ lacks_opening context.now order kind }
@@ -103,7 +103,9 @@ fn is_missing(context: &Context, order: Order, kind: Option<Kind>) -> bool
     }
 }
 
-/// The least and the greatest length of a message of this shape, its id counted. A bitfield's is judged apart.
+/// Returns the least and the greatest length prefix of a message of this shape.
+///
+/// A bitfield's is checked elsewhere.
 #[inline(always)]
 fn span(shape: Shape) -> (u32, u32)
     ensures { (c : Context) (n : ℕ) → result.0 ≤ n → n ≤ result.1 → allows (size_by c (Some shape)) n ≡ true }
@@ -119,7 +121,9 @@ fn span(shape: Shape) -> (u32, u32)
     }
 }
 
-/// True only if no rule on the id and the length is broken; false says nothing. It has no branch for the kind.
+/// Returns true only if no rule on the id and the length is broken.
+///
+/// False says nothing. It has no branch for the kind.
 #[inline(always)]
 fn is_plain(context: &Context, order: Order, kind: Kind, length: u32) -> bool
     ensures { result ≡ true → broken_by context.now order (Some kind) length ≡ None }
@@ -136,7 +140,7 @@ fn is_plain(context: &Context, order: Order, kind: Kind, length: u32) -> bool
         & (!is_strict(context) | !(is_opening | (is_fresh & context.fast)))
 }
 
-/// The first rule on the id and the length that is broken.
+/// Returns the first rule on the id and the length that is broken.
 #[inline(always)]
 fn judge_id(context: &Context, order: Order, id: u8, length: u32) -> Option<Refused>
     ensures { result ≡ broken_by context.now order (kind_at id) length }
@@ -150,7 +154,7 @@ fn judge_id(context: &Context, order: Order, id: u8, length: u32) -> Option<Refu
     judge_kind(context, order, kind, length)
 }
 
-/// Like [`judge_id`], over the kind that the id has.
+/// Returns the first rule on the kind of an id and the length that is broken.
 #[cold]
 #[inline(never)]
 fn judge_kind(context: &Context, order: Order, kind: Option<Kind>, length: u32) -> Option<Refused>
@@ -175,7 +179,9 @@ fn judge_kind(context: &Context, order: Order, kind: Option<Kind>, length: u32) 
     None
 }
 
-/// Like [`judge_id`], also over a keep-alive, which has no id.
+/// Returns the first rule on the id and the length prefix that a message breaks.
+///
+/// A keep-alive has no id.
 pub fn judge_any_id(context: &Context, order: Order, id: Option<u8>, length: u32) -> Option<Refused>
     ensures { result ≡ broken_any context.now order id length }
 {
@@ -192,9 +198,9 @@ fn refused(at: u64, reason: Reason) -> Option<Refused>
     Some(Refused { at, reason })
 }
 
-/// Judges a message by its first five bytes, or by fewer where fewer are there.
+/// Checks a message by its first five bytes, or by fewer if fewer have come.
 ///
-/// See BEP 3, "peer protocol".
+/// See BEP 3, "peer protocol". It returns how many bytes the message has, how many it needs to know that, or the fault.
 #[tactic(auto, unfolding(crate::specs::Headers::header_of, crate::specs::Faults::header_fault))]
 #[inline(always)]
 pub fn judge_header(context: &Context, order: Order, head: &[u8]) -> Header

@@ -19,7 +19,7 @@ pub enum Shape {
     Extended,
 }
 
-/// The extension that both ends must have agreed on.
+/// The extension that both peers have to support.
 #[derive(Clone, Copy, PartialEq, Eq)]
 pub enum Needs {
     Neither,
@@ -29,17 +29,17 @@ pub enum Needs {
     Extension,
 }
 
-/// A message's part in the order of messages.
+/// What a message means for the order of messages.
 #[derive(Clone, Copy, PartialEq, Eq)]
 pub enum Turn {
-    /// It may stand anywhere, and doesn't count.
+    /// It may come at any time, and changes nothing.
     Apart,
     Counted,
-    /// It says which pieces are there, and comes first.
+    /// It says which pieces the sender has, and comes first.
     Opening,
 }
 
-/// What is known of a message by its id.
+/// What is known about a message from its id.
 #[derive(Clone, Copy, PartialEq, Eq)]
 pub struct Kind {
     pub shape: Shape,
@@ -57,7 +57,7 @@ const fn row(shape: Shape, needs: Needs, turn: Turn) -> Kind
 /// The id of extended messages (BEP 10).
 pub const EXTENDED: u8 = 20;
 
-/// The row of an id.
+/// Returns what is known about a message with this id; `None` for an unknown id.
 #[inline(always)]
 pub fn kind_of(id: u8) -> Option<Kind>
     ensures { result ≡ kind_at id }

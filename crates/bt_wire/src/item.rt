@@ -1,16 +1,16 @@
-//! An item of a stream, and the refusal of one. Feeds and the crates above answer with these.
+//! An item of a stream, and where and why one is refused.
 use crate::fault::Reason;
 use crate::handshake::Handshake;
 use crate::message::Message;
 
-/// A part of a stream: the handshake, or a message after it.
+/// An item of a stream: the handshake, or a message after it.
 #[derive(Debug, Drop)]
 pub enum Item {
     Handshake(Handshake),
     Message(Message),
 }
 
-/// Where a stream is refused and why.
+/// Where and why a stream is refused.
 #[derive(Clone, Copy, PartialEq, Eq, Debug)]
 pub struct Refusal {
     /// The number of the message; 0 for the handshake.

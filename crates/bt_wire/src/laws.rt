@@ -1,4 +1,4 @@
-//! Laws on the definitions, each the contract of a function that does nothing, but for the walk over a stream.
+//! Theorems about the definitions. Each is the contract of a function with an empty body, except the walk over a stream.
 ghost use Rattle.bt_wire.specs.Contexts.{LegalElsewhere, LegalIsNotRefused, RefusalIsOne};
 ghost use Rattle.bt_wire.specs.Laws.{LegalHasNoFault, FaultlessIsLegal, FaultIsOne, FaultStays, FaultIsFinal, NoneBeginsAnother, VerdictIsOne, RefusalStays, ItemsStay};
 ghost use Rattle.bt_wire.specs.Streams.{Outcome, IsOutcome, IsVerdict};
@@ -9,21 +9,25 @@ use crate::handshake::{Opening, read_opening};
 use crate::order::next_of_view as next;
 use crate::slices::suffix;
 
-/// A whole window has a fault, or it may be sent: never both.
+/// States that a whole window has one fault, or its message is legal, never both.
 pub fn legal_or_fault()
     ensures legal { LegalHasNoFault }
     ensures faultless { FaultlessIsLegal }
     ensures one { FaultIsOne }
 {}
 
-/// A fault stays, whatever follows, and no spelling begins another.
+/// States that a fault stays, and that no encoding begins another.
+///
+/// A fault stays, whatever follows.
 pub fn prefixes()
     ensures fault { FaultStays }
     ensures last { FaultIsFinal }
     ensures spelling { NoneBeginsAnother }
 {}
 
-/// Each stream has a verdict. The walk that finds it keeps nothing.
+/// States that each stream has a verdict.
+///
+/// The walk that finds it keeps nothing.
 pub fn each_has_a_verdict(own: &Own, stream: &[u8])
     ensures { (v : Outcome) × IsVerdict own.now stream.now v }
 {
@@ -58,16 +62,18 @@ fn walk(context: &Context, messages: &[u8])
     }
 }
 
-/// A stream has one verdict, and keeps its items and its refusal whatever follows.
+/// States that a stream has one verdict.
+///
+/// It keeps its items and its refusal, whatever follows.
 pub fn one_verdict()
     ensures one { VerdictIsOne }
     ensures refused { RefusalStays }
     ensures items { ItemsStay }
 {}
 
-/// A message is legal or refused for one fault, and never both.
+/// States that a message is legal or is refused for one fault, never both.
 ///
-/// A legal message stays legal, with the same spelling, where the receiver's context differs in what the message doesn't
+/// A legal message stays legal, with the same encoding, if the receiver's context differs in what the message doesn't
 /// use.
 pub fn legal_elsewhere()
     ensures stays { LegalElsewhere }

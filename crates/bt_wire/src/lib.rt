@@ -1,5 +1,5 @@
-//! The messages that one BitTorrent peer sends to another, as values and as bytes: the handshake and the peer messages
-//! (BEP 3), with the port message (BEP 5), the Fast Extension (BEP 6) and the Extension Protocol (BEP 10).
+//! The BitTorrent peer protocol as values and as bytes: the handshake and the messages of BEP 3, the port message (BEP 5), the
+//! Fast Extension (BEP 6) and the Extension Protocol (BEP 10). One message at a time: a stream is for `bt_feed`.
 #![tactic(auto)]
 
 mod context;

@@ -1,4 +1,4 @@
-//! The messages, owned and as views of bytes. All that reads or writes messages takes them.
+//! The messages, owned and as views of bytes.
 ghost use Rattle.std.specs.Prelude.{◌≡◌, MatchOption, IfSome};
 ghost use Rattle.bt_wire.specs.declared.context.Context.{Context};
 ghost use Rattle.bt_wire.specs.Messages.{id_of as id_in, IsExtended, fields_of, seen, message_of, AreInRange, IsIdInRange};
@@ -9,8 +9,19 @@ use bt_ext::{Ext, ExtView};
 
 /// A message, over its bytes `B` and its extended payload `E`.
 ///
-/// See BEP 3, "peer messages", BEP 5, BEP 6 and BEP 10. `index` is a piece's, `begin` and `length` are bytes within it. A
-/// message whose id isn't known is kept with its payload.
+/// See BEP 3, "peer messages", BEP 5, BEP 6 and BEP 10. `index` is a piece's, `begin` and `length` are in bytes within it. A
+/// message whose id isn't known is kept with its payload. A program answers messages like this:
+///
+/// ```rust
+/// Item::Message(Message::Interested) => sender.send(rt, &Message::Unchoke),
+/// Item::Message(
+///     Message::Request {
+///         index,
+///         begin,
+///         length,
+///     },
+/// ) => sender.serve(rt, *index, *begin, *length),
+/// ```
 #[derive(Debug, Drop)]
 pub enum Message<B = ByteString, E = Ext> {
     KeepAlive,
@@ -19,7 +30,7 @@ pub enum Message<B = ByteString, E = Ext> {
     Interested,
     NotInterested,
     Have(u32),
-    /// A bit for each piece, that of piece 0 the high bit of the first byte.
+    /// A bit for each piece; that of piece 0 is the high bit of the first byte.
     Bitfield(B),
     Request { index: u32, begin: u32, length: u32 },
     Piece { index: u32, begin: u32, block: B },
@@ -36,11 +47,11 @@ pub enum Message<B = ByteString, E = Ext> {
     Unknown { id: u8, payload: B },
 }
 
-/// A message over the bytes that it was read from.
+/// A message whose bytes are those of the slice that was parsed.
 pub type MessageView<'a> = Message<&'a [u8], ExtView<'a>>;
 
 impl<B, E> Message<B, E> {
-    /// The id, but for a keep-alive.
+    /// Returns the id; `None` for a keep-alive.
     pub fn id(&self) -> Option<u8>
         ensures value { result ≡ id_in self.now }
         ensures in_range { IsIdInRange result }
@@ -69,7 +80,9 @@ impl<B, E> Message<B, E> {
 }
 
 impl Message {
-    /// The fields after the id. An extended message has none: its payload is read and written apart.
+    /// Returns the fields after the id; `None` for an extended message.
+    ///
+    /// An extended payload is parsed and encoded by `bt_ext`.
     pub fn fields(&self) -> Option<Fields<'_>>
         ensures value { MatchOption result (IsExtended self.now) (λ f. (c : Context) → seen f ≡ fields_of c self.now) }
         ensures in_range { IfSome result (λ f. AreInRange (seen f)) }

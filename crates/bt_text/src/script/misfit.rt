@@ -1,4 +1,4 @@
-//! The first word of a script's line that can't stand in its place, and what is expected there. The hints of `pack` call it.
+//! The first word of a script's line that can't stand in its place, and what is expected there.
 ghost use Rattle.std.specs.Prelude.{◌≡◌, ◌++◌, codes, decimal, length, false, true, None, IfSome, OnOk};
 ghost use Rattle.bt_text.specs.Misfits.{sample as sample_of, samples, expected_words as words_of, IsCompleted, IsCompletedOr, IsNoName, IsMisfit, misfit_line as line_of, IsShortNumber, IsDecimalBlock, block_size as size_of_block, block_line as block_line_of};
 
@@ -73,7 +73,9 @@ fn push_samples(expected: &[Expected], line: &mut Vec<u8>) -> Result<(), AllocEr
     }
 }
 
-/// Returns whether these words, with samples of what is expected after them, are a line; `None` without memory.
+/// Returns whether these words, with samples of the expected ones, are a line.
+///
+/// `None` when out of memory.
 fn is_completed(alloc: Global, front: &[u8], expected: &[Expected], first: bool) -> Option<bool>
     ensures { IfSome result (IsCompletedOr first front.now expected.now) }
 {
@@ -99,7 +101,7 @@ fn words_of_shape(shape: Shape) -> &'static [Expected] {
     }
 }
 
-/// Returns what is expected after the name of a message; `None` where no message has it.
+/// Returns what is expected after a message's name; `None` if no message has it.
 fn words_of_message(name: &[u8]) -> Option<&'static [Expected]>
     ensures { result ≡ None → IsNoName false name.now }
 {
@@ -113,7 +115,7 @@ fn words_of_message(name: &[u8]) -> Option<&'static [Expected]>
     Some(words_of_shape(shape))
 }
 
-/// Returns what is expected after a line's name; `None` where no such line has it.
+/// Returns what is expected after a line's name; `None` if no such line has it.
 fn words_after(name: &[u8], first: bool) -> Option<&'static [Expected]>
     ensures { result ≡ None → IsNoName first name.now }
 {
@@ -173,9 +175,8 @@ fn follow(
 
 /// Returns the first word of a line that can't stand there.
 ///
-/// It is named by its column and by what is expected in its place.
-///
-/// `first` says that the line is the first of its script. `None` where the text is a line, and without memory.
+/// It is named by its column and by what is expected in its place. `first` says that the line is the first of its script. `None`
+/// if the text is a line, or when out of memory.
 pub fn find_misfit(alloc: Global, text: &[u8], first: bool) -> Option<Misfit>
     ensures { IfSome result (IsMisfit first text.now) }
 {
@@ -226,12 +227,12 @@ fn push_numbered(text: &[u8], n: u64, line: &mut Vec<u8>) -> Result<(), AllocErr
     line.extend_from_slice(&digits[place..])
 }
 
-/// Appends the line that says where a script's line has its misfit.
+/// Appends the line that says which word of a script's line can't stand there.
 ///
-/// It names the line's `number` and what is expected there.
+/// It has the line's `number`, counted from 1, and what is expected there.
 ///
 /// # Errors
-/// `AllocError` if the growth of the text was refused.
+/// `AllocError` when out of memory.
 pub fn push_misfit_line(number: u64, misfit: Misfit, line: &mut Vec<u8>) -> Result<(), AllocError>
     ensures { OnOk result (line.new.items ≡ line.old.items ++ line_of number misfit) }
 {
@@ -254,14 +255,14 @@ fn next_word(text: &[u8]) -> Option<(&[u8], &[u8])>
     Some(split_word(words))
 }
 
-/// Returns whether these are at most eight decimal digits, two for each byte.
+/// Returns whether a word is at most eight decimal digits, two for each byte.
 fn is_short_number(word: &[u8]) -> bool
     ensures { result ≡ true → IsShortNumber word.now }
 {
     matches!(word.len(), 2 | 4 | 6 | 8) && word.iter().all(|byte| byte.is_ascii_digit())
 }
 
-/// Returns the hex of a short block that has decimal digits alone.
+/// Returns the hex of a short block that has only decimal digits.
 ///
 /// A length has such digits. `None` for another line.
 pub fn decimal_block(text: &[u8]) -> Option<&[u8]>
@@ -281,7 +282,7 @@ pub fn decimal_block(text: &[u8]) -> Option<&[u8]>
     }
 }
 
-/// Returns the words for how many bytes these digits of hex say.
+/// Returns the words for how many bytes these digits of hex name.
 fn block_size(block: &[u8]) -> &'static [u8]
     ensures { result.now ≡ size_of_block (length block.now) }
 {
@@ -295,10 +296,10 @@ fn block_size(block: &[u8]) -> &'static [u8]
 
 /// Appends the line that says that decimal digits are a block, and no length.
 ///
-/// It names the line's `number`.
+/// It has the line's `number`, counted from 1.
 ///
 /// # Errors
-/// `AllocError` if the growth of the text was refused.
+/// `AllocError` when out of memory.
 pub fn push_block_line(number: u64, block: &[u8], line: &mut Vec<u8>) -> Result<(), AllocError>
     ensures { OnOk result (line.new.items ≡ line.old.items ++ block_line_of number block.now) }
 {

@@ -1,6 +1,4 @@
-//! A line of a script, from its text to its bytes. `pack` calls it.
-//!
-//! Nothing is allocated but the bytes.
+//! Parsing of a script's line into its bytes. Only the bytes are allocated.
 ghost use Rattle.std.specs.Prelude.{◌≡◌, ◌+◌, ◌<◌, ◌≤◌, ◌^◌, length, IsTrue, ◌↔◌, slice_index, codes, IfOk, IfSome, OnOk, MatchResult, MatchOption, option_map, position, unwrap_or, true, false, ◌++◌, ◌∷◌, ◌-◌, ◌==◌};
 ghost use Rattle.std.specs.Str.{bytes_eq};
 ghost use Rattle.std.specs.Result.{result_ok};
@@ -46,7 +44,7 @@ pub(crate) fn is(text: &[u8], word: &[u8]) -> bool
     text == word
 }
 
-/// Returns the place of the first space.
+/// Returns the offset of the first space.
 fn first_space(text: &[u8]) -> Option<usize>
     ensures { result ≡ position (λ c. c == 32) text.now }
 {
@@ -63,14 +61,14 @@ pub(crate) fn split_word(text: &[u8]) -> (&[u8], &[u8])
     text.split_at(end)
 }
 
-/// Whether a zero leads further digits.
+/// Returns whether a zero comes before other digits.
 fn has_leading_zero(word: &[u8]) -> bool
     ensures { IsTrue result ↔ ((slice_index word.now 0 ≡ 48) × (1 < length word.now)) }
 {
     word.len() > 1 && word[0] == b'0'
 }
 
-/// Returns the number below 2^32 whose digits the word is, without leading zeros.
+/// Parses a decimal number below 2^32 without leading zeros.
 pub fn plain_number(word: &[u8]) -> Option<u32>
     ensures { result ≡ number_in_word word.now }
 {
@@ -87,7 +85,9 @@ pub fn plain_number(word: &[u8]) -> Option<u32>
     u32::try_from(n).ok()
 }
 
-/// Returns the value of the digits that the text begins with, and how many they are; no more than 11 of them are read.
+/// Returns the value of the digits in front, and how many they are.
+///
+/// No more than 11 of them are read.
 #[inline(always)]
 fn leading_digits(text: &[u8]) -> (u64, usize)
     ensures { IsLed text.now result.0 result.1 }
@@ -112,7 +112,9 @@ fn is_end(text: &[u8]) -> bool
     }
 }
 
-/// Reads a number below 2^32 without leading zeros, up to a space or the end, and returns it and what follows it.
+/// Parses a number below 2^32 without leading zeros, up to a space or the end.
+///
+/// It returns the number and what follows it.
 #[inline(always)]
 fn leading_number(text: &[u8]) -> Option<(u32, &[u8])>
     ensures value { seen result ≡ first_number text.now }
@@ -175,7 +177,7 @@ fn three_numbers(text: &[u8]) -> Option<([u8; 12], &[u8])>
     Some((numbers, rest))
 }
 
-/// Appends the bytes that hex digits of either case say, if they are such digits, and returns whether they are.
+/// Appends the bytes of hex digits of either case; returns whether they are such.
 fn push_decoded(digits: &[u8], bytes: &mut Vec<u8>) -> Result<bool, AllocError>
     ensures { IfOk result (Adds (result_ok (decode_of digits.now)) bytes.old.items bytes.new.items) }
 {
@@ -188,9 +190,10 @@ fn push_decoded(digits: &[u8], bytes: &mut Vec<u8>) -> Result<bool, AllocError>
     Ok(false)
 }
 
-/// Appends the length, the id and the bytes of the numbers of a message in which `size` bytes follow.
+/// Appends the length, the id and the bytes of the numbers of a message.
 ///
-/// The numbers' count is known where this is inlined, so one copy of fixed size appends all of it.
+/// `size` bytes follow. The numbers' count is known at the place where this is inlined, so one copy of fixed size appends all
+/// of it.
 #[inline(always)]
 fn push_begin(id: u8, numbers: &[u8], size: usize, bytes: &mut Vec<u8>) -> Result<(), AllocError>
     requires { (length numbers.now ≤ 12) × (size < 2 ^ 31) }
@@ -205,7 +208,7 @@ fn push_begin(id: u8, numbers: &[u8], size: usize, bytes: &mut Vec<u8>) -> Resul
     bytes.extend_from_slice(&front[..end])
 }
 
-/// Appends the message of an id and the bytes of its numbers, where nothing follows them.
+/// Appends the message of an id and the bytes of its numbers, if nothing follows.
 #[inline(always)]
 fn put_numbers(id: u8, numbers: &[u8], rest: &[u8], bytes: &mut Vec<u8>) -> Result<bool, AllocError>
     requires { length numbers.now ≤ 12 }
@@ -322,7 +325,7 @@ fn put_block(id: u8, text: &[u8], bytes: &mut Vec<u8>) -> Result<bool, AllocErro
 
 /// Appends the message of an id whose fields have this shape.
 ///
-/// Where the shape is known this is one call.
+/// If the compiler knows the shape, this is one call.
 #[inline(always)]
 fn put_fields(shape: Shape, id: u8, text: &[u8], bytes: &mut Vec<u8>) -> Result<bool, AllocError>
     requires { length text.now < 2 ^ 32 }
@@ -501,7 +504,9 @@ fn put_by_word(text: &[u8], bytes: &mut Vec<u8>) -> Result<bool, AllocError>
     }
 }
 
-/// Appends the message of a line that is no keep-alive, where its first word is likely this name of a row.
+/// Appends the message of a line whose first word is likely this name of a row.
+///
+/// The line is no keep-alive.
 #[inline(always)]
 fn put_row(
     text: &[u8],
@@ -521,7 +526,7 @@ fn put_row(
     }
 }
 
-/// Like [`put_row`], for `cancel` and `choke`.
+/// Appends the message of a line that likely begins with `cancel` or `choke`.
 #[inline(always)]
 fn put_row_of_c(text: &[u8], bytes: &mut Vec<u8>) -> Result<bool, AllocError>
     requires short { length text.now < 2 ^ 32 }
@@ -534,7 +539,9 @@ fn put_row_of_c(text: &[u8], bytes: &mut Vec<u8>) -> Result<bool, AllocError>
     }
 }
 
-/// Like [`put_row`], for `have`, `have-all` and `have-none`.
+/// Appends the message of a line that likely begins with `have`.
+///
+/// It may also be `have-all` or `have-none`.
 #[inline(always)]
 fn put_row_of_h(text: &[u8], bytes: &mut Vec<u8>) -> Result<bool, AllocError>
     requires short { length text.now < 2 ^ 32 }
@@ -550,7 +557,7 @@ fn put_row_of_h(text: &[u8], bytes: &mut Vec<u8>) -> Result<bool, AllocError>
     }
 }
 
-/// Like [`put_row`], for `piece` and `port`.
+/// Appends the message of a line that likely begins with `piece` or `port`.
 #[inline(always)]
 fn put_row_of_p(text: &[u8], bytes: &mut Vec<u8>) -> Result<bool, AllocError>
     requires short { length text.now < 2 ^ 32 }
@@ -563,7 +570,7 @@ fn put_row_of_p(text: &[u8], bytes: &mut Vec<u8>) -> Result<bool, AllocError>
     }
 }
 
-/// Like [`put_row`], for `request` and `reject`.
+/// Appends the message of a line that likely begins with `request` or `reject`.
 #[inline(always)]
 fn put_row_of_r(text: &[u8], bytes: &mut Vec<u8>) -> Result<bool, AllocError>
     requires short { length text.now < 2 ^ 32 }
@@ -576,9 +583,10 @@ fn put_row_of_r(text: &[u8], bytes: &mut Vec<u8>) -> Result<bool, AllocError>
     }
 }
 
-/// Appends the message of a line that is no keep-alive. The first letter tells which names are tried.
+/// Appends the message of a line that is no keep-alive, by its first letter.
 ///
-/// Each name has code of its own for its id and fields, so that no second jump by the shape of the fields is needed.
+/// The letter decides which names are tried. Each name has code of its own for its id and fields, so that no second jump by the
+/// shape of the fields is needed.
 #[inline(always)]
 fn put_by_letter(text: &[u8], bytes: &mut Vec<u8>) -> Result<bool, AllocError>
     requires short { length text.now < 2 ^ 32 }
@@ -627,7 +635,7 @@ fn array_after<const N: usize>(text: &[u8]) -> Option<([u8; N], &[u8])>
     Some((bytes, rest))
 }
 
-/// Returns the number that eight bytes say, the highest byte first.
+/// Returns the number of eight bytes, in big-endian order.
 fn reserved_of(bytes: &[u8]) -> u64
     requires { length bytes.now ≡ 8 }
     ensures { be64 result ≡ bytes.now }
@@ -658,7 +666,9 @@ fn read_handshake(text: &[u8]) -> Option<Handshake>
     })
 }
 
-/// Appends the handshake of a line. It isn't inlined, so that its arrays aren't filled for each message.
+/// Appends the handshake of a line.
+///
+/// It isn't inlined, so that its arrays aren't filled for each message.
 #[inline(never)]
 fn put_handshake(text: &[u8], bytes: &mut Vec<u8>) -> Result<bool, AllocError>
     ensures { IfOk result (Adds (line_in true text.now) bytes.old.items bytes.new.items) }
@@ -672,15 +682,14 @@ fn put_handshake(text: &[u8], bytes: &mut Vec<u8>) -> Result<bool, AllocError>
     }
 }
 
-/// Reads a line of a script, and puts what it names in `bytes`.
+/// Parses a line of a script, and replaces `bytes` by those that it names.
 ///
-/// The text stands without its line feed.
-///
-/// The first line of a script names the 68 bytes of a handshake (BEP 3), each other one the length, id and fields of a
-/// message, whether that may be sent or not. It returns false for what is no line; `bytes` is then of no use.
+/// The text is without its line feed. The first line of a script names the 68 bytes of a handshake (BEP 3), each other one
+/// the length, id and fields of a message, whether that is legal or not. It returns false for what is no line; `bytes` is
+/// then of no use.
 ///
 /// # Errors
-/// `AllocError` if the growth of `bytes` was refused; there is one at most.
+/// `AllocError` when out of memory. At most one allocation is made.
 pub fn read_line(text: &[u8], first: bool, bytes: &mut Vec<u8>) -> Result<bool, AllocError>
     requires { length text.now < 2 ^ 32 }
     ensures { IfOk result (IsAnswer first text.now bytes.new.items) }
@@ -689,12 +698,13 @@ pub fn read_line(text: &[u8], first: bool, bytes: &mut Vec<u8>) -> Result<bool, 
     put_line(text, first, bytes)
 }
 
-/// Reads a line as [`read_line`] does, and appends what it names to `out`.
+/// Parses a line of a script, and appends the bytes that it names to `out`.
 ///
-/// It returns false for what is no line; `out` is then as it was.
+/// The text is without its line feed. The first line of a script names the 68 bytes of a handshake (BEP 3), each other one the
+/// length, id and fields of a message, whether that is legal or not. It returns false for what is no line; `out` is then unchanged.
 ///
 /// # Errors
-/// `AllocError` if the growth of `out` was refused; there is one at most.
+/// `AllocError` when out of memory. At most one allocation is made.
 #[inline(always)]
 pub fn append_line(text: &[u8], first: bool, out: &mut Vec<u8>) -> Result<bool, AllocError>
     requires { length text.now < 2 ^ 32 }

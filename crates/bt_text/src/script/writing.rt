@@ -1,7 +1,7 @@
-//! The line of an item, with all of its bytes. The printer of `unpack` calls it.
+//! The line of an item, with all of its bytes.
 //!
-//! A line is put right into a text that has room for it; the call returns the place after the line. Or it is appended, by one growth
-//! of the text at most.
+//! A line is written directly into a text that has room for it; the call returns the offset after the line. Or it is
+//! appended, with at most one allocation.
 ghost use Rattle.std.specs.Prelude.{◌≡◌, ◌≤◌, ◌+◌, ◌-◌, ◌*◌, ◌^◌, ◌++◌, length, take, min, codes, decimal, vec_len, unwrap_or, IfOk, OnOk};
 ghost use Rattle.hex.specs.Hex.{encode_lower};
 ghost use Rattle.bt_ext.specs.Payloads.{ext_id, payload_of, seen as seen_ext};
@@ -92,7 +92,7 @@ fn put_bitfield(bits: &[u8], text: &mut [u8], at: usize) -> usize
     put_bytes(b"", bits, text, place)
 }
 
-/// Returns the extended id of a payload; 0 where it has none.
+/// Returns the extended id of a payload; 0 if it has none.
 fn extended_id(reg: Registered, payload: &ExtView) -> u8
     ensures { result ≡ unwrap_or (ext_id reg (seen_ext payload.now)) 0 }
 {
@@ -155,7 +155,9 @@ fn kept_bytes(view: &MessageView) -> usize
     }
 }
 
-/// Returns how many bytes a message keeps. It tells the other messages apart without a jump by their kind.
+/// Returns how many bytes a message keeps.
+///
+/// For most messages it does so without a jump by their kind.
 #[inline(always)]
 fn kept(view: &MessageView) -> usize
     ensures { result ≡ kept_of (message_of view.now) }
@@ -169,9 +171,7 @@ fn kept(view: &MessageView) -> usize
     }
 }
 
-/// Returns how many bytes of room a message's line needs.
-///
-/// Where this is more than any text has, it is the greatest number.
+/// Returns how many bytes of room a message's line needs, at most 2^64 - 1.
 #[inline(always)]
 pub fn room_for(view: &MessageView) -> usize
     ensures { result ≡ min (160 + 2 * kept_of (message_of view.now)) (2 ^ 64 - 1) }
@@ -179,9 +179,10 @@ pub fn room_for(view: &MessageView) -> usize
     kept(view).saturating_mul(2).saturating_add(160)
 }
 
-/// Puts the line of a message with its line feed, as `read_line` reads it; returns the place after it.
+/// Writes the line of a message at the offset `at`; returns the offset after it.
 ///
-/// The id of a metadata message (BEP 9) is the one that the receiver registers.
+/// It ends with a line feed, and `read_line` parses it. The id of a metadata message (BEP 9) is the one that the receiver
+/// registers.
 #[inline(always)]
 pub fn put_message_line(own: &Own, view: &MessageView, text: &mut [u8], at: usize) -> usize
     requires { at + (160 + 2 * kept_of (message_of view.now)) ≤ length text.old }
@@ -254,7 +255,7 @@ pub fn put_message_line(own: &Own, view: &MessageView, text: &mut [u8], at: usiz
     }
 }
 
-/// Makes a text longer by this room, and returns the place of the room.
+/// Makes a text longer by this room, and returns the offset of the room.
 fn grow(text: &mut Vec<u8>, room: usize) -> Result<usize, AllocError>
     ensures { IfOk result (λ at. (at + room ≤ vec_len text.new) × (take at text.new.items ≡ text.old.items)) }
 {
@@ -265,10 +266,12 @@ fn grow(text: &mut Vec<u8>, room: usize) -> Result<usize, AllocError>
     }
 }
 
-/// Appends the line of a message with its line feed, as [`put_message_line`] puts it.
+/// Appends the line of a message, with its line feed.
+///
+/// `read_line` parses it. The id of a metadata message (BEP 9) is the one that the receiver registers.
 ///
 /// # Errors
-/// `AllocError` if the growth of the text was refused; there is one at most.
+/// `AllocError` when out of memory. At most one allocation is made.
 pub fn push_message_line(
     own: &Own,
     view: &MessageView,
@@ -282,7 +285,9 @@ pub fn push_message_line(
     Ok(())
 }
 
-/// Puts the line of a handshake, with its line feed; returns the place after it.
+/// Writes the line of a handshake at the offset `at`; returns the offset after it.
+///
+/// It ends with a line feed.
 pub fn put_handshake_line(handshake: &Handshake, text: &mut [u8], at: usize) -> usize
     requires { at + 109 ≤ length text.old }
     ensures size { length text.new ≡ length text.old }
@@ -300,7 +305,7 @@ pub fn put_handshake_line(handshake: &Handshake, text: &mut [u8], at: usize) -> 
 /// Appends the line of a handshake, with its line feed.
 ///
 /// # Errors
-/// `AllocError` if the growth of the text was refused; there is one at most.
+/// `AllocError` when out of memory. At most one allocation is made.
 pub fn push_handshake_line(handshake: &Handshake, text: &mut Vec<u8>) -> Result<(), AllocError>
     ensures { OnOk result ((own : Receiver) → text.new.items ≡ text.old.items ++ script_line own (items.Handshake handshake.now)) }
 {
