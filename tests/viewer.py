@@ -216,10 +216,12 @@ def check_captures(page, folder):
         if status == 2 or callable(wanted) or "BadExtLength" in wanted:
             continue
         path = keep(os.path.join(folder, "capture.pcap"), capture)
-        page.run("viewer.setPieces('%s')" % (words[words.index("--pieces") + 1] if "--pieces" in words else ""))
-        found = as_btcap(page, opened(page, [path, torrent] if "--torrent" in words else [path]), "--show" in words)
+        listed = opened(page, [path, torrent] if "--torrent" in words else [path])
+        if "--pieces" in words:
+            page.run("viewer.setPieces('%s')" % words[words.index("--pieces") + 1])
+            listed = page.run("viewer.listed")
+        found = as_btcap(page, listed, "--show" in words)
         same("btcap: " + name, found, softened(wanted, found))
-    page.run("viewer.setPieces('')")
 
 
 def broken(packets, chance):
@@ -317,13 +319,15 @@ def check_refusal(page, folder):
     same("its row", text_at(page, ".row.e-refused.on .det"), "BadIndex at 78 · message 2 · rules free")
     same("the link", page.run("location.hash.includes('at=0-A-78')"), True)
     same("marks of what is proved", page.run("document.querySelectorAll('#why .proved, #summary .proved, .row .proved').length"), 0)
-    # of any other capture the piece count isn't known, and the page says so
+    # what belongs to one file isn't kept for the next one: of that the piece count isn't known, and the page says so
+    page.run("document.querySelector('#limit').value = '20000'")
     capture = content(example("refused.pcap"))
-    page.run("viewer.setPieces('')")
     opened(page, [keep(os.path.join(folder, "other.pcap"), capture[:24] + capture[24:].replace(b"-AA0001-", b"-AA0002-"))])
     same("no piece count", text_at(page, ".whytext").split("last message of A, ")[1],
          '"interested". Nothing that A sent is refused. No piece count is known, so nobody judged whether piece 38 exists: '
          "type the count above, or drop the .torrent.byte 82 ↘")
+    same("what was typed", page.run("[...document.querySelectorAll('#options input')].map(input => input.value).join('')"), "")
+    same("the row of the file before", page.run("location.hash.includes('at=0-A-78') || location.hash.includes('pieces')"), False)
     opened(page, [keep(os.path.join(folder, "unasked.pcap"), btcap_tests().dropped()[0])])
     same("a remark as the reason", text_at(page, ".whytext"),
          'B closed the connection, by FIN, 2.00 ms after A sent an answer that nobody asked for, "piece 0 0 1".byte 73 ↘')

@@ -28,15 +28,15 @@ const calls = {
   /** @param {{ wasm: Uint8Array }} given */
   async start({ wasm }) { session = new Session(await ProvedReader.make(wasm), progress); },
 
-  /** @param {{ files: { name: string, file: Blob }[] }} given */
-  async open({ files }) {
+  /** @param {{ files: { name: string, file: Blob }[], pieces: number | null }} given */
+  async open({ files, pieces }) {
     const opened = [];
     for (const { name, file } of files) {
       const bytes = FileBytes.ofBlob(await unpacked(file));
       if (bytes.length) bytes.part(0, Math.min(bytes.length, FIRST_BYTES));
       opened.push({ name, bytes });
     }
-    return session.open(opened);
+    return session.open(opened, pieces);
   },
 
   options: given => session.setOptions(given),
