@@ -421,6 +421,7 @@ def check_files(page, folder):
     with gzip.open(packed, "wb") as out:
         out.write(content(example("small.pcap")))
     same("a compressed capture", opened(page, [packed])["connections"][0]["metadata"]["name"], "i25k")
+    check_broken_files(page, folder)
     # a .torrent of the info dictionary that the capture has
     stream = content(example("serving.bin"))
     first, second = stream.index(b"total_sizei25486ee", 301) + 18, stream.index(b"total_sizei25486ee", 16736) + 18
@@ -428,6 +429,33 @@ def check_files(page, folder):
     same("a .torrent", [side["own"]["pieces"] for side in opened(page, [torrent])["connections"][0]["sides"]], [1, 1])
     # nothing may leave the page: its policy refuses a request
     same("no network", page.run("fetch('http://127.0.0.1:9/').then(() => 'sent', () => 'refused')"), "refused")
+
+
+def check_broken_files(page, folder):
+    """Files that can't be read: it is said, and what is open stays. A capture without a packet, and a browser without the reader."""
+    opened(page, [example("small.pcap")])
+    section = struct.pack("<IIIHHq", 0x0A0D0D0A, 28, 0x1A2B3C4D, 1, 0, -1) + struct.pack("<I", 28)
+    rows = [("broken.pcapng", section + struct.pack("<II", 6, 8) + bytes(40), "a block of the pcapng file has an impossible length"),
+            ("broken.gz", b"\x1f\x8b\x08broken", "broken.gz can't be unpacked: its gzip data is broken or cut"),
+            ("empty.pcap", b"", "empty.pcap is empty")]
+    for name, data, said in rows:
+        opened(page, [keep(os.path.join(folder, name), data)])
+        same(name, text_at(page, "#toast"), said)
+        page.run("viewer.pick(4)")
+        same("what was open before " + name, (text_at(page, "#file b"), page.until(SHOWN % 4)), ("small.pcap", "metadata-request"))
+    opened(page, [keep(os.path.join(folder, "head.pcap"), content(example("small.pcap"))[:30])])
+    same("no packet", (text_at(page, "#file b"), text_at(page, "#ends .dim"), page.run("viewer.total")),
+         ("head.pcap", "The file begins as a capture, and has no whole packet: it ends inside the first one.", 0))
+    with open(PAGE, encoding="utf8") as file:
+        text = file.read()
+    check = "WebAssembly.validate("
+    same("places where the browser is asked", text.count(check), 1)
+    page.open("file://" + keep(os.path.join(folder, "old.html"), text.replace(check, "(() => false)(").encode()))
+    said = page.run("document.querySelector('#nowasm').innerText")
+    same("a browser without 64-bit memories: " + said, all(it in said for it in ("memories of 64 bits", "Chromium", "133", "Firefox", "134")), True)
+    opened(page, [example("small.pcap")])
+    same("a file in such a browser", text_at(page, "#toast"), said)
+    page.open("file://%s#example=small&theme=dark" % PAGE)
 
 
 def check_build(folder):

@@ -66,17 +66,32 @@ export class Session {
       else if (torrent?.pieces) this.torrents.set((learned = torrent).infoHash, torrent);
       else raw.push(file);
     }
-    if (captures.length || raw.length) {
-      this.pairs = [];
+    const isNew = captures.length + raw.length > 0;
+    if (isNew) {
+      this.replace(captures, raw);
       this.options = { ...NO_OPTIONS, pieces };
       this.current = this.talk = null;
-      this.facts = this.emptyFacts(files.reduce((sum, { bytes }) => sum + bytes.length, 0));
-      this.facts.isRaw = !captures.length;
-      for (const capture of captures) this.openCapture(capture);
-      for (const pair of pairsOfRaw(raw)) this.pairs.push({ ...pair, number: this.pairs.length });
     }
     this.judgeAll();
-    return { ...this.list(), learned, isNew: captures.length + raw.length > 0 };
+    return { ...this.list(), learned, isNew };
+  }
+
+  /**
+   * Takes these files in place of what is open. If one can't be read, what is open stays.
+   * @param {OpenFile[]} captures @param {OpenFile[]} raw
+   */
+  replace(captures, raw) {
+    const { pairs, facts } = this;
+    this.pairs = [];
+    this.facts = this.emptyFacts([...captures, ...raw].reduce((sum, { bytes }) => sum + bytes.length, 0));
+    this.facts.isRaw = !captures.length;
+    try {
+      for (const capture of captures) this.openCapture(capture);
+      for (const pair of pairsOfRaw(raw)) this.pairs.push({ ...pair, number: this.pairs.length });
+    } catch (error) {
+      Object.assign(this, { pairs, facts });
+      throw error;
+    }
   }
 
   /** @param {OpenFile} file */

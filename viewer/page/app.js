@@ -52,7 +52,7 @@ export class App {
       if (listed.isNew) this.forget(count, example);
       const judged = 'Indexes and bitfields of its connections are judged now.';
       if (learned) say(`${learned.name ?? 'The torrent'} has ${plural(learned.pieces, 'piece')}. ${judged}`);
-      if (listed.connections.length || listed.facts.packets) {
+      if (listed.connections.length || listed.isNew) {
         if (listed.isNew || !this.names) this.names = names;
         document.body.classList.remove('landing');
         this.drawFile();
@@ -108,8 +108,10 @@ export class App {
     for (const id of ['#why', '#kinds', '#summary', '#overview', '#count']) $(id).replaceChildren();
     const utp = utpPackets(facts);
     const what = utp ? ` ${plural(utp, 'packet is', 'packets are')} uTP, BitTorrent over UDP, which isn't read.` : '';
+    const had = facts.packets ? `The capture has ${plural(facts.packets, 'packet')}; ${grouped(facts.skipped)} of them aren't TCP.${what}`
+      : `The file begins as a capture, and has no whole packet${facts.isCut ? ': it ends inside the first one' : ''}.`;
     $('#ends').replaceChildren(h('div.end.missing', h('b', 'No BitTorrent connection over TCP'),
-      h('div.dim', `The capture has ${plural(facts.packets, 'packet')}; ${grouped(facts.skipped)} of them aren't TCP.${what}`)));
+      h('div.dim', had)));
     this.inspector.clear('No TCP connection of this capture has a BitTorrent handshake.');
   }
 
