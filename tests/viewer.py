@@ -328,7 +328,12 @@ def check_refusal(page, folder):
          "type the count above, or drop the .torrent.byte 82 ↘")
     same("what was typed", page.run("[...document.querySelectorAll('#options input')].map(input => input.value).join('')"), "")
     same("the row of the file before", page.run("location.hash.includes('at=0-A-78') || location.hash.includes('pieces')"), False)
-    opened(page, [keep(os.path.join(folder, "unasked.pcap"), btcap_tests().dropped()[0])])
+    for name, words, capture, _, _, said in btcap_tests().drops():
+        opened(page, [keep(os.path.join(folder, "drop.pcap"), capture)])
+        page.run("viewer.setPieces('%s')" % (words[1] if words else ""))
+        text = text_at(page, ".whytext")
+        found = text.startswith("B closed the connection, by FIN, 2.00 ms after A sent ") and said in text
+        same("why it closed, after %s: %s" % (name, text), found, True)
     same("a remark as the reason", text_at(page, ".whytext"),
          'B closed the connection, by FIN, 2.00 ms after A sent an answer that nobody asked for, "piece 0 0 1".byte 73 ↘')
     opened(page, [example("small.pcap")])
