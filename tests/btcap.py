@@ -553,6 +553,33 @@ def dropped():
 """
 
 
+def drops():
+    """The six streams for which libtorrent 2.0.8 hangs up, by its own log: the name, the words, the capture, btcap's lines, the
+    status, and what is wrong in a sentence. Five are refused in one direction, and both together show the sixth."""
+    plain = "0000000000100000"
+    rows = [("a length above the limit", "0000000000100005", b"\x0f", struct.pack(">IB", 2000000, 7), 73, 2, "TooLong",
+             "The message has the length 2000000, and the receiver takes at most 262144"),
+            ("an unknown id", "0000000000100005", b"\x0f", message(b"\x63"), 77, 2, "UnknownId",
+             "The message has the id 99, and BEP 3, 5, 6 and 10 have no such id"),
+            ("a wrong length", "0000000000100005", b"\x0f", message(b"\x04\0\0\1"), 73, 2, "WrongLength",
+             "The message has the length 4, and the length of a have message is 5"),
+            ("an extension that isn't on", plain, b"\x0f", b"", 72, 1, "NotNegotiated",
+             "A have none message needs the Fast Extension, and the two handshakes do not both have its reserved bit")]
+    yield "an index that is too high", ["--pieces", "38"], *fault(), 1, "the have message names piece 38"
+    for name, reserved, first, wrong, at, message_, reason, why in rows:
+        left, right = handshakes()[0], hand(b"-BB0001-000000000000", reserved)
+        stream = left + message(first) + wrong
+        found = Talk().say("A", left).say("B", right).say("A", stream[68:]).close("B")
+        refused, size = "refused message=%d at=%d %s" % (message_, at, reason), len(stream)
+        free = "ok messages=2 bytes=%d" % size if reason == "UnknownId" else refused
+        last = "73 unknown 99 0" if reason == "UnknownId" else refused
+        lines = report("-AA0001-000000000000", size, free, refused, "--reserved %s --metadata-id 0" % reserved, why=why) + empty_b()
+        lines += "  B closed first, by FIN, at 0.009000 s\n    A had sent %d bytes, last: %s\n    B had sent 68 bytes, last: %s\n"
+        line_b = LINE_B.replace("0000000000100005", reserved)
+        yield name, [], pcap(frames(found.packets)), NAMES + lines % (size, last, line_b), int(free == refused), why[0].lower() + why[1:]
+    yield "a block that nobody asked for", [], *dropped(), 0, "an answer that nobody asked for"
+
+
 def udp(ends, payload):
     datagram = struct.pack(">HHHH", ends[0][1], ends[1][1], 8 + len(payload), 0) + payload
     hosts = b"".join(socket.inet_aton(host) for host, _ in ends)
@@ -606,7 +633,7 @@ def rows():
     yield "the two directions together", [], *together(), b"", 0
     yield "requests without an answer", [], *choked(), b"", 0
     yield "a request that is passed over", [], *passed_over(), b"", 0
-    yield "a block that nobody asked for", [], *dropped(), b"", 0
+    yield from ((name, words, file, lines, b"", status) for name, words, file, lines, status, _ in drops())
     yield "uTP", [], *utp(), b"no BitTorrent connection in 5 packets", 3
     yield "no packet", [], whole[:24], "", b"no BitTorrent connection in 0 packets", 3
     yield "no handshake", [], pcap(frames(Talk().packets)), "", b"no BitTorrent connection in 3 packets", 3

@@ -216,10 +216,12 @@ def check_captures(page, folder):
         if status == 2 or callable(wanted) or "BadExtLength" in wanted:
             continue
         path = keep(os.path.join(folder, "capture.pcap"), capture)
-        page.run("viewer.setPieces('%s')" % (words[words.index("--pieces") + 1] if "--pieces" in words else ""))
-        found = as_btcap(page, opened(page, [path, torrent] if "--torrent" in words else [path]), "--show" in words)
+        listed = opened(page, [path, torrent] if "--torrent" in words else [path])
+        if "--pieces" in words:
+            page.run("viewer.setPieces('%s')" % words[words.index("--pieces") + 1])
+            listed = page.run("viewer.listed")
+        found = as_btcap(page, listed, "--show" in words)
         same("btcap: " + name, found, softened(wanted, found))
-    page.run("viewer.setPieces('')")
 
 
 def broken(packets, chance):
@@ -317,14 +319,21 @@ def check_refusal(page, folder):
     same("its row", text_at(page, ".row.e-refused.on .det"), "BadIndex at 78 · message 2 · rules free")
     same("the link", page.run("location.hash.includes('at=0-A-78')"), True)
     same("marks of what is proved", page.run("document.querySelectorAll('#why .proved, #summary .proved, .row .proved').length"), 0)
-    # of any other capture the piece count isn't known, and the page says so
+    # what belongs to one file isn't kept for the next one: of that the piece count isn't known, and the page says so
+    page.run("document.querySelector('#limit').value = '20000'")
     capture = content(example("refused.pcap"))
-    page.run("viewer.setPieces('')")
     opened(page, [keep(os.path.join(folder, "other.pcap"), capture[:24] + capture[24:].replace(b"-AA0001-", b"-AA0002-"))])
     same("no piece count", text_at(page, ".whytext").split("last message of A, ")[1],
          '"interested". Nothing that A sent is refused. No piece count is known, so nobody judged whether piece 38 exists: '
          "type the count above, or drop the .torrent.byte 82 ↘")
-    opened(page, [keep(os.path.join(folder, "unasked.pcap"), btcap_tests().dropped()[0])])
+    same("what was typed", page.run("[...document.querySelectorAll('#options input')].map(input => input.value).join('')"), "")
+    same("the row of the file before", page.run("location.hash.includes('at=0-A-78') || location.hash.includes('pieces')"), False)
+    for name, words, capture, _, _, said in btcap_tests().drops():
+        opened(page, [keep(os.path.join(folder, "drop.pcap"), capture)])
+        page.run("viewer.setPieces('%s')" % (words[1] if words else ""))
+        text = text_at(page, ".whytext")
+        found = text.startswith("B closed the connection, by FIN, 2.00 ms after A sent ") and said in text
+        same("why it closed, after %s: %s" % (name, text), found, True)
     same("a remark as the reason", text_at(page, ".whytext"),
          'B closed the connection, by FIN, 2.00 ms after A sent an answer that nobody asked for, "piece 0 0 1".byte 73 ↘')
     opened(page, [example("small.pcap")])
@@ -417,6 +426,7 @@ def check_files(page, folder):
     with gzip.open(packed, "wb") as out:
         out.write(content(example("small.pcap")))
     same("a compressed capture", opened(page, [packed])["connections"][0]["metadata"]["name"], "i25k")
+    check_broken_files(page, folder)
     # a .torrent of the info dictionary that the capture has
     stream = content(example("serving.bin"))
     first, second = stream.index(b"total_sizei25486ee", 301) + 18, stream.index(b"total_sizei25486ee", 16736) + 18
@@ -424,6 +434,33 @@ def check_files(page, folder):
     same("a .torrent", [side["own"]["pieces"] for side in opened(page, [torrent])["connections"][0]["sides"]], [1, 1])
     # nothing may leave the page: its policy refuses a request
     same("no network", page.run("fetch('http://127.0.0.1:9/').then(() => 'sent', () => 'refused')"), "refused")
+
+
+def check_broken_files(page, folder):
+    """Files that can't be read: it is said, and what is open stays. A capture without a packet, and a browser without the reader."""
+    opened(page, [example("small.pcap")])
+    section = struct.pack("<IIIHHq", 0x0A0D0D0A, 28, 0x1A2B3C4D, 1, 0, -1) + struct.pack("<I", 28)
+    rows = [("broken.pcapng", section + struct.pack("<II", 6, 8) + bytes(40), "a block of the pcapng file has an impossible length"),
+            ("broken.gz", b"\x1f\x8b\x08broken", "broken.gz can't be unpacked: its gzip data is broken or cut"),
+            ("empty.pcap", b"", "empty.pcap is empty")]
+    for name, data, said in rows:
+        opened(page, [keep(os.path.join(folder, name), data)])
+        same(name, text_at(page, "#toast"), said)
+        page.run("viewer.pick(4)")
+        same("what was open before " + name, (text_at(page, "#file b"), page.until(SHOWN % 4)), ("small.pcap", "metadata-request"))
+    opened(page, [keep(os.path.join(folder, "head.pcap"), content(example("small.pcap"))[:30])])
+    same("no packet", (text_at(page, "#file b"), text_at(page, "#ends .dim"), page.run("viewer.total")),
+         ("head.pcap", "The file begins as a capture, and has no whole packet: it ends inside the first one.", 0))
+    with open(PAGE, encoding="utf8") as file:
+        text = file.read()
+    check = "WebAssembly.validate("
+    same("places where the browser is asked", text.count(check), 1)
+    page.open("file://" + keep(os.path.join(folder, "old.html"), text.replace(check, "(() => false)(").encode()))
+    said = page.run("document.querySelector('#nowasm').innerText")
+    same("a browser without 64-bit memories: " + said, all(it in said for it in ("memories of 64 bits", "Chromium", "133", "Firefox", "134")), True)
+    opened(page, [example("small.pcap")])
+    same("a file in such a browser", text_at(page, "#toast"), said)
+    page.open("file://%s#example=small&theme=dark" % PAGE)
 
 
 def check_build(folder):

@@ -1,5 +1,6 @@
 """The client under test as a process: started, watched, started again."""
 import os
+import random
 import shutil
 import signal
 import socket
@@ -20,15 +21,29 @@ def alive(pid):
 GIVEN = set()
 
 
+def ports():
+    """Ports that the system gives to no connection, which would take one before the client listens there; any if it leaves few."""
+    try:
+        with open("/proc/sys/net/ipv4/ip_local_port_range") as file:
+            end = int(file.read().split()[0])
+    except OSError:
+        end = 0
+    return range(10240, end) if end > 12000 else [0]
+
+
 def free_port(host):
-    """A port that is free, and that wasn't given before."""
-    while True:
+    """A port that is free, and that wasn't given before. Raises OSError."""
+    for _ in range(1000):
         with socket.socket(socket.AF_INET6 if ":" in host else socket.AF_INET) as taken:
-            taken.bind((host, 0))
+            try:
+                taken.bind((host, random.choice(ports())))
+            except OSError:
+                continue
             port = taken.getsockname()[1]
         if port not in GIVEN:
             GIVEN.add(port)
             return port
+    raise OSError("no port of %s is free" % host)
 
 
 class Watched:

@@ -119,17 +119,21 @@ def play(words):
     known = report.read_known(words.known) if words.known else []
     options = suite.Options(words.patience, words.unchoke, words.level, max(1, words.jobs), words.settle)
 
+    count = report.counter(len(chosen))
+
     def tell(result):
         if result["id"] in known and result["result"] == "fail":
             return
         if not words.quiet or result["result"] in ("fail", "error"):
+            count(None)
             print(report.line(result), flush=True)
     with tempfile.TemporaryDirectory(prefix="peertest-") as folder:
         dialler, watched = ends(words, subject, folder)
-        run = suite.Suite(subject, mode, chosen, dialler, watched, options, tell)
+        run = suite.Suite(subject, mode, chosen, dialler, watched, options, tell, count)
         try:
             return finish(words, run, loaded, known)
         finally:
+            count(None)
             watched.stop()
 
 
@@ -144,6 +148,7 @@ def finish(words, run, loaded, known):
         print("Is the torrent loaded and checked? Does it take plain TCP, without encryption, from this machine?", file=sys.stderr)
         return 3
     status = run.run()
+    run.count(None)
     results = [run.results[case.id] for case in run.cases if case.id in run.results]
     better = report.forgive(results, known)
     seconds = time.monotonic() - begin

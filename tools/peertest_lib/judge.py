@@ -23,7 +23,7 @@ def holds(condition, play, words):
     if name in ("closed", "silent", "open"):
         return state == name
     if name == "crowd":
-        return play.crowd >= int(rest)
+        return play.crowd is not None and play.crowd >= int(rest)
     if name == "alive":
         # A client that can't be asked counts as alive if it keeps the connection.
         return state == "alive" or state == "open" and play.kind == "auto"

@@ -155,13 +155,15 @@ class Play:
 
     def step_crowd(self, text):
         """So many more connections, each with a handshake, which stay open until the case ends."""
-        self.crowd = 0
+        self.crowd, missed = 0, 0
         for _ in range(0 if self.link.dry else int(text)):
             try:
                 other = self.others()
                 other.agree(0)
                 other.send(wire.handshake(0, other.torrent.hash, other.peer_id))
-                self.crowd += other.until(lambda: other.heard.theirs is not None, 1.5)
+                # (a client that is full answers none of those that come then)
+                answered = other.until(lambda: other.heard.theirs is not None, 1.5 if missed < 3 else 0.02)
+                self.crowd, missed = self.crowd + answered, 0 if answered else missed + 1
             except OSError:
                 return
 

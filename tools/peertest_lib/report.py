@@ -2,6 +2,7 @@
 import collections
 import json
 import os
+import sys
 from xml.sax.saxutils import escape, quoteattr
 
 from . import judge
@@ -13,6 +14,15 @@ def line(result):
     if result["result"] == "fail":
         text += '\n      %s, "%s" (%s, paraphrased): %s' % (result["bep"], result["section"], result["level"], result["text"])
     return text
+
+
+def counter(total):
+    """Shows on a terminal how many cases were played: results come when it is known that the client lives. None takes the line away."""
+    def count(played):
+        if sys.stderr.isatty():
+            sys.stderr.write("\r\033[K" + ("" if played is None else "peertest: %d of %d cases" % (min(played, total), total)))
+            sys.stderr.flush()
+    return count
 
 
 def listed(cases):

@@ -55,13 +55,13 @@ def lives_on(client, seconds=0.3):
 
 
 class Suite:
-    """The cases against one client. `tell` is called with each result."""
+    """The cases against one client. `tell` is called with each result, `count` with how many were played."""
 
-    def __init__(self, torrent, mode, cases, dialler, client, options, tell=lambda result: None):
+    def __init__(self, torrent, mode, cases, dialler, client, options, tell=lambda result: None, count=lambda played: None):
         self.torrent, self.mode, self.cases, self.dialler, self.client = torrent, mode, cases, dialler, client
         self.options, self.tell, self.results, self.died = options, tell, {}, []
         self.peer_id, self.starts, self.lock, self.moved = "", 0, threading.Lock(), {}
-        self.gone = False
+        self.gone, self.count, self.played = False, count, 0
 
     def play(self, case, dialler=None):
         """One case, with the client that runs or the one of another dialler."""
@@ -255,6 +255,8 @@ class Suite:
                     result.end = time.monotonic()
                 with self.lock:
                     done.append(result)
+                    self.played += 1
+                    self.count(self.played)
                     if is_dead(result):
                         dead.append(time.monotonic())
         threads = [threading.Thread(target=work) for _ in range(min(jobs, len(cases)))]

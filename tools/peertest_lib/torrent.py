@@ -97,20 +97,21 @@ class Torrent:
 
 
 PIECE, PIECES, LAST = 32768, 38, 17000
+TRACKER = b"http://127.0.0.1:1/announce"
 
 
 def make(folder):
     """Writes peertest.torrent and its data, peertest.bin.
 
     It has 38 pieces of two blocks, the last one shorter, so that a bitfield has spare bits and a last block is short. The metadata
-    has two blocks. The same bytes come each time.
+    has two blocks. The same bytes come each time. It names a tracker that isn't there, since rtorrent loads no torrent without one.
     """
     os.makedirs(folder, exist_ok=True)
     data = random.Random(7).randbytes((PIECES - 1) * PIECE + LAST)
     digests = b"".join(hashlib.sha1(data[at:at + PIECE]).digest() for at in range(0, len(data), PIECE))
     info = {b"length": len(data), b"name": b"peertest.bin", b"piece length": PIECE, b"pieces": digests, b"x_pad": b"x" * 20000}
     names = [os.path.join(folder, "peertest" + end) for end in (".torrent", ".bin")]
-    for name, content in zip(names, (b"d4:info" + encode(info) + b"e", data)):
+    for name, content in zip(names, (b"d8:announce" + encode(TRACKER) + b"4:info" + encode(info) + b"e", data)):
         with open(name, "wb") as file:
             file.write(content)
     return names

@@ -20,6 +20,8 @@ import { Traffic } from './traffic.js';
  *  isRaw: boolean, metadata?: import('./types.js').Info | null }} Pair two directions of a connection
  */
 
+/** @type {import('./types.js').Options} */
+const NO_OPTIONS = { pieces: null, limit: null, reserved: null, metadataId: null, infoHash: null };
 const MOST_TORRENT = 64 << 20;
 const LINES_AT_ONCE = 1 << 15, BYTES_AT_ONCE = 16 << 20;
 const ROWS_BETWEEN = 1 << 16;   // rows that a search looks at before it lets another question in
@@ -32,7 +34,7 @@ export class Session {
     /** @type {Pair[]} */ this.pairs = [];
     /** @type {Map<string, import('./types.js').Info>} */ this.torrents = new Map();
     /** @type {import('./types.js').Options} */
-    this.options = { pieces: null, limit: null, reserved: null, metadataId: null, infoHash: null };
+    this.options = NO_OPTIONS;
     this.facts = this.emptyFacts(0);
     /** @type {Pair | null} */ this.current = null;
     /** @type {Conversation | null} */ this.talk = null;
@@ -49,10 +51,11 @@ export class Session {
   }
 
   /**
-   * Opens files in place of what is open. A .torrent gives piece counts to what is open.
-   * @param {OpenFile[]} files
+   * Opens files in place of what is open, with this piece count and without the options that were typed for what was open. A .torrent
+   * gives piece counts to what is open.
+   * @param {OpenFile[]} files @param {number | null} [pieces]
    */
-  open(files) {
+  open(files, pieces = null) {
     /** @type {OpenFile[]} */ const captures = [], raw = [];
     let learned = null;
     for (const file of files) {
@@ -63,16 +66,32 @@ export class Session {
       else if (torrent?.pieces) this.torrents.set((learned = torrent).infoHash, torrent);
       else raw.push(file);
     }
-    if (captures.length || raw.length) {
-      this.pairs = [];
+    const isNew = captures.length + raw.length > 0;
+    if (isNew) {
+      this.replace(captures, raw);
+      this.options = { ...NO_OPTIONS, pieces };
       this.current = this.talk = null;
-      this.facts = this.emptyFacts(files.reduce((sum, { bytes }) => sum + bytes.length, 0));
-      this.facts.isRaw = !captures.length;
-      for (const capture of captures) this.openCapture(capture);
-      for (const pair of pairsOfRaw(raw)) this.pairs.push({ ...pair, number: this.pairs.length });
     }
     this.judgeAll();
-    return { ...this.list(), learned };
+    return { ...this.list(), learned, isNew };
+  }
+
+  /**
+   * Takes these files in place of what is open. If one can't be read, what is open stays.
+   * @param {OpenFile[]} captures @param {OpenFile[]} raw
+   */
+  replace(captures, raw) {
+    const { pairs, facts } = this;
+    this.pairs = [];
+    this.facts = this.emptyFacts([...captures, ...raw].reduce((sum, { bytes }) => sum + bytes.length, 0));
+    this.facts.isRaw = !captures.length;
+    try {
+      for (const capture of captures) this.openCapture(capture);
+      for (const pair of pairsOfRaw(raw)) this.pairs.push({ ...pair, number: this.pairs.length });
+    } catch (error) {
+      Object.assign(this, { pairs, facts });
+      throw error;
+    }
   }
 
   /** @param {OpenFile} file */
@@ -108,7 +127,7 @@ export class Session {
 
   /** @param {import('./types.js').Options} given */
   setOptions(given) {
-    Object.assign(this.options, given);
+    this.options = { ...this.options, ...given };
     this.judgeAll();
     return this.list();
   }

@@ -27,31 +27,38 @@ export class App {
     /** @type {any} */ this.row = null;
     this.rules = 'free';
     this.tab = 'sequence';
-    this.names = '';
+    this.names = this.example = '';
+    /** @type {URLSearchParams | null} what the address asks of the first file */ this.asked = askedBy(location.hash);
     /** @type {() => void} */ this.redrawSummary = () => {};
     this.backend = new Backend(progress => showProgress(progress));
     this.filters = new Filters(() => this.filter());
     this.inspector = new Inspector($('#inspector'), tables, row => this.pickRow(row, true));
     this.list = new VirtualList($('#rows'), { height: ROW_HEIGHT, fetch: (from, to) => this.backend.call('rows', { from, to }),
-      draw: drawRows(this, tables.remarks), onPick: place => this.pick(place) });
+      draw: drawRows(this, tables.remarks), onPick: place => this.pick(place).then(readInOneColumn) });
   }
 
   // ---- opening
 
-  /** @param {{ name: string, file: Blob }[]} files @param {string} names */
-  async open(files, names) {
+  /**
+   * Opens files. `example` is the page's example that they are, and `pieces` the piece count of its torrent.
+   * @param {{ name: string, file: Blob }[]} files @param {string} names @param {string} [example] @param {string} [pieces]
+   */
+  async open(files, names, example = '', pieces = '') {
     document.body.classList.add('busy');
     try {
-      const listed = await this.backend.call('open', { files }), { learned } = listed;
+      const asked = this.asked?.get('pieces') ?? pieces, count = /^\d{1,9}$/.test(asked) ? asked : '';
+      const listed = await this.backend.call('open', { files, pieces: count ? Number(count) : null }), { learned } = listed;
       this.listed = listed;
+      if (listed.isNew) this.forget(count, example);
       const judged = 'Indexes and bitfields of its connections are judged now.';
       if (learned) say(`${learned.name ?? 'The torrent'} has ${plural(learned.pieces, 'piece')}. ${judged}`);
-      if (listed.connections.length || listed.facts.packets) {
-        if (!learned || !this.names) this.names = names;
+      if (listed.connections.length || listed.isNew) {
+        if (listed.isNew || !this.names) this.names = names;
         document.body.classList.remove('landing');
         this.drawFile();
-        if (listed.connections.length) await this.openAsked(learned ? this.id : 0);
+        if (listed.connections.length) await this.openAsked(listed.isNew ? 0 : this.id);
         else this.showNone();
+        this.asked = null;
       }
     } catch (error) {
       say(error instanceof Error ? error.message : String(error), true);
@@ -63,11 +70,24 @@ export class App {
   }
 
   /**
-   * Opens the connection and the row that the address names, if it names one.
+   * Forgets what was typed for the file before: another torrent has another piece count.
+   * @param {string} pieces @param {string} example
+   */
+  forget(pieces, example) {
+    for (const input of $$('#options input')) {
+      input.value = '';
+      input.removeAttribute('aria-invalid');
+    }
+    $('#pieces').value = pieces;
+    this.example = example;
+  }
+
+  /**
+   * Opens a connection, or for the first file the connection and the row that the address names.
    * @param {number} id
    */
   async openAsked(id) {
-    const place = placeOf(askedBy(location.hash).get('at')), found = place
+    const place = placeOf(this.asked?.get('at') ?? null), found = place
       ? this.listed.connections.findIndex((/** @type {any} */ it) => it.number === place.number) : -1;
     await this.openConnection(Math.min(found >= 0 ? found : id, this.listed.connections.length - 1));
     if (found >= 0) await this.goTo(place);
@@ -88,8 +108,10 @@ export class App {
     for (const id of ['#why', '#kinds', '#summary', '#overview', '#count']) $(id).replaceChildren();
     const utp = utpPackets(facts);
     const what = utp ? ` ${plural(utp, 'packet is', 'packets are')} uTP, BitTorrent over UDP, which isn't read.` : '';
+    const had = facts.packets ? `The capture has ${plural(facts.packets, 'packet')}; ${grouped(facts.skipped)} of them aren't TCP.${what}`
+      : `The file begins as a capture, and has no whole packet${facts.isCut ? ': it ends inside the first one' : ''}.`;
     $('#ends').replaceChildren(h('div.end.missing', h('b', 'No BitTorrent connection over TCP'),
-      h('div.dim', `The capture has ${plural(facts.packets, 'packet')}; ${grouped(facts.skipped)} of them aren't TCP.${what}`)));
+      h('div.dim', had)));
     this.inspector.clear('No TCP connection of this capture has a BitTorrent handshake.');
   }
 
@@ -109,7 +131,7 @@ export class App {
     this.selected = this.mate = -1;
     this.row = null;
     const it = this.it = await this.backend.call('select', { id, rules: this.rules }), onJump = (/** @type {number} */ row) =>
-      this.jump(row);
+      this.jump(row).then(readInOneColumn);
     this.drawList();
     drawEnds($('#ends'), it, { lines: (side, json) => this.saveLines(side, json), stream: side => this.saveStream(side) });
     drawWhy($('#why'), it, this.tables, onJump);
@@ -147,7 +169,8 @@ export class App {
     if (this.selected !== row.r) return;
     this.inspector.show(message);
     document.body.dataset.shown = row.r;
-    history.replaceState(null, '', linkTo(this.it.number, row, this.rules, $('#pieces').value));
+    history.replaceState(null, '', linkTo(this.it.number, row,
+      { rules: this.rules, pieces: $('#pieces').value, example: this.example }));
   }
 
   /** @param {number} row @param {boolean} isCentred */
@@ -232,11 +255,10 @@ export class App {
     if (this.it) await this.openConnection(this.id);
   }
 
-  /** @param {string} pieces @param {string} [text] */
-  async setPieces(pieces, text) {
+  /** @param {string} pieces */
+  async setPieces(pieces) {
     $('#pieces').value = pieces;
     await this.setOptions();
-    if (text) say(text);
   }
 
   async setOptions() {
@@ -263,6 +285,11 @@ export class App {
   }
 
   print() { return printRows(this); }
+}
+
+/** On a narrow page the message stands below the rows: goes there. */
+function readInOneColumn() {
+  if (matchMedia('(max-width: 860px)').matches) $('#inspector').scrollIntoView();
 }
 
 /** @param {{ phase: string, part: number }} progress */

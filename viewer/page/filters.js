@@ -63,7 +63,7 @@ export class Filters {
     $('#kinds').replaceChildren(...NAMES.flatMap((name, k) => counts[k]
       ? [h(`button.kind.g${k}`, { class: this.groups[k] ? 'on' : '', title: TITLES[name] ?? name,
       'data-k': k, 'aria-pressed': String(this.groups[k]), onclick: (/** @type {MouseEvent} */ event) => this.pick(k, event) },
-        name, h('span', grouped(counts[k])))] : []));
+        name, ' ', h('span', grouped(counts[k])))] : []));
     for (const button of $$('#sides button')) press(button, Number(button.dataset.side) === this.side);
     press($('#only'), this.isRemarked);
   }

@@ -10,11 +10,12 @@ export function placeOf(text) {
 }
 
 /**
- * The address of a row, with what else it needs to be the same.
- * @param {number} number @param {any} row @param {string} rules @param {string} pieces
+ * The address of a row, with what else it needs to be the same. `example` is empty for a file.
+ * @param {number} number @param {any} row @param {{ rules: string, pieces: string, example: string }} how
  */
-export function linkTo(number, row, rules, pieces) {
+export function linkTo(number, row, { rules, pieces, example }) {
   const asked = askedBy(location.hash);
+  if (example) asked.set('example', example); else asked.delete('example');
   asked.set('at', `${number}-${'AB'[row.side]}-${row.event?.verdict ? row.event.verdict.at : row.offset}`);
   if (rules === 'bep') asked.set('rules', 'bep'); else asked.delete('rules');
   if (pieces) asked.set('pieces', pieces); else asked.delete('pieces');

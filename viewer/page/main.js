@@ -58,8 +58,7 @@ async function start() {
   await app.backend.call('start', { wasm: decode($('#wasm').textContent) });
   document.body.dataset.ready = 'yes';
   if (asked.get('rules') === 'bep') await app.setRules('bep');
-  if (asked.get('pieces')) await app.setPieces(asked.get('pieces'));
-  if (asked.get('example')) await openExample(app, asked.get('example'), asked.get('pieces') ?? undefined);
+  if (asked.get('example')) await openExample(app, asked.get('example'));
   if (asked.get('tab')) app.showTab(asked.get('tab') === 'summary' ? 'summary' : 'sequence');
   document.body.dataset.state = 'done';
 }

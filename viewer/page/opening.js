@@ -1,5 +1,5 @@
 // Ways to open files: the chooser, dropping, the examples of the page.
-import { $, $$, plural } from './dom.js';
+import { $, $$, plural, say } from './dom.js';
 
 /** @typedef {import('./app.js').App} App */
 
@@ -32,17 +32,16 @@ async function exampleOf(file) {
 /** @param {App} app @param {File[]} files */
 export async function openFiles(app, files) {
   if (!files.length) return;
-  const name = files.length === 1 ? await exampleOf(files[0]) : undefined;
-  if (name && !$('#pieces').value && PIECES[name]) await app.setPieces(PIECES[name],
-    `This is the example of the page. Its torrent has ${PIECES[name]} pieces.`);
-  await app.open(files.map(file => ({ name: file.name, file })), files.length === 1 ? files[0].name : plural(files.length, 'file'));
+  const name = files.length === 1 ? await exampleOf(files[0]) : undefined, pieces = name ? PIECES[name] : '';
+  await app.open(files.map(file => ({ name: file.name, file })), files.length === 1 ? files[0].name : plural(files.length, 'file'), '',
+    pieces);
+  if (pieces) say(`This is the example of the page. Its torrent has ${pieces} pieces.`);
 }
 
-/** @param {App} app @param {string} name @param {string} [pieces] */
-export async function openExample(app, name, pieces = PIECES[name]) {
-  if (!(name in PIECES)) return;
-  await app.setPieces(pieces ?? '');
-  await app.open([{ name: `${name}.pcap`, file: new Blob([exampleBytes(name)]) }], `${name}.pcap`);
+/** @param {App} app @param {string} name */
+export async function openExample(app, name) {
+  if (!Object.hasOwn(PIECES, name)) return;
+  await app.open([{ name: `${name}.pcap`, file: new Blob([exampleBytes(name)]) }], `${name}.pcap`, name, PIECES[name]);
 }
 
 /** @param {App} app */
