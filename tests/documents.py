@@ -171,6 +171,13 @@ def dead_links(document):
     return ["%s: no such file: %s\n" % (document, link) for link in links if link and not os.path.exists(os.path.join(folder, link))]
 
 
+def bare_blocks(document):
+    """The blocks that no language is named for."""
+    lines = content(os.path.join(ROOT, document)).decode().splitlines()
+    fences = [(number, line.strip()) for number, line in enumerate(lines, 1) if line.lstrip().startswith("```")]
+    return ["%s:%d: a block without a language\n" % (document, number) for number, fence in fences[::2] if fence == "```"]
+
+
 def fragments():
     """What compilers say of the fragments of C and Python in README.md, which are parts of functions."""
     wrong = []
@@ -203,7 +210,7 @@ def main():
     } else ["examples/small.pcap: not the two directions of which it was made\n"]
     wrong += pictured() + unquoted() + unproved() + uncalled()
     for path in glob.glob(os.path.join(ROOT, "**/*.md"), recursive=True):
-        wrong += dead_links(os.path.relpath(path, ROOT))
+        wrong += dead_links(os.path.relpath(path, ROOT)) + bare_blocks(os.path.relpath(path, ROOT))
     wrong += fragments()
     if subprocess.run([program, "--version"], stdout=subprocess.DEVNULL).returncode:
         sys.exit("documents: failed: %s --version" % program)
