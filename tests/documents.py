@@ -16,6 +16,7 @@ import glob
 import os
 import re
 import shlex
+import shutil
 import struct
 import subprocess
 import sys
@@ -183,6 +184,30 @@ def dead_links(document):
     return ["%s: no such file: %s\n" % (document, link) for link in links if link and not os.path.exists(os.path.join(folder, link))]
 
 
+def bare_blocks(document):
+    """The blocks that no language is named for."""
+    lines = content(os.path.join(ROOT, document)).decode().splitlines()
+    fences = [(number, line.strip()) for number, line in enumerate(lines, 1) if line.lstrip().startswith("```")]
+    return ["%s:%d: a block without a language\n" % (document, number) for number, fence in fences[::2] if fence == "```"]
+
+
+def fragments():
+    """What compilers say of the fragments of C and Python in README.md, which are parts of functions."""
+    wrong = []
+    compilers = {"c": ["cc", "-std=c11", "-fsyntax-only", "-Wall", "-Wextra", "-Werror", "-I", os.path.join(ROOT, "crates/bt_c"), "-xc", "-"],
+                 "python": [sys.executable, "-c", "compile(open(0).read(), 'README.md', 'exec')"]}
+    function = """#include "bt.h"
+        uint32_t f(const uint8_t *bytes, size_t n) { bt_reader reader; bt_item item; uint32_t answer; %s return answer; }"""
+    for language, text in re.findall(r"^```(c|python)\n(.*?)^```$", content(os.path.join(ROOT, "README.md")).decode(), re.M | re.S):
+        words = compilers[language]
+        if not shutil.which(words[0]):
+            print("documents: a fragment of README.md isn't compiled, since there is no " + words[0])
+            continue
+        done = subprocess.run(words, input=function % text if language == "c" else text, stderr=subprocess.PIPE, text=True)
+        wrong += ["README.md:\n%s%s" % (text, done.stderr)] if done.returncode else []
+    return wrong
+
+
 def make_folder(folder, program):
     for name in ("examples", "tools", "dist"):
         os.symlink(os.path.join(ROOT, name), os.path.join(folder, name))
@@ -198,7 +223,8 @@ def main():
     } else ["examples/small.pcap: not the two directions of which it was made\n"]
     wrong += pictured() + unquoted() + uncompiled() + unproved() + uncalled()
     for path in glob.glob(os.path.join(ROOT, "**/*.md"), recursive=True):
-        wrong += dead_links(os.path.relpath(path, ROOT))
+        wrong += dead_links(os.path.relpath(path, ROOT)) + bare_blocks(os.path.relpath(path, ROOT))
+    wrong += fragments()
     if subprocess.run([program, "--version"], stdout=subprocess.DEVNULL).returncode:
         sys.exit("documents: failed: %s --version" % program)
     counts = Counter()
