@@ -6,17 +6,18 @@ usage: tests/faults.py [PROGRAM]
 PROGRAM is the built program, or else the script `bt_tool` at the top of the repository. It is run over a `malloc`, a `read` and a
 `write` that count their calls and refuse or fail the Nth, or have it take nothing, for N = 1, 2, .. until a run makes fewer. What
 is wanted follows from docs/COMMANDS.md: at a fault a prefix of what the command writes is written, standard error has the fault's
-line alone, and the status is 3; otherwise nothing differs. `fetch` has a peer of tests/peers.py; `serve` isn't run here. Without a
-C compiler, as `cc`, nothing is run.
+line alone, and the status is 3; otherwise nothing differs. `fetch` has a peer of tests/peers.py, and `serve` one that asks it for a
+block. Without a C compiler, as `cc`, nothing is run.
 """
 import hashlib
 import os
 import shutil
+import socket
 import subprocess
 import sys
 import tempfile
 
-from peers import INFO, Peer, giving, info_of
+from peers import INFO, Link, Peer, giving, handshake, info_of
 from statuses import FETCH, FETCHED, HAND, HASH, HAVE_9, JSON_HAND, LINE, ROOT, TWO, NO_STEPS, message, naming
 
 # A run makes far fewer calls.
@@ -289,6 +290,50 @@ def fetching(runner):
     peer.close()
 
 
+def served_by(port, info):
+    """The one block of the metadata that `serve` gives, and the address of this end; None if it closes before."""
+    link = Link(socket.create_connection(("127.0.0.1", port)))
+    address = "127.0.0.1:%d" % link.link.getsockname()[1]
+    try:
+        link.send(handshake(info_hash=hashlib.sha1(info).digest()), naming(7), message(b"\x14\x03d8:msg_typei0e5:piecei0ee"))
+        link.exactly(68)
+        got = link.receive()
+        while got[:2] != b"\x14\7":
+            got = link.receive()
+        return got[-len(info):], address
+    except OSError:
+        return None, address
+    finally:
+        link.link.close()
+
+
+def serving(runner):
+    """Each request for memory of a `serve` is refused: that ends it, or its connection alone, or changes nothing."""
+    tiny = info_of(100)
+    with open(os.path.join(runner.work, "info"), "wb") as file:
+        file.write(tiny)
+    words = [runner.program, "serve", "--connections", "1", "info"]
+    for number in range(1, MOST):
+        runner.runs += 1
+        process = subprocess.Popen(words, stdin=subprocess.DEVNULL, stdout=subprocess.PIPE, stderr=subprocess.PIPE, cwd=runner.work,
+                                   env={"LD_PRELOAD": runner.library, "MADE": runner.made, "MEMORY": str(number)})
+        first = process.stdout.readline()
+        block, address = served_by(int(first.rsplit(b":", 1)[1]), tiny) if first else (None, "")
+        out, errors = process.communicate(timeout=60)
+        was_made = os.path.exists(runner.made)
+        if was_made:
+            os.remove(runner.made)
+        lines = out.decode().splitlines()
+        is_served = (block, errors, process.returncode, lines) == (tiny, b"", 0, [address + " sent=4 handled=3 closed"])
+        is_closed = (block, errors, process.returncode, len(lines)) == (None, b"", 0, 1) and lines[0].startswith(address) and lines[0].endswith(" closed")
+        is_fault = (block, errors, process.returncode) == (None, b"fault: memory\n", 3) and lines in ([], [address + " sent=0 handled=0 closed"])
+        if not (is_served or was_made and (is_closed or is_fault)):
+            yield "serve: request %d: %r" % (number, (block, first, out, errors, process.returncode))
+        if not was_made:
+            return
+    raise RuntimeError("a run of serve makes %d calls" % MOST)
+
+
 def main():
     program = os.path.abspath(sys.argv[1] if len(sys.argv) > 1 else os.path.join(ROOT, "bt_tool"))
     if shutil.which("cc") is None:
@@ -302,7 +347,7 @@ def main():
                 for line in device(runner, words, given, parts):
                     wrong += 1
                     print("faults: wrong: bt_tool %s: %s" % (words, line))
-        for part in (two_files, two_directions, fetching):
+        for part in (two_files, two_directions, fetching, serving):
             for line in part(runner):
                 wrong += 1
                 print("faults: wrong: bt_tool " + line)

@@ -356,6 +356,22 @@ def unasked(link, count):
         link.send(data(3, piece), data(3, piece, FALSE))
 
 
+def block_of_piece(link, count):
+    """Gives a block of metadata, and then one of a piece, which nobody asked for."""
+    greet(link)
+    link.send(data(3, link.request()), message(7, bytes(8) + b"block"))
+    link.hold()
+
+
+def requesting(link, count):
+    """Asks for blocks of pieces, and is honest if `fetch` has no Fast Extension, which would oblige it to reject them."""
+    if link.exactly(68)[20:28] != bytes.fromhex("0000000000100000"):
+        return
+    link.send(handshake(), extended(len(INFO)), request(0, 0, BLOCK), request(0, BLOCK, BLOCK))
+    while True:
+        link.send(data(3, link.request()))
+
+
 SMALL = info_of(300)
 TORRENT = b"d4:info" + INFO + b"e"
 NOBODY = object()
@@ -403,9 +419,11 @@ ROWS = [
     ([too_long], "", b"", "@0 refused message=1 at=68 TooLong\n", 1),
     ([quiet_flood(bytes(4))], "--patience 2", b"", "@0 silent\n", 1),
     ([quiet_flood(message(4, bytes(4)))], "--patience 2 --rules free", b"", "@0 silent\n", 1),
-    ([quiet_flood(message(4, bytes(4)))], "--patience 2", b"", "@0 refused message=1 at=72 Missing\n", 1),
+    ([quiet_flood(message(4, bytes(4)))], "--patience 2", b"", "@0 silent\n", 1),
     ([flood(bytes(4))], "--patience 2", b"", "@0 no-metadata\n", 1),
     ([unasked], "", INFO, "@0 fetched\n", 0),
+    ([block_of_piece, honest], "", INFO, "@0 unasked\n@1 fetched\n", 0),
+    ([requesting], "", INFO, "@0 fetched\n", 0),
 ]
 # How many connections a peer may see, if more than one.
 CONNECTIONS = {one_at_a_time: 2}
@@ -612,6 +630,19 @@ def same(what, got, expected):
         return 0
     print("%s: got %r, expected %r" % (what, got if len(got) < 1000 else len(got), expected if len(expected) < 1000 else len(expected)))
     return 1
+
+
+def several_ids(program):
+    """Each run has a peer id of its own."""
+    seen = []
+
+    def talk(link, count):
+        seen.append(link.exactly(68)[48:])
+    peer = Peer(talk)
+    for _ in range(2):
+        run(program, HASH, [peer.address], [])
+    peer.close()
+    return same("peer ids", str(len({peer_id for peer_id in seen if peer_id.startswith(b"-TZ0001-")})), "2"), 1
 
 
 def serving(program):
@@ -867,7 +898,7 @@ def memory(program):
 def main(words):
     program = program_of(words)
     failed = count = 0
-    for part in (hostile, kept, million, single, shown, unread, unwritten, dialled, serving, pieces, one_write, memory):
+    for part in (hostile, kept, million, single, shown, unread, unwritten, dialled, several_ids, serving, pieces, one_write, memory):
         more, tried = part(program)
         failed += more
         count += tried

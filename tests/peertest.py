@@ -466,21 +466,16 @@ def dials(path, failures):
 # `serve` and `fetch`.
 
 OURS = [
-    ("seed", ["--start", "exec %s serve --listen {address} --patience 20 --at-once 1024 {torrent}"], ""),
-    ("magnet", ["--dial", "exec %s fetch {hash} {addr} --patience 2 > {out}"],
-     "fs.piece-unasked/16384\nfs.piece-unasked/1\nrq.to-leech\n"),
+    ("seed", ["--start", "exec %s serve --listen {address} --patience 20 --at-once 1024 {torrent}"]),
+    ("magnet", ["--dial", "exec %s fetch {hash} {addr} --patience 2 > {out}"]),
 ]
 
 
-def ours(folder, path, failures):
-    """`serve` fails no case as a seed, and `fetch` as a client with the info hash alone those that docs/FETCH.md names."""
-    for mode, (name, words), known in OURS:
-        listed = os.path.join(folder, "known-" + mode)
-        with open(listed, "w", encoding="utf8") as file:
-            file.write(known)
+def ours(path, failures):
+    """`serve` fails no case as a seed, and `fetch` none as a client with the info hash alone."""
+    for mode, (name, words) in OURS:
         at = ["127.0.0.1:%d" % client.free_port("127.0.0.1")] if name == "--start" else []
-        status, text, errors = run(*at, "--torrent", path, "--mode", mode, "--unchoke", "1", "--jobs", "16", "--quiet", "--known",
-                                   listed, name, words % PROGRAM)
+        status, text, errors = run(*at, "--torrent", path, "--mode", mode, "--unchoke", "1", "--jobs", "16", "--quiet", name, words % PROGRAM)
         failures.same("%s: %s" % (mode, text + errors), status, 0)
         print(text.splitlines()[-1] if text else errors)
 
@@ -504,7 +499,7 @@ def main(words):
             "command": [lambda: separate(loaded, subject, failures), lambda: lessons(path, failures),
                         lambda: refusals(path, failures), lambda: dials(path, failures),
                         lambda: outputs(folder, path, failures), lambda: replays(loaded, subject, path, failures)],
-            "ours": [lambda: ours(folder, path, failures)],
+            "ours": [lambda: ours(path, failures)],
         }
         # What plays against a client in this process has it for itself: its answers have a time.
         for names in (("ours", "command", "stated"), ("right",), ("mutants",)):

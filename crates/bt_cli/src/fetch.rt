@@ -200,6 +200,7 @@ fn line_of(outcome: Outcome) -> &'static [u8] {
         Outcome::Unreachable => b" unreachable\n",
         Outcome::Rejected => b" rejected\n",
         Outcome::Mismatch => b" mismatch\n",
+        Outcome::Unasked => b" unasked\n",
         Outcome::NoMetadata => b" no-metadata\n",
         Outcome::Refused(_) => b"",
     }

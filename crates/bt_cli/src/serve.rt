@@ -110,7 +110,7 @@ struct Lines<'a, W: Target> {
 /// Returns how a connection ended, as the last word of its line. A refusal is written into the array.
 fn last_word<'a>(ending: Ending, line: &'a mut [u8; 160]) -> &'a [u8] {
     match ending {
-        Ending::Closed => b"closed\n",
+        Ending::Closed | Ending::Unserved => b"closed\n",
         Ending::Silent => b"silent\n",
         Ending::Unasked => b"unasked\n",
         Ending::Refused(refusal) => {

@@ -1,6 +1,7 @@
 -- What is seen in a round of an exchange, and in the rounds together.
 use Rattle.std.proofs.Common.{◌≡◌, ◌+◌, ◌<◌, ◌≤◌, ◌&&◌, ℕ, Bool, true, false, not, List, [], ◌∷◌, ◌++◌, length, is_some, Some, None, Result, Ok, Err}
 use Rattle.std.proofs.Common.{refl, sym, ap, subst, ◌∙◌, arith}
+use Rattle.std.proofs.Math.Bool.{and-true}
 use Rattle.std.proofs.lemmas.List.{append-nil, nil_from_length}
 use Rattle.std.proofs.lemmas.List.Folds.{list_all-append}
 use Rattle.std.proofs.KnownBytes.{Consumes-nil, Appends-nil}
@@ -12,13 +13,14 @@ use Rattle.bt_end.specs.declared.event.Event.{Event}
 use Rattle.bt_exchange.specs.Connections.{Seen, Counts, at_time}
 use Rattle.bt_exchange.specs.Courses.{Moment, IsMoved, end_after, events}
 use Rattle.bt_exchange.specs.Stops.{IsCalm, IsMade, IsAdvanced, IsMark, IsQuiet, IsStep, IsStopped, IsExchanged, IsFault, IsOpen}
-use Rattle.bt_exchange.specs.Stops.{has_no_news, items_of, is_done, is_news, no_news}
+use Rattle.bt_exchange.specs.Stops.{has_no_news, has_no_piece, items_of, is_done, is_news, is_piece, is_unasked, no_news, no_piece}
 use Rattle.bt_exchange.specs.Watches.{IsJudged, IsRounded, IsVerdict}
 use Rattle.bt_exchange.specs.declared.talking.Step.{Step}
 use Rattle.bt_exchange.specs.declared.talking.Step.TheVariants as step
 use Rattle.bt_exchange.specs.declared.talking.Stop.{Stop}
 use Rattle.bt_exchange.specs.declared.talking.Stop.TheVariants as stop
 use Rattle.bt_exchange.proofs.Courses.{course_none, events_both}
+use Rattle.bt_exchange.proofs.Pieces.{true_not_false, undone_after}
 use Rattle.bt_exchange.proofs.Moves.{moment, moved_none, moved_both, made_none, made_both}
 
 -- ---- the clock
@@ -72,6 +74,7 @@ fault_after a b c h stop.Hopeless k f = absurd f
 fault_after a b c h stop.Mismatch k f = absurd f
 fault_after a b c h stop.Silent k f = absurd f
 fault_after a b c h stop.Rounds k f = absurd f
+fault_after a b c h stop.Unasked k f = absurd f
 
 fault_stops : (until : ℕ) (old new : Moment) (e : Stop) → IsFault old.seen.counts new.seen.counts new.half e → IsStopped until old new e
 fault_stops until old new stop.Closed f = f
@@ -83,6 +86,7 @@ fault_stops until old new stop.Hopeless f = absurd f
 fault_stops until old new stop.Mismatch f = absurd f
 fault_stops until old new stop.Silent f = absurd f
 fault_stops until old new stop.Rounds f = absurd f
+fault_stops until old new stop.Unasked f = absurd f
 
 pub stopped_fault : (until : ℕ) (start old new : Moment) (e : Stop) → IsCalm start.seen.counts old.seen.counts → IsAdvanced old new (Err e)
     → IsStopped until start new e
@@ -98,6 +102,7 @@ not_done old new h stop.Failed f = refl
 not_done old new h (stop.Refused r) f = refl
 not_done old new h stop.Rounds f = refl
 not_done old new h stop.Memory f = refl
+not_done old new h stop.Unasked f = absurd f
 
 -- the metadata wasn't there, and no item was handled
 same_part : (old new : Moment) (r : Result Step Stop) → items_of r ≡ 0 → IsAdvanced old new r → is_some (metadata_of old.half.end.part) ≡ false
@@ -121,6 +126,7 @@ verdict_stops until start new stop.Failed k v = absurd v
 verdict_stops until start new (stop.Refused r) k v = absurd v
 verdict_stops until start new stop.Rounds k v = absurd v
 verdict_stops until start new stop.Memory k v = absurd v
+verdict_stops until start new stop.Unasked k v = absurd v
 
 pub verdict_done : (e : EndState) (s : Stop) → IsVerdict e (Some s) → is_done s ≡ is_some (metadata_of e.part)
 verdict_done e stop.Done v = sym v
@@ -132,6 +138,7 @@ verdict_done e stop.Failed v = absurd v
 verdict_done e (stop.Refused r) v = absurd v
 verdict_done e stop.Rounds v = absurd v
 verdict_done e stop.Memory v = absurd v
+verdict_done e stop.Unasked v = absurd v
 
 pub verdict_not_rounds : (e : EndState) (s : Stop) → IsVerdict e (Some s) → s ≡ stop.Rounds → ⊥
 verdict_not_rounds e stop.Done v r = absurd cc
@@ -143,6 +150,7 @@ verdict_not_rounds e stop.Failed v r = absurd v
 verdict_not_rounds e (stop.Refused x) v r = absurd v
 verdict_not_rounds e stop.Rounds v r = absurd v
 verdict_not_rounds e stop.Memory v r = absurd v
+verdict_not_rounds e stop.Unasked v r = absurd v
 
 fault_not_rounds : (old new : Counts) (h : HalfState) (e : Stop) → IsFault old new h e → e ≡ stop.Rounds → ⊥
 fault_not_rounds old new h stop.Done f r = absurd f
@@ -154,6 +162,7 @@ fault_not_rounds old new h stop.Failed f r = absurd cc
 fault_not_rounds old new h (stop.Refused x) f r = absurd cc
 fault_not_rounds old new h stop.Rounds f r = absurd f
 fault_not_rounds old new h stop.Memory f r = absurd cc
+fault_not_rounds old new h stop.Unasked f r = absurd f
 
 fault_not_silent : (old new : Counts) (h : HalfState) (e : Stop) → IsFault old new h e → e ≡ stop.Silent → ⊥
 fault_not_silent old new h stop.Done f r = absurd f
@@ -165,6 +174,7 @@ fault_not_silent old new h stop.Failed f r = absurd cc
 fault_not_silent old new h (stop.Refused x) f r = absurd cc
 fault_not_silent old new h stop.Rounds f r = absurd f
 fault_not_silent old new h stop.Memory f r = absurd cc
+fault_not_silent old new h stop.Unasked f r = absurd f
 
 pub verdict_not_silent : (e : EndState) (s : Stop) → IsVerdict e (Some s) → s ≡ stop.Silent → ⊥
 verdict_not_silent e stop.Done v r = absurd cc
@@ -176,6 +186,36 @@ verdict_not_silent e stop.Failed v r = absurd v
 verdict_not_silent e (stop.Refused x) v r = absurd v
 verdict_not_silent e stop.Rounds v r = absurd v
 verdict_not_silent e stop.Memory v r = absurd v
+verdict_not_silent e stop.Unasked v r = absurd v
+
+fault_not_unasked : (old new : Counts) (h : HalfState) (e : Stop) → IsFault old new h e → not (is_unasked e) ≡ true
+fault_not_unasked old new h stop.Unasked f = absurd f
+fault_not_unasked old new h other f = refl
+
+verdict_not_unasked : (e : EndState) (s : Stop) → IsVerdict e (Some s) → is_unasked s ≡ false
+verdict_not_unasked e stop.Unasked v = absurd v
+verdict_not_unasked e other v = refl
+
+-- ---- what is judged of an item
+
+pub judged_piece : (v : Event) (e : EndState) → is_piece v ≡ true → IsJudged (step.Handled v) e (Err stop.Unasked)
+judged_piece v e p = (p, λ q. absurd (true_not_false (sym p ∙ q)))
+
+pub judged_verdict : (v : Event) (e : EndState) (s : Stop) → is_piece v ≡ false → IsVerdict e (Some s) → IsJudged (step.Handled v) e (Err s)
+judged_verdict v e s p w = (p ∙ sym (verdict_not_unasked e s w), λ q. w)
+
+judged_stops : (until : ℕ) (start new : Moment) (v : Event) (e : Stop) → IsCalm start.seen.counts new.seen.counts
+    → IsJudged (step.Handled v) new.half.end (Err e) → IsStopped until start new e
+judged_stops until start new v stop.Unasked k j = k
+judged_stops until start new v other k j = verdict_stops until start new other k (j.1 j.0)
+
+judged_not_rounds : (v : Event) (e : EndState) (s : Stop) → IsJudged (step.Handled v) e (Err s) → s ≡ stop.Rounds → ⊥
+judged_not_rounds v e stop.Unasked j r = absurd cc
+judged_not_rounds v e other j r = verdict_not_rounds e other (j.1 j.0) r
+
+judged_not_silent : (v : Event) (e : EndState) (s : Stop) → IsJudged (step.Handled v) e (Err s) → s ≡ stop.Silent → ⊥
+judged_not_silent v e stop.Unasked j r = absurd cc
+judged_not_silent v e other j r = verdict_not_silent e other (j.1 j.0) r
 
 -- ---- marks: since when no byte was moved
 
@@ -246,23 +286,41 @@ quiet_of old new step.Moved e a j = ap (λ (l : List Event). list_all no_news l)
 quiet_of old new step.Waited e a j = ap (λ (l : List Event). list_all no_news l) a.events
 quiet_of old new step.Held e a j = ap (λ (l : List Event). list_all no_news l) a.events
 
+one_piece : (v : Event) → list_all no_piece (v ∷ []) ≡ not (is_piece v)
+one_piece v = and-true (not (is_piece v))
+
+-- and no block of a piece
+clear_of : (old new : Moment) (st : Step) (e : EndState) (a : IsAdvanced old new (Ok st)) → IsJudged st e (Ok None)
+    → has_no_piece old.half.end a.made.moved.course.items ≡ true
+clear_of old new (step.Handled v) e a j = ap (list_all no_piece) a.events ∙ one_piece v ∙ ap not j.1
+clear_of old new step.Moved e a j = ap (list_all no_piece) a.events
+clear_of old new step.Waited e a j = ap (list_all no_piece) a.events
+clear_of old new step.Held e a j = ap (list_all no_piece) a.events
+
 pub open_of : (old new : Moment) (st : Step) → IsAdvanced old new (Ok st) → IsOpen old.half.end → IsJudged st new.half.end (Ok None) → IsOpen new.half.end
-open_of old new (step.Handled v) a o j = j.1
+open_of old new (step.Handled v) a o j = j.2
 open_of old new step.Moved a o j = subst IsOpen (sym (step_end old new (Ok step.Moved) refl a)) o
 open_of old new step.Waited a o j = subst IsOpen (sym (step_end old new (Ok step.Waited) refl a)) o
 open_of old new step.Held a o j = subst IsOpen (sym (step_end old new (Ok step.Held) refl a)) o
 
 pub open_told : (st : Step) (e : EndState) (w : Event) → IsJudged st e (Ok (Some w)) → IsOpen e
-open_told (step.Handled v) e w j = j.2
+open_told (step.Handled v) e w j = j.3
 open_told step.Moved e w j = absurd j
 open_told step.Waited e w j = absurd j
 open_told step.Held e w j = absurd j
 
-pub done_over : (st : Step) (e : EndState) (s : Stop) → IsJudged st e (Err s) → is_done s ≡ is_some (metadata_of e.part)
-done_over (step.Handled v) e s j = verdict_done e s j
-done_over step.Moved e s j = absurd j
-done_over step.Waited e s j = absurd j
-done_over step.Held e s j = absurd j
+-- a block of a piece changes nothing of a fetch
+piece_undone : (old new : Moment) (v : Event) → IsAdvanced old new (Ok (step.Handled v)) → is_piece v ≡ true → IsOpen old.half.end
+    → is_some (metadata_of new.half.end.part) ≡ false
+piece_undone old new v a p o = undone_after old.half.end new.half.end v a.made.moved.course.items a.made.moved.course.end a.events p o.undone
+
+pub done_over : (old new : Moment) (st : Step) (s : Stop) → IsAdvanced old new (Ok st) → IsOpen old.half.end → IsJudged st new.half.end (Err s)
+    → is_done s ≡ is_some (metadata_of new.half.end.part)
+done_over old new (step.Handled v) stop.Unasked a o j = sym (piece_undone old new v a j.0 o)
+done_over old new (step.Handled v) other a o j = verdict_done new.half.end other (j.1 j.0)
+done_over old new step.Moved s a o j = absurd j
+done_over old new step.Waited s a o j = absurd j
+done_over old new step.Held s a o j = absurd j
 
 -- ---- a round
 
@@ -279,6 +337,7 @@ rounded_fault until old new e a = record {
   most = omega arith;
   made = a.made;
   once = a.once;
+  unasked = ap (list_all no_piece) a.events ∙ sym (fault_not_unasked old.seen.counts new.seen.counts new.half e a.step);
   round = (
     stopped_fault until old old new e (none_first old) a,
     fault_not_rounds old.seen.counts new.seen.counts new.half e a.step,
@@ -294,10 +353,11 @@ rounded_over until old new (step.Handled v) s a j = record {
   most = omega arith;
   made = a.made;
   once = a.once;
+  unasked = ap (list_all no_piece) a.events ∙ one_piece v ∙ ap not j.0;
   round = (
-    verdict_stops until old new s (calm_here old new (step.Handled v) a) j,
-    verdict_not_rounds new.half.end s j,
-    λ e. absurd (verdict_not_silent new.half.end s j e),
+    judged_stops until old new v s (calm_here old new (step.Handled v) a) j,
+    judged_not_rounds v new.half.end s j,
+    λ e. absurd (judged_not_silent v new.half.end s j e),
   );
 }
 rounded_over until old new step.Moved s a j = absurd j
@@ -312,9 +372,10 @@ rounded_told until old new (step.Handled v) w a j = record {
   most = omega arith;
   made = a.made;
   once = a.once;
+  unasked = ap (list_all no_piece) a.events ∙ one_piece v ∙ ap not j.2;
   round = (
     calm_here old new (step.Handled v) a,
-    j.2,
+    j.3,
     a.events ∙ ap (λ (x : Event). x ∷ []) (sym j.0),
     ap is_news j.0 ∙ j.1,
   );
@@ -352,6 +413,7 @@ rounded_late until old mid s st t a j e late =
       most = omega arith;
       made = made_at old mid st t a;
       once = a.once;
+      unasked = clear_of old mid st mid.half.end a j;
       round = ((calm_at old mid st t a, late), (λ r. absurd cc), λ r. quiet_of old mid st mid.half.end a j);
     }
     )
@@ -367,6 +429,7 @@ rounded_on until old mid s st t a o j e on =
       most = omega arith;
       made = made_at old mid st t a;
       once = a.once;
+      unasked = clear_of old mid st mid.half.end a j;
       round = (calm_at old mid st t a, open_of old mid st a o j, on, quiet_of old mid st mid.half.end a j);
     }
     )
@@ -384,6 +447,7 @@ pub record IsGoing (until may left n : ℕ) (start now : Moment) : Type 0 where
   pub goes : IsOpen now.half.end
   pub patient : 0 < n → now.seen.counts.clock ≤ until
   pub quiet : has_no_news start.half.end made.moved.course.items ≡ true
+  pub clear : has_no_piece start.half.end made.moved.course.items ≡ true
 
 pub going_first : (until may : ℕ) (start : Moment) → IsOpen start.half.end → IsGoing until may may 0 start start
 going_first until may start o = record {
@@ -396,6 +460,7 @@ going_first until may start o = record {
   goes = o;
   patient = λ l. absurd (omega (arith, l));
   quiet = refl;
+  clear = refl;
 }
 
 -- what the items of both make of the end
@@ -405,13 +470,15 @@ told_both start mid new p q =
     events_both start.half.end p.course.items q.course.items
     ∙ ap (λ (x : EndState). events start.half.end p.course.items ++ events x q.course.items) (sym p.course.end)
 
-old_both : (start mid new : Moment) (p : IsMoved start mid) (q : IsMoved mid new) → has_no_news start.half.end p.course.items ≡ true
-    → list_all no_news (events mid.half.end q.course.items) ≡ true → has_no_news start.half.end (p.course.items ++ q.course.items) ≡ true
-old_both start mid new p q e f =
+-- all that the first items made of the end is so; and then what is said of all, by the last ones
+all_both : (is_so : Event → Bool) (b : Bool) (start mid new : Moment) (p : IsMoved start mid) (q : IsMoved mid new)
+    → list_all is_so (events start.half.end p.course.items) ≡ true → list_all is_so (events mid.half.end q.course.items) ≡ b
+    → list_all is_so (events start.half.end (p.course.items ++ q.course.items)) ≡ b
+all_both is_so b start mid new p q e f =
     let es = events start.half.end p.course.items in
     let fs = events mid.half.end q.course.items in
-    ap (λ (l : List Event). list_all no_news l) (told_both start mid new p q) ∙ list_all-append no_news es fs
-    ∙ ap (λ (b : Bool). b && list_all no_news fs) e ∙ f
+    ap (λ (l : List Event). list_all is_so l) (told_both start mid new p q) ∙ list_all-append is_so es fs
+    ∙ ap (λ (b : Bool). b && list_all is_so fs) e ∙ f
 
 pub going_on : (until may left left' n : ℕ) (start mid new : Moment) → IsGoing until may left n start mid → IsRounded until mid new (Ok None)
     → left' + (n + 1) ≡ may → IsGoing until may left' (n + 1) start new
@@ -424,7 +491,8 @@ going_on until may left left' n start mid new g r e = record {
   calm = calm_both start.seen.counts mid.seen.counts new.seen.counts g.calm r.round.0;
   goes = r.round.1;
   patient = λ l. r.round.2;
-  quiet = old_both start mid new g.made.moved r.made.moved g.quiet r.round.3;
+  quiet = all_both no_news true start mid new g.made.moved r.made.moved g.quiet r.round.3;
+  clear = all_both no_piece true start mid new g.made.moved r.made.moved g.clear r.unasked;
 }
 
 stops_after : (until : ℕ) (start mid new : Moment) (e : Stop) → IsCalm start.seen.counts mid.seen.counts → IsStopped until mid new e
@@ -438,6 +506,7 @@ stops_after until start mid new stop.Closed k s = fault_after start.seen.counts 
 stops_after until start mid new stop.Failed k s = fault_after start.seen.counts mid.seen.counts new.seen.counts new.half stop.Failed k s
 stops_after until start mid new (stop.Refused r) k s = fault_after start.seen.counts mid.seen.counts new.seen.counts new.half (stop.Refused r) k s
 stops_after until start mid new stop.Memory k s = fault_after start.seen.counts mid.seen.counts new.seen.counts new.half stop.Memory k s
+stops_after until start mid new stop.Unasked k s = calm_both start.seen.counts mid.seen.counts new.seen.counts k s
 
 abbrev failed : Stop → Result Event Stop
 failed e = Err e
@@ -459,7 +528,8 @@ exchanged_stop until may left left' n start mid new e g r l = record {
   onward = omega arith;
   all = λ x. absurd (r.round.1 (is_same e stop.Rounds x));
   patient = λ x. absurd (r.round.1 (is_same e stop.Rounds x));
-  silent = λ x. old_both start mid new g.made.moved r.made.moved g.quiet (r.round.2 (is_same e stop.Silent x));
+  silent = λ x. all_both no_news true start mid new g.made.moved r.made.moved g.quiet (r.round.2 (is_same e stop.Silent x));
+  unasked = all_both no_piece (not (is_unasked e)) start mid new g.made.moved r.made.moved g.clear r.unasked;
   told = stops_after until start mid new e g.calm r.round.0;
 }
 
@@ -474,6 +544,7 @@ exchanged_told until may left left' n start mid new e g r l = record {
   all = λ x. absurd cc;
   patient = λ x. absurd cc;
   silent = λ x. absurd cc;
+  unasked = all_both no_piece true start mid new g.made.moved r.made.moved g.clear r.unasked;
   told = (
     calm_both start.seen.counts mid.seen.counts new.seen.counts g.calm r.round.0,
     r.round.1,
@@ -498,6 +569,7 @@ exchanged_last until may left n start now e g = record {
   all = λ x. omega (arith, g.rest, e);
   patient = λ x l. g.patient (omega (arith, l, g.count));
   silent = λ x. absurd cc;
+  unasked = g.clear;
   told = g.calm;
 }
 
@@ -511,5 +583,6 @@ exchanged_first until may start e v = record {
   all = λ x. absurd (verdict_not_rounds start.half.end e v (is_same e stop.Rounds x));
   patient = λ x. absurd (verdict_not_rounds start.half.end e v (is_same e stop.Rounds x));
   silent = λ x. refl;
+  unasked = sym (ap not (verdict_not_unasked start.half.end e v));
   told = verdict_stops until start start e (none_first start) v;
 }

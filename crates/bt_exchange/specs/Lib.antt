@@ -4,3 +4,4 @@ pub mod Stops
 pub mod Steps
 pub mod Boths
 pub mod Watches
+pub mod Lists

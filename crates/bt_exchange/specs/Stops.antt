@@ -121,6 +121,18 @@ is_news e = false
 abbrev pub no_news : Event → Bool
 no_news e = not (is_news e)
 
+-- A block of a piece came. An end asks for none (BEP 3, "piece").
+abbrev pub is_piece : Event → Bool
+is_piece (event.Piece index begin) = true
+is_piece e = false
+
+abbrev pub no_piece : Event → Bool
+no_piece e = not (is_piece e)
+
+-- none of these items was a block of a piece
+abbrev pub has_no_piece : EndState → List (ℕ × Item) → Bool
+has_no_piece e items = list_all no_piece (events e items)
+
 -- none of these items was news
 abbrev pub has_no_news : EndState → List (ℕ × Item) → Bool
 has_no_news e items = list_all no_news (events e items)
@@ -133,13 +145,15 @@ pub record IsOpen (e : EndState) : Type 0 where
   pub mismatches : e.mismatches < 2
   pub hopeful : is_hopeless e ≡ false
 
--- the metadata is there; no block can come any more; blocks of other metadata came twice; too much time passed; or the fault of the last step
+-- The metadata is there; no block of it can come any more; blocks of other metadata came twice; too much time passed; or the fault of the last
+-- step.
 abbrev pub IsStopped : ℕ → Moment → Moment → Stop → Type 0
 IsStopped until old new stop.Done = IsCalm old.seen.counts new.seen.counts × (is_some (metadata_of new.half.end.part) ≡ true)
 IsStopped until old new stop.Hopeless = IsCalm old.seen.counts new.seen.counts × (is_hopeless new.half.end ≡ true)
 IsStopped until old new stop.Mismatch = IsCalm old.seen.counts new.seen.counts × (2 ≤ new.half.end.mismatches)
 IsStopped until old new stop.Silent = IsCalm old.seen.counts new.seen.counts × (until < new.seen.counts.clock)
 IsStopped until old new stop.Rounds = IsCalm old.seen.counts new.seen.counts
+IsStopped until old new stop.Unasked = IsCalm old.seen.counts new.seen.counts
 IsStopped until old new stop.Closed = IsFault old.seen.counts new.seen.counts new.half stop.Closed
 IsStopped until old new stop.Failed = IsFault old.seen.counts new.seen.counts new.half stop.Failed
 IsStopped until old new (stop.Refused r) = IsFault old.seen.counts new.seen.counts new.half (stop.Refused r)
@@ -149,6 +163,14 @@ abbrev pub is_done : Stop → Bool
 is_done stop.Done = true
 is_done other = false
 
+abbrev pub is_unasked : Stop → Bool
+is_unasked stop.Unasked = true
+is_unasked other = false
+
+abbrev pub stops_unasked : {A : Type 0} → Result A Stop → Bool
+stops_unasked (Ok x) = false
+stops_unasked (Err e) = is_unasked e
+
 -- the last item was news, the first one, and the fetch goes on; or it stopped
 abbrev pub IsTold : ℕ → (old new : Moment) → List Event → Result Event Stop → Type 0
 IsTold until old new es (Ok e) = IsCalm old.seen.counts new.seen.counts × IsOpen new.half.end × (is_news e ≡ true)
@@ -156,7 +178,7 @@ IsTold until old new es (Ok e) = IsCalm old.seen.counts new.seen.counts × IsOpe
 IsTold until old new es (Err e) = IsStopped until old new e
 
 -- It made `steps` steps, at most as many as it may, `left` of which are left, and all of them where it stopped for that. It made no
--- more calls. `until` is the time up to which it waits for news.
+-- more calls. `until` is the time up to which it waits for news. It stopped for a block of a piece if and only if one came.
 pub record IsExchanged (until may left : ℕ) (old new : Moment) (r : Result Event Stop) : Type 0 where
   pub steps : ℕ
   pub made : IsMade steps old new
@@ -166,4 +188,5 @@ pub record IsExchanged (until may left : ℕ) (old new : Moment) (r : Result Eve
   pub all : r ≡ Err stop.Rounds → left ≡ 0
   pub patient : r ≡ Err stop.Rounds → 0 < steps → new.seen.counts.clock ≤ until
   pub silent : r ≡ Err stop.Silent → has_no_news old.half.end made.moved.course.items ≡ true
+  pub unasked : has_no_piece old.half.end made.moved.course.items ≡ not (stops_unasked r)
   pub told : IsTold until old new (events old.half.end made.moved.course.items) r

@@ -1,10 +1,11 @@
 -- For private contracts: one round of an exchange.
-use Rattle.std.specs.Prelude.{◌≡◌, ◌≤◌, ◌+◌, ℕ, Bool, true, false, List, [], ◌∷◌, is_some, Option, Some, None, Result, Ok, Err, ⊤}
+use Rattle.std.specs.Prelude.{◌≡◌, ◌≤◌, ◌+◌, ℕ, Bool, true, false, not, List, [], ◌∷◌, is_some, Option, Some, None, Result, Ok, Err, ⊤}
 use Rattle.std.specs.List.{list_all}
 use Rattle.bt_end.specs.Ends.{EndState, metadata_of, is_hopeless}
 use Rattle.bt_end.specs.declared.event.Event.{Event}
 use Rattle.bt_exchange.specs.Courses.{Moment, events}
-use Rattle.bt_exchange.specs.Stops.{IsCalm, IsMade, IsOpen, IsStopped, is_done, is_news, no_news, steps_of}
+use Rattle.bt_exchange.specs.Stops.{IsCalm, IsMade, IsOpen, IsStopped, is_done, is_news, is_piece, is_unasked, no_news, no_piece, steps_of}
+use Rattle.bt_exchange.specs.Stops.{stops_unasked}
 use Rattle.bt_exchange.specs.declared.talking.Step.{Step}
 use Rattle.bt_exchange.specs.declared.talking.Step.TheVariants as step
 use Rattle.bt_exchange.specs.declared.talking.Stop.{Stop}
@@ -36,12 +37,13 @@ pub record IsRounded (until : ℕ) (old new : Moment) (r : Result (Option Event)
   pub most : n ≤ 1
   pub made : IsMade n old new
   pub once : new.seen.counts.calls ≤ old.seen.counts.calls + 1
+  pub unasked : list_all no_piece (events old.half.end made.moved.course.items) ≡ not (stops_unasked r)
   pub round : IsRound until old new (events old.half.end made.moved.course.items) r
 
 -- what a step makes a round, by the end after it
 abbrev pub IsJudged : Step → EndState → Result (Option Event) Stop → Type 0
-IsJudged (step.Handled v) e (Ok None) = (is_news v ≡ false) × IsOpen e
-IsJudged (step.Handled v) e (Ok (Some w)) = (w ≡ v) × (is_news v ≡ true) × IsOpen e
-IsJudged (step.Handled v) e (Err s) = IsVerdict e (Some s)
+IsJudged (step.Handled v) e (Ok None) = (is_news v ≡ false) × (is_piece v ≡ false) × IsOpen e
+IsJudged (step.Handled v) e (Ok (Some w)) = (w ≡ v) × (is_news v ≡ true) × (is_piece v ≡ false) × IsOpen e
+IsJudged (step.Handled v) e (Err s) = (is_piece v ≡ is_unasked s) × (is_piece v ≡ false → IsVerdict e (Some s))
 IsJudged other e (Ok None) = ⊤
 IsJudged other e r = ⊥

@@ -10,5 +10,5 @@ mod watch;
 pub use connection::Connection;
 pub use hearing::Hearing;
 pub use stream::Stream;
-pub use talking::{Step, Stop, advance, exchange};
+pub use talking::{Step, Stop, advance, exchange, is_piece};
 pub use watch::Watch;

@@ -1,4 +1,6 @@
 //! A connection over a stream of std, as a TCP stream whose reads and writes have a time limit. Fetching and serving use it.
+ghost use Rattle.std.specs.Prelude.{◌≡◌};
+
 use crate::connection::{Connection, counted};
 use bt_io::Failed;
 use std::io;
@@ -26,7 +28,9 @@ fn is_wait(error: &io::Error) -> bool {
 
 impl<S: Read + Write + Drop, K: Clock + Drop> Stream<S, K> {
     /// The connection, with no call made.
-    pub fn new(stream: S, clock: K) -> Stream<S, K> {
+    pub fn new(stream: S, clock: K) -> Stream<S, K>
+        ensures { (⟦<Stream<S, K> as Connection>⟧.seen result).counts.calls ≡ 0 }
+    {
         Stream {
             stream,
             clock,

@@ -5,7 +5,7 @@ ghost use Rattle.bt_end.specs.Ends.{metadata_of};
 ghost use Rattle.bt_end.specs.Halves.{high_water};
 ghost use Rattle.bt_exchange.specs.Connections.{Seen};
 ghost use Rattle.bt_exchange.specs.Steps.{IsExact, IsNext, after_write, at_read, at_write, at_turn};
-ghost use Rattle.bt_exchange.specs.Stops.{HasListened, IsAdvanced, IsExchanged, IsOpen, is_news as is_news_by};
+ghost use Rattle.bt_exchange.specs.Stops.{HasListened, IsAdvanced, IsExchanged, IsOpen, is_news as is_news_by, is_piece as is_piece_by};
 ghost use Rattle.bt_exchange.specs.Watches.{IsJudged, IsRounded, IsVerdict, is_over};
 
 use crate::connection::Connection;
@@ -38,6 +38,8 @@ pub enum Stop {
     Hopeless,
     /// The blocks that came were twice those of other metadata.
     Mismatch,
+    /// A block of a piece came, which was never asked for.
+    Unasked,
     /// The peer closed the connection.
     Closed,
     /// Nothing was told, and the patience is over.
@@ -194,6 +196,13 @@ fn verdict<A: Allocator + Copy>(end: &End<A>) -> Option<Stop>
     }
 }
 
+/// Returns whether a block of a piece came, which an end never asks for.
+pub fn is_piece(event: Event) -> bool
+    ensures { result ≡ is_piece_by event }
+{
+    matches!(event, Event::Piece { .. })
+}
+
 /// Whether an event is one that the driver of a fetch is told of.
 fn is_news(event: Event) -> bool
     ensures { result ≡ is_news_by event }
@@ -212,6 +221,9 @@ fn judge<A: Allocator + Copy>(step: Step, end: &End<A>) -> Result<Option<Event>,
     let Step::Handled(event) = step else {
         return Ok(None);
     };
+    if is_piece(event) {
+        return Err(Stop::Unasked);
+    }
     match verdict(end) {
         Some(stop) => Err(stop),
         None if is_news(event) => Ok(Some(event)),
@@ -250,8 +262,9 @@ fn round<C: Connection, A: Allocator + Copy>(
 /// `steps` is then the number of those that are left.
 ///
 /// # Errors
-/// `Done` if the metadata is there, `Hopeless` or `Mismatch` if no more of it can come, `Silent` if `patience` seconds have passed since
-/// the time of the watch, `Rounds` if no steps are left, and what the connection, what came or the memory stopped.
+/// `Done` if the metadata is there, `Hopeless` or `Mismatch` if no more of it can come, `Unasked` if a block of a piece came, `Silent` if
+/// `patience` seconds have passed since the time of the watch, `Rounds` if no steps are left, and what the connection, what came or the
+/// memory stopped.
 pub fn exchange<C: Connection, A: Allocator + Copy>(
     connection: &mut C,
     end: &mut End<A>,

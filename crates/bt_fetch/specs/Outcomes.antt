@@ -1,7 +1,11 @@
 -- How a try at an address ends, by what the end is after it.
-use Rattle.std.specs.Prelude.{◌≡◌, ◌≤◌, ◌+◌, ℕ, true, is_some, Some, ⊤}
+use Rattle.std.specs.Prelude.{◌≡◌, ◌==◌, ◌≤◌, ◌+◌, ◌||◌, nat_lt, ℕ, Bool, true, false, if◌then◌else◌, is_some, Option, Some, None, Result, Ok, Err, ⊤}
 use Rattle.bt_end.specs.Ends.{agreed, metadata_of, is_hopeless}
 use Rattle.bt_end.specs.Halves.{HalfState}
+use Rattle.bt_end.specs.declared.event.Event.{Event}
+use Rattle.bt_end.specs.declared.event.Event.TheVariants as event
+use Rattle.bt_exchange.specs.declared.talking.Stop.{Stop}
+use Rattle.bt_exchange.specs.declared.talking.Stop.TheVariants as stop
 use Rattle.bt_fetch.specs.declared.dial.Outcome.{Outcome}
 use Rattle.bt_fetch.specs.declared.dial.Outcome.TheVariants as outcome
 use Rattle.bt_fetch.specs.declared.talk.Next.{Next}
@@ -17,7 +21,40 @@ IsOutcome a outcome.Rejected = (is_hopeless a.end ≡ true) × ((agreed a.end).e
 IsOutcome a outcome.Mismatch = 2 ≤ a.end.mismatches
 IsOutcome a other = ⊤
 
+-- The outcome of a try whose exchange stopped so, where memory wasn't refused: by whether both know the Extension Protocol, and whether
+-- the peer that announced lacks an id or a size.
+abbrev pub outcome_by : Stop → (ext lacks : Bool) → Option Outcome
+outcome_by stop.Done ext lacks = Some outcome.Fetched
+outcome_by stop.Hopeless ext lacks = Some (if ext then outcome.Rejected else outcome.NoMetadata)
+outcome_by stop.Mismatch ext lacks = Some outcome.Mismatch
+outcome_by stop.Unasked ext lacks = Some outcome.Unasked
+outcome_by stop.Closed ext lacks = Some outcome.Closed
+outcome_by stop.Silent ext lacks = Some (if lacks then outcome.NoMetadata else outcome.Silent)
+outcome_by stop.Failed ext lacks = Some outcome.Closed
+outcome_by (stop.Refused r) ext lacks = Some (outcome.Refused r)
+outcome_by stop.Rounds ext lacks = Some (if lacks then outcome.NoMetadata else outcome.Silent)
+outcome_by stop.Memory ext lacks = None
+
+-- a size that isn't 1 to `most` was told
+abbrev pub is_untaken : Event → (most : ℕ) → Bool
+is_untaken (event.Announced id (Some size) begins) most = (size == 0) || nat_lt most size
+is_untaken e most = false
+
 -- ---- for private contracts
+
+-- the patience is over, or nothing can be fetched
+abbrev pub is_given_up : Outcome → Bool
+is_given_up outcome.Silent = true
+is_given_up outcome.NoMetadata = true
+is_given_up o = false
+
+-- What is made of an exchange: it goes on after news, if they tell no size that isn't taken, or is given up; or it ended as the exchange
+-- stopped.
+abbrev pub IsHeeded : (most : ℕ) → (ext lacks : Bool) → Result Event Stop → Next → Type 0
+IsHeeded most ext lacks (Ok e) (next.Talks t) = is_untaken e most ≡ false
+IsHeeded most ext lacks (Ok e) (next.Ended o) = is_given_up o ≡ true
+IsHeeded most ext lacks (Err s) (next.Talks t) = ⊥
+IsHeeded most ext lacks (Err s) (next.Ended o) = outcome_by s ext lacks ≡ Some o
 
 -- it goes on, and the patience isn't over at this time; or it ended so
 abbrev pub IsNext : HalfState → (time patience : ℕ) → Next → Type 0

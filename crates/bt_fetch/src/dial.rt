@@ -1,7 +1,7 @@
 //! Where a fetch gets its connections from, and who hears of them.
 ghost use Rattle.std.specs.Prelude.{◌≡◌};
 ghost use Rattle.bt_io.specs.Counts.{one_more};
-ghost use Rattle.bt_fetch.specs.Tries.{IsAdded};
+ghost use Rattle.bt_exchange.specs.Lists.{IsAdded};
 
 use bt_end::Progress;
 use bt_exchange::Connection;
@@ -24,13 +24,16 @@ pub enum Outcome {
     Rejected,
     /// The blocks were those of other metadata, twice.
     Mismatch,
+    /// The peer sent a block of a piece, which was never asked for.
+    Unasked,
     /// The peer knows no Extension Protocol, told a size that isn't taken, or told no size or no id until the patience passed.
     NoMetadata,
 }
 
 /// Opens connections to the addresses of a list.
 pub trait Dial {
-    ghost use Rattle.std.specs.Prelude.{ℕ, List, Option};
+    ghost use Rattle.std.specs.Prelude.{◌≡◌, ℕ, List, Option, None, IfSome};
+    ghost use Rattle.bt_exchange.specs.Connections.{Seen};
 
     type Link: Connection + Drop;
 
@@ -40,17 +43,29 @@ pub trait Dial {
     /// The numbers of the addresses that it was asked for, in order, if they are known.
     ghost dialled: { Self → Option (List ℕ) };
 
+    /// What was seen of the connections that were given back, in order, if it is known.
+    ghost closed: { Self → Option (List Seen) } = { λ _. None };
+
     /// Opens a connection to the address of this number; `None` if that fails.
     ///
-    /// Numbers count from 0.
+    /// Numbers count from 0. No call of it was made yet.
     fn dial(&mut self, address: usize) -> Option<Self::Link>
         ensures count { dials self.new ≡ one_more (dials self.old) }
-        ensures address { IsAdded (dialled self.old) (dialled self.new) address };
+        ensures address { IsAdded (dialled self.old) (dialled self.new) address }
+        ensures closed { closed self.new ≡ closed self.old }
+        ensures fresh { IfSome result (λ link. (Self.Link.seen link).counts.calls ≡ 0) };
+
+    /// Closes a connection that it opened.
+    fn close(&mut self, link: Self::Link)
+        ensures count { dials self.new ≡ dials self.old }
+        ensures address { dialled self.new ≡ dialled self.old }
+        ensures closed { IsAdded (closed self.old) (closed self.new) (Self.Link.seen link) };
 
     /// Waits a moment before the same address is dialled again.
     fn pause(&mut self)
         ensures count { dials self.new ≡ dials self.old }
-        ensures address { dialled self.new ≡ dialled self.old };
+        ensures address { dialled self.new ≡ dialled self.old }
+        ensures closed { closed self.new ≡ closed self.old };
 }
 
 /// Hears how each try goes and how it ended.

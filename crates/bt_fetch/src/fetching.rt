@@ -6,7 +6,8 @@ ghost use Rattle.bt_io.specs.Seen.{WriteFailed};
 ghost use Rattle.bt_end.specs.Ends.{metadata_of};
 ghost use Rattle.bt_fetch.specs.Wishes.{IsWish};
 ghost use Rattle.bt_fetch.specs.Outcomes.{IsOutcome};
-ghost use Rattle.bt_fetch.specs.Tries.{AreAsked, IsAdded, IsAsked};
+ghost use Rattle.bt_exchange.specs.Lists.{IsAdded};
+ghost use Rattle.bt_fetch.specs.Tries.{AreAsked, AreBrief, IsAsked};
 ghost use Rattle.bt_fetch.specs.Fetches.{file_of, IsWritten};
 
 use crate::dial::{Dial, Outcome, Report};
@@ -61,11 +62,16 @@ fn attempt<D: Dial, T: Report>(
     ensures address { OnOk result (IsAdded (D.dialled dial.old) (D.dialled dial.new) address) }
     ensures told { IfOk result (λ visited. IsAdded (T.told report.old) (T.told report.new) (address, visited.outcome)) }
     ensures outcome { IfOk result (λ visited. IsOutcome end.new visited.outcome) }
+    ensures brief { AreBrief (D.closed dial.old) (D.closed dial.new) }
 {
     end.reset()?;
     hearing.clear();
     let visited = match dial.dial(address) {
-        Some(mut link) => talk_over(wish, address, is_wide, &mut link, report, end, hearing)?,
+        Some(mut link) => {
+            let visited = talk_over(wish, address, is_wide, &mut link, report, end, hearing);
+            dial.close(link);
+            visited?
+        }
         None => Visited {
             outcome: Outcome::Unreachable,
             is_wide,
@@ -101,6 +107,7 @@ fn visit_address<D: Dial, T: Report>(
     ensures dials { OnOk result (min (D.dials dial.old + 1) (2 ^ 64 - 1) ≤ D.dials dial.new) }
     ensures most { D.dials dial.new ≤ D.dials dial.old + 2 }
     ensures address { OnOk result (IsAsked (D.dialled dial.old) (D.dialled dial.new) address) }
+    ensures brief { AreBrief (D.closed dial.old) (D.closed dial.new) }
 {
     let first = first_window(wish);
     end.set_window(first);
@@ -132,6 +139,7 @@ fn visit_all<D: Dial, T: Report>(
     ensures most { D.dials dial.new ≤ D.dials dial.old + 2 * addresses }
     ensures asked { OnOk result ((n : ℕ) × (n ≤ addresses) × AreAsked n (D.dialled dial.old) (D.dialled dial.new)) }
     ensures dials { OnOk result (is_some (metadata_of end.new.end.part) ≡ false → min (D.dials dial.old + addresses) (2 ^ 64 - 1) ≤ D.dials dial.new) }
+    ensures brief { AreBrief (D.closed dial.old) (D.closed dial.new) }
 {
     for address in 0..addresses {
         visit_address(wish, address, dial, report, end, hearing)?;
@@ -194,7 +202,8 @@ fn put_out<W: Target>(
 /// The addresses are tried in turn. The file is the metadata, or a .torrent of it.
 ///
 /// What is held stays from connection to connection, unless a peer tells another size. Nothing is written before all of the
-/// metadata is there, and its SHA-1 is the info hash. It returns how many bytes were written.
+/// metadata is there, and its SHA-1 is the info hash. Over a connection at most 2^32 calls are made. It returns how many bytes were
+/// written.
 ///
 /// # Errors
 /// `NotFetched` if each address was dialled and none gave what lacked, `Write` if a write failed, `Memory` if memory was refused.
@@ -213,6 +222,7 @@ pub fn fetch<D: Dial, T: Report, W: Target>(
     ensures tries { result ≡ Err FetchError.NotFetched → min (D.dials dial.old + addresses) (2 ^ 64 - 1) ≤ D.dials dial.new }
     ensures most { D.dials dial.new ≤ D.dials dial.old + 2 * addresses }
     ensures asked { result ≢ Err FetchError.Memory → (n : ℕ) × (n ≤ addresses) × AreAsked n (D.dialled dial.old) (D.dialled dial.new) }
+    ensures brief { AreBrief (D.closed dial.old) (D.closed dial.new) }
 {
     let mut end = fetching_end(alloc, wish)?;
     let mut hearing = Hearing::new(alloc)?;

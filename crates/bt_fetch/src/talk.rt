@@ -1,8 +1,9 @@
 //! A fetch over one connection.
-ghost use Rattle.std.specs.Prelude.{◌≡◌, ◌+◌, ◌^◌, ◌≤◌, ℕ, [], Result, IfOk, IfSome};
+ghost use Rattle.std.specs.Prelude.{◌≡◌, ◌+◌, ◌^◌, ◌≤◌, ℕ, [], Result, Some, IfOk, IfSome, OnErr};
+ghost use Rattle.bt_end.specs.Ends.{belief};
 ghost use Rattle.bt_exchange.specs.Courses.{Moment};
 ghost use Rattle.bt_exchange.specs.Stops.{IsExchanged, IsStopped};
-ghost use Rattle.bt_fetch.specs.Outcomes.{IsNext, IsOutcome};
+ghost use Rattle.bt_fetch.specs.Outcomes.{IsHeeded, IsNext, IsOutcome, is_untaken as is_untaken_by, outcome_by};
 
 use crate::dial::{Outcome, Report};
 use crate::wish::Wish;
@@ -53,7 +54,9 @@ enum Next {
 /// # Errors
 /// `Memory` if the exchange ran out of memory.
 fn outcome_of(end: &End, stop: Stop, lacks: bool) -> Result<Outcome, Memory>
-    ensures { (until : ℕ) (old new : Moment) → new.half ≡ end.now → IsStopped until old new stop → IfOk result (λ outcome. IsOutcome end.now outcome) }
+    ensures outcome { (until : ℕ) (old new : Moment) → new.half ≡ end.now → IsStopped until old new stop → IfOk result (λ outcome. IsOutcome end.now outcome) }
+    ensures value { IfOk result (λ outcome. outcome_by stop (belief end.now.end).ext lacks ≡ Some outcome) }
+    ensures memory { OnErr result (stop ≡ Stop.Memory) }
 {
     match stop {
         Stop::Done => Ok(Outcome::Fetched),
@@ -61,6 +64,7 @@ fn outcome_of(end: &End, stop: Stop, lacks: bool) -> Result<Outcome, Memory>
         Stop::Hopeless if end.belief().ext => Ok(Outcome::Rejected),
         Stop::Hopeless => Ok(Outcome::NoMetadata),
         Stop::Mismatch => Ok(Outcome::Mismatch),
+        Stop::Unasked => Ok(Outcome::Unasked),
         Stop::Silent | Stop::Rounds if lacks => Ok(Outcome::NoMetadata),
         Stop::Silent | Stop::Rounds => Ok(Outcome::Silent),
         Stop::Closed | Stop::Failed => Ok(Outcome::Closed),
@@ -69,7 +73,9 @@ fn outcome_of(end: &End, stop: Stop, lacks: bool) -> Result<Outcome, Memory>
 }
 
 /// Whether the peer tells a size that isn't 1 to `most`.
-fn is_untaken(event: Event, most: u64) -> bool {
+fn is_untaken(event: Event, most: u64) -> bool
+    ensures { result ≡ is_untaken_by event most }
+{
     match event {
         Event::Announced {
             size: Some(size),
@@ -153,7 +159,8 @@ fn next_news<L: Connection>(
     ensures handshake { end.new.end.handshake ≡ end.old.end.handshake }
     ensures calls { (L.seen link.new).counts.calls + left.new ≤ (L.seen link.old).counts.calls + left.old }
     ensures exchanged { (middle : Moment) × (r : Result Event Stop) × IsExchanged (talk.watch.since + wish.now.patience) left.old left.new
-        (record { seen = L.seen link.old; pending = hearing.old; half = end.old }) middle r }
+        (record { seen = L.seen link.old; pending = hearing.old; half = end.old }) middle r
+        × IfOk result (IsHeeded wish.now.most (belief end.new.end).ext talk.lacks r) }
     ensures next { IfOk result (λ next. IsNext end.new (L.seen link.new).counts.clock wish.now.patience next) }
 {
     let _ = end.outgoing();

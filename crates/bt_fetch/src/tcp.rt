@@ -60,6 +60,8 @@ impl<'a, R: Net + Clock> Dial for TcpDial<'a, R> {
         }
     }
 
+    fn close(&mut self, _link: Stream<R::Stream, &'a R>) {}
+
     fn pause(&mut self) {
         self.net.sleep(Duration::from_secs(PAUSE));
     }

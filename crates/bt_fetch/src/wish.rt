@@ -8,8 +8,11 @@ use bt_io::Memory;
 use bt_wire::{Own, Reserved};
 use std::alloc::Global;
 
-/// The reserved bits of an end that fetches: the Extension Protocol and the Fast Extension.
-const RESERVED: u64 = 0x10_0004;
+/// The reserved bits of an end that fetches: the Extension Protocol.
+///
+/// Without the Fast Extension a request for a block of a piece needs no reject (BEP 6). It can't reject one: it doesn't know how
+/// many pieces there are.
+const RESERVED: u64 = 0x10_0000;
 
 /// The id under which an end that fetches wants `ut_metadata`.
 const METADATA_ID: u8 = 3;
@@ -67,7 +70,7 @@ pub fn fetching_end(alloc: Global, wish: &Wish) -> Result<End, Memory>
     let config = Config {
         own: own_of(wish),
         peer_id: wish.peer_id,
-        announce: Announce::Nothing,
+        announce: Announce::Silent,
         window: first_window(wish),
         role: Role::FetchUpTo(wish.most),
     };

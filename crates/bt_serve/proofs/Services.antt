@@ -15,8 +15,9 @@ use Rattle.bt_end.specs.Halves.{HalfState}
 use Rattle.bt_end.specs.declared.event.Event.{Event}
 use Rattle.bt_exchange.specs.Connections.{Seen}
 use Rattle.bt_exchange.specs.Courses.{Course, Moment, IsMoved, end_after, events, replies}
+use Rattle.bt_exchange.specs.Stops.{is_piece}
 use Rattle.bt_exchange.proofs.Courses.{both_bytes}
-use Rattle.bt_serve.specs.Services.{IsServing, Service, answer_to, answers, end_served, has_piece, is_piece, queued_at, said, saying, served_at}
+use Rattle.bt_serve.specs.Services.{IsServing, Service, answer_to, answers, end_served, has_piece, queued_at, said, saying, served_at}
 
 abbrev pub moment : Seen → List ℕ → HalfState → Moment
 moment s p a = record { seen = s; pending = p; half = a }

@@ -17,13 +17,13 @@ use Rattle.bt_io.specs.Counts.{Grew}
 use Rattle.bt_exchange.specs.Boths.{capped}
 use Rattle.bt_exchange.specs.Connections.{Seen, Counts, at_time}
 use Rattle.bt_exchange.specs.Courses.{Moment, IsMoved, end_after, replies}
-use Rattle.bt_exchange.specs.Stops.{HasListened, IsAdvanced, IsCalm, IsFault, IsStep, is_still, items_of}
+use Rattle.bt_exchange.specs.Stops.{HasListened, IsAdvanced, IsCalm, IsFault, IsStep, is_piece, is_still, items_of}
 use Rattle.bt_exchange.specs.declared.talking.Step.{Step}
 use Rattle.bt_exchange.specs.declared.talking.Step.TheVariants as step
 use Rattle.bt_exchange.specs.declared.talking.Stop.{Stop}
 use Rattle.bt_exchange.specs.declared.talking.Stop.TheVariants as stop
 use Rattle.bt_serve.specs.Guests.{IsEnded, IsEnding, IsParting, IsQuietSince, IsServed, IsServer, IsStepped, IsTally, ended_by, is_unasked, serving_end, with_all_sent, with_item}
-use Rattle.bt_serve.specs.Services.{IsServing, IsUnsaid, answer_to, end_served, has_piece, is_piece, queued_at, queued_by, said, saying, served_at}
+use Rattle.bt_serve.specs.Services.{IsServing, IsUnsaid, answer_to, end_served, has_piece, queued_at, queued_by, said, saying, served_at}
 use Rattle.bt_serve.specs.declared.guest.Ending.{Ending}
 use Rattle.bt_serve.specs.declared.guest.Ending.TheVariants as ending
 use Rattle.bt_serve.specs.declared.guest.Hospitality.{Hospitality}
@@ -58,6 +58,7 @@ fault_after a b c h stop.Hopeless k f = absurd f
 fault_after a b c h stop.Mismatch k f = absurd f
 fault_after a b c h stop.Silent k f = absurd f
 fault_after a b c h stop.Rounds k f = absurd f
+fault_after a b c h stop.Unasked k f = absurd f
 
 -- ---- counts
 
@@ -312,6 +313,7 @@ ending_of patience start now n stop.Hopeless f = absurd f
 ending_of patience start now n stop.Mismatch f = absurd f
 ending_of patience start now n stop.Silent f = absurd f
 ending_of patience start now n stop.Rounds f = absurd f
+ending_of patience start now n stop.Unasked f = absurd f
 
 -- a step failed
 pub ended_failed : {start old new : Moment} {since : ℕ} {t : Tally} (e : Stop) (x : Ending) → x ≡ ended_by e → IsStillStep old new t (Err e)

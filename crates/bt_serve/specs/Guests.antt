@@ -12,6 +12,7 @@ use Rattle.bt_end.specs.declared.config.Announce.{Announce}
 use Rattle.bt_end.specs.declared.config.Announce.TheVariants as announce
 use Rattle.bt_exchange.specs.Boths.{capped}
 use Rattle.bt_exchange.specs.Courses.{Moment, IsMoved}
+use Rattle.bt_exchange.specs.Lists.{IsAdded}
 use Rattle.bt_exchange.specs.Stops.{IsCalm, IsFault}
 use Rattle.bt_exchange.specs.declared.talking.Step.{Step}
 use Rattle.bt_exchange.specs.declared.talking.Step.TheVariants as step
@@ -119,6 +120,7 @@ IsEnding patience start last now answered handled ending.Closed =
 IsEnding patience start last now answered handled ending.Silent = AreAnswered last now answered handled × IsCalm start.seen.counts now.seen.counts
     × ((time : ℕ) × IsQuietSince time start now × (time + patience < now.seen.counts.clock))
 IsEnding patience start last now answered handled ending.Unasked = AreAnswered last now answered handled × IsCalm start.seen.counts now.seen.counts
+IsEnding patience start last now answered handled ending.Unserved = ⊥
 IsEnding patience start last now answered handled (ending.Refused r) =
     AreAnswered last now answered handled × IsFault start.seen.counts now.seen.counts now.half (stop.Refused r)
 
@@ -156,6 +158,12 @@ IsStepped start now since t (Err e) = (patience : ℕ) → IsEnded patience star
 abbrev pub IsTended : ℕ → Moment → Moment → ℕ → Tally → Result Pace Parting → Type 0
 IsTended patience start now since t (Ok pace) = IsServed start now since t
 IsTended patience start now since t (Err p) = IsParting patience start now p
+
+-- A connection's turn: it goes on, and the door was told nothing; or it ended, and the door was told how.
+abbrev pub IsTurned : {N : Type 0} → ℕ → Moment → Moment → ℕ → Tally → N → Option (List (N × Parting)) → Option (List (N × Parting))
+    → Option Pace → Type 0
+IsTurned patience start now since t name old new (Some pace) = IsServed start now since t × (new ≡ old)
+IsTurned patience start now since t name old new None = (p : Parting) × IsParting patience start now p × IsAdded old new (name, p)
 
 -- the ending of a connection over which a step failed so
 abbrev pub ended_by : Stop → Ending

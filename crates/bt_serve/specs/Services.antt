@@ -14,6 +14,7 @@ use Rattle.bt_end.specs.declared.end.SayError.{SayError}
 use Rattle.bt_end.specs.declared.event.Event.{Event}
 use Rattle.bt_end.specs.declared.event.Event.TheVariants as event
 use Rattle.bt_exchange.specs.Courses.{Moment}
+use Rattle.bt_exchange.specs.Stops.{is_piece}
 
 -- ---- requests for blocks of pieces (BEP 3; BEP 6, "Reject Request")
 
@@ -51,10 +52,6 @@ answers e (x ∷ xs) = spelled (served_at e x.1).end (served_at e x.1).queued ++
 abbrev pub queued_at : EndState → List (ℕ × Item) → ℕ
 queued_at e [] = 0
 queued_at e (x ∷ xs) = length (served_at e x.1).queued + queued_at (served_at e x.1).end xs
-
-abbrev pub is_piece : Event → Bool
-is_piece (event.Piece index begin) = true
-is_piece _ = false
 
 -- a block of a piece came, which it never asks for
 abbrev pub has_piece : EndState → List (ℕ × Item) → Bool

@@ -1,5 +1,6 @@
 //! Where a server gets its connections from, and who hears how each ended.
 ghost use Rattle.std.specs.Prelude.{◌≡◌, ◌+◌, ◌<◌, nat_lt};
+ghost use Rattle.bt_exchange.specs.Lists.{IsAdded};
 ghost use Rattle.bt_serve.specs.Doors.{entering};
 
 use crate::guest::Ending;
@@ -17,7 +18,8 @@ pub struct Parting {
 
 /// Lets connections in, as long as it has a place for them.
 pub trait Door {
-    ghost use Rattle.std.specs.Prelude.{ℕ};
+    ghost use Rattle.std.specs.Prelude.{ℕ, List, Option, None};
+    ghost use Rattle.bt_serve.specs.declared.door.Parting.{Parting};
 
     type Link: Connection + Drop;
 
@@ -30,6 +32,9 @@ pub trait Door {
     /// How many connections may be inside at the same time.
     ghost places: { Self → ℕ };
 
+    /// The connections of whose end it was told, in order, if they are known.
+    ghost told: { Self → Option (List (Self.Name × Parting)) } = { λ _. None };
+
     /// Whether one more connection may be inside.
     fn has_place(&self) -> bool
         ensures { result ≡ nat_lt (inside self.now) (places self.now) };
@@ -38,16 +43,19 @@ pub trait Door {
     fn enter(&mut self) -> Option<(Self::Link, Self::Name)>
         requires { inside self.old < places self.old }
         ensures inside { inside self.new ≡ inside self.old + entering result }
-        ensures places { places self.new ≡ places self.old };
+        ensures places { places self.new ≡ places self.old }
+        ensures told { told self.new ≡ told self.old };
 
     /// Waits a moment, since no connection can go on.
     fn rest(&mut self)
         ensures inside { inside self.new ≡ inside self.old }
-        ensures places { places self.new ≡ places self.old };
+        ensures places { places self.new ≡ places self.old }
+        ensures told { told self.new ≡ told self.old };
 
     /// Hears how a connection ended that was inside.
     fn ended(&mut self, name: Self::Name, parting: Parting)
         requires { 0 < inside self.old }
         ensures inside { inside self.new + 1 ≡ inside self.old }
-        ensures places { places self.new ≡ places self.old };
+        ensures places { places self.new ≡ places self.old }
+        ensures told { IsAdded (told self.old) (told self.new) (name, parting) };
 }

@@ -1,15 +1,16 @@
 //! One connection that is served.
-ghost use Rattle.std.specs.Prelude.{◌≡◌, ◌+◌, ◌<◌, ◌≤◌, ℕ, [], length, true, false, Ok, IfOk};
+ghost use Rattle.std.specs.Prelude.{◌≡◌, ◌+◌, ◌<◌, ◌≤◌, ℕ, [], length, true, false, Ok, IfOk, IfErr};
 ghost use Rattle.bt_end.specs.Ends.{belief};
 ghost use Rattle.bt_end.specs.Halves.{high_water};
 ghost use Rattle.bt_exchange.specs.Boths.{capped};
 ghost use Rattle.bt_exchange.specs.Courses.{Moment};
+ghost use Rattle.bt_serve.specs.Doors.{is_served};
 ghost use Rattle.bt_serve.specs.Guests.{IsHospitality, IsParting, IsServed, IsSettled, IsStepped, IsTended, ended_by, moves, serving_end, with_all_sent, with_item};
-ghost use Rattle.bt_serve.specs.Services.{IsAnswered, is_piece, is_rejecting, queued_by};
+ghost use Rattle.bt_serve.specs.Services.{IsAnswered, is_rejecting, queued_by};
 
 use crate::door::Parting;
 use bt_end::{Announce, Config, End, Event, Role, SayError, Window};
-use bt_exchange::{Connection, Hearing, Step, Stop, Watch, advance};
+use bt_exchange::{Connection, Hearing, Step, Stop, Watch, advance, is_piece};
 use bt_ext::{ExtId, Registered, Rules};
 use bt_io::Memory;
 use bt_wire::{Context, Message, Own, Refusal, Reserved};
@@ -47,6 +48,8 @@ pub enum Ending {
     Silent,
     /// The peer sent a block of a piece, which was never asked for.
     Unasked,
+    /// There was no memory for its buffers.
+    Unserved,
     /// What the peer sent is refused.
     Refused(Refusal),
 }
@@ -68,6 +71,8 @@ pub struct Guest<L: Connection + Drop> {
     hearing: Hearing,
     /// When something was moved last.
     watch: Watch,
+    /// The seconds after which it ends over which nothing was moved.
+    patience: u64,
     tally: Tally,
     ghost short: { tally.handled ≡ 0 → length end.outbox < high_water },
 }
@@ -162,13 +167,6 @@ fn queued_by(context: &Context, event: Event) -> u64
     }
 }
 
-/// Whether a block of a piece came.
-fn is_piece(event: Event) -> bool
-    ensures { result ≡ is_piece event }
-{
-    matches!(event, Event::Piece { .. })
-}
-
 impl Tally {
     /// Returns the counts with this many messages queued, and an item handled.
     fn with_item(self, queued: u64) -> Tally
@@ -195,7 +193,8 @@ impl Tally {
 
 /// Returns how a connection ended over which a step failed so.
 fn ending_of(stop: Stop) -> Ending
-    ensures { result ≡ ended_by stop }
+    ensures value { result ≡ ended_by stop }
+    ensures served { is_served result ≡ true }
 {
     match stop {
         Stop::Refused(refusal) => Ending::Refused(refusal),
@@ -220,6 +219,7 @@ impl<L: Connection + Drop> Guest<L> {
             (record { seen = L.seen link; pending = []; half = serving_end hospitality.now pieces metadata.now.value.items })
             (record { seen = L.seen guest.link; pending = guest.hearing; half = guest.end }) guest.watch.since guest.tally) }
         ensures settled { IfOk result (λ guest. IsSettled guest.end guest.tally) }
+        ensures patience { IfOk result (λ guest. guest.patience ≡ hospitality.now.patience) }
     {
         let end = serving_end(alloc, hospitality, pieces, metadata)?;
         let hearing = Hearing::new(alloc)?;
@@ -230,6 +230,7 @@ impl<L: Connection + Drop> Guest<L> {
             end,
             hearing,
             watch: Watch { since },
+            patience: hospitality.patience,
             tally: Tally {
                 queued: 1,
                 sent: 0,
@@ -244,6 +245,8 @@ impl<L: Connection + Drop> Guest<L> {
     /// Why the connection ends.
     fn act(&mut self) -> Result<Step, Ending>
         ensures since { moves result ≡ false → self.new.watch ≡ self.old.watch }
+        ensures patience { self.new.patience ≡ self.old.patience }
+        ensures served { IfErr result (λ e. is_served e ≡ true) }
         ensures stepped { (start : Moment)
             → IsServed start (record { seen = L.seen self.old.link; pending = self.old.hearing; half = self.old.end }) self.old.watch.since self.old.tally
             → IsStepped start (record { seen = L.seen self.new.link; pending = self.new.hearing; half = self.new.end }) self.new.watch.since self.new.tally result }
@@ -281,6 +284,8 @@ impl<L: Connection + Drop> Guest<L> {
     /// Why the connection ends.
     fn step(&mut self) -> Result<Step, Ending>
         ensures since { moves result ≡ false → self.new.watch ≡ self.old.watch }
+        ensures patience { self.new.patience ≡ self.old.patience }
+        ensures served { IfErr result (λ e. is_served e ≡ true) }
         ensures stepped { (start : Moment)
             → IsServed start (record { seen = L.seen self.old.link; pending = self.old.hearing; half = self.old.end }) self.old.watch.since self.old.tally
             → IsStepped start (record { seen = L.seen self.new.link; pending = self.new.hearing; half = self.new.end }) self.new.watch.since self.new.tally result }
@@ -310,17 +315,19 @@ impl<L: Connection + Drop> Guest<L> {
     ///
     /// # Errors
     /// How the connection ended.
-    pub fn tend(&mut self, patience: u64) -> Result<Pace, Parting>
-        ensures patient { result ≡ Ok Pace.Waits → (L.seen self.new.link).counts.clock ≤ self.new.watch.since + patience }
+    pub fn tend(&mut self) -> Result<Pace, Parting>
+        ensures patience { self.new.patience ≡ self.old.patience }
+        ensures patient { result ≡ Ok Pace.Waits → (L.seen self.new.link).counts.clock ≤ self.new.watch.since + self.old.patience }
+        ensures served { IfErr result (λ p. is_served p.ending ≡ true) }
         ensures tended { (start : Moment)
             → IsServed start (record { seen = L.seen self.old.link; pending = self.old.hearing; half = self.old.end }) self.old.watch.since self.old.tally
-            → IsTended patience start (record { seen = L.seen self.new.link; pending = self.new.hearing; half = self.new.end }) self.new.watch.since self.new.tally result }
+            → IsTended self.old.patience start (record { seen = L.seen self.new.link; pending = self.new.hearing; half = self.new.end }) self.new.watch.since self.new.tally result }
     {
         for _step in 0..STEPS {
             match self.step() {
                 Ok(Step::Waited) => {
                     let now = self.link.now();
-                    if self.watch.is_over(now, patience) {
+                    if self.watch.is_over(now, self.patience) {
                         return Err(self.parting(Ending::Silent));
                     }
                     return Ok(Pace::Waits);

@@ -1,6 +1,9 @@
 //! The loop over all connections that are served.
-ghost use Rattle.std.specs.Prelude.{◌≡◌, ◌+◌, ◌<◌, ◌≤◌, vec_len};
-ghost use Rattle.bt_serve.specs.Guests.{IsHospitality};
+ghost use Rattle.std.specs.Prelude.{◌≡◌, ◌+◌, ◌<◌, ◌≤◌, vec_len, true, false, Some, OnOk, OnErr};
+ghost use Rattle.std.specs.Result.{is_ok};
+ghost use Rattle.bt_exchange.specs.Courses.{Moment};
+ghost use Rattle.bt_serve.specs.Doors.{AreTold, leaving};
+ghost use Rattle.bt_serve.specs.Guests.{IsHospitality, IsServed, IsTurned};
 
 use crate::door::{Door, Parting};
 use crate::file::piece_count;
@@ -14,59 +17,82 @@ use std::rc::Rc;
 type Guests<D> = Vec<(Guest<<D as Door>::Link>, <D as Door>::Name)>;
 
 /// What is said of a connection whose buffers were refused.
-const NOT_SERVED: Parting = Parting {
-    ending: Ending::Closed,
+const UNSERVED: Parting = Parting {
+    ending: Ending::Unserved,
     sent: 0,
     handled: 0,
 };
 
-/// Lets a connection in, if one waits. It returns whether one came.
+/// Lets a connection in, if one more may enter, there is a place and one waits. It returns whether one came.
 fn let_in<D: Door>(
     alloc: Global,
     hospitality: &Hospitality,
     pieces: Option<u32>,
     metadata: &Rc<Vec<u8>>,
+    may_enter: bool,
     door: &mut D,
     guests: &mut Guests<D>,
 ) -> Result<bool, Memory>
-    requires hospitality { IsHospitality hospitality.now }
-    requires place { D.inside door.old < D.places door.old }
+    requires { IsHospitality hospitality.now }
     ensures inside { D.inside door.new + vec_len guests.old ≡ D.inside door.old + vec_len guests.new }
-    ensures places { D.places door.new ≡ D.places door.old }
+    ensures told { OnOk result (D.told door.new ≡ D.told door.old) }
+    ensures unserved { OnErr result (AreTold (D.told door.old) (D.told door.new) false) }
 {
+    if !may_enter || !door.has_place() {
+        return Ok(false);
+    }
     let Some((link, name)) = door.enter() else {
         return Ok(false);
     };
     let Ok(guest) = Guest::new(alloc, hospitality, pieces, metadata, link) else {
-        door.ended(name, NOT_SERVED);
+        door.ended(name, UNSERVED);
         return Err(Memory);
     };
     if guests.push((guest, name)).is_err() {
-        door.ended(name, NOT_SERVED);
+        door.ended(name, UNSERVED);
         return Err(Memory);
     }
     Ok(true)
 }
 
-/// What became of a connection at its turn.
-enum Turn {
-    Paced(Pace),
-    Ended(Parting),
-}
-
-/// Gives a connection its turn.
-fn tend_one<L: Connection + Drop>(patience: u64, guest: &mut Guest<L>) -> Turn {
-    match guest.tend(patience) {
-        Ok(pace) => Turn::Paced(pace),
-        Err(parting) => Turn::Ended(parting),
+/// Gives a connection its turn. If it ends, the door is told how, and `None` is returned.
+fn tend_one<D: Door>(door: &mut D, name: D::Name, guest: &mut Guest<D::Link>) -> Option<Pace>
+    requires { 0 < D.inside door.old }
+    ensures inside { D.inside door.new + leaving result ≡ D.inside door.old }
+    ensures patience { guest.new.patience ≡ guest.old.patience }
+    ensures patient { result ≡ Some Pace.Waits → (D.Link.seen guest.new.link).counts.clock ≤ guest.new.watch.since + guest.old.patience }
+    ensures told { AreTold (D.told door.old) (D.told door.new) true }
+    ensures turned { (start : Moment)
+        → IsServed start (record { seen = D.Link.seen guest.old.link; pending = guest.old.hearing; half = guest.old.end }) guest.old.watch.since guest.old.tally
+        → IsTurned guest.old.patience start (record { seen = D.Link.seen guest.new.link; pending = guest.new.hearing; half = guest.new.end })
+            guest.new.watch.since guest.new.tally name (D.told door.old) (D.told door.new) result }
+{
+    match guest.tend() {
+        Ok(pace) => Some(pace),
+        Err(parting) => {
+            door.ended(name, parting);
+            None
+        }
     }
 }
 
+/// Drops a connection whose turn ended it. It returns the place of the one that is next.
+fn after_turn<T: Drop>(pace: Option<Pace>, at: usize, guests: &mut Vec<T>) -> usize
+    requires { at < vec_len guests.old }
+    ensures { vec_len guests.new + leaving pace ≡ vec_len guests.old }
+{
+    if pace.is_some() {
+        return at + 1;
+    }
+    let _ = guests.swap_remove(at);
+    at
+}
+
 /// Gives each connection its turn, and drops those that ended. It returns how many ended, and whether one can go on at once.
-fn tend_all<D: Door>(patience: u64, door: &mut D, guests: &mut Guests<D>) -> (u64, bool)
+fn tend_all<D: Door>(door: &mut D, guests: &mut Guests<D>) -> (u64, bool)
     requires { vec_len guests.old ≤ D.inside door.old }
     ensures inside { D.inside door.new + vec_len guests.old ≡ D.inside door.old + vec_len guests.new }
-    ensures places { D.places door.new ≡ D.places door.old }
+    ensures told { AreTold (D.told door.old) (D.told door.new) true }
 {
     let mut ended = 0u64;
     let mut is_busy = false;
@@ -75,25 +101,30 @@ fn tend_all<D: Door>(patience: u64, door: &mut D, guests: &mut Guests<D>) -> (u6
         if at >= guests.len() {
             return (ended, is_busy);
         }
-        match tend_one(patience, &mut guests[at].0) {
-            Turn::Paced(pace) => {
-                is_busy = is_busy || pace == Pace::GoesOn;
-                at += 1;
-            }
-            Turn::Ended(parting) => {
-                let (_, name) = guests.swap_remove(at);
-                door.ended(name, parting);
-                ended = ended.saturating_add(1);
-            }
-        }
+        let name = guests[at].1;
+        let pace = tend_one(door, name, &mut guests[at].0);
+        is_busy |= pace == Some(Pace::GoesOn);
+        ended = ended.saturating_add(u64::from(pace.is_none()));
+        at = after_turn(pace, at, guests);
     }
     (ended, is_busy)
+}
+
+/// Waits a moment, if no connection can go on.
+fn rest_if<D: Door>(is_idle: bool, door: &mut D)
+    ensures inside { D.inside door.new ≡ D.inside door.old }
+    ensures told { D.told door.new ≡ D.told door.old }
+{
+    if is_idle {
+        door.rest();
+    }
 }
 
 /// Tells how each connection that is left ended.
 fn part_all<D: Door>(door: &mut D, guests: &mut Guests<D>)
     requires { vec_len guests.old ≤ D.inside door.old }
-    ensures { D.inside door.new + vec_len guests.old ≡ D.inside door.old }
+    ensures inside { D.inside door.new + vec_len guests.old ≡ D.inside door.old }
+    ensures told { AreTold (D.told door.old) (D.told door.new) true }
 {
     while let Some((guest, name)) = guests.pop() {
         door.ended(name, guest.parting(Ending::Closed));
@@ -112,7 +143,8 @@ fn serve_all<D: Door>(
 ) -> Result<(), Memory>
     requires hospitality { IsHospitality hospitality.now }
     requires inside { vec_len guests.old ≤ D.inside door.old }
-    ensures { D.inside door.new + vec_len guests.old ≡ D.inside door.old + vec_len guests.new }
+    ensures inside { D.inside door.new + vec_len guests.old ≡ D.inside door.old + vec_len guests.new }
+    ensures told { AreTold (D.told door.old) (D.told door.new) (is_ok result) }
 {
     let mut entered = 0u64;
     let mut left = 0u64;
@@ -120,16 +152,20 @@ fn serve_all<D: Door>(
         if connections == Some(left) {
             return Ok(());
         }
-        let is_open = door.has_place() && connections != Some(entered);
-        let came = is_open && let_in(alloc, hospitality, pieces, metadata, door, guests)?;
-        if came {
-            entered = entered.saturating_add(1);
-        }
-        let (ended, is_busy) = tend_all(hospitality.patience, door, guests);
+        let may_enter = connections != Some(entered);
+        let came = let_in(
+            alloc,
+            hospitality,
+            pieces,
+            metadata,
+            may_enter,
+            door,
+            guests,
+        )?;
+        entered = entered.saturating_add(u64::from(came));
+        let (ended, is_busy) = tend_all(door, guests);
         left = left.saturating_add(ended);
-        if !came && !is_busy && ended == 0 {
-            door.rest();
-        }
+        rest_if(!came && !is_busy && ended == 0, door);
     }
     Ok(())
 }
@@ -140,7 +176,7 @@ fn serve_all<D: Door>(
 /// returns, and [`Door::ended`] was called for it.
 ///
 /// # Errors
-/// `Memory` if the buffers of a connection are refused.
+/// `Memory` if the buffers of a connection are refused. Of that connection the door is told `Unserved`.
 pub fn serve<D: Door>(
     alloc: Global,
     hospitality: &Hospitality,
@@ -149,7 +185,8 @@ pub fn serve<D: Door>(
     door: &mut D,
 ) -> Result<(), Memory>
     requires hospitality { IsHospitality hospitality.now }
-    ensures told { D.inside door.new ≡ D.inside door.old }
+    ensures inside { D.inside door.new ≡ D.inside door.old }
+    ensures told { AreTold (D.told door.old) (D.told door.new) (is_ok result) }
 {
     let pieces = piece_count(Rc::as_ref(metadata).as_slice());
     let mut guests: Guests<D> = Vec::new(alloc);

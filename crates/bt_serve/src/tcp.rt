@@ -1,5 +1,6 @@
 //! Connections over TCP that are let in by a listener.
 ghost use Rattle.std.specs.Prelude.{◌≡◌};
+ghost use Rattle.bt_exchange.specs.Lists.{IsAdded};
 
 use crate::door::{Door, Parting};
 use bt_exchange::Stream;
@@ -12,8 +13,16 @@ const REST: u64 = 5;
 
 /// Hears how each connection over TCP ended.
 pub trait Farewell {
+    ghost use Rattle.std.specs.Prelude.{List, Option, None};
+    ghost use Rattle.std.specs.declared.net.socket_addr.SocketAddr.{SocketAddr};
+    ghost use Rattle.bt_serve.specs.declared.door.Parting.{Parting};
+
+    /// The connections of whose end it was told, in order, if they are known.
+    ghost told: { Self → Option (List (SocketAddr × Parting)) } = { λ _. None };
+
     /// The connection with this other end ended.
-    fn ended(&mut self, peer: SocketAddr, parting: Parting);
+    fn ended(&mut self, peer: SocketAddr, parting: Parting)
+        ensures { IsAdded (told self.old) (told self.new) (peer, parting) };
 }
 
 /// Lets in connections over TCP.
@@ -36,6 +45,7 @@ impl<'a, R: Net + Clock, F: Farewell + Drop> TcpDoor<'a, R, F> {
     ) -> TcpDoor<'a, R, F>
         ensures inside { ⟦<TcpDoor<'a, R, F> as Door>⟧.inside result ≡ 0 }
         ensures places { ⟦<TcpDoor<'a, R, F> as Door>⟧.places result ≡ places }
+        ensures told { ⟦<TcpDoor<'a, R, F> as Door>⟧.told result ≡ F.told farewell }
     {
         TcpDoor {
             runtime,
@@ -74,6 +84,8 @@ impl<'a, R: Net + Clock, F: Farewell + Drop> Door for TcpDoor<'a, R, F> {
     ghost inside = { λ d. d.inside };
 
     ghost places = { λ d. d.places };
+
+    ghost told = { λ d. F.told d.farewell };
 
     fn has_place(&self) -> bool {
         self.inside < self.places

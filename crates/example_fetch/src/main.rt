@@ -7,7 +7,7 @@
 //! the metadata, whose SHA-1 is the info hash.
 #![tactic(auto)]
 
-use bt_end::{Announce, Config, End, Role, Window};
+use bt_end::{Announce, Config, End, Event, Role, Window};
 use bt_ext::{ExtId, Registered, Rules};
 use bt_feed::{Host, MemTarget, PeerError, Source, Target};
 use bt_wire::{Own, Reserved};
@@ -41,35 +41,24 @@ fn fetching(alloc: Global, info_hash: [u8; 20]) -> Result<End, PeerError> {
     Ok(End::new(alloc, config)?)
 }
 
-/// Drives an end until it has the metadata, can't get it from this peer any more, or the peer closes the connection.
-fn drive<R: Source, W: Target>(
-    end: &mut End,
-    reader: &mut R,
-    writer: &mut W,
-) -> Result<(), PeerError> {
-    let mut buffer = [0; 4096];
-    for _ in 0..u64::MAX {
-        let waiting = end.outgoing().len();
-        end.drain(writer, waiting)?;
-        if end.metadata().is_some() || end.is_hopeless() {
-            break;
+/// Gives an end bytes of its peer, and says whether the metadata can still come.
+fn hear(rt: &HostRuntime, end: &mut End, bytes: &[u8]) -> Result<bool, PeerError> {
+    let mut rest = bytes;
+    for _ in bytes {
+        let count = end.receive(rest);
+        rest = &rest[count..];
+        let event = match end.next()? {
+            Some(heard) => heard.event,
+            None => break,
+        };
+        match event {
+            Event::Block(index) => eprintln!(rt; "block {index}")?,
+            Event::Opened(_) | Event::Rejected(_) if end.is_hopeless() => return Ok(false),
+            Event::Fetched => return Ok(false),
+            _ => {}
         }
-        let count = reader.read(&mut buffer)?;
-        if count == 0 {
-            break;
-        }
-        let (_, handled) = end.handle(&buffer[..count]);
-        handled?;
     }
-    Ok(())
-}
-
-/// Writes the metadata that an end has, and returns whether all of it was written.
-fn write_fetched(rt: &HostRuntime, end: &End) -> bool {
-    match end.metadata() {
-        Some(metadata) => io::writer(rt).write_all(metadata).is_ok(),
-        None => false,
-    }
+    Ok(true)
 }
 
 /// Fetches the metadata with this SHA-1 and writes it, and returns whether it did.
@@ -80,8 +69,19 @@ fn fetch<R: Source, W: Target>(
     writer: &mut W,
 ) -> Result<bool, PeerError> {
     let mut end = fetching(rt.alloc(), info_hash)?;
-    drive(&mut end, reader, writer)?;
-    Ok(write_fetched(rt, &end))
+    let mut buffer = [0; 4096];
+    for _ in 0..u64::MAX {
+        let waiting = end.outgoing().len();
+        end.drain(writer, waiting)?;
+        let count = reader.read(&mut buffer)?;
+        if count == 0 || !hear(rt, &mut end, &buffer[..count])? {
+            break;
+        }
+    }
+    match end.metadata() {
+        Some(metadata) => Ok(io::writer(rt).write_all(metadata).is_ok()),
+        None => Ok(false),
+    }
 }
 
 /// Fetches it from the peer at this address. The hash is 40 hex digits.

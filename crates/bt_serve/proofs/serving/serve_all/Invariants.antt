@@ -1,6 +1,10 @@
-use Rattle.std.proofs.Common.{◌≡◌, ◌+◌, vec_len}
+use Rattle.std.proofs.Common.{◌≡◌, ◌+◌, true, vec_len}
+use Rattle.bt_serve.specs.Doors.{AreTold}
 use Rattle.bt_serve.proofs.serving.serve_all.Given as goal
 
--- as many more are inside as are held
+-- as many more are inside as are held, and of each that ended there was memory for its buffers
 abbrev pub invariant-loop : goal.invariant-loop
-invariant-loop g l = g.D.Door.inside l.door + vec_len l.fn.guests ≡ g.D.Door.inside l.fn.door + vec_len l.guests
+invariant-loop g l = record {
+  inside : g.D.Door.inside l.door + vec_len l.fn.guests ≡ g.D.Door.inside l.fn.door + vec_len l.guests;
+  told : AreTold (g.D.Door.told l.fn.door) (g.D.Door.told l.door) true;
+}

@@ -1,5 +1,9 @@
 use Rattle.std.proofs.Common.{rules}
+use Rattle.bt_exchange.proofs.Lists.{added_on}
 use Rattle.bt_serve.proofs.serving.tend_all.Goals as goal
 
 pub loop-preserved : goal.loop-preserved
-loop-preserved g c = search rules
+loop-preserved g c = record {
+  inside = search rules;
+  told = added_on _ _ _ _ _ c.loop.invariant.told c.tend_one-pace.ensures.told;
+}

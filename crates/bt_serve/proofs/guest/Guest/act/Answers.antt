@@ -22,7 +22,7 @@ pub returns-in-Err-clause-stepped : goal.returns-in-Err-clause-stepped
 returns-in-Err-clause-stepped g c = λ start k.
     let old = moment (g.L.Connection.seen c.args.self.now.link) c.args.self.now.hearing c.args.self.now.end in
     let mid = moment (g.L.Connection.seen c.advance.new.connection) c.advance.new.hearing c.advance.new.end in
-    ended_failed c.in-Err.stop c.ending_of.result c.ending_of.ensures
+    ended_failed c.in-Err.stop c.ending_of.result c.ending_of.ensures.value
     (still_step old mid (Err c.in-Err.stop) c.args.self.now.tally _ refl c.in-Err.ensures.advanced c.in-Err.ensures.listens refl) k
 
 pub returns-then-is_piece-clause-stepped : goal.returns-then-is_piece-clause-stepped
