@@ -414,7 +414,7 @@ def outputs(folder, path, failures):
     at = "127.0.0.1:%d" % client.free_port("127.0.0.1")
     names = {name: os.path.join(folder, name) for name in ("a.json", "a.xml", "streams", "known")}
     with open(names["known"], "w", encoding="utf8") as file:
-        file.write("# what may fail\nmd.unknown-type  it closes\nmd.get  it doesn't fail any more\n")
+        file.write("# what may fail\nmd.unknown-type  it closes\nmd.get  it doesn't fail any more\nmd.got  no case\n")
     words = [at, "--torrent", path, "--only", "md.get,md.unknown-type,bf.late", "--start",
              listener("seed", path, "an unknown type is ignored"), "--json", names["a.json"], "--junit", names["a.xml"],
              "--streams", names["streams"]]
@@ -432,8 +432,9 @@ def outputs(folder, path, failures):
     sent, got = [os.path.join(names["streams"], "bf.late." + end) for end in ("sent", "got")]
     verdict = subprocess.run([PROGRAM, "check", "--other", got, "--pieces", "38", sent], capture_output=True, text=True)
     failures.same("a stream that was written", verdict.stdout.split()[-1:], ["Late"])
-    status, text, _ = run(*words, "--known", names["known"])
+    status, text, errors = run(*words, "--known", names["known"])
     failures.same("a known failure", (status, "md.get is known to fail, and passed" in text), (0, True))
+    failures.same("a known case that isn't there", errors, "peertest: %s names md.got, and there is no such case\n" % names["known"])
     listed = run("--list", "--bep", "9", "--mode", "magnet")[1]
     failures.same("the list", ("(paraphrased)" in listed, listed.count('BEP 9, "') == int(listed.split()[-2]) > 0), (True, True))
 

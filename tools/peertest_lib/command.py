@@ -117,6 +117,8 @@ def play(words):
         sys.stdout.write(replay.script(case, subject, mode if mode in case.modes else case.modes[0])[0])
         return 0
     known = report.read_known(words.known) if words.known else []
+    for name in sorted({*known} - {case.id for case in loaded}):
+        print("peertest: %s names %s, and there is no such case" % (words.known, name), file=sys.stderr)
     options = suite.Options(words.patience, words.unchoke, words.level, max(1, words.jobs), words.settle)
 
     count = report.counter(len(chosen))
