@@ -254,6 +254,8 @@ def all_files(at):
     for it in found:
         for path in (at, ROOT):
             assert str(path).encode() not in (dist / it).read_bytes(), "the path %s in %s" % (path, it)
+    wanted = {tuple(map(int, it.split(b"."))) for it in re.findall(rb"GLIBC_([\d.]+)", (native / "bt_tool").read_bytes())}
+    assert "with glibc %d.%d or later" % max(wanted)[:2] in (dist / "README.md").read_text(), "the C library that bt_tool needs"
     number = passes(["./bt_tool", "--version"], at).decode().split()[1]
     for name, text in help_texts.made(native / "bt_tool", number).items():
         assert (dist / name).read_text() == text, "%s isn't what --help says" % name
