@@ -171,6 +171,20 @@ def sources(at):
     assert show(at).stdout == FIRST
 
 
+def page(at):
+    """A change of the viewer is seen, and mended without the toolchain."""
+    here = {"PATH": os.environ["PATH"]}
+    was = (at / "dist/viewer.html").read_bytes()
+    with changed(at / "viewer/style/print.css", lambda text: text + b"/* more */\n"):
+        done = run(["tools/dist", "--check"], at, environment=here)
+        assert done.returncode == 1 and b"tools/dist --page" in done.stdout, done
+        passes(["tools/dist", "--page"], at, environment=here)
+        passes(["tools/dist", "--check"], at, environment=here)
+        assert (at / "dist/viewer.html").read_bytes() != was
+    passes(["tools/dist", "--page"], at, environment=here)
+    assert (at / "dist/viewer.html").read_bytes() == was
+
+
 def tampered(at):
     """A program with another byte isn't run, before and after a right one was."""
     program = at / "dist/x86_64-linux/bt_tool"
@@ -409,7 +423,7 @@ def texts(at):
         assert done.returncode == 0 and not done.stderr, done.stderr
 
 
-CHECKS = [first_run, version, sources, tampered, other_machines, built_here, not_writable, all_files, in_c, in_python, in_javascript,
+CHECKS = [first_run, version, sources, page, tampered, other_machines, built_here, not_writable, all_files, in_c, in_python, in_javascript,
           installed, packaged, texts]
 
 
