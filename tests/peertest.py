@@ -13,6 +13,7 @@ import json
 import os
 import queue
 import re
+import signal
 import socket
 import subprocess
 import sys
@@ -390,6 +391,26 @@ def lessons(path, failures):
                   (4, [("pass", "ka.one"), ("fail", "unk.id/10"), ("skip", "bf.some"), ("skip", "md.get")]))
 
 
+def interrupted(path, failures):
+    """Ctrl-C ends it and its client, with a word."""
+    port = client.free_port("127.0.0.1")
+    words = [sys.executable, SUITE, "127.0.0.1:%d" % port, "--torrent", path, "--jobs", "2", "--start", listener("seed", path)]
+    with subprocess.Popen(words, stdout=subprocess.DEVNULL, stderr=subprocess.PIPE, text=True, start_new_session=True) as played:
+        while played.poll() is None:
+            try:
+                socket.create_connection(("127.0.0.1", port), 1).close()
+                break
+            except OSError:
+                time.sleep(0.05)
+        time.sleep(0.5)
+        played.send_signal(signal.SIGINT)
+        said = played.communicate(timeout=60)[1]
+    failures.same("Ctrl-C", (played.returncode, said), (130, "peertest: interrupted\n"))
+    with socket.socket() as door:
+        door.setsockopt(socket.SOL_SOCKET, socket.SO_REUSEADDR, 1)
+        failures.same("the client's port after Ctrl-C", door.connect_ex(("127.0.0.1", port)) != 0, True)
+
+
 def refusals(path, failures):
     """Addresses that aren't this machine's, and wrong words."""
     rows = [("192.0.2.9:6881", 2, "isn't on this machine"), ("[2001:db8::1]:6881", 2, "isn't on this machine"),
@@ -503,7 +524,7 @@ def main(words):
             "right": [lambda: right(loaded, subject, failures)],
             "mutants": [lambda: mutants(loaded, subject, failures)],
             "command": [lambda: separate(loaded, subject, failures), lambda: lessons(path, failures),
-                        lambda: refusals(path, failures), lambda: dials(path, failures),
+                        lambda: refusals(path, failures), lambda: dials(path, failures), lambda: interrupted(path, failures),
                         lambda: outputs(folder, path, failures), lambda: replays(loaded, subject, path, failures)],
             "ours": [lambda: ours(folder, path, failures)],
         }

@@ -183,6 +183,9 @@ def main(arguments):
         # Nobody reads the output any more, as after `| head`.
         os.dup2(os.open(os.devnull, os.O_WRONLY), sys.stdout.fileno())
         return 141
+    except KeyboardInterrupt:
+        print("peertest: interrupted", file=sys.stderr)
+        return 130
     except (Usage, proved.Missing, OSError) as error:
         print("peertest: %s" % error, file=sys.stderr)
         return 2
