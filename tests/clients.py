@@ -168,6 +168,11 @@ def fetched(program, client, torrent, work):
     if done.returncode != 0 or done.stdout != b"d4:info" + INFO + b"e":
         print("fetch from %s: status %d, %d bytes, %r" % (client, done.returncode, len(done.stdout), done.stderr.decode()))
         return 1
+    # rtorrent hangs at a second request, and then a second connection would be made
+    ends = [line for line in done.stderr.decode().splitlines() if line.startswith(address)]
+    if len(ends) != 1:
+        print("fetch from %s: %d connections: %s" % (client, len(ends), "; ".join(ends)))
+        return 1
     name = os.path.join(folder, "fetched.torrent")
     with open(name, "wb") as file:
         file.write(done.stdout)

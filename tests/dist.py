@@ -171,6 +171,20 @@ def sources(at):
     assert show(at).stdout == FIRST
 
 
+def page(at):
+    """A change of the viewer is seen, and mended without the toolchain."""
+    here = {"PATH": os.environ["PATH"]}
+    was = (at / "dist/viewer.html").read_bytes()
+    with changed(at / "viewer/style/print.css", lambda text: text + b"/* more */\n"):
+        done = run(["tools/dist", "--check"], at, environment=here)
+        assert done.returncode == 1 and b"tools/dist --page" in done.stdout, done
+        passes(["tools/dist", "--page"], at, environment=here)
+        passes(["tools/dist", "--check"], at, environment=here)
+        assert (at / "dist/viewer.html").read_bytes() != was
+    passes(["tools/dist", "--page"], at, environment=here)
+    assert (at / "dist/viewer.html").read_bytes() == was
+
+
 def tampered(at):
     """A program with another byte isn't run, before and after a right one was."""
     program = at / "dist/x86_64-linux/bt_tool"
@@ -254,6 +268,8 @@ def all_files(at):
     for it in found:
         for path in (at, ROOT):
             assert str(path).encode() not in (dist / it).read_bytes(), "the path %s in %s" % (path, it)
+    wanted = {tuple(map(int, it.split(b"."))) for it in re.findall(rb"GLIBC_([\d.]+)", (native / "bt_tool").read_bytes())}
+    assert "with glibc %d.%d or later" % max(wanted)[:2] in (dist / "README.md").read_text(), "the C library that bt_tool needs"
     number = passes(["./bt_tool", "--version"], at).decode().split()[1]
     for name, text in help_texts.made(native / "bt_tool", number).items():
         assert (dist / name).read_text() == text, "%s isn't what --help says" % name
@@ -407,7 +423,7 @@ def texts(at):
         assert done.returncode == 0 and not done.stderr, done.stderr
 
 
-CHECKS = [first_run, version, sources, tampered, other_machines, built_here, not_writable, all_files, in_c, in_python, in_javascript,
+CHECKS = [first_run, version, sources, page, tampered, other_machines, built_here, not_writable, all_files, in_c, in_python, in_javascript,
           installed, packaged, texts]
 
 

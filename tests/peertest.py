@@ -13,6 +13,7 @@ import json
 import os
 import queue
 import re
+import signal
 import socket
 import subprocess
 import sys
@@ -390,6 +391,26 @@ def lessons(path, failures):
                   (4, [("pass", "ka.one"), ("fail", "unk.id/10"), ("skip", "bf.some"), ("skip", "md.get")]))
 
 
+def interrupted(path, failures):
+    """Ctrl-C ends it and its client, with a word."""
+    port = client.free_port("127.0.0.1")
+    words = [sys.executable, SUITE, "127.0.0.1:%d" % port, "--torrent", path, "--jobs", "2", "--start", listener("seed", path)]
+    with subprocess.Popen(words, stdout=subprocess.DEVNULL, stderr=subprocess.PIPE, text=True, start_new_session=True) as played:
+        while played.poll() is None:
+            try:
+                socket.create_connection(("127.0.0.1", port), 1).close()
+                break
+            except OSError:
+                time.sleep(0.05)
+        time.sleep(0.5)
+        played.send_signal(signal.SIGINT)
+        said = played.communicate(timeout=60)[1]
+    failures.same("Ctrl-C", (played.returncode, said), (130, "peertest: interrupted\n"))
+    with socket.socket() as door:
+        door.setsockopt(socket.SOL_SOCKET, socket.SO_REUSEADDR, 1)
+        failures.same("the client's port after Ctrl-C", door.connect_ex(("127.0.0.1", port)) != 0, True)
+
+
 def refusals(path, failures):
     """Addresses that aren't this machine's, and wrong words."""
     rows = [("192.0.2.9:6881", 2, "isn't on this machine"), ("[2001:db8::1]:6881", 2, "isn't on this machine"),
@@ -414,7 +435,7 @@ def outputs(folder, path, failures):
     at = "127.0.0.1:%d" % client.free_port("127.0.0.1")
     names = {name: os.path.join(folder, name) for name in ("a.json", "a.xml", "streams", "known")}
     with open(names["known"], "w", encoding="utf8") as file:
-        file.write("# what may fail\nmd.unknown-type  it closes\nmd.get  it doesn't fail any more\n")
+        file.write("# what may fail\nmd.unknown-type  it closes\nmd.get  it doesn't fail any more\nmd.got  no case\n")
     words = [at, "--torrent", path, "--only", "md.get,md.unknown-type,bf.late", "--start",
              listener("seed", path, "an unknown type is ignored"), "--json", names["a.json"], "--junit", names["a.xml"],
              "--streams", names["streams"]]
@@ -432,8 +453,9 @@ def outputs(folder, path, failures):
     sent, got = [os.path.join(names["streams"], "bf.late." + end) for end in ("sent", "got")]
     verdict = subprocess.run([PROGRAM, "check", "--other", got, "--pieces", "38", sent], capture_output=True, text=True)
     failures.same("a stream that was written", verdict.stdout.split()[-1:], ["Late"])
-    status, text, _ = run(*words, "--known", names["known"])
+    status, text, errors = run(*words, "--known", names["known"])
     failures.same("a known failure", (status, "md.get is known to fail, and passed" in text), (0, True))
+    failures.same("a known case that isn't there", errors, "peertest: %s names md.got, and there is no such case\n" % names["known"])
     listed = run("--list", "--bep", "9", "--mode", "magnet")[1]
     failures.same("the list", ("(paraphrased)" in listed, listed.count('BEP 9, "') == int(listed.split()[-2]) > 0), (True, True))
 
@@ -497,7 +519,7 @@ def main(words):
             "right": [lambda: right(loaded, subject, failures)],
             "mutants": [lambda: mutants(loaded, subject, failures)],
             "command": [lambda: separate(loaded, subject, failures), lambda: lessons(path, failures),
-                        lambda: refusals(path, failures), lambda: dials(path, failures),
+                        lambda: refusals(path, failures), lambda: dials(path, failures), lambda: interrupted(path, failures),
                         lambda: outputs(folder, path, failures), lambda: replays(loaded, subject, path, failures)],
             "ours": [lambda: ours(path, failures)],
         }

@@ -117,6 +117,8 @@ def play(words):
         sys.stdout.write(replay.script(case, subject, mode if mode in case.modes else case.modes[0])[0])
         return 0
     known = report.read_known(words.known) if words.known else []
+    for name in sorted({*known} - {case.id for case in loaded}):
+        print("peertest: %s names %s, and there is no such case" % (words.known, name), file=sys.stderr)
     options = suite.Options(words.patience, words.unchoke, words.level, max(1, words.jobs), words.settle)
 
     count = report.counter(len(chosen))
@@ -181,6 +183,9 @@ def main(arguments):
         # Nobody reads the output any more, as after `| head`.
         os.dup2(os.open(os.devnull, os.O_WRONLY), sys.stdout.fileno())
         return 141
+    except KeyboardInterrupt:
+        print("peertest: interrupted", file=sys.stderr)
+        return 130
     except (Usage, proved.Missing, OSError) as error:
         print("peertest: %s" % error, file=sys.stderr)
         return 2

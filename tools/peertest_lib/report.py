@@ -34,7 +34,7 @@ def listed(cases):
         for name, text in (("between the two directions", case.between), ("the proved rules differ", case.differs)):
             if text:
                 lines.append("%37s %s: %s" % ("", name, text))
-    return "\n".join(lines + ["%d cases" % len(cases)])
+    return "\n".join(lines + ["%d case%s" % (len(cases), "s" * (len(cases) != 1))])
 
 
 def counts(results):

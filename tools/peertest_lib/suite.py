@@ -262,8 +262,15 @@ class Suite:
         threads = [threading.Thread(target=work) for _ in range(min(jobs, len(cases)))]
         for thread in threads:
             thread.start()
-        for thread in threads:
-            thread.join()
+        try:
+            for thread in threads:
+                thread.join()
+        except KeyboardInterrupt:
+            # what runs ends its clients, and no further case begins
+            dead.append(time.monotonic())
+            for thread in threads:
+                thread.join()
+            raise
         return done, dead[0] if dead else None
 
     def blame(self, suspects, results, jobs):
