@@ -400,7 +400,7 @@ enum {
     BT_EVENT_PIECE = 10       /* a block of a piece came, which the item shows */
 };
 
-/* What an item made of the end. What its kind doesn't have is 0. */
+/* What an item made of the end. What its kind doesn't have means nothing. */
 typedef struct bt_event {
     uint64_t size;        /* the size of metadata that the peer announced, where has_size is on */
     uint32_t kind;
@@ -423,8 +423,8 @@ typedef struct bt_heard {
 /* Takes as many of the n bytes as the item that the end awaits wants, and handles that item once it is whole. The next call
  * wants the bytes after the first heard->used ones. What a status doesn't set stays as it was.
  * BT_ITEM: heard has the item and its event. The item's last item.body bytes (a bitfield, a block, a payload) are copied to
- * the start of out, if there is room for all of them; else nothing is written to out. own.limit bytes are always enough. Of
- * a handshake event.peer_id has what can differ from what was configured.
+ * the start of out, if there is room for all of them; else nothing is written to out. own.limit bytes are always enough. Its
+ * extended_id is set only for BT_EXT_RAW. Of a handshake event.peer_id has what isn't known before.
  * BT_MORE: all bytes were taken, and more are needed.
  * BT_REFUSED: heard->verdict says which message, where and why, now and in each later call until the end is reset.
  * BT_BUSY, BT_NO_MEMORY: the end holds an item that isn't handled. Call again with the bytes that are left, which may be
