@@ -1,14 +1,14 @@
 // Prints the items of a stream as `bt_tool show` does.
 //
-// usage: node --experimental-wasm-memory64 bindings/js/examples/show.mjs [LIBRARY] <STREAM
+// usage: node --experimental-wasm-memory64 bindings/js/examples/show.mjs [FILE..], or <STREAM
 //
-// LIBRARY is dist/bt.wasm if it isn't given. The flag is for Node 20 and 22; later ones need none. The options of `show` are read
-// from the environment: RULES=free or bep, LIMIT, PIECES, INFO_HASH in hex. PIECE is how many bytes are fed at once.
+// The flag is for Node 20 and 22; later ones need none. The options of `show` are read from the environment: RULES=free or bep, LIMIT,
+// PIECES, INFO_HASH in hex. PIECE is how many bytes are fed at once, and BT_WASM the library, if it isn't dist/bt.wasm.
 import fs from 'node:fs';
 import { Id, Kind, load, Refused } from '../bt.mjs';
 
-const bt = await load(process.argv[2] ?? new URL('../../../dist/bt.wasm', import.meta.url));
-const { RULES, LIMIT, PIECES, INFO_HASH, PIECE } = process.env;
+const { RULES, LIMIT, PIECES, INFO_HASH, PIECE, BT_WASM } = process.env;
+const bt = await load(BT_WASM ?? new URL('../../../dist/bt.wasm', import.meta.url));
 const hex = bytes => Buffer.from(bytes).toString('hex');
 
 /** The words of an item after its name. */
@@ -27,19 +27,26 @@ function words(item) {
   return item.id === Id.BITFIELD || item.id === Id.PIECE ? [...numbers, item.body.length] : numbers;
 }
 
-const feed = bt.feed({
+const own = {
   strict: RULES === 'bep', limit: Number(LIMIT ?? 262144), pieces: PIECES === undefined ? null : Number(PIECES),
   infoHash: INFO_HASH === undefined ? null : new Uint8Array(Buffer.from(INFO_HASH, 'hex')),
-});
-const stream = fs.readFileSync(0), size = Number(PIECE ?? 65536), lines = [];
-const take = items => { for (const item of items) lines.push([item.start, item.name, ...words(item)].join(' ')); };
-try {
-  for (let at = 0; at < stream.length; at += size) take(feed.push(stream.subarray(at, at + size)));
-  take(feed.finish());
-  lines.push(`ok messages=${lines.length - 1} bytes=${feed.start}`);
-} catch (refused) {
-  if (!(refused instanceof Refused)) throw refused;
-  lines.push(`refused message=${refused.number} at=${refused.at} ${refused.reason}`);
-  process.exitCode = 1;
+};
+
+/** The lines of a stream. */
+function show(stream, size) {
+  const feed = bt.feed(own), lines = [];
+  const take = items => { for (const item of items) lines.push([item.start, item.name, ...words(item)].join(' ')); };
+  try {
+    for (let at = 0; at < stream.length; at += size) take(feed.push(stream.subarray(at, at + size)));
+    take(feed.finish());
+    lines.push(`ok messages=${lines.length - 1} bytes=${feed.start}`);
+  } catch (refused) {
+    if (!(refused instanceof Refused)) throw refused;
+    lines.push(`refused message=${refused.number} at=${refused.at} ${refused.reason}`);
+    process.exitCode = 1;
+  }
+  return lines.join('\n') + '\n';
 }
-process.stdout.write(lines.join('\n') + '\n');
+
+const files = process.argv.slice(2);
+process.stdout.write((files.length ? files : [0]).map(file => show(fs.readFileSync(file), Number(PIECE ?? 65536))).join(''));
