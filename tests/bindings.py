@@ -1,0 +1,105 @@
+#!/usr/bin/env python3
+"""Tests the library in Python, Rust and JavaScript: each by its own tests, and all three on the same bytes.
+
+usage: tests/bindings.py [LIBRARIES]
+
+LIBRARIES is the folder of libbt.a and libbt.so, with bt.wasm in the folder above, or else dist/x86_64-linux. The three examples `show`
+have to print the same of the example streams, of their cuts, and of streams with changed bytes, under each rule set and in chunks of
+each size. A language whose tool isn't installed is left out, and that is said.
+"""
+import os
+import pathlib
+import random
+import shutil
+import subprocess
+import sys
+import tempfile
+
+ROOT = pathlib.Path(__file__).resolve().parent.parent
+LIBRARIES = pathlib.Path(sys.argv[1] if len(sys.argv) > 1 else ROOT / "dist/x86_64-linux").resolve()
+WASM = LIBRARIES.parent / "bt.wasm"
+BINDINGS = ROOT / "bindings"
+NODE = ["node", "--experimental-wasm-memory64", "--no-warnings"]
+STREAMS = 300
+SECONDS = "2"
+
+
+def environment(room):
+    return {**os.environ, "BT_LIBRARY": str(LIBRARIES / "libbt.so"), "BT_WASM": str(WASM), "BT_LIB_DIR": str(LIBRARIES),
+            "CARGO_TARGET_DIR": str(room / "target"), "PYTHONDONTWRITEBYTECODE": "1"}
+
+
+def passes(words, given, **how):
+    """What a program prints that has to end with status 0."""
+    done = subprocess.run(list(map(str, words)), env=given, stdout=subprocess.PIPE, stderr=subprocess.STDOUT, **how)
+    if done.returncode:
+        sys.exit("bindings: failed: %s\n%s" % (" ".join(map(str, words)), done.stdout.decode(errors="replace")))
+    return done.stdout
+
+
+def shows(room, given):
+    """The commands that show streams, by language, for the tools that are installed. Each language's own tests have passed."""
+    found = {"Python": [sys.executable, BINDINGS / "python/examples/show.py"]}
+    for test in sorted((BINDINGS / "python/tests").glob("*.py")):
+        passes([sys.executable, "-W", "error", test, SECONDS], given)
+    if shutil.which("cargo"):
+        passes(["cargo", "test", "--offline", "--quiet"], given, cwd=BINDINGS / "rust")
+        passes(["cargo", "build", "--offline", "--quiet", "--examples"], given, cwd=BINDINGS / "rust")
+        found["Rust"] = [room / "target/debug/examples/show"]
+    if shutil.which("node") and WASM.is_file():
+        for test in sorted((BINDINGS / "js/tests").glob("*.mjs")):
+            passes([*NODE, test, WASM], given)
+        found["JavaScript"] = [*NODE, BINDINGS / "js/examples/show.mjs"]
+    for language in {"Rust", "JavaScript"} - {*found}:
+        print("bindings: %s is left out, since its tool isn't installed" % language)
+    return found
+
+
+def streams(chosen):
+    """Example streams, some of them cut, some with changed bytes."""
+    examples = [it.read_bytes() for it in sorted((ROOT / "examples").glob("*.bin"))]
+    yield from examples
+    for _ in range(STREAMS):
+        stream = bytearray(chosen.choice(examples))
+        if chosen.random() < 0.3:
+            del stream[chosen.randrange(len(stream)):]
+        for _ in range(chosen.choice([0, 1, 1, 2])):
+            if stream:
+                stream[chosen.randrange(min(len(stream), 600))] = chosen.choice([0, 1, 2, chosen.randrange(256)])
+        yield bytes(stream)
+
+
+def compare(room, commands, given):
+    """How many streams the languages show alike."""
+    chosen, every, count = random.Random(43), [], 0
+    for number, stream in enumerate(streams(chosen)):
+        every.append(room / ("%d.bin" % number))
+        every[-1].write_bytes(stream)
+    for size, rules, pieces in ((1, "free", None), (65536, "bep", None), (1000, "bep", "38"), (7, "free", "3")):
+        paths = [it for it in every if size > 7 or it.stat().st_size < 2000]
+        options = {**given, "PIECE": str(size), "RULES": rules, **({"PIECES": pieces} if pieces else {})}
+        said = {language: subprocess.run([*map(str, words), *map(str, paths)], env=options, capture_output=True)
+                for language, words in commands.items()}
+        wanted = said["Python"]
+        if wanted.stderr or wanted.stdout.count(b"\nok ") + wanted.stdout.count(b"\nrefused ") < len(paths) // 2:
+            sys.exit("bindings: failed: Python shows %r %r" % (wanted.stdout[-500:], wanted.stderr))
+        for language, done in said.items():
+            if (done.stdout, done.stderr, done.returncode) != (wanted.stdout, b"", wanted.returncode):
+                lines = zip(done.stdout.decode().split("\n"), wanted.stdout.decode().split("\n"))
+                other = next((pair for pair in lines if pair[0] != pair[1]), "lines")
+                sys.exit("bindings: failed: %s and Python differ by %s in chunks of %d %s" % (language, other, size, done.stderr.decode()))
+        count += len(paths)
+    return count
+
+
+def main():
+    with tempfile.TemporaryDirectory(prefix="bindings-") as name:
+        room = pathlib.Path(name)
+        given = environment(room)
+        commands = shows(room, given)
+        count = compare(room, commands, given)
+    print("bindings: ok: %s, %d streams shown alike" % (", ".join(commands), count))
+
+
+if __name__ == "__main__":
+    main()
