@@ -308,7 +308,7 @@ def served_by(port, info):
 
 
 def serving(runner):
-    """Each request for memory of a `serve` is refused: that ends it, or its connection alone, or changes nothing."""
+    """Each request for memory of a `serve` is refused: that ends it, or its connection alone, or takes the line, or changes nothing."""
     tiny = info_of(100)
     with open(os.path.join(runner.work, "info"), "wb") as file:
         file.write(tiny)
@@ -324,10 +324,11 @@ def serving(runner):
         if was_made:
             os.remove(runner.made)
         lines = out.decode().splitlines()
-        is_served = (block, errors, process.returncode, lines) == (tiny, b"", 0, [address + " sent=4 handled=3 closed"])
+        is_served = (block, errors, process.returncode) == (tiny, b"", 0) and lines == [address + " sent=4 handled=3 closed"]
+        is_untold = (block, errors, process.returncode, lines) == (tiny, b"", 0, [])
         is_closed = (block, errors, process.returncode, len(lines)) == (None, b"", 0, 1) and lines[0].startswith(address) and lines[0].endswith(" closed")
         is_fault = (block, errors, process.returncode) == (None, b"fault: memory\n", 3) and lines in ([], [address + " sent=0 handled=0 closed"])
-        if not (is_served or was_made and (is_closed or is_fault)):
+        if not (is_served or was_made and (is_untold or is_closed or is_fault)):
             yield "serve: request %d: %r" % (number, (block, first, out, errors, process.returncode))
         if not was_made:
             return
