@@ -55,6 +55,26 @@ def shows(room, given):
     return found
 
 
+def fetches(commands, given):
+    """How many fetches by the examples `fetch` ended as they have to, from peers that are right and peers that break a rule."""
+    os.environ.update(given)
+    sys.path.insert(0, str(BINDINGS / "python/tests"))
+    import ends
+    count = 0
+    for language, words in commands.items():
+        for broken in [*ends.RIGHT, *(name for name, (kind, _) in ends.FAILS.items() if kind is not TimeoutError)]:
+            # (a connection on which no block can come any more may be silent, and the examples wait)
+            if broken in ("a huge size", "a size of 0", "another id", "another total size", "a short block", "a size above most"):
+                continue
+            with ends.Peer(broken) as address:
+                done = subprocess.run([*map(str, words), ends.INFO_HASH.hex(), address], env=given, capture_output=True, timeout=30)
+            wanted = ends.METADATA if broken in ends.RIGHT else b""
+            if done.stdout != wanted or (done.returncode == 0) != bool(wanted):
+                sys.exit("bindings: failed: %s fetches from a peer with '%s': %s" % (language, broken, done.stderr.decode()[-2000:]))
+            count += 1
+    return count
+
+
 def streams(chosen):
     """Example streams, some of them cut, some with changed bytes."""
     examples = [it.read_bytes() for it in sorted((ROOT / "examples").glob("*.bin"))]
@@ -98,7 +118,9 @@ def main():
         given = environment(room)
         commands = shows(room, given)
         count = compare(room, commands, given)
-    print("bindings: ok: %s, %d streams shown alike" % (", ".join(commands), count))
+        fetchers = {language: [*words[:-1], pathlib.Path(str(words[-1]).replace("show", "fetch"))] for language, words in commands.items()}
+        fetched = fetches({language: words for language, words in fetchers.items() if words[-1].is_file()}, given)
+    print("bindings: ok: %s, %d streams shown alike, %d fetches" % (", ".join(commands), count, fetched))
 
 
 if __name__ == "__main__":

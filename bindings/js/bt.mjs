@@ -81,7 +81,7 @@ export class Item {
     this.extendedId = kind ? view.getUint8(at + 48) : null;
     /** What an extended message is: a `Kind`. */
     this.kind = kind || null;
-    /** The number of a metadata block. */
+    /** The number of a metadata block, or the piece that the peer no longer has (lt_donthave). */
     this.piece = WITH_PIECE.includes(kind) ? view.getUint32(at + 80, true) : null;
     /** How many bytes the metadata has, by a data message; a BigInt from 2^53 on. */
     this.totalSize = kind === Kind.METADATA_DATA ? wide(view.getBigUint64(at + 56, true)) : null;
@@ -120,15 +120,16 @@ function content(value, what, size = null) {
 
 /** The receiver with all fields, each of which fits. */
 function completed(own = {}) {
-  const { reserved = FAST | DHT | EXTENSIONS, infoHash = null, pieces = null, metadataId = 3, strict = false, limit = 262144 } = own;
+  const { reserved = FAST | DHT | EXTENSIONS, infoHash = null, pieces = null, metadataId = 3, donthaveId = 0, strict = false, limit = 262144 } = own;
   if (pieces !== null) number(pieces, 32, 'pieces');
   return {
     reserved: BigInt(number(reserved, 64, 'reserved')), pieces, strict: Boolean(strict), limit: Number(number(limit, 32, 'limit')),
     infoHash: infoHash === null ? null : content(infoHash, 'infoHash', 20).slice(), metadataId: Number(number(metadataId, 8, 'metadataId')),
+    donthaveId: Number(number(donthaveId, 8, 'donthaveId')),
   };
 }
 
-/** The calls of a loaded library. Each receiver is {reserved, infoHash, pieces, metadataId, strict, limit}; what is left out is usual. */
+/** The calls of a loaded library. Each receiver is {reserved, infoHash, pieces, metadataId, donthaveId, strict, limit}; what is left out is usual. */
 class Wire {
   /** @param {Library} library */
   constructor(library) {

@@ -3,8 +3,8 @@
 // Nothing of it is proved.
 
 export const MORE = 0, ITEM = 1, REFUSED = 2, END = 3;
-const ABI = 1;
-export const OWN_SIZE = 40, READER_SIZE = 56, ITEM_SIZE = 88;
+const ABI = 2;
+export const OWN_SIZE = 48, READER_SIZE = 64, ITEM_SIZE = 88;
 const NAME_ROOM = 24, PAGE = 65536;
 // a module with a memory of 64 bits and nothing else
 const MEMORY64 = Uint8Array.of(0, 0x61, 0x73, 0x6d, 1, 0, 0, 0, 5, 3, 1, 4, 1);
@@ -15,7 +15,7 @@ export const NEEDS_MEMORY64 = 'This browser cannot run the proved reader, which 
 /**
  * The receiver: what a stream is judged by.
  * @typedef {{ reserved: bigint, limit: number, pieces: number | null, metadataId: number, infoHash: Uint8Array | null,
- *  strict?: boolean }} Own
+ *  donthaveId?: number, strict?: boolean }} Own
  */
 
 export class Library {
@@ -74,7 +74,7 @@ export class Library {
    * @param {number} at
    * @param {Own} own
    */
-  putOwn(at, { reserved, limit, pieces, metadataId, strict, infoHash }) {
+  putOwn(at, { reserved, limit, pieces, metadataId, donthaveId, strict, infoHash }) {
     const { view } = this;
     view.setBigUint64(at, reserved, true);
     view.setUint32(at + 8, limit, true);
@@ -82,8 +82,9 @@ export class Library {
     view.setUint8(at + 16, pieces === null ? 0 : 1);
     view.setUint8(at + 17, infoHash ? 1 : 0);
     view.setUint8(at + 18, metadataId);
-    view.setUint8(at + 19, strict ? 1 : 0);
-    this.bytes.set(infoHash ?? new Uint8Array(20), at + 20);
+    view.setUint8(at + 19, donthaveId ?? 0);
+    view.setUint8(at + 20, strict ? 1 : 0);
+    this.bytes.set(infoHash ?? new Uint8Array(20), at + 21);
   }
 
   /**
