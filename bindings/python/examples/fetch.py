@@ -11,7 +11,7 @@ import bt
 def fetch(sock, info_hash):
     """What bt.fetch does, with a line for each event."""
     with bt.End(bt.Own(info_hash=info_hash), fetch=True) as end:
-        while end.metadata is None and not end.is_hopeless:
+        while end.metadata is None and not end.is_hopeless and end.mismatches == 0:
             sock.sendall(end.take())
             data = sock.recv(65536)
             if not data:

@@ -16,7 +16,7 @@ fn main() -> Result<(), Box<dyn Error>> {
     let own = Own { info_hash: Some(info_hash(hash)?), ..Own::default() };
     let mut end = End::new(&Config { own, role: Role::Fetch(None), ..Config::default() })?;
     let (mut stream, mut buffer) = (TcpStream::connect(peer)?, vec![0; 65_536]);
-    while end.metadata().is_none() && !end.is_hopeless() {
+    while end.metadata().is_none() && !end.is_hopeless() && end.mismatches() == 0 {
         let waiting = end.outgoing();
         stream.write_all(&waiting)?;
         end.sent(waiting.len());
