@@ -149,8 +149,9 @@ class End:
             fields[9] = own.get(fields[15], self._own.metadata_id)
         kind = Event(event.kind)
         has_piece = kind in (Event.BLOCK, Event.REJECTED, Event.SERVED, Event.DECLINED)
-        return Heard(Item(tuple(fields), self._bytes(fields, bytes(event.peer_id))), kind, event.piece if has_piece else None,
-                     event.id if event.has_id else None, event.size if event.has_size else None, bool(event.begins))
+        item, announced = Item(tuple(fields), self._bytes(fields, bytes(event.peer_id))), kind == Event.ANNOUNCED
+        return Heard(item, kind, event.piece if has_piece else None, event.id if announced and event.has_id else None,
+                     event.size if announced and event.has_size else None, announced and bool(event.begins))
 
     def _bytes(self, fields: Any, peer_id: bytes) -> bytes:
         """The bytes of an item, each of which has one spelling."""
