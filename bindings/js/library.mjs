@@ -1,6 +1,5 @@
 // The proved library as WebAssembly (dist/bt.wasm, crates/bt_c/bt.h): its memory and its structs. Addresses are BigInt, since it is
-// built for 64 bits. It takes no memory of its own: what is read and written lies after its data. The viewer uses this file too.
-// Nothing of it is proved.
+// built for 64 bits. The viewer uses this file too. Nothing of it is proved.
 
 export const MORE = 0, ITEM = 1, REFUSED = 2, END = 3;
 const ABI = 2;
@@ -29,44 +28,41 @@ export class Library {
   /** @param {any} calls */
   constructor(calls) {
     this.calls = calls;
+    /** @type {DataView | undefined} */
+    this.seen = undefined;
+    /** @type {Uint8Array | undefined} */
+    this.all = undefined;
     if (calls.bt_abi() !== ABI) throw new Error('The library has another version of its structs.');
-    this.top = Number(calls.__heap_base.value);
-    this.view = new DataView(calls.memory.buffer);
-    this.bytes = new Uint8Array(calls.memory.buffer);
-    this.own = this.take(64);
-    this.reader = this.take(64);
-    this.item = this.take(128);
-    this.written = this.take(128);
-    this.small = this.take(64);
+    const at = this.take(1024);
+    [this.own, this.reader, this.item, this.written, this.small, this.end] = [0, 64, 128, 256, 384, 448].map(from => at + from);
+    // what a bt_end_config, a bt_heard and a bt_progress are written to
+    this.told = at + 512;
   }
 
   /**
-   * Returns the address of memory that nothing else uses. Views are made anew if it has to grow.
+   * Returns the address of memory that nothing else uses: pages by which the memory grows, since ends take such too.
    * @param {number} size
    */
   take(size) {
-    const at = Math.ceil(this.top / 64) * 64;
-    this.top = at + size;
-    this.grow(this.top);
-    return at;
-  }
-
-  /**
-   * Makes the memory as large.
-   * @param {number} end
-   */
-  grow(end) {
-    const { memory } = this.calls, wanted = Math.ceil((end - memory.buffer.byteLength) / PAGE);
-    if (wanted <= 0) return;
+    const pages = Math.ceil(size / PAGE), { memory } = this.calls;
     try {
-      memory.grow(BigInt(wanted));
+      return Number(memory.grow(BigInt(pages))) * PAGE;
     } catch (error) {
       // before memory64 was settled, it took a number
       if (!(error instanceof TypeError)) throw error;
-      memory.grow(wanted);
+      return Number(memory.grow(pages)) * PAGE;
     }
-    this.view = new DataView(memory.buffer);
-    this.bytes = new Uint8Array(memory.buffer);
+  }
+
+  /** The memory. What is taken of it doesn't move, but a view ends when it grows. */
+  get view() {
+    if (this.seen?.buffer !== this.calls.memory.buffer) this.seen = new DataView(this.calls.memory.buffer);
+    return this.seen;
+  }
+
+  get bytes() {
+    if (this.all?.buffer !== this.calls.memory.buffer) this.all = new Uint8Array(this.calls.memory.buffer);
+    return this.all;
   }
 
   /**
@@ -116,6 +112,15 @@ export class Library {
    */
   finish(from, n, item) {
     return this.calls.bt_reader_finish(BigInt(this.reader), BigInt(from), BigInt(n), BigInt(item));
+  }
+
+  /**
+   * Returns the bt_verdict at an address: which message is refused, where and why.
+   * @param {number} at
+   */
+  verdict(at) {
+    const [message, place] = [0, 8].map(from => Number(this.view.getBigUint64(at + from, true)));
+    return { message, at: place, reason: this.reasonName(this.view.getUint8(at + 16)) };
   }
 
   /**
