@@ -1,11 +1,12 @@
 #!/usr/bin/env python3
-"""Tests the library in Python, Rust and JavaScript: each by its own tests, and all three on the same bytes.
+"""Tests the library in Python, Rust and JavaScript: each by its own tests, and all on the same bytes.
 
 usage: tests/bindings.py [LIBRARIES]
 
 LIBRARIES is the folder of libbt.a and libbt.so, with bt.wasm in the folder above, or else dist/x86_64-linux. The three examples `show`
 have to print the same of the example streams, of their cuts, and of streams with changed bytes, under each rule set and in chunks of
-each size. A language whose tool isn't installed is left out, and that is said.
+each size. The examples `fetch`, also in C, have to fetch from a peer that is right, and from none that breaks a rule. A language whose
+tool isn't installed is left out, and that is said.
 """
 import os
 import pathlib
@@ -67,7 +68,8 @@ def fetches(commands, given):
             if broken in ("a huge size", "a size of 0", "another id", "another total size", "a short block", "a size above most"):
                 continue
             with ends.Peer(broken) as address:
-                done = subprocess.run([*map(str, words), ends.INFO_HASH.hex(), address], env=given, capture_output=True, timeout=30)
+                given_to = address.split(":") if language == "C" else [address]
+                done = subprocess.run([*map(str, words), ends.INFO_HASH.hex(), *given_to], env=given, capture_output=True, timeout=30)
             wanted = ends.METADATA if broken in ends.RIGHT else b""
             if done.stdout != wanted or (done.returncode == 0) != bool(wanted):
                 sys.exit("bindings: failed: %s fetches from a peer with '%s': %s" % (language, broken, done.stderr.decode()[-2000:]))
@@ -119,7 +121,11 @@ def main():
         commands = shows(room, given)
         count = compare(room, commands, given)
         fetchers = {language: [*words[:-1], pathlib.Path(str(words[-1]).replace("show", "fetch"))] for language, words in commands.items()}
-        fetched = fetches({language: words for language, words in fetchers.items() if words[-1].is_file()}, given)
+        if shutil.which("cc"):
+            fetchers["C"] = [room / "fetch"]
+            passes(["cc", "-D_GNU_SOURCE", "-I", ROOT / "crates/bt_c", ROOT / "crates/bt_c/examples/fetch.c", LIBRARIES / "libbt.a",
+                    "-o", room / "fetch"], given)
+        fetched = fetches(fetchers, given)
     print("bindings: ok: %s, %d streams shown alike, %d fetches" % (", ".join(commands), count, fetched))
 
 

@@ -34,7 +34,12 @@ export class Library {
     this.all = undefined;
     if (calls.bt_abi() !== ABI) throw new Error('The library has another version of its structs.');
     const at = this.take(1024);
-    [this.own, this.reader, this.item, this.written, this.small, this.end] = [0, 64, 128, 256, 384, 448].map(from => at + from);
+    this.own = at;
+    this.reader = at + 64;
+    this.item = at + 128;
+    this.written = at + 256;
+    this.small = at + 384;
+    this.end = at + 448;
     // what a bt_end_config, a bt_heard and a bt_progress are written to
     this.told = at + 512;
   }
