@@ -8,14 +8,6 @@ import { END, ITEM, ITEM_SIZE, Library, MORE, OWN_SIZE, READER_SIZE, REFUSED } f
 
 export const FAST = 0x4n, DHT = 0x1n, EXTENSIONS = 0x100000n;
 
-/** What an item of the peer made of an end. */
-export const Event = Object.freeze({
-  OTHER: 0, OPENED: 1, ANNOUNCED: 2, BLOCK: 3, REJECTED: 4, FETCHED: 5, MISMATCHED: 6, SERVED: 7, DECLINED: 8, REQUESTED: 9, PIECE: 10,
-});
-
-/** What an end says of its pieces after the handshakes. */
-export const Announce = Object.freeze({ NOTHING: 0, ALL: 1, NONE: 2 });
-
 /** The ids of messages, and those of a keep-alive and the handshake, which have none on the wire. */
 export const Id = Object.freeze({
   CHOKE: 0, UNCHOKE: 1, INTERESTED: 2, NOT_INTERESTED: 3, HAVE: 4, BITFIELD: 5, REQUEST: 6, PIECE: 7, CANCEL: 8, PORT: 9, SUGGEST: 13,
@@ -30,7 +22,6 @@ export const Kind = Object.freeze({
 
 const HEAD = 17, DICT = 160;    // what a message has besides its body, and a dictionary that the library writes
 const ROOM = 256, WINDOW = 65536;
-const PEER_ID = Uint8Array.from('-XX0001-javascriptjs', letter => letter.charCodeAt(0));
 const WITH_INDEX = [4, 13, 17, 6, 8, 16, 7], WITH_BEGIN = [6, 8, 16, 7], WITH_LENGTH = [6, 8, 16], WITH_PIECE = [2, 3, 4, 8];
 
 /**
@@ -158,8 +149,6 @@ class Wire {
     this.items = library.take((ROOM + 1) * ITEM_SIZE);
     this.area = library.take(WINDOW);
     this.room = WINDOW;
-    /** Whose bytes are in the area. */
-    this.holder = null;
     this.names = new Map();
   }
 
@@ -199,11 +188,6 @@ class Wire {
     return new Writer(this, own, reserved);
   }
 
-  /** Returns one end of a connection. Its receiver has an info hash. */
-  end(own, options) {
-    return new End(this, own, options);
-  }
-
   /** Copies bytes into the library's memory, with room for more after them, and returns how many, as a BigInt. */
   put(bytes, more = 0) {
     const wanted = bytes.length + more;
@@ -211,7 +195,6 @@ class Wire {
       this.room = Math.max(wanted, 2 * this.room);
       this.area = this.library.take(this.room);
     }
-    this.holder = null;
     this.library.bytes.set(bytes, this.area);
     return BigInt(bytes.length);
   }
@@ -429,234 +412,5 @@ class Writer {
   metadata(kind, piece, totalSize, block) {
     const before = [kind, Number(number(piece, 32, 'piece')), BigInt(totalSize)];
     return this.written('bt_write_metadata', before, block, HEAD + DICT + block.length, 'the peer announced no id for ut_metadata');
-  }
-}
-
-const BUSY = 5, NO_MEMORY = 6, NO_END = 7;
-const WHY = {
-  4: 'an end doesn\'t say it', [BUSY]: '1 MiB or more waits to be sent', [NO_MEMORY]: 'out of memory', [NO_END]: 'the end is closed',
-  8: 'the limit isn\'t 32,768 to 1,048,576', 9: 'there is no info hash', 10: 'the metadata hasn\'t 1 to 67,108,864 bytes',
-  11: 'the connection isn\'t open', 12: 'the piece count isn\'t known', 13: 'the peer would refuse it',
-  14: 'no metadata of this size can be fetched now',
-};
-const EVENT = 96, VERDICT = 136, PROGRESS = 256;    // in the memory of what is told: a bt_heard's event and verdict; a bt_progress
-const WITH_BLOCK = [Event.BLOCK, Event.REJECTED, Event.SERVED, Event.DECLINED];
-const dropped = new FinalizationRegistry(({ library, state }) => {
-  library.bytes.set(state, library.end);
-  library.calls.bt_end_free(BigInt(library.end));
-});
-
-function done(status) {
-  if (status) throw new Error(WHY[status] ?? `status ${status}`);
-}
-
-/**
- * One end of a connection. It exchanges handshakes, and fetches or serves the torrent's metadata. It opens no socket and reads no clock.
- *
- *   const end = bt.end({ infoHash }, { fetch: true });
- *   socket.write(end.take());
- *   for (const { item, event } of end.receive(chunk)) ..
- */
-class End {
-  constructor(wire, own, { fetch = false, serve = null, most = null, window = 8, announce = Announce.NONE, peerId = PEER_ID } = {}) {
-    const { library } = wire, complete = completed(own), at = library.told;
-    if (fetch && serve !== null) throw new RangeError('an end fetches or serves');
-    if (!(window >= 1 && window <= 8)) throw new RangeError(`window is ${window}, not 1 to 8`);
-    if (!Object.values(Announce).includes(announce)) throw new RangeError(`announce is ${announce}`);
-    const greatest = BigInt(number(most ?? 0, 64, 'most'));
-    if (most !== null && !greatest) throw new RangeError('most is 0');
-    content(peerId, 'peerId', 20);
-    const n = wire.put(serve === null ? new Uint8Array() : content(serve, 'serve'));
-    library.putOwn(at, complete);
-    library.view.setBigUint64(at + 48, greatest, true);
-    library.bytes.set(peerId, at + 56);
-    library.bytes.set([announce, window, fetch ? 2 : serve === null ? 0 : 1], at + 76);
-    this.wire = wire;
-    this.own = complete;
-    this.state = new Uint8Array(16);
-    this.rest = new Uint8Array();
-    this.at = 0;
-    done(this.call('bt_end_new', BigInt(at), BigInt(wire.area), n));
-    dropped.register(this, { library, state: this.state }, this.state);
-  }
-
-  /** Makes a call on the end, whose bt_end is in the library's memory only during a call. */
-  call(name, ...words) {
-    const { library } = this.wire, { end } = library;
-    library.bytes.set(this.state, end);
-    const answer = library.calls[name](BigInt(end), ...words);
-    this.state.set(library.bytes.subarray(end, end + this.state.length));
-    return answer;
-  }
-
-  /** Makes a call on an end that isn't closed. */
-  ask(name, ...words) {
-    if (!this.state[8]) throw new Error(WHY[NO_END]);
-    return this.call(name, ...words);
-  }
-
-  /** Frees it. An end that nothing refers to is freed too, some time later. */
-  close() {
-    dropped.unregister(this.state);
-    this.call('bt_end_free');
-  }
-
-  /**
-   * Takes all bytes, and returns an iterator over what the peer says in them: {item, event, piece, id, size, begins}. Each item is
-   * handled when it is asked for. What isn't taken from an iterator isn't lost: the next one begins with it. It ends early if 1 MiB
-   * waits to be sent: send some, and receive again, which may be no bytes. It throws Refused if the peer breaks a rule, and so does
-   * each later one.
-   */
-  receive(chunk) {
-    this.ask('bt_end_waiting');
-    const more = content(chunk, 'chunk'), left = this.rest.subarray(this.at);
-    this.rest = new Uint8Array(left.length + more.length);
-    this.rest.set(left);
-    this.rest.set(more, left.length);
-    this.at = 0;
-    return this.heard();
-  }
-
-  * heard() {
-    const { wire, wire: { library } } = this, { limit } = this.own, { told } = library;
-    for (;;) {
-      const { rest } = this;
-      if (wire.holder !== rest) {
-        wire.put(rest, limit);
-        wire.holder = rest;
-      }
-      const out = wire.area + rest.length, words = [wire.area + this.at, rest.length - this.at, told, out, limit].map(BigInt);
-      const answer = this.ask('bt_end_next', ...words);
-      this.at += Number(library.view.getBigUint64(told, true));
-      if (answer === REFUSED) {
-        const { message, at, reason } = library.verdict(told + VERDICT);
-        throw new Refused(at, reason, message);
-      }
-      if (answer === MORE || answer === BUSY) return;
-      if (answer !== ITEM) done(answer);
-      yield this.told(told, out);
-    }
-  }
-
-  /** What was heard: of the bt_heard at an address and the body at another. */
-  told(at, out) {
-    const { wire, wire: { library: { view } } } = this, item = at + 8, event = at + EVENT;
-    const kind = view.getUint32(event + 8, true), told = kind === Event.ANNOUNCED;
-    if (view.getUint16(item + 46, true) === Id.EXTENDED) view.setUint8(item + 48, this.extendedId(view.getUint8(item + 84), view.getUint8(item + 48)));
-    return {
-      item: wire.item(item, this.spelled(item, event, out)), event: kind,
-      /** The number of a metadata block. */
-      piece: WITH_BLOCK.includes(kind) ? view.getUint32(event + 12, true) : null,
-      /** The id under which the peer wants metadata messages, if it announced one. */
-      id: told && view.getUint8(event + 17) ? view.getUint8(event + 16) : null,
-      /** The size of the metadata that the peer announced. */
-      size: told && view.getUint8(event + 18) ? wide(view.getBigUint64(event, true)) : null,
-      /** Whether metadata of this size is fetched from now on. */
-      begins: told && view.getUint8(event + 19) !== 0,
-    };
-  }
-
-  /** The id of an extended message of this kind, which came under the own ids. */
-  extendedId(kind, raw) {
-    if (kind === Kind.EXT_RAW) return raw;
-    return kind === Kind.EXT_HANDSHAKE ? 0 : kind === Kind.DONTHAVE ? this.own.donthaveId : this.own.metadataId;
-  }
-
-  /** The bytes of an item, which have one spelling. */
-  spelled(item, event, out) {
-    const { view, bytes } = this.wire.library, id = view.getUint16(item + 46, true), n = Number(view.getBigUint64(item + 16, true));
-    if (id === Id.HANDSHAKE) {
-      return this.wire.handshake(this.own.infoHash, bytes.slice(event + 20, event + 40), view.getBigUint64(item + 24, true));
-    }
-    if (id === Id.KEEP_ALIVE) return new Uint8Array(4);
-    const numbers = WITH_LENGTH.includes(id) ? 12 : WITH_BEGIN.includes(id) ? 8 : WITH_INDEX.includes(id) ? 4 : 0;
-    const head = id === Id.PORT ? 2 : id === Id.EXTENDED ? 1 : numbers, made = new Uint8Array(5 + head + n), to = new DataView(made.buffer);
-    to.setUint32(0, 1 + head + n);
-    to.setUint8(4, id);
-    for (let k = 0; k < numbers; k += 4) to.setUint32(5 + k, view.getUint32(item + 32 + k, true));
-    if (id === Id.PORT) to.setUint16(5, view.getUint16(item + 44, true));
-    if (id === Id.EXTENDED) to.setUint8(5, view.getUint8(item + 48));
-    made.set(bytes.subarray(out, out + n), 5 + head);
-    return made;
-  }
-
-  /** Returns the first bytes that wait to be sent, at most so many. They still wait. */
-  outgoing(most = 65536) {
-    const { wire } = this, room = Math.min(Number(this.ask('bt_end_waiting')), most);
-    wire.put(new Uint8Array(), room);
-    const n = Number(this.ask('bt_end_outgoing', BigInt(wire.area), BigInt(room)));
-    return wire.library.bytes.slice(wire.area, wire.area + n);
-  }
-
-  /** Drops the first `n` bytes that wait, since they were sent. */
-  sent(n) {
-    this.ask('bt_end_sent', BigInt(number(n, 53, 'n')));
-  }
-
-  /** Returns all bytes that wait to be sent, which then wait no more. */
-  take() {
-    const found = this.outgoing(Infinity);
-    this.sent(found.length);
-    return found;
-  }
-
-  /** Says a message by its id, the numbers that the id has, and its bitfield or block. It then waits to be sent. Throws if it can't be said. */
-  say(id, { index = 0, begin = 0, length = 0, port = 0, body = new Uint8Array() } = {}) {
-    const item = putItem(this.wire.library, { id, index, begin, length, port });
-    const n = this.wire.put(content(body, 'body'));
-    done(this.ask('bt_end_say', BigInt(item), BigInt(this.wire.area), n));
-  }
-
-  /** Says that a piece isn't had any more. The peer has announced lt_donthave. */
-  sayDonthave(piece) {
-    const { library } = this.wire, item = putItem(library, { id: Id.EXTENDED });
-    library.view.setUint32(item + 80, Number(number(piece, 32, 'piece')), true);
-    library.view.setUint8(item + 84, Kind.DONTHAVE);
-    done(this.ask('bt_end_say', BigInt(item), BigInt(this.wire.area), 0n));
-  }
-
-  /** The metadata that was fetched, whose SHA-1 is the info hash; null while it isn't there. */
-  get metadata() {
-    const { wire } = this, n = Number(this.ask('bt_end_metadata', BigInt(wire.area), 0n));
-    if (!n) return null;
-    wire.put(new Uint8Array(), n);
-    this.ask('bt_end_metadata', BigInt(wire.area), BigInt(n));
-    return wire.library.bytes.slice(wire.area, wire.area + n);
-  }
-
-  /** How far the fetch has come: {size, blocks, held}; null if no size is known, or nothing is fetched. */
-  get progress() {
-    const { library } = this.wire, at = library.told + PROGRESS;
-    if (!this.ask('bt_end_progress', BigInt(at))) return null;
-    const [size, blocks, held] = [0, 8, 16].map(from => Number(library.view.getBigUint64(at + from, true)));
-    return { size, blocks, held };
-  }
-
-  /** Whether no block can come any more on this connection, whatever the peer sends. */
-  get isHopeless() {
-    return this.ask('bt_end_is_hopeless') !== 0;
-  }
-
-  /** How often, on this connection, the blocks that came were those of other metadata. */
-  get mismatches() {
-    return Number(this.ask('bt_end_mismatches'));
-  }
-
-  /** Fetches metadata of this size from now on, for a peer that announced a false one. Throws if it can't. */
-  begin(size) {
-    done(this.ask('bt_end_begin', BigInt(number(size, 64, 'size'))));
-  }
-
-  /** Asks for at most so many blocks at once from now on, 1 to 8. */
-  setWindow(window) {
-    if (!(window >= 1 && window <= 8)) throw new RangeError(`window is ${window}, not 1 to 8`);
-    this.ask('bt_end_set_window', window);
-  }
-
-  /** Begins a new connection, with another peer or the same. What was fetched stays. */
-  reset() {
-    done(this.ask('bt_end_reset'));
-    this.rest = new Uint8Array();
-    this.at = 0;
   }
 }

@@ -33,19 +33,16 @@ export class Library {
     /** @type {Uint8Array | undefined} */
     this.all = undefined;
     if (calls.bt_abi() !== ABI) throw new Error('The library has another version of its structs.');
-    const at = this.take(1024);
+    const at = this.take(512);
     this.own = at;
     this.reader = at + 64;
     this.item = at + 128;
     this.written = at + 256;
     this.small = at + 384;
-    this.end = at + 448;
-    // what a bt_end_config, a bt_heard and a bt_progress are written to
-    this.told = at + 512;
   }
 
   /**
-   * Returns the address of memory that nothing else uses: pages by which the memory grows, since ends take such too.
+   * Returns the address of memory that nothing else uses: pages by which the memory grows.
    * @param {number} size
    */
   take(size) {
