@@ -330,7 +330,8 @@ static inline uint32_t bt_write_extended(bt_reader *peer, uint8_t extended_id, c
  * peer go into bt_end_next or bt_end_handle, and those that bt_end_outgoing copies go to the peer.
  *
  * It takes memory by rattle_alloc, rattle_realloc and rattle_dealloc. bt_heap.c has them, over malloc, realloc and free; a
- * program that defines all three itself gives it other memory. Where there is none, the call says so and changes nothing.
+ * program that defines all three itself gives it other memory. If memory is refused, the call says so. The WebAssembly module
+ * has no ends.
  *
  * C holds an end in a bt_end. All zero it holds none, and so it begins: `bt_end end = BT_NO_END;`. After that only these
  * calls change it. It isn't copied to be used twice, and each call for it is made by the thread that made the end. Each

@@ -93,7 +93,7 @@ static size_t pass(bt_end *from, bt_end *to, size_t chunk, bool tells, size_t sp
         if (tells) {
             *status = bt_end_next(to, out + at, n - at, &heard, room, sizeof room);
             used = heard.used;
-            if (*status == BT_ITEM && spoilt >= n)
+            if (*status == BT_ITEM && spoilt == SIZE_MAX)
                 note(&heard);
         } else {
             *status = bt_end_handle(to, out + at, n - at, &used, &verdict);

@@ -3,11 +3,17 @@
 Nothing of the system's compiler or linker is in them, so that their bytes depend on the sources and the toolchain alone.
 """
 import os
+import re
+import shutil
 import subprocess
 
 import prover
 
 WASM = "wasm64-unknown-unknown"
+# The modules of bt_c that are about ends.
+SOURCES_OF_ENDS = ("config", "ends", "event", "held", "loose", "next", "say", "status")
+SPECS_OF_ENDS = ("Calls", "Configs", "Held", "Nexts", "Sayings", "Statuses")
+PROOFS_OF_ENDS = ("Boxes", "Slots", "Words")
 # The toolchain's own object files for memory.
 HEAPS = {"heap.o", "heap.pic.o"}
 # The shared library exports these and nothing else.
@@ -31,6 +37,23 @@ def rt(crate, *words):
     run(["rt", *words], cwd=prover.CRATES / crate)
 
 
+def without_ends(to):
+    """A copy of the crate `bt_c` without the modules that are about ends, and what is written of these in specs/ and proofs/."""
+    shutil.copytree(prover.CRATES / "bt_c", to, ignore=shutil.ignore_patterns("out"))
+    for file, words in (("src/lib.rt", SOURCES_OF_ENDS), ("specs/Lib.antt", SPECS_OF_ENDS), ("proofs/Lib.antt", PROOFS_OF_ENDS)):
+        lines = r"^(pub )?(mod|use) (%s)\b[^;{\n]*(\{[^}]*\})?;?\n" % "|".join(words)
+        text, count = re.subn(lines, "", (to / file).read_text(), flags=re.M)
+        if count < len(words):
+            raise Failed("bt_c/%s doesn't name each of %s" % (file, ", ".join(words)))
+        (to / file).write_text(text)
+        for name in words:
+            for left in (to / file).parent.glob(name + ".*"):
+                left.unlink()
+    for name in SOURCES_OF_ENDS:
+        shutil.rmtree(to / "proofs" / name, ignore_errors=True)
+    return to
+
+
 class Maker:
     """Makes files over the built crates in the folders over/*/out."""
 
@@ -47,19 +70,23 @@ class Maker:
         run(["llvm-strip", "--strip-all", "--keep-section=.comment", "-o", to, built], executable=self.toolchain / "bin/clang")
         to.chmod(0o755)
 
-    def archive(self, to, kept, *target):
-        """The C library as a static one, for a target. `kept` is where the prover keeps what is the same for another target."""
+    def archive(self, to, kept):
+        """The C library as a static one."""
+        self.compile(to, kept, prover.CRATES / "bt_c")
+        self.heap(to)
+        to.chmod(0o644)
+
+    def compile(self, to, kept, crate, *target):
+        """Proves and compiles the crate for a target. `kept` is where the prover keeps what is the same for another target."""
         jobs = str(min(4, len(os.sched_getaffinity(0))))
         words = [*prover.words("build", "bt_c", self.over), "--links", "bt_c=", "--toolchain", self.toolchain, "--backend", "llvm"]
         kept.mkdir(parents=True, exist_ok=True)
-        run([*words, *target, "--incremental", kept, "--jobs", jobs, "-o", to], cwd=prover.CRATES / "bt_c")
-        self.heap(to, "bt_heap_wasm.c" if target else "bt_heap.c", *target)
-        to.chmod(0o644)
+        run([*words, *target, "--incremental", kept, "--jobs", jobs, "-o", to], cwd=crate)
 
-    def heap(self, archive, source, *target):
+    def heap(self, archive):
         """Puts the memory of ends into the archive: a C file, which a program may replace. What the toolchain has for it goes."""
-        tool, made = self.toolchain / "bin/llvm-ar", self.work / (source + ".o")
-        words = [self.toolchain / "bin/clang", *target, "-O2", "-fPIC", "-ffunction-sections", "-fno-builtin", "-nostdinc", "-c", source]
+        tool, made = self.toolchain / "bin/llvm-ar", self.work / "bt_heap.o"
+        words = [self.toolchain / "bin/clang", "-O2", "-fPIC", "-ffunction-sections", "-fno-builtin", "-nostdinc", "-c", "bt_heap.c"]
         run([*words, "-o", made], cwd=prover.CRATES / "bt_c")
         listed = subprocess.run([tool, "t", archive], stdout=subprocess.PIPE, text=True, check=True).stdout.split()
         for name in HEAPS & set(listed):
@@ -76,8 +103,8 @@ class Maker:
         to.chmod(0o755)
 
     def module(self, to, kept):
-        """The C library as a WebAssembly module."""
-        archive = self.work / "wasm.a"
-        self.archive(archive, kept, "--target", WASM)
+        """The C library as a WebAssembly module, without ends, since the toolchain has no memory for them there."""
+        archive, crate = self.work / "wasm.a", without_ends(self.work / "bt_c")
+        self.compile(archive, kept, crate, "--target", WASM)
         run([self.kit / "bin/rattle-link", "--target", WASM, "--toolchain", self.toolchain, "-o", to, archive])
         to.chmod(0o644)
