@@ -1,11 +1,12 @@
 #!/usr/bin/env python3
-"""Tests the library in Python, Rust and JavaScript: each by its own tests, and all three on the same bytes.
+"""Tests the library in Python, Rust and JavaScript: each by its own tests, and all on the same bytes.
 
 usage: tests/bindings.py [LIBRARIES]
 
 LIBRARIES is the folder of libbt.a and libbt.so, with bt.wasm in the folder above, or else dist/x86_64-linux. The three examples `show`
 have to print the same of the example streams, of their cuts, and of streams with changed bytes, under each rule set and in chunks of
-each size. A language whose tool isn't installed is left out, and that is said.
+each size. The examples `fetch`, also in C, have to fetch from a peer that is right, and from none that breaks a rule. A language whose
+tool isn't installed is left out, and that is said.
 """
 import os
 import pathlib
@@ -14,6 +15,7 @@ import shutil
 import subprocess
 import sys
 import tempfile
+import time
 
 ROOT = pathlib.Path(__file__).resolve().parent.parent
 LIBRARIES = pathlib.Path(sys.argv[1] if len(sys.argv) > 1 else ROOT / "dist/x86_64-linux").resolve()
@@ -55,9 +57,52 @@ def shows(room, given):
     return found
 
 
-def streams(chosen):
-    """Example streams, some of them cut, some with changed bytes."""
-    examples = [it.read_bytes() for it in sorted((ROOT / "examples").glob("*.bin"))]
+def fetches(commands, given):
+    """How many fetches by the examples `fetch` ended as they have to, from peers that are right and peers that break a rule."""
+    import ends
+    count = 0
+    for language, words in commands.items():
+        for broken in [*ends.RIGHT, *(name for name, (kind, _) in ends.FAILS.items() if kind is not TimeoutError)]:
+            # (a connection on which no block can come any more may be silent, and the examples wait)
+            if broken in ("a huge size", "a size of 0", "another id", "another total size", "a short block", "a size above most"):
+                continue
+            with ends.Peer(broken) as address:
+                given_to = address.split(":") if language == "C" else [address]
+                done = subprocess.run([*map(str, words), ends.INFO_HASH.hex(), *given_to], env=given, capture_output=True, timeout=30)
+            wanted = ends.METADATA if broken in ends.RIGHT else b""
+            if done.stdout != wanted or (done.returncode == 0) != bool(wanted):
+                sys.exit("bindings: failed: %s fetches from a peer with '%s': %s" % (language, broken, done.stderr.decode()[-2000:]))
+            count += 1
+    return count
+
+
+def real(room, commands, given):
+    """How many fetches from libtorrent had its metadata, where that is installed."""
+    sys.path.insert(0, str(ROOT / "tests"))
+    import clients
+    if not clients.is_installed("libtorrent"):
+        print("bindings: nothing is fetched from libtorrent, since it isn't installed")
+        return 0
+    torrent, port = room / "data.torrent", clients.free_port()
+    torrent.write_bytes(b"d4:info" + clients.INFO + b"e")
+    started = clients.seed("libtorrent", str(torrent), port, str(room))
+    try:
+        for language, words in commands.items():
+            for _ in range(clients.TRIES):
+                address = ["127.0.0.1", str(port)] if language == "C" else ["127.0.0.1:%d" % port]
+                done = subprocess.run([*map(str, words), clients.HASH, *address], env=given, capture_output=True, timeout=60)
+                if done.returncode == 0:
+                    break
+                time.sleep(0.25)
+            if done.stdout != clients.INFO:
+                sys.exit("bindings: failed: %s from libtorrent: %s" % (language, done.stderr.decode()[-2000:]))
+    finally:
+        clients.stop(started)
+    return len(commands)
+
+
+def changed(chosen, examples):
+    """Streams, then some of them cut, and some with changed bytes."""
     yield from examples
     for _ in range(STREAMS):
         stream = bytearray(chosen.choice(examples))
@@ -69,27 +114,69 @@ def streams(chosen):
         yield bytes(stream)
 
 
+def heard_streams():
+    """What a fetching end hears from peers: from one that serves, and that and more."""
+    import ends
+    bt, found = ends.bt, []
+    for more in ([], [("unchoke",), ("have", 3), ("metadata_reject", 1)], [("metadata_request", 0), ("request", 1, 2, 3), ("piece", 1, 2, b"x")]):
+        with bt.End(ends.OWN, serve=ends.METADATA) as end:
+            list(end.receive(bt.handshake(ends.INFO_HASH, ends.PEER)))
+            writer = bt.Writer(ends.OWN, bt.FAST | bt.EXTENSIONS)
+            asked = [writer.extended_handshake(3)]
+            writer.hear(next(it for it in bt.read(end.outgoing(), ends.OWN) if it.kind == bt.EXT_HANDSHAKE))
+            greeting = end.take()
+            list(end.receive(b"".join(asked + [writer.metadata_request(piece) for piece in (0, 2, 1)])))
+            other = bt.Writer(ends.OWN, bt.FAST | bt.EXTENSIONS)
+            other.hear(next(it for it in bt.read(greeting, ends.OWN) if it.kind == bt.EXT_HANDSHAKE))
+            other.have_none()
+            said = b"".join(getattr(other, name)(*words) for name, *words in more)
+            found.append(greeting + said + end.take())
+    return found
+
+
+def alike(commands, paths, options, what):
+    """Fails if the commands, by language, don't print the same of the files. Returns how many files there are."""
+    said = {language: subprocess.run([*map(str, words), *map(str, paths)], env=options, capture_output=True)
+            for language, words in commands.items()}
+    wanted = said["Python"]
+    if wanted.stderr or wanted.stdout.count(b"\n") < len(paths):
+        sys.exit("bindings: failed: Python prints %r %r" % (wanted.stdout[-500:], wanted.stderr))
+    for language, done in said.items():
+        if (done.stdout, done.stderr, done.returncode) != (wanted.stdout, b"", wanted.returncode):
+            lines = zip(done.stdout.decode().split("\n"), wanted.stdout.decode().split("\n"))
+            other = next((pair for pair in lines if pair[0] != pair[1]), "lines")
+            sys.exit("bindings: failed: %s: %s and Python differ by %s %s" % (what, language, other, done.stderr.decode()))
+    return len(paths)
+
+
+def kept(room, name, streams):
+    paths = []
+    for number, stream in enumerate(streams):
+        paths.append(room / ("%s.%d" % (name, number)))
+        paths[-1].write_bytes(stream)
+    return paths
+
+
 def compare(room, commands, given):
-    """How many streams the languages show alike."""
-    chosen, every, count = random.Random(43), [], 0
-    for number, stream in enumerate(streams(chosen)):
-        every.append(room / ("%d.bin" % number))
-        every[-1].write_bytes(stream)
+    """How many streams the languages show alike, and of how many their ends hear the same."""
+    import ends
+    chosen, shown = random.Random(43), 0
+    examples = [it.read_bytes() for it in sorted((ROOT / "examples").glob("*.bin"))]
+    every = kept(room, "shown", changed(chosen, examples))
     for size, rules, pieces in ((1, "free", None), (65536, "bep", None), (1000, "bep", "38"), (7, "free", "3")):
         paths = [it for it in every if size > 7 or it.stat().st_size < 2000]
         options = {**given, "PIECE": str(size), "RULES": rules, **({"PIECES": pieces} if pieces else {})}
-        said = {language: subprocess.run([*map(str, words), *map(str, paths)], env=options, capture_output=True)
-                for language, words in commands.items()}
-        wanted = said["Python"]
-        if wanted.stderr or wanted.stdout.count(b"\nok ") + wanted.stdout.count(b"\nrefused ") < len(paths) // 2:
-            sys.exit("bindings: failed: Python shows %r %r" % (wanted.stdout[-500:], wanted.stderr))
-        for language, done in said.items():
-            if (done.stdout, done.stderr, done.returncode) != (wanted.stdout, b"", wanted.returncode):
-                lines = zip(done.stdout.decode().split("\n"), wanted.stdout.decode().split("\n"))
-                other = next((pair for pair in lines if pair[0] != pair[1]), "lines")
-                sys.exit("bindings: failed: %s and Python differ by %s in chunks of %d %s" % (language, other, size, done.stderr.decode()))
-        count += len(paths)
-    return count
+        shown += alike(commands, paths, options, "chunks of %d, %s" % (size, rules))
+    paths = kept(room, "heard", changed(chosen, heard_streams()))
+    hearers = {language: [*words, ends.INFO_HASH.hex()] for language, words in others(commands, "events").items()}
+    heard = sum(alike(hearers, paths, {**given, "PIECE": size}, "ends, chunks of " + size) for size in ("65536", "1000"))
+    return shown, heard
+
+
+def others(commands, name):
+    """The commands of another example, in the languages that have it."""
+    found = {language: [*words[:-1], pathlib.Path(str(words[-1]).replace("show", name))] for language, words in commands.items()}
+    return {language: words for language, words in found.items() if words[-1].is_file()}
 
 
 def main():
@@ -97,8 +184,16 @@ def main():
         room = pathlib.Path(name)
         given = environment(room)
         commands = shows(room, given)
-        count = compare(room, commands, given)
-    print("bindings: ok: %s, %d streams shown alike" % (", ".join(commands), count))
+        os.environ.update(given)
+        sys.path.insert(0, str(BINDINGS / "python/tests"))
+        shown, heard = compare(room, commands, given)
+        fetchers = others(commands, "fetch")
+        if shutil.which("cc"):
+            fetchers["C"] = [room / "fetch"]
+            passes(["cc", "-D_GNU_SOURCE", "-I", ROOT / "crates/bt_c", ROOT / "crates/bt_c/examples/fetch.c", LIBRARIES / "libbt.a",
+                    "-o", room / "fetch"], given)
+        fetched = fetches(fetchers, given) + real(room, fetchers, given)
+    print("bindings: ok: %s, %d streams shown alike, %d heard alike, %d fetches" % (", ".join(commands), shown, heard, fetched))
 
 
 if __name__ == "__main__":

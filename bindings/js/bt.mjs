@@ -81,7 +81,7 @@ export class Item {
     this.extendedId = kind ? view.getUint8(at + 48) : null;
     /** What an extended message is: a `Kind`. */
     this.kind = kind || null;
-    /** The number of a metadata block. */
+    /** The number of a metadata block, or the piece that the peer no longer has (lt_donthave). */
     this.piece = WITH_PIECE.includes(kind) ? view.getUint32(at + 80, true) : null;
     /** How many bytes the metadata has, by a data message; a BigInt from 2^53 on. */
     this.totalSize = kind === Kind.METADATA_DATA ? wide(view.getBigUint64(at + 56, true)) : null;
@@ -118,23 +118,37 @@ function content(value, what, size = null) {
   return bytes;
 }
 
+/** Writes the bt_item of a message, of numbers that fit, and returns its address. */
+function putItem({ view, bytes, item }, { index = 0, begin = 0, length = 0, port = 0, id, extendedId = 0 }) {
+  bytes.fill(0, item, item + ITEM_SIZE);
+  view.setUint32(item + 32, Number(number(index, 32, 'index')), true);
+  view.setUint32(item + 36, Number(number(begin, 32, 'begin')), true);
+  view.setUint32(item + 40, Number(number(length, 32, 'length')), true);
+  view.setUint16(item + 44, Number(number(port, 16, 'port')), true);
+  view.setUint16(item + 46, Number(number(id, 16, 'id')), true);
+  view.setUint8(item + 48, Number(number(extendedId, 8, 'extendedId')));
+  return item;
+}
+
 /** The receiver with all fields, each of which fits. */
 function completed(own = {}) {
-  const { reserved = FAST | DHT | EXTENSIONS, infoHash = null, pieces = null, metadataId = 3, strict = false, limit = 262144 } = own;
+  const { reserved = FAST | DHT | EXTENSIONS, infoHash = null, pieces = null, metadataId = 3, donthaveId = 0, strict = false, limit = 262144 } = own;
   if (pieces !== null) number(pieces, 32, 'pieces');
   return {
     reserved: BigInt(number(reserved, 64, 'reserved')), pieces, strict: Boolean(strict), limit: Number(number(limit, 32, 'limit')),
     infoHash: infoHash === null ? null : content(infoHash, 'infoHash', 20).slice(), metadataId: Number(number(metadataId, 8, 'metadataId')),
+    donthaveId: Number(number(donthaveId, 8, 'donthaveId')),
   };
 }
 
-/** The calls of a loaded library. Each receiver is {reserved, infoHash, pieces, metadataId, strict, limit}; what is left out is usual. */
+/** The calls of a loaded library. Each receiver is {reserved, infoHash, pieces, metadataId, donthaveId, strict, limit}; what is left out is usual. */
 class Wire {
   /** @param {Library} library */
   constructor(library) {
     this.library = library;
     this.items = library.take((ROOM + 1) * ITEM_SIZE);
-    this.area = library.take(0);
+    this.area = library.take(WINDOW);
+    this.room = WINDOW;
     this.names = new Map();
   }
 
@@ -149,8 +163,8 @@ class Wire {
     library.putOwn(library.own, completed(own));
     const n = this.put(content(bytes, 'bytes'));
     const answer = calls.bt_check(BigInt(library.own), BigInt(this.area), n, BigInt(small));
-    const [message, at] = [0, 8].map(k => Number(library.view.getBigUint64(small + k, true)));
-    if (answer !== END) throw new Refused(at, library.reasonName(library.view.getUint8(small + 16)), message);
+    const { message, at, reason } = library.verdict(small);
+    if (answer !== END) throw new Refused(at, reason, message);
     return message;
   }
 
@@ -176,7 +190,11 @@ class Wire {
 
   /** Copies bytes into the library's memory, with room for more after them, and returns how many, as a BigInt. */
   put(bytes, more = 0) {
-    this.library.grow(this.area + bytes.length + more);
+    const wanted = bytes.length + more;
+    if (wanted > this.room) {
+      this.room = Math.max(wanted, 2 * this.room);
+      this.area = this.library.take(this.room);
+    }
     this.library.bytes.set(bytes, this.area);
     return BigInt(bytes.length);
   }
@@ -351,14 +369,7 @@ class Writer {
 
   /** Writes a message by its id, the numbers that the id has, and its bitfield, block or payload. */
   message(id, { index = 0, begin = 0, length = 0, port = 0, extendedId = 0, body = new Uint8Array() } = {}) {
-    const { view, bytes, item } = this.wire.library;
-    bytes.fill(0, item, item + ITEM_SIZE);
-    view.setUint32(item + 32, Number(number(index, 32, 'index')), true);
-    view.setUint32(item + 36, Number(number(begin, 32, 'begin')), true);
-    view.setUint32(item + 40, Number(number(length, 32, 'length')), true);
-    view.setUint16(item + 44, Number(number(port, 16, 'port')), true);
-    view.setUint16(item + 46, Number(number(id, 16, 'id')), true);
-    view.setUint8(item + 48, Number(number(extendedId, 8, 'extendedId')));
+    const item = putItem(this.wire.library, { index, begin, length, port, id, extendedId });
     content(body, 'body');
     return this.written('bt_write', [BigInt(item)], body, HEAD + body.length, `no message has the id ${id}`);
   }

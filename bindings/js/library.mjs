@@ -1,10 +1,9 @@
 // The proved library as WebAssembly (dist/bt.wasm, crates/bt_c/bt.h): its memory and its structs. Addresses are BigInt, since it is
-// built for 64 bits. It takes no memory of its own: what is read and written lies after its data. The viewer uses this file too.
-// Nothing of it is proved.
+// built for 64 bits. The viewer uses this file too. Nothing of it is proved.
 
 export const MORE = 0, ITEM = 1, REFUSED = 2, END = 3;
-const ABI = 1;
-export const OWN_SIZE = 40, READER_SIZE = 56, ITEM_SIZE = 88;
+const ABI = 2;
+export const OWN_SIZE = 48, READER_SIZE = 64, ITEM_SIZE = 88;
 const NAME_ROOM = 24, PAGE = 65536;
 // a module with a memory of 64 bits and nothing else
 const MEMORY64 = Uint8Array.of(0, 0x61, 0x73, 0x6d, 1, 0, 0, 0, 5, 3, 1, 4, 1);
@@ -15,7 +14,7 @@ export const NEEDS_MEMORY64 = 'This browser cannot run the proved reader, which 
 /**
  * The receiver: what a stream is judged by.
  * @typedef {{ reserved: bigint, limit: number, pieces: number | null, metadataId: number, infoHash: Uint8Array | null,
- *  strict?: boolean }} Own
+ *  donthaveId?: number, strict?: boolean }} Own
  */
 
 export class Library {
@@ -29,44 +28,43 @@ export class Library {
   /** @param {any} calls */
   constructor(calls) {
     this.calls = calls;
+    /** @type {DataView | undefined} */
+    this.seen = undefined;
+    /** @type {Uint8Array | undefined} */
+    this.all = undefined;
     if (calls.bt_abi() !== ABI) throw new Error('The library has another version of its structs.');
-    this.top = Number(calls.__heap_base.value);
-    this.view = new DataView(calls.memory.buffer);
-    this.bytes = new Uint8Array(calls.memory.buffer);
-    this.own = this.take(64);
-    this.reader = this.take(64);
-    this.item = this.take(128);
-    this.written = this.take(128);
-    this.small = this.take(64);
+    const at = this.take(512);
+    this.own = at;
+    this.reader = at + 64;
+    this.item = at + 128;
+    this.written = at + 256;
+    this.small = at + 384;
   }
 
   /**
-   * Returns the address of memory that nothing else uses. Views are made anew if it has to grow.
+   * Returns the address of memory that nothing else uses: pages by which the memory grows.
    * @param {number} size
    */
   take(size) {
-    const at = Math.ceil(this.top / 64) * 64;
-    this.top = at + size;
-    this.grow(this.top);
-    return at;
-  }
-
-  /**
-   * Makes the memory as large.
-   * @param {number} end
-   */
-  grow(end) {
-    const { memory } = this.calls, wanted = Math.ceil((end - memory.buffer.byteLength) / PAGE);
-    if (wanted <= 0) return;
+    const pages = Math.ceil(size / PAGE), { memory } = this.calls;
     try {
-      memory.grow(BigInt(wanted));
+      return Number(memory.grow(BigInt(pages))) * PAGE;
     } catch (error) {
       // before memory64 was settled, it took a number
       if (!(error instanceof TypeError)) throw error;
-      memory.grow(wanted);
+      return Number(memory.grow(pages)) * PAGE;
     }
-    this.view = new DataView(memory.buffer);
-    this.bytes = new Uint8Array(memory.buffer);
+  }
+
+  /** The memory. What is taken of it doesn't move, but a view ends when it grows. */
+  get view() {
+    if (this.seen?.buffer !== this.calls.memory.buffer) this.seen = new DataView(this.calls.memory.buffer);
+    return this.seen;
+  }
+
+  get bytes() {
+    if (this.all?.buffer !== this.calls.memory.buffer) this.all = new Uint8Array(this.calls.memory.buffer);
+    return this.all;
   }
 
   /**
@@ -74,7 +72,7 @@ export class Library {
    * @param {number} at
    * @param {Own} own
    */
-  putOwn(at, { reserved, limit, pieces, metadataId, strict, infoHash }) {
+  putOwn(at, { reserved, limit, pieces, metadataId, donthaveId, strict, infoHash }) {
     const { view } = this;
     view.setBigUint64(at, reserved, true);
     view.setUint32(at + 8, limit, true);
@@ -82,8 +80,9 @@ export class Library {
     view.setUint8(at + 16, pieces === null ? 0 : 1);
     view.setUint8(at + 17, infoHash ? 1 : 0);
     view.setUint8(at + 18, metadataId);
-    view.setUint8(at + 19, strict ? 1 : 0);
-    this.bytes.set(infoHash ?? new Uint8Array(20), at + 20);
+    view.setUint8(at + 19, donthaveId ?? 0);
+    view.setUint8(at + 20, strict ? 1 : 0);
+    this.bytes.set(infoHash ?? new Uint8Array(20), at + 21);
   }
 
   /**
@@ -115,6 +114,15 @@ export class Library {
    */
   finish(from, n, item) {
     return this.calls.bt_reader_finish(BigInt(this.reader), BigInt(from), BigInt(n), BigInt(item));
+  }
+
+  /**
+   * Returns the bt_verdict at an address: which message is refused, where and why.
+   * @param {number} at
+   */
+  verdict(at) {
+    const [message, place] = [0, 8].map(from => Number(this.view.getBigUint64(at + from, true)));
+    return { message, at: place, reason: this.reasonName(this.view.getUint8(at + 16)) };
   }
 
   /**

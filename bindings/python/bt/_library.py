@@ -7,7 +7,7 @@ import os
 import struct
 from typing import Any, Dict, Optional, Tuple, Union
 
-ABI = 1
+ABI = 2
 MORE, ITEM, REFUSED, END, UNWRITTEN = range(5)
 
 # What has bytes: bytes, bytearray, or a memoryview of bytes.
@@ -16,7 +16,7 @@ Bytes = Union[bytes, bytearray, memoryview]
 
 class Own(C.Structure):
     _fields_ = [("reserved", C.c_uint64), ("limit", C.c_uint32), ("pieces", C.c_uint32), ("has_pieces", C.c_uint8),
-                ("has_info_hash", C.c_uint8), ("metadata_id", C.c_uint8), ("strict", C.c_uint8),
+                ("has_info_hash", C.c_uint8), ("metadata_id", C.c_uint8), ("donthave_id", C.c_uint8), ("strict", C.c_uint8),
                 ("info_hash", C.c_uint8 * 20)]
 
 
@@ -54,6 +54,28 @@ class Handshake(C.Structure):
     _fields_ = [("reserved", C.c_uint64), ("info_hash", C.c_uint8 * 20), ("peer_id", C.c_uint8 * 20)]
 
 
+class End(C.Structure):
+    _fields_ = [("state", C.c_void_p), ("held", C.c_uint8)]
+
+
+class Config(C.Structure):
+    _fields_ = [("own", Own), ("most", C.c_uint64), ("peer_id", C.c_uint8 * 20), ("announce", C.c_uint8), ("window", C.c_uint8),
+                ("role", C.c_uint8)]
+
+
+class Event(C.Structure):
+    _fields_ = [("size", C.c_uint64), ("kind", C.c_uint32), ("piece", C.c_uint32), ("id", C.c_uint8), ("has_id", C.c_uint8),
+                ("has_size", C.c_uint8), ("begins", C.c_uint8), ("peer_id", C.c_uint8 * 20)]
+
+
+class Heard(C.Structure):
+    _fields_ = [("used", C.c_uint64), ("item", Item), ("event", Event), ("verdict", Verdict)]
+
+
+class Progress(C.Structure):
+    _fields_ = [("size", C.c_uint64), ("blocks", C.c_uint64), ("held", C.c_uint64)]
+
+
 def _place() -> str:
     """Where the library is: BT_LIBRARY if it is set, else beside this file, else in the repository."""
     given = os.environ.get("BT_LIBRARY")
@@ -84,6 +106,20 @@ def _calls() -> Dict[str, Tuple[Any, list]]:
         "bt_write": (status, [to(Reader), to(Item), at, n, *out]),
         "bt_write_metadata": (status, [to(Reader), C.c_uint8, C.c_uint32, C.c_uint64, at, n, *out]),
         "bt_write_extended_handshake": (status, [to(Reader), C.c_uint8, C.c_uint8, C.c_uint64, *out]),
+        "bt_end_new": (status, [to(End), to(Config), at, n]),
+        "bt_end_free": (None, [to(End)]),
+        "bt_end_reset": (status, [to(End)]),
+        "bt_end_next": (status, [to(End), at, n, to(Heard), at, n]),
+        "bt_end_waiting": (n, [to(End)]),
+        "bt_end_outgoing": (n, [to(End), at, n]),
+        "bt_end_sent": (None, [to(End), n]),
+        "bt_end_metadata": (n, [to(End), at, n]),
+        "bt_end_progress": (status, [to(End), to(Progress)]),
+        "bt_end_is_hopeless": (status, [to(End)]),
+        "bt_end_mismatches": (C.c_uint64, [to(End)]),
+        "bt_end_begin": (status, [to(End), C.c_uint64]),
+        "bt_end_set_window": (None, [to(End), C.c_uint8]),
+        "bt_end_say": (status, [to(End), to(Item), at, n]),
         "bt_reason_name": (n, [C.c_uint32, at, n]),
         "bt_item_name": (n, [to(Item), at, n]),
     }

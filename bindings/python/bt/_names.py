@@ -66,6 +66,41 @@ class Reason(enum.IntEnum):
     BAD_EXT_LENGTH = 17
 
 
+class Event(enum.IntEnum):
+    """What an item of the peer made of an end."""
+
+    OTHER = 0
+    """Nothing that the item itself doesn't say."""
+    OPENED = 1
+    """The peer's handshake came."""
+    ANNOUNCED = 2
+    """The peer's extended handshake came."""
+    BLOCK = 3
+    """A block that was asked for came, and others lack."""
+    REJECTED = 4
+    """A block that was asked for was rejected."""
+    FETCHED = 5
+    """The last block came, and the metadata is there."""
+    MISMATCHED = 6
+    """The last block came, and the blocks are those of other metadata: the fetch starts over."""
+    SERVED = 7
+    """The peer asked for a block of the metadata, which waits to be sent."""
+    DECLINED = 8
+    """The peer asked for a block of the metadata, and a reject waits to be sent."""
+    REQUESTED = 9
+    """The peer asked for a block of a piece."""
+    PIECE = 10
+    """A block of a piece came."""
+
+
+class Announce(enum.IntEnum):
+    """What an end says of its pieces after the handshakes."""
+
+    NOTHING = 0
+    ALL = 1
+    NONE = 2
+
+
 (CHOKE, UNCHOKE, INTERESTED, NOT_INTERESTED, HAVE, BITFIELD, REQUEST, PIECE, CANCEL, PORT, SUGGEST, HAVE_ALL, HAVE_NONE, REJECT,
  ALLOWED_FAST, EXTENDED, KEEP_ALIVE, HANDSHAKE) = Id
 (EXT_HANDSHAKE, METADATA_REQUEST, METADATA_DATA, METADATA_REJECT, METADATA_OTHER, METADATA_MALFORMED, EXT_RAW, DONTHAVE) = Kind

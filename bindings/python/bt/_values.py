@@ -49,6 +49,8 @@ class Own:
     """How many pieces the torrent has, if that is known."""
     metadata_id: int = 3
     """The id that it announced for ut_metadata; 0 for none."""
+    donthave_id: int = 0
+    """The id that it announced for lt_donthave; 0 for none."""
     strict: bool = False
     """Whether all rules hold (`bep`), or only those that a decoder needs (`free`)."""
     limit: int = 262144
@@ -58,6 +60,7 @@ class Own:
         lib.number(self.reserved, 64, "reserved")
         lib.number(self.limit, 32, "limit")
         lib.number(self.metadata_id, 8, "metadata_id")
+        lib.number(self.donthave_id, 8, "donthave_id")
         if self.pieces is not None:
             lib.number(self.pieces, 32, "pieces")
         if self.info_hash is not None:
@@ -65,7 +68,7 @@ class Own:
 
     def _struct(self) -> lib.Own:
         return lib.Own(self.reserved, self.limit, self.pieces or 0, self.pieces is not None, self.info_hash is not None,
-                       self.metadata_id, bool(self.strict), lib.array(self.info_hash or bytes(20)))
+                       self.metadata_id, self.donthave_id, bool(self.strict), lib.array(self.info_hash or bytes(20)))
 
 
 class Item:
@@ -94,7 +97,7 @@ class Item:
     kind: Optional[Kind]
     """What an extended message is."""
     piece: Optional[int]
-    """The number of a metadata block."""
+    """The number of a metadata block, or the piece that the peer no longer has (lt_donthave)."""
     total_size: Optional[int]
     """How many bytes the metadata has, by a data message."""
     dict_size: Optional[int]

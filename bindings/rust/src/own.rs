@@ -19,6 +19,8 @@ pub struct Own {
     pub pieces: Option<u32>,
     /// The id that it announced for `ut_metadata`; 0 for none.
     pub metadata_id: u8,
+    /// The id that it announced for `lt_donthave`; 0 for none.
+    pub donthave_id: u8,
     /// Whether all rules hold (`bep`), or only those that a decoder needs (`free`).
     pub strict: bool,
     /// The greatest length of a message.
@@ -27,7 +29,15 @@ pub struct Own {
 
 impl Default for Own {
     fn default() -> Own {
-        Own { reserved: FAST | DHT | EXTENSIONS, info_hash: None, pieces: None, metadata_id: 3, strict: false, limit: 262_144 }
+        Own {
+            reserved: FAST | DHT | EXTENSIONS,
+            info_hash: None,
+            pieces: None,
+            metadata_id: 3,
+            donthave_id: 0,
+            strict: false,
+            limit: 262_144,
+        }
     }
 }
 
@@ -42,6 +52,7 @@ impl Own {
             has_pieces: self.pieces.is_some().into(),
             has_info_hash: self.info_hash.is_some().into(),
             metadata_id: self.metadata_id,
+            donthave_id: self.donthave_id,
             strict: self.strict.into(),
             info_hash: self.info_hash.unwrap_or_default(),
         }
@@ -53,6 +64,7 @@ impl Own {
             info_hash: (own.has_info_hash != 0).then_some(own.info_hash),
             pieces: (own.has_pieces != 0).then_some(own.pieces),
             metadata_id: own.metadata_id,
+            donthave_id: own.donthave_id,
             strict: own.strict != 0,
             limit: own.limit,
         }

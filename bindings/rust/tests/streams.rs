@@ -107,7 +107,9 @@ fn written() {
     writer.write(&Message::Piece { index: 1, begin: 2, block: b"ab" }, &mut out).unwrap();
     writer.write(&Message::Port(6881), &mut out).unwrap();
     let mut wanted = b"\0\0\0\x2f\x14\0d1:md11:ut_metadatai3ee13:metadata_sizei100ee".to_vec();
-    wanted.extend(b"\0\0\0\x02\x05\x80\0\0\0\x0d\x06\0\0\0\x07\0\0\x40\0\0\0\0\x01\0\0\0\x0b\x07\0\0\0\x01\0\0\0\x02ab\0\0\0\x03\x09\x1a\xe1");
+    wanted.extend(
+        b"\0\0\0\x02\x05\x80\0\0\0\x0d\x06\0\0\0\x07\0\0\x40\0\0\0\0\x01\0\0\0\x0b\x07\0\0\0\x01\0\0\0\x02ab\0\0\0\x03\x09\x1a\xe1",
+    );
     assert_eq!(out, wanted);
 
     let mut said = bt::handshake(bt::EXTENSIONS, [7; 20], *b"-XX0001-000000000000").to_vec();
