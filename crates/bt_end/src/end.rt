@@ -123,20 +123,16 @@ impl From<Memory> for EndError {
 
 /// A peer without its socket: it answers, and fetches or serves metadata (BEP 9).
 ///
-/// A contract sees the end as values, its feed and the bytes that are to be sent. A fetch over a connection repeats this:
+/// A contract sees the end as values, its feed and the bytes that are to be sent. What waits goes to the peer by
+/// [`End::outgoing`] and [`End::sent`]. A driver repeats this with the `rest` of the bytes that came:
 ///
 /// ```rust
-/// let waiting = end.outgoing().len();
-/// end.drain(writer, waiting)?;
-/// if end.metadata().is_some() || end.is_hopeless() {
-///     break;
-/// }
-/// let count = reader.read(&mut buffer)?;
-/// if count == 0 {
-///     break;
-/// }
-/// let (_, handled) = end.handle(&buffer[..count]);
-/// handled?;
+/// let count = end.receive(rest);
+/// rest = &rest[count..];
+/// let event = match end.next()? {
+///     Some(heard) => heard.event,
+///     None => break,
+/// };
 /// ```
 #[derive(Drop)]
 pub struct End<A: Allocator = Global> {
