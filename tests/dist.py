@@ -154,7 +154,7 @@ def sources(at):
             assert show(at).stdout == FIRST, "%s changed" % file.name
     with changed(at / "crates.txt", lambda text: b"# a comment\n" + text.replace(b"bt_bench:", b"bt_bench : ")):
         assert show(at).stdout == FIRST, "a comment in crates.txt"
-    swaps = [("crates.txt", b"bt_io: thiserror", b"bt_io: thiserror itoa"), ("README.md", b"rattle-kit-", b"rattle-kit-9"),
+    swaps = [("crates.txt", b"bt_io: thiserror", b"bt_io: thiserror itoa"), ("README.md", b"`logic ", b"`logic 9"),
              ("crates/bt_c/bt.h", b"/*", b"/* "), ("crates/bt_c/bt.py", b"import os", b"import  os"),
              ("crates/bt_wire/src/lib.rt", b"//!", b"//!  ")]
     for name, old, new in swaps:

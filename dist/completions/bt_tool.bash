@@ -1,0 +1,29 @@
+# Completions of bt_tool for bash, made from its --help.
+_bt_tool() {
+    local word=${COMP_WORDS[COMP_CWORD]} before=${COMP_WORDS[COMP_CWORD - 1]} options values=
+    COMPREPLY=()
+    case ${COMP_WORDS[1]} in
+    show) options='--reserved --pieces --metadata-id --donthave-id --info-hash --other --rules --limit --hints --json --help' ;;
+    check) options='--reserved --pieces --metadata-id --donthave-id --info-hash --other --rules --limit --hints --help' ;;
+    unpack) options='--reserved --pieces --metadata-id --donthave-id --info-hash --other --rules --limit --hints --help' ;;
+    pack) options='--reserved --pieces --metadata-id --donthave-id --info-hash --other --rules --limit --hints --help' ;;
+    link) options='--help' ;;
+    loop) options='--rules --limit --help' ;;
+    fetch) options='--rules --limit --patience --window --most --torrent --help' ;;
+    serve) options='--listen --rules --limit --patience --connections --at-once --help' ;;
+    *) options='--help --version' ;;
+    esac
+    if [ "$COMP_CWORD" = 1 ]; then
+        values='show check unpack pack link loop fetch serve'
+    fi
+    case $before in
+    --rules) values='free bep' ;;
+    --hints) values='always never auto' ;;
+    --reserved | --pieces | --metadata-id | --donthave-id | --info-hash | --limit | --patience | --window | --most | --listen | --connections | --at-once) return ;;
+    esac
+    case $word in
+    -*) values=$options ;;
+    esac
+    COMPREPLY=($(compgen -W "$values" -- "$word"))
+}
+complete -o default -F _bt_tool bt_tool

@@ -1,0 +1,347 @@
+/* bt.h: the BitTorrent peer wire for C and C++, over libbt.a or libbt.so.
+ *
+ * It reads the stream that one peer sends to another (the handshake of BEP 3, the peer messages of BEP 3, BEP 5 and
+ * BEP 6, and the extended messages of BEP 10 and BEP 9), refuses what the standards don't allow, and writes messages.
+ *
+ * All memory is the caller's. The structs have no pointer, need no free and may be copied. Any bytes in them are some
+ * value, so that no call has a state in which it must not be made. No call allocates, blocks, or keeps a pointer.
+ *
+ * What the caller owes: a pointer points to a whole struct, or to as many bytes as the length beside it says; a pointer
+ * beside length 0 may be null; and what a call writes overlaps nothing else that is passed to it.
+ */
+#ifndef BT_H
+#define BT_H
+
+#include <stddef.h>
+#include <stdint.h>
+
+#ifdef __cplusplus
+extern "C" {
+#define BT_ASSERT(holds, text) static_assert(holds, text)
+#define BT_EMPTY {}
+#else
+#define BT_ASSERT(holds, text) _Static_assert(holds, text)
+#define BT_EMPTY {0}
+#endif
+
+/* The version of the structs and calls below. It is what bt_abi returns if the library fits this header. */
+#define BT_ABI 1
+uint32_t bt_abi(void);
+
+/* ---- who receives ---- */
+
+/* Reserved bits of a handshake. */
+#define BT_FAST UINT64_C(0x4)             /* Fast Extension, BEP 6 */
+#define BT_DHT UINT64_C(0x1)              /* distributed hash table, BEP 5 */
+#define BT_EXTENSIONS UINT64_C(0x100000)  /* Extension Protocol, BEP 10 */
+
+/* The receiver: what a stream is judged by. A flag is on where it isn't 0. */
+typedef struct bt_own {
+    uint64_t reserved;      /* own reserved bits, as a big-endian number */
+    uint32_t limit;         /* the greatest length of a message, its four bytes of length not counted; usual: 262144 */
+    uint32_t pieces;        /* how many pieces the torrent has, where has_pieces is on */
+    uint8_t has_pieces;
+    uint8_t has_info_hash;  /* off: every info hash is accepted */
+    uint8_t metadata_id;    /* own extended id of ut_metadata, 1 to 255; 0 for none */
+    uint8_t strict;         /* on: the rules `bep`, off: the rules `free` */
+    uint8_t info_hash[20];
+} bt_own;
+
+/* ---- what is read ---- */
+
+/* What the calls return. */
+enum {
+    BT_MORE = 0,      /* more bytes are needed; nothing has changed */
+    BT_ITEM = 1,      /* an item was read or written */
+    BT_REFUSED = 2,   /* the stream or the message is refused; the item says where and why */
+    BT_END = 3,       /* the stream ends here, and nothing is unfinished */
+    BT_UNWRITTEN = 4  /* the message doesn't fit, and nothing was written */
+};
+
+/* Values of bt_item.id: the message's id (BEP 3, BEP 5, BEP 6, BEP 10), or one of the last two. */
+enum {
+    BT_CHOKE = 0,
+    BT_UNCHOKE = 1,
+    BT_INTERESTED = 2,
+    BT_NOT_INTERESTED = 3,
+    BT_HAVE = 4,           /* index */
+    BT_BITFIELD = 5,       /* body */
+    BT_REQUEST = 6,        /* index, begin, length */
+    BT_PIECE = 7,          /* index, begin, body */
+    BT_CANCEL = 8,         /* index, begin, length */
+    BT_PORT = 9,           /* port */
+    BT_SUGGEST = 13,       /* index */
+    BT_HAVE_ALL = 14,
+    BT_HAVE_NONE = 15,
+    BT_REJECT = 16,        /* index, begin, length */
+    BT_ALLOWED_FAST = 17,  /* index */
+    BT_EXTENDED = 20,      /* extended_id, extended, body */
+    BT_KEEP_ALIVE = 256,
+    BT_HANDSHAKE = 257     /* reserved; see BT_INFO_HASH and BT_PEER_ID */
+};
+
+/* Where the info hash and the peer id start in the 68 bytes of a handshake. */
+#define BT_INFO_HASH 28
+#define BT_PEER_ID 48
+
+/* Values of bt_extended.kind. */
+enum {
+    BT_EXT_HANDSHAKE = 1,
+    BT_METADATA_REQUEST = 2,    /* piece */
+    BT_METADATA_DATA = 3,       /* piece, total_size; the block follows the dictionary */
+    BT_METADATA_REJECT = 4,     /* piece */
+    BT_METADATA_OTHER = 5,      /* a type that BEP 9 doesn't have */
+    BT_METADATA_MALFORMED = 6,  /* a key that the type needs is missing or isn't such a number */
+    BT_EXT_RAW = 7,             /* an id that the receiver didn't register; body is the raw payload */
+    BT_DONTHAVE = 8             /* piece; not met, since bt_own has no id of lt_donthave */
+};
+
+/* Values of bt_item.reason. bt_reason_name has their names. */
+enum {
+    BT_BAD_PROTOCOL = 1,
+    BT_WRONG_INFO_HASH = 2,
+    BT_TOO_LONG = 3,
+    BT_UNKNOWN_ID = 4,
+    BT_NOT_NEGOTIATED = 5,
+    BT_WRONG_LENGTH = 6,
+    BT_BAD_INDEX = 7,
+    BT_SPARE_BITS = 8,
+    BT_LATE = 9,
+    BT_MISSING = 10,
+    BT_BAD_BENCODE = 11,
+    BT_UNSORTED = 12,
+    BT_BAD_FIELD = 13,
+    BT_BAD_BLOCK = 14,
+    BT_STREAM_FULL = 15,
+    BT_END_INSIDE = 16,
+    BT_BAD_EXT_LENGTH = 17  /* not met, since bt_own has no id of lt_donthave */
+};
+
+/* What an extended message shows. It is set where the item's id is BT_EXTENDED. */
+typedef struct bt_extended {
+    uint64_t total_size;     /* bytes of the whole metadata, of BT_METADATA_DATA */
+    uint64_t metadata_size;  /* bytes of the metadata that an extended handshake tells, where has_metadata_size is on */
+    size_t dict;             /* how many bytes of the body its dictionary has, which comes first; 0 of BT_EXT_RAW */
+    uint32_t piece;
+    uint8_t kind;
+    uint8_t ut_metadata;     /* the id that an extended handshake tells, where has_ut_metadata is on; 0 switches it off */
+    uint8_t has_metadata_size;
+    uint8_t has_ut_metadata;
+} bt_extended;
+
+/* An item of a stream; or, after BT_REFUSED, start, size and reason. What a message doesn't have stays as it was. */
+typedef struct bt_item {
+    uint64_t start;     /* where the item starts on the stream */
+    size_t size;        /* how many bytes it has; of a refusal the place, counted from start */
+    size_t body;        /* how many of its last bytes are a bitfield, a block or a payload */
+    uint64_t reserved;  /* of a handshake, as a big-endian number */
+    uint32_t index, begin, length;
+    uint16_t port;
+    uint16_t id;
+    uint8_t extended_id;
+    uint8_t reason;     /* 1 to 17 */
+    bt_extended extended;
+} bt_item;
+
+/* ---- a reader over bytes where they lie ---- */
+
+/* How far a stream is read. Set by bt_reader_init. */
+typedef struct bt_reader {
+    bt_own own;
+    uint8_t opened;  /* the handshake was read */
+    uint8_t fast;    /* both ends have the Fast Extension */
+    uint8_t ext;     /* both ends have the Extension Protocol */
+    uint8_t past;    /* a message came that counts in the order of messages */
+    uint64_t start;  /* where the next item starts on the stream */
+} bt_reader;
+
+/* Makes a reader at the start of a stream. */
+void bt_reader_init(bt_reader *reader, const bt_own *own);
+
+/* Reads the item that the n bytes begin with. They follow what the reader has read.
+ * BT_ITEM: item shows it, and the next call wants the bytes after its first item->size ones.
+ * BT_MORE: these bytes and some more are wanted. A message never needs more than own.limit + 4 bytes, a handshake 68.
+ * BT_REFUSED: item says where and why. The reader is as it was, and refuses these bytes again. */
+uint32_t bt_reader_next(bt_reader *reader, const uint8_t *bytes, size_t n, bt_item *item);
+
+/* Reads as bt_reader_next does where the stream ends after the n bytes: BT_END in place of BT_MORE if nothing is
+ * unfinished, and BT_REFUSED for BT_END_INSIDE if something is. */
+uint32_t bt_reader_finish(bt_reader *reader, const uint8_t *bytes, size_t n, bt_item *item);
+
+/* How many items a batch has, and how many bytes they have together. */
+typedef struct bt_batch {
+    size_t count;
+    size_t used;
+} bt_batch;
+
+/* Reads as many items as the array has room for, as calls of bt_reader_next in a row do, and quicker where messages are small.
+ * The first batch->count of items are read, in order. The next call wants the bytes after the first batch->used ones.
+ * BT_ITEM: the array is full; call again (with room 0 nothing is read, so give room for one at least).
+ * BT_MORE: all whole items are read; the bytes that are left and some more are wanted.
+ * BT_REFUSED: items[batch->count] says where and why. The reader stands after the items that were read.
+ * What was in the array after that stays as it was. */
+uint32_t bt_reader_batch(bt_reader *reader, const uint8_t *bytes, size_t n, bt_item *items, size_t room, bt_batch *batch);
+
+/* ---- a feed: pieces of any size, over memory that the caller lends ---- */
+
+/* A reader, and which bytes of the lent memory were pushed and not read: those from `from` up to `to`. */
+typedef struct bt_feed {
+    bt_reader reader;
+    size_t from, to;
+} bt_feed;
+
+/* Lent memory of this many bytes is enough for every item. */
+#define BT_ROOM(own) ((own)->limit < 64 ? (size_t)68 : (size_t)(own)->limit + 4)
+
+/* Makes a feed at the start of a stream. Nothing is pushed. */
+void bt_feed_init(bt_feed *feed, const bt_own *own);
+
+/* Takes as many of the n bytes as there is room for, from the first on, and returns how many. It moves what is held to
+ * the start of the buffer, so that the bytes of earlier items are gone. The buffer is the same in each call. */
+size_t bt_feed_push(bt_feed *feed, uint8_t *buffer, size_t room, const uint8_t *bytes, size_t n);
+
+/* Reads as bt_reader_next does, of the bytes pushed and not read. After BT_ITEM the item's bytes are the item->size ones
+ * before buffer + feed->from. */
+uint32_t bt_feed_next(bt_feed *feed, const uint8_t *buffer, size_t room, bt_item *item);
+
+/* Reads as bt_reader_finish does, of the bytes pushed and not read. */
+uint32_t bt_feed_finish(bt_feed *feed, const uint8_t *buffer, size_t room, bt_item *item);
+
+/* ---- a whole stream in one call ---- */
+
+/* The verdict on a stream. */
+typedef struct bt_verdict {
+    uint64_t message;  /* the number of the refused message, 0 for the handshake; or how many messages there are */
+    uint64_t at;       /* the offset of the refusal on the stream; or how many bytes there are */
+    uint8_t reason;    /* 0, or the reason */
+} bt_verdict;
+
+/* Judges the n bytes as a whole stream: BT_END where it is accepted, BT_REFUSED where it isn't. */
+uint32_t bt_check(const bt_own *own, const uint8_t *bytes, size_t n, bt_verdict *verdict);
+
+/* ---- writing ---- */
+
+/* What an end sends first. */
+typedef struct bt_handshake {
+    uint64_t reserved;  /* own reserved bits, as a big-endian number */
+    uint8_t info_hash[20];
+    uint8_t peer_id[20];
+} bt_handshake;
+
+/* Writes the 68 bytes of a handshake, and returns 68; or 0 where there is less room, and then nothing is written. */
+size_t bt_write_handshake(const bt_handshake *handshake, uint8_t *out, size_t room);
+
+/* A message is judged as the peer judges it, by what BOTH ends have agreed on and by the PEER's id of ut_metadata: by a
+ * bt_reader that stands for the peer. This call makes it from own values and the reserved bits of the peer's handshake.
+ * Call it once the peer's handshake was read. */
+void bt_writer_init(bt_reader *peer, const bt_own *own, uint64_t reserved);
+
+/* Takes the id of ut_metadata that the peer told, if the item that was read from it is an extended handshake that tells
+ * one. Call it for each extended message that is read. */
+static inline void bt_writer_hear(bt_reader *peer, const bt_item *item) {
+    if (item->id == BT_EXTENDED && item->extended.kind == BT_EXT_HANDSHAKE && item->extended.has_ut_metadata)
+        peer->own.metadata_id = item->extended.ut_metadata;
+}
+
+/* What a message has besides its body takes at most this many bytes. */
+#define BT_WRITE_ROOM 17
+
+/* Writes a message into out, from its first byte on: by message->id, the numbers that this id has, and a body of n bytes
+ * (a bitfield, a block or a payload; none for other ids).
+ * BT_ITEM: it may be sent. written shows it, and its bytes are the first written->size ones of out.
+ * BT_REFUSED: the peer would refuse it. written says where and why. out was written to, and isn't to be sent.
+ * BT_UNWRITTEN: there is too little room, the id is above 256, or 2^32 bytes or more would follow the length. */
+uint32_t bt_write(bt_reader *peer, const bt_item *message, const uint8_t *body, size_t n, uint8_t *out, size_t room,
+                  bt_item *written);
+
+/* Writes a metadata message under the id that the peer told: kind is BT_METADATA_REQUEST, BT_METADATA_DATA (with the
+ * total size, 1 to 2^63 - 1, and the block) or BT_METADATA_REJECT. Its dictionary takes at most 160 bytes. Returns as bt_write
+ * does, and BT_UNWRITTEN also where the peer told no id, for another kind, and for another total size. */
+uint32_t bt_write_metadata(bt_reader *peer, uint8_t kind, uint32_t piece, uint64_t total_size, const uint8_t *block,
+                           size_t n, uint8_t *out, size_t room, bt_item *written);
+
+/* Writes the extended handshake: the own id of ut_metadata, if it isn't 0, and the size of the metadata that is served,
+ * where has_size is on. Its dictionary takes at most 160 bytes. Returns as bt_write does. */
+uint32_t bt_write_extended_handshake(bt_reader *peer, uint8_t metadata_id, uint8_t has_size, uint64_t size, uint8_t *out,
+                                     size_t room, bt_item *written);
+
+/* A message without a body, by the numbers that its id has. */
+static inline uint32_t bt_write_plain(bt_reader *peer, uint16_t id, uint32_t index, uint32_t begin, uint32_t length,
+                                      uint8_t *out, size_t room, bt_item *written) {
+    bt_item message = BT_EMPTY;
+    message.id = id;
+    message.index = index;
+    message.begin = begin;
+    message.length = length;
+    return bt_write(peer, &message, NULL, 0, out, room, written);
+}
+
+static inline uint32_t bt_write_keep_alive(bt_reader *peer, uint8_t *out, size_t room, bt_item *written) {
+    return bt_write_plain(peer, BT_KEEP_ALIVE, 0, 0, 0, out, room, written);
+}
+
+static inline uint32_t bt_write_have(bt_reader *peer, uint32_t index, uint8_t *out, size_t room, bt_item *written) {
+    return bt_write_plain(peer, BT_HAVE, index, 0, 0, out, room, written);
+}
+
+static inline uint32_t bt_write_request(bt_reader *peer, uint32_t index, uint32_t begin, uint32_t length, uint8_t *out,
+                                        size_t room, bt_item *written) {
+    return bt_write_plain(peer, BT_REQUEST, index, begin, length, out, room, written);
+}
+
+static inline uint32_t bt_write_bitfield(bt_reader *peer, const uint8_t *bits, size_t n, uint8_t *out, size_t room,
+                                         bt_item *written) {
+    bt_item message = BT_EMPTY;
+    message.id = BT_BITFIELD;
+    return bt_write(peer, &message, bits, n, out, room, written);
+}
+
+static inline uint32_t bt_write_piece(bt_reader *peer, uint32_t index, uint32_t begin, const uint8_t *block, size_t n,
+                                      uint8_t *out, size_t room, bt_item *written) {
+    bt_item message = BT_EMPTY;
+    message.id = BT_PIECE;
+    message.index = index;
+    message.begin = begin;
+    return bt_write(peer, &message, block, n, out, room, written);
+}
+
+static inline uint32_t bt_write_port(bt_reader *peer, uint16_t port, uint8_t *out, size_t room, bt_item *written) {
+    bt_item message = BT_EMPTY;
+    message.id = BT_PORT;
+    message.port = port;
+    return bt_write(peer, &message, NULL, 0, out, room, written);
+}
+
+static inline uint32_t bt_write_extended(bt_reader *peer, uint8_t extended_id, const uint8_t *payload, size_t n,
+                                         uint8_t *out, size_t room, bt_item *written) {
+    bt_item message = BT_EMPTY;
+    message.id = BT_EXTENDED;
+    message.extended_id = extended_id;
+    return bt_write(peer, &message, payload, n, out, room, written);
+}
+
+/* ---- names ---- */
+
+/* A name and the zero after it take at most this many bytes. */
+#define BT_NAME_ROOM 24
+
+/* Write the name of a reason, as "WrongLength", or of an item, as "have" or "metadata-request", and a zero after it, if
+ * there is room for both; else nothing. They return the length of the name; bt_reason_name returns 0 for a number that no
+ * reason has. */
+size_t bt_reason_name(uint32_t reason, char *text, size_t room);
+size_t bt_item_name(const bt_item *item, char *text, size_t room);
+
+BT_ASSERT(sizeof(size_t) == 8, "the library is built for 64 bits");
+BT_ASSERT(sizeof(bt_own) == 40, "bt_own");
+BT_ASSERT(sizeof(bt_extended) == 32, "bt_extended");
+BT_ASSERT(sizeof(bt_item) == 88, "bt_item");
+BT_ASSERT(sizeof(bt_reader) == 56, "bt_reader");
+BT_ASSERT(sizeof(bt_batch) == 16, "bt_batch");
+BT_ASSERT(sizeof(bt_feed) == 72, "bt_feed");
+BT_ASSERT(sizeof(bt_verdict) == 24, "bt_verdict");
+BT_ASSERT(sizeof(bt_handshake) == 48, "bt_handshake");
+
+#ifdef __cplusplus
+}
+#endif
+#endif
