@@ -28,7 +28,8 @@ twenty_items a b c d la lb lc ld =
     ∙ ap (λ x. Some ((a ++ b) ++ (x ++ items d))) (five_items c lc) ∙ ap (λ x. Some ((a ++ b) ++ (c ++ x))) (five_items d ld)
 
 -- by the four groups
-pub base32_by : (t a b c d : List ℕ) → length t ≡ 32 → five_of (take 8 t) ≡ Some a → five_of (take 8 (drop 8 t)) ≡ Some b → five_of (take 8 (drop 16 t)) ≡ Some c
+pub base32_by : (t a b c d : List ℕ) → length t ≡ 32 → five_of (take 8 t) ≡ Some a → five_of (take 8 (drop 8 t)) ≡ Some b
+    → five_of (take 8 (drop 16 t)) ≡ Some c
     → five_of (take 8 (drop 24 t)) ≡ Some d → base32_of t ≡ Some ((a ++ b) ++ (c ++ d))
 base32_by t a b c d l ha hb hc hd =
     cond-true _ _ _ (eq-eqb (length t) 32 l)

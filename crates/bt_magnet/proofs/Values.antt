@@ -1,5 +1,6 @@
 -- The values of a key and the entries of lines, one after the other.
-use Rattle.std.proofs.Common.{◌≡◌, ℕ, Bool, true, false, List, [], ◌∷◌, ◌++◌, ◌+◌, ◌<◌, length, map, drop, get_or, codes, ap, sym, ◌∙◌, refl, Some, add-one, drop-cons, arith}
+use Rattle.std.proofs.Common.{◌≡◌, ℕ, Bool, true, false, List, [], ◌∷◌, ◌++◌, ◌+◌, ◌<◌, length, map, drop, get_or, codes, ap, sym, ◌∙◌, refl, Some}
+use Rattle.std.proofs.Common.{add-one, drop-cons, arith}
 use Rattle.std.proofs.lemmas.Grind.{common_steps}
 use Rattle.std.proofs.lemmas.Option.{slice_get-get_or}
 use Rattle.std.proofs.Math.Nat.{add-sub_cancel}
@@ -64,6 +65,13 @@ peer_error_unsaid pairs errors.NoHash h = absurd h
 peer_error_unsaid pairs (errors.Hash place) h = absurd h
 
 -- the line at an index, counted from 1
-pub wrong_line : (ls : List (List ℕ)) (i : ℕ) (l : List ℕ) → i < length ls → l ≡ get_or ls i [] → ¬ (IsPeer (entry_of l)) → 0 < length (entry_of l) → IsWrongLine ls (i + 1)
+pub wrong_line : (ls : List (List ℕ)) (i : ℕ) (l : List ℕ) → i < length ls → l ≡ get_or ls i [] → ¬ (IsPeer (entry_of l))
+    → 0 < length (entry_of l) → IsWrongLine ls (i + 1)
 wrong_line ls i l within is wrong told =
-    record { counted = omega arith; line = l; is = rw (add-sub_cancel i 1) (slice_get-get_or ls i [] within ∙ ap (λ x. Some x) (sym is)); wrong = wrong; told = told }
+    record {
+      counted = omega arith;
+      line = l;
+      is = rw (add-sub_cancel i 1) (slice_get-get_or ls i [] within ∙ ap (λ x. Some x) (sym is));
+      wrong = wrong;
+      told = told;
+    }

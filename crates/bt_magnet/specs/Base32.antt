@@ -1,5 +1,6 @@
 -- Base32 (RFC 4648, section 6), as far as an info hash needs it: 32 digits, which write 20 bytes.
-use Rattle.std.specs.Prelude.{ℕ, ◌+◌, ◌*◌, ◌-◌, ◌&&◌, ◌==◌, nat_le, List, ◌++◌, fold, length, take, drop, Option, Some, None, option_and_then, option_map, if◌then◌else◌}
+use Rattle.std.specs.Prelude.{ℕ, ◌+◌, ◌*◌, ◌-◌, ◌&&◌, ◌==◌, nat_le, List, ◌++◌, fold, length, take, drop, Option, Some, None, option_and_then}
+use Rattle.std.specs.Prelude.{option_map, if◌then◌else◌}
 use Rattle.std.specs.Int.{w64, to_be_bytes}
 
 -- the value of a digit: `A` is 0 and `Z` 25, of either case, `2` is 26 and `7` is 31

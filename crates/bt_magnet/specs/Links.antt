@@ -1,5 +1,6 @@
 -- A magnet link (BEP 9): `magnet:?`, and then keys and values, percent-encoded, with `&` between them.
-use Rattle.std.specs.Prelude.{◌≡◌, ℕ, ◌||◌, not, Bool, List, [], ◌∷◌, map, filter, length, take, drop, codes, Option, Some, None, option_and_then, if◌then◌else◌, string_bytes, All, Any, MatchOption, IsUtf8, ⊤}
+use Rattle.std.specs.Prelude.{◌≡◌, ℕ, ◌||◌, not, Bool, List, [], ◌∷◌, map, filter, length, take, drop, codes, Option, Some, None, option_and_then}
+use Rattle.std.specs.Prelude.{if◌then◌else◌, string_bytes, All, Any, MatchOption, IsUtf8, ⊤}
 use Rattle.std.specs.Char.{to_ascii_lowercase}
 use Rattle.std.specs.List.{list_any}
 use Rattle.std.specs.Str.{bytes_eq}

@@ -2,7 +2,8 @@
 ghost use Rattle.std.specs.Prelude.{◌≡◌, ◌++◌, ◌∷◌, [], All, IfErr, IfOk, MatchResult, OnOk, codes, map, option_map, string_bytes};
 ghost use Rattle.std.specs.Char.{to_ascii_lowercase};
 ghost use Rattle.std.specs.List.{list_any};
-ghost use Rattle.bt_magnet.specs.Links.{IsMagnet, IsNone, IsPeerError, IsUnsaid, has_key as has_key_by_rule, hash_in, is_other as is_other_by_rule, after_word as after_word_by_rule, pair_of, topic_of, values_of};
+ghost use Rattle.bt_magnet.specs.Links.{IsMagnet, IsNone, IsPeerError, IsUnsaid, has_key as has_key_by_rule, hash_in, is_other as is_other_by_rule};
+ghost use Rattle.bt_magnet.specs.Links.{after_word as after_word_by_rule, pair_of, topic_of, values_of};
 ghost use Rattle.bt_magnet.specs.Peers.{IsPeer};
 
 use crate::hash::info_hash_of;

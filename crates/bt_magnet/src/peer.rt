@@ -2,7 +2,8 @@
 ghost use Rattle.std.specs.Prelude.{◌≡◌, ◌↔◌, ◌++◌, ◌∷◌, [], IsTrue, OnOk, map, string_bytes};
 ghost use Rattle.std.specs.Char.{is_ascii_alphabetic, is_ascii_digit};
 ghost use Rattle.std.specs.List.{list_all, list_any};
-ghost use Rattle.bt_magnet.specs.Peers.{IsPeer, is_host as is_host_by_rule, is_host_byte as is_host_byte_by_rule, is_named as is_named_by_rule, is_port as is_port_by_rule};
+ghost use Rattle.bt_magnet.specs.Peers.{IsPeer, is_host as is_host_by_rule, is_host_byte as is_host_byte_by_rule, is_named as is_named_by_rule};
+ghost use Rattle.bt_magnet.specs.Peers.{is_port as is_port_by_rule};
 
 use std::alloc::{AllocError, Global};
 use std::net::SocketAddr;

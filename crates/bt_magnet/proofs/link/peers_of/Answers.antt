@@ -15,7 +15,9 @@ pub loop-pair-preserved : goal.loop-pair-preserved
 loop-pair-preserved c =
     let step = values_at (codes "x.pe") c.args.pairs.now c.loop-pair.pair-index c.pair-item.result (map string_bytes c.loop-pair.peers.items) (omega arith)
     c.pair-item.is c.loop-pair.invariant.0 in
+    let here = values_of (codes "x.pe") (pair_of c.pair-item.result ∷ []) in
+    let rest = values_of (codes "x.pe") (map pair_of (drop (c.loop-pair.pair-index + 1) c.args.pairs.now)) in
     let added = c.in-Ok.ensures.added in (
-      step ∙ sym (append_assoc (map string_bytes c.loop-pair.peers.items) (values_of (codes "x.pe") (pair_of c.pair-item.result ∷ [])) (values_of (codes "x.pe") (map pair_of (drop (c.loop-pair.pair-index + 1) c.args.pairs.now)))) ∙ ap (λ x. x ++ values_of (codes "x.pe") (map pair_of (drop (c.loop-pair.pair-index + 1) c.args.pairs.now))) (sym added),
+      step ∙ sym (append_assoc (map string_bytes c.loop-pair.peers.items) here rest) ∙ ap (λ x. x ++ rest) (sym added),
       subst (All IsPeer) (sym added) (All-append IsPeer _ _ c.loop-pair.invariant.1 c.in-Ok.ensures.peers),
     )
