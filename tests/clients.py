@@ -12,6 +12,7 @@ import hashlib
 import http.server
 import os
 import pty
+import re
 import shutil
 import signal
 import socket
@@ -157,10 +158,10 @@ def fetched(program, client, torrent, work):
     started = seed(client, torrent, port, folder)
     try:
         for _ in range(TRIES):
-            done = subprocess.run([program, "fetch", HASH, address, "--torrent", "--patience", "12"], capture_output=True,
+            done = subprocess.run([program, "fetch", HASH, address, "--torrent", "--timeout", "12"], capture_output=True,
                                   timeout=300)
             # A client that has just started doesn't listen yet, or doesn't know the torrent.
-            if done.returncode == 0 or not done.stderr.endswith((b" unreachable\n", b" closed\n")):
+            if done.returncode == 0 or not re.search(b" (unreachable|closed)\nnot fetched in ", done.stderr):
                 break
             time.sleep(0.5)
     finally:

@@ -7,9 +7,11 @@ PROGRAM is the built program, or else the script `bt_tool` at the top of the rep
 which they are dialled, the words after their addresses, and what is expected: standard output, standard error, where `@0` is
 the first address, and the exit status. It was worked out from docs/FETCH.md. tests/clients.py has real clients.
 """
+import base64
 import hashlib
 import os
 import pty
+import re
 import socket
 import struct
 import subprocess
@@ -380,30 +382,31 @@ NOBODY = object()
 ROWS = [
     ([honest], "", INFO, "@0 fetched\n", 0),
     ([honest], "--torrent", TORRENT, "@0 fetched\n", 0),
-    ([honest], "--window 1 --rules free --limit 32768", INFO, "@0 fetched\n", 0),
-    ([honest], "--most 50000", INFO, "@0 fetched\n", 0),
-    ([honest], "--most 49999", b"", "@0 no-metadata\n", 1),
+    ([honest], "--window 1 --rules bep --limit 32768", INFO, "@0 fetched\n", 0),
+    ([honest], "--patience 30 --most 50000", INFO, "@0 fetched\n", 0),
+    ([honest], "--max-size 50000", INFO, "@0 fetched\n", 0),
+    ([honest], "--max-size 49999", b"", "@0 no-metadata\n", 1),
     ([NOBODY], "", b"", "@0 unreachable\n", 1),
     ([NOBODY, honest], "", INFO, "@0 unreachable\n@1 fetched\n", 0),
-    ([silent], "--patience 2", b"", "@0 silent\n", 1),
-    ([silent_later, honest], "--patience 2", INFO, "@0 silent\n@1 fetched\n", 0),
-    ([slow], "--patience 3", INFO, "@0 fetched\n", 0),
-    ([rejecting_slowly], "--patience 3", b"", "@0 rejected\n", 1),
+    ([silent], "--timeout 2", b"", "@0 silent\n", 1),
+    ([silent_later, honest], "--timeout 2", INFO, "@0 silent\n@1 fetched\n", 0),
+    ([slow], "--timeout 3", INFO, "@0 fetched\n", 0),
+    ([rejecting_slowly], "--timeout 3", b"", "@0 rejected\n", 1),
     ([closing, honest], "", INFO, "@0 closed\n@1 fetched\n", 0),
     ([rejecting], "", b"", "@0 rejected\n", 1),
     ([rejecting, honest], "", INFO, "@0 rejected\n@1 fetched\n", 0),
     ([telling(0)], "", b"", "@0 no-metadata\n", 1),
-    ([telling(None)], "--patience 2", b"", "@0 no-metadata\n", 1),
-    ([telling(-1)], "--rules free --patience 2", b"", "@0 no-metadata\n", 1),
+    ([telling(None)], "--timeout 2", b"", "@0 no-metadata\n", 1),
+    ([telling(-1)], "--timeout 2", b"", "@0 no-metadata\n", 1),
     ([telling(67108865)], "", b"", "@0 no-metadata\n", 1),
-    ([telling(len(INFO), 0)], "--patience 2", b"", "@0 no-metadata\n", 1),
-    ([telling_later], "--patience 3", INFO, "@0 fetched\n", 0),
-    ([telling(None), honest], "--patience 2", INFO, "@0 no-metadata\n@1 fetched\n", 0),
+    ([telling(len(INFO), 0)], "--timeout 2", b"", "@0 no-metadata\n", 1),
+    ([telling_later], "--timeout 3", INFO, "@0 fetched\n", 0),
+    ([telling(None), honest], "--timeout 2", INFO, "@0 no-metadata\n@1 fetched\n", 0),
     ([in_two_reads], "", INFO, "@0 fetched\n", 0),
-    ([in_two_reads], "--most 49999", b"", "@0 no-metadata\n", 1),
+    ([in_two_reads], "--max-size 49999", b"", "@0 no-metadata\n", 1),
     ([honest, NOBODY], "", INFO, "@0 fetched\n", 0),
-    ([lying_once], "--patience 3", INFO, "@0 fetched\n", 0),
-    ([lying_each_time], "--patience 2 --window 8", b"", "@0 silent\n", 1),
+    ([lying_once], "--timeout 3", INFO, "@0 fetched\n", 0),
+    ([lying_each_time], "--timeout 2 --window 8", b"", "@0 silent\n", 1),
     ([false_once], "", INFO, "@0 fetched\n", 0),
     ([false_twice], "", b"", "@0 mismatch\n", 1),
     ([no_extension], "", b"", "@0 no-metadata\n", 1),
@@ -412,15 +415,15 @@ ROWS = [
     ([NOBODY, false_blocks, honest], "", INFO, "@0 unreachable\n@1 mismatch\n@2 fetched\n", 0),
     ([cut, honest], "", INFO, "@0 closed\n@1 fetched\n", 0),
     ([half_size, honest], "", INFO, "@0 closed\n@1 fetched\n", 0),
-    ([one_at_a_time], "--patience 2", INFO, "@0 silent\n@0 fetched\n", 0),
-    ([one_at_a_time], "--patience 2 --window 8", b"", "@0 silent\n", 1),
+    ([one_at_a_time], "--timeout 2", INFO, "@0 silent\n@0 fetched\n", 0),
+    ([one_at_a_time], "--timeout 2 --window 8", b"", "@0 silent\n", 1),
     ([as_rtorrent], "", INFO, "@0 fetched\n", 0),
     ([wrong_hash], "", b"", "@0 refused message=0 at=28 WrongInfoHash\n", 1),
     ([too_long], "", b"", "@0 refused message=1 at=68 TooLong\n", 1),
-    ([quiet_flood(bytes(4))], "--patience 2", b"", "@0 silent\n", 1),
-    ([quiet_flood(message(4, bytes(4)))], "--patience 2 --rules free", b"", "@0 silent\n", 1),
-    ([quiet_flood(message(4, bytes(4)))], "--patience 2", b"", "@0 silent\n", 1),
-    ([flood(bytes(4))], "--patience 2", b"", "@0 no-metadata\n", 1),
+    ([quiet_flood(bytes(4))], "--timeout 2", b"", "@0 silent\n", 1),
+    ([quiet_flood(message(4, bytes(4)))], "--timeout 2 --rules bep", b"", "@0 silent\n", 1),
+    ([quiet_flood(message(4, bytes(4)))], "--timeout 2", b"", "@0 silent\n", 1),
+    ([flood(bytes(4))], "--timeout 2", b"", "@0 no-metadata\n", 1),
     ([unasked], "", INFO, "@0 fetched\n", 0),
     ([block_of_piece, honest], "", INFO, "@0 unasked\n@1 fetched\n", 0),
     ([requesting], "", INFO, "@0 fetched\n", 0),
@@ -448,8 +451,26 @@ def run(program, info_hash, addresses, words):
                           capture_output=True, timeout=120)
 
 
+def summary(errors):
+    """The summary after these lines; S stands for the seconds."""
+    lines = errors.splitlines()
+    sources = [line.rsplit(" ", 1)[0] for line in lines if line.endswith(" fetched")]
+    counts = (len(lines), *(sum(" " + word in line for line in lines) for word in ("silent", "unreachable", "refused")))
+    return ("fetched from " + sources[0] if sources else "not fetched") + " in S s tried=%d silent=%d unreachable=%d refused=%d\n" % counts
+
+
+def timeless(errors):
+    """These lines, with S for the seconds of a summary."""
+    return re.sub(r"(?m)^(not fetched|fetched from \S+) in \d+ s tried=", r"\1 in S s tried=", errors)
+
+
 def differs(what, done, output, errors, status):
-    got = (done.stdout, done.stderr.decode(), done.returncode)
+    """Whether the run of a fetch differs from these lines and their summary."""
+    return differs_whole(what, done, output, errors + summary(errors), status)
+
+
+def differs_whole(what, done, output, errors, status):
+    got = (done.stdout, timeless(done.stderr.decode()), done.returncode)
     if got == (output, errors, status):
         return 0
     print("%s: got %d bytes, %r, status %d; expected %d bytes, %r, status %d"
@@ -468,8 +489,8 @@ def hostile(program):
         begin = time.monotonic()
         failed += differs("%s %s" % (names, words), run(program, HASH, addresses, words.split()), output, errors, status)
         took = time.monotonic() - begin
-        if "--patience 2" in words and "silent" in errors and not 2 <= took <= 10:
-            print("%s %s: it took %.1f seconds, and the patience is 2" % (names, words, took))
+        if "--timeout 2" in words and "silent" in errors and not 2 <= took <= 10:
+            print("%s %s: it took %.1f seconds, and the timeout is 2" % (names, words, took))
             failed += 1
         for peer in peers:
             if peer is not None:
@@ -499,12 +520,115 @@ def kept(program):
     return failed, 2
 
 
+BASE32 = base64.b32encode(HASH).decode()
+TRACKERS = "bt_tool: trackers aren't asked\n"
+OTHERS = "bt_tool: other keys of the link aren't used\n"
+# A link, the words after it, standard input, and what standard error gets before the lines. `@` is the peer's address.
+LINKS = [
+    ("magnet:?xt=urn:btih:%s&x.pe=@" % HASH.hex(), [], b"", ""),
+    ("MAGNET:?xt=URN:BTIH:%s&x.pe=@&dn=name" % HASH.hex().upper(), [], b"", ""),
+    ("magnet:?x.pe=@&xt=urn:btih:" + BASE32, [], b"", ""),
+    ("magnet:?xt=urn%%3abtih%%3A%s&x%%2Epe=127.0.0.1%%3a@P" % BASE32.lower(), [], b"", ""),
+    ("magnet:?&&xt=urn:btmh:1220&xt=urn:btih:%s&xt=urn:btih:0&x.pe=@&tr=a&tr=b&xl=9" % HASH.hex(), [], b"", TRACKERS + OTHERS),
+    (BASE32, ["@"], b"", ""),
+    (BASE32.lower(), ["--peers", "-"], b"# peers\r\n\r\n \t @ # one\r\n", ""),
+    (HASH.hex(), ["--peers", "-"], b"@", ""),
+]
+
+
+def linked(program):
+    """A link and a list say what is fetched and from whom; those of the words come first, and those of the list last."""
+    failed = 0
+    for link, words, given, before in LINKS:
+        peer = Peer(honest)
+        here = [word.replace("@P", peer.address.split(":")[1]).replace("@", peer.address) for word in [link] + words]
+        done = subprocess.run([program, "fetch"] + here, input=given.replace(b"@", peer.address.encode()), capture_output=True, timeout=60)
+        peer.close()
+        fetched = peer.address + " fetched\n"
+        failed += differs_whole(" ".join(here), done, INFO, before + fetched + summary(fetched), 0)
+    peers = [Peer(rejecting) for _ in range(4)]
+    with tempfile.NamedTemporaryFile("w") as file:
+        file.write("%s\n%s\n" % (peers[3].address, peers[2].address))
+        file.flush()
+        done = run(program, HASH, [], ["--peers", file.name, peers[0].address, peers[1].address])
+        order = "".join("%s rejected\n" % peers[number].address for number in (0, 1, 3, 2))
+        failed += differs("the list is last", done, b"", order, 1)
+        link = "magnet:?x.pe=%s&x.pe=%s&xt=urn:btih:%s" % (peers[2].address, peers[1].address, HASH.hex())
+        done = subprocess.run([program, "fetch", link, peers[0].address], stdin=subprocess.DEVNULL, capture_output=True, timeout=60)
+        order = "".join("%s rejected\n" % peers[number].address for number in (0, 2, 1))
+        failed += differs("the link is second", done, b"", order, 1)
+    for peer in peers:
+        peer.close()
+    return failed, len(LINKS) + 2
+
+
+def renamed(program):
+    """Each run has a peer id of its own, and each digit of it can be any."""
+    ids = []
+
+    def noting(link, count):
+        ids.append(link.exactly(68)[48:])
+        link.send(handshake(), extended(len(INFO)))
+        while True:
+            link.send(data(3, link.request()))
+    peer = Peer(noting)
+    for _ in range(4):
+        run(program, HASH, [peer.address], [])
+    peer.close()
+    return (same("peer ids", str([name[:8] for name in ids]), str(4 * [b"-TZ0001-"])) + same("different", str(len(set(ids))), "4")
+            + same("digits", str(len(set(b"".join(name[8:] for name in ids))) > 3), "True")), 3
+
+
+def largest(program):
+    """An info dictionary of 67,108,864 bytes, in strings of at most a mebibyte, is served; one of a byte more isn't."""
+    keys = b"".join(b"3:a%02d1048576:" % number + bytes(1048576) for number in range(63))
+    failed = 0
+    for size, begin in ((67108864, b"serving "), (67108865, b"")):
+        rest = size - len(keys) - len(b"d5:b0000" + b"%d:12:piece lengthi16384ee" % 1000000)
+        info = b"d%s5:b0000%d:%s12:piece lengthi16384ee" % (keys, rest, bytes(rest))
+        with tempfile.NamedTemporaryFile() as file:
+            file.write(info)
+            file.flush()
+            server = subprocess.Popen([program, "serve", file.name], stdin=subprocess.DEVNULL, stdout=subprocess.PIPE, stderr=subprocess.PIPE)
+            first = server.stdout.readline()
+            server.kill()
+            errors = server.communicate(timeout=60)[1]
+        wanted = begin and b"serving %s size=%d on " % (hashlib.sha1(info).hexdigest().encode(), size)
+        failed += same("length", len(info), size) + same("largest", str((first[:len(wanted)], errors)), str((wanted, b"" if begin else b"refused file\n")))
+    return failed, 2
+
+
+def hosted(program):
+    """A host's name is looked up; one without an address is unreachable."""
+    peer = Peer(honest)
+    name = "localhost:" + peer.address.split(":")[1]
+    done = run(program, HASH, ["a..b:9", name], [])
+    peer.close()
+    lines = timeless(done.stderr.decode()).splitlines()
+    return (same("hosted", done.stdout, INFO) + same("no host", lines[0], "a..b:9 unreachable")
+            + same("a host", lines[-2], name + " fetched") + same("its summary", lines[-1].split(" tried=")[0], "fetched from %s in S s" % name)), 4
+
+
+def taken(program):
+    """Where nothing can listen, `serve` says at which address and why."""
+    with socket.socket() as held, tempfile.NamedTemporaryFile() as file:
+        held.bind(("127.0.0.1", 0))
+        held.listen(1)
+        file.write(INFO)
+        file.flush()
+        address = "127.0.0.1:%d" % held.getsockname()[1]
+        done = subprocess.run([program, "serve", file.name, "--listen", address], stdin=subprocess.DEVNULL, capture_output=True, timeout=60)
+    said = done.stderr.decode()
+    return same("taken", str((done.returncode, said.startswith("fault: net %s: " % address), said.count("\n"), "in use" in said)),
+                str((3, True, 1, True))), 1
+
+
 def million(program):
     """One million letters `a`, whose last block is shorter: the third peer gives them. The digest is that of FIPS 180-4."""
     letters, info_hash = 1000000 * b"a", bytes.fromhex("34aa973cd4c4daa4f61eeb2bdbad27316534016f")
     ends = "%s unreachable\n%s mismatch\n%s fetched\n", "%s unreachable\n%s no-metadata\n%s no-metadata\n"
-    rows = [("--most 1000000", letters, ends[0], 0), ("--torrent", b"d4:info" + letters + b"e", ends[0], 0),
-            ("--most 999999", b"", ends[1], 1)]
+    rows = [("--max-size 1000000", letters, ends[0], 0), ("--torrent", b"d4:info" + letters + b"e", ends[0], 0),
+            ("--max-size 999999", b"", ends[1], 1)]
     failed = 0
     for words, output, errors, status in rows:
         peers = [Peer(giving(1000000 * b"b", info_hash)), Peer(giving(letters))]
@@ -539,20 +663,23 @@ def shown(program):
         os.close(near)
     peer.close()
     name = peer.address.encode()
-    expected = b"".join(b"\rfetching %d of 4 blocks from %s" % (held, name) for held in range(4)) + b"\r\x1b[K" + name + b" fetched\r\n"
-    return same("shown", done.stdout, INFO) + same("progress", text, expected), 2
+    expected = b"".join(b"\rfetching %d of 4 blocks from %s" % (held, name) for held in range(4)) + b"\r\x1b[K"
+    lines = peer.address + " fetched\n"
+    expected += (lines + summary(lines)).replace("\n", "\r\n").encode()
+    return same("shown", done.stdout, INFO) + same("progress", timeless(text.decode()).encode(), expected), 2
 
 
 def unread(program):
     """Where nobody reads the output, `loop` and `fetch` end as `show` does."""
     failed = 0
     peer = Peer(honest)
-    for words, given, errors in ((["loop"], INFO, ""), (["fetch", HASH.hex(), peer.address], b"", "%s fetched\n" % peer.address)):
+    fetched = "%s fetched\n" % peer.address
+    for words, given, errors in ((["loop"], INFO, ""), (["fetch", HASH.hex(), peer.address], b"", fetched + summary(fetched))):
         near, far = os.pipe()
         os.close(near)
         done = subprocess.run([program] + words, input=given, stdout=far, stderr=subprocess.PIPE, timeout=60)
         os.close(far)
-        failed += same("unread %s" % words[0], "%d %s" % (done.returncode, done.stderr.decode()), "141 " + errors)
+        failed += same("unread %s" % words[0], "%d %s" % (done.returncode, timeless(done.stderr.decode())), "141 " + errors)
     peer.close()
     return failed, 2
 
@@ -566,8 +693,9 @@ def unwritten(program):
         for words in ([], ["--torrent"]):
             done = subprocess.run([program, "fetch", HASH.hex(), peer.address] + words, stdin=subprocess.DEVNULL, stdout=device,
                                   stderr=subprocess.PIPE, timeout=60, preexec_fn=None if name else lambda: os.close(1))
-            failed += same("unwritten %s" % name, "%d %s" % (done.returncode, done.stderr.decode()),
-                           "3 %s fetched\nfault: write\n" % peer.address)
+            fetched = "%s fetched\n" % peer.address
+            failed += same("unwritten %s" % name, "%d %s" % (done.returncode, timeless(done.stderr.decode())),
+                           "3 %s%sfault: write\n" % (fetched, summary(fetched)))
         if name:
             os.close(device)
     peer.close()
@@ -582,7 +710,7 @@ def dialled(program):
         link.request()
         link.hold()
     peers = [Peer(half_size), Peer(fickle)]
-    done = run(program, HASH, [peer.address for peer in peers], ["--patience", "2"])
+    done = run(program, HASH, [peer.address for peer in peers], ["--timeout", "2"])
     for peer in peers:
         peer.close()
     return (differs("dialled", done, b"", "%s closed\n%s silent\n" % tuple(peer.address for peer in peers), 1)
@@ -654,9 +782,9 @@ def serving(program):
             with open(name, "wb") as file:
                 file.write(content)
         done = subprocess.run([program, "serve", names[2]], capture_output=True, timeout=60)
-        failed += differs("serve neither", done, b"", "refused file\n", 1)
+        failed += differs_whole("serve neither", done, b"", "refused file\n", 1)
 
-        server = Server(program, names[0], "--connections", "4", "--patience", "3")
+        server = Server(program, names[0], "--exit-after", "4", "--timeout", "3")
         failed += same("first line", server.first, "serving %s size=%d on 127.0.0.1:%d\n" % (HASH.hex(), len(INFO), server.port))
         mute, first = server.connect()
         garbage, second = server.connect()
@@ -673,7 +801,7 @@ def serving(program):
         failed += same("lines", lines, sorted(expected)) + same("status", str(status), "0")
         mute.link.close()
 
-        server = Server(program, names[1], "--connections", "2", "--at-once", "1", "--listen", "127.0.0.1:0")
+        server = Server(program, names[1], "--exit-after", "2", "--max-connections", "1", "--listen", "127.0.0.1:0")
         held, first = server.connect()
         done = subprocess.Popen([program, "fetch", HASH.hex(), "127.0.0.1:%d" % server.port], stdout=subprocess.PIPE)
         time.sleep(1)
@@ -752,7 +880,7 @@ def pieces(program):
     with tempfile.NamedTemporaryFile() as file:
         file.write(INFO)
         file.flush()
-        server = Server(program, file.name, "--connections", str(len(rows) + 1), "--patience", "20")
+        server = Server(program, file.name, "--exit-after", str(len(rows) + 1), "--timeout", "20")
         expected = []
         late, address = server.connect()
         failed += same("before the handshake", bytes_within(late, 1), b"")
@@ -780,7 +908,7 @@ def pieces(program):
         file.truncate()
         file.write(NO_PIECES)
         file.flush()
-        server = Server(program, file.name, "--connections", "1")
+        server = Server(program, file.name, "--exit-after", "1")
         link, other = server.connect()
         link.send(handshake(info_hash=hashlib.sha1(NO_PIECES).digest()) + HAVE_NONE + requests)
         link.exactly(68)
@@ -798,7 +926,7 @@ def one_write(program):
     with tempfile.NamedTemporaryFile() as file:
         file.write(INFO)
         file.flush()
-        server = subprocess.Popen([program, "serve", file.name, "--connections", "2"], stdin=subprocess.DEVNULL, stdout=theirs)
+        server = subprocess.Popen([program, "serve", file.name, "--exit-after", "2"], stdin=subprocess.DEVNULL, stdout=theirs)
         theirs.close()
         packets = [ours.recv(65536).decode()]
         port = int(packets[0].rsplit(":", 1)[1])
@@ -861,12 +989,12 @@ def memory(program):
     """What a peer can take of memory, above what a run without a peer takes. The bounds are those of docs/FETCH.md."""
     failed = 0
     large = info_of(8000000)
-    rows = [(telling(33554432), HASH, "--window 8 --most 33554432", 33554432 + BUFFERS, "silent"),
-            (longest_messages, HASH, "--window 8 --rules free", BUFFERS, "silent"),
+    rows = [(telling(33554432), HASH, "--window 8 --max-size 33554432", 33554432 + BUFFERS, "silent"),
+            (longest_messages, HASH, "--window 8", BUFFERS, "silent"),
             (giving(large), hashlib.sha1(large).digest(), "--torrent", 2 * len(large) + BUFFERS, "fetched")]
 
     def fetch(info_hash, address, words):
-        process = subprocess.Popen([program, "fetch", info_hash.hex(), address, "--patience", "2"] + words.split(), stdin=subprocess.DEVNULL,
+        process = subprocess.Popen([program, "fetch", info_hash.hex(), address, "--timeout", "2"] + words.split(), stdin=subprocess.DEVNULL,
                                    stdout=subprocess.PIPE, stderr=subprocess.PIPE)
         most = peak(process, 6)
         return most, process.communicate(timeout=60)[1].decode()
@@ -876,13 +1004,13 @@ def memory(program):
     for talk, info_hash, words, bound, end in rows:
         peer = Peer(talk)
         most, errors = fetch(info_hash, peer.address, words)
-        failed += above("memory of fetch %s" % words, most, least, bound) + same("end of it", errors, "%s %s\n" % (peer.address, end))
+        failed += above("memory of fetch %s" % words, most, least, bound) + same("end of it", timeless(errors), "%s %s\n" % (peer.address, end) + summary("%s %s\n" % (peer.address, end)))
         peer.close()
 
     with tempfile.NamedTemporaryFile() as file:
         file.write(INFO)
         file.flush()
-        server = Server(program, file.name, "--connections", "8", "--patience", "3")
+        server = Server(program, file.name, "--exit-after", "8", "--timeout", "3")
         least = resident(server.process)
         links = [server.connect()[0] for _ in range(8)]
         for link in links:
@@ -898,7 +1026,8 @@ def memory(program):
 def main(words):
     program = program_of(words)
     failed = count = 0
-    for part in (hostile, kept, million, single, shown, unread, unwritten, dialled, several_ids, serving, pieces, one_write, memory):
+    for part in (hostile, kept, linked, hosted, taken, largest, million, single, shown, unread, unwritten, dialled, several_ids, serving, pieces,
+                 one_write, memory):
         more, tried = part(program)
         failed += more
         count += tried

@@ -488,8 +488,8 @@ def dials(path, failures):
 # `serve` and `fetch`.
 
 OURS = [
-    ("seed", ["--start", "exec %s serve --listen {address} --patience 20 --at-once 1024 {torrent}"]),
-    ("magnet", ["--dial", "exec %s fetch {hash} {addr} --patience 2 > {out}"]),
+    ("seed", ["--start", "exec %s serve --listen {address} --timeout 20 --max-connections 1024 {torrent}"]),
+    ("magnet", ["--dial", "exec %s fetch {hash} {addr} --timeout 2 > {out}"]),
 ]
 
 

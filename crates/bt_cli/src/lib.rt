@@ -7,9 +7,12 @@
 pub mod commands;
 pub mod ending;
 pub mod fetch;
+pub mod fetching;
 pub mod link;
 pub mod looped;
 pub mod options;
+pub mod peers;
+pub mod report;
 pub mod serve;
 mod texts;
 

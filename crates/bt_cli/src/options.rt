@@ -41,6 +41,22 @@ pub fn no_handshake(alloc: Global, name: &str) -> Result<String, AllocError> {
     )
 }
 
+/// Returns the notice that a line of a list of peers names none.
+pub fn no_peer(alloc: Global, name: &str, line: usize) -> Result<String, AllocError> {
+    let usage = usage_of("fetch");
+    format!(in alloc;
+        "error: line {line} of '{name}', the file of '--peers', names no peer: IP:PORT, [IPv6]:PORT or HOST:PORT\n\nUsage: {usage}\n"
+    )
+}
+
+/// Returns the notice that a list of peers is too long.
+pub fn long_list(alloc: Global, name: &str) -> Result<String, AllocError> {
+    let usage = usage_of("fetch");
+    format!(in alloc;
+        "error: '{name}', the file of '--peers', has more than 16777216 bytes\n\nUsage: {usage}\n"
+    )
+}
+
 /// Returns whether a file's name is that of standard input.
 pub fn is_input(name: &str) -> bool
     ensures { result ≡ bytes_eq name.now (codes "-") }
@@ -59,12 +75,17 @@ fn wants_input_twice(other: &Option<String>, files: &[String]) -> bool {
 }
 
 /// Returns an option of a command.
-fn option<'a>(alloc: Global, text: &OptionText) -> Arg<'a> {
+fn option<'a>(alloc: Global, text: &OptionText) -> Result<Arg<'a>, AllocError> {
     let argument = Arg::new(alloc, text.name).long(text.name).help(text.help);
-    if text.value.is_empty() {
+    let argument = if text.value.is_empty() {
         argument.action(ArgAction::SetTrue)
     } else {
         argument.value_name(text.value).action(ArgAction::Set)
+    };
+    if text.alias.is_empty() {
+        Ok(argument)
+    } else {
+        argument.alias(text.alias)
     }
 }
 
@@ -88,7 +109,7 @@ fn command_of<'a>(alloc: Global, text: &CommandText) -> Result<Command<'a>, Allo
         .about(text.about)
         .after_help(text.after);
     for option_text in text.options {
-        command = command.arg(option(alloc, option_text))?;
+        command = command.arg(option(alloc, option_text)?)?;
     }
     for operand_text in text.operands {
         command = command.arg(operand(alloc, operand_text))?;
@@ -439,6 +460,10 @@ fn mistaken(alloc: Global, name: &str, why: Mistake) -> Result<Asked, AllocError
 {
     match why {
         Mistake::Text(what) => mistake(alloc, usage_of(name), what),
+        Mistake::Link(what, place) => {
+            let text = format!(in alloc; "the magnet link has {what} at offset {place}")?;
+            mistake(alloc, usage_of(name), text.as_str())
+        }
         Mistake::Memory => Err(AllocError),
     }
 }

@@ -1,10 +1,15 @@
 //! The command `serve`: what its words ask for, the service, its lines, and the exit status. The module `options` and the
 //! program's `main` call it.
-ghost use Rattle.std.specs.Prelude.{◌≡◌, IfOk};
+ghost use Rattle.std.specs.Prelude.{◌≡◌, IfOk, option_map};
+ghost use Rattle.clap.specs.Matches.{found_of};
 ghost use Rattle.sha1.specs.Sha1.{sha1};
 ghost use Rattle.bt_run.specs.Commands.{HasLoopLimit};
+ghost use Rattle.bt_run.specs.Runs.{IsSaid};
+ghost use Rattle.bt_cli.specs.Services.{serve_status, serve_words};
+ghost use Rattle.bt_cli.specs.Wanted.{IsServeAsked, exit_after_in as exit_after_in_by_rule};
 
-use crate::fetch::{DEFAULT_LIMIT, DEFAULT_PATIENCE, Mistake, drawn_peer_id, number_or, rules_in};
+use crate::fetch::{DEFAULT_LIMIT, DEFAULT_TIMEOUT, Mistake, number_or, rules_in};
+use crate::fetching::drawn_peer_id;
 use bt_ext::Rules;
 use bt_feed::Target;
 use bt_run::run::say;
@@ -53,10 +58,14 @@ pub enum Service {
     RefusedFile,
     /// What kept it from its work, as a line of standard error.
     Fault(ToolFault),
+    /// It can't listen where it is to; standard error has the line already.
+    NoListener,
 }
 
-/// Returns the number of `--connections`.
-fn connections_in(text: Option<&str>) -> Option<Option<u64>> {
+/// Returns the number of `--exit-after`.
+fn exit_after_in(text: Option<&str>) -> Option<Option<u64>>
+    ensures { result ≡ exit_after_in_by_rule (option_map (λ s. s.now) text.entry) }
+{
     match text {
         None => Some(None),
         Some(_) => Some(Some(number_or(text, 1, 4_294_967_295, 1)? as u64)),
@@ -68,10 +77,14 @@ fn connections_in(text: Option<&str>) -> Option<Option<u64>> {
 /// # Errors
 /// The first option or word that has no meaning, or `Memory`.
 pub fn serve_asked(alloc: Global, options: &ArgMatches<'_>) -> Result<ServeJob, Mistake>
-    ensures { IfOk result (λ job. HasLoopLimit job.limit) }
+    ensures limit { IfOk result (λ job. HasLoopLimit job.limit) }
+    ensures asked { IfOk result (IsServeAsked (found_of options.now)) }
 {
-    let listen = options.get_str("listen").unwrap_or(DEFAULT_LISTEN);
-    let Ok(listen) = listen.parse::<SocketAddr>() else {
+    let Ok(listen) = options
+        .get_str("listen")
+        .unwrap_or(DEFAULT_LISTEN)
+        .parse::<SocketAddr>()
+    else {
         return Err(Mistake::Text("'--listen' takes IP:PORT or [IPv6]:PORT"));
     };
     let Some(rules) = rules_in(options.get_str("rules")) else {
@@ -80,14 +93,15 @@ pub fn serve_asked(alloc: Global, options: &ArgMatches<'_>) -> Result<ServeJob, 
     let Some(limit) = number_or(options.get_str("limit"), 32_768, 1_048_576, DEFAULT_LIMIT) else {
         return Err(Mistake::Text("'--limit' takes a number from 32768 to 1048576"));
     };
-    let Some(patience) = number_or(options.get_str("patience"), 1, 86_400, DEFAULT_PATIENCE) else {
-        return Err(Mistake::Text("'--patience' takes a number from 1 to 86400"));
+    let Some(patience) = number_or(options.get_str("timeout"), 1, 86_400, DEFAULT_TIMEOUT) else {
+        return Err(Mistake::Text("'--timeout' takes a number from 1 to 86400"));
     };
-    let Some(connections) = connections_in(options.get_str("connections")) else {
-        return Err(Mistake::Text("'--connections' takes a number from 1 to 4294967295"));
+    let Some(connections) = exit_after_in(options.get_str("exit-after")) else {
+        return Err(Mistake::Text("'--exit-after' takes a number from 1 to 4294967295"));
     };
-    let Some(at_once) = number_or(options.get_str("at-once"), 1, 1024, DEFAULT_AT_ONCE) else {
-        return Err(Mistake::Text("'--at-once' takes a number from 1 to 1024"));
+    let Some(at_once) = number_or(options.get_str("max-connections"), 1, 1024, DEFAULT_AT_ONCE)
+    else {
+        return Err(Mistake::Text("'--max-connections' takes a number from 1 to 1024"));
     };
     Ok(ServeJob {
         file: String::from_str(alloc, options.get_str("FILE").unwrap_or(""))?,
@@ -171,27 +185,56 @@ fn announce<W: Target>(
     Ok(())
 }
 
+/// Says that nothing can listen at an address, and why.
+fn say_no_listener<E: Target>(
+    alloc: Global,
+    address: SocketAddr,
+    error: &io::Error,
+    errors: &mut E,
+) {
+    match format!(in alloc; "fault: net {address}: {error}\n") {
+        Ok(text) => say(text.as_str().as_bytes(), errors),
+        Err(_) => say(fault_line(ToolFault::Net), errors),
+    }
+}
+
+/// Returns how peers are served.
+fn hospitality_of(job: &ServeJob, info_hash: [u8; 20], peer_id: [u8; 20]) -> Hospitality
+    ensures hash { result.info_hash ≡ info_hash }
+    ensures peer_id { result.peer_id ≡ peer_id }
+    ensures rules { result.rules ≡ job.now.rules }
+    ensures limit { result.limit ≡ job.now.limit }
+    ensures timeout { result.patience ≡ job.now.patience }
+{
+    Hospitality {
+        info_hash,
+        peer_id,
+        rules: job.rules,
+        limit: job.limit,
+        patience: job.patience,
+    }
+}
+
 /// Serves metadata over TCP, and says on `writer` where, and how each connection ended.
-fn serve_over_tcp<R: Net + Clock + RandomSource, W: Target>(
+fn serve_over_tcp<R: Net + Clock + RandomSource, W: Target, E: Target>(
     rt: &R,
     alloc: Global,
     job: &ServeJob,
     metadata: &Rc<Vec<u8>>,
     writer: &mut W,
+    errors: &mut E,
 ) -> Service
     requires { HasLoopLimit job.now.limit }
 {
     let bytes = Rc::as_ref(metadata).as_slice();
     let info_hash = hash_of(bytes);
-    let hospitality = Hospitality {
-        info_hash,
-        peer_id: drawn_peer_id(rt),
-        rules: job.rules,
-        limit: job.limit,
-        patience: job.patience,
-    };
-    let Ok((listener, address)) = listen(rt, job.listen) else {
-        return Service::Fault(ToolFault::Net);
+    let hospitality = hospitality_of(job, info_hash, drawn_peer_id(rt));
+    let (listener, address) = match listen(rt, job.listen) {
+        Ok(opened) => opened,
+        Err(error) => {
+            say_no_listener(alloc, job.listen, &error, errors);
+            return Service::NoListener;
+        }
     };
     if announce(alloc, &info_hash, bytes.len(), address, writer).is_err() {
         return Service::Fault(ToolFault::Memory);
@@ -204,11 +247,12 @@ fn serve_over_tcp<R: Net + Clock + RandomSource, W: Target>(
 }
 
 /// Serves the metadata of a file over TCP.
-pub fn run_serve<R: Net + Clock + RandomSource + Files + AllocGlobal, W: Target>(
+pub fn run_serve<R: Net + Clock + RandomSource + Files + AllocGlobal, W: Target, E: Target>(
     rt: &R,
     alloc: Global,
     job: &ServeJob,
     writer: &mut W,
+    errors: &mut E,
 ) -> Service
     requires { HasLoopLimit job.now.limit }
 {
@@ -222,7 +266,7 @@ pub fn run_serve<R: Net + Clock + RandomSource + Files + AllocGlobal, W: Target>
         Err(_) => return Service::Fault(ToolFault::Memory),
     };
     match Rc::new(alloc, metadata) {
-        Ok(shared) => serve_over_tcp(rt, alloc, job, &shared, writer),
+        Ok(shared) => serve_over_tcp(rt, alloc, job, &shared, writer, errors),
         Err(_) => Service::Fault(ToolFault::Memory),
     }
 }
@@ -230,9 +274,19 @@ pub fn run_serve<R: Net + Clock + RandomSource + Files + AllocGlobal, W: Target>
 /// Says why a service didn't do its work, and returns the exit status.
 ///
 /// Nothing is said where it did.
-pub fn end_serve<E: Target>(service: Service, errors: &mut E) -> u8 {
+pub fn end_serve<E: Target>(service: Service, errors: &mut E) -> u8
+    ensures said { IsSaid (serve_words service) (E.seen errors.old) (E.seen errors.new) }
+    ensures status { result ≡ serve_status service }
+{
     match service {
-        Service::Done => 0,
+        Service::Done => {
+            say(b"", errors);
+            0
+        }
+        Service::NoListener => {
+            say(b"", errors);
+            3
+        }
         Service::RefusedFile => {
             say(b"refused file\n", errors);
             1

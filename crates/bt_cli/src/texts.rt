@@ -5,6 +5,8 @@
 #[derive(Clone, Copy, Debug)]
 pub(crate) struct OptionText {
     pub name: &'static str,
+    /// Its name in earlier versions, which help leaves out; nothing if it had none.
+    pub alias: &'static str,
     /// The name of its value; nothing if it takes none.
     pub value: &'static str,
     /// What it is, its values, and its default in brackets.
@@ -34,116 +36,142 @@ pub(crate) struct CommandText {
 
 const RESERVED: OptionText = OptionText {
     name: "reserved",
+    alias: "",
     value: "HEX",
     help: "Reserved bits that the receiver sent: 16 hex digits [default: 0000000000100005]",
 };
 
 const PIECES: OptionText = OptionText {
     name: "pieces",
+    alias: "",
     value: "N",
     help: "Number of pieces of the torrent: 0 to 4294967295 [default: unknown]",
 };
 
 const METADATA_ID: OptionText = OptionText {
     name: "metadata-id",
+    alias: "",
     value: "N",
     help: "Id that the receiver announced for ut_metadata: 0 to 255, 0 for none [default: 3]",
 };
 
 const DONTHAVE_ID: OptionText = OptionText {
     name: "donthave-id",
+    alias: "",
     value: "N",
     help: "Id that the receiver announced for lt_donthave: 0 to 255, 0 for none [default: 0]",
 };
 
 const INFO_HASH: OptionText = OptionText {
     name: "info-hash",
+    alias: "",
     value: "HEX",
     help: "Only info hash that is accepted: 40 hex digits [default: any]",
 };
 
 const OTHER: OptionText = OptionText {
     name: "other",
+    alias: "",
     value: "FILE",
     help: "Stream that the receiver sent; it gives the bits and ids that no option gives [default: none]",
 };
 
 const FREE: OptionText = OptionText {
     name: "rules",
+    alias: "",
     value: "RULES",
     help: "Rules by which is judged: 'free' (lenient) or 'bep' (strict) [default: free]",
 };
 
 const BEP: OptionText = OptionText {
     name: "rules",
+    alias: "",
     value: "RULES",
     help: "Rules by which is judged: 'free' (lenient) or 'bep' (strict) [default: bep]",
 };
 
 const LIMIT: OptionText = OptionText {
     name: "limit",
+    alias: "",
     value: "N",
     help: "Greatest length of a message, without its prefix: 1 to 1048576 [default: 262144]",
 };
 
 const LIMIT_OF_ENDS: OptionText = OptionText {
     name: "limit",
+    alias: "",
     value: "N",
     help: "Greatest length of a message, without its prefix: 32768 to 1048576 [default: 262144]",
 };
 
 const HINTS: OptionText = OptionText {
     name: "hints",
+    alias: "",
     value: "WHEN",
     help: "When standard error gets a hint: 'always', 'never' or 'auto' (on a terminal) [default: auto]",
 };
 
 const JSON: OptionText = OptionText {
     name: "json",
+    alias: "",
     value: "",
     help: "Prints a JSON object a line: one for each item, and one for the verdict",
 };
 
-const PATIENCE: OptionText = OptionText {
-    name: "patience",
+const TIMEOUT: OptionText = OptionText {
+    name: "timeout",
+    alias: "patience",
     value: "SECONDS",
     help: "Seconds without progress after which a connection ends: 1 to 86400 [default: 30]",
 };
 
 const WINDOW: OptionText = OptionText {
     name: "window",
+    alias: "",
     value: "N",
     help: "Blocks that are asked for at once: 1 to 8 [default: 8, and 1 if a silent peer is tried again]",
 };
 
-const MOST: OptionText = OptionText {
-    name: "most",
+const MAX_SIZE: OptionText = OptionText {
+    name: "max-size",
+    alias: "most",
     value: "BYTES",
     help: "Greatest size of metadata that is taken: 1 to 67108864 [default: 67108864]",
 };
 
 const TORRENT: OptionText = OptionText {
     name: "torrent",
+    alias: "",
     value: "",
     help: "Writes a .torrent in place of the metadata alone",
 };
 
 const LISTEN: OptionText = OptionText {
     name: "listen",
+    alias: "",
     value: "ADDRESS",
     help: "Where it listens: IP:PORT or [IPv6]:PORT; port 0 takes a free one [default: 127.0.0.1:0]",
 };
 
-const CONNECTIONS: OptionText = OptionText {
-    name: "connections",
+const EXIT_AFTER: OptionText = OptionText {
+    name: "exit-after",
+    alias: "connections",
     value: "N",
     help: "Connections after which it ends: 1 to 4294967295 [default: none, it goes on]",
 };
 
-const AT_ONCE: OptionText = OptionText {
-    name: "at-once",
+const MAX_CONNECTIONS: OptionText = OptionText {
+    name: "max-connections",
+    alias: "at-once",
     value: "N",
     help: "Connections that are served at the same time: 1 to 1024 [default: 64]",
+};
+
+const PEERS: OptionText = OptionText {
+    name: "peers",
+    alias: "",
+    value: "FILE",
+    help: "File of more peers, one a line, '#' before a comment; '-' is standard input [default: none]",
 };
 
 const STREAM: OperandText = OperandText {
@@ -164,14 +192,14 @@ const INFOHASH: OperandText = OperandText {
     name: "INFOHASH",
     is_required: true,
     is_repeated: false,
-    help: "SHA-1 of the metadata: 40 hex digits",
+    help: "A magnet link, or the info hash alone: 40 hex digits, or 32 base32 digits",
 };
 
 const ADDRESS: OperandText = OperandText {
     name: "ADDRESS",
-    is_required: true,
+    is_required: false,
     is_repeated: true,
-    help: "A peer: IP:PORT or [IPv6]:PORT; they are tried in turn",
+    help: "A peer: IP:PORT, [IPv6]:PORT or HOST:PORT; they are tried in turn, then those of the link and of '--peers'",
 };
 
 const METADATA: OperandText = OperandText {
@@ -193,7 +221,7 @@ const LINK_USAGE: &str = "bt_tool link [FILE]";
 
 const LOOP_USAGE: &str = "bt_tool loop [OPTIONS]";
 
-const FETCH_USAGE: &str = "bt_tool fetch [OPTIONS] INFOHASH ADDRESS..";
+const FETCH_USAGE: &str = "bt_tool fetch [OPTIONS] MAGNET|INFOHASH [ADDRESS]..";
 
 const SERVE_USAGE: &str = "bt_tool serve [OPTIONS] FILE";
 
@@ -350,7 +378,15 @@ pub(crate) const FETCH: CommandText = CommandText {
     name: "fetch",
     usage: FETCH_USAGE,
     about: "Fetches the metadata of a torrent from peers (BEP 9), and writes it on standard output",
-    options: &[BEP, LIMIT_OF_ENDS, PATIENCE, WINDOW, MOST, TORRENT],
+    options: &[
+        PEERS,
+        FREE,
+        LIMIT_OF_ENDS,
+        TIMEOUT,
+        WINDOW,
+        MAX_SIZE,
+        TORRENT,
+    ],
     operands: &[INFOHASH, ADDRESS],
     after: "\
 Example:
@@ -359,8 +395,8 @@ Example:
 Exit status:
   0    The metadata was fetched
   1    No peer gave the metadata
-  2    The words are no command line
-  3    A write failed, or the program is out of memory
+  2    The words are no command line, or a line of the file of '--peers' names no peer
+  3    A read or a write failed, or the program is out of memory
   141  Nobody reads the output any more, as after '| head'",
 };
 
@@ -368,14 +404,21 @@ pub(crate) const SERVE: CommandText = CommandText {
     name: "serve",
     usage: SERVE_USAGE,
     about: "Serves the metadata of a torrent to peers (BEP 9), and prints a line for each connection",
-    options: &[LISTEN, BEP, LIMIT_OF_ENDS, PATIENCE, CONNECTIONS, AT_ONCE],
+    options: &[
+        LISTEN,
+        FREE,
+        LIMIT_OF_ENDS,
+        TIMEOUT,
+        EXIT_AFTER,
+        MAX_CONNECTIONS,
+    ],
     operands: &[METADATA],
     after: "\
 Example:
   bt_tool serve --listen 127.0.0.1:6881 a.torrent
 
 Exit status:
-  0    As many connections as '--connections' says have ended
+  0    As many connections as '--exit-after' says have ended
   1    FILE has no metadata
   2    The words are no command line
   3    FILE can't be read, it can't listen there, or the program is out of memory",

@@ -7,11 +7,13 @@ ghost use Rattle.bt_fetch.specs.Wishes.{IsWish};
 use crate::piped::Piped;
 use bt_cli::commands::{Asked, Job, Notice, Request};
 use bt_cli::ending::{end_by_fault, end_job, end_link, end_loop, end_text};
-use bt_cli::fetch::{FetchJob, end_fetch, run_fetch};
+use bt_cli::fetch::FetchJob;
+use bt_cli::fetching::{end_fetch, run_fetch};
 use bt_cli::hints::{are_wanted, say_hint};
 use bt_cli::notice::refuse_words;
-use bt_cli::options::{is_input, no_handshake};
+use bt_cli::options::{is_input, long_list, no_handshake, no_peer};
 use bt_cli::other::receiver_by;
+use bt_cli::peers::{NoPeers, list_from, peers_in};
 use bt_cli::run::{JobEnd, do_job, say};
 use bt_cli::serve::{ServeJob, end_serve, run_serve};
 use bt_ext::Rules;
@@ -42,6 +44,9 @@ const SCRIPT_AWAITED: &[u8] = b"bt_tool: a script is awaited on standard input\n
 
 /// What is said where metadata is awaited from a terminal.
 const METADATA_AWAITED: &[u8] = b"bt_tool: metadata is awaited on standard input\n";
+
+/// What is said where a list of peers is awaited from a terminal.
+const PEERS_AWAITED: &[u8] = b"bt_tool: a list of peers is awaited on standard input\n";
 
 /// The host's devices, and what is known of them.
 #[derive(Drop)]
@@ -327,8 +332,52 @@ impl<'a, R: Files + Input + Net + Clock + RandomSource + AllocGlobal, W: Write, 
         end_loop(end, self.is_gone.get(), &mut self.errors)
     }
 
-    /// Fetches metadata from peers, and returns the exit status.
-    fn fetch(&mut self, job: &FetchJob) -> u8
+    /// Says that a line of a list names no peer, and returns the exit status.
+    fn refuse_line(&mut self, name: &str, line: usize) -> u8 {
+        match no_peer(self.host.alloc(), name, line) {
+            Ok(text) => refuse_words(text.as_str(), &mut self.errors),
+            Err(_) => self.fail(ToolFault::Memory),
+        }
+    }
+
+    /// Says that a list of peers is too long, and returns the exit status.
+    fn refuse_list(&mut self, name: &str) -> u8 {
+        match long_list(self.host.alloc(), name) {
+            Ok(text) => refuse_words(text.as_str(), &mut self.errors),
+            Err(_) => self.fail(ToolFault::Memory),
+        }
+    }
+
+    /// As `peers_of`; `prefix` stands before the line of a fault.
+    fn peers_after(&mut self, prefix: &[u8], name: &str) -> Result<Vec<String>, u8> {
+        let Some(mut reader) = self.open(name, PEERS_AWAITED) else {
+            return Err(end_by_fault(ToolFault::Read, prefix, false, &mut self.errors));
+        };
+        let alloc = self.host.alloc();
+        let listed = match list_from(alloc, &mut reader) {
+            Ok(text) => peers_in(alloc, text.as_slice()),
+            Err(why) => Err(why),
+        };
+        match listed {
+            Ok(peers) => Ok(peers),
+            Err(NoPeers::Line(line)) => Err(self.refuse_line(name, line)),
+            Err(NoPeers::TooLong) => Err(self.refuse_list(name)),
+            Err(NoPeers::Fault(fault)) => {
+                Err(end_by_fault(fault, prefix, false, &mut self.errors))
+            }
+        }
+    }
+
+    /// Returns the peers of a list, or the exit status where it can't be read.
+    fn peers_of(&mut self, name: &str) -> Result<Vec<String>, u8> {
+        match self.prefix(name) {
+            Ok(prefix) => self.peers_after(prefix.as_bytes(), name),
+            Err(_) => Err(self.fail(ToolFault::Memory)),
+        }
+    }
+
+    /// Fetches metadata from the peers of a job and of its list, and returns the exit status.
+    fn fetch_from(&mut self, job: &FetchJob, listed: &[String]) -> u8
         requires { IsWish job.now.wish }
     {
         let alloc = self.host.alloc();
@@ -336,6 +385,7 @@ impl<'a, R: Files + Input + Net + Clock + RandomSource + AllocGlobal, W: Write, 
             self.host,
             alloc,
             job,
+            listed,
             &mut self.writer,
             &mut self.errors,
             self.is_watched,
@@ -343,11 +393,25 @@ impl<'a, R: Files + Input + Net + Clock + RandomSource + AllocGlobal, W: Write, 
         end_fetch(fetched, self.is_gone.get(), &mut self.errors)
     }
 
+    /// Fetches metadata from peers, and returns the exit status.
+    fn fetch(&mut self, job: &FetchJob) -> u8
+        requires { IsWish job.now.wish }
+    {
+        let Some(name) = &job.list else {
+            return self.fetch_from(job, &[]);
+        };
+        match self.peers_of(name.as_str()) {
+            Ok(listed) => self.fetch_from(job, listed.as_slice()),
+            Err(status) => status,
+        }
+    }
+
     /// Serves metadata to peers, and returns the exit status.
     fn serve(&mut self, job: &ServeJob) -> u8
         requires { HasLoopLimit job.now.limit }
     {
-        let service = run_serve(self.host, self.host.alloc(), job, &mut self.writer);
+        let alloc = self.host.alloc();
+        let service = run_serve(self.host, alloc, job, &mut self.writer, &mut self.errors);
         end_serve(service, &mut self.errors)
     }
 }

@@ -1,0 +1,80 @@
+-- What the options of `fetch` and `serve` say.
+use Rattle.std.specs.Prelude.{◌≡◌, ℕ, Bool, List, [], map, string_bytes, unwrap_or, codes, Option, Some, None, option_map}
+use Rattle.std.specs.Str.{bytes_eq}
+use Rattle.std.specs.Net.Grammar.{IsSocketText}
+use Rattle.clap.specs.declared.parser.matches.Found.{Found}
+use Rattle.clap.specs.Matches.{first_value, matched_of, raw_values}
+use Rattle.bt_ext.specs.declared.ids.Rules.{Rules}
+use Rattle.bt_ext.specs.declared.ids.Rules.TheVariants.{Free}
+use Rattle.bt_magnet.specs.Links.{IsMagnet}
+use Rattle.bt_run.specs.Options.{number_in, rules_of, value_of}
+use Rattle.bt_fetch.specs.declared.wish.Wish.{Wish}
+use Rattle.bt_cli.specs.declared.fetch.FetchJob.{FetchJob}
+use Rattle.bt_cli.specs.declared.serve.ServeJob.{ServeJob}
+
+-- ---- an option: its default where it isn't given, and none where its text is no value of it
+
+abbrev pub number_or : ℕ → ℕ → ℕ → Option (List ℕ) → Option ℕ
+number_or low high default t = value_of default (number_in low high) t
+
+abbrev pub peer_rules_in : Option (List ℕ) → Option Rules
+peer_rules_in t = value_of Free rules_of t
+
+abbrev pub end_limit_in : Option (List ℕ) → Option ℕ
+end_limit_in t = number_or 32768 1048576 262144 t
+
+abbrev pub timeout_in : Option (List ℕ) → Option ℕ
+timeout_in t = number_or 1 86400 30 t
+
+abbrev pub window_in : Option (List ℕ) → Option (Option ℕ)
+window_in t = value_of None (λ s. option_map (λ n. Some n) (number_in 1 8 s)) t
+
+abbrev pub max_size_in : Option (List ℕ) → Option ℕ
+max_size_in t = number_or 1 67108864 67108864 t
+
+abbrev pub exit_after_in : Option (List ℕ) → Option (Option ℕ)
+exit_after_in t = value_of None (λ s. option_map (λ n. Some n) (number_in 1 4294967295 s)) t
+
+abbrev pub max_connections_in : Option (List ℕ) → Option ℕ
+max_connections_in t = number_or 1 1024 64 t
+
+-- the texts of all words of this name
+abbrev pub words_in : Found → List ℕ → List (List ℕ)
+words_in f name = unwrap_or (option_map raw_values (matched_of f name)) []
+
+abbrev pub text_in : Found → List ℕ → List ℕ → List ℕ
+text_in f name default = unwrap_or (first_value f name) default
+
+-- a flag is given
+abbrev pub flag_in : Found → List ℕ → Bool
+flag_in f name = bytes_eq (text_in f name []) (codes "true")
+
+-- ---- `fetch`
+
+-- the options say how it is fetched
+pub record IsWished (f : Found) (w : Wish) : Type 0 where
+  pub rules : peer_rules_in (first_value f (codes "rules")) ≡ Some w.rules
+  pub limit : end_limit_in (first_value f (codes "limit")) ≡ Some w.limit
+  pub timeout : timeout_in (first_value f (codes "timeout")) ≡ Some w.patience
+  pub window : window_in (first_value f (codes "window")) ≡ Some w.window
+  pub max_size : max_size_in (first_value f (codes "max-size")) ≡ Some w.most
+
+-- the link says what is fetched and names peers, and so do the words
+pub record IsFetchAsked (f : Found) (job : FetchJob) : Type 0 where
+  pub wish : IsWished f job.wish
+  pub link : IsMagnet (text_in f (codes "INFOHASH") []) job.magnet
+  pub hash : job.wish.info_hash ≡ job.magnet.info_hash
+  pub peers : map string_bytes job.peers.items ≡ words_in f (codes "ADDRESS")
+  pub list : option_map string_bytes job.list ≡ first_value f (codes "peers")
+  pub torrent : job.torrent ≡ flag_in f (codes "torrent")
+
+-- ---- `serve`
+
+pub record IsServeAsked (f : Found) (job : ServeJob) : Type 0 where
+  pub file : string_bytes job.file ≡ text_in f (codes "FILE") []
+  pub listen : IsSocketText (text_in f (codes "listen") (codes "127.0.0.1:0")) job.listen
+  pub rules : peer_rules_in (first_value f (codes "rules")) ≡ Some job.rules
+  pub limit : end_limit_in (first_value f (codes "limit")) ≡ Some job.limit
+  pub timeout : timeout_in (first_value f (codes "timeout")) ≡ Some job.patience
+  pub exit_after : exit_after_in (first_value f (codes "exit-after")) ≡ Some job.connections
+  pub max_connections : max_connections_in (first_value f (codes "max-connections")) ≡ Some job.at_once

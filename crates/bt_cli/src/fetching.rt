@@ -1,0 +1,178 @@
+//! The command `fetch`: the addresses of its peers, the fetch, and the exit status. The program's `main` calls it.
+ghost use Rattle.std.specs.Prelude.{◌≡◌, Err};
+ghost use Rattle.bt_io.specs.Seen.{WriteFailed};
+ghost use Rattle.bt_fetch.specs.Fetches.{IsWritten};
+ghost use Rattle.bt_fetch.specs.Wishes.{IsWish};
+ghost use Rattle.bt_cli.specs.Fetches.{fetch_status, fetch_words};
+ghost use Rattle.bt_run.specs.Runs.{IsSaid};
+
+use crate::fetch::FetchJob;
+use crate::report::{Lines, NO_TRY, Tally, counted, say_unresolved};
+use bt_feed::Target;
+use bt_fetch::{FetchError, Outcome, TcpDial, fetch};
+use bt_magnet::Passed;
+use bt_run::ending::end_by_fault;
+use bt_run::run::say;
+use bt_text::ended::ToolFault;
+use std::alloc::{AllocError, Global};
+use std::net::{Net, SocketAddr, ToSocketAddrs};
+use std::random::RandomSource;
+use std::time::Clock;
+
+/// The beginning of a peer id: this project's prefix and version. Twelve random digits follow.
+const PEER_PREFIX: &[u8; 8] = b"-TZ0001-";
+
+/// Returns a peer id of this project's prefix and twelve digits.
+///
+/// The digits are drawn at random where that can be had.
+pub fn drawn_peer_id<R: RandomSource>(random: &R) -> [u8; 20] {
+    let mut drawn = [0u8; 12];
+    if random.fill_bytes(&mut drawn).is_err() {
+        drawn = [0; 12];
+    }
+    let mut peer_id = [48u8; 20];
+    peer_id[..8].copy_from_slice(PEER_PREFIX);
+    for (digit, byte) in peer_id[8..].iter_mut().zip(drawn.iter()) {
+        *digit = 48 + *byte % 10;
+    }
+    peer_id
+}
+
+/// Says what of a link isn't used.
+fn say_passed<E: Target>(passed: Passed, errors: &mut E) {
+    if passed.trackers {
+        say(b"bt_tool: trackers aren't asked\n", errors);
+    }
+    if passed.others {
+        say(b"bt_tool: other keys of the link aren't used\n", errors);
+    }
+}
+
+/// The addresses of peers, and the name of each.
+#[derive(Drop)]
+struct Targets<'a> {
+    addresses: Vec<SocketAddr>,
+    names: Vec<&'a str>,
+}
+
+/// Adds the addresses of a peer, and returns whether it has one.
+fn add_target<'a, R: Net>(
+    rt: &R,
+    name: &'a str,
+    targets: &mut Targets<'a>,
+) -> Result<bool, AllocError> {
+    let Ok(found) = name.to_socket_addrs(rt) else {
+        return Ok(false);
+    };
+    let before = targets.addresses.len();
+    for address in found {
+        targets.addresses.push(address)?;
+        targets.names.push(name)?;
+    }
+    Ok(targets.addresses.len() > before)
+}
+
+/// Adds the addresses of peers. One that has none is said and counted as unreachable.
+fn add_targets<'a, R: Net, E: Target>(
+    rt: &R,
+    names: &'a [String],
+    targets: &mut Targets<'a>,
+    tally: Tally,
+    errors: &mut E,
+) -> Result<Tally, AllocError> {
+    let mut tally = tally;
+    for name in names {
+        if !add_target(rt, name.as_str(), targets)? {
+            say_unresolved(name.as_str(), errors);
+            tally = counted(tally, Outcome::Unreachable);
+        }
+    }
+    Ok(tally)
+}
+
+/// Adds the addresses of all peers: those of the words, of the link and of the list.
+fn add_all_targets<'a, R: Net, E: Target>(
+    rt: &R,
+    job: &'a FetchJob,
+    listed: &'a [String],
+    targets: &mut Targets<'a>,
+    errors: &mut E,
+) -> Result<Tally, AllocError> {
+    let tally = add_targets(rt, job.peers.as_slice(), targets, NO_TRY, errors)?;
+    let tally = add_targets(rt, job.magnet.peers.as_slice(), targets, tally, errors)?;
+    add_targets(rt, listed, targets, tally, errors)
+}
+
+/// Returns the whole seconds of a clock; 0 if it fails.
+fn seconds_of<R: Clock>(clock: &R) -> u64 {
+    match clock.monotonic() {
+        Ok(time) => time.as_secs(),
+        Err(_) => 0,
+    }
+}
+
+/// Fetches what is asked for over TCP, from the peers of the words and the link, and then from those of `listed`.
+///
+/// It says on `errors` how each connection ended, how far it came where `errors` is a terminal, and at the end a summary.
+pub fn run_fetch<R: Net + Clock + RandomSource, W: Target, E: Target>(
+    rt: &R,
+    alloc: Global,
+    job: &FetchJob,
+    listed: &[String],
+    writer: &mut W,
+    errors: &mut E,
+    is_terminal: bool,
+) -> Result<usize, FetchError>
+    requires { IsWish job.now.wish }
+    ensures written { IsWritten job.now.torrent job.now.wish.info_hash (W.seen writer.old).held (W.seen writer.new).held result }
+    ensures fault { result ≡ Err FetchError.Write → WriteFailed (W.seen writer.old) (W.seen writer.new) }
+{
+    let mut wish = job.wish;
+    wish.peer_id = drawn_peer_id(rt);
+    say_passed(job.magnet.passed, errors);
+    let begun = seconds_of(rt);
+    let mut targets = Targets {
+        addresses: Vec::new(alloc),
+        names: Vec::new(alloc),
+    };
+    let Ok(tally) = add_all_targets(rt, job, listed, &mut targets, errors) else {
+        return Err(FetchError::Memory);
+    };
+    let mut dial = TcpDial::new(rt, targets.addresses.as_slice());
+    let mut lines = Lines::new(alloc, targets.names.as_slice(), errors, is_terminal, tally);
+    let count = targets.addresses.len();
+    let fetched = fetch(
+        alloc,
+        &wish,
+        job.torrent,
+        count,
+        &mut dial,
+        &mut lines,
+        writer,
+    );
+    lines.say_summary(seconds_of(rt).saturating_sub(begun));
+    fetched
+}
+
+/// Says what kept a fetch from its work, and returns the exit status.
+///
+/// Nothing is said where nothing kept it.
+///
+/// `is_gone` says that a write failed since nobody reads the output.
+pub fn end_fetch<E: Target>(fetched: Result<usize, FetchError>, is_gone: bool, errors: &mut E) -> u8
+    ensures said { IsSaid (fetch_words is_gone fetched) (E.seen errors.old) (E.seen errors.new) }
+    ensures status { result ≡ fetch_status is_gone fetched }
+{
+    match fetched {
+        Ok(_) => {
+            say(b"", errors);
+            0
+        }
+        Err(FetchError::NotFetched) => {
+            say(b"", errors);
+            1
+        }
+        Err(FetchError::Write) => end_by_fault(ToolFault::Write, b"", is_gone, errors),
+        Err(FetchError::Memory) => end_by_fault(ToolFault::Memory, b"", is_gone, errors),
+    }
+}

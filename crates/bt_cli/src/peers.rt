@@ -1,0 +1,70 @@
+//! The list of peers of `fetch`. The program's `main` calls it.
+ghost use Rattle.std.specs.Prelude.{◌≡◌, IfOk, ◌≤◌, length};
+ghost use Rattle.std.specs.Io.KnownBytes.{Consumes};
+ghost use Rattle.bt_cli.specs.Lists.{IsListed};
+
+use bt_feed::Source;
+use bt_magnet::{ListError, read_list};
+use bt_text::ended::ToolFault;
+use std::alloc::Global;
+
+/// The greatest length of a list in bytes.
+const LONGEST: usize = 16_777_216;
+
+/// How many reads a list may take.
+const READS: u64 = 1 << 32;
+
+/// Why an input is no list of peers.
+#[derive(Clone, Copy, PartialEq, Eq, Debug)]
+pub enum NoPeers {
+    /// The line with this number, counted from 1, names no peer.
+    Line(usize),
+    /// It has more than 16,777,216 bytes.
+    TooLong,
+    /// It can't be read, or out of memory.
+    Fault(ToolFault),
+}
+
+/// Reads an input to its end.
+///
+/// # Errors
+/// `TooLong`; `Read` if a read failed, and `Memory` if memory is refused.
+pub fn list_from<R: Source>(alloc: Global, reader: &mut R) -> Result<Vec<u8>, NoPeers>
+    ensures { IfOk result (λ text. Consumes (R.seen reader.old).left (R.seen reader.new).left text.items) }
+{
+    let mut text = Vec::new(alloc);
+    let mut buffer = [0; 4096];
+    for _read in 0..READS {
+        match reader.read(&mut buffer) {
+            Ok(0) => return Ok(text),
+            Ok(count) => {
+                if count > LONGEST - text.len() {
+                    return Err(NoPeers::TooLong);
+                }
+                match text.extend_from_slice(&buffer[..count]) {
+                    Ok(()) => {}
+                    Err(_) => return Err(NoPeers::Fault(ToolFault::Memory)),
+                }
+            }
+            Err(_) => return Err(NoPeers::Fault(ToolFault::Read)),
+        }
+    }
+    Err(NoPeers::TooLong)
+}
+
+/// Returns the peers that the lines of a text name.
+///
+/// # Errors
+/// `Line` with a line that names none, and `Memory` if memory is refused.
+pub fn peers_in(alloc: Global, text: &[u8]) -> Result<Vec<String>, NoPeers>
+    ensures { IsListed text.now result }
+{
+    let Ok(text) = String::from_utf8_lossy(alloc, text) else {
+        return Err(NoPeers::Fault(ToolFault::Memory));
+    };
+    match read_list(alloc, text.as_str()) {
+        Ok(peers) => Ok(peers),
+        Err(ListError::Line(line)) => Err(NoPeers::Line(line)),
+        Err(ListError::Memory) => Err(NoPeers::Fault(ToolFault::Memory)),
+    }
+}
