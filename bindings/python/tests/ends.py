@@ -10,6 +10,7 @@ import struct
 import subprocess
 import sys
 import threading
+import time
 import unittest
 
 HERE = os.path.dirname(os.path.abspath(__file__))
@@ -181,6 +182,17 @@ class AsyncFetches(Fetches):
     test_the_example = test_what_does_not_fit = None
 
 
+def told(items):
+    """The items of an iterator, and the refusal in which it ends."""
+    found = []
+    try:
+        for item in items:
+            found.append(item)
+    except bt.Refused as refused:
+        return found, repr(refused)
+    return found, None
+
+
 class Ends(unittest.TestCase):
     def pair(self, sizes, one, two):
         """Moves bytes between two ends in chunks until none waits. Returns what each heard, and the bytes that went to it."""
@@ -212,6 +224,25 @@ class Ends(unittest.TestCase):
                 self.assertEqual(heard[0][0].item.peer_id, PEER)
                 served = [(it.event, it.piece) for it in heard[1] if it.event == bt.Event.SERVED]
                 self.assertEqual(served, [(bt.Event.SERVED, k) for k in range(3)])
+
+    def test_changed_bytes(self):
+        """An end hears the items that are read of the same bytes, up to the same refusal."""
+        with bt.End(OWN, fetch=True) as one, bt.End(OWN, serve=METADATA, peer_id=PEER) as two:
+            streams, chosen, ends = self.pair([65536], one, two)[1], random.Random(5), time.monotonic() + 3
+        while time.monotonic() < ends:
+            stream = bytearray(chosen.choice(streams))
+            for _ in range(chosen.choice([1, 1, 2])):
+                stream[chosen.randrange(min(len(stream), 200))] = chosen.choice([0, 1, 2, chosen.randrange(256)])
+            size = chosen.choice([1, 9, 1000, 65536])
+            with bt.End(OWN, **chosen.choice([{}, {"fetch": True}, {"serve": METADATA}])) as end:
+                heard = told(it.item for at in range(0, min(len(stream), 1000 * size), size) for it in end.receive(stream[at:at + size]))
+            read = told(item for at in range(0, min(len(stream), 1000 * size), size) for item in self.feed(stream[at:at + size], at))
+            self.assertEqual(heard, read)
+
+    def feed(self, chunk, at):
+        if at == 0:
+            self.reader = bt.Feed(OWN)
+        return self.reader.push(chunk)
 
     def test_say(self):
         own = bt.Own(info_hash=INFO_HASH, pieces=9)
