@@ -33,6 +33,6 @@ module _ (E : Bx) where
 
     pub apart_in : K → (b o : ℕ) (h : Val) (a : (P E).Denot) (x : X E)
         → Step K 𝓛 (‵ (Apart.own_val (record { at = block_ptr b o; alloc = a; value = x }) (word E h b o ∷ [])) ∷ Γ) G
-          (‵ (box_owns (token E.al a) (R E) (block_ptr b o) x) ∷ ‵ (handle E a h) ∷ Γ) G
+        (‵ (box_owns (token E.al a) (R E) (block_ptr b o) x) ∷ ‵ (handle E a h) ∷ Γ) G
     apart_in t b o h a x = step (λ s. let d : Apart.Denot = record { at = block_ptr b o; alloc = a; value = x } in
         fsplit t $ box_in E t (boxed d) b o x refl refl $ use1 𝓛 (‵ (Apart.own_val d (word E h b o ∷ []))) (id⊢ 𝓤 _) $ s)

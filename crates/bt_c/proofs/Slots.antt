@@ -50,36 +50,44 @@ found (Some x) is = (x, refl)
 found None is = absurd (cc)
 
 module _ {M : Type 1} {𝓤 : Ura M} {𝓛 : Logic 𝓤} {K : Type 0} {Γ : List (Item 𝓤)} {G : Goal 𝓤 𝓛.H} where
-  pub put_none : K → (h : Val) (a : Z.Denot) → Step K 𝓛 (‵ (Slot.own_val (record { at = null_ptr; alloc = a; value = None }) (words null_ptr h ∷ [])) ∷ Γ) G (‵ (Z.own_val a (h ∷ [])) ∷ Γ) G
+  pub put_none : K → (h : Val) (a : Z.Denot)
+      → Step K 𝓛 (‵ (Slot.own_val (record { at = null_ptr; alloc = a; value = None }) (words null_ptr h ∷ [])) ∷ Γ) G
+      (‵ (Z.own_val a (h ∷ [])) ∷ Γ) G
   unfolding owned_by
   put_none t h a = step (λ s. words_in Z laws ghosts t null_ptr a h $ nothing t $ move t (1 ∷ 0 ∷ []) $ fjoin t $
       use1 𝓛 (‵ (Slot.own_val (record { at = null_ptr; alloc = a; value = None }) (words null_ptr h ∷ []))) (id⊢ 𝓤 _) $ s)
 
   -- a slot of the end that a box had
   pub put : K → (p : Ptr) (h : Val) (a : Z.Denot) (x : R.Denot)
-      → Step K 𝓛 (‵ (Slot.own_val (record { at = p; alloc = a; value = Some x }) (words p h ∷ [])) ∷ Γ) G (‵ (box_owns (ghosts.dealloc_token a) R p x) ∷ ‵ (Z.own_val a (h ∷ [])) ∷ Γ) G
+      → Step K 𝓛 (‵ (Slot.own_val (record { at = p; alloc = a; value = Some x }) (words p h ∷ [])) ∷ Γ) G
+      (‵ (box_owns (ghosts.dealloc_token a) R p x) ∷ ‵ (Z.own_val a (h ∷ [])) ∷ Γ) G
   unfolding owned_by
   put t p h a x = step (λ s. move t (1 ∷ 0 ∷ []) $ words_in Z laws ghosts t p a h $ fjoin t $
       use1 𝓛 (‵ (Slot.own_val (record { at = p; alloc = a; value = Some x }) (words p h ∷ []))) (id⊢ 𝓤 _) $ s)
 
   pub put_apart : K → (p : Ptr) (h : Val) (a : Z.Denot) (x : R.Denot)
-      → Step K 𝓛 (‵ (Apart.own_val (record { at = p; alloc = a; value = x }) (words p h ∷ [])) ∷ Γ) G (‵ (box_owns (ghosts.dealloc_token a) R p x) ∷ ‵ (Z.own_val a (h ∷ [])) ∷ Γ) G
+      → Step K 𝓛 (‵ (Apart.own_val (record { at = p; alloc = a; value = x }) (words p h ∷ [])) ∷ Γ) G
+      (‵ (box_owns (ghosts.dealloc_token a) R p x) ∷ ‵ (Z.own_val a (h ∷ [])) ∷ Γ) G
   put_apart t p h a x = step (λ s. move t (1 ∷ 0 ∷ []) $ words_in Z laws ghosts t p a h $ fjoin t $
       use1 𝓛 (‵ (Apart.own_val (record { at = p; alloc = a; value = x }) (words p h ∷ []))) (id⊢ 𝓤 _) $ s)
 
   pub take_apart : K → (d : Apart.Denot) (vs : List Val)
-      → ((h : Val) → vs ≡ words d.at h ∷ [] → Good (layout Z) h → Seq K 𝓛 (‵ (box_owns (ghosts.dealloc_token d.alloc) R d.at d.value) ∷ ‵ (Z.own_val d.alloc (h ∷ [])) ∷ Γ) G)
+      → ((h : Val) → vs ≡ words d.at h ∷ [] → Good (layout Z) h
+      → Seq K 𝓛 (‵ (box_owns (ghosts.dealloc_token d.alloc) R d.at d.value) ∷ ‵ (Z.own_val d.alloc (h ∷ [])) ∷ Γ) G)
       → Seq K 𝓛 (‵ (Apart.own_val d vs) ∷ Γ) G
   take_apart t d vs k = fsplit t $ words_out Z laws ghosts t d.at d.alloc vs (λ h ws fits. move t (1 ∷ 0 ∷ []) $ k h ws fits)
 
   -- the end of a slot that has one
   pub take : K → (d : Slot.Denot) (x : R.Denot) → d.value ≡ Some x → (vs : List Val)
-      → ((h : Val) → vs ≡ words d.at h ∷ [] → Good (layout Z) h → Seq K 𝓛 (‵ (box_owns (ghosts.dealloc_token d.alloc) R d.at x) ∷ ‵ (Z.own_val d.alloc (h ∷ [])) ∷ Γ) G)
+      → ((h : Val) → vs ≡ words d.at h ∷ [] → Good (layout Z) h
+      → Seq K 𝓛 (‵ (box_owns (ghosts.dealloc_token d.alloc) R d.at x) ∷ ‵ (Z.own_val d.alloc (h ∷ [])) ∷ Γ) G)
       → Seq K 𝓛 (‵ (Slot.own_val d vs) ∷ Γ) G
   unfolding owned_by
   take t d x is vs k = fsplit t $ words_out Z laws ghosts t d.at d.alloc vs (λ h ws fits. move t (1 ∷ 0 ∷ []) $
       rewrite t 0 (λ (o : Option R.Denot). ‵ (owned_by (ghosts.dealloc_token d.alloc) R d.at o)) is refl $ k h ws fits)
 
   -- the words of a slot, whatever it has, which is let go here
-  pub words_of : K → (d : Slot.Denot) (vs : List Val) → ((h : Val) → vs ≡ words d.at h ∷ [] → Good (layout Z) h → Seq K 𝓛 (‵ (Z.own_val d.alloc (h ∷ [])) ∷ Γ) G) → Seq K 𝓛 (‵ (Slot.own_val d vs) ∷ Γ) G
+  pub words_of : K → (d : Slot.Denot) (vs : List Val)
+      → ((h : Val) → vs ≡ words d.at h ∷ [] → Good (layout Z) h → Seq K 𝓛 (‵ (Z.own_val d.alloc (h ∷ [])) ∷ Γ) G)
+      → Seq K 𝓛 (‵ (Slot.own_val d vs) ∷ Γ) G
   words_of t d vs k = fsplit t $ words_out Z laws ghosts t d.at d.alloc vs (λ h ws fits. move t (1 ∷ []) $ drop t $ k h ws fits)

@@ -35,17 +35,22 @@ module _ (Z : RattleType) (L : Laws Z) (g : Ghosts Z.Denot) where
   abbrev pub Fields : RattleType
   Fields = Struct (record { name = []; args = []; types = []; fields = RawPtr ∷ Z ∷ [] })
 
-  pub words_fit : (p : Ptr) (h : Val) → Good (layout Z) h → T (has_ty ty_ptr (ptr_val p) && (has_ty (layout Z) h && true)) × WT (words p h)
+  pub words_fit : (p : Ptr) (h : Val) → Good (layout Z) h
+      → T (has_ty ty_ptr (ptr_val p) && (has_ty (layout Z) h && true)) × WT (words p h)
   words_fit (block_ptr b o) h fits = (and_tt (has_ty (layout Z) h) fits.0, (tt, (fits.1, tt)))
   words_fit null_ptr h fits = (and_tt (has_ty (layout Z) h) fits.0, (record { fits = lit< tt }, (fits.1, tt)))
 
   module _ {M : Type 1} {𝓤 : Ura M} {𝓛 : Logic 𝓤} {K : Type 0} {Γ : List (Item 𝓤)} {G : Goal 𝓤 𝓛.H} where
-    pub words_out : K → (p : Ptr) (a : Z.Denot) (vs : List Val) → ((h : Val) → vs ≡ words p h ∷ [] → Good (layout Z) h → Seq K 𝓛 (‵ (Z.own_val a (h ∷ [])) ∷ Γ) G)
+    pub words_out : K → (p : Ptr) (a : Z.Denot) (vs : List Val)
+        → ((h : Val) → vs ≡ words p h ∷ [] → Good (layout Z) h → Seq K 𝓛 (‵ (Z.own_val a (h ∷ [])) ∷ Γ) G)
         → Seq K 𝓛 (‵ (Fields.own_val (p, (a, tt)) vs) ∷ Γ) G
-    words_out t p a vs k = fpick t (λ vss. fsplit t $ feq_l t (λ whole. fsplit t $ feq_l t (λ first. fsplit t $ handle_tells allocator t a vss.1.0 (λ h second fits.
+    words_out t p a vs k = fpick t (λ vss. fsplit t $ feq_l t (λ whole. fsplit t $
+        feq_l t (λ first. fsplit t $ handle_tells allocator t a vss.1.0 (λ h second fits.
         move t (1 ∷ []) $ drop t $ k h (whole ∙ (λ i. vstruct (of_list (first i ++ (second i ++ []))) ∷ [])) fits))))
 
-    pub words_in : K → (p : Ptr) (a : Z.Denot) (h : Val) → Step K 𝓛 (‵ (Fields.own_val (p, (a, tt)) (words p h ∷ [])) ∷ Γ) G (‵ (Z.own_val a (h ∷ [])) ∷ Γ) G
+    pub words_in : K → (p : Ptr) (a : Z.Denot) (h : Val) → Step K 𝓛 (‵ (Fields.own_val (p, (a, tt)) (words p h ∷ [])) ∷ Γ) G
+        (‵ (Z.own_val a (h ∷ [])) ∷ Γ) G
     words_in t p a h = step (λ s. nothing t $ move t (1 ∷ 0 ∷ []) $ fjoin t $ feq_i t (List Val) (ptr_val p ∷ []) (ptr_val p ∷ []) refl $ fjoin t $
         feq_i t (List Val) (words p h ∷ []) (words p h ∷ []) refl $ fjoin t $
-        fpack t (Valss (RawPtr ∷ Z ∷ [])) (within (record { name = []; args = []; types = []; fields = RawPtr ∷ Z ∷ [] }) (p, (a, tt)) (words p h ∷ [])) (ptr_val p ∷ [], (h ∷ [], tt)) $ s)
+        fpack t (Valss (RawPtr ∷ Z ∷ [])) (within (record { name = []; args = []; types = []; fields = RawPtr ∷ Z ∷ [] }) (p, (a, tt)) (words p h ∷ []))
+        (ptr_val p ∷ [], (h ∷ [], tt)) $ s)

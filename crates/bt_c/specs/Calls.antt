@@ -27,7 +27,8 @@ IsMadeAs c metadata (Some a) n = (n ≡ 0) × IsNew c metadata a
 abbrev pub Handles : Option HalfState → List ℕ → BtVerdict → ℕ → BtVerdict → Option HalfState → ℕ → Type 0
 Handles None bytes x used y b n = (n ≡ 7) × (used ≡ 0) × (y ≡ x) × (b ≡ None)
 Handles (Some a) bytes x used y b n =
-    (stop : Result Unit TurnError) × (end : HalfState) × (b ≡ Some end) × (n ≡ status_of stop) × ShowsStop stop x y × IsHandled a bytes used stop end × IsStop stop end
+    (stop : Result Unit TurnError) × (end : HalfState) × (b ≡ Some end) × (n ≡ status_of stop) × ShowsStop stop x y
+    × IsHandled a bytes used stop end × IsStop stop end
 
 -- the bytes that wait to be sent
 abbrev pub to_send : Option HalfState → List ℕ

@@ -1,7 +1,8 @@
 //! The calls for C. Each takes the end out of what C holds, does its work and puts the end back.
 ghost use Rattle.std.specs.Prelude.{◌≡◌, ◌≢◌, ◌≤◌, ◌<◌, ◌++◌, length, take, drop, min, nat_lt, Some, None, MatchResult};
 ghost use Rattle.sha1.specs.Sha1.{sha1};
-ghost use Rattle.bt_c.specs.Calls.{IsNew, IsNotNew, IsMadeAs, Handles, to_send, sent_by, fetched, progress_in, ShowsProgress, hopeless_in, mismatches_in, IsReset, IsBegunBy, windowed};
+ghost use Rattle.bt_c.specs.Calls.{IsNew, IsNotNew, IsMadeAs, Handles, to_send, sent_by, fetched, progress_in, ShowsProgress};
+ghost use Rattle.bt_c.specs.Calls.{hopeless_in, mismatches_in, IsReset, IsBegunBy, windowed};
 
 use crate::check::BtVerdict;
 use crate::config::{BtEndConfig, config_of, window_of};

@@ -37,7 +37,8 @@ close_spec 𝓤 𝓛 𝓜 𝓡 wired =
     let v = z.0.3.0 in
     let Post : Val → SProp 𝓤 = (walk_of 𝓛 ended stays c).post z in
     let Run : List Val → SProp 𝓤 = λ ws. WpFn 𝓤 H 𝓣.C 𝓣.Λ fn ws Post in
-    qed 𝓛 ((raw (alive 𝓛 ended.signature z.0.0 z.0.1) ⊛ ‵ (owns (types_at ended.signature.params z.0.0) z.0.3 z.0.4)) ∷ raw ((c z.0.0 z.0.3).requires z.1) ∷ []) ∵
+    let given = raw (alive 𝓛 ended.signature z.0.0 z.0.1) ⊛ ‵ (owns (types_at ended.signature.params z.0.0) z.0.3 z.0.4) in
+    qed 𝓛 (given ∷ raw ((c z.0.0 z.0.3).requires z.1) ∷ []) ∵
     move ! (0 ∷ []) $ split ! $ move ! (1 ∷ []) $ fsplit ! $ words_of ! v z.0.4.0 (λ h ws fits. drop ! $
     let w : Val = words v.at h in
     suffices ! (Run (w ∷ [])) (subst (λ (us : List Val). ent 𝓤 (Run (w ∷ [])) (Run us)) (sym (λ i. ws i ++ [])) (id⊢ 𝓤 (Run (w ∷ [])))) $

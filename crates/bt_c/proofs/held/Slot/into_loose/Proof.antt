@@ -39,7 +39,8 @@ into_loose_spec 𝓤 𝓛 𝓜 𝓡 wired =
     let p = v.at in
     let Post : Val → SProp 𝓤 = (walk_of 𝓛 ended stays c).post z in
     let Run : List Val → SProp 𝓤 = λ ws. WpFn 𝓤 H 𝓣.C 𝓣.Λ fn ws Post in
-    qed 𝓛 ((raw (alive 𝓛 ended.signature z.0.0 z.0.1) ⊛ ‵ (owns (types_at ended.signature.params z.0.0) z.0.3 z.0.4)) ∷ raw (fact 𝓤 (is_some v.value ≡ true)) ∷ []) ∵
+    let given = raw (alive 𝓛 ended.signature z.0.0 z.0.1) ⊛ ‵ (owns (types_at ended.signature.params z.0.0) z.0.3 z.0.4) in
+    qed 𝓛 (given ∷ raw (fact 𝓤 (is_some v.value ≡ true)) ∷ []) ∵
     move ! (1 ∷ []) $ heard ! (is_some v.value ≡ true) (λ told.
     let x = (found v.value told).0 in
     let is = (found v.value told).1 in
