@@ -154,7 +154,8 @@ class Fetches(unittest.TestCase):
         for broken, (kind, text) in FAILS.items():
             with self.subTest(broken), Peer(broken) as address:
                 with self.assertRaises(kind) as caught:
-                    self.fetched(address, 0.7 if kind is not bt.Refused else 10)
+                    # (the time is over only where that may be)
+                    self.fetched(address, 0.7 if kind is TimeoutError or not text else 20)
                 self.assertIn(text, str(caught.exception))
 
     def test_nobody_there(self):
