@@ -96,7 +96,7 @@ class End:
         self.close()
 
     def __del__(self) -> None:
-        if self._c.held and self._thread == threading.get_ident():
+        if "_thread" in self.__dict__ and self._thread == threading.get_ident():
             lib.bt.bt_end_free(self._c)
 
     def _see(self) -> None:

@@ -96,7 +96,6 @@ def _calls() -> Dict[str, Tuple[Any, list]]:
     at, n, to, status = C.c_void_p, C.c_size_t, C.POINTER, C.c_uint32
     out = [at, n, to(Item)]
     return {
-        "bt_abi": (C.c_uint32, []),
         "bt_reader_init": (None, [to(Reader), to(Own)]),
         "bt_reader_finish": (status, [to(Reader), at, n, to(Item)]),
         "bt_reader_batch": (status, [to(Reader), at, n, to(Item), n, to(Batch)]),
@@ -126,12 +125,16 @@ def _calls() -> Dict[str, Tuple[Any, list]]:
 
 
 def _load() -> Any:
-    library = C.CDLL(_place())
-    for name, (result, parameters) in _calls().items():
-        call = getattr(library, name)
-        call.restype, call.argtypes = result, parameters
-    if library.bt_abi() != ABI:
-        raise ImportError("%s has other structs: BT_ABI %d, not %d" % (_place(), library.bt_abi(), ABI))
+    place = _place()
+    try:
+        library = C.CDLL(place)
+        if library.bt_abi() != ABI:
+            raise ImportError("%s has other structs: BT_ABI %d, not %d" % (place, library.bt_abi(), ABI))
+        for name, (result, parameters) in _calls().items():
+            call = getattr(library, name)
+            call.restype, call.argtypes = result, parameters
+    except (OSError, AttributeError) as error:
+        raise ImportError("%s isn't the library: %s" % (place, error)) from error
     return library
 
 

@@ -10,6 +10,7 @@ import struct
 import subprocess
 import sys
 import threading
+import time
 import unittest
 
 HERE = os.path.dirname(os.path.abspath(__file__))
@@ -153,7 +154,8 @@ class Fetches(unittest.TestCase):
         for broken, (kind, text) in FAILS.items():
             with self.subTest(broken), Peer(broken) as address:
                 with self.assertRaises(kind) as caught:
-                    self.fetched(address, 0.7 if kind is not bt.Refused else 10)
+                    # (the time is over only where that may be)
+                    self.fetched(address, 0.7 if kind is TimeoutError or not text else 20)
                 self.assertIn(text, str(caught.exception))
 
     def test_nobody_there(self):
@@ -179,6 +181,17 @@ class AsyncFetches(Fetches):
         return asyncio.run(bt.fetch_async(address, INFO_HASH, timeout=seconds, most=50000))
 
     test_the_example = test_what_does_not_fit = None
+
+
+def told(items):
+    """The items of an iterator, and the refusal in which it ends."""
+    found = []
+    try:
+        for item in items:
+            found.append(item)
+    except bt.Refused as refused:
+        return found, repr(refused)
+    return found, None
 
 
 class Ends(unittest.TestCase):
@@ -212,6 +225,25 @@ class Ends(unittest.TestCase):
                 self.assertEqual(heard[0][0].item.peer_id, PEER)
                 served = [(it.event, it.piece) for it in heard[1] if it.event == bt.Event.SERVED]
                 self.assertEqual(served, [(bt.Event.SERVED, k) for k in range(3)])
+
+    def test_changed_bytes(self):
+        """An end hears the items that are read of the same bytes, up to the same refusal."""
+        with bt.End(OWN, fetch=True) as one, bt.End(OWN, serve=METADATA, peer_id=PEER) as two:
+            streams, chosen, ends = self.pair([65536], one, two)[1], random.Random(5), time.monotonic() + 3
+        while time.monotonic() < ends:
+            stream = bytearray(chosen.choice(streams))
+            for _ in range(chosen.choice([1, 1, 2])):
+                stream[chosen.randrange(min(len(stream), 200))] = chosen.choice([0, 1, 2, chosen.randrange(256)])
+            size = chosen.choice([1, 9, 1000, 65536])
+            with bt.End(OWN, **chosen.choice([{}, {"fetch": True}, {"serve": METADATA}])) as end:
+                heard = told(it.item for at in range(0, min(len(stream), 1000 * size), size) for it in end.receive(stream[at:at + size]))
+            read = told(item for at in range(0, min(len(stream), 1000 * size), size) for item in self.feed(stream[at:at + size], at))
+            self.assertEqual(heard, read)
+
+    def feed(self, chunk, at):
+        if at == 0:
+            self.reader = bt.Feed(OWN)
+        return self.reader.push(chunk)
 
     def test_say(self):
         own = bt.Own(info_hash=INFO_HASH, pieces=9)

@@ -94,9 +94,11 @@ class Values(unittest.TestCase):
                 self.assertTrue(name.startswith("_") or getattr(owner, name).__doc__, name)
 
     def test_a_library_that_is_not_there(self):
-        done = subprocess.run([sys.executable, "-B", "-c", "import bt"], cwd=PACKAGE, capture_output=True, text=True,
-                              env={**os.environ, "BT_LIBRARY": "/nowhere/libbt.so"})
-        self.assertIn("ImportError: BT_LIBRARY names no file: /nowhere/libbt.so", done.stderr)
+        for place, why in (("/nowhere/libbt.so", "BT_LIBRARY names no file: /nowhere/libbt.so"), (__file__, "isn't the library")):
+            done = subprocess.run([sys.executable, "-B", "-c", "import bt"], cwd=PACKAGE, capture_output=True, text=True,
+                                  env={**os.environ, "BT_LIBRARY": os.path.abspath(place)})
+            self.assertIn("ImportError", done.stderr)
+            self.assertIn(why, done.stderr)
 
 
 class Chunks(unittest.TestCase):
