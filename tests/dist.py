@@ -155,7 +155,7 @@ def sources(at):
     with changed(at / "crates.txt", lambda text: b"# a comment\n" + text.replace(b"bt_bench:", b"bt_bench : ")):
         assert show(at).stdout == FIRST, "a comment in crates.txt"
     swaps = [("crates.txt", b"bt_io: thiserror", b"bt_io: thiserror itoa"), ("README.md", b"`logic ", b"`logic 9"),
-             ("crates/bt_c/bt.h", b"/*", b"/* "), ("crates/bt_c/bt.py", b"import os", b"import  os"),
+             ("crates/bt_c/bt.h", b"/*", b"/* "), ("bindings/python/bt/_library.py", b"import os", b"import  os"),
              ("crates/bt_wire/src/lib.rt", b"//!", b"//!  ")]
     for name, old, new in swaps:
         with changed(at / name, lambda text: text.replace(old, new, 1)):
@@ -276,7 +276,7 @@ def all_files(at):
     assert filecmp.cmp(native / "bt.h", at / "crates/bt_c/bt.h", shallow=False)
     with tempfile.TemporaryDirectory() as room:
         again = pathlib.Path(room) / "wheel"
-        wheel.make(again, number, (at / "crates/bt_c/bt.py").read_bytes(), (native / "libbt.so").read_bytes())
+        wheel.make(again, number, wheel.package(at), (native / "libbt.so").read_bytes())
         assert filecmp.cmp(again, dist / wheel.file_name(number), shallow=False), "the wheel is another one"
 
 
@@ -314,8 +314,8 @@ def in_python(at):
     with tempfile.TemporaryDirectory() as name:
         room = pathlib.Path(name)
         found, = (at / "dist").glob("*.whl")
-        # (beside the copy there is no bt.py)
-        shutil.copyfile(at / "crates/bt_c/examples/show.py", room / "show.py")
+        # (above the copy there is no package)
+        shutil.copyfile(at / "bindings/python/examples/show.py", room / "show.py")
         if run([sys.executable, "-m", "venv", room / "venv"], room).returncode != 0:
             SKIPPED.append("python's venv isn't installed: the wheel was unpacked by hand")
             zipfile.ZipFile(found).extractall(room / "unpacked")
@@ -325,6 +325,7 @@ def in_python(at):
         passes([python, "-m", "pip", "install", "--no-index", "--disable-pip-version-check", found], room)
         place = passes([python, "-c", "import bt; print(bt.__file__)"], room).decode()
         assert place.startswith(str(room / "venv")), place
+        assert pathlib.Path(place.strip()).with_name("py.typed").is_file(), "no py.typed in the wheel"
         reads_all(at, [python, "show.py"], room)
         passes([python, "-m", "pip", "uninstall", "-y", "--disable-pip-version-check", wheel.NAME], room)
         assert run([python, "-c", "import bt"], room).returncode != 0, "the wheel isn't gone"
@@ -342,7 +343,7 @@ def in_javascript(at):
             return
     imports = passes([*node, "-p", "WebAssembly.Module.imports(%s).length" % module], at)
     assert imports == b"0\n", "bt.wasm wants imports"
-    reads_all(at, [*node, "crates/bt_c/examples/show.mjs"], at)
+    reads_all(at, [*node, "bindings/js/examples/show.mjs"], at)
 
 
 # ---- tools/install ----
@@ -368,7 +369,7 @@ def installed(at):
         python = shutil.which("python3", path=CLEAN["PATH"])
         if python:
             place, = prefix.glob("lib/python3*/site-packages")
-            shutil.copyfile(at / "crates/bt_c/examples/show.py", room / "show.py")
+            shutil.copyfile(at / "bindings/python/examples/show.py", room / "show.py")
             reads_all(at, [python, "-B", room / "show.py"], room, {"PYTHONPATH": str(place)})
             (room / "show.py").unlink()
         passes(["tools/install", "--uninstall", prefix], at)

@@ -8,6 +8,8 @@ import subprocess
 import prover
 
 WASM = "wasm64-unknown-unknown"
+# The toolchain's own object files for memory.
+HEAPS = {"heap.o", "heap.pic.o"}
 # The shared library exports these and nothing else.
 EXPORTS = "{ global: bt_*; local: *; };\n"
 
@@ -51,7 +53,18 @@ class Maker:
         words = [*prover.words("build", "bt_c", self.over), "--links", "bt_c=", "--toolchain", self.toolchain, "--backend", "llvm"]
         kept.mkdir(parents=True, exist_ok=True)
         run([*words, *target, "--incremental", kept, "--jobs", jobs, "-o", to], cwd=prover.CRATES / "bt_c")
+        self.heap(to, "bt_heap_wasm.c" if target else "bt_heap.c", *target)
         to.chmod(0o644)
+
+    def heap(self, archive, source, *target):
+        """Puts the memory of ends into the archive: a C file, which a program may replace. What the toolchain has for it goes."""
+        tool, made = self.toolchain / "bin/llvm-ar", self.work / (source + ".o")
+        words = [self.toolchain / "bin/clang", *target, "-O2", "-fPIC", "-ffunction-sections", "-fno-builtin", "-nostdinc", "-c", source]
+        run([*words, "-o", made], cwd=prover.CRATES / "bt_c")
+        listed = subprocess.run([tool, "t", archive], stdout=subprocess.PIPE, text=True, check=True).stdout.split()
+        for name in HEAPS & set(listed):
+            run([tool, "d", archive, name])
+        run([tool, "q", archive, made])
 
     def shared(self, to, archive, name):
         """The C library as a shared one, which programs ask for by this name."""

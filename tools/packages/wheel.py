@@ -1,4 +1,4 @@
-"""Makes a wheel of bt.py and libbt.so, always the same bytes of the same files: no time, no owner, sorted names, no compression."""
+"""Makes a wheel of the Python package and libbt.so, always the same bytes of the same files: no time, no owner, sorted names, no compression."""
 import base64
 import hashlib
 import re
@@ -38,12 +38,17 @@ def see_platform(library):
         raise TooNew("libbt.so needs the C library %d.%d, which is newer than the wheel's tag says" % max(wanted)[:2])
 
 
-def make(to, version, module, library):
-    """Writes the wheel of the module's text and the library's bytes."""
+def package(root):
+    """The files of the Python package, by name."""
+    return {it.name: it.read_bytes() for it in (root / "bindings/python/bt").iterdir() if it.suffix in (".py", ".typed")}
+
+
+def make(to, version, package, library):
+    """Writes the wheel of the package's files and the library's bytes."""
     see_platform(library)
     info = "%s-%s.dist-info" % (NAME, version)
     files = {
-        "bt/__init__.py": module,
+        **{"bt/" + name: text for name, text in package.items()},
         "bt/libbt.so": library,
         info + "/METADATA": METADATA.format(name=NAME.replace("_", "-"), version=version).encode(),
         info + "/WHEEL": WHEEL.format(platform=PLATFORM).encode(),

@@ -1,5 +1,4 @@
 """Finds the proved library and the program, and imports the library."""
-import importlib.util
 import os
 import sys
 
@@ -22,7 +21,7 @@ def tool(given=None):
 
 
 def load(given=None):
-    """Imports bt.py over libbt.so, and returns the module."""
+    """Imports the Python package over libbt.so, and returns it."""
     global bt
     if bt is not None:
         return bt
@@ -31,16 +30,13 @@ def load(given=None):
     if library is None:
         raise Missing("there is no libbt.so in dist/x86_64-linux; give its place by --library or BT_LIBRARY")
     os.environ["BT_LIBRARY"] = os.path.abspath(library)
-    source = os.path.join(ROOT, "crates", "bt_c", "bt.py")
+    here = os.path.join(ROOT, "bindings", "python")
     try:
         sys.dont_write_bytecode = True
-        if os.path.exists(source):
-            found = importlib.util.spec_from_file_location("bt", source)
-            bt = importlib.util.module_from_spec(found)
-            found.loader.exec_module(bt)
-        else:
-            import bt as installed
-            bt = installed
+        if os.path.isdir(here):
+            sys.path.insert(0, here)
+        import bt as found
+        bt = found
     except (ImportError, OSError) as error:
         raise Missing(str(error)) from error
     return bt

@@ -1,21 +1,11 @@
-// The proved reader: bt_c (crates/bt_c/bt.h) as WebAssembly. Addresses are BigInt, since the library is built for 64 bits.
-// Nothing of this file is proved. It copies bytes in and reads structs out.
+// The proved reader over a whole stream, in windows. Nothing of this file is proved. It copies bytes in and reads structs out.
+import { ITEM, ITEM_SIZE, Library, NEEDS_MEMORY64, REFUSED } from '../../bindings/js/library.mjs';
 
-const MORE_ITEMS = 1, REFUSED = 2;
+export { NEEDS_MEMORY64 };
 
-const REASONS = ['', 'BadProtocol', 'WrongInfoHash', 'TooLong', 'UnknownId', 'NotNegotiated', 'WrongLength', 'BadIndex',
-  'SpareBits', 'Late',
-  'Missing', 'BadBencode', 'Unsorted', 'BadField', 'BadBlock', 'StreamFull', 'EndInside', 'BadExtLength'];
-
-const ABI = 1;
 const ROOM = 8192;              // items of a batch
 const WINDOW = 4 << 20;         // bytes of a stream that are in the library's memory at a time
-const ITEM_SIZE = 88, SLOT_WORDS = ITEM_SIZE / 4;
-// a module with a memory of 64 bits and nothing else
-const MEMORY64 = Uint8Array.of(0, 0x61, 0x73, 0x6d, 1, 0, 0, 0, 5, 3, 1, 4, 1);
-
-export const NEEDS_MEMORY64 = 'This browser cannot run the proved reader, which needs WebAssembly memories of 64 bits (memory64). ' +
-  'Chromium and Chrome have them from version 133 on, Firefox from version 134 on.';
+const SLOT_WORDS = ITEM_SIZE / 4;
 
 /**
  * Takes the items of a batch, 22 words each, and returns true to stop.
@@ -23,28 +13,17 @@ export const NEEDS_MEMORY64 = 'This browser cannot run the proved reader, which 
  */
 
 export class ProvedReader {
-  /** @param {Uint8Array} library */
-  static async make(library) {
-    if (!WebAssembly.validate(MEMORY64)) throw new Error(NEEDS_MEMORY64);
-    const { instance } = await WebAssembly.instantiate(library, {});
-    return new ProvedReader(instance.exports);
+  /** @param {Uint8Array} bytes */
+  static async make(bytes) {
+    return new ProvedReader(await Library.make(bytes));
   }
 
-  /** @param {any} calls */
-  constructor(calls) {
-    this.calls = calls;
-    if (calls.bt_abi() !== ABI) throw new Error('The library has another version of its structs than this page.');
-    const base = (Number(calls.__heap_base.value) + 15) & ~15;
-    this.own = base;
-    this.reader = base + 64;
-    this.batch = base + 128;
-    this.items = base + 256;
-    this.window = (this.items + (ROOM + 1) * ITEM_SIZE + 63) & ~63;
-    const wanted = Math.ceil((this.window + WINDOW - calls.memory.buffer.byteLength) / 65536);
-    // before memory64 was settled, grow took a number
-    if (wanted > 0) try { calls.memory.grow(BigInt(wanted)); } catch { calls.memory.grow(wanted); }
-    const { buffer } = calls.memory;
-    this.view = new DataView(buffer);
+  /** @param {Library} library */
+  constructor(library) {
+    this.library = library;
+    this.items = library.take((ROOM + 1) * ITEM_SIZE);
+    this.window = library.take(WINDOW);
+    const { buffer } = library.bytes;
     this.bytes = new Uint8Array(buffer, this.window, WINDOW);
     this.words = new Uint32Array(buffer, this.items, (ROOM + 1) * SLOT_WORDS);
   }
@@ -53,17 +32,9 @@ export class ProvedReader {
    * Begins a stream.
    * @param {import('./types.js').Receiver} receiver
    */
-  begin(receiver) {
-    const { view, own: at } = this, { reserved, limit, pieces, metadataId, strict, infoHash } = receiver;
-    view.setBigUint64(at, reserved, true);
-    view.setUint32(at + 8, limit, true);
-    view.setUint32(at + 12, pieces ?? 0, true);
-    view.setUint8(at + 16, pieces === null ? 0 : 1);
-    view.setUint8(at + 17, infoHash ? 1 : 0);
-    view.setUint8(at + 18, metadataId);
-    view.setUint8(at + 19, strict ? 1 : 0);
-    for (let k = 0; k < 20; k++) view.setUint8(at + 20 + k, infoHash ? parseInt(infoHash.slice(2 * k, 2 * k + 2), 16) : 0);
-    this.calls.bt_reader_init(BigInt(this.reader), BigInt(at));
+  begin({ infoHash, ...rest }) {
+    const digits = infoHash?.match(/../g);
+    this.library.begin({ ...rest, infoHash: digits ? Uint8Array.from(digits, it => parseInt(it, 16)) : null });
   }
 
   /**
@@ -75,19 +46,18 @@ export class ProvedReader {
    */
   read(receiver, stream, take) {
     this.begin(receiver);
-    const { calls, bytes, view, words, window } = this;
-    const reader = BigInt(this.reader), items = BigInt(this.items), batch = BigInt(this.batch), room = BigInt(ROOM);
+    const { library, bytes, words, window } = this;
     let held = 0, at = 0, total = 0;
     do {
       const fresh = Math.min(WINDOW - held, stream.length - at);
       stream.copy(at, bytes, held, fresh);
       at += fresh;
       held += fresh;
-      let from = 0, state = MORE_ITEMS;
-      while (state === MORE_ITEMS) {
-        state = calls.bt_reader_batch(reader, BigInt(window + from), BigInt(held - from), items, room, batch);
-        const count = Number(view.getBigUint64(this.batch, true));
-        from += Number(view.getBigUint64(this.batch + 8, true));
+      let from = 0, state = ITEM;
+      while (state === ITEM) {
+        const { answer, count, used } = library.batch(window + from, held - from, this.items, ROOM);
+        state = answer;
+        from += used;
         total += count;
         if (take && count && take(words, count)) return null;
         if (state === REFUSED) return this.refusal(count, total);
@@ -95,15 +65,14 @@ export class ProvedReader {
       bytes.copyWithin(0, from, held);
       held -= from;
     } while (at < stream.length);
-    if (calls.bt_reader_finish(reader, BigInt(window), BigInt(held), items) === REFUSED) return this.refusal(0, total);
+    if (library.finish(window, held, this.items) === REFUSED) return this.refusal(0, total);
     return { ok: true, messages: total - 1, bytes: stream.length };
   }
 
   /** @param {number} slot @param {number} message @returns {import('./types.js').Verdict} */
   refusal(slot, message) {
-    const place = this.items + slot * ITEM_SIZE, start = Number(this.view.getBigUint64(place, true));
-    const at = start + Number(this.view.getBigUint64(place + 8, true));
-    return { ok: false, message, start, at, reason: REASONS[this.view.getUint8(place + 49)] };
+    const { start, at, reason } = this.library.refusal(this.items + slot * ITEM_SIZE);
+    return { ok: false, message, start, at, reason };
   }
 }
 

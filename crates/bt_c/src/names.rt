@@ -122,10 +122,10 @@ fn put_name(name: &[u8], text: &mut [u8]) -> usize
     name.len()
 }
 
-/// Returns the number of this version of the structs and calls, 1.
+/// Returns the number of this version of the structs and calls, 2.
 #[unsafe(no_mangle)]
 pub extern "C" fn bt_abi() -> u32
-    ensures { result ≡ 1 }
+    ensures { result ≡ 2 }
 {
-    1
+    2
 }

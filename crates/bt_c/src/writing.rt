@@ -78,6 +78,7 @@ pub extern "C" fn bt_writer_init(peer: &mut BtReader, own: &BtOwn, reserved: u64
         start: 68,
     };
     peer.own.metadata_id = 0;
+    peer.own.donthave_id = 0;
 }
 
 /// Writes a message by the numbers of an item and the bytes that it keeps.

@@ -10,6 +10,14 @@ returns-then-answer-ne-ITEM c =
     stopped c.items.invariant.so_far (omega (arith, c.items.invariant.room, c.if-count-items.false))
     (subst P c.suffix.ensures c.next_by-answer.ensures.step) c.if-answer-ne-ITEM.true
 
+pub overflow_add-used : goal.overflow_add-used
+overflow_add-used c =
+    let P : List ℕ → Type 0 = λ z. Steps c.items.reader z c.next_by-answer.new.reader c.next_by-answer.new.item c.next_by-answer.result.0 in
+    let step = subst P c.suffix.ensures c.next_by-answer.ensures.step in
+    let lt : c.items.count < length c.items.items = omega (arith, c.items.invariant.room, c.if-count-items.false) in
+    let more = further c.items.invariant.so_far lt step c.if-answer-ne-ITEM.false in
+    omega (arith, more.within, c.next_by-answer.ensures.size c.if-answer-ne-ITEM.false)
+
 pub items-preserved : goal.items-preserved
 items-preserved c =
     let r = c.items.reader in let t = c.next_by-answer.new.reader in let b = c.args.bytes.now in let n = c.next_by-answer.result.0 in

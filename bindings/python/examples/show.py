@@ -1,5 +1,5 @@
 #!/usr/bin/env python3
-"""Prints the items of a stream as `bt_tool show` does. usage: show.py <STREAM
+"""Prints the items of a stream as `bt_tool show` does. usage: show.py [FILE..], or show.py <STREAM
 
 The options of `show` are read from the environment: RULES=free or bep, LIMIT, PIECES, INFO_HASH in hex. PIECE is how many
 bytes are read at once.
@@ -33,7 +33,7 @@ def words(item):
     if item.kind == bt.EXT_HANDSHAKE:
         return "%d %d size=%s ut_metadata=%s" % (item.dict_size, len(item.rest), or_dash(item.metadata_size),
                                                  or_dash(item.ut_metadata))
-    if item.kind in (bt.METADATA_REQUEST, bt.METADATA_REJECT):
+    if item.kind in (bt.METADATA_REQUEST, bt.METADATA_REJECT, bt.DONTHAVE):
         return "%d" % item.piece
     if item.kind == bt.METADATA_DATA:
         return "%d %d %d" % (item.piece, item.total_size, len(item.rest))
@@ -66,8 +66,11 @@ def main():
     own = bt.Own(strict=given("RULES") == "bep", limit=int(given("LIMIT", 262144)),
                  pieces=int(given("PIECES")) if given("PIECES") else None,
                  info_hash=bytes.fromhex(given("INFO_HASH")) if given("INFO_HASH") else None)
-    size = int(given("PIECE", 65536))
-    return 0 if show(own, iter(lambda: sys.stdin.buffer.read(size), b""), print) else 1
+    size, accepted = int(given("PIECE", 65536)), True
+    for path in sys.argv[1:] or [None]:
+        with open(path, "rb") if path else sys.stdin.buffer as stream:
+            accepted &= show(own, iter(lambda: stream.read(size), b""), print)
+    return 0 if accepted else 1
 
 
 if __name__ == "__main__":

@@ -1,0 +1,180 @@
+// Tests bt.mjs: values that don't fit, chunks, refusals, messages written.
+//
+// usage: node --experimental-wasm-memory64 bindings/js/tests/streams.mjs [LIBRARY]. LIBRARY is dist/bt.wasm if it isn't given.
+//
+// The messages' bytes are those of BEP 3, BEP 5, BEP 6, BEP 9 and BEP 10.
+import assert from 'node:assert/strict';
+import fs from 'node:fs';
+import { EXTENSIONS, FAST, Id, Item, Kind, load, Refused } from '../bt.mjs';
+
+const bt = await load(process.argv[2] ?? new URL('../../../dist/bt.wasm', import.meta.url));
+const example = name => new Uint8Array(fs.readFileSync(new URL(`../../../examples/${name}.bin`, import.meta.url)));
+const bytesOf = text => new Uint8Array(Buffer.from(text.replaceAll(' ', ''), 'hex')), hexOf = text => Buffer.from(text).toString('hex');
+const joined = parts => new Uint8Array(Buffer.concat(parts));
+const HASH = Uint8Array.from({ length: 20 }, (_, k) => k), PEER = new Uint8Array(Buffer.from('-XX0001-000000000000'));
+const HELLO = bt.handshake(HASH, PEER), STRICT = { pieces: 8, strict: true };
+const EXAMPLES = ['first', 'fetching', 'serving', 'downloading'];
+
+/** A writer after a have-none, to a peer that has all extensions. */
+function openWriter(own = {}, metadataId = 7) {
+  const writer = bt.writer(own, FAST | EXTENSIONS);
+  writer.peer = { ...writer.peer, metadataId };
+  writer.haveNone();
+  return writer;
+}
+
+/** The items of an iterator, and how it ends. */
+function told(items) {
+  const found = [];
+  try {
+    for (const item of items) found.push({ ...item, rest: item.rest });
+  } catch (refused) {
+    if (!(refused instanceof Refused)) throw refused;
+    return [found, refused.message];
+  }
+  return [found, null];
+}
+
+const TESTS = {
+  numbersThatDoNotFit() {
+    const writer = openWriter();
+    for (const call of [() => writer.have(-1), () => writer.have(2 ** 32 + 5), () => writer.have(0.5), () => writer.have(NaN),
+      () => writer.request(0, 0, 2 ** 32), () => writer.port(70000), () => writer.extended(300, PEER), () => writer.message(65540),
+      () => writer.message(258), () => writer.metadataRequest(-1), () => writer.metadataData(0, 0, PEER),
+      () => writer.metadataData(0, 2n ** 63n, PEER), () => writer.extendedHandshake(256), () => writer.extendedHandshake(3, -1),
+      () => bt.read(HELLO, { limit: 2 ** 40 }), () => bt.feed({ pieces: -1 }), () => bt.check(HELLO, { reserved: 2n ** 64n }),
+      () => bt.read(HELLO, { metadataId: 256 }), () => bt.read(HELLO, { infoHash: PEER.subarray(1) }), () => bt.writer({}, -1),
+      () => bt.handshake(HASH, PEER, -1n), () => bt.handshake(HASH, HELLO)]) assert.throws(call, RangeError, String(call));
+    for (const call of [() => bt.read(5), () => bt.check('text'), () => bt.feed().push([1]), () => writer.have('1'),
+      () => writer.bitfield(3), () => writer.piece(0, 0, Uint32Array.of(1)), () => bt.read(HELLO, { limit: '1' })]) {
+      assert.throws(call, TypeError, String(call));
+    }
+    assert.throws(() => openWriter({}, 0).metadataRequest(0), /announced no id/);
+  },
+
+  items() {
+    const stream = joined([HELLO, bytesOf('0000000d 06 00000007 00004000 00000001'), Buffer.from('\0\0\0\x1a\x14\0d1:md11:ut_metadatai7eee')]);
+    const [hello, request, extended] = bt.read(stream);
+    assert.ok(hello instanceof Item);
+    assert.deepEqual([hello.id, hello.reserved, hello.infoHash, hello.peerId, hello.body], [Id.HANDSHAKE, 0x100005n, HASH, PEER, null]);
+    assert.deepEqual([request.start, request.id, request.name, request.index, request.begin, request.length, request.port],
+      [68, Id.REQUEST, 'request', 7, 16384, 1, null]);
+    assert.deepEqual([extended.kind, extended.extendedId, extended.utMetadata, extended.metadataSize, extended.dictSize, extended.rest.length],
+      [Kind.EXT_HANDSHAKE, 0, 7, null, 24, 0]);
+    const large = Buffer.from('\0\0\0\x29\x14\0d13:metadata_sizei9223372036854775807ee');
+    assert.equal([...bt.read(joined([HELLO, large]))][1].metadataSize, 2n ** 63n - 1n);
+  },
+
+  refusals() {
+    assert.throws(() => [...bt.read(example('first'), STRICT)], { name: 'Refused', at: 76, number: 2, reason: 'Missing' });
+    assert.throws(() => bt.check(example('first'), STRICT), { message: 'message 2 refused at byte 76: Missing' });
+    assert.equal(bt.check(example('downloading')), 80);
+    assert.throws(() => [...bt.read(new Uint8Array())], { at: 0, number: 0, reason: 'EndInside' });
+    const writer = openWriter(STRICT);
+    assert.throws(() => writer.have(8), { name: 'Refused', at: 78, number: 2, reason: 'BadIndex' });
+    writer.have(7);
+    assert.throws(() => writer.message(Id.CHOKE, { body: PEER }), { number: 3, reason: 'WrongLength' });
+    assert.throws(() => writer.metadataData(0, 2, PEER.subarray(0, 1)), { reason: 'BadBlock' });
+  },
+
+  pushTakesItsBytesAtOnce() {
+    const feed = bt.feed({ limit: 101 });
+    for (const _ of feed.push(joined([HELLO, new Uint8Array(160004)]))) break;
+    assert.equal(feed.push(new Uint8Array()).next().value.start, 68);
+    assert.equal(feed.start, 72);
+    assert.equal([...feed.push(new Uint8Array())].length, 40000);
+    assert.deepEqual([...feed.finish()], []);
+    const cut = bt.feed();
+    assert.equal([...cut.push(HELLO.subarray(0, 67))].length, 0);
+    assert.throws(() => cut.finish(), { at: 67, number: 0, reason: 'EndInside' });
+    const refused = bt.feed(STRICT);
+    for (let k = 0; k < 3; k++) assert.throws(() => [...refused.push(k ? new Uint8Array() : example('first'))], { at: 76, number: 2 });
+  },
+
+  chunksOfAnySize() {
+    let state = 43;
+    const random = n => (state = Math.imul(state ^ state >>> 15, 0x2c1b3c6d) + 0x9e3779b9 >>> 0) % n;
+    for (const name of EXAMPLES) {
+      for (let round = 0; round < 60; round++) {
+        const whole = example(name), stream = whole.slice(0, random(whole.length + 1));
+        if (stream.length && random(2)) stream[random(Math.min(stream.length, 400))] = random(256);
+        const own = { strict: random(2) === 1, pieces: random(2) ? 38 : null }, feed = bt.feed(own);
+        const fed = function* () {
+          for (let at = 0, size; at < stream.length; at += size) yield* feed.push(stream.subarray(at, at + (size = [1, 3, 68, 1000, 20000][random(5)])));
+          yield* feed.finish();
+        };
+        const wanted = told(bt.read(stream, own));
+        assert.deepEqual(told(fed()), wanted);
+        try {
+          assert.equal(bt.check(stream, own), wanted[0].length - 1);
+          assert.equal(wanted[1], null);
+        } catch (refused) {
+          if (!(refused instanceof Refused)) throw refused;
+          assert.equal(refused.message, wanted[1]);
+        }
+      }
+    }
+  },
+
+  readersBesideOneAnother() {
+    const one = bt.read(example('downloading')), two = bt.read(example('serving'), { strict: true }), writer = openWriter();
+    const names = [];
+    for (let k = 0; k < 7; k++) names.push(one.next().value.name, two.next().value.name, hexOf(writer.have(k)).slice(-1));
+    assert.deepEqual(names.filter((_, k) => k % 3 === 1), [...bt.read(example('serving'))].map(item => item.name));
+    assert.equal(names.filter((_, k) => k % 3 === 2).join(''), '0123456');
+  },
+
+  largeMessages() {
+    const block = new Uint8Array(3 << 20).fill(7), own = { limit: 4 << 20 }, writer = bt.writer(own, 0);
+    const stream = joined([HELLO, writer.piece(1, 2, block), writer.keepAlive()]);
+    const [, piece, last] = bt.read(stream, own);
+    assert.deepEqual([piece.index, piece.begin, piece.body.length, last.name], [1, 2, block.length, 'keep-alive']);
+    assert.equal(Buffer.compare(piece.body, block), 0);
+    assert.throws(() => [...bt.read(stream)], { reason: 'TooLong', at: 68 });
+  },
+
+  eachMessage() {
+    const writer = openWriter(), text = it => hexOf(it);
+    const rows = [
+      [writer.keepAlive(), '00000000'], [writer.choke(), '00000001 00'], [writer.unchoke(), '00000001 01'],
+      [writer.interested(), '00000001 02'], [writer.notInterested(), '00000001 03'], [writer.have(9), '00000005 04 00000009'],
+      [writer.request(7, 16384, 1), '0000000d 06 00000007 00004000 00000001'],
+      [writer.piece(1, 2, Buffer.from('ab')), '0000000b 07 00000001 00000002 6162'],
+      [writer.cancel(7, 16384, 1), '0000000d 08 00000007 00004000 00000001'], [writer.port(6881), '00000003 09 1ae1'],
+      [writer.suggest(4), '00000005 0d 00000004'], [writer.reject(7, 16384, 1), '0000000d 10 00000007 00004000 00000001'],
+      [writer.allowedFast(4), '00000005 11 00000004'], [writer.extended(9, Buffer.from('xyz')), '00000005 14 09 78797a'],
+      [writer.extendedHandshake(3, 100), '0000002f 14 00' + text('d1:md11:ut_metadatai3ee13:metadata_sizei100ee')],
+      [writer.metadataRequest(0), '0000001b 14 07' + text('d8:msg_typei0e5:piecei0ee')],
+      [writer.metadataData(0, 2, Buffer.from('hi')), '0000002d 14 07' + text('d8:msg_typei1e5:piecei0e10:total_sizei2eehi')],
+      [writer.metadataReject(1), '0000001b 14 07' + text('d8:msg_typei2e5:piecei1ee')],
+      [bt.writer({}, FAST).haveAll(), '00000001 0e'], [bt.writer({}, FAST).haveNone(), '00000001 0f'],
+      [bt.writer(STRICT, 0).bitfield(Uint8Array.of(0x80)), '00000002 05 80'],
+      [bt.handshake(HASH, PEER, 5), '13' + text('BitTorrent protocol') + '0000000000000005' + hexOf(HASH) + hexOf(PEER)],
+    ];
+    for (const [got, wanted] of rows) assert.equal(hexOf(got), wanted.replaceAll(' ', ''));
+    const other = bt.writer({}, EXTENSIONS);
+    for (const item of bt.read(joined([HELLO, Buffer.from('\0\0\0\x1a\x14\0d1:md11:ut_metadatai7eee')]))) other.hear(item);
+    assert.equal(other.metadataRequest(0)[5], 7);
+  },
+
+  whatIsReadIsWrittenAgain() {
+    for (const name of EXAMPLES) {
+      const [hello, ...items] = bt.read(example(name)), writer = bt.writer({}, hello.reserved);
+      writer.peer = { ...writer.peer, metadataId: 3 };
+      const again = items.map(({ id, index, begin, length, port, extendedId, body }) => writer.message(id, {
+        index: index ?? 0, begin: begin ?? 0, length: length ?? 0, port: port ?? 0, extendedId: extendedId ?? 0, body,
+      }));
+      assert.deepEqual(joined([bt.handshake(hello.infoHash, hello.peerId, hello.reserved), ...again]), example(name));
+    }
+  },
+};
+
+for (const [name, test] of Object.entries(TESTS)) {
+  try {
+    test();
+  } catch (error) {
+    console.log(`${name}: ${error.stack}`);
+    process.exitCode = 1;
+  }
+}
+console.log(`${Object.keys(TESTS).length} tests`);

@@ -1,0 +1,249 @@
+"""One end of a connection."""
+from __future__ import annotations
+
+import ctypes as C
+import struct
+import threading
+from typing import Any, Iterator, NamedTuple, Optional
+
+from . import _library as lib
+from ._names import Announce, Event, Id, Kind
+from ._values import Item, Own, Refused
+from ._writing import handshake
+
+_DONE, _BUSY, _NO_MEMORY = 0, 5, 6
+_WATCH, _SERVE, _FETCH = range(3)
+_WHY = {lib.UNWRITTEN: "an end doesn't say it", _BUSY: "1 MiB or more waits to be sent", 7: "the end is closed",
+        8: "the limit isn't 32,768 to 1,048,576", 9: "there is no info hash", 10: "the metadata hasn't 1 to 67,108,864 bytes",
+        11: "the connection isn't open", 12: "the piece count isn't known", 13: "the peer would refuse it",
+        14: "no metadata of this size can be fetched now"}
+_NUMBERS = {Id.PORT: ">H", Id.PIECE: ">II", **{id: ">I" for id in (Id.HAVE, Id.SUGGEST, Id.ALLOWED_FAST)},
+            **{id: ">III" for id in (Id.REQUEST, Id.CANCEL, Id.REJECT)}}
+
+
+class Heard(NamedTuple):
+    """What the peer said, and what that made of the end."""
+
+    item: Item
+    event: Event
+    piece: Optional[int] = None
+    """The number of a metadata block, of BLOCK, REJECTED, SERVED and DECLINED."""
+    id: Optional[int] = None
+    """The id under which the peer wants metadata messages, if it announced one (ANNOUNCED)."""
+    size: Optional[int] = None
+    """The size of the metadata that the peer announced (ANNOUNCED)."""
+    begins: bool = False
+    """Whether metadata of this size is fetched from now on (ANNOUNCED)."""
+
+
+class Progress(NamedTuple):
+    """How far a fetch has come."""
+
+    size: int
+    """The size of the metadata in bytes."""
+    blocks: int
+    """How many blocks it has."""
+    held: int
+    """How many of them are held."""
+
+
+def _done(status: int) -> None:
+    if status == _NO_MEMORY:
+        raise MemoryError
+    if status != _DONE:
+        raise ValueError(_WHY.get(status, "status %d" % status))
+
+
+class End:
+    """One end of a connection. It exchanges handshakes, and fetches or serves the torrent's metadata.
+
+        with bt.End(bt.Own(info_hash=info_hash), fetch=True) as end:
+            while end.metadata is None:
+                sock.sendall(end.take())
+                for heard in end.receive(sock.recv(65536)):
+                    print(heard.event.name, heard.item.name)
+
+    It opens no socket and reads no clock. It is used by the thread that made it.
+    """
+
+    def __init__(self, own: Own, fetch: bool = False, serve: Optional[lib.Bytes] = None, most: Optional[int] = None,
+                 window: int = 8, announce: Announce = Announce.NONE, peer_id: lib.Bytes = b"-XX0001-pythonpython") -> None:
+        """Makes an end on a new connection. Its handshake waits to be sent.
+
+        `own` has an info hash, and a limit of 32,768 to 1,048,576. `fetch` fetches the metadata, of at most `most` bytes, and
+        asks for `window` blocks at once, 1 to 8. `serve` is metadata to serve. Raises ValueError, or MemoryError.
+        """
+        self._c, self._heard, self._own, self._thread = lib.End(), lib.Heard(), own, threading.get_ident()
+        if fetch and serve is not None:
+            raise ValueError("an end fetches or serves")
+        metadata = b"" if serve is None else lib.content(serve, "serve")
+        config = lib.Config(own._struct(), lib.number(most or 0, 64, "most"), lib.array(lib.content(peer_id, "peer_id", 20)),
+                            Announce(announce), self._window(window), _FETCH if fetch else _WATCH if serve is None else _SERVE)
+        if fetch and most == 0:
+            raise ValueError("most is 0")
+        _done(lib.bt.bt_end_new(self._c, config, metadata, len(metadata)))
+        self._out, self._rest, self._at, self._count = C.create_string_buffer(own.limit), bytearray(), 0, 0
+
+    def close(self) -> None:
+        """Frees it. Later calls raise ValueError."""
+        self._see()
+        lib.bt.bt_end_free(self._c)
+
+    def __enter__(self) -> End:
+        return self
+
+    def __exit__(self, *_: Any) -> None:
+        self.close()
+
+    def __del__(self) -> None:
+        if self._c.held and self._thread == threading.get_ident():
+            lib.bt.bt_end_free(self._c)
+
+    def _see(self) -> None:
+        if self._thread != threading.get_ident():
+            raise RuntimeError("an end is used by the thread that made it")
+
+    def _open(self) -> None:
+        self._see()
+        if not self._c.held:
+            raise ValueError("the end is closed")
+
+    @staticmethod
+    def _window(window: int) -> int:
+        if lib.number(window, 8, "window") not in range(1, 9):
+            raise ValueError("window is %d, not 1 to 8" % window)
+        return window
+
+    def receive(self, data: lib.Bytes) -> Iterator[Heard]:
+        """Takes all bytes, and returns an iterator over what the peer says in them, each handled before it is told.
+
+        What isn't taken from an iterator isn't lost: the next one begins with it. It ends early if 1 MiB waits to be sent:
+        send some, and receive again, which may be no bytes. It raises Refused if the peer breaks a rule, and so does each
+        later one; MemoryError, after which the next goes on; and ValueError if the end is closed.
+        """
+        self._open()
+        del self._rest[:self._at]
+        self._at = 0
+        self._rest += lib.content(data)
+        return self._items()
+
+    def _items(self) -> Iterator[Heard]:
+        while True:
+            self._open()
+            place, n = lib.address(self._rest, self._at), len(self._rest) - self._at
+            answer = lib.bt.bt_end_next(self._c, place, n, self._heard, self._out, len(self._out))
+            self._at += self._heard.used
+            if answer == lib.REFUSED:
+                verdict = self._heard.verdict
+                raise Refused(verdict.at, verdict.reason, verdict.message)
+            if answer in (lib.MORE, _BUSY):
+                return
+            if answer != lib.ITEM:
+                _done(answer)
+            yield self._told()
+
+    def _told(self) -> Heard:
+        fields, event = [*lib.ITEM_FIELDS.unpack(bytes(self._heard.item))], self._heard.event
+        if fields[8] == Id.EXTENDED:
+            own = {Kind.EXT_HANDSHAKE: 0, Kind.EXT_RAW: fields[9], Kind.DONTHAVE: self._own.donthave_id}
+            fields[9] = own.get(fields[15], self._own.metadata_id)
+        kind = Event(event.kind)
+        has_piece = kind in (Event.BLOCK, Event.REJECTED, Event.SERVED, Event.DECLINED)
+        item, announced = Item(tuple(fields), self._bytes(fields, bytes(event.peer_id))), kind == Event.ANNOUNCED
+        return Heard(item, kind, event.piece if has_piece else None, event.id if announced and event.has_id else None,
+                     event.size if announced and event.has_size else None, announced and bool(event.begins))
+
+    def _bytes(self, fields: Any, peer_id: bytes) -> bytes:
+        """The bytes of an item, each of which has one spelling."""
+        number, body = fields[8], self._out[:fields[2]]
+        if number == Id.HANDSHAKE:
+            return handshake(self._own.info_hash or b"", peer_id, fields[3])
+        if number == Id.KEEP_ALIVE:
+            return bytes(4)
+        if number == Id.EXTENDED:
+            content = bytes([fields[9]])
+        else:
+            numbers = [fields[7]] if number == Id.PORT else fields[4:7]
+            shape = _NUMBERS.get(number, ">")
+            content = struct.pack(shape, *numbers[:len(shape) - 1])
+        return struct.pack(">IB", 1 + len(content) + len(body), number) + content + body
+
+    def outgoing(self, most: int = 65536) -> bytes:
+        """Returns the first bytes that wait to be sent, at most so many. They still wait."""
+        self._open()
+        out = C.create_string_buffer(min(most, lib.bt.bt_end_waiting(self._c)))
+        n = lib.bt.bt_end_outgoing(self._c, out, len(out))
+        return out.raw[:n]
+
+    def sent(self, n: int) -> None:
+        """Drops the first bytes that wait, since so many were sent."""
+        self._open()
+        lib.bt.bt_end_sent(self._c, lib.number(n, 64, "n"))
+
+    def take(self) -> bytes:
+        """Returns all bytes that wait to be sent, which then wait no more."""
+        found = self.outgoing(lib.bt.bt_end_waiting(self._c))
+        self.sent(len(found))
+        return found
+
+    def say(self, id: int, index: int = 0, begin: int = 0, length: int = 0, port: int = 0, body: lib.Bytes = b"") -> None:
+        """Says a message by its id, the numbers that the id has, and its bitfield or block. It then waits to be sent.
+
+        Raises ValueError if the peer would refuse it, or if the end can't say it now; then nothing has changed.
+        """
+        self._say(lib.Item(id=lib.number(id, 16, "id"), index=lib.number(index, 32, "index"), begin=lib.number(begin, 32, "begin"),
+                           length=lib.number(length, 32, "length"), port=lib.number(port, 16, "port")), lib.content(body, "body"))
+
+    def say_donthave(self, piece: int) -> None:
+        """Says that a piece isn't had any more, as `say`. The peer has announced lt_donthave."""
+        item = lib.Item(id=Id.EXTENDED)
+        item.extended.kind, item.extended.piece = Kind.DONTHAVE, lib.number(piece, 32, "piece")
+        self._say(item, b"")
+
+    def _say(self, item: lib.Item, body: bytes) -> None:
+        self._see()
+        _done(lib.bt.bt_end_say(self._c, item, body, len(body)))
+
+    @property
+    def metadata(self) -> Optional[bytes]:
+        """The metadata that was fetched, whose SHA-1 is the info hash; None while it isn't there."""
+        self._open()
+        n = lib.bt.bt_end_metadata(self._c, None, 0)
+        out = C.create_string_buffer(n)
+        lib.bt.bt_end_metadata(self._c, out, n)
+        return out.raw if n else None
+
+    @property
+    def progress(self) -> Optional[Progress]:
+        """How far the fetch has come; None if no size is known, or nothing is fetched."""
+        self._open()
+        found = lib.Progress()
+        return Progress(found.size, found.blocks, found.held) if lib.bt.bt_end_progress(self._c, found) else None
+
+    @property
+    def is_hopeless(self) -> bool:
+        """Whether no block can come any more on this connection, whatever the peer sends."""
+        self._open()
+        return bool(lib.bt.bt_end_is_hopeless(self._c))
+
+    @property
+    def mismatches(self) -> int:
+        """How often, on this connection, the blocks that came were those of other metadata."""
+        self._open()
+        return lib.bt.bt_end_mismatches(self._c)
+
+    def begin(self, size: int) -> None:
+        """Fetches metadata of this size from now on, for a peer that announced a false one. Raises ValueError or MemoryError."""
+        self._see()
+        _done(lib.bt.bt_end_begin(self._c, lib.number(size, 64, "size")))
+
+    def set_window(self, window: int) -> None:
+        """Asks for at most so many blocks at once from now on, 1 to 8."""
+        self._open()
+        lib.bt.bt_end_set_window(self._c, self._window(window))
+
+    def reset(self) -> None:
+        """Begins a new connection, with another peer or the same. What was fetched stays. Raises MemoryError."""
+        self._see()
+        _done(lib.bt.bt_end_reset(self._c))
+        self._rest, self._at = bytearray(), 0

@@ -1,0 +1,106 @@
+"""The numbers of bt.h by name."""
+from __future__ import annotations
+
+import enum
+
+FAST = 0x4
+DHT = 0x1
+EXTENSIONS = 0x100000
+
+
+class Id(enum.IntEnum):
+    """The id of a message; or that of a keep-alive or the handshake, which have none on the wire."""
+
+    CHOKE = 0
+    UNCHOKE = 1
+    INTERESTED = 2
+    NOT_INTERESTED = 3
+    HAVE = 4
+    BITFIELD = 5
+    REQUEST = 6
+    PIECE = 7
+    CANCEL = 8
+    PORT = 9
+    SUGGEST = 13
+    HAVE_ALL = 14
+    HAVE_NONE = 15
+    REJECT = 16
+    ALLOWED_FAST = 17
+    EXTENDED = 20
+    KEEP_ALIVE = 256
+    HANDSHAKE = 257
+
+
+class Kind(enum.IntEnum):
+    """What an extended message is."""
+
+    EXT_HANDSHAKE = 1
+    METADATA_REQUEST = 2
+    METADATA_DATA = 3
+    METADATA_REJECT = 4
+    METADATA_OTHER = 5
+    METADATA_MALFORMED = 6
+    EXT_RAW = 7
+    DONTHAVE = 8
+
+
+class Reason(enum.IntEnum):
+    """Why a stream or a message is refused."""
+
+    BAD_PROTOCOL = 1
+    WRONG_INFO_HASH = 2
+    TOO_LONG = 3
+    UNKNOWN_ID = 4
+    NOT_NEGOTIATED = 5
+    WRONG_LENGTH = 6
+    BAD_INDEX = 7
+    SPARE_BITS = 8
+    LATE = 9
+    MISSING = 10
+    BAD_BENCODE = 11
+    UNSORTED = 12
+    BAD_FIELD = 13
+    BAD_BLOCK = 14
+    STREAM_FULL = 15
+    END_INSIDE = 16
+    BAD_EXT_LENGTH = 17
+
+
+class Event(enum.IntEnum):
+    """What an item of the peer made of an end."""
+
+    OTHER = 0
+    """Nothing that the item itself doesn't say."""
+    OPENED = 1
+    """The peer's handshake came."""
+    ANNOUNCED = 2
+    """The peer's extended handshake came."""
+    BLOCK = 3
+    """A block that was asked for came, and others lack."""
+    REJECTED = 4
+    """A block that was asked for was rejected."""
+    FETCHED = 5
+    """The last block came, and the metadata is there."""
+    MISMATCHED = 6
+    """The last block came, and the blocks are those of other metadata: the fetch starts over."""
+    SERVED = 7
+    """The peer asked for a block of the metadata, which waits to be sent."""
+    DECLINED = 8
+    """The peer asked for a block of the metadata, and a reject waits to be sent."""
+    REQUESTED = 9
+    """The peer asked for a block of a piece."""
+    PIECE = 10
+    """A block of a piece came."""
+
+
+class Announce(enum.IntEnum):
+    """What an end says of its pieces after the handshakes."""
+
+    NOTHING = 0
+    ALL = 1
+    NONE = 2
+
+
+(CHOKE, UNCHOKE, INTERESTED, NOT_INTERESTED, HAVE, BITFIELD, REQUEST, PIECE, CANCEL, PORT, SUGGEST, HAVE_ALL, HAVE_NONE, REJECT,
+ ALLOWED_FAST, EXTENDED, KEEP_ALIVE, HANDSHAKE) = Id
+(EXT_HANDSHAKE, METADATA_REQUEST, METADATA_DATA, METADATA_REJECT, METADATA_OTHER, METADATA_MALFORMED, EXT_RAW, DONTHAVE) = Kind

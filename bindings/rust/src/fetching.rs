@@ -1,0 +1,106 @@
+//! The metadata of a torrent, from a peer.
+use crate::end::{Config, End, EndError, Event, Role};
+use crate::item::Message;
+use crate::own::{Own, EXTENSIONS, FAST};
+use crate::refused::Refused;
+use std::error::Error;
+use std::fmt;
+use std::io::{self, ErrorKind, Read, Write};
+use std::net::{SocketAddr, TcpStream};
+use std::time::{Duration, Instant};
+
+/// Why a peer didn't give the metadata.
+#[derive(Debug)]
+pub enum FetchError {
+    /// The connection failed.
+    Io(io::Error),
+    /// The peer broke a rule.
+    Refused(Refused),
+    /// The end failed otherwise.
+    End(EndError),
+    /// The time is over.
+    TimedOut,
+    /// The peer closed the connection.
+    Closed,
+    /// The peer has no metadata, or rejected a block of it.
+    NoMetadata,
+    /// The peer sent other metadata.
+    OtherMetadata,
+}
+
+impl fmt::Display for FetchError {
+    fn fmt(&self, to: &mut fmt::Formatter<'_>) -> fmt::Result {
+        to.write_str(match self {
+            FetchError::Io(error) => return error.fmt(to),
+            FetchError::Refused(refused) => return refused.fmt(to),
+            FetchError::End(error) => return error.fmt(to),
+            FetchError::TimedOut => "the peer didn't give the metadata in time",
+            FetchError::Closed => "the peer closed the connection",
+            FetchError::NoMetadata => "the peer has no metadata, or rejected a block of it",
+            FetchError::OtherMetadata => "the peer sent other metadata",
+        })
+    }
+}
+
+impl Error for FetchError {}
+
+impl From<io::Error> for FetchError {
+    fn from(error: io::Error) -> Self {
+        match error.kind() {
+            ErrorKind::WouldBlock | ErrorKind::TimedOut => FetchError::TimedOut,
+            _ => FetchError::Io(error),
+        }
+    }
+}
+
+impl From<EndError> for FetchError {
+    fn from(error: EndError) -> Self {
+        match error {
+            EndError::Refused(refused) => FetchError::Refused(refused),
+            other => FetchError::End(other),
+        }
+    }
+}
+
+/// Fetches the metadata of a torrent from a peer, at most `most` bytes of it. Its SHA-1 is the info hash.
+///
+/// # Errors
+/// Why the peer didn't give it within the time.
+pub fn fetch(peer: SocketAddr, info_hash: [u8; 20], most: Option<u64>, timeout: Duration) -> Result<Vec<u8>, FetchError> {
+    let ends = Instant::now() + timeout;
+    let own = Own { reserved: FAST | EXTENSIONS, info_hash: Some(info_hash), ..Own::default() };
+    let mut end = End::new(&Config { own, role: Role::Fetch(most), ..Config::default() })?;
+    let (mut stream, mut buffer) = (TcpStream::connect_timeout(&peer, timeout)?, vec![0; 65_536]);
+    loop {
+        let left = ends.saturating_duration_since(Instant::now()).max(Duration::from_millis(1));
+        stream.set_read_timeout(Some(left))?;
+        stream.set_write_timeout(Some(left))?;
+        let waiting = end.outgoing();
+        stream.write_all(&waiting)?;
+        end.sent(waiting.len());
+        let n = stream.read(&mut buffer)?;
+        if n == 0 {
+            return Err(FetchError::Closed);
+        }
+        if let Some(metadata) = handle(&mut end, &buffer[..n])? {
+            return Ok(metadata);
+        }
+        if end.is_hopeless() {
+            return Err(FetchError::NoMetadata);
+        }
+    }
+}
+
+/// Handles what was received, and returns the metadata once it is there.
+fn handle(end: &mut End, mut bytes: &[u8]) -> Result<Option<Vec<u8>>, FetchError> {
+    while let Some(heard) = end.next(&mut bytes)? {
+        match (heard.event, heard.item.message) {
+            // (clients of this kind answer one request at a time: a second one makes them stop)
+            (Event::Opened, Message::Handshake { peer_id, .. }) if peer_id.starts_with(b"-lt") => end.set_window(1),
+            (Event::Fetched, _) => return Ok(end.metadata()),
+            (Event::Mismatched, _) => return Err(FetchError::OtherMetadata),
+            _ => {}
+        }
+    }
+    Ok(None)
+}
