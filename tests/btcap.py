@@ -333,12 +333,12 @@ SHORT = "A message that takes back a piece has four bytes after its extended id,
 
 
 def donthave(ids="11:lt_donthavei7e11:ut_metadatai9e", said="--metadata-id 9 --donthave-id 7",
-             verdict="refused message=1 at=74 BadExtLength", why=SHORT):
-    """B has these ids, and A sends three bytes under 7, where a message that takes back a piece has four."""
+             verdict="refused message=1 at=74 BadExtLength", why=SHORT, payload=b"\0\0\x09"):
+    """B has these ids, and A sends bytes under 7; a message that takes back a piece has four."""
     left, right = handshakes()
     extended = message(b"\x14\x00d1:md%see" % ids.encode())
-    found = Talk().say("B", right + extended).say("A", left + message(b"\x14\x07\x00\x00\x09"))
-    lines = NAMES + report("-AA0001-000000000000", 77, verdict, verdict, "--reserved 0000000000100005 " + said, why=why)
+    found = Talk().say("B", right + extended).say("A", left + message(b"\x14\x07" + payload))
+    lines = NAMES + report("-AA0001-000000000000", 74 + len(payload), verdict, verdict, "--reserved 0000000000100005 " + said, why=why)
     size = 68 + len(extended)
     return pcap(frames(found.packets)), lines + report(
         "-BB0001-000000000000", size, *2 * ["ok messages=1 bytes=%d" % size], side="B"
@@ -347,6 +347,7 @@ def donthave(ids="11:lt_donthavei7e11:ut_metadatai9e", said="--metadata-id 9 --d
 
 ONE_ID = ("11:lt_donthavei7e11:ut_metadatai7e", "--metadata-id 7", "refused message=1 at=74 BadBencode",
           "The payload has to begin with a bencoded dictionary, and none goes on with the byte 0x00 at 74")
+TAKEN_BACK = {"verdict": "ok messages=1 bytes=78", "why": "", "payload": b"\0\0\0\x09"}
 NO_ID = ("11:lt_donthavei0e11:ut_metadatai9e", "--metadata-id 9", "ok messages=1 bytes=77", "")
 
 
@@ -619,6 +620,7 @@ def rows():
     yield "a fault, shown", ["--pieces", "38", "--show"], fault()[0], fault()[1] + shown(), b"", 1
     yield "the id of another extension", [], *other_extension(), b"", 0
     yield "an id of lt_donthave", [], *donthave(), b"", 1
+    yield "a piece that is taken back", [], *donthave(**TAKEN_BACK), b"", 0
     yield "one id for both extensions", [], *donthave(*ONE_ID), b"", 1
     yield "no id of lt_donthave", [], *donthave(*NO_ID), b"", 0
     yield "no Fast Extension", [], *without_fast(), b"", 0

@@ -190,9 +190,9 @@ def as_btcap(page, listed, is_shown=False):
 
 def softened(wanted, found):
     """btcap's text without what the page says otherwise: names without a client, how many bytes before a close, the end of the line
-    of another protocol, and the id of lt_donthave, which the library for C doesn't have."""
+    of another protocol."""
     wanted = re.sub(r"had sent \d+ bytes, last", "had sent * bytes, last", wanted)
-    wanted = re.sub(r"(no BitTorrent handshake).*", r"\1", re.sub(r" --donthave-id \d+", "", wanted))
+    wanted = re.sub(r"(no BitTorrent handshake).*", r"\1", wanted)
     lines, other = wanted.splitlines(), found.splitlines()
     lines = [re.sub(r"^(  [AB]) .*", r"\1 *", line) if k < len(other) and re.fullmatch(r"  [AB] \*", other[k]) else line for k,
         line in enumerate(lines)]
@@ -209,11 +209,11 @@ def btcap_tests():
 
 
 def check_captures(page, folder):
-    """The captures of tests/btcap.py, against what that expects. A message under an id of lt_donthave is only btcap's to judge."""
+    """The captures of tests/btcap.py, against what that expects."""
     tests = btcap_tests()
     torrent = keep(os.path.join(folder, "a.torrent"), tests.TORRENT)
     for name, words, capture, wanted, _, status in tests.rows():
-        if status == 2 or callable(wanted) or "BadExtLength" in wanted:
+        if status == 2 or callable(wanted):
             continue
         path = keep(os.path.join(folder, "capture.pcap"), capture)
         listed = opened(page, [path, torrent] if "--torrent" in words else [path])
@@ -328,7 +328,13 @@ def check_refusal(page, folder):
          "type the count above, or drop the .torrent.byte 82 ↘")
     same("what was typed", page.run("[...document.querySelectorAll('#options input')].map(input => input.value).join('')"), "")
     same("the row of the file before", page.run("location.hash.includes('at=0-A-78') || location.hash.includes('pieces')"), False)
-    for name, words, capture, _, _, said in btcap_tests().drops():
+    tests = btcap_tests()
+    opened(page, [keep(os.path.join(folder, "back.pcap"), tests.donthave(**tests.TAKEN_BACK)[0])])
+    page.run("viewer.pick(3)")
+    page.until("viewer.row?.name === 'donthave' && document.body.dataset.shown === '3'")
+    same("a piece that is taken back", page.run("[...document.querySelectorAll('.fvalue')].map(it => it.textContent)"),
+         ["6", "20", "7", "9"])
+    for name, words, capture, _, _, said in tests.drops():
         opened(page, [keep(os.path.join(folder, "drop.pcap"), capture)])
         page.run("viewer.setPieces('%s')" % (words[1] if words else ""))
         text = text_at(page, ".whytext")

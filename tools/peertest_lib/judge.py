@@ -65,7 +65,7 @@ def said(play, words):
 def judged(play, level):
     """The result of a case that was played, and what is said of it."""
     link, case = play.link, play.case
-    start = 0 if case.open.get("handshake") == "no" or case.open.get("from") == "start" or play.mode == "magnet" else play.start
+    start = 0 if play.counts_all else play.start
     words = [word for _, word in link.heard.events[start:]]
     if play.state == "closed" and link.end == "closed":
         link.heard.finish()

@@ -25,7 +25,7 @@ class Play:
         self.others = others
         self.opening()
         self.needs()
-        self.start = len(self.link.heard.events)
+        self.start = 0 if self.counts_all else len(self.link.heard.events)
         for word, text in self.case.steps:
             if self.link.end:
                 break
@@ -36,6 +36,11 @@ class Play:
             self.link.until(lambda: False, 0.1)
         if self.link.end:
             self.state = "closed"
+
+    @property
+    def counts_all(self):
+        """Whether what comes in the opening belongs to the case."""
+        return self.case.open.get("handshake") == "no" or self.case.open.get("from") == "start" or self.mode == "magnet"
 
     # The opening.
 
@@ -139,7 +144,9 @@ class Play:
         words = text.split()
         seconds = float(words.pop()[1:]) if words[-1][0] == "@" else self.options.patience
         least = int(words.pop()[1:]) if words[-1][0] == "x" and words[-1][1:].isdigit() else 1
-        self.link.until(lambda: self.link.heard.count(" ".join(words), self.start) >= least, self.options.at_most(seconds))
+        # (a client that needs pieces may say so before the opening has ended)
+        start = 0 if words == ["interested"] and self.case.open.get("first") != "none" else self.start
+        self.link.until(lambda: self.link.heard.count(" ".join(words), start) >= least, self.options.at_most(seconds))
 
     def step_unchoked(self, _):
         self.link.send(wire.message(2))

@@ -16,7 +16,7 @@ const HANDSHAKES_READ = 200;    // extended handshakes whose names are taken
 const FIRST_BATCHES = 16;       // extended handshakes come among the first messages
 
 /** @returns {import('./types.js').Sender} */
-const unknownSender = () => ({ reserved: 0n, infoHash: '', peerId: new Uint8Array(0), metadataId: null, client: null,
+const unknownSender = () => ({ reserved: 0n, infoHash: '', peerId: new Uint8Array(0), metadataId: null, donthaveId: null, client: null,
   extensions: new Map() });
 
 export class Direction {
@@ -78,9 +78,10 @@ export class Direction {
   hearExtensions(dictionary) {
     this.sender.client ??= clientOf(dictionary);
     for (const { key, child } of childOf(dictionary, parseTree(dictionary).root, 'm')?.children ?? []) {
-      if (!key || child?.type !== 'integer' || !(Number(child.value) > 0)) continue;
-      this.sender.extensions.set(Number(child.value),
-        printable(dictionary.subarray(key.body, Math.min(key.end, key.body + 40)), '.'));
+      if (!key || child?.type !== 'integer') continue;
+      const id = Number(child.value), name = printable(dictionary.subarray(key.body, Math.min(key.end, key.body + 40)), '.');
+      if (name === 'lt_donthave' && id >= 0 && id < 256) this.sender.donthaveId ??= id;
+      if (id > 0) this.sender.extensions.set(id, name);
     }
   }
 
@@ -92,9 +93,12 @@ export class Direction {
     const heard = other.isWhole ? other.sender : null;
     const guess = options.isRaw ? { reserved: EVERY_EXTENSION, metadataId: USUAL_METADATA_ID }
       : { reserved: this.sender.reserved, metadataId: 0 };
+    const metadataId = options.metadataId ?? (heard ? heard.metadataId ?? 0 : guess.metadataId), donthaveId = heard?.donthaveId ?? 0;
     return {
       reserved: options.reserved ?? (heard ? heard.reserved : guess.reserved),
-      metadataId: options.metadataId ?? (heard ? heard.metadataId ?? 0 : guess.metadataId),
+      metadataId,
+      // of two equal ids only that of ut_metadata counts
+      donthaveId: donthaveId === metadataId ? 0 : donthaveId,
       pieces: options.pieces ?? null,
       limit: options.limit ?? USUAL_LIMIT,
       infoHash: options.infoHash ?? null,
@@ -118,9 +122,9 @@ export class Direction {
 
   /** The receiver as options of bt_tool. */
   optionWords() {
-    const { reserved, metadataId, pieces, infoHash, limit } = this.own;
-    return [`--reserved ${reserved.toString(16).padStart(16, '0')}`, `--metadata-id ${metadataId}`, pieces === null ? ''
-      : `--pieces ${pieces}`,
+    const { reserved, metadataId, donthaveId, pieces, infoHash, limit } = this.own;
+    return [`--reserved ${reserved.toString(16).padStart(16, '0')}`, `--metadata-id ${metadataId}`,
+      donthaveId ? `--donthave-id ${donthaveId}` : '', pieces === null ? '' : `--pieces ${pieces}`,
       infoHash ? `--info-hash ${infoHash}` : '', limit === USUAL_LIMIT ? '' : `--limit ${limit}`].filter(Boolean).join(' ');
   }
 

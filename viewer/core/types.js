@@ -9,8 +9,8 @@
 
 /**
  * Who receives a direction: what the reader judges it by. Without an info hash any is accepted; `pieces` null is unknown.
- * @typedef {{ reserved: bigint, limit: number, pieces: number | null, metadataId: number, strict?: boolean, infoHash?: string |
- *  null, isGuessed?: boolean }} Receiver
+ * @typedef {{ reserved: bigint, limit: number, pieces: number | null, metadataId: number, donthaveId?: number, strict?: boolean,
+ *  infoHash?: string | null, isGuessed?: boolean }} Receiver
  */
 
 /**
@@ -21,8 +21,8 @@
 
 /**
  * What the sender of a direction says of itself.
- * @typedef {{ reserved: bigint, infoHash: string, peerId: Uint8Array, metadataId: number | null, client: string | null,
- *   extensions: Map<number, string> }} Sender
+ * @typedef {{ reserved: bigint, infoHash: string, peerId: Uint8Array, metadataId: number | null, donthaveId: number | null,
+ *   client: string | null, extensions: Map<number, string> }} Sender
  */
 
 /**

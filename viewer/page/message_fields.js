@@ -52,6 +52,10 @@ function extendedFields(list, fields) {
       : null);
     return isDictionary ? 6 : -1;
   }
+  if (fields.code === CODE.dontHave) {
+    list.putWord(6, 'index', 'index', 'piece');
+    return -1;
+  }
   list.put(6, 6 + fields.b, 'dict', 'dictionary', plural(fields.b, 'byte'));
   if (fields.c) list.put(6 + fields.b, end, 'block', fields.code === CODE.metadataData ? 'block' : 'rest',
     plural(fields.c, 'byte'));

@@ -25,7 +25,8 @@ export const MESSAGES = {
   'metadata-reject': ['BEP 9, "extension message"', 'The sender will not send this block of the metadata.'],
   'metadata-other': ['BEP 9, "extension message"', 'A metadata message of a type that BEP 9 does not have.'],
   'metadata-malformed': ['BEP 9, "extension message"', 'A key that the type needs is missing, or its value is no such number.'],
-  extended: ['BEP 10, "extension protocol"', "A message of an extension other than ut_metadata. Its payload isn't judged."],
+  donthave: ['the extension lt_donthave', 'The sender does not have this piece any more.'],
+  extended: ['BEP 10, "extension protocol"', "A message of an extension that isn't read here. Its payload isn't judged."],
   unknown: ['not in BEP 3, 5, 6 or 10',
     'The standards that are read here have no such id. The rules "free" keep it, "bep" refuses it.'],
 };
