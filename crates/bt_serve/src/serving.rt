@@ -65,7 +65,7 @@ fn tend_one<D: Door>(door: &mut D, name: D::Name, guest: &mut Guest<D::Link>) ->
     ensures turned { (start : Moment)
         → IsServed start (record { seen = D.Link.seen guest.old.link; pending = guest.old.hearing; half = guest.old.end }) guest.old.watch.since guest.old.tally
         → IsTurned guest.old.patience start (record { seen = D.Link.seen guest.new.link; pending = guest.new.hearing; half = guest.new.end })
-            guest.new.watch.since guest.new.tally name (D.told door.old) (D.told door.new) result }
+        guest.new.watch.since guest.new.tally name (D.told door.old) (D.told door.new) result }
 {
     match guest.tend() {
         Ok(pace) => Some(pace),

@@ -13,7 +13,7 @@ shown None d = refl
 pub returns-clause-asked : goal.returns-clause-asked
 returns-clause-asked c =
     let named : c.unwrap_or.result.now ≡ text_in (found_of c.args.options.now) (codes "INFOHASH") [] =
-        ap (λ s. s.now) c.unwrap_or.ensures ∙ shown c.get_str.result _ ∙ ap (λ o. unwrap_or o []) c.get_str.ensures in
+    ap (λ s. s.now) c.unwrap_or.ensures ∙ shown c.get_str.result _ ∙ ap (λ o. unwrap_or o []) c.get_str.ensures in
     record {
       wish = c.in-Ok-wish_in.ensures.wished;
       link = subst (λ t. IsMagnet t c.in-Ok.magnet) named c.in-Ok.ensures;

@@ -14,8 +14,13 @@ returns-then-is_over-clause-tended g c = λ start k.
     (c.in-Ok-Waited.ensures.stepped start (c.loop-step.invariant.served start k)) in
     subst (λ (p : Parting). IsParting c.args.self.now.patience start new p) (sym c.parting.ensures)
     (parting_silent c.args.self.now.patience start new guest.watch.since guest.tally served c.in-Ok-Waited.ensures.settled
-    (omega (arith, c.is_over.ensures.over c.if-is_over.true, ap (λ (x : Seen). x.counts.clock) c.now-now.ensures, c.in-Ok-Waited.ensures.patience,
-    c.loop-step.invariant.patience)))
+    (omega (
+      arith,
+      c.is_over.ensures.over c.if-is_over.true,
+      ap (λ (x : Seen). x.counts.clock) c.now-now.ensures,
+      c.in-Ok-Waited.ensures.patience,
+      c.loop-step.invariant.patience,
+    )))
 
 pub returns-in-Ok-Waited-clause-tended : goal.returns-in-Ok-Waited-clause-tended
 returns-in-Ok-Waited-clause-tended g c = λ start k.
