@@ -25,7 +25,7 @@ from collections import Counter
 
 ROOT = os.path.dirname(os.path.dirname(os.path.abspath(__file__)))
 DOCUMENTS = ["README.md", "examples/README.md", "docs/CAPTURES.md", "docs/RIG.md", "docs/RULES.md", "docs/COMMANDS.md", "docs/FETCH.md",
-             *(["dist/README.md"] if os.path.isfile(os.path.join(ROOT, "dist", "SOURCES")) else [])]
+             "dist/README.md"]
 # The two directions of examples/small.pcap.
 DIRECTIONS = {
     ("127.0.0.1:51413", "127.0.0.1:6881"): "examples/fetching.bin",
