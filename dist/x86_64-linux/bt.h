@@ -1,10 +1,12 @@
 /* bt.h: the BitTorrent peer wire for C and C++, over libbt.a or libbt.so.
  *
  * It reads the stream that one peer sends to another (the handshake of BEP 3, the peer messages of BEP 3, BEP 5 and
- * BEP 6, and the extended messages of BEP 10 and BEP 9), refuses what the standards don't allow, and writes messages.
+ * BEP 6, and the extended messages of BEP 10 and BEP 9), refuses what the standards don't allow, and writes messages. An
+ * end (bt_end, below) is one end of a connection: it reads, answers, and fetches or serves the metadata of a torrent.
  *
- * All memory is the caller's. The structs have no pointer, need no free and may be copied. Any bytes in them are some
- * value, so that no call has a state in which it must not be made. No call allocates, blocks, or keeps a pointer.
+ * Of all but an end: the memory is the caller's. The structs have no pointer, need no free and may be copied. Any bytes
+ * in them are some value, so that no call has a state in which it must not be made. No call allocates memory. And of all:
+ * no call blocks, or keeps a pointer that it was given.
  *
  * What the caller owes: a pointer points to a whole struct, or to as many bytes as the length beside it says; a pointer
  * beside length 0 may be null; and what a call writes overlaps nothing else that is passed to it.
@@ -25,7 +27,7 @@ extern "C" {
 #endif
 
 /* The version of the structs and calls below. It is what bt_abi returns if the library fits this header. */
-#define BT_ABI 1
+#define BT_ABI 2
 uint32_t bt_abi(void);
 
 /* ---- who receives ---- */
@@ -43,6 +45,7 @@ typedef struct bt_own {
     uint8_t has_pieces;
     uint8_t has_info_hash;  /* off: every info hash is accepted */
     uint8_t metadata_id;    /* own extended id of ut_metadata, 1 to 255; 0 for none */
+    uint8_t donthave_id;    /* own extended id of lt_donthave, 1 to 255; 0, or metadata_id, for none */
     uint8_t strict;         /* on: the rules `bep`, off: the rules `free` */
     uint8_t info_hash[20];
 } bt_own;
@@ -93,7 +96,7 @@ enum {
     BT_METADATA_OTHER = 5,      /* a type that BEP 9 doesn't have */
     BT_METADATA_MALFORMED = 6,  /* a key that the type needs is missing or isn't such a number */
     BT_EXT_RAW = 7,             /* an id that the receiver didn't register; body is the raw payload */
-    BT_DONTHAVE = 8             /* piece; not met, since bt_own has no id of lt_donthave */
+    BT_DONTHAVE = 8             /* piece, which the peer doesn't have any more (lt_donthave) */
 };
 
 /* Values of bt_item.reason. bt_reason_name has their names. */
@@ -114,14 +117,14 @@ enum {
     BT_BAD_BLOCK = 14,
     BT_STREAM_FULL = 15,
     BT_END_INSIDE = 16,
-    BT_BAD_EXT_LENGTH = 17  /* not met, since bt_own has no id of lt_donthave */
+    BT_BAD_EXT_LENGTH = 17
 };
 
 /* What an extended message shows. It is set where the item's id is BT_EXTENDED. */
 typedef struct bt_extended {
     uint64_t total_size;     /* bytes of the whole metadata, of BT_METADATA_DATA */
     uint64_t metadata_size;  /* bytes of the metadata that an extended handshake tells, where has_metadata_size is on */
-    size_t dict;             /* how many bytes of the body its dictionary has, which comes first; 0 of BT_EXT_RAW */
+    uint64_t dict;           /* how many bytes of the body its dictionary has, which comes first; 0 of BT_EXT_RAW */
     uint32_t piece;
     uint8_t kind;
     uint8_t ut_metadata;     /* the id that an extended handshake tells, where has_ut_metadata is on; 0 switches it off */
@@ -132,8 +135,8 @@ typedef struct bt_extended {
 /* An item of a stream; or, after BT_REFUSED, start, size and reason. What a message doesn't have stays as it was. */
 typedef struct bt_item {
     uint64_t start;     /* where the item starts on the stream */
-    size_t size;        /* how many bytes it has; of a refusal the place, counted from start */
-    size_t body;        /* how many of its last bytes are a bitfield, a block or a payload */
+    uint64_t size;      /* how many bytes it has; of a refusal the place, counted from start */
+    uint64_t body;      /* how many of its last bytes are a bitfield, a block or a payload */
     uint64_t reserved;  /* of a handshake, as a big-endian number */
     uint32_t index, begin, length;
     uint16_t port;
@@ -170,8 +173,8 @@ uint32_t bt_reader_finish(bt_reader *reader, const uint8_t *bytes, size_t n, bt_
 
 /* How many items a batch has, and how many bytes they have together. */
 typedef struct bt_batch {
-    size_t count;
-    size_t used;
+    uint64_t count;
+    uint64_t used;
 } bt_batch;
 
 /* Reads as many items as the array has room for, as calls of bt_reader_next in a row do, and quicker where messages are small.
@@ -187,7 +190,7 @@ uint32_t bt_reader_batch(bt_reader *reader, const uint8_t *bytes, size_t n, bt_i
 /* A reader, and which bytes of the lent memory were pushed and not read: those from `from` up to `to`. */
 typedef struct bt_feed {
     bt_reader reader;
-    size_t from, to;
+    uint64_t from, to;
 } bt_feed;
 
 /* Lent memory of this many bytes is enough for every item. */
@@ -320,6 +323,164 @@ static inline uint32_t bt_write_extended(bt_reader *peer, uint8_t extended_id, c
     return bt_write(peer, &message, payload, n, out, room, written);
 }
 
+/* ---- an end of a connection ---- */
+
+/* An end handles what the peer sends: it exchanges the handshakes, announces itself (BEP 10), fetches or serves metadata
+ * (BEP 9), and tells what the peer said. It opens no socket, starts no thread and reads no clock: bytes that came from the
+ * peer go into bt_end_next or bt_end_handle, and those that bt_end_outgoing copies go to the peer.
+ *
+ * It takes memory by rattle_alloc, rattle_realloc and rattle_dealloc. bt_heap.c has them, over malloc, realloc and free; a
+ * program that defines all three itself gives it other memory. If memory is refused, the call says so. The WebAssembly module
+ * has no ends.
+ *
+ * C holds an end in a bt_end. All zero it holds none, and so it begins: `bt_end end = BT_NO_END;`. After that only these
+ * calls change it. It isn't copied to be used twice, and each call for it is made by the thread that made the end. Each
+ * call may be made while it holds none, and then does nothing and returns 0, or BT_NO_END_HELD where it has a status. */
+typedef struct bt_end {
+    void *state;
+    uint8_t held;
+} bt_end;
+
+#define BT_NO_END BT_EMPTY
+
+/* What the calls for an end return, beside BT_ITEM, BT_MORE and BT_REFUSED. */
+enum {
+    BT_DONE = 0,
+    BT_BUSY = 5,          /* 1 MiB or more waits to be sent: send some of it, and call again */
+    BT_NO_MEMORY = 6,     /* memory was refused */
+    BT_NO_END_HELD = 7,   /* the bt_end holds none */
+    BT_BAD_LIMIT = 8,     /* own.limit isn't 32,768 to 1,048,576 */
+    BT_NO_INFO_HASH = 9,  /* own.has_info_hash is off */
+    BT_BAD_SIZE = 10,     /* the metadata to serve hasn't 1 to 67,108,864 bytes */
+    BT_NOT_OPEN = 11,     /* the peer's handshake hasn't come, or what came is refused */
+    BT_NO_PIECES = 12,    /* the message tells of pieces, and own.has_pieces is off */
+    BT_ILLEGAL = 13,      /* the peer would refuse the message */
+    BT_NOT_BEGUN = 14     /* nothing is fetched, the metadata is there, or it can't have this size */
+};
+
+/* Values of bt_end_config.announce: what the end says of its pieces after the handshakes (BEP 6). */
+enum { BT_SAY_NOTHING = 0, BT_SAY_ALL = 1, BT_SAY_NONE = 2 };
+
+/* Values of bt_end_config.role: what the end does with metadata. */
+enum { BT_WATCH = 0, BT_SERVE = 1, BT_FETCH = 2 };
+
+/* What an end is made with. Another number than those named is 0. */
+typedef struct bt_end_config {
+    bt_own own;           /* own.reserved are its own bits; has_info_hash on, and a limit of 32,768 to 1,048,576 */
+    uint64_t most;        /* the greatest size of metadata that is fetched; 0 for 67,108,864, which is always the greatest */
+    uint8_t peer_id[20];
+    uint8_t announce;
+    uint8_t window;       /* how many blocks it asks for at once, 1 to 8; any other number is 8 */
+    uint8_t role;
+} bt_end_config;
+
+/* Makes an end on a new connection. Its handshake waits to be sent. With BT_SERVE the n bytes of metadata are copied, and
+ * served; else they aren't read. An end that was held before is freed first. BT_DONE; or BT_BAD_LIMIT, BT_NO_INFO_HASH,
+ * BT_BAD_SIZE or BT_NO_MEMORY, and then none is held. */
+uint32_t bt_end_new(bt_end *end, const bt_end_config *config, const uint8_t *metadata, size_t n);
+
+/* Frees it, so that none is held. */
+void bt_end_free(bt_end *end);
+
+/* Begins a new connection, with another peer or the same. What was fetched stays, and the blocks that are held do. BT_DONE;
+ * or BT_NO_MEMORY, and nothing has changed. */
+uint32_t bt_end_reset(bt_end *end);
+
+/* Values of bt_event.kind: what an item made of the end. */
+enum {
+    BT_EVENT_OTHER = 0,       /* nothing that the item itself doesn't say */
+    BT_EVENT_OPENED = 1,      /* peer_id; the peer's handshake: the connection is open */
+    BT_EVENT_ANNOUNCED = 2,   /* id, size, begins; the peer's extended handshake */
+    BT_EVENT_BLOCK = 3,       /* piece; a block that was asked for is held, and others lack */
+    BT_EVENT_REJECTED = 4,    /* piece; a block that was asked for was rejected */
+    BT_EVENT_FETCHED = 5,     /* the last block came, and the metadata is there */
+    BT_EVENT_MISMATCHED = 6,  /* the last block came, and the blocks are those of other metadata: the fetch starts over */
+    BT_EVENT_SERVED = 7,      /* piece; the peer asked for this block, which waits to be sent */
+    BT_EVENT_DECLINED = 8,    /* piece; the peer asked for this block, and a reject waits to be sent */
+    BT_EVENT_REQUESTED = 9,   /* the peer asked for a block of a piece, which the item shows */
+    BT_EVENT_PIECE = 10       /* a block of a piece came, which the item shows */
+};
+
+/* What an item made of the end. What its kind doesn't have means nothing. */
+typedef struct bt_event {
+    uint64_t size;        /* the size of metadata that the peer announced, where has_size is on */
+    uint32_t kind;
+    uint32_t piece;       /* the number of a block of metadata */
+    uint8_t id;           /* the id under which the peer wants metadata messages from now on, where has_id is on */
+    uint8_t has_id;
+    uint8_t has_size;
+    uint8_t begins;       /* on: metadata of this size is fetched from now on */
+    uint8_t peer_id[20];  /* the peer's id */
+} bt_event;
+
+/* What bt_end_next tells. */
+typedef struct bt_heard {
+    uint64_t used;       /* how many of the bytes the end took. Set after each status */
+    bt_item item;        /* after BT_ITEM: what the peer said */
+    bt_event event;      /* after BT_ITEM: what that made of the end */
+    bt_verdict verdict;  /* after BT_REFUSED: which message is refused, where, and for which reason */
+} bt_heard;
+
+/* Takes as many of the n bytes as the item that the end awaits wants, and handles that item once it is whole. The next call
+ * wants the bytes after the first heard->used ones. What a status doesn't set stays as it was.
+ * BT_ITEM: heard has the item and its event. The item's last item.body bytes (a bitfield, a block, a payload) are copied to
+ * the start of out, if there is room for all of them; else nothing is written to out. own.limit bytes are always enough. Its
+ * extended_id is set only for BT_EXT_RAW. Of a handshake event.peer_id has what isn't known before.
+ * BT_MORE: all bytes were taken, and more are needed.
+ * BT_REFUSED: heard->verdict says which message, where and why, now and in each later call until the end is reset.
+ * BT_BUSY, BT_NO_MEMORY: the end holds an item that isn't handled. Call again with the bytes that are left, which may be
+ * none: after BT_BUSY once less waits to be sent. */
+uint32_t bt_end_next(bt_end *end, const uint8_t *bytes, size_t n, bt_heard *heard, uint8_t *out, size_t room);
+
+/* Takes the bytes and handles all items in them, as calls of bt_end_next do, but tells nothing of the items. used says how
+ * many bytes it took. BT_DONE: all of them. BT_REFUSED, BT_BUSY, BT_NO_MEMORY: as of bt_end_next; only BT_REFUSED sets
+ * the verdict. */
+uint32_t bt_end_handle(bt_end *end, const uint8_t *bytes, size_t n, uint64_t *used, bt_verdict *verdict);
+
+/* How many bytes wait to be sent. */
+size_t bt_end_waiting(bt_end *end);
+
+/* Copies the first bytes that wait into out, as many as there is room for, and returns how many. They still wait. */
+size_t bt_end_outgoing(bt_end *end, uint8_t *out, size_t room);
+
+/* Drops the first n bytes that wait, since they were sent; or all, if they are fewer. */
+void bt_end_sent(bt_end *end, size_t n);
+
+/* Returns how many bytes the metadata has that was fetched, and copies it into out, if there is room for all of it. Its SHA-1 is
+ * the info hash. Returns 0, and writes nothing, while it isn't there. */
+size_t bt_end_metadata(bt_end *end, uint8_t *out, size_t room);
+
+/* How far a fetch has come. */
+typedef struct bt_progress {
+    uint64_t size;    /* of the metadata, in bytes */
+    uint64_t blocks;  /* how many blocks it has */
+    uint64_t held;    /* how many of them are held */
+} bt_progress;
+
+/* Says how far the fetch has come, and returns 1. Returns 0, and progress stays as it was, if no size is known, or nothing
+ * is fetched. */
+uint32_t bt_end_progress(bt_end *end, bt_progress *progress);
+
+/* Returns 1 if the end fetches and no block can come any more on this connection, whatever the peer sends; else 0. */
+uint32_t bt_end_is_hopeless(bt_end *end);
+
+/* Returns how often, on this connection, the blocks that came were those of other metadata. */
+uint64_t bt_end_mismatches(bt_end *end);
+
+/* Fetches metadata of this size from now on, and drops what was held of another size: for a peer that announced a size which
+ * was false. BT_DONE; else nothing has changed: BT_NOT_BEGUN, BT_BUSY, BT_NO_MEMORY. */
+uint32_t bt_end_begin(bt_end *end, uint64_t size);
+
+/* Asks for at most this many blocks at once from now on: 1 to 8; any other number is 8. What is asked stays asked. */
+void bt_end_set_window(bt_end *end, uint8_t window);
+
+/* Says a message to the peer: by message->id, the numbers that this id has, and a body of n bytes (a bitfield or a block; none
+ * for other ids), which is copied. BT_EXTENDED with extended.kind BT_DONTHAVE says that a piece isn't had any more; an end
+ * says other extended messages itself.
+ * BT_DONE: it waits to be sent. Else nothing has changed: BT_NOT_OPEN, BT_BUSY, BT_NO_PIECES, BT_ILLEGAL, BT_NO_MEMORY;
+ * BT_UNWRITTEN for BT_HANDSHAKE, an id without a meaning, or an extended message that an end says itself. */
+uint32_t bt_end_say(bt_end *end, const bt_item *message, const uint8_t *body, size_t n);
+
 /* ---- names ---- */
 
 /* A name and the zero after it take at most this many bytes. */
@@ -332,14 +493,19 @@ size_t bt_reason_name(uint32_t reason, char *text, size_t room);
 size_t bt_item_name(const bt_item *item, char *text, size_t room);
 
 BT_ASSERT(sizeof(size_t) == 8, "the library is built for 64 bits");
-BT_ASSERT(sizeof(bt_own) == 40, "bt_own");
+BT_ASSERT(sizeof(bt_own) == 48, "bt_own");
 BT_ASSERT(sizeof(bt_extended) == 32, "bt_extended");
 BT_ASSERT(sizeof(bt_item) == 88, "bt_item");
-BT_ASSERT(sizeof(bt_reader) == 56, "bt_reader");
+BT_ASSERT(sizeof(bt_reader) == 64, "bt_reader");
 BT_ASSERT(sizeof(bt_batch) == 16, "bt_batch");
-BT_ASSERT(sizeof(bt_feed) == 72, "bt_feed");
+BT_ASSERT(sizeof(bt_feed) == 80, "bt_feed");
 BT_ASSERT(sizeof(bt_verdict) == 24, "bt_verdict");
 BT_ASSERT(sizeof(bt_handshake) == 48, "bt_handshake");
+BT_ASSERT(sizeof(bt_end) == 16, "bt_end");
+BT_ASSERT(sizeof(bt_end_config) == 80, "bt_end_config");
+BT_ASSERT(sizeof(bt_event) == 40, "bt_event");
+BT_ASSERT(sizeof(bt_heard) == 160, "bt_heard");
+BT_ASSERT(sizeof(bt_progress) == 24, "bt_progress");
 
 #ifdef __cplusplus
 }
