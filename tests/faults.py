@@ -17,7 +17,7 @@ import subprocess
 import sys
 import tempfile
 
-from peers import INFO, Link, Peer, giving, handshake, info_of
+from peers import INFO, Link, Peer, giving, handshake, info_of, summary, timeless
 from statuses import FETCH, FETCHED, HAND, HASH, HAVE_9, JSON_HAND, LINE, ROOT, TWO, NO_STEPS, message, naming
 
 # A run makes far fewer calls.
@@ -262,30 +262,43 @@ def two_directions(runner):
                 yield "%s: %s %d %r: %r" % (words, kind, number, further, answer)
 
 
+def summed(lines):
+    """These lines of a fetch and their summary, as `fetched_in_turn` gives them."""
+    return (lines + summary(lines)).encode()
+
+
+def fetched_in_turn(runner, words, *kind, **further):
+    """As `in_turn`, for a fetch: in place of the seconds of its summary stands S."""
+    for number, (out, errors, status), was_made in runner.in_turn(words, b"", *kind, **further):
+        yield number, (out, timeless(errors.decode()).encode(), status), was_made
+
+
 def fetching(runner):
     """The calls of a `fetch` fail in turn: each write, each request for memory, and each call of the first connection."""
     tiny = info_of(100)
     torrent = b"d4:info" + tiny + b"e"
     peer = Peer(giving(tiny))
     words = "fetch --torrent %s %s" % (hashlib.sha1(tiny).hexdigest(), peer.address)
-    fetched = peer.address.encode() + b" fetched\n"
-    for number, answer, was_made in runner.in_turn(words, b"", "WRITE", WRITE_MOST=1):
+    fetched = summed(peer.address + " fetched\n")
+    for number, answer, was_made in fetched_in_turn(runner, words, "WRITE", WRITE_MOST=1):
         if answer != ((torrent[:number - 1], fetched + b"fault: write\n", 3) if was_made else (torrent, fetched, 0)):
             yield "%s: write %d: %r" % (words, number, answer)
-    for number, (out, errors, status), was_made in runner.in_turn(words, b"", "NOTHING", WRITE_MOST=9):
+    for number, (out, errors, status), was_made in fetched_in_turn(runner, words, "NOTHING", WRITE_MOST=9):
         is_fault = torrent.startswith(out) and out != torrent and (errors, status) == (fetched + b"fault: write\n", 3)
         if not (is_fault if was_made else (out, errors, status) == (torrent, fetched, 0)):
             yield "%s: write %d takes nothing: %r" % (words, number, (out, errors, status))
-    for number, answer, was_made in runner.in_turn(words, b"", "MEMORY"):
-        is_fault = answer in [(b"", errors + b"fault: memory\n", 3) for errors in (b"", fetched)]
-        if answer != (torrent, fetched, 0) and not (was_made and is_fault):
+    for number, answer, was_made in fetched_in_turn(runner, words, "MEMORY"):
+        is_fault = answer in [(b"", errors + b"fault: memory\n", 3) for errors in (b"", summed(""), fetched)]
+        # Without memory for it the summary is left out.
+        is_unsummed = answer == (torrent, (peer.address + " fetched\n").encode(), 0)
+        if answer != (torrent, fetched, 0) and not (was_made and (is_fault or is_unsummed)):
             yield "%s: request %d: %r" % (words, number, answer)
     peer.close()
     peer = Peer(giving(INFO))
     words = "fetch %s %s %s" % (hashlib.sha1(INFO).hexdigest(), peer.address, peer.address)
-    closed, fetched = (peer.address.encode() + end for end in (b" closed\n", b" fetched\n"))
-    for number, answer, was_made in runner.in_turn(words, b"", "WIRE"):
-        if answer != (INFO, closed + fetched if was_made else fetched, 0):
+    closed, fetched = (peer.address + end for end in (" closed\n", " fetched\n"))
+    for number, answer, was_made in fetched_in_turn(runner, words, "WIRE"):
+        if answer != (INFO, summed(closed + fetched if was_made else fetched), 0):
             yield "%s: call %d of the connection: %r" % (words, number, answer)
     peer.close()
 
