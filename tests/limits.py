@@ -15,6 +15,7 @@ import tempfile
 import time
 
 from faults import COMMANDS, HAND, LINE, whole
+from peers import summary, timeless
 from statuses import HASH, ROOT
 
 HAVES = 60_000
@@ -78,7 +79,7 @@ def accepted(parts):
 # ---- the parts
 
 def standard_input(program):
-    """standard input is closed, a folder, open for writing alone, or empty and doesn't block"""
+    """standard input is closed, a folder, open only for writing, or empty and doesn't block"""
     wrong = []
     for words, _, _ in COMMANDS:
         wrong += unlike(words + " <&-", program.run(words, before=closed(0)), READ)
@@ -89,12 +90,14 @@ def standard_input(program):
             wrong += unlike("%s of %s" % (words, name), program.run(words, source=device), READ)
         for device in (folder, written, reader, writer):
             os.close(device)
-    wrong += unlike(DIALS + " <&-", program.run(DIALS, before=closed(0)), (b"", b"127.0.0.1:9 unreachable\n", 1))
+    out, errors, status = program.run(DIALS, before=closed(0))
+    lines = "127.0.0.1:9 unreachable\n"
+    wrong += unlike(DIALS + " <&-", (out, timeless(errors.decode()), status), (b"", lines + summary(lines), 1))
     return wrong
 
 
 def standard_output(program):
-    """standard output is closed, full, or open for reading alone"""
+    """standard output is closed, full, or open only for reading"""
     wrong = []
     for words, given, _ in COMMANDS + [("--help", b"", []), ("--version", b"", [])]:
         wrong += unlike(words + " >&-", program.run(words, given, before=closed(1)), WRITE)
