@@ -1242,7 +1242,7 @@ def has_help(program, name):
     return (texts[1:] == [texts[0]] * 2 and texts[0][1:] == (b"", 0) and "\n\nUsage: %s\n" % usage in text
             and sections == ["Usage", "Options", "Example", "Exit status"] and sorted(lines) == sorted(options.split() + ["help"])
             and set(lines) - set(with_values) <= {"help", "json", "torrent"}
-            and "\nExample:\n  bt_tool %s " % name in text and "\n  2    The words are no command line" in text)
+            and "\nExample:\n  bt_tool %s " % name in text and "\n  2    Usage error" in text)
 
 
 def devices(program):

@@ -26,7 +26,7 @@ use std::alloc::{AllocError, Global};
 const VERSION: &str = "0.2.0";
 
 /// What is wrong with several files.
-const ONE_FILE: &str = "'check' alone takes more than one file";
+const ONE_FILE: &str = "only 'check' takes more than one file";
 
 /// What is printed where the words are no text.
 pub const NO_TEXT: &str =

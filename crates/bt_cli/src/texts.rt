@@ -80,14 +80,14 @@ const FREE: OptionText = OptionText {
     name: "rules",
     alias: "",
     value: "RULES",
-    help: "Rules by which is judged: 'free' (lenient) or 'bep' (strict) [default: free]",
+    help: "Rules: 'free' (lenient) or 'bep' (strict) [default: free]",
 };
 
 const BEP: OptionText = OptionText {
     name: "rules",
     alias: "",
     value: "RULES",
-    help: "Rules by which is judged: 'free' (lenient) or 'bep' (strict) [default: bep]",
+    help: "Rules: 'free' (lenient) or 'bep' (strict) [default: bep]",
 };
 
 const LIMIT: OptionText = OptionText {
@@ -129,7 +129,7 @@ const WINDOW: OptionText = OptionText {
     name: "window",
     alias: "",
     value: "N",
-    help: "Blocks that are asked for at once: 1 to 8 [default: 8, and 1 if a silent peer is tried again]",
+    help: "Blocks that are requested at once: 1 to 8 [default: 8, and 1 if a silent peer is tried again]",
 };
 
 const MAX_SIZE: OptionText = OptionText {
@@ -143,7 +143,7 @@ const TORRENT: OptionText = OptionText {
     name: "torrent",
     alias: "",
     value: "",
-    help: "Writes a .torrent in place of the metadata alone",
+    help: "Writes a .torrent, and not only the metadata",
 };
 
 const LISTEN: OptionText = OptionText {
@@ -206,7 +206,7 @@ const METADATA: OperandText = OperandText {
     name: "FILE",
     is_required: true,
     is_repeated: false,
-    help: "A .torrent, or an info dictionary alone",
+    help: "A .torrent, or only its info dictionary",
 };
 
 const SHOW_USAGE: &str = "bt_tool show [OPTIONS] [FILE]";
@@ -249,9 +249,9 @@ Example:
 Exit status:
   0    The stream is accepted
   1    The stream is refused
-  2    The words are no command line, or the file of '--other' doesn't begin with a whole handshake
+  2    Usage error, or the '--other' file doesn't start with a complete handshake
   3    A read or a write failed, the program is out of memory, or the input has no end
-  141  Nobody reads the output any more, as after '| head'",
+  141  The output pipe was closed, as after '| head'",
 };
 
 pub(crate) const CHECK: CommandText = CommandText {
@@ -277,9 +277,9 @@ Example:
 Exit status:
   0    Each stream is accepted
   1    A stream is refused
-  2    The words are no command line, or the file of '--other' doesn't begin with a whole handshake
+  2    Usage error, or the '--other' file doesn't start with a complete handshake
   3    A read or a write failed, the program is out of memory, or the input has no end
-  141  Nobody reads the output any more, as after '| head'",
+  141  The output pipe was closed, as after '| head'",
 };
 
 pub(crate) const UNPACK: CommandText = CommandText {
@@ -305,15 +305,15 @@ Example:
 Exit status:
   0    The stream is accepted
   1    The stream is refused
-  2    The words are no command line, or the file of '--other' doesn't begin with a whole handshake
+  2    Usage error, or the '--other' file doesn't start with a complete handshake
   3    A read or a write failed, the program is out of memory, or the input has no end
-  141  Nobody reads the output any more, as after '| head'",
+  141  The output pipe was closed, as after '| head'",
 };
 
 pub(crate) const PACK: CommandText = CommandText {
     name: "pack",
     usage: PACK_USAGE,
-    about: "Writes the stream of a script, up to the first line that is refused",
+    about: "Encodes a script into a stream; stops at the first invalid line",
     options: &[
         RESERVED,
         PIECES,
@@ -333,15 +333,15 @@ Example:
 Exit status:
   0    The script is accepted
   1    A line of the script is refused
-  2    The words are no command line, or the file of '--other' doesn't begin with a whole handshake
+  2    Usage error, or the '--other' file doesn't start with a complete handshake
   3    A read or a write failed, the program is out of memory, or the input has no end
-  141  Nobody reads the output any more, as after '| head'",
+  141  The output pipe was closed, as after '| head'",
 };
 
 pub(crate) const LINK: CommandText = CommandText {
     name: "link",
     usage: LINK_USAGE,
-    about: "Runs two ends against each other, step by step, as a script of its own says",
+    about: "Runs two simulated peers against each other, step by step, by a scenario",
     options: &[],
     operands: &[SCRIPT],
     after: "\
@@ -351,15 +351,15 @@ Example:
 Exit status:
   0    The link ran
   1    A line of the script is refused, or the two ends don't match
-  2    The words are no command line
+  2    Usage error
   3    A read or a write failed, the program is out of memory, or the input has no end
-  141  Nobody reads the output any more, as after '| head'",
+  141  The output pipe was closed, as after '| head'",
 };
 
 pub(crate) const LOOP: CommandText = CommandText {
     name: "loop",
     usage: LOOP_USAGE,
-    about: "Serves the metadata of standard input at one end of a connection to itself, and fetches it at the other",
+    about: "Fetches the metadata on standard input from itself, over a TCP connection",
     options: &[BEP, LIMIT_OF_ENDS],
     operands: &[],
     after: "\
@@ -369,9 +369,9 @@ Example:
 Exit status:
   0    The metadata was fetched
   1    Nothing was fetched, or the metadata has a wrong size
-  2    The words are no command line
+  2    Usage error
   3    A read or a write failed, the connection did, or the program is out of memory
-  141  Nobody reads the output any more, as after '| head'",
+  141  The output pipe was closed, as after '| head'",
 };
 
 pub(crate) const FETCH: CommandText = CommandText {
@@ -395,9 +395,9 @@ Example:
 Exit status:
   0    The metadata was fetched
   1    No peer gave the metadata
-  2    The words are no command line, or a line of the file of '--peers' names no peer
+  2    Usage error, or a line of the '--peers' file names no peer
   3    A read or a write failed, or the program is out of memory
-  141  Nobody reads the output any more, as after '| head'",
+  141  The output pipe was closed, as after '| head'",
 };
 
 pub(crate) const SERVE: CommandText = CommandText {
@@ -420,7 +420,7 @@ Example:
 Exit status:
   0    As many connections as '--exit-after' says have ended
   1    FILE has no metadata
-  2    The words are no command line
+  2    Usage error
   3    FILE can't be read, it can't listen there, or the program is out of memory",
 };
 
@@ -429,12 +429,12 @@ pub(crate) const CALL: &str = "bt_tool [COMMAND] [OPTIONS] [FILE]";
 
 /// What the program does.
 pub(crate) const ABOUT: &str =
-    "Judges the bytes that a BitTorrent peer sends (BEP 3, 5, 6, 9 and 10)";
+    "Parses, checks and generates the BitTorrent peer protocol (BEP 3, 5, 6, 9 and 10)";
 
 /// What follows the commands in the program's help.
 pub(crate) const AFTER: &str = "\
 'bt_tool COMMAND --help' prints the options, an example and the exit statuses of a command. Options stand after
-the command. No words at all mean 'show' of standard input.
+the command. Without a command and options, 'show' reads standard input.
 
 Example:
   bt_tool show --other sent-by-receiver.bin stream.bin
@@ -442,9 +442,9 @@ Example:
 Exit status:
   0    The stream or the script is accepted, or the command did its work
   1    The stream or the script is refused, or the command got no result
-  2    The words are no command line
+  2    Usage error
   3    A read or a write failed, the network did, or the program is out of memory
-  141  Nobody reads the output any more, as after '| head'";
+  141  The output pipe was closed, as after '| head'";
 
 /// Returns how the command with this name is called, or the program if there is no such command.
 pub(crate) fn usage_of(name: &str) -> &'static str {
