@@ -4,12 +4,12 @@
  * BEP 6, and the extended messages of BEP 10 and BEP 9), refuses what the standards don't allow, and writes messages. An
  * end (bt_end, below) is one end of a connection: it reads, answers, and fetches or serves the metadata of a torrent.
  *
- * Of all but an end: the memory is the caller's. The structs have no pointer, need no free and may be copied. Any bytes
- * in them are some value, so that no call has a state in which it must not be made. No call allocates memory. And of all:
- * no call blocks, or keeps a pointer that it was given.
+ * All except an end lives in the caller's memory: its structs have no pointer, need no free and may be copied. Every bit
+ * pattern in them is a valid value, so these functions may be called in any order, and they don't allocate. No function of
+ * the library blocks, or keeps a pointer that it was given.
  *
- * What the caller owes: a pointer points to a whole struct, or to as many bytes as the length beside it says; a pointer
- * beside length 0 may be null; and what a call writes overlaps nothing else that is passed to it.
+ * The caller's obligations: each pointer is valid for its struct, or for the number of bytes in its length (it may be NULL
+ * if that is 0), and output doesn't overlap another argument.
  */
 #ifndef BT_H
 #define BT_H
@@ -132,7 +132,7 @@ typedef struct bt_extended {
     uint8_t has_ut_metadata;
 } bt_extended;
 
-/* An item of a stream; or, after BT_REFUSED, start, size and reason. What a message doesn't have stays as it was. */
+/* An item of a stream; or, after BT_REFUSED, start, size and reason. Fields that don't apply to the message are left unchanged. */
 typedef struct bt_item {
     uint64_t start;     /* where the item starts on the stream */
     uint64_t size;      /* how many bytes it has; of a refusal the place, counted from start */
