@@ -69,7 +69,10 @@ fn fetch_of(most: u64) -> Role
     }
 }
 
-/// What the struct describes. Metadata that is to be served is copied.
+/// Returns what the struct describes. Metadata that is to be served is copied.
+///
+/// # Errors
+/// `Memory` when out of memory.
 pub fn config_of(alloc: Global, config: &BtEndConfig, metadata: &[u8]) -> Result<Config, Memory>
     ensures { IfOk result (λ c. IsConfigOf config.now metadata.now c) }
 {

@@ -113,7 +113,10 @@ fn seconds_of<R: Clock>(clock: &R) -> u64 {
 
 /// Fetches what is asked for over TCP, from the peers of the words and the link, and then from those of `listed`.
 ///
-/// It says on `errors` how each connection ended, how far it came where `errors` is a terminal, and at the end a summary.
+/// It says on `errors` how each connection ended, how far it came if `errors` is a terminal, and at the end a summary.
+///
+/// # Errors
+/// `NotFetched` if no peer gave the metadata, `Write` if a write failed, `Memory` when out of memory.
 pub fn run_fetch<R: Net + Clock + RandomSource, W: Target, E: Target>(
     rt: &R,
     alloc: Global,

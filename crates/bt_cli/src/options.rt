@@ -35,6 +35,9 @@ pub const NO_TEXT: &str =
 /// Returns the notice that a file of `--other` has no handshake.
 ///
 /// It doesn't begin with a whole one.
+///
+/// # Errors
+/// `AllocError` when out of memory.
 pub fn no_handshake(alloc: Global, name: &str) -> Result<String, AllocError> {
     format!(in alloc;
         "error: '{name}', the file of '--other', doesn't begin with a whole handshake\n\nUsage: {CALL}\n"
@@ -42,6 +45,9 @@ pub fn no_handshake(alloc: Global, name: &str) -> Result<String, AllocError> {
 }
 
 /// Returns the notice that a line of a list of peers names none.
+///
+/// # Errors
+/// `AllocError` when out of memory.
 pub fn no_peer(alloc: Global, name: &str, line: usize) -> Result<String, AllocError> {
     let usage = usage_of("fetch");
     format!(in alloc;
@@ -50,6 +56,9 @@ pub fn no_peer(alloc: Global, name: &str, line: usize) -> Result<String, AllocEr
 }
 
 /// Returns the notice that a list of peers is too long.
+///
+/// # Errors
+/// `AllocError` when out of memory.
 pub fn long_list(alloc: Global, name: &str) -> Result<String, AllocError> {
     let usage = usage_of("fetch");
     format!(in alloc;

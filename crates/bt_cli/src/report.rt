@@ -68,6 +68,9 @@ fn tally_text(alloc: Global, seconds: u64, tally: Tally) -> Result<String, Alloc
 }
 
 /// Returns the last line of a fetch: the peer that it was fetched from, the seconds that it took, and its tries.
+///
+/// # Errors
+/// `AllocError` when out of memory.
 pub fn summary(
     alloc: Global,
     source: &str,

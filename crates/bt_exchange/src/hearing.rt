@@ -32,6 +32,9 @@ impl<A: Allocator> Model for Hearing<A> {
 
 impl<A: Allocator> Hearing<A> {
     /// Makes the buffer; no bytes were read.
+    ///
+    /// # Errors
+    /// `Memory` if the buffer is refused.
     pub fn new(alloc: A) -> Result<Hearing<A>, Memory>
         ensures { IfOk result (λ h. h ≡ []) }
     {
@@ -70,6 +73,11 @@ impl<A: Allocator> Hearing<A> {
     }
 
     /// Reads once. What was there before is gone.
+    ///
+    /// It returns how many bytes came, 0 at the peer's end; `None` if nothing came yet.
+    ///
+    /// # Errors
+    /// `Failed` if the read failed. No bytes are there then.
     pub fn fill<C: Connection>(&mut self, connection: &mut C) -> Result<Option<usize>, Failed>
         ensures bytes { Fills (C.seen connection.old) (C.seen connection.new) result self.new }
         ensures count { IfOk result (λ o. IfSome o (λ n. length self.new ≡ n)) }

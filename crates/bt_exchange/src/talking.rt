@@ -58,6 +58,10 @@ pub enum Stop {
 ///
 /// It is a write, if the end has something to send and `may_send` says that it may; else a turn, if bytes wait for it; else a
 /// read. While nothing may be sent, less than `HIGH_WATER` bytes wait to be sent.
+///
+/// # Errors
+/// `Closed` if the peer closed the connection, `Failed` if a call failed or a write took nothing, `Refused` if the peer broke a rule,
+/// `Memory` when out of memory.
 pub fn advance<C: Connection, A: Allocator + Copy>(
     connection: &mut C,
     end: &mut End<A>,

@@ -37,6 +37,9 @@ fn skip_separators(query: &[u8], from: usize) -> usize {
 }
 
 /// Returns the keys of a query with their values, in order.
+///
+/// # Errors
+/// `AllocError` when out of memory.
 pub fn pairs(alloc: Global, query: &[u8]) -> Result<Vec<Pair>, AllocError>
     ensures { IfOk result (λ v. map pair_of v.items ≡ pairs_of query.now) }
 {

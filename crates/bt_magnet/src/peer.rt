@@ -72,6 +72,9 @@ pub fn is_peer(text: &str) -> bool
 }
 
 /// Adds a copy of the text to the peers.
+///
+/// # Errors
+/// `AllocError` when out of memory.
 pub fn add_peer(alloc: Global, text: &str, peers: &mut Vec<String>) -> Result<(), AllocError>
     ensures { OnOk result (map string_bytes peers.new.items ≡ map string_bytes peers.old.items ++ text.now ∷ []) }
 {
