@@ -167,7 +167,7 @@ fn put<W: Target>(bytes: &[u8], writer: &mut W) -> Result<usize, FetchError>
 }
 
 /// Writes the file of the metadata, if the end has fetched it.
-fn put_out<W: Target>(
+pub fn put_out<W: Target>(
     alloc: Global,
     torrent: bool,
     end: &End,

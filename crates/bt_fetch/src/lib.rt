@@ -11,6 +11,7 @@ mod tcp;
 mod wish;
 
 pub use dial::{Dial, Outcome, Report};
-pub use fetching::{FetchError, fetch};
+pub use fetching::{FetchError, fetch, put_out};
+pub use talk::{Talk, heed, is_untaken, outcome_of};
 pub use tcp::TcpDial;
-pub use wish::Wish;
+pub use wish::{Wish, fetching_end, first_window};

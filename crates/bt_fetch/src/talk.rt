@@ -23,14 +23,28 @@ const ONE_AT_A_TIME: &[u8] = b"-lt";
 
 /// What the peer of a connection has told so far.
 #[derive(Clone, Copy)]
-struct Talk {
-    watch: Watch,
+pub struct Talk {
+    pub watch: Watch,
     /// How often the fetch has begun anew.
     restarts: u8,
     /// The peer has announced, and lacks an id for metadata messages, or no size is known.
-    lacks: bool,
+    pub lacks: bool,
     /// Several blocks are asked for at once, and the wish doesn't say so.
-    is_wide: bool,
+    pub is_wide: bool,
+}
+
+impl Talk {
+    /// Returns what a peer has told over a new connection: nothing.
+    pub fn new(now: u64, is_wide: bool) -> Talk
+        ensures { result.watch.since ≡ now }
+    {
+        Talk {
+            watch: Watch { since: now },
+            restarts: 0,
+            lacks: false,
+            is_wide,
+        }
+    }
 }
 
 /// How a connection ended.
@@ -52,7 +66,7 @@ enum Next {
 ///
 /// # Errors
 /// `Memory` if the exchange ran out of memory.
-fn outcome_of(end: &End, stop: Stop, lacks: bool) -> Result<Outcome, Memory>
+pub fn outcome_of(end: &End, stop: Stop, lacks: bool) -> Result<Outcome, Memory>
     ensures { (until : ℕ) (old new : Moment) → new.half ≡ end.now → IsStopped until old new stop → IfOk result (λ outcome. IsOutcome end.now outcome) }
 {
     match stop {
@@ -69,7 +83,7 @@ fn outcome_of(end: &End, stop: Stop, lacks: bool) -> Result<Outcome, Memory>
 }
 
 /// Whether the peer tells a size that isn't 1 to `most`.
-fn is_untaken(event: Event, most: u64) -> bool {
+pub fn is_untaken(event: Event, most: u64) -> bool {
     match event {
         Event::Announced {
             size: Some(size),
@@ -111,7 +125,7 @@ fn restart(end: &mut End, size: Option<u64>) -> Result<bool, Memory>
 }
 
 /// Acts on news, and returns what the peer has told then; `None` if the patience is over.
-fn heed(
+pub fn heed(
     wish: &Wish,
     end: &mut End,
     talk: Talk,
@@ -192,12 +206,7 @@ pub fn talk_over<L: Connection, T: Report>(
     ensures calls { (L.seen link.new).counts.calls ≤ (L.seen link.old).counts.calls + 2 ^ 32 }
     ensures told { T.told report.new ≡ T.told report.old }
 {
-    let mut talk = Talk {
-        watch: Watch { since: link.now() },
-        restarts: 0,
-        lacks: false,
-        is_wide,
-    };
+    let mut talk = Talk::new(link.now(), is_wide);
     let mut left = STEPS;
     for _news in 0..STEPS {
         match next_news(wish, link, end, hearing, talk, &mut left)? {

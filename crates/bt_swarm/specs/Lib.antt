@@ -1,0 +1,5 @@
+pub mod Links
+pub mod Queues
+pub mod Logs
+pub mod Visits
+pub mod Swarms

@@ -1,0 +1,447 @@
+//! A fetch over many connections at the same time.
+ghost use Rattle.std.specs.Prelude.{◌≡◌, ◌≢◌, ◌+◌, ◌<◌, ◌≤◌, ℕ, true, false, None, Ok, Err, length, vec_len, not, List, Option, option_map, is_some, count_by, sum_by, All, HoldsAt, max, IfOk, IfSome};
+ghost use Rattle.bt_io.specs.Seen.{WriteFailed};
+ghost use Rattle.bt_end.specs.Ends.{metadata_of};
+ghost use Rattle.bt_fetch.specs.Wishes.{IsWish, handshake_of};
+ghost use Rattle.bt_fetch.specs.Fetches.{IsWritten};
+ghost use Rattle.bt_swarm.specs.Queues.{dials_of, rest_of, one};
+ghost use Rattle.bt_fetch.specs.Tries.{IsAdded};
+ghost use Rattle.bt_swarm.specs.Logs.{IsCourse, IsLogged, IsStage, Stage, Going, is_fetched as is_fetched_by, stage_after};
+ghost use Rattle.bt_swarm.specs.Swarms.{IfWon, cost, is_free, is_over, is_won, stage_at, stage_by, stage_when, weight};
+ghost use Rattle.bt_swarm.specs.declared.device.Happening.{Happening};
+ghost use Rattle.bt_swarm.specs.declared.device.Happening.TheVariants.{Ended as EndedSo};
+
+use crate::device::{Device, Ending};
+use crate::place::Place;
+use crate::queue::Queue;
+use crate::visit::{Pace, Visit};
+use bt_end::Window;
+use bt_fetch::{FetchError, Outcome, Wish, first_window, put_out};
+use bt_io::{Memory, Target};
+use std::alloc::Global;
+
+/// The places of a fetch over a device.
+type Places<D> = Vec<Place<<D as Device>::Link>>;
+
+/// What became of a place at its turn.
+#[derive(Clone, Copy)]
+enum Turn {
+    /// It has no connection, and no address waits.
+    Free,
+    /// Its connection waits for its peer.
+    Waits,
+    /// It can go on at once, or was dialled for.
+    GoesOn,
+    /// Its connection ended.
+    Ended,
+    /// Its end has the metadata.
+    Won,
+}
+
+/// What became of all places.
+#[derive(Clone, Copy)]
+enum Round {
+    /// No connection is open, and no address waits.
+    Over,
+    /// All wait for their peers.
+    Waits,
+    /// Some can go on at once.
+    GoesOn,
+    /// The end at the place of this number has the metadata.
+    Won(usize),
+}
+
+/// Whether the metadata is there.
+fn is_fetched(outcome: Outcome) -> bool
+    ensures { result ≡ is_fetched_by outcome }
+{
+    matches!(outcome, Outcome::Fetched)
+}
+
+/// Returns how many blocks are asked for at once: one at a time from an address that comes again.
+fn window_for(wish: &Wish, is_again: bool) -> Window {
+    if wish.window.is_some() || !is_again {
+        return first_window(wish);
+    }
+    match Window::new(1) {
+        Some(one) => one,
+        None => first_window(wish),
+    }
+}
+
+/// Dials the next address for a place that is free.
+///
+/// # Errors
+/// `Memory` if memory is refused.
+fn fill<D: Device>(
+    wish: &Wish,
+    time: u64,
+    place: &mut Place<D::Link>,
+    queue: &mut Queue,
+    device: &mut D,
+) -> Result<Turn, Memory>
+    requires free { place.old.visit ≡ None }
+    requires room { D.inside device.old < D.places device.old }
+    ensures handshake { place.new.end.end.handshake ≡ place.old.end.end.handshake }
+    ensures inside { D.inside device.new ≡ D.inside device.old + one (is_some place.new.visit) }
+    ensures places { D.places device.new ≡ D.places device.old }
+    ensures weight { IfOk result (λ t. weight (option_map (λ v. v.left) place.new.visit) + cost (rest_of queue.new.next queue.new.again.items) + one (not (is_free t))
+        ≤ cost (rest_of queue.old.next queue.old.again.items)) }
+    ensures free { result ≡ Ok Turn.Free → queue.new.next ≡ vec_len queue.new.again }
+    ensures len { vec_len queue.new.again ≡ vec_len queue.old.again }
+    ensures unwon { stage_by result ≡ Going }
+    ensures log { (start : Option (List Happening)) → IsCourse Going start (D.log device.old) (dials_of queue.old.next queue.old.again.items)
+        → IsCourse Going start (D.log device.new) (dials_of queue.new.next queue.new.again.items) }
+{
+    let Some(address) = queue.take() else {
+        return Ok(Turn::Free);
+    };
+    let window = window_for(wish, queue.is_again(address));
+    match device.dial(address) {
+        Some(link) => {
+            let is_wide = wish.window.is_none() && window.get() > 1;
+            place.end.set_window(window);
+            place.visit = Some(Visit::new(address, link, is_wide, time));
+        }
+        None => queue.put_back(address)?,
+    }
+    Ok(Turn::GoesOn)
+}
+
+/// Frees a place whose connection ended, and puts its address back.
+///
+/// # Errors
+/// `Memory` if memory is refused.
+fn free<D: Device>(
+    visit: Visit<D::Link>,
+    ending: Ending,
+    place: &mut Place<D::Link>,
+    queue: &mut Queue,
+    device: &mut D,
+) -> Result<Turn, Memory>
+    requires unwon { stage_after Going (EndedSo visit.address ending) ≡ Going }
+    requires none { place.old.visit ≡ None }
+    requires inside { 0 < D.inside device.old }
+    ensures handshake { place.new.end.end.handshake ≡ place.old.end.end.handshake }
+    ensures visit { place.new.visit ≡ None }
+    ensures inside { D.inside device.new + 1 ≡ D.inside device.old }
+    ensures places { D.places device.new ≡ D.places device.old }
+    ensures ended { IfOk result (λ t. t ≡ Turn.Ended) }
+    ensures unwon { stage_by result ≡ Going }
+    ensures told { IsAdded (D.log device.old) (D.log device.new) (EndedSo visit.address ending) }
+    ensures next { queue.new.next ≡ queue.old.next }
+    ensures again { queue.new.again.items ≡ queue.old.again.items }
+    ensures len { vec_len queue.new.again ≡ vec_len queue.old.again }
+{
+    let address = visit.address;
+    device.ended(address, visit.line.link, ending);
+    place.hearing.clear();
+    place.end.reset()?;
+    queue.put_back(address)?;
+    Ok(Turn::Ended)
+}
+
+/// Tells how far the fetch over a connection has come, if there was news.
+fn tell<D: Device>(visit: &Visit<D::Link>, place: &Place<D::Link>, device: &mut D)
+    ensures log { D.log device.new ≡ D.log device.old }
+    ensures inside { D.inside device.new ≡ D.inside device.old }
+    ensures places { D.places device.new ≡ D.places device.old }
+{
+    if !visit.has_news {
+        return;
+    }
+    if let Some(progress) = place.end.progress() {
+        device.came(visit.address, progress);
+    }
+}
+
+/// Gives the connection of a place its turn.
+///
+/// `is_needed` says that another address waits for the place.
+///
+/// # Errors
+/// `Memory` if memory is refused.
+fn tend<D: Device>(
+    wish: &Wish,
+    time: u64,
+    is_needed: bool,
+    visit: Visit<D::Link>,
+    place: &mut Place<D::Link>,
+    queue: &mut Queue,
+    device: &mut D,
+) -> Result<Turn, Memory>
+    requires none { place.old.visit ≡ None }
+    requires inside { 0 < D.inside device.old }
+    ensures handshake { place.new.end.end.handshake ≡ place.old.end.end.handshake }
+    ensures inside { D.inside device.new + 1 ≡ D.inside device.old + one (is_some place.new.visit) }
+    ensures places { D.places device.new ≡ D.places device.old }
+    ensures weight { IfOk result (λ t. weight (option_map (λ v. v.left) place.new.visit) ≤ visit.left) }
+    ensures free { result ≢ Ok Turn.Free }
+    ensures won { result ≡ Ok Turn.Won → is_some (metadata_of place.new.end.end.part) ≡ true }
+    ensures next { queue.new.next ≡ queue.old.next }
+    ensures again { queue.new.again.items ≡ queue.old.again.items }
+    ensures len { vec_len queue.new.again ≡ vec_len queue.old.again }
+    ensures log { (start : Option (List Happening)) (dials : ℕ → ℕ) → IsCourse Going start (D.log device.old) dials
+        → IsCourse (stage_by result) start (D.log device.new) dials }
+{
+    let mut visit = visit;
+    let pace = visit.go_on(wish, &mut place.end, &mut place.hearing, time);
+    tell(&visit, place, device);
+    match pace {
+        Ok(Pace::GoesOn) => {
+            place.visit = Some(visit);
+            Ok(Turn::GoesOn)
+        }
+        Ok(Pace::Ended(outcome)) => {
+            if is_fetched(outcome) {
+                device.ended(visit.address, visit.line.link, Ending::By(outcome));
+                return Ok(Turn::Won);
+            }
+            free(visit, Ending::By(outcome), place, queue, device)
+        }
+        Ok(Pace::Waits) if is_needed && visit.is_late(time) => {
+            free(visit, Ending::Left, place, queue, device)
+        }
+        Ok(Pace::Waits) => {
+            place.visit = Some(visit);
+            Ok(Turn::Waits)
+        }
+        Err(memory) => {
+            device.ended(visit.address, visit.line.link, Ending::Left);
+            Err(memory)
+        }
+    }
+}
+
+/// Gives a place its turn: its connection, or else the next address.
+///
+/// # Errors
+/// `Memory` if memory is refused.
+fn give_turn<D: Device>(
+    wish: &Wish,
+    time: u64,
+    is_needed: bool,
+    place: &mut Place<D::Link>,
+    queue: &mut Queue,
+    device: &mut D,
+) -> Result<Turn, Memory>
+    requires inside { one (is_some place.old.visit) ≤ D.inside device.old }
+    requires room { is_some place.old.visit ≡ false → D.inside device.old < D.places device.old }
+    ensures handshake { place.new.end.end.handshake ≡ place.old.end.end.handshake }
+    ensures inside { D.inside device.new + one (is_some place.old.visit) ≡ D.inside device.old + one (is_some place.new.visit) }
+    ensures places { D.places device.new ≡ D.places device.old }
+    ensures weight { IfOk result (λ t. weight (option_map (λ v. v.left) place.new.visit) + cost (rest_of queue.new.next queue.new.again.items) + one (not (is_free t))
+        ≤ weight (option_map (λ v. v.left) place.old.visit) + cost (rest_of queue.old.next queue.old.again.items)) }
+    ensures free { result ≡ Ok Turn.Free → queue.new.next ≡ vec_len queue.new.again }
+    ensures won { result ≡ Ok Turn.Won → is_some (metadata_of place.new.end.end.part) ≡ true }
+    ensures len { vec_len queue.new.again ≡ vec_len queue.old.again }
+    ensures log { (start : Option (List Happening)) → IsCourse Going start (D.log device.old) (dials_of queue.old.next queue.old.again.items)
+        → IsCourse (stage_by result) start (D.log device.new) (dials_of queue.new.next queue.new.again.items) }
+{
+    match place.visit.take() {
+        Some(visit) => tend(wish, time, is_needed, visit, place, queue, device),
+        None => fill(wish, time, place, queue, device),
+    }
+}
+
+/// Returns how many places are to be given up for addresses that have not come yet.
+fn needed<D: Device>(places: &Places<D>, queue: &Queue) -> usize {
+    let mut needed = queue.unseen();
+    for place in places {
+        if place.visit.is_none() {
+            needed = needed.saturating_sub(1);
+        }
+    }
+    needed
+}
+
+/// Gives each place its turn, until an end has the metadata.
+///
+/// # Errors
+/// `Memory` if memory is refused.
+fn give_turns<D: Device>(
+    wish: &Wish,
+    places: &mut Places<D>,
+    queue: &mut Queue,
+    device: &mut D,
+) -> Result<Round, Memory>
+    requires some { 0 < vec_len places.old }
+    requires kept { All (λ p. p.end.end.handshake ≡ handshake_of wish.now) places.old.items }
+    requires inside { count_by (λ p. is_some p.visit) places.old.items ≤ D.inside device.old }
+    requires room { D.inside device.old + vec_len places.old ≤ D.places device.old + count_by (λ p. is_some p.visit) places.old.items }
+    ensures kept { All (λ p. p.end.end.handshake ≡ handshake_of wish.now) places.new.items }
+    ensures inside { D.inside device.new + count_by (λ p. is_some p.visit) places.old.items ≡ D.inside device.old + count_by (λ p. is_some p.visit) places.new.items }
+    ensures places { D.places device.new ≡ D.places device.old }
+    ensures held { vec_len places.new ≡ vec_len places.old }
+    ensures weight { IfOk result (λ r. is_won r ≡ false → sum_by (λ p. weight (option_map (λ v. v.left) p.visit)) places.new.items
+        + cost (rest_of queue.new.next queue.new.again.items) + one (not (is_over r))
+        ≤ sum_by (λ p. weight (option_map (λ v. v.left) p.visit)) places.old.items + cost (rest_of queue.old.next queue.old.again.items)) }
+    ensures over { result ≡ Ok Round.Over → queue.new.next ≡ vec_len queue.new.again }
+    ensures won { IfOk result (λ r. IfWon r (λ k. (k < vec_len places.new) × HoldsAt (λ p. is_some (metadata_of p.end.end.part) ≡ true) places.new.items k)) }
+    ensures len { vec_len queue.new.again ≡ vec_len queue.old.again }
+    ensures log { (start : Option (List Happening)) → IsCourse Going start (D.log device.old) (dials_of queue.old.next queue.old.again.items)
+        → IsCourse (stage_at result) start (D.log device.new) (dials_of queue.new.next queue.new.again.items) }
+{
+    let time = device.time();
+    let mut needed = needed::<D>(places, queue);
+    let mut is_over = true;
+    let mut waits = true;
+    for at in 0..places.len() {
+        let turned = give_turn(wish, time, needed > 0, &mut places[at], queue, device)?;
+        match turned {
+            Turn::Free => {}
+            Turn::Waits => is_over = false,
+            Turn::GoesOn => {
+                is_over = false;
+                waits = false;
+            }
+            Turn::Ended => {
+                is_over = false;
+                waits = false;
+                needed = needed.saturating_sub(1);
+            }
+            Turn::Won => return Ok(Round::Won(at)),
+        }
+    }
+    if is_over {
+        return Ok(Round::Over);
+    }
+    if waits {
+        return Ok(Round::Waits);
+    }
+    Ok(Round::GoesOn)
+}
+
+/// Fetches at places until an end has the metadata, and returns at which; `None` if no address is left.
+///
+/// # Errors
+/// `Memory` if memory is refused.
+fn fetch_at<D: Device>(
+    wish: &Wish,
+    places: &mut Places<D>,
+    queue: &mut Queue,
+    device: &mut D,
+) -> Result<Option<usize>, Memory>
+    requires some { 0 < vec_len places.old }
+    requires kept { All (λ p. p.end.end.handshake ≡ handshake_of wish.now) places.old.items }
+    requires inside { count_by (λ p. is_some p.visit) places.old.items ≤ D.inside device.old }
+    requires room { D.inside device.old + vec_len places.old ≤ D.places device.old + count_by (λ p. is_some p.visit) places.old.items }
+    ensures kept { All (λ p. p.end.end.handshake ≡ handshake_of wish.now) places.new.items }
+    ensures inside { D.inside device.new + count_by (λ p. is_some p.visit) places.old.items ≡ D.inside device.old + count_by (λ p. is_some p.visit) places.new.items }
+    ensures all { result ≡ Ok None → queue.new.next ≡ vec_len queue.new.again }
+    ensures won { IfOk result (λ o. IfSome o (λ k. (k < vec_len places.new) × HoldsAt (λ p. is_some (metadata_of p.end.end.part) ≡ true) places.new.items k)) }
+    ensures len { vec_len queue.new.again ≡ vec_len queue.old.again }
+    ensures log { (start : Option (List Happening)) → IsCourse Going start (D.log device.old) (dials_of queue.old.next queue.old.again.items)
+        → IsCourse (stage_when result) start (D.log device.new) (dials_of queue.new.next queue.new.again.items) }
+{
+    'rounds: loop {
+        match give_turns(wish, places, queue, device)? {
+            Round::Over => return Ok(None),
+            Round::Waits => device.rest(),
+            Round::GoesOn => {}
+            Round::Won(at) => return Ok(Some(at)),
+        }
+    }
+}
+
+/// Closes the connection of a place, if one is open.
+fn leave<D: Device>(place: Place<D::Link>, device: &mut D)
+    requires { one (is_some place.visit) ≤ D.inside device.old }
+    ensures inside { D.inside device.new + one (is_some place.visit) ≡ D.inside device.old }
+    ensures log { (s : Stage) (start : Option (List Happening)) (dials : ℕ → ℕ) → IsCourse s start (D.log device.old) dials → IsCourse s start (D.log device.new) dials }
+{
+    let mut place = place;
+    match place.visit.take() {
+        Some(visit) => device.ended(visit.address, visit.line.link, Ending::Left),
+        None => {}
+    }
+}
+
+/// Closes the connections that are left.
+fn leave_all<D: Device>(places: &mut Places<D>, device: &mut D)
+    requires inside { count_by (λ p. is_some p.visit) places.old.items ≤ D.inside device.old }
+    ensures inside { D.inside device.new + count_by (λ p. is_some p.visit) places.old.items ≡ D.inside device.old }
+    ensures log { (s : Stage) (start : Option (List Happening)) (dials : ℕ → ℕ) → IsCourse s start (D.log device.old) dials → IsCourse s start (D.log device.new) dials }
+{
+    while let Some(place) = places.pop() {
+        leave(place, device);
+    }
+}
+
+/// Returns `count` places, one at least.
+///
+/// # Errors
+/// `Memory` if memory is refused.
+fn places_for<D: Device>(alloc: Global, wish: &Wish, count: usize) -> Result<Places<D>, Memory>
+    requires { IsWish wish.now }
+    ensures kept { IfOk result (λ places. All (λ p. p.end.end.handshake ≡ handshake_of wish.now) places.items) }
+    ensures none { IfOk result (λ places. count_by (λ p. is_some p.visit) places.items ≡ 0) }
+    ensures least { IfOk result (λ places. 0 < vec_len places) }
+    ensures most { IfOk result (λ places. vec_len places ≤ max 1 count) }
+{
+    let count = count.max(1);
+    let mut places = Vec::new(alloc);
+    for _place in 0..count {
+        let made = Place::new(alloc, wish)?;
+        match places.push(made) {
+            Ok(()) => {}
+            Err(_) => return Err(Memory),
+        }
+    }
+    Ok(places)
+}
+
+/// Writes the file of the metadata that the end at a place has, if one has.
+fn write_out<D: Device, W: Target>(
+    alloc: Global,
+    wish: &Wish,
+    torrent: bool,
+    fetched: Result<Option<usize>, Memory>,
+    places: &Places<D>,
+    writer: &mut W,
+) -> Result<usize, FetchError>
+    requires kept { All (λ p. p.end.end.handshake ≡ handshake_of wish.now) places.now.items }
+    requires won { IfOk fetched (λ o. IfSome o (λ k. (k < vec_len places.now) × HoldsAt (λ p. is_some (metadata_of p.end.end.part) ≡ true) places.now.items k)) }
+    ensures written { IsWritten torrent wish.now.info_hash (W.seen writer.old).held (W.seen writer.new).held result }
+    ensures fault { result ≡ Err FetchError.Write → WriteFailed (W.seen writer.old) (W.seen writer.new) }
+    ensures stage { IsStage result (stage_when fetched) }
+    ensures missing { result ≡ Err FetchError.NotFetched → fetched ≡ Ok None }
+{
+    match fetched? {
+        Some(at) => put_out(alloc, torrent, &places[at].end, writer),
+        None => Err(FetchError::NotFetched),
+    }
+}
+
+/// Fetches metadata from addresses, from up to `at_once` at the same time, and writes its file.
+///
+/// The file is the metadata, or a .torrent of it. A place that falls free is taken by the next address. An address that failed comes
+/// again once after all others. Nothing is written before all of the metadata is there, and its SHA-1 is the info hash. All connections
+/// are closed when it returns. It returns how many bytes were written.
+///
+/// # Errors
+/// `NotFetched` if each address was dialled and no connection gave the metadata, `Write` if a write failed, `Memory` if memory was refused.
+pub fn fetch<D: Device, W: Target>(
+    alloc: Global,
+    wish: &Wish,
+    torrent: bool,
+    addresses: usize,
+    at_once: usize,
+    device: &mut D,
+    writer: &mut W,
+) -> Result<usize, FetchError>
+    requires wish { IsWish wish.now }
+    requires least { 0 < at_once }
+    requires places { D.inside device.old + at_once ≤ D.places device.old }
+    ensures written { IsWritten torrent wish.now.info_hash (W.seen writer.old).held (W.seen writer.new).held result }
+    ensures fault { result ≡ Err FetchError.Write → WriteFailed (W.seen writer.old) (W.seen writer.new) }
+    ensures closed { D.inside device.new ≡ D.inside device.old }
+    ensures log { IsLogged addresses (D.log device.old) (D.log device.new) result }
+{
+    let mut queue = Queue::new(alloc, addresses)?;
+    let mut places = places_for::<D>(alloc, wish, at_once.min(addresses))?;
+    let fetched = fetch_at::<D>(wish, &mut places, &mut queue, device);
+    let written = write_out::<D, W>(alloc, wish, torrent, fetched, &places, writer);
+    leave_all::<D>(&mut places, device);
+    written
+}

@@ -1,0 +1,110 @@
+//! Connections over TCP to many addresses at the same time.
+ghost use Rattle.std.specs.Prelude.{◌≡◌};
+
+use crate::device::{Device, Ending};
+use bt_end::Progress;
+use bt_exchange::Stream;
+use mio::net::TcpStream;
+use std::io;
+use std::net::{Net, SocketAddr};
+use std::time::{Clock, Duration};
+
+/// How long a fetch waits where no connection can go on, in milliseconds.
+const REST: u64 = 5;
+
+/// Hears what happens at the addresses, each by its number.
+pub trait Watcher {
+    /// No connection to the address was begun.
+    fn failed(&mut self, address: usize);
+
+    /// The fetch over the connection to the address has come this far.
+    fn came(&mut self, address: usize, progress: Progress);
+
+    /// The connection to the address ended.
+    fn ended(&mut self, address: usize, ending: Ending);
+}
+
+/// Opens TCP connections to the addresses of a list, whose calls don't wait.
+#[derive(Drop)]
+pub struct TcpSwarm<'a, R: Net + Clock, T: Watcher + Drop> {
+    runtime: &'a R,
+    addresses: &'a [SocketAddr],
+    watcher: T,
+    inside: usize,
+    places: usize,
+    time: u64,
+}
+
+impl<'a, R: Net + Clock, T: Watcher + Drop> TcpSwarm<'a, R, T> {
+    /// Returns a device with `places` places for connections to these addresses.
+    pub fn new(
+        runtime: &'a R,
+        addresses: &'a [SocketAddr],
+        watcher: T,
+        places: usize,
+    ) -> TcpSwarm<'a, R, T>
+        ensures inside { ⟦<TcpSwarm<'a, R, T> as Device>⟧.inside result ≡ 0 }
+        ensures places { ⟦<TcpSwarm<'a, R, T> as Device>⟧.places result ≡ places }
+    {
+        TcpSwarm {
+            runtime,
+            addresses,
+            watcher,
+            inside: 0,
+            places,
+            time: 0,
+        }
+    }
+}
+
+/// Begins a connection whose calls don't wait, also while it isn't there yet.
+fn begin<R: Net>(net: &R, address: SocketAddr) -> io::Result<TcpStream> {
+    let stream = TcpStream::connect(net, address)?;
+    stream.set_nodelay(true)?;
+    Ok(stream)
+}
+
+impl<'a, R: Net + Clock, T: Watcher + Drop> Device for TcpSwarm<'a, R, T> {
+    type Link = Stream<TcpStream, &'a R>;
+
+    ghost use Rattle.std.specs.Prelude.{None};
+
+    ghost log = { λ d. None };
+
+    ghost inside = { λ d. d.inside };
+
+    ghost places = { λ d. d.places };
+
+    fn dial(&mut self, address: usize) -> Option<Stream<TcpStream, &'a R>> {
+        let begun = match self.addresses.get(address) {
+            Some(at) => begin(self.runtime, *at).ok(),
+            None => None,
+        };
+        let Some(stream) = begun else {
+            self.watcher.failed(address);
+            return None;
+        };
+        self.inside += 1;
+        Some(Stream::new(stream, self.runtime))
+    }
+
+    fn ended(&mut self, address: usize, _link: Stream<TcpStream, &'a R>, ending: Ending) {
+        self.inside -= 1;
+        self.watcher.ended(address, ending);
+    }
+
+    fn came(&mut self, address: usize, progress: Progress) {
+        self.watcher.came(address, progress);
+    }
+
+    fn time(&mut self) -> u64 {
+        if let Ok(time) = self.runtime.monotonic() {
+            self.time = u64::try_from(time.as_millis()).unwrap_or(u64::MAX);
+        }
+        self.time
+    }
+
+    fn rest(&mut self) {
+        self.runtime.sleep(Duration::from_millis(REST));
+    }
+}
