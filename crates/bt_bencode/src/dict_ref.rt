@@ -33,6 +33,17 @@ pub struct DictRef<'a> {
 }
 
 impl<'a> DictRef<'a> {
+    /// Makes the dictionary that bytes encode, without a second scan.
+    ///
+    /// The bytes encode one dictionary within the limits, as those of [`DictRef::spelled`] do.
+    #[inline(always)]
+    pub fn of_spelled(bytes: &'a [u8]) -> DictRef<'a>
+        requires { IsSpelling bytes.now }
+        ensures { Spells result.tree.0 bytes.now }
+    {
+        DictRef { bytes }
+    }
+
     /// Returns the bytes that encode the dictionary.
     pub fn spelled(&self) -> &'a [u8]
         ensures { Spells self.now.tree.0 result.now }

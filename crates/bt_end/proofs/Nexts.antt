@@ -2,11 +2,13 @@
 use Rattle.std.proofs.Common.{◌≡◌, ℕ, false, ◌++◌, length, Option, None, Some, Result, Ok, Err, refl, sym, ap, subst, ◌∙◌, arith}
 use Rattle.bt_wire.specs.declared.item.Item.{Item}
 use Rattle.bt_wire.specs.declared.item.Refusal.{Refusal}
-use Rattle.bt_feed.specs.Answers.{IsAnswer, after}
+use Rattle.bt_feed.specs.Answers.{IsAnswer, after, followed}
+use Rattle.bt_feed.specs.declared.judged.Judged.{Judged}
+use Rattle.bt_feed.specs.Judged.{IsJudged, WasJudged}
 use Rattle.bt_feed.specs.declared.stage.Stage.{Stage}
 use Rattle.bt_feed.specs.Feeds.{FeedState}
 use Rattle.bt_feed.specs.Progress.{IsFeed}
-use Rattle.bt_feed.specs.Stages.{start_of, stage_after}
+use Rattle.bt_feed.specs.Stages.{start_of, stage_after, IsItem}
 use Rattle.bt_feed.specs.Views.{item_of, shown}
 use Rattle.bt_feed.specs.declared.view.View.{View}
 use Rattle.bt_feed.specs.declared.view.TakeError.{TakeError}
@@ -27,12 +29,12 @@ use Rattle.bt_end.proofs.Turns.{IsKept, kept_half, same_half}
 
 -- ---- an item is handled that is still held
 
-pub met : {A : Type 0} → {old mid : Inside A} {a : HalfState} {new : Reactor A} (view : View) {next : Stage} {e : Event}
+pub met : {A : Type 0} → {old mid : Inside A} {a : HalfState} {new : Reactor A} (view : View) {j : Judged} {e : Event}
     {x : Result (Option View) TakeError} → half_of old ≡ a → IsKept old mid → is_busy (half_of old) ≡ false →
     x ≡ Ok (Some view) → IsAnswer mid.feed (shown x) → IsReacted mid.reactor new (react (end_of mid.reactor) (item_of view))
-    → next ≡ stage_after mid.feed.stage (length mid.feed.held) (item_of view) → e ≡ event_of (end_of mid.reactor) (item_of view)
-    → IsMet a (Ok (Some (next, e))) (half_of (record { feed = mid.feed; reactor = new }))
-met {old} {mid} {a} {new} view {next} {e} v k b o i h n q =
+    → IsJudged mid.feed (item_of view) j → e ≡ event_of (end_of mid.reactor) (item_of view)
+    → IsMet a (Ok (Some (j, e))) (half_of (record { feed = mid.feed; reactor = new }))
+met {old} {mid} {a} {new} view {j} {e} v k b o i h n q =
     let item = item_of view in
     let r = react (end_of mid.reactor) item in
     let p : half_of mid ≡ half_of old = kept_half old mid k in
@@ -40,9 +42,9 @@ met {old} {mid} {a} {new} view {next} {e} v k b o i h n q =
     let answer : IsAnswer mid.feed (Ok (Some item)) = subst (λ (y : Result (Option View) TakeError). IsAnswer mid.feed (shown y)) o i in
     let left : half_of (record { feed = mid.feed; reactor = new }) ≡ reacted (half_of mid) r =
     same_half (end_of new) r.end mid.feed mid.feed new.outbox.bytes (mid.reactor.outbox.bytes ++ spelled r.end r.queued) h.end refl h.queued in
-    subst (λ (y : HalfState). IsMet y (Ok (Some (next, e))) (half_of (record { feed = mid.feed; reactor = new }))) (p ∙ v) (
+    subst (λ (y : HalfState). IsMet y (Ok (Some (j, e))) (half_of (record { feed = mid.feed; reactor = new }))) (p ∙ v) (
       item,
-      record { answer = (busy, answer); next_is = n; event_is = q; left = left },
+      record { answer = (busy, answer); judged = n; event_is = q; left = left },
     )
 
 pub met_idle : {A : Type 0} → (old : Inside A) {a : HalfState} {x : Result (Option View) TakeError} → half_of old ≡ a
@@ -63,44 +65,30 @@ met_fault old {a} {f} q v b i e =
 
 -- ---- it is taken
 
-same_feed : (a b : HalfState) (item : Item) (next : Stage) (e : Event) → IsMetAt a b item next e → a.feed ≡ b.feed
-same_feed a b item next e h = ap (λ (y : HalfState). y.feed) (sym h.left)
+same_feed : (a b : HalfState) (item : Item) (j : Judged) (e : Event) → IsMetAt a b item j e → a.feed ≡ b.feed
+same_feed a b item j e h = ap (λ (y : HalfState). y.feed) (sym h.left)
+
+-- what is kept of it is still that of the item that the feed holds
+pub still_judged : {a mid : HalfState} {j : Judged} {e : Event} → IsMet a (Ok (Some (j, e))) mid → WasJudged mid.feed j
+still_judged {a} {mid} {j} {e} m = subst (λ (f : FeedState). WasJudged f j) (same_feed a mid m.0 j e m.1) (m.0, m.1.judged)
 
 item_or : Item → Result (Option Item) Refusal → Item
 item_or d (Ok (Some item)) = item
 item_or d other = d
 
-pub heard : {a mid new : HalfState} {next : Stage} {e : Event} {at : ℕ} (view : View) {r : Result (Option View) TakeError}
-    → IsMet a (Ok (Some (next, e))) mid → IsFeed mid.feed
-    → at ≡ start_of mid.feed.stage → r ≡ Ok (Some view) → IsAnswer mid.feed (shown r) → new ≡ with_feed mid (after mid.feed (shown r)) →
+pub heard : {a mid new : HalfState} {j : Judged} {e : Event} {at : ℕ} (view : View) → IsMet a (Ok (Some (j, e))) mid → IsFeed mid.feed
+    → at ≡ start_of mid.feed.stage → IsItem mid.feed.stage mid.feed.held (item_of view) → new ≡ with_feed mid (followed mid.feed j.next) →
     IsTurned a (Ok Handled) new × IsHeard a (Ok (Some (record { at = at; view = view; event = e })))
 unfolding item_or
-heard {a} {mid} {new} {next} {e} {at} view m f s o i n =
+heard {a} {mid} {new} {j} {e} {at} view m f s answer n =
     let item = item_of view in
-    let feed : a.feed ≡ mid.feed = same_feed a mid m.0 next e m.1 in
-    let answer : IsAnswer mid.feed (Ok (Some item)) = subst (λ (y : Result (Option View) TakeError). IsAnswer mid.feed (shown y)) o i in
+    let feed : a.feed ≡ mid.feed = same_feed a mid m.0 j e m.1 in
     let here : IsAnswer mid.feed (Ok (Some m.0)) = subst (λ (y : FeedState). IsAnswer y (Ok (Some m.0))) feed m.1.answer.1 in
     let same : m.0 ≡ item = ap (item_or item) (answer_only mid.feed (Ok (Some m.0)) (Ok (Some item)) (omega (arith, f.limit)) here answer) in
-    let t : IsMetAt a mid item next e = subst (λ (y : Item). IsMetAt a mid y next e) same m.1 in
-    let left : new ≡ with_feed mid (after mid.feed (Ok (Some item))) =
-    n ∙ ap (λ (y : Result (Option View) TakeError). with_feed mid (after mid.feed (shown y))) o in
-    let is : new ≡ reacted (with_feed a (after a.feed (Ok (Some item)))) (react a.end item) =
-    left ∙ ap (λ (y : HalfState). with_feed y (after y.feed (Ok (Some item)))) t.left in (
-      (item, t.answer, is),
+    let t : IsMetAt a mid item j e = subst (λ (y : Item). IsMetAt a mid y j e) same m.1 in
+    let left : new ≡ reacted (with_feed a (after a.feed (Ok (Some item)))) (react a.end item) =
+    n ∙ ap (λ (y : HalfState). with_feed y (followed y.feed j.next)) t.left
+    ∙ ap (λ (u : Stage). with_feed (reacted a (react a.end item)) (followed a.feed u)) t.judged.next in (
+      (item, t.answer, left),
       (t.answer.1, s ∙ ap (λ (y : FeedState). start_of y.stage) (sym feed), t.event_is),
     )
-
--- it is there
-pub never_idle : {a mid : HalfState} {next : Stage} {e : Event} {r : Result (Option View) TakeError} → IsMet a (Ok (Some (next, e))) mid → IsFeed mid.feed
-    → r ≡ Ok None → IsAnswer mid.feed (shown r) → ⊥
-never_idle {a} {mid} {next} {e} m f o i =
-    let none : IsAnswer mid.feed (Ok None) = subst (λ (y : Result (Option View) TakeError). IsAnswer mid.feed (shown y)) o i in
-    let here = subst (λ (y : FeedState). IsAnswer y (Ok (Some m.0))) (same_feed a mid m.0 next e m.1) m.1.answer.1 in
-    let is = answer_only mid.feed (Ok None) (Ok (Some m.0)) (omega (arith, f.limit)) none here in absurd cc
-
-pub never_refused : {a mid : HalfState} {next : Stage} {e : Event} (q : TakeError) {r : Result (Option View) TakeError} → IsMet a (Ok (Some (next, e))) mid
-    → IsFeed mid.feed → r ≡ Err q → IsAnswer mid.feed (shown r) → ⊥
-never_refused {a} {mid} {next} {e} (error.Refused q) m f o i =
-    let fault : IsAnswer mid.feed (Err q) = subst (λ (y : Result (Option View) TakeError). IsAnswer mid.feed (shown y)) o i in
-    let here = subst (λ (y : FeedState). IsAnswer y (Ok (Some m.0))) (same_feed a mid m.0 next e m.1) m.1.answer.1 in
-    let is = answer_only mid.feed (Err q) (Ok (Some m.0)) (omega (arith, f.limit)) fault here in absurd cc

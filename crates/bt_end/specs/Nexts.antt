@@ -1,9 +1,10 @@
 -- What a turn says that tells of its item.
-use Rattle.std.specs.Prelude.{◌≡◌, length, Option, Some, None, Result, Ok, Err, ⊤}
+use Rattle.std.specs.Prelude.{◌≡◌, Option, Some, None, Result, Ok, Err, ⊤}
 use Rattle.bt_wire.specs.declared.item.Item.{Item}
 use Rattle.bt_feed.specs.Answers.{IsAnswer}
-use Rattle.bt_feed.specs.declared.stage.Stage.{Stage}
-use Rattle.bt_feed.specs.Stages.{start_of, stage_after}
+use Rattle.bt_feed.specs.declared.judged.Judged.{Judged}
+use Rattle.bt_feed.specs.Judged.{IsJudged}
+use Rattle.bt_feed.specs.Stages.{start_of}
 use Rattle.bt_feed.specs.Views.{item_of}
 use Rattle.bt_end.specs.Ends.{react}
 use Rattle.bt_end.specs.Events.{event_of}
@@ -28,14 +29,14 @@ IsHeard a r = ⊤
 
 -- ---- for private contracts
 
--- The item is handled, but still held; this is awaited after it, and this is what it makes of the end.
-pub record IsMetAt (a b : HalfState) (item : Item) (next : Stage) (e : Event) : Type 0 where
+-- The item is handled, but still held; this is kept of it, and this is what it makes of the end.
+pub record IsMetAt (a b : HalfState) (item : Item) (j : Judged) (e : Event) : Type 0 where
   pub answer : IsAnswered a (Ok (Some item))
-  pub next_is : next ≡ stage_after a.feed.stage (length a.feed.held) item
+  pub judged : IsJudged a.feed item j
   pub event_is : e ≡ event_of a.end item
   pub left : b ≡ reacted a (react a.end item)
 
-abbrev pub IsMet : HalfState → Result (Option (Stage × Event)) TurnError → HalfState → Type 0
+abbrev pub IsMet : HalfState → Result (Option (Judged × Event)) TurnError → HalfState → Type 0
 IsMet a (Ok (Some m)) b = (item : Item) × IsMetAt a b item m.0 m.1
 IsMet a (Ok None) b = IsTurned a (Ok Idle) b
 IsMet a (Err e) b = IsTurned a (Err e) b

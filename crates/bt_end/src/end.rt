@@ -3,10 +3,7 @@ use crate::config::{Announce, Config, EndError, Role, Window};
 use crate::event::Event;
 use crate::part::{Part, Progress};
 use crate::reactor::Reactor;
-use bt_feed::laws::one_answer;
-use bt_feed::{
-    Feed, Finish, Memory, Outbox, Stage, TakeError, Target, View, WriteFault, refusal_in,
-};
+use bt_feed::{Feed, Finish, Judged, Memory, Outbox, Target, View, WriteFault, refusal_in};
 use bt_metadata::{BadSize, MAX_METADATA, Server};
 use bt_wire::{Context, Fault, Handshake, Message, Order, Own, Refusal, spell_handshake};
 use std::alloc::{Allocator, Global};
@@ -163,8 +160,10 @@ ghost use Rattle.bt_end.specs.Ends.{belief, metadata_of, unopened, renewed, prog
 ghost use Rattle.std.specs.Io.BufRead.{Rests};
 ghost use types.Logic.{sem};
 ghost use Rattle.bt_end.specs.contracts.end.End.{the_row};
-ghost use Rattle.bt_feed.specs.Answers.{IsAnswer, after};
-ghost use Rattle.bt_feed.specs.Views.{shown};
+ghost use Rattle.bt_feed.specs.Answers.{followed};
+ghost use Rattle.bt_feed.specs.Judged.{WasJudged};
+ghost use Rattle.bt_feed.specs.Stages.{IsItem};
+ghost use Rattle.bt_feed.specs.Views.{item_of};
 ghost use Rattle.bt_end.specs.Nexts.{IsMet, IsHeard, turn_of};
 ghost use Rattle.bt_end.specs.Halves.{IsTurned, with_feed, IsBegun, IsSaid, high_water, is_ready, connected, received, without_sent, with_window, IsHandled, IsStop};
 ghost use Rattle.bt_end.specs.Parts.{part_of, shown_slice};
@@ -362,8 +361,8 @@ impl<A: Allocator + Copy> End<A> {
         ensures { IsTurned self.old result self.new }
     {
         match self.meet()? {
-            Some((next, _)) => {
-                self.feed.commit(next);
+            Some((judged, _)) => {
+                self.feed.commit(judged.next);
                 Ok(Turn::Handled)
             }
             None => Ok(Turn::Idle),
@@ -372,8 +371,8 @@ impl<A: Allocator + Copy> End<A> {
 
     /// Handles the item that is buffered, if it is whole, but doesn't take it.
     ///
-    /// It returns what is awaited after it, and what it did to the end.
-    fn meet(&mut self) -> Result<Option<(Stage, Event)>, TurnError>
+    /// It returns what is kept of it, and what it did to the end.
+    fn meet(&mut self) -> Result<Option<(Judged, Event)>, TurnError>
         ensures { IsMet self.old result self.new }
     {
         if is_busy(&self.feed, &self.reactor.outbox) {
@@ -381,10 +380,10 @@ impl<A: Allocator + Copy> End<A> {
         }
         match self.feed.look() {
             Ok(Some(view)) => {
-                let next = self.feed.following(&view);
+                let judged = self.feed.judged(&view);
                 let plan = self.reactor.plan(&view)?;
                 let event = self.reactor.handle(&view, plan);
-                Ok(Some((next, event)))
+                Ok(Some((judged, event)))
             }
             Ok(None) => Ok(None),
             Err(error) => {
@@ -395,12 +394,13 @@ impl<A: Allocator + Copy> End<A> {
         }
     }
 
-    /// Takes the item that was handled.
-    fn hand(&mut self) -> Result<Option<View<'_>>, TakeError>
-        ensures value { IsAnswer self.old.feed (shown result) }
-        ensures* after { sem 𝓛 (Rests (the_row A.row A.Allocator) self.entry (λ new. new ≡ with_feed self.old (after self.old.feed (shown result)))) }
+    /// Takes the item that was handled, without a second check.
+    fn hand(&mut self, judged: Judged) -> View<'_>
+        requires { WasJudged self.old.feed judged }
+        ensures value { IsItem self.old.feed.stage self.old.feed.held (item_of result) }
+        ensures* after { sem 𝓛 (Rests (the_row A.row A.Allocator) self.entry (λ new. new ≡ with_feed self.old (followed self.old.feed judged.next))) }
     {
-        self.feed.take()
+        self.feed.hand(judged)
     }
 
     /// Handles the next item, and returns the item and what it did to the end.
@@ -414,16 +414,12 @@ impl<A: Allocator + Copy> End<A> {
         ensures heard { IsHeard self.old result }
         ensures* after { sem 𝓛 (Rests (the_row A.row A.Allocator) self.entry (λ new. IsTurned self.old (turn_of result) new)) }
     {
-        let Some((_, event)) = self.meet()? else {
+        let Some((judged, event)) = self.meet()? else {
             return Ok(None);
         };
-        one_answer();
         let at = self.feed.start();
-        match self.hand() {
-            Ok(Some(view)) => Ok(Some(Heard { at, view, event })),
-            Ok(None) => unreachable!(),
-            Err(_) => unreachable!(),
-        }
+        let view = self.hand(judged);
+        Ok(Some(Heard { at, view, event }))
     }
 
     /// Queues a message if it is legal for the peer, as far as its handshakes tell.

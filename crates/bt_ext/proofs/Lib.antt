@@ -2,6 +2,7 @@ pub mod Allowed
 pub mod ByteMaps
 pub mod ByName
 pub mod Entries
+pub mod KnownDict
 pub mod LawProofs
 pub mod MadeKinds
 pub mod MadeRight

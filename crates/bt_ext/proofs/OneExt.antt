@@ -86,10 +86,10 @@ of_raw reg i id h =
 -- ---- ids of two kinds differ
 
 -- an id of a dictionary is no other's
-dict_or_donthave : (reg : Registered) (id : ℕ) → needs_dict reg id ≡ true → donthave_id reg ≡ Some id → ⊥
+pub dict_or_donthave : (reg : Registered) (id : ℕ) → needs_dict reg id ≡ true → donthave_id reg ≡ Some id → ⊥
 dict_or_donthave reg id d h = let other = (of_donthave reg id h).1 in cc
 
-dict_or_raw : (reg : Registered) (i id : ℕ) → needs_dict reg id ≡ true → (if is_known reg i then None else Some i) ≡ Some id → ⊥
+pub dict_or_raw : (reg : Registered) (i id : ℕ) → needs_dict reg id ≡ true → (if is_known reg i then None else Some i) ≡ Some id → ⊥
 dict_or_raw reg i id d h = let other = (of_raw reg i id h).1 in cc
 
 donthave_or_raw : (reg : Registered) (i id : ℕ) → donthave_id reg ≡ Some id → (if is_known reg i then None else Some i) ≡ Some id → ⊥

@@ -4,6 +4,7 @@ pub mod Payloads
 pub mod Fields
 pub mod Metadata
 pub mod Faults
+pub mod Judged
 pub mod Tables
 pub mod Made
 pub mod Laws

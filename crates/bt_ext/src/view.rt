@@ -1,10 +1,11 @@
 //! Parsing of an extended payload.
-ghost use Rattle.std.specs.Prelude.{◌≡◌, ◌≢◌, ◌++◌, ◌<◌, ◌^◌, None, length, IfOk, IfErr, IfSome};
+ghost use Rattle.std.specs.Prelude.{◌≡◌, ◌≢◌, ◌++◌, ◌<◌, ◌≤◌, ◌^◌, None, length, take, IfOk, IfErr, IfSome};
 ghost use Rattle.bt_bencode.specs.Trees.{dictionary};
-ghost use Rattle.bt_bencode.specs.Bencoding.{ben, Fits, IsPlace};
+ghost use Rattle.bt_bencode.specs.Bencoding.{ben, Fits, IsPlace, IsSpelling};
 ghost use Rattle.bt_bencode.specs.Payloads.{BeginsWithNone};
 ghost use Rattle.bt_ext.specs.Payloads.{IsExt, index_bytes, seen};
 ghost use Rattle.bt_ext.specs.declared.ids.Rules.{Rules};
+ghost use Rattle.bt_ext.specs.Judged.{dict_length, WasJudged, IsValueOf};
 ghost use Rattle.bt_ext.specs.Faults.{Reads, Refuses, RefusesToRead, fault_of, handshake_fault_of, metadata_fault_of};
 
 use crate::bytes::copy_bytes;
@@ -138,6 +139,67 @@ pub fn view_ext<'a>(
             Some(fault) => Err(fault),
         },
     }
+}
+
+impl<'a> ExtView<'a> {
+    /// Returns how many bytes the dictionary has; 0 if there is none.
+    #[inline(always)]
+    pub fn dict_len(&self) -> usize
+        ensures { result ≡ dict_length (seen self.now) }
+    {
+        match self {
+            ExtView::Handshake { dict, .. } => dict.spelled().len(),
+            ExtView::Metadata { dict, .. } => dict.spelled().len(),
+            ExtView::DontHave(_) => 0,
+            ExtView::Raw { .. } => 0,
+        }
+    }
+}
+
+/// Returns the dictionary in front, which has `n` bytes, and what follows it.
+#[inline(always)]
+fn split_known(payload: &[u8], n: usize) -> (DictRef<'_>, &[u8])
+    requires within { n ≤ length payload.now }
+    requires spelled { IsSpelling (take n payload.now) }
+    ensures fits { Fits (dictionary result.0.tree.0) }
+    ensures parts { payload.now ≡ ben (dictionary result.0.tree.0) ++ result.1.now }
+{
+    (DictRef::of_spelled(&payload[..n]), &payload[n..])
+}
+
+/// Returns the value that the id and the payload are, by its kind.
+#[inline(always)]
+fn shape_judged<'a>(reg: Registered, id: u8, payload: &'a [u8], dict_len: usize) -> ExtView<'a>
+    requires { WasJudged reg id payload.now dict_len }
+    ensures { IsExt reg (seen result) id payload.now }
+{
+    if reg.needs_dict(id) {
+        let (dict, rest) = split_known(payload, dict_len);
+        if id == 0 {
+            ExtView::Handshake { dict, rest }
+        } else {
+            ExtView::Metadata { dict, rest }
+        }
+    } else if reg.is_donthave(id) {
+        match read_index(payload) {
+            Some(index) => ExtView::DontHave(index),
+            None => unreachable!(),
+        }
+    } else {
+        ExtView::Raw { id, payload }
+    }
+}
+
+/// Returns the value that the id and the payload are, without a second check.
+///
+/// They are those of a value, as if [`view_ext`] returned it before, and its dictionary has `dict_len` bytes: see
+/// [`ExtView::dict_len`]. It scans nothing.
+#[inline(always)]
+pub fn view_judged<'a>(reg: Registered, id: u8, payload: &'a [u8], dict_len: usize) -> ExtView<'a>
+    requires { WasJudged reg id payload.now dict_len }
+    ensures { IsValueOf reg id payload.now (seen result) }
+{
+    shape_judged(reg, id, payload, dict_len)
 }
 
 /// The dictionary of a view and what follows it.

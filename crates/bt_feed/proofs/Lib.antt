@@ -14,4 +14,5 @@ mod Lent
 mod Passed
 mod Reasons
 mod Committed
+mod JudgedItems
 mod Shares

@@ -2,6 +2,7 @@ pub mod Stages
 pub mod Feeds
 pub mod Views
 pub mod Answers
+pub mod Judged
 pub mod Progress
 pub mod Sound
 pub mod Transcripts

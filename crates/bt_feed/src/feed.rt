@@ -2,10 +2,11 @@
 ghost use Rattle.std.specs.Prelude.{◌≡◌, ◌+◌, ◌<◌, ◌≤◌, ◌^◌, ◌⊎◌, ◌↔◌, ℕ, List, [], length, take, None, Err, IfOk, IfSome, IsErrOf, OnOk, OnErr, is_err};
 
 use crate::buffer::Buffer;
+use crate::judged::Judged;
 use crate::progress::Progress;
 use crate::sink::{Sink, SinkFault};
 use crate::stage::{END, Stage};
-use crate::view::{Finish, TakeError, View};
+use crate::view::{Finish, TakeError, View, dict_len_of};
 use bt_io::{Failed, Source};
 use bt_wire::{Context, Order, Own, Refusal};
 use std::alloc::{AllocError, Allocator, Global};
@@ -75,6 +76,7 @@ ghost use Rattle.bt_wire.specs.declared.item.Item.{Item};
 ghost use Rattle.bt_io.specs.Counts.{Grew, one_more, counted, is_end};
 ghost use Rattle.bt_feed.specs.Pumps.{IsHanded, IsFed, IsRead};
 ghost use Rattle.bt_feed.specs.Views.{shown, item_of};
+ghost use Rattle.bt_feed.specs.Judged.{IsJudged, WasJudged};
 ghost use Rattle.bt_feed.specs.Progress.{IsPartial, IsFeed};
 ghost use Rattle.bt_feed.specs.Answers.{IsAnswer, IsFollowing, followed, after, standing, finish_of};
 ghost use Rattle.std.specs.Io.BufRead.{Rests};
@@ -267,6 +269,30 @@ impl<A: Allocator> Feed<A> {
         ensures { self.new ≡ followed self.old next }
     {
         self.progress.commit(self.buffer.as_slice(), next);
+    }
+
+    /// Returns what [`Feed::hand`] needs of the item that [`Feed::look`] returned as `view`.
+    #[inline(always)]
+    pub fn judged(&self, view: &View) -> Judged
+        requires { IsItem self.now.stage self.now.held (item_of view.now) }
+        ensures { IsJudged self.now (item_of view.now) result }
+    {
+        Judged {
+            next: self.following(view),
+            dict_len: dict_len_of(view),
+        }
+    }
+
+    /// Returns the current item without a second check, and goes on to the next one.
+    ///
+    /// `judged` is what [`Feed::judged`] returned for it. It has the effect of [`Feed::take`], and scans nothing.
+    #[inline(always)]
+    pub fn hand(&mut self, judged: Judged) -> View<'_>
+        requires { WasJudged self.old judged }
+        ensures value { IsItem self.old.stage self.old.held (item_of result) }
+        ensures* after { sem 𝓛 (Rests (the_row A.row A.Allocator) self.entry (λ new. new ≡ followed self.old judged.next)) }
+    {
+        self.progress.hand(self.buffer.as_slice(), judged)
     }
 
     /// Makes a refusal that [`Feed::look`] returned stay, as [`Feed::take`] does.

@@ -7,6 +7,7 @@ mod buffer;
 mod discard;
 mod feed;
 mod items;
+mod judged;
 pub mod laws;
 mod passing;
 mod peer_error;
@@ -25,6 +26,7 @@ pub use bt_io::{
 pub use discard::Discard;
 pub use feed::{Feed, FeedError};
 pub use items::{ItemError, Items};
+pub use judged::Judged;
 pub use peer_error::PeerError;
 pub use pumping::{PumpError, pump, pump_with};
 pub use sender::peer_context;

@@ -3,13 +3,15 @@ ghost use Rattle.std.specs.Prelude.{◌≡◌, ◌+◌, ◌-◌, ◌<◌, ◌≤
 ghost use Rattle.bt_wire.specs.declared.item.Item.{Item};
 ghost use Rattle.bt_io.specs.Counts.{Grew, one_more, counted, is_end};
 ghost use Rattle.bt_feed.specs.Pumps.{IsHanded, IsFed, IsRead};
-ghost use Rattle.bt_feed.specs.Stages.{limit_of, capacity_of, is_closed};
+ghost use Rattle.bt_feed.specs.Stages.{limit_of, capacity_of, is_closed, IsItem};
 ghost use Rattle.bt_feed.specs.Feeds.{held_of, state_of};
-ghost use Rattle.bt_feed.specs.Views.{shown};
+ghost use Rattle.bt_feed.specs.Views.{shown, item_of};
+ghost use Rattle.bt_feed.specs.Judged.{WasJudged};
 ghost use Rattle.bt_feed.specs.Answers.{IsAnswer, IsFound, IsFollowing, followed, after, standing, finish_of};
 ghost use Rattle.bt_feed.specs.Progress.{IsPartial, HasWindow, Fills, IsProgress, IsSameItem};
 
 use crate::buffer::Buffer;
+use crate::judged::Judged;
 use crate::passing::pass_messages;
 use crate::sink::{Sink, SinkFault};
 use crate::slices::suffix;
@@ -331,6 +333,21 @@ impl Progress {
             wanted: 0,
             refused: self.refused,
         };
+    }
+
+    /// Returns the item that was judged, without a second check, and goes on to the next one.
+    #[inline(always)]
+    pub fn hand<'a>(&mut self, buffer: &'a [u8], judged: Judged) -> View<'a>
+        requires sound { IsProgress self.old buffer.now }
+        requires judged { WasJudged (state_of self.old buffer.now) judged }
+        ensures value { IsItem self.old.stage (held_of self.old buffer.now) (item_of result) }
+        ensures after { state_of self.new buffer.now ≡ followed (state_of self.old buffer.now) judged.next }
+        ensures sound { IsProgress self.new buffer.now }
+        ensures limit { limit_of self.new.stage ≡ limit_of self.old.stage }
+    {
+        let view = self.stage.view_judged(self.held(buffer), judged.dict_len);
+        self.commit(buffer, judged.next);
+        view
     }
 
     /// Returns the refusal that was returned, or that of an early fault.

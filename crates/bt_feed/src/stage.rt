@@ -3,12 +3,13 @@ ghost use Rattle.std.specs.Prelude.{◌≡◌, ◌+◌, ◌<◌, ◌≤◌, ◌^
 ghost use Rattle.bt_feed.specs.Stages.{start_of, number_of, limit_of, refusal_of, stage_after};
 ghost use Rattle.bt_feed.specs.Views.{item_of};
 ghost use Rattle.bt_feed.specs.Answers.{IsFound, IsEarly};
+ghost use Rattle.bt_feed.specs.Judged.{WasItem, IsItemOf};
 ghost use Rattle.bt_feed.specs.Progress.{IsPartial, HasWindow, IsGoal, IsStart};
 
 use crate::view::View;
 use bt_wire::{
-    Context, Front, Header, Opening, Order, Own, Reason, Refusal, Refused, judge_handshake,
-    judge_header, negotiate, next_of_view, read_front, read_opening,
+    Context, Front, Header, Opening, Order, Own, Reason, Refusal, Refused, handshake_judged,
+    judge_handshake, judge_header, negotiate, next_of_view, read_front, read_opening, view_judged,
 };
 
 /// The offset below which a message starts.
@@ -149,6 +150,20 @@ impl Stage {
                 Front::Partial => Ok(None),
                 Front::Whole(message, _) => Ok(Some(View::Message(message))),
             },
+        }
+    }
+
+    /// Returns the item that the bytes are, without a second check.
+    ///
+    /// Its dictionary has `dict_len` bytes (0 if it has none).
+    #[inline(always)]
+    pub(crate) fn view_judged<'a>(&self, held: &'a [u8], dict_len: usize) -> View<'a>
+        requires { WasItem self.now held.now dict_len }
+        ensures { IsItemOf self.now held.now (item_of result) }
+    {
+        match self {
+            Stage::Handshake(_) => View::Handshake(handshake_judged(held)),
+            Stage::Message { context, .. } => View::Message(view_judged(context, held, dict_len)),
         }
     }
 

@@ -1,8 +1,9 @@
 //! What a feed returns: views of items, refusals, and what is wrong at the end of a stream.
 ghost use Rattle.std.specs.Prelude.{◌≡◌, IfOk, IfErr};
 ghost use Rattle.bt_feed.specs.Views.{item_of, KeepsBytes};
+ghost use Rattle.bt_feed.specs.Judged.{dict_length};
 
-use bt_wire::{Handshake, Item, MessageView, Refusal, copy_message};
+use bt_wire::{Handshake, Item, MessageView, Refusal, copy_message, dict_len};
 use std::alloc::{AllocError, Global};
 use thiserror::Error;
 
@@ -36,6 +37,17 @@ pub fn refusal_in(error: TakeError) -> Refusal
 {
     match error {
         TakeError::Refused(refusal) => refusal,
+    }
+}
+
+/// Returns how many bytes the dictionary of an item has; 0 if it has none.
+#[inline(always)]
+pub(crate) fn dict_len_of(view: &View) -> usize
+    ensures { result ≡ dict_length (item_of view.now) }
+{
+    match view {
+        View::Handshake(_) => 0,
+        View::Message(message) => dict_len(message),
     }
 }
 

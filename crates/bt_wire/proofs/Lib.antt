@@ -6,6 +6,7 @@ pub mod SpellLaws
 pub mod RuleLaws
 pub mod SpareLaws
 pub mod WindowLaws
+pub mod JudgedLaws
 pub mod ExtLaws
 pub mod ValueLaws
 pub mod FrontLaws

@@ -163,7 +163,7 @@ bodies {k} {n} c None None hk hn ks kr ns nr h =
     sym (made-fields c k hk ks kr) ∙ ap (λ (o : Option ℕ). body_made o (spell_fields (fields_of c k))) parts.id ∙ ap (body_made (id_of n)) parts.fields
     ∙ made-fields c n hn ns nr
 
-one_body : (c : Context) (k n : Message) → IsShaped c k → IsInRange c k → IsShaped c n → IsInRange c n → body c k ≡ body c n → k ≡ n
+pub one_body : (c : Context) (k n : Message) → IsShaped c k → IsInRange c k → IsShaped c n → IsInRange c n → body c k ≡ body c n → k ≡ n
 one_body c k n ks kr ns nr h = bodies c (ext_of k) (ext_of n) refl refl ks kr ns nr h
 
 -- what may be sent has a length that fits four bytes

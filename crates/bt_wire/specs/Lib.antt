@@ -7,6 +7,7 @@ pub mod Tables
 pub mod Faults
 pub mod Legal
 pub mod Headers
+pub mod Judged
 pub mod Rules
 pub mod Parts
 pub mod Streams

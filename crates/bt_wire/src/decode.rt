@@ -1,8 +1,10 @@
 //! Parsing of one message, once its header is checked.
 ghost use Rattle.std.specs.Prelude.{◌≡◌, ◌≢◌, ◌<◌, ◌^◌, ◌+◌, ◌∷◌, ◌≤◌, ◌-◌, length, drop, IfOk, IfErr, true, Some};
-ghost use Rattle.bt_wire.specs.Faults.{IsFault, said_id, allows, size_of, placed_by, index_fault};
+ghost use Rattle.bt_wire.specs.Faults.{IsFault, said_id, said_ext_id, said_payload, allows, size_of, placed_by, index_fault};
 ghost use Rattle.bt_ext.specs.Payloads.{seen};
 ghost use Rattle.bt_wire.specs.Headers.{header_of, IsWindow, IsRead, RefusesWindow};
+ghost use Rattle.bt_wire.specs.Judged.{dict_length, WasJudged, IsMessageOf};
+ghost use Rattle.bt_ext.specs.Judged.{WasJudged as WasExtJudged, IsValueOf};
 ghost use Rattle.bt_wire.specs.declared.context.Context.{Context};
 ghost use Rattle.bt_wire.specs.declared.fault.Header.TheVariants as headers;
 ghost use Rattle.bt_wire.specs.Messages.{message_of, fields_of, keeps_bytes};
@@ -18,7 +20,7 @@ use crate::message::{Message, MessageView};
 use crate::numbers::{number_at_front, port_at_front};
 use crate::slices::suffix;
 use bt_bencode::ByteString;
-use bt_ext::{ExtView, ViewError, copy_ext, view_ext};
+use bt_ext::{ExtView, ViewError, copy_ext, view_ext, view_judged as judged_ext};
 use std::alloc::{AllocError, Global};
 
 /// Parses the bytes of one message as parts of them.
@@ -51,6 +53,46 @@ pub fn view_window<'a>(
     match judge_bytes(context, id, length, suffix(window, 5)) {
         Some(refused) => Err(refused),
         None => Ok(view),
+    }
+}
+
+/// Returns the message that the bytes are, without a second check.
+///
+/// They are those of a message, as if [`view_window`] returned it before, and its dictionary has `dict_len` bytes: see
+/// [`dict_len`]. It scans nothing.
+#[inline(always)]
+pub fn view_judged<'a>(context: &Context, window: &'a [u8], dict_len: usize) -> MessageView<'a>
+    requires { WasJudged context.now window.now dict_len }
+    ensures { IsMessageOf context.now window.now (message_of result) }
+{
+    let _limit = context.limit;
+    if number_at_front(window) == 0 {
+        return MessageView::KeepAlive;
+    }
+    if id_at(window) == EXTENDED {
+        return MessageView::Extended(view_extended_judged(context, window, dict_len));
+    }
+    read_fields(window)
+}
+
+/// The extended value of a window that was judged.
+#[inline(always)]
+fn view_extended_judged<'a>(context: &Context, window: &'a [u8], dict_len: usize) -> ExtView<'a>
+    requires long { 6 ≤ length window.now }
+    requires judged { WasExtJudged context.now.reg (said_ext_id window.now) (said_payload window.now) dict_len }
+    ensures { IsValueOf context.now.reg (said_ext_id window.now) (said_payload window.now) (seen result) }
+{
+    judged_ext(context.reg, window[5], suffix(window, 6), dict_len)
+}
+
+/// Returns how many bytes the dictionary of a message has; 0 if it has none.
+#[inline(always)]
+pub fn dict_len(view: &MessageView) -> usize
+    ensures { result ≡ dict_length (message_of view.now) }
+{
+    match view {
+        MessageView::Extended(extended) => extended.dict_len(),
+        _ => 0,
     }
 }
 

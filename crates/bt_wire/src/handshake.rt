@@ -1,6 +1,7 @@
 //! The handshake of BEP 3: parsing and encoding.
-ghost use Rattle.std.specs.Prelude.{◌≡◌, length};
+ghost use Rattle.std.specs.Prelude.{◌≡◌, ◌≤◌, ◌<◌, ◌^◌, length, take, drop};
 ghost use Rattle.bt_wire.specs.Numbers.{be64};
+ghost use Rattle.bt_wire.specs.Judged.{AreHandshake, IsHandshakeIn};
 ghost use Rattle.bt_wire.specs.Fronts.{IsOpening};
 ghost use Rattle.bt_wire.specs.Handshakes.{hand, hand_fault, first_difference as first_of, is_other_hash};
 
@@ -95,15 +96,37 @@ pub fn read_opening(own: &Own, bytes: &[u8]) -> Opening
     if bytes.len() < 68 {
         return Opening::Partial;
     }
+    Opening::Whole(fields_in(bytes))
+}
+
+/// Returns the handshake that the bytes are, without a second check.
+///
+/// They are those of a handshake, as if [`read_opening`] returned it before.
+pub fn handshake_judged(bytes: &[u8]) -> Handshake
+    requires { AreHandshake bytes.now }
+    ensures { IsHandshakeIn bytes.now result }
+{
+    fields_in(bytes)
+}
+
+/// The handshake with the fields that the bytes after the protocol's name are.
+#[inline(always)]
+fn fields_in(bytes: &[u8]) -> Handshake
+    requires { 68 ≤ length bytes.now }
+    ensures small { result.reserved.0 < 2 ^ 64 }
+    ensures reserved { be64 result.reserved.0 ≡ take 8 (drop 20 bytes.now) }
+    ensures info_hash { result.info_hash ≡ take 20 (drop 28 bytes.now) }
+    ensures peer_id { result.peer_id ≡ take 20 (drop 48 bytes.now) }
+{
     let mut info_hash = [0u8; 20];
     info_hash.copy_from_slice(&bytes[28..48]);
     let mut peer_id = [0u8; 20];
     peer_id.copy_from_slice(&bytes[48..68]);
-    Opening::Whole(Handshake {
+    Handshake {
         reserved: Reserved(reserved_of(&bytes[20..28])),
         info_hash,
         peer_id,
-    })
+    }
 }
 
 /// The number that eight bytes say, the highest byte first.

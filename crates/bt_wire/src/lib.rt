@@ -21,13 +21,15 @@ mod reserved;
 mod slices;
 
 pub use context::{Context, Order, Own, negotiate};
-pub use decode::{copy_message, decode_window, view_window};
+pub use decode::{copy_message, decode_window, dict_len, view_judged, view_window};
 pub use encoding::{encode, legal, legal_length};
 pub use fault::{DecodeError, EncodeError, Fault, Header, Reason, Refused};
 pub use fields::Fields;
 pub use framing::frame;
 pub use front::{Front, read_front};
-pub use handshake::{Handshake, Opening, judge_handshake, read_opening, spell_handshake};
+pub use handshake::{
+    Handshake, Opening, handshake_judged, judge_handshake, read_opening, spell_handshake,
+};
 pub use header::judge_header;
 pub use ids::Shape;
 pub use item::{Item, Refusal};

@@ -22,7 +22,7 @@ returns-in_ok-plan-in-Ok-Some g c =
     let is : c.look.result ≡ Ok (Some c.in-Ok-Some.view) = c.in-Ok-Some.is ∙ ap (λ (o : Option View). Ok o) c.in-Ok-Some.field-0-is in
     met {old = old} {mid = record { feed = old.feed; reactor = c.plan.new.self }} c.in-Ok-Some.view c.self.view_is
     (record { feed = refl; end = c.plan.ensures.end; bytes = c.plan.ensures.bytes }) free is c.look.ensures.value c.handle-event.ensures.reacted
-    c.following-next.ensures c.handle-event.ensures.event
+    c.judged-judged.ensures c.handle-event.ensures.event
 
 pub returns-in-Ok-None : goal.returns-in-Ok-None
 returns-in-Ok-None g c =
