@@ -10,7 +10,7 @@ ghost use Rattle.bt_end.specs.Parts.{framed};
 
 use bt_ext::{DictText, Kind, Registered, handshake_text, message_text};
 use bt_feed::{Memory, Outbox};
-use bt_wire::Fields;
+use bt_wire::{Fields, head_and_tail};
 use std::alloc::Allocator;
 
 /// More bytes than any message that an end makes.
@@ -89,40 +89,6 @@ pub fn put_donthave<A: Allocator>(outbox: &mut Outbox<A>, id: u8, index: u32) ->
     Ok(())
 }
 
-/// Puts two numbers and what follows them.
-fn put_two<A: Allocator>(outbox: &mut Outbox<A>, index: u32, begin: u32, rest: &[u8])
-    requires { 8 + length rest.now ≤ outbox.old.room }
-    ensures { outbox.new.bytes ≡ outbox.old.bytes ++ (be32 index ++ (be32 begin ++ rest.now)) }
-{
-    put(outbox, &index.to_be_bytes());
-    put(outbox, &begin.to_be_bytes());
-    put(outbox, rest);
-}
-
-/// Puts the bytes of a message's fields.
-fn put_fields<A: Allocator>(outbox: &mut Outbox<A>, fields: &Fields)
-    requires { length (spell_fields (seen fields.now)) ≤ outbox.old.room }
-    ensures { outbox.new.bytes ≡ outbox.old.bytes ++ spell_fields (seen fields.now) }
-{
-    match fields {
-        Fields::Nothing => {}
-        Fields::Index(index) => put(outbox, &index.to_be_bytes()),
-        Fields::Part {
-            index,
-            begin,
-            length,
-        } => put_two(outbox, *index, *begin, &length.to_be_bytes()),
-        Fields::Block {
-            index,
-            begin,
-            block,
-        } => put_two(outbox, *index, *begin, block),
-        Fields::Port(port) => put(outbox, &port.to_be_bytes()),
-        Fields::Field(bits) => put(outbox, bits),
-        Fields::Payload(payload) => put(outbox, payload),
-    }
-}
-
 /// Queues a message that isn't extended; `length` is its length prefix.
 ///
 /// It makes room for it.
@@ -139,11 +105,9 @@ pub fn put_plain<A: Allocator>(
     ensures ok { OnOk result (outbox.new.bytes ≡ outbox.old.bytes ++ (be32 length ++ framed_by id (spell_fields (seen fields.now)))) }
     ensures err { OnErr result (outbox.new.bytes ≡ outbox.old.bytes) }
 {
+    let (head, tail) = head_and_tail(length, id, fields);
     outbox.reserve(4 + length as usize)?;
-    put(outbox, &length.to_be_bytes());
-    if let Some(id) = id {
-        put(outbox, &[id]);
-        put_fields(outbox, fields);
-    }
+    put(outbox, head.as_slice());
+    put(outbox, tail);
     Ok(())
 }

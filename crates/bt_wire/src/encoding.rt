@@ -10,6 +10,7 @@ ghost use Rattle.bt_wire.specs.Parts.{IsJudged, IsJudgedExt, reason_from};
 use crate::context::{Context, Order};
 use crate::fault::{EncodeError, Fault, Reason, Refused};
 use crate::fields::{Fields, judge_message};
+use crate::head::head_and_tail;
 use crate::header::judge_any_id;
 use crate::ids::{EXTENDED, kind_of};
 use crate::message::Message;
@@ -191,77 +192,41 @@ fn spelled(
     ensures { IfOk result (λ bytes. bytes.items ≡ spell context.now message.now) }
 {
     let mut bytes = Vec::with_capacity(alloc, 4 + length as usize)?;
-    bytes.extend_from_slice(&length.to_be_bytes())?;
-    push_body(&mut bytes, context, message)?;
+    match message.fields() {
+        Some(fields) => push_plain(&mut bytes, length, message.id(), &fields)?,
+        None => match message {
+            Message::Extended(value) => push_extended(&mut bytes, length, context.reg, value)?,
+            _ => {}
+        },
+    }
     Ok(bytes)
 }
 
-/// Appends the id and the fields.
-fn push_body(bytes: &mut Vec<u8>, context: &Context, message: &Message) -> Result<(), AllocError>
-    requires { IsShaped context.now message.now }
-    ensures { OnOk result (bytes.new.items ≡ bytes.old.items ++ body context.now message.now) }
+/// Appends a message that isn't extended.
+fn push_plain(
+    bytes: &mut Vec<u8>,
+    length: u32,
+    id: Option<u8>,
+    fields: &Fields,
+) -> Result<(), AllocError>
+    ensures { OnOk result (bytes.new.items ≡ bytes.old.items ++ (be32 length ++ framed id (spell_fields (seen fields.now)))) }
 {
-    match message.fields() {
-        Some(fields) => push_plain(bytes, message.id(), &fields),
-        None => match message {
-            Message::Extended(value) => push_extended(bytes, context.reg, value),
-            _ => Ok(()),
-        },
-    }
+    let (head, tail) = head_and_tail(length, id, fields);
+    bytes.extend_from_slice(head.as_slice())?;
+    bytes.extend_from_slice(tail)
 }
 
-/// Appends an id, if there is one, and fields.
-fn push_plain(bytes: &mut Vec<u8>, id: Option<u8>, fields: &Fields) -> Result<(), AllocError>
-    ensures { OnOk result (bytes.new.items ≡ bytes.old.items ++ framed id (spell_fields (seen fields.now))) }
-{
-    match id {
-        None => Ok(()),
-        Some(id) => {
-            bytes.push(id)?;
-            push_fields(bytes, fields)
-        }
-    }
-}
-
-/// Appends the ids and the payload of an extended message.
-fn push_extended(bytes: &mut Vec<u8>, reg: Registered, value: &Ext) -> Result<(), AllocError>
+/// Appends an extended message.
+fn push_extended(
+    bytes: &mut Vec<u8>,
+    length: u32,
+    reg: Registered,
+    value: &Ext,
+) -> Result<(), AllocError>
     requires { HasSpelling reg value.now }
-    ensures { OnOk result (bytes.new.items ≡ bytes.old.items ++ (20 ∷ (unwrap_or (ext_id reg value.now) 0 ∷ payload_of value.now))) }
+    ensures { OnOk result (bytes.new.items ≡ bytes.old.items ++ (be32 length ++ (20 ∷ (unwrap_or (ext_id reg value.now) 0 ∷ payload_of value.now)))) }
 {
+    bytes.extend_from_slice(&length.to_be_bytes())?;
     bytes.push(EXTENDED)?;
     append_ext(bytes, reg, value)
-}
-
-/// Appends the bytes of the fields.
-fn push_fields(bytes: &mut Vec<u8>, fields: &Fields) -> Result<(), AllocError>
-    ensures { OnOk result (bytes.new.items ≡ bytes.old.items ++ spell_fields (seen fields.now)) }
-{
-    match fields {
-        Fields::Nothing => Ok(()),
-        Fields::Index(index) => bytes.extend_from_slice(&index.to_be_bytes()),
-        Fields::Part {
-            index,
-            begin,
-            length,
-        } => { push_two(bytes, *index, *begin, &length.to_be_bytes()) }
-        Fields::Block {
-            index,
-            begin,
-            block,
-        } => push_two(bytes, *index, *begin, block),
-        Fields::Port(port) => bytes.extend_from_slice(&port.to_be_bytes()),
-        Fields::Field(bits) => bytes.extend_from_slice(bits),
-        Fields::Payload(payload) => bytes.extend_from_slice(payload),
-    }
-}
-
-/// Appends two numbers and what follows them.
-#[tactic(auto, using(std::proofs::lemmas::List::append_assoc))]
-fn push_two(bytes: &mut Vec<u8>, index: u32, begin: u32, rest: &[u8]) -> Result<(), AllocError>
-    ensures { OnOk result (bytes.new.items ≡ bytes.old.items ++ (be32 index ++ (be32 begin ++ rest.now))) }
-{
-    bytes.extend_from_slice(&index.to_be_bytes())?;
-    bytes.extend_from_slice(&begin.to_be_bytes())?;
-    bytes.extend_from_slice(rest)?;
-    Ok(())
 }

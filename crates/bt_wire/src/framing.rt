@@ -2,6 +2,8 @@
 ghost use Rattle.std.specs.Prelude.{◌≡◌, ◌+◌, ◌-◌, ◌<◌, ◌^◌, ◌∷◌, ◌++◌, length, IfOk};
 ghost use Rattle.bt_wire.specs.Numbers.{be32};
 
+use crate::fields::Fields;
+use crate::head::head_and_tail;
 use std::alloc::{AllocError, Global};
 
 /// Encodes a message with this id and these fields (BEP 3, "peer messages").
@@ -16,9 +18,9 @@ pub fn frame(alloc: Global, id: u8, fields: &[u8]) -> Result<Vec<u8>, AllocError
     ensures { IfOk result (λ bytes. bytes.items ≡ be32 (1 + length fields.now) ++ id ∷ fields.now) }
 {
     let length = 1 + fields.len() as u32;
+    let (head, tail) = head_and_tail(length, Some(id), &Fields::Payload(fields));
     let mut bytes = Vec::with_capacity(alloc, 5 + fields.len())?;
-    bytes.extend_from_slice(&length.to_be_bytes())?;
-    bytes.push(id)?;
-    bytes.extend_from_slice(fields)?;
+    bytes.extend_from_slice(head.as_slice())?;
+    bytes.extend_from_slice(tail)?;
     Ok(bytes)
 }

@@ -10,6 +10,7 @@ mod fields;
 mod framing;
 mod front;
 mod handshake;
+mod head;
 mod header;
 mod ids;
 mod item;
@@ -30,6 +31,7 @@ pub use front::{Front, read_front};
 pub use handshake::{
     Handshake, Opening, handshake_judged, judge_handshake, read_opening, spell_handshake,
 };
+pub use head::{Head, head_and_tail};
 pub use header::judge_header;
 pub use ids::Shape;
 pub use item::{Item, Refusal};
