@@ -165,8 +165,8 @@ def uncompiled():
 
 
 def unproved():
-    """What docs/PROVED.md gets wrong: a mutant that isn't in must-fail/, a call that isn't there, or a law that neither it nor
-    docs/DEFINITIONS.md names."""
+    """What docs/PROVED.md gets wrong: a mutant that isn't in must-fail/, a call that isn't there, a crate of the toolchain that it
+    doesn't name, or a law that neither it nor docs/DEFINITIONS.md names."""
     text = content(os.path.join(ROOT, "docs/PROVED.md")).decode()
     mutants = re.findall(r"`(bt_\w+)/([\w-]+-[\w-]+)`", text)
     wrong = ["docs/PROVED.md: no such mutant: %s/%s\n" % it for it in mutants
@@ -174,6 +174,9 @@ def unproved():
     code = b"".join(content(path) for path in glob.glob(os.path.join(ROOT, "crates/bt_*/src/**/*.rt"), recursive=True)).decode()
     calls = re.findall(r"`([\w:]+)`", " ".join(re.findall(r"^\| [^|]* \| ([^|]*) \| `bt_\w+/", text, re.M)))
     wrong += ["docs/PROVED.md: no such call: %s\n" % call for call in calls if not re.search(r"\b%s\b" % call.split("::")[-1], code)]
+    rows = [line.partition(":") for line in content(os.path.join(ROOT, "crates.txt")).decode().splitlines()]
+    trusted = {name for crate, _, below in rows if not crate.endswith("_tests") for name in below.split() if not name.startswith("bt_")}
+    wrong += ["docs/PROVED.md: `%s` isn't named as trusted\n" % name for name in sorted(trusted) if "`%s`" % name not in text]
     named = text + content(os.path.join(ROOT, "docs/DEFINITIONS.md")).decode()
     for path in glob.glob(os.path.join(ROOT, "crates/bt_*/src/**/*laws.rt"), recursive=True):
         laws = [] if "_tests/" in path else re.findall(r"^pub fn (\w+)", content(path).decode(), re.M)
