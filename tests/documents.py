@@ -10,7 +10,9 @@ repository, which builds the program if it has to.
 
 It also looks whether links lead to files, whether the picture of a stream has its bytes, whether the blocks of docs/RATTLE.md stand in
 the examples and those of doc comments in the code of a crate, whether the mutants, laws and calls that docs/PROVED.md and docs/API.md
-name are there, and whether examples/small.pcap has the two directions of which it was made.
+name are there, and the files and names of docs/ARCHITECTURE.md and docs/DEFINITIONS.md, whether each path of the repository that a
+document names is there, whether docs/COMMANDS.md has the usage of each command and a document each option, whether a document is too
+long, and whether examples/small.pcap has the two directions of which it was made.
 """
 import glob
 import os
@@ -24,8 +26,16 @@ import tempfile
 from collections import Counter
 
 ROOT = os.path.dirname(os.path.dirname(os.path.abspath(__file__)))
+sys.dont_write_bytecode = True
+sys.path.insert(0, os.path.join(ROOT, "tools/packages"))
+import help_texts  # noqa: E402
+
 DOCUMENTS = ["README.md", "examples/README.md", "docs/CAPTURES.md", "docs/RIG.md", "docs/RULES.md", "docs/COMMANDS.md", "docs/FETCH.md",
              "dist/README.md"]
+# The most bytes of a document.
+LONGEST = 12 * 1024
+# How the paths begin that documents name from the top of the repository.
+TOP = r"(?:bench|bindings|crates|dist|docs|examples|tests|tools|viewer|\.ci)/"
 # The two directions of examples/small.pcap.
 DIRECTIONS = {
     ("127.0.0.1:51413", "127.0.0.1:6881"): "examples/fetching.bin",
@@ -155,8 +165,8 @@ def uncompiled():
 
 
 def unproved():
-    """What docs/PROVED.md gets wrong: a mutant that isn't in must-fail/, a call that isn't there, or a law that neither it nor
-    docs/DEFINITIONS.md names."""
+    """What docs/PROVED.md gets wrong: a mutant that isn't in must-fail/, a call that isn't there, a crate of the toolchain that it
+    doesn't name, or a law that neither it nor docs/DEFINITIONS.md names."""
     text = content(os.path.join(ROOT, "docs/PROVED.md")).decode()
     mutants = re.findall(r"`(bt_\w+)/([\w-]+-[\w-]+)`", text)
     wrong = ["docs/PROVED.md: no such mutant: %s/%s\n" % it for it in mutants
@@ -164,6 +174,9 @@ def unproved():
     code = b"".join(content(path) for path in glob.glob(os.path.join(ROOT, "crates/bt_*/src/**/*.rt"), recursive=True)).decode()
     calls = re.findall(r"`([\w:]+)`", " ".join(re.findall(r"^\| [^|]* \| ([^|]*) \| `bt_\w+/", text, re.M)))
     wrong += ["docs/PROVED.md: no such call: %s\n" % call for call in calls if not re.search(r"\b%s\b" % call.split("::")[-1], code)]
+    rows = [line.partition(":") for line in content(os.path.join(ROOT, "crates.txt")).decode().splitlines()]
+    trusted = {name for crate, _, below in rows if not crate.endswith("_tests") for name in below.split() if not name.startswith("bt_")}
+    wrong += ["docs/PROVED.md: `%s` isn't named as trusted\n" % name for name in sorted(trusted) if "`%s`" % name not in text]
     named = text + content(os.path.join(ROOT, "docs/DEFINITIONS.md")).decode()
     for path in glob.glob(os.path.join(ROOT, "crates/bt_*/src/**/*laws.rt"), recursive=True):
         laws = [] if "_tests/" in path else re.findall(r"^pub fn (\w+)", content(path).decode(), re.M)
@@ -179,6 +192,52 @@ def uncalled():
         code = b"".join(content(path) for path in glob.glob(os.path.join(ROOT, "crates", crate, "src/**/*.rt"), recursive=True)).decode()
         names = [call.split("::")[-1] for call in re.findall(r"`([\w:]+)`", calls)]
         wrong += ["docs/API.md: %s has no %s\n" % (crate, name) for name in names if not re.search(r"pub fn %s\b" % name, code)]
+    return wrong
+
+
+def misplaced(document):
+    """The files and names of a guide to the crates that aren't there. A path is one of the crate that was named last."""
+    text = re.sub(r"^```.*?^```$", "", content(os.path.join(ROOT, document)).decode(), flags=re.M | re.S)
+    sources = [path for part in ("crates/*/src/**/*.rt", "crates/*/specs/**/*.antt", "crates/*/proofs/**/*.antt", "tests/*.py")
+               for path in glob.glob(os.path.join(ROOT, part), recursive=True)]
+    known = set(re.findall(r"\w+", b"\n".join(map(content, sources)).decode()))
+    crate, wrong = "", []
+    for token in re.findall(r"`([^`]+)`", text):
+        crate, path = re.fullmatch(r"((?:bt|example)_\w+)/(.+)", token).groups() if re.match(r"(bt|example)_\w+/", token) else (crate, token)
+        if os.path.isdir(os.path.join(ROOT, "crates", token)):
+            crate = token
+        elif re.fullmatch(r"[\w/]+\.(rt|h)", path):
+            there = any(os.path.exists(os.path.join(ROOT, "crates", crate, folder, path)) for folder in ("", "src"))
+            wrong += [] if there else ["%s: no such file of %s: %s\n" % (document, crate, path)]
+        elif re.fullmatch(r"(specs|proofs)/\w+", path):
+            there = os.path.exists(os.path.join(ROOT, "crates", crate, path + ".antt"))
+            wrong += [] if there else ["%s: no such file of %s: %s\n" % (document, crate, path)]
+        elif re.fullmatch(r"[\w:]+", path) and "NAME" not in path:
+            there = path.split("::")[-1] in known or os.path.exists(os.path.join(ROOT, "crates", crate, "specs", path + ".antt"))
+            wrong += [] if there else ["%s: no such name: %s\n" % (document, path)]
+    return wrong
+
+
+def no_such_paths(document):
+    """The paths from the top of the repository that a document names and that aren't there. Words in capitals stand for others."""
+    text = content(os.path.join(ROOT, document)).decode()
+    paths = re.findall(r"(?<![\w./-])(%s[\w./*-]*)" % TOP, " ".join(re.findall(r"^```.*?^```$|`[^`\n]+`", text, re.M | re.S)))
+    paths = {path.rstrip(".") for path in paths if not re.search(r"[A-Z]{3}|/[A-Z]/|/out(/|$)", path) or path.startswith("docs/")}
+    return ["%s: no such file: %s\n" % (document, path) for path in sorted(paths) if not glob.glob(os.path.join(ROOT, path))]
+
+
+def too_long(document):
+    size = len(content(os.path.join(ROOT, document)))
+    return ["%s: %d bytes, and %d are the most\n" % (document, size, LONGEST)] if size > LONGEST else []
+
+
+def unhelped(program):
+    """The usages that docs/COMMANDS.md doesn't show, and the options that neither it nor docs/FETCH.md names."""
+    text, wrong = "".join(content(os.path.join(ROOT, "docs", name)).decode() for name in ("COMMANDS.md", "FETCH.md")), []
+    for name, page in help_texts.pages(program)[1].items():
+        usage = page.sections["Usage"][0].replace("bt_tool ", "", 1).replace("|", "\\|")
+        wrong += [] if "| `%s` |" % usage in text else ["docs/COMMANDS.md: no usage of %s: %s\n" % (name, usage)]
+        wrong += ["docs/COMMANDS.md: no option --%s of %s\n" % (it["name"], name) for it in page.options() if "--" + it["name"] not in text]
     return wrong
 
 
@@ -227,11 +286,14 @@ def main():
         ends: content(os.path.join(ROOT, example)) for ends, example in DIRECTIONS.items()
     } else ["examples/small.pcap: not the two directions of which it was made\n"]
     wrong += pictured() + unquoted() + uncompiled() + unproved() + uncalled()
+    wrong += misplaced("docs/ARCHITECTURE.md") + misplaced("docs/DEFINITIONS.md")
     for path in glob.glob(os.path.join(ROOT, "**/*.md"), recursive=True):
-        wrong += dead_links(os.path.relpath(path, ROOT)) + bare_blocks(os.path.relpath(path, ROOT))
+        name = os.path.relpath(path, ROOT)
+        wrong += dead_links(name) + bare_blocks(name) + no_such_paths(name) + too_long(name)
     wrong += fragments()
     if subprocess.run([program, "--version"], stdout=subprocess.DEVNULL).returncode:
         sys.exit("documents: failed: %s --version" % program)
+    wrong += unhelped(program)
     counts = Counter()
     for document in DOCUMENTS:
         with tempfile.TemporaryDirectory(prefix="documents-") as folder:

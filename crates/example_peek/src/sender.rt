@@ -1,4 +1,4 @@
-//! What this end sends: each message is judged as the peer would judge it.
+//! What this program sends: each message is checked as the peer would check it.
 use bt_bencode::{ByteString, Value};
 use bt_ext::{Ext, Kind, Table, dict_of, handshake_dict};
 use bt_feed::{Outbox, PeerError, Target, peer_context};
@@ -9,7 +9,7 @@ use std::alloc::Global;
 /// The one piece that is served.
 const PIECE: &[u8] = b"These are the bytes of piece 0.";
 
-/// Who sends, what is known of the peer, the order of what was sent, and the bytes that wait to be written.
+/// The sender, what is known of the peer, the order of what was sent, and the bytes that wait to be written.
 #[derive(Drop)]
 pub struct Sender {
     own: Own,
@@ -20,6 +20,7 @@ pub struct Sender {
 }
 
 impl Sender {
+    /// Makes a sender that has sent nothing, and knows nothing of the peer.
     pub fn new(alloc: Global, own: Own) -> Sender {
         Sender {
             own,
@@ -30,7 +31,10 @@ impl Sender {
         }
     }
 
-    /// Queues this end's handshake, which comes first.
+    /// Queues the handshake, which comes first.
+    ///
+    /// # Errors
+    /// `Memory` when out of memory.
     pub fn begin(&mut self, peer_id: [u8; 20]) -> Result<(), PeerError> {
         let handshake = Handshake {
             reserved: self.own.reserved,
@@ -41,7 +45,7 @@ impl Sender {
         Ok(())
     }
 
-    /// Queues a message, if the peer takes it.
+    /// Queues a message, if it is legal for the peer.
     fn queue(&mut self, alloc: Global, message: &Message) -> Result<(), PeerError> {
         let context = peer_context(&self.own, self.theirs, &self.table);
         let bytes = encode(alloc, &context, self.order, message)?;
@@ -50,7 +54,10 @@ impl Sender {
         Ok(())
     }
 
-    /// Queues a message, if the peer takes it, and prints it.
+    /// Queues a message, if it is legal for the peer, and prints it.
+    ///
+    /// # Errors
+    /// `Illegal` if it isn't legal for the peer, `Memory` when out of memory.
     pub fn send(&mut self, rt: &HostRuntime, message: &Message) -> Result<(), PeerError> {
         self.queue(rt.alloc(), message)?;
         let _ = println!(rt; "> {}", shown_message(message));
@@ -58,20 +65,26 @@ impl Sender {
     }
 
     /// Writes all that waits.
+    ///
+    /// # Errors
+    /// `Write` if a write failed or took no byte.
     pub fn flush<W: Target>(&mut self, writer: &mut W) -> Result<(), PeerError> {
         let waiting = self.out.bytes().len();
         self.out.drain(writer, waiting)?;
         Ok(())
     }
 
-    /// Says under which ids this end wants extended messages.
+    /// Queues an extended handshake, with the ids under which this program wants extended messages.
     fn announce(&mut self, rt: &HostRuntime) -> Result<(), PeerError> {
         let dict = handshake_dict(rt.alloc(), self.own.reg, None)?;
         let rest = ByteString::from_vec(Vec::new(rt.alloc()));
         self.send(rt, &Message::Extended(Ext::Handshake { dict, rest }))
     }
 
-    /// Says what this end has, after the peer's handshake.
+    /// Answers the peer's handshake with what this program has and wants.
+    ///
+    /// # Errors
+    /// As [`Sender::send`].
     pub fn greet(&mut self, rt: &HostRuntime, theirs: &Handshake) -> Result<(), PeerError> {
         self.theirs = theirs.reserved;
         let context = peer_context(&self.own, self.theirs, &self.table);
@@ -85,12 +98,18 @@ impl Sender {
     }
 
     /// Learns the ids under which the peer wants extended messages.
+    ///
+    /// # Errors
+    /// `Memory` when out of memory.
     pub fn learn(&mut self, dict: &Value) -> Result<(), PeerError> {
         self.table.apply(dict)?;
         Ok(())
     }
 
     /// Answers a request for a block.
+    ///
+    /// # Errors
+    /// As [`Sender::send`].
     pub fn serve(
         &mut self,
         rt: &HostRuntime,
@@ -115,7 +134,10 @@ impl Sender {
         self.send(rt, &message)
     }
 
-    /// Refuses a request for metadata, under the peer's id.
+    /// Rejects a request for metadata, under the peer's id.
+    ///
+    /// # Errors
+    /// As [`Sender::send`].
     pub fn refuse(&mut self, rt: &HostRuntime, kind: Kind) -> Result<(), PeerError> {
         let Kind::Request(piece) = kind else {
             return Ok(());
