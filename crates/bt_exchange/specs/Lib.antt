@@ -5,3 +5,4 @@ pub mod Steps
 pub mod Boths
 pub mod Watches
 pub mod Lists
+pub mod Streams

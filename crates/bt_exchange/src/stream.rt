@@ -1,11 +1,13 @@
 //! A connection over a stream of std, as a TCP stream whose reads and writes have a time limit. Fetching and serving use it.
-ghost use Rattle.std.specs.Prelude.{◌≡◌};
+ghost use Rattle.std.specs.Prelude.{◌≡◌, length};
+ghost use Rattle.std.specs.IoError.{error_kind};
+ghost use Rattle.bt_exchange.specs.Streams.{IsMovedBy, IsReadOnce, IsWrittenOnce, is_wait as is_wait_by, seconds_of};
 
 use crate::connection::{Connection, counted};
 use bt_io::Failed;
 use std::io;
 use std::io::{ErrorKind, Read, Write};
-use std::time::Clock;
+use std::time::{Clock, Duration};
 
 /// A connection over a stream. A call that meets the stream's time limit finds that nothing can be moved yet.
 #[derive(Drop)]
@@ -19,11 +21,49 @@ pub struct Stream<S: Read + Write + Drop, K: Clock + Drop> {
 }
 
 /// Whether the error says that nothing can be moved yet.
-fn is_wait(error: &io::Error) -> bool {
+fn is_wait(error: &io::Error) -> bool
+    ensures { result ≡ is_wait_by (error_kind error.now) }
+{
     matches!(
         error.kind(),
         ErrorKind::WouldBlock | ErrorKind::TimedOut | ErrorKind::Interrupted
     )
+}
+
+/// What a call of the stream makes a call of the connection.
+fn moved_by(answer: io::Result<usize>) -> Result<Option<usize>, Failed>
+    ensures { IsMovedBy answer result }
+{
+    match answer {
+        Ok(count) => Ok(Some(count)),
+        Err(error) if is_wait(&error) => Ok(None),
+        Err(_) => Err(Failed),
+    }
+}
+
+/// Reads once.
+fn read_once<S: Read>(stream: &mut S, into: &mut [u8]) -> Result<Option<usize>, Failed>
+    ensures size { length into.new ≡ length into.old }
+    ensures once { IsReadOnce (S.remaining stream.old) (S.remaining stream.new) result into.new }
+{
+    moved_by(stream.read(into))
+}
+
+/// Writes once.
+fn write_once<S: Write>(stream: &mut S, from: &[u8]) -> Result<Option<usize>, Failed>
+    ensures once { IsWrittenOnce (S.contents stream.old) (S.contents stream.new) result from.now }
+{
+    moved_by(stream.write(from))
+}
+
+/// Returns the seconds of a clock's answer, or `last` after an error.
+fn seconds(time: io::Result<Duration>, last: u64) -> u64
+    ensures { result ≡ seconds_of time last }
+{
+    match time {
+        Ok(time) => time.as_secs(),
+        Err(_) => last,
+    }
 }
 
 impl<S: Read + Write + Drop, K: Clock + Drop> Stream<S, K> {
@@ -55,38 +95,22 @@ impl<S: Read + Write + Drop, K: Clock + Drop> Connection for Stream<S, K> {
 
     fn read(&mut self, into: &mut [u8]) -> Result<Option<usize>, Failed> {
         self.calls = self.calls.saturating_add(1);
-        match self.stream.read(into) {
-            Ok(count) => {
-                self.ends = counted(count == 0 && !into.is_empty(), self.ends);
-                Ok(Some(count))
-            }
-            Err(error) if is_wait(&error) => Ok(None),
-            Err(_) => {
-                self.failed = self.failed.saturating_add(1);
-                Err(Failed)
-            }
-        }
+        let moved = read_once(&mut self.stream, into);
+        self.ends = counted(moved == Ok(Some(0)) && !into.is_empty(), self.ends);
+        self.failed = counted(moved.is_err(), self.failed);
+        moved
     }
 
     fn write(&mut self, from: &[u8]) -> Result<Option<usize>, Failed> {
         self.calls = self.calls.saturating_add(1);
-        match self.stream.write(from) {
-            Ok(count) => {
-                self.failed = counted(count == 0 && !from.is_empty(), self.failed);
-                Ok(Some(count))
-            }
-            Err(error) if is_wait(&error) => Ok(None),
-            Err(_) => {
-                self.failed = self.failed.saturating_add(1);
-                Err(Failed)
-            }
-        }
+        let moved = write_once(&mut self.stream, from);
+        let is_stuck = moved == Ok(Some(0)) && !from.is_empty();
+        self.failed = counted(is_stuck || moved.is_err(), self.failed);
+        moved
     }
 
     fn now(&mut self) -> u64 {
-        if let Ok(time) = self.clock.monotonic() {
-            self.time = time.as_secs();
-        }
+        self.time = seconds(self.clock.monotonic(), self.time);
         self.time
     }
 }
