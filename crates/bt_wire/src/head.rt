@@ -98,7 +98,8 @@ impl Head {
 ///
 /// `length` is the length prefix, and `id` is `None` for a keep-alive, which has no fields.
 pub fn head_and_tail<'a>(length: u32, id: Option<u8>, fields: &Fields<'a>) -> (Head, &'a [u8])
-    ensures { result.0 ++ result.1.now ≡ be32 length ++ framed id (spell_fields (seen fields.now)) }
+    ensures bytes { result.0 ++ result.1.now ≡ be32 length ++ framed id (spell_fields (seen fields.now)) }
+    ensures size { list_length result.0 + list_length result.1.now ≡ 4 + list_length (framed id (spell_fields (seen fields.now))) }
 {
     let mut head = Head::new(length);
     match id {
