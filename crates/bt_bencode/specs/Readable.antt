@@ -6,6 +6,9 @@ use Rattle.std.specs.Fmt.{decimal, signed_decimal}
 use Rattle.bt_bencode.specs.Trees.{Tree, Trees, Pairs}
 use Rattle.bt_bencode.specs.Bencoding.{ben, ben_all, ben_pairs, ben_string, longest_string, InRange, AllInRange, PairsInRange}
 use Rattle.bt_bencode.specs.Scanner.{NumberThen}
+use Rattle.bt_bencode.specs.Views.{pairs_of}
+use Rattle.bt_bencode.specs.declared.pairs.Left.{Left}
+use Rattle.bt_bencode.specs.declared.pairs.Left.TheVariants as left
 
 -- the bytes begin with a value
 abbrev pub HasValue : List ℕ → Type 0
@@ -54,5 +57,10 @@ pub record SpellsPairs (ps : Pairs) (bytes : List ℕ) : Type 0 where
   pub range : PairsInRange ps
   pub spelled : bytes ≡ ben_pairs ps ++ 101 ∷ []
 
-abbrev pub ArePairs : List ℕ → Type 0
-ArePairs bytes = (ps : Pairs) × SpellsPairs ps bytes
+-- the pairs are those that are left, encoded or as values
+abbrev pub LeaveAs : Pairs → Left → Type 0
+LeaveAs ps (left.Encoded bytes) = SpellsPairs ps bytes.now
+LeaveAs ps (left.Values values) = ps ≡ pairs_of values.now
+
+abbrev pub AreLeft : Left → Type 0
+AreLeft l = (ps : Pairs) × LeaveAs ps l

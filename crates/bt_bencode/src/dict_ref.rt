@@ -5,16 +5,16 @@ ghost use Rattle.bt_bencode.specs.Bencoding.{BeginsWith, Fits, Spells, IsSpellin
 ghost use Rattle.bt_bencode.specs.Keys.{value_at, unsorted};
 ghost use Rattle.bt_bencode.specs.LookUps.{integer_of, string_of, dictionary_of, inner_integer};
 ghost use Rattle.bt_bencode.specs.Payloads.{Refuses};
-ghost use Rattle.bt_bencode.specs.Readable.{FindsValue, HasValue, ArePairs};
-ghost use Rattle.bt_bencode.specs.OneSpelling.{IsSpelling-prop, ArePairs-prop};
+ghost use Rattle.bt_bencode.specs.Readable.{FindsValue, HasValue};
+ghost use Rattle.bt_bencode.specs.OneSpelling.{IsSpelling-prop};
 
-use crate::read::{following, read_value, split_string};
+use crate::pairs::{IntPairs, Left};
+use crate::read::{following, read_value};
 use crate::scan::{Bad, scan};
-use crate::skip::{find, inner_int, int_in, split_int, text_in};
+use crate::skip::{find, inner_int, int_in, text_in};
 use crate::sorted::first_unsorted;
 use crate::tree::Value;
 use std::alloc::{AllocError, Global};
-use std::marker::Model;
 
 /// A slice that was validated: it encodes one dictionary within the limits.
 ///
@@ -127,7 +127,7 @@ impl<'a> DictRef<'a> {
         ensures { result ≡ self.now.tree.0 }
     {
         IntPairs {
-            rest: following(self.spelled()),
+            left: Left::Encoded(following(self.spelled())),
         }
     }
 
@@ -162,46 +162,4 @@ pub fn check(payload: &[u8]) -> Result<(DictRef<'_>, usize), Bad>
         },
         n,
     ))
-}
-
-/// Iterates over pairs: each key, and its value if it is an integer.
-///
-/// A contract sees the pairs that are left as pairs of a key and a tree.
-#[derive(Drop)]
-pub struct IntPairs<'a> {
-    rest: &'a [u8],
-    ghost pairs: { ArePairs rest.now } by { ArePairs-prop rest.now },
-}
-
-impl<'a> Model for IntPairs<'a> {
-    ghost use Rattle.bt_bencode.specs.Trees.{Pairs};
-    ghost use Rattle.bt_bencode.specs.Codes.{pairs_code};
-
-    ghost Value = { Pairs };
-
-    ghost coded = { pairs_code };
-
-    ghost view = { λ p. p.pairs.0 };
-}
-
-impl<'a> Iterator for IntPairs<'a> {
-    type Item = (&'a [u8], Option<i64>);
-
-    ghost use Rattle.std.specs.Iterator.{at_most};
-    ghost use Rattle.bt_bencode.specs.LookUps.{GivesPair};
-    ghost use Rattle.bt_bencode.specs.LookUps.{pairs_count};
-
-    ghost next_gives = { GivesPair };
-
-    ghost remaining = { λ s. at_most (pairs_count s) };
-
-    fn next(&mut self) -> Option<(&'a [u8], Option<i64>)> {
-        if self.rest[0] == b'e' {
-            return None;
-        }
-        let (key, value) = split_string(self.rest);
-        let (number, rest) = split_int(value);
-        self.rest = rest;
-        Some((key, number))
-    }
 }
