@@ -1,5 +1,5 @@
 -- What look-ups in a dictionary find (BEP 3, "bencoding").
-use Rattle.std.specs.Prelude.{◌≡◌, ℕ, ◌+◌, ℤ, pos, negsuc, List, Bool, true, false, ◌&&◌, Option, Some, None, option_and_then, nat_le}
+use Rattle.std.specs.Prelude.{◌≡◌, ℕ, ◌+◌, ℤ, List, Option, Some, None, option_and_then}
 use Rattle.std.specs.Borrow.{Bor}
 use Rattle.bt_bencode.specs.Trees.{Tree, integer, string, list, dictionary, Pairs, no_pairs, pair}
 use Rattle.bt_bencode.specs.Keys.{value_at}
@@ -28,24 +28,6 @@ dictionary_of (dictionary ps) = Some ps
 -- the integer at the key in the value, if that is a dictionary
 abbrev pub inner_integer : List ℕ → Tree → Option ℤ
 inner_integer key t = option_and_then (λ ps. option_and_then integer_of (value_at key ps)) (dictionary_of t)
-
--- an integer of one byte
-abbrev pub is_byte : Option ℤ → Bool
-is_byte None = false
-is_byte (Some (pos n)) = nat_le n 255
-is_byte (Some (negsuc n)) = false
-
--- each value is an integer of one byte
-abbrev pub are_bytes : Pairs → Bool
-are_bytes no_pairs = true
-are_bytes (pair k t ps) = is_byte (integer_of t) && are_bytes ps
-
--- the value is a dictionary whose values are all integers of one byte
-abbrev pub is_byte_map : Tree → Bool
-is_byte_map (integer z) = false
-is_byte_map (string s) = false
-is_byte_map (list ts) = false
-is_byte_map (dictionary ps) = are_bytes ps
 
 -- What a step over the pairs gives: the key and its integer, or none at the end; and the pairs that are left.
 abbrev pub GivesPair : Pairs → Option (Bor (List ℕ) × Option ℤ) → Pairs → Type 0

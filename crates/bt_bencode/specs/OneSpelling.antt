@@ -6,7 +6,11 @@ use Rattle.std.proofs.Props.{props}
 use Rattle.bt_bencode.specs.Trees.{Tree, integer, string, list, dictionary, Trees, no_trees, tree, Pairs, no_pairs, pair, nesting}
 use Rattle.bt_bencode.specs.Bencoding.{ben, ben_pairs, Fits, Spells, InRange, AllInRange, PairsInRange, IsSpelling, deepest_nesting}
 use Rattle.bt_bencode.specs.Unique.{same_tree, same_pairs}
-use Rattle.bt_bencode.specs.Readable.{SpellsPairs, ArePairs}
+use Rattle.bt_bencode.specs.Readable.{SpellsPairs, LeaveAs, AreLeft}
+use Rattle.bt_bencode.specs.Codes.{pairs_code}
+use Rattle.bt_bencode.specs.Views.{pairs_of}
+use Rattle.bt_bencode.specs.declared.pairs.Left.{Left}
+use Rattle.bt_bencode.specs.declared.pairs.Left.TheVariants as left
 
 mutual
   InRange-prop : (t : Tree) → IsProp (InRange t)
@@ -53,8 +57,15 @@ SpellsPairs-prop ps bytes = λ s t.
     ∙ ap (λ (e : bytes ≡ ben_pairs ps ++ 101 ∷ []). let r : SpellsPairs ps bytes = record { range = t.range; spelled = e } in r)
     (Coded-set (coded_list coded_ℕ) bytes (ben_pairs ps ++ 101 ∷ []) s.spelled t.spelled)
 
-pub ArePairs-prop : (bytes : List ℕ) → IsProp (ArePairs bytes)
-ArePairs-prop bytes = λ a b.
-    let P : Pairs → Type 0 = λ qs. (t : SpellsPairs qs bytes) → ◌≡◌ {A = ArePairs bytes} a (qs, t) in
-    let same = same_pairs a.0 b.0 [] [] a.1.range b.1.range (sym a.1.spelled ∙ b.1.spelled) in
-    subst P same.0 (λ t. ap (λ (s : SpellsPairs a.0 bytes). let r : ArePairs bytes = (a.0, s) in r) (SpellsPairs-prop a.0 bytes a.1 t)) b.1
+LeaveAs-prop : (ps : Pairs) (l : Left) → IsProp (LeaveAs ps l)
+LeaveAs-prop ps (left.Encoded bytes) = SpellsPairs-prop ps bytes.now
+LeaveAs-prop ps (left.Values values) = Coded-set pairs_code ps (pairs_of values.now)
+
+one_left : (l : Left) (ps qs : Pairs) → LeaveAs ps l → LeaveAs qs l → ps ≡ qs
+one_left (left.Encoded bytes) ps qs s t = (same_pairs ps qs [] [] s.range t.range (sym s.spelled ∙ t.spelled)).0
+one_left (left.Values values) ps qs s t = s ∙ sym t
+
+pub AreLeft-prop : (l : Left) → IsProp (AreLeft l)
+AreLeft-prop l = λ a b.
+    let P : Pairs → Type 0 = λ qs. (t : LeaveAs qs l) → ◌≡◌ {A = AreLeft l} a (qs, t) in
+    subst P (one_left l a.0 b.0 a.1 b.1) (λ t. ap (λ (s : LeaveAs a.0 l). let r : AreLeft l = (a.0, s) in r) (LeaveAs-prop a.0 l a.1 t)) b.1

@@ -1,11 +1,14 @@
 -- What the readers of a checked spelling meet. (For the contracts of functions that are not public.)
-use Rattle.std.specs.Prelude.{◌≡◌, ℕ, ℤ, ◌≤◌, ◌^◌, List, ◌∷◌, ◌++◌, length, FitsSigned, Option, Some, None, Result, Ok, Err, [], Bool, if◌then◌else◌}
+use Rattle.std.specs.Prelude.{◌≡◌, ℕ, ℤ, ◌≤◌, ◌^◌, List, ◌∷◌, ◌++◌, length, FitsSigned, Option, Some, None, Result, Ok, Err, []}
 use Rattle.std.specs.Borrow.{Bor}
 use Rattle.std.specs.Int.{w64}
 use Rattle.std.specs.Fmt.{decimal, signed_decimal}
 use Rattle.bt_bencode.specs.Trees.{Tree, Trees, Pairs}
 use Rattle.bt_bencode.specs.Bencoding.{ben, ben_all, ben_pairs, ben_string, longest_string, InRange, AllInRange, PairsInRange}
 use Rattle.bt_bencode.specs.Scanner.{NumberThen}
+use Rattle.bt_bencode.specs.Views.{pairs_of}
+use Rattle.bt_bencode.specs.declared.pairs.Left.{Left}
+use Rattle.bt_bencode.specs.declared.pairs.Left.TheVariants as left
 
 -- the bytes begin with a value
 abbrev pub HasValue : List ℕ → Type 0
@@ -44,35 +47,20 @@ abbrev pub Walks : Result (Bor (List ℕ)) ℕ → List ℕ → Option ℕ → T
 Walks (Ok rest) more offset = (offset ≡ None) × (rest.now ≡ more)
 Walks (Err n) more offset = offset ≡ Some n
 
--- A walk over a part found the offset, or reached its end and saw `a` in the part.
-abbrev pub WalksAs : {A : Type 0} → A → Result (A × Bor (List ℕ)) ℕ → List ℕ → Option ℕ → Type 0
-WalksAs a (Ok x) more offset = (offset ≡ None) × (x.1.now ≡ more) × (x.0 ≡ a)
-WalksAs a (Err n) more offset = offset ≡ Some n
-
--- A walk found the offset, or there is none.
-abbrev pub JudgesOrder : {A : Type 0} → Result A ℕ → Option ℕ → Type 0
-JudgesOrder (Ok x) offset = offset ≡ None
-JudgesOrder (Err n) offset = offset ≡ Some n
-
--- what was seen before, or else this
-abbrev pub first_seen : Option Bool → Option Bool → Option Bool
-first_seen (Some before) now = Some before
-first_seen None now = now
-
 -- the bytes found begin with the value's spelling, if there is a value
 abbrev pub FindsValue : Option (Bor (List ℕ)) → Option Tree → Type 0
 FindsValue None o = o ≡ None
 FindsValue (Some bytes) o = (t : Tree) × (rest : List ℕ) × (o ≡ Some t) × InRange t × (bytes.now ≡ ben t ++ rest)
-
--- what was found before, or else these bytes, where they are at the key
-abbrev pub first_found : Option (Bor (List ℕ)) → Bool → Bor (List ℕ) → Option (Bor (List ℕ))
-first_found (Some before) here bytes = Some before
-first_found None here bytes = if here then Some bytes else None
 
 -- the bytes spell the pairs, and the end of their dictionary
 pub record SpellsPairs (ps : Pairs) (bytes : List ℕ) : Type 0 where
   pub range : PairsInRange ps
   pub spelled : bytes ≡ ben_pairs ps ++ 101 ∷ []
 
-abbrev pub ArePairs : List ℕ → Type 0
-ArePairs bytes = (ps : Pairs) × SpellsPairs ps bytes
+-- the pairs are those that are left, encoded or as values
+abbrev pub LeaveAs : Pairs → Left → Type 0
+LeaveAs ps (left.Encoded bytes) = SpellsPairs ps bytes.now
+LeaveAs ps (left.Values values) = ps ≡ pairs_of values.now
+
+abbrev pub AreLeft : Left → Type 0
+AreLeft l = (ps : Pairs) × LeaveAs ps l

@@ -5,9 +5,8 @@ ghost use Rattle.std.specs.Prelude.{◌≡◌, ℕ, ◌<◌, ◌∷◌, ◌++◌
 ghost use Rattle.bt_bencode.specs.Trees.{Tree, Trees, Pairs};
 ghost use Rattle.bt_bencode.specs.Bencoding.{ben, ben_all, ben_pairs, InRange, AllInRange, PairsInRange};
 ghost use Rattle.bt_bencode.specs.Keys.{value_at};
-ghost use Rattle.std.specs.Str.{bytes_eq};
 ghost use Rattle.bt_bencode.specs.LookUps.{integer_of, string_of, inner_integer};
-ghost use Rattle.bt_bencode.specs.Readable.{FindsValue, HasValue, HasItems, HasPairs, first_found};
+ghost use Rattle.bt_bencode.specs.Readable.{FindsValue, HasValue, HasItems, HasPairs};
 
 use crate::read::{following, read_int, split_string};
 
@@ -87,49 +86,6 @@ pub fn find<'a>(pairs: &'a [u8], key: &[u8]) -> Option<&'a [u8]>
         rest = pass_value(value);
     }
     None
-}
-
-/// Returns `before`, or `value` if nothing was found yet and `name` is the key.
-#[inline(always)]
-pub fn found_at<'a>(
-    before: Option<&'a [u8]>,
-    name: &[u8],
-    key: &[u8],
-    value: &'a [u8],
-) -> Option<&'a [u8]>
-    ensures { result ≡ first_found before.entry (bytes_eq name.now key.now) value.entry }
-{
-    match before {
-        Some(_) => before,
-        None => { if name == key { Some(value) } else { None } }
-    }
-}
-
-/// Returns the bytes from the values of the first pairs with the two keys on.
-///
-/// It makes one walk over the pairs.
-pub fn find_two<'a>(
-    pairs: &'a [u8],
-    first: &[u8],
-    second: &[u8],
-) -> (Option<&'a [u8]>, Option<&'a [u8]>)
-    requires { HasPairs pairs.now }
-    ensures first { (ps : Pairs) (more : List ℕ) → PairsInRange ps → pairs.now ≡ ben_pairs ps ++ 101 ∷ more → FindsValue result.0 (value_at first.now ps) }
-    ensures second { (ps : Pairs) (more : List ℕ) → PairsInRange ps → pairs.now ≡ ben_pairs ps ++ 101 ∷ more → FindsValue result.1 (value_at second.now ps) }
-{
-    let mut rest = pairs;
-    let mut one: Option<&'a [u8]> = None;
-    let mut two: Option<&'a [u8]> = None;
-    while rest[0] != b'e' {
-        let (name, value) = split_string(rest);
-        one = found_at(one, name, first, value);
-        two = found_at(two, name, second, value);
-        if one.is_some() && two.is_some() {
-            return (one, two);
-        }
-        rest = pass_value(value);
-    }
-    (one, two)
 }
 
 /// Returns the integer at `key` in the value that `value` begins with.

@@ -1,8 +1,10 @@
 //! Bencoded data: integers, byte strings, lists and dictionaries.
 ghost use Rattle.std.specs.Prelude.{◌≡◌, ◌==◌, ◌<◌, ◌^◌, length, option_map};
 ghost use Rattle.bt_bencode.specs.Keys.{lookup_of, value_at};
+ghost use Rattle.bt_bencode.specs.LookUps.{integer_of};
 ghost use Rattle.bt_bencode.specs.Views.{tree_of, trees_of, pairs_of};
 
+use crate::pairs::{IntPairs, Left};
 use std::marker::Model;
 
 /// A byte string, seen as the list of its bytes.
@@ -171,6 +173,27 @@ impl Pairs {
         ensures { pairs_of result.now ≡ self.now }
     {
         &self.pairs
+    }
+
+    /// Returns the pairs in order: each key, and the value if it is an integer.
+    pub fn int_pairs(&self) -> IntPairs<'_>
+        ensures { result ≡ self.now }
+    {
+        IntPairs {
+            left: Left::Values(&self.pairs),
+        }
+    }
+}
+
+impl Value {
+    /// Returns the integer that the value is.
+    pub fn as_int(&self) -> Option<i64>
+        ensures { result ≡ integer_of (tree_of self.now) }
+    {
+        match self {
+            Value::Int(n) => Some(*n),
+            _ => None,
+        }
     }
 }
 

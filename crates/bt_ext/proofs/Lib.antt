@@ -1,12 +1,11 @@
 pub mod Allowed
-pub mod ByteMaps
 pub mod ByName
 pub mod Entries
 pub mod KnownDict
 pub mod LawProofs
 pub mod MadeKinds
 pub mod MadeRight
-pub mod Marking
+pub mod Known
 pub mod Names
 pub mod OneExt
 pub mod OneFault

@@ -25,7 +25,7 @@ number : (n : ℕ) → n < 2 ^ 63 → FitsSigned w64 (pos n)
 number n h = fits_signed_from_abs w64 (pos n) h
 
 -- ---- metadata messages
-message-fits : (k : Kind) → IsMade k → Fits (dictionary (message_pairs k))
+pub message-fits : (k : Kind) → IsMade k → Fits (dictionary (message_pairs k))
 message-fits (kind.Request piece) h = record {
   in_range = (omega arith, number 0 (omega arith), (omega arith, number piece (omega arith), tt));
   nested = omega arith;
@@ -112,12 +112,18 @@ good_fields : (m d size : Option ℕ) → ForSome m (λ n. n < 256) → ForSome 
 good_fields m d None h k = rw (good_ids m d h k) refl
 good_fields m d (Some n) h k = rw (good_ids m d h k) refl
 
+pub handshake-fits : (reg : Registered) (size : Option ℕ) → HaveBytes reg → ForSome size (λ n. n < 2 ^ 63) → Fits (handshake_tree reg size)
+handshake-fits reg size h k =
+    let m = metadata_id reg in
+    let d = donthave_id reg in
+    record { in_range = (omega arith, m-range m d h.metadata h.donthave, size-range size k); nested = nested m d size }
+
 pub handshake-right : (reg : Registered) (size : Option ℕ) → HaveBytes reg → ForSome size (λ n. n < 2 ^ 63) → HasParts (handshake_of reg size)
     × Allows rules.Bep (handshake_of reg size)
 handshake-right reg size h k =
     let m = metadata_id reg in
     let d = donthave_id reg in (
-      (handshake_pairs m d size, refl, record { in_range = (omega arith, m-range m d h.metadata h.donthave, size-range size k); nested = nested m d size }),
+      (handshake_pairs m d size, refl, handshake-fits reg size h k),
       ((refl, m-sorted m d, size-sorted size), good_fields m d size h.metadata h.donthave),
     )
 

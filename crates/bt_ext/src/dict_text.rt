@@ -4,7 +4,7 @@ ghost use Rattle.std.specs.Prelude.{◌≡◌, ◌≤◌, ◌<◌, ◌+◌, ◌^
 ghost use Rattle.std.specs.Option.{ForSome};
 ghost use Rattle.bt_bencode.specs.Trees.{integer, dictionary, Pairs, no_pairs, pair};
 ghost use Rattle.bt_bencode.specs.Bencoding.{ben, ben_string, ben_pairs};
-ghost use Rattle.bt_ext.specs.Ids.{metadata_id, donthave_id};
+ghost use Rattle.bt_ext.specs.Ids.{HaveBytes, metadata_id, donthave_id};
 ghost use Rattle.bt_ext.specs.Made.{IsMade, typed, id_pair, m_pairs, size_pairs, message_tree, handshake_tree};
 
 use crate::ids::{ExtId, Registered};
@@ -89,6 +89,7 @@ fn put_id(name: &[u8], id: Option<ExtId>, text: &mut DictText, at: usize) -> usi
     requires { (43 + length name.now ≤ at) × (at ≤ 220) }
     ensures room { (result ≤ at) × (at ≤ result + 43 + length name.now) }
     ensures text { (ps : Pairs) (rest : List ℕ) → drop at text.old ≡ ben_pairs ps ++ rest → drop result text.new ≡ ben_pairs (id_pair name.now id ps) ++ rest }
+    ensures byte { ForSome id (λ n. n < 256) }
 {
     match id {
         Some(id) => put_pair(name, u64::from(id.get()), text, at),
@@ -101,6 +102,7 @@ fn put_m(reg: Registered, text: &mut DictText, at: usize) -> usize
     requires { (120 ≤ at) × (at ≤ 220) }
     ensures room { (result ≤ at) × (at ≤ result + 120) }
     ensures text { drop result text.new ≡ ben (dictionary (m_pairs (metadata_id reg) (donthave_id reg))) ++ drop at text.old }
+    ensures bytes { HaveBytes reg }
 {
     let end = put_bytes(b"e", text, at);
     let place = put_id(b"ut_metadata", reg.metadata(), text, end);
@@ -115,6 +117,7 @@ fn put_m(reg: Registered, text: &mut DictText, at: usize) -> usize
 pub fn handshake_text(reg: Registered, size: Option<u64>, text: &mut DictText) -> usize
     ensures room { result ≤ 220 }
     ensures text { drop result text.new ≡ ben (handshake_tree reg size) }
+    ensures bytes { HaveBytes reg }
 {
     let end = put_end(text);
     let place = put_size(size, text, end);

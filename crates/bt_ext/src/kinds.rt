@@ -4,7 +4,7 @@ ghost use Rattle.bt_bencode.specs.Trees.{dictionary};
 ghost use Rattle.bt_bencode.specs.Views.{tree_of};
 ghost use Rattle.bt_ext.specs.Metadata.{piece_of, total_of, kind_by, kind_of};
 
-use crate::fields::int_at;
+use crate::dict::Dict;
 use crate::metadata::Kind;
 use bt_bencode::{DictRef, Value};
 
@@ -23,7 +23,7 @@ fn total_of(value: Option<i64>) -> Option<u64>
 }
 
 /// Returns the kind of a metadata message by the integers of its three fields.
-pub fn kind_by(msg_type: Option<i64>, piece: Option<i64>, total: Option<i64>) -> Kind
+fn kind_by(msg_type: Option<i64>, piece: Option<i64>, total: Option<i64>) -> Kind
     ensures { result ≡ kind_by msg_type piece total }
 {
     let Some(msg_type) = msg_type else {
@@ -41,15 +41,24 @@ pub fn kind_by(msg_type: Option<i64>, piece: Option<i64>, total: Option<i64>) ->
     }
 }
 
+/// Returns the kind of the metadata message that has this dictionary.
+pub fn kind_in<'a, D: Dict<'a>>(dict: D) -> Kind
+    ensures { result ≡ kind_of (D.tree dict) }
+{
+    let msg_type = dict.int(b"msg_type");
+    // Only a data message has a size; in a request it would be sought to the dictionary's end.
+    let total = match msg_type {
+        Some(1) => dict.int(b"total_size"),
+        _ => None,
+    };
+    kind_by(msg_type, dict.int(b"piece"), total)
+}
+
 /// Returns the kind of the metadata message that has this dictionary (BEP 9).
 pub fn kind(dict: &Value) -> Kind
     ensures { result ≡ kind_of (tree_of dict.now) }
 {
-    kind_by(
-        int_at(dict, b"msg_type"),
-        int_at(dict, b"piece"),
-        int_at(dict, b"total_size"),
-    )
+    kind_in(dict)
 }
 
 /// Returns the kind of the metadata message that has this dictionary (BEP 9).
@@ -58,11 +67,5 @@ pub fn kind(dict: &Value) -> Kind
 pub fn kind_ref(dict: &DictRef) -> Kind
     ensures { result ≡ kind_of (dictionary dict.now.tree.0) }
 {
-    let msg_type = dict.lookup_int(b"msg_type");
-    // Only a data message has a size; in a request it would be sought to the dictionary's end.
-    let total = match msg_type {
-        Some(1) => dict.lookup_int(b"total_size"),
-        _ => None,
-    };
-    kind_by(msg_type, dict.lookup_int(b"piece"), total)
+    kind_in(*dict)
 }

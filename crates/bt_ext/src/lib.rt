@@ -2,6 +2,7 @@
 #![tactic(auto)]
 
 mod bytes;
+mod dict;
 mod dict_text;
 mod ext;
 mod fields;
@@ -9,7 +10,6 @@ mod ids;
 mod kinds;
 pub mod laws;
 mod made;
-mod marks;
 mod metadata;
 mod name;
 mod spelling;

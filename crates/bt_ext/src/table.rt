@@ -1,17 +1,17 @@
 //! The names and ids that a peer announced (BEP 10). Which pairs of `m` count is in `told`.
 ghost use Rattle.std.specs.Prelude.{◌≡◌, ◌<◌, ◌≤◌, [], ◌∷◌, ◌++◌, length, OnOk, OnErr, IfOk, IfSome};
-ghost use Rattle.std.specs.Bool.{OnFalse};
 ghost use Rattle.bt_bencode.specs.Trees.{dictionary};
 ghost use Rattle.bt_bencode.specs.Views.{tree_of};
 ghost use Rattle.bt_ext.specs.Tables.{id_of_name, told_ids, entered, entered_all, applied, IsTable};
-ghost use Rattle.bt_ext.specs.Holding.{entries_of, AreMarks, HoldsAt};
+ghost use Rattle.bt_ext.specs.Holding.{entries_of, names_of, HasNames, HoldsAt};
 
+use crate::dict::Dict;
 use crate::ids::{ExtId, Registered};
-use crate::marks::{has_mark, no_marks, set_mark};
 use crate::name::Name;
-use crate::told::{told_of, told_of_ref};
+use crate::told::{add_name, told_of};
 use bt_bencode::{DictRef, Value};
 use std::alloc::{AllocError, Allocator, Global};
+use std::collections::BTreeSet;
 use std::marker::Model;
 
 /// The most names that a table keeps.
@@ -85,16 +85,6 @@ fn push_entries<A: Allocator + Copy>(
         push_entry(entries, name.as_slice(), *id)?;
     }
     Ok(())
-}
-
-/// Marks the names of entries.
-fn mark_all<A: Allocator>(marks: &mut Vec<bool, A>, entries: &[(Name<A>, u8)])
-    requires { AreMarks marks.old.items [] }
-    ensures { AreMarks marks.new.items entries.now }
-{
-    for (name, _) in entries {
-        set_mark(marks, name.as_slice());
-    }
 }
 
 /// Takes an id for a name, as the table's rules are.
@@ -181,112 +171,76 @@ impl<A: Allocator + Copy> Table<A> {
         enter(&mut self.entries, name, id)
     }
 
-    /// Whether an entry differs from what the table has.
-    fn is_changed_by(&self, told: &[(&[u8], u8)]) -> bool
-        ensures { OnFalse result (entered_all (entries_of told.now) self.now ≡ self.now) }
+    /// Returns the names.
+    fn names(&self) -> Result<BTreeSet<&[u8], A>, AllocError>
+        ensures { IfOk result (λ names. HasNames (names_of names) self.now) }
     {
-        for (name, id) in told {
-            if self.id_of(name).unwrap_or(0) != *id {
-                return true;
-            }
+        let mut names = BTreeSet::new(*self.entries.allocator());
+        for (name, _) in &self.entries {
+            add_name(&mut names, name.as_slice())?;
         }
-        false
+        Ok(names)
     }
 
-    /// Marks of the names.
-    fn marks(&self) -> Result<Vec<bool, A>, AllocError>
-        ensures { IfOk result (λ marks. AreMarks marks.items self.now) }
-    {
-        let mut marks = no_marks(*self.entries.allocator())?;
-        mark_all(&mut marks, &self.entries);
-        Ok(marks)
-    }
-
-    /// Whether an id for a name may change the table. A name without a mark isn't there.
-    fn may_change(&self, marks: &[bool], name: &[u8], id: u8) -> bool
-        requires { AreMarks marks.now self.now }
-        ensures { OnFalse result (entered name.now id self.now ≡ self.now) }
-    {
-        if has_mark(marks, name) {
-            return true;
-        }
-        id != 0 && self.entries.len() < MAX_NAMES
-    }
-
-    /// Takes an id for a name that has a mark or gets one.
-    fn enter_marked(
+    /// Takes an id for a name, and keeps the set of names.
+    fn enter_known<'a>(
         &mut self,
-        marks: &mut Vec<bool, A>,
-        name: &[u8],
+        names: &mut BTreeSet<&'a [u8], A>,
+        name: &'a [u8],
         id: u8,
     ) -> Result<(), AllocError>
-        requires { AreMarks marks.old.items self.old }
+        requires { HasNames (names_of names.old) self.old }
         ensures ok { OnOk result (self.new ≡ entered name.now id self.old) }
-        ensures marks { OnOk result (AreMarks marks.new.items self.new) }
+        ensures names { OnOk result (HasNames (names_of names.new) self.new) }
     {
-        if self.may_change(marks, name, id) {
-            self.enter(name, id)?;
-            set_mark(marks, name);
+        if !names.contains(name) {
+            if id == 0 {
+                return Ok(());
+            }
+            if self.entries.len() >= MAX_NAMES {
+                return Ok(());
+            }
         }
+        self.enter(name, id)?;
+        add_name(names, name)?;
         Ok(())
     }
 
-    /// Applies what a short `m` announces.
-    fn enter_few(&mut self, told: &[(&[u8], u8)]) -> Result<(), AllocError>
-        ensures { OnOk result (self.new ≡ entered_all (entries_of told.now) self.old) }
-    {
-        for (name, id) in told {
-            self.enter(name, *id)?;
-        }
-        Ok(())
-    }
-
-    /// Takes ids for names. The table's names have marks, and those that come get them.
-    fn enter_each(
-        &mut self,
-        marks: &mut Vec<bool, A>,
-        told: &[(&[u8], u8)],
-    ) -> Result<(), AllocError>
-        requires { AreMarks marks.old.items self.old }
-        ensures { OnOk result (self.new ≡ entered_all (entries_of told.now) self.old) }
-    {
-        for (name, id) in told {
-            self.enter_marked(marks, name, *id)?;
-        }
-        Ok(())
-    }
-
-    /// Applies what a long `m` announces.
+    /// Takes ids for names.
     ///
-    /// Most of its names the table doesn't have, and has no room for.
-    fn enter_many(&mut self, told: &[(&[u8], u8)]) -> Result<(), AllocError>
+    /// With the set of the table's names most names of a long `m`, which it doesn't have and has no room for, cost no search.
+    fn enter_all<'a>(
+        &mut self,
+        names: &mut BTreeSet<&'a [u8], A>,
+        told: &[(&'a [u8], u8)],
+    ) -> Result<(), AllocError>
+        requires { HasNames (names_of names.old) self.old }
         ensures { OnOk result (self.new ≡ entered_all (entries_of told.now) self.old) }
     {
-        let mut marks = self.marks()?;
-        self.enter_each(&mut marks, told)
-    }
-
-    /// Applies what an `m` announces.
-    fn enter_told(&mut self, told: &[(&[u8], u8)]) -> Result<(), AllocError>
-        ensures { OnOk result (self.new ≡ entered_all (entries_of told.now) self.old) }
-    {
-        if told.len() > MAX_NAMES {
-            self.enter_many(told)
-        } else {
-            self.enter_few(told)
+        for (name, id) in told {
+            self.enter_known(names, name, *id)?;
         }
+        Ok(())
     }
 
-    fn enter_all(&mut self, told: &[(&[u8], u8)]) -> Result<(), AllocError>
-        ensures ok { OnOk result (self.new ≡ entered_all (entries_of told.now) self.old) }
+    /// Returns what the table is after it took ids for names.
+    fn after(&self, told: &[(&[u8], u8)]) -> Result<Table<A>, AllocError>
+        ensures { IfOk result (λ t. t ≡ entered_all (entries_of told.now) self.now) }
+    {
+        let mut next = self.copy()?;
+        let mut names = self.names()?;
+        next.enter_all(&mut names, told)?;
+        Ok(next)
+    }
+
+    /// Applies what a dictionary announces.
+    fn apply_told<'a, D: Dict<'a>>(&mut self, dict: D) -> Result<(), AllocError>
+        ensures ok { OnOk result (self.new ≡ applied (D.tree dict) self.old) }
+        ensures table { IsTable self.new }
         ensures memory { OnErr result (self.new ≡ self.old) }
     {
-        if told.len() <= MAX_NAMES && !self.is_changed_by(told) {
-            return Ok(());
-        }
-        let mut next = self.copy()?;
-        next.enter_told(told)?;
-        *self = next;
+        let told = told_of(*self.entries.allocator(), dict)?;
+        *self = self.after(&told)?;
         Ok(())
     }
 
@@ -303,8 +257,7 @@ impl<A: Allocator + Copy> Table<A> {
         ensures table { IsTable self.new }
         ensures memory { OnErr result (self.new ≡ self.old) }
     {
-        let told = told_of(*self.entries.allocator(), dict)?;
-        self.enter_all(&told)
+        self.apply_told(dict)
     }
 
     /// Applies the pairs of `m` in an extended handshake's dictionary, in order.
@@ -318,7 +271,6 @@ impl<A: Allocator + Copy> Table<A> {
         ensures table { IsTable self.new }
         ensures memory { OnErr result (self.new ≡ self.old) }
     {
-        let told = told_of_ref(*self.entries.allocator(), dict)?;
-        self.enter_all(&told)
+        self.apply_told(*dict)
     }
 }

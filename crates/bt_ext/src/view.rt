@@ -10,9 +10,9 @@ ghost use Rattle.bt_ext.specs.Faults.{Reads, Refuses, RefusesToRead, fault_of, h
 
 use crate::bytes::copy_bytes;
 use crate::ext::{Ext, ExtError, ExtView, ViewError};
-use crate::fields::bad_field_by;
+use crate::fields::bad_field;
 use crate::ids::{Registered, Rules};
-use crate::kinds::kind_by;
+use crate::kinds::kind_ref;
 use crate::metadata::{block_ok, is_malformed};
 use bt_bencode::{Bad, ByteString, DictRef, Value, check};
 use std::alloc::{AllocError, Global};
@@ -74,10 +74,10 @@ fn shape<'a>(reg: Registered, id: u8, payload: &'a [u8]) -> Result<ExtView<'a>, 
 fn handshake_fault(dict: &DictRef) -> Option<ViewError>
     ensures { result ≡ handshake_fault_of (dictionary dict.now.tree.0) }
 {
-    match dict.sorted_byte_map(b"m", b"metadata_size") {
-        Err(at) => Some(ViewError::Unsorted { at }),
-        Ok((m, size)) if bad_field_by(m, size) => Some(ViewError::BadField),
-        Ok(_) => None,
+    match dict.first_unsorted() {
+        Some(at) => Some(ViewError::Unsorted { at }),
+        None if bad_field(*dict) => Some(ViewError::BadField),
+        None => None,
     }
 }
 
@@ -85,10 +85,10 @@ fn handshake_fault(dict: &DictRef) -> Option<ViewError>
 fn metadata_fault(dict: &DictRef, rest_len: usize) -> Option<ViewError>
     ensures { result ≡ metadata_fault_of (dictionary dict.now.tree.0) rest_len }
 {
-    let kind = match dict.sorted_ints(b"msg_type", b"piece", b"total_size") {
-        Err(at) => return Some(ViewError::Unsorted { at }),
-        Ok((msg_type, piece, total)) => kind_by(msg_type, piece, total),
-    };
+    if let Some(at) = dict.first_unsorted() {
+        return Some(ViewError::Unsorted { at });
+    }
+    let kind = kind_ref(dict);
     if is_malformed(kind) {
         Some(ViewError::BadField)
     } else if block_ok(kind, rest_len) {

@@ -16,14 +16,10 @@ const ORDERED: &[(&[u8], Option<usize>)] = &[
     (b"d1:md1:bi0e1:ai1eee", Some(11)),
 ];
 
-/// Whether the first key out of order stands there, and no walk in order goes on where there is one.
+/// Whether the first key out of order stands there.
 fn is_ordered(payload: &[u8], wanted: Option<usize>) -> bool {
     match check(payload) {
-        Ok((dict, _)) => {
-            first_unsorted(payload) == wanted
-                && dict.sorted_ints(b"a", b"b", b"c").err() == wanted
-                && dict.sorted_byte_map(b"m", b"n").err() == wanted
-        }
+        Ok((dict, _)) => first_unsorted(payload) == wanted && dict.first_unsorted() == wanted,
         Err(_) => false,
     }
 }
@@ -32,52 +28,6 @@ fn is_ordered(payload: &[u8], wanted: Option<usize>) -> bool {
 fn keys_in_order(rt: HostRuntime) {
     for (payload, wanted) in ORDERED {
         assert!(rt; is_ordered(payload, *wanted), "{payload:?}");
-    }
-}
-
-/// The integers at `a`, `b` and `c`.
-type Integers = (Option<i64>, Option<i64>, Option<i64>);
-
-/// Whether `m` has a map of bytes, and the integer at `n`.
-type Map = (Option<bool>, Option<Option<i64>>);
-
-const NO_INTEGERS: Integers = (None, None, None);
-
-const NO_MAP: Map = (None, None);
-
-/// Dictionaries whose keys are in order, and what is found of them in one walk.
-const WALKED: &[(&[u8], Integers, Map)] = &[
-    (b"d1:ai1e1:bi2ee", (Some(1), Some(2), None), NO_MAP),
-    (
-        b"d1:ai7e1:b3:xyz1:ci-1e1:dd1:ei0eee",
-        (Some(7), None, Some(-1)),
-        NO_MAP,
-    ),
-    (b"d1:ci9e1:d1:ae", (None, None, Some(9)), NO_MAP),
-    (b"d1:mde1:ni5ee", NO_INTEGERS, (Some(true), Some(Some(5)))),
-    (
-        b"d1:md1:ai0e1:bi255ee1:n1:5e",
-        NO_INTEGERS,
-        (Some(true), Some(None)),
-    ),
-    (b"d1:md1:ai256e1:bi0eee", NO_INTEGERS, (Some(false), None)),
-    (b"d1:mi1ee", NO_INTEGERS, (Some(false), None)),
-];
-
-fn is_walked(payload: &[u8], integers: Integers, map: Map) -> bool {
-    match check(payload) {
-        Ok((dict, _)) => {
-            dict.sorted_ints(b"a", b"b", b"c") == Ok(integers)
-                && dict.sorted_byte_map(b"m", b"n") == Ok(map)
-        }
-        Err(_) => false,
-    }
-}
-
-#[test]
-fn walks_in_order(rt: HostRuntime) {
-    for (payload, integers, map) in WALKED {
-        assert!(rt; is_walked(payload, *integers, *map), "{payload:?}");
     }
 }
 
@@ -131,8 +81,7 @@ const PAIRS: &[(&[u8], Option<i64>)] = &[
     (b"a", Some(8)),
 ];
 
-fn has_pairs(dict: &DictRef) -> bool {
-    let mut pairs = dict.int_pairs();
+fn has_pairs(mut pairs: IntPairs) -> bool {
     for pair in PAIRS {
         if pairs.next() != Some(*pair) {
             return false;
@@ -143,7 +92,13 @@ fn has_pairs(dict: &DictRef) -> bool {
 
 #[test]
 fn pairs_in_order(rt: HostRuntime) {
-    assert!(rt; matches!(check(PAYLOAD), Ok((dict, 34)) if has_pairs(&dict)));
+    assert!(rt; matches!(check(PAYLOAD), Ok((dict, 34)) if has_pairs(dict.int_pairs())));
+    assert!(rt;
+        matches!(
+            read_dict(rt.alloc(), PAYLOAD),
+            Ok((Value::Dict(pairs), 34)) if has_pairs(pairs.int_pairs())
+        )
+    );
 }
 
 /// Whether the value at the key is a list of the number 1 and the string `ab`.

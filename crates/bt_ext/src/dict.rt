@@ -1,0 +1,67 @@
+//! Look-ups in a dictionary, be it a value or a validated slice.
+ghost use Rattle.std.specs.Prelude.{◌≡◌, is_some, option_and_then};
+ghost use Rattle.bt_bencode.specs.Trees.{Tree, dictionary};
+ghost use Rattle.bt_bencode.specs.Keys.{lookup_of};
+ghost use Rattle.bt_bencode.specs.LookUps.{dictionary_of};
+ghost use Rattle.bt_bencode.specs.Views.{tree_of};
+ghost use Rattle.bt_ext.specs.Fields.{int_at};
+
+use bt_bencode::{DictRef, IntPairs, Value, lookup};
+
+/// A dictionary that is looked into. Nothing is found in a value of another kind.
+pub trait Dict<'a>: Copy {
+    ghost tree: { Self → Tree };
+
+    /// Returns whether a pair has the key.
+    fn has(self, key: &[u8]) -> bool
+        ensures { result ≡ is_some (lookup_of key.now (tree self)) };
+
+    /// Returns the integer of the first pair with the key.
+    fn int(self, key: &[u8]) -> Option<i64>
+        ensures { result ≡ int_at key.now (tree self) };
+
+    /// Returns the pairs of the dictionary of the first pair with the key.
+    fn pairs(self, key: &[u8]) -> Option<IntPairs<'a>>
+        ensures { result ≡ option_and_then dictionary_of (lookup_of key.now (tree self)) };
+}
+
+impl<'a> Dict<'a> for &'a Value {
+    ghost tree = { λ v. tree_of v.now };
+
+    fn has(self, key: &[u8]) -> bool {
+        lookup(self, key).is_some()
+    }
+
+    fn int(self, key: &[u8]) -> Option<i64> {
+        match lookup(self, key) {
+            Some(value) => value.as_int(),
+            None => None,
+        }
+    }
+
+    fn pairs(self, key: &[u8]) -> Option<IntPairs<'a>> {
+        match lookup(self, key) {
+            Some(Value::Dict(pairs)) => Some(pairs.int_pairs()),
+            _ => None,
+        }
+    }
+}
+
+impl<'a> Dict<'a> for DictRef<'a> {
+    ghost tree = { λ d. dictionary d.tree.0 };
+
+    fn has(self, key: &[u8]) -> bool {
+        DictRef::has(&self, key)
+    }
+
+    fn int(self, key: &[u8]) -> Option<i64> {
+        self.lookup_int(key)
+    }
+
+    fn pairs(self, key: &[u8]) -> Option<IntPairs<'a>> {
+        match self.lookup_dict(key) {
+            Some(dict) => Some(dict.int_pairs()),
+            None => None,
+        }
+    }
+}
