@@ -1,4 +1,4 @@
-//! Moves bytes between memory and an end. The jobs call it.
+//! Moves bytes between memory and an end.
 ghost use Rattle.std.specs.Prelude.{◌<◌, ◌≤◌, length, IfOk};
 
 use bt_end::{End, Turn, TurnError};
