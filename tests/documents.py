@@ -33,8 +33,8 @@ sys.dont_write_bytecode = True
 sys.path.insert(0, os.path.join(ROOT, "tools/packages"))
 import help_texts  # noqa: E402
 
-DOCUMENTS = ["README.md", "examples/README.md", "docs/CAPTURES.md", "docs/RIG.md", "docs/RULES.md", "docs/COMMANDS.md", "docs/FETCH.md",
-             "dist/README.md"]
+# The documents whose programs are tried: README.md and docs/RATTLE.md here, docs/C.md by tests/c_library.
+COMPILED = ("README.md", "docs/RATTLE.md", "docs/C.md")
 # The most bytes of a document.
 LONGEST = 12 * 1024
 # How the paths begin that documents name from the top of the repository.
@@ -271,6 +271,17 @@ def bare_blocks(document):
     return ["%s:%d: a block without a language\n" % (document, number) for number, fence in fences[::2] if fence == "```"]
 
 
+def untried(document):
+    """The blocks of commands that aren't a shell's words, and those of programs that nothing compiles."""
+    wrong = []
+    for language, text in re.findall(r"^```(\w+)\n(.*?)^```$", content(os.path.join(ROOT, document)).decode(), re.M | re.S):
+        if language == "sh" and subprocess.run(["sh", "-n"], input=text, stderr=subprocess.DEVNULL, text=True).returncode:
+            wrong.append("%s: no commands of a shell:\n%s" % (document, text))
+        if language in ("c", "cpp", "python", "rust", "js") and document not in COMPILED:
+            wrong.append("%s: no test compiles this:\n%s" % (document, text))
+    return wrong
+
+
 def fragments():
     """What compilers say of the fragments of C and Python in README.md, which are parts of functions."""
     wrong = []
@@ -303,15 +314,15 @@ def main():
     } else ["examples/small.pcap: not the two directions of which it was made\n"]
     wrong += pictured() + unquoted() + uncompiled() + unproved() + uncalled()
     wrong += misplaced("docs/ARCHITECTURE.md") + misplaced("docs/DEFINITIONS.md") + unlisted()
-    for path in glob.glob(os.path.join(ROOT, "**/*.md"), recursive=True):
-        name = os.path.relpath(path, ROOT)
-        wrong += dead_links(name) + bare_blocks(name) + no_such_paths(name) + too_long(name)
+    documents = sorted(os.path.relpath(path, ROOT) for path in glob.glob(os.path.join(ROOT, "**/*.md"), recursive=True))
+    for name in documents:
+        wrong += dead_links(name) + bare_blocks(name) + no_such_paths(name) + too_long(name) + untried(name)
     wrong += fragments()
     if subprocess.run([program, "--version"], stdout=subprocess.DEVNULL).returncode:
         sys.exit("documents: failed: %s --version" % program)
     wrong += unhelped(program)
     counts = Counter()
-    for document in DOCUMENTS:
+    for document in documents:
         with tempfile.TemporaryDirectory(prefix="documents-") as folder:
             make_folder(folder, program)
             wrong += run_document(document, folder, counts)
