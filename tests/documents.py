@@ -8,11 +8,14 @@ the next command or the block's end are its standard output, exactly. Standard e
 in one shell, in a new folder that has `bt_tool`, `examples`, `tools` and `dist`. `bt_tool` is PROGRAM, or the script at the top of the
 repository, which builds the program if it has to.
 
-It also looks whether links lead to files, whether the picture of a stream has its bytes, whether the blocks of docs/RATTLE.md stand in
-the examples and those of doc comments in the code of a crate, whether the mutants, laws and calls that docs/PROVED.md and docs/API.md
-name are there, and the files and names of docs/ARCHITECTURE.md and docs/DEFINITIONS.md, whether each path of the repository that a
-document names is there, whether docs/COMMANDS.md has the usage of each command and a document each option, whether a document is too
-long, and whether examples/small.pcap has the two directions of which it was made.
+It also looks whether these are right:
+
+- links lead to files and headings, each path of the repository that a document names is there, and no document is too long;
+- the picture of a stream has its bytes, and examples/small.pcap the two directions of which it was made;
+- the blocks of docs/RATTLE.md are parts of the examples, and those of doc comments parts of a crate's code;
+- the mutants, laws, calls, files and names of docs/PROVED.md, docs/API.md, docs/ARCHITECTURE.md and docs/DEFINITIONS.md are there,
+  and no crate, law or crate of the toolchain is missing in them;
+- docs/COMMANDS.md has the usage of each command, and it or docs/FETCH.md each option.
 """
 import glob
 import os
@@ -30,8 +33,8 @@ sys.dont_write_bytecode = True
 sys.path.insert(0, os.path.join(ROOT, "tools/packages"))
 import help_texts  # noqa: E402
 
-DOCUMENTS = ["README.md", "examples/README.md", "docs/CAPTURES.md", "docs/RIG.md", "docs/RULES.md", "docs/COMMANDS.md", "docs/FETCH.md",
-             "dist/README.md"]
+# The documents whose programs are tried: README.md and docs/RATTLE.md here, docs/C.md by tests/c_library.
+COMPILED = ("README.md", "docs/RATTLE.md", "docs/C.md")
 # The most bytes of a document.
 LONGEST = 12 * 1024
 # How the paths begin that documents name from the top of the repository.
@@ -218,6 +221,13 @@ def misplaced(document):
     return wrong
 
 
+def unlisted():
+    """The crates that docs/ARCHITECTURE.md doesn't name."""
+    names = [re.split(r"[: ]", line)[0] for line in content(os.path.join(ROOT, "crates.txt")).decode().splitlines()]
+    text = content(os.path.join(ROOT, "docs/ARCHITECTURE.md")).decode()
+    return ["docs/ARCHITECTURE.md: the crate %s isn't named\n" % name for name in names if "`%s`" % name not in text]
+
+
 def no_such_paths(document):
     """The paths from the top of the repository that a document names and that aren't there. Words in capitals stand for others."""
     text = content(os.path.join(ROOT, document)).decode()
@@ -242,10 +252,16 @@ def unhelped(program):
 
 
 def dead_links(document):
-    """The links to files that aren't there."""
-    folder, text = os.path.dirname(os.path.join(ROOT, document)), content(os.path.join(ROOT, document)).decode()
-    links = [link.split("#")[0] for link in re.findall(r"\]\(([^):]+)\)", text)]
-    return ["%s: no such file: %s\n" % (document, link) for link in links if link and not os.path.exists(os.path.join(folder, link))]
+    """The links to files and to headings that aren't there."""
+    folder, text, wrong = os.path.dirname(os.path.join(ROOT, document)), content(os.path.join(ROOT, document)).decode(), []
+    for link in re.findall(r"\]\(([^):]+)\)", text):
+        name, _, anchor = link.partition("#")
+        path = os.path.join(folder, name) if name else os.path.join(ROOT, document)
+        there = os.path.exists(path)
+        heads = re.findall(r"^#+ (.*)$", content(path).decode(), re.M) if there and anchor else []
+        anchors = [re.sub(r"[^\w -]", "", head.lower()).replace(" ", "-") for head in heads]
+        wrong += [] if there and (not anchor or anchor in anchors) else ["%s: no such file or heading: %s\n" % (document, link)]
+    return wrong
 
 
 def bare_blocks(document):
@@ -253,6 +269,17 @@ def bare_blocks(document):
     lines = content(os.path.join(ROOT, document)).decode().splitlines()
     fences = [(number, line.strip()) for number, line in enumerate(lines, 1) if line.lstrip().startswith("```")]
     return ["%s:%d: a block without a language\n" % (document, number) for number, fence in fences[::2] if fence == "```"]
+
+
+def untried(document):
+    """The blocks of commands that aren't a shell's words, and those of programs that nothing compiles."""
+    wrong = []
+    for language, text in re.findall(r"^```(\w+)\n(.*?)^```$", content(os.path.join(ROOT, document)).decode(), re.M | re.S):
+        if language == "sh" and subprocess.run(["sh", "-n"], input=text, stderr=subprocess.DEVNULL, text=True).returncode:
+            wrong.append("%s: no commands of a shell:\n%s" % (document, text))
+        if language in ("c", "cpp", "python", "rust", "js") and document not in COMPILED:
+            wrong.append("%s: no test compiles this:\n%s" % (document, text))
+    return wrong
 
 
 def fragments():
@@ -286,16 +313,16 @@ def main():
         ends: content(os.path.join(ROOT, example)) for ends, example in DIRECTIONS.items()
     } else ["examples/small.pcap: not the two directions of which it was made\n"]
     wrong += pictured() + unquoted() + uncompiled() + unproved() + uncalled()
-    wrong += misplaced("docs/ARCHITECTURE.md") + misplaced("docs/DEFINITIONS.md")
-    for path in glob.glob(os.path.join(ROOT, "**/*.md"), recursive=True):
-        name = os.path.relpath(path, ROOT)
-        wrong += dead_links(name) + bare_blocks(name) + no_such_paths(name) + too_long(name)
+    wrong += misplaced("docs/ARCHITECTURE.md") + misplaced("docs/DEFINITIONS.md") + unlisted()
+    documents = sorted(os.path.relpath(path, ROOT) for path in glob.glob(os.path.join(ROOT, "**/*.md"), recursive=True))
+    for name in documents:
+        wrong += dead_links(name) + bare_blocks(name) + no_such_paths(name) + too_long(name) + untried(name)
     wrong += fragments()
     if subprocess.run([program, "--version"], stdout=subprocess.DEVNULL).returncode:
         sys.exit("documents: failed: %s --version" % program)
     wrong += unhelped(program)
     counts = Counter()
-    for document in DOCUMENTS:
+    for document in documents:
         with tempfile.TemporaryDirectory(prefix="documents-") as folder:
             make_folder(folder, program)
             wrong += run_document(document, folder, counts)

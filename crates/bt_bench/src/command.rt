@@ -111,7 +111,7 @@ fn with_amount(name: &str, amount: Amount) -> Option<Job> {
     }
 }
 
-/// The job that the words ask for; `None` where they are no command line.
+/// Returns the job that the words ask for; `None` if they are no command line.
 pub fn asked(words: &[String]) -> Option<Job> {
     let name = words.first()?.as_str();
     match name {

@@ -104,7 +104,10 @@ fn served_by(
     Ok(tally)
 }
 
-/// A serving end of metadata of `count` blocks, which answers `rounds` requests.
+/// Serves metadata of `count` blocks by one end, which answers `rounds` requests.
+///
+/// # Errors
+/// `Stopped` if an end refuses or can't be made, or when out of memory.
 pub fn serve(alloc: Global, count: u32, rounds: u32) -> Result<Tally, Stopped>
     requires { 0 < count }
 {
@@ -114,7 +117,7 @@ pub fn serve(alloc: Global, count: u32, rounds: u32) -> Result<Tally, Stopped>
     served_by(alloc, &mut end, hash, count, rounds)
 }
 
-/// How long the metadata is that an end fetched; 0 where it fetched none.
+/// Returns how long the metadata is that an end fetched; 0 if it fetched none.
 fn fetched(end: &End) -> usize {
     match end.metadata() {
         Some(metadata) => metadata.len(),
@@ -158,7 +161,10 @@ fn fetch_once(
     fetched_from(&mut end, greeting, data)
 }
 
-/// `rounds` ends, each of which fetches metadata of `count` blocks.
+/// Fetches metadata of `count` blocks by `rounds` ends in turn.
+///
+/// # Errors
+/// `Stopped` if an end refuses or can't be made, or when out of memory.
 pub fn fetch(alloc: Global, count: u32, rounds: u32) -> Result<Fetches, Stopped> {
     let served = metadata(alloc, count)?;
     let hash = info_hash(&served);
@@ -227,7 +233,10 @@ fn moved_once(
     moved_from(alloc, &mut left, hash, count)
 }
 
-/// `rounds` pairs of ends, each of which moves metadata of `count` blocks.
+/// Moves metadata of `count` blocks by `rounds` pairs of ends in turn.
+///
+/// # Errors
+/// `Stopped` if an end refuses or can't be made, or when out of memory.
 pub fn exchange(alloc: Global, count: u32, rounds: u32) -> Result<Fetches, Stopped> {
     let served = metadata(alloc, count)?;
     let hash = info_hash(&served);
@@ -303,13 +312,21 @@ fn digests_over(alloc: Global, served: &[u8], count: u32) -> Result<([u8; 20], [
     digests_from(alloc, &mut left, hash, count)
 }
 
-/// The SHA-1 of all that each of two ends sends, while metadata of `count` blocks goes over.
+/// Returns the SHA-1 of all that each of two ends sends.
+///
+/// One of them fetches metadata of `count` blocks from the other.
+///
+/// # Errors
+/// `Stopped` if an end refuses or can't be made, or when out of memory.
 pub fn digests(alloc: Global, count: u32) -> Result<([u8; 20], [u8; 20]), Stopped> {
     let served = metadata(alloc, count)?;
     digests_over(alloc, &served, count)
 }
 
-/// The SHA-1 of metadata of `count` blocks, taken `rounds` times more than once.
+/// Returns the SHA-1 of metadata of `count` blocks, taken `rounds` + 1 times.
+///
+/// # Errors
+/// `AllocError` when out of memory.
 pub fn hash(alloc: Global, count: u32, rounds: u32) -> Result<[u8; 20], AllocError> {
     let served = metadata(alloc, count)?;
     let mut digest = info_hash(&served);
@@ -406,7 +423,10 @@ impl Plan {
     }
 }
 
-/// `count` ends in this state, whose limit is `limit`.
+/// Makes `count` ends in this state, whose limit is `limit` bytes.
+///
+/// # Errors
+/// `Stopped` if an end refuses or can't be made, or when out of memory.
 pub fn ends(alloc: Global, count: u32, state: State, limit: u32) -> Result<Vec<End>, Stopped> {
     let served = metadata(alloc, 1)?;
     let plan = Plan::new(alloc, info_hash(&served), limit, state)?;

@@ -1,4 +1,4 @@
-//! Moves bytes between memory and an end. The jobs call it.
+//! Moves bytes between memory and an end.
 ghost use Rattle.std.specs.Prelude.{◌<◌, ◌≤◌, length, IfOk};
 
 use bt_end::{End, Turn, TurnError};
@@ -75,6 +75,9 @@ pub fn empty(end: &mut End, tally: &mut Tally) {
 }
 
 /// Brings all the bytes to an end, and takes what it sends as it fills.
+///
+/// # Errors
+/// `Stopped` if the end refuses them, or when out of memory.
 pub fn bring(end: &mut End, bytes: &[u8], tally: &mut Tally) -> Result<(), Stopped> {
     let mut rest = bytes;
     'items: while !rest.is_empty() {
@@ -88,6 +91,9 @@ pub fn bring(end: &mut End, bytes: &[u8], tally: &mut Tally) -> Result<(), Stopp
 }
 
 /// Brings the bytes to an end, which keeps what it sends.
+///
+/// # Errors
+/// `Stopped` if the end refuses them, or when out of memory.
 pub fn bring_alone(end: &mut End, bytes: &[u8], tally: &mut Tally) -> Result<(), Stopped> {
     let mut rest = bytes;
     'items: while !rest.is_empty() {
@@ -98,6 +104,9 @@ pub fn bring_alone(end: &mut End, bytes: &[u8], tally: &mut Tally) -> Result<(),
 }
 
 /// Brings all that one end sends to the other.
+///
+/// # Errors
+/// `Stopped` if the other end refuses it, or when out of memory.
 pub fn deliver(from: &mut End, to: &mut End, tally: &mut Tally) -> Result<(), Stopped> {
     bring_alone(to, from.outgoing(), tally)?;
     empty(from, tally);

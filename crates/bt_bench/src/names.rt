@@ -92,7 +92,10 @@ fn applied_to(
     })
 }
 
-/// Applies an `m` of `new` names `rounds` times, each time to a table of `before` names.
+/// Applies an `m` of `new` names `rounds` times to tables of `before` names.
+///
+/// # Errors
+/// `Stopped` when out of memory.
 pub fn names(alloc: Global, before: u32, new: u32, rounds: u32) -> Result<Applied, Stopped> {
     let start = start(alloc, before)?;
     applied_to(alloc, &start, before, new, rounds)

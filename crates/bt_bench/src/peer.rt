@@ -7,7 +7,10 @@ use bt_ext::{DictText, ExtId, Kind, Registered, handshake_text, message_text};
 use bt_wire::{Handshake, Reserved, spell_handshake};
 use std::alloc::{AllocError, Global};
 
-/// Appends bytes. Its callers needn't carry what the `Vec` then has.
+/// Appends bytes, without a contract on what the `Vec` then has.
+///
+/// # Errors
+/// `AllocError` when out of memory.
 pub fn put(bytes: &mut Vec<u8>, more: &[u8]) -> Result<(), AllocError> {
     bytes.extend_from_slice(more)
 }
@@ -44,7 +47,12 @@ fn push_greeting(bytes: &mut Vec<u8>, size: Option<u64>) -> Result<(), AllocErro
     push_extended(bytes, 0, &text[start..], &[])
 }
 
-/// The handshake and the extended handshake, with the size of the metadata, if the peer has it.
+/// Returns the peer's handshake and extended handshake.
+///
+/// The second has the size of the metadata, if the peer has it.
+///
+/// # Errors
+/// `AllocError` when out of memory.
 pub fn greeting(
     alloc: Global,
     info_hash: [u8; 20],
@@ -70,7 +78,10 @@ fn push_request(bytes: &mut Vec<u8>, piece: u32) -> Result<(), AllocError> {
     push_message(bytes, Kind::Request(piece), &[])
 }
 
-/// Requests for the blocks from 0 to `count`, in order.
+/// Returns requests for the blocks from 0 to `count`, in order.
+///
+/// # Errors
+/// `AllocError` when out of memory.
 pub fn requests(alloc: Global, count: u32) -> Result<Vec<u8>, AllocError> {
     let mut bytes = Vec::new(alloc);
     for piece in 0..count {
@@ -87,7 +98,10 @@ fn push_data(bytes: &mut Vec<u8>, piece: u32, total: u64, block: &[u8]) -> Resul
     push_message(bytes, Kind::Data { piece, total }, block)
 }
 
-/// The blocks of the metadata as data messages, in order.
+/// Returns the blocks of the metadata as data messages, in order.
+///
+/// # Errors
+/// `AllocError` when out of memory.
 pub fn blocks(alloc: Global, metadata: &[u8]) -> Result<Vec<u8>, AllocError> {
     let total = metadata.len() as u64;
     let mut bytes = Vec::new(alloc);

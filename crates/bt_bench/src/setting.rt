@@ -17,10 +17,13 @@ pub const END_ID: u8 = 3;
 /// The id under which the peer wants metadata messages.
 pub const PEER_ID: u8 = 7;
 
-/// The greatest length of a message that an end receives, where the command line gives none.
+/// The greatest length of a message that an end receives, if the command line gives none.
 pub const LIMIT: u32 = 262_144;
 
-/// Metadata of `blocks` blocks, always with the same bytes.
+/// Returns metadata of `blocks` blocks, always with the same bytes.
+///
+/// # Errors
+/// `AllocError` when out of memory.
 pub fn metadata(alloc: Global, blocks: u32) -> Result<Vec<u8>, AllocError> {
     let count = blocks.saturating_mul(16_384);
     let mut bytes = Vec::with_capacity(alloc, count as usize)?;
@@ -31,12 +34,12 @@ pub fn metadata(alloc: Global, blocks: u32) -> Result<Vec<u8>, AllocError> {
     Ok(bytes)
 }
 
-/// The info hash of the metadata (BEP 9).
+/// Returns the info hash of the metadata (BEP 9).
 pub fn info_hash(metadata: &[u8]) -> [u8; 20] {
     Sha1::digest(metadata)
 }
 
-/// How an end of a torrent is made: it judges all that the standards ask of its peer, and doesn't know the piece count.
+/// Returns the config of an end under the strict rules, without a piece count.
 pub fn config(info_hash: [u8; 20], limit: u32, role: Role) -> Config {
     Config {
         own: Own {
