@@ -163,6 +163,7 @@ ghost use Rattle.bt_end.specs.contracts.end.End.{the_row};
 ghost use Rattle.bt_feed.specs.Answers.{followed};
 ghost use Rattle.bt_feed.specs.Judged.{WasJudged};
 ghost use Rattle.bt_feed.specs.Stages.{IsItem};
+ghost use Rattle.bt_feed.specs.declared.stage.Stage.TheVariants as stage;
 ghost use Rattle.bt_feed.specs.Views.{item_of};
 ghost use Rattle.bt_end.specs.Nexts.{IsMet, IsHeard, turn_of};
 ghost use Rattle.bt_end.specs.Halves.{IsTurned, with_feed, IsBegun, IsSaid, high_water, is_ready, connected, received, without_sent, with_window, IsHandled, IsStop};
@@ -201,7 +202,7 @@ fn connect<A: Allocator + Copy>(
     handshake: &Handshake,
 ) -> Result<(Feed<A>, Outbox<A>), Memory>
     requires { (0 < own.now.limit) × (own.now.limit ≤ 1048576) }
-    ensures feed { IfOk result (λ x. x.0 ≡ waiting (Stage.Handshake own.now)) }
+    ensures feed { IfOk result (λ x. x.0 ≡ waiting (stage.Handshake own.now)) }
     ensures outbox { IfOk result (λ x. x.1.bytes ≡ hand handshake.now) }
     ensures length { IfOk result (λ x. length x.1.bytes ≡ 68) }
 {

@@ -1,4 +1,4 @@
-use Rattle.std.proofs.Common.{◌≡◌, Option, Some, Ok, refl, ap, subst, ◌∙◌}
+use Rattle.std.proofs.Common.{Some, Ok, refl, ap, subst, ◌∙◌}
 use Rattle.bt_feed.specs.Progress.{IsFeed}
 use Rattle.bt_feed.specs.Stages.{start_of}
 use Rattle.bt_end.specs.Halves.{HalfState}
