@@ -13,8 +13,8 @@ It also looks whether these are right:
 - links lead to files and headings, each path of the repository that a document names is there, and no document is too long;
 - the picture of a stream has its bytes, and examples/small.pcap the two directions of which it was made;
 - the blocks of docs/RATTLE.md are parts of the examples, and those of doc comments parts of a crate's code;
-- the mutants, laws, calls, files and names of docs/PROVED.md, docs/API.md, docs/ARCHITECTURE.md and docs/DEFINITIONS.md are there,
-  and no crate, law or crate of the toolchain is missing in them;
+- the mutants, laws, calls, files and names of docs/PROVED.md, docs/API.md, docs/ARCHITECTURE.md, docs/DEFINITIONS.md, docs/RATTLE.md
+  and docs/C.md are there, and no crate, law or crate of the toolchain is missing in them;
 - docs/COMMANDS.md has the usage of each command, and it or docs/FETCH.md each option.
 """
 import glob
@@ -206,6 +206,8 @@ def misplaced(document):
     known = set(re.findall(r"\w+", b"\n".join(map(content, sources)).decode()))
     crate, wrong = "", []
     for token in re.findall(r"`([^`]+)`", text):
+        if re.match(TOP, token) or os.path.exists(os.path.join(ROOT, token)):
+            continue
         crate, path = re.fullmatch(r"((?:bt|example)_\w+)/(.+)", token).groups() if re.match(r"(bt|example)_\w+/", token) else (crate, token)
         if os.path.isdir(os.path.join(ROOT, "crates", token)):
             crate = token
@@ -218,6 +220,18 @@ def misplaced(document):
         elif re.fullmatch(r"[\w:]+", path) and "NAME" not in path:
             there = path.split("::")[-1] in known or os.path.exists(os.path.join(ROOT, "crates", crate, "specs", path + ".antt"))
             wrong += [] if there else ["%s: no such name: %s\n" % (document, path)]
+    return wrong
+
+
+def misnamed():
+    """The names of docs/C.md that neither bt.h nor the Rust crate has. `_next` after `bt_reader_init` is `bt_reader_next`."""
+    text = re.sub(r"^```.*?^```$", "", content(os.path.join(ROOT, "docs/C.md")).decode(), flags=re.M | re.S)
+    sources = [content(os.path.join(ROOT, name)) for name in ("crates/bt_c/bt.h", "bindings/rust/build.rs")]
+    names, last, wrong = set(re.findall(rb"\w+", b"\n".join(sources))), "", []
+    for name in re.findall(r"`((?:bt_|BT_|_)\w+)", text):
+        last = last if name.startswith("_") else name
+        starts = [last[:at.start()] for at in re.finditer("_", last)] if name.startswith("_") else [""]
+        wrong += [] if any((start + name).encode() in names for start in starts) else ["docs/C.md: no such name: %s\n" % name]
     return wrong
 
 
@@ -313,7 +327,7 @@ def main():
         ends: content(os.path.join(ROOT, example)) for ends, example in DIRECTIONS.items()
     } else ["examples/small.pcap: not the two directions of which it was made\n"]
     wrong += pictured() + unquoted() + uncompiled() + unproved() + uncalled()
-    wrong += misplaced("docs/ARCHITECTURE.md") + misplaced("docs/DEFINITIONS.md") + unlisted()
+    wrong += misplaced("docs/ARCHITECTURE.md") + misplaced("docs/DEFINITIONS.md") + misplaced("docs/RATTLE.md") + unlisted() + misnamed()
     documents = sorted(os.path.relpath(path, ROOT) for path in glob.glob(os.path.join(ROOT, "**/*.md"), recursive=True))
     for name in documents:
         wrong += dead_links(name) + bare_blocks(name) + no_such_paths(name) + too_long(name) + untried(name)
