@@ -1,15 +1,15 @@
 -- Entries of a table: look-ups, and what keeps them a table.
-use Rattle.std.proofs.Common.{◌≡◌, ℕ, zero, suc, ◌+◌, ◌<◌, ◌≤◌, ◌==◌, List, [], ◌∷◌, ◌++◌, length, take, drop, get_or, Bool, true, false, Option, Some}
-use Rattle.std.proofs.Common.{None, is_some, unwrap_or, IfSome, nat_lt, if◌then◌else◌, Result, Ok, Err, OnOk, OnErr, Bor, refl, sym, ap, subst, ◌∙◌, arith}
-use Rattle.std.proofs.Common.{add-one, drop-cons, length-append}
+use Rattle.std.proofs.Common.{◌≡◌, ℕ, zero, suc, ◌<◌, ◌≤◌, ◌==◌, List, [], ◌∷◌, ◌++◌, length, take, get_or, Bool, true, false, Option, Some}
+use Rattle.std.proofs.Common.{None, is_some, IfSome, nat_lt, if◌then◌else◌, Result, Ok, Err, OnOk, OnErr, refl, sym, ap, subst, ◌∙◌, arith}
+use Rattle.std.proofs.Common.{length-append}
 use Rattle.std.specs.declared.alloc.AllocError.{AllocError}
 use Rattle.std.specs.List.{remove, slice_set}
 use Rattle.std.specs.Bool.{Decides}
 use Rattle.std.specs.Str.{bytes_eq}
 use Rattle.std.proofs.lemmas.Slice.Eq.{bytes_eq-Decides}
 use Rattle.std.proofs.lemmas.Grind.{common_steps}
-use Rattle.bt_ext.specs.Tables.{Entries, id_of_name, AreEntries, IsTable, removed, replaced, added, entered, entered_all}
-use Rattle.bt_ext.specs.Holding.{entries_of, HoldsAt}
+use Rattle.bt_ext.specs.Tables.{Entries, id_of_name, AreEntries, IsTable, removed, replaced, entered}
+use Rattle.bt_ext.specs.Holding.{HoldsAt}
 
 -- names that differ, either way round
 pub flip : (x y : List ℕ) → bytes_eq x y ≡ bytes_eq y x
@@ -168,31 +168,6 @@ above name (e ∷ es) h = elim (bytes_eq e.0 name) as (λ b. IfSome (if b then S
 not_0 : (n : ℕ) → 0 < n → (n == 0) ≡ false
 not_0 n h = grind (arith, common_steps)
 
-replaced-same : (name : List ℕ) (id : ℕ) (es : Entries) → id_of_name name es ≡ Some id → replaced name id es ≡ es
-replaced-same name id [] h = refl
-replaced-same name id (e ∷ es) h = by_name (bytes_eq e.0 name) h (replaced-same name id es) where
-  by_name : (b : Bool) → (if b then Some e.1 else id_of_name name es) ≡ Some id → (id_of_name name es ≡ Some id → replaced name id es ≡ es)
-      → (if b then (e.0, id) ∷ es else e ∷ replaced name id es) ≡ e ∷ es
-  by_name true k rest = let same : e.1 ≡ id = cc in ap (λ (n : ℕ). (e.0, n) ∷ es) (sym same)
-  by_name false k rest = ap (λ (l : Entries). e ∷ l) (rest k)
-
--- the choice of `entered`, for a name that isn't too long
-abbrev chosen : List ℕ → ℕ → Entries → Entries
-chosen name id es = if id == 0 then removed name es else (if is_some (id_of_name name es) then replaced name id es else added name id es)
-
-same-by : (name : List ℕ) (id : ℕ) (es : Entries) (o : Option ℕ) → id_of_name name es ≡ o → IfSome o (λ n. 0 < n) → unwrap_or o 0 ≡ id → chosen name id es ≡ es
-same-by name id es None none pos is = subst (λ (n : ℕ). chosen name n es ≡ es) is (removed-absent name es none)
-same-by name id es (Some n) some pos is =
-    let other : (id == 0) ≡ false = not_0 id (omega arith) in
-    rw (other, some) (replaced-same name id es (some ∙ ap Some is))
-
--- what a table has already, it keeps
-pub entered-same : (name : List ℕ) (id : ℕ) (es : Entries) → IfSome (id_of_name name es) (λ n. 0 < n) → unwrap_or (id_of_name name es) 0 ≡ id
-    → entered name id es ≡ es
-entered-same name id es h is =
-    both_ways _ (nat_lt 255 (length name)) (λ long. rw long refl)
-    (λ short. rw short (same-by name id es (id_of_name name es) refl h is))
-
 -- ---- the steps of `enter`, by the place of the name
 not_long : (n : ℕ) → n ≤ 255 → nat_lt 255 n ≡ false
 not_long n h = grind (arith, common_steps)
@@ -226,12 +201,3 @@ pub table-after : (name : List ℕ) (id : ℕ) (old new : Entries) (r : Result (
     → OnErr r (new ≡ old) → IsTable new
 table-after name id old new (Ok x) h ok err = subst IsTable (sym ok) (table-entered name id old h)
 table-after name id old new (Err x) h ok err = subst IsTable (sym err) h
-
--- an entry that changes nothing
-pub unchanged_step : (xs : List (Bor (List ℕ) × ℕ)) (i : ℕ) (d : Bor (List ℕ) × ℕ) (es : Entries) → i < length xs
-    → IfSome (id_of_name (get_or xs i d).0.now es) (λ n. 0 < n) → unwrap_or (id_of_name (get_or xs i d).0.now es) 0 ≡ (get_or xs i d).1
-    → entered_all (entries_of (drop (i + 1) xs)) es ≡ entered_all (entries_of (drop i xs)) es
-unchanged_step xs i d es lt pos same =
-    let e : drop i xs ≡ get_or xs i d ∷ drop (i + 1) xs = rw add-one (drop-cons xs i d lt) in
-    let x = get_or xs i d in
-    rw e (ap (λ (t : Entries). entered_all (entries_of (drop (i + 1) xs)) t) (sym (entered-same x.0.now x.1 es pos same)))

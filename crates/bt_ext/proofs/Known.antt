@@ -1,5 +1,5 @@
 -- A set with the names of a table, and perhaps more.
-use Rattle.std.proofs.Common.{◌≡◌, ℕ, ◌+◌, ◌<◌, ◌==◌, ◌||◌, List, [], ◌∷◌, length, take, get_or, Bool, true, false, nat_lt, refl, sym, ◌∙◌, arith, add-one}
+use Rattle.std.proofs.Common.{◌≡◌, ℕ, ◌+◌, ◌<◌, ◌==◌, ◌||◌, List, length, take, get_or, Bool, true, false, nat_lt, refl, sym, ◌∙◌, add-one}
 use Rattle.std.specs.List.{list_any}
 use Rattle.std.specs.Str.{bytes_eq}
 use Rattle.bt_ext.specs.Tables.{Entries, entered}

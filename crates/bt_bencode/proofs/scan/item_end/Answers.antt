@@ -1,6 +1,5 @@
 use Rattle.std.proofs.Common.{◌∙◌, sym, ap, Some, arith}
 use Rattle.bt_bencode.specs.declared.scan.Container.{Container}
-use Rattle.bt_bencode.specs.declared.scan.Expect.TheVariants as expect
 use Rattle.bt_bencode.proofs.Tokens.{end_leads, value_in_list, key_leads, leads_on, found_within}
 use Rattle.bt_bencode.proofs.scan.item_end.Goals as goal
 use Rattle.bt_bencode.proofs.scan.item_end.Goals.{in-List, in-Dict+in-Some-string_end}
