@@ -1023,11 +1023,34 @@ def memory(program):
     return failed, 2 * len(rows) + 2
 
 
+def served_apart(program):
+    """Two runs of `serve` have peer ids of their own, and each goes on after its peers, since nobody says `--exit-after`."""
+    failed, ids = 0, set()
+    with tempfile.NamedTemporaryFile() as file:
+        file.write(INFO)
+        file.flush()
+        for _ in range(2):
+            server = Server(program, file.name)
+            metadata, _ = leech(server)
+            link, _ = server.connect()
+            link.send(handshake())
+            ids.add(link.exactly(68)[48:])
+            link.link.close()
+            link, _ = server.connect()
+            link.send(handshake())
+            goes_on = link.exactly(48) == handshake()[:48] and server.process.poll() is None
+            failed += same("serves and goes on", str((metadata == INFO, goes_on)), "(True, True)")
+            server.process.kill()
+            server.end()
+            link.link.close()
+    return failed + same("peer ids of serve", str(len(ids)), "2"), 3
+
+
 def main(words):
     program = program_of(words)
     failed = count = 0
     for part in (hostile, kept, linked, hosted, taken, largest, million, single, shown, unread, unwritten, dialled, several_ids, serving, pieces,
-                 one_write, memory):
+                 one_write, memory, served_apart):
         more, tried = part(program)
         failed += more
         count += tried

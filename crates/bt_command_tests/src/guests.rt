@@ -109,6 +109,7 @@ struct Two<'a> {
     fails_at: Option<u64>,
     entered: u64,
     inside: usize,
+    rounds: u64,
     first: Option<Parting>,
     second: Option<Parting>,
 }
@@ -121,6 +122,8 @@ impl<'a> Door for Two<'a> {
     ghost inside = { λ d. d.inside };
 
     ghost places = { λ d. 2 };
+
+    ghost rounds = { λ d. d.rounds };
 
     fn has_place(&self) -> bool {
         self.inside < 2
@@ -143,7 +146,9 @@ impl<'a> Door for Two<'a> {
         Some((leech, number))
     }
 
-    fn rest(&mut self) {}
+    fn rest(&mut self, _is_idle: bool) {
+        self.rounds = self.rounds.saturating_add(1);
+    }
 
     fn ended(&mut self, name: u64, parting: Parting) {
         self.inside -= 1;
@@ -184,6 +189,7 @@ fn served(alloc: Global, metadata: &Rc<Vec<u8>>, fails_at: Option<u64>) -> Came 
         fails_at,
         entered: 0,
         inside: 0,
+        rounds: 0,
         first: None,
         second: None,
     };

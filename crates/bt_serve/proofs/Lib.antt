@@ -1,3 +1,4 @@
+pub mod Doors
 pub mod Files
 pub mod Services
 pub mod Reacting

@@ -1,5 +1,5 @@
 -- How many connections are inside a door, and what it was told of them.
-use Rattle.std.specs.Prelude.{ℕ, Bool, true, false, List, Option, Some, None}
+use Rattle.std.specs.Prelude.{◌≡◌, ◌⊎◌, ℕ, ◌+◌, ◌-◌, ◌^◌, ◌≤◌, ⊤, Bool, true, false, List, length, Option, Some, None}
 use Rattle.bt_exchange.specs.Lists.{AreAdded}
 use Rattle.bt_serve.specs.declared.door.Parting.{Parting}
 use Rattle.bt_serve.specs.declared.guest.Ending.{Ending}
@@ -26,3 +26,33 @@ was_served x = is_served x.1.ending
 -- After the ones before, the ends of some connections were told: of each there was memory for its buffers, if and only if `all`.
 abbrev pub AreTold : {N : Type 0} → Option (List (N × Parting)) → Option (List (N × Parting)) → (all : Bool) → Type 0
 AreTold {N} old new all = AreAdded (was_served {N = N}) old new all
+
+-- After the ones before, the ends of this many connections were told; or nothing is known.
+abbrev pub AreMore : {N : Type 0} → ℕ → Option (List (N × Parting)) → Option (List (N × Parting)) → Type 0
+AreMore n None new = ⊤
+AreMore n (Some xs) None = ⊥
+AreMore n (Some xs) (Some ys) = length ys ≡ length xs + n
+
+-- ---- as many connections as are asked for: a number, or connections without end
+
+-- as many rounds were made as a number of 64 bits counts
+abbrev pub IsEndless : ℕ → Type 0
+IsEndless rounds = 2 ^ 64 - 1 ≤ rounds
+
+-- as many ended as are asked for
+abbrev pub AreEnough : {N : Type 0} → Option ℕ → Option (List (N × Parting)) → Option (List (N × Parting)) → (rounds : ℕ) → Type 0
+AreEnough None old new rounds = IsEndless rounds
+AreEnough (Some asked) old new rounds = AreMore asked old new ⊎ IsEndless rounds
+
+abbrev pub IsWithin : Option ℕ → ℕ → Type 0
+IsWithin None n = ⊤
+IsWithin (Some asked) n = n ≤ asked
+
+-- No more entered than are asked for: those whose end was told, and those who are still inside.
+abbrev pub AreWithin : {N : Type 0} → Option ℕ → Option (List (N × Parting)) → Option (List (N × Parting)) → (inside : ℕ) → Type 0
+AreWithin asked old new inside = (n : ℕ) × AreMore n old new × IsWithin asked (n + inside)
+
+-- for a private contract: the same, before the ends of those who are still inside are told
+abbrev pub AreServed : {N : Type 0} → Option ℕ → (inside : ℕ) → Option (List (N × Parting)) → Option (List (N × Parting)) → (rounds : ℕ) → Type 0
+AreServed None inside old new rounds = IsEndless rounds
+AreServed (Some asked) inside old new rounds = (AreMore asked old new × (inside ≡ 0)) ⊎ IsEndless rounds

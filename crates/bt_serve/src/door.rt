@@ -1,5 +1,6 @@
 //! Where a server gets its connections from, and who hears how each ended.
 ghost use Rattle.std.specs.Prelude.{◌≡◌, ◌+◌, ◌<◌, nat_lt};
+ghost use Rattle.bt_io.specs.Counts.{one_more};
 ghost use Rattle.bt_exchange.specs.Lists.{IsAdded};
 ghost use Rattle.bt_serve.specs.Doors.{entering};
 
@@ -35,6 +36,9 @@ pub trait Door {
     /// The connections of whose end it was told, in order, if they are known.
     ghost told: { Self → Option (List (Self.Name × Parting)) } = { λ _. None };
 
+    /// How many rounds were made, up to 2^64 - 1.
+    ghost rounds: { Self → ℕ };
+
     /// Whether one more connection may be inside.
     fn has_place(&self) -> bool
         ensures { result ≡ nat_lt (inside self.now) (places self.now) };
@@ -44,18 +48,21 @@ pub trait Door {
         requires { inside self.old < places self.old }
         ensures inside { inside self.new ≡ inside self.old + entering result }
         ensures places { places self.new ≡ places self.old }
-        ensures told { told self.new ≡ told self.old };
+        ensures told { told self.new ≡ told self.old }
+        ensures rounds { rounds self.new ≡ rounds self.old };
 
-    /// Waits a moment, since no connection can go on.
-    fn rest(&mut self)
+    /// Ends a round, in which each connection had its turn. Waits a moment, if none of them can go on.
+    fn rest(&mut self, is_idle: bool)
         ensures inside { inside self.new ≡ inside self.old }
         ensures places { places self.new ≡ places self.old }
-        ensures told { told self.new ≡ told self.old };
+        ensures told { told self.new ≡ told self.old }
+        ensures rounds { rounds self.new ≡ one_more (rounds self.old) };
 
     /// Hears how a connection ended that was inside.
     fn ended(&mut self, name: Self::Name, parting: Parting)
         requires { 0 < inside self.old }
         ensures inside { inside self.new + 1 ≡ inside self.old }
         ensures places { places self.new ≡ places self.old }
-        ensures told { IsAdded (told self.old) (told self.new) (name, parting) };
+        ensures told { IsAdded (told self.old) (told self.new) (name, parting) }
+        ensures rounds { rounds self.new ≡ rounds self.old };
 }

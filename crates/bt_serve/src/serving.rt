@@ -1,8 +1,8 @@
 //! The loop over all connections that are served.
-ghost use Rattle.std.specs.Prelude.{◌≡◌, ◌+◌, ◌<◌, ◌≤◌, vec_len, true, false, Some, OnOk, OnErr};
+ghost use Rattle.std.specs.Prelude.{◌≡◌, ◌+◌, ◌<◌, ◌≤◌, vec_len, true, false, Some, IfOk, OnOk, OnErr, if◌then◌else◌};
 ghost use Rattle.std.specs.Result.{is_ok};
 ghost use Rattle.bt_exchange.specs.Courses.{Moment};
-ghost use Rattle.bt_serve.specs.Doors.{AreTold, leaving};
+ghost use Rattle.bt_serve.specs.Doors.{AreEnough, AreMore, AreServed, AreTold, AreWithin, IsWithin, leaving};
 ghost use Rattle.bt_serve.specs.Guests.{IsHospitality, IsServed, IsTurned};
 
 use crate::door::{Door, Parting};
@@ -35,8 +35,12 @@ fn let_in<D: Door>(
 ) -> Result<bool, Memory>
     requires { IsHospitality hospitality.now }
     ensures inside { D.inside door.new + vec_len guests.old ≡ D.inside door.old + vec_len guests.new }
+    ensures guests { IfOk result (λ came. vec_len guests.new ≡ vec_len guests.old + (if came then 1 else 0)) }
+    ensures may { IfOk result (λ came. came ≡ true → may_enter ≡ true) }
     ensures told { OnOk result (D.told door.new ≡ D.told door.old) }
     ensures unserved { OnErr result (AreTold (D.told door.old) (D.told door.new) false) }
+    ensures left { OnErr result ((may_enter ≡ true) × (vec_len guests.new ≡ vec_len guests.old) × AreMore 1 (D.told door.old) (D.told door.new)) }
+    ensures rounds { D.rounds door.new ≡ D.rounds door.old }
 {
     if !may_enter || !door.has_place() {
         return Ok(false);
@@ -62,6 +66,8 @@ fn tend_one<D: Door>(door: &mut D, name: D::Name, guest: &mut Guest<D::Link>) ->
     ensures patience { guest.new.patience ≡ guest.old.patience }
     ensures patient { result ≡ Some Pace.Waits → (D.Link.seen guest.new.link).counts.clock ≤ guest.new.watch.since + guest.old.patience }
     ensures told { AreTold (D.told door.old) (D.told door.new) true }
+    ensures more { AreMore (leaving result) (D.told door.old) (D.told door.new) }
+    ensures rounds { D.rounds door.new ≡ D.rounds door.old }
     ensures turned { (start : Moment)
         → IsServed start (record { seen = D.Link.seen guest.old.link; pending = guest.old.hearing; half = guest.old.end }) guest.old.watch.since guest.old.tally
         → IsTurned guest.old.patience start (record { seen = D.Link.seen guest.new.link; pending = guest.new.hearing; half = guest.new.end })
@@ -73,6 +79,16 @@ fn tend_one<D: Door>(door: &mut D, name: D::Name, guest: &mut Guest<D::Link>) ->
             door.ended(name, parting);
             None
         }
+    }
+}
+
+/// Returns 1 after a turn that ended its connection, else 0.
+fn one_if_gone(pace: Option<Pace>) -> u64
+    ensures { result ≡ leaving pace }
+{
+    match pace {
+        Some(_) => 0,
+        None => 1,
     }
 }
 
@@ -93,6 +109,9 @@ fn tend_all<D: Door>(door: &mut D, guests: &mut Guests<D>) -> (u64, bool)
     requires { vec_len guests.old ≤ D.inside door.old }
     ensures inside { D.inside door.new + vec_len guests.old ≡ D.inside door.old + vec_len guests.new }
     ensures told { AreTold (D.told door.old) (D.told door.new) true }
+    ensures ended { vec_len guests.new + result.0 ≡ vec_len guests.old }
+    ensures more { AreMore result.0 (D.told door.old) (D.told door.new) }
+    ensures rounds { D.rounds door.new ≡ D.rounds door.old }
 {
     let mut ended = 0u64;
     let mut is_busy = false;
@@ -104,20 +123,10 @@ fn tend_all<D: Door>(door: &mut D, guests: &mut Guests<D>) -> (u64, bool)
         let name = guests[at].1;
         let pace = tend_one(door, name, &mut guests[at].0);
         is_busy |= pace == Some(Pace::GoesOn);
-        ended = ended.saturating_add(u64::from(pace.is_none()));
+        ended += one_if_gone(pace);
         at = after_turn(pace, at, guests);
     }
     (ended, is_busy)
-}
-
-/// Waits a moment, if no connection can go on.
-fn rest_if<D: Door>(is_idle: bool, door: &mut D)
-    ensures inside { D.inside door.new ≡ D.inside door.old }
-    ensures told { D.told door.new ≡ D.told door.old }
-{
-    if is_idle {
-        door.rest();
-    }
 }
 
 /// Tells how each connection that is left ended.
@@ -125,9 +134,23 @@ fn part_all<D: Door>(door: &mut D, guests: &mut Guests<D>)
     requires { vec_len guests.old ≤ D.inside door.old }
     ensures inside { D.inside door.new + vec_len guests.old ≡ D.inside door.old }
     ensures told { AreTold (D.told door.old) (D.told door.new) true }
+    ensures more { AreMore (vec_len guests.old) (D.told door.old) (D.told door.new) }
+    ensures rounds { D.rounds door.new ≡ D.rounds door.old }
 {
     while let Some((guest, name)) = guests.pop() {
         door.ended(name, guest.parting(Ending::Closed));
+    }
+}
+
+/// Returns whether one more connection may enter, after `entered` of as many as are asked for.
+fn may_enter(connections: Option<u64>, entered: u64) -> bool
+    requires { IsWithin connections entered }
+    ensures more { result ≡ true → IsWithin connections (entered + 1) }
+    ensures none { result ≡ false → connections ≡ Some entered }
+{
+    match connections {
+        None => true,
+        Some(most) => entered < most,
     }
 }
 
@@ -143,16 +166,19 @@ fn serve_all<D: Door>(
 ) -> Result<(), Memory>
     requires hospitality { IsHospitality hospitality.now }
     requires inside { vec_len guests.old ≤ D.inside door.old }
+    requires nobody { vec_len guests.old ≡ 0 }
     ensures inside { D.inside door.new + vec_len guests.old ≡ D.inside door.old + vec_len guests.new }
     ensures told { AreTold (D.told door.old) (D.told door.new) (is_ok result) }
+    ensures enough { OnOk result (AreServed connections (vec_len guests.new) (D.told door.old) (D.told door.new) (D.rounds door.new)) }
+    ensures within { AreWithin connections (D.told door.old) (D.told door.new) (vec_len guests.new) }
 {
     let mut entered = 0u64;
     let mut left = 0u64;
-    for _ in 0..u64::MAX {
+    for _round in 0..u64::MAX {
         if connections == Some(left) {
             return Ok(());
         }
-        let may_enter = connections != Some(entered);
+        let may_enter = may_enter(connections, entered);
         let came = let_in(
             alloc,
             hospitality,
@@ -162,10 +188,10 @@ fn serve_all<D: Door>(
             door,
             guests,
         )?;
-        entered = entered.saturating_add(u64::from(came));
+        entered += u64::from(came);
         let (ended, is_busy) = tend_all(door, guests);
-        left = left.saturating_add(ended);
-        rest_if(!came && !is_busy && ended == 0, door);
+        left += ended;
+        door.rest(!came && !is_busy && ended == 0);
     }
     Ok(())
 }
@@ -187,6 +213,8 @@ pub fn serve<D: Door>(
     requires hospitality { IsHospitality hospitality.now }
     ensures inside { D.inside door.new ≡ D.inside door.old }
     ensures told { AreTold (D.told door.old) (D.told door.new) (is_ok result) }
+    ensures enough { OnOk result (AreEnough connections (D.told door.old) (D.told door.new) (D.rounds door.new)) }
+    ensures within { AreWithin connections (D.told door.old) (D.told door.new) 0 }
 {
     let pieces = piece_count(Rc::as_ref(metadata).as_slice());
     let mut guests: Guests<D> = Vec::new(alloc);

@@ -33,6 +33,7 @@ pub struct TcpDoor<'a, R: Net + Clock, F: Farewell + Drop> {
     farewell: F,
     inside: usize,
     places: usize,
+    rounds: u64,
 }
 
 impl<'a, R: Net + Clock, F: Farewell + Drop> TcpDoor<'a, R, F> {
@@ -53,6 +54,7 @@ impl<'a, R: Net + Clock, F: Farewell + Drop> TcpDoor<'a, R, F> {
             farewell,
             inside: 0,
             places,
+            rounds: 0,
         }
     }
 }
@@ -87,6 +89,8 @@ impl<'a, R: Net + Clock, F: Farewell + Drop> Door for TcpDoor<'a, R, F> {
 
     ghost told = { λ d. F.told d.farewell };
 
+    ghost rounds = { λ d. d.rounds };
+
     fn has_place(&self) -> bool {
         self.inside < self.places
     }
@@ -98,8 +102,11 @@ impl<'a, R: Net + Clock, F: Farewell + Drop> Door for TcpDoor<'a, R, F> {
         Some((Stream::new(stream, self.runtime), peer))
     }
 
-    fn rest(&mut self) {
-        self.runtime.sleep(Duration::from_millis(REST));
+    fn rest(&mut self, is_idle: bool) {
+        self.rounds = self.rounds.saturating_add(1);
+        if is_idle {
+            self.runtime.sleep(Duration::from_millis(REST));
+        }
     }
 
     fn ended(&mut self, name: SocketAddr, parting: Parting) {
