@@ -373,6 +373,7 @@ impl<A: Allocator + Copy> End<A> {
     /// Handles the item that is buffered, if it is whole, but doesn't take it.
     ///
     /// It returns what is kept of it, and what it did to the end.
+    #[inline(always)]
     fn meet(&mut self) -> Result<Option<(Judged, Event)>, TurnError>
         ensures { IsMet self.old result self.new }
     {

@@ -1,9 +1,7 @@
-use Rattle.std.proofs.Common.{◌≡◌, ℕ, ◌+◌, ◌≤◌, ◌-◌, ◌^◌, ◌<◌, length, sym, ap, subst, ◌∙◌, arith}
+use Rattle.std.proofs.Common.{◌≡◌, ℕ, ◌≤◌, ◌-◌, length, sym, ap, ◌∙◌, arith}
 use Rattle.bt_ext.specs.declared.ext.Ext.{Ext}
-use Rattle.bt_ext.specs.Judged as ext
 use Rattle.bt_wire.specs.Faults.{said_length, said_id, allows, size_of}
 use Rattle.bt_wire.specs.Judged.{dict_length}
-use Rattle.bt_wire.specs.Messages.{Message}
 use Rattle.bt_wire.specs.declared.message.Message.TheVariants as m
 use Rattle.bt_wire.proofs.WindowLaws.{extended_long}
 use Rattle.bt_wire.proofs.JudgedLaws.{read_window, read_sized, keep_alive_is, plain_is, extended_is}
@@ -23,6 +21,27 @@ pub id_at-requires : goal.id_at-requires
 id_at-requires c =
     let w = read_window _ _ _ _ (omega arith) c.requires.2 in
     omega (arith, w.exact, c.number_at_front.ensures, c.if-number_at_front-eq0.false)
+
+pub view_extended_judged-requires-clause-long : goal.view_extended_judged-requires-clause-long
+view_extended_judged-requires-clause-long c =
+    let w = read_window _ _ _ _ (omega arith) c.requires.2 in
+    extended_long _ _ _ w (omega (arith, w.exact, c.number_at_front.ensures, c.if-number_at_front-eq0.false)) (sym c.id_at.ensures
+    ∙ c.if-id_at-eq-EXTENDED.true)
+
+pub view_extended_judged-requires-clause-judged : goal.view_extended_judged-requires-clause-judged
+view_extended_judged-requires-clause-judged c =
+    let w = read_window _ _ _ _ (omega arith) c.requires.2 in
+    let long : 5 ≤ length c.args.window.now = omega (arith, w.exact, c.number_at_front.ensures, c.if-number_at_front-eq0.false) in
+    let x = extended_is _ _ _ _ (omega arith) c.requires.2 long (sym c.id_at.ensures ∙ c.if-id_at-eq-EXTENDED.true) in
+    (x.value, x.is, c.requires.3 ∙ ap dict_length x.same)
+
+pub returns-then-id_at-eq-EXTENDED : goal.returns-then-id_at-eq-EXTENDED
+returns-then-id_at-eq-EXTENDED c =
+    let w = read_window _ _ _ _ (omega arith) c.requires.2 in
+    let long : 5 ≤ length c.args.window.now = omega (arith, w.exact, c.number_at_front.ensures, c.if-number_at_front-eq0.false) in
+    let twenty = sym c.id_at.ensures ∙ c.if-id_at-eq-EXTENDED.true in
+    λ o other r. let x = extended_is _ o _ other (omega arith) r long twenty in
+    ap (λ (v : Ext). m.Extended v) (c.view_extended_judged.ensures x.value x.is) ∙ sym x.same
 
 pub read_fields-requires-clause-some : goal.read_fields-requires-clause-some
 read_fields-requires-clause-some c =
