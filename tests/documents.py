@@ -208,7 +208,8 @@ def misplaced(document):
     for token in re.findall(r"`([^`]+)`", text):
         if re.match(TOP, token) or os.path.exists(os.path.join(ROOT, token)):
             continue
-        crate, path = re.fullmatch(r"((?:bt|example)_\w+)/(.+)", token).groups() if re.match(r"(bt|example)_\w+/", token) else (crate, token)
+        inside = re.fullmatch(r"((?:bt|example)_\w+)/(.+)", token)
+        crate, path = inside.groups() if inside else (crate, token)
         if os.path.isdir(os.path.join(ROOT, "crates", token)):
             crate = token
         elif re.fullmatch(r"[\w/]+\.(rt|h)", path):
