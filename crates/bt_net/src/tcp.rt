@@ -1,5 +1,6 @@
 //! A TCP connection of the process to itself.
-ghost use Rattle.std.specs.Prelude.{◌≡◌, ◌≤◌, length, IfOk};
+ghost use Rattle.std.specs.Prelude.{◌≡◌, ◌≤◌, true, length, IfOk};
+ghost use Rattle.std.specs.Io.KnownBytes.{ReadConsumes, WriteAppends};
 
 use crate::wire::{Wire, WireFault, failed_after};
 use bt_session::Side;
@@ -16,6 +17,14 @@ pub struct TcpWire<S: Read + Write + Drop> {
     failed: u64,
 }
 
+/// Returns whether the one who connected is the process itself.
+fn is_own(peer: SocketAddr, own: SocketAddr) -> bool
+    ensures own { result ≡ true → peer ≡ own }
+    ensures all { peer ≡ own → result ≡ true }
+{
+    peer == own
+}
+
 /// Connects the process to itself on 127.0.0.1; another process is refused.
 ///
 /// # Errors
@@ -24,7 +33,7 @@ pub fn open_tcp<R: Net>(net: &R) -> io::Result<TcpWire<R::Stream>> {
     let listener = TcpListener::bind(net, SocketAddr::from((Ipv4Addr::LOCALHOST, 0u16)))?;
     let left = TcpStream::connect(net, listener.local_addr()?)?;
     let (right, peer) = listener.accept()?;
-    if peer != left.local_addr()? {
+    if !is_own(peer, left.local_addr()?) {
         return Err(io::Error::from(ErrorKind::ConnectionRefused));
     }
     left.set_nodelay(true)?;
@@ -39,7 +48,8 @@ pub fn open_tcp<R: Net>(net: &R) -> io::Result<TcpWire<R::Stream>> {
 
 /// Writes once.
 fn write<S: Write>(stream: &mut S, bytes: &[u8]) -> Result<usize, WireFault>
-    ensures { IfOk result (λ n. n ≤ length bytes.now) }
+    ensures bound { IfOk result (λ n. n ≤ length bytes.now) }
+    ensures once { WriteAppends (S.contents stream.old) (S.contents stream.new) result bytes.now }
 {
     match stream.write(bytes) {
         Ok(count) => Ok(count),
@@ -51,6 +61,7 @@ fn write<S: Write>(stream: &mut S, bytes: &[u8]) -> Result<usize, WireFault>
 fn read<S: Read>(stream: &mut S, into: &mut [u8]) -> Result<usize, WireFault>
     ensures size { length into.new ≡ length into.old }
     ensures bound { IfOk result (λ n. n ≤ length into.new) }
+    ensures once { ReadConsumes (S.remaining stream.old) (S.remaining stream.new) result into.new }
 {
     match stream.read(into) {
         Ok(count) => Ok(count),
