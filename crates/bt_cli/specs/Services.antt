@@ -1,6 +1,20 @@
--- What `serve` says at its end, and its exit status.
-use Rattle.std.specs.Prelude.{ℕ, List, [], codes}
-use Rattle.bt_text.specs.Lines.{fault_line}
+-- What `serve` does with its file, what it says, and its exit status.
+use Rattle.std.specs.Prelude.{◌≡◌, ◌⊎◌, ◌<◌, ◌≤◌, ◌++◌, ⊤, ℕ, Bool, true, false, List, [], length, codes, decimal, Option, Some, None, Result, Ok, Err}
+use Rattle.std.specs.Global.{Vec}
+use Rattle.std.specs.declared.io.ErrorKind.{ErrorKind}
+use Rattle.std.specs.declared.io.ErrorKind.TheVariants as kind
+use Rattle.hex.specs.Hex.{encode_lower}
+use Rattle.bt_io.specs.Seen.{TargetSeen}
+use Rattle.bt_metadata.specs.Blocks.{max_metadata}
+use Rattle.bt_text.specs.declared.ended.Ended.TheVariants as ends
+use Rattle.bt_text.specs.declared.ended.ToolFault.{ToolFault}
+use Rattle.bt_text.specs.declared.ended.ToolFault.TheVariants as fault
+use Rattle.bt_text.specs.Lines.{fault_line, verdict_line}
+use Rattle.bt_run.specs.Runs.{IsSaid}
+use Rattle.bt_serve.specs.Files.{IsInfoKept}
+use Rattle.bt_serve.specs.declared.door.Parting.{Parting}
+use Rattle.bt_serve.specs.declared.guest.Ending.{Ending}
+use Rattle.bt_serve.specs.declared.guest.Ending.TheVariants as ending
 use Rattle.bt_cli.specs.declared.serve.Service.{Service}
 use Rattle.bt_cli.specs.declared.serve.Service.TheVariants.{Done, RefusedFile, Fault, NoListener}
 
@@ -16,3 +30,66 @@ serve_status Done = 0
 serve_status NoListener = 3
 serve_status RefusedFile = 1
 serve_status (Fault f) = 3
+
+-- ---- the file
+
+abbrev pub IsTooLong : Option (Vec ℕ) → Type 0
+IsTooLong None = ⊤
+IsTooLong (Some metadata) = max_metadata < length metadata.items
+
+-- the info dictionary of the file, if it isn't too long
+abbrev pub IsMetadataOf : List ℕ → Result (Vec ℕ) Service → Type 0
+IsMetadataOf file (Ok metadata) = IsInfoKept file (Some metadata) × (length metadata.items ≤ max_metadata)
+IsMetadataOf file (Err RefusedFile) = (info : Option (Vec ℕ)) × IsInfoKept file info × IsTooLong info
+IsMetadataOf file (Err (Fault f)) = f ≡ fault.Memory
+IsMetadataOf file (Err Done) = ⊥
+IsMetadataOf file (Err NoListener) = ⊥
+
+-- the fault of a file that can't be read
+abbrev pub read_fault : ErrorKind → ToolFault
+read_fault kind.OutOfMemory = fault.Memory
+read_fault other = fault.Read
+
+-- ---- the service
+
+abbrev pub is_done : Service → Bool
+is_done Done = true
+is_done other = false
+
+-- It is done, or out of memory.
+abbrev pub IsServiceEnd : Service → Type 0
+IsServiceEnd Done = ⊤
+IsServiceEnd (Fault f) = f ≡ fault.Memory
+IsServiceEnd RefusedFile = ⊥
+IsServiceEnd NoListener = ⊥
+
+-- ---- its lines
+
+-- the last word of a connection's line
+abbrev pub ending_word : Ending → List ℕ
+ending_word ending.Closed = codes "closed\n"
+ending_word ending.Unserved = codes "closed\n"
+ending_word ending.Silent = codes "silent\n"
+ending_word ending.Unasked = codes "unasked\n"
+ending_word (ending.Refused r) = verdict_line (ends.Refused r)
+
+-- what stands after the peer in a connection's line
+abbrev pub parting_words : Parting → List ℕ
+parting_words p =
+    codes " sent=" ++ (decimal p.sent ++ (codes " handled=" ++ (decimal p.handled ++ (codes " " ++ ending_word p.ending))))
+
+-- A connection's line: its peer, the counts, and how it ended.
+abbrev pub IsPartingLine : Parting → List ℕ → Type 0
+IsPartingLine p line = (peer : List ℕ) × (line ≡ peer ++ parting_words p)
+
+-- a connection's line is said, or nothing if there is no memory for it
+abbrev pub IsPartingSaid : Parting → TargetSeen → TargetSeen → Type 0
+IsPartingSaid p before after = (line : List ℕ) × ((line ≡ []) ⊎ IsPartingLine p line) × IsSaid line before after
+
+-- the first line: the info hash, the size of the metadata, and where it is served
+abbrev pub serving_line : List ℕ → ℕ → List ℕ → List ℕ
+serving_line hash size address =
+    codes "serving " ++ (encode_lower hash ++ (codes " size=" ++ (decimal size ++ (codes " on " ++ (address ++ codes "\n")))))
+
+abbrev pub IsAnnounced : List ℕ → ℕ → TargetSeen → TargetSeen → Type 0
+IsAnnounced hash size before after = (address : List ℕ) × IsSaid (serving_line hash size address) before after

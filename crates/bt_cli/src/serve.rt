@@ -1,19 +1,25 @@
 //! The command `serve`: what its words ask for, the service, its lines, and the exit status. The module `options` and the
 //! program's `main` call it.
-ghost use Rattle.std.specs.Prelude.{◌≡◌, IfOk, option_map};
+ghost use Rattle.std.specs.Prelude.{◌≡◌, ◌++◌, length, IfOk, OnOk, option_map};
+ghost use Rattle.std.specs.IoError.{error_kind};
 ghost use Rattle.clap.specs.Matches.{found_of};
 ghost use Rattle.sha1.specs.Sha1.{sha1};
 ghost use Rattle.bt_run.specs.Commands.{HasLoopLimit};
 ghost use Rattle.bt_run.specs.Runs.{IsSaid};
-ghost use Rattle.bt_cli.specs.Services.{serve_status, serve_words};
+ghost use Rattle.bt_serve.specs.Doors.{AreEnough, AreTold, AreWithin};
+ghost use Rattle.bt_serve.specs.Guests.{IsHospitality};
+ghost use Rattle.bt_cli.specs.Services.{IsAnnounced, IsMetadataOf, IsPartingLine, IsPartingSaid, IsServiceEnd};
+ghost use Rattle.bt_cli.specs.Services.{ending_word, is_done, parting_words, read_fault, serve_status, serve_words, serving_line};
 ghost use Rattle.bt_cli.specs.Wanted.{IsServeAsked, exit_after_in as exit_after_in_by_rule};
 
 use crate::fetch::{DEFAULT_LIMIT, DEFAULT_TIMEOUT, Mistake, number_or, rules_in};
 use crate::fetching::drawn_peer_id;
 use bt_ext::Rules;
 use bt_feed::Target;
+use bt_metadata::MAX_METADATA;
+use bt_rig::text::{push_hex, push_number};
 use bt_run::run::say;
-use bt_serve::{Ending, Farewell, Hospitality, Parting, TcpDoor, into_info, listen, serve};
+use bt_serve::{Door, Ending, Farewell, Hospitality, Parting, TcpDoor, into_info, listen, serve};
 use bt_text::ended::{Ended, ToolFault};
 use bt_text::lines::{fault_line, verdict_line};
 use clap::ArgMatches;
@@ -31,9 +37,6 @@ const DEFAULT_LISTEN: &str = "127.0.0.1:0";
 
 /// How many connections are served at the same time where that isn't given.
 const DEFAULT_AT_ONCE: u32 = 64;
-
-/// The greatest size of metadata, in bytes.
-const MOST: usize = 67_108_864;
 
 /// A service that is asked for.
 #[derive(Debug, Drop)]
@@ -122,7 +125,9 @@ struct Lines<'a, W: Target> {
 }
 
 /// Returns how a connection ended, as the last word of its line. A refusal is written into the array.
-fn last_word<'a>(ending: Ending, line: &'a mut [u8; 160]) -> &'a [u8] {
+fn last_word<'a>(ending: Ending, line: &'a mut [u8; 160]) -> &'a [u8]
+    ensures { result.now ≡ ending_word ending }
+{
     match ending {
         Ending::Closed | Ending::Unserved => b"closed\n",
         Ending::Silent => b"silent\n",
@@ -134,20 +139,42 @@ fn last_word<'a>(ending: Ending, line: &'a mut [u8; 160]) -> &'a [u8] {
     }
 }
 
-/// Returns a connection's line.
-fn line_of(alloc: Global, peer: SocketAddr, parting: Parting) -> Result<Vec<u8>, AllocError> {
-    let (sent, handled) = (parting.sent, parting.handled);
-    let mut text = format!(in alloc; "{peer} sent={sent} handled={handled} ")?.into_bytes();
+/// Appends the counts of a connection, and how it ended.
+#[tactic(auto, using(std::proofs::lemmas::List::append_assoc))]
+fn push_parting(parting: Parting, text: &mut Vec<u8>) -> Result<(), AllocError>
+    ensures { OnOk result (text.new.items ≡ text.old.items ++ parting_words parting) }
+{
+    text.extend_from_slice(b" sent=")?;
+    push_number(parting.sent, text)?;
+    text.extend_from_slice(b" handled=")?;
+    push_number(parting.handled, text)?;
+    text.extend_from_slice(b" ")?;
     let mut line = [0; 160];
-    text.extend_from_slice(last_word(parting.ending, &mut line))?;
+    text.extend_from_slice(last_word(parting.ending, &mut line))
+}
+
+/// Returns a connection's line.
+fn line_of(alloc: Global, peer: SocketAddr, parting: Parting) -> Result<Vec<u8>, AllocError>
+    ensures { IfOk result (λ line. IsPartingLine parting line.items) }
+{
+    let mut text = format!(in alloc; "{peer}")?.into_bytes();
+    push_parting(parting, &mut text)?;
     Ok(text)
+}
+
+/// Says how a connection ended, if there is memory for its line.
+fn say_parting<W: Target>(alloc: Global, peer: SocketAddr, parting: Parting, writer: &mut W)
+    ensures { IsPartingSaid parting (W.seen writer.old) (W.seen writer.new) }
+{
+    match line_of(alloc, peer, parting) {
+        Ok(line) => say(line.as_slice(), writer),
+        Err(_) => say(b"", writer),
+    }
 }
 
 impl<'a, W: Target> Farewell for Lines<'a, W> {
     fn ended(&mut self, peer: SocketAddr, parting: Parting) {
-        if let Ok(text) = line_of(self.alloc, peer, parting) {
-            say(text.as_slice(), self.writer);
-        }
+        say_parting(self.alloc, peer, parting, self.writer);
     }
 }
 
@@ -159,29 +186,63 @@ fn hash_of(metadata: &[u8]) -> [u8; 20]
 }
 
 /// Returns what the error of reading a file says.
-fn fault_of(error: &io::Error) -> Service {
-    if error.kind() == io::ErrorKind::OutOfMemory {
-        Service::Fault(ToolFault::Memory)
-    } else {
-        Service::Fault(ToolFault::Read)
+fn fault_of(error: &io::Error) -> Service
+    ensures { result ≡ Service.Fault (read_fault (error_kind error.now)) }
+{
+    match error.kind() {
+        io::ErrorKind::OutOfMemory => Service::Fault(ToolFault::Memory),
+        _ => Service::Fault(ToolFault::Read),
     }
 }
 
-/// Says the first line, by one write: the info hash, the size, and where the server listens.
+/// Returns the metadata of a file: its info dictionary.
+///
+/// # Errors
+/// How the service ends: `RefusedFile` if there is none, or if it has more than 67,108,864 bytes; `Fault(Memory)` when out of memory.
+fn metadata_of(alloc: Global, file: Vec<u8>) -> Result<Vec<u8>, Service>
+    ensures { IsMetadataOf file.items result }
+{
+    match into_info(alloc, file) {
+        Ok(Some(metadata)) if metadata.len() <= MAX_METADATA => Ok(metadata),
+        Ok(_) => Err(Service::RefusedFile),
+        Err(_) => Err(Service::Fault(ToolFault::Memory)),
+    }
+}
+
+/// Returns the first line: the info hash, the size, and where the server listens.
+#[tactic(auto, using(std::proofs::lemmas::List::append_assoc))]
+fn first_line(
+    alloc: Global,
+    info_hash: &[u8; 20],
+    size: usize,
+    address: &[u8],
+) -> Result<Vec<u8>, AllocError>
+    ensures { IfOk result (λ line. line.items ≡ serving_line info_hash.now size address.now) }
+{
+    let mut text = Vec::new(alloc);
+    text.extend_from_slice(b"serving ")?;
+    push_hex(info_hash, &mut text)?;
+    text.extend_from_slice(b" size=")?;
+    push_number(size as u64, &mut text)?;
+    text.extend_from_slice(b" on ")?;
+    text.extend_from_slice(address)?;
+    text.extend_from_slice(b"\n")?;
+    Ok(text)
+}
+
+/// Says the first line, by one write.
 fn announce<W: Target>(
     alloc: Global,
     info_hash: &[u8; 20],
     size: usize,
     address: SocketAddr,
     writer: &mut W,
-) -> Result<(), AllocError> {
-    let mut digits = [0u8; 40];
-    let _ = hex::encode_to_slice(info_hash, &mut digits);
-    let mut text = b"serving ".to_vec(alloc)?;
-    text.extend_from_slice(&digits)?;
-    let rest = format!(in alloc; " size={size} on {address}\n")?;
-    text.extend_from_slice(rest.as_str().as_bytes())?;
-    say(text.as_slice(), writer);
+) -> Result<(), AllocError>
+    ensures { OnOk result (IsAnnounced info_hash.now size (W.seen writer.old) (W.seen writer.new)) }
+{
+    let address = format!(in alloc; "{address}")?;
+    let line = first_line(alloc, info_hash, size, address.as_bytes())?;
+    say(line.as_slice(), writer);
     Ok(())
 }
 
@@ -199,19 +260,52 @@ fn say_no_listener<E: Target>(
 }
 
 /// Returns how peers are served.
-fn hospitality_of(job: &ServeJob, info_hash: [u8; 20], peer_id: [u8; 20]) -> Hospitality
-    ensures hash { result.info_hash ≡ info_hash }
+fn hospitality_of(job: &ServeJob, metadata: &[u8], peer_id: [u8; 20]) -> Hospitality
+    ensures hash { result.info_hash ≡ sha1 metadata.now }
     ensures peer_id { result.peer_id ≡ peer_id }
     ensures rules { result.rules ≡ job.now.rules }
     ensures limit { result.limit ≡ job.now.limit }
     ensures timeout { result.patience ≡ job.now.patience }
 {
     Hospitality {
-        info_hash,
+        info_hash: hash_of(metadata),
         peer_id,
         rules: job.rules,
         limit: job.limit,
         patience: job.patience,
+    }
+}
+
+/// Returns the door through which as many peers may come at the same time as the job says.
+fn door_of<'a, R: Net + Clock, F: Farewell + Drop>(
+    rt: &'a R,
+    listener: R::Listener,
+    farewell: F,
+    job: &ServeJob,
+) -> TcpDoor<'a, R, F>
+    ensures places { ⟦<TcpDoor<'a, R, F> as Door>⟧.places result ≡ job.now.at_once }
+    ensures inside { ⟦<TcpDoor<'a, R, F> as Door>⟧.inside result ≡ 0 }
+{
+    TcpDoor::new(rt, listener, farewell, job.at_once)
+}
+
+/// Serves as many peers of a door as the job says.
+fn serve_through<D: Door>(
+    alloc: Global,
+    job: &ServeJob,
+    hospitality: &Hospitality,
+    metadata: &Rc<Vec<u8>>,
+    door: &mut D,
+) -> Service
+    requires { IsHospitality hospitality.now }
+    ensures end { IsServiceEnd result }
+    ensures told { AreTold (D.told door.old) (D.told door.new) (is_done result) }
+    ensures enough { result ≡ Service.Done → AreEnough job.now.connections (D.told door.old) (D.told door.new) (D.rounds door.new) }
+    ensures within { AreWithin job.now.connections (D.told door.old) (D.told door.new) 0 }
+{
+    match serve(alloc, hospitality, metadata, job.connections, door) {
+        Ok(()) => Service::Done,
+        Err(_) => Service::Fault(ToolFault::Memory),
     }
 }
 
@@ -227,8 +321,7 @@ fn serve_over_tcp<R: Net + Clock + RandomSource, W: Target, E: Target>(
     requires { HasLoopLimit job.now.limit }
 {
     let bytes = Rc::as_ref(metadata).as_slice();
-    let info_hash = hash_of(bytes);
-    let hospitality = hospitality_of(job, info_hash, drawn_peer_id(rt));
+    let hospitality = hospitality_of(job, bytes, drawn_peer_id(rt));
     let (listener, address) = match listen(rt, job.listen) {
         Ok(opened) => opened,
         Err(error) => {
@@ -236,14 +329,11 @@ fn serve_over_tcp<R: Net + Clock + RandomSource, W: Target, E: Target>(
             return Service::NoListener;
         }
     };
-    if announce(alloc, &info_hash, bytes.len(), address, writer).is_err() {
+    if announce(alloc, &hospitality.info_hash, bytes.len(), address, writer).is_err() {
         return Service::Fault(ToolFault::Memory);
     }
-    let mut door = TcpDoor::new(rt, listener, Lines { alloc, writer }, job.at_once);
-    match serve(alloc, &hospitality, metadata, job.connections, &mut door) {
-        Ok(()) => Service::Done,
-        Err(_) => Service::Fault(ToolFault::Memory),
-    }
+    let mut door = door_of(rt, listener, Lines { alloc, writer }, job);
+    serve_through(alloc, job, &hospitality, metadata, &mut door)
 }
 
 /// Serves the metadata of a file over TCP.
@@ -260,10 +350,9 @@ pub fn run_serve<R: Net + Clock + RandomSource + Files + AllocGlobal, W: Target,
         Ok(bytes) => bytes,
         Err(error) => return fault_of(&error),
     };
-    let metadata = match into_info(alloc, file) {
-        Ok(Some(metadata)) if metadata.len() <= MOST => metadata,
-        Ok(_) => return Service::RefusedFile,
-        Err(_) => return Service::Fault(ToolFault::Memory),
+    let metadata = match metadata_of(alloc, file) {
+        Ok(metadata) => metadata,
+        Err(service) => return service,
     };
     match Rc::new(alloc, metadata) {
         Ok(shared) => serve_over_tcp(rt, alloc, job, &shared, writer, errors),
