@@ -170,7 +170,7 @@ def fetched(program, client, torrent, work):
         print("fetch from %s: status %d, %d bytes, %r" % (client, done.returncode, len(done.stdout), done.stderr.decode()))
         return 1
     # rtorrent hangs at a second request, and then a second connection would be made
-    ends = [line for line in done.stderr.decode().splitlines() if line.startswith(address)]
+    ends = [line for line in done.stderr.decode().splitlines() if line.startswith(address) and not line.endswith((" unreachable", " closed"))]
     if len(ends) != 1:
         print("fetch from %s: %d connections: %s" % (client, len(ends), "; ".join(ends)))
         return 1

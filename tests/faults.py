@@ -288,14 +288,14 @@ def fetching(runner):
         if not (is_fault if was_made else (out, errors, status) == (torrent, fetched, 0)):
             yield "%s: write %d takes nothing: %r" % (words, number, (out, errors, status))
     for number, answer, was_made in fetched_in_turn(runner, words, "MEMORY"):
-        is_fault = answer in [(b"", errors + b"fault: memory\n", 3) for errors in (b"", summed(""), fetched)]
+        is_fault = answer in [(b"", errors + b"fault: memory\n", 3) for errors in (b"", summed(""), summed(peer.address + " left\n"), fetched)]
         # Without memory for it the summary is left out.
         is_unsummed = answer == (torrent, (peer.address + " fetched\n").encode(), 0)
         if answer != (torrent, fetched, 0) and not (was_made and (is_fault or is_unsummed)):
             yield "%s: request %d: %r" % (words, number, answer)
     peer.close()
     peer = Peer(giving(INFO))
-    words = "fetch %s %s %s" % (hashlib.sha1(INFO).hexdigest(), peer.address, peer.address)
+    words = "fetch --at-once 1 %s %s %s" % (hashlib.sha1(INFO).hexdigest(), peer.address, peer.address)
     closed, fetched = (peer.address + end for end in (" closed\n", " fetched\n"))
     for number, answer, was_made in fetched_in_turn(runner, words, "WIRE"):
         if answer != (INFO, summed(closed + fetched if was_made else fetched), 0):

@@ -18,6 +18,7 @@ import tempfile
 ROOT = os.path.dirname(os.path.dirname(os.path.abspath(__file__)))
 TESTS = [
     ("bt_command_tests", "guests::memory_is_refused_or_all_are_served"),
+    ("bt_command_tests", "swarms::memory_is_refused_or_all_is_fetched"),
 ]
 # A run makes far fewer requests.
 MOST = 10_000

@@ -91,7 +91,7 @@ def standard_input(program):
         for device in (folder, written, reader, writer):
             os.close(device)
     out, errors, status = program.run(DIALS, before=closed(0))
-    lines = "127.0.0.1:9 unreachable\n"
+    lines = 2 * "127.0.0.1:9 unreachable\n"
     wrong += unlike(DIALS + " <&-", (out, timeless(errors.decode()), status), (b"", lines + summary(lines), 1))
     return wrong
 

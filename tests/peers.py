@@ -9,8 +9,10 @@ the first address, and the exit status. It was worked out from docs/FETCH.md. te
 """
 import base64
 import hashlib
+import json
 import os
 import pty
+import random
 import re
 import socket
 import struct
@@ -306,6 +308,13 @@ def false_once(link, count):
         link.send(data(3, link.request()))
 
 
+def false_at_first(link, count):
+    """Gives false blocks on its first connection, until each was given twice, and is honest on the next one."""
+    greet(link)
+    while True:
+        link.send(data(3, link.request(), FALSE if count == 1 else INFO))
+
+
 def closing(link, count):
     link.exactly(68)
 
@@ -378,7 +387,8 @@ SMALL = info_of(300)
 TORRENT = b"d4:info" + INFO + b"e"
 NOBODY = object()
 
-# The peers, the words, standard output, standard error, the status. NOBODY is an address where nobody listens.
+# The peers, the words, standard output, standard error, the status. NOBODY is an address where nobody listens. One is asked at a time.
+# If no peer gives the metadata each comes again after all others, so that the lines stand there twice.
 ROWS = [
     ([honest], "", INFO, "@0 fetched\n", 0),
     ([honest], "--torrent", TORRENT, "@0 fetched\n", 0),
@@ -389,7 +399,7 @@ ROWS = [
     ([NOBODY], "", b"", "@0 unreachable\n", 1),
     ([NOBODY, honest], "", INFO, "@0 unreachable\n@1 fetched\n", 0),
     ([silent], "--timeout 2", b"", "@0 silent\n", 1),
-    ([silent_later, honest], "--timeout 2", INFO, "@0 silent\n@1 fetched\n", 0),
+    ([silent_later, honest], "--timeout 2", INFO, "@0 left\n@1 fetched\n", 0),
     ([slow], "--timeout 3", INFO, "@0 fetched\n", 0),
     ([rejecting_slowly], "--timeout 3", b"", "@0 rejected\n", 1),
     ([closing, honest], "", INFO, "@0 closed\n@1 fetched\n", 0),
@@ -401,7 +411,7 @@ ROWS = [
     ([telling(67108865)], "", b"", "@0 no-metadata\n", 1),
     ([telling(len(INFO), 0)], "--timeout 2", b"", "@0 no-metadata\n", 1),
     ([telling_later], "--timeout 3", INFO, "@0 fetched\n", 0),
-    ([telling(None), honest], "--timeout 2", INFO, "@0 no-metadata\n@1 fetched\n", 0),
+    ([telling(None), honest], "--timeout 2", INFO, "@0 left\n@1 fetched\n", 0),
     ([in_two_reads], "", INFO, "@0 fetched\n", 0),
     ([in_two_reads], "--max-size 49999", b"", "@0 no-metadata\n", 1),
     ([honest, NOBODY], "", INFO, "@0 fetched\n", 0),
@@ -427,9 +437,11 @@ ROWS = [
     ([unasked], "", INFO, "@0 fetched\n", 0),
     ([block_of_piece, honest], "", INFO, "@0 unasked\n@1 fetched\n", 0),
     ([requesting], "", INFO, "@0 fetched\n", 0),
+    ([false_at_first], "", INFO, "@0 mismatch\n@0 fetched\n", 0),
+    ([false_at_first, NOBODY], "", INFO, "@0 mismatch\n@1 unreachable\n@0 fetched\n", 0),
 ]
-# How many connections a peer may see, if more than one.
-CONNECTIONS = {one_at_a_time: 2}
+# How many connections a peer may see, if more than one, though another gives the metadata.
+CONNECTIONS = {one_at_a_time: 2, false_at_first: 2}
 # The cut peer gives blocks 0 and 1; the second one is then asked for the others alone.
 ASKED = [2, 3]
 
@@ -485,16 +497,17 @@ def hostile(program):
         addresses = [nobody() if peer is None else peer.address for peer in peers]
         for number, address in enumerate(addresses):
             errors = errors.replace("@%d" % number, address)
+        errors *= 2 if status == 1 else 1
         names = " ".join("nobody" if talk is NOBODY else talk.__qualname__ for talk in talks)
         begin = time.monotonic()
-        failed += differs("%s %s" % (names, words), run(program, HASH, addresses, words.split()), output, errors, status)
+        failed += differs("%s %s" % (names, words), run(program, HASH, addresses, words.split() + ["--at-once", "1"]), output, errors, status)
         took = time.monotonic() - begin
         if "--timeout 2" in words and "silent" in errors and not 2 <= took <= 10:
             print("%s %s: it took %.1f seconds, and the timeout is 2" % (names, words, took))
             failed += 1
         for peer in peers:
             if peer is not None:
-                failed += same("connections of %s %s" % (names, words), str(peer.count <= CONNECTIONS.get(peer.talk, 1)), "True")
+                failed += same("connections of %s %s" % (names, words), str(peer.count <= CONNECTIONS.get(peer.talk, status + 1)), "True")
                 tried += 1
                 peer.close()
     return failed, tried
@@ -510,7 +523,7 @@ def kept(program):
             asked.append(link.request())
             link.send(data(3, asked[-1]))
     peers = [Peer(cut), Peer(counting)]
-    done = run(program, HASH, [peer.address for peer in peers], [])
+    done = run(program, HASH, [peer.address for peer in peers], ["--at-once", "1"])
     for peer in peers:
         peer.close()
     failed = differs("kept", done, INFO, "%s closed\n%s fetched\n" % tuple(peer.address for peer in peers), 0)
@@ -550,12 +563,12 @@ def linked(program):
     with tempfile.NamedTemporaryFile("w") as file:
         file.write("%s\n%s\n" % (peers[3].address, peers[2].address))
         file.flush()
-        done = run(program, HASH, [], ["--peers", file.name, peers[0].address, peers[1].address])
-        order = "".join("%s rejected\n" % peers[number].address for number in (0, 1, 3, 2))
+        done = run(program, HASH, [], ["--at-once", "1", "--peers", file.name, peers[0].address, peers[1].address])
+        order = "".join("%s rejected\n" % peers[number].address for number in 2 * (0, 1, 3, 2))
         failed += differs("the list is last", done, b"", order, 1)
         link = "magnet:?x.pe=%s&x.pe=%s&xt=urn:btih:%s" % (peers[2].address, peers[1].address, HASH.hex())
-        done = subprocess.run([program, "fetch", link, peers[0].address], stdin=subprocess.DEVNULL, capture_output=True, timeout=60)
-        order = "".join("%s rejected\n" % peers[number].address for number in (0, 2, 1))
+        done = subprocess.run([program, "fetch", "--at-once", "1", link, peers[0].address], stdin=subprocess.DEVNULL, capture_output=True, timeout=60)
+        order = "".join("%s rejected\n" % peers[number].address for number in 2 * (0, 2, 1))
         failed += differs("the link is second", done, b"", order, 1)
     for peer in peers:
         peer.close()
@@ -602,7 +615,7 @@ def hosted(program):
     """A host's name is looked up; one without an address is unreachable."""
     peer = Peer(honest)
     name = "localhost:" + peer.address.split(":")[1]
-    done = run(program, HASH, ["a..b:9", name], [])
+    done = run(program, HASH, ["a..b:9", name], ["--at-once", "1"])
     peer.close()
     lines = timeless(done.stderr.decode()).splitlines()
     return (same("hosted", done.stdout, INFO) + same("no host", lines[0], "a..b:9 unreachable")
@@ -633,8 +646,8 @@ def million(program):
     for words, output, errors, status in rows:
         peers = [Peer(giving(1000000 * b"b", info_hash)), Peer(giving(letters))]
         addresses = [nobody()] + [peer.address for peer in peers]
-        done = run(program, info_hash, addresses, words.split())
-        failed += differs("million %s" % words, done, output, errors % tuple(addresses), status)
+        done = run(program, info_hash, addresses, words.split() + ["--at-once", "1"])
+        failed += differs("million %s" % words, done, output, errors % tuple(addresses) * (status + 1), status)
         for peer in peers:
             peer.close()
     return failed, len(rows)
@@ -662,11 +675,13 @@ def shown(program):
     except OSError:
         os.close(near)
     peer.close()
-    name = peer.address.encode()
-    expected = b"".join(b"\rfetching %d of 4 blocks from %s" % (held, name) for held in range(4)) + b"\r\x1b[K"
     lines = peer.address + " fetched\n"
-    expected += (lines + summary(lines)).replace("\n", "\r\n").encode()
-    return same("shown", done.stdout, INFO) + same("progress", timeless(text.decode()).encode(), expected), 2
+    shows = re.findall(rb"\r\x1b\[Kfetching(?: (\d) of 4 blocks at \d+ KiB/s)?, 1 open", text)
+    rest = re.sub(rb"\r\x1b\[Kfetching[^\r]*, 1 open", b"", text)
+    expected = b"\r\x1b[K" + (lines + summary(lines)).replace("\n", "\r\n").encode()
+    held = [int(show) for show in shows[1:]]
+    return (same("shown", done.stdout, INFO) + same("the end of progress", timeless(rest.decode()).encode(), expected)
+            + same("progress", shows[:1] == [b""] and len(held) > 0 and held == sorted(held), True)), 3
 
 
 def unread(program):
@@ -710,11 +725,76 @@ def dialled(program):
         link.request()
         link.hold()
     peers = [Peer(half_size), Peer(fickle)]
-    done = run(program, HASH, [peer.address for peer in peers], ["--timeout", "2"])
+    done = run(program, HASH, [peer.address for peer in peers], ["--timeout", "2", "--at-once", "1"])
     for peer in peers:
         peer.close()
-    return (differs("dialled", done, b"", "%s closed\n%s silent\n" % tuple(peer.address for peer in peers), 1)
-            + same("connections", str([peer.count for peer in peers]), "[1, 1]")), 2
+    return (differs("dialled", done, b"", 2 * ("%s closed\n%s silent\n" % tuple(peer.address for peer in peers)), 1)
+            + same("connections", str([peer.count for peer in peers]), "[2, 2]")), 2
+
+
+def told(errors):
+    """The lines of a fetch but its summary, each as a peer's name and the word for its end."""
+    return [line.split(" ")[:2] for line in errors.splitlines()[:-1]]
+
+
+def both(program):
+    """Of two honest peers that are asked at the same time one gives the metadata, and the other is left."""
+    failed = 0
+    for _ in range(4):
+        peers = [Peer(honest), Peer(honest)]
+        done = run(program, HASH, [peer.address for peer in peers], [])
+        for peer in peers:
+            peer.close()
+        ends = told(done.stderr.decode())
+        failed += (same("both", done.stdout, INFO) + same("ends of both", [end for _, end in ends], ["fetched", "left"])
+                   + same("names of both", sorted(name for name, _ in ends), sorted(peer.address for peer in peers)))
+    return failed, 3 * 4
+
+
+STRANGERS = 40 * [NOBODY] + 16 * [silent] + 4 * [half_size] + 3 * [false_blocks] + [honest]
+
+
+def swarm(program):
+    """Of 64 strangers one is honest: it is found within two seconds, though a silent one may take 30."""
+    failed = 0
+    for seed in range(3):
+        talks = list(STRANGERS)
+        random.Random(seed).shuffle(talks)
+        peers = [None if talk is NOBODY else Peer(talk) for talk in talks]
+        addresses = [nobody() if peer is None else peer.address for peer in peers]
+        begin = time.monotonic()
+        done = run(program, HASH, addresses, [])
+        took = time.monotonic() - begin
+        for peer in peers:
+            if peer is not None:
+                peer.close()
+        ends = told(done.stderr.decode())
+        giver = [addresses[talks.index(honest)], "fetched"]
+        most = max([sum(name == address for name, _ in ends) for address in addresses])
+        failed += (same("swarm", done.stdout, INFO) + same("its giver", [end for end in ends if end[1] == "fetched"], [giver])
+                   + same("its connections", most <= 2, True) + same("its time", took < 2, True)
+                   + same("its summary", timeless(done.stderr.decode()).splitlines()[-1] + "\n", summary("".join("%s %s\n" % tuple(end) for end in ends))))
+    return failed, 5 * 3
+
+
+def objects(program):
+    """With `--json` standard error gets an object a line."""
+    peers = [Peer(wrong_hash), Peer(honest)]
+    gone, link = nobody(), "magnet:?xt=urn:btih:%s&tr=a&xl=9" % HASH.hex()
+    done = subprocess.run([program, "fetch", "--json", "--at-once", "1", link, gone] + [peer.address for peer in peers],
+                          stdin=subprocess.DEVNULL, capture_output=True, timeout=60)
+    lost = run(program, HASH, [gone], ["--json"])
+    for peer in peers:
+        peer.close()
+    expected = [{"note": "trackers aren't asked"}, {"note": "other keys of the link aren't used"}, {"peer": gone, "end": "unreachable"},
+                {"peer": peers[0].address, "end": "refused", "message": 0, "offset": 28, "reason": "WrongInfoHash"},
+                {"peer": peers[1].address, "end": "fetched"},
+                {"fetched": peers[1].address, "seconds": 0, "tried": 3, "silent": 0, "unreachable": 1, "refused": 1}]
+    nothing = 2 * [{"peer": gone, "end": "unreachable"}] + [{"fetched": None, "seconds": 0, "tried": 2, "silent": 0, "unreachable": 2, "refused": 0}]
+    got = [[json.loads(line) for line in run.stderr.decode().splitlines()] for run in (done, lost)]
+    for each in got:
+        each[-1]["seconds"] *= each[-1]["seconds"] > 1
+    return same("objects", got[0], expected) + same("objects of nothing", got[1], nothing) + same("object's metadata", done.stdout, INFO), 3
 
 
 class Server:
@@ -1004,7 +1084,8 @@ def memory(program):
     for talk, info_hash, words, bound, end in rows:
         peer = Peer(talk)
         most, errors = fetch(info_hash, peer.address, words)
-        failed += above("memory of fetch %s" % words, most, least, bound) + same("end of it", timeless(errors), "%s %s\n" % (peer.address, end) + summary("%s %s\n" % (peer.address, end)))
+        ends = "%s %s\n" % (peer.address, end) * (2 if end == "silent" else 1)
+        failed += above("memory of fetch %s" % words, most, least, bound) + same("end of it", timeless(errors), ends + summary(ends))
         peer.close()
 
     with tempfile.NamedTemporaryFile() as file:
@@ -1049,8 +1130,8 @@ def served_apart(program):
 def main(words):
     program = program_of(words)
     failed = count = 0
-    for part in (hostile, kept, linked, hosted, taken, largest, million, single, shown, unread, unwritten, dialled, several_ids, serving, pieces,
-                 one_write, memory, served_apart):
+    for part in (hostile, kept, linked, hosted, taken, largest, million, single, shown, unread, unwritten, dialled, both, swarm, objects,
+                 several_ids, serving, pieces, one_write, memory, served_apart):
         more, tried = part(program)
         failed += more
         count += tried

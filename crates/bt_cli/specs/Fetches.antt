@@ -1,8 +1,8 @@
 -- What `fetch` says at its end, and its exit status.
 use Rattle.std.specs.Prelude.{ℕ, Bool, List, [], Result, Ok, Err}
 use Rattle.bt_text.specs.declared.ended.ToolFault.TheVariants as fault
-use Rattle.bt_fetch.specs.declared.fetching.FetchError.{FetchError}
-use Rattle.bt_fetch.specs.declared.fetching.FetchError.TheVariants.{NotFetched, Write, Memory}
+use Rattle.bt_fetch.specs.declared.file.FetchError.{FetchError}
+use Rattle.bt_fetch.specs.declared.file.FetchError.TheVariants.{NotFetched, Write, Memory}
 use Rattle.bt_run.specs.Endings.{fault_status, fault_words}
 
 -- a fault has its line, but for an output that nobody reads

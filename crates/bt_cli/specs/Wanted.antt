@@ -32,6 +32,9 @@ window_in t = value_of None (λ s. option_map (λ n. Some n) (number_in 1 8 s)) 
 abbrev pub max_size_in : Option (List ℕ) → Option ℕ
 max_size_in t = number_or 1 67108864 67108864 t
 
+abbrev pub at_once_in : Option (List ℕ) → Option ℕ
+at_once_in t = number_or 1 256 16 t
+
 abbrev pub exit_after_in : Option (List ℕ) → Option (Option ℕ)
 exit_after_in t = value_of None (λ s. option_map (λ n. Some n) (number_in 1 4294967295 s)) t
 
@@ -67,6 +70,8 @@ pub record IsFetchAsked (f : Found) (job : FetchJob) : Type 0 where
   pub peers : map string_bytes job.peers.items ≡ words_in f (codes "ADDRESS")
   pub list : option_map string_bytes job.list ≡ first_value f (codes "peers")
   pub torrent : job.torrent ≡ flag_in f (codes "torrent")
+  pub at_once : at_once_in (first_value f (codes "at-once")) ≡ Some job.at_once
+  pub json : job.json ≡ flag_in f (codes "json")
 
 -- ---- `serve`
 

@@ -1,8 +1,8 @@
 //! What the words of the command `fetch` ask for. The module `options` calls it, and `fetching` does it.
-ghost use Rattle.std.specs.Prelude.{◌≡◌, ◌≤◌, IfOk, IfSome, codes, map, option_map, string_bytes};
+ghost use Rattle.std.specs.Prelude.{◌≡◌, ◌≤◌, Some, IfOk, IfSome, codes, map, option_map, string_bytes};
 ghost use Rattle.clap.specs.Matches.{found_of, first_value};
 ghost use Rattle.bt_fetch.specs.Wishes.{IsWish};
-ghost use Rattle.bt_cli.specs.Wanted.{IsFetchAsked, IsWished, flag_in, number_or as number_or_by_rule, peer_rules_in, window_in as window_in_by_rule, words_in};
+ghost use Rattle.bt_cli.specs.Wanted.{IsFetchAsked, IsWished, flag_in, at_once_in as at_once_in_by_rule, number_or as number_or_by_rule, peer_rules_in, window_in as window_in_by_rule, words_in};
 
 use bt_end::Window;
 use bt_ext::Rules;
@@ -21,6 +21,9 @@ pub const DEFAULT_LIMIT: u32 = 262_144;
 /// The greatest size of metadata where none is given, which is also the greatest that may be given.
 const MAX_SIZE: u32 = 67_108_864;
 
+/// How many connections a fetch has at the same time where that isn't given.
+const DEFAULT_AT_ONCE: u32 = 16;
+
 /// A fetch that is asked for.
 #[derive(Debug, Drop)]
 pub struct FetchJob {
@@ -33,6 +36,10 @@ pub struct FetchJob {
     pub peers: Vec<String>,
     /// The file of more peers.
     pub list: Option<String>,
+    /// How many connections it has at the same time at most.
+    pub at_once: usize,
+    /// Standard error gets JSON objects in place of lines.
+    pub json: bool,
 }
 
 /// Why words ask for no fetch or service.
@@ -184,6 +191,16 @@ fn list_in(alloc: Global, options: &ArgMatches<'_>) -> Result<Option<String>, Al
     }
 }
 
+/// Returns how many connections a fetch has at the same time at most.
+fn at_once_in(text: Option<&str>) -> Result<usize, Mistake>
+    ensures { IfOk result (λ n. at_once_in_by_rule (option_map (λ s. s.now) text.entry) ≡ Some n) }
+{
+    match number_or(text, 1, 256, DEFAULT_AT_ONCE) {
+        Some(count) => Ok(count as usize),
+        None => Err(Mistake::Text("'--at-once' takes a number from 1 to 256")),
+    }
+}
+
 /// Returns the fetch that the words of the command ask for.
 ///
 /// # Errors
@@ -200,6 +217,7 @@ pub fn fetch_asked(alloc: Global, options: &ArgMatches<'_>) -> Result<FetchJob, 
         Ok(wish) => wish,
         Err(what) => return Err(Mistake::Text(what)),
     };
+    let at_once = at_once_in(options.get_str("at-once"))?;
     let list = list_in(alloc, options)?;
     let peers = addresses_in(alloc, options)?;
     if peers.is_empty() && magnet.peers.is_empty() && list.is_none() {
@@ -213,5 +231,7 @@ pub fn fetch_asked(alloc: Global, options: &ArgMatches<'_>) -> Result<FetchJob, 
         magnet,
         peers,
         list,
+        at_once,
+        json: is_given(options, "json"),
     })
 }

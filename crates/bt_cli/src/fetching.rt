@@ -7,9 +7,9 @@ ghost use Rattle.bt_cli.specs.Fetches.{fetch_status, fetch_words};
 ghost use Rattle.bt_run.specs.Runs.{IsSaid};
 
 use crate::fetch::FetchJob;
-use crate::report::{Lines, NO_TRY, Tally, counted, say_unresolved};
+use crate::report::{Form, Lines, NO_TRY, Tally, counted, say_end};
 use bt_feed::Target;
-use bt_fetch::{FetchError, Outcome, TcpDial, fetch};
+use bt_fetch::{Ending, FetchError, Outcome, TcpSwarm, Wish, fetch};
 use bt_magnet::Passed;
 use bt_run::ending::end_by_fault;
 use bt_run::run::say;
@@ -39,12 +39,31 @@ pub fn drawn_peer_id<R: RandomSource>(random: &R) -> [u8; 20] {
 }
 
 /// Says what of a link isn't used.
-fn say_passed<E: Target>(passed: Passed, errors: &mut E) {
+fn say_passed<E: Target>(form: Form, passed: Passed, errors: &mut E) {
+    let (trackers, others): (&[u8], &[u8]) = match form {
+        Form::Json => (
+            b"{\"note\":\"trackers aren't asked\"}\n",
+            b"{\"note\":\"other keys of the link aren't used\"}\n",
+        ),
+        _ => (
+            b"bt_tool: trackers aren't asked\n",
+            b"bt_tool: other keys of the link aren't used\n",
+        ),
+    };
     if passed.trackers {
-        say(b"bt_tool: trackers aren't asked\n", errors);
+        say(trackers, errors);
     }
     if passed.others {
-        say(b"bt_tool: other keys of the link aren't used\n", errors);
+        say(others, errors);
+    }
+}
+
+/// Returns what standard error gets.
+fn form_of(json: bool, is_terminal: bool) -> Form {
+    match (json, is_terminal) {
+        (true, _) => Form::Json,
+        (false, true) => Form::Shown,
+        (false, false) => Form::Plain,
     }
 }
 
@@ -75,6 +94,8 @@ fn add_target<'a, R: Net>(
 /// Adds the addresses of peers. One that has none is said and counted as unreachable.
 fn add_targets<'a, R: Net, E: Target>(
     rt: &R,
+    alloc: Global,
+    form: Form,
     names: &'a [String],
     targets: &mut Targets<'a>,
     tally: Tally,
@@ -83,24 +104,32 @@ fn add_targets<'a, R: Net, E: Target>(
     let mut tally = tally;
     for name in names {
         if !add_target(rt, name.as_str(), targets)? {
-            say_unresolved(name.as_str(), errors);
-            tally = counted(tally, Outcome::Unreachable);
+            let ending = Ending::By(Outcome::Unreachable);
+            say_end(alloc, form, name.as_str(), ending, errors);
+            tally = counted(tally, ending);
         }
     }
     Ok(tally)
 }
 
-/// Adds the addresses of all peers: those of the words, of the link and of the list.
-fn add_all_targets<'a, R: Net, E: Target>(
+/// Returns the addresses of all peers: those of the words, of the link and of the list, and the tally of those that have none.
+fn targets_of<'a, R: Net, E: Target>(
     rt: &R,
+    alloc: Global,
+    form: Form,
     job: &'a FetchJob,
     listed: &'a [String],
-    targets: &mut Targets<'a>,
     errors: &mut E,
-) -> Result<Tally, AllocError> {
-    let tally = add_targets(rt, job.peers.as_slice(), targets, NO_TRY, errors)?;
-    let tally = add_targets(rt, job.magnet.peers.as_slice(), targets, tally, errors)?;
-    add_targets(rt, listed, targets, tally, errors)
+) -> Result<(Targets<'a>, Tally), AllocError> {
+    let mut targets = Targets {
+        addresses: Vec::new(alloc),
+        names: Vec::new(alloc),
+    };
+    let mut tally = NO_TRY;
+    for names in [job.peers.as_slice(), job.magnet.peers.as_slice(), listed] {
+        tally = add_targets(rt, alloc, form, names, &mut targets, tally, errors)?;
+    }
+    Ok((targets, tally))
 }
 
 /// Returns the whole seconds of a clock; 0 if it fails.
@@ -111,7 +140,30 @@ fn seconds_of<R: Clock>(clock: &R) -> u64 {
     }
 }
 
-/// Fetches what is asked for over TCP, from the peers of the words and the link, and then from those of `listed`.
+/// Fetches over TCP from up to `at_once` of the targets at the same time, and says how each connection ended, and a summary.
+fn fetch_from<R: Net + Clock, W: Target, E: Target>(
+    rt: &R,
+    alloc: Global,
+    wish: &Wish,
+    job: &FetchJob,
+    targets: &Targets,
+    lines: Lines<E>,
+    writer: &mut W,
+) -> Result<usize, FetchError>
+    requires { IsWish wish.now }
+    ensures written { IsWritten job.now.torrent wish.now.info_hash (W.seen writer.old).held (W.seen writer.new).held result }
+    ensures fault { result ≡ Err FetchError.Write → WriteFailed (W.seen writer.old) (W.seen writer.new) }
+{
+    let at_once = job.at_once.max(1);
+    let count = targets.addresses.len();
+    let mut swarm = TcpSwarm::new(rt, targets.addresses.as_slice(), lines, at_once);
+    let fetched = fetch(alloc, wish, job.torrent, count, at_once, &mut swarm, writer);
+    let mut lines = swarm.watcher();
+    lines.say_summary(seconds_of(rt));
+    fetched
+}
+
+/// Fetches what is asked for over TCP, from the peers of the words and the link, and from those of `listed`.
 ///
 /// It says on `errors` how each connection ended, how far it came if `errors` is a terminal, and at the end a summary.
 ///
@@ -132,29 +184,14 @@ pub fn run_fetch<R: Net + Clock + RandomSource, W: Target, E: Target>(
 {
     let mut wish = job.wish;
     wish.peer_id = drawn_peer_id(rt);
-    say_passed(job.magnet.passed, errors);
     let begun = seconds_of(rt);
-    let mut targets = Targets {
-        addresses: Vec::new(alloc),
-        names: Vec::new(alloc),
-    };
-    let Ok(tally) = add_all_targets(rt, job, listed, &mut targets, errors) else {
+    let form = form_of(job.json, is_terminal);
+    say_passed(form, job.magnet.passed, errors);
+    let Ok((targets, tally)) = targets_of(rt, alloc, form, job, listed, errors) else {
         return Err(FetchError::Memory);
     };
-    let mut dial = TcpDial::new(rt, targets.addresses.as_slice());
-    let mut lines = Lines::new(alloc, targets.names.as_slice(), errors, is_terminal, tally);
-    let count = targets.addresses.len();
-    let fetched = fetch(
-        alloc,
-        &wish,
-        job.torrent,
-        count,
-        &mut dial,
-        &mut lines,
-        writer,
-    );
-    lines.say_summary(seconds_of(rt).saturating_sub(begun));
-    fetched
+    let lines = Lines::new(alloc, targets.names.as_slice(), errors, form, tally, begun);
+    fetch_from(rt, alloc, &wish, job, &targets, lines, writer)
 }
 
 /// Says what kept a fetch from its work, and returns the exit status.

@@ -1,10 +1,10 @@
 //! What standard error gets of a fetch: how each connection goes and ends, and the summary. The module `fetching` calls it.
 ghost use Rattle.std.specs.Prelude.{◌≡◌, ◌≢◌, ◌++◌, [], IfOk, codes, string_bytes};
-ghost use Rattle.bt_cli.specs.Tallies.{counted as counted_by_rule, tally_words};
+ghost use Rattle.bt_cli.specs.Tallies.{counted as counted_by_rule, ending_word, tally_fields, tally_words};
 
 use bt_end::Progress;
 use bt_feed::Target;
-use bt_fetch::{Outcome, Report};
+use bt_fetch::{Ending, Outcome, Watcher};
 use bt_run::run::say;
 use bt_text::ended::Ended;
 use bt_text::lines::verdict_line;
@@ -28,22 +28,22 @@ pub const NO_TRY: Tally = Tally {
 };
 
 /// Returns the tally with one more try.
-pub fn counted(tally: Tally, outcome: Outcome) -> Tally
-    ensures { result ≡ counted_by_rule tally outcome }
+pub fn counted(tally: Tally, ending: Ending) -> Tally
+    ensures { result ≡ counted_by_rule tally ending }
 {
     let tried = tally.tried.saturating_add(1);
-    match outcome {
-        Outcome::Silent => Tally {
+    match ending {
+        Ending::By(Outcome::Silent) => Tally {
             tried,
             silent: tally.silent.saturating_add(1),
             ..tally
         },
-        Outcome::Unreachable => Tally {
+        Ending::By(Outcome::Unreachable) => Tally {
             tried,
             unreachable: tally.unreachable.saturating_add(1),
             ..tally
         },
-        Outcome::Refused(_) => Tally {
+        Ending::By(Outcome::Refused(_)) => Tally {
             tried,
             refused: tally.refused.saturating_add(1),
             ..tally
@@ -87,11 +87,150 @@ pub fn summary(
     format!(in alloc; "fetched from {source} in {end}")
 }
 
-/// Goes back to the beginning of a terminal's line.
-const BACK: &[u8] = b"\r";
+/// Returns the summary as a JSON object, whose `fetched` is the peer or null.
+///
+/// # Errors
+/// `AllocError` when out of memory.
+pub fn summary_object(
+    alloc: Global,
+    source: &str,
+    seconds: u64,
+    tally: Tally,
+) -> Result<String, AllocError>
+    ensures none { source.now ≡ [] → IfOk result (λ text. string_bytes text ≡ codes "{\"fetched\":null" ++ tally_fields seconds tally) }
+    ensures fetched { source.now ≢ [] → IfOk result (λ text. string_bytes text ≡ codes "{\"fetched\":\"" ++ (source.now ++ (codes "\"" ++ tally_fields seconds tally))) }
+{
+    let end = tally_object(alloc, seconds, tally)?;
+    if source.is_empty() {
+        return format!(in alloc; "{{\"fetched\":null{end}");
+    }
+    format!(in alloc; "{{\"fetched\":\"{source}\"{end}")
+}
+
+/// Returns the end of the summary's object.
+fn tally_object(alloc: Global, seconds: u64, tally: Tally) -> Result<String, AllocError>
+    ensures { IfOk result (λ text. string_bytes text ≡ tally_fields seconds tally) }
+{
+    let Tally {
+        tried,
+        silent,
+        unreachable,
+        refused,
+    } = tally;
+    format!(in alloc;
+        ",\"seconds\":{seconds},\"tried\":{tried},\"silent\":{silent},\"unreachable\":{unreachable},\"refused\":{refused}}}\n"
+    )
+}
+
+/// Returns the word for how a connection ended.
+fn word_of(ending: Ending) -> &'static str
+    ensures { result.now ≡ ending_word ending }
+{
+    match ending {
+        Ending::Left => "left",
+        Ending::By(Outcome::Fetched) => "fetched",
+        Ending::By(Outcome::Refused(_)) => "refused",
+        Ending::By(Outcome::Silent) => "silent",
+        Ending::By(Outcome::Closed) => "closed",
+        Ending::By(Outcome::Unreachable) => "unreachable",
+        Ending::By(Outcome::Rejected) => "rejected",
+        Ending::By(Outcome::Mismatch) => "mismatch",
+        Ending::By(Outcome::Unasked) => "unasked",
+        Ending::By(Outcome::NoMetadata) => "no-metadata",
+    }
+}
+
+/// Says the line of a connection's end.
+fn say_line<E: Target>(name: &str, ending: Ending, errors: &mut E) {
+    say(name.as_bytes(), errors);
+    say(b" ", errors);
+    let Ending::By(Outcome::Refused(refusal)) = ending else {
+        say(word_of(ending).as_bytes(), errors);
+        say(b"\n", errors);
+        return;
+    };
+    let mut line = [0; 160];
+    let place = verdict_line(Ended::Refused(refusal), &mut line);
+    say(&line[place..], errors);
+}
+
+/// Returns the JSON object of a connection's end.
+fn end_object(alloc: Global, name: &str, ending: Ending) -> Result<String, AllocError> {
+    let word = word_of(ending);
+    let Ending::By(Outcome::Refused(refusal)) = ending else {
+        return format!(in alloc; "{{\"peer\":\"{name}\",\"end\":\"{word}\"}}\n");
+    };
+    let (message, at, reason) = (refusal.message, refusal.at, refusal.reason.name());
+    format!(in alloc;
+        "{{\"peer\":\"{name}\",\"end\":\"{word}\",\"message\":{message},\"offset\":{at},\"reason\":\"{reason}\"}}\n"
+    )
+}
 
 /// Goes back to the beginning of a terminal's line, and clears it.
 const CLEAR: &[u8] = b"\r\x1b[K";
+
+/// The bytes of a block (BEP 9), in KiB.
+const BLOCK: u64 = 16;
+
+/// What standard error is, and how it is written.
+#[derive(Clone, Copy, PartialEq, Eq, Debug)]
+pub enum Form {
+    /// Lines.
+    Plain,
+    /// Lines, and on a terminal one that shows how far the fetch has come.
+    Shown,
+    /// JSON objects.
+    Json,
+}
+
+/// Says how a connection to the peer of this name ended.
+pub fn say_end<E: Target>(alloc: Global, form: Form, name: &str, ending: Ending, errors: &mut E) {
+    if form != Form::Json {
+        say_line(name, ending, errors);
+        return;
+    }
+    if let Ok(text) = end_object(alloc, name, ending) {
+        say(text.as_str().as_bytes(), errors);
+    }
+}
+
+/// The connection that has come furthest.
+#[derive(Clone, Copy)]
+struct Front {
+    progress: Progress,
+    /// When the first block was told, in milliseconds.
+    since: u64,
+    /// When this was told.
+    time: u64,
+}
+
+/// Returns the front after a connection came this far.
+fn moved(front: Option<Front>, progress: Progress, time: u64) -> Front {
+    match front {
+        Some(old) if old.progress.held > progress.held => old,
+        Some(old) => Front {
+            progress,
+            since: old.since,
+            time,
+        },
+        None => Front {
+            progress,
+            since: time,
+            time,
+        },
+    }
+}
+
+/// Returns the line of a terminal: how many connections are open, the blocks of the one that has come furthest, and its rate.
+fn progress_line(alloc: Global, inside: u32, front: Option<Front>) -> Result<String, AllocError> {
+    let Some(front) = front else {
+        return format!(in alloc; "fetching, {inside} open");
+    };
+    let (held, blocks) = (front.progress.held, front.progress.blocks);
+    let time = front.time.saturating_sub(front.since).max(1);
+    let rate = (held as u64).saturating_mul(BLOCK * 1000) / time;
+    format!(in alloc; "fetching {held} of {blocks} blocks at {rate} KiB/s, {inside} open")
+}
 
 /// Says on standard error how each connection goes, where that is a terminal, and how it ended.
 #[derive(Drop)]
@@ -99,107 +238,104 @@ pub struct Lines<'a, E: Target> {
     alloc: Global,
     names: &'a [&'a str],
     errors: &'a mut E,
-    /// Standard error is a terminal.
-    is_terminal: bool,
+    form: Form,
     /// A line that is to be cleared stands there.
     is_shown: bool,
     tally: Tally,
+    /// How many connections are open.
+    inside: u32,
+    front: Option<Front>,
+    /// When the fetch began, in seconds.
+    begun: u64,
     /// The peer that the metadata came from, or nothing.
     source: &'a str,
 }
 
-/// Returns the line of a connection's end, without the address; nothing for a refusal.
-fn line_of(outcome: Outcome) -> &'static [u8] {
-    match outcome {
-        Outcome::Fetched => b" fetched\n",
-        Outcome::Silent => b" silent\n",
-        Outcome::Closed => b" closed\n",
-        Outcome::Unreachable => b" unreachable\n",
-        Outcome::Rejected => b" rejected\n",
-        Outcome::Mismatch => b" mismatch\n",
-        Outcome::Unasked => b" unasked\n",
-        Outcome::NoMetadata => b" no-metadata\n",
-        Outcome::Refused(_) => b"",
-    }
-}
-
-/// Says that a host has no address.
-pub fn say_unresolved<E: Target>(name: &str, errors: &mut E) {
-    say(name.as_bytes(), errors);
-    say(line_of(Outcome::Unreachable), errors);
-}
-
 impl<'a, E: Target> Lines<'a, E> {
-    /// Returns the lines of connections to peers with these names.
+    /// Returns the lines of connections to peers with these names, of a fetch that began at this second.
     pub fn new(
         alloc: Global,
         names: &'a [&'a str],
         errors: &'a mut E,
-        is_terminal: bool,
+        form: Form,
         tally: Tally,
+        begun: u64,
     ) -> Lines<'a, E> {
         Lines {
             alloc,
             names,
             errors,
-            is_terminal,
+            form,
             is_shown: false,
             tally,
+            inside: 0,
+            front: None,
+            begun,
             source: "",
         }
     }
 
-    /// Says the summary.
-    pub fn say_summary(&mut self, seconds: u64) {
-        if let Ok(text) = summary(self.alloc, self.source, seconds, self.tally) {
+    /// Says the summary of a fetch that ended at this second.
+    pub fn say_summary(&mut self, ended: u64) {
+        let seconds = ended.saturating_sub(self.begun);
+        let text = match self.form {
+            Form::Json => summary_object(self.alloc, self.source, seconds, self.tally),
+            _ => summary(self.alloc, self.source, seconds, self.tally),
+        };
+        if let Ok(text) = text {
             say(text.as_str().as_bytes(), self.errors);
         }
     }
 
-    /// Says a line that begins with a peer's name.
-    fn say_line(&mut self, address: usize, line: &[u8]) {
-        if let Some(name) = self.names.get(address) {
-            say(name.as_bytes(), self.errors);
-        }
-        say(line, self.errors);
-    }
-}
-
-impl<'a, E: Target> Report for Lines<'a, E> {
-    ghost use Rattle.std.specs.Prelude.{None};
-
-    ghost told = { λ l. None };
-
-    fn came(&mut self, address: usize, progress: Progress) {
-        if !self.is_terminal {
+    /// Shows how far the fetch has come, if standard error is a terminal.
+    fn show(&mut self) {
+        if self.form != Form::Shown {
             return;
         }
-        let (held, blocks) = (progress.held, progress.blocks);
-        let Ok(text) = format!(in self.alloc; "fetching {held} of {blocks} blocks from ") else {
+        let Ok(text) = progress_line(self.alloc, self.inside, self.front) else {
             return;
         };
         self.is_shown = true;
-        say(BACK, self.errors);
+        say(CLEAR, self.errors);
         say(text.as_str().as_bytes(), self.errors);
-        self.say_line(address, b"");
     }
 
-    fn ended(&mut self, address: usize, outcome: Outcome) {
+    /// Says and counts how a connection ended.
+    fn tell(&mut self, address: usize, ending: Ending) {
         if self.is_shown {
             self.is_shown = false;
             say(CLEAR, self.errors);
         }
-        self.tally = counted(self.tally, outcome);
-        if outcome == Outcome::Fetched {
-            self.source = self.names.get(address).copied().unwrap_or("");
+        self.tally = counted(self.tally, ending);
+        let name = self.names.get(address).copied().unwrap_or("");
+        if ending == Ending::By(Outcome::Fetched) {
+            self.source = name;
         }
-        if let Outcome::Refused(refusal) = outcome {
-            let mut line = [0; 160];
-            let place = verdict_line(Ended::Refused(refusal), &mut line);
-            self.say_line(address, b" ");
-            say(&line[place..], self.errors);
-            return;
+        say_end(self.alloc, self.form, name, ending, self.errors);
+    }
+}
+
+impl<'a, E: Target> Watcher for Lines<'a, E> {
+    ghost use Rattle.std.specs.Prelude.{None};
+
+    ghost heard = { λ l. None };
+
+    fn dialled(&mut self, address: usize, is_begun: bool) {
+        if is_begun {
+            self.inside = self.inside.saturating_add(1);
+            self.show();
+        } else {
+            self.tell(address, Ending::By(Outcome::Unreachable));
         }
-        self.say_line(address, line_of(outcome));
+    }
+
+    fn came(&mut self, _address: usize, progress: Progress, time: u64) {
+        self.front = Some(moved(self.front, progress, time));
+        self.show();
+    }
+
+    fn ended(&mut self, address: usize, ending: Ending) {
+        self.inside = self.inside.saturating_sub(1);
+        self.tell(address, ending);
     }
 }

@@ -129,7 +129,7 @@ const WINDOW: OptionText = OptionText {
     name: "window",
     alias: "",
     value: "N",
-    help: "Blocks that are requested at once: 1 to 8 [default: 8, and 1 if a silent peer is tried again]",
+    help: "Blocks that are requested at once: 1 to 8 [default: 8, and 1 if a peer is tried again]",
 };
 
 const MAX_SIZE: OptionText = OptionText {
@@ -174,6 +174,20 @@ const PEERS: OptionText = OptionText {
     help: "File of more peers, one a line, '#' before a comment; '-' is standard input [default: none]",
 };
 
+const AT_ONCE: OptionText = OptionText {
+    name: "at-once",
+    alias: "",
+    value: "N",
+    help: "Connections at the same time: 1 to 256; memory is at most as many times '--max-size' [default: 16]",
+};
+
+const JSON_OF_FETCH: OptionText = OptionText {
+    name: "json",
+    alias: "",
+    value: "",
+    help: "Writes a JSON object a line on standard error: one for each connection's end, and one for the summary",
+};
+
 const STREAM: OperandText = OperandText {
     name: "FILE",
     is_required: false,
@@ -199,7 +213,7 @@ const ADDRESS: OperandText = OperandText {
     name: "ADDRESS",
     is_required: false,
     is_repeated: true,
-    help: "A peer: IP:PORT, [IPv6]:PORT or HOST:PORT; they are tried in turn, then those of the link and of '--peers'",
+    help: "A peer: IP:PORT, [IPv6]:PORT or HOST:PORT; those of the link and of '--peers' come after them",
 };
 
 const METADATA: OperandText = OperandText {
@@ -380,12 +394,14 @@ pub(crate) const FETCH: CommandText = CommandText {
     about: "Fetches the metadata of a torrent from peers (BEP 9), and writes it on standard output",
     options: &[
         PEERS,
+        AT_ONCE,
         FREE,
         LIMIT_OF_ENDS,
         TIMEOUT,
         WINDOW,
         MAX_SIZE,
         TORRENT,
+        JSON_OF_FETCH,
     ],
     operands: &[INFOHASH, ADDRESS],
     after: "\

@@ -1,1 +1,4 @@
+pub mod Counts
+pub mod Courses
+pub mod Stops
 pub mod Visits

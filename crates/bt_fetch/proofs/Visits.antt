@@ -1,5 +1,5 @@
 -- What a connection leaves of an end's handshake.
-use Rattle.std.proofs.Common.{◌≡◌, ℕ, ◌+◌, Bool, true, false, if◌then◌else◌, List, [], ◌∷◌, Option, Result, Ok, Err, sym, ap, subst, ◌∙◌, refl, add-one}
+use Rattle.std.proofs.Common.{◌≡◌, ℕ, Bool, true, false, if◌then◌else◌, List, [], ◌∷◌, Result, Ok, Err, sym, ap, subst, ◌∙◌, refl}
 use Rattle.bt_wire.specs.declared.item.Item.{Item}
 use Rattle.bt_wire.specs.declared.handshake.Handshake.{Handshake}
 use Rattle.bt_metadata.specs.Blocks.{window}
@@ -10,7 +10,6 @@ use Rattle.bt_end.specs.declared.end.BeginError.TheVariants as begin_error
 use Rattle.bt_end.specs.Sturdy.{IsPartOf, IsEnd}
 use Rattle.bt_end.proofs.Reactions.{react_keeps}
 use Rattle.bt_exchange.specs.Courses.{end_after, IsMoved, Moment}
-use Rattle.bt_fetch.specs.Tries.{AreAsked, IsAsked}
 
 after_keeps : (e : EndState) (xs : List (ℕ × Item)) → IsPartOf e.handshake.info_hash e.part → (end_after e xs).handshake ≡ e.handshake
 after_keeps e [] i = refl
@@ -37,6 +36,3 @@ begun_keeps a b size (Ok true) h =
 begun_keeps a b size (Ok false) h = ap (λ (x : HalfState). x.end.handshake) h.2
 begun_keeps a b size (Err begin_error.Busy) h = ap (λ (x : HalfState). x.end.handshake) h.1
 begun_keeps a b size (Err begin_error.Memory) h = ap (λ (x : HalfState). x.end.handshake) h
-
-pub asked_more : (n : ℕ) (a b c : Option (List ℕ)) → AreAsked n a b → IsAsked b c n → AreAsked (n + 1) a c
-asked_more n a b c h k = subst (λ (x : ℕ). AreAsked x a c) (sym (add-one n)) (b, h, k)

@@ -2,8 +2,8 @@
 use Rattle.std.specs.Prelude.{◌≡◌, ℕ, ◌<◌, Bool, List, ◌++◌, length, take, Option, Result, Ok, Err, codes, if◌then◌else◌}
 use Rattle.std.specs.Io.KnownBytes.{Appends}
 use Rattle.sha1.specs.Sha1.{sha1}
-use Rattle.bt_fetch.specs.declared.fetching.FetchError.{FetchError}
-use Rattle.bt_fetch.specs.declared.fetching.FetchError.TheVariants.{NotFetched, Write, Memory}
+use Rattle.bt_fetch.specs.declared.file.FetchError.{FetchError}
+use Rattle.bt_fetch.specs.declared.file.FetchError.TheVariants.{NotFetched, Write, Memory}
 
 -- The file of some metadata: the metadata, or, as a .torrent, the dictionary whose one key `info` has it (BEP 3).
 abbrev pub file_of : Bool → List ℕ → List ℕ

@@ -1,4 +1,8 @@
 pub mod Wishes
 pub mod Outcomes
 pub mod Fetches
-pub mod Tries
+pub mod Links
+pub mod Queues
+pub mod Logs
+pub mod Visits
+pub mod Swarms

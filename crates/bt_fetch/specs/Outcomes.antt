@@ -1,15 +1,13 @@
 -- How a try at an address ends, by what the end is after it.
-use Rattle.std.specs.Prelude.{◌≡◌, ◌==◌, ◌≤◌, ◌+◌, ◌||◌, nat_lt, ℕ, Bool, true, false, if◌then◌else◌, is_some, Option, Some, None, Result, Ok, Err, ⊤}
+use Rattle.std.specs.Prelude.{◌≡◌, ◌==◌, ◌≤◌, ◌||◌, nat_lt, ℕ, Bool, true, false, if◌then◌else◌, is_some, Option, Some, None, ⊤}
 use Rattle.bt_end.specs.Ends.{agreed, metadata_of, is_hopeless}
 use Rattle.bt_end.specs.Halves.{HalfState}
 use Rattle.bt_end.specs.declared.event.Event.{Event}
 use Rattle.bt_end.specs.declared.event.Event.TheVariants as event
 use Rattle.bt_exchange.specs.declared.talking.Stop.{Stop}
 use Rattle.bt_exchange.specs.declared.talking.Stop.TheVariants as stop
-use Rattle.bt_fetch.specs.declared.dial.Outcome.{Outcome}
-use Rattle.bt_fetch.specs.declared.dial.Outcome.TheVariants as outcome
-use Rattle.bt_fetch.specs.declared.talk.Next.{Next}
-use Rattle.bt_fetch.specs.declared.talk.Next.TheVariants as next
+use Rattle.bt_fetch.specs.declared.device.Outcome.{Outcome}
+use Rattle.bt_fetch.specs.declared.device.Outcome.TheVariants as outcome
 
 -- All of the metadata is there; what came is refused; no block can come any more, though both know the Extension Protocol; the blocks
 -- were those of other metadata twice; blocks could come, or not both know that protocol. The others tell of the connection, and not of
@@ -39,24 +37,3 @@ outcome_by stop.Memory ext lacks = None
 abbrev pub is_untaken : Event → (most : ℕ) → Bool
 is_untaken (event.Announced id (Some size) begins) most = (size == 0) || nat_lt most size
 is_untaken e most = false
-
--- ---- for private contracts
-
--- the patience is over, or nothing can be fetched
-abbrev pub is_given_up : Outcome → Bool
-is_given_up outcome.Silent = true
-is_given_up outcome.NoMetadata = true
-is_given_up o = false
-
--- What is made of an exchange: it goes on after news, if they tell no size that isn't taken, or is given up; or it ended as the exchange
--- stopped.
-abbrev pub IsHeeded : (most : ℕ) → (ext lacks : Bool) → Result Event Stop → Next → Type 0
-IsHeeded most ext lacks (Ok e) (next.Talks t) = is_untaken e most ≡ false
-IsHeeded most ext lacks (Ok e) (next.Ended o) = is_given_up o ≡ true
-IsHeeded most ext lacks (Err s) (next.Talks t) = ⊥
-IsHeeded most ext lacks (Err s) (next.Ended o) = outcome_by s ext lacks ≡ Some o
-
--- it goes on, and the patience isn't over at this time; or it ended so
-abbrev pub IsNext : HalfState → (time patience : ℕ) → Next → Type 0
-IsNext a time patience (next.Talks t) = time ≤ t.watch.since + patience
-IsNext a time patience (next.Ended o) = IsOutcome a o

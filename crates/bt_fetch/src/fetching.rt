@@ -1,231 +1,448 @@
-//! A fetch over several connections, one after the other.
-ghost use Rattle.std.specs.Prelude.{◌≡◌, ◌≢◌, ◌+◌, ◌-◌, ◌*◌, ◌^◌, ◌<◌, ◌≤◌, ℕ, true, false, Err, length, take, min, is_some, IfOk, OnOk, MatchResult};
-ghost use Rattle.std.specs.Io.KnownBytes.{Appends};
-ghost use Rattle.bt_io.specs.Counts.{one_more};
+//! A fetch over many connections at the same time.
+ghost use Rattle.std.specs.Prelude.{◌≡◌, ◌≢◌, ◌+◌, ◌<◌, ◌≤◌, ℕ, true, false, None, Ok, Err, length, vec_len, not, List, Option, option_map, is_some, count_by, sum_by, All, HoldsAt, max, IfOk, IfSome};
 ghost use Rattle.bt_io.specs.Seen.{WriteFailed};
 ghost use Rattle.bt_end.specs.Ends.{metadata_of};
-ghost use Rattle.bt_fetch.specs.Wishes.{IsWish};
-ghost use Rattle.bt_fetch.specs.Outcomes.{IsOutcome};
+ghost use Rattle.bt_fetch.specs.Wishes.{IsWish, handshake_of};
+ghost use Rattle.bt_fetch.specs.Fetches.{IsWritten};
+ghost use Rattle.bt_fetch.specs.Queues.{dials_of, rest_of, one};
 ghost use Rattle.bt_exchange.specs.Lists.{IsAdded};
-ghost use Rattle.bt_fetch.specs.Tries.{AreAsked, AreBrief, IsAsked};
-ghost use Rattle.bt_fetch.specs.Fetches.{file_of, IsWritten};
+ghost use Rattle.bt_fetch.specs.Logs.{IsCourse, IsLogged, IsStage, Stage, Going, is_fetched as is_fetched_by, stage_after};
+ghost use Rattle.bt_fetch.specs.Swarms.{IfWon, cost, is_free, is_over, is_won, stage_at, stage_by, stage_when, weight};
+ghost use Rattle.bt_fetch.specs.declared.device.Happening.{Happening};
+ghost use Rattle.bt_fetch.specs.declared.device.Happening.TheVariants.{Ended as EndedSo};
 
-use crate::dial::{Dial, Outcome, Report};
-use crate::talk::{Visited, talk_over};
-use crate::wish::{Wish, fetching_end, first_window};
-use bt_end::{End, Window};
-use bt_exchange::Hearing;
-use bt_io::{Memory, Target, write_front};
-use std::alloc::{AllocError, Global};
-use thiserror::Error;
+use crate::device::{Device, Ending, Outcome};
+use crate::file::{FetchError, put_out};
+use crate::place::Place;
+use crate::queue::Queue;
+use crate::visit::{Pace, Visit};
+use crate::wish::{Wish, first_window};
+use bt_end::Window;
+use bt_io::{Memory, Target};
+use std::alloc::Global;
 
-/// Why nothing, or not all, was written.
-#[derive(Clone, Copy, PartialEq, Eq, Debug, Error)]
-pub enum FetchError {
-    /// No connection gave what lacked.
-    #[error("not fetched")]
-    NotFetched,
-    /// A write failed.
-    #[error("a write failed")]
-    Write,
-    #[error("out of memory")]
-    Memory,
+/// The places of a fetch over a device.
+type Places<D> = Vec<Place<<D as Device>::Link>>;
+
+/// What became of a place at its turn.
+#[derive(Clone, Copy)]
+enum Turn {
+    /// It has no connection, and no address waits.
+    Free,
+    /// Its connection waits for its peer.
+    Waits,
+    /// It can go on at once, or was dialled for.
+    GoesOn,
+    /// Its connection ended.
+    Ended,
+    /// Its end has the metadata.
+    Won,
 }
 
-impl From<Memory> for FetchError {
-    ghost use Rattle.bt_fetch.specs.declared.fetching.FetchError.TheVariants.{Memory};
-    ghost use Rattle.std.specs.Prelude.{◌≡◌};
+/// What became of all places.
+#[derive(Clone, Copy)]
+enum Round {
+    /// No connection is open, and no address waits.
+    Over,
+    /// All wait for their peers.
+    Waits,
+    /// Some can go on at once.
+    GoesOn,
+    /// The end at the place of this number has the metadata.
+    Won(usize),
+}
 
-    ghost from_gives = { λ _ e. e ≡ Memory };
+/// Whether the metadata is there.
+fn is_fetched(outcome: Outcome) -> bool
+    ensures { result ≡ is_fetched_by outcome }
+{
+    matches!(outcome, Outcome::Fetched)
+}
 
-    fn from(_: Memory) -> FetchError {
-        FetchError::Memory
+/// Returns how many blocks are asked for at once: one at a time from an address that comes again.
+fn window_for(wish: &Wish, is_again: bool) -> Window {
+    if wish.window.is_some() || !is_again {
+        return first_window(wish);
+    }
+    match Window::new(1) {
+        Some(one) => one,
+        None => first_window(wish),
     }
 }
 
-/// Makes one try at an address, and reports it. What was fetched stays.
+/// Dials the next address for a place that is free.
 ///
 /// # Errors
-/// `Memory` if memory for the new connection, or for what came over it, is refused.
-fn attempt<D: Dial, T: Report>(
+/// `Memory` if memory is refused.
+fn fill<D: Device>(
     wish: &Wish,
-    address: usize,
-    is_wide: bool,
-    dial: &mut D,
-    report: &mut T,
-    end: &mut End,
-    hearing: &mut Hearing,
-) -> Result<Visited, Memory>
-    ensures handshake { end.new.end.handshake ≡ end.old.end.handshake }
-    ensures dials { OnOk result (D.dials dial.new ≡ one_more (D.dials dial.old)) }
-    ensures most { D.dials dial.new ≤ D.dials dial.old + 1 }
-    ensures address { OnOk result (IsAdded (D.dialled dial.old) (D.dialled dial.new) address) }
-    ensures told { IfOk result (λ visited. IsAdded (T.told report.old) (T.told report.new) (address, visited.outcome)) }
-    ensures outcome { IfOk result (λ visited. IsOutcome end.new visited.outcome) }
-    ensures brief { AreBrief (D.closed dial.old) (D.closed dial.new) }
+    time: u64,
+    place: &mut Place<D::Link>,
+    queue: &mut Queue,
+    device: &mut D,
+) -> Result<Turn, Memory>
+    requires free { place.old.visit ≡ None }
+    requires room { D.inside device.old < D.places device.old }
+    ensures handshake { place.new.end.end.handshake ≡ place.old.end.end.handshake }
+    ensures inside { D.inside device.new ≡ D.inside device.old + one (is_some place.new.visit) }
+    ensures places { D.places device.new ≡ D.places device.old }
+    ensures weight { IfOk result (λ t. weight (option_map (λ v. v.left) place.new.visit) + cost (rest_of queue.new.next queue.new.again.items) + one (not (is_free t))
+        ≤ cost (rest_of queue.old.next queue.old.again.items)) }
+    ensures free { result ≡ Ok Turn.Free → queue.new.next ≡ vec_len queue.new.again }
+    ensures len { vec_len queue.new.again ≡ vec_len queue.old.again }
+    ensures unwon { stage_by result ≡ Going }
+    ensures log { (start : Option (List Happening)) → IsCourse Going start (D.log device.old) (dials_of queue.old.next queue.old.again.items)
+        → IsCourse Going start (D.log device.new) (dials_of queue.new.next queue.new.again.items) }
 {
-    end.reset()?;
-    hearing.clear();
-    let visited = match dial.dial(address) {
-        Some(mut link) => {
-            let visited = talk_over(wish, address, is_wide, &mut link, report, end, hearing);
-            dial.close(link);
-            visited?
+    let Some(address) = queue.take() else {
+        return Ok(Turn::Free);
+    };
+    let window = window_for(wish, queue.is_again(address));
+    match device.dial(address) {
+        Some(link) => {
+            let is_wide = wish.window.is_none() && window.get() > 1;
+            place.end.set_window(window);
+            place.visit = Some(Visit::new(address, link, is_wide, time));
         }
-        None => Visited {
-            outcome: Outcome::Unreachable,
-            is_wide,
-        },
-    };
-    report.ended(address, visited.outcome);
-    Ok(visited)
-}
-
-/// Whether the peer may be one that stops for good if several blocks are asked for at once.
-///
-/// What is asked can't be taken back on the same connection.
-fn may_be_stuck(end: &End, visited: Visited) -> bool {
-    match (visited.outcome, end.progress()) {
-        (Outcome::Silent, Some(progress)) => {
-            visited.is_wide && progress.held + 1 < progress.blocks
-        }
-        _ => false,
+        None => queue.put_back(address)?,
     }
+    Ok(Turn::GoesOn)
 }
 
-/// Makes a try at an address, and a second one if blocks are to be asked for one at a time.
-fn visit_address<D: Dial, T: Report>(
-    wish: &Wish,
-    address: usize,
-    dial: &mut D,
-    report: &mut T,
-    end: &mut End,
-    hearing: &mut Hearing,
-) -> Result<(), Memory>
-    requires undone { is_some (metadata_of end.old.end.part) ≡ false }
-    ensures handshake { end.new.end.handshake ≡ end.old.end.handshake }
-    ensures dials { OnOk result (min (D.dials dial.old + 1) (2 ^ 64 - 1) ≤ D.dials dial.new) }
-    ensures most { D.dials dial.new ≤ D.dials dial.old + 2 }
-    ensures address { OnOk result (IsAsked (D.dialled dial.old) (D.dialled dial.new) address) }
-    ensures brief { AreBrief (D.closed dial.old) (D.closed dial.new) }
-{
-    let first = first_window(wish);
-    end.set_window(first);
-    let is_wide = wish.window.is_none() && first.get() > 1;
-    let visited = attempt(wish, address, is_wide, dial, report, end, hearing)?;
-    if !may_be_stuck(end, visited) {
-        return Ok(());
-    }
-    let Some(one) = Window::new(1) else {
-        return Ok(());
-    };
-    dial.pause();
-    end.set_window(one);
-    attempt(wish, address, false, dial, report, end, hearing)?;
-    Ok(())
-}
-
-/// Tries the addresses in turn until the metadata is there.
-fn visit_all<D: Dial, T: Report>(
-    wish: &Wish,
-    addresses: usize,
-    dial: &mut D,
-    report: &mut T,
-    end: &mut End,
-    hearing: &mut Hearing,
-) -> Result<(), Memory>
-    requires undone { is_some (metadata_of end.old.end.part) ≡ false }
-    ensures handshake { end.new.end.handshake ≡ end.old.end.handshake }
-    ensures most { D.dials dial.new ≤ D.dials dial.old + 2 * addresses }
-    ensures asked { OnOk result ((n : ℕ) × (n ≤ addresses) × AreAsked n (D.dialled dial.old) (D.dialled dial.new)) }
-    ensures dials { OnOk result (is_some (metadata_of end.new.end.part) ≡ false → min (D.dials dial.old + addresses) (2 ^ 64 - 1) ≤ D.dials dial.new) }
-    ensures brief { AreBrief (D.closed dial.old) (D.closed dial.new) }
-{
-    for address in 0..addresses {
-        visit_address(wish, address, dial, report, end, hearing)?;
-        if end.metadata().is_some() {
-            return Ok(());
-        }
-    }
-    Ok(())
-}
-
-/// Returns a .torrent whose `info` is the metadata.
-fn torrent_of(alloc: Global, metadata: &[u8]) -> Result<Vec<u8>, AllocError>
-    ensures { IfOk result (λ file. file.items ≡ file_of true metadata.now) }
-{
-    let mut file = Vec::new(alloc);
-    file.extend_from_slice(b"d4:info")?;
-    file.extend_from_slice(metadata)?;
-    file.extend_from_slice(b"e")?;
-    Ok(file)
-}
-
-/// Writes bytes, and returns how many they are.
-fn put<W: Target>(bytes: &[u8], writer: &mut W) -> Result<usize, FetchError>
-    ensures written { MatchResult result
-        (λ n. (length bytes.now ≡ n) × Appends (W.seen writer.old).held (W.seen writer.new).held bytes.now)
-        (λ e. (e ≡ FetchError.Write) × (n : ℕ) × (n < length bytes.now) × Appends (W.seen writer.old).held (W.seen writer.new).held (take n bytes.now)) }
-    ensures fault { result ≡ Err FetchError.Write → WriteFailed (W.seen writer.old) (W.seen writer.new) }
-{
-    if write_front(writer, bytes) < bytes.len() {
-        return Err(FetchError::Write);
-    }
-    Ok(bytes.len())
-}
-
-/// Writes the file of the metadata, if the end has fetched it.
-fn put_out<W: Target>(
-    alloc: Global,
-    torrent: bool,
-    end: &End,
-    writer: &mut W,
-) -> Result<usize, FetchError>
-    ensures written { IsWritten torrent end.now.end.handshake.info_hash (W.seen writer.old).held (W.seen writer.new).held result }
-    ensures fault { result ≡ Err FetchError.Write → WriteFailed (W.seen writer.old) (W.seen writer.new) }
-    ensures missing { result ≡ Err FetchError.NotFetched → is_some (metadata_of end.now.end.part) ≡ false }
-{
-    let Some(metadata) = end.metadata() else {
-        return Err(FetchError::NotFetched);
-    };
-    if !torrent {
-        return put(metadata, writer);
-    }
-    let Ok(file) = torrent_of(alloc, metadata) else {
-        return Err(FetchError::Memory);
-    };
-    put(file.as_slice(), writer)
-}
-
-/// Fetches metadata from addresses, and writes its file.
-///
-/// The addresses are tried in turn. The file is the metadata, or a .torrent of it.
-///
-/// What is held stays from connection to connection, unless a peer tells another size. Nothing is written before all of the
-/// metadata is there, and its SHA-1 is the info hash. Over a connection at most 2^32 calls are made. It returns how many bytes were
-/// written.
+/// Frees a place whose connection ended, and puts its address back.
 ///
 /// # Errors
-/// `NotFetched` if each address was dialled and none gave what lacked, `Write` if a write failed, `Memory` if memory was refused.
-pub fn fetch<D: Dial, T: Report, W: Target>(
-    alloc: Global,
+/// `Memory` if memory is refused.
+fn free<D: Device>(
+    visit: Visit<D::Link>,
+    ending: Ending,
+    place: &mut Place<D::Link>,
+    queue: &mut Queue,
+    device: &mut D,
+) -> Result<Turn, Memory>
+    requires unwon { stage_after Going (EndedSo visit.address ending) ≡ Going }
+    requires none { place.old.visit ≡ None }
+    requires inside { 0 < D.inside device.old }
+    ensures handshake { place.new.end.end.handshake ≡ place.old.end.end.handshake }
+    ensures visit { place.new.visit ≡ None }
+    ensures inside { D.inside device.new + 1 ≡ D.inside device.old }
+    ensures places { D.places device.new ≡ D.places device.old }
+    ensures ended { IfOk result (λ t. t ≡ Turn.Ended) }
+    ensures unwon { stage_by result ≡ Going }
+    ensures told { IsAdded (D.log device.old) (D.log device.new) (EndedSo visit.address ending) }
+    ensures next { queue.new.next ≡ queue.old.next }
+    ensures again { queue.new.again.items ≡ queue.old.again.items }
+    ensures len { vec_len queue.new.again ≡ vec_len queue.old.again }
+{
+    let address = visit.address;
+    device.ended(address, visit.line.link, ending);
+    place.hearing.clear();
+    place.end.reset()?;
+    queue.put_back(address)?;
+    Ok(Turn::Ended)
+}
+
+/// Tells how far the fetch over a connection has come, if there was news.
+fn tell<D: Device>(visit: &Visit<D::Link>, place: &Place<D::Link>, device: &mut D)
+    ensures log { D.log device.new ≡ D.log device.old }
+    ensures inside { D.inside device.new ≡ D.inside device.old }
+    ensures places { D.places device.new ≡ D.places device.old }
+{
+    if !visit.has_news {
+        return;
+    }
+    if let Some(progress) = place.end.progress() {
+        device.came(visit.address, progress);
+    }
+}
+
+/// Gives the connection of a place its turn.
+///
+/// `is_needed` says that another address waits for the place.
+///
+/// # Errors
+/// `Memory` if memory is refused.
+fn tend<D: Device>(
     wish: &Wish,
-    torrent: bool,
-    addresses: usize,
-    dial: &mut D,
-    report: &mut T,
-    writer: &mut W,
-) -> Result<usize, FetchError>
+    time: u64,
+    is_needed: bool,
+    visit: Visit<D::Link>,
+    place: &mut Place<D::Link>,
+    queue: &mut Queue,
+    device: &mut D,
+) -> Result<Turn, Memory>
+    requires none { place.old.visit ≡ None }
+    requires inside { 0 < D.inside device.old }
+    ensures handshake { place.new.end.end.handshake ≡ place.old.end.end.handshake }
+    ensures inside { D.inside device.new + 1 ≡ D.inside device.old + one (is_some place.new.visit) }
+    ensures places { D.places device.new ≡ D.places device.old }
+    ensures weight { IfOk result (λ t. weight (option_map (λ v. v.left) place.new.visit) ≤ visit.left) }
+    ensures free { result ≢ Ok Turn.Free }
+    ensures won { result ≡ Ok Turn.Won → is_some (metadata_of place.new.end.end.part) ≡ true }
+    ensures next { queue.new.next ≡ queue.old.next }
+    ensures again { queue.new.again.items ≡ queue.old.again.items }
+    ensures len { vec_len queue.new.again ≡ vec_len queue.old.again }
+    ensures log { (start : Option (List Happening)) (dials : ℕ → ℕ) → IsCourse Going start (D.log device.old) dials
+        → IsCourse (stage_by result) start (D.log device.new) dials }
+{
+    let mut visit = visit;
+    let pace = visit.go_on(wish, &mut place.end, &mut place.hearing, time);
+    tell(&visit, place, device);
+    match pace {
+        Ok(Pace::GoesOn) => {
+            place.visit = Some(visit);
+            Ok(Turn::GoesOn)
+        }
+        Ok(Pace::Ended(outcome)) => {
+            if is_fetched(outcome) {
+                device.ended(visit.address, visit.line.link, Ending::By(outcome));
+                return Ok(Turn::Won);
+            }
+            free(visit, Ending::By(outcome), place, queue, device)
+        }
+        Ok(Pace::Waits) if is_needed && visit.is_late(time) => {
+            free(visit, Ending::Left, place, queue, device)
+        }
+        Ok(Pace::Waits) => {
+            place.visit = Some(visit);
+            Ok(Turn::Waits)
+        }
+        Err(memory) => {
+            device.ended(visit.address, visit.line.link, Ending::Left);
+            Err(memory)
+        }
+    }
+}
+
+/// Gives a place its turn: its connection, or else the next address.
+///
+/// # Errors
+/// `Memory` if memory is refused.
+fn give_turn<D: Device>(
+    wish: &Wish,
+    time: u64,
+    is_needed: bool,
+    place: &mut Place<D::Link>,
+    queue: &mut Queue,
+    device: &mut D,
+) -> Result<Turn, Memory>
+    requires inside { one (is_some place.old.visit) ≤ D.inside device.old }
+    requires room { is_some place.old.visit ≡ false → D.inside device.old < D.places device.old }
+    ensures handshake { place.new.end.end.handshake ≡ place.old.end.end.handshake }
+    ensures inside { D.inside device.new + one (is_some place.old.visit) ≡ D.inside device.old + one (is_some place.new.visit) }
+    ensures places { D.places device.new ≡ D.places device.old }
+    ensures weight { IfOk result (λ t. weight (option_map (λ v. v.left) place.new.visit) + cost (rest_of queue.new.next queue.new.again.items) + one (not (is_free t))
+        ≤ weight (option_map (λ v. v.left) place.old.visit) + cost (rest_of queue.old.next queue.old.again.items)) }
+    ensures free { result ≡ Ok Turn.Free → queue.new.next ≡ vec_len queue.new.again }
+    ensures won { result ≡ Ok Turn.Won → is_some (metadata_of place.new.end.end.part) ≡ true }
+    ensures len { vec_len queue.new.again ≡ vec_len queue.old.again }
+    ensures log { (start : Option (List Happening)) → IsCourse Going start (D.log device.old) (dials_of queue.old.next queue.old.again.items)
+        → IsCourse (stage_by result) start (D.log device.new) (dials_of queue.new.next queue.new.again.items) }
+{
+    match place.visit.take() {
+        Some(visit) => tend(wish, time, is_needed, visit, place, queue, device),
+        None => fill(wish, time, place, queue, device),
+    }
+}
+
+/// Returns how many places are to be given up for addresses that have not come yet.
+fn needed<D: Device>(places: &Places<D>, queue: &Queue) -> usize {
+    let mut needed = queue.unseen();
+    for place in places {
+        if place.visit.is_none() {
+            needed = needed.saturating_sub(1);
+        }
+    }
+    needed
+}
+
+/// Gives each place its turn, until an end has the metadata.
+///
+/// # Errors
+/// `Memory` if memory is refused.
+fn give_turns<D: Device>(
+    wish: &Wish,
+    places: &mut Places<D>,
+    queue: &mut Queue,
+    device: &mut D,
+) -> Result<Round, Memory>
+    requires some { 0 < vec_len places.old }
+    requires kept { All (λ p. p.end.end.handshake ≡ handshake_of wish.now) places.old.items }
+    requires inside { count_by (λ p. is_some p.visit) places.old.items ≤ D.inside device.old }
+    requires room { D.inside device.old + vec_len places.old ≤ D.places device.old + count_by (λ p. is_some p.visit) places.old.items }
+    ensures kept { All (λ p. p.end.end.handshake ≡ handshake_of wish.now) places.new.items }
+    ensures inside { D.inside device.new + count_by (λ p. is_some p.visit) places.old.items ≡ D.inside device.old + count_by (λ p. is_some p.visit) places.new.items }
+    ensures places { D.places device.new ≡ D.places device.old }
+    ensures held { vec_len places.new ≡ vec_len places.old }
+    ensures weight { IfOk result (λ r. is_won r ≡ false → sum_by (λ p. weight (option_map (λ v. v.left) p.visit)) places.new.items
+        + cost (rest_of queue.new.next queue.new.again.items) + one (not (is_over r))
+        ≤ sum_by (λ p. weight (option_map (λ v. v.left) p.visit)) places.old.items + cost (rest_of queue.old.next queue.old.again.items)) }
+    ensures over { result ≡ Ok Round.Over → queue.new.next ≡ vec_len queue.new.again }
+    ensures won { IfOk result (λ r. IfWon r (λ k. (k < vec_len places.new) × HoldsAt (λ p. is_some (metadata_of p.end.end.part) ≡ true) places.new.items k)) }
+    ensures len { vec_len queue.new.again ≡ vec_len queue.old.again }
+    ensures log { (start : Option (List Happening)) → IsCourse Going start (D.log device.old) (dials_of queue.old.next queue.old.again.items)
+        → IsCourse (stage_at result) start (D.log device.new) (dials_of queue.new.next queue.new.again.items) }
+{
+    let time = device.time();
+    let mut needed = needed::<D>(places, queue);
+    let mut is_over = true;
+    let mut waits = true;
+    for at in 0..places.len() {
+        let turned = give_turn(wish, time, needed > 0, &mut places[at], queue, device)?;
+        match turned {
+            Turn::Free => {}
+            Turn::Waits => is_over = false,
+            Turn::GoesOn => {
+                is_over = false;
+                waits = false;
+            }
+            Turn::Ended => {
+                is_over = false;
+                waits = false;
+                needed = needed.saturating_sub(1);
+            }
+            Turn::Won => return Ok(Round::Won(at)),
+        }
+    }
+    if is_over {
+        return Ok(Round::Over);
+    }
+    if waits {
+        return Ok(Round::Waits);
+    }
+    Ok(Round::GoesOn)
+}
+
+/// Fetches at places until an end has the metadata, and returns at which; `None` if no address is left.
+///
+/// # Errors
+/// `Memory` if memory is refused.
+fn fetch_at<D: Device>(
+    wish: &Wish,
+    places: &mut Places<D>,
+    queue: &mut Queue,
+    device: &mut D,
+) -> Result<Option<usize>, Memory>
+    requires some { 0 < vec_len places.old }
+    requires kept { All (λ p. p.end.end.handshake ≡ handshake_of wish.now) places.old.items }
+    requires inside { count_by (λ p. is_some p.visit) places.old.items ≤ D.inside device.old }
+    requires room { D.inside device.old + vec_len places.old ≤ D.places device.old + count_by (λ p. is_some p.visit) places.old.items }
+    ensures kept { All (λ p. p.end.end.handshake ≡ handshake_of wish.now) places.new.items }
+    ensures inside { D.inside device.new + count_by (λ p. is_some p.visit) places.old.items ≡ D.inside device.old + count_by (λ p. is_some p.visit) places.new.items }
+    ensures all { result ≡ Ok None → queue.new.next ≡ vec_len queue.new.again }
+    ensures won { IfOk result (λ o. IfSome o (λ k. (k < vec_len places.new) × HoldsAt (λ p. is_some (metadata_of p.end.end.part) ≡ true) places.new.items k)) }
+    ensures len { vec_len queue.new.again ≡ vec_len queue.old.again }
+    ensures log { (start : Option (List Happening)) → IsCourse Going start (D.log device.old) (dials_of queue.old.next queue.old.again.items)
+        → IsCourse (stage_when result) start (D.log device.new) (dials_of queue.new.next queue.new.again.items) }
+{
+    'rounds: loop {
+        match give_turns(wish, places, queue, device)? {
+            Round::Over => return Ok(None),
+            Round::Waits => device.rest(),
+            Round::GoesOn => {}
+            Round::Won(at) => return Ok(Some(at)),
+        }
+    }
+}
+
+/// Closes the connection of a place, if one is open.
+fn leave<D: Device>(place: Place<D::Link>, device: &mut D)
+    requires { one (is_some place.visit) ≤ D.inside device.old }
+    ensures inside { D.inside device.new + one (is_some place.visit) ≡ D.inside device.old }
+    ensures log { (s : Stage) (start : Option (List Happening)) (dials : ℕ → ℕ) → IsCourse s start (D.log device.old) dials → IsCourse s start (D.log device.new) dials }
+{
+    let mut place = place;
+    match place.visit.take() {
+        Some(visit) => device.ended(visit.address, visit.line.link, Ending::Left),
+        None => {}
+    }
+}
+
+/// Closes the connections that are left.
+fn leave_all<D: Device>(places: &mut Places<D>, device: &mut D)
+    requires inside { count_by (λ p. is_some p.visit) places.old.items ≤ D.inside device.old }
+    ensures inside { D.inside device.new + count_by (λ p. is_some p.visit) places.old.items ≡ D.inside device.old }
+    ensures log { (s : Stage) (start : Option (List Happening)) (dials : ℕ → ℕ) → IsCourse s start (D.log device.old) dials → IsCourse s start (D.log device.new) dials }
+{
+    while let Some(place) = places.pop() {
+        leave(place, device);
+    }
+}
+
+/// Returns `count` places, one at least.
+///
+/// # Errors
+/// `Memory` if memory is refused.
+fn places_for<D: Device>(alloc: Global, wish: &Wish, count: usize) -> Result<Places<D>, Memory>
     requires { IsWish wish.now }
+    ensures kept { IfOk result (λ places. All (λ p. p.end.end.handshake ≡ handshake_of wish.now) places.items) }
+    ensures none { IfOk result (λ places. count_by (λ p. is_some p.visit) places.items ≡ 0) }
+    ensures least { IfOk result (λ places. 0 < vec_len places) }
+    ensures most { IfOk result (λ places. vec_len places ≤ max 1 count) }
+{
+    let count = count.max(1);
+    let mut places = Vec::new(alloc);
+    for _place in 0..count {
+        let made = Place::new(alloc, wish)?;
+        match places.push(made) {
+            Ok(()) => {}
+            Err(_) => return Err(Memory),
+        }
+    }
+    Ok(places)
+}
+
+/// Writes the file of the metadata that the end at a place has, if one has.
+fn write_out<D: Device, W: Target>(
+    alloc: Global,
+    wish: &Wish,
+    torrent: bool,
+    fetched: Result<Option<usize>, Memory>,
+    places: &Places<D>,
+    writer: &mut W,
+) -> Result<usize, FetchError>
+    requires kept { All (λ p. p.end.end.handshake ≡ handshake_of wish.now) places.now.items }
+    requires won { IfOk fetched (λ o. IfSome o (λ k. (k < vec_len places.now) × HoldsAt (λ p. is_some (metadata_of p.end.end.part) ≡ true) places.now.items k)) }
     ensures written { IsWritten torrent wish.now.info_hash (W.seen writer.old).held (W.seen writer.new).held result }
     ensures fault { result ≡ Err FetchError.Write → WriteFailed (W.seen writer.old) (W.seen writer.new) }
-    ensures tries { result ≡ Err FetchError.NotFetched → min (D.dials dial.old + addresses) (2 ^ 64 - 1) ≤ D.dials dial.new }
-    ensures most { D.dials dial.new ≤ D.dials dial.old + 2 * addresses }
-    ensures asked { result ≢ Err FetchError.Memory → (n : ℕ) × (n ≤ addresses) × AreAsked n (D.dialled dial.old) (D.dialled dial.new) }
-    ensures brief { AreBrief (D.closed dial.old) (D.closed dial.new) }
+    ensures stage { IsStage result (stage_when fetched) }
+    ensures missing { result ≡ Err FetchError.NotFetched → fetched ≡ Ok None }
 {
-    let mut end = fetching_end(alloc, wish)?;
-    let mut hearing = Hearing::new(alloc)?;
-    visit_all(wish, addresses, dial, report, &mut end, &mut hearing)?;
-    put_out(alloc, torrent, &end, writer)
+    match fetched? {
+        Some(at) => put_out(alloc, torrent, &places[at].end, writer),
+        None => Err(FetchError::NotFetched),
+    }
+}
+
+/// Fetches metadata from addresses, from up to `at_once` at the same time, and writes its file.
+///
+/// The file is the metadata, or a .torrent of it. A place that falls free is taken by the next address. An address that failed comes
+/// again once after all others. Nothing is written before all of the metadata is there, and its SHA-1 is the info hash. All connections
+/// are closed when it returns. It returns how many bytes were written.
+///
+/// # Errors
+/// `NotFetched` if each address was dialled and no connection gave the metadata, `Write` if a write failed, `Memory` if memory was refused.
+pub fn fetch<D: Device, W: Target>(
+    alloc: Global,
+    wish: &Wish,
+    torrent: bool,
+    addresses: usize,
+    at_once: usize,
+    device: &mut D,
+    writer: &mut W,
+) -> Result<usize, FetchError>
+    requires wish { IsWish wish.now }
+    requires least { 0 < at_once }
+    requires places { D.inside device.old + at_once ≤ D.places device.old }
+    ensures written { IsWritten torrent wish.now.info_hash (W.seen writer.old).held (W.seen writer.new).held result }
+    ensures fault { result ≡ Err FetchError.Write → WriteFailed (W.seen writer.old) (W.seen writer.new) }
+    ensures closed { D.inside device.new ≡ D.inside device.old }
+    ensures log { IsLogged addresses (D.log device.old) (D.log device.new) result }
+{
+    let mut queue = Queue::new(alloc, addresses)?;
+    let mut places = places_for::<D>(alloc, wish, at_once.min(addresses))?;
+    let fetched = fetch_at::<D>(wish, &mut places, &mut queue, device);
+    let written = write_out::<D, W>(alloc, wish, torrent, fetched, &places, writer);
+    leave_all::<D>(&mut places, device);
+    written
 }

@@ -1,16 +1,22 @@
-//! Fetching the metadata of a torrent from peers, one after the other.
+//! Fetching the metadata of a torrent from many peers at the same time.
 //!
-//! [`fetch`] takes connections from a [`Dial`], over TCP from a [`TcpDial`], and writes to a target. The command `fetch` of
+//! [`fetch`] takes connections from a [`Device`], over TCP from a [`TcpSwarm`], and writes to a target. The command `fetch` of
 //! `bt_cli` calls it.
 #![tactic(auto)]
 
-mod dial;
+mod device;
 mod fetching;
+mod file;
+mod line;
+mod place;
+mod queue;
 mod talk;
 mod tcp;
+mod visit;
 mod wish;
 
-pub use dial::{Dial, Outcome, Report};
-pub use fetching::{FetchError, fetch};
-pub use tcp::TcpDial;
+pub use device::{Device, Ending, Happening, Outcome};
+pub use fetching::fetch;
+pub use file::FetchError;
+pub use tcp::{TcpSwarm, Watcher};
 pub use wish::Wish;

@@ -1,19 +1,16 @@
-//! A fetch over one connection.
-ghost use Rattle.std.specs.Prelude.{◌≡◌, ◌+◌, ◌^◌, ◌≤◌, ℕ, [], Result, Some, IfOk, IfSome, OnErr};
+//! What the peer of a connection tells, and what is made of it. The module `visit` calls it.
+ghost use Rattle.std.specs.Prelude.{◌≡◌, ◌+◌, ◌≤◌, ℕ, Some, IfOk, IfSome, OnErr};
 ghost use Rattle.bt_end.specs.Ends.{belief};
 ghost use Rattle.bt_exchange.specs.Courses.{Moment};
-ghost use Rattle.bt_exchange.specs.Stops.{IsExchanged, IsStopped};
-ghost use Rattle.bt_fetch.specs.Outcomes.{IsHeeded, IsNext, IsOutcome, is_untaken as is_untaken_by, outcome_by};
+ghost use Rattle.bt_exchange.specs.Stops.{IsStopped};
+ghost use Rattle.bt_fetch.specs.Outcomes.{IsOutcome, is_untaken as is_untaken_by, outcome_by};
 
-use crate::dial::{Outcome, Report};
+use crate::device::Outcome;
 use crate::wish::Wish;
 use bt_end::{BeginError, End, Event, Window};
-use bt_exchange::{Connection, Hearing, Stop, Watch, exchange};
+use bt_exchange::{Stop, Watch};
 use bt_io::Memory;
 use bt_wire::Handshake;
-
-/// How many steps a connection may have.
-const STEPS: u64 = 1 << 32;
 
 /// How often a fetch may begin anew on one connection, if the peer tells another size than before.
 const RESTARTS: u8 = 2;
@@ -24,36 +21,35 @@ const ONE_AT_A_TIME: &[u8] = b"-lt";
 
 /// What the peer of a connection has told so far.
 #[derive(Clone, Copy)]
-struct Talk {
-    watch: Watch,
+pub struct Talk {
+    pub watch: Watch,
     /// How often the fetch has begun anew.
     restarts: u8,
     /// The peer has announced, and lacks an id for metadata messages, or no size is known.
-    lacks: bool,
+    pub lacks: bool,
     /// Several blocks are asked for at once, and the wish doesn't say so.
-    is_wide: bool,
-}
-
-/// How a connection ended.
-#[derive(Clone, Copy)]
-pub struct Visited {
-    pub outcome: Outcome,
-    /// Several blocks were asked for at once, and the wish didn't say so.
     pub is_wide: bool,
 }
 
-/// Whether metadata goes on over a connection.
-#[derive(Clone, Copy)]
-enum Next {
-    Talks(Talk),
-    Ended(Outcome),
+impl Talk {
+    /// Returns what a peer has told over a new connection: nothing.
+    pub fn new(now: u64, is_wide: bool) -> Talk
+        ensures { result.watch.since ≡ now }
+    {
+        Talk {
+            watch: Watch { since: now },
+            restarts: 0,
+            lacks: false,
+            is_wide,
+        }
+    }
 }
 
 /// Returns how a try ended whose exchange stopped so.
 ///
 /// # Errors
 /// `Memory` if the exchange ran out of memory.
-fn outcome_of(end: &End, stop: Stop, lacks: bool) -> Result<Outcome, Memory>
+pub fn outcome_of(end: &End, stop: Stop, lacks: bool) -> Result<Outcome, Memory>
     ensures outcome { (until : ℕ) (old new : Moment) → new.half ≡ end.now → IsStopped until old new stop → IfOk result (λ outcome. IsOutcome end.now outcome) }
     ensures value { IfOk result (λ outcome. outcome_by stop (belief end.now.end).ext lacks ≡ Some outcome) }
     ensures memory { OnErr result (stop ≡ Stop.Memory) }
@@ -73,7 +69,7 @@ fn outcome_of(end: &End, stop: Stop, lacks: bool) -> Result<Outcome, Memory>
 }
 
 /// Whether the peer tells a size that isn't 1 to `most`.
-fn is_untaken(event: Event, most: u64) -> bool
+pub fn is_untaken(event: Event, most: u64) -> bool
     ensures { result ≡ is_untaken_by event most }
 {
     match event {
@@ -117,7 +113,7 @@ fn restart(end: &mut End, size: Option<u64>) -> Result<bool, Memory>
 }
 
 /// Acts on news, and returns what the peer has told then; `None` if the patience is over.
-fn heed(
+pub fn heed(
     wish: &Wish,
     end: &mut End,
     talk: Talk,
@@ -145,83 +141,4 @@ fn heed(
         return Ok(None);
     }
     Ok(Some(next))
-}
-
-/// Makes steps until there is news, and acts on it.
-fn next_news<L: Connection>(
-    wish: &Wish,
-    link: &mut L,
-    end: &mut End,
-    hearing: &mut Hearing,
-    talk: Talk,
-    left: &mut u64,
-) -> Result<Next, Memory>
-    ensures handshake { end.new.end.handshake ≡ end.old.end.handshake }
-    ensures calls { (L.seen link.new).counts.calls + left.new ≤ (L.seen link.old).counts.calls + left.old }
-    ensures exchanged { (middle : Moment) × (r : Result Event Stop) × IsExchanged (talk.watch.since + wish.now.patience) left.old left.new
-        (record { seen = L.seen link.old; pending = hearing.old; half = end.old }) middle r
-        × IfOk result (IsHeeded wish.now.most (belief end.new.end).ext talk.lacks r) }
-    ensures next { IfOk result (λ next. IsNext end.new (L.seen link.new).counts.clock wish.now.patience next) }
-{
-    let _ = end.outgoing();
-    let event = match exchange(link, end, hearing, talk.watch, wish.patience, left) {
-        Ok(event) => event,
-        Err(stop) => return Ok(Next::Ended(outcome_of(end, stop, talk.lacks)?)),
-    };
-    if is_untaken(event, wish.most) {
-        return Ok(Next::Ended(Outcome::NoMetadata));
-    }
-    match heed(wish, end, talk, event, link.now())? {
-        Some(next) => Ok(Next::Talks(next)),
-        None if talk.lacks => Ok(Next::Ended(Outcome::NoMetadata)),
-        None => Ok(Next::Ended(Outcome::Silent)),
-    }
-}
-
-/// Fetches over a new connection, until the metadata is there or the connection ends.
-///
-/// `is_wide` says that several blocks are asked for at once, and that the wish doesn't say so.
-///
-/// # Errors
-/// `Memory` if memory for what came is refused.
-pub fn talk_over<L: Connection, T: Report>(
-    wish: &Wish,
-    address: usize,
-    is_wide: bool,
-    link: &mut L,
-    report: &mut T,
-    end: &mut End,
-    hearing: &mut Hearing,
-) -> Result<Visited, Memory>
-    requires hearing { hearing.old ≡ [] }
-    ensures handshake { end.new.end.handshake ≡ end.old.end.handshake }
-    ensures outcome { IfOk result (λ visited. IsOutcome end.new visited.outcome) }
-    ensures calls { (L.seen link.new).counts.calls ≤ (L.seen link.old).counts.calls + 2 ^ 32 }
-    ensures told { T.told report.new ≡ T.told report.old }
-{
-    let mut talk = Talk {
-        watch: Watch { since: link.now() },
-        restarts: 0,
-        lacks: false,
-        is_wide,
-    };
-    let mut left = STEPS;
-    for _news in 0..STEPS {
-        match next_news(wish, link, end, hearing, talk, &mut left)? {
-            Next::Talks(next) => talk = next,
-            Next::Ended(outcome) => {
-                return Ok(Visited {
-                    outcome,
-                    is_wide: talk.is_wide,
-                });
-            }
-        }
-        if let Some(progress) = end.progress() {
-            report.came(address, progress);
-        }
-    }
-    Ok(Visited {
-        outcome: Outcome::Silent,
-        is_wide: talk.is_wide,
-    })
 }

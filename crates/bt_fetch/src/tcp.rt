@@ -1,68 +1,125 @@
-//! Connections over TCP to the addresses of a list.
-use crate::dial::Dial;
+//! Connections over TCP to many addresses at the same time.
+ghost use Rattle.std.specs.Prelude.{◌≡◌};
+ghost use Rattle.bt_exchange.specs.Lists.{IsAdded};
+ghost use Rattle.bt_fetch.specs.declared.device.Happening.{Happening};
+
+use crate::device::{Device, Ending};
+use bt_end::Progress;
 use bt_exchange::Stream;
+use mio::net::TcpStream;
 use std::io;
-use std::net::{Net, OpenStream, SocketAddr, TcpStream};
+use std::net::{Net, SocketAddr};
 use std::time::{Clock, Duration};
 
-/// How long an address may take to answer, in seconds.
-const CONNECT: u64 = 5;
+/// How long a fetch waits if no connection can go on, in milliseconds.
+const REST: u64 = 5;
 
-/// How long a read or a write may last, in seconds.
-const CALL: u64 = 1;
+/// Hears what happens at the addresses, each by its number.
+pub trait Watcher {
+    ghost use Rattle.std.specs.Prelude.{List, Option};
+    ghost use Rattle.bt_fetch.specs.declared.device.Happening.{Happening};
 
-/// How long a fetch waits before it dials the same address again, in seconds.
-const PAUSE: u64 = 1;
+    /// What it heard of dials and ends, in order, if it is known.
+    ghost heard: { Self → Option (List Happening) };
 
-/// Opens TCP connections to the addresses of a list.
-#[derive(Drop)]
-pub struct TcpDial<'a, R: Net + Clock> {
-    net: &'a R,
-    addresses: &'a [SocketAddr],
-    dials: u64,
+    /// The address was dialled. `is_begun` says whether a connection to it was begun.
+    fn dialled(&mut self, address: usize, is_begun: bool)
+        ensures { IsAdded (heard self.old) (heard self.new) (Happening.Dialled address) };
+
+    /// The fetch over the connection to the address has come this far, at this time in milliseconds.
+    fn came(&mut self, address: usize, progress: Progress, time: u64)
+        ensures { heard self.new ≡ heard self.old };
+
+    /// The connection to the address ended.
+    fn ended(&mut self, address: usize, ending: Ending)
+        ensures { IsAdded (heard self.old) (heard self.new) (Happening.Ended address ending) };
 }
 
-impl<'a, R: Net + Clock> TcpDial<'a, R> {
-    /// Returns a dial of these addresses, which was asked for no connection yet.
-    pub fn new(net: &'a R, addresses: &'a [SocketAddr]) -> TcpDial<'a, R> {
-        TcpDial {
-            net,
+/// Opens TCP connections to the addresses of a list, whose calls don't wait.
+#[derive(Drop)]
+pub struct TcpSwarm<'a, R: Net + Clock, T: Watcher + Drop> {
+    runtime: &'a R,
+    addresses: &'a [SocketAddr],
+    watcher: T,
+    inside: usize,
+    places: usize,
+    time: u64,
+}
+
+impl<'a, R: Net + Clock, T: Watcher + Drop> TcpSwarm<'a, R, T> {
+    /// Returns a device with `places` places for connections to these addresses.
+    pub fn new(
+        runtime: &'a R,
+        addresses: &'a [SocketAddr],
+        watcher: T,
+        places: usize,
+    ) -> TcpSwarm<'a, R, T>
+        ensures inside { ⟦<TcpSwarm<'a, R, T> as Device>⟧.inside result ≡ 0 }
+        ensures places { ⟦<TcpSwarm<'a, R, T> as Device>⟧.places result ≡ places }
+        ensures log { ⟦<TcpSwarm<'a, R, T> as Device>⟧.log result ≡ T.heard watcher }
+    {
+        TcpSwarm {
+            runtime,
             addresses,
-            dials: 0,
+            watcher,
+            inside: 0,
+            places,
+            time: 0,
         }
+    }
+
+    /// Returns who heard what happened.
+    pub fn watcher(self) -> T
+        ensures { T.heard result ≡ ⟦<TcpSwarm<'a, R, T> as Device>⟧.log self.entry }
+    {
+        self.watcher
     }
 }
 
-/// Opens a connection whose reads and writes last a second at most.
-fn open<R: Net>(net: &R, address: &SocketAddr) -> io::Result<R::Stream> {
-    let stream = TcpStream::connect_timeout(net, address, Duration::from_secs(CONNECT))?;
+/// Begins a connection whose calls don't wait, also while it isn't there yet.
+fn begin<R: Net>(net: &R, address: SocketAddr) -> io::Result<TcpStream> {
+    let stream = TcpStream::connect(net, address)?;
     stream.set_nodelay(true)?;
-    stream.set_read_timeout(Some(Duration::from_secs(CALL)))?;
-    stream.set_write_timeout(Some(Duration::from_secs(CALL)))?;
     Ok(stream)
 }
 
-impl<'a, R: Net + Clock> Dial for TcpDial<'a, R> {
-    type Link = Stream<R::Stream, &'a R>;
+impl<'a, R: Net + Clock, T: Watcher + Drop> Device for TcpSwarm<'a, R, T> {
+    type Link = Stream<TcpStream, &'a R>;
 
-    ghost use Rattle.std.specs.Prelude.{None};
+    ghost log = { λ d. T.heard d.watcher };
 
-    ghost dials = { λ d. d.dials };
+    ghost inside = { λ d. d.inside };
 
-    ghost dialled = { λ d. None };
+    ghost places = { λ d. d.places };
 
-    fn dial(&mut self, address: usize) -> Option<Stream<R::Stream, &'a R>> {
-        self.dials = self.dials.saturating_add(1);
-        let address = self.addresses.get(address)?;
-        match open(self.net, address) {
-            Ok(stream) => Some(Stream::new(stream, self.net)),
-            Err(_) => None,
-        }
+    fn dial(&mut self, address: usize) -> Option<Stream<TcpStream, &'a R>> {
+        let begun = match self.addresses.get(address) {
+            Some(at) => begin(self.runtime, *at).ok(),
+            None => None,
+        };
+        self.watcher.dialled(address, begun.is_some());
+        let stream = begun?;
+        self.inside += 1;
+        Some(Stream::new(stream, self.runtime))
     }
 
-    fn close(&mut self, _link: Stream<R::Stream, &'a R>) {}
+    fn ended(&mut self, address: usize, _link: Stream<TcpStream, &'a R>, ending: Ending) {
+        self.inside -= 1;
+        self.watcher.ended(address, ending);
+    }
 
-    fn pause(&mut self) {
-        self.net.sleep(Duration::from_secs(PAUSE));
+    fn came(&mut self, address: usize, progress: Progress) {
+        self.watcher.came(address, progress, self.time);
+    }
+
+    fn time(&mut self) -> u64 {
+        if let Ok(time) = self.runtime.monotonic() {
+            self.time = u64::try_from(time.as_millis()).unwrap_or(u64::MAX);
+        }
+        self.time
+    }
+
+    fn rest(&mut self) {
+        self.runtime.sleep(Duration::from_millis(REST));
     }
 }

@@ -21,4 +21,6 @@ returns-clause-asked c =
       peers = c.in_ok-peers.ensures;
       list = c.in_ok-list.ensures;
       torrent = c.is_given.ensures;
+      at_once = c.in_ok-at_once.ensures;
+      json = c.is_given-json.ensures;
     }

@@ -1,0 +1,387 @@
+//! Fetching from many peers over connections in memory, of which calls fail, and where memory is refused.
+ghost use Rattle.std.specs.Prelude.{◌≡◌, ◌<◌, IfSome};
+ghost use Rattle.bt_io.specs.Counts.{one_more, counted as raised};
+
+use bt_end::{Announce, Config, End, Progress, Role, Window};
+use bt_exchange::Connection;
+use bt_ext::{ExtId, Registered, Rules};
+use bt_fetch::{Device, Ending, FetchError, Outcome, Wish, fetch};
+use bt_io::{Failed, MemTarget};
+use bt_wire::{Own, Reserved};
+use std::alloc::Global;
+
+/// The SHA-1 of `abc` (FIPS 180-4).
+const ABC: [u8; 20] = [
+    0xa9, 0x99, 0x3e, 0x36, 0x47, 0x06, 0x81, 0x6a, 0xba, 0x3e, 0x25, 0x71, 0x78, 0x50, 0xc2, 0x6c,
+    0x9c, 0xd0, 0xd8, 0x9d,
+];
+
+/// What is at an address.
+#[derive(Clone, Copy)]
+enum Peer {
+    /// No connection is opened.
+    Refuses,
+    /// The connection is closed at once.
+    Closes,
+    /// It takes what is sent, and says nothing.
+    Silent,
+    /// An end that serves these bytes for the info hash of `abc`, and moves at most 7 bytes a call.
+    Serves(&'static [u8]),
+}
+
+/// A connection to a peer.
+#[derive(Drop)]
+struct Link {
+    end: Option<End>,
+    closes: bool,
+    fails_at: Option<u64>,
+    calls: u64,
+    ends: u64,
+    failed: u64,
+    time: u64,
+}
+
+impl Link {
+    /// Counts a call, and returns whether it fails.
+    fn fails(&mut self) -> bool
+        ensures calls { self.new.calls ≡ one_more self.old.calls }
+        ensures failed { self.new.failed ≡ raised result self.old.failed }
+        ensures ends { self.new.ends ≡ self.old.ends }
+        ensures time { self.new.time ≡ self.old.time }
+    {
+        self.calls = self.calls.saturating_add(1);
+        if self.fails_at == Some(self.calls) {
+            self.failed = self.failed.saturating_add(1);
+            return true;
+        }
+        false
+    }
+}
+
+impl Connection for Link {
+    ghost use Rattle.std.specs.Prelude.{None, false};
+
+    ghost seen = { λ s. record {
+      coming = None;
+      gone = None;
+      counts = record { calls = s.calls; ends = s.ends; failed = s.failed; clock = s.time };
+    } };
+
+    ghost prompt = { false };
+
+    fn read(&mut self, into: &mut [u8]) -> Result<Option<usize>, Failed> {
+        if self.fails() {
+            return Err(Failed);
+        }
+        if self.closes {
+            if !into.is_empty() {
+                self.ends = self.ends.saturating_add(1);
+            }
+            return Ok(Some(0));
+        }
+        let Some(end) = &mut self.end else {
+            return Ok(None);
+        };
+        let out = end.outgoing();
+        let count = out.len().min(into.len()).min(7);
+        if count == 0 {
+            return Ok(None);
+        }
+        into[..count].copy_from_slice(&out[..count]);
+        end.sent(count);
+        Ok(Some(count))
+    }
+
+    fn write(&mut self, from: &[u8]) -> Result<Option<usize>, Failed> {
+        if self.fails() {
+            return Err(Failed);
+        }
+        let count = from.len().min(7);
+        if count == 0 {
+            return Ok(None);
+        }
+        let Some(end) = &mut self.end else {
+            return Ok(Some(count));
+        };
+        let (used, _) = end.handle(&from[..count]);
+        if used == 0 {
+            return Ok(None);
+        }
+        Ok(Some(used))
+    }
+
+    fn now(&mut self) -> u64 {
+        self.time = self.calls / 16;
+        self.time
+    }
+}
+
+/// Returns an end that serves the bytes.
+fn serving(alloc: Global, bytes: &[u8]) -> Option<End> {
+    let metadata = bytes.to_vec(alloc).ok()?;
+    let config = Config {
+        own: Own {
+            reserved: Reserved(0x10_0004),
+            info_hash: Some(ABC),
+            pieces: None,
+            reg: Registered::metadata_only(ExtId::new(9)),
+            rules: Rules::Bep,
+            limit: 32_768,
+        },
+        peer_id: [45; 20],
+        announce: Announce::Nothing,
+        window: Window::default(),
+        role: Role::Serve(metadata),
+    };
+    End::new(alloc, config).ok()
+}
+
+/// The peers of a list of addresses, and what was told of them.
+#[derive(Drop)]
+struct Peers {
+    alloc: Global,
+    peers: &'static [Peer],
+    /// The call, counted from 1, at which the first connection to each address fails.
+    fails_at: Option<u64>,
+    dialled: [u8; 8],
+    ended: [Option<Ending>; 8],
+    inside: usize,
+    most: usize,
+    places: usize,
+    time: u64,
+}
+
+impl Peers {
+    fn new(alloc: Global, peers: &'static [Peer], fails_at: Option<u64>, places: usize) -> Peers
+        ensures inside { ⟦<Peers as Device>⟧.inside result ≡ 0 }
+        ensures places { ⟦<Peers as Device>⟧.places result ≡ places }
+    {
+        Peers {
+            alloc,
+            peers,
+            fails_at,
+            dialled: [0; 8],
+            ended: [None; 8],
+            inside: 0,
+            most: 0,
+            places,
+            time: 0,
+        }
+    }
+
+    /// Counts a dial, and returns how many there were before.
+    fn count(&mut self, address: usize) -> u8
+        ensures inside { self.new.inside ≡ self.old.inside }
+        ensures places { self.new.places ≡ self.old.places }
+    {
+        if address >= 8 {
+            return 0;
+        }
+        let before = self.dialled[address];
+        self.dialled[address] = before.saturating_add(1);
+        before
+    }
+
+    /// Returns the connection to the peer, if it takes one.
+    fn link(&self, peer: Peer, is_first: bool) -> Option<Link>
+        ensures { IfSome result (λ l. l.calls ≡ 0) }
+    {
+        let (end, closes) = match peer {
+            Peer::Refuses => return None,
+            Peer::Closes => (None, true),
+            Peer::Silent => (None, false),
+            Peer::Serves(bytes) => (Some(serving(self.alloc, bytes)?), false),
+        };
+        Some(Link {
+            end,
+            closes,
+            fails_at: if is_first { self.fails_at } else { None },
+            calls: 0,
+            ends: 0,
+            failed: 0,
+            time: 0,
+        })
+    }
+}
+
+impl Device for Peers {
+    type Link = Link;
+
+    ghost use Rattle.std.specs.Prelude.{None};
+
+    ghost log = { λ d. None };
+
+    ghost inside = { λ d. d.inside };
+
+    ghost places = { λ d. d.places };
+
+    fn dial(&mut self, address: usize) -> Option<Link> {
+        let before = self.count(address);
+        let peer = *self.peers.get(address)?;
+        let link = self.link(peer, before == 0)?;
+        self.inside += 1;
+        self.most = self.most.max(self.inside);
+        Some(link)
+    }
+
+    fn ended(&mut self, address: usize, _link: Link, ending: Ending) {
+        self.inside -= 1;
+        if address < 8 {
+            self.ended[address] = Some(ending);
+        }
+    }
+
+    fn came(&mut self, _address: usize, _progress: Progress) {}
+
+    fn time(&mut self) -> u64 {
+        self.time = self.time.saturating_add(100);
+        self.time
+    }
+
+    fn rest(&mut self) {}
+}
+
+/// A fetch over peers in memory: its answer, what was written, and the peers.
+#[derive(Drop)]
+struct Came {
+    answer: Result<usize, FetchError>,
+    is_abc: bool,
+    is_empty: bool,
+    peers: Peers,
+}
+
+fn fetched(alloc: Global, peers: &'static [Peer], fails_at: Option<u64>, at_once: usize) -> Came
+    requires { 0 < at_once }
+{
+    let wish = Wish {
+        info_hash: ABC,
+        peer_id: [48; 20],
+        rules: Rules::Bep,
+        limit: 32_768,
+        patience: 60,
+        window: None,
+        most: 1000,
+    };
+    let mut peers_of = Peers::new(alloc, peers, fails_at, at_once);
+    let mut target = MemTarget::new(Vec::new(alloc), 2, None);
+    let answer = fetch(
+        alloc,
+        &wish,
+        false,
+        peers.len(),
+        at_once,
+        &mut peers_of,
+        &mut target,
+    );
+    Came {
+        answer,
+        is_abc: target.bytes() == b"abc".as_slice(),
+        is_empty: target.bytes().is_empty(),
+        peers: peers_of,
+    }
+}
+
+/// Strangers, of whom the last one alone has the metadata.
+const STRANGERS: [Peer; 7] = [
+    Peer::Silent,
+    Peer::Refuses,
+    Peer::Closes,
+    Peer::Serves(b"abcd"),
+    Peer::Serves(b"abd"),
+    Peer::Silent,
+    Peer::Serves(b"abc"),
+];
+
+fn is_fetched(came: &Came, at: usize) -> bool {
+    came.answer == Ok(3)
+        && came.is_abc
+        && came.peers.inside == 0
+        && came.peers.ended.get(at) == Some(&Some(Ending::By(Outcome::Fetched)))
+}
+
+/// The one that has the metadata is found, however many are asked at the same time.
+#[test]
+fn the_honest_one_is_found(rt: HostRuntime) {
+    for at_once in [1usize, 2, 3, 6, 7, 256] {
+        if at_once > 0 {
+            let came = fetched(rt.alloc(), &STRANGERS, None, at_once);
+            assert!(rt;
+                is_fetched(&came, 6),
+                "{at_once}: {:?} {:?}",
+                came.answer,
+                came.peers.ended
+            );
+            assert!(rt; came.peers.most <= at_once.min(7));
+            assert!(rt; came.peers.dialled[6] == 1 && came.peers.dialled[7] == 0);
+        }
+    }
+}
+
+/// How connections end over which nothing can be fetched.
+const ENDINGS: [Option<Ending>; 8] = [
+    Some(Ending::By(Outcome::Silent)),
+    None,
+    Some(Ending::By(Outcome::Closed)),
+    Some(Ending::By(Outcome::Mismatch)),
+    Some(Ending::By(Outcome::Mismatch)),
+    Some(Ending::By(Outcome::Silent)),
+    None,
+    None,
+];
+
+/// Where no peer has the metadata each is asked twice.
+#[test]
+fn each_comes_again(rt: HostRuntime) {
+    for at_once in [1usize, 3, 6] {
+        if at_once > 0 {
+            let came = fetched(rt.alloc(), &STRANGERS[..6], None, at_once);
+            assert!(rt; came.answer == Err(FetchError::NotFetched));
+            assert!(rt; came.is_empty && came.peers.inside == 0);
+            assert!(rt; came.peers.dialled == [2, 2, 2, 2, 2, 2, 0, 0]);
+            assert!(rt;
+                came.peers.ended == ENDINGS,
+                "{at_once}: {:?}",
+                came.peers.ended
+            );
+        }
+    }
+}
+
+/// A peer that has the metadata, beside one that says nothing.
+const TWO: [Peer; 2] = [Peer::Serves(b"abc"), Peer::Silent];
+
+/// The first call that isn't made; or the call whose failure goes wrong.
+fn first_unmade(alloc: Global) -> Result<u64, u64> {
+    for call in 1..10_000 {
+        let came = fetched(alloc, &TWO, Some(call), 2);
+        if !is_fetched(&came, 0) {
+            return Err(call);
+        }
+        if came.peers.dialled[0] == 1 {
+            return Ok(call);
+        }
+    }
+    Err(10_000)
+}
+
+/// Where a call of a connection fails the peer is asked again, and the metadata comes.
+#[test]
+fn each_call_fails(rt: HostRuntime) {
+    let first = first_unmade(rt.alloc());
+    assert!(rt; matches!(first, Ok(call) if call > 20), "{first:?}");
+}
+
+fn is_right(came: &Came) -> bool {
+    came.peers.inside == 0
+        && match came.answer {
+            Ok(count) => count == 3 && came.is_abc,
+            Err(FetchError::Write) => !came.is_abc,
+            Err(_) => came.is_empty,
+        }
+}
+
+/// Where memory is refused nothing is written, or all of the metadata. `tests/growth.py` refuses it.
+#[test]
+fn memory_is_refused_or_all_is_fetched(rt: HostRuntime) {
+    assert!(rt; is_right(&fetched(rt.alloc(), &STRANGERS, None, 3)));
+}
