@@ -54,6 +54,8 @@ impl<'a> Dict<'a> for DictRef<'a> {
         DictRef::has(&self, key)
     }
 
+    // Inline, so that a literal key is compared by its length first.
+    #[inline(always)]
     fn int(self, key: &[u8]) -> Option<i64> {
         self.lookup_int(key)
     }

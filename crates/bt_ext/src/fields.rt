@@ -25,6 +25,7 @@ fn natural(value: Option<i64>) -> Option<u64>
 }
 
 /// Returns the size of the metadata that a dictionary announces.
+#[inline(always)]
 fn size_in<'a, D: Dict<'a>>(dict: D) -> Option<u64>
     ensures { result ≡ size_of (D.tree dict) }
 {

@@ -42,6 +42,7 @@ fn kind_by(msg_type: Option<i64>, piece: Option<i64>, total: Option<i64>) -> Kin
 }
 
 /// Returns the kind of the metadata message that has this dictionary.
+#[inline(always)]
 pub fn kind_in<'a, D: Dict<'a>>(dict: D) -> Kind
     ensures { result ≡ kind_of (D.tree dict) }
 {
