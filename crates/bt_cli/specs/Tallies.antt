@@ -41,8 +41,8 @@ abbrev pub ending_word : Ending → List ℕ
 ending_word Left = codes "left"
 ending_word (By o) = outcome_word o
 
--- the numbers of the summary
+-- the numbers of the summary, after the name of the seconds
 abbrev pub tally_fields : ℕ → Tally → List ℕ
 tally_fields seconds t =
-    codes ",\"seconds\":" ++ (decimal seconds ++ (codes ",\"tried\":" ++ (decimal t.tried ++ (codes ",\"silent\":" ++ (decimal t.silent
-    ++ (codes ",\"unreachable\":" ++ (decimal t.unreachable ++ (codes ",\"refused\":" ++ (decimal t.refused ++ codes "}\n")))))))))
+    decimal seconds ++ (codes ",\"tried\":" ++ (decimal t.tried ++ (codes ",\"silent\":" ++ (decimal t.silent
+    ++ (codes ",\"unreachable\":" ++ (decimal t.unreachable ++ (codes ",\"refused\":" ++ (decimal t.refused ++ codes "}\n"))))))))

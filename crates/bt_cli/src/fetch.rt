@@ -192,10 +192,10 @@ fn list_in(alloc: Global, options: &ArgMatches<'_>) -> Result<Option<String>, Al
 }
 
 /// Returns how many connections a fetch has at the same time at most.
-fn at_once_in(text: Option<&str>) -> Result<usize, Mistake>
-    ensures { IfOk result (λ n. at_once_in_by_rule (option_map (λ s. s.now) text.entry) ≡ Some n) }
+fn at_once_in(options: &ArgMatches<'_>) -> Result<usize, Mistake>
+    ensures { IfOk result (λ n. at_once_in_by_rule (first_value (found_of options.now) (codes "at-once")) ≡ Some n) }
 {
-    match number_or(text, 1, 256, DEFAULT_AT_ONCE) {
+    match number_or(options.get_str("at-once"), 1, 256, DEFAULT_AT_ONCE) {
         Some(count) => Ok(count as usize),
         None => Err(Mistake::Text("'--at-once' takes a number from 1 to 256")),
     }
@@ -217,7 +217,7 @@ pub fn fetch_asked(alloc: Global, options: &ArgMatches<'_>) -> Result<FetchJob, 
         Ok(wish) => wish,
         Err(what) => return Err(Mistake::Text(what)),
     };
-    let at_once = at_once_in(options.get_str("at-once"))?;
+    let at_once = at_once_in(options)?;
     let list = list_in(alloc, options)?;
     let peers = addresses_in(alloc, options)?;
     if peers.is_empty() && magnet.peers.is_empty() && list.is_none() {

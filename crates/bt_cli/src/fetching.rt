@@ -9,7 +9,7 @@ ghost use Rattle.bt_run.specs.Runs.{IsSaid};
 use crate::fetch::FetchJob;
 use crate::report::{Form, Lines, NO_TRY, Tally, counted, say_end};
 use bt_feed::Target;
-use bt_fetch::{Ending, FetchError, Outcome, TcpSwarm, Wish, fetch};
+use bt_fetch::{Ending, FetchError, Outcome, TcpSwarm, fetch};
 use bt_magnet::Passed;
 use bt_run::ending::end_by_fault;
 use bt_run::run::say;
@@ -140,29 +140,6 @@ fn seconds_of<R: Clock>(clock: &R) -> u64 {
     }
 }
 
-/// Fetches over TCP from up to `at_once` of the targets at the same time, and says how each connection ended, and a summary.
-fn fetch_from<R: Net + Clock, W: Target, E: Target>(
-    rt: &R,
-    alloc: Global,
-    wish: &Wish,
-    job: &FetchJob,
-    targets: &Targets,
-    lines: Lines<E>,
-    writer: &mut W,
-) -> Result<usize, FetchError>
-    requires { IsWish wish.now }
-    ensures written { IsWritten job.now.torrent wish.now.info_hash (W.seen writer.old).held (W.seen writer.new).held result }
-    ensures fault { result ≡ Err FetchError.Write → WriteFailed (W.seen writer.old) (W.seen writer.new) }
-{
-    let at_once = job.at_once.max(1);
-    let count = targets.addresses.len();
-    let mut swarm = TcpSwarm::new(rt, targets.addresses.as_slice(), lines, at_once);
-    let fetched = fetch(alloc, wish, job.torrent, count, at_once, &mut swarm, writer);
-    let mut lines = swarm.watcher();
-    lines.say_summary(seconds_of(rt));
-    fetched
-}
-
 /// Fetches what is asked for over TCP, from the peers of the words and the link, and from those of `listed`.
 ///
 /// It says on `errors` how each connection ended, how far it came if `errors` is a terminal, and at the end a summary.
@@ -191,7 +168,21 @@ pub fn run_fetch<R: Net + Clock + RandomSource, W: Target, E: Target>(
         return Err(FetchError::Memory);
     };
     let lines = Lines::new(alloc, targets.names.as_slice(), errors, form, tally, begun);
-    fetch_from(rt, alloc, &wish, job, &targets, lines, writer)
+    let at_once = job.at_once.max(1);
+    let count = targets.addresses.len();
+    let mut swarm = TcpSwarm::new(rt, targets.addresses.as_slice(), lines, at_once);
+    let fetched = fetch(
+        alloc,
+        &wish,
+        job.torrent,
+        count,
+        at_once,
+        &mut swarm,
+        writer,
+    );
+    let mut lines = swarm.watcher();
+    lines.say_summary(seconds_of(rt));
+    fetched
 }
 
 /// Says what kept a fetch from its work, and returns the exit status.

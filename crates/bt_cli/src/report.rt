@@ -97,14 +97,14 @@ pub fn summary_object(
     seconds: u64,
     tally: Tally,
 ) -> Result<String, AllocError>
-    ensures none { source.now ≡ [] → IfOk result (λ text. string_bytes text ≡ codes "{\"fetched\":null" ++ tally_fields seconds tally) }
-    ensures fetched { source.now ≢ [] → IfOk result (λ text. string_bytes text ≡ codes "{\"fetched\":\"" ++ (source.now ++ (codes "\"" ++ tally_fields seconds tally))) }
+    ensures none { source.now ≡ [] → IfOk result (λ text. string_bytes text ≡ codes "{\"fetched\":null,\"seconds\":" ++ tally_fields seconds tally) }
+    ensures fetched { source.now ≢ [] → IfOk result (λ text. string_bytes text ≡ codes "{\"fetched\":\"" ++ (source.now ++ (codes "\",\"seconds\":" ++ tally_fields seconds tally))) }
 {
     let end = tally_object(alloc, seconds, tally)?;
     if source.is_empty() {
-        return format!(in alloc; "{{\"fetched\":null{end}");
+        return format!(in alloc; "{{\"fetched\":null,\"seconds\":{end}");
     }
-    format!(in alloc; "{{\"fetched\":\"{source}\"{end}")
+    format!(in alloc; "{{\"fetched\":\"{source}\",\"seconds\":{end}")
 }
 
 /// Returns the end of the summary's object.
@@ -118,7 +118,7 @@ fn tally_object(alloc: Global, seconds: u64, tally: Tally) -> Result<String, All
         refused,
     } = tally;
     format!(in alloc;
-        ",\"seconds\":{seconds},\"tried\":{tried},\"silent\":{silent},\"unreachable\":{unreachable},\"refused\":{refused}}}\n"
+        "{seconds},\"tried\":{tried},\"silent\":{silent},\"unreachable\":{unreachable},\"refused\":{refused}}}\n"
     )
 }
 

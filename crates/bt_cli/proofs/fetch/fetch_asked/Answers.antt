@@ -22,5 +22,5 @@ returns-clause-asked c =
       list = c.in_ok-list.ensures;
       torrent = c.is_given.ensures;
       at_once = c.in_ok-at_once.ensures;
-      json = c.is_given-json.ensures;
+      json = c.is_given-2.ensures;
     }
