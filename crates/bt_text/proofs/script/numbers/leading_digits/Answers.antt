@@ -1,6 +1,6 @@
 use Rattle.std.proofs.Common.{◌∙◌, get_or, sym, arith, below_more}
 use Rattle.bt_text.proofs.ScriptWords.{value_short, is_digit, number_step}
-use Rattle.bt_text.proofs.script.reading.leading_digits.Goals as goal
+use Rattle.bt_text.proofs.script.numbers.leading_digits.Goals as goal
 
 pub overflow_mul-n : goal.overflow_mul-n
 overflow_mul-n c =

@@ -1,5 +1,5 @@
 use Rattle.bt_text.proofs.ScriptWords.{take-word, drop-word, word_end}
-use Rattle.bt_text.proofs.script.reading.split_word.Goals as goal
+use Rattle.bt_text.proofs.script.numbers.split_word.Goals as goal
 
 pub returns-clause-word : goal.returns-clause-word
 returns-clause-word c = rw c.split_at.ensures.front (rw c.unwrap_or-end.ensures

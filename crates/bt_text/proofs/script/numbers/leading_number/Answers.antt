@@ -1,8 +1,8 @@
 use Rattle.std.proofs.Common.{◌≡◌, ◌∙◌, ◌<◌, ℕ, length, take, drop, get_or, true, false, Ok, Err, sym, ap, arith, inl, inr}
 use Rattle.bt_text.specs.ScriptReading.{ends}
 use Rattle.bt_text.proofs.ScriptWords.{none_led, none_zero, none_goes_on, led_number}
-use Rattle.bt_text.proofs.script.reading.leading_number.Goals as goal
-use Rattle.bt_text.proofs.script.reading.leading_number.Goals.{then-count-eq0-via-then-count-eq0, then-count-eq0-via-else-count-eq0+then-count-gt10}
+use Rattle.bt_text.proofs.script.numbers.leading_number.Goals as goal
+use Rattle.bt_text.proofs.script.numbers.leading_number.Goals.{then-count-eq0-via-then-count-eq0, then-count-eq0-via-else-count-eq0+then-count-gt10}
 
 pub returns-then-count-eq0-clause-value : goal.returns-then-count-eq0-clause-value
 returns-then-count-eq0-clause-value c =

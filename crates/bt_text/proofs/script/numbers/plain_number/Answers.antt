@@ -1,9 +1,9 @@
 use Rattle.std.proofs.Common.{◌≡◌, ◌<◌, true, false, length, get_or, sym, ◌∙◌, arith, below_more}
 use Rattle.bt_text.proofs.ScriptWords.{number_in_word-None, IsDecimal-nonempty, IsDecimal-short, IsDecimal-zero, number_step, value_short, IsDecimal-other}
 use Rattle.bt_text.proofs.ScriptWords.{is_digit, read_number}
-use Rattle.bt_text.proofs.script.reading.plain_number.Goals as goal
-use Rattle.bt_text.proofs.script.reading.plain_number.Goals.{then-is_empty-via-then-is_empty, then-is_empty-via-else-is_empty+then-word-gt10}
-use Rattle.bt_text.proofs.script.reading.plain_number.Goals.{then-is_empty-via-else-is_empty+else-word-gt10+then-has_leading_zero}
+use Rattle.bt_text.proofs.script.numbers.plain_number.Goals as goal
+use Rattle.bt_text.proofs.script.numbers.plain_number.Goals.{then-is_empty-via-then-is_empty, then-is_empty-via-else-is_empty+then-word-gt10}
+use Rattle.bt_text.proofs.script.numbers.plain_number.Goals.{then-is_empty-via-else-is_empty+else-word-gt10+then-has_leading_zero}
 
 pub returns-then-is_empty : goal.returns-then-is_empty
 returns-then-is_empty c =
