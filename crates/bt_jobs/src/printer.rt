@@ -7,7 +7,7 @@ ghost use Rattle.bt_wire.specs.declared.context.Own.{Own as Receiver};
 ghost use Rattle.bt_wire.specs.declared.item.Item.TheVariants as items;
 ghost use Rattle.bt_wire.specs.Messages.{message_of};
 ghost use Rattle.bt_text.specs.Script.{script_line};
-ghost use Rattle.bt_text.specs.Lines.{line as line_of, verdict_line as verdict_words};
+ghost use Rattle.bt_text.specs.Lines.{item_line, verdict_line as verdict_words};
 ghost use Rattle.bt_json.specs.Objects.{line as object_of, verdict_line as verdict_object};
 ghost use Rattle.bt_jobs.specs.Printed.{IsFlushed, Prints, form_of, text_in, text_of};
 ghost use Rattle.bt_jobs.specs.declared.printer.Form.TheVariants as shape;
@@ -15,7 +15,7 @@ ghost use Rattle.bt_jobs.specs.declared.printer.Form.TheVariants as shape;
 use crate::output::write_out;
 use bt_feed::{Sink, SinkFault, Target, View};
 use bt_text::ended::{Ended, ToolFault};
-use bt_text::lines::{Line, handshake_line, put_message, verdict_line};
+use bt_text::lines::{put_handshake, put_message, verdict_line};
 use bt_text::putting::{Offset, put};
 use bt_text::script::writing::{HANDSHAKE_ROOM, put_handshake_line, put_message_line, room_for};
 use bt_wire::{Handshake, MessageView, Own};
@@ -48,7 +48,6 @@ pub struct Printer {
     /// The length of the text.
     used: usize,
     offset: Offset,
-    line: Line,
     calls: u64,
     failed: u64,
 }
@@ -80,23 +79,13 @@ fn grow(text: &mut Vec<u8>, used: usize, room: usize) -> Result<usize, AllocErro
 
 /// Puts the line of an item at a place that has room for it; returns the place after it.
 #[inline(always)]
-fn put_item(
-    at: u64,
-    view: &View,
-    offset: &mut Offset,
-    line: &mut Line,
-    text: &mut [u8],
-    place: usize,
-) -> usize
+fn put_item(at: u64, view: &View, offset: &mut Offset, text: &mut [u8], place: usize) -> usize
     requires { place + 160 ≤ length text.old }
     ensures size { length text.new ≡ length text.old }
-    ensures text { (own : Receiver) → take result text.new ≡ take place text.old ++ line_of own (at, item_of view.now) }
+    ensures text { take result text.new ≡ take place text.old ++ item_line (at, item_of view.now) }
 {
     match view {
-        View::Handshake(handshake) => {
-            let from = handshake_line(at, handshake, line);
-            put(&line[from..], text, place)
-        }
+        View::Handshake(handshake) => put_handshake(at, handshake, text, place),
         View::Message(message) => put_message(offset, at, message, text, place),
     }
 }
@@ -107,30 +96,25 @@ fn push_item(
     at: u64,
     view: &View,
     offset: &mut Offset,
-    line: &mut Line,
     text: &mut Vec<u8>,
     used: usize,
 ) -> Result<usize, AllocError>
-    ensures { IfOk result (λ n. (own : Receiver) → take n text.new.items ≡ take used text.old.items ++ line_of own (at, item_of view.now)) }
+    ensures { IfOk result (λ n. take n text.new.items ≡ take used text.old.items ++ item_line (at, item_of view.now)) }
 {
     match make_room(text, used, LINE_ROOM) {
-        Ok(place) => Ok(put_item(at, view, offset, line, text.as_mut_slice(), place)),
+        Ok(place) => Ok(put_item(at, view, offset, text.as_mut_slice(), place)),
         Err(error) => Err(error),
     }
 }
 
 /// Adds the verdict's line to what is used of the text; returns how much is used then.
-fn push_verdict(
-    ended: Ended,
-    line: &mut Line,
-    text: &mut Vec<u8>,
-    used: usize,
-) -> Result<usize, AllocError>
+fn push_verdict(ended: Ended, text: &mut Vec<u8>, used: usize) -> Result<usize, AllocError>
     ensures { IfOk result (λ n. take n text.new.items ≡ take used text.old.items ++ verdict_words ended) }
 {
     match make_room(text, used, LINE_ROOM) {
         Ok(place) => {
-            let from = verdict_line(ended, line);
+            let mut line = [0; LINE_ROOM];
+            let from = verdict_line(ended, &mut line);
             Ok(put(&line[from..], text.as_mut_slice(), place))
         }
         Err(error) => Err(error),
@@ -167,12 +151,11 @@ fn add_object(
 
 /// Adds the script's line of a handshake to what is used of the text; returns how much is used then.
 fn add_handshake(
-    _own: &Own,
     handshake: &Handshake,
     text: &mut Vec<u8>,
     used: usize,
 ) -> Result<usize, AllocError>
-    ensures { IfOk result (λ n. take n text.new.items ≡ take used text.old.items ++ script_line _own.now (items.Handshake handshake.now)) }
+    ensures { IfOk result (λ n. (own : Receiver) → take n text.new.items ≡ take used text.old.items ++ script_line own (items.Handshake handshake.now)) }
 {
     match make_room(text, used, HANDSHAKE_ROOM) {
         Ok(place) => Ok(put_handshake_line(handshake, text.as_mut_slice(), place)),
@@ -274,7 +257,7 @@ fn add_script(own: &Own, view: &View, text: &mut Vec<u8>, used: usize) -> Result
     ensures { IfOk result (λ n. take n text.new.items ≡ take used text.old.items ++ script_line own.now (item_of view.now)) }
 {
     match view {
-        View::Handshake(handshake) => add_handshake(own, handshake, text, used),
+        View::Handshake(handshake) => add_handshake(handshake, text, used),
         View::Message(message) => add_message(own, message, text, used),
     }
 }
@@ -312,7 +295,6 @@ impl Printer {
             text: Vec::new(alloc),
             used: 0,
             offset: Offset::new(),
-            line: [0; 160],
             calls: 0,
             failed: 0,
         }
@@ -325,7 +307,7 @@ impl Printer {
     pub fn verdict(&mut self, ended: Ended) -> Result<(), AllocError>
         ensures { OnOk result (text_in self.new ≡ text_in self.old ++ verdict_words ended) }
     {
-        self.used = push_verdict(ended, &mut self.line, &mut self.text, self.used)?;
+        self.used = push_verdict(ended, &mut self.text, self.used)?;
         Ok(())
     }
 
@@ -381,14 +363,7 @@ impl Sink for Printer {
     fn item(&mut self, at: u64, view: &View<'_>) -> Result<(), SinkFault> {
         self.calls = self.calls.saturating_add(1);
         let added = match self.form {
-            Form::Show => push_item(
-                at,
-                view,
-                &mut self.offset,
-                &mut self.line,
-                &mut self.text,
-                self.used,
-            ),
+            Form::Show => push_item(at, view, &mut self.offset, &mut self.text, self.used),
             form => add_other(form, self.alloc, at, view, &mut self.text, self.used),
         };
         match added {

@@ -10,8 +10,8 @@ ghost use Rattle.bt_json.specs.Objects.{a_number, announced_fields, ext_fields, 
 
 use crate::fields::{hex_text, number, number_if, text, text_if};
 use bt_bencode::DictRef;
-use bt_ext::{ExtView, Kind, kind_ref, metadata_size_ref};
-use bt_text::lines::told_metadata;
+use bt_ext::{ExtView, Kind, kind_ref};
+use bt_text::words::Dictionary;
 use bt_wire::{Handshake, MessageView};
 use json::Writer;
 use std::alloc::{AllocError, Global};
@@ -74,12 +74,13 @@ fn kind_and_sizes(
 }
 
 /// Adds what an extended handshake announces.
-fn announced(dict: &DictRef, out: &mut Writer) -> Result<(), AllocError>
+fn put_announced(dict: &DictRef, out: &mut Writer) -> Result<(), AllocError>
     ensures tokens { OnOk result (out.new.tokens ≡ out.old.tokens ++ announced_fields (dictionary dict.now.tree.0)) }
     ensures before { out.new.before ≡ out.old.before }
 {
-    number_if("metadata_size", metadata_size_ref(dict), out)?;
-    number_if("ut_metadata", told_metadata(dict), out)?;
+    let (id, size) = dict.announced();
+    number_if("metadata_size", size, out)?;
+    number_if("ut_metadata", id, out)?;
     text_if("client", dict.lookup_bytes(b"v"), out)
 }
 
@@ -89,7 +90,7 @@ fn put_ext_handshake(dict: &DictRef, rest: &[u8], out: &mut Writer) -> Result<()
     ensures before { out.new.before ≡ out.old.before }
 {
     kind_and_sizes("ext-handshake", dict, rest, out)?;
-    announced(dict, out)
+    put_announced(dict, out)
 }
 
 /// Adds the fields of a metadata message.

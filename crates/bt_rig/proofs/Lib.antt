@@ -1,4 +1,5 @@
 pub mod Sayings
 pub mod Reading
 pub mod Texts
+pub mod Lengths
 pub mod Running

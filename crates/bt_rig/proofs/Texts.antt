@@ -1,6 +1,5 @@
 -- Text that grows at its end.
-use Rattle.std.proofs.Common.{◌≡◌, ℕ, ◌+◌, ◌<◌, List, ◌∷◌, ◌++◌, length, get_or, drop, Result, Ok, Err, sym, ap, ◌∙◌}
-use Rattle.std.specs.Prelude.{OnOk}
+use Rattle.std.proofs.Common.{◌≡◌, ℕ, ◌+◌, ◌<◌, List, ◌∷◌, ◌++◌, length, get_or, drop, sym, ap, ◌∙◌}
 use Rattle.std.proofs.lemmas.List.{append_assoc, drop_more}
 use Rattle.bt_session.specs.declared.run.Connection.{Connection}
 use Rattle.bt_rig.specs.Shown.{connection_lines, connections_lines}
@@ -10,15 +9,6 @@ pub next_of : {X : Type 0} (xs : List X) (i : ℕ) (x : X) → i < length xs →
 next_of xs i x lt is = drop_more xs i x lt ∙ ap (λ y. y ∷ drop (i + 1) xs) (sym is)
 
 -- ---- several parts
-
-five : (t n l s z u v : List ℕ) → ((((t ++ (n ++ l)) ++ s) ++ z) ++ u) ++ v ≡ t ++ (n ++ (l ++ (s ++ (z ++ (u ++ v)))))
-five t n l s z u v = simp append_assoc
-
--- the text so far, and the last part where it is added
-pub five_parts : {E : Type 0} (r : Result Unit E) (t n l s z u v : List ℕ) {t4 : List ℕ} (t5 : List ℕ) → t4 ≡ (((t ++ (n ++ l)) ++ s) ++ z) ++ u
-    → OnOk r (t5 ≡ t4 ++ v) → OnOk r (t5 ≡ t ++ (n ++ (l ++ (s ++ (z ++ (u ++ v))))))
-five_parts (Ok x) t n l s z u v t5 e4 e5 = rw (e5, e4) (five t n l s z u v)
-five_parts (Err x) t n l s z u v t5 e4 e5 = tt
 
 pub six : (t a n b m s w : List ℕ) → (((((t ++ a) ++ n) ++ b) ++ m) ++ s) ++ w ≡ t ++ (a ++ (n ++ (b ++ (m ++ (s ++ w)))))
 six t a n b m s w = simp append_assoc

@@ -1,26 +1,13 @@
 -- The lines that tell what came of a run.
 use Rattle.std.specs.Global.{Vec}
-use Rattle.std.specs.Prelude.{ℕ, ◌+◌, ◌-◌, ◌^◌, min, List, [], ◌∷◌, ◌++◌, length, codes, decimal, Option, Some, None}
+use Rattle.std.specs.Prelude.{ℕ, ◌+◌, List, [], ◌∷◌, ◌++◌, length, codes, decimal, Option, Some, None}
 use Rattle.std.specs.List.{flat_map}
 use Rattle.hex.specs.Hex.{encode_lower}
 use Rattle.sha1.specs.Sha1.{sha1}
-use Rattle.bt_bencode.specs.declared.tree.Value.{Value}
-use Rattle.bt_bencode.specs.Bencoding.{ben}
-use Rattle.bt_bencode.specs.Views.{tree_of}
-use Rattle.bt_ext.specs.declared.ext.Ext.{Ext}
-use Rattle.bt_ext.specs.declared.ext.Ext.TheVariants as ext
-use Rattle.bt_ext.specs.declared.metadata.Kind.{Kind}
-use Rattle.bt_ext.specs.declared.metadata.Kind.TheVariants as kinds
-use Rattle.bt_ext.specs.Fields.{size_of}
-use Rattle.bt_ext.specs.Metadata.{kind_of}
 use Rattle.bt_wire.specs.declared.fault.Fault.{Fault}
 use Rattle.bt_wire.specs.declared.fault.Fault.TheVariants as faults
 use Rattle.bt_wire.specs.declared.item.Item.{Item}
-use Rattle.bt_wire.specs.declared.item.Item.TheVariants as items
 use Rattle.bt_wire.specs.declared.item.Refusal.{Refusal}
-use Rattle.bt_wire.specs.Messages.{Message}
-use Rattle.bt_wire.specs.declared.message.Message.TheVariants.{KeepAlive, Extended, Unknown}
-use Rattle.bt_wire.specs.Messages.{known_id, fields_of}
 use Rattle.bt_end.specs.declared.end.SayError.{SayError}
 use Rattle.bt_end.specs.declared.end.SayError.TheVariants as errors
 use Rattle.bt_end.specs.Ends.{metadata_of}
@@ -29,49 +16,14 @@ use Rattle.bt_link.specs.declared.link.Outcome.{Outcome}
 use Rattle.bt_link.specs.declared.link.Outcome.TheVariants as outcomes
 use Rattle.bt_session.specs.declared.run.Connection.{Connection}
 use Rattle.bt_session.specs.declared.report.LinkReport.{LinkReport}
-use Rattle.bt_link.specs.MessageLinks.{bare, size}
-use Rattle.bt_text.specs.Lines.{spaced, field_words, name_of, or_dash, told_id, handshake_words}
+use Rattle.bt_link.specs.MessageLinks.{size}
+use Rattle.bt_text.specs.Lines.{spaced, item_line}
 use Rattle.bt_wire.specs.Reasons.{reason_name}
 
--- a number of 2^64 - 1 stands for that many or more
-abbrev pub capped : ℕ → ℕ
-capped n = min n (2 ^ 64 - 1)
-
--- ---- an item, as `show` prints it
-
--- the length of the dictionary's spelling, and how many bytes follow it
-abbrev pub lengths : Value → List ℕ → List ℕ
-lengths dict rest = spaced (capped (length (ben (tree_of dict)))) ++ spaced (length rest)
-
-abbrev pub kind_words : Kind → Value → List ℕ → List ℕ
-kind_words (kinds.Request piece) dict rest = codes "metadata-request" ++ spaced piece
-kind_words (kinds.Data piece total) dict rest = codes "metadata-data" ++ (spaced piece ++ (spaced total ++ spaced (length rest)))
-kind_words (kinds.Reject piece) dict rest = codes "metadata-reject" ++ spaced piece
-kind_words kinds.Other dict rest = codes "metadata-other" ++ lengths dict rest
-kind_words kinds.Malformed dict rest = codes "metadata-malformed" ++ lengths dict rest
-
-abbrev pub ext_words : Ext → List ℕ
-ext_words (ext.Handshake dict rest) =
-    codes "ext-handshake" ++ (lengths dict rest ++ (codes " size="
-    ++ (or_dash (size_of (tree_of dict)) ++ (codes " ut_metadata=" ++ or_dash (told_id (tree_of dict))))))
-ext_words (ext.Metadata dict rest) = kind_words (kind_of (tree_of dict)) dict rest
-ext_words (ext.DontHave i) = codes "donthave" ++ spaced i
-ext_words (ext.Raw id bytes) = codes "extended" ++ (spaced id ++ spaced (length bytes))
-
-abbrev pub message_words : Message → List ℕ
-message_words KeepAlive = codes "keep-alive"
-message_words (Extended e) = ext_words e
-message_words (Unknown n bytes) = codes "unknown" ++ (spaced n ++ spaced (length bytes))
-message_words m = name_of (known_id m) ++ field_words (fields_of bare m)
-
-abbrev pub item_words : Item → List ℕ
-item_words (items.Handshake h) = handshake_words h
-item_words (items.Message m) = message_words m
-
--- the items of a direction, each with its offset
+-- the items of a direction, each with its offset, as `show` prints them
 abbrev pub item_lines : ℕ → List Item → List ℕ
 item_lines at [] = []
-item_lines at (i ∷ is) = decimal at ++ (codes " " ++ (item_words i ++ (codes "\n" ++ item_lines (capped (at + size i)) is)))
+item_lines at (i ∷ is) = item_line (at, i) ++ item_lines (at + size i) is
 
 -- ---- what came of a step
 

@@ -1,7 +1,7 @@
 //! Numbers, names and hex appended to a text.
 ghost use Rattle.std.specs.Prelude.{◌≡◌, ◌++◌, decimal, OnOk};
 ghost use Rattle.hex.specs.Hex.{encode_lower};
-ghost use Rattle.bt_text.specs.Lines.{spaced, or_dash};
+ghost use Rattle.bt_text.specs.Lines.{spaced};
 
 use itoa::write_digits;
 use std::alloc::AllocError;
@@ -30,19 +30,6 @@ pub fn push_spaced(n: u64, text: &mut Vec<u8>) -> Result<(), AllocError>
     push_number(n, text)
 }
 
-/// Appends a number, or `-` for none.
-///
-/// # Errors
-/// `AllocError` when out of memory.
-pub fn push_number_or_dash(n: Option<u64>, text: &mut Vec<u8>) -> Result<(), AllocError>
-    ensures { OnOk result (text.new.items ≡ text.old.items ++ or_dash n) }
-{
-    match n {
-        Some(n) => push_number(n, text),
-        None => text.extend_from_slice(b"-"),
-    }
-}
-
 /// Appends bytes in lower-case hex.
 ///
 /// # Errors
@@ -67,28 +54,4 @@ pub fn push_one(name: &[u8], n: u64, text: &mut Vec<u8>) -> Result<(), AllocErro
 {
     text.extend_from_slice(name)?;
     push_spaced(n, text)
-}
-
-/// Appends a name and two numbers.
-///
-/// # Errors
-/// `AllocError` when out of memory.
-#[tactic(auto, using(std::proofs::lemmas::List::append_assoc))]
-pub fn push_two(name: &[u8], n: u64, m: u64, text: &mut Vec<u8>) -> Result<(), AllocError>
-    ensures { OnOk result (text.new.items ≡ text.old.items ++ (name.now ++ (spaced n ++ spaced m))) }
-{
-    push_one(name, n, text)?;
-    push_spaced(m, text)
-}
-
-/// Appends a name and three numbers.
-///
-/// # Errors
-/// `AllocError` when out of memory.
-#[tactic(auto, using(std::proofs::lemmas::List::append_assoc))]
-pub fn push_three(name: &[u8], n: u64, m: u64, k: u64, text: &mut Vec<u8>) -> Result<(), AllocError>
-    ensures { OnOk result (text.new.items ≡ text.old.items ++ (name.now ++ (spaced n ++ (spaced m ++ spaced k)))) }
-{
-    push_two(name, n, m, text)?;
-    push_spaced(k, text)
 }

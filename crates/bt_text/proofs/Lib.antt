@@ -9,3 +9,4 @@ pub mod ScriptSpoken
 pub mod ScriptBounds
 mod Misfits
 mod Digits
+mod SameWords

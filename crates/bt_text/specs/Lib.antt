@@ -5,3 +5,4 @@ pub mod ScriptLaws
 pub mod Misfits
 pub mod Shown
 pub mod Splitting
+pub mod Words

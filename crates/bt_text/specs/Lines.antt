@@ -1,5 +1,5 @@
 -- The lines of `show`: one for each item of a stream, and one for the verdict. And what `pack` says of a refused line.
-use Rattle.std.specs.Prelude.{ℕ, ◌-◌, List, [], ◌++◌, length, codes, decimal, Option, Some, None, option_and_then}
+use Rattle.std.specs.Prelude.{ℕ, ◌-◌, List, [], ◌++◌, length, codes, decimal, false, Option, Some, None, option_and_then}
 use Rattle.std.specs.List.{flat_map}
 use Rattle.hex.specs.Hex.{encode_lower}
 use Rattle.bt_bencode.specs.Bencoding.{ben}
@@ -12,6 +12,8 @@ use Rattle.bt_ext.specs.declared.ext.Ext.TheVariants as ext
 use Rattle.bt_ext.specs.declared.metadata.Kind.{Kind}
 use Rattle.bt_ext.specs.declared.metadata.Kind.TheVariants as kinds
 use Rattle.bt_ext.specs.Fields.{int_at, byte_of, size_of}
+use Rattle.bt_ext.specs.Ids.{metadata_only}
+use Rattle.bt_ext.specs.declared.ids.Rules.TheVariants.{Free}
 use Rattle.bt_ext.specs.Metadata.{kind_of}
 use Rattle.bt_wire.specs.declared.context.Context.{Context}
 use Rattle.bt_wire.specs.declared.context.Own.{Own}
@@ -64,6 +66,10 @@ name_of (Some n) = name_in (row_in n ids)
 abbrev pub own_context : Own → Context
 own_context own = negotiated own (record { 0 = 0 })
 
+-- a context to see fields in whose words no context changes
+abbrev pub no_context : Context
+no_context = record { fast = false; ext = false; pieces = None; reg = metadata_only None; rules = Free; limit = 0 }
+
 -- ---- an extended payload
 
 abbrev pub or_dash : Option ℕ → List ℕ
@@ -92,34 +98,40 @@ kind_words (kinds.Reject piece) t rest = codes "metadata-reject" ++ spaced piece
 kind_words kinds.Other t rest = codes "metadata-other" ++ lengths t rest
 kind_words kinds.Malformed t rest = codes "metadata-malformed" ++ lengths t rest
 
+abbrev pub announced_words : Tree → List ℕ → List ℕ
+announced_words t rest =
+    codes "ext-handshake" ++ (lengths t rest ++ (codes " size=" ++ (or_dash (size_of t) ++ (codes " ut_metadata=" ++ or_dash (told_id t)))))
+
 abbrev pub ext_words : Ext → List ℕ
-ext_words (ext.Handshake dict rest) =
-    codes "ext-handshake" ++ (lengths (tree_of dict) rest ++ (codes " size="
-    ++ (or_dash (size_of (tree_of dict)) ++ (codes " ut_metadata=" ++ or_dash (told_id (tree_of dict))))))
+ext_words (ext.Handshake dict rest) = announced_words (tree_of dict) rest
 ext_words (ext.Metadata dict rest) = kind_words (kind_of (tree_of dict)) (tree_of dict) rest
 ext_words (ext.DontHave i) = codes "donthave" ++ spaced i
 ext_words (ext.Raw id bytes) = codes "extended" ++ (spaced id ++ spaced (length bytes))
 
 -- ---- an item's line
 
-abbrev pub message_words : Own → Message → List ℕ
-message_words own KeepAlive = codes "keep-alive"
-message_words own (Extended e) = ext_words e
-message_words own (Unknown n bytes) = codes "unknown" ++ (spaced n ++ spaced (length bytes))
-message_words own m = name_of (known_id m) ++ field_words (fields_of (own_context own) m)
+abbrev pub message_words : Message → List ℕ
+message_words KeepAlive = codes "keep-alive"
+message_words (Extended e) = ext_words e
+message_words (Unknown n bytes) = codes "unknown" ++ (spaced n ++ spaced (length bytes))
+message_words m = name_of (known_id m) ++ field_words (fields_of no_context m)
 
 -- the reserved bytes, the info hash and the peer id in hex
 abbrev pub handshake_words : Handshake → List ℕ
 handshake_words h =
     codes "handshake " ++ (encode_lower (be64 h.reserved.0) ++ (codes " " ++ (encode_lower h.info_hash ++ (codes " " ++ encode_lower h.peer_id))))
 
-abbrev pub words : Own → Item → List ℕ
-words own (items.Handshake h) = handshake_words h
-words own (items.Message m) = message_words own m
+abbrev pub words : Item → List ℕ
+words (items.Handshake h) = handshake_words h
+words (items.Message m) = message_words m
 
 -- its offset and its words
+abbrev pub item_line : ℕ × Item → List ℕ
+item_line p = decimal p.0 ++ (codes " " ++ (words p.1 ++ codes "\n"))
+
+-- the line is the same for each receiver
 abbrev pub line : Own → ℕ × Item → List ℕ
-line own p = decimal p.0 ++ (codes " " ++ (words own p.1 ++ codes "\n"))
+line own p = item_line p
 
 -- ---- the verdict
 

@@ -119,22 +119,6 @@ row_in_text text i = option_map (framed_by i.number) (fields_in i.kind.shape tex
 abbrev pub number_and_shape : Id → ℕ × Shape
 number_and_shape i = (i.number, i.kind.shape)
 
--- the name, which has no space, is that of the row with this id and shape
-pub record IsRowName (name : List ℕ) (n : ℕ) (shape : Shape) : Type 0 where
-  pub word : word_of name ≡ name
-  pub row : option_map number_and_shape (row_named name ids) ≡ Some (n, shape)
-  pub other : bytes_eq name (codes "unknown") ≡ false
-
--- the first word of the text is such a name, and this follows it
-pub record IsAfterName (text : List ℕ) (n : ℕ) (shape : Shape) (rest : List ℕ) : Type 0 where
-  pub row : option_map number_and_shape (row_named (word_of text) ids) ≡ Some (n, shape)
-  pub other : bytes_eq (word_of text) (codes "unknown") ≡ false
-  pub following : rest ≡ after_word text
-
--- the first word of the text is no such name
-abbrev pub HasNoRow : List ℕ → Type 0
-HasNoRow text = bytes_eq (word_of text) (codes "unknown") ≡ false → row_named (word_of text) ids ≡ None
-
 abbrev pub message_in : List ℕ → Option (List ℕ)
 message_in text =
     if bytes_eq text (codes "keep-alive") then Some (be32 0)

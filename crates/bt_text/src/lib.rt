@@ -6,6 +6,7 @@
 //! - [`ended`]: how a command ends.
 //! - [`shown`]: items of one's own as text, and the names of ids.
 //! - [`splitting`]: the lines of a text.
+//! - [`words`]: the words of a message, owned or viewed.
 //!
 //! JSON isn't here, nor is reading or writing of files.
 #![tactic(auto)]
@@ -16,3 +17,4 @@ pub mod putting;
 pub mod script;
 pub mod shown;
 pub mod splitting;
+pub mod words;

@@ -2,7 +2,8 @@
 ghost use Rattle.std.specs.Prelude.{◌≡◌, ◌++◌, codes, decimal, length, false, true, None, IfSome, OnOk};
 ghost use Rattle.bt_text.specs.Misfits.{sample as sample_of, samples, expected_words as words_of, IsCompleted, IsCompletedOr, IsNoName, IsMisfit, misfit_line as line_of, IsShortNumber, IsDecimalBlock, block_size as size_of_block, block_line as block_line_of};
 
-use crate::script::reading::{is, read_line, row_of, split_word};
+use crate::script::numbers::{is, split_word};
+use crate::script::reading::{read_line, row_of};
 use bt_wire::Shape;
 use itoa::write_digits;
 use std::alloc::{AllocError, Global};

@@ -1,28 +1,16 @@
 //! Parsing of a script's line into its bytes. Only the bytes are allocated.
-ghost use Rattle.std.specs.Prelude.{◌≡◌, ◌+◌, ◌<◌, ◌≤◌, ◌^◌, length, IsTrue, ◌↔◌, slice_index, codes, IfOk, IfSome, OnOk, MatchResult, MatchOption, option_map, position, unwrap_or, true, false, ◌++◌, ◌∷◌, ◌-◌, ◌==◌};
-ghost use Rattle.std.specs.Str.{bytes_eq};
+ghost use Rattle.std.specs.Prelude.{◌≡◌, ◌+◌, ◌<◌, ◌≤◌, ◌^◌, length, IfOk, OnOk, option_map, option_and_then, ◌++◌, ◌∷◌, true};
 ghost use Rattle.std.specs.Result.{result_ok};
 ghost use Rattle.hex.specs.Hex.{decode_of};
 ghost use Rattle.bt_wire.specs.Numbers.{be32, be64};
 ghost use Rattle.bt_wire.specs.Ids.{ids, has_meaning as is_known};
 ghost use Rattle.bt_text.specs.Script.{row_named, framed_by, IsAnswer, IsAdded};
 ghost use Rattle.bt_text.specs.ScriptReading.{
-  word_of,
-  after_word,
-  ends,
-  number_in_word,
-  first_number,
-  IsLed,
-  IsRowName,
-  IsAfterName,
-  HasNoRow,
   bytes_in_word,
-  number_following as number_read,
-  two_after,
-  three_after,
   closed,
   with_bytes,
   fields_in,
+  row_in_text,
   unknown_in,
   message_in,
   array_after as array_read,
@@ -33,149 +21,11 @@ ghost use Rattle.bt_text.specs.ScriptReading.{
   Adds,
 };
 
+pub use crate::script::numbers::plain_number;
+use crate::script::numbers::{is, number_following, split_word, three_numbers, two_numbers};
 use bt_wire::{Handshake, Reserved, Shape, spell_handshake};
 use hex::FromHex;
 use std::alloc::AllocError;
-
-#[inline(always)]
-pub(crate) fn is(text: &[u8], word: &[u8]) -> bool
-    ensures { result ≡ bytes_eq text.now word.now }
-{
-    text == word
-}
-
-/// Returns the offset of the first space.
-fn first_space(text: &[u8]) -> Option<usize>
-    ensures { result ≡ position (λ c. c == 32) text.now }
-{
-    text.iter().position(|byte| *byte == b' ')
-}
-
-/// Splits the text before its first space.
-pub(crate) fn split_word(text: &[u8]) -> (&[u8], &[u8])
-    ensures word { result.0.now ≡ word_of text.now }
-    ensures rest { result.1.now ≡ after_word text.now }
-    ensures short { length result.1.now ≤ length text.now }
-{
-    let end = first_space(text).unwrap_or(text.len());
-    text.split_at(end)
-}
-
-/// Returns whether a zero comes before other digits.
-fn has_leading_zero(word: &[u8]) -> bool
-    ensures { IsTrue result ↔ ((slice_index word.now 0 ≡ 48) × (1 < length word.now)) }
-{
-    word.len() > 1 && word[0] == b'0'
-}
-
-/// Parses a decimal number below 2^32 without leading zeros.
-pub fn plain_number(word: &[u8]) -> Option<u32>
-    ensures { result ≡ number_in_word word.now }
-{
-    if word.is_empty() || word.len() > 10 || has_leading_zero(word) {
-        return None;
-    }
-    let mut n: u64 = 0;
-    for digit in word {
-        if !digit.is_ascii_digit() {
-            return None;
-        }
-        n = n * 10 + u64::from(digit - b'0');
-    }
-    u32::try_from(n).ok()
-}
-
-/// Returns the value of the digits in front, and how many they are.
-///
-/// No more than 11 of them are read.
-#[inline(always)]
-fn leading_digits(text: &[u8]) -> (u64, usize)
-    ensures { IsLed text.now result.0 result.1 }
-{
-    let mut n: u64 = 0;
-    for (count, digit) in text.iter().enumerate() {
-        if count == 11 || !digit.is_ascii_digit() {
-            return (n, count);
-        }
-        n = n * 10 + u64::from(digit - b'0');
-    }
-    (n, text.len())
-}
-
-/// Returns whether the text is empty or begins with a space.
-fn is_end(text: &[u8]) -> bool
-    ensures { result ≡ ends text.now }
-{
-    match text.split_first() {
-        Some((byte, _)) => *byte == b' ',
-        None => true,
-    }
-}
-
-/// Parses a number below 2^32 without leading zeros, up to a space or the end.
-///
-/// It returns the number and what follows it.
-#[inline(always)]
-fn leading_number(text: &[u8]) -> Option<(u32, &[u8])>
-    ensures value { seen result ≡ first_number text.now }
-    ensures short { IfSome result (λ p. length p.1.now ≤ length text.now) }
-{
-    let (n, count) = leading_digits(text);
-    if count == 0 || count > 10 {
-        return None;
-    }
-    let (word, rest) = text.split_at(count);
-    if has_leading_zero(word) {
-        return None;
-    }
-    if !is_end(rest) {
-        return None;
-    }
-    match u32::try_from(n) {
-        Ok(n) => Some((n, rest)),
-        Err(_) => None,
-    }
-}
-
-/// Reads a space and a number, and returns the number and what follows it.
-#[inline(always)]
-fn number_following(text: &[u8]) -> Option<(u32, &[u8])>
-    ensures value { seen result ≡ number_read text.now }
-    ensures short { IfSome result (λ p. length p.1.now ≤ length text.now) }
-{
-    let (space, number) = text.split_first()?;
-    if *space != b' ' {
-        return None;
-    }
-    leading_number(number)
-}
-
-/// Reads two numbers, each after a space, and returns their bytes and what follows them.
-#[inline(always)]
-fn two_numbers(text: &[u8]) -> Option<([u8; 8], &[u8])>
-    ensures value { seen result ≡ two_after text.now }
-    ensures short { IfSome result (λ p. length p.1.now ≤ length text.now) }
-{
-    let (first, rest) = number_following(text)?;
-    let (second, rest) = number_following(rest)?;
-    let mut numbers = [0u8; 8];
-    numbers[..4].copy_from_slice(&first.to_be_bytes());
-    numbers[4..].copy_from_slice(&second.to_be_bytes());
-    Some((numbers, rest))
-}
-
-/// Reads three numbers, each after a space, and returns their bytes and what follows them.
-#[inline(always)]
-fn three_numbers(text: &[u8]) -> Option<([u8; 12], &[u8])>
-    ensures { seen result ≡ three_after text.now }
-{
-    let (two, rest) = two_numbers(text)?;
-    let (third, rest) = number_following(rest)?;
-    let mut numbers = [0u8; 12];
-    numbers[..8].copy_from_slice(&two);
-    numbers[8..].copy_from_slice(&third.to_be_bytes());
-    Some((numbers, rest))
-}
 
 /// Appends the bytes of hex digits of either case; returns whether they are such.
 fn push_decoded(digits: &[u8], bytes: &mut Vec<u8>) -> Result<bool, AllocError>
@@ -431,181 +281,15 @@ pub(crate) fn row_of(name: &[u8]) -> Option<(u8, Shape)>
     }
 }
 
-/// The id of a name, the shape of its fields, and what follows the name.
-type Named<'a> = (u8, Shape, &'a [u8]);
-
-/// Returns what follows this name of a row, if the text's first word is the name.
+/// Appends the message of a name and of the fields that follow it.
 #[inline(always)]
-fn after_name<'a>(text: &'a [u8], name: &[u8], id: u8, shape: Shape) -> Option<Named<'a>>
-    requires { IsRowName name.now id shape }
-    ensures named { IfSome result (λ p. IsAfterName text.now p.0 p.1 p.2.now) }
-    ensures short { IfSome result (λ p. length p.2.now ≤ length text.now) }
+fn put_named(name: &[u8], rest: &[u8], bytes: &mut Vec<u8>) -> Result<bool, AllocError>
+    requires { length rest.now < 2 ^ 32 }
+    ensures { IfOk result (Adds (option_and_then (row_in_text rest.now) (row_named name.now ids)) bytes.old.items bytes.new.items) }
 {
-    let rest = text.strip_prefix(name)?;
-    if !is_end(rest) {
-        return None;
-    }
-    Some((id, shape, rest))
-}
-
-/// Returns the row that the text's first word names, by the whole word.
-#[inline(never)]
-fn row_by_word(text: &[u8]) -> Option<Named<'_>>
-    ensures named { MatchOption result (HasNoRow text.now) (λ p. IsAfterName text.now p.0 p.1 p.2.now) }
-    ensures short { IfSome result (λ p. length p.2.now ≤ length text.now) }
-{
-    let (name, rest) = split_word(text);
-    if is(name, b"unknown") {
-        return None;
-    }
     match row_of(name) {
-        Some((id, shape)) => Some((id, shape, rest)),
-        None => None,
-    }
-}
-
-/// Appends the message of a line whose first word names no row and that is no keep-alive.
-#[inline(never)]
-fn put_other(text: &[u8], bytes: &mut Vec<u8>) -> Result<bool, AllocError>
-    requires short { length text.now < 2 ^ 32 }
-    requires other { bytes_eq text.now (codes "keep-alive") ≡ false }
-    requires none { HasNoRow text.now }
-    ensures { IfOk result (Adds (message_in text.now) bytes.old.items bytes.new.items) }
-{
-    let (name, rest) = split_word(text);
-    if is(name, b"unknown") {
-        return put_unknown(rest, bytes);
-    }
-    Ok(false)
-}
-
-/// Appends the message of a row, whose name is the text's first word.
-#[inline(always)]
-fn put_found(text: &[u8], row: Named<'_>, bytes: &mut Vec<u8>) -> Result<bool, AllocError>
-    requires short { length row.2.now < 2 ^ 32 }
-    requires other { bytes_eq text.now (codes "keep-alive") ≡ false }
-    requires named { IsAfterName text.now row.0 row.1 row.2.now }
-    ensures { IfOk result (Adds (message_in text.now) bytes.old.items bytes.new.items) }
-{
-    let (id, shape, rest) = row;
-    put_fields(shape, id, rest, bytes)
-}
-
-/// Appends the message of a line that is no keep-alive, by its whole first word.
-#[inline(never)]
-fn put_by_word(text: &[u8], bytes: &mut Vec<u8>) -> Result<bool, AllocError>
-    requires short { length text.now < 2 ^ 32 }
-    requires other { bytes_eq text.now (codes "keep-alive") ≡ false }
-    ensures { IfOk result (Adds (message_in text.now) bytes.old.items bytes.new.items) }
-{
-    match row_by_word(text) {
-        Some(row) => put_found(text, row, bytes),
-        None => put_other(text, bytes),
-    }
-}
-
-/// Appends the message of a line whose first word is likely this name of a row.
-///
-/// The line is no keep-alive.
-#[inline(always)]
-fn put_row(
-    text: &[u8],
-    name: &[u8],
-    id: u8,
-    shape: Shape,
-    bytes: &mut Vec<u8>,
-) -> Result<bool, AllocError>
-    requires short { length text.now < 2 ^ 32 }
-    requires other { bytes_eq text.now (codes "keep-alive") ≡ false }
-    requires name { IsRowName name.now id shape }
-    ensures { IfOk result (Adds (message_in text.now) bytes.old.items bytes.new.items) }
-{
-    match after_name(text, name, id, shape) {
-        Some(row) => put_found(text, row, bytes),
-        None => put_by_word(text, bytes),
-    }
-}
-
-/// Appends the message of a line that likely begins with `cancel` or `choke`.
-#[inline(always)]
-fn put_row_of_c(text: &[u8], bytes: &mut Vec<u8>) -> Result<bool, AllocError>
-    requires short { length text.now < 2 ^ 32 }
-    requires other { bytes_eq text.now (codes "keep-alive") ≡ false }
-    ensures { IfOk result (Adds (message_in text.now) bytes.old.items bytes.new.items) }
-{
-    match after_name(text, b"cancel", 8, Shape::Part) {
-        Some(row) => put_found(text, row, bytes),
-        None => put_row(text, b"choke", 0, Shape::Nothing, bytes),
-    }
-}
-
-/// Appends the message of a line that likely begins with `have`.
-///
-/// It may also be `have-all` or `have-none`.
-#[inline(always)]
-fn put_row_of_h(text: &[u8], bytes: &mut Vec<u8>) -> Result<bool, AllocError>
-    requires short { length text.now < 2 ^ 32 }
-    requires other { bytes_eq text.now (codes "keep-alive") ≡ false }
-    ensures { IfOk result (Adds (message_in text.now) bytes.old.items bytes.new.items) }
-{
-    if let Some(row) = after_name(text, b"have", 4, Shape::Index) {
-        return put_found(text, row, bytes);
-    }
-    match after_name(text, b"have-all", 14, Shape::Nothing) {
-        Some(row) => put_found(text, row, bytes),
-        None => put_row(text, b"have-none", 15, Shape::Nothing, bytes),
-    }
-}
-
-/// Appends the message of a line that likely begins with `piece` or `port`.
-#[inline(always)]
-fn put_row_of_p(text: &[u8], bytes: &mut Vec<u8>) -> Result<bool, AllocError>
-    requires short { length text.now < 2 ^ 32 }
-    requires other { bytes_eq text.now (codes "keep-alive") ≡ false }
-    ensures { IfOk result (Adds (message_in text.now) bytes.old.items bytes.new.items) }
-{
-    match after_name(text, b"piece", 7, Shape::Block) {
-        Some(row) => put_found(text, row, bytes),
-        None => put_row(text, b"port", 9, Shape::Port, bytes),
-    }
-}
-
-/// Appends the message of a line that likely begins with `request` or `reject`.
-#[inline(always)]
-fn put_row_of_r(text: &[u8], bytes: &mut Vec<u8>) -> Result<bool, AllocError>
-    requires short { length text.now < 2 ^ 32 }
-    requires other { bytes_eq text.now (codes "keep-alive") ≡ false }
-    ensures { IfOk result (Adds (message_in text.now) bytes.old.items bytes.new.items) }
-{
-    match after_name(text, b"request", 6, Shape::Part) {
-        Some(row) => put_found(text, row, bytes),
-        None => put_row(text, b"reject", 16, Shape::Part, bytes),
-    }
-}
-
-/// Appends the message of a line that is no keep-alive, by its first letter.
-///
-/// The letter decides which names are tried. Each name has code of its own for its id and fields, so that no second jump by the
-/// shape of the fields is needed.
-#[inline(always)]
-fn put_by_letter(text: &[u8], bytes: &mut Vec<u8>) -> Result<bool, AllocError>
-    requires short { length text.now < 2 ^ 32 }
-    requires other { bytes_eq text.now (codes "keep-alive") ≡ false }
-    ensures { IfOk result (Adds (message_in text.now) bytes.old.items bytes.new.items) }
-{
-    match text.first() {
-        Some(b'a') => put_row(text, b"allowed-fast", 17, Shape::Index, bytes),
-        Some(b'b') => put_row(text, b"bitfield", 5, Shape::Field, bytes),
-        Some(b'c') => put_row_of_c(text, bytes),
-        Some(b'e') => put_row(text, b"extended", 20, Shape::Extended, bytes),
-        Some(b'h') => put_row_of_h(text, bytes),
-        Some(b'i') => put_row(text, b"interested", 2, Shape::Nothing, bytes),
-        Some(b'n') => put_row(text, b"not-interested", 3, Shape::Nothing, bytes),
-        Some(b'p') => put_row_of_p(text, bytes),
-        Some(b'r') => put_row_of_r(text, bytes),
-        Some(b's') => put_row(text, b"suggest", 13, Shape::Index, bytes),
-        Some(b'u') => put_row(text, b"unchoke", 1, Shape::Nothing, bytes),
-        _ => put_by_word(text, bytes),
+        Some((id, shape)) => put_fields(shape, id, rest, bytes),
+        None => Ok(false),
     }
 }
 
@@ -619,7 +303,11 @@ fn put_message(text: &[u8], bytes: &mut Vec<u8>) -> Result<bool, AllocError>
         bytes.extend_from_slice(&[0; 4])?;
         return Ok(true);
     }
-    put_by_letter(text, bytes)
+    let (name, rest) = split_word(text);
+    if is(name, b"unknown") {
+        return put_unknown(rest, bytes);
+    }
+    put_named(name, rest, bytes)
 }
 
 /// Reads a space and the hex digits of `N` bytes, of either case, and returns the bytes and what follows them.

@@ -11,7 +11,8 @@ ghost use Rattle.bt_wire.specs.declared.item.Item.TheVariants as items;
 ghost use Rattle.bt_text.specs.Lines.{spaced, handshake_words};
 ghost use Rattle.bt_text.specs.Script.{spaced_hex, script_line, kept as kept_of};
 
-use crate::putting::{put_number, put_one, put_three, put_word};
+use crate::putting::{put_number, put_word};
+use crate::words::put_words;
 use bt_ext::{ExtView, Registered};
 use bt_wire::{Handshake, MessageView, Own};
 use std::alloc::AllocError;
@@ -190,59 +191,12 @@ pub fn put_message_line(own: &Own, view: &MessageView, text: &mut [u8], at: usiz
     ensures text { take result text.new ≡ take at text.old ++ script_line own.now (items.Message (message_of view.now)) }
 {
     match view {
-        MessageView::KeepAlive => put_word(b"keep-alive\n", text, at),
-        MessageView::Choke => put_word(b"choke\n", text, at),
-        MessageView::Unchoke => put_word(b"unchoke\n", text, at),
-        MessageView::Interested => put_word(b"interested\n", text, at),
-        MessageView::NotInterested => put_word(b"not-interested\n", text, at),
-        MessageView::Have(i) => put_one(b"have ", u64::from(*i), text, at),
         MessageView::Bitfield(bits) => put_bitfield(bits, text, at),
-        MessageView::Request {
-            index,
-            begin,
-            length,
-        } => put_three(
-            b"request ",
-            u64::from(*index),
-            u64::from(*begin),
-            u64::from(*length),
-            text,
-            at,
-        ),
         MessageView::Piece {
             index,
             begin,
             block,
         } => put_block(*index, *begin, block, text, at),
-        MessageView::Cancel {
-            index,
-            begin,
-            length,
-        } => put_three(
-            b"cancel ",
-            u64::from(*index),
-            u64::from(*begin),
-            u64::from(*length),
-            text,
-            at,
-        ),
-        MessageView::Port(port) => put_one(b"port ", u64::from(*port), text, at),
-        MessageView::Suggest(i) => put_one(b"suggest ", u64::from(*i), text, at),
-        MessageView::HaveAll => put_word(b"have-all\n", text, at),
-        MessageView::HaveNone => put_word(b"have-none\n", text, at),
-        MessageView::Reject {
-            index,
-            begin,
-            length,
-        } => put_three(
-            b"reject ",
-            u64::from(*index),
-            u64::from(*begin),
-            u64::from(*length),
-            text,
-            at,
-        ),
-        MessageView::AllowedFast(i) => put_one(b"allowed-fast ", u64::from(*i), text, at),
         MessageView::Extended(payload) => put_extended(own.reg, payload, text, at),
         MessageView::Unknown { id, payload } => put_payload(
             b"unknown ",
@@ -252,11 +206,12 @@ pub fn put_message_line(own: &Own, view: &MessageView, text: &mut [u8], at: usiz
             text,
             at,
         ),
+        _ => put_words(view, text, at),
     }
 }
 
 /// Makes a text longer by this room, and returns the offset of the room.
-fn grow(text: &mut Vec<u8>, room: usize) -> Result<usize, AllocError>
+pub(crate) fn grow(text: &mut Vec<u8>, room: usize) -> Result<usize, AllocError>
     ensures { IfOk result (λ at. (at + room ≤ vec_len text.new) × (take at text.new.items ≡ text.old.items)) }
 {
     let at = text.len();
@@ -290,6 +245,7 @@ pub fn push_message_line(
 /// It ends with a line feed.
 pub fn put_handshake_line(handshake: &Handshake, text: &mut [u8], at: usize) -> usize
     requires { at + 109 ≤ length text.old }
+    ensures room { result ≡ at + 109 }
     ensures size { length text.new ≡ length text.old }
     ensures text { take result text.new ≡ take at text.old ++ (handshake_words handshake.now ++ codes "\n") }
 {

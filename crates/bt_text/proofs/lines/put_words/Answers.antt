@@ -1,4 +1,0 @@
-use Rattle.bt_text.proofs.lines.put_words.Goals as goal
-
-pub returns-in-AllowedFast-clause-text : goal.returns-in-AllowedFast-clause-text
-returns-in-AllowedFast-clause-text c = λ own. rw (c.in-AllowedFast.is, ← c.from-in-AllowedFast.ensures) c.put_one-in-AllowedFast.ensures.text
