@@ -48,7 +48,7 @@ IsMetadataOf file (Err NoListener) = ⊥
 -- the fault of a file that can't be read
 abbrev pub read_fault : ErrorKind → ToolFault
 read_fault kind.OutOfMemory = fault.Memory
-read_fault other = fault.Read
+read_fault _ = fault.Read
 
 -- ---- the service
 

@@ -1,5 +1,5 @@
 -- A block of a piece changes nothing of a fetch.
-use Rattle.std.proofs.Common.{◌≡◌, ℕ, nat_lt, Bool, true, false, if◌then◌else◌, List, [], ◌∷◌, length, is_some, is_none, refl, sym, ap, subst, ◌∙◌}
+use Rattle.std.proofs.Common.{◌≡◌, ℕ, nat_lt, Bool, true, false, if◌then◌else◌, List, [], ◌∷◌, length, is_some, is_none, refl, sym, ap, ◌∙◌}
 use Rattle.std.specs.Str.{bytes_eq}
 use Rattle.sha1.specs.Sha1.{sha1}
 use Rattle.bt_bencode.specs.Views.{tree_of}
@@ -10,9 +10,8 @@ use Rattle.bt_ext.specs.declared.metadata.Kind.{Kind}
 use Rattle.bt_ext.specs.declared.metadata.Kind.TheVariants as kind
 use Rattle.bt_wire.specs.declared.item.Item.{Item}
 use Rattle.bt_wire.specs.declared.item.Item.TheVariants as items
-use Rattle.bt_wire.specs.Messages.{Message}
 use Rattle.bt_wire.specs.declared.message.Message.TheVariants as m
-use Rattle.bt_metadata.specs.Assemblies.{AssemblyState, piece_error, data_error, with_data, is_whole, joined}
+use Rattle.bt_metadata.specs.Assemblies.{piece_error, data_error, with_data, is_whole, joined}
 use Rattle.bt_end.specs.Ends.{EndState, Part, Serving, Fetching, metadata_of, peer_id, react}
 use Rattle.bt_end.specs.Events.{answer_event, block_event, event_of, extended_event, kind_event, reject_event}
 use Rattle.bt_end.specs.declared.event.Event.{Event}

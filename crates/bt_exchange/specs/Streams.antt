@@ -13,7 +13,7 @@ abbrev pub is_wait : ErrorKind → Bool
 is_wait kind.WouldBlock = true
 is_wait kind.TimedOut = true
 is_wait kind.Interrupted = true
-is_wait other = false
+is_wait _ = false
 
 -- What std answers becomes the answer of a connection: nothing can be moved yet if the call has to wait.
 abbrev pub IsMovedBy : {F : Type 0} → Result ℕ Error → Result (Option ℕ) F → Type 0
