@@ -16,14 +16,14 @@ use Rattle.bt_end.specs.declared.end.Turn.TheVariants.{Handled, Idle}
 use Rattle.bt_end.specs.declared.end.TurnError.{TurnError}
 use Rattle.bt_end.specs.declared.end.TurnError.TheVariants as turn_error
 use Rattle.bt_end.proofs.Handling.{idle_used}
-use Rattle.bt_link.specs.ByteLinks as B
-use Rattle.bt_link.specs.FetchLaws.{IsMove, AreMoves}
-use Rattle.bt_link.specs.declared.link.Outcome.{Outcome}
-use Rattle.bt_link.specs.declared.link.Outcome.TheVariants as outcome
-use Rattle.bt_link.specs.declared.link.Side.{Side}
-use Rattle.bt_link.specs.declared.link.Side.TheVariants.{Left, Right}
-use Rattle.bt_link.specs.declared.link.Step.{Step}
-use Rattle.bt_link.specs.declared.link.Step.TheVariants as step
+use Rattle.bt_session.specs.ByteLinks as B
+use Rattle.bt_session.specs.FetchLaws.{IsMove, AreMoves}
+use Rattle.bt_session.specs.declared.link.Outcome.{Outcome}
+use Rattle.bt_session.specs.declared.link.Outcome.TheVariants as outcome
+use Rattle.bt_session.specs.declared.link.Side.{Side}
+use Rattle.bt_session.specs.declared.link.Side.TheVariants.{Left, Right}
+use Rattle.bt_session.specs.declared.link.Step.{Step}
+use Rattle.bt_session.specs.declared.link.Step.TheVariants as step
 use Rattle.bt_net.specs.Rounds.{IsCarried, IsWay, IsHalt, is_halt}
 use Rattle.bt_net.specs.Runs.{IsGiven, IsEndOf, delivered, delivered_by}
 use Rattle.bt_net.specs.Wires.{WireSeen, coming, other}

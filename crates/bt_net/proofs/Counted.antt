@@ -7,15 +7,15 @@ use Rattle.bt_wire.specs.declared.item.Item.{Item}
 use Rattle.bt_wire.specs.declared.item.Item.TheVariants as items
 use Rattle.bt_end.specs.Ends.{EndState, react}
 use Rattle.bt_end.specs.Halves.{high_water}
-use Rattle.bt_link.specs.FetchLaws.{IsMove, AreMoves, IsQuiet}
-use Rattle.bt_link.specs.MessageLinks as M
-use Rattle.bt_link.specs.declared.link.Outcome.{Outcome}
-use Rattle.bt_link.specs.declared.link.Outcome.TheVariants as outcome
-use Rattle.bt_link.specs.declared.link.Side.{Side}
-use Rattle.bt_link.specs.declared.link.Side.TheVariants.{Left, Right}
-use Rattle.bt_link.specs.declared.link.Step.{Step}
-use Rattle.bt_link.specs.declared.link.Step.TheVariants as step
-use Rattle.bt_link.proofs.UnderWay.{total-append, total_parts}
+use Rattle.bt_session.specs.FetchLaws.{IsMove, AreMoves, IsQuiet}
+use Rattle.bt_session.specs.MessageLinks as M
+use Rattle.bt_session.specs.declared.link.Outcome.{Outcome}
+use Rattle.bt_session.specs.declared.link.Outcome.TheVariants as outcome
+use Rattle.bt_session.specs.declared.link.Side.{Side}
+use Rattle.bt_session.specs.declared.link.Side.TheVariants.{Left, Right}
+use Rattle.bt_session.specs.declared.link.Step.{Step}
+use Rattle.bt_session.specs.declared.link.Step.TheVariants as step
+use Rattle.bt_session.proofs.UnderWay.{total-append, total_parts}
 use Rattle.bt_net.specs.Runs.{delivered_by, delivered}
 
 -- no more is handled or delivered than was sent, and n bytes were delivered in all

@@ -9,19 +9,19 @@ use Rattle.bt_feed.specs.Stages.{is_closed}
 use Rattle.bt_metadata.specs.Blocks.{max_metadata}
 use Rattle.bt_end.specs.Ends.{EndState, metadata_of}
 use Rattle.bt_end.specs.Halves.{HalfState, high_water, is_ready, is_busy, received, with_feed}
-use Rattle.bt_link.specs.ByteLinks as B
-use Rattle.bt_link.specs.MessageLinks as M
-use Rattle.bt_link.specs.LinkLaws.{IsMetadata, IsWritten, AreWritten, IsHonestRun, source_of}
+use Rattle.bt_session.specs.ByteLinks as B
+use Rattle.bt_session.specs.MessageLinks as M
+use Rattle.bt_session.specs.LinkLaws.{IsMetadata, IsWritten, AreWritten, IsHonestRun, source_of}
 use Rattle.std.specs.Option.{ForSome}
-use Rattle.bt_link.specs.FetchLaws.{IsFetchPair, IsMove, AreMoves, IsQuiet, most_bytes, FetchIsShort, FetchIsWhole, FetchIsFree}
-use Rattle.bt_link.specs.declared.link.Outcome.{Outcome}
-use Rattle.bt_link.specs.declared.link.Outcome.TheVariants as outcome
-use Rattle.bt_link.specs.declared.link.Side.{Side}
-use Rattle.bt_link.specs.declared.link.Side.TheVariants.{Left, Right}
-use Rattle.bt_link.specs.declared.link.Step.{Step}
-use Rattle.bt_link.specs.declared.link.Step.TheVariants as step
-use Rattle.bt_link.proofs.FetchRuns.{fetch_is_short, fetch_is_whole, fetch_is_free}
-use Rattle.bt_link.proofs.Links.{byte_link_is_message_link, nothing_is_refused}
+use Rattle.bt_session.specs.FetchLaws.{IsFetchPair, IsMove, AreMoves, IsQuiet, most_bytes, FetchIsShort, FetchIsWhole, FetchIsFree}
+use Rattle.bt_session.specs.declared.link.Outcome.{Outcome}
+use Rattle.bt_session.specs.declared.link.Outcome.TheVariants as outcome
+use Rattle.bt_session.specs.declared.link.Side.{Side}
+use Rattle.bt_session.specs.declared.link.Side.TheVariants.{Left, Right}
+use Rattle.bt_session.specs.declared.link.Step.{Step}
+use Rattle.bt_session.specs.declared.link.Step.TheVariants as step
+use Rattle.bt_session.proofs.FetchRuns.{fetch_is_short, fetch_is_whole, fetch_is_free}
+use Rattle.bt_session.proofs.Links.{byte_link_is_message_link, nothing_is_refused}
 use Rattle.bt_net.specs.Rounds.{Ends, IsRound, IsWay, IsHalted, AreRounds, is_quiet}
 use Rattle.bt_net.specs.Runs.{IsClear, begun, IsEndOf, delivered, AreStepsTo, RoundsAreSteps, RunFetches}
 use Rattle.bt_net.specs.Wires.{WireSeen}

@@ -6,7 +6,7 @@ use Rattle.bt_ext.specs.declared.ids.Rules.{Rules}
 use Rattle.bt_end.specs.Configs.{is_bad_size}
 use Rattle.bt_end.specs.Ends.{EndState, metadata_of}
 use Rattle.bt_end.specs.Halves.{HalfState, connected}
-use Rattle.bt_link.specs.FetchLaws.{IsFetchPair, most_bytes}
+use Rattle.bt_session.specs.FetchLaws.{IsFetchPair, most_bytes}
 use Rattle.bt_text.specs.declared.ended.ToolFault.{ToolFault}
 use Rattle.bt_text.specs.declared.ended.ToolFault.TheVariants as fault
 use Rattle.bt_net.specs.declared.looped.LoopEnd.{LoopEnd}

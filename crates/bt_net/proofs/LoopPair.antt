@@ -10,8 +10,8 @@ use Rattle.bt_metadata.specs.Blocks.{window, max_metadata}
 use Rattle.bt_end.specs.declared.config.Announce.TheVariants.{Silent}
 use Rattle.bt_end.specs.Configs.{is_bad_size}
 use Rattle.bt_end.specs.Ends.{EndState, Part, Serving, Awaiting, unopened}
-use Rattle.bt_link.specs.LinkLaws.{IsMetadata, IsFirstPart, IsNew, source_of}
-use Rattle.bt_link.specs.FetchLaws.{IsFetchPair}
+use Rattle.bt_session.specs.LinkLaws.{IsMetadata, IsFirstPart, IsNew, source_of}
+use Rattle.bt_session.specs.FetchLaws.{IsFetchPair}
 use Rattle.bt_net.specs.Loops.{own_by, handshake_by}
 
 abbrev pub serving_end : Rules → ℕ → List ℕ → EndState

@@ -12,8 +12,8 @@ use Rattle.bt_end.specs.declared.end.Turn.TheVariants as turn
 use Rattle.bt_end.specs.declared.end.TurnError.{TurnError}
 use Rattle.bt_end.specs.declared.end.TurnError.TheVariants as turn_error
 use Rattle.bt_end.proofs.Handling.{idle_used}
-use Rattle.bt_link.specs.declared.link.Side.{Side}
-use Rattle.bt_link.specs.declared.link.Side.TheVariants.{Left, Right}
+use Rattle.bt_session.specs.declared.link.Side.{Side}
+use Rattle.bt_session.specs.declared.link.Side.TheVariants.{Left, Right}
 use Rattle.bt_net.specs.Rounds.{IsSent, IsFilled, IsTaken, IsCarried, IsSkipped, IsWay, IsHalt, IsRound, IsHalted, Ends, AreRounds, ends_of, is_quiet, is_halt, capped}
 use Rattle.bt_net.specs.Rounds.{HasRun, Passes, Exchanges, halt_of}
 use Rattle.bt_net.specs.declared.both.Handled.{Handled}

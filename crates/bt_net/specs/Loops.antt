@@ -15,7 +15,7 @@ use Rattle.bt_end.specs.Ends.{EndState, Serving, Awaiting, unopened, metadata_of
 use Rattle.bt_end.specs.Halves.{HalfState, connected}
 use Rattle.bt_io.specs.Counts.{Grew}
 use Rattle.bt_io.specs.Seen.{AppendsPrefix}
-use Rattle.bt_link.specs.FetchLaws.{IsFetchPair, most_bytes}
+use Rattle.bt_session.specs.FetchLaws.{IsFetchPair, most_bytes}
 use Rattle.bt_text.specs.declared.ended.ToolFault.{ToolFault}
 use Rattle.bt_text.specs.declared.ended.ToolFault.TheVariants as fault
 use Rattle.bt_net.specs.declared.looped.LoopEnd.{LoopEnd}

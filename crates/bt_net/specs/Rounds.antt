@@ -6,8 +6,8 @@ use Rattle.bt_io.specs.Counts.{Grew}
 use Rattle.bt_end.specs.Halves.{HalfState, AreHandled, without_sent}
 use Rattle.bt_end.specs.declared.end.TurnError.{TurnError}
 use Rattle.bt_end.specs.declared.end.TurnError.TheVariants as turn_error
-use Rattle.bt_link.specs.declared.link.Side.{Side}
-use Rattle.bt_link.specs.declared.link.Side.TheVariants.{Left, Right}
+use Rattle.bt_session.specs.declared.link.Side.{Side}
+use Rattle.bt_session.specs.declared.link.Side.TheVariants.{Left, Right}
 use Rattle.bt_net.specs.Wires.{WireSeen, other, coming}
 use Rattle.bt_net.specs.declared.both.Handled.{Handled}
 use Rattle.bt_net.specs.declared.both.Halt.{Halt}

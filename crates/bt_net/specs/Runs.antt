@@ -3,11 +3,11 @@ use Rattle.std.specs.Prelude.{◌≡◌, ℕ, ◌+◌, ◌≤◌, List, [], ◌�
 use Rattle.bt_feed.specs.Feeds.{taken}
 use Rattle.bt_end.specs.Ends.{EndState, metadata_of}
 use Rattle.bt_end.specs.Halves.{HalfState, connected, received}
-use Rattle.bt_link.specs.ByteLinks as B
-use Rattle.bt_link.specs.FetchLaws.{IsFetchPair, AreMoves, most_bytes}
-use Rattle.bt_link.specs.declared.link.Outcome.{Outcome}
-use Rattle.bt_link.specs.declared.link.Outcome.TheVariants as outcome
-use Rattle.bt_link.specs.declared.link.Step.{Step}
+use Rattle.bt_session.specs.ByteLinks as B
+use Rattle.bt_session.specs.FetchLaws.{IsFetchPair, AreMoves, most_bytes}
+use Rattle.bt_session.specs.declared.link.Outcome.{Outcome}
+use Rattle.bt_session.specs.declared.link.Outcome.TheVariants as outcome
+use Rattle.bt_session.specs.declared.link.Step.{Step}
 use Rattle.bt_net.specs.Wires.{WireSeen}
 use Rattle.bt_net.specs.Rounds.{Ends, AreRounds, IsRun, ends_of}
 use Rattle.bt_net.specs.declared.both.Handled.{Handled}

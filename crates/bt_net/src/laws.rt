@@ -4,7 +4,7 @@ ghost use Rattle.bt_net.specs.Runs.{RoundsAreSteps, RunFetches};
 /// States that rounds of two ends over a connection are steps of their link.
 ///
 /// Nothing is on its way at first, and the connection's bytes are known. What is sent and received is a delivery of the link, and
-/// a turn that handles an item is a turn of it. A turn that finds no whole item changes nothing there. So what `bt_link` proves of
+/// a turn that handles an item is a turn of it. A turn that finds no whole item changes nothing there. So what `bt_session` proves of
 /// the link of two ends holds for them.
 pub fn rounds_are_steps()
     ensures { RoundsAreSteps }

@@ -10,7 +10,7 @@ use Rattle.bt_wire.specs.declared.item.Item.TheVariants as items
 use Rattle.bt_wire.specs.declared.message.Message.TheVariants as m
 use Rattle.bt_wire.specs.Messages.{Message, body, spell}
 use Rattle.bt_wire.specs.Numbers.{be32}
-use Rattle.bt_link.specs.MessageLinks.{bare, size}
+use Rattle.bt_session.specs.MessageLinks.{bare, size}
 use Rattle.bt_text.specs.Words.{HasLength, HasLengths, IsCounted}
 
 of_payload : (e : Ext) → length (payload_of e) < 2 ^ 64 → HasLength e

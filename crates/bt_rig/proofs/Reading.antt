@@ -3,8 +3,8 @@ use Rattle.std.proofs.Common.{◌≡◌, ℕ, ◌+◌, ◌≤◌, true, false, L
 use Rattle.std.proofs.lemmas.List.{append-nil, append_assoc, length-append}
 use Rattle.bt_text.specs.Script.{has_feed}
 use Rattle.bt_text.specs.Splitting.{IsCut}
-use Rattle.bt_link.specs.declared.link.Side.{Side}
-use Rattle.bt_link.specs.declared.link.Step.{Step}
+use Rattle.bt_session.specs.declared.link.Side.{Side}
+use Rattle.bt_session.specs.declared.link.Step.{Step}
 use Rattle.bt_rig.specs.declared.entry.Entry.{Entry}
 use Rattle.bt_rig.specs.declared.entry.Entry.TheVariants.{Set, Do}
 use Rattle.bt_rig.specs.declared.entry.Setting.{Setting}

@@ -11,8 +11,8 @@ use Rattle.bt_wire.specs.Fronts.{IsPartial}
 use Rattle.bt_wire.specs.Laws.{FaultIsFinal}
 use Rattle.bt_wire.specs.Messages.{spell}
 use Rattle.bt_wire.proofs.SpellLaws.{spelled_first}
-use Rattle.bt_link.specs.declared.link.Side.{Side}
-use Rattle.bt_link.specs.declared.link.Step.TheVariants as steps
+use Rattle.bt_session.specs.declared.link.Side.{Side}
+use Rattle.bt_session.specs.declared.link.Step.TheVariants as steps
 use Rattle.bt_text.specs.Script.{IsLine, IsAnswer}
 use Rattle.bt_text.specs.ScriptLaws.{LineIsOne}
 use Rattle.bt_rig.specs.declared.entry.Entry.{Entry}

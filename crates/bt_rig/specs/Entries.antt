@@ -16,9 +16,9 @@ use Rattle.bt_wire.specs.Messages.{spell}
 use Rattle.bt_metadata.specs.Blocks.{window}
 use Rattle.bt_end.specs.declared.config.Announce.{Announce}
 use Rattle.bt_end.specs.declared.config.Announce.TheVariants as announce
-use Rattle.bt_link.specs.declared.link.Side.{Side}
-use Rattle.bt_link.specs.declared.link.Side.TheVariants.{Left, Right}
-use Rattle.bt_link.specs.declared.link.Step.TheVariants as steps
+use Rattle.bt_session.specs.declared.link.Side.{Side}
+use Rattle.bt_session.specs.declared.link.Side.TheVariants.{Left, Right}
+use Rattle.bt_session.specs.declared.link.Step.TheVariants as steps
 use Rattle.bt_text.specs.Script.{IsLine}
 use Rattle.bt_text.specs.ScriptReading.{number_in_word, bytes_in_word}
 use Rattle.bt_rig.specs.declared.entry.Entry.{Entry}

@@ -12,9 +12,9 @@ use Rattle.bt_end.specs.declared.config.Announce.TheVariants.{Silent}
 use Rattle.bt_end.specs.declared.config.Config.{Config}
 use Rattle.bt_end.specs.Configs.{part_for}
 use Rattle.bt_end.specs.Ends.{Part, Watching, Serving, Awaiting}
-use Rattle.bt_link.specs.declared.link.Side.{Side}
-use Rattle.bt_link.specs.declared.link.Side.TheVariants.{Left, Right}
-use Rattle.bt_link.specs.declared.link.Step.{Step}
+use Rattle.bt_session.specs.declared.link.Side.{Side}
+use Rattle.bt_session.specs.declared.link.Side.TheVariants.{Left, Right}
+use Rattle.bt_session.specs.declared.link.Step.{Step}
 use Rattle.bt_text.specs.Script.{has_feed}
 use Rattle.bt_rig.specs.declared.entry.Entry.TheVariants.{Set, Do}
 use Rattle.bt_rig.specs.declared.entry.Setting.{Setting}

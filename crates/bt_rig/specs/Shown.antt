@@ -12,11 +12,11 @@ use Rattle.bt_end.specs.declared.end.SayError.{SayError}
 use Rattle.bt_end.specs.declared.end.SayError.TheVariants as errors
 use Rattle.bt_end.specs.Ends.{metadata_of}
 use Rattle.bt_end.specs.Halves.{HalfState}
-use Rattle.bt_link.specs.declared.link.Outcome.{Outcome}
-use Rattle.bt_link.specs.declared.link.Outcome.TheVariants as outcomes
+use Rattle.bt_session.specs.declared.link.Outcome.{Outcome}
+use Rattle.bt_session.specs.declared.link.Outcome.TheVariants as outcomes
 use Rattle.bt_session.specs.declared.run.Connection.{Connection}
 use Rattle.bt_session.specs.declared.report.LinkReport.{LinkReport}
-use Rattle.bt_link.specs.MessageLinks.{size}
+use Rattle.bt_session.specs.MessageLinks.{size}
 use Rattle.bt_text.specs.Lines.{spaced, item_line}
 use Rattle.bt_wire.specs.Reasons.{reason_name}
 

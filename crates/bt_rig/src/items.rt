@@ -2,7 +2,7 @@
 ghost use Rattle.std.specs.Prelude.{◌≡◌, ◌+◌, ◌-◌, ◌^◌, min, ◌++◌, IfOk, OnOk, length as list_length};
 ghost use Rattle.bt_ext.specs.Payloads.{payload_of};
 ghost use Rattle.bt_wire.specs.declared.item.Item.TheVariants as items;
-ghost use Rattle.bt_link.specs.MessageLinks.{size};
+ghost use Rattle.bt_session.specs.MessageLinks.{size};
 ghost use Rattle.bt_text.specs.Lines.{item_line};
 ghost use Rattle.bt_rig.specs.Shown.{item_lines};
 

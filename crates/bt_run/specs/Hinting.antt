@@ -2,8 +2,8 @@
 use Rattle.std.specs.Prelude.{◌≡◌, ◌⊎◌, ℕ, List, [], Ok, Err, Bool, true, false}
 use Rattle.bt_text.specs.declared.ended.Ended.TheVariants as ends
 use Rattle.bt_io.specs.Seen.{TargetSeen}
-use Rattle.bt_hint.specs.declared.finding.Hint.{Hint}
-use Rattle.bt_hint.specs.Hints.{HasMark, hint_line}
+use Rattle.bt_run.specs.declared.hint.finding.Hint.{Hint}
+use Rattle.bt_run.specs.Hints.{HasMark, hint_line}
 use Rattle.bt_jobs.specs.PackHints.{IsPackHint}
 use Rattle.bt_run.specs.declared.commands.Hints.{Hints}
 use Rattle.bt_run.specs.declared.commands.Hints.TheVariants.{Auto, Always, Never}

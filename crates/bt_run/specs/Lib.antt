@@ -4,3 +4,5 @@ pub mod Hinting
 pub mod Options
 pub mod Others
 pub mod Runs
+pub mod Hints
+pub mod Windows

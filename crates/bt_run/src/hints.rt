@@ -5,7 +5,7 @@ ghost use Rattle.bt_run.specs.Hinting.{IsHinted, IsHintText, are_wanted as are_w
 use crate::commands::Hints;
 use crate::run::{JobEnd, say};
 use bt_feed::Target;
-use bt_hint::{WINDOW, hint_line, hint_of};
+use crate::hint::{WINDOW, hint_line, hint_of};
 use bt_jobs::pack_hint;
 use bt_text::ended::Ended;
 use std::alloc::Global;

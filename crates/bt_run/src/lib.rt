@@ -5,6 +5,7 @@
 
 pub mod commands;
 pub mod ending;
+pub mod hint;
 pub mod hints;
 pub mod notice;
 pub mod other;

@@ -2,3 +2,17 @@ pub mod Recording
 pub mod Runs
 pub mod Blocks
 pub mod NewEnds
+pub mod LinkInvariant
+pub mod OwnMessages
+pub mod AssemblyLaws
+pub mod LinkReactions
+pub mod FetchParts
+pub mod UnderWay
+pub mod LinkMoves
+pub mod LinkTurns
+pub mod LinkSteps
+pub mod Links
+pub mod LinkExamples
+pub mod FetchReactions
+pub mod FetchInvariant
+pub mod FetchRuns

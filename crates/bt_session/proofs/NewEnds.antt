@@ -9,7 +9,7 @@ use Rattle.bt_ext.proofs.Entries.{above_0}
 use Rattle.bt_ext.specs.Ids.{metadata_id, donthave_id}
 use Rattle.bt_metadata.specs.Blocks.{max_metadata}
 use Rattle.bt_end.specs.Configs.{config_error, is_bad_limit, is_bad_role, end_for, part_for}
-use Rattle.bt_link.specs.LinkLaws.{source_of, IsMetadata, IsFirstPart, IsNew, AreMatched}
+use Rattle.bt_session.specs.LinkLaws.{source_of, IsMetadata, IsFirstPart, IsNew, AreMatched}
 use Rattle.bt_session.specs.Reports.{DoMatch}
 use Rattle.bt_end.specs.declared.config.Config.{Config}
 use Rattle.bt_end.specs.declared.config.EndError.TheVariants.{BadLimit, BadConfig, BadSize}

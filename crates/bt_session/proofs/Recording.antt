@@ -12,7 +12,7 @@ use Rattle.bt_wire.specs.Fronts.{BeginsBy, IsPartial}
 use Rattle.bt_wire.specs.Messages.{spell, order_after}
 use Rattle.bt_wire.proofs.SpellLaws.{none_begins, length-spell, spelled_first, fits}
 use Rattle.bt_wire.proofs.WindowLaws.{fault-spell, one_fault}
-use Rattle.bt_link.specs.ByteLinks.{MayBeSent}
+use Rattle.bt_session.specs.ByteLinks.{MayBeSent}
 use Rattle.bt_end.specs.Ends.{Reaction, belief, spelled}
 use Rattle.bt_end.specs.Halves.{HalfState}
 use Rattle.bt_session.specs.Nodes.{Spells, IsRecording}

@@ -8,27 +8,27 @@ use Rattle.bt_wire.specs.Messages.{IsInRange}
 use Rattle.bt_feed.specs.Answers.{standing}
 use Rattle.bt_io.specs.declared.outbox.Memory.{Memory}
 use Rattle.bt_end.specs.Ends.{EndState}
-use Rattle.bt_link.specs.LinkLaws.{IsWritten, AreWritten, IsShortRun, most_steps}
-use Rattle.bt_link.proofs.Links.{queued_may_be_sent}
+use Rattle.bt_session.specs.LinkLaws.{IsWritten, AreWritten, IsShortRun, most_steps}
+use Rattle.bt_session.proofs.Links.{queued_may_be_sent}
 use Rattle.bt_end.specs.Halves.{high_water, is_own_made, tells_pieces}
-use Rattle.bt_link.specs.ByteLinks as B
-use Rattle.bt_link.specs.MessageLinks as M
-use Rattle.bt_link.specs.MessageLinks.{bare}
+use Rattle.bt_session.specs.ByteLinks as B
+use Rattle.bt_session.specs.MessageLinks as M
+use Rattle.bt_session.specs.MessageLinks.{bare}
 use Rattle.bt_session.specs.Nodes.{IsNodeOf, MayHandle}
 use Rattle.bt_session.specs.Reports.{IsConnectionOf, AreConnectionsOf}
 use Rattle.bt_session.specs.Runs.{IsLinkOf, EachMayHandle, AreNew}
-use Rattle.bt_link.specs.declared.link.Outcome.{Outcome}
-use Rattle.bt_link.specs.declared.link.Outcome.TheVariants as outcome
-use Rattle.bt_link.specs.declared.link.Side.{Side}
-use Rattle.bt_link.specs.declared.link.Side.TheVariants.{Left, Right}
+use Rattle.bt_session.specs.declared.link.Outcome.{Outcome}
+use Rattle.bt_session.specs.declared.link.Outcome.TheVariants as outcome
+use Rattle.bt_session.specs.declared.link.Side.{Side}
+use Rattle.bt_session.specs.declared.link.Side.TheVariants.{Left, Right}
 use Rattle.bt_wire.specs.declared.item.Item.{Item}
 use Rattle.bt_end.specs.declared.end.SayError.TheVariants as say_error
-use Rattle.bt_link.specs.declared.link.Step.{Step}
-use Rattle.bt_link.specs.declared.link.Step.TheVariants as step
+use Rattle.bt_session.specs.declared.link.Step.{Step}
+use Rattle.bt_session.specs.declared.link.Step.TheVariants as step
 use Rattle.bt_session.specs.declared.node.Node.{Node}
 use Rattle.bt_session.specs.declared.run.Connection.{Connection}
 use Rattle.bt_session.specs.declared.run.Link.{Link}
-use Rattle.bt_link.proofs.LinkSteps.{unsaid_none, belief_range}
+use Rattle.bt_session.proofs.LinkSteps.{unsaid_none, belief_range}
 
 -- what a step of the link n gives, and leaves as m
 abbrev pub Steps : Link → Step → Outcome → Link → Type 0

@@ -7,11 +7,11 @@ use Rattle.bt_wire.specs.declared.item.Item.{Item}
 use Rattle.bt_wire.specs.declared.item.Item.TheVariants as items
 use Rattle.bt_wire.specs.Messages.{Message}
 use Rattle.bt_wire.specs.Messages.{spell}
-use Rattle.bt_link.specs.ByteLinks as B
+use Rattle.bt_session.specs.ByteLinks as B
 use Rattle.bt_end.specs.declared.end.TurnError.{TurnError}
 use Rattle.bt_end.specs.declared.end.TurnError.TheVariants as turn_error
-use Rattle.bt_link.specs.declared.link.Outcome.{Outcome}
-use Rattle.bt_link.specs.declared.link.Outcome.TheVariants as outcome
+use Rattle.bt_session.specs.declared.link.Outcome.{Outcome}
+use Rattle.bt_session.specs.declared.link.Outcome.TheVariants as outcome
 use Rattle.bt_session.specs.declared.node.Node.{Node}
 
 pub record IsNodeOf (n : Node) (x : B.Node) : Type 0 where

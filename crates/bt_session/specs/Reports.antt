@@ -5,15 +5,15 @@ use Rattle.sha1.specs.Sha1.{sha1}
 use Rattle.std.specs.Global.{Global}
 use Rattle.bt_wire.specs.declared.context.Own.{Own}
 use Rattle.bt_end.specs.Configs.{config_error}
-use Rattle.bt_link.specs.ByteLinks as B
+use Rattle.bt_session.specs.ByteLinks as B
 use Rattle.bt_end.specs.Ends.{EndState, Part, Fetching}
 use Rattle.bt_metadata.specs.Assemblies.{Slot, block_in}
 use Rattle.bt_wire.specs.declared.item.Item.{Item}
-use Rattle.bt_link.specs.LinkLaws.{SamePieces, AreMatched, most_steps}
-use Rattle.bt_link.specs.MessageLinks as M
+use Rattle.bt_session.specs.LinkLaws.{SamePieces, AreMatched, most_steps}
+use Rattle.bt_session.specs.MessageLinks as M
 use Rattle.bt_session.specs.declared.run.Connection.{Connection}
 use Rattle.bt_session.specs.declared.run.Link.{Link}
-use Rattle.bt_link.specs.declared.link.Step.{Step}
+use Rattle.bt_session.specs.declared.link.Step.{Step}
 use Rattle.bt_end.specs.declared.config.Config.{Config}
 use Rattle.bt_end.specs.declared.config.EndError.TheVariants as end_error
 use Rattle.bt_end.specs.declared.config.Role.{Role}

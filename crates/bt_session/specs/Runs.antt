@@ -1,13 +1,13 @@
 -- For private contracts: a link as a value.
 use Rattle.std.specs.Prelude.{◌≡◌, ℕ, ◌<◌, List, [], ◌∷◌, length, map, ⊤}
 use Rattle.std.specs.Global.{Vec}
-use Rattle.bt_link.specs.ByteLinks as B
+use Rattle.bt_session.specs.ByteLinks as B
 use Rattle.bt_end.specs.Ends.{EndState}
-use Rattle.bt_link.specs.LinkLaws.{IsNew, AreMatched, most_steps}
+use Rattle.bt_session.specs.LinkLaws.{IsNew, AreMatched, most_steps}
 use Rattle.bt_session.specs.Nodes.{IsNodeOf, MayHandle}
 use Rattle.bt_session.specs.Reports.{AreConnectionsOf, blocks_of, held_blocks}
-use Rattle.bt_link.specs.declared.link.Outcome.{Outcome}
-use Rattle.bt_link.specs.declared.link.Step.{Step}
+use Rattle.bt_session.specs.declared.link.Outcome.{Outcome}
+use Rattle.bt_session.specs.declared.link.Step.{Step}
 use Rattle.bt_session.specs.declared.report.LinkError.{LinkError}
 use Rattle.bt_session.specs.declared.report.LinkError.TheVariants as error
 use Rattle.bt_session.specs.declared.run.Link.{Link}

@@ -3,8 +3,8 @@ ghost use Rattle.std.specs.Prelude.{◌≡◌, ◌<◌, ◌^◌, None, length, I
 ghost use Rattle.bt_ext.specs.Ids.{metadata_id, donthave_id};
 ghost use Rattle.bt_wire.specs.Messages.{IsInRange, AreInRange, IsIdInRange, fields_of, id_of};
 ghost use Rattle.bt_end.specs.Configs.{end_for, config_error};
-ghost use Rattle.bt_link.specs.LinkLaws.{IsNew};
-ghost use Rattle.bt_link.specs.MessageLinks.{bare};
+ghost use Rattle.bt_session.specs.LinkLaws.{IsNew};
+ghost use Rattle.bt_session.specs.MessageLinks.{bare};
 
 use bt_end::Config;
 use bt_ext::{Ext, Registered};

@@ -4,6 +4,8 @@
 #![tactic(auto)]
 
 mod facts;
+pub mod laws;
+mod link;
 mod matching;
 mod node;
 mod report;
@@ -12,7 +14,7 @@ mod run;
 pub use bt_end::{
     Announce, Config, End, EndError, HIGH_WATER, Role, SayError, Turn, TurnError, Window,
 };
-pub use bt_link::{Outcome, Side, Step, laws};
+pub use link::{Outcome, Side, Step};
 pub use bt_metadata::{
     Assembly, BadSize, BlockError, MAX_METADATA, NewError, Reply, Server, Unfinished, WINDOW,
 };

@@ -1,6 +1,6 @@
 //! Whether two configs match, so that their ends can be linked.
 ghost use Rattle.std.specs.Prelude.{◌≡◌, true, false};
-ghost use Rattle.bt_link.specs.LinkLaws.{SamePieces};
+ghost use Rattle.bt_session.specs.LinkLaws.{SamePieces};
 ghost use Rattle.bt_session.specs.Reports.{IsRightFor, AreLike, DoMatch};
 
 use bt_end::{Config, Role};

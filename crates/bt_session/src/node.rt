@@ -3,11 +3,11 @@ ghost use Rattle.std.specs.Prelude.{◌≡◌, ◌-◌, ◌^◌, ◌<◌, ◌≤
 ghost use Rattle.bt_wire.specs.declared.item.Item.TheVariants as items;
 ghost use Rattle.bt_end.specs.Ends.{renewed};
 ghost use Rattle.bt_session.specs.Nodes.{IsNodeOf, MayHandle, IsRecorded, IsStop};
-ghost use Rattle.bt_link.specs.ByteLinks as links;
+ghost use Rattle.bt_session.specs.ByteLinks as links;
 
 use bt_end::{End, SayError, Turn, TurnError};
 use bt_feed::{Memory, Outbox};
-use bt_link::Outcome;
+use crate::link::Outcome;
 use bt_wire::{Context, Front, Item, Message, Order, copy_message, next, read_front};
 use std::alloc::{AllocError, Global};
 use std::mem;

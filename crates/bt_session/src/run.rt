@@ -1,14 +1,14 @@
 //! The link of two ends as a run changes it, step by step. Its report is made elsewhere.
 ghost use Rattle.std.specs.Prelude.{◌≡◌, ◌≤◌, ◌++◌, ◌∷◌, [], length, IfOk, OnOk};
-ghost use Rattle.bt_link.specs.declared.link.Step.TheVariants as steps;
-ghost use Rattle.bt_link.specs.ByteLinks as links;
-ghost use Rattle.bt_link.specs.LinkLaws.{IsWritten, most_steps};
+ghost use Rattle.bt_session.specs.declared.link.Step.TheVariants as steps;
+ghost use Rattle.bt_session.specs.ByteLinks as links;
+ghost use Rattle.bt_session.specs.LinkLaws.{IsWritten, most_steps};
 ghost use Rattle.bt_session.specs.Runs.{IsLinkOf, EachMayHandle, DoneBy};
 
 use crate::facts::is_written;
 use crate::node::Node;
 use bt_feed::Memory;
-use bt_link::{Outcome, Side, Step};
+use crate::link::{Outcome, Side, Step};
 use bt_wire::{Item, Message};
 use std::alloc::{AllocError, Global};
 

@@ -18,7 +18,7 @@ use bt_cli::run::{JobEnd, do_job, say};
 use bt_cli::serve::{ServeJob, end_serve, run_serve};
 use bt_ext::Rules;
 use bt_feed::Host;
-use bt_hint::Kept;
+use bt_run::hint::Kept;
 use bt_jobs::output::write_out;
 use bt_jobs::{OtherError, run_check_after};
 use bt_net::{open_tcp, run_loop};

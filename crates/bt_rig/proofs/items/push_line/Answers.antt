@@ -1,5 +1,5 @@
 use Rattle.std.proofs.Common.{◌<◌, ◌^◌, arith}
-use Rattle.bt_link.specs.MessageLinks.{size}
+use Rattle.bt_session.specs.MessageLinks.{size}
 use Rattle.bt_rig.proofs.Lengths.{has_lengths}
 use Rattle.bt_rig.proofs.items.push_line.Goals as goal
 

@@ -1,7 +1,7 @@
 use Rattle.std.proofs.Common.{◌≡◌, ℕ, List, ◌∷◌, [], ◌++◌, length, map, ap, ◌∙◌, sym, subst, rules}
 use Rattle.std.specs.Global.{Vec}
 use Rattle.bt_end.specs.Halves.{HalfState}
-use Rattle.bt_link.specs.ByteLinks as B
+use Rattle.bt_session.specs.ByteLinks as B
 use Rattle.bt_session.specs.Reports.{IsConnectionOf, AreConnectionsOf, blocks_of, held_blocks, present}
 use Rattle.bt_session.specs.Runs.{IsLinkOf, IsClosed}
 use Rattle.bt_session.specs.declared.run.Connection.{Connection}

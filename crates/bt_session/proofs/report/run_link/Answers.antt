@@ -1,12 +1,12 @@
 use Rattle.std.proofs.Common.{map, ap, ◌∙◌, sym, subst}
-use Rattle.bt_link.specs.ByteLinks as B
+use Rattle.bt_session.specs.ByteLinks as B
 use Rattle.bt_end.specs.Configs.{end_for}
 use Rattle.bt_end.specs.Ends.{EndState}
-use Rattle.bt_link.specs.LinkLaws.{AreMatched}
+use Rattle.bt_session.specs.LinkLaws.{AreMatched}
 use Rattle.std.specs.Global.{Vec}
 use Rattle.bt_session.specs.Reports.{AreConnectionsOf, blocks_of}
 use Rattle.bt_session.specs.Runs.{AreNew}
-use Rattle.bt_link.specs.declared.link.Outcome.{Outcome}
+use Rattle.bt_session.specs.declared.link.Outcome.{Outcome}
 use Rattle.bt_session.specs.declared.run.Connection.{Connection}
 use Rattle.bt_session.proofs.NewEnds.{matched_ends}
 use Rattle.bt_session.proofs.report.run_link.Goals as goal

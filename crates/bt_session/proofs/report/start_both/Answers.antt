@@ -1,5 +1,5 @@
 use Rattle.std.proofs.Common.{List, [], sym, subst}
-use Rattle.bt_link.specs.MessageLinks as M
+use Rattle.bt_session.specs.MessageLinks as M
 use Rattle.bt_session.specs.Reports.{AreConnectionsOf}
 use Rattle.bt_session.specs.declared.run.Connection.{Connection}
 use Rattle.bt_session.proofs.report.start_both.Goals as goal

@@ -1,7 +1,7 @@
 use Rattle.std.proofs.Common.{take}
 use Rattle.bt_end.specs.Ends.{EndState}
-use Rattle.bt_link.specs.LinkLaws.{AreWritten}
-use Rattle.bt_link.specs.ByteLinks as B
+use Rattle.bt_session.specs.LinkLaws.{AreWritten}
+use Rattle.bt_session.specs.ByteLinks as B
 use Rattle.bt_session.specs.Runs.{IsLinkOf, AreNew}
 use Rattle.bt_session.proofs.run.run.Given as goal
 

@@ -2,7 +2,7 @@ use Rattle.std.proofs.Common.{List, sym, ◌∙◌, ap, subst, vec_len, arith}
 use Rattle.std.proofs.lemmas.Bool.{eqb-true}
 use Rattle.bt_rig.specs.Entries.{IsReading}
 use Rattle.std.proofs.lemmas.List.{nil_from_length}
-use Rattle.bt_link.specs.declared.link.Step.{Step}
+use Rattle.bt_session.specs.declared.link.Step.{Step}
 use Rattle.bt_rig.specs.Scripts.{draft_of, sets, does}
 use Rattle.bt_rig.proofs.Reading.{none_taken, says_set, says_do}
 use Rattle.bt_rig.proofs.script.Draft.take.Goals as goal

@@ -4,13 +4,13 @@ use Rattle.bt_wire.specs.declared.item.Item.{Item}
 use Rattle.bt_wire.specs.declared.item.Item.TheVariants as items
 use Rattle.bt_end.specs.Ends.{Reaction, belief, react}
 use Rattle.bt_end.specs.Halves.{HalfState, IsTurned}
-use Rattle.bt_link.specs.ByteLinks as B
+use Rattle.bt_session.specs.ByteLinks as B
 use Rattle.bt_session.specs.Nodes.{IsNodeOf, MayHandle, Spells, IsStop}
 use Rattle.bt_end.specs.declared.end.Turn.TheVariants as turn
 use Rattle.bt_end.specs.declared.end.TurnError.{TurnError}
 use Rattle.bt_end.specs.declared.end.TurnError.TheVariants as turn_error
-use Rattle.bt_link.specs.declared.link.Outcome.{Outcome}
-use Rattle.bt_link.specs.declared.link.Outcome.TheVariants as outcome
+use Rattle.bt_session.specs.declared.link.Outcome.{Outcome}
+use Rattle.bt_session.specs.declared.link.Outcome.TheVariants as outcome
 use Rattle.bt_session.specs.declared.node.Node.{Node}
 use Rattle.bt_session.proofs.Recording.{spells_queued}
 use Rattle.bt_session.proofs.node.Node.handle.Goals as goal

@@ -3,7 +3,7 @@ use Rattle.bt_wire.specs.declared.item.Item.{Item}
 use Rattle.bt_wire.specs.declared.item.Item.TheVariants as items
 use Rattle.bt_end.specs.Ends.{belief, queueing}
 use Rattle.bt_end.specs.Halves.{HalfState, reacted, IsSayable}
-use Rattle.bt_link.specs.ByteLinks as B
+use Rattle.bt_session.specs.ByteLinks as B
 use Rattle.bt_session.specs.Nodes.{Spells}
 use Rattle.bt_session.proofs.Recording.{spells_queued}
 use Rattle.bt_session.proofs.node.Node.say.Goals as goal

@@ -1,7 +1,7 @@
 use Rattle.std.proofs.Common.{sym, subst}
-use Rattle.bt_link.specs.declared.link.Side.{Side}
-use Rattle.bt_link.specs.declared.link.Outcome.TheVariants as outcome
-use Rattle.bt_link.specs.declared.link.Step.TheVariants as step
+use Rattle.bt_session.specs.declared.link.Side.{Side}
+use Rattle.bt_session.specs.declared.link.Outcome.TheVariants as outcome
+use Rattle.bt_session.specs.declared.link.Step.TheVariants as step
 use Rattle.bt_session.proofs.Runs.{Goes, deliver_left, deliver_right}
 use Rattle.bt_session.proofs.run.Link.deliver.Goals as goal
 

@@ -1,5 +1,5 @@
 use Rattle.std.proofs.Common.{List, ◌∷◌, [], ◌++◌, length, refl, sym, subst}
-use Rattle.bt_link.specs.ByteLinks as B
+use Rattle.bt_session.specs.ByteLinks as B
 use Rattle.bt_session.specs.Reports.{IsConnectionOf, AreConnectionsOf}
 use Rattle.bt_session.specs.declared.run.Connection.{Connection}
 use Rattle.bt_session.proofs.Runs.{both, connections_more}

@@ -1,6 +1,6 @@
 use Rattle.std.proofs.Common.{sym, subst, IfOk}
-use Rattle.bt_link.specs.declared.link.Side.{Side}
-use Rattle.bt_link.specs.declared.link.Step.TheVariants as step
+use Rattle.bt_session.specs.declared.link.Side.{Side}
+use Rattle.bt_session.specs.declared.link.Step.TheVariants as step
 use Rattle.bt_session.proofs.Runs.{Goes, say_left, say_right}
 use Rattle.bt_session.proofs.run.Link.say.Goals as goal
 

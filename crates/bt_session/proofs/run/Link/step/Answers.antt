@@ -1,8 +1,8 @@
 use Rattle.std.proofs.Common.{◌≡◌, Result, Ok, Err, IfOk, sym, subst}
 use Rattle.bt_io.specs.declared.outbox.Memory.{Memory}
-use Rattle.bt_link.specs.declared.link.Outcome.{Outcome}
-use Rattle.bt_link.specs.declared.link.Step.{Step}
-use Rattle.bt_link.specs.declared.link.Step.TheVariants as step
+use Rattle.bt_session.specs.declared.link.Outcome.{Outcome}
+use Rattle.bt_session.specs.declared.link.Step.{Step}
+use Rattle.bt_session.specs.declared.link.Step.TheVariants as step
 use Rattle.bt_session.specs.declared.run.Link.{Link}
 use Rattle.bt_session.proofs.Runs.{Steps, Goes}
 use Rattle.bt_session.proofs.run.Link.step.Goals as goal

@@ -1,5 +1,0 @@
-use Rattle.bt_link.proofs.Links.{outcomes_are_one}
-use Rattle.bt_link.proofs.laws.one_outcome.Goals as goal
-
-pub returns : goal.returns
-returns c = outcomes_are_one

@@ -1,5 +1,0 @@
-use Rattle.bt_link.proofs.Links as links
-use Rattle.bt_link.proofs.laws.queued_may_be_sent.Goals as goal
-
-pub returns : goal.returns
-returns c = links.queued_may_be_sent

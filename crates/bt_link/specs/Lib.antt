@@ -1,4 +1,0 @@
-pub mod MessageLinks
-pub mod ByteLinks
-pub mod LinkLaws
-pub mod FetchLaws
