@@ -66,7 +66,7 @@ pub fn longest_line(receiver: &Receiver) -> usize {
     2 * receiver.limit as usize + 256
 }
 
-/// Writes the stream of a script, up to the first line that isn't taken, whose number it answers, and why.
+/// Encodes a script into a stream; stops at the first invalid line, and returns its number and the reason.
 pub fn pack<R: Read, W: Write>(
     receiver: &mut Receiver,
     input: &mut Input<R>,

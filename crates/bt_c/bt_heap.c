@@ -1,8 +1,8 @@
 /* bt_heap.c: the memory of an end (bt.h), over malloc, realloc and free. It is in libbt.a and libbt.so.
  *
  * To give ends other memory, define these three functions in the program, and link libbt.a after it. What they owe: a block of
- * n bytes at a multiple of align, which is at most 16; p is never null, also where ok is 0; n may be 0; and rattle_realloc
- * keeps the first `kept` bytes, and leaves the block as it was where ok is 0.
+ * n bytes at a multiple of align, which is at most 16; p is never null, also if ok is 0; n may be 0; and rattle_realloc
+ * keeps the first `kept` bytes, and leaves the block as it was if ok is 0.
  */
 typedef struct {
     _Bool ok;

@@ -84,7 +84,7 @@ export class Items {
   }
 
   /**
-   * What a message doesn't have stays as it was in the struct, so only what it has is taken.
+   * Fields that don't apply to the message are left unchanged in the struct, so only the others are read.
    * @param {number} k @param {number} id @param {Uint32Array} words @param {number} w
    */
   takeMessage(k, id, words, w) {

@@ -113,7 +113,7 @@ export class Inspector {
       told = reasonWords(this.tables.reasons, verdict, bytes, own);
     const field = found.find(one => bad >= one.from && bad < one.to);
     return h('div.refusal', { class: kind, role: 'alert' },
-      h('div.rtitle', told.title, proved('The place and the reason are the proved reader’s.', ' proved verdict')),
+      h('div.rtitle', told.title, proved('The offset and the reason are the proved reader’s.', ' proved verdict')),
       h('div.rwords', `${told.words}.`),
       h('div.rfacts', h('b', verdict.reason), h('span', told.section), h('span', `rules ${event.rules}`),
         h('span', `message ${verdict.message}, byte ${grouped(verdict.at)}${field ? ` (${field.name})` : ''}`)),

@@ -107,7 +107,7 @@ class SummaryView {
       { span, hasTimes, isWhole: true, unit: value => grouped(Math.round(value)),
         text: `Pieces had ${over}: A ${total(haves[0])}, B ${total(haves[1])} at the end` }));
     return [card('Bytes sent', over, legend([['--a', 'A → B'], ['--b', 'B → A']]), bytes),
-      card('Pieces had', 'as told by bitfield and have', legend([['--a', 'A'], ['--b', 'B']]), pieces)];
+      card('Pieces had', 'as announced by bitfield and have', legend([['--a', 'A'], ['--b', 'B']]), pieces)];
   }
 
   latencies() {

@@ -2,7 +2,7 @@
 
     import bt
 
-    for item in bt.read(data):                      # raises bt.Refused where the stream is refused
+    for item in bt.read(data):                      # raises bt.Refused if the stream is refused
         print(item.start, item.name, item.index)
 
     feed = bt.Feed(bt.Own(strict=True))             # chunks of any size, as a socket gives them

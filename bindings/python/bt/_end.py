@@ -115,7 +115,7 @@ class End:
         return window
 
     def receive(self, data: lib.Bytes) -> Iterator[Heard]:
-        """Takes all bytes, and returns an iterator over what the peer says in them, each handled before it is told.
+        """Takes all bytes, and returns an iterator over the items in them, each handled before it is returned.
 
         What isn't taken from an iterator isn't lost: the next one begins with it. It ends early if 1 MiB waits to be sent:
         send some, and receive again, which may be no bytes. It raises Refused if the peer breaks a rule, and so does each
@@ -169,14 +169,14 @@ class End:
         return struct.pack(">IB", 1 + len(content) + len(body), number) + content + body
 
     def outgoing(self, most: int = 65536) -> bytes:
-        """Returns the first bytes that wait to be sent, at most so many. They still wait."""
+        """Returns the first bytes that wait to be sent, at most this many. They still wait."""
         self._open()
         out = C.create_string_buffer(min(most, lib.bt.bt_end_waiting(self._c)))
         n = lib.bt.bt_end_outgoing(self._c, out, len(out))
         return out.raw[:n]
 
     def sent(self, n: int) -> None:
-        """Drops the first bytes that wait, since so many were sent."""
+        """Drops the first bytes that wait, since this many were sent."""
         self._open()
         lib.bt.bt_end_sent(self._c, lib.number(n, 64, "n"))
 
@@ -187,7 +187,7 @@ class End:
         return found
 
     def say(self, id: int, index: int = 0, begin: int = 0, length: int = 0, port: int = 0, body: lib.Bytes = b"") -> None:
-        """Says a message by its id, the numbers that the id has, and its bitfield or block. It then waits to be sent.
+        """Queues a message by its id, the numbers that the id has, and its bitfield or block. It then waits to be sent.
 
         Raises ValueError if the peer would refuse it, or if the end can't say it now; then nothing has changed.
         """
@@ -195,7 +195,7 @@ class End:
                            length=lib.number(length, 32, "length"), port=lib.number(port, 16, "port")), lib.content(body, "body"))
 
     def say_donthave(self, piece: int) -> None:
-        """Says that a piece isn't had any more, as `say`. The peer has announced lt_donthave."""
+        """Announces that a piece isn't there any more, as `say`. The peer has announced lt_donthave."""
         item = lib.Item(id=Id.EXTENDED)
         item.extended.kind, item.extended.piece = Kind.DONTHAVE, lib.number(piece, 32, "piece")
         self._say(item, b"")
@@ -238,7 +238,7 @@ class End:
         _done(lib.bt.bt_end_begin(self._c, lib.number(size, 64, "size")))
 
     def set_window(self, window: int) -> None:
-        """Asks for at most so many blocks at once from now on, 1 to 8."""
+        """Requests at most this many blocks at once from now on, 1 to 8."""
         self._open()
         lib.bt.bt_end_set_window(self._c, self._window(window))
 

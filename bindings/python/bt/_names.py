@@ -94,7 +94,7 @@ class Event(enum.IntEnum):
 
 
 class Announce(enum.IntEnum):
-    """What an end says of its pieces after the handshakes."""
+    """What an end announces of its pieces after the handshakes."""
 
     NOTHING = 0
     ALL = 1

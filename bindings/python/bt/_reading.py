@@ -40,7 +40,7 @@ class _Reader:
 
 
 def read(data: lib.Bytes, own: Optional[Own] = None) -> Iterator[Item]:
-    """Returns an iterator over the items of a whole stream, which raises Refused where the stream is refused."""
+    """Returns an iterator over the items of a whole stream, which raises Refused if the stream is refused."""
     return _items(lib.content(data), _Reader(own))
 
 
@@ -70,7 +70,7 @@ class Feed:
 
     @property
     def start(self) -> int:
-        """Where the next item starts on the stream."""
+        """The offset of the next item in the stream."""
         return self._ready[0].start if self._ready else self._reader.state.start
 
     def push(self, chunk: lib.Bytes) -> Iterator[Item]:

@@ -1,4 +1,4 @@
-"""The receiver, the items of a stream, and what is raised where it is refused."""
+"""The receiver, the items of a stream, and what is raised if it is refused."""
 from __future__ import annotations
 
 import ctypes as C
@@ -158,7 +158,7 @@ class Item:
 
 
 def _name(number: int, kind: int) -> str:
-    """The name of an item, which its id says, and the kind of an extended message."""
+    """The name of an item, by its id and the kind of an extended message."""
     found = _names.get((number, kind))
     if found is None:
         item = lib.Item(id=number)

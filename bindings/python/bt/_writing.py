@@ -25,7 +25,7 @@ def handshake(info_hash: lib.Bytes, peer_id: lib.Bytes, reserved: int = FAST | D
 class Writer:
     """Writes messages, each judged as the peer judges it.
 
-    It is made of your own values and the reserved bits of the peer's handshake, and has to hear the peer's extended
+    It is made of your own values and the reserved bits of the peer's handshake, and has to be given the peer's extended
     handshakes. Write in the order in which you send. Each method returns the bytes of a message. It raises Refused if the
     peer would refuse it, and ValueError for a number that doesn't fit; then nothing has changed.
     """

@@ -1,5 +1,5 @@
 #!/usr/bin/env python3
-"""Prints what an end that fetches hears of what peers sent, and what it answers. usage: events.py INFO-HASH FILE.."""
+"""Prints the events of an end that fetches, by what peers sent, and its answers. usage: events.py INFO-HASH FILE.."""
 import os
 import sys
 

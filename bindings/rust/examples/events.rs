@@ -1,4 +1,4 @@
-//! Prints what an end that fetches hears of what peers sent, and what it answers. usage: events INFO-HASH FILE..
+//! Prints the events of an end that fetches, by what peers sent, and its answers. usage: events INFO-HASH FILE..
 use bt::{Config, End, EndError, Event, Own, Role};
 use std::error::Error;
 

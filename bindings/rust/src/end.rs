@@ -20,11 +20,11 @@ pub enum Role<'a> {
     Watch,
     /// It serves this metadata, which is copied.
     Serve(&'a [u8]),
-    /// It fetches the metadata, of at most so many bytes if a number is given.
+    /// It fetches the metadata, of at most this many bytes if a number is given.
     Fetch(Option<u64>),
 }
 
-/// What an end says of its pieces after the handshakes (BEP 6).
+/// What an end announces of its pieces after the handshakes (BEP 6).
 #[derive(Clone, Copy, Debug, PartialEq, Eq)]
 pub enum Announce {
     /// Nothing.
@@ -42,7 +42,7 @@ pub struct Config<'a> {
     pub own: Own,
     /// Its peer id.
     pub peer_id: [u8; 20],
-    /// What it says of its pieces.
+    /// What it announces of its pieces.
     pub announce: Announce,
     /// How many blocks of metadata it asks for at once, 1 to 8; any other number is 8.
     pub window: u8,
@@ -76,7 +76,7 @@ pub enum EndError {
     BadSize,
     /// The peer's handshake hasn't come, or what came is refused.
     NotOpen,
-    /// The message tells of pieces, and the piece count isn't known.
+    /// The message has a piece index or is a bitfield, and the piece count isn't known.
     NoPieces,
     /// The peer would refuse the message.
     Illegal,
@@ -307,7 +307,7 @@ impl End {
         unsafe { ffi::bt_end_sent(&mut self.c, n) };
     }
 
-    /// Says a message, which then waits to be sent. Of the extended messages only `DontHave` is said.
+    /// Queues a message. Of the extended messages only `DontHave` is queued.
     ///
     /// # Errors
     /// Why it can't be said; nothing has changed.
@@ -361,7 +361,7 @@ impl End {
         done(unsafe { ffi::bt_end_begin(&mut self.c, size) })
     }
 
-    /// Asks for at most so many blocks at once from now on, 1 to 8; any other number is 8.
+    /// Requests at most this many blocks at once from now on, 1 to 8; any other number is 8.
     pub fn set_window(&mut self, window: u8) {
         // SAFETY: it is what the calls left.
         unsafe { ffi::bt_end_set_window(&mut self.c, window) };

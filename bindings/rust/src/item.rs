@@ -1,7 +1,7 @@
 //! What a stream has: the handshake and the messages.
 use crate::ffi;
 
-/// An item of a stream, with its bytes where they lie.
+/// An item of a stream, which borrows its bytes.
 #[derive(Clone, Copy, Debug, PartialEq, Eq)]
 pub struct Item<'a> {
     /// Its offset on the stream.

@@ -43,7 +43,7 @@ pub struct Items<'a> {
     over: bool,
 }
 
-/// Returns an iterator over the items of a whole stream, with their bytes where they lie.
+/// Returns an iterator over the items of a whole stream, which borrow its bytes.
 ///
 /// ```
 /// for item in bt::read(&[], &bt::Own::default()) {
@@ -87,7 +87,7 @@ impl Feed {
         Feed { state: State::new(own), bytes: Vec::new(), at: 0 }
     }
 
-    /// Returns where the next item starts on the stream.
+    /// Returns the offset of the next item in the stream.
     pub fn start(&self) -> u64 {
         self.state.reader.start
     }

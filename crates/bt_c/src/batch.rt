@@ -18,7 +18,7 @@ pub struct BtBatch {
 ///
 /// They are those of calls of [`bt_reader_next`](crate::bt_reader_next) in a row.
 ///
-/// Returns 1 where the array is full. Else it returns what the call after these items returns, which shows a refusal in the
+/// Returns 1 if the array is full. Otherwise it returns what the call after these items returns, which shows a refusal in the
 /// next item of the array.
 #[unsafe(no_mangle)]
 pub extern "C" fn bt_reader_batch(

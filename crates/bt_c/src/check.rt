@@ -17,7 +17,7 @@ pub struct BtVerdict {
     ///
     /// Of an accepted stream how many messages it has.
     pub message: u64,
-    /// Where it is refused, counted from the start of the stream.
+    /// The offset of the refusal, from the start of the stream.
     ///
     /// Of an accepted stream how many bytes it has.
     pub at: u64,
@@ -27,7 +27,7 @@ pub struct BtVerdict {
 
 /// Judges the bytes as a whole stream.
 ///
-/// Returns 3 where the stream is accepted, and 2 where it is refused.
+/// Returns 3 if the stream is accepted, and 2 if it is refused.
 #[unsafe(no_mangle)]
 pub extern "C" fn bt_check(own: &BtOwn, bytes: &[u8], verdict: &mut BtVerdict) -> u32
     ensures { (v : Outcome) × IsVerdict (own_of own.now) bytes.now v × ShowsVerdict verdict.new bytes.now v result }

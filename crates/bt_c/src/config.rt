@@ -35,7 +35,7 @@ fn announce_of(announce: u8) -> Announce
     }
 }
 
-/// Returns the window of so many blocks.
+/// Returns the window of this many blocks.
 pub fn window_of(blocks: u8) -> Window
     ensures { result ≡ window_by blocks }
 {
@@ -58,7 +58,7 @@ fn role_of(alloc: Global, config: &BtEndConfig, metadata: &[u8]) -> Result<Role,
     }
 }
 
-/// Fetches metadata of at most so many bytes; of any size for 0.
+/// Fetches metadata of at most this many bytes; of any size for 0.
 fn fetch_of(most: u64) -> Role
     ensures { IsRoleOf 2 most [] result }
 {

@@ -59,7 +59,7 @@ pub extern "C" fn bt_end_new(
     }
 }
 
-/// Frees an end. Where there is none nothing happens.
+/// Frees an end. If there is none, nothing happens.
 #[unsafe(no_mangle)]
 pub extern "C" fn bt_end_free(alloc: Global, end: &mut BtEnd)
     ensures { end.new.slot.value ≡ None }
@@ -67,7 +67,9 @@ pub extern "C" fn bt_end_free(alloc: Global, end: &mut BtEnd)
     let _ = end.take(alloc);
 }
 
-/// Handles bytes from the peer, and says how many were used. Where they are refused, the verdict says where and why.
+/// Handles bytes from the peer, and returns how many were used.
+///
+/// If they are refused, the verdict has the offset and the reason.
 #[unsafe(no_mangle)]
 pub extern "C" fn bt_end_handle(
     alloc: Global,
@@ -102,7 +104,7 @@ fn put(bytes: &[u8], out: &mut [u8]) -> usize
     count
 }
 
-/// How many bytes wait to be sent.
+/// Returns how many bytes wait to be sent.
 #[unsafe(no_mangle)]
 pub extern "C" fn bt_end_waiting(alloc: Global, end: &mut BtEnd) -> usize
     ensures value { result ≡ length (to_send end.old.slot.value) }
@@ -135,7 +137,7 @@ pub extern "C" fn bt_end_outgoing(alloc: Global, end: &mut BtEnd, out: &mut [u8]
     }
 }
 
-/// Drops the first n of them, or all where they are fewer.
+/// Drops the first `n` of them, or all if they are fewer.
 #[unsafe(no_mangle)]
 pub extern "C" fn bt_end_sent(alloc: Global, end: &mut BtEnd, n: usize)
     ensures { end.new.slot.value ≡ sent_by n end.old.slot.value }
@@ -147,7 +149,9 @@ pub extern "C" fn bt_end_sent(alloc: Global, end: &mut BtEnd, n: usize)
     }
 }
 
-/// Copies the metadata, where it was fetched and there is room for it. Returns how many bytes it has, or 0.
+/// Copies the metadata, if it was fetched and there is room for it.
+///
+/// Returns how many bytes it has, or 0.
 #[unsafe(no_mangle)]
 pub extern "C" fn bt_end_metadata(alloc: Global, end: &mut BtEnd, out: &mut [u8]) -> usize
     ensures size { result ≡ length (fetched end.old.slot.value) }
@@ -173,7 +177,7 @@ pub extern "C" fn bt_end_metadata(alloc: Global, end: &mut BtEnd, out: &mut [u8]
     }
 }
 
-/// Says how far the fetch has come. Returns 1 where a size is known, and else 0.
+/// Returns 1 and how far the fetch has come if a size is known, otherwise 0.
 #[unsafe(no_mangle)]
 pub extern "C" fn bt_end_progress(alloc: Global, end: &mut BtEnd, progress: &mut BtProgress) -> u32
     ensures value { ShowsProgress (progress_in end.old.slot.value) progress.new result }
@@ -199,7 +203,7 @@ pub extern "C" fn bt_end_progress(alloc: Global, end: &mut BtEnd, progress: &mut
     }
 }
 
-/// Whether it fetches, and no block can come any more on this connection.
+/// Returns whether it fetches, and no block can come any more on this connection.
 #[unsafe(no_mangle)]
 pub extern "C" fn bt_end_is_hopeless(alloc: Global, end: &mut BtEnd) -> u32
     ensures value { nat_lt 0 result ≡ hopeless_in end.old.slot.value }
@@ -215,7 +219,7 @@ pub extern "C" fn bt_end_is_hopeless(alloc: Global, end: &mut BtEnd) -> u32
     }
 }
 
-/// How often, on this connection, the blocks were those of other metadata.
+/// Returns how often, on this connection, the blocks were those of other metadata.
 #[unsafe(no_mangle)]
 pub extern "C" fn bt_end_mismatches(alloc: Global, end: &mut BtEnd) -> u64
     ensures value { result ≡ mismatches_in end.old.slot.value }
@@ -246,7 +250,7 @@ pub extern "C" fn bt_end_reset(alloc: Global, end: &mut BtEnd) -> u32
     }
 }
 
-/// Fetches metadata of this size from now on, and drops what was held of another size.
+/// Fetches metadata of this size from now on, and drops blocks of another size.
 #[unsafe(no_mangle)]
 pub extern "C" fn bt_end_begin(alloc: Global, end: &mut BtEnd, size: u64) -> u32
     ensures { IsBegunBy end.old.slot.value size end.new.slot.value result }
@@ -261,7 +265,7 @@ pub extern "C" fn bt_end_begin(alloc: Global, end: &mut BtEnd, size: u64) -> u32
     }
 }
 
-/// Asks for at most so many blocks at once from now on.
+/// Requests at most this many blocks at once from now on.
 #[unsafe(no_mangle)]
 pub extern "C" fn bt_end_set_window(alloc: Global, end: &mut BtEnd, window: u8)
     ensures { end.new.slot.value ≡ windowed window end.old.slot.value }

@@ -59,7 +59,7 @@ fn announced(id: Option<u8>, size: Option<u64>, begins: bool) -> BtEvent
     event
 }
 
-/// The event by numbers.
+/// Returns the event by numbers.
 pub fn event_of(event: Event) -> BtEvent
     ensures { ShowsEvent result event }
 {

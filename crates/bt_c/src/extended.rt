@@ -10,15 +10,15 @@ ghost use Rattle.bt_c.specs.Readers.{ShowsExt, ShowsKind, flagged, told_id};
 use bt_bencode::DictRef;
 use bt_ext::{ExtView, Kind, kind_ref, metadata_size_ref};
 
-/// What an extended message shows. A flag is on where it isn't 0.
+/// The fields of an extended message. A flag is on if it isn't 0.
 #[repr(C)]
 #[derive(Clone, Copy)]
 pub struct BtExtended {
     /// The size of a data message's whole metadata.
     pub total_size: u64,
-    /// The size of the metadata, where `has_metadata_size` is on.
+    /// The size of the metadata, if `has_metadata_size` is on.
     ///
-    /// An extended handshake tells it.
+    /// An extended handshake announces it.
     pub metadata_size: u64,
     /// How many bytes of the payload are its dictionary.
     pub dict: usize,
@@ -29,15 +29,15 @@ pub struct BtExtended {
     /// 1 the extended handshake, 2 a metadata request, 3 data, 4 a reject, 5 of another type, 6 malformed, 7 raw, 8 a piece
     /// that is taken back (`lt_donthave`).
     pub kind: u8,
-    /// The id of `ut_metadata` that is announced, where `has_ut_metadata` is on.
+    /// The id of `ut_metadata` that is announced, if `has_ut_metadata` is on.
     ///
-    /// An extended handshake tells it; 0 switches it off.
+    /// An extended handshake announces it; 0 switches it off.
     pub ut_metadata: u8,
     pub has_metadata_size: u8,
     pub has_ut_metadata: u8,
 }
 
-/// Nothing but a kind and the dictionary's length.
+/// Returns a value that has only a kind and the dictionary's length.
 #[inline(always)]
 pub fn plain(kind: u8, dict: usize) -> BtExtended
     ensures { result ≡ record { total_size = 0; metadata_size = 0; dict = dict; piece = 0; kind = kind; ut_metadata = 0; has_metadata_size = 0; has_ut_metadata = 0 } }
@@ -54,7 +54,7 @@ pub fn plain(kind: u8, dict: usize) -> BtExtended
     }
 }
 
-/// What an extended message shows.
+/// Returns the fields of an extended message.
 pub fn extended_of(view: &ExtView) -> BtExtended
     ensures { ShowsExt result (seen view.now) }
 {
@@ -76,7 +76,7 @@ fn dict_length(dict: &DictRef) -> usize
     dict.spelled().len()
 }
 
-/// The id of `ut_metadata` that an extended handshake tells.
+/// Returns the id of `ut_metadata` that an extended handshake announces.
 fn told_metadata(dict: &DictRef) -> Option<u8>
     ensures { result ≡ told_id (dictionary dict.now.tree.0) }
 {

@@ -71,7 +71,7 @@ impl Slot {
 
 /// What C holds: an end, or none.
 ///
-/// In C it is a pointer and a byte, which are both zero where there is none.
+/// In C it is a pointer and a byte, which are both zero if there is none.
 #[repr(C)]
 pub struct BtEnd {
     pub slot: Slot,

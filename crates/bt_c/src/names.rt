@@ -110,7 +110,7 @@ fn extended_name(kind: u8) -> &'static [u8]
     }
 }
 
-/// Writes a name and a zero after it, where there is room for both, and returns the length of the name.
+/// Writes a name and a zero after it, if there is room for both; returns the name's length.
 fn put_name(name: &[u8], text: &mut [u8]) -> usize
     ensures length { result ≡ length name.now }
     ensures text { IsPut name.now text.old text.new }

@@ -21,7 +21,7 @@ use bt_feed::View;
 use bt_wire::MessageView;
 use std::alloc::Global;
 
-/// What the next call tells.
+/// What the next call returns.
 #[repr(C)]
 #[derive(Clone, Copy)]
 pub struct BtHeard {
@@ -144,7 +144,7 @@ fn next(end: &mut End, bytes: &[u8], told: &mut BtHeard, out: &mut [u8]) -> u32
     }
 }
 
-/// Takes bytes, handles an item that is whole, and tells what the peer said and what that made of the end.
+/// Takes bytes, handles an item if it is whole, and returns it with its event.
 #[unsafe(no_mangle)]
 pub extern "C" fn bt_end_next(
     alloc: Global,

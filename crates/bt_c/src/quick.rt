@@ -32,7 +32,7 @@ fn is_quick(context: &Context, order: Order, id: u8, length: u32) -> bool
 
 /// Returns the length of the message that the bytes begin with.
 ///
-/// It does so where it is a keep-alive or one of those.
+/// It does so if it is a keep-alive or one of those.
 #[tactic(auto, unfolding(bt_wire::specs::Headers::header_of, bt_wire::specs::Faults::header_fault))]
 #[inline(always)]
 pub fn quick_size(context: &Context, order: Order, bytes: &[u8]) -> Option<u64>

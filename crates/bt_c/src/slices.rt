@@ -1,7 +1,7 @@
-//! Parts of slices, with contracts over lists. The other modules call it.
+//! Parts of slices, with contracts over lists.
 ghost use Rattle.std.specs.Prelude.{◌≡◌, ◌≤◌, length, drop};
 
-/// The bytes from the n-th on.
+/// Returns the bytes from the n-th on.
 #[inline(always)]
 pub fn suffix(bytes: &[u8], n: usize) -> &[u8]
     requires { n ≤ length bytes.now }

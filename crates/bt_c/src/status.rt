@@ -25,7 +25,7 @@ pub const BAD_SIZE: u32 = 10;
 /// Nothing is fetched, the metadata is there, or it can't have the size.
 pub const NOT_BEGUN: u32 = 14;
 
-/// How handling ended. A refusal is put down.
+/// Returns how handling ended, and stores a refusal.
 pub fn stop(answer: Result<(), TurnError>, verdict: &mut BtVerdict) -> u32
     ensures status { result ≡ status_of answer }
     ensures verdict { ShowsStop answer verdict.old verdict.new }
@@ -36,7 +36,7 @@ pub fn stop(answer: Result<(), TurnError>, verdict: &mut BtVerdict) -> u32
     }
 }
 
-/// Why nothing was handled. A refusal is put down.
+/// Returns why nothing was handled, and stores a refusal.
 pub fn refuse(error: TurnError, verdict: &mut BtVerdict) -> u32
     ensures status { result ≡ status_of (Err error) }
     ensures verdict { ShowsStop (Err error) verdict.old verdict.new }
@@ -55,7 +55,7 @@ pub fn refuse(error: TurnError, verdict: &mut BtVerdict) -> u32
     }
 }
 
-/// Why no end was made.
+/// Returns why no end was made.
 pub fn made_status(error: EndError) -> u32
     ensures { result ≡ made_status error }
 {
@@ -67,7 +67,7 @@ pub fn made_status(error: EndError) -> u32
     }
 }
 
-/// Whether a fetch began, or why it didn't.
+/// Returns whether a fetch began, or why it didn't.
 pub fn begun_status(answer: Result<bool, BeginError>) -> u32
     ensures { result ≡ begun_status answer }
 {

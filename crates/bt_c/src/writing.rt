@@ -44,7 +44,9 @@ fn handshake_of(handshake: &BtHandshake) -> Handshake
     }
 }
 
-/// Writes a handshake, and returns 68. Returns 0 where there is less room, and writes nothing.
+/// Writes a handshake, and returns 68.
+///
+/// Returns 0 and writes nothing if there is less room.
 #[unsafe(no_mangle)]
 pub extern "C" fn bt_write_handshake(handshake: &BtHandshake, out: &mut [u8]) -> usize
     ensures written { 68 ≤ length out.old → (result ≡ 68) × (out.new ≡ hand (handshake_by handshake.now) ++ drop 68 out.old) }
@@ -85,8 +87,8 @@ pub extern "C" fn bt_writer_init(peer: &mut BtReader, own: &BtOwn, reserved: u64
 ///
 /// These are a bitfield, a block or a payload.
 ///
-/// Returns 1 where it may be sent, and then `written` shows it, and 2 where the peer would refuse it, and then `written`
-/// says where and why. Returns 4 where it doesn't fit, and writes nothing.
+/// Returns 1 if it may be sent, and `written` has it; 2 if the peer would refuse it, and `written` has the offset and the
+/// reason; 4 if it doesn't fit, and then nothing is written.
 #[unsafe(no_mangle)]
 pub extern "C" fn bt_write(
     peer: &mut BtReader,
@@ -121,7 +123,7 @@ fn write(
     }
 }
 
-/// How many bytes a message has, where it fits.
+/// Returns how many bytes a message has, if it fits.
 fn size_of(message: &BtItem, front: &[u8], back: &[u8], room: usize) -> Option<usize>
     requires { length front.now ≤ 220 }
     ensures { MatchOption result (DoesNotFit message.now (front.now ++ back.now) room)
@@ -264,14 +266,14 @@ fn write_extended(
     write(peer, &extended_item(id), dict, block, out, written)
 }
 
-/// The size, where its flag is on.
+/// Returns the size, if its flag is on.
 fn size_from(has_size: u8, size: u64) -> Option<u64>
     ensures { result ≡ flagged has_size size }
 {
     if has_size == 0 { None } else { Some(size) }
 }
 
-/// The metadata message of this number, where it can be written.
+/// Returns the metadata message of this number, if it can be written.
 fn kind_from(number: u8, piece: u32, total: u64) -> Option<Kind>
     ensures value { result ≡ made_kind number piece total }
     ensures made { IfSome result IsMade }
@@ -288,7 +290,7 @@ fn kind_from(number: u8, piece: u32, total: u64) -> Option<Kind>
 ///
 /// 2 is a request, 3 data with its block, 4 a reject.
 ///
-/// Returns what [`bt_write`] returns, and 4 also where the peer announced no id, for any other number, and for a total size that
+/// Returns what [`bt_write`] returns, and 4 also if the peer announced no id, for any other number, and for a total size that
 /// isn't 1 to 2^63 - 1.
 #[unsafe(no_mangle)]
 pub extern "C" fn bt_write_metadata(
@@ -321,7 +323,7 @@ pub extern "C" fn bt_write_metadata(
 
 /// Writes the extended handshake.
 ///
-/// It has the own id of `ut_metadata`, but for 0, and the size of the metadata that is served, where `has_size` is on.
+/// It has the own id of `ut_metadata`, unless that is 0, and the size of the metadata that is served, if `has_size` is on.
 ///
 /// Returns what [`bt_write`] returns.
 #[unsafe(no_mangle)]

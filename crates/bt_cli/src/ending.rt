@@ -1,7 +1,7 @@
-//! What the program says at the end of a link and of a loop, and its exit status. The program's `main` calls it after its work.
+//! What the program prints at the end of a link and of a loop, and its exit status.
 //!
-//! `bt_run` has the ends of the jobs. `prefix` and `is_gone` are as there: what stands before the line of a failed read, and
-//! whether a write failed since nobody reads the output.
+//! The ends of other jobs are in `bt_run`. As there, `prefix` comes before the line of a failed read, and `is_gone` says that
+//! a write failed since the output pipe is closed.
 ghost use Rattle.std.specs.Prelude.{◌≡◌};
 ghost use Rattle.bt_run.specs.Runs.{IsSaid};
 ghost use Rattle.bt_cli.specs.Endings.{link_status as link_status_by_rule, link_words, loop_status as loop_status_by_rule, loop_words};

@@ -1,4 +1,4 @@
-//! What the words of the command `fetch` ask for. The module `options` calls it, and `fetching` does it.
+//! What the words of the command `fetch` ask for. The fetch itself is in `fetching`.
 ghost use Rattle.std.specs.Prelude.{◌≡◌, ◌≤◌, Some, IfOk, IfSome, codes, map, option_map, string_bytes};
 ghost use Rattle.clap.specs.Matches.{found_of, first_value};
 ghost use Rattle.bt_fetch.specs.Wishes.{IsWish};
@@ -12,13 +12,13 @@ use bt_run::values::number_within;
 use clap::ArgMatches;
 use std::alloc::{AllocError, Global};
 
-/// The seconds without progress where none are given.
+/// The default seconds without progress.
 pub const DEFAULT_TIMEOUT: u32 = 30;
 
-/// The greatest length of a message where none is given.
+/// The default greatest length of a message.
 pub const DEFAULT_LIMIT: u32 = 262_144;
 
-/// The greatest size of metadata where none is given, which is also the greatest that may be given.
+/// The default greatest size of metadata, which is also the greatest that may be given.
 const MAX_SIZE: u32 = 67_108_864;
 
 /// How many connections a fetch has at the same time where that isn't given.
@@ -30,7 +30,7 @@ pub struct FetchJob {
     pub wish: Wish,
     /// A .torrent is written in place of the metadata.
     pub torrent: bool,
-    /// What the link says, or the info hash alone; its peers come after those of the words.
+    /// The magnet link, or only the info hash; its peers come after those of the words.
     pub magnet: Magnet,
     /// The peers of the words: IP:PORT, [IPv6]:PORT or HOST:PORT.
     pub peers: Vec<String>,
@@ -80,7 +80,7 @@ fn mistake_of(error: MagnetError) -> Mistake {
     }
 }
 
-/// Returns the number of an option, or the default where it isn't given.
+/// Returns the number of an option, or the default if it isn't given.
 pub fn number_or(text: Option<&str>, low: u32, high: u32, default: u32) -> Option<u32>
     requires { (low ≤ default) × (default ≤ high) }
     ensures value { result ≡ number_or_by_rule low high default (option_map (λ s. s.now) text.entry) }
@@ -104,7 +104,7 @@ pub fn rules_in(text: Option<&str>) -> Option<Rules>
     }
 }
 
-/// Returns how many blocks are asked for at once, where that is given.
+/// Returns how many blocks are requested at once, if that is given.
 fn window_in(text: Option<&str>) -> Option<Option<Window>>
     ensures { result ≡ window_in_by_rule (option_map (λ s. s.now) text.entry) }
 {

@@ -1,4 +1,4 @@
-//! The command `fetch`: the addresses of its peers, the fetch, and the exit status. The program's `main` calls it.
+//! The command `fetch`: the addresses of its peers, the fetch, and the exit status.
 ghost use Rattle.std.specs.Prelude.{◌≡◌, Err};
 ghost use Rattle.bt_io.specs.Seen.{WriteFailed};
 ghost use Rattle.bt_fetch.specs.Fetches.{IsWritten};
@@ -24,7 +24,7 @@ const PEER_PREFIX: &[u8; 8] = b"-TZ0001-";
 
 /// Returns a peer id of this project's prefix and twelve digits.
 ///
-/// The digits are drawn at random where that can be had.
+/// The digits are random, or zeros if the system's random source fails.
 pub fn drawn_peer_id<R: RandomSource>(random: &R) -> [u8; 20] {
     let mut drawn = [0u8; 12];
     if random.fill_bytes(&mut drawn).is_err() {
@@ -187,7 +187,7 @@ pub fn run_fetch<R: Net + Clock + RandomSource, W: Target, E: Target>(
 
 /// Says what kept a fetch from its work, and returns the exit status.
 ///
-/// Nothing is said where nothing kept it.
+/// Nothing is printed if nothing kept it.
 ///
 /// `is_gone` says that a write failed since nobody reads the output.
 pub fn end_fetch<E: Target>(fetched: Result<usize, FetchError>, is_gone: bool, errors: &mut E) -> u8

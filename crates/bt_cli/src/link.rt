@@ -1,4 +1,4 @@
-//! The command `link`: what standard error gets of its end. The module `ending` calls it.
+//! The command `link`: what it prints on standard error at its end.
 ghost use Rattle.std.specs.Prelude.{◌≡◌};
 ghost use Rattle.bt_run.specs.Runs.{IsSaid};
 ghost use Rattle.bt_cli.specs.Endings.{link_complaint, unrun_line as unrun_words};

@@ -1,4 +1,4 @@
-//! What the end of `loop` says on standard error. The module `ending` calls it.
+//! What `loop` prints on standard error at its end.
 ghost use Rattle.bt_run.specs.Runs.{IsSaid};
 ghost use Rattle.bt_cli.specs.Endings.{loop_complaint};
 

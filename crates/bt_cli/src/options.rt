@@ -28,7 +28,7 @@ const VERSION: &str = "0.2.0";
 /// What is wrong with several files.
 const ONE_FILE: &str = "only 'check' takes more than one file";
 
-/// What is printed where the words are no text.
+/// What is printed if the arguments aren't text.
 pub const NO_TEXT: &str =
     "error: the words are no text\n\nUsage: bt_tool [COMMAND] [OPTIONS] [FILE]\n";
 
@@ -185,7 +185,7 @@ fn command_line<'a>(alloc: Global) -> Result<Command<'a>, AllocError> {
         .subcommand(serve_command(alloc)?)
 }
 
-/// Returns the job of a command, or `None` where there is no such command.
+/// Returns the job of a command, or `None` if there is no such command.
 fn job_named(name: &str) -> Option<Job>
     ensures { result ≡ job_of name.now }
 {
@@ -198,7 +198,7 @@ fn job_named(name: &str) -> Option<Job>
     }
 }
 
-/// Returns the job with `--json`, which changes `show` alone.
+/// Returns the job with `--json`, which changes only `show`.
 fn as_json(json: bool, job: Job) -> Job
     ensures { result ≡ job_as_json json job }
 {

@@ -1,4 +1,4 @@
-//! The list of peers of `fetch`. The program's `main` calls it.
+//! The list of peers of `fetch`.
 ghost use Rattle.std.specs.Prelude.{◌≡◌, IfOk, ◌≤◌, length};
 ghost use Rattle.std.specs.Io.KnownBytes.{Consumes};
 ghost use Rattle.bt_cli.specs.Lists.{IsListed};

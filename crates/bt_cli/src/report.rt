@@ -1,4 +1,4 @@
-//! What standard error gets of a fetch: how each connection goes and ends, and the summary. The module `fetching` calls it.
+//! What standard error gets of a fetch: how each connection goes and ends, and the summary.
 ghost use Rattle.std.specs.Prelude.{◌≡◌, ◌≢◌, ◌++◌, [], IfOk, codes, string_bytes};
 ghost use Rattle.bt_cli.specs.Tallies.{counted as counted_by_rule, ending_word, tally_fields, tally_words};
 
@@ -67,7 +67,9 @@ fn tally_text(alloc: Global, seconds: u64, tally: Tally) -> Result<String, Alloc
     )
 }
 
-/// Returns the last line of a fetch: the peer that it was fetched from, the seconds that it took, and its tries.
+/// Returns the last line of a fetch.
+///
+/// It has the peer that it was fetched from, the seconds that it took, and its tries.
 ///
 /// # Errors
 /// `AllocError` when out of memory.
@@ -232,7 +234,7 @@ fn progress_line(alloc: Global, inside: u32, front: Option<Front>) -> Result<Str
     format!(in alloc; "fetching {held} of {blocks} blocks at {rate} KiB/s, {inside} open")
 }
 
-/// Says on standard error how each connection goes, where that is a terminal, and how it ended.
+/// Prints on standard error how each connection ended, and on a terminal how it goes on.
 #[derive(Drop)]
 pub struct Lines<'a, E: Target> {
     alloc: Global,

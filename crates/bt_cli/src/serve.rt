@@ -1,5 +1,4 @@
-//! The command `serve`: what its words ask for, the service, its lines, and the exit status. The module `options` and the
-//! program's `main` call it.
+//! The command `serve`: what its words ask for, the service, its lines, and the exit status.
 ghost use Rattle.std.specs.Prelude.{◌≡◌, ◌++◌, length, IfOk, OnOk, option_map};
 ghost use Rattle.std.specs.IoError.{error_kind};
 ghost use Rattle.clap.specs.Matches.{found_of};
@@ -32,10 +31,10 @@ use std::random::RandomSource;
 use std::rc::Rc;
 use std::time::Clock;
 
-/// Where a server listens where no address is given: a free port of 127.0.0.1.
+/// The address that a server listens on by default: a free port of 127.0.0.1.
 const DEFAULT_LISTEN: &str = "127.0.0.1:0";
 
-/// How many connections are served at the same time where that isn't given.
+/// The default number of connections that are served at the same time.
 const DEFAULT_AT_ONCE: u32 = 64;
 
 /// A service that is asked for.
@@ -61,7 +60,7 @@ pub enum Service {
     RefusedFile,
     /// What kept it from its work, as a line of standard error.
     Fault(ToolFault),
-    /// It can't listen where it is to; standard error has the line already.
+    /// It can't listen at the address; standard error has the line already.
     NoListener,
 }
 
@@ -309,7 +308,7 @@ fn serve_through<D: Door>(
     }
 }
 
-/// Serves metadata over TCP, and says on `writer` where, and how each connection ended.
+/// Serves metadata over TCP; prints on `writer` the address, and how each connection ended.
 fn serve_over_tcp<R: Net + Clock + RandomSource, W: Target, E: Target>(
     rt: &R,
     alloc: Global,
@@ -362,7 +361,7 @@ pub fn run_serve<R: Net + Clock + RandomSource + Files + AllocGlobal, W: Target,
 
 /// Says why a service didn't do its work, and returns the exit status.
 ///
-/// Nothing is said where it did.
+/// Nothing is printed if it did.
 pub fn end_serve<E: Target>(service: Service, errors: &mut E) -> u8
     ensures said { IsSaid (serve_words service) (E.seen errors.old) (E.seen errors.new) }
     ensures status { result ≡ serve_status service }

@@ -1,4 +1,4 @@
-//! What an end talks over. `exchange` and `advance` call it.
+//! What an end talks over: reads, writes and the time.
 ghost use Rattle.std.specs.Prelude.{◌≡◌, ℕ, Bool, true, [], None, Ok, length};
 ghost use Rattle.std.specs.Io.KnownBytes.{IsAtEnd};
 ghost use Rattle.bt_io.specs.Counts.{counted as raised};
@@ -8,7 +8,7 @@ use bt_io::Failed;
 
 /// A connection to a peer. Its calls may find that nothing can be moved yet, as a socket with a time limit does.
 pub trait Connection {
-    /// What was seen of it: the bytes that are left to be read and those that it took, where they are known, the counts of
+    /// What was seen of it: the bytes that are left to be read and those that it took, if they are known, the counts of
     /// its calls, and the time that it gave last.
     ghost seen: { Self → Seen };
 
@@ -17,7 +17,7 @@ pub trait Connection {
 
     /// Reads bytes into the front of `into`, and returns how many.
     ///
-    /// `None` where nothing is there yet.
+    /// `None` if nothing is there yet.
     ///
     /// A read of 0 into what isn't empty is the end: the peer closed the connection.
     fn read(&mut self, into: &mut [u8]) -> Result<Option<usize>, Failed>
@@ -28,7 +28,7 @@ pub trait Connection {
 
     /// Takes bytes from the front of `from`, and returns how many.
     ///
-    /// `None` where nothing is taken yet.
+    /// `None` if nothing is taken yet.
     fn write(&mut self, from: &[u8]) -> Result<Option<usize>, Failed>
         ensures bytes { Writes (seen self.old) (seen self.new) result from.now }
         ensures counts { (seen self.new).counts ≡ write_counts result (length from.now) (seen self.old).counts }

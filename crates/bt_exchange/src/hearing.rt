@@ -1,4 +1,4 @@
-//! Bytes that were read and not yet given to the end. The loops of this crate call it.
+//! Bytes that were read and not yet given to the end.
 ghost use Rattle.std.specs.Prelude.{◌≡◌, ◌≤◌, true, [], length, drop, take, None, Ok, IfOk, IfSome};
 ghost use Rattle.std.specs.Io.KnownBytes.{IsAtEnd};
 ghost use Rattle.bt_exchange.specs.Connections.{read_counts};
@@ -49,7 +49,7 @@ impl<A: Allocator> Hearing<A> {
         })
     }
 
-    /// The bytes that were read and not yet given.
+    /// Returns the bytes that were read and not yet passed on.
     pub fn bytes(&self) -> &[u8]
         ensures { result.now ≡ self.now }
     {

@@ -1,4 +1,4 @@
-//! A connection over a stream of std, as a TCP stream whose reads and writes have a time limit. Fetching and serving use it.
+//! A connection over a stream of std, as a TCP stream whose reads and writes have a time limit.
 ghost use Rattle.std.specs.Prelude.{◌≡◌, length};
 ghost use Rattle.std.specs.IoError.{error_kind};
 ghost use Rattle.bt_exchange.specs.Streams.{IsMovedBy, IsReadOnce, IsWrittenOnce, is_wait as is_wait_by, seconds_of};
@@ -67,7 +67,7 @@ fn seconds(time: io::Result<Duration>, last: u64) -> u64
 }
 
 impl<S: Read + Write + Drop, K: Clock + Drop> Stream<S, K> {
-    /// The connection, with no call made.
+    /// Makes a connection of the stream, with no call made.
     pub fn new(stream: S, clock: K) -> Stream<S, K>
         ensures { (⟦<Stream<S, K> as Connection>⟧.seen result).counts.calls ≡ 0 }
     {

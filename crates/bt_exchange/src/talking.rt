@@ -42,7 +42,7 @@ pub enum Stop {
     Unasked,
     /// The peer closed the connection.
     Closed,
-    /// Nothing was told, and the patience is over.
+    /// There was no news, and the patience is over.
     Silent,
     /// A call of the connection failed.
     Failed,
@@ -170,7 +170,7 @@ fn send<C: Connection, A: Allocator + Copy>(
     write_step(end, wrote)
 }
 
-/// Gives the end bytes, up to the end of an item, and handles it where it is whole.
+/// Gives the end bytes, up to the end of an item, and handles it if it is whole.
 fn take_turn<A: Allocator + Copy>(end: &mut End<A>, hearing: &mut Hearing<A>) -> Result<Step, Stop>
     requires feed { IsFeed end.old.feed }
     requires room { length end.old.outbox < high_water }
@@ -207,7 +207,7 @@ pub fn is_piece(event: Event) -> bool
     matches!(event, Event::Piece { .. })
 }
 
-/// Whether an event is one that the driver of a fetch is told of.
+/// Returns whether an event is reported to the driver of a fetch.
 fn is_news(event: Event) -> bool
     ensures { result ≡ is_news_by event }
 {

@@ -1,7 +1,6 @@
 //! Fetching the metadata of a torrent from many peers at the same time.
 //!
-//! [`fetch`] takes connections from a [`Device`], over TCP from a [`TcpSwarm`], and writes to a target. The command `fetch` of
-//! `bt_cli` calls it.
+//! [`fetch`] takes connections from a [`Device`], over TCP from a [`TcpSwarm`], and writes to a target.
 #![tactic(auto)]
 
 mod device;

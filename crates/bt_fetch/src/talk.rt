@@ -12,14 +12,14 @@ use bt_exchange::{Stop, Watch};
 use bt_io::Memory;
 use bt_wire::Handshake;
 
-/// How often a fetch may begin anew on one connection, if the peer tells another size than before.
+/// How often a fetch may begin anew on one connection, if the peer announces another size than before.
 const RESTARTS: u8 = 2;
 
-/// How the peer ids of rtorrent's library begin (BEP 20). It stops for good where a second request comes before it has
+/// How the peer ids of rtorrent's library begin (BEP 20). It stops for good if a second request comes before it has
 /// answered the first, and then doesn't notice the end of the connection either.
 const ONE_AT_A_TIME: &[u8] = b"-lt";
 
-/// What the peer of a connection has told so far.
+/// What the peer of a connection has announced so far.
 #[derive(Clone, Copy)]
 pub struct Talk {
     pub watch: Watch,
@@ -68,7 +68,7 @@ pub fn outcome_of(end: &End, stop: Stop, lacks: bool) -> Result<Outcome, Memory>
     }
 }
 
-/// Whether the peer tells a size that isn't 1 to `most`.
+/// Returns whether the peer announces a size that isn't 1 to `most`.
 pub fn is_untaken(event: Event, most: u64) -> bool
     ensures { result ≡ is_untaken_by event most }
 {
@@ -95,7 +95,7 @@ fn narrow(end: &mut End, handshake: &Handshake) -> bool
     true
 }
 
-/// Begins anew if the peer tells another size than that of the fetch, and returns whether it did.
+/// Begins anew if the peer announces another size than that of the fetch, and returns whether it did.
 fn restart(end: &mut End, size: Option<u64>) -> Result<bool, Memory>
     ensures handshake { end.new.end.handshake ≡ end.old.end.handshake }
 {
@@ -112,7 +112,7 @@ fn restart(end: &mut End, size: Option<u64>) -> Result<bool, Memory>
     }
 }
 
-/// Acts on news, and returns what the peer has told then; `None` if the patience is over.
+/// Acts on news, and returns what the peer has announced by then; `None` if the patience is over.
 pub fn heed(
     wish: &Wish,
     end: &mut End,

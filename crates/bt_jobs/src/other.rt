@@ -161,7 +161,7 @@ fn reader_of_other() -> Own
     }
 }
 
-/// Reads once into the buffer, and hears the items that the read completes; returns whether that settles the answer.
+/// Reads once into the buffer, and handles the items that the read completes; returns whether that settles the answer.
 fn turn<R: Source>(
     reader: &mut R,
     feed: &mut Feed,

@@ -1,4 +1,4 @@
-//! Where a server gets its connections from, and who hears how each ended.
+//! The source of a server's connections, to which it reports how each ended.
 ghost use Rattle.std.specs.Prelude.{◌≡◌, ◌+◌, ◌<◌, nat_lt};
 ghost use Rattle.bt_io.specs.Counts.{one_more};
 ghost use Rattle.bt_exchange.specs.Lists.{IsAdded};
@@ -33,7 +33,7 @@ pub trait Door {
     /// How many connections may be inside at the same time.
     ghost places: { Self → ℕ };
 
-    /// The connections of whose end it was told, in order, if they are known.
+    /// The connections whose end was reported to it, in order, if they are known.
     ghost told: { Self → Option (List (Self.Name × Parting)) } = { λ _. None };
 
     /// How many rounds were made, up to 2^64 - 1.
@@ -43,7 +43,7 @@ pub trait Door {
     fn has_place(&self) -> bool
         ensures { result ≡ nat_lt (inside self.now) (places self.now) };
 
-    /// Returns a connection that waits to be served; `None` where there is none.
+    /// Returns a connection that waits to be served; `None` if there is none.
     fn enter(&mut self) -> Option<(Self::Link, Self::Name)>
         requires { inside self.old < places self.old }
         ensures inside { inside self.new ≡ inside self.old + entering result }
@@ -58,7 +58,7 @@ pub trait Door {
         ensures told { told self.new ≡ told self.old }
         ensures rounds { rounds self.new ≡ one_more (rounds self.old) };
 
-    /// Hears how a connection ended that was inside.
+    /// Takes note of how an open connection ended.
     fn ended(&mut self, name: Self::Name, parting: Parting)
         requires { 0 < inside self.old }
         ensures inside { inside self.new + 1 ≡ inside self.old }

@@ -18,7 +18,7 @@ fn info_of<'a>(file: &'a [u8], dict: &DictRef<'a>) -> Option<&'a [u8]>
     }
 }
 
-/// Returns the info dictionary of a file; `None` where there is none.
+/// Returns the info dictionary of a file; `None` if there is none.
 ///
 /// The file is a .torrent, or an info dictionary itself.
 ///
@@ -80,7 +80,7 @@ fn place_of(bytes: &[u8], part: &[u8]) -> Option<usize>
     None
 }
 
-/// Leaves n bytes of the file alone, from this place on.
+/// Skips `n` bytes of the file, from this offset on.
 fn cut_out(file: &mut Vec<u8>, at: usize, n: usize)
     requires { at + n ≤ length file.old.items }
     ensures { file.new.items ≡ take n (drop at file.old.items) }

@@ -1,6 +1,6 @@
 //! Serving the metadata of a torrent to many peers at the same time.
 //!
-//! [`serve`] takes connections from a [`Door`], over TCP from a [`TcpDoor`]. The command `serve` of `bt_cli` calls it.
+//! [`serve`] takes connections from a [`Door`], over TCP from a [`TcpDoor`].
 #![tactic(auto)]
 
 mod door;

@@ -59,7 +59,7 @@ fn let_in<D: Door>(
     Ok(true)
 }
 
-/// Gives a connection its turn. If it ends, the door is told how, and `None` is returned.
+/// Gives a connection its turn. If it ends, reports that to the door, and returns `None`.
 fn tend_one<D: Door>(door: &mut D, name: D::Name, guest: &mut Guest<D::Link>) -> Option<Pace>
     requires { 0 < D.inside door.old }
     ensures inside { D.inside door.new + leaving result ≡ D.inside door.old }
@@ -129,7 +129,7 @@ fn tend_all<D: Door>(door: &mut D, guests: &mut Guests<D>) -> (u64, bool)
     (ended, is_busy)
 }
 
-/// Tells how each connection that is left ended.
+/// Reports how each connection that is left ended.
 fn part_all<D: Door>(door: &mut D, guests: &mut Guests<D>)
     requires { vec_len guests.old ≤ D.inside door.old }
     ensures inside { D.inside door.new + vec_len guests.old ≡ D.inside door.old }
@@ -202,7 +202,7 @@ fn serve_all<D: Door>(
 /// returns, and [`Door::ended`] was called for it.
 ///
 /// # Errors
-/// `Memory` if the buffers of a connection are refused. Of that connection the door is told `Unserved`.
+/// `Memory` if there is no memory for a connection's buffers. It is reported to the door as `Unserved`.
 pub fn serve<D: Door>(
     alloc: Global,
     hospitality: &Hospitality,

@@ -8,16 +8,16 @@ use std::io;
 use std::net::{Net, OpenListener, OpenStream, SocketAddr};
 use std::time::{Clock, Duration};
 
-/// How long a server waits where no connection can go on, in milliseconds.
+/// How long a server waits if no connection can go on, in milliseconds.
 const REST: u64 = 5;
 
-/// Hears how each connection over TCP ended.
+/// Takes note of how each connection over TCP ended.
 pub trait Farewell {
     ghost use Rattle.std.specs.Prelude.{List, Option, None};
     ghost use Rattle.std.specs.declared.net.socket_addr.SocketAddr.{SocketAddr};
     ghost use Rattle.bt_serve.specs.declared.door.Parting.{Parting};
 
-    /// The connections of whose end it was told, in order, if they are known.
+    /// The connections whose end was reported to it, in order, if they are known.
     ghost told: { Self → Option (List (SocketAddr × Parting)) } = { λ _. None };
 
     /// The connection with this other end ended.
@@ -64,7 +64,7 @@ impl<'a, R: Net + Clock, F: Farewell + Drop> TcpDoor<'a, R, F> {
 /// Its calls don't wait.
 ///
 /// # Errors
-/// The operating system's, where it can't listen there.
+/// The operating system's, if it can't listen there.
 pub fn listen<R: Net>(net: &R, address: SocketAddr) -> io::Result<(R::Listener, SocketAddr)> {
     let listener = net.bind(address)?;
     listener.set_nonblocking(true)?;

@@ -1,4 +1,4 @@
-//! A run of the program over its host's files and standard streams. `main` calls it with what the words ask for.
+//! A run of the program over its host's files and standard streams.
 ghost use Rattle.std.specs.Prelude.{IfOk};
 ghost use Rattle.bt_run.specs.Commands.{HasLimit, HasLoopLimit};
 ghost use Rattle.bt_cli.specs.Commands.{IsLimited};
@@ -35,17 +35,17 @@ use std::random::RandomSource;
 use std::rt::Files;
 use std::time::Clock;
 
-/// What is said where a stream is awaited from a terminal.
+/// What is printed if a stream is expected from a terminal.
 const STREAM_AWAITED: &[u8] =
     b"bt_tool: a stream is awaited on standard input, from its handshake on\n";
 
-/// What is said where a script is awaited from a terminal.
+/// What is printed if a script is expected from a terminal.
 const SCRIPT_AWAITED: &[u8] = b"bt_tool: a script is awaited on standard input\n";
 
-/// What is said where metadata is awaited from a terminal.
+/// What is printed if metadata is expected from a terminal.
 const METADATA_AWAITED: &[u8] = b"bt_tool: metadata is awaited on standard input\n";
 
-/// What is said where a list of peers is awaited from a terminal.
+/// What is printed if a list of peers is expected from a terminal.
 const PEERS_AWAITED: &[u8] = b"bt_tool: a list of peers is awaited on standard input\n";
 
 /// The host's devices, and what is known of them.
@@ -74,7 +74,7 @@ impl<'a, R: Files + Input + Net + Clock + RandomSource + AllocGlobal, W: Write, 
     W,
     E,
 > {
-    /// A program on this host, with its standard output and standard error.
+    /// Makes a program on this host, with its standard output and standard error.
     pub fn new(
         host: &'a R,
         writer: W,
@@ -123,7 +123,7 @@ impl<'a, R: Files + Input + Net + Clock + RandomSource + AllocGlobal, W: Write, 
         end_by_fault(fault, b"", false, &mut self.errors)
     }
 
-    /// Opens an input, and says what is awaited where it is a terminal.
+    /// Opens an input; if it is a terminal, prints what is expected.
     fn open(&mut self, name: &str, awaited: &[u8]) -> Option<Opened<R>> {
         if !is_input(name) {
             let file = fs::open(self.host, name).ok()?;
@@ -168,7 +168,7 @@ impl<'a, R: Files + Input + Net + Clock + RandomSource + AllocGlobal, W: Write, 
         }
     }
 
-    /// Returns the receiver, with what the other direction says of it; or the exit status where that can't be read.
+    /// Returns the receiver, with what the other direction announces; or the exit status if that can't be read.
     fn receiver(&mut self, request: &Request) -> Result<Own, u8>
         requires { HasLimit request.now.own }
         ensures { IfOk result HasLimit }
@@ -368,7 +368,7 @@ impl<'a, R: Files + Input + Net + Clock + RandomSource + AllocGlobal, W: Write, 
         }
     }
 
-    /// Returns the peers of a list, or the exit status where it can't be read.
+    /// Returns the peers of a list, or the exit status if it can't be read.
     fn peers_of(&mut self, name: &str) -> Result<Vec<String>, u8> {
         match self.prefix(name) {
             Ok(prefix) => self.peers_after(prefix.as_bytes(), name),

@@ -27,7 +27,7 @@ use bt_wire::{Handshake, Reserved, Shape, spell_handshake};
 use hex::FromHex;
 use std::alloc::AllocError;
 
-/// Appends the bytes of hex digits of either case; returns whether they are such.
+/// Appends the bytes of hex digits of either case; returns whether they are hex digits.
 fn push_decoded(digits: &[u8], bytes: &mut Vec<u8>) -> Result<bool, AllocError>
     ensures { IfOk result (Adds (result_ok (decode_of digits.now)) bytes.old.items bytes.new.items) }
 {
