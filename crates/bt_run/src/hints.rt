@@ -3,9 +3,9 @@ ghost use Rattle.std.specs.Prelude.{◌≡◌, IfSome, true};
 ghost use Rattle.bt_run.specs.Hinting.{IsHinted, IsHintText, are_wanted as are_wanted_by_rule};
 
 use crate::commands::Hints;
+use crate::hint::{WINDOW, hint_line, hint_of};
 use crate::run::{JobEnd, say};
 use bt_feed::Target;
-use crate::hint::{WINDOW, hint_line, hint_of};
 use bt_jobs::pack_hint;
 use bt_text::ended::Ended;
 use std::alloc::Global;

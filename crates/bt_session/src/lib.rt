@@ -14,9 +14,9 @@ mod run;
 pub use bt_end::{
     Announce, Config, End, EndError, HIGH_WATER, Role, SayError, Turn, TurnError, Window,
 };
-pub use link::{Outcome, Side, Step};
 pub use bt_metadata::{
     Assembly, BadSize, BlockError, MAX_METADATA, NewError, Reply, Server, Unfinished, WINDOW,
 };
+pub use link::{Outcome, Side, Step};
 pub use report::{LinkError, LinkReport, MOST_STEPS, run_link};
 pub use run::Connection;

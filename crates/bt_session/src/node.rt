@@ -5,9 +5,9 @@ ghost use Rattle.bt_end.specs.Ends.{renewed};
 ghost use Rattle.bt_session.specs.Nodes.{IsNodeOf, MayHandle, IsRecorded, IsStop};
 ghost use Rattle.bt_session.specs.ByteLinks as links;
 
+use crate::link::Outcome;
 use bt_end::{End, SayError, Turn, TurnError};
 use bt_feed::{Memory, Outbox};
-use crate::link::Outcome;
 use bt_wire::{Context, Front, Item, Message, Order, copy_message, next, read_front};
 use std::alloc::{AllocError, Global};
 use std::mem;

@@ -12,11 +12,11 @@ ghost use Rattle.bt_session.specs.Runs.{IsLinkOf, ClosedBy, IsUnfinished};
 ghost use Rattle.bt_session.specs.Reports.{block_of, blocks_of, present, numbered, held_blocks, DoMatch, IsRun, IsUnstarted, IsUnrun};
 
 use crate::facts::is_new;
+use crate::link::{Outcome, Step};
 use crate::matching::is_mismatch;
 use crate::node::Node;
 use crate::run::{Connection, Link, keep, run};
 use bt_end::{Config, End, EndError};
-use crate::link::{Outcome, Step};
 use std::alloc::{AllocError, Global};
 use std::mem;
 use thiserror::Error;

@@ -6,9 +6,9 @@ ghost use Rattle.bt_session.specs.LinkLaws.{IsWritten, most_steps};
 ghost use Rattle.bt_session.specs.Runs.{IsLinkOf, EachMayHandle, DoneBy};
 
 use crate::facts::is_written;
+use crate::link::{Outcome, Side, Step};
 use crate::node::Node;
 use bt_feed::Memory;
-use crate::link::{Outcome, Side, Step};
 use bt_wire::{Item, Message};
 use std::alloc::{AllocError, Global};
 
