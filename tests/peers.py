@@ -426,7 +426,7 @@ ROWS = [
     ([cut, honest], "", INFO, "@0 closed\n@1 fetched\n", 0),
     ([half_size, honest], "", INFO, "@0 closed\n@1 fetched\n", 0),
     ([one_at_a_time], "--timeout 2", INFO, "@0 silent\n@0 fetched\n", 0),
-    ([one_at_a_time], "--timeout 2 --window 8", b"", "@0 silent\n", 1),
+    ([one_at_a_time], "--timeout 2 --window 8", INFO, "@0 silent\n@0 fetched\n", 0),
     ([as_rtorrent], "", INFO, "@0 fetched\n", 0),
     ([wrong_hash], "", b"", "@0 refused message=0 at=28 WrongInfoHash\n", 1),
     ([too_long], "", b"", "@0 refused message=1 at=68 TooLong\n", 1),
@@ -438,7 +438,7 @@ ROWS = [
     ([block_of_piece, honest], "", INFO, "@0 unasked\n@1 fetched\n", 0),
     ([requesting], "", INFO, "@0 fetched\n", 0),
     ([false_at_first], "", INFO, "@0 mismatch\n@0 fetched\n", 0),
-    ([false_at_first, NOBODY], "", INFO, "@0 mismatch\n@1 unreachable\n@0 fetched\n", 0),
+    ([NOBODY, false_at_first], "", INFO, "@0 unreachable\n@1 mismatch\n@0 unreachable\n@1 fetched\n", 0),
 ]
 # How many connections a peer may see, if more than one, though another gives the metadata.
 CONNECTIONS = {one_at_a_time: 2, false_at_first: 2}
