@@ -3,7 +3,7 @@ use Rattle.std.specs.Prelude.{codes, decimal}
 use Rattle.bt_run.specs.Hints.{kind_text}
 use Rattle.std.proofs.lemmas.Result.{on_ok_weaker}
 use Rattle.bt_run.proofs.Parts.{five_parts}
-use Rattle.bt_run.proofs.line.push_words.Goals as goal
+use Rattle.bt_run.proofs.hint.line.push_words.Goals as goal
 
 pub returns-in_ok-push_text-in-Is : goal.returns-in_ok-push_text-in-Is
 returns-in_ok-push_text-in-Is c =

@@ -2,8 +2,8 @@ use Rattle.std.proofs.Common.{◌≡◌, ◌+◌, ℕ, drop, sym, subst, ◌∙�
 use Rattle.std.specs.Int.{w32, from_be_bytes}
 use Rattle.bt_run.specs.Hints.{IsReached, AreZero}
 use Rattle.bt_run.proofs.Runs.{first_reached, next_reached, more_zero, none_zero}
-use Rattle.bt_run.proofs.places.find_keep_alives.Goals as goal
-use Rattle.bt_run.proofs.places.find_keep_alives.Goals.{then-size-ne4+else-place-start-ge-MANY, else-size-ne4}
+use Rattle.bt_run.proofs.hint.places.find_keep_alives.Goals as goal
+use Rattle.bt_run.proofs.hint.places.find_keep_alives.Goals.{then-size-ne4+else-place-start-ge-MANY, else-size-ne4}
 
 pub messages-init : goal.messages-init
 messages-init c =

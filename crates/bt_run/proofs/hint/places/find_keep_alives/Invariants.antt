@@ -1,7 +1,7 @@
 -- The bytes from the run's start up to the place are zero, and messages begin at both.
 use Rattle.std.proofs.Common.{◌≤◌, ◌<◌, length}
 use Rattle.bt_run.specs.Hints.{IsReached, AreZero}
-use Rattle.bt_run.proofs.places.find_keep_alives.Given as goal
+use Rattle.bt_run.proofs.hint.places.find_keep_alives.Given as goal
 
 abbrev pub invariant-messages : goal.invariant-messages
 invariant-messages l = record {
