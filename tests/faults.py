@@ -296,9 +296,11 @@ def fetching(runner):
     peer.close()
     peer = Peer(giving(INFO))
     words = "fetch --at-once 1 %s %s %s" % (hashlib.sha1(INFO).hexdigest(), peer.address, peer.address)
-    closed, fetched = (peer.address + end for end in (" closed\n", " fetched\n"))
+    unreachable, closed, fetched = (peer.address + end for end in (" unreachable\n", " closed\n", " fetched\n"))
     for number, answer, was_made in fetched_in_turn(runner, words, "WIRE"):
-        if answer != (INFO, summed(closed + fetched if was_made else fetched), 0):
+        # Before a byte was moved there was no connection.
+        failed = unreachable if number == 1 else closed
+        if answer != (INFO, summed(failed + fetched if was_made else fetched), 0):
             yield "%s: call %d of the connection: %r" % (words, number, answer)
     peer.close()
 

@@ -90,15 +90,25 @@ fn has_pairs(mut pairs: IntPairs) -> bool {
     pairs.next().is_none()
 }
 
+/// Whether the payload is read into a dictionary of 34 bytes with these pairs.
+fn has_value_pairs(alloc: Global) -> bool {
+    match read_dict(alloc, PAYLOAD) {
+        Ok((value, len)) => len == 34 && are_pairs_of(&value),
+        Err(_) => false,
+    }
+}
+
+fn are_pairs_of(value: &Value) -> bool {
+    match value {
+        Value::Dict(pairs) => has_pairs(pairs.int_pairs()),
+        _ => false,
+    }
+}
+
 #[test]
 fn pairs_in_order(rt: HostRuntime) {
     assert!(rt; matches!(check(PAYLOAD), Ok((dict, 34)) if has_pairs(dict.int_pairs())));
-    assert!(rt;
-        matches!(
-            read_dict(rt.alloc(), PAYLOAD),
-            Ok((Value::Dict(pairs), 34)) if has_pairs(pairs.int_pairs())
-        )
-    );
+    assert!(rt; has_value_pairs(rt.alloc()));
 }
 
 /// Whether the value at the key is a list of the number 1 and the string `ab`.
