@@ -9,7 +9,7 @@ _bt_tool() {
     pack) options='--reserved --pieces --metadata-id --donthave-id --info-hash --other --rules --limit --hints --help' ;;
     link) options='--help' ;;
     loop) options='--rules --limit --help' ;;
-    fetch) options='--peers --rules --limit --timeout --window --max-size --torrent --help' ;;
+    fetch) options='--peers --at-once --rules --limit --timeout --window --max-size --torrent --json --help' ;;
     serve) options='--listen --rules --limit --timeout --exit-after --max-connections --help' ;;
     *) options='--help --version' ;;
     esac
@@ -19,7 +19,7 @@ _bt_tool() {
     case $before in
     --rules) values='free bep' ;;
     --hints) values='always never auto' ;;
-    --reserved | --pieces | --metadata-id | --donthave-id | --info-hash | --limit | --timeout | --window | --max-size | --listen | --exit-after | --max-connections) return ;;
+    --reserved | --pieces | --metadata-id | --donthave-id | --info-hash | --limit | --at-once | --timeout | --window | --max-size | --listen | --exit-after | --max-connections) return ;;
     esac
     case $word in
     -*) values=$options ;;

@@ -37,11 +37,11 @@ uint32_t bt_abi(void);
 #define BT_DHT UINT64_C(0x1)              /* distributed hash table, BEP 5 */
 #define BT_EXTENSIONS UINT64_C(0x100000)  /* Extension Protocol, BEP 10 */
 
-/* The receiver: what a stream is judged by. A flag is on where it isn't 0. */
+/* The receiver: what a stream is judged by. A flag is on if it isn't 0. */
 typedef struct bt_own {
     uint64_t reserved;      /* own reserved bits, as a big-endian number */
     uint32_t limit;         /* the greatest length of a message, its four bytes of length not counted; usual: 262144 */
-    uint32_t pieces;        /* how many pieces the torrent has, where has_pieces is on */
+    uint32_t pieces;        /* how many pieces the torrent has, if has_pieces is on */
     uint8_t has_pieces;
     uint8_t has_info_hash;  /* off: every info hash is accepted */
     uint8_t metadata_id;    /* own extended id of ut_metadata, 1 to 255; 0 for none */
@@ -120,14 +120,14 @@ enum {
     BT_BAD_EXT_LENGTH = 17
 };
 
-/* What an extended message shows. It is set where the item's id is BT_EXTENDED. */
+/* The fields of an extended message. They are set if the item's id is BT_EXTENDED. */
 typedef struct bt_extended {
     uint64_t total_size;     /* bytes of the whole metadata, of BT_METADATA_DATA */
-    uint64_t metadata_size;  /* bytes of the metadata that an extended handshake tells, where has_metadata_size is on */
+    uint64_t metadata_size;  /* bytes of the metadata that an extended handshake announces, if has_metadata_size is on */
     uint64_t dict;           /* how many bytes of the body its dictionary has, which comes first; 0 of BT_EXT_RAW */
     uint32_t piece;
     uint8_t kind;
-    uint8_t ut_metadata;     /* the id that an extended handshake tells, where has_ut_metadata is on; 0 switches it off */
+    uint8_t ut_metadata;     /* the id that an extended handshake announces, if has_ut_metadata is on; 0 switches it off */
     uint8_t has_metadata_size;
     uint8_t has_ut_metadata;
 } bt_extended;
@@ -146,7 +146,7 @@ typedef struct bt_item {
     bt_extended extended;
 } bt_item;
 
-/* ---- a reader over bytes where they lie ---- */
+/* ---- a reader over bytes in one buffer ---- */
 
 /* How far a stream is read. Set by bt_reader_init. */
 typedef struct bt_reader {
@@ -167,7 +167,7 @@ void bt_reader_init(bt_reader *reader, const bt_own *own);
  * BT_REFUSED: item says where and why. The reader is as it was, and refuses these bytes again. */
 uint32_t bt_reader_next(bt_reader *reader, const uint8_t *bytes, size_t n, bt_item *item);
 
-/* Reads as bt_reader_next does where the stream ends after the n bytes: BT_END in place of BT_MORE if nothing is
+/* Reads as bt_reader_next does if the stream ends after the n bytes: BT_END in place of BT_MORE if nothing is
  * unfinished, and BT_REFUSED for BT_END_INSIDE if something is. */
 uint32_t bt_reader_finish(bt_reader *reader, const uint8_t *bytes, size_t n, bt_item *item);
 
@@ -177,7 +177,7 @@ typedef struct bt_batch {
     uint64_t used;
 } bt_batch;
 
-/* Reads as many items as the array has room for, as calls of bt_reader_next in a row do, and quicker where messages are small.
+/* Reads as many items as the array has room for, as calls of bt_reader_next in a row do, and quicker if messages are small.
  * The first batch->count of items are read, in order. The next call wants the bytes after the first batch->used ones.
  * BT_ITEM: the array is full; call again (with room 0 nothing is read, so give room for one at least).
  * BT_MORE: all whole items are read; the bytes that are left and some more are wanted.
@@ -219,7 +219,7 @@ typedef struct bt_verdict {
     uint8_t reason;    /* 0, or the reason */
 } bt_verdict;
 
-/* Judges the n bytes as a whole stream: BT_END where it is accepted, BT_REFUSED where it isn't. */
+/* Judges the n bytes as a whole stream: BT_END if it is accepted, BT_REFUSED if it isn't. */
 uint32_t bt_check(const bt_own *own, const uint8_t *bytes, size_t n, bt_verdict *verdict);
 
 /* ---- writing ---- */
@@ -231,7 +231,7 @@ typedef struct bt_handshake {
     uint8_t peer_id[20];
 } bt_handshake;
 
-/* Writes the 68 bytes of a handshake, and returns 68; or 0 where there is less room, and then nothing is written. */
+/* Writes the 68 bytes of a handshake, and returns 68; or 0 if there is less room, and then nothing is written. */
 size_t bt_write_handshake(const bt_handshake *handshake, uint8_t *out, size_t room);
 
 /* A message is judged as the peer judges it, by what BOTH ends have agreed on and by the PEER's id of ut_metadata: by a
@@ -239,7 +239,7 @@ size_t bt_write_handshake(const bt_handshake *handshake, uint8_t *out, size_t ro
  * Call it once the peer's handshake was read. */
 void bt_writer_init(bt_reader *peer, const bt_own *own, uint64_t reserved);
 
-/* Takes the id of ut_metadata that the peer told, if the item that was read from it is an extended handshake that tells
+/* Takes the id of ut_metadata that the peer announced, if the item that was read from it is an extended handshake that tells
  * one. Call it for each extended message that is read. */
 static inline void bt_writer_hear(bt_reader *peer, const bt_item *item) {
     if (item->id == BT_EXTENDED && item->extended.kind == BT_EXT_HANDSHAKE && item->extended.has_ut_metadata)
@@ -257,14 +257,14 @@ static inline void bt_writer_hear(bt_reader *peer, const bt_item *item) {
 uint32_t bt_write(bt_reader *peer, const bt_item *message, const uint8_t *body, size_t n, uint8_t *out, size_t room,
                   bt_item *written);
 
-/* Writes a metadata message under the id that the peer told: kind is BT_METADATA_REQUEST, BT_METADATA_DATA (with the
+/* Writes a metadata message under the id that the peer announced: kind is BT_METADATA_REQUEST, BT_METADATA_DATA (with the
  * total size, 1 to 2^63 - 1, and the block) or BT_METADATA_REJECT. Its dictionary takes at most 160 bytes. Returns as bt_write
- * does, and BT_UNWRITTEN also where the peer told no id, for another kind, and for another total size. */
+ * does, and BT_UNWRITTEN also if the peer announced no id, for another kind, and for another total size. */
 uint32_t bt_write_metadata(bt_reader *peer, uint8_t kind, uint32_t piece, uint64_t total_size, const uint8_t *block,
                            size_t n, uint8_t *out, size_t room, bt_item *written);
 
 /* Writes the extended handshake: the own id of ut_metadata, if it isn't 0, and the size of the metadata that is served,
- * where has_size is on. Its dictionary takes at most 160 bytes. Returns as bt_write does. */
+ * if has_size is on. Its dictionary takes at most 160 bytes. Returns as bt_write does. */
 uint32_t bt_write_extended_handshake(bt_reader *peer, uint8_t metadata_id, uint8_t has_size, uint64_t size, uint8_t *out,
                                      size_t room, bt_item *written);
 
@@ -326,7 +326,7 @@ static inline uint32_t bt_write_extended(bt_reader *peer, uint8_t extended_id, c
 /* ---- an end of a connection ---- */
 
 /* An end handles what the peer sends: it exchanges the handshakes, announces itself (BEP 10), fetches or serves metadata
- * (BEP 9), and tells what the peer said. It opens no socket, starts no thread and reads no clock: bytes that came from the
+ * (BEP 9), and returns what the peer sent. It opens no socket, starts no thread and reads no clock: bytes that came from the
  * peer go into bt_end_next or bt_end_handle, and those that bt_end_outgoing copies go to the peer.
  *
  * It takes memory by rattle_alloc, rattle_realloc and rattle_dealloc. bt_heap.c has them, over malloc, realloc and free; a
@@ -335,7 +335,7 @@ static inline uint32_t bt_write_extended(bt_reader *peer, uint8_t extended_id, c
  *
  * C holds an end in a bt_end. All zero it holds none, and so it begins: `bt_end end = BT_NO_END;`. After that only these
  * calls change it. It isn't copied to be used twice, and each call for it is made by the thread that made the end. Each
- * call may be made while it holds none, and then does nothing and returns 0, or BT_NO_END_HELD where it has a status. */
+ * call may be made while it holds none, and then does nothing and returns 0, or BT_NO_END_HELD if it has a status. */
 typedef struct bt_end {
     void *state;
     uint8_t held;
@@ -353,12 +353,12 @@ enum {
     BT_NO_INFO_HASH = 9,  /* own.has_info_hash is off */
     BT_BAD_SIZE = 10,     /* the metadata to serve hasn't 1 to 67,108,864 bytes */
     BT_NOT_OPEN = 11,     /* the peer's handshake hasn't come, or what came is refused */
-    BT_NO_PIECES = 12,    /* the message tells of pieces, and own.has_pieces is off */
+    BT_NO_PIECES = 12,    /* the message has a piece index or is a bitfield, and own.has_pieces is off */
     BT_ILLEGAL = 13,      /* the peer would refuse the message */
     BT_NOT_BEGUN = 14     /* nothing is fetched, the metadata is there, or it can't have this size */
 };
 
-/* Values of bt_end_config.announce: what the end says of its pieces after the handshakes (BEP 6). */
+/* Values of bt_end_config.announce: what the end announces of its pieces after the handshakes (BEP 6). */
 enum { BT_SAY_NOTHING = 0, BT_SAY_ALL = 1, BT_SAY_NONE = 2 };
 
 /* Values of bt_end_config.role: what the end does with metadata. */
@@ -403,17 +403,17 @@ enum {
 
 /* What an item made of the end. What its kind doesn't have means nothing. */
 typedef struct bt_event {
-    uint64_t size;        /* the size of metadata that the peer announced, where has_size is on */
+    uint64_t size;        /* the size of metadata that the peer announced, if has_size is on */
     uint32_t kind;
     uint32_t piece;       /* the number of a block of metadata */
-    uint8_t id;           /* the id under which the peer wants metadata messages from now on, where has_id is on */
+    uint8_t id;           /* the id under which the peer wants metadata messages from now on, if has_id is on */
     uint8_t has_id;
     uint8_t has_size;
     uint8_t begins;       /* on: metadata of this size is fetched from now on */
     uint8_t peer_id[20];  /* the peer's id */
 } bt_event;
 
-/* What bt_end_next tells. */
+/* What bt_end_next returns. */
 typedef struct bt_heard {
     uint64_t used;       /* how many of the bytes the end took. Set after each status */
     bt_item item;        /* after BT_ITEM: what the peer said */
@@ -432,7 +432,7 @@ typedef struct bt_heard {
  * none: after BT_BUSY once less waits to be sent. */
 uint32_t bt_end_next(bt_end *end, const uint8_t *bytes, size_t n, bt_heard *heard, uint8_t *out, size_t room);
 
-/* Takes the bytes and handles all items in them, as calls of bt_end_next do, but tells nothing of the items. used says how
+/* Takes the bytes and handles all items in them, as calls of bt_end_next do, but returns none of the items. used says how
  * many bytes it took. BT_DONE: all of them. BT_REFUSED, BT_BUSY, BT_NO_MEMORY: as of bt_end_next; only BT_REFUSED sets
  * the verdict. */
 uint32_t bt_end_handle(bt_end *end, const uint8_t *bytes, size_t n, uint64_t *used, bt_verdict *verdict);
@@ -457,7 +457,7 @@ typedef struct bt_progress {
     uint64_t held;    /* how many of them are held */
 } bt_progress;
 
-/* Says how far the fetch has come, and returns 1. Returns 0, and progress stays as it was, if no size is known, or nothing
+/* Stores how far the fetch has come, and returns 1. Returns 0, and progress stays as it was, if no size is known, or nothing
  * is fetched. */
 uint32_t bt_end_progress(bt_end *end, bt_progress *progress);
 
@@ -474,11 +474,11 @@ uint32_t bt_end_begin(bt_end *end, uint64_t size);
 /* Asks for at most this many blocks at once from now on: 1 to 8; any other number is 8. What is asked stays asked. */
 void bt_end_set_window(bt_end *end, uint8_t window);
 
-/* Says a message to the peer: by message->id, the numbers that this id has, and a body of n bytes (a bitfield or a block; none
- * for other ids), which is copied. BT_EXTENDED with extended.kind BT_DONTHAVE says that a piece isn't had any more; an end
- * says other extended messages itself.
+/* Queues a message for the peer: by message->id, the numbers that this id has, and a body of n bytes (a bitfield or a block; none
+ * for other ids), which is copied. BT_EXTENDED with extended.kind BT_DONTHAVE announces that a piece isn't there any more; an
+ * end sends other extended messages itself.
  * BT_DONE: it waits to be sent. Else nothing has changed: BT_NOT_OPEN, BT_BUSY, BT_NO_PIECES, BT_ILLEGAL, BT_NO_MEMORY;
- * BT_UNWRITTEN for BT_HANDSHAKE, an id without a meaning, or an extended message that an end says itself. */
+ * BT_UNWRITTEN for BT_HANDSHAKE, an id without a meaning, or an extended message that an end sends itself. */
 uint32_t bt_end_say(bt_end *end, const bt_item *message, const uint8_t *body, size_t n);
 
 /* ---- names ---- */
