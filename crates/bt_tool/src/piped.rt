@@ -1,39 +1,79 @@
-//! Standard output that remembers whether anybody reads it. `main` makes it.
+//! Standard output, which knows whether anybody reads it. `main` makes it.
+ghost use Rattle.std.specs.Prelude.{◌≡◌, false};
+ghost use Rattle.std.specs.IoError.{error_kind};
+ghost use Rattle.bt_tool.specs.Choices.{is_pipe as is_pipe_by};
 
-use std::cell::Cell;
+use bt_io::{Failed, Target};
 use std::io;
 use std::io::{ErrorKind, Write};
 
-/// A writer that notes in `is_gone` that nobody reads the other end of a pipe.
+/// What knows whether anybody reads it.
+pub trait Output {
+    ghost use Rattle.std.specs.Prelude.{Bool};
+
+    /// Whether a write failed since nobody reads the other end of a pipe.
+    ghost gone: { Self → Bool };
+
+    /// Returns whether a write failed since nobody reads the other end of a pipe.
+    fn is_gone(&self) -> bool
+        ensures { result ≡ gone self.now };
+}
+
+/// A writer that notes that nobody reads the other end of a pipe.
 #[derive(Drop)]
-pub struct Piped<'a, W> {
+pub struct Piped<W> {
     writer: W,
-    is_gone: &'a Cell<bool>,
+    writes: u64,
+    failed: u64,
+    is_gone: bool,
 }
 
-impl<'a, W> Piped<'a, W> {
-    /// Returns the writer, with its note.
-    pub fn new(writer: W, is_gone: &'a Cell<bool>) -> Piped<'a, W> {
-        Piped { writer, is_gone }
-    }
+/// Returns whether the error says that nobody reads the other end of a pipe.
+fn is_pipe(error: &io::Error) -> bool
+    ensures { result ≡ is_pipe_by (error_kind error.now) }
+{
+    matches!(error.kind(), ErrorKind::BrokenPipe)
 }
 
-impl<'a, W: Write> Write for Piped<'a, W> {
-    ghost contents = { λ p. W.contents p.writer };
-
-    fn write(&mut self, buf: &[u8]) -> io::Result<usize> {
-        match self.writer.write(buf) {
-            Ok(count) => Ok(count),
-            Err(error) => {
-                if error.kind() == ErrorKind::BrokenPipe {
-                    self.is_gone.set(true);
-                }
-                Err(error)
-            }
+impl<W> Piped<W> {
+    /// Returns the writer, with no call made.
+    pub fn new(writer: W) -> Piped<W>
+        ensures { ⟦<Piped<W> as Output>⟧.gone result ≡ false }
+    {
+        Piped {
+            writer,
+            writes: 0,
+            failed: 0,
+            is_gone: false,
         }
     }
+}
 
-    fn flush(&mut self) -> io::Result<()> {
-        self.writer.flush()
+impl<W> Output for Piped<W> {
+    ghost gone = { λ p. p.is_gone };
+
+    fn is_gone(&self) -> bool {
+        self.is_gone
+    }
+}
+
+impl<W: Write> Target for Piped<W> {
+    ghost seen = { λ p. record { held = W.contents p.writer; writes = p.writes; failed = p.failed } };
+
+    fn write(&mut self, from: &[u8]) -> Result<usize, Failed> {
+        self.writes = self.writes.saturating_add(1);
+        match self.writer.write(from) {
+            Ok(count) => {
+                if count == 0 && !from.is_empty() {
+                    self.failed = self.failed.saturating_add(1);
+                }
+                Ok(count)
+            }
+            Err(error) => {
+                self.failed = self.failed.saturating_add(1);
+                self.is_gone |= is_pipe(&error);
+                Err(Failed)
+            }
+        }
     }
 }

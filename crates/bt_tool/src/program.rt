@@ -1,10 +1,21 @@
 //! A run of the program over its host's files and standard streams. `main` calls it with what the words ask for.
-ghost use Rattle.std.specs.Prelude.{IfOk};
+ghost use Rattle.std.specs.Prelude.{◌≡◌, [], false, IfOk, Ok};
+ghost use Rattle.bt_io.specs.Seen.{SourceSeen};
 ghost use Rattle.bt_run.specs.Commands.{HasLimit, HasLoopLimit};
+ghost use Rattle.bt_run.specs.Endings.{fault_status, fault_words};
+ghost use Rattle.bt_run.specs.Others.{IsInformed};
+ghost use Rattle.bt_run.specs.Runs.{IsSaid};
+ghost use Rattle.bt_run.specs.Hinting.{are_wanted as are_wanted_by};
 ghost use Rattle.bt_cli.specs.Commands.{IsLimited};
 ghost use Rattle.bt_fetch.specs.Wishes.{IsWish};
+ghost use Rattle.bt_tool.specs.Choices.{awaited_words};
+ghost use Rattle.bt_tool.specs.Runs.{IsAnswered, IsCheckRun, IsFetchEnd, IsLinkRun, IsLoopRun, IsPrinted, IsReceiver, IsRun, IsServeEnd, IsTold};
 
-use crate::piped::Piped;
+use crate::choices::{
+    METADATA_AWAITED, PEERS_AWAITED, SCRIPT_AWAITED, STREAM_AWAITED, are_several, awaited_by, goes_on, greater,
+    label_of, name_of, prefix_of, said_before,
+};
+use crate::piped::Output;
 use bt_cli::commands::{Asked, Job, Notice, Request};
 use bt_cli::ending::{end_by_fault, end_job, end_link, end_loop, end_text};
 use bt_cli::fetch::FetchJob;
@@ -17,36 +28,21 @@ use bt_cli::peers::{NoPeers, list_from, peers_in};
 use bt_cli::run::{JobEnd, do_job, say};
 use bt_cli::serve::{ServeJob, end_serve, run_serve};
 use bt_ext::Rules;
-use bt_feed::Host;
+use bt_feed::{Host, Source, Target};
 use bt_hint::Kept;
 use bt_jobs::output::write_out;
 use bt_jobs::{OtherError, run_check_after};
-use bt_net::{open_tcp, run_loop};
+use bt_net::{Wire, open_tcp, run_loop};
 use bt_rig::run_rig;
 use bt_text::ended::ToolFault;
 use bt_wire::Own;
 use either::Either;
-use std::alloc::AllocError;
-use std::cell::Cell;
 use std::fs;
-use std::io::{Input, Write};
+use std::io::Input;
 use std::net::Net;
 use std::random::RandomSource;
 use std::rt::Files;
 use std::time::Clock;
-
-/// What is said where a stream is awaited from a terminal.
-const STREAM_AWAITED: &[u8] =
-    b"bt_tool: a stream is awaited on standard input, from its handshake on\n";
-
-/// What is said where a script is awaited from a terminal.
-const SCRIPT_AWAITED: &[u8] = b"bt_tool: a script is awaited on standard input\n";
-
-/// What is said where metadata is awaited from a terminal.
-const METADATA_AWAITED: &[u8] = b"bt_tool: metadata is awaited on standard input\n";
-
-/// What is said where a list of peers is awaited from a terminal.
-const PEERS_AWAITED: &[u8] = b"bt_tool: a list of peers is awaited on standard input\n";
 
 /// The host's devices, and what is known of them.
 #[derive(Drop)]
@@ -54,11 +50,9 @@ pub struct Program<'a, R, W, E> {
     /// The host, which has the files and standard input.
     host: &'a R,
     /// Standard output.
-    writer: Host<Piped<'a, W>>,
+    writer: W,
     /// Standard error.
-    errors: Host<E>,
-    /// A write failed since nobody reads standard output.
-    is_gone: &'a Cell<bool>,
+    errors: E,
     /// Standard input is a terminal.
     is_terminal: bool,
     /// Standard error is a terminal.
@@ -68,28 +62,27 @@ pub struct Program<'a, R, W, E> {
 /// An input: standard input, or a file.
 type Opened<R> = Host<Either<<R as Input>::Reader, <R as Files>::File>>;
 
-impl<'a, R: Files + Input + Net + Clock + RandomSource + AllocGlobal, W: Write, E: Write> Program<
+impl<
     'a,
-    R,
-    W,
-    E,
-> {
+    R: Files + Input + Net + Clock + RandomSource + AllocGlobal,
+    W: Target + Output,
+    E: Target,
+> Program<'a, R, W, E> {
     /// A program on this host, with its standard output and standard error.
     pub fn new(
         host: &'a R,
         writer: W,
         errors: E,
-        is_gone: &'a Cell<bool>,
         is_terminal: bool,
         is_watched: bool,
-    ) -> Program<'a, R, W, E> {
-        let writer = Host::new(Piped::new(writer, is_gone));
-        let errors = Host::new(errors);
+    ) -> Program<'a, R, W, E>
+        ensures terminal { result.is_terminal ≡ is_terminal }
+        ensures watched { result.is_watched ≡ is_watched }
+    {
         Program {
             host,
             writer,
             errors,
-            is_gone,
             is_terminal,
             is_watched,
         }
@@ -98,6 +91,8 @@ impl<'a, R: Files + Input + Net + Clock + RandomSource + AllocGlobal, W: Write, 
     /// Does what the words ask for, and returns the exit status.
     pub fn answer(&mut self, asked: &Asked) -> u8
         requires { IsLimited asked.now }
+        ensures { IsAnswered asked.now (W.gone self.new.writer) (W.seen self.old.writer) (W.seen self.new.writer)
+            (E.seen self.old.errors) (E.seen self.new.errors) result }
     {
         match asked {
             Asked::Run(request) => self.run(request),
@@ -105,42 +100,69 @@ impl<'a, R: Files + Input + Net + Clock + RandomSource + AllocGlobal, W: Write, 
             Asked::Loop(rules, limit) => self.run_loop(*rules, *limit),
             Asked::Fetch(job) => self.fetch(job),
             Asked::Serve(job) => self.serve(job),
-            Asked::Told(Notice::Usage, text) => self.refuse(text.as_str()),
-            Asked::Told(_, text) => {
-                let end = write_out(&mut self.writer, text.as_bytes(), ());
-                end_text(end, self.is_gone.get(), &mut self.errors)
-            }
+            Asked::Told(notice, text) => self.tell(*notice, text.as_str()),
+        }
+    }
+
+    /// Prints a text on standard output, and returns the exit status.
+    fn print(&mut self, text: &str) -> u8
+        ensures { IsPrinted text.now (W.gone self.new.writer) (W.seen self.old.writer) (W.seen self.new.writer)
+            (E.seen self.old.errors) (E.seen self.new.errors) result }
+    {
+        let end = write_out(&mut self.writer, text.as_bytes(), ());
+        end_text(end, self.writer.is_gone(), &mut self.errors)
+    }
+
+    /// Prints a text: help and the version on standard output, and what is wrong with the words on standard error.
+    fn tell(&mut self, notice: Notice, text: &str) -> u8
+        ensures { IsTold notice text.now (W.gone self.new.writer) (W.seen self.old.writer) (W.seen self.new.writer)
+            (E.seen self.old.errors) (E.seen self.new.errors) result }
+    {
+        match notice {
+            Notice::Usage => self.refuse(text),
+            Notice::Help | Notice::Version => self.print(text),
         }
     }
 
     /// Says what is wrong with the words, and returns the exit status.
-    pub fn refuse(&mut self, text: &str) -> u8 {
+    pub fn refuse(&mut self, text: &str) -> u8
+        ensures said { IsSaid text.now (E.seen self.old.errors) (E.seen self.new.errors) }
+        ensures status { result ≡ 2 }
+        ensures writer { self.new.writer ≡ self.old.writer }
+    {
         refuse_words(text, &mut self.errors)
     }
 
     /// Returns the exit status of a fault that came before any work.
-    pub fn fail(&mut self, fault: ToolFault) -> u8 {
+    pub fn fail(&mut self, fault: ToolFault) -> u8
+        ensures said { IsSaid (fault_words false [] fault) (E.seen self.old.errors) (E.seen self.new.errors) }
+        ensures status { result ≡ fault_status false fault }
+        ensures writer { self.new.writer ≡ self.old.writer }
+    {
         end_by_fault(fault, b"", false, &mut self.errors)
     }
 
-    /// Opens an input, and says what is awaited where it is a terminal.
-    fn open(&mut self, name: &str, awaited: &[u8]) -> Option<Opened<R>> {
-        if !is_input(name) {
-            let file = fs::open(self.host, name).ok()?;
-            return Some(Host::new(Either::Right(file)));
-        }
-        if self.is_terminal {
-            say(awaited, &mut self.errors);
-        }
-        Some(Host::new(Either::Left(self.host.reader())))
+    /// Says that an input can't be read, and returns the exit status.
+    fn fail_to_read(&mut self, prefix: &[u8]) -> u8
+        ensures said { IsSaid (fault_words false prefix.now ToolFault.Read) (E.seen self.old.errors) (E.seen self.new.errors) }
+        ensures status { result ≡ 3 }
+        ensures writer { self.new.writer ≡ self.old.writer }
+    {
+        end_by_fault(ToolFault::Read, prefix, false, &mut self.errors)
     }
 
-    /// Returns what stands before the line of a failed read: a file's name.
-    fn prefix(&self, name: &str) -> Result<String, AllocError> {
+    /// Opens an input, and says what is awaited where it is a terminal.
+    fn open(&mut self, name: &str, awaited: &'static [u8]) -> Option<Opened<R>>
+        ensures said { IsSaid (awaited_words self.old.is_terminal name.now awaited.now) (E.seen self.old.errors) (E.seen self.new.errors) }
+        ensures writer { self.new.writer ≡ self.old.writer }
+        ensures watched { self.new.is_watched ≡ self.old.is_watched }
+    {
+        say(said_before(self.is_terminal, name, awaited), &mut self.errors);
         if is_input(name) {
-            return Ok(String::new(self.host.alloc()));
+            return Some(Host::new(Either::Left(self.host.reader())));
         }
-        format!(in self.host.alloc(); "{name}: ")
+        let file = fs::open(self.host, name).ok()?;
+        Some(Host::new(Either::Right(file)))
     }
 
     /// Says that the other direction has no handshake, and returns the exit status.
@@ -154,10 +176,12 @@ impl<'a, R: Files + Input + Net + Clock + RandomSource + AllocGlobal, W: Write, 
     /// As `receiver`, with the other direction's input; `prefix` stands before the line of a fault.
     fn receiver_after(&mut self, prefix: &[u8], name: &str, request: &Request) -> Result<Own, u8>
         requires { HasLimit request.now.own }
-        ensures { IfOk result HasLimit }
+        ensures limited { IfOk result HasLimit }
+        ensures informed { IfOk result (λ own. (before : SourceSeen) × (after : SourceSeen)
+            × IsInformed request.now.own request.now.given before after (Ok own)) }
     {
         let Some(mut reader) = self.open(name, STREAM_AWAITED) else {
-            return Err(end_by_fault(ToolFault::Read, prefix, false, &mut self.errors));
+            return Err(self.fail_to_read(prefix));
         };
         match receiver_by(self.host.alloc(), &request.own, request.given, &mut reader) {
             Ok(own) => Ok(own),
@@ -171,12 +195,13 @@ impl<'a, R: Files + Input + Net + Clock + RandomSource + AllocGlobal, W: Write, 
     /// Returns the receiver, with what the other direction says of it; or the exit status where that can't be read.
     fn receiver(&mut self, request: &Request) -> Result<Own, u8>
         requires { HasLimit request.now.own }
-        ensures { IfOk result HasLimit }
+        ensures limited { IfOk result HasLimit }
+        ensures receiver { IfOk result (IsReceiver request.now.other request.now.given request.now.own) }
     {
         let Some(name) = &request.other else {
             return Ok(request.own);
         };
-        match self.prefix(name.as_str()) {
+        match prefix_of(self.host.alloc(), name.as_str()) {
             Ok(prefix) => self.receiver_after(prefix.as_bytes(), name.as_str(), request),
             Err(_) => Err(self.fail(ToolFault::Memory)),
         }
@@ -190,22 +215,24 @@ impl<'a, R: Files + Input + Net + Clock + RandomSource + AllocGlobal, W: Write, 
             Ok(own) => own,
             Err(status) => return status,
         };
-        match request.files.as_slice() {
-            [] => self.run_on("-", request, &own),
-            [name] => self.run_on(name.as_str(), request, &own),
-            names => self.check_each(names, &own),
+        let files = request.files.as_slice();
+        if are_several(files) {
+            return self.check_each(files, &own);
         }
+        self.run_on(name_of(files), request, &own)
     }
 
     /// Does a job on an input that is open, and returns the exit status.
     fn run_over(&mut self, prefix: &[u8], reader: Opened<R>, request: &Request, own: &Own) -> u8
         requires { HasLimit own.now }
+        ensures { IsRun request.now.job own.now prefix.now (are_wanted_by request.now.hints self.old.is_watched) (W.gone self.new.writer)
+            (⟦<Opened<R> as Source>⟧.seen reader) (W.seen self.old.writer) (W.seen self.new.writer) (E.seen self.old.errors) (E.seen self.new.errors) result }
     {
         let alloc = self.host.alloc();
         let job = request.job;
         let mut reader = Kept::new(alloc, reader);
         let end = do_job(alloc, job, own, &mut reader, &mut self.writer);
-        let is_gone = self.is_gone.get();
+        let is_gone = self.writer.is_gone();
         let status = end_job(job, end, prefix, is_gone, &mut self.errors);
         let is_wanted = are_wanted(request.hints, self.is_watched);
         say_hint(alloc, is_wanted, end, reader.window(), &mut self.errors);
@@ -216,13 +243,9 @@ impl<'a, R: Files + Input + Net + Clock + RandomSource + AllocGlobal, W: Write, 
     fn run_after(&mut self, prefix: &[u8], name: &str, request: &Request, own: &Own) -> u8
         requires { HasLimit own.now }
     {
-        let awaited = match request.job {
-            Job::Pack => SCRIPT_AWAITED,
-            Job::Show | Job::Json | Job::Check | Job::Unpack => STREAM_AWAITED,
-        };
-        match self.open(name, awaited) {
+        match self.open(name, awaited_by(request.job)) {
             Some(reader) => self.run_over(prefix, reader, request, own),
-            None => end_by_fault(ToolFault::Read, prefix, false, &mut self.errors),
+            None => self.fail_to_read(prefix),
         }
     }
 
@@ -230,7 +253,7 @@ impl<'a, R: Files + Input + Net + Clock + RandomSource + AllocGlobal, W: Write, 
     fn run_on(&mut self, name: &str, request: &Request, own: &Own) -> u8
         requires { HasLimit own.now }
     {
-        match self.prefix(name) {
+        match prefix_of(self.host.alloc(), name) {
             Ok(prefix) => self.run_after(prefix.as_bytes(), name, request, own),
             Err(_) => self.fail(ToolFault::Memory),
         }
@@ -243,7 +266,7 @@ impl<'a, R: Files + Input + Net + Clock + RandomSource + AllocGlobal, W: Write, 
         let mut status = 0;
         for name in names {
             let (of_file, goes_on) = self.check_named(name.as_str(), own);
-            status = status.max(of_file);
+            status = greater(status, of_file);
             if !goes_on {
                 return status;
             }
@@ -251,76 +274,77 @@ impl<'a, R: Files + Input + Net + Clock + RandomSource + AllocGlobal, W: Write, 
         status
     }
 
+    /// Checks an input that is open; returns the exit status, and whether the output takes more.
+    fn check_over(&mut self, prefix: &[u8], reader: Opened<R>, own: &Own) -> (u8, bool)
+        requires { HasLimit own.now }
+        ensures { IsCheckRun own.now prefix.now (W.gone self.new.writer)
+            (⟦<Opened<R> as Source>⟧.seen reader) (W.seen self.old.writer) (W.seen self.new.writer) (E.seen self.old.errors) (E.seen self.new.errors) result.0 result.1 }
+    {
+        let alloc = self.host.alloc();
+        let mut reader = reader;
+        let end = run_check_after(alloc, prefix, &mut reader, &mut self.writer, own);
+        let is_gone = self.writer.is_gone();
+        let stream = JobEnd::Stream(end);
+        let status = end_job(Job::Check, stream, prefix, is_gone, &mut self.errors);
+        (status, goes_on(&end))
+    }
+
     /// As `check_named`; `prefix` stands before the file's line.
     fn check_after(&mut self, prefix: &[u8], name: &str, own: &Own) -> (u8, bool)
         requires { HasLimit own.now }
     {
-        let Some(mut reader) = self.open(name, STREAM_AWAITED) else {
-            return (
-                end_by_fault(ToolFault::Read, prefix, false, &mut self.errors),
-                true,
-            );
-        };
-        let end = run_check_after(
-            self.host.alloc(),
-            prefix,
-            &mut reader,
-            &mut self.writer,
-            own,
-        );
-        let is_gone = self.is_gone.get();
-        let status = end_job(
-            Job::Check,
-            JobEnd::Stream(end),
-            prefix,
-            is_gone,
-            &mut self.errors,
-        );
-        (status, end != Err(ToolFault::Write))
+        match self.open(name, STREAM_AWAITED) {
+            Some(reader) => self.check_over(prefix, reader, own),
+            None => (self.fail_to_read(prefix), true),
+        }
     }
 
     /// Checks a file; returns the exit status, and whether the output takes more.
     fn check_named(&mut self, name: &str, own: &Own) -> (u8, bool)
         requires { HasLimit own.now }
     {
-        match format!(in self.host.alloc(); "{name}: ") {
+        match label_of(self.host.alloc(), name) {
             Ok(prefix) => self.check_after(prefix.as_bytes(), name, own),
             Err(_) => (self.fail(ToolFault::Memory), true),
         }
     }
 
+    /// Runs the link of a script that is open, and returns the exit status.
+    fn link_over(&mut self, prefix: &[u8], reader: Opened<R>) -> u8
+        ensures { IsLinkRun prefix.now (W.gone self.new.writer)
+            (⟦<Opened<R> as Source>⟧.seen reader) (W.seen self.old.writer) (W.seen self.new.writer) (E.seen self.old.errors) (E.seen self.new.errors) result }
+    {
+        let mut reader = reader;
+        let end = run_rig(self.host.alloc(), &mut reader, &mut self.writer);
+        let is_gone = self.writer.is_gone();
+        end_link(end, prefix, is_gone, &mut self.errors)
+    }
+
     /// As `link`; `prefix` stands before the line of a fault.
     fn link_after(&mut self, prefix: &[u8], name: &str) -> u8 {
-        let Some(mut reader) = self.open(name, SCRIPT_AWAITED) else {
-            return end_by_fault(ToolFault::Read, prefix, false, &mut self.errors);
-        };
-        let end = run_rig(self.host.alloc(), &mut reader, &mut self.writer);
-        let is_gone = self.is_gone.get();
-        end_link(end, prefix, is_gone, &mut self.errors)
+        match self.open(name, SCRIPT_AWAITED) {
+            Some(reader) => self.link_over(prefix, reader),
+            None => self.fail_to_read(prefix),
+        }
     }
 
     /// Runs the link that a script describes, and returns the exit status.
     fn link(&mut self, files: &[String]) -> u8 {
-        let name = match files {
-            [] => "-",
-            [name, ..] => name.as_str(),
-        };
-        match self.prefix(name) {
+        let name = name_of(files);
+        match prefix_of(self.host.alloc(), name) {
             Ok(prefix) => self.link_after(prefix.as_bytes(), name),
             Err(_) => self.fail(ToolFault::Memory),
         }
     }
 
-    /// Runs two ends over a connection of the process to itself, and returns the exit status.
-    fn run_loop(&mut self, rules: Rules, limit: u32) -> u8
+    /// Runs two ends over a wire, with the metadata of an input that is open; returns the exit status.
+    fn loop_over<L: Wire + Drop>(&mut self, reader: Opened<R>, wire: L, rules: Rules, limit: u32) -> u8
         requires { HasLoopLimit limit }
+        ensures { IsLoopRun rules limit (W.gone self.new.writer) (⟦<Opened<R> as Source>⟧.seen reader) (L.seen wire)
+            (W.seen self.old.writer) (W.seen self.new.writer) (E.seen self.old.errors) (E.seen self.new.errors) result }
     {
-        let Ok(mut wire) = open_tcp(self.host) else {
-            return self.fail(ToolFault::Net);
-        };
-        let Some(mut reader) = self.open("-", METADATA_AWAITED) else {
-            return self.fail(ToolFault::Read);
-        };
+        let mut reader = reader;
+        let mut wire = wire;
         let end = run_loop(
             self.host.alloc(),
             &mut reader,
@@ -329,7 +353,20 @@ impl<'a, R: Files + Input + Net + Clock + RandomSource + AllocGlobal, W: Write, 
             rules,
             limit,
         );
-        end_loop(end, self.is_gone.get(), &mut self.errors)
+        end_loop(end, self.writer.is_gone(), &mut self.errors)
+    }
+
+    /// Runs two ends over a connection of the process to itself, and returns the exit status.
+    fn run_loop(&mut self, rules: Rules, limit: u32) -> u8
+        requires { HasLoopLimit limit }
+    {
+        let Ok(wire) = open_tcp(self.host) else {
+            return self.fail(ToolFault::Net);
+        };
+        match self.open("-", METADATA_AWAITED) {
+            Some(reader) => self.loop_over(reader, wire, rules, limit),
+            None => self.fail(ToolFault::Read),
+        }
     }
 
     /// Says that a line of a list names no peer, and returns the exit status.
@@ -351,7 +388,7 @@ impl<'a, R: Files + Input + Net + Clock + RandomSource + AllocGlobal, W: Write, 
     /// As `peers_of`; `prefix` stands before the line of a fault.
     fn peers_after(&mut self, prefix: &[u8], name: &str) -> Result<Vec<String>, u8> {
         let Some(mut reader) = self.open(name, PEERS_AWAITED) else {
-            return Err(end_by_fault(ToolFault::Read, prefix, false, &mut self.errors));
+            return Err(self.fail_to_read(prefix));
         };
         let alloc = self.host.alloc();
         let listed = match list_from(alloc, &mut reader) {
@@ -370,7 +407,7 @@ impl<'a, R: Files + Input + Net + Clock + RandomSource + AllocGlobal, W: Write, 
 
     /// Returns the peers of a list, or the exit status where it can't be read.
     fn peers_of(&mut self, name: &str) -> Result<Vec<String>, u8> {
-        match self.prefix(name) {
+        match prefix_of(self.host.alloc(), name) {
             Ok(prefix) => self.peers_after(prefix.as_bytes(), name),
             Err(_) => Err(self.fail(ToolFault::Memory)),
         }
@@ -379,6 +416,7 @@ impl<'a, R: Files + Input + Net + Clock + RandomSource + AllocGlobal, W: Write, 
     /// Fetches metadata from the peers of a job and of its list, and returns the exit status.
     fn fetch_from(&mut self, job: &FetchJob, listed: &[String]) -> u8
         requires { IsWish job.now.wish }
+        ensures { IsFetchEnd (W.gone self.new.writer) (E.seen self.new.errors) result }
     {
         let alloc = self.host.alloc();
         let fetched = run_fetch(
@@ -390,7 +428,7 @@ impl<'a, R: Files + Input + Net + Clock + RandomSource + AllocGlobal, W: Write, 
             &mut self.errors,
             self.is_watched,
         );
-        end_fetch(fetched, self.is_gone.get(), &mut self.errors)
+        end_fetch(fetched, self.writer.is_gone(), &mut self.errors)
     }
 
     /// Fetches metadata from peers, and returns the exit status.
@@ -409,6 +447,7 @@ impl<'a, R: Files + Input + Net + Clock + RandomSource + AllocGlobal, W: Write, 
     /// Serves metadata to peers, and returns the exit status.
     fn serve(&mut self, job: &ServeJob) -> u8
         requires { HasLoopLimit job.now.limit }
+        ensures { IsServeEnd (E.seen self.new.errors) result }
     {
         let alloc = self.host.alloc();
         let service = run_serve(self.host, alloc, job, &mut self.writer, &mut self.errors);
