@@ -133,40 +133,42 @@ pub fn put_message(view: &MessageView, out: &mut Writer) -> Result<(), AllocErro
     ensures before { out.new.before ≡ out.old.before }
 {
     match view {
-        MessageView::KeepAlive => kind("keep-alive", out),
-        MessageView::Choke => kind("choke", out),
-        MessageView::Unchoke => kind("unchoke", out),
-        MessageView::Interested => kind("interested", out),
-        MessageView::NotInterested => kind("not-interested", out),
-        MessageView::Have(i) => kind_and_one("have", "index", u64::from(*i), out),
-        MessageView::Bitfield(bits) => kind_and_one("bitfield", "bytes", bits.len() as u64, out),
+        MessageView::KeepAlive
+        | MessageView::Choke
+        | MessageView::Unchoke
+        | MessageView::Interested
+        | MessageView::NotInterested
+        | MessageView::HaveAll
+        | MessageView::HaveNone => kind(view.name(), out),
+        MessageView::Have(i) | MessageView::Suggest(i) | MessageView::AllowedFast(i) => {
+            kind_and_one(view.name(), "index", u64::from(*i), out)
+        }
         MessageView::Request {
             index,
             begin,
             length,
-        } => kind_and_part("request", *index, *begin, "length", u64::from(*length), out),
+        }
+        | MessageView::Cancel {
+            index,
+            begin,
+            length,
+        }
+        | MessageView::Reject {
+            index,
+            begin,
+            length,
+        } => kind_and_part(view.name(), *index, *begin, "length", u64::from(*length), out),
         MessageView::Piece {
             index,
             begin,
             block,
-        } => kind_and_part("piece", *index, *begin, "bytes", block.len() as u64, out),
-        MessageView::Cancel {
-            index,
-            begin,
-            length,
-        } => kind_and_part("cancel", *index, *begin, "length", u64::from(*length), out),
-        MessageView::Port(port) => kind_and_one("port", "port", u64::from(*port), out),
-        MessageView::Suggest(i) => kind_and_one("suggest", "index", u64::from(*i), out),
-        MessageView::HaveAll => kind("have-all", out),
-        MessageView::HaveNone => kind("have-none", out),
-        MessageView::Reject {
-            index,
-            begin,
-            length,
-        } => kind_and_part("reject", *index, *begin, "length", u64::from(*length), out),
-        MessageView::AllowedFast(i) => kind_and_one("allowed-fast", "index", u64::from(*i), out),
+        } => kind_and_part(view.name(), *index, *begin, "bytes", block.len() as u64, out),
+        MessageView::Bitfield(bits) => {
+            kind_and_one(view.name(), "bytes", bits.len() as u64, out)
+        }
+        MessageView::Port(port) => kind_and_one(view.name(), "port", u64::from(*port), out),
         MessageView::Extended(payload) => put_ext(payload, out),
-        MessageView::Unknown { id, payload } => kind_and_payload("unknown", *id, payload, out),
+        MessageView::Unknown { id, payload } => kind_and_payload(view.name(), *id, payload, out),
     }
 }
 

@@ -4,7 +4,7 @@
 //! - [`putting`]: words, numbers and offsets written into a buffer that has room for them.
 //! - [`script`]: the line of an item with all of its bytes, encoded and parsed.
 //! - [`ended`]: how a command ends.
-//! - [`shown`]: items of one's own as text, and the names of ids.
+//! - [`shown`]: items of one's own as text.
 //! - [`splitting`]: the lines of a text.
 //! - [`words`]: the words of a message, owned or viewed.
 //!

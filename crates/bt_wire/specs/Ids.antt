@@ -51,3 +51,7 @@ has_meaning n = is_some (kind_of n)
 
 abbrev pub shape_by : Option Kind → Option Shape
 shape_by k = option_map (λ k. k.shape) k
+
+-- the name of an id with a meaning
+abbrev pub name_of : ℕ → Option (List ℕ)
+name_of n = option_map (λ i. i.name) (row_in n ids)

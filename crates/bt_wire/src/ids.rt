@@ -1,6 +1,6 @@
 //! The ids of messages (BEP 3, BEP 5, BEP 6, BEP 10).
-ghost use Rattle.std.specs.Prelude.{◌≡◌};
-ghost use Rattle.bt_wire.specs.Ids.{kind_of as kind_at};
+ghost use Rattle.std.specs.Prelude.{◌≡◌, option_map};
+ghost use Rattle.bt_wire.specs.Ids.{kind_of as kind_at, name_of as name_at};
 
 /// What follows a message's id.
 #[derive(Clone, Copy, PartialEq, Eq)]
@@ -73,6 +73,32 @@ pub fn kind_of(id: u8) -> Option<Kind>
         14 | 15 => Some(row(Shape::Nothing, Needs::Fast, Turn::Opening)),
         16 => Some(row(Shape::Part, Needs::Fast, Turn::Counted)),
         20 => Some(row(Shape::Extended, Needs::Extension, Turn::Apart)),
+        _ => None,
+    }
+}
+
+/// Returns the name of a message with this id, as lines and scripts have it; `None` for an unknown id.
+#[inline(always)]
+pub fn name_of(id: u8) -> Option<&'static str>
+    ensures { option_map (λ name. name.now) result ≡ name_at id }
+{
+    match id {
+        0 => Some("choke"),
+        1 => Some("unchoke"),
+        2 => Some("interested"),
+        3 => Some("not-interested"),
+        4 => Some("have"),
+        5 => Some("bitfield"),
+        6 => Some("request"),
+        7 => Some("piece"),
+        8 => Some("cancel"),
+        9 => Some("port"),
+        13 => Some("suggest"),
+        14 => Some("have-all"),
+        15 => Some("have-none"),
+        16 => Some("reject"),
+        17 => Some("allowed-fast"),
+        20 => Some("extended"),
         _ => None,
     }
 }

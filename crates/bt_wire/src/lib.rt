@@ -29,7 +29,7 @@ pub use framing::frame;
 pub use front::{Front, read_front};
 pub use handshake::{Handshake, Opening, judge_handshake, read_opening, spell_handshake};
 pub use header::judge_header;
-pub use ids::Shape;
+pub use ids::{Shape, name_of};
 pub use item::{Item, Refusal};
 pub use message::{Message, MessageView};
 pub use order::{next, next_of_view};

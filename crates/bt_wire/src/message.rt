@@ -1,9 +1,12 @@
 //! The messages, owned and as views of bytes.
-ghost use Rattle.std.specs.Prelude.{◌≡◌, MatchOption, IfSome};
+ghost use Rattle.std.specs.Prelude.{◌≡◌, [], MatchOption, IfSome, option_and_then, unwrap_or};
 ghost use Rattle.bt_wire.specs.declared.context.Context.{Context};
 ghost use Rattle.bt_wire.specs.Messages.{id_of as id_in, IsExtended, fields_of, seen, message_of, AreInRange, IsIdInRange};
+ghost use Rattle.bt_wire.specs.Ids.{name_of as name_at};
+ghost use Rattle.bt_wire.specs.Names.{message_name};
 
 use crate::fields::Fields;
+use crate::ids::name_of;
 use bt_bencode::ByteString;
 use bt_ext::{Ext, ExtView};
 
@@ -76,6 +79,32 @@ impl<B, E> Message<B, E> {
             Message::Extended(_) => Some(20),
             Message::Unknown { id, .. } => Some(*id),
         }
+    }
+
+    /// Returns the name that lines and scripts have for it.
+    #[inline(always)]
+    pub fn name(&self) -> &'static str
+        ensures { result.now ≡ message_name self.now }
+    {
+        match self {
+            Message::KeepAlive => "keep-alive",
+            Message::Unknown { .. } => "unknown",
+            _ => named(self.id()),
+        }
+    }
+}
+
+/// Returns the name of an id; an empty one for none.
+#[inline(always)]
+fn named(id: Option<u8>) -> &'static str
+    ensures { result.now ≡ unwrap_or (option_and_then name_at id) [] }
+{
+    match id {
+        Some(id) => match name_of(id) {
+            Some(name) => name,
+            None => "",
+        },
+        None => "",
     }
 }
 

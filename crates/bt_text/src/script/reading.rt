@@ -1,9 +1,10 @@
 //! Parsing of a script's line into its bytes. Only the bytes are allocated.
-ghost use Rattle.std.specs.Prelude.{◌≡◌, ◌+◌, ◌<◌, ◌≤◌, ◌^◌, length, IfOk, OnOk, option_map, option_and_then, ◌++◌, ◌∷◌, true};
+ghost use Rattle.std.specs.Prelude.{◌≡◌, ◌+◌, ◌<◌, ◌≤◌, ◌^◌, length, IfOk, OnOk, option_map, option_and_then, ◌++◌, ◌∷◌, [], true, unwrap_or};
 ghost use Rattle.std.specs.Result.{result_ok};
+ghost use Rattle.std.specs.Str.{bytes_eq};
 ghost use Rattle.hex.specs.Hex.{decode_of};
 ghost use Rattle.bt_wire.specs.Numbers.{be32, be64};
-ghost use Rattle.bt_wire.specs.Ids.{ids, has_meaning as is_known};
+ghost use Rattle.bt_wire.specs.Ids.{ids, name_of as name_at, has_meaning as is_known};
 ghost use Rattle.bt_text.specs.Script.{row_named, framed_by, IsAnswer, IsAdded};
 ghost use Rattle.bt_text.specs.ScriptReading.{
   bytes_in_word,
@@ -23,7 +24,7 @@ ghost use Rattle.bt_text.specs.ScriptReading.{
 
 pub use crate::script::numbers::plain_number;
 use crate::script::numbers::{is, number_following, split_word, three_numbers, two_numbers};
-use bt_wire::{Handshake, Reserved, Shape, spell_handshake};
+use bt_wire::{Handshake, Reserved, Shape, name_of, spell_handshake};
 use hex::FromHex;
 use std::alloc::AllocError;
 
@@ -240,41 +241,49 @@ fn put_unknown(text: &[u8], bytes: &mut Vec<u8>) -> Result<bool, AllocError>
     }
 }
 
+/// Returns whether the id has this name.
+#[inline(always)]
+fn has_name(id: u8, name: &[u8]) -> bool
+    ensures { result ≡ bytes_eq name.now (unwrap_or (name_at id) []) }
+{
+    is(name, name_of(id).unwrap_or("").as_bytes())
+}
+
 /// Returns the id of a name, and the shape of its fields.
 pub(crate) fn row_of(name: &[u8]) -> Option<(u8, Shape)>
     ensures { result ≡ option_map (λ i. (i.number, i.kind.shape)) (row_named name.now ids) }
 {
-    if is(name, b"choke") {
+    if has_name(0, name) {
         Some((0, Shape::Nothing))
-    } else if is(name, b"unchoke") {
+    } else if has_name(1, name) {
         Some((1, Shape::Nothing))
-    } else if is(name, b"interested") {
+    } else if has_name(2, name) {
         Some((2, Shape::Nothing))
-    } else if is(name, b"not-interested") {
+    } else if has_name(3, name) {
         Some((3, Shape::Nothing))
-    } else if is(name, b"have") {
+    } else if has_name(4, name) {
         Some((4, Shape::Index))
-    } else if is(name, b"bitfield") {
+    } else if has_name(5, name) {
         Some((5, Shape::Field))
-    } else if is(name, b"request") {
+    } else if has_name(6, name) {
         Some((6, Shape::Part))
-    } else if is(name, b"piece") {
+    } else if has_name(7, name) {
         Some((7, Shape::Block))
-    } else if is(name, b"cancel") {
+    } else if has_name(8, name) {
         Some((8, Shape::Part))
-    } else if is(name, b"port") {
+    } else if has_name(9, name) {
         Some((9, Shape::Port))
-    } else if is(name, b"suggest") {
+    } else if has_name(13, name) {
         Some((13, Shape::Index))
-    } else if is(name, b"have-all") {
+    } else if has_name(14, name) {
         Some((14, Shape::Nothing))
-    } else if is(name, b"have-none") {
+    } else if has_name(15, name) {
         Some((15, Shape::Nothing))
-    } else if is(name, b"reject") {
+    } else if has_name(16, name) {
         Some((16, Shape::Part))
-    } else if is(name, b"allowed-fast") {
+    } else if has_name(17, name) {
         Some((17, Shape::Index))
-    } else if is(name, b"extended") {
+    } else if has_name(20, name) {
         Some((20, Shape::Extended))
     } else {
         None
