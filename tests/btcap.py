@@ -813,6 +813,14 @@ def is_talked(first, rest, closes, said, status):
     return (heard, ended.stdout, ended.stderr, ended.returncode) == (wanted, first + (rest or b""), said, status)
 
 
+def is_explained():
+    """Whether tools/talk prints its help if it is asked to, and its usage after wrong words."""
+    asked, wrong = (subprocess.run([TALK, *words], capture_output=True) for words in (["--help"], ["127.0.0.1"]))
+    usage = b"usage: tools/talk HOST PORT"
+    return (usage in asked.stdout and (asked.stderr, asked.returncode) == (b"", 0)
+            and wrong.stderr.startswith(usage) and (wrong.stdout, wrong.returncode) == (b"", 2))
+
+
 def main():
     program = os.path.abspath(sys.argv[1] if len(sys.argv) > 1 else os.path.join(ROOT, "bt_tool"))
     has_other = b"--other" in subprocess.run([program, "show", "--help"], capture_output=True).stdout
@@ -838,6 +846,9 @@ def main():
             runs += 1
             if not is_talked(*row):
                 wrong.append("tools/talk: %s" % (row,))
+        runs += 1
+        if not is_explained():
+            wrong.append("tools/talk --help, or its usage")
         # a busy machine may lose packets
         real = is_real_read(program, folder) or is_real_read(program, folder)
     if real is None:

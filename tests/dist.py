@@ -375,7 +375,11 @@ def installed(at):
         passes(["tools/install", "--uninstall", prefix], at)
         assert everything(room) == before, "left: %r" % (set(everything(room)) ^ set(before))
         assert run(["tools/install", "--uninstall", prefix], at).returncode == 1, "removed twice"
-        assert run(["tools/install", "--wrong"], at).returncode == 1
+        for wrong in (["--wrong"], [prefix, prefix]):
+            ended = run(["tools/install", *wrong], at)
+            assert (ended.returncode, ended.stdout) == (2, b"") and b"usage: tools/install" in ended.stderr, ended
+        for word in ("-h", "--help"):
+            assert b"usage: tools/install [PREFIX]" in passes(["tools/install", word], at)
         passes(["tools/install"], at, environment={"HOME": str(room / "home")})
         assert (room / "home/.local/bin/bt_tool").is_file()
         passes(["tools/install", "--uninstall"], at, environment={"HOME": str(room / "home")})
