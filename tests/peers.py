@@ -575,7 +575,7 @@ def linked(program):
     return failed, len(LINKS) + 2
 
 
-def renamed(program):
+def several_ids(program):
     """Each run has a peer id of its own, and each digit of it can be any."""
     ids = []
 
@@ -836,21 +836,8 @@ def leech(server, bytewise=False):
 def same(what, got, expected):
     if got == expected:
         return 0
-    print("%s: got %r, expected %r" % (what, got if len(got) < 1000 else len(got), expected if len(expected) < 1000 else len(expected)))
+    print("%s: got %s, expected %s" % (what, *(text if len(text) < 1000 else "%d characters" % len(text) for text in (repr(got), repr(expected)))))
     return 1
-
-
-def several_ids(program):
-    """Each run has a peer id of its own."""
-    seen = []
-
-    def talk(link, count):
-        seen.append(link.exactly(68)[48:])
-    peer = Peer(talk)
-    for _ in range(2):
-        run(program, HASH, [peer.address], [])
-    peer.close()
-    return same("peer ids", str(len({peer_id for peer_id in seen if peer_id.startswith(b"-TZ0001-")})), "2"), 1
 
 
 def serving(program):
