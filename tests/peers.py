@@ -599,7 +599,7 @@ def several_ids(program):
 
 
 def largest(program):
-    """An info dictionary of 67,108,864 bytes, in strings of at most a mebibyte, is served; one of a byte more isn't."""
+    """An info dictionary of 67,108,864 bytes, in strings of at most a mebibyte, is served in its own memory; one of a byte more isn't."""
     keys = b"".join(b"3:a%02d1048576:" % number + bytes(1048576) for number in range(63))
     failed = 0
     for size, begin in ((67108864, b"serving "), (67108865, b"")):
@@ -610,11 +610,12 @@ def largest(program):
             file.flush()
             server = subprocess.Popen([program, "serve", file.name], stdin=subprocess.DEVNULL, stdout=subprocess.PIPE, stderr=subprocess.PIPE)
             first = server.stdout.readline()
+            failed += same("memory of the largest", resident(server) < size + 8388608, True)
             server.kill()
             errors = server.communicate(timeout=60)[1]
         wanted = begin and b"serving %s size=%d on " % (hashlib.sha1(info).hexdigest().encode(), size)
         failed += same("length", len(info), size) + same("largest", str((first[:len(wanted)], errors)), str((wanted, b"" if begin else b"refused file\n")))
-    return failed, 2
+    return failed, 4
 
 
 def hosted(program):
