@@ -7,7 +7,8 @@ PROGRAM is the built program, or else the script `bt_tool` at the top of the rep
 `write` that count their calls and refuse or fail the Nth, or have it take nothing, for N = 1, 2, .. until a run makes fewer. What
 is wanted follows from docs/COMMANDS.md: at a fault a prefix of what the command writes is written, standard error has the fault's
 line alone, and the status is 3; otherwise nothing differs. `fetch` has a peer of tests/peers.py, and `serve` one that asks it for a
-block. Without a C compiler, as `cc`, nothing is run.
+block. For `loop` a connection is also said to be another process's, or takes one byte a call. Without a C compiler, as `cc`, nothing
+is run.
 """
 import hashlib
 import os
