@@ -1,5 +1,4 @@
-use Rattle.std.proofs.Common.{◌≡◌, ◌+◌, ◌≤◌}
-use Rattle.bt_exchange.specs.declared.pool.Turn.TheVariants as turn
+use Rattle.std.proofs.Common.{◌+◌, ◌≤◌}
 use Rattle.bt_exchange.proofs.pool.round.Given as goal
 
 -- the places from `at` on had their turn

@@ -1,4 +1,3 @@
-use Rattle.std.proofs.Common.{◌≡◌}
 use Rattle.bt_exchange.proofs.pool.run.Given as goal
 
 abbrev pub invariant-rounds : goal.invariant-rounds
