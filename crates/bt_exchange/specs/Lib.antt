@@ -6,3 +6,4 @@ pub mod Boths
 pub mod Watches
 pub mod Lists
 pub mod Streams
+pub mod Pools

@@ -1,10 +1,8 @@
 -- For private contracts: the places of a fetch from many peers.
-use Rattle.std.specs.Prelude.{◌≡◌, ℕ, ◌+◌, ◌*◌, ◌≤◌, ◌^◌, Bool, true, false, Option, Some, None, Result, Ok, Err, ⊤}
+use Rattle.std.specs.Prelude.{ℕ, ◌+◌, ◌*◌, Bool, true, false, Option, Some, None, Result, Ok, Err}
 use Rattle.bt_fetch.specs.Logs.{Stage, Going, Won}
-use Rattle.bt_fetch.specs.declared.fetching.Turn.{Turn}
-use Rattle.bt_fetch.specs.declared.fetching.Turn.TheVariants as turn
-use Rattle.bt_fetch.specs.declared.fetching.Round.{Round}
-use Rattle.bt_fetch.specs.declared.fetching.Round.TheVariants as round
+use Rattle.bt_exchange.specs.declared.pool.Turn.{Turn}
+use Rattle.bt_exchange.specs.declared.pool.Turn.TheVariants as turn
 
 -- how many more steps a place may make with its connection, and one for its end
 abbrev pub weight : Option ℕ → ℕ
@@ -15,30 +13,15 @@ weight (Some left) = left + 1
 abbrev pub cost : ℕ → ℕ
 cost rest = 4294967298 * rest
 
-abbrev pub is_free : Turn → Bool
-is_free turn.Free = true
+-- no address waits for the place
+abbrev pub is_free : Option Turn → Bool
+is_free (Some turn.Free) = true
 is_free other = false
 
-abbrev pub stage_by : {E : Type 0} → Result Turn E → Stage
-stage_by (Ok turn.Won) = Won
+-- an end has the metadata after a turn that returns nothing
+abbrev pub stage_by : {E : Type 0} → Result (Option Turn) E → Stage
+stage_by (Ok None) = Won
 stage_by other = Going
-
-abbrev pub is_over : Round → Bool
-is_over round.Over = true
-is_over other = false
-
-abbrev pub is_won : Round → Bool
-is_won (round.Won k) = true
-is_won other = false
-
--- where a place won, this is so of its number
-abbrev pub IfWon : Round → (ℕ → Type 0) → Type 0
-IfWon (round.Won k) P = P k
-IfWon other P = ⊤
-
-abbrev pub stage_at : {E : Type 0} → Result Round E → Stage
-stage_at (Ok (round.Won k)) = Won
-stage_at other = Going
 
 abbrev pub stage_when : {E : Type 0} → Result (Option ℕ) E → Stage
 stage_when (Ok (Some k)) = Won

@@ -1,5 +1,5 @@
 //! A fetch over many connections at the same time.
-ghost use Rattle.std.specs.Prelude.{◌≡◌, ◌≢◌, ◌+◌, ◌<◌, ◌≤◌, ℕ, true, false, None, Ok, Err, length, vec_len, not, List, Option, option_map, is_some, count_by, sum_by, All, HoldsAt, max, IfOk, IfSome};
+ghost use Rattle.std.specs.Prelude.{◌≡◌, ◌≢◌, ◌+◌, ◌<◌, ◌≤◌, ℕ, true, false, None, Some, Ok, Err, length, vec_len, not, List, Option, option_map, is_some, count_by, sum_by, All, HoldsAt, max, IfOk, IfSome};
 ghost use Rattle.bt_io.specs.Seen.{WriteFailed};
 ghost use Rattle.bt_end.specs.Ends.{metadata_of};
 ghost use Rattle.bt_fetch.specs.Wishes.{IsWish, handshake_of};
@@ -7,7 +7,7 @@ ghost use Rattle.bt_fetch.specs.Fetches.{IsWritten};
 ghost use Rattle.bt_fetch.specs.Queues.{dials_of, rest_of, one};
 ghost use Rattle.bt_exchange.specs.Lists.{IsAdded};
 ghost use Rattle.bt_fetch.specs.Logs.{IsCourse, IsLogged, IsStage, Stage, Going, is_fetched as is_fetched_by, stage_after};
-ghost use Rattle.bt_fetch.specs.Swarms.{IfWon, cost, is_free, is_over, is_won, stage_at, stage_by, stage_when, weight};
+ghost use Rattle.bt_fetch.specs.Swarms.{cost, is_free, stage_by, stage_when, weight};
 ghost use Rattle.bt_fetch.specs.declared.device.Happening.{Happening};
 ghost use Rattle.bt_fetch.specs.declared.device.Happening.TheVariants.{Ended as EndedSo};
 
@@ -18,38 +18,23 @@ use crate::queue::Queue;
 use crate::visit::{Pace, Visit};
 use crate::wish::{Wish, first_window};
 use bt_end::Window;
+use bt_exchange::{Pool, Turn, run};
 use bt_io::{Memory, Target};
 use std::alloc::Global;
 
 /// The places of a fetch over a device.
 type Places<D> = Vec<Place<<D as Device>::Link>>;
 
-/// What became of a place at its turn.
-#[derive(Clone, Copy)]
-enum Turn {
-    /// It has no connection, and no address waits.
-    Free,
-    /// Its connection waits for its peer.
-    Waits,
-    /// It can go on at once, or was dialled for.
-    GoesOn,
-    /// Its connection ended.
-    Ended,
-    /// Its end has the metadata.
-    Won,
-}
-
-/// What became of all places.
-#[derive(Clone, Copy)]
-enum Round {
-    /// No connection is open, and no address waits.
-    Over,
-    /// All wait for their peers.
-    Waits,
-    /// Some can go on at once.
-    GoesOn,
-    /// The end at the place of this number has the metadata.
-    Won(usize),
+/// A fetch under way.
+#[derive(Drop)]
+struct Fetching<'a, D: Device> {
+    wish: &'a Wish,
+    places: Places<D>,
+    queue: Queue,
+    /// When the round began.
+    time: u64,
+    /// How many places are to be given up for addresses that have not come yet.
+    needed: usize,
 }
 
 /// Whether the metadata is there.
@@ -80,7 +65,7 @@ fn fill<D: Device>(
     place: &mut Place<D::Link>,
     queue: &mut Queue,
     device: &mut D,
-) -> Result<Turn, Memory>
+) -> Result<Option<Turn>, Memory>
     requires free { place.old.visit ≡ None }
     requires room { D.inside device.old < D.places device.old }
     ensures handshake { place.new.end.end.handshake ≡ place.old.end.end.handshake }
@@ -88,14 +73,14 @@ fn fill<D: Device>(
     ensures places { D.places device.new ≡ D.places device.old }
     ensures weight { IfOk result (λ t. weight (option_map (λ v. v.left) place.new.visit) + cost (rest_of queue.new.next queue.new.again.items) + one (not (is_free t))
         ≤ cost (rest_of queue.old.next queue.old.again.items)) }
-    ensures free { result ≡ Ok Turn.Free → queue.new.next ≡ vec_len queue.new.again }
+    ensures free { result ≡ Ok (Some Turn.Free) → queue.new.next ≡ vec_len queue.new.again }
     ensures len { vec_len queue.new.again ≡ vec_len queue.old.again }
     ensures unwon { stage_by result ≡ Going }
     ensures log { (start : Option (List Happening)) → IsCourse Going start (D.log device.old) (dials_of queue.old.next queue.old.again.items)
         → IsCourse Going start (D.log device.new) (dials_of queue.new.next queue.new.again.items) }
 {
     let Some(address) = queue.take() else {
-        return Ok(Turn::Free);
+        return Ok(Some(Turn::Free));
     };
     let window = window_for(wish, queue.is_again(address));
     match device.dial(address) {
@@ -106,7 +91,7 @@ fn fill<D: Device>(
         }
         None => queue.put_back(address)?,
     }
-    Ok(Turn::GoesOn)
+    Ok(Some(Turn::GoesOn))
 }
 
 /// Frees a place whose connection ended, and puts its address back.
@@ -119,7 +104,7 @@ fn free<D: Device>(
     place: &mut Place<D::Link>,
     queue: &mut Queue,
     device: &mut D,
-) -> Result<Turn, Memory>
+) -> Result<Option<Turn>, Memory>
     requires unwon { stage_after Going (EndedSo visit.address ending) ≡ Going }
     requires none { place.old.visit ≡ None }
     requires inside { 0 < D.inside device.old }
@@ -127,7 +112,7 @@ fn free<D: Device>(
     ensures visit { place.new.visit ≡ None }
     ensures inside { D.inside device.new + 1 ≡ D.inside device.old }
     ensures places { D.places device.new ≡ D.places device.old }
-    ensures ended { IfOk result (λ t. t ≡ Turn.Ended) }
+    ensures ended { IfOk result (λ t. t ≡ Some Turn.GoesOn) }
     ensures unwon { stage_by result ≡ Going }
     ensures told { IsAdded (D.log device.old) (D.log device.new) (EndedSo visit.address ending) }
     ensures next { queue.new.next ≡ queue.old.next }
@@ -139,7 +124,7 @@ fn free<D: Device>(
     place.hearing.clear();
     place.end.reset()?;
     queue.put_back(address)?;
-    Ok(Turn::Ended)
+    Ok(Some(Turn::GoesOn))
 }
 
 /// Tells how far the fetch over a connection has come, if there was news.
@@ -170,15 +155,15 @@ fn tend<D: Device>(
     place: &mut Place<D::Link>,
     queue: &mut Queue,
     device: &mut D,
-) -> Result<Turn, Memory>
+) -> Result<Option<Turn>, Memory>
     requires none { place.old.visit ≡ None }
     requires inside { 0 < D.inside device.old }
     ensures handshake { place.new.end.end.handshake ≡ place.old.end.end.handshake }
     ensures inside { D.inside device.new + 1 ≡ D.inside device.old + one (is_some place.new.visit) }
     ensures places { D.places device.new ≡ D.places device.old }
     ensures weight { IfOk result (λ t. weight (option_map (λ v. v.left) place.new.visit) ≤ visit.left) }
-    ensures free { result ≢ Ok Turn.Free }
-    ensures won { result ≡ Ok Turn.Won → is_some (metadata_of place.new.end.end.part) ≡ true }
+    ensures free { result ≢ Ok (Some Turn.Free) }
+    ensures won { result ≡ Ok None → is_some (metadata_of place.new.end.end.part) ≡ true }
     ensures next { queue.new.next ≡ queue.old.next }
     ensures again { queue.new.again.items ≡ queue.old.again.items }
     ensures len { vec_len queue.new.again ≡ vec_len queue.old.again }
@@ -191,12 +176,12 @@ fn tend<D: Device>(
     match pace {
         Ok(Pace::GoesOn) => {
             place.visit = Some(visit);
-            Ok(Turn::GoesOn)
+            Ok(Some(Turn::GoesOn))
         }
         Ok(Pace::Ended(outcome)) => {
             if is_fetched(outcome) {
                 device.ended(visit.address, visit.line.link, Ending::By(outcome));
-                return Ok(Turn::Won);
+                return Ok(None);
             }
             free(visit, Ending::By(outcome), place, queue, device)
         }
@@ -205,7 +190,7 @@ fn tend<D: Device>(
         }
         Ok(Pace::Waits) => {
             place.visit = Some(visit);
-            Ok(Turn::Waits)
+            Ok(Some(Turn::Waits))
         }
         Err(memory) => {
             device.ended(visit.address, visit.line.link, Ending::Left);
@@ -225,7 +210,7 @@ fn give_turn<D: Device>(
     place: &mut Place<D::Link>,
     queue: &mut Queue,
     device: &mut D,
-) -> Result<Turn, Memory>
+) -> Result<Option<Turn>, Memory>
     requires inside { one (is_some place.old.visit) ≤ D.inside device.old }
     requires room { is_some place.old.visit ≡ false → D.inside device.old < D.places device.old }
     ensures handshake { place.new.end.end.handshake ≡ place.old.end.end.handshake }
@@ -233,8 +218,8 @@ fn give_turn<D: Device>(
     ensures places { D.places device.new ≡ D.places device.old }
     ensures weight { IfOk result (λ t. weight (option_map (λ v. v.left) place.new.visit) + cost (rest_of queue.new.next queue.new.again.items) + one (not (is_free t))
         ≤ weight (option_map (λ v. v.left) place.old.visit) + cost (rest_of queue.old.next queue.old.again.items)) }
-    ensures free { result ≡ Ok Turn.Free → queue.new.next ≡ vec_len queue.new.again }
-    ensures won { result ≡ Ok Turn.Won → is_some (metadata_of place.new.end.end.part) ≡ true }
+    ensures free { result ≡ Ok (Some Turn.Free) → queue.new.next ≡ vec_len queue.new.again }
+    ensures won { result ≡ Ok None → is_some (metadata_of place.new.end.end.part) ≡ true }
     ensures len { vec_len queue.new.again ≡ vec_len queue.old.again }
     ensures log { (start : Option (List Happening)) → IsCourse Going start (D.log device.old) (dials_of queue.old.next queue.old.again.items)
         → IsCourse (stage_by result) start (D.log device.new) (dials_of queue.new.next queue.new.again.items) }
@@ -256,91 +241,76 @@ fn needed<D: Device>(places: &Places<D>, queue: &Queue) -> usize {
     needed
 }
 
-/// Gives each place its turn, until an end has the metadata.
-///
-/// # Errors
-/// `Memory` if memory is refused.
-fn give_turns<D: Device>(
-    wish: &Wish,
-    places: &mut Places<D>,
-    queue: &mut Queue,
-    device: &mut D,
-) -> Result<Round, Memory>
-    requires some { 0 < vec_len places.old }
-    requires kept { All (λ p. p.end.end.handshake ≡ handshake_of wish.now) places.old.items }
-    requires inside { count_by (λ p. is_some p.visit) places.old.items ≤ D.inside device.old }
-    requires room { D.inside device.old + vec_len places.old ≤ D.places device.old + count_by (λ p. is_some p.visit) places.old.items }
-    ensures kept { All (λ p. p.end.end.handshake ≡ handshake_of wish.now) places.new.items }
-    ensures inside { D.inside device.new + count_by (λ p. is_some p.visit) places.old.items ≡ D.inside device.old + count_by (λ p. is_some p.visit) places.new.items }
-    ensures places { D.places device.new ≡ D.places device.old }
-    ensures held { vec_len places.new ≡ vec_len places.old }
-    ensures weight { IfOk result (λ r. is_won r ≡ false → sum_by (λ p. weight (option_map (λ v. v.left) p.visit)) places.new.items
-        + cost (rest_of queue.new.next queue.new.again.items) + one (not (is_over r))
-        ≤ sum_by (λ p. weight (option_map (λ v. v.left) p.visit)) places.old.items + cost (rest_of queue.old.next queue.old.again.items)) }
-    ensures over { result ≡ Ok Round.Over → queue.new.next ≡ vec_len queue.new.again }
-    ensures won { IfOk result (λ r. IfWon r (λ k. (k < vec_len places.new) × HoldsAt (λ p. is_some (metadata_of p.end.end.part) ≡ true) places.new.items k)) }
-    ensures len { vec_len queue.new.again ≡ vec_len queue.old.again }
-    ensures log { (start : Option (List Happening)) → IsCourse Going start (D.log device.old) (dials_of queue.old.next queue.old.again.items)
-        → IsCourse (stage_at result) start (D.log device.new) (dials_of queue.new.next queue.new.again.items) }
-{
-    let time = device.time();
-    let mut needed = needed::<D>(places, queue);
-    let mut is_over = true;
-    let mut waits = true;
-    for at in 0..places.len() {
-        let turned = give_turn(wish, time, needed > 0, &mut places[at], queue, device)?;
-        match turned {
-            Turn::Free => {}
-            Turn::Waits => is_over = false,
-            Turn::GoesOn => {
-                is_over = false;
-                waits = false;
-            }
-            Turn::Ended => {
-                is_over = false;
-                waits = false;
-                needed = needed.saturating_sub(1);
-            }
-            Turn::Won => return Ok(Round::Won(at)),
-        }
-    }
-    if is_over {
-        return Ok(Round::Over);
-    }
-    if waits {
-        return Ok(Round::Waits);
-    }
-    Ok(Round::GoesOn)
-}
+impl<'a, D: Device> Pool for Fetching<'a, D> {
+    ghost use Rattle.bt_exchange.specs.declared.pool.Turn.{Turn};
 
-/// Fetches at places until an end has the metadata, and returns at which; `None` if no address is left.
-///
-/// # Errors
-/// `Memory` if memory is refused.
-fn fetch_at<D: Device>(
-    wish: &Wish,
-    places: &mut Places<D>,
-    queue: &mut Queue,
-    device: &mut D,
-) -> Result<Option<usize>, Memory>
-    requires some { 0 < vec_len places.old }
-    requires kept { All (λ p. p.end.end.handshake ≡ handshake_of wish.now) places.old.items }
-    requires inside { count_by (λ p. is_some p.visit) places.old.items ≤ D.inside device.old }
-    requires room { D.inside device.old + vec_len places.old ≤ D.places device.old + count_by (λ p. is_some p.visit) places.old.items }
-    ensures kept { All (λ p. p.end.end.handshake ≡ handshake_of wish.now) places.new.items }
-    ensures inside { D.inside device.new + count_by (λ p. is_some p.visit) places.old.items ≡ D.inside device.old + count_by (λ p. is_some p.visit) places.new.items }
-    ensures all { result ≡ Ok None → queue.new.next ≡ vec_len queue.new.again }
-    ensures won { IfOk result (λ o. IfSome o (λ k. (k < vec_len places.new) × HoldsAt (λ p. is_some (metadata_of p.end.end.part) ≡ true) places.new.items k)) }
-    ensures len { vec_len queue.new.again ≡ vec_len queue.old.again }
-    ensures log { (start : Option (List Happening)) → IsCourse Going start (D.log device.old) (dials_of queue.old.next queue.old.again.items)
-        → IsCourse (stage_when result) start (D.log device.new) (dials_of queue.new.next queue.new.again.items) }
-{
-    'rounds: loop {
-        match give_turns(wish, places, queue, device)? {
-            Round::Over => return Ok(None),
-            Round::Waits => device.rest(),
-            Round::GoesOn => {}
-            Round::Won(at) => return Ok(Some(at)),
+    type Source = D;
+
+    /// The place whose end has the metadata; `None` if no address is left.
+    type Stop = Result<Option<usize>, Memory>;
+
+    ghost IsFit = { λ x at. record {
+      inside : count_by (λ p. is_some p.visit) x.0.places.items ≤ D.inside x.1;
+      room : D.inside x.1 + vec_len x.0.places ≤ D.places x.1 + count_by (λ p. is_some p.visit) x.0.places.items;
+      places : at ≤ vec_len x.0.places;
+      some : 0 < vec_len x.0.places;
+    } };
+
+    ghost IsSince = { λ s x at t. record {
+      kept : All (λ p. p.end.end.handshake ≡ handshake_of s.0.wish.now) x.0.places.items;
+      inside : D.inside x.1 + count_by (λ p. is_some p.visit) s.0.places.items ≡ D.inside s.1 + count_by (λ p. is_some p.visit) x.0.places.items;
+      len : vec_len x.0.queue.again ≡ vec_len s.0.queue.again;
+      free : t ≡ Turn.Free → at < vec_len x.0.places → x.0.queue.next ≡ vec_len x.0.queue.again;
+      log : (start : Option (List Happening)) → IsCourse Going start (D.log s.1) (dials_of s.0.queue.next s.0.queue.again.items)
+          → IsCourse Going start (D.log x.1) (dials_of x.0.queue.next x.0.queue.again.items);
+    } };
+
+    ghost IsStopped = { λ s x r. record {
+      kept : All (λ p. p.end.end.handshake ≡ handshake_of s.0.wish.now) x.0.places.items;
+      inside : D.inside x.1 + count_by (λ p. is_some p.visit) s.0.places.items ≡ D.inside s.1 + count_by (λ p. is_some p.visit) x.0.places.items;
+      len : vec_len x.0.queue.again ≡ vec_len s.0.queue.again;
+      all : r ≡ Ok None → x.0.queue.next ≡ vec_len x.0.queue.again;
+      won : IfOk r (λ o. IfSome o (λ k. (k < vec_len x.0.places) × HoldsAt (λ p. is_some (metadata_of p.end.end.part) ≡ true) x.0.places.items k));
+      log : (start : Option (List Happening)) → IsCourse Going start (D.log s.1) (dials_of s.0.queue.next s.0.queue.again.items)
+          → IsCourse (stage_when r) start (D.log x.1) (dials_of x.0.queue.next x.0.queue.again.items);
+    } };
+
+    ghost left = { λ x t. sum_by (λ p. weight (option_map (λ v. v.left) p.visit)) x.places.items
+        + cost (rest_of x.queue.next x.queue.again.items) + one (not (is_free (Some t))) };
+
+    fn begin(
+        &mut self,
+        device: &mut D,
+        last: Turn,
+    ) -> Result<usize, Result<Option<usize>, Memory>> {
+        match last {
+            Turn::Free => return Err(Ok(None)),
+            Turn::Waits => device.rest(),
+            Turn::GoesOn => {}
+        }
+        self.time = device.time();
+        self.needed = needed::<D>(&self.places, &self.queue);
+        Ok(self.places.len())
+    }
+
+    fn turn(&mut self, device: &mut D, at: usize) -> Result<Turn, Result<Option<usize>, Memory>> {
+        let was_open = self.places[at].visit.is_some();
+        let is_needed = self.needed > 0;
+        match give_turn(
+            self.wish,
+            self.time,
+            is_needed,
+            &mut self.places[at],
+            &mut self.queue,
+            device,
+        ) {
+            Ok(Some(turn)) => {
+                let fell_free = was_open && self.places[at].visit.is_none();
+                self.needed = self.needed.saturating_sub(usize::from(fell_free));
+                Ok(turn)
+            }
+            Ok(None) => Err(Ok(Some(at))),
+            Err(memory) => Err(Err(memory)),
         }
     }
 }
@@ -439,10 +409,17 @@ pub fn fetch<D: Device, W: Target>(
     ensures closed { D.inside device.new ≡ D.inside device.old }
     ensures log { IsLogged addresses (D.log device.old) (D.log device.new) result }
 {
-    let mut queue = Queue::new(alloc, addresses)?;
-    let mut places = places_for::<D>(alloc, wish, at_once.min(addresses))?;
-    let fetched = fetch_at::<D>(wish, &mut places, &mut queue, device);
-    let written = write_out::<D, W>(alloc, wish, torrent, fetched, &places, writer);
-    leave_all::<D>(&mut places, device);
+    let queue = Queue::new(alloc, addresses)?;
+    let places = places_for::<D>(alloc, wish, at_once.min(addresses))?;
+    let mut fetching: Fetching<'_, D> = Fetching {
+        wish,
+        places,
+        queue,
+        time: 0,
+        needed: 0,
+    };
+    let fetched = run(&mut fetching, device);
+    let written = write_out::<D, W>(alloc, wish, torrent, fetched, &fetching.places, writer);
+    leave_all::<D>(&mut fetching.places, device);
     written
 }

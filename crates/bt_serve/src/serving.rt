@@ -1,5 +1,5 @@
 //! The loop over all connections that are served.
-ghost use Rattle.std.specs.Prelude.{◌≡◌, ◌+◌, ◌<◌, ◌≤◌, vec_len, true, false, Some, IfOk, OnOk, OnErr, if◌then◌else◌};
+ghost use Rattle.std.specs.Prelude.{◌≡◌, ◌+◌, ◌-◌, ◌^◌, ◌<◌, ◌≤◌, vec_len, true, false, Some, IfOk, OnOk, OnErr, if◌then◌else◌};
 ghost use Rattle.std.specs.Result.{is_ok};
 ghost use Rattle.bt_exchange.specs.Courses.{Moment};
 ghost use Rattle.bt_serve.specs.Doors.{AreEnough, AreMore, AreServed, AreTold, AreWithin, IsWithin, leaving};
@@ -8,13 +8,29 @@ ghost use Rattle.bt_serve.specs.Guests.{IsHospitality, IsServed, IsTurned};
 use crate::door::{Door, Parting};
 use crate::file::piece_count;
 use crate::guest::{Ending, Guest, Hospitality, Pace};
-use bt_exchange::Connection;
+use bt_exchange::{Connection, Pool, Turn, run};
 use bt_io::Memory;
 use std::alloc::Global;
 use std::rc::Rc;
 
 /// The connections that are served at the moment, each with its name.
 type Guests<D> = Vec<(Guest<<D as Door>::Link>, <D as Door>::Name)>;
+
+/// A service under way. Its places are those of the connections that are served, and one more for the next.
+#[derive(Drop)]
+struct Serving<'a, D: Door> {
+    alloc: Global,
+    hospitality: &'a Hospitality,
+    pieces: Option<u32>,
+    metadata: &'a Rc<Vec<u8>>,
+    /// How many connections are asked for; without end at `None`.
+    connections: Option<u64>,
+    guests: Guests<D>,
+    /// How many connections have ended.
+    ended: u64,
+    /// How many rounds have begun.
+    rounds: u64,
+}
 
 /// What is said of a connection whose buffers were refused.
 const UNSERVED: Parting = Parting {
@@ -82,53 +98,6 @@ fn tend_one<D: Door>(door: &mut D, name: D::Name, guest: &mut Guest<D::Link>) ->
     }
 }
 
-/// Returns 1 after a turn that ended its connection, else 0.
-fn one_if_gone(pace: Option<Pace>) -> u64
-    ensures { result ≡ leaving pace }
-{
-    match pace {
-        Some(_) => 0,
-        None => 1,
-    }
-}
-
-/// Drops a connection whose turn ended it. It returns the place of the one that is next.
-fn after_turn<T: Drop>(pace: Option<Pace>, at: usize, guests: &mut Vec<T>) -> usize
-    requires { at < vec_len guests.old }
-    ensures { vec_len guests.new + leaving pace ≡ vec_len guests.old }
-{
-    if pace.is_some() {
-        return at + 1;
-    }
-    let _ = guests.swap_remove(at);
-    at
-}
-
-/// Gives each connection its turn, and drops those that ended. It returns how many ended, and whether one can go on at once.
-fn tend_all<D: Door>(door: &mut D, guests: &mut Guests<D>) -> (u64, bool)
-    requires { vec_len guests.old ≤ D.inside door.old }
-    ensures inside { D.inside door.new + vec_len guests.old ≡ D.inside door.old + vec_len guests.new }
-    ensures told { AreTold (D.told door.old) (D.told door.new) true }
-    ensures ended { vec_len guests.new + result.0 ≡ vec_len guests.old }
-    ensures more { AreMore result.0 (D.told door.old) (D.told door.new) }
-    ensures rounds { D.rounds door.new ≡ D.rounds door.old }
-{
-    let mut ended = 0u64;
-    let mut is_busy = false;
-    let mut at = 0;
-    for _ in 0..guests.len() {
-        if at >= guests.len() {
-            return (ended, is_busy);
-        }
-        let name = guests[at].1;
-        let pace = tend_one(door, name, &mut guests[at].0);
-        is_busy |= pace == Some(Pace::GoesOn);
-        ended += one_if_gone(pace);
-        at = after_turn(pace, at, guests);
-    }
-    (ended, is_busy)
-}
-
 /// Reports how each connection that is left ended.
 fn part_all<D: Door>(door: &mut D, guests: &mut Guests<D>)
     requires { vec_len guests.old ≤ D.inside door.old }
@@ -154,46 +123,86 @@ fn may_enter(connections: Option<u64>, entered: u64) -> bool
     }
 }
 
-/// Serves metadata to `connections` connections, or without end.
-fn serve_all<D: Door>(
-    alloc: Global,
-    hospitality: &Hospitality,
-    pieces: Option<u32>,
-    metadata: &Rc<Vec<u8>>,
-    connections: Option<u64>,
-    door: &mut D,
-    guests: &mut Guests<D>,
-) -> Result<(), Memory>
-    requires hospitality { IsHospitality hospitality.now }
-    requires inside { vec_len guests.old ≤ D.inside door.old }
-    requires nobody { vec_len guests.old ≡ 0 }
-    ensures inside { D.inside door.new + vec_len guests.old ≡ D.inside door.old + vec_len guests.new }
-    ensures told { AreTold (D.told door.old) (D.told door.new) (is_ok result) }
-    ensures enough { OnOk result (AreServed connections (vec_len guests.new) (D.told door.old) (D.told door.new) (D.rounds door.new)) }
-    ensures within { AreWithin connections (D.told door.old) (D.told door.new) (vec_len guests.new) }
+/// Ends the last of these rounds, if there was one, in which this became of the places.
+fn end_round<D: Door>(door: &mut D, rounds: u64, last: Turn)
+    requires { rounds ≤ D.rounds door.old + 1 }
+    ensures inside { D.inside door.new ≡ D.inside door.old }
+    ensures told { D.told door.new ≡ D.told door.old }
+    ensures rounds { rounds ≤ D.rounds door.new }
 {
-    let mut entered = 0u64;
-    let mut left = 0u64;
-    for _round in 0..u64::MAX {
-        if connections == Some(left) {
-            return Ok(());
-        }
-        let may_enter = may_enter(connections, entered);
-        let came = let_in(
-            alloc,
-            hospitality,
-            pieces,
-            metadata,
-            may_enter,
-            door,
-            guests,
-        )?;
-        entered += u64::from(came);
-        let (ended, is_busy) = tend_all(door, guests);
-        left += ended;
-        door.rest(!came && !is_busy && ended == 0);
+    if rounds > 0 {
+        door.rest(last != Turn::GoesOn);
     }
-    Ok(())
+}
+
+impl<'a, D: Door> Pool for Serving<'a, D> {
+    type Source = D;
+
+    type Stop = Result<(), Memory>;
+
+    ghost IsFit = { λ x at. record {
+      hospitality : IsHospitality x.0.hospitality.now;
+      inside : vec_len x.0.guests ≤ D.inside x.1;
+      places : at ≤ vec_len x.0.guests + 1;
+      within : IsWithin x.0.connections (x.0.ended + vec_len x.0.guests);
+      entered : x.0.ended + vec_len x.0.guests ≤ x.0.rounds;
+      enters : vec_len x.0.guests < at → x.0.ended + vec_len x.0.guests < x.0.rounds;
+      rounds : x.0.rounds ≤ D.rounds x.1 + 1;
+    } };
+
+    ghost IsSince = { λ s x at t. record {
+      connections : x.0.connections ≡ s.0.connections;
+      inside : D.inside x.1 + vec_len s.0.guests ≡ D.inside s.1 + vec_len x.0.guests;
+      told : AreTold (D.told s.1) (D.told x.1) true;
+      more : AreMore x.0.ended (D.told s.1) (D.told x.1);
+    } };
+
+    ghost IsStopped = { λ s x r. record {
+      inside : D.inside x.1 + vec_len s.0.guests ≡ D.inside s.1 + vec_len x.0.guests;
+      told : AreTold (D.told s.1) (D.told x.1) (is_ok r);
+      enough : OnOk r (AreServed s.0.connections (vec_len x.0.guests) (D.told s.1) (D.told x.1) (D.rounds x.1));
+      within : AreWithin s.0.connections (D.told s.1) (D.told x.1) (vec_len x.0.guests);
+    } };
+
+    ghost left = { λ x t. (2 ^ 64 - 1) - x.rounds };
+
+    fn begin(&mut self, door: &mut D, last: Turn) -> Result<usize, Result<(), Memory>> {
+        end_round(door, self.rounds, last);
+        if self.connections == Some(self.ended) || self.rounds == u64::MAX {
+            return Err(Ok(()));
+        }
+        self.rounds += 1;
+        Ok(self.guests.len() + 1)
+    }
+
+    fn turn(&mut self, door: &mut D, at: usize) -> Result<Turn, Result<(), Memory>> {
+        if at == self.guests.len() {
+            let may_enter = may_enter(self.connections, self.ended + at as u64);
+            return match let_in(
+                self.alloc,
+                self.hospitality,
+                self.pieces,
+                self.metadata,
+                may_enter,
+                door,
+                &mut self.guests,
+            ) {
+                Ok(true) => Ok(Turn::GoesOn),
+                Ok(false) => Ok(Turn::Free),
+                Err(memory) => Err(Err(memory)),
+            };
+        }
+        let name = self.guests[at].1;
+        match tend_one(door, name, &mut self.guests[at].0) {
+            Some(Pace::Waits) => Ok(Turn::Waits),
+            Some(Pace::GoesOn) => Ok(Turn::GoesOn),
+            None => {
+                let _ = self.guests.swap_remove(at);
+                self.ended += 1;
+                Ok(Turn::GoesOn)
+            }
+        }
+    }
 }
 
 /// Serves metadata to `connections` connections, or without end.
@@ -217,16 +226,17 @@ pub fn serve<D: Door>(
     ensures within { AreWithin connections (D.told door.old) (D.told door.new) 0 }
 {
     let pieces = piece_count(Rc::as_ref(metadata).as_slice());
-    let mut guests: Guests<D> = Vec::new(alloc);
-    let served = serve_all(
+    let mut serving: Serving<'_, D> = Serving {
         alloc,
         hospitality,
         pieces,
         metadata,
         connections,
-        door,
-        &mut guests,
-    );
-    part_all(door, &mut guests);
+        guests: Vec::new(alloc),
+        ended: 0,
+        rounds: 0,
+    };
+    let served = run(&mut serving, door);
+    part_all(door, &mut serving.guests);
     served
 }
