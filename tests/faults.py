@@ -7,7 +7,8 @@ PROGRAM is the built program, or else the script `bt_tool` at the top of the rep
 `write` that count their calls and refuse or fail the Nth, or have it take nothing, for N = 1, 2, .. until a run makes fewer. What
 is wanted follows from docs/COMMANDS.md: at a fault a prefix of what the command writes is written, standard error has the fault's
 line alone, and the status is 3; otherwise nothing differs. `fetch` has a peer of tests/peers.py, and `serve` one that asks it for a
-block. Without a C compiler, as `cc`, nothing is run.
+block. For `loop` a connection is also said to be another process's, or takes one byte a call. Without a C compiler, as `cc`, nothing
+is run.
 """
 import hashlib
 import os
@@ -28,6 +29,7 @@ CALLS = """
 #include <dlfcn.h>
 #include <errno.h>
 #include <fcntl.h>
+#include <netinet/in.h>
 #include <stdlib.h>
 #include <sys/socket.h>
 #include <unistd.h>
@@ -38,7 +40,7 @@ extern void *__libc_realloc(void *, size_t);
 
 enum { MEMORY, READ, WRITE, NOTHING, WIRE, KINDS };
 static const char *const names[KINDS] = { "MEMORY", "READ", "WRITE", "NOTHING", "WIRE" };
-static long wanted[KINDS], calls[KINDS], most[2];
+static long wanted[KINDS], calls[KINDS], most[3], stranger;
 static int ready;
 
 static long number_in(const char *name) {
@@ -50,6 +52,8 @@ __attribute__((constructor)) static void begin(void) {
     for (int kind = 0; kind < KINDS; kind++) wanted[kind] = number_in(names[kind]);
     most[0] = number_in("READ_MOST");
     most[1] = number_in("WRITE_MOST");
+    most[2] = number_in("WIRE_MOST");
+    stranger = number_in("STRANGER");
     ready = 1;
 }
 
@@ -108,7 +112,16 @@ ssize_t recv(int device, void *into, size_t size, int flags) {
 ssize_t send(int device, const void *from, size_t size, int flags) {
     static ssize_t (*next)(int, const void *, size_t, int);
     if (!next) next = (ssize_t (*)(int, const void *, size_t, int))dlsym(RTLD_NEXT, "send");
-    return fails(WIRE) ? failed() : next(device, from, size, flags);
+    return fails(WIRE) ? failed() : next(device, from, at_most(size, 2), flags);
+}
+
+/* says that another port connected */
+int accept4(int device, struct sockaddr *peer, socklen_t *size, int flags) {
+    static int (*next)(int, struct sockaddr *, socklen_t *, int);
+    if (!next) next = (int (*)(int, struct sockaddr *, socklen_t *, int))dlsym(RTLD_NEXT, "accept4");
+    int link = next(device, peer, size, flags);
+    if (stranger && link >= 0) ((struct sockaddr_in *)peer)->sin_port ^= 1;
+    return link;
 }
 """
 
@@ -144,7 +157,7 @@ class Runner:
         """Standard output, standard error, the status, and whether the call that was to fail was made."""
         self.runs += 1
         environment = {name: str(number) for name, number in failing.items()}
-        ended = subprocess.run([self.program, *words.split()], input=given, capture_output=True, timeout=60, cwd=self.work,
+        ended = subprocess.run([self.program, *words.split()], input=given, capture_output=True, timeout=300, cwd=self.work,
                                env={"LD_PRELOAD": self.library, "MADE": self.made, **environment})
         was_made = os.path.exists(self.made)
         if was_made:
@@ -213,6 +226,15 @@ def wires(runner, words, given, parts):
     for number, answer, was_made in runner.in_turn(words, given, "WIRE"):
         if answer != ((b"", b"fault: net\n", 3) if was_made else (whole(parts), b"", 0)):
             yield "call %d of the connection: %r" % (number, answer)
+
+
+def looping(runner):
+    """`loop` refuses another process that connects, and stops after 1,048,576 rounds, of which each moves a byte or more."""
+    rows = [("a stranger", b"abc", {"STRANGER": 1}, b"fault: net\n"), ("bytes one by one", bytes(1048576), {"WIRE_MOST": 1}, b"fault: turns\n")]
+    for what, given, further, errors in rows:
+        answer, _ = runner.run("loop", given, **further)
+        if answer != (b"", errors, 3):
+            yield "loop: %s: %r" % (what, answer)
 
 
 def prefixes(lines):
@@ -363,7 +385,7 @@ def main():
                 for line in device(runner, words, given, parts):
                     wrong += 1
                     print("faults: wrong: bt_tool %s: %s" % (words, line))
-        for part in (two_files, two_directions, fetching, serving):
+        for part in (two_files, two_directions, looping, fetching, serving):
             for line in part(runner):
                 wrong += 1
                 print("faults: wrong: bt_tool " + line)

@@ -233,10 +233,11 @@ def one_at_a_time(link, count):
     """Answers the first request, and no later one while another is outstanding, as rtorrent does."""
     greet(link)
     link.send(data(3, link.request()))
-    if count == 1:
-        link.hold()
     while True:
-        link.send(data(3, link.request()))
+        piece = link.request()
+        if count == 1 or link.has_more():
+            link.hold()
+        link.send(data(3, piece))
 
 
 def as_rtorrent(link, count):
@@ -368,9 +369,9 @@ def unasked(link, count):
 
 
 def block_of_piece(link, count):
-    """Gives a block of metadata, and then one of a piece, which nobody asked for."""
+    """Gives a block of metadata, and then one of a piece, which nobody asked for, and a part of a message."""
     greet(link)
-    link.send(data(3, link.request()), message(7, bytes(8) + b"block"))
+    link.send(data(3, link.request()), message(7, bytes(8) + b"block"), bytes(3))
     link.hold()
 
 
@@ -426,7 +427,7 @@ ROWS = [
     ([cut, honest], "", INFO, "@0 closed\n@1 fetched\n", 0),
     ([half_size, honest], "", INFO, "@0 closed\n@1 fetched\n", 0),
     ([one_at_a_time], "--timeout 2", INFO, "@0 silent\n@0 fetched\n", 0),
-    ([one_at_a_time], "--timeout 2 --window 8", INFO, "@0 silent\n@0 fetched\n", 0),
+    ([one_at_a_time], "--timeout 2 --window 8", b"", "@0 silent\n", 1),
     ([as_rtorrent], "", INFO, "@0 fetched\n", 0),
     ([wrong_hash], "", b"", "@0 refused message=0 at=28 WrongInfoHash\n", 1),
     ([too_long], "", b"", "@0 refused message=1 at=68 TooLong\n", 1),
@@ -500,8 +501,13 @@ def hostile(program):
         errors *= 2 if status == 1 else 1
         names = " ".join("nobody" if talk is NOBODY else talk.__qualname__ for talk in talks)
         begin = time.monotonic()
-        failed += differs("%s %s" % (names, words), run(program, HASH, addresses, words.split() + ["--at-once", "1"]), output, errors, status)
+        done = run(program, HASH, addresses, words.split() + ["--at-once", "1"])
         took = time.monotonic() - begin
+        failed += differs("%s %s" % (names, words), done, output, errors, status)
+        stated = int(re.search(rb" in (\d+) s tried=", done.stderr)[1])
+        if not took - 2 <= stated <= took + 1:
+            print("%s %s: the summary says %d seconds, and it took %.1f" % (names, words, stated, took))
+            failed += 1
         if "--timeout 2" in words and "silent" in errors and not 2 <= took <= 10:
             print("%s %s: it took %.1f seconds, and the timeout is 2" % (names, words, took))
             failed += 1
@@ -575,7 +581,7 @@ def linked(program):
     return failed, len(LINKS) + 2
 
 
-def renamed(program):
+def several_ids(program):
     """Each run has a peer id of its own, and each digit of it can be any."""
     ids = []
 
@@ -593,7 +599,7 @@ def renamed(program):
 
 
 def largest(program):
-    """An info dictionary of 67,108,864 bytes, in strings of at most a mebibyte, is served; one of a byte more isn't."""
+    """An info dictionary of 67,108,864 bytes, in strings of at most a mebibyte, is served in its own memory; one of a byte more isn't."""
     keys = b"".join(b"3:a%02d1048576:" % number + bytes(1048576) for number in range(63))
     failed = 0
     for size, begin in ((67108864, b"serving "), (67108865, b"")):
@@ -604,22 +610,25 @@ def largest(program):
             file.flush()
             server = subprocess.Popen([program, "serve", file.name], stdin=subprocess.DEVNULL, stdout=subprocess.PIPE, stderr=subprocess.PIPE)
             first = server.stdout.readline()
+            failed += same("memory of the largest", resident(server) < size + 8388608, True)
             server.kill()
             errors = server.communicate(timeout=60)[1]
         wanted = begin and b"serving %s size=%d on " % (hashlib.sha1(info).hexdigest().encode(), size)
         failed += same("length", len(info), size) + same("largest", str((first[:len(wanted)], errors)), str((wanted, b"" if begin else b"refused file\n")))
-    return failed, 2
+    return failed, 4
 
 
 def hosted(program):
-    """A host's name is looked up; one without an address is unreachable."""
+    """A host's name is looked up; one without an address is unreachable, and so is an address that the system refuses."""
     peer = Peer(honest)
+    refused = "255.255.255.255:9"
+    failed = differs("refused by the system", run(program, HASH, [refused], []), b"", 2 * (refused + " unreachable\n"), 1)
     name = "localhost:" + peer.address.split(":")[1]
     done = run(program, HASH, ["a..b:9", name], ["--at-once", "1"])
     peer.close()
     lines = timeless(done.stderr.decode()).splitlines()
-    return (same("hosted", done.stdout, INFO) + same("no host", lines[0], "a..b:9 unreachable")
-            + same("a host", lines[-2], name + " fetched") + same("its summary", lines[-1].split(" tried=")[0], "fetched from %s in S s" % name)), 4
+    return (failed + same("hosted", done.stdout, INFO) + same("no host", lines[0], "a..b:9 unreachable")
+            + same("a host", lines[-2], name + " fetched") + same("its summary", lines[-1].split(" tried=")[0], "fetched from %s in S s" % name)), 5
 
 
 def taken(program):
@@ -836,21 +845,8 @@ def leech(server, bytewise=False):
 def same(what, got, expected):
     if got == expected:
         return 0
-    print("%s: got %r, expected %r" % (what, got if len(got) < 1000 else len(got), expected if len(expected) < 1000 else len(expected)))
+    print("%s: got %s, expected %s" % (what, *(text if len(text) < 1000 else "%d characters" % len(text) for text in (repr(got), repr(expected)))))
     return 1
-
-
-def several_ids(program):
-    """Each run has a peer id of its own."""
-    seen = []
-
-    def talk(link, count):
-        seen.append(link.exactly(68)[48:])
-    peer = Peer(talk)
-    for _ in range(2):
-        run(program, HASH, [peer.address], [])
-    peer.close()
-    return same("peer ids", str(len({peer_id for peer_id in seen if peer_id.startswith(b"-TZ0001-")})), "2"), 1
 
 
 def serving(program):

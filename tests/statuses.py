@@ -209,10 +209,15 @@ ROWS = [
     ("pack", LINE + b"keep-alive 1", HAND, syntax(2, 12, "the end of the line"), 1),
     # a line after the first 65,536 bytes has no column
     ("pack", LINE + 13000 * b"choke\n" + b"chok\n", HAND + 13000 * bytes.fromhex("00000001 00"), b"refused line=13002 Syntax\n", 1),
+    # nor has one that they cut
+    ("pack --hints always", LINE + 10903 * b"choke\n" + b"piece 0 0 1z\n", HAND + 10903 * bytes.fromhex("00000001 00"),
+     b"refused line=10905 Syntax\n", 1),
     # digits of a block that may be meant as a length
     ("pack", LINE + b"piece 0 0 16384\n", HAND, syntax(2, 11, "bytes in hex, two digits each, or -"), 1),
     ("pack", LINE + b"choke\npiece 0 0 4096\n", HAND + bytes.fromhex("00000001 00 0000000b 07 00000000 00000000 4096"),
      Hint(b"", b' line 3: piece INDEX BEGIN HEX: "4096" is two bytes of a block; a request has a length\n'), 0),
+    ("pack", LINE + 2 * b"piece 0 0 16\n", HAND + 2 * bytes.fromhex("0000000a 07 00000000 00000000 16"),
+     Hint(b"", b' line 2: piece INDEX BEGIN HEX: "16" is one byte of a block; a request has a length\n'), 0),
     ("pack", LINE + b"piece 0 0 ab\n", HAND + bytes.fromhex("0000000a 07 00000000 00000000 ab"), b"", 0),
     ("pack", LINE + b"piece 0 0 0123456789\n", HAND + bytes.fromhex("0000000e 07 00000000 00000000 0123456789"), b"", 0),
     # a line of twice the limit and 256 characters is judged by what it says, a longer one isn't
@@ -1252,6 +1257,7 @@ def devices(program):
     found = [("bt_tool %s, whose output nobody reads" % words, ends_quietly(program, words, given)) for words, given in UNREAD]
     found.append(("bt_tool show --other, of a pipe that stays open", needs_no_end(program)))
     found.append(("bt_tool show, with a hint on a terminal", hints_on_a_terminal(program)))
+    found.append(("bt_tool show --other, on a terminal", is_informed_on_a_terminal(program)))
     found += [("bt_tool %s --help" % name, has_help(program, name)) for name in COMMANDS]
     found += [("bt_tool %s, on a terminal" % words, is_awaited(program, words, awaited))
               for words, awaited in (("show", b"a stream"), ("check", b"a stream"), ("pack", b"a script"), ("link", b"a script"))]
@@ -1320,6 +1326,18 @@ def needs_no_end(program):
                 running.wait()
                 return False
         return shows == shown(*KEPT)
+
+
+def is_informed_on_a_terminal(program):
+    """Whether the other direction counts too if standard error is a terminal."""
+    terminal, end = os.openpty()
+    with tempfile.NamedTemporaryFile() as other:
+        other.write(hand(NO_FAST) + taking(4, 7))
+        other.flush()
+        ended = subprocess.run([program, "show", "--other", other.name], input=HAND + RAW_3, stdout=subprocess.PIPE, stderr=end)
+    os.close(end)
+    os.close(terminal)
+    return ended.stdout == shown(*KEPT)
 
 
 def is_awaited(program, words, awaited):
