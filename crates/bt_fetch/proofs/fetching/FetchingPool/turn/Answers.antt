@@ -1,4 +1,4 @@
-use Rattle.std.proofs.Common.{◌≡◌, ◌∙◌, false, is_some, ap, arith, rules, Some, Ok}
+use Rattle.std.proofs.Common.{◌≡◌, ◌∙◌, is_some, ap, arith, rules, Some, Ok}
 use Rattle.std.proofs.lemmas.Grind.{common_steps}
 use Rattle.bt_fetch.specs.declared.place.Place.{Place}
 use Rattle.bt_exchange.specs.declared.pool.Turn.{Turn}

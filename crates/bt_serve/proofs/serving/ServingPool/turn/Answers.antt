@@ -1,4 +1,4 @@
-use Rattle.std.proofs.Common.{◌+◌, vec_len, subst, refl, arith, rules}
+use Rattle.std.proofs.Common.{◌+◌, vec_len, subst, refl, rules}
 use Rattle.bt_exchange.proofs.Lists.{added_on}
 use Rattle.bt_serve.specs.Doors.{AreWithin}
 use Rattle.bt_serve.proofs.Doors.{more_both, within_unserved}
