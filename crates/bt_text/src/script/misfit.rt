@@ -3,8 +3,8 @@ ghost use Rattle.std.specs.Prelude.{◌≡◌, ◌++◌, codes, decimal, length,
 ghost use Rattle.bt_text.specs.Misfits.{sample as sample_of, samples, expected_words as words_of, IsCompleted, IsCompletedOr, IsNoName, IsMisfit, misfit_line as line_of, IsShortNumber, IsDecimalBlock, block_size as size_of_block, block_line as block_line_of};
 
 use crate::script::numbers::{is, split_word};
-use crate::script::reading::{read_line, row_of};
-use bt_wire::Shape;
+use crate::script::reading::read_line;
+use bt_wire::{Shape, named};
 use itoa::write_digits;
 use std::alloc::{AllocError, Global};
 
@@ -112,7 +112,7 @@ fn words_of_message(name: &[u8]) -> Option<&'static [Expected]>
     if is(name, b"unknown") {
         return Some(&[Expected::FreeId, Expected::Bytes]);
     }
-    let (_, shape) = row_of(name)?;
+    let (_, shape) = named(name)?;
     Some(words_of_shape(shape))
 }
 
