@@ -17,7 +17,7 @@ pub fn byte_of(value: Option<i64>) -> Option<u8>
 }
 
 /// Returns a number that is at least 0.
-fn natural(value: Option<i64>) -> Option<u64>
+pub fn natural(value: Option<i64>) -> Option<u64>
     ensures { result ≡ option_and_then natural value }
 {
     let n = value?;

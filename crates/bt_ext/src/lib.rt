@@ -17,11 +17,12 @@ mod table;
 mod told;
 mod view;
 
+pub use dict::Dict;
 pub use dict_text::{DictText, handshake_text, message_text};
 pub use ext::{Ext, ExtError, ExtReason, ExtView, ViewError};
-pub use fields::{metadata_size, metadata_size_ref};
+pub use fields::{byte_of, metadata_size, metadata_size_ref, natural};
 pub use ids::{ExtId, Registered, Rules, SameId};
-pub use kinds::{kind, kind_ref};
+pub use kinds::{kind, kind_in, kind_ref};
 pub use made::{dict_of, handshake_dict};
 pub use metadata::{Kind, block_ok};
 pub use spelling::{append_ext, ext_len, ext_reason, spell_ext};

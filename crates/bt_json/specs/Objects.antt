@@ -16,18 +16,19 @@ use Rattle.bt_ext.specs.declared.metadata.Kind.{Kind}
 use Rattle.bt_ext.specs.declared.metadata.Kind.TheVariants as kinds
 use Rattle.bt_ext.specs.Fields.{size_of}
 use Rattle.bt_ext.specs.Metadata.{kind_of}
-use Rattle.bt_wire.specs.declared.context.Own.{Own}
 use Rattle.bt_wire.specs.declared.handshake.Handshake.{Handshake}
 use Rattle.bt_wire.specs.declared.item.Item.{Item}
 use Rattle.bt_wire.specs.declared.item.Item.TheVariants as items
 use Rattle.bt_wire.specs.Messages.{Message}
-use Rattle.bt_wire.specs.declared.message.Message.TheVariants.{KeepAlive, Extended, Unknown}
-use Rattle.bt_wire.specs.Messages.{Fields, none, index, part, block, port, field, extended, payload, known_id, fields_of}
+use Rattle.bt_wire.specs.declared.message.Message.{Message as MessageOver}
+use Rattle.bt_wire.specs.declared.message.Message.TheVariants.{Extended, Unknown}
+use Rattle.bt_wire.specs.Messages.{Fields, none, index, part, block, port, field, extended, payload, fields_of}
+use Rattle.bt_wire.specs.Names.{message_name}
 use Rattle.bt_wire.specs.Numbers.{be64}
 use Rattle.bt_wire.specs.Streams.{Outcome}
 use Rattle.bt_text.specs.declared.ended.Ended.{Ended}
 use Rattle.bt_text.specs.declared.ended.Ended.TheVariants.{Accepted, Refused}
-use Rattle.bt_text.specs.Lines.{name_of, own_context, told_id, ended_as}
+use Rattle.bt_text.specs.Lines.{no_context, told_id, ended_as}
 use Rattle.bt_wire.specs.Reasons.{reason_name}
 
 -- ---- a field
@@ -96,11 +97,14 @@ ext_fields (ext.Metadata dict rest) = metadata_fields (kind_of (tree_of dict)) (
 ext_fields (ext.DontHave i) = kind_field (codes "donthave") ++ a_number (codes "index") i
 ext_fields (ext.Raw id bytes) = kind_field (codes "extended") ++ (a_number (codes "id") id ++ a_number (codes "bytes") (length bytes))
 
-abbrev pub message_fields : Own → Message → List Token
-message_fields own KeepAlive = kind_field (codes "keep-alive")
-message_fields own (Extended e) = ext_fields e
-message_fields own (Unknown n bytes) = kind_field (codes "unknown") ++ (a_number (codes "id") n ++ a_number (codes "bytes") (length bytes))
-message_fields own m = kind_field (name_of (known_id m)) ++ shape_fields (fields_of (own_context own) m)
+-- the kind, and the id of a message whose id isn't known
+abbrev pub front_fields : {B E : Type 0} → MessageOver B E → List Token
+front_fields (Unknown n bytes) = kind_field (codes "unknown") ++ a_number (codes "id") n
+front_fields m = kind_field (message_name m)
+
+abbrev pub message_fields : Message → List Token
+message_fields (Extended e) = ext_fields e
+message_fields m = front_fields m ++ shape_fields (fields_of no_context m)
 
 -- the reserved bytes, the info hash and the peer id in hex, and the peer id as text
 abbrev pub handshake_fields : Handshake → List Token
@@ -110,9 +114,9 @@ handshake_fields h =
     ++ (a_text (codes "info_hash") (encode_lower h.info_hash)
     ++ (a_text (codes "peer_id") (encode_lower h.peer_id) ++ a_field (codes "peer_id_text") (text_or_null (Some h.peer_id)))))
 
-abbrev pub item_fields : Own → Item → List Token
-item_fields own (items.Handshake h) = handshake_fields h
-item_fields own (items.Message m) = message_fields own m
+abbrev pub item_fields : Item → List Token
+item_fields (items.Handshake h) = handshake_fields h
+item_fields (items.Message m) = message_fields m
 
 -- ---- an object's line
 
@@ -121,8 +125,8 @@ abbrev pub object_line : List Token → List ℕ
 object_line fields = print (begin_object ∷ (fields ++ end_object ∷ [])) ++ codes "\n"
 
 -- its offset and its fields
-abbrev pub line : Own → ℕ × Item → List ℕ
-line own p = object_line (a_number (codes "offset") p.0 ++ item_fields own p.1)
+abbrev pub item_line : ℕ × Item → List ℕ
+item_line p = object_line (a_number (codes "offset") p.0 ++ item_fields p.1)
 
 -- ---- the verdict
 
@@ -137,5 +141,5 @@ verdict_line e = object_line (verdict_fields e)
 
 -- ---- a whole stream of n bytes with the outcome v
 
-abbrev pub lines_of : Own → Outcome → ℕ → List ℕ
-lines_of own v n = flat_map (line own) v.items ++ verdict_line (ended_as v n)
+abbrev pub lines_of : Outcome → ℕ → List ℕ
+lines_of v n = flat_map item_line v.items ++ verdict_line (ended_as v n)

@@ -1,18 +1,18 @@
 //! The fields of an item in JSON.
-ghost use Rattle.std.specs.Prelude.{◌≡◌, ◌++◌, ℕ, List, codes, length, OnOk};
+ghost use Rattle.std.specs.Prelude.{◌≡◌, ◌++◌, codes, OnOk};
 ghost use Rattle.bt_bencode.specs.Trees.{dictionary};
 ghost use Rattle.bt_bencode.specs.declared.tree.Value.TheVariants as value;
 ghost use Rattle.bt_ext.specs.Payloads.{seen as seen_ext};
 ghost use Rattle.bt_ext.specs.declared.ext.Ext.TheVariants as ext;
-ghost use Rattle.bt_wire.specs.Messages.{message_of};
-ghost use Rattle.bt_wire.specs.declared.context.Own.{Own};
-ghost use Rattle.bt_json.specs.Objects.{a_number, announced_fields, ext_fields, handshake_fields, kind_field, message_fields, size_fields};
+ghost use Rattle.bt_wire.specs.Messages.{message_of, seen};
+ghost use Rattle.bt_json.specs.Objects.{a_number, announced_fields, ext_fields, front_fields, handshake_fields, kind_field, message_fields, shape_fields, size_fields};
 
 use crate::fields::{hex_text, number, number_if, text, text_if};
 use bt_bencode::DictRef;
-use bt_ext::{ExtView, Kind, kind_ref};
-use bt_text::words::Dictionary;
-use bt_wire::{Handshake, MessageView};
+use bt_ext::{ExtView, Kind, kind_in};
+use bt_text::content::{Content, content_of};
+use bt_text::words::announced;
+use bt_wire::{Fields, Handshake, MessageView};
 use json::Writer;
 use std::alloc::{AllocError, Global};
 
@@ -33,30 +33,20 @@ fn kind_and_one(name: &str, field: &str, n: u64, out: &mut Writer) -> Result<(),
     number(field, n, out)
 }
 
-/// Adds the kind, an index, a begin and a third number.
-fn kind_and_part(
-    name: &str,
+/// Adds an index, a begin and a third number.
+fn put_part(
     index: u32,
     begin: u32,
     field: &str,
     n: u64,
     out: &mut Writer,
 ) -> Result<(), AllocError>
-    ensures tokens { OnOk result (out.new.tokens ≡ out.old.tokens ++ (kind_field name.now ++ (a_number (codes "index") index ++ (a_number (codes "begin") begin ++ a_number field.now n)))) }
+    ensures tokens { OnOk result (out.new.tokens ≡ out.old.tokens ++ (a_number (codes "index") index ++ (a_number (codes "begin") begin ++ a_number field.now n))) }
     ensures before { out.new.before ≡ out.old.before }
 {
-    kind_and_one(name, "index", u64::from(index), out)?;
+    number("index", u64::from(index), out)?;
     number("begin", u64::from(begin), out)?;
     number(field, n, out)
-}
-
-/// Adds the kind, an id and how many bytes follow it.
-fn kind_and_payload(name: &str, id: u8, bytes: &[u8], out: &mut Writer) -> Result<(), AllocError>
-    ensures tokens { OnOk result (out.new.tokens ≡ out.old.tokens ++ (kind_field name.now ++ (a_number (codes "id") id ++ a_number (codes "bytes") (length bytes.now)))) }
-    ensures before { out.new.before ≡ out.old.before }
-{
-    kind_and_one(name, "id", u64::from(id), out)?;
-    number("bytes", bytes.len() as u64, out)
 }
 
 /// Adds the kind, the length of a dictionary, and how many bytes follow it.
@@ -78,7 +68,7 @@ fn put_announced(dict: &DictRef, out: &mut Writer) -> Result<(), AllocError>
     ensures tokens { OnOk result (out.new.tokens ≡ out.old.tokens ++ announced_fields (dictionary dict.now.tree.0)) }
     ensures before { out.new.before ≡ out.old.before }
 {
-    let (id, size) = dict.announced();
+    let (id, size) = announced(*dict);
     number_if("metadata_size", size, out)?;
     number_if("ut_metadata", id, out)?;
     text_if("client", dict.lookup_bytes(b"v"), out)
@@ -98,7 +88,7 @@ fn put_metadata(dict: &DictRef, rest: &[u8], out: &mut Writer) -> Result<(), All
     ensures tokens { OnOk result (out.new.tokens ≡ out.old.tokens ++ ext_fields (ext.Metadata (value.Dict dict.now.tree.0) rest.now)) }
     ensures before { out.new.before ≡ out.old.before }
 {
-    match kind_ref(dict) {
+    match kind_in(*dict) {
         Kind::Request(piece) => kind_and_one("metadata-request", "piece", u64::from(piece), out),
         Kind::Data { piece, total } => {
             kind_and_one("metadata-data", "piece", u64::from(piece), out)?;
@@ -120,8 +110,54 @@ fn put_ext(payload: &ExtView, out: &mut Writer) -> Result<(), AllocError>
         ExtView::Handshake { dict, rest } => put_ext_handshake(dict, rest, out),
         ExtView::Metadata { dict, rest } => put_metadata(dict, rest, out),
         ExtView::DontHave(index) => kind_and_one("donthave", "index", u64::from(*index), out),
-        ExtView::Raw { id, payload } => kind_and_payload("extended", *id, payload, out),
+        ExtView::Raw { id, payload } => {
+            kind_and_one("extended", "id", u64::from(*id), out)?;
+            number("bytes", payload.len() as u64, out)
+        }
     }
+}
+
+/// Adds fields by their shape; of bytes it is how many there are.
+fn put_fields(fields: &Fields, out: &mut Writer) -> Result<(), AllocError>
+    ensures tokens { OnOk result (out.new.tokens ≡ out.old.tokens ++ shape_fields (seen fields.now)) }
+    ensures before { out.new.before ≡ out.old.before }
+{
+    match fields {
+        Fields::Nothing => Ok(()),
+        Fields::Index(index) => number("index", u64::from(*index), out),
+        Fields::Part {
+            index,
+            begin,
+            length,
+        } => put_part(*index, *begin, "length", u64::from(*length), out),
+        Fields::Block {
+            index,
+            begin,
+            block,
+        } => put_part(*index, *begin, "bytes", block.len() as u64, out),
+        Fields::Port(port) => number("port", u64::from(*port), out),
+        Fields::Field(bytes) | Fields::Payload(bytes) => number("bytes", bytes.len() as u64, out),
+    }
+}
+
+/// Adds the kind of a message, and the id of one whose id isn't known.
+fn put_front(view: &MessageView, out: &mut Writer) -> Result<(), AllocError>
+    ensures tokens { OnOk result (out.new.tokens ≡ out.old.tokens ++ front_fields view.now) }
+    ensures before { out.new.before ≡ out.old.before }
+{
+    match view {
+        MessageView::Unknown { id, .. } => kind_and_one(view.name(), "id", u64::from(*id), out),
+        _ => kind(view.name(), out),
+    }
+}
+
+/// Adds the kind of a message that isn't extended, and its fields.
+fn put_plain(view: &MessageView, fields: &Fields, out: &mut Writer) -> Result<(), AllocError>
+    ensures tokens { OnOk result (out.new.tokens ≡ out.old.tokens ++ (front_fields view.now ++ shape_fields (seen fields.now))) }
+    ensures before { out.new.before ≡ out.old.before }
+{
+    put_front(view, out)?;
+    put_fields(fields, out)
 }
 
 /// Appends the fields of a message.
@@ -129,44 +165,12 @@ fn put_ext(payload: &ExtView, out: &mut Writer) -> Result<(), AllocError>
 /// # Errors
 /// `AllocError` when out of memory.
 pub fn put_message(view: &MessageView, out: &mut Writer) -> Result<(), AllocError>
-    ensures tokens { OnOk result ((own : Own) → out.new.tokens ≡ out.old.tokens ++ message_fields own (message_of view.now)) }
+    ensures tokens { OnOk result (out.new.tokens ≡ out.old.tokens ++ message_fields (message_of view.now)) }
     ensures before { out.new.before ≡ out.old.before }
 {
-    match view {
-        MessageView::KeepAlive => kind("keep-alive", out),
-        MessageView::Choke => kind("choke", out),
-        MessageView::Unchoke => kind("unchoke", out),
-        MessageView::Interested => kind("interested", out),
-        MessageView::NotInterested => kind("not-interested", out),
-        MessageView::Have(i) => kind_and_one("have", "index", u64::from(*i), out),
-        MessageView::Bitfield(bits) => kind_and_one("bitfield", "bytes", bits.len() as u64, out),
-        MessageView::Request {
-            index,
-            begin,
-            length,
-        } => kind_and_part("request", *index, *begin, "length", u64::from(*length), out),
-        MessageView::Piece {
-            index,
-            begin,
-            block,
-        } => kind_and_part("piece", *index, *begin, "bytes", block.len() as u64, out),
-        MessageView::Cancel {
-            index,
-            begin,
-            length,
-        } => kind_and_part("cancel", *index, *begin, "length", u64::from(*length), out),
-        MessageView::Port(port) => kind_and_one("port", "port", u64::from(*port), out),
-        MessageView::Suggest(i) => kind_and_one("suggest", "index", u64::from(*i), out),
-        MessageView::HaveAll => kind("have-all", out),
-        MessageView::HaveNone => kind("have-none", out),
-        MessageView::Reject {
-            index,
-            begin,
-            length,
-        } => kind_and_part("reject", *index, *begin, "length", u64::from(*length), out),
-        MessageView::AllowedFast(i) => kind_and_one("allowed-fast", "index", u64::from(*i), out),
-        MessageView::Extended(payload) => put_ext(payload, out),
-        MessageView::Unknown { id, payload } => kind_and_payload("unknown", *id, payload, out),
+    match content_of(view) {
+        Content::Fields(fields) => put_plain(view, &fields, out),
+        Content::Extended(payload) => put_ext(payload, out),
     }
 }
 

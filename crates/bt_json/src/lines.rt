@@ -2,9 +2,8 @@
 ghost use Rattle.std.specs.Prelude.{◌≡◌, ◌++◌, ◌∷◌, List, [], IfOk, OnOk};
 ghost use Rattle.json.specs.Token.{Token, begin_object};
 ghost use Rattle.bt_wire.specs.Messages.{message_of};
-ghost use Rattle.bt_wire.specs.declared.context.Own.{Own};
 ghost use Rattle.bt_wire.specs.declared.item.Item.TheVariants as items;
-ghost use Rattle.bt_json.specs.Objects.{line as line_of, object_line, verdict_fields, verdict_line as verdict_words};
+ghost use Rattle.bt_json.specs.Objects.{item_line, object_line, verdict_fields, verdict_line as verdict_words};
 
 use crate::fields::{number, text};
 use crate::items::{put_handshake, put_message};
@@ -44,7 +43,7 @@ pub fn message_line(
     view: &MessageView,
     lines: &mut Vec<u8>,
 ) -> Result<(), AllocError>
-    ensures { OnOk result ((own : Own) → lines.new.items ≡ lines.old.items ++ line_of own (at, items.Message (message_of view.now))) }
+    ensures { OnOk result (lines.new.items ≡ lines.old.items ++ item_line (at, items.Message (message_of view.now))) }
 {
     let mut out = begin(alloc, lines)?;
     number("offset", at, &mut out)?;
@@ -62,7 +61,7 @@ pub fn handshake_line(
     handshake: &Handshake,
     lines: &mut Vec<u8>,
 ) -> Result<(), AllocError>
-    ensures { OnOk result ((own : Own) → lines.new.items ≡ lines.old.items ++ line_of own (at, items.Handshake handshake.now)) }
+    ensures { OnOk result (lines.new.items ≡ lines.old.items ++ item_line (at, items.Handshake handshake.now)) }
 {
     let mut out = begin(alloc, lines)?;
     number("offset", at, &mut out)?;

@@ -1,14 +1,13 @@
 -- The words of a message, owned or viewed.
-use Rattle.std.proofs.Common.{◌≡◌, List, ℕ, refl}
-use Rattle.std.specs.Borrow.{Bor}
+use Rattle.std.proofs.Common.{◌≡◌, ◌++◌, List, ℕ, refl}
 use Rattle.std.specs.Prelude.{⊤}
 use Rattle.bt_ext.specs.declared.ext.Ext.{Ext}
 use Rattle.bt_ext.specs.declared.ext.ExtView.{ExtView}
-use Rattle.bt_wire.specs.declared.context.Own.{Own}
+use Rattle.bt_wire.specs.declared.message.Message.{Message as MessageOver}
 use Rattle.bt_wire.specs.declared.message.Message.TheVariants as m
-use Rattle.bt_wire.specs.Messages.{Message, MessageView, map, message_of}
-use Rattle.bt_text.specs.Lines.{message_words}
-use Rattle.bt_text.specs.Script.{script_message}
+use Rattle.bt_wire.specs.Messages.{Message, MessageView, map, fields_of}
+use Rattle.bt_text.specs.Contents.{IsPlain}
+use Rattle.bt_text.specs.Lines.{field_words, front_words, message_words, no_context}
 use Rattle.bt_text.specs.Words.{IsCounted}
 
 -- the length of a view can be told
@@ -21,13 +20,9 @@ pub owned : (v : Message) → map (λ (b : List ℕ). b) (λ (e : Ext). e) v ≡
 owned m.KeepAlive = refl
 owned v = refl
 
--- a message without bytes has the same words in a script
-pub same_words : (own : Own) (v : MessageView) → ((bits : Bor (List ℕ)) → v ≡ m.Bitfield bits → ⊥)
-    → ((i b : ℕ) (bytes : Bor (List ℕ)) → v ≡ m.Piece i b bytes → ⊥)
-    → ((e : ExtView) → v ≡ m.Extended e → ⊥) → ((n : ℕ) (bytes : Bor (List ℕ)) → v ≡ m.Unknown n bytes → ⊥)
-    → message_words (message_of v) ≡ script_message own (message_of v)
-same_words own (m.Bitfield bits) a b c d = absurd (a bits refl)
-same_words own (m.Piece i k bytes) a b c d = absurd (b i k bytes refl)
-same_words own (m.Extended e) a b c d = absurd (c e refl)
-same_words own (m.Unknown n bytes) a b c d = absurd (d n bytes refl)
-same_words own v a b c d = refl
+-- the words of a message that isn't extended
+pub plain_words : {B E : Type 0} (bytes : B → List ℕ) (payload : E → Ext) (v : MessageOver B E) → IsPlain v
+    → front_words v ++ field_words (fields_of no_context (map bytes payload v)) ≡ message_words (map bytes payload v)
+plain_words bytes payload (m.Extended e) p = absurd p
+plain_words bytes payload (m.Unknown n b) p = refl
+plain_words bytes payload v p = refl

@@ -6,3 +6,4 @@ pub mod Misfits
 pub mod Shown
 pub mod Splitting
 pub mod Words
+pub mod Contents

@@ -22,10 +22,11 @@ use Rattle.bt_wire.specs.declared.item.Item.{Item}
 use Rattle.bt_wire.specs.declared.item.Item.TheVariants as items
 use Rattle.bt_wire.specs.declared.item.Refusal.{Refusal}
 use Rattle.bt_wire.specs.Messages.{Message}
-use Rattle.bt_wire.specs.declared.message.Message.TheVariants.{KeepAlive, Extended, Unknown}
+use Rattle.bt_wire.specs.declared.message.Message.{Message as MessageOver}
+use Rattle.bt_wire.specs.declared.message.Message.TheVariants.{Extended, Unknown}
 use Rattle.bt_wire.specs.Handshakes.{negotiated}
-use Rattle.bt_wire.specs.Ids.{Id, ids, row_in}
-use Rattle.bt_wire.specs.Messages.{Fields, none, index, part, block, port, field, extended, payload, known_id, fields_of}
+use Rattle.bt_wire.specs.Names.{message_name}
+use Rattle.bt_wire.specs.Messages.{Fields, none, index, part, block, port, field, extended, payload, fields_of}
 use Rattle.bt_wire.specs.Numbers.{be64}
 use Rattle.bt_wire.specs.Reasons.{reason_name}
 use Rattle.bt_wire.specs.Streams.{Outcome, refusal_at_end}
@@ -52,15 +53,6 @@ field_words (port p) = spaced p
 field_words (field bits) = spaced (length bits)
 field_words (extended n bytes) = spaced n ++ spaced (length bytes)
 field_words (payload bytes) = spaced (length bytes)
-
-abbrev pub name_in : Option Id → List ℕ
-name_in None = []
-name_in (Some i) = i.name
-
--- the name in the table of ids
-abbrev pub name_of : Option ℕ → List ℕ
-name_of None = []
-name_of (Some n) = name_in (row_in n ids)
 
 -- what the receiver knows before a handshake: what the peer's reserved bits change isn't in a line
 abbrev pub own_context : Own → Context
@@ -110,11 +102,14 @@ ext_words (ext.Raw id bytes) = codes "extended" ++ (spaced id ++ spaced (length 
 
 -- ---- an item's line
 
+-- the name, and the id of a message whose id isn't known
+abbrev pub front_words : {B E : Type 0} → MessageOver B E → List ℕ
+front_words (Unknown n bytes) = codes "unknown" ++ spaced n
+front_words m = message_name m
+
 abbrev pub message_words : Message → List ℕ
-message_words KeepAlive = codes "keep-alive"
 message_words (Extended e) = ext_words e
-message_words (Unknown n bytes) = codes "unknown" ++ (spaced n ++ spaced (length bytes))
-message_words m = name_of (known_id m) ++ field_words (fields_of no_context m)
+message_words m = front_words m ++ field_words (fields_of no_context m)
 
 -- the reserved bytes, the info hash and the peer id in hex
 abbrev pub handshake_words : Handshake → List ℕ

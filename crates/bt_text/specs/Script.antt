@@ -1,10 +1,8 @@
 -- The lines of a script: one for each item of a stream, with all of the item's bytes. What is written for an item stands
 -- first, and then, apart from it, which texts are lines and what bytes each names.
-use Rattle.std.specs.Prelude.{◌==◌, ◌||◌, ◌≡◌, ℕ, ◌+◌, ◌<◌, Bool, true, false, List, [], ◌∷◌, ◌++◌, length, codes, Option, Some, None, Ok, if◌then◌else◌}
+use Rattle.std.specs.Prelude.{◌==◌, ◌||◌, ◌≡◌, ℕ, ◌+◌, ◌<◌, Bool, true, false, List, [], ◌∷◌, ◌++◌, length, codes, Option, Some, None, Ok}
 use Rattle.std.specs.List.{flat_map}
-use Rattle.std.specs.Str.{bytes_eq}
 use Rattle.hex.specs.Hex.{encode_lower, decode_of}
-use Rattle.bt_ext.specs.Payloads.{payload_of}
 use Rattle.bt_wire.specs.declared.context.Own.{Own}
 use Rattle.bt_wire.specs.declared.handshake.Handshake.{Handshake}
 use Rattle.bt_wire.specs.declared.ids.Shape.{Shape}
@@ -12,12 +10,11 @@ use Rattle.bt_wire.specs.declared.ids.Shape.TheVariants as shapes
 use Rattle.bt_wire.specs.declared.item.Item.{Item}
 use Rattle.bt_wire.specs.declared.item.Item.TheVariants as items
 use Rattle.bt_wire.specs.Messages.{Message}
-use Rattle.bt_wire.specs.declared.message.Message.TheVariants.{KeepAlive, Bitfield, Piece, Extended, Unknown}
 use Rattle.bt_wire.specs.Handshakes.{hand, IsHandshake}
-use Rattle.bt_wire.specs.Ids.{Id, ids, has_meaning}
-use Rattle.bt_wire.specs.Messages.{Fields, none, index, part, block, port, field, extended, payload, known_id, fields_of, spell_fields, AreInRange}
+use Rattle.bt_wire.specs.Ids.{Id, ids, has_meaning, row_named}
+use Rattle.bt_wire.specs.Messages.{Fields, none, index, part, block, port, field, extended, payload, fields_of, spell_fields, AreInRange}
 use Rattle.bt_wire.specs.Numbers.{be32, be64}
-use Rattle.bt_text.specs.Lines.{spaced, name_of, own_context, handshake_words}
+use Rattle.bt_text.specs.Lines.{spaced, front_words, own_context, no_context, handshake_words}
 
 -- whether there is a line feed
 abbrev pub has_feed : List ℕ → Bool
@@ -46,21 +43,23 @@ script_fields (extended n bytes) = spaced n ++ spaced_hex bytes
 script_fields (payload bytes) = spaced_hex bytes
 
 abbrev pub script_message : Own → Message → List ℕ
-script_message own KeepAlive = codes "keep-alive"
-script_message own (Unknown n bytes) = codes "unknown" ++ (spaced n ++ spaced_hex bytes)
-script_message own m = name_of (known_id m) ++ script_fields (fields_of (own_context own) m)
+script_message own m = front_words m ++ script_fields (fields_of (own_context own) m)
 
 abbrev pub script_words : Own → Item → List ℕ
 script_words own (items.Handshake h) = handshake_words h
 script_words own (items.Message m) = script_message own m
 
+-- the bytes that fields keep
+abbrev pub bytes_in : Fields → List ℕ
+bytes_in (block i b bytes) = bytes
+bytes_in (field bits) = bits
+bytes_in (extended n bytes) = bytes
+bytes_in (payload bytes) = bytes
+bytes_in f = []
+
 -- how many bytes of a message stand in its line in hex
 abbrev pub kept : Message → ℕ
-kept (Bitfield bits) = length bits
-kept (Piece i b bytes) = length bytes
-kept (Extended e) = length (payload_of e)
-kept (Unknown n bytes) = length bytes
-kept m = 0
+kept m = length (bytes_in (fields_of no_context m))
 
 -- with its line feed
 abbrev pub script_line : Own → Item → List ℕ
@@ -102,11 +101,6 @@ shape_of (port p) = Some shapes.Port
 shape_of (field bits) = Some shapes.Field
 shape_of (extended n bytes) = Some shapes.Extended
 shape_of (payload bytes) = None
-
--- the row of the table of ids with this name
-abbrev pub row_named : List ℕ → List Id → Option Id
-row_named name [] = None
-row_named name (i ∷ is) = if bytes_eq name i.name then Some i else row_named name is
 
 -- the name is that of the row, the fields are of its shape, and their numbers within their bounds
 pub record IsOfRow (name : List ℕ) (i : Id) (f : Fields) : Type 0 where

@@ -1,10 +1,11 @@
 //! Words and numbers written into a buffer that has room for them, from an offset on.
 //!
 //! A call returns the offset after what it wrote.
-ghost use Rattle.std.specs.Prelude.{◌≡◌, ◌+◌, ◌-◌, ◌*◌, ◌/◌, ◌%◌, ◌^◌, ◌<◌, ◌≤◌, [], ◌∷◌, ◌++◌, length, take, codes, decimal};
+ghost use Rattle.std.specs.Prelude.{◌≡◌, ◌+◌, ◌-◌, ◌*◌, ◌/◌, ◌%◌, ◌^◌, ◌<◌, ◌≤◌, [], ◌∷◌, ◌++◌, length, take, codes, decimal, OnOk};
 ghost use Rattle.bt_text.specs.Lines.{spaced};
 
-use itoa::write_digits;
+use itoa::{Buffer, write_digits};
+use std::alloc::AllocError;
 
 /// The digits of each number below 100, two of them.
 static PAIRS: [u8; 200] =
@@ -128,6 +129,16 @@ pub fn put_number(n: u64, text: &mut [u8], at: usize) -> usize
     }
     let at = put_short(n / 10_000, text, at);
     put_four(n % 10_000, text, at)
+}
+
+/// Appends a number.
+///
+/// # Errors
+/// `AllocError` when out of memory.
+pub fn push_number(n: u64, text: &mut Vec<u8>) -> Result<(), AllocError>
+    ensures { OnOk result (text.new.items ≡ text.old.items ++ decimal n) }
+{
+    text.extend_from_slice(Buffer::new().format(n).as_bytes())
 }
 
 /// Writes a name, a number and a line feed; returns the offset after them.

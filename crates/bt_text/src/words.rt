@@ -1,136 +1,32 @@
 //! The words of a message, owned or viewed alike.
 //!
 //! They are written into a text that has room for them, with a line feed after them; a call returns the offset after that.
-ghost use Rattle.std.specs.Prelude.{◌≡◌, ◌<◌, ◌≤◌, ◌+◌, ◌^◌, ℕ, List, ◌++◌, length as list_length, take, codes, decimal, option_and_then, ⊤};
-ghost use Rattle.bt_bencode.specs.Bencoding.{ben};
-ghost use Rattle.bt_bencode.specs.Trees.{Tree, dictionary};
-ghost use Rattle.bt_bencode.specs.Views.{tree_of};
+ghost use Rattle.std.specs.Prelude.{◌≡◌, ◌≤◌, ◌+◌, ℕ, List, ◌++◌, length as list_length, take, codes, ⊤};
 ghost use Rattle.bt_ext.specs.declared.ext.Ext.{Ext as ExtValue};
-ghost use Rattle.bt_ext.specs.Fields.{byte_of, natural, size_of};
+ghost use Rattle.bt_ext.specs.Fields.{size_of};
 ghost use Rattle.bt_ext.specs.Metadata.{kind_of};
 ghost use Rattle.bt_ext.specs.Payloads.{seen as seen_ext};
-ghost use Rattle.bt_wire.specs.Messages.{map};
-ghost use Rattle.bt_text.specs.Lines.{spaced, or_dash, told_id, announced_words, kind_words, ext_words, message_words};
+ghost use Rattle.bt_wire.specs.Messages.{map, seen};
+ghost use Rattle.bt_text.specs.Lines.{or_dash, told_id, announced_words, kind_words, ext_words, field_words, front_words, spaced, message_words};
 ghost use Rattle.bt_text.specs.Words.{HasLength, IsCounted};
 
-use crate::putting::{put_number, put_one, put_three, put_two, put_word};
-use bt_bencode::{ByteString, DictRef, Value, ben_len, lookup};
-use bt_ext::{Ext, ExtView, Kind, kind, kind_ref, metadata_size};
-use bt_wire::Message;
+use crate::content::{Bytes, Content, content_of};
+use crate::putting::{put, put_number, put_one, put_three, put_two, put_word};
+use bt_ext::{Dict, Ext, ExtView, Kind, byte_of, kind_in, natural};
+use bt_wire::{Fields, Message};
 
-/// The bytes of a message, owned or borrowed.
-pub trait Bytes {
-    ghost bytes: { Self → List ℕ };
-
-    /// Returns how many bytes they are.
-    fn count(&self) -> u64
-        ensures { result ≡ list_length (bytes self.now) };
-}
-
-impl Bytes for ByteString {
-    ghost bytes = { λ b. b };
-
-    #[inline(always)]
-    fn count(&self) -> u64 {
-        self.len() as u64
-    }
-}
-
-impl Bytes for &[u8] {
-    ghost bytes = { λ b. b.now };
-
-    #[inline(always)]
-    fn count(&self) -> u64 {
-        self.len() as u64
-    }
-}
-
-/// The dictionary of an extended message, owned or viewed.
-pub trait Dictionary {
-    ghost tree: { Self → Tree };
-
-    /// Its encoding has fewer than 2^64 bytes.
-    ghost is_counted: { Self → Type 0 };
-
-    /// Returns the length of its encoding.
-    fn length(&self) -> u64
-        ensures { is_counted self.now → result ≡ list_length (ben (tree self.now)) };
-
-    /// Returns the kind of the metadata message that has it.
-    fn kind(&self) -> Kind
-        ensures { result ≡ kind_of (tree self.now) };
-
-    /// Returns the id of `ut_metadata` and the size of the metadata that it announces.
-    fn announced(&self) -> (Option<u64>, Option<u64>)
-        ensures id { result.0 ≡ told_id (tree self.now) }
-        ensures size { result.1 ≡ size_of (tree self.now) };
-}
-
-/// Returns a number of one byte.
-fn byte_in(number: Option<i64>) -> Option<u64>
-    ensures { result ≡ byte_of number }
+/// Returns the id of `ut_metadata` and the size of the metadata that an extended handshake announces.
+#[inline(always)]
+pub fn announced<'a, D: Dict<'a>>(dict: D) -> (Option<u64>, Option<u64>)
+    ensures id { result.0 ≡ told_id (D.tree dict) }
+    ensures size { result.1 ≡ size_of (D.tree dict) }
 {
-    let id = u8::try_from(number?).ok()?;
-    Some(u64::from(id))
-}
-
-/// Returns a number of at least 0.
-fn natural_in(number: Option<i64>) -> Option<u64>
-    ensures { result ≡ option_and_then natural number }
-{
-    u64::try_from(number?).ok()
-}
-
-impl Dictionary for DictRef<'_> {
-    ghost tree = { λ d. dictionary d.tree.0 };
-
-    ghost is_counted = { λ d. ⊤ };
-
-    #[inline(always)]
-    fn length(&self) -> u64 {
-        self.spelled().len() as u64
-    }
-
-    #[inline(always)]
-    fn kind(&self) -> Kind {
-        kind_ref(self)
-    }
-
-    fn announced(&self) -> (Option<u64>, Option<u64>) {
-        let (id, size) = self.lookup_ints(b"m", b"ut_metadata", b"metadata_size");
-        (byte_in(id), natural_in(size))
-    }
-}
-
-/// Returns the id of `ut_metadata` that an extended handshake announces.
-fn told(dict: &Value) -> Option<u64>
-    ensures { result ≡ told_id (tree_of dict.now) }
-{
-    match lookup(lookup(dict, b"m")?, b"ut_metadata") {
-        Some(Value::Int(id)) => match u8::try_from(*id) {
-            Ok(id) => Some(u64::from(id)),
-            Err(_) => None,
-        },
-        _ => None,
-    }
-}
-
-impl Dictionary for Value {
-    ghost tree = { tree_of };
-
-    ghost is_counted = { λ v. list_length (ben (tree_of v)) < 2 ^ 64 };
-
-    fn length(&self) -> u64 {
-        ben_len(self)
-    }
-
-    fn kind(&self) -> Kind {
-        kind(self)
-    }
-
-    fn announced(&self) -> (Option<u64>, Option<u64>) {
-        (told(self), metadata_size(self))
-    }
+    let (id, size) = dict.two_ints(b"m", b"ut_metadata", b"metadata_size");
+    let id = match byte_of(id) {
+        Some(id) => Some(u64::from(id)),
+        None => None,
+    };
+    (id, natural(size))
 }
 
 /// Puts a number, or `-` for none.
@@ -165,14 +61,14 @@ fn put_announced(id: Option<u64>, size: Option<u64>, text: &mut [u8], at: usize)
 
 /// Puts the words of an extended handshake and the line's end.
 #[inline(never)]
-fn put_handshake<D: Dictionary>(dict: &D, rest: u64, text: &mut [u8], at: usize) -> usize
+fn put_handshake<'a, D: Dict<'a>>(dict: D, rest: u64, text: &mut [u8], at: usize) -> usize
     requires { at + 116 ≤ list_length text.old }
     ensures room { (at ≤ result) × (result ≤ at + 116) }
     ensures size { list_length text.new ≡ list_length text.old }
-    ensures text { D.is_counted dict.now → (bytes : List ℕ) → list_length bytes ≡ rest → take result text.new ≡ take at text.old
-        ++ (announced_words (D.tree dict.now) bytes ++ codes "\n") }
+    ensures text { D.is_counted dict → (bytes : List ℕ) → list_length bytes ≡ rest → take result text.new ≡ take at text.old
+        ++ (announced_words (D.tree dict) bytes ++ codes "\n") }
 {
-    let (id, size) = dict.announced();
+    let (id, size) = announced(dict);
     let place = put_word(b"ext-handshake ", text, at);
     let place = put_number(dict.length(), text, place);
     let place = put_word(b" ", text, place);
@@ -182,14 +78,14 @@ fn put_handshake<D: Dictionary>(dict: &D, rest: u64, text: &mut [u8], at: usize)
 
 /// Puts the words of a metadata message and the line's end.
 #[inline(never)]
-fn put_metadata<D: Dictionary>(dict: &D, rest: u64, text: &mut [u8], at: usize) -> usize
+fn put_metadata<'a, D: Dict<'a>>(dict: D, rest: u64, text: &mut [u8], at: usize) -> usize
     requires { at + 116 ≤ list_length text.old }
     ensures room { (at ≤ result) × (result ≤ at + 116) }
     ensures size { list_length text.new ≡ list_length text.old }
-    ensures text { D.is_counted dict.now → (bytes : List ℕ) → list_length bytes ≡ rest → take result text.new ≡ take at text.old
-        ++ (kind_words (kind_of (D.tree dict.now)) (D.tree dict.now) bytes ++ codes "\n") }
+    ensures text { D.is_counted dict → (bytes : List ℕ) → list_length bytes ≡ rest → take result text.new ≡ take at text.old
+        ++ (kind_words (kind_of (D.tree dict)) (D.tree dict) bytes ++ codes "\n") }
 {
-    match dict.kind() {
+    match kind_in(dict) {
         Kind::Request(piece) => put_one(b"metadata-request ", u64::from(piece), text, at),
         Kind::Data { piece, total } => {
             put_three(b"metadata-data ", u64::from(piece), total, rest, text, at)
@@ -225,11 +121,11 @@ impl Payload for ExtView<'_> {
     #[inline(always)]
     fn put_payload(&self, text: &mut [u8], at: usize) -> usize {
         match self {
-            ExtView::Handshake { dict, rest } => put_handshake(dict, rest.count(), text, at),
-            ExtView::Metadata { dict, rest } => put_metadata(dict, rest.count(), text, at),
+            ExtView::Handshake { dict, rest } => put_handshake(*dict, rest.len() as u64, text, at),
+            ExtView::Metadata { dict, rest } => put_metadata(*dict, rest.len() as u64, text, at),
             ExtView::DontHave(index) => put_one(b"donthave ", u64::from(*index), text, at),
             ExtView::Raw { id, payload } => {
-                put_two(b"extended ", u64::from(*id), payload.count(), text, at)
+                put_two(b"extended ", u64::from(*id), payload.len() as u64, text, at)
             }
         }
     }
@@ -242,32 +138,71 @@ impl Payload for Ext {
 
     fn put_payload(&self, text: &mut [u8], at: usize) -> usize {
         match self {
-            Ext::Handshake { dict, rest } => put_handshake(dict, rest.count(), text, at),
-            Ext::Metadata { dict, rest } => put_metadata(dict, rest.count(), text, at),
+            Ext::Handshake { dict, rest } => put_handshake(dict, rest.len() as u64, text, at),
+            Ext::Metadata { dict, rest } => put_metadata(dict, rest.len() as u64, text, at),
             Ext::DontHave(index) => put_one(b"donthave ", u64::from(*index), text, at),
             Ext::Raw { id, payload } => {
-                put_two(b"extended ", u64::from(*id), payload.count(), text, at)
+                put_two(b"extended ", u64::from(*id), payload.len() as u64, text, at)
             }
         }
     }
 }
 
-/// Puts a name, the three numbers of a part of a piece, and the line's end.
+/// Puts a message's name, and the id of one whose id isn't known.
 #[inline(always)]
-fn put_part<const N: usize>(
-    name: &[u8; N],
-    index: u32,
-    begin: u32,
-    length: u64,
-    text: &mut [u8],
-    at: usize,
-) -> usize
-    requires { at + (63 + list_length name.now) ≤ list_length text.old }
-    ensures room { (at ≤ result) × (result ≤ at + (63 + list_length name.now)) }
+pub(crate) fn put_front<B, E>(message: &Message<B, E>, text: &mut [u8], at: usize) -> usize
+    requires { at + 35 ≤ list_length text.old }
+    ensures room { (at ≤ result) × (result ≤ at + 35) }
     ensures size { list_length text.new ≡ list_length text.old }
-    ensures text { take result text.new ≡ take at text.old ++ (name.now ++ (decimal index ++ (spaced begin ++ (spaced length ++ codes "\n")))) }
+    ensures text { take result text.new ≡ take at text.old ++ front_words message.now }
 {
-    put_three(name, u64::from(index), u64::from(begin), length, text, at)
+    let place = put(message.name().as_bytes(), text, at);
+    match message {
+        Message::Unknown { id, .. } => {
+            let place = put_word(b" ", text, place);
+            put_number(u64::from(*id), text, place)
+        }
+        _ => place,
+    }
+}
+
+/// Puts the words of fields and the line's end; of bytes it is how many there are.
+#[inline(always)]
+pub(crate) fn put_fields(fields: &Fields, text: &mut [u8], at: usize) -> usize
+    requires { at + 64 ≤ list_length text.old }
+    ensures room { (at ≤ result) × (result ≤ at + 64) }
+    ensures size { list_length text.new ≡ list_length text.old }
+    ensures text { take result text.new ≡ take at text.old ++ (field_words (seen fields.now) ++ codes "\n") }
+{
+    match fields {
+        Fields::Nothing => put_word(b"\n", text, at),
+        Fields::Index(index) => put_one(b" ", u64::from(*index), text, at),
+        Fields::Part {
+            index,
+            begin,
+            length,
+        } => put_part(*index, *begin, u64::from(*length), text, at),
+        Fields::Block {
+            index,
+            begin,
+            block,
+        } => put_part(*index, *begin, block.len() as u64, text, at),
+        Fields::Port(port) => put_one(b" ", u64::from(*port), text, at),
+        Fields::Field(bytes) | Fields::Payload(bytes) => {
+            put_one(b" ", bytes.len() as u64, text, at)
+        }
+    }
+}
+
+/// Puts the three numbers of a part of a piece, and the line's end.
+#[inline(always)]
+fn put_part(index: u32, begin: u32, length: u64, text: &mut [u8], at: usize) -> usize
+    requires { at + 64 ≤ list_length text.old }
+    ensures room { (at ≤ result) × (result ≤ at + 64) }
+    ensures size { list_length text.new ≡ list_length text.old }
+    ensures text { take result text.new ≡ take at text.old ++ ((spaced index ++ (spaced begin ++ spaced length)) ++ codes "\n") }
+{
+    put_three(b" ", u64::from(index), u64::from(begin), length, text, at)
 }
 
 /// Writes the words of a message and a line feed at the offset `at`; returns the offset after them.
@@ -281,42 +216,11 @@ pub fn put_words<B: Bytes, E: Payload>(message: &Message<B, E>, text: &mut [u8],
     ensures text { IsCounted E.is_counted message.now → take result text.new ≡ take at text.old
         ++ (message_words (map B.bytes E.payload message.now) ++ codes "\n") }
 {
-    match message {
-        Message::KeepAlive => put_word(b"keep-alive\n", text, at),
-        Message::Choke => put_word(b"choke\n", text, at),
-        Message::Unchoke => put_word(b"unchoke\n", text, at),
-        Message::Interested => put_word(b"interested\n", text, at),
-        Message::NotInterested => put_word(b"not-interested\n", text, at),
-        Message::Have(i) => put_one(b"have ", u64::from(*i), text, at),
-        Message::Bitfield(bits) => put_one(b"bitfield ", bits.count(), text, at),
-        Message::Request {
-            index,
-            begin,
-            length,
-        } => put_part(b"request ", *index, *begin, u64::from(*length), text, at),
-        Message::Piece {
-            index,
-            begin,
-            block,
-        } => put_part(b"piece ", *index, *begin, block.count(), text, at),
-        Message::Cancel {
-            index,
-            begin,
-            length,
-        } => put_part(b"cancel ", *index, *begin, u64::from(*length), text, at),
-        Message::Port(port) => put_one(b"port ", u64::from(*port), text, at),
-        Message::Suggest(i) => put_one(b"suggest ", u64::from(*i), text, at),
-        Message::HaveAll => put_word(b"have-all\n", text, at),
-        Message::HaveNone => put_word(b"have-none\n", text, at),
-        Message::Reject {
-            index,
-            begin,
-            length,
-        } => put_part(b"reject ", *index, *begin, u64::from(*length), text, at),
-        Message::AllowedFast(i) => put_one(b"allowed-fast ", u64::from(*i), text, at),
-        Message::Extended(payload) => payload.put_payload(text, at),
-        Message::Unknown { id, payload } => {
-            put_two(b"unknown ", u64::from(*id), payload.count(), text, at)
+    match content_of(message) {
+        Content::Fields(fields) => {
+            let place = put_front(message, text, at);
+            put_fields(&fields, text, place)
         }
+        Content::Extended(payload) => payload.put_payload(text, at),
     }
 }

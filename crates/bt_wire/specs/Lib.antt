@@ -2,6 +2,7 @@ pub mod Numbers
 pub mod Ids
 pub mod Bitfields
 pub mod Messages
+pub mod Names
 pub mod Handshakes
 pub mod Tables
 pub mod Faults

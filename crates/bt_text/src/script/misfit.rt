@@ -2,10 +2,10 @@
 ghost use Rattle.std.specs.Prelude.{◌≡◌, ◌++◌, codes, decimal, length, false, true, None, IfSome, OnOk};
 ghost use Rattle.bt_text.specs.Misfits.{sample as sample_of, samples, expected_words as words_of, IsCompleted, IsCompletedOr, IsNoName, IsMisfit, misfit_line as line_of, IsShortNumber, IsDecimalBlock, block_size as size_of_block, block_line as block_line_of};
 
+use crate::putting::push_number;
 use crate::script::numbers::{is, split_word};
-use crate::script::reading::{read_line, row_of};
-use bt_wire::Shape;
-use itoa::write_digits;
+use crate::script::reading::read_line;
+use bt_wire::{Shape, named};
 use std::alloc::{AllocError, Global};
 
 /// What is expected in a place of a line.
@@ -112,7 +112,7 @@ fn words_of_message(name: &[u8]) -> Option<&'static [Expected]>
     if is(name, b"unknown") {
         return Some(&[Expected::FreeId, Expected::Bytes]);
     }
-    let (_, shape) = row_of(name)?;
+    let (_, shape) = named(name)?;
     Some(words_of_shape(shape))
 }
 
@@ -222,10 +222,8 @@ fn expected_words(expected: Expected) -> &'static [u8]
 fn push_numbered(text: &[u8], n: u64, line: &mut Vec<u8>) -> Result<(), AllocError>
     ensures { OnOk result (line.new.items ≡ line.old.items ++ (text.now ++ decimal n)) }
 {
-    let mut digits = [0u8; 20];
-    let place = write_digits(n, &mut digits, 20);
     line.extend_from_slice(text)?;
-    line.extend_from_slice(&digits[place..])
+    push_number(n, line)
 }
 
 /// Appends the line that says which word of a script's line can't stand there.

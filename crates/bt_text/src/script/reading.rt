@@ -3,8 +3,8 @@ ghost use Rattle.std.specs.Prelude.{◌≡◌, ◌+◌, ◌<◌, ◌≤◌, ◌^
 ghost use Rattle.std.specs.Result.{result_ok};
 ghost use Rattle.hex.specs.Hex.{decode_of};
 ghost use Rattle.bt_wire.specs.Numbers.{be32, be64};
-ghost use Rattle.bt_wire.specs.Ids.{ids, has_meaning as is_known};
-ghost use Rattle.bt_text.specs.Script.{row_named, framed_by, IsAnswer, IsAdded};
+ghost use Rattle.bt_wire.specs.Ids.{ids, row_named};
+ghost use Rattle.bt_text.specs.Script.{framed_by, IsAnswer, IsAdded};
 ghost use Rattle.bt_text.specs.ScriptReading.{
   bytes_in_word,
   closed,
@@ -23,7 +23,7 @@ ghost use Rattle.bt_text.specs.ScriptReading.{
 
 pub use crate::script::numbers::plain_number;
 use crate::script::numbers::{is, number_following, split_word, three_numbers, two_numbers};
-use bt_wire::{Handshake, Reserved, Shape, spell_handshake};
+use bt_wire::{Fields, Handshake, Reserved, Shape, head_and_tail, name_of, named, spell_handshake};
 use hex::FromHex;
 use std::alloc::AllocError;
 
@@ -42,20 +42,16 @@ fn push_decoded(digits: &[u8], bytes: &mut Vec<u8>) -> Result<bool, AllocError>
 
 /// Appends the length, the id and the bytes of the numbers of a message.
 ///
-/// `size` bytes follow. The numbers' count is known at the place where this is inlined, so one copy of fixed size appends all
-/// of it.
+/// `size` bytes follow.
 #[inline(always)]
 fn push_begin(id: u8, numbers: &[u8], size: usize, bytes: &mut Vec<u8>) -> Result<(), AllocError>
     requires { (length numbers.now ≤ 12) × (size < 2 ^ 31) }
     ensures { OnOk result (bytes.new.items ≡ bytes.old.items ++ (be32 (1 + length numbers.now + size) ++ (id ∷ numbers.now))) }
 {
-    let end = 5 + numbers.len();
     let length = 1 + numbers.len() + size;
-    let mut front = [0u8; 17];
-    front[..4].copy_from_slice(&(length as u32).to_be_bytes());
-    front[4] = id;
-    front[5..end].copy_from_slice(numbers);
-    bytes.extend_from_slice(&front[..end])
+    let (head, tail) = head_and_tail(length as u32, Some(id), &Fields::Payload(numbers));
+    bytes.extend_from_slice(head.as_slice())?;
+    bytes.extend_from_slice(tail)
 }
 
 /// Appends the message of an id and the bytes of its numbers, if nothing follows.
@@ -217,67 +213,16 @@ fn put_extended(id: u8, text: &[u8], bytes: &mut Vec<u8>) -> Result<bool, AllocE
     }
 }
 
-/// Returns whether an id is in the table of ids.
-fn has_meaning(id: u8) -> bool
-    ensures { result ≡ is_known id }
-{
-    match id {
-        0..=9 | 13..=17 | 20 => true,
-        _ => false,
-    }
-}
-
 /// Appends the message of an id that has no meaning and its payload.
 fn put_unknown(text: &[u8], bytes: &mut Vec<u8>) -> Result<bool, AllocError>
     requires { length text.now < 2 ^ 32 }
     ensures { IfOk result (Adds (unknown_in text.now) bytes.old.items bytes.new.items) }
 {
     match number_following(text) {
-        Some((id, rest)) if id < 256 && !has_meaning(id as u8) => {
+        Some((id, rest)) if id < 256 && name_of(id as u8).is_none() => {
             put_bytes(id as u8, b"", rest, bytes)
         }
         _ => Ok(false),
-    }
-}
-
-/// Returns the id of a name, and the shape of its fields.
-pub(crate) fn row_of(name: &[u8]) -> Option<(u8, Shape)>
-    ensures { result ≡ option_map (λ i. (i.number, i.kind.shape)) (row_named name.now ids) }
-{
-    if is(name, b"choke") {
-        Some((0, Shape::Nothing))
-    } else if is(name, b"unchoke") {
-        Some((1, Shape::Nothing))
-    } else if is(name, b"interested") {
-        Some((2, Shape::Nothing))
-    } else if is(name, b"not-interested") {
-        Some((3, Shape::Nothing))
-    } else if is(name, b"have") {
-        Some((4, Shape::Index))
-    } else if is(name, b"bitfield") {
-        Some((5, Shape::Field))
-    } else if is(name, b"request") {
-        Some((6, Shape::Part))
-    } else if is(name, b"piece") {
-        Some((7, Shape::Block))
-    } else if is(name, b"cancel") {
-        Some((8, Shape::Part))
-    } else if is(name, b"port") {
-        Some((9, Shape::Port))
-    } else if is(name, b"suggest") {
-        Some((13, Shape::Index))
-    } else if is(name, b"have-all") {
-        Some((14, Shape::Nothing))
-    } else if is(name, b"have-none") {
-        Some((15, Shape::Nothing))
-    } else if is(name, b"reject") {
-        Some((16, Shape::Part))
-    } else if is(name, b"allowed-fast") {
-        Some((17, Shape::Index))
-    } else if is(name, b"extended") {
-        Some((20, Shape::Extended))
-    } else {
-        None
     }
 }
 
@@ -287,7 +232,7 @@ fn put_named(name: &[u8], rest: &[u8], bytes: &mut Vec<u8>) -> Result<bool, Allo
     requires { length rest.now < 2 ^ 32 }
     ensures { IfOk result (Adds (option_and_then (row_in_text rest.now) (row_named name.now ids)) bytes.old.items bytes.new.items) }
 {
-    match row_of(name) {
+    match named(name) {
         Some((id, shape)) => put_fields(shape, id, rest, bytes),
         None => Ok(false),
     }

@@ -5,16 +5,17 @@
 ghost use Rattle.std.specs.Prelude.{◌≡◌, ◌≤◌, ◌+◌, ◌-◌, ◌*◌, ◌^◌, ◌++◌, length, take, min, codes, decimal, vec_len, unwrap_or, IfOk, OnOk};
 ghost use Rattle.hex.specs.Hex.{encode_lower};
 ghost use Rattle.bt_ext.specs.Payloads.{ext_id, payload_of, seen as seen_ext};
-ghost use Rattle.bt_wire.specs.Messages.{message_of};
+ghost use Rattle.bt_wire.specs.Messages.{message_of, seen};
 ghost use Rattle.bt_wire.specs.declared.context.Own.{Own as Receiver};
 ghost use Rattle.bt_wire.specs.declared.item.Item.TheVariants as items;
 ghost use Rattle.bt_text.specs.Lines.{spaced, handshake_words};
-ghost use Rattle.bt_text.specs.Script.{spaced_hex, script_line, kept as kept_of};
+ghost use Rattle.bt_text.specs.Script.{spaced_hex, script_fields, bytes_in, script_line, kept as kept_of};
 
+use crate::content::{Content, content_of};
 use crate::putting::{put_number, put_word};
-use crate::words::put_words;
+use crate::words::{self, put_front};
 use bt_ext::{ExtView, Registered};
-use bt_wire::{Handshake, MessageView, Own};
+use bt_wire::{Fields, Handshake, MessageView, Own};
 use std::alloc::AllocError;
 
 /// How many bytes of room the line of a handshake needs.
@@ -49,23 +50,22 @@ fn put_bytes(front: &[u8], rest: &[u8], text: &mut [u8], at: usize) -> usize
     put_word(b"\n", text, place)
 }
 
-/// Puts a name, an id, the bytes of its payload and the line's end.
+/// Puts the words of fields, with their bytes in hex, and the line's end.
 #[inline(always)]
-fn put_payload<const N: usize>(
-    name: &[u8; N],
-    id: u8,
-    front: &[u8],
-    rest: &[u8],
-    text: &mut [u8],
-    at: usize,
-) -> usize
-    requires { at + (23 + length name.now + 2 * (length front.now + length rest.now)) ≤ length text.old }
+fn put_fields(fields: &Fields, text: &mut [u8], at: usize) -> usize
+    requires { at + (64 + 2 * length (bytes_in (seen fields.now))) ≤ length text.old }
     ensures size { length text.new ≡ length text.old }
-    ensures text { take result text.new ≡ take at text.old ++ (name.now ++ (decimal id ++ (spaced_hex (front.now ++ rest.now) ++ codes "\n"))) }
+    ensures text { take result text.new ≡ take at text.old ++ (script_fields (seen fields.now) ++ codes "\n") }
 {
-    let place = put_word(name, text, at);
-    let place = put_number(u64::from(id), text, place);
-    put_bytes(front, rest, text, place)
+    match fields {
+        Fields::Field(bytes) | Fields::Payload(bytes) => put_bytes(b"", bytes, text, at),
+        Fields::Block {
+            index,
+            begin,
+            block,
+        } => put_block(*index, *begin, block, text, at),
+        _ => words::put_fields(fields, text, at),
+    }
 }
 
 /// Puts the words of a block and the line's end.
@@ -73,24 +73,13 @@ fn put_payload<const N: usize>(
 fn put_block(index: u32, begin: u32, block: &[u8], text: &mut [u8], at: usize) -> usize
     requires { at + (50 + 2 * length block.now) ≤ length text.old }
     ensures size { length text.new ≡ length text.old }
-    ensures text { take result text.new ≡ take at text.old ++ (codes "piece " ++ (decimal index ++ (spaced begin ++ (spaced_hex block.now ++ codes "\n")))) }
+    ensures text { take result text.new ≡ take at text.old ++ ((spaced index ++ (spaced begin ++ spaced_hex block.now)) ++ codes "\n") }
 {
-    let place = put_word(b"piece ", text, at);
+    let place = put_word(b" ", text, at);
     let place = put_number(u64::from(index), text, place);
     let place = put_word(b" ", text, place);
     let place = put_number(u64::from(begin), text, place);
     put_bytes(b"", block, text, place)
-}
-
-/// Puts the words of a bitfield and the line's end.
-#[inline(always)]
-fn put_bitfield(bits: &[u8], text: &mut [u8], at: usize) -> usize
-    requires { at + (11 + 2 * length bits.now) ≤ length text.old }
-    ensures size { length text.new ≡ length text.old }
-    ensures text { take result text.new ≡ take at text.old ++ (codes "bitfield" ++ (spaced_hex bits.now ++ codes "\n")) }
-{
-    let place = put_word(b"bitfield", text, at);
-    put_bytes(b"", bits, text, place)
 }
 
 /// Returns the extended id of a payload; 0 if it has none.
@@ -114,61 +103,58 @@ fn extended_id(reg: Registered, payload: &ExtView) -> u8
     }
 }
 
-/// Puts the words of an extended message and the line's end.
+/// Puts an id, the bytes of its payload and the line's end.
+#[inline(always)]
+fn put_payload(id: u8, front: &[u8], rest: &[u8], text: &mut [u8], at: usize) -> usize
+    requires { at + (24 + 2 * (length front.now + length rest.now)) ≤ length text.old }
+    ensures size { length text.new ≡ length text.old }
+    ensures text { take result text.new ≡ take at text.old ++ ((spaced id ++ spaced_hex (front.now ++ rest.now)) ++ codes "\n") }
+{
+    let place = put_word(b" ", text, at);
+    let place = put_number(u64::from(id), text, place);
+    put_bytes(front, rest, text, place)
+}
+
+/// Puts the words of an extended payload and the line's end.
 #[inline(never)]
 fn put_extended(reg: Registered, payload: &ExtView, text: &mut [u8], at: usize) -> usize
     requires { at + (32 + 2 * length (payload_of (seen_ext payload.now))) ≤ length text.old }
     ensures size { length text.new ≡ length text.old }
-    ensures text { take result text.new ≡ take at text.old ++ (codes "extended " ++ (decimal (unwrap_or (ext_id reg (seen_ext payload.now)) 0)
-        ++ (spaced_hex (payload_of (seen_ext payload.now)) ++ codes "\n"))) }
+    ensures text { take result text.new ≡ take at text.old ++ ((spaced (unwrap_or (ext_id reg (seen_ext payload.now)) 0)
+        ++ spaced_hex (payload_of (seen_ext payload.now))) ++ codes "\n") }
 {
     let id = extended_id(reg, payload);
     match payload {
-        ExtView::Handshake { dict, rest } => {
-            put_payload(b"extended ", id, dict.spelled(), rest, text, at)
-        }
-        ExtView::Metadata { dict, rest } => {
-            put_payload(b"extended ", id, dict.spelled(), rest, text, at)
-        }
-        ExtView::DontHave(index) => {
-            put_payload(b"extended ", id, b"", &index.to_be_bytes(), text, at)
-        }
-        ExtView::Raw { payload, .. } => put_payload(b"extended ", id, b"", payload, text, at),
+        ExtView::Handshake { dict, rest } => put_payload(id, dict.spelled(), rest, text, at),
+        ExtView::Metadata { dict, rest } => put_payload(id, dict.spelled(), rest, text, at),
+        ExtView::DontHave(index) => put_payload(id, b"", &index.to_be_bytes(), text, at),
+        ExtView::Raw { payload, .. } => put_payload(id, b"", payload, text, at),
     }
 }
 
-/// Returns how many bytes a message keeps, of one that may keep some.
+/// Returns how many bytes an extended payload has after its id.
 #[inline(never)]
-fn kept_bytes(view: &MessageView) -> usize
-    ensures { result ≡ kept_of (message_of view.now) }
+fn payload_length(payload: &ExtView) -> usize
+    ensures { result ≡ length (payload_of (seen_ext payload.now)) }
 {
-    match view {
-        MessageView::Bitfield(bits) => bits.len(),
-        MessageView::Piece { block, .. } => block.len(),
-        MessageView::Extended(ExtView::Handshake { dict, rest }) => dict.spelled().len()
-            + rest.len(),
-        MessageView::Extended(ExtView::Metadata { dict, rest }) => dict.spelled().len()
-            + rest.len(),
-        MessageView::Extended(ExtView::DontHave(_)) => 4,
-        MessageView::Extended(ExtView::Raw { payload, .. }) => payload.len(),
-        MessageView::Unknown { payload, .. } => payload.len(),
-        _ => 0,
+    match payload {
+        ExtView::Handshake { dict, rest } => dict.spelled().len() + rest.len(),
+        ExtView::Metadata { dict, rest } => dict.spelled().len() + rest.len(),
+        ExtView::DontHave(_) => 4,
+        ExtView::Raw { payload, .. } => payload.len(),
     }
 }
 
 /// Returns how many bytes a message keeps.
-///
-/// For most messages it does so without a jump by their kind.
 #[inline(always)]
 fn kept(view: &MessageView) -> usize
     ensures { result ≡ kept_of (message_of view.now) }
 {
-    match view {
-        MessageView::Bitfield(_)
-        | MessageView::Piece { .. }
-        | MessageView::Extended(_)
-        | MessageView::Unknown { .. } => kept_bytes(view),
-        _ => 0,
+    match content_of(view) {
+        Content::Fields(Fields::Block { block, .. }) => block.len(),
+        Content::Fields(Fields::Field(bytes) | Fields::Payload(bytes)) => bytes.len(),
+        Content::Fields(_) => 0,
+        Content::Extended(payload) => payload_length(payload),
     }
 }
 
@@ -190,23 +176,10 @@ pub fn put_message_line(own: &Own, view: &MessageView, text: &mut [u8], at: usiz
     ensures size { length text.new ≡ length text.old }
     ensures text { take result text.new ≡ take at text.old ++ script_line own.now (items.Message (message_of view.now)) }
 {
-    match view {
-        MessageView::Bitfield(bits) => put_bitfield(bits, text, at),
-        MessageView::Piece {
-            index,
-            begin,
-            block,
-        } => put_block(*index, *begin, block, text, at),
-        MessageView::Extended(payload) => put_extended(own.reg, payload, text, at),
-        MessageView::Unknown { id, payload } => put_payload(
-            b"unknown ",
-            *id,
-            b"",
-            payload,
-            text,
-            at,
-        ),
-        _ => put_words(view, text, at),
+    let place = put_front(view, text, at);
+    match content_of(view) {
+        Content::Fields(fields) => put_fields(&fields, text, place),
+        Content::Extended(payload) => put_extended(own.reg, payload, text, place),
     }
 }
 

@@ -11,7 +11,7 @@ regrouped o a n d r z s w u e = simp append_assoc
 
 pub returns-clause-text : goal.returns-clause-text
 returns-clause-text g c = λ counted bytes same.
-    let t = g.D.Dictionary.tree c.args.dict.now in
+    let t = g.D.Dict.tree c.args.dict in
     rw c.put_announced.ensures.text (rw c.put_number-place-2.ensures.text (rw c.put_word-place-2.ensures.text
     (rw c.put_number-place.ensures.text (rw c.put_word-place.ensures.text (rw c.announced-id.ensures.id
     (rw c.announced-id.ensures.size (rw (c.length.ensures counted) (rw (← same)

@@ -8,6 +8,6 @@ regrouped o a n p t r e = simp append_assoc
 
 pub returns-in-Data-clause-text : goal.returns-in-Data-clause-text
 returns-in-Data-clause-text g c = λ counted bytes same.
-    rw (← c.kind.ensures, c.in-Data.is, same, c.put_three.ensures.text, c.from-in-Data.ensures)
+    rw (← c.kind_in.ensures, c.in-Data.is, same, c.put_three.ensures.text, c.from-in-Data.ensures)
     (regrouped (take c.args.at c.args.text.now) (codes " ") (codes "metadata-data") (decimal c.in-Data.piece) (decimal c.in-Data.total)
     (decimal c.args.rest) (codes "\n"))
