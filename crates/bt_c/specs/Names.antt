@@ -1,6 +1,6 @@
 -- The names of items and of reasons, and how they are handed to C.
-use Rattle.std.specs.Prelude.{◌≡◌, ◌==◌, ℕ, ◌+◌, ◌<◌, ◌≤◌, List, ◌∷◌, ◌++◌, length, drop, codes, option_map, unwrap_or, if◌then◌else◌}
-use Rattle.bt_wire.specs.Ids.{ids, row_in}
+use Rattle.std.specs.Prelude.{◌≡◌, ◌==◌, ℕ, ◌+◌, ◌<◌, ◌≤◌, List, ◌∷◌, ◌++◌, length, drop, codes, unwrap_or, if◌then◌else◌}
+use Rattle.bt_wire.specs.Ids.{name_of}
 
 -- the kinds of extended messages
 abbrev pub extended_name : ℕ → List ℕ
@@ -18,7 +18,7 @@ abbrev pub item_name : ℕ → ℕ → List ℕ
 item_name id kind =
     if id == 257 then codes "handshake" else
     (if id == 256 then codes "keep-alive" else
-    (if id == 20 then extended_name kind else unwrap_or (option_map (λ i. i.name) (row_in id ids)) (codes "unknown")))
+    (if id == 20 then extended_name kind else unwrap_or (name_of id) (codes "unknown")))
 
 -- a text with a zero after it, where there is room for both
 pub record IsPut (name old new : List ℕ) : Type 0 where

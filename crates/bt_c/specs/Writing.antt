@@ -41,6 +41,10 @@ head_by (Some Extended) i = i.extended_id ∷ []
 abbrev pub id_in : BtItem → Option ℕ
 id_in i = if i.id == 256 then None else Some i.id
 
+-- the id and the numbers; nothing for the keep-alive
+abbrev pub begin_of : BtItem → List ℕ
+begin_of i = framed (id_in i) (head_by (shape_by (kind_of i.id)) i)
+
 -- the id, the numbers that it has, and the bytes; nothing for the keep-alive
 abbrev pub rest_of : BtItem → List ℕ → List ℕ
 rest_of i bytes = framed (id_in i) (head_by (shape_by (kind_of i.id)) i ++ bytes)

@@ -1,5 +1,5 @@
 //! The names of items and of reasons as text of C.
-ghost use Rattle.std.specs.Prelude.{◌≡◌, ◌≤◌, ◌<◌, length, None, IfSome};
+ghost use Rattle.std.specs.Prelude.{◌≡◌, ◌<◌, length, None, IfSome};
 ghost use Rattle.bt_wire.specs.Reasons.{reason_name};
 ghost use Rattle.bt_c.specs.Names.{extended_name, item_name, IsPut};
 ghost use Rattle.bt_c.specs.Readers.{reason_number};
@@ -7,7 +7,7 @@ ghost use Rattle.bt_wire.specs.declared.fault.Reason.{Reason};
 
 use crate::item::BtItem;
 use bt_bencode::put_bytes;
-use bt_wire::Reason;
+use bt_wire::{Reason, name_of};
 
 /// Writes the name of a reason's number, as `WrongLength`, and a zero after it.
 ///
@@ -62,51 +62,37 @@ pub extern "C" fn bt_item_name(item: &BtItem, text: &mut [u8]) -> usize
     ensures length { result ≡ length (item_name item.now.id item.now.extended.kind) }
     ensures text { IsPut (item_name item.now.id item.now.extended.kind) text.old text.new }
 {
-    put_name(name_at(item.id, item.extended.kind), text)
+    put_name(name_at(item.id, item.extended.kind).as_bytes(), text)
 }
 
-/// The name of an item.
-fn name_at(id: u16, kind: u8) -> &'static [u8]
-    ensures name { result.now ≡ item_name id kind }
-    ensures short { length result.now ≤ 20 }
+/// Returns the name of an item.
+fn name_at(id: u16, kind: u8) -> &'static str
+    ensures { result.now ≡ item_name id kind }
 {
     match id {
-        0 => b"choke",
-        1 => b"unchoke",
-        2 => b"interested",
-        3 => b"not-interested",
-        4 => b"have",
-        5 => b"bitfield",
-        6 => b"request",
-        7 => b"piece",
-        8 => b"cancel",
-        9 => b"port",
-        13 => b"suggest",
-        14 => b"have-all",
-        15 => b"have-none",
-        16 => b"reject",
-        17 => b"allowed-fast",
         20 => extended_name(kind),
-        256 => b"keep-alive",
-        257 => b"handshake",
-        _ => b"unknown",
+        256 => "keep-alive",
+        257 => "handshake",
+        _ => match u8::try_from(id) {
+            Ok(id) => name_of(id).unwrap_or("unknown"),
+            Err(_) => "unknown",
+        },
     }
 }
 
-/// The name of a kind of extended messages.
-fn extended_name(kind: u8) -> &'static [u8]
-    ensures name { result.now ≡ extended_name kind }
-    ensures short { length result.now ≤ 20 }
+/// Returns the name of a kind of extended messages.
+fn extended_name(kind: u8) -> &'static str
+    ensures { result.now ≡ extended_name kind }
 {
     match kind {
-        1 => b"ext-handshake",
-        2 => b"metadata-request",
-        3 => b"metadata-data",
-        4 => b"metadata-reject",
-        5 => b"metadata-other",
-        6 => b"metadata-malformed",
-        8 => b"donthave",
-        _ => b"extended",
+        1 => "ext-handshake",
+        2 => "metadata-request",
+        3 => "metadata-data",
+        4 => "metadata-reject",
+        5 => "metadata-other",
+        6 => "metadata-malformed",
+        8 => "donthave",
+        _ => "extended",
     }
 }
 

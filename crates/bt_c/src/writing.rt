@@ -7,17 +7,22 @@ ghost use Rattle.bt_ext.specs.Ids.{metadata_only};
 ghost use Rattle.bt_ext.specs.Made.{IsMade, message_tree, handshake_tree};
 ghost use Rattle.bt_wire.specs.Handshakes.{hand};
 ghost use Rattle.bt_wire.specs.Ids.{kind_of, shape_by};
+ghost use Rattle.bt_wire.specs.Messages.{seen, spell_fields};
+ghost use Rattle.bt_wire.specs.Numbers.{be32};
 ghost use Rattle.bt_c.specs.Readers.{context_of, flagged, is_on};
 ghost use Rattle.bt_c.specs.declared.item.BtItem.{BtItem};
 ghost use Rattle.bt_ext.specs.declared.metadata.Kind.{Kind};
-ghost use Rattle.bt_c.specs.Writing.{handshake_of as handshake_by, peer_context, head_by, rest_of, message_bytes, DoesNotFit, Writes, made_kind, IsExtendedItem};
+ghost use Rattle.bt_c.specs.Writing.{handshake_of as handshake_by, peer_context, id_in, head_by, begin_of, rest_of, message_bytes, DoesNotFit, Writes, made_kind, IsExtendedItem};
 
 use crate::item::{BtItem, bare, shape_of};
 use crate::reader::{BtReader, flag_of, next_item};
 use crate::receiver::{BtOwn, id_of, own_of};
 use bt_bencode::put_bytes;
 use bt_ext::{DictText, Kind, Registered, handshake_text, message_text};
-use bt_wire::{Handshake, Reserved, Shape, negotiate, spell_handshake};
+use bt_wire::{
+    Fields, Handshake, Head, Reserved, Shape, head_and_tail, negotiate, spell_handshake,
+};
+use std::slice::from_ref;
 
 /// Nothing is written.
 const UNWRITTEN: u32 = 4;
@@ -143,29 +148,62 @@ fn size_of(message: &BtItem, front: &[u8], back: &[u8], room: usize) -> Option<u
 
 /// How many bytes follow the length.
 fn rest_length(message: &BtItem, front: &[u8], back: &[u8]) -> u64
-    requires { length front.now ≤ 220 }
+    requires id { message.now.id ≤ 256 }
+    requires short { length front.now ≤ 220 }
     ensures value { result ≡ length (rest_of message.now (front.now ++ back.now)) }
     ensures small { result < 2 ^ 64 - 4 }
 {
+    let (head, tail) = head_of(message, 0);
+    let count = (head.as_slice().len() + tail.len()) as u64 - 4;
     if message.id == KEEP_ALIVE {
-        return 0;
+        return count;
     }
-    1 + head_length(shape_of(message.id)) as u64 + front.len() as u64 + back.len() as u64
+    count + front.len() as u64 + back.len() as u64
 }
 
-/// How many bytes the numbers of a shape have.
-fn head_length(shape: Option<Shape>) -> usize
-    ensures value { (message : BtItem) → result ≡ length (head_by shape message) }
-    ensures small { result ≤ 12 }
+/// Returns the numbers of an item as fields without bytes. Of an extended message the number is its extended id.
+fn numbers_of(message: &BtItem) -> Fields<'_>
+    ensures { spell_fields (seen result) ≡ head_by (shape_by (kind_of message.now.id)) message.now }
 {
-    match shape {
-        None | Some(Shape::Nothing) | Some(Shape::Field) => 0,
-        Some(Shape::Index) => 4,
-        Some(Shape::Part) => 12,
-        Some(Shape::Block) => 8,
-        Some(Shape::Port) => 2,
-        Some(Shape::Extended) => 1,
+    match shape_of(message.id) {
+        None | Some(Shape::Nothing) | Some(Shape::Field) => Fields::Nothing,
+        Some(Shape::Index) => Fields::Index(message.index),
+        Some(Shape::Part) => Fields::Part {
+            index: message.index,
+            begin: message.begin,
+            length: message.length,
+        },
+        Some(Shape::Block) => Fields::Block {
+            index: message.index,
+            begin: message.begin,
+            block: &[],
+        },
+        Some(Shape::Port) => Fields::Port(message.port),
+        Some(Shape::Extended) => Fields::Payload(from_ref(&message.extended_id)),
     }
+}
+
+/// Returns the id of an item; `None` for a keep-alive.
+fn wire_id(message: &BtItem) -> Option<u8>
+    requires { message.now.id ≤ 256 }
+    ensures { result ≡ id_in message.now }
+{
+    if message.id == KEEP_ALIVE {
+        None
+    } else {
+        Some(message.id as u8)
+    }
+}
+
+/// Encodes a message up to the bytes that it keeps, with this length prefix.
+#[tactic(auto, using(crate::proofs::WriteLaws::begin_short))]
+fn head_of(message: &BtItem, prefix: u32) -> (Head, &[u8])
+    requires { message.now.id ≤ 256 }
+    ensures bytes { result.0 ++ result.1.now ≡ be32 prefix ++ begin_of message.now }
+    ensures size { length result.0 + length result.1.now ≡ 4 + length (begin_of message.now) }
+    ensures small { length (begin_of message.now) ≤ 13 }
+{
+    head_and_tail(prefix, wire_id(message), &numbers_of(message))
 }
 
 /// Puts a message into the first `size` bytes.
@@ -176,60 +214,26 @@ fn put_message(message: &BtItem, front: &[u8], back: &[u8], out: &mut [u8], size
     ensures len { length out.new ≡ length out.old }
     ensures text { out.new ≡ message_bytes message.now (front.now ++ back.now) ++ drop size out.old }
 {
-    put_rest(message, front, back, out, size);
-    let length = (size - 4) as u32;
-    put_bytes(&length.to_be_bytes(), out, 4);
+    let (head, tail) = head_of(message, (size - 4) as u32);
+    let place = put_kept(message, front, back, out, size);
+    let place = put_bytes(tail, out, place);
+    put_bytes(head.as_slice(), out, place);
 }
 
-/// Puts the id, the numbers and the bytes of a message before the place.
-fn put_rest(message: &BtItem, front: &[u8], back: &[u8], out: &mut [u8], at: usize)
-    requires id { message.now.id ≤ 256 }
+/// Puts the bytes that a message keeps before the place; a keep-alive keeps none.
+#[tactic(auto, using(crate::proofs::WriteLaws::rest_kept, crate::proofs::WriteLaws::rest_idle))]
+fn put_kept(message: &BtItem, front: &[u8], back: &[u8], out: &mut [u8], at: usize) -> usize
     requires size { at ≡ 4 + length (rest_of message.now (front.now ++ back.now)) }
     requires room { at ≤ length out.old }
+    ensures room { result ≡ 4 + length (begin_of message.now) }
     ensures len { length out.new ≡ length out.old }
-    ensures text { drop 4 out.new ≡ rest_of message.now (front.now ++ back.now) ++ drop at out.old }
+    ensures text { begin_of message.now ++ drop result out.new ≡ rest_of message.now (front.now ++ back.now) ++ drop at out.old }
 {
     if message.id == KEEP_ALIVE {
-        return;
+        return at;
     }
-    let place = put_kept(front, back, out, at);
-    let place = put_head(shape_of(message.id), message, out, place);
-    put_bytes(&[message.id as u8], out, place);
-}
-
-/// Puts the bytes that a message keeps before the place.
-fn put_kept(front: &[u8], back: &[u8], out: &mut [u8], at: usize) -> usize
-    requires { (length (front.now ++ back.now) ≤ at) × (at ≤ length out.old) }
-    ensures room { result + length (front.now ++ back.now) ≡ at }
-    ensures len { length out.new ≡ length out.old }
-    ensures text { drop result out.new ≡ (front.now ++ back.now) ++ drop at out.old }
-{
     let place = put_bytes(back, out, at);
     put_bytes(front, out, place)
-}
-
-/// Puts the numbers of a message before the place.
-fn put_head(shape: Option<Shape>, message: &BtItem, out: &mut [u8], at: usize) -> usize
-    requires { (length (head_by shape message.now) ≤ at) × (at ≤ length out.old) }
-    ensures room { result + length (head_by shape message.now) ≡ at }
-    ensures len { length out.new ≡ length out.old }
-    ensures text { drop result out.new ≡ head_by shape message.now ++ drop at out.old }
-{
-    match shape {
-        None | Some(Shape::Nothing) | Some(Shape::Field) => at,
-        Some(Shape::Index) => put_bytes(&message.index.to_be_bytes(), out, at),
-        Some(Shape::Part) => {
-            let place = put_bytes(&message.length.to_be_bytes(), out, at);
-            let place = put_bytes(&message.begin.to_be_bytes(), out, place);
-            put_bytes(&message.index.to_be_bytes(), out, place)
-        }
-        Some(Shape::Block) => {
-            let place = put_bytes(&message.begin.to_be_bytes(), out, at);
-            put_bytes(&message.index.to_be_bytes(), out, place)
-        }
-        Some(Shape::Port) => put_bytes(&message.port.to_be_bytes(), out, at),
-        Some(Shape::Extended) => put_bytes(&[message.extended_id], out, at),
-    }
 }
 
 /// The numbers of an extended message.

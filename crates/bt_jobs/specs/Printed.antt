@@ -18,14 +18,14 @@ use Rattle.bt_jobs.specs.declared.printer.Form.{Form}
 use Rattle.bt_jobs.specs.declared.printer.Form.TheVariants as form
 use Rattle.bt_jobs.specs.declared.printer.Printer.{Printer}
 use Rattle.bt_text.specs.Lines.{line, ended_as, verdict_line}
-use Rattle.bt_json.specs.Objects.{line as json_line, verdict_line as json_verdict_line}
+use Rattle.bt_json.specs.Objects.{item_line as json_line, verdict_line as json_verdict_line}
 use Rattle.bt_text.specs.Script.{script_line, script}
 
 -- ---- the text of items
 
 abbrev pub text_of : Form → Own → ℕ × Item → List ℕ
 text_of form.Show own x = line own x
-text_of form.Json own x = json_line own x
+text_of form.Json own x = json_line x
 text_of (form.Unpack receiver) own x = script_line receiver x.1
 
 -- the text of a verdict; a script has none

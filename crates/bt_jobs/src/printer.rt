@@ -8,7 +8,7 @@ ghost use Rattle.bt_wire.specs.declared.item.Item.TheVariants as items;
 ghost use Rattle.bt_wire.specs.Messages.{message_of};
 ghost use Rattle.bt_text.specs.Script.{script_line};
 ghost use Rattle.bt_text.specs.Lines.{item_line, verdict_line as verdict_words};
-ghost use Rattle.bt_json.specs.Objects.{line as object_of, verdict_line as verdict_object};
+ghost use Rattle.bt_json.specs.Objects.{item_line as object_of, verdict_line as verdict_object};
 ghost use Rattle.bt_jobs.specs.Printed.{IsFlushed, Prints, form_of, text_in, text_of};
 ghost use Rattle.bt_jobs.specs.declared.printer.Form.TheVariants as shape;
 
@@ -123,7 +123,7 @@ fn push_verdict(ended: Ended, text: &mut Vec<u8>, used: usize) -> Result<usize, 
 
 /// Adds the object of an item.
 fn push_object(alloc: Global, at: u64, view: &View, text: &mut Vec<u8>) -> Result<(), AllocError>
-    ensures { OnOk result ((own : Receiver) → text.new.items ≡ text.old.items ++ object_of own (at, item_of view.now)) }
+    ensures { OnOk result (text.new.items ≡ text.old.items ++ object_of (at, item_of view.now)) }
 {
     match view {
         View::Handshake(handshake) => bt_json::handshake_line(alloc, at, handshake, text),
@@ -140,7 +140,7 @@ fn add_object(
     text: &mut Vec<u8>,
     used: usize,
 ) -> Result<usize, AllocError>
-    ensures { IfOk result (λ n. (own : Receiver) → take n text.new.items ≡ take used text.old.items ++ object_of own (at, item_of view.now)) }
+    ensures { IfOk result (λ n. take n text.new.items ≡ take used text.old.items ++ object_of (at, item_of view.now)) }
 {
     text.truncate(used);
     match push_object(alloc, at, view, text) {
@@ -179,78 +179,6 @@ fn add_message(
     }
 }
 
-/// Returns the same message.
-#[inline(always)]
-fn copied_message<'a>(message: &MessageView<'a>) -> MessageView<'a>
-    ensures { message_of result ≡ message_of message.now }
-{
-    match message {
-        MessageView::KeepAlive => MessageView::KeepAlive,
-        MessageView::Choke => MessageView::Choke,
-        MessageView::Unchoke => MessageView::Unchoke,
-        MessageView::Interested => MessageView::Interested,
-        MessageView::NotInterested => MessageView::NotInterested,
-        MessageView::Have(index) => MessageView::Have(*index),
-        MessageView::Bitfield(bits) => MessageView::Bitfield(bits),
-        MessageView::Request {
-            index,
-            begin,
-            length,
-        } => MessageView::Request {
-            index: *index,
-            begin: *begin,
-            length: *length,
-        },
-        MessageView::Piece {
-            index,
-            begin,
-            block,
-        } => MessageView::Piece {
-            index: *index,
-            begin: *begin,
-            block,
-        },
-        MessageView::Cancel {
-            index,
-            begin,
-            length,
-        } => MessageView::Cancel {
-            index: *index,
-            begin: *begin,
-            length: *length,
-        },
-        MessageView::Port(port) => MessageView::Port(*port),
-        MessageView::Suggest(index) => MessageView::Suggest(*index),
-        MessageView::HaveAll => MessageView::HaveAll,
-        MessageView::HaveNone => MessageView::HaveNone,
-        MessageView::Reject {
-            index,
-            begin,
-            length,
-        } => MessageView::Reject {
-            index: *index,
-            begin: *begin,
-            length: *length,
-        },
-        MessageView::AllowedFast(index) => MessageView::AllowedFast(*index),
-        MessageView::Extended(payload) => MessageView::Extended(*payload),
-        MessageView::Unknown { id, payload } => MessageView::Unknown { id: *id, payload },
-    }
-}
-
-/// Returns the same item, in a place of its own.
-///
-/// A call that is handed this one leaves the parts of the other in registers.
-#[inline(always)]
-fn copied<'a>(view: &View<'a>) -> View<'a>
-    ensures { item_of result ≡ item_of view.now }
-{
-    match view {
-        View::Handshake(handshake) => View::Handshake(*handshake),
-        View::Message(message) => View::Message(copied_message(message)),
-    }
-}
-
 /// Adds the script's line of an item to what is used of the text; returns how much is used then.
 #[inline(never)]
 fn add_script(own: &Own, view: &View, text: &mut Vec<u8>, used: usize) -> Result<usize, AllocError>
@@ -275,11 +203,10 @@ fn add_other(
     requires { form ≢ shape.Show }
     ensures { IfOk result (λ n. (own : Receiver) → take n text.new.items ≡ take used text.old.items ++ text_of form own (at, item_of view.now)) }
 {
-    let view = copied(view);
     match form {
         Form::Show => unreachable!(),
-        Form::Json => add_object(alloc, at, &view, text, used),
-        Form::Unpack(own) => add_script(&own, &view, text, used),
+        Form::Json => add_object(alloc, at, view, text, used),
+        Form::Unpack(own) => add_script(&own, view, text, used),
     }
 }
 

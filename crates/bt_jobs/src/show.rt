@@ -164,7 +164,7 @@ pub fn run_json<R: Source, W: Target>(
     ensures unfailed { result ≢ Err ToolFault.Read → (R.seen reader.new).failed ≡ (R.seen reader.old).failed }
     ensures reads { (R.seen reader.new).reads ≤ (R.seen reader.old).reads + 2 ^ 32 }
     ensures needed { (before : R) × IsUnrefused own.now (R.seen reader.old).left (R.seen before).left × ((R.seen reader.new).reads ≤ (R.seen before).reads + 1) }
-    ensures shown { IsWritten (items_in shape.Json own.now) (json_lines_of own.now) own.now (devices (R.seen reader.old) (W.seen writer.old)) (devices (R.seen reader.new) (W.seen writer.new)) result }
+    ensures shown { IsWritten (items_in shape.Json own.now) json_lines_of own.now (devices (R.seen reader.old) (W.seen writer.old)) (devices (R.seen reader.new) (W.seen writer.new)) result }
     ensures faults { IsEndOfReads result (R.seen reader.old) (R.seen reader.new) }
     ensures write { result ≡ Err ToolFault.Write → WriteFailed (W.seen writer.old) (W.seen writer.new) }
 {

@@ -34,13 +34,7 @@ fn kind_and_one(name: &str, field: &str, n: u64, out: &mut Writer) -> Result<(),
 }
 
 /// Adds an index, a begin and a third number.
-fn put_part(
-    index: u32,
-    begin: u32,
-    field: &str,
-    n: u64,
-    out: &mut Writer,
-) -> Result<(), AllocError>
+fn put_part(index: u32, begin: u32, field: &str, n: u64, out: &mut Writer) -> Result<(), AllocError>
     ensures tokens { OnOk result (out.new.tokens ≡ out.old.tokens ++ (a_number (codes "index") index ++ (a_number (codes "begin") begin ++ a_number field.now n))) }
     ensures before { out.new.before ≡ out.old.before }
 {

@@ -1,22 +1,10 @@
 //! Numbers, names and hex appended to a text.
-ghost use Rattle.std.specs.Prelude.{◌≡◌, ◌++◌, decimal, OnOk};
+ghost use Rattle.std.specs.Prelude.{◌≡◌, ◌++◌, OnOk};
 ghost use Rattle.hex.specs.Hex.{encode_lower};
 ghost use Rattle.bt_text.specs.Lines.{spaced};
 
-use itoa::write_digits;
+pub use bt_text::putting::push_number;
 use std::alloc::AllocError;
-
-/// Appends a number.
-///
-/// # Errors
-/// `AllocError` when out of memory.
-pub fn push_number(n: u64, text: &mut Vec<u8>) -> Result<(), AllocError>
-    ensures { OnOk result (text.new.items ≡ text.old.items ++ decimal n) }
-{
-    let mut digits = [0u8; 20];
-    let place = write_digits(n, &mut digits, 20);
-    text.extend_from_slice(&digits[place..])
-}
 
 /// Appends a space and a number.
 ///

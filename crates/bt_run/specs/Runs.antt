@@ -23,7 +23,7 @@ use Rattle.bt_run.specs.Commands.{status_of, pack_status_of}
 -- the job's command writes its output for this receiver, and ends so
 abbrev pub IsDone : Job → Own → Devices → Devices → JobEnd → Type 0
 IsDone Show own before after (Stream r) = IsWritten (items_in form.Show own) (lines_of own) own before after r
-IsDone Json own before after (Stream r) = IsWritten (items_in form.Json own) (json_lines_of own) own before after r
+IsDone Json own before after (Stream r) = IsWritten (items_in form.Json own) json_lines_of own before after r
 IsDone Check own before after (Stream r) = IsWritten nothing checked own before after r
 IsDone Unpack own before after (Stream r) = IsWritten (unpacked own) (unpacked own) own before after r
 IsDone Pack own before after (Stream r) = ⊥

@@ -80,7 +80,12 @@ fn row_of(id: u8) -> Option<Id>
         0 => row("choke", Shape::Nothing, Needs::Neither, Turn::Counted),
         1 => row("unchoke", Shape::Nothing, Needs::Neither, Turn::Counted),
         2 => row("interested", Shape::Nothing, Needs::Neither, Turn::Counted),
-        3 => row("not-interested", Shape::Nothing, Needs::Neither, Turn::Counted),
+        3 => row(
+            "not-interested",
+            Shape::Nothing,
+            Needs::Neither,
+            Turn::Counted,
+        ),
         4 => row("have", Shape::Index, Needs::Neither, Turn::Counted),
         5 => row("bitfield", Shape::Field, Needs::Neither, Turn::Opening),
         6 => row("request", Shape::Part, Needs::Neither, Turn::Counted),

@@ -1,10 +1,10 @@
 //! The line of a hint.
-ghost use Rattle.std.specs.Prelude.{◌≡◌, ◌++◌, decimal, IfOk, OnOk};
+ghost use Rattle.std.specs.Prelude.{◌≡◌, ◌++◌, IfOk, OnOk};
 ghost use Rattle.bt_run.specs.Hints.{hint_line as line_of, hint_words as words_of, kind_text as text_of};
 
 use crate::hint::finding::Hint;
 use crate::hint::kind::Kind;
-use itoa::write_digits;
+use bt_text::putting::push_number;
 use std::alloc::{AllocError, Global};
 
 /// Returns what a kind of file is called, and what reads it.
@@ -22,15 +22,6 @@ fn kind_text(kind: Kind) -> &'static [u8]
         Kind::Script => b"a script; this may read it: bt_tool pack < FILE | bt_tool show",
         Kind::Lines => b"the output of 'show', which nothing reads; 'unpack' keeps all bytes",
     }
-}
-
-/// Appends a number.
-fn push_number(n: u64, line: &mut Vec<u8>) -> Result<(), AllocError>
-    ensures { OnOk result (line.new.items ≡ line.old.items ++ decimal n) }
-{
-    let mut digits = [0u8; 20];
-    let place = write_digits(n, &mut digits, 20);
-    line.extend_from_slice(&digits[place..])
 }
 
 /// Appends a text.
