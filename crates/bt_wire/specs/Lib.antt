@@ -15,3 +15,4 @@ pub mod Fronts
 pub mod Laws
 pub mod Contexts
 pub mod Reasons
+pub mod Cursors

@@ -3,6 +3,7 @@
 #![tactic(auto)]
 
 mod context;
+mod cursor;
 mod decode;
 mod encoding;
 mod fault;
@@ -22,6 +23,7 @@ mod reserved;
 mod slices;
 
 pub use context::{Context, Order, Own, negotiate};
+pub use cursor::{Cursor, Found, Measure, Place, View, to_item};
 pub use decode::{copy_message, decode_window, dict_len, view_judged, view_window};
 pub use encoding::{encode, legal, legal_length};
 pub use fault::{DecodeError, EncodeError, Fault, Header, Reason, Refused};
