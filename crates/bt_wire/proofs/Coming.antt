@@ -1,7 +1,7 @@
 -- The outcome of bytes, by what they begin with.
-use Rattle.std.proofs.Common.{◌≡◌, ℕ, ◌+◌, ◌^◌, ◌≤◌, ◌<◌, false, List, ◌++◌, length, drop, Some, None, refl, sym, ap, subst, ◌∙◌, arith}
+use Rattle.std.proofs.Common.{◌≡◌, ℕ, ◌+◌, ◌^◌, ◌≤◌, ◌<◌, false, List, ◌++◌, length, take, drop, Some, None, refl, sym, ap, subst, ◌∙◌, arith}
 use Rattle.std.proofs.lemmas.Bool.{leb-false}
-use Rattle.std.proofs.lemmas.List.{drop_at}
+use Rattle.std.proofs.lemmas.List.{drop_at, drop-drop, length-take-le, take-append-drop}
 use Rattle.bt_wire.specs.declared.context.Order.TheVariants.{Fresh}
 use Rattle.bt_wire.specs.declared.fault.Refused.{Refused}
 use Rattle.bt_wire.specs.declared.item.Item.{Item}
@@ -55,3 +55,27 @@ open_comes (place.Handshake own) b lt e =
 open_comes (place.Message c o s n) b lt e =
     let parts = open_parts (place.Message c o s n) b e in
     nothing_said c o s n b None lt (record { fault = faults.unfinished parts.0 parts.1 refl; part = λ _. parts.1 })
+
+-- ---- a walk from item to item
+
+-- an item at this place of the stream
+pub item_then : (t : Place) {u : Place} {n : ℕ} {rest : List ℕ} (item : Item) (v : Outcome) (at : ℕ) (all : List ℕ) → limit_of t < 2 ^ 32 → rest ≡ drop at all → n ≤ length rest
+    → IsItem t (take n rest) item → u ≡ place_after t n item → Comes u (drop (at + n) all) v → Comes t (drop at all) (with_item (start_of t) item v)
+item_then t {u} {n} {rest} item v at all lt e le is next k =
+    let size : length (take n rest) ≡ n = length-take-le n rest le in
+    let later : drop (at + n) all ≡ drop n rest = sym (drop-drop n at all) ∙ ap (drop n) (sym e) in
+    let P : Place → Type 0 = λ x. Comes x (drop (at + n) all) v in
+    let Q : ℕ → Type 0 = λ k. Comes (place_after t k item) (drop (at + n) all) v in
+    let R : List ℕ → Type 0 = λ b. Comes (place_after t (length (take n rest)) item) b v in
+    let S : List ℕ → Type 0 = λ b. Comes t b (with_item (start_of t) item v) in
+    subst S (take-append-drop n rest ∙ e) (item_comes t (take n rest) (drop n rest) item v lt is (subst R later (subst Q (sym size) (subst P next k))))
+
+-- no item there
+pub fault_then : (t : Place) {rest : List ℕ} (f : Refused) (at : ℕ) (all : List ℕ) → limit_of t < 2 ^ 32 → rest ≡ drop at all → HasFault t rest f
+    → Comes t (drop at all) (stopped t rest (Some (refusal_of t f)))
+fault_then t {rest} f at all lt e h =
+    let P : List ℕ → Type 0 = λ b. Comes t b (stopped t rest (Some (refusal_of t f))) in subst P e (fault_comes t rest f lt h)
+
+pub open_then : (t : Place) {rest : List ℕ} (at : ℕ) (all : List ℕ) → limit_of t < 2 ^ 32 → rest ≡ drop at all → is_closed t rest ≡ false
+    → Comes t (drop at all) (stopped t rest None)
+open_then t {rest} at all lt e h = let P : List ℕ → Type 0 = λ b. Comes t b (stopped t rest None) in subst P e (open_comes t rest lt h)

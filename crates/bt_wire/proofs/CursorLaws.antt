@@ -15,12 +15,14 @@ use Rattle.bt_wire.proofs.Places.{fault_within, hand_within}
 use Rattle.bt_wire.proofs.WindowLaws.{early_header}
 use Rattle.bt_wire.specs.declared.cursor.Place.{Place}
 use Rattle.bt_wire.specs.declared.cursor.Place.TheVariants as place
-use Rattle.bt_wire.specs.Cursors.{early, is_all, is_closed, start_of, HasFault, IsItem, Awaits, IsAwaited, HasLength}
+use Rattle.bt_wire.specs.Cursors.{early, is_all, is_closed, start_of, limit_of, place_after, HasFault, IsItem, Awaits, IsAwaited, HasLength}
 use Rattle.bt_wire.specs.declared.context.Own.{Own}
 use Rattle.bt_wire.specs.declared.handshake.Handshake.{Handshake}
+use Rattle.bt_wire.specs.declared.item.Item.{Item}
 use Rattle.bt_wire.specs.declared.item.Item.TheVariants as items
 use Rattle.bt_wire.specs.Handshakes.{hand, hand_fault, IsHandshakeOf}
 use Rattle.bt_wire.specs.Headers.{IsRead}
+use Rattle.bt_wire.specs.Fronts.{BeginsBy}
 use Rattle.bt_wire.specs.Messages.{Message}
 use Rattle.bt_wire.proofs.Closed.{open_by, fault_more}
 use Rattle.bt_wire.proofs.HandLaws.{hand-length, hand_same}
@@ -175,3 +177,21 @@ pub early_refused : (c : Context) (o : Order) (s : ℕ) (b : List ℕ) (f : Refu
 early_refused c o s b f lt e =
     let j : header_fault c o b ≡ Some f = judged_at c o b (headers.Refused f.at f.reason) e in
     early_header c o s b lt ∙ j
+
+pub awaits_open : (t : Place) (b : List ℕ) (n : ℕ) → Awaits t b n → is_closed t b ≡ false
+awaits_open t b n h = ap (is_closed t) (sym (append-nil b)) ∙ h.opens [] (omega (arith, h.more))
+
+-- the message that the bytes begin with
+pub item_begins : (c : Context) (o : Order) (s i : ℕ) (b : List ℕ) (n : ℕ) (m : Message) → n ≤ length b
+    → IsItem (place.Message c o s i) (take n b) (items.Message m) → BeginsBy c o s b m n
+item_begins c o s i b n m le p = record {
+  said = p.0;
+  size = sym (length-take-le n b le) ∙ ap length p.1;
+  parts = sym (take-append-drop n b) ∙ ap (λ (z : List ℕ). z ++ drop n b) p.1;
+}
+
+pub limit_after : (t : Place) (n : ℕ) (item : Item) → limit_of (place_after t n item) ≡ limit_of t
+limit_after (place.Handshake own) n (items.Handshake h) = refl
+limit_after (place.Message c o s i) n (items.Message m) = refl
+limit_after (place.Handshake own) n (items.Message m) = refl
+limit_after (place.Message c o s i) n (items.Handshake h) = refl

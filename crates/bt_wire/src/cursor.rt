@@ -5,7 +5,6 @@ ghost use Rattle.bt_wire.specs.Cursors.{IsPlace, IsFound, IsItem, HasFault, WasF
 use crate::context::{Context, Order, Own, negotiate};
 use crate::decode::{copy_message, dict_len, view_judged, view_window};
 use crate::fault::{Header, Reason, Refused};
-use crate::front::END;
 use crate::handshake::{Handshake, fields_in, handshake_judged, judge_handshake};
 use crate::header::judge_header;
 use crate::item::{Item, Refusal};
@@ -13,6 +12,9 @@ use crate::message::MessageView;
 use crate::order::next_of_view;
 use std::alloc::{AllocError, Global};
 use std::marker::Model;
+
+/// The offset below which a message starts.
+const END: u64 = 1 << 62;
 
 /// What is awaited at a place on a stream: the handshake, or the message `number` at the offset `start`.
 #[derive(Clone, Copy, PartialEq, Eq)]

@@ -9,7 +9,6 @@ mod encoding;
 mod fault;
 mod fields;
 mod framing;
-mod front;
 mod handshake;
 mod head;
 mod header;
@@ -29,7 +28,6 @@ pub use encoding::{encode, legal, legal_length};
 pub use fault::{DecodeError, EncodeError, Fault, Header, Reason, Refused};
 pub use fields::Fields;
 pub use framing::frame;
-pub use front::{Front, read_front};
 pub use handshake::{
     Handshake, Opening, handshake_judged, judge_handshake, read_opening, spell_handshake,
 };
