@@ -4,6 +4,7 @@
 #![tactic(auto)]
 
 mod buffer;
+mod by_id;
 mod discard;
 mod feed;
 mod items;

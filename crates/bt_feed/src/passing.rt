@@ -6,6 +6,7 @@ ghost use Rattle.bt_io.specs.Counts.{Grew, counted};
 ghost use Rattle.bt_feed.specs.Pumps.{IsHanded, IsFed, IsOffered, IsPassed};
 ghost use Rattle.bt_feed.specs.Feeds.{waiting};
 
+use crate::by_id::pass_by_id;
 use crate::sink::{Sink, SinkFault};
 use crate::slices::suffix;
 use bt_wire::{Cursor, Found};
@@ -51,7 +52,7 @@ pub fn pass_items<S: Sink>(
 {
     let mut at = 0;
     'items: loop {
-        let (size, taken) = match pass_one(cursor, sink, suffix(piece, at)) {
+        let (size, taken) = match pass_by_id(cursor, sink, suffix(piece, at)) {
             Some(passed) => passed,
             None => return (at, Ok(())),
         };
