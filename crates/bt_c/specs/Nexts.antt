@@ -7,7 +7,7 @@ use Rattle.bt_wire.specs.declared.item.Item.TheVariants as items
 use Rattle.bt_wire.specs.Messages.{fields_of, spell}
 use Rattle.bt_feed.specs.Answers.{IsAnswer}
 use Rattle.bt_feed.specs.Feeds.{taken}
-use Rattle.bt_feed.specs.Stages.{start_of}
+use Rattle.bt_wire.specs.Cursors.{start_of}
 use Rattle.bt_end.specs.Events.{event_of}
 use Rattle.bt_end.specs.Halves.{HalfState, received, IsTurned}
 use Rattle.bt_end.specs.declared.end.Turn.{Turn}
@@ -55,7 +55,7 @@ LendsItem (items.Message msg) old new = (c : Context) → Lends (kept (fields_of
 -- what a turn of the end `a` tells: of an item, its numbers, its event and its bytes; of a refusal where and why
 abbrev pub Tells : HalfState → Result Turn TurnError → BtHeard → BtHeard → List ℕ → List ℕ → Type 0
 Tells a (Ok Handled) x y old new =
-    (item : Item) × IsAnswer a.feed (Ok (Some item)) × ShowsItem y.item (start_of a.feed.stage) item × ShowsEvent y.event (event_of a.end item)
+    (item : Item) × IsAnswer a.feed (Ok (Some item)) × ShowsItem y.item (start_of a.feed.place) item × ShowsEvent y.event (event_of a.end item)
     × LendsItem item old new × (y.verdict ≡ x.verdict)
 Tells a turn x y old new = (y.item ≡ x.item) × (y.event ≡ x.event) × ShowsTurn turn x.verdict y.verdict × (new ≡ old)
 

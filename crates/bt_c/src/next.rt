@@ -4,7 +4,7 @@ ghost use Rattle.bt_ext.specs.Ids.{metadata_only};
 ghost use Rattle.bt_ext.specs.Payloads.{payload_of, seen};
 ghost use Rattle.bt_wire.specs.declared.context.Context.{Context};
 ghost use Rattle.bt_wire.specs.Messages.{message_of, fields_of, spell};
-ghost use Rattle.bt_feed.specs.Views.{item_of};
+ghost use Rattle.bt_wire.specs.Cursors.{item_of};
 ghost use Rattle.bt_c.specs.Readers.{kept};
 ghost use Rattle.bt_c.specs.Nexts.{ShowsItem, ShowsEvent, Lends, LendsItem, IsNextOf, IsNext};
 

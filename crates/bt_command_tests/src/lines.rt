@@ -2,7 +2,7 @@
 use bt_ext::{ExtId, Registered, Rules};
 use bt_text::script::reading::read_line;
 use bt_text::script::writing::{push_handshake_line, push_message_line};
-use bt_wire::{Front, Opening, Order, Own, Reserved, negotiate, read_front, read_opening};
+use bt_wire::{Cursor, Found, Order, Own, Reserved, View, negotiate};
 use std::alloc::Global;
 
 /// Texts, and the bytes that they name as a line after the first, where they are one.
@@ -57,11 +57,11 @@ fn own() -> Own {
 
 /// Adds the line of an item; nothing where it is none.
 fn add_line(own: &Own, bytes: &[u8], text: &mut Vec<u8>) -> bool {
-    if let Opening::Whole(handshake) = read_opening(own, bytes) {
+    if let Found::Item(View::Handshake(handshake), _) = Cursor::new(*own).read(bytes) {
         return push_handshake_line(&handshake, text).is_ok();
     }
-    match read_front(&negotiate(own, own.reserved), Order::Fresh, 68, bytes) {
-        Front::Whole(view, _) => push_message_line(own, &view, text).is_ok(),
+    match Cursor::at(negotiate(own, own.reserved), Order::Fresh, 68).read(bytes) {
+        Found::Item(View::Message(view), _) => push_message_line(own, &view, text).is_ok(),
         _ => false,
     }
 }

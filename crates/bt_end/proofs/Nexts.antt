@@ -5,12 +5,12 @@ use Rattle.bt_wire.specs.declared.item.Refusal.{Refusal}
 use Rattle.bt_feed.specs.Answers.{IsAnswer, after, followed}
 use Rattle.bt_feed.specs.declared.judged.Judged.{Judged}
 use Rattle.bt_feed.specs.Judged.{IsJudged, WasJudged}
-use Rattle.bt_feed.specs.declared.stage.Stage.{Stage}
+use Rattle.bt_wire.specs.declared.cursor.Place.{Place}
 use Rattle.bt_feed.specs.Feeds.{FeedState}
 use Rattle.bt_feed.specs.Progress.{IsFeed}
-use Rattle.bt_feed.specs.Stages.{start_of, stage_after, IsItem}
-use Rattle.bt_feed.specs.Views.{item_of, shown}
-use Rattle.bt_feed.specs.declared.view.View.{View}
+use Rattle.bt_wire.specs.Cursors.{start_of, place_after, IsItem, item_of}
+use Rattle.bt_feed.specs.Views.{shown}
+use Rattle.bt_wire.specs.declared.cursor.View.{View}
 use Rattle.bt_feed.specs.declared.view.TakeError.{TakeError}
 use Rattle.bt_feed.specs.declared.view.TakeError.TheVariants as error
 use Rattle.bt_feed.proofs.FeedLaws.{answer_only}
@@ -77,7 +77,7 @@ item_or d (Ok (Some item)) = item
 item_or d other = d
 
 pub heard : {a mid new : HalfState} {j : Judged} {e : Event} {at : ℕ} (view : View) → IsMet a (Ok (Some (j, e))) mid → IsFeed mid.feed
-    → at ≡ start_of mid.feed.stage → IsItem mid.feed.stage mid.feed.held (item_of view) → new ≡ with_feed mid (followed mid.feed j.next) →
+    → at ≡ start_of mid.feed.place → IsItem mid.feed.place mid.feed.held (item_of view) → new ≡ with_feed mid (followed mid.feed j.next) →
     IsTurned a (Ok Handled) new × IsHeard a (Ok (Some (record { at = at; view = view; event = e })))
 unfolding item_or
 heard {a} {mid} {new} {j} {e} {at} view m f s answer n =
@@ -88,7 +88,7 @@ heard {a} {mid} {new} {j} {e} {at} view m f s answer n =
     let t : IsMetAt a mid item j e = subst (λ (y : Item). IsMetAt a mid y j e) same m.1 in
     let left : new ≡ reacted (with_feed a (after a.feed (Ok (Some item)))) (react a.end item) =
     n ∙ ap (λ (y : HalfState). with_feed y (followed y.feed j.next)) t.left
-    ∙ ap (λ (u : Stage). with_feed (reacted a (react a.end item)) (followed a.feed u)) t.judged.next in (
+    ∙ ap (λ (u : Place). with_feed (reacted a (react a.end item)) (followed a.feed u)) t.judged.next in (
       (item, t.answer, left),
-      (t.answer.1, s ∙ ap (λ (y : FeedState). start_of y.stage) (sym feed), t.event_is),
+      (t.answer.1, s ∙ ap (λ (y : FeedState). start_of y.place) (sym feed), t.event_is),
     )

@@ -7,7 +7,7 @@ use Rattle.bt_wire.specs.declared.item.Refusal.{Refusal}
 use Rattle.bt_wire.specs.Messages.{Message}
 use Rattle.bt_feed.specs.Answers.{IsAnswer, standing}
 use Rattle.bt_feed.specs.Feeds.{FeedState, taken_by, taken, pushed}
-use Rattle.bt_feed.specs.Stages.{limit_of, is_closed}
+use Rattle.bt_wire.specs.Cursors.{limit_of, is_closed}
 use Rattle.bt_feed.proofs.FeedLaws.{answer_only, ended_closed}
 use Rattle.bt_end.specs.Halves.{HalfState, is_busy, with_feed, received, unsaid_by, IsTurned, IsSaid}
 use Rattle.bt_end.specs.Laws.{Call, Receive, Sent, Say, Turned, IsCalled, AreCalled, Refuses, RefusalStays}
@@ -22,17 +22,17 @@ use Rattle.bt_end.specs.declared.end.SayError.TheVariants as say_error
 record IsRefused (f : FeedState) (r : Refusal) : Type 0 where
   given : f.refused ≡ Some r
   answer : IsAnswer f (Err r)
-  limit : limit_of f.stage < 2 ^ 32
+  limit : limit_of f.place < 2 ^ 32
 
-closed : (f : FeedState) (r : Refusal) → IsRefused f r → is_closed f.stage f.held ≡ true
-closed f r h = ended_closed f.stage f.held h.limit (inr (h.answer.0, h.answer.1))
+closed : (f : FeedState) (r : Refusal) → IsRefused f r → is_closed f.place f.held ≡ true
+closed f r h = ended_closed f.place f.held h.limit (inr (h.answer.0, h.answer.1))
 
 none_taken : (test : List ℕ → Bool) (held bytes : List ℕ) → test held ≡ true → taken_by test held bytes ≡ 0
 none_taken test held [] e = refl
 none_taken test held (b ∷ bytes) e = ap (λ (t : Bool). cond t 0 (suc (taken_by test (held ++ b ∷ []) bytes))) e
 
 takes_none : (f : FeedState) (r : Refusal) (bytes : List ℕ) → IsRefused f r → taken f bytes ≡ 0
-takes_none f r bytes h = none_taken (is_closed f.stage) f.held bytes (closed f r h)
+takes_none f r bytes h = none_taken (is_closed f.place) f.held bytes (closed f r h)
 
 same_feed : (f : FeedState) (r : Refusal) (bytes : List ℕ) → IsRefused f r → pushed f bytes ≡ f
 same_feed f r bytes h =

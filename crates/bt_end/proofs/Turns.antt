@@ -11,12 +11,12 @@ use Rattle.bt_wire.specs.declared.item.Refusal.{Refusal}
 use Rattle.bt_feed.specs.Answers.{IsAnswer}
 use Rattle.bt_feed.specs.Feeds.{FeedState}
 use Rattle.bt_feed.specs.Progress.{IsFeed}
-use Rattle.bt_feed.specs.Views.{item_of, shown}
-use Rattle.bt_feed.specs.declared.view.View.{View}
+use Rattle.bt_wire.specs.Cursors.{item_of, early, is_all, refusal_of, IsItem}
+use Rattle.bt_feed.specs.Views.{shown}
+use Rattle.bt_wire.specs.declared.cursor.View.{View}
 use Rattle.bt_feed.specs.declared.view.TakeError.{TakeError}
-use Rattle.bt_feed.specs.Stages.{early, is_all, refusal_of, IsItem}
 use Rattle.bt_feed.proofs.FeedLaws.{answer_only, ended_closed}
-use Rattle.bt_feed.proofs.Found.{early_has}
+use Rattle.bt_wire.proofs.CursorLaws.{early_has}
 use Rattle.bt_metadata.specs.Assemblies.{AssemblyState}
 use Rattle.bt_end.specs.Ends.{EndState, Fetching, Reaction, react, anew, restarted, with_part, spelled}
 use Rattle.bt_end.specs.Halves.{HalfState, high_water, is_ready, is_busy, reacted, IsBegun}
@@ -33,26 +33,26 @@ is_ok : Result (Option Item) Refusal → Bool
 is_ok (Ok o) = true
 is_ok (Err r) = false
 
-not_refused : (f : FeedState) (item : Item) (r : Refusal) → IsFeed f → IsItem f.stage f.held item → IsAnswer f (Err r) → ⊥
+not_refused : (f : FeedState) (item : Item) (r : Refusal) → IsFeed f → IsItem f.place f.held item → IsAnswer f (Err r) → ⊥
 unfolding is_ok
 not_refused f item r h i a =
     let e : Ok (Some item) ≡ Err r = answer_only f (Ok (Some item)) (Err r) (omega (arith, h.limit)) i a in
     let b : true ≡ false = ap is_ok e in absurd cc
 
-unrefused : (f : FeedState) (item : Item) (o : Option Refusal) → IsFeed f → IsItem f.stage f.held item → f.refused ≡ o → o ≡ None
+unrefused : (f : FeedState) (item : Item) (o : Option Refusal) → IsFeed f → IsItem f.place f.held item → f.refused ≡ o → o ≡ None
 unrefused f item None h i e = refl
 unrefused f item (Some r) h i e = absurd (not_refused f item r h i (subst (λ (o : Option Refusal). IfSome o (λ r. IsAnswer f (Err r))) e h.refused))
 
-no_early : (f : FeedState) (item : Item) (o : Option Fault) → IsFeed f → IsItem f.stage f.held item → early f.stage f.held ≡ o → o ≡ None
+no_early : (f : FeedState) (item : Item) (o : Option Fault) → IsFeed f → IsItem f.place f.held item → early f.place f.held ≡ o → o ≡ None
 no_early f item None h i e = refl
-no_early f item (Some g) h i e = absurd (not_refused f item (refusal_of f.stage g) h i (g, early_has f.stage f.held g e, refl))
+no_early f item (Some g) h i e = absurd (not_refused f item (refusal_of f.place g) h i (g, early_has f.place f.held g e, refl))
 
-pub item_ready : (f : FeedState) (item : Item) → IsFeed f → IsItem f.stage f.held item → is_ready f ≡ true
+pub item_ready : (f : FeedState) (item : Item) → IsFeed f → IsItem f.place f.held item → is_ready f ≡ true
 item_ready f item h i =
     let a : f.refused ≡ None = unrefused f item f.refused h i refl in
-    let b : early f.stage f.held ≡ None = no_early f item (early f.stage f.held) h i refl in
-    let c : (is_some (early f.stage f.held) || is_all f.stage f.held) ≡ true = ended_closed f.stage f.held (omega (arith, h.limit)) (inl (item, i)) in
-    let d : is_all f.stage f.held ≡ true = sym (ap (λ (o : Option Fault). is_some o || is_all f.stage f.held) b) ∙ c in
+    let b : early f.place f.held ≡ None = no_early f item (early f.place f.held) h i refl in
+    let c : (is_some (early f.place f.held) || is_all f.place f.held) ≡ true = ended_closed f.place f.held (omega (arith, h.limit)) (inl (item, i)) in
+    let d : is_all f.place f.held ≡ true = sym (ap (λ (o : Option Fault). is_some o || is_all f.place f.held) b) ∙ c in
     rw (a, b, d) refl
 
 -- ---- what a turn leaves
@@ -80,7 +80,7 @@ short t n a b =
       | inr l ↦ let e : true ≡ false = sym (rw (a, le-leb high_water n l) refl) ∙ b in absurd cc
     ]
 
-pub free : (a : HalfState) (item : Item) → IsFeed a.feed → IsItem a.feed.stage a.feed.held item → is_busy a ≡ false → length a.outbox < high_water
+pub free : (a : HalfState) (item : Item) → IsFeed a.feed → IsItem a.feed.place a.feed.held item → is_busy a ≡ false → length a.outbox < high_water
 free a item h i b = short (is_ready a.feed) (length a.outbox) (item_ready a.feed item h i) b
 
 pub reacted_sturdy : {A : Type 0} → (mid : Inside A) (f : FeedState) (new : Reactor A) (does : Reaction) → IsEnd (half_of mid)

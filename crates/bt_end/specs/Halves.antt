@@ -16,10 +16,10 @@ use Rattle.bt_wire.specs.Handshakes.{hand}
 use Rattle.bt_wire.specs.Legal.{IsLegal, Refuses}
 use Rattle.bt_wire.specs.Contexts.{piece_in}
 use Rattle.bt_wire.specs.Messages.{fields_of, field_in}
-use Rattle.bt_feed.specs.declared.stage.Stage.TheVariants as stage
+use Rattle.bt_wire.specs.declared.cursor.Place.TheVariants as place
 use Rattle.bt_feed.specs.Answers.{IsAnswer, after, standing}
 use Rattle.bt_feed.specs.Feeds.{FeedState, taken, pushed, waiting}
-use Rattle.bt_feed.specs.Stages.{is_all, is_closed}
+use Rattle.bt_wire.specs.Cursors.{is_all, is_closed}
 use Rattle.bt_metadata.specs.Assemblies.{AssemblyState}
 use Rattle.bt_end.specs.Ends.{EndState, Reaction, react, queueing, belief, spelled, anew, restarted}
 use Rattle.bt_end.specs.declared.end.Turn.{Turn}
@@ -42,7 +42,7 @@ pub record HalfState : Type 0 where
 
 -- at the start of a connection its handshake is to be sent, and the peer's is awaited
 abbrev pub connected : EndState → HalfState
-connected e = record { end = e; feed = waiting (stage.Handshake e.own); outbox = hand e.handshake }
+connected e = record { end = e; feed = waiting (place.Handshake e.own); outbox = hand e.handshake }
 
 abbrev pub with_feed : HalfState → FeedState → HalfState
 with_feed a f = record a { feed = f }
@@ -67,7 +67,7 @@ with_window n a = record a { end = record a.end { window = n } }
 
 -- a whole item is held in a feed that isn't refused
 abbrev pub is_ready : FeedState → Bool
-is_ready f = is_none (standing f) && is_all f.stage f.held
+is_ready f = is_none (standing f) && is_all f.place f.held
 
 -- it is, but too much waits to be sent
 abbrev pub is_busy : HalfState → Bool
@@ -123,7 +123,7 @@ IsHandled a bytes n stop b = (ends : List HalfState) × AreHandled ends a bytes 
 -- Why it stopped, as the end then is: no whole item is held; or what came is refused; or an item is held, and too much waits to be
 -- sent; or an item is held for which memory is taken.
 abbrev pub IsStop : Result Unit TurnError → HalfState → Type 0
-IsStop (Ok x) b = is_closed b.feed.stage b.feed.held ≡ false
+IsStop (Ok x) b = is_closed b.feed.place b.feed.held ≡ false
 IsStop (Err (turn_error.Refused r)) b = b.feed.refused ≡ Some r
 IsStop (Err turn_error.Busy) b = (is_ready b.feed ≡ true) × (high_water ≤ length b.outbox)
 IsStop (Err turn_error.Memory) b = (item : Item) × IsAnswer b.feed (Ok (Some item)) × (takes_memory item ≡ true)

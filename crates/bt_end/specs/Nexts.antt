@@ -4,8 +4,7 @@ use Rattle.bt_wire.specs.declared.item.Item.{Item}
 use Rattle.bt_feed.specs.Answers.{IsAnswer}
 use Rattle.bt_feed.specs.declared.judged.Judged.{Judged}
 use Rattle.bt_feed.specs.Judged.{IsJudged}
-use Rattle.bt_feed.specs.Stages.{start_of}
-use Rattle.bt_feed.specs.Views.{item_of}
+use Rattle.bt_wire.specs.Cursors.{start_of, item_of}
 use Rattle.bt_end.specs.Ends.{react}
 use Rattle.bt_end.specs.Events.{event_of}
 use Rattle.bt_end.specs.Halves.{HalfState, reacted, IsAnswered, IsTurned}
@@ -24,7 +23,7 @@ turn_of (Err e) = Err e
 -- the item that the feed held, where it starts, and what it makes of the end
 abbrev pub IsHeard : HalfState → Result (Option Heard) TurnError → Type 0
 IsHeard a (Ok (Some h)) =
-    IsAnswer a.feed (Ok (Some (item_of h.view))) × (h.at ≡ start_of a.feed.stage) × (h.event ≡ event_of a.end (item_of h.view))
+    IsAnswer a.feed (Ok (Some (item_of h.view))) × (h.at ≡ start_of a.feed.place) × (h.event ≡ event_of a.end (item_of h.view))
 IsHeard a r = ⊤
 
 -- ---- for private contracts

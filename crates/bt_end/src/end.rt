@@ -162,9 +162,8 @@ ghost use types.Logic.{sem};
 ghost use Rattle.bt_end.specs.contracts.end.End.{the_row};
 ghost use Rattle.bt_feed.specs.Answers.{followed};
 ghost use Rattle.bt_feed.specs.Judged.{WasJudged};
-ghost use Rattle.bt_feed.specs.Stages.{IsItem};
-ghost use Rattle.bt_feed.specs.declared.stage.Stage.TheVariants as stage;
-ghost use Rattle.bt_feed.specs.Views.{item_of};
+ghost use Rattle.bt_wire.specs.Cursors.{IsItem, item_of};
+ghost use Rattle.bt_wire.specs.declared.cursor.Place.TheVariants as place;
 ghost use Rattle.bt_end.specs.Nexts.{IsMet, IsHeard, turn_of};
 ghost use Rattle.bt_end.specs.Halves.{IsTurned, with_feed, IsBegun, IsSaid, high_water, is_ready, connected, received, without_sent, with_window, IsHandled, IsStop};
 ghost use Rattle.bt_end.specs.Parts.{part_of, shown_slice};
@@ -202,7 +201,7 @@ fn connect<A: Allocator + Copy>(
     handshake: &Handshake,
 ) -> Result<(Feed<A>, Outbox<A>), Memory>
     requires { (0 < own.now.limit) × (own.now.limit ≤ 1048576) }
-    ensures feed { IfOk result (λ x. x.0 ≡ waiting (stage.Handshake own.now)) }
+    ensures feed { IfOk result (λ x. x.0 ≡ waiting (place.Handshake own.now)) }
     ensures outbox { IfOk result (λ x. x.1.bytes ≡ hand handshake.now) }
     ensures length { IfOk result (λ x. length x.1.bytes ≡ 68) }
 {
@@ -399,7 +398,7 @@ impl<A: Allocator + Copy> End<A> {
     /// Takes the item that was handled, without a second check.
     fn hand(&mut self, judged: Judged) -> View<'_>
         requires { WasJudged self.old.feed judged }
-        ensures value { IsItem self.old.feed.stage self.old.feed.held (item_of result) }
+        ensures value { IsItem self.old.feed.place self.old.feed.held (item_of result) }
         ensures* after { sem 𝓛 (Rests (the_row A.row A.Allocator) self.entry (λ new. new ≡ with_feed self.old (followed self.old.feed judged.next))) }
     {
         self.feed.hand(judged)

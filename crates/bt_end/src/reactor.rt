@@ -2,7 +2,7 @@
 ghost use Rattle.std.specs.Prelude.{◌≡◌, ◌+◌, ◌<◌, ◌≤◌, Some, true, false, [], length, length as list_length, IfOk, IfSome, OnErr};
 ghost use Rattle.bt_bencode.specs.Trees.{dictionary};
 ghost use Rattle.bt_ext.specs.Payloads.{seen};
-ghost use Rattle.bt_feed.specs.Views.{item_of};
+ghost use Rattle.bt_wire.specs.Cursors.{item_of};
 ghost use Rattle.bt_wire.specs.Legal.{IsLegal};
 ghost use Rattle.bt_wire.specs.Messages.{IsExtended, body};
 ghost use Rattle.bt_wire.specs.declared.message.Message.TheVariants as messages;

@@ -5,8 +5,8 @@ use Rattle.bt_wire.specs.declared.item.Item.{Item}
 use Rattle.bt_wire.specs.declared.item.Refusal.{Refusal}
 use Rattle.bt_feed.specs.Answers.{after}
 use Rattle.bt_feed.specs.Feeds.{taken}
-use Rattle.bt_feed.specs.Stages.{start_of, limit_of, IsItem, Comes}
-use Rattle.bt_feed.proofs.Coming.{item_comes}
+use Rattle.bt_wire.specs.Cursors.{start_of, limit_of, IsItem, Comes}
+use Rattle.bt_wire.proofs.Coming.{item_comes}
 use Rattle.bt_feed.proofs.Moving.{fed_none, fed_both}
 use Rattle.bt_end.specs.Ends.{EndState, react, spelled}
 use Rattle.bt_end.specs.Events.{event_of}
@@ -70,7 +70,7 @@ course_heard a piece n e =
       record {
         items = [];
         fed = record {
-          comes = λ later v k. let R : List ℕ → Type 0 = λ b. Comes a.feed.stage b v in
+          comes = λ later v k. let R : List ℕ → Type 0 = λ b. Comes a.feed.place b v in
               subst R (append_assoc a.feed.held (take (taken a.feed piece) piece) later) k;
         };
         end = refl;
@@ -87,13 +87,13 @@ course_sent a n = record {
   bytes = append-nil a.outbox ∙ sym (take-append-drop n a.outbox);
 }
 
-abbrev course_item : (a : HalfState) (item : Item) → limit_of a.feed.stage ≤ 1048576 → IsItem a.feed.stage a.feed.held item
+abbrev course_item : (a : HalfState) (item : Item) → limit_of a.feed.place ≤ 1048576 → IsItem a.feed.place a.feed.held item
     → Course a (reacted (with_feed a (after a.feed (Ok (Some item)))) (react a.end item)) [] []
 course_item a item l is =
     let r = react a.end item in
     record {
-      items = (start_of a.feed.stage, item) ∷ [];
-      fed = record { comes = λ later v k. item_comes a.feed.stage a.feed.held later item v (omega (arith, l)) is k };
+      items = (start_of a.feed.place, item) ∷ [];
+      fed = record { comes = λ later v k. item_comes a.feed.place a.feed.held later item v (omega (arith, l)) is k };
       end = refl;
       bytes = ap (λ (l : List ℕ). a.outbox ++ l) (append-nil (spelled r.end r.queued));
     }
@@ -109,7 +109,7 @@ abbrev pub turned_events : Result (Option Event) TurnError → List Event
 turned_events (Ok (Some e)) = e ∷ []
 turned_events other = []
 
-pub course_turned : (a b : HalfState) (r : Result (Option Event) TurnError) → limit_of a.feed.stage ≤ 1048576 → IsNext a r b
+pub course_turned : (a b : HalfState) (r : Result (Option Event) TurnError) → limit_of a.feed.place ≤ 1048576 → IsNext a r b
     → CourseOf a b [] [] (turned_events r)
 course_turned a b (Ok (Some e)) l h =
     let t = h.0 in
@@ -121,7 +121,7 @@ course_turned a b (Err turn_error.Busy) l h = to a b a [] h.1 (course_none a, re
 course_turned a b (Err turn_error.Memory) l h = to a b a [] h.3 (course_none a, refl)
 
 -- bytes were given, and a turn followed
-pub course_round : (a b c : HalfState) (piece : List ℕ) (n : ℕ) (r : Result (Option Event) TurnError) → limit_of a.feed.stage ≤ 1048576
+pub course_round : (a b c : HalfState) (piece : List ℕ) (n : ℕ) (r : Result (Option Event) TurnError) → limit_of a.feed.place ≤ 1048576
     → n ≡ taken a.feed piece → b ≡ received a piece → IsNext b r c → CourseOf a c (take n piece) [] (turned_events r)
 course_round a b c piece n r l e f t =
     let m = received a piece in

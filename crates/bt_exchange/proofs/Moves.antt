@@ -8,7 +8,7 @@ use Rattle.std.specs.Io.KnownBytes.{Consumes, Appends, IsAtEnd}
 use Rattle.std.specs.Prelude.{IfOk, IfSome}
 use Rattle.bt_io.specs.Counts.{one_more, counted, Grew}
 use Rattle.bt_feed.specs.Feeds.{taken}
-use Rattle.bt_feed.specs.Stages.{limit_of}
+use Rattle.bt_wire.specs.Cursors.{limit_of}
 use Rattle.bt_end.specs.Halves.{HalfState, high_water, is_busy, is_ready, received, without_sent, IsTurned}
 use Rattle.bt_end.proofs.Handling.{idle_used}
 use Rattle.bt_feed.specs.Answers.{IsAnswer}
@@ -343,7 +343,7 @@ room_of false n w all room none = room refl
 
 -- The end had little to send, and got pending bytes. A turn followed.
 pub record IsGiven (p q piece : List ℕ) (a b c : HalfState) (r : Result (Option Event) TurnError) (n : ℕ) : Type 0 where
-  pub limit : limit_of a.feed.stage ≤ 1048576
+  pub limit : limit_of a.feed.place ≤ 1048576
   pub room : length a.outbox < high_water
   pub some : 0 < length p
   pub is : piece ≡ p

@@ -3,7 +3,7 @@ use Rattle.std.proofs.Common.{◌≡◌, Option, Some, Result, Ok, ap, subst, �
 use Rattle.bt_wire.specs.declared.item.Item.{Item}
 use Rattle.bt_wire.specs.declared.item.Refusal.{Refusal}
 use Rattle.bt_feed.specs.Progress.{IsFeed}
-use Rattle.bt_feed.specs.Views.{item_of}
+use Rattle.bt_wire.specs.Cursors.{item_of}
 use Rattle.bt_feed.proofs.FeedLaws.{answer_only}
 use Rattle.bt_end.specs.Events.{event_of}
 use Rattle.bt_end.specs.Halves.{HalfState, IsTurned}

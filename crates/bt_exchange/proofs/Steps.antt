@@ -4,9 +4,9 @@ use Rattle.std.proofs.Common.{Result, Ok, Err, refl, sym, ap, subst, ◌∙◌, 
 use Rattle.std.proofs.lemmas.List.{nil_from_length}
 use Rattle.std.specs.Io.KnownBytes.{Appends}
 use Rattle.bt_feed.specs.Feeds.{taken, pushed}
-use Rattle.bt_feed.specs.Stages.{is_closed, limit_of}
-use Rattle.bt_feed.proofs.Closed.{item_closed}
-use Rattle.bt_feed.proofs.Coming.{item_long}
+use Rattle.bt_wire.specs.Cursors.{is_closed, limit_of}
+use Rattle.bt_wire.proofs.Closed.{item_closed}
+use Rattle.bt_wire.proofs.Coming.{item_long}
 use Rattle.bt_feed.proofs.Reading.{taken_all}
 use Rattle.bt_end.specs.Halves.{HalfState, received, IsTurned}
 use Rattle.bt_end.specs.declared.end.Turn.{Turn}
@@ -92,9 +92,9 @@ exact_written prompt s t p bytes a b r result e w =
 -- ---- a turn
 
 -- where an item was handled, no byte more would have gone into the feed
-full_after : (a c : HalfState) (p : List ℕ) → limit_of a.feed.stage ≤ 1048576 → IsTurned (received a p) (Ok Handled) c
-    → is_closed a.feed.stage (pushed a.feed p).held ≡ true
-full_after a c p l h = item_closed a.feed.stage (pushed a.feed p).held h.0 (omega (arith, l)) h.1.1
+full_after : (a c : HalfState) (p : List ℕ) → limit_of a.feed.place ≤ 1048576 → IsTurned (received a p) (Ok Handled) c
+    → is_closed a.feed.place (pushed a.feed p).held ≡ true
+full_after a c p l h = item_closed a.feed.place (pushed a.feed p).held h.0 (omega (arith, l)) h.1.1
 
 plain : (a b : HalfState) (r : Result (Option Event) TurnError) → IsNext a r b → IsTurned a (turn_of r) b
 plain a b (Ok (Some e)) h = h.0
@@ -157,7 +157,7 @@ handled_lessens old new h =
       ap (length {A = ℕ}) h.pending,
       length-drop (taken a.feed p) p,
       held_most a p,
-      item_long a.feed.stage (received a p).feed.held h.turned.0 h.turned.1.1,
+      item_long a.feed.place (received a p).feed.held h.turned.0 h.turned.1.1,
     )
 
 pub held_lessens : (old new : Moment) → HasTurned (Ok Idle) old new → left_to_turn new.pending new.half < left_to_turn old.pending old.half

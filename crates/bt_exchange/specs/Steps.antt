@@ -3,7 +3,7 @@ use Rattle.std.specs.Prelude.{◌≡◌, ◌⊎◌, ℕ, zero, suc, ◌≤◌, B
 use Rattle.std.specs.Io.KnownBytes.{Consumes, Appends, IsAtEnd}
 use Rattle.bt_io.specs.Counts.{one_more}
 use Rattle.bt_feed.specs.Feeds.{taken, pushed}
-use Rattle.bt_feed.specs.Stages.{is_closed}
+use Rattle.bt_wire.specs.Cursors.{is_closed}
 use Rattle.bt_end.specs.Events.{event_of}
 use Rattle.bt_end.specs.Halves.{HalfState, received, without_sent, IsTurned}
 use Rattle.bt_end.specs.declared.end.Turn.{Turn}
@@ -43,7 +43,7 @@ pub record HasTurned (turn : Result Turn TurnError) (old new : Moment) : Type 0 
   pub sent : old.half.outbox ≡ []
   pub some : 1 ≤ length old.pending
   pub turned : IsTurned (received old.half old.pending) turn new.half
-  pub full : turn ≡ Ok Handled → is_closed old.half.feed.stage (pushed old.half.feed old.pending).held ≡ true
+  pub full : turn ≡ Ok Handled → is_closed old.half.feed.place (pushed old.half.feed old.pending).held ≡ true
   pub pending : new.pending ≡ drop (taken old.half.feed old.pending) old.pending
   pub seen : new.seen ≡ old.seen
 

@@ -18,22 +18,22 @@ use Rattle.bt_wire.proofs.SpellLaws.{none_begins}
 use Rattle.bt_wire.proofs.StreamLaws.{outcome_only}
 use Rattle.bt_wire.proofs.VerdictLaws.{verdict_only}
 use Rattle.bt_wire.proofs.WindowLaws.{one_fault, fault-spell}
-use Rattle.bt_feed.specs.declared.stage.Stage.{Stage}
-use Rattle.bt_feed.specs.declared.stage.Stage.TheVariants as stage
+use Rattle.bt_wire.specs.declared.cursor.Place.{Place}
+use Rattle.bt_wire.specs.declared.cursor.Place.TheVariants as place
 use Rattle.bt_feed.specs.declared.view.Finish.{Finish}
 use Rattle.bt_feed.specs.declared.view.Finish.TheVariants.{Refused, Untaken}
-use Rattle.bt_feed.specs.Stages.{IsNumbered, limit_of, early, is_all, is_closed, HasFault, refusal_of, IsItem, Comes, stopped}
+use Rattle.bt_wire.specs.Cursors.{IsNumbered, limit_of, early, is_all, is_closed, HasFault, refusal_of, IsItem, Comes, stopped}
 use Rattle.bt_feed.specs.Feeds.{FeedState, taken_by, taken, pushed}
 use Rattle.bt_feed.specs.Answers.{IsAnswer, or_else, end_inside, end_of, unless_refused, finish_of}
 use Rattle.bt_feed.specs.Laws.{IsEnded, verdict_at_end}
-use Rattle.bt_feed.proofs.Closed.{item_closed, fault_closed, open_by}
-use Rattle.bt_feed.proofs.Coming.{fault_comes, open_comes}
-use Rattle.bt_feed.proofs.Found.{early_has}
+use Rattle.bt_wire.proofs.Closed.{item_closed, fault_closed, open_by}
+use Rattle.bt_wire.proofs.Coming.{fault_comes, open_comes}
+use Rattle.bt_wire.proofs.CursorLaws.{early_has}
 use Rattle.bt_feed.proofs.Reading.{taken_least}
 
 -- ---- ended
 
-pub ended_closed : (t : Stage) (b : List ℕ) → limit_of t < 2 ^ 32 → IsEnded t b → is_closed t b ≡ true
+pub ended_closed : (t : Place) (b : List ℕ) → limit_of t < 2 ^ 32 → IsEnded t b → is_closed t b ≡ true
 ended_closed t b lt (inl item) = item_closed t b item.0 lt item.1
 ended_closed t b lt (inr fault) = fault_closed t b fault.0 fault.1
 
@@ -41,9 +41,9 @@ ended_closed t b lt (inr fault) = fault_closed t b fault.0 fault.1
 
 pub least_taken : (f : FeedState) (piece : List ℕ) →
     (taken f piece ≤ length piece)
-    × ((k : ℕ) → k < taken f piece → is_closed f.stage (f.held ++ take k piece) ≡ false)
-    × (taken f piece < length piece → is_closed f.stage (f.held ++ take (taken f piece) piece) ≡ true)
-least_taken f piece = let h = taken_least (is_closed f.stage) f.held piece in (h.within, h.opens, h.stops)
+    × ((k : ℕ) → k < taken f piece → is_closed f.place (f.held ++ take k piece) ≡ false)
+    × (taken f piece < length piece → is_closed f.place (f.held ++ take (taken f piece) piece) ≡ true)
+least_taken f piece = let h = taken_least (is_closed f.place) f.held piece in (h.within, h.opens, h.stops)
 
 -- the bytes that are held after a push
 kept : (List ℕ → Bool) → List ℕ → List ℕ → List ℕ
@@ -77,58 +77,58 @@ joined closed held (b ∷ x) y =
 
 pub pushes_join : (f : FeedState) (x y : List ℕ) → pushed (pushed f x) y ≡ pushed f (x ++ y)
 unfolding kept
-pushes_join f x y = ap (λ (h : List ℕ). record f { held = h }) (joined (is_closed f.stage) f.held x y)
+pushes_join f x y = ap (λ (h : List ℕ). record f { held = h }) (joined (is_closed f.place) f.held x y)
 
 -- ---- one answer
 
-one_item : (t : Stage) (b : List ℕ) (a c : Item) → limit_of t < 2 ^ 32 → IsItem t b a → IsItem t b c → a ≡ c
-one_item (stage.Handshake own) b (items.Handshake g) (items.Handshake h) lt p q =
+one_item : (t : Place) (b : List ℕ) (a c : Item) → limit_of t < 2 ^ 32 → IsItem t b a → IsItem t b c → a ≡ c
+one_item (place.Handshake own) b (items.Handshake g) (items.Handshake h) lt p q =
     ap items.Handshake (one_handshake g h [] [] p.1 q.1 (append-nil (hand g) ∙ sym p.2 ∙ q.2 ∙ sym (append-nil (hand h)))).0
-one_item (stage.Message d o s i) b (items.Message m) (items.Message n) lt p q =
+one_item (place.Message d o s i) b (items.Message m) (items.Message n) lt p q =
     ap items.Message (none_begins [] [] lt p.0 q.0 (append-nil (spell d m) ∙ sym p.1 ∙ q.1 ∙ sym (append-nil (spell d n)))).0
-one_item (stage.Handshake own) b (items.Message m) c lt p q = absurd p
-one_item (stage.Handshake own) b (items.Handshake g) (items.Message n) lt p q = absurd q
-one_item (stage.Message d o s i) b (items.Handshake g) c lt p q = absurd p
-one_item (stage.Message d o s i) b (items.Message m) (items.Handshake h) lt p q = absurd q
+one_item (place.Handshake own) b (items.Message m) c lt p q = absurd p
+one_item (place.Handshake own) b (items.Handshake g) (items.Message n) lt p q = absurd q
+one_item (place.Message d o s i) b (items.Handshake g) c lt p q = absurd p
+one_item (place.Message d o s i) b (items.Message m) (items.Handshake h) lt p q = absurd q
 
-item_or_fault : (t : Stage) (b : List ℕ) (item : Item) (f : Fault) → limit_of t < 2 ^ 32 → IsItem t b item → HasFault t b f → ⊥
-item_or_fault (stage.Handshake own) b (items.Handshake h) f lt p q = let none : hand_fault own b ≡ None = p.0 in cc
-item_or_fault (stage.Message d o s i) b (items.Message m) f lt p q =
+item_or_fault : (t : Place) (b : List ℕ) (item : Item) (f : Fault) → limit_of t < 2 ^ 32 → IsItem t b item → HasFault t b f → ⊥
+item_or_fault (place.Handshake own) b (items.Handshake h) f lt p q = let none : hand_fault own b ≡ None = p.0 in cc
+item_or_fault (place.Message d o s i) b (items.Message m) f lt p q =
     let P : List ℕ → Type 0 = λ x. IsFault d o s x None in
     let none = subst P (append-nil (spell d m) ∙ sym p.1) (fault-spell d o s m [] lt p.0) in
     let same : Some f ≡ None = one_fault d o s b (Some f) None q none in
     cc
-item_or_fault (stage.Handshake own) b (items.Message m) f lt p q = absurd p
-item_or_fault (stage.Message d o s i) b (items.Handshake h) f lt p q = absurd p
+item_or_fault (place.Handshake own) b (items.Message m) f lt p q = absurd p
+item_or_fault (place.Message d o s i) b (items.Handshake h) f lt p q = absurd p
 
-same_fault : (t : Stage) (b : List ℕ) (f g : Fault) → HasFault t b f → HasFault t b g → f ≡ g
-same_fault (stage.Handshake own) b f g p q = let same : Some f ≡ Some g = sym p ∙ q in cc
-same_fault (stage.Message d o s i) b f g p q = let same : Some f ≡ Some g = one_fault d o s b (Some f) (Some g) p q in cc
+same_fault : (t : Place) (b : List ℕ) (f g : Fault) → HasFault t b f → HasFault t b g → f ≡ g
+same_fault (place.Handshake own) b f g p q = let same : Some f ≡ Some g = sym p ∙ q in cc
+same_fault (place.Message d o s i) b f g p q = let same : Some f ≡ Some g = one_fault d o s b (Some f) (Some g) p q in cc
 
-pub answer_only : (f : FeedState) (a c : Result (Option Item) Refusal) → limit_of f.stage < 2 ^ 32 → IsAnswer f a → IsAnswer f c → a ≡ c
+pub answer_only : (f : FeedState) (a c : Result (Option Item) Refusal) → limit_of f.place < 2 ^ 32 → IsAnswer f a → IsAnswer f c → a ≡ c
 answer_only f (Ok None) (Ok None) lt p q = refl
-answer_only f (Ok None) (Ok (Some y)) lt p q = absurd (let closed = item_closed f.stage f.held y lt q in cc)
-answer_only f (Ok None) (Err r) lt p q = absurd (let closed = fault_closed f.stage f.held q.0 q.1 in cc)
-answer_only f (Ok (Some x)) (Ok None) lt p q = absurd (let closed = item_closed f.stage f.held x lt p in cc)
-answer_only f (Ok (Some x)) (Ok (Some y)) lt p q = ap (λ (i : Item). Ok (Some i)) (one_item f.stage f.held x y lt p q)
-answer_only f (Ok (Some x)) (Err r) lt p q = absurd (item_or_fault f.stage f.held x q.0 lt p q.1)
-answer_only f (Err r) (Ok None) lt p q = absurd (let closed = fault_closed f.stage f.held p.0 p.1 in cc)
-answer_only f (Err r) (Ok (Some y)) lt p q = absurd (item_or_fault f.stage f.held y p.0 lt q p.1)
-answer_only f (Err r) (Err s) lt p q = ap Err (p.2 ∙ ap (refusal_of f.stage) (same_fault f.stage f.held p.0 q.0 p.1 q.1) ∙ sym q.2)
+answer_only f (Ok None) (Ok (Some y)) lt p q = absurd (let closed = item_closed f.place f.held y lt q in cc)
+answer_only f (Ok None) (Err r) lt p q = absurd (let closed = fault_closed f.place f.held q.0 q.1 in cc)
+answer_only f (Ok (Some x)) (Ok None) lt p q = absurd (let closed = item_closed f.place f.held x lt p in cc)
+answer_only f (Ok (Some x)) (Ok (Some y)) lt p q = ap (λ (i : Item). Ok (Some i)) (one_item f.place f.held x y lt p q)
+answer_only f (Ok (Some x)) (Err r) lt p q = absurd (item_or_fault f.place f.held x q.0 lt p q.1)
+answer_only f (Err r) (Ok None) lt p q = absurd (let closed = fault_closed f.place f.held p.0 p.1 in cc)
+answer_only f (Err r) (Ok (Some y)) lt p q = absurd (item_or_fault f.place f.held y p.0 lt q p.1)
+answer_only f (Err r) (Err s) lt p q = ap Err (p.2 ∙ ap (refusal_of f.place) (same_fault f.place f.held p.0 q.0 p.1 q.1) ∙ sym q.2)
 
 -- ---- one outcome
 
-pub outcome_one : (t : Stage) (b : List ℕ) (v w : Outcome) → limit_of t < 2 ^ 32 → Comes t b v → Comes t b w → v ≡ w
-outcome_one (stage.Handshake own) b v w lt p q = verdict_only own b v w lt p q
-outcome_one (stage.Message c o s n) b v w lt p q = outcome_only c o s n b v w lt p q
+pub outcome_one : (t : Place) (b : List ℕ) (v w : Outcome) → limit_of t < 2 ^ 32 → Comes t b v → Comes t b w → v ≡ w
+outcome_one (place.Handshake own) b v w lt p q = verdict_only own b v w lt p q
+outcome_one (place.Message c o s n) b v w lt p q = outcome_only c o s n b v w lt p q
 
 -- ---- the end
 
-stands : (f : FeedState) (o : Option Fault) → f.refused ≡ None → early f.stage f.held ≡ o → finish_of f ≡ unless_refused (option_map (refusal_of f.stage) o)
-    (end_of f.stage f.held)
+stands : (f : FeedState) (o : Option Fault) → f.refused ≡ None → early f.place f.held ≡ o → finish_of f ≡ unless_refused (option_map (refusal_of f.place) o)
+    (end_of f.place f.held)
 stands f o none e =
-    ap (λ (r : Option Refusal). unless_refused (or_else r (option_map (refusal_of f.stage) (early f.stage f.held))) (end_of f.stage f.held)) none
-    ∙ ap (λ (x : Option Fault). unless_refused (option_map (refusal_of f.stage) x) (end_of f.stage f.held)) e
+    ap (λ (r : Option Refusal). unless_refused (or_else r (option_map (refusal_of f.place) (early f.place f.held))) (end_of f.place f.held)) none
+    ∙ ap (λ (x : Option Fault). unless_refused (option_map (refusal_of f.place) x) (end_of f.place f.held)) e
 
 abbrev accepted : ℕ → Result ℕ Finish
 accepted s = Ok s
@@ -139,20 +139,20 @@ message_end : (s n l : ℕ) → 1 ≤ n → (l ≡ 0) ⊎ (l ≡ 0 → ⊥) → 
 message_end s n l le (inl none) = rw (eq-eqb l 0 none, ne_eqb n 0 (λ e. omega arith)) (ap accepted (omega (arith, none)))
 message_end s n l le (inr some) = rw (ne_eqb l 0 some, ne_eqb n 0 (λ e. omega arith)) refl
 
-open_end : (t : Stage) (b : List ℕ) → IsNumbered t → is_all t b ≡ false → end_of t b ≡ verdict_at_end (stopped t b None)
-open_end (stage.Handshake own) b numbered part = ap (λ (w : Bool). cond w (Err Untaken) (Err (Refused (end_inside (stage.Handshake own) b)))) part
-open_end (stage.Message c o s n) b numbered part =
-    ap (λ (w : Bool). cond w (Err Untaken) (cond (eqb (length b) 0) (accepted s) (Err (Refused (end_inside (stage.Message c o s n) b))))) part
+open_end : (t : Place) (b : List ℕ) → IsNumbered t → is_all t b ≡ false → end_of t b ≡ verdict_at_end (stopped t b None)
+open_end (place.Handshake own) b numbered part = ap (λ (w : Bool). cond w (Err Untaken) (Err (Refused (end_inside (place.Handshake own) b)))) part
+open_end (place.Message c o s n) b numbered part =
+    ap (λ (w : Bool). cond w (Err Untaken) (cond (eqb (length b) 0) (accepted s) (Err (Refused (end_inside (place.Message c o s n) b))))) part
     ∙ message_end s n (length b) numbered (cases_eq (length b) 0)
 
-finish_by : (f : FeedState) (v : Outcome) (o : Option Fault) → limit_of f.stage < 2 ^ 32 → IsNumbered f.stage → f.refused ≡ None → early f.stage f.held ≡ o
-    → is_all f.stage f.held ≡ false → Comes f.stage f.held v → finish_of f ≡ verdict_at_end v
+finish_by : (f : FeedState) (v : Outcome) (o : Option Fault) → limit_of f.place < 2 ^ 32 → IsNumbered f.place → f.refused ≡ None → early f.place f.held ≡ o
+    → is_all f.place f.held ≡ false → Comes f.place f.held v → finish_of f ≡ verdict_at_end v
 finish_by f v (Some g) lt numbered none e part k =
-    stands f (Some g) none e ∙ ap verdict_at_end (outcome_one f.stage f.held _ v lt (fault_comes f.stage f.held g lt (early_has f.stage f.held g e)) k)
+    stands f (Some g) none e ∙ ap verdict_at_end (outcome_one f.place f.held _ v lt (fault_comes f.place f.held g lt (early_has f.place f.held g e)) k)
 finish_by f v None lt numbered none e part k =
-    stands f None none e ∙ open_end f.stage f.held numbered part
-    ∙ ap verdict_at_end (outcome_one f.stage f.held _ v lt (open_comes f.stage f.held lt (open_by f.stage f.held e part)) k)
+    stands f None none e ∙ open_end f.place f.held numbered part
+    ∙ ap verdict_at_end (outcome_one f.place f.held _ v lt (open_comes f.place f.held lt (open_by f.place f.held e part)) k)
 
-pub finish_verdict : (f : FeedState) (v : Outcome) → limit_of f.stage < 2 ^ 32 → IsNumbered f.stage → f.refused ≡ None → is_all f.stage f.held ≡ false
-    → Comes f.stage f.held v → finish_of f ≡ verdict_at_end v
-finish_verdict f v lt numbered none part k = finish_by f v (early f.stage f.held) lt numbered none refl part k
+pub finish_verdict : (f : FeedState) (v : Outcome) → limit_of f.place < 2 ^ 32 → IsNumbered f.place → f.refused ≡ None → is_all f.place f.held ≡ false
+    → Comes f.place f.held v → finish_of f ≡ verdict_at_end v
+finish_verdict f v lt numbered none part k = finish_by f v (early f.place f.held) lt numbered none refl part k

@@ -30,4 +30,4 @@ progress_read p old new bytes h fresh some is le =
     let P : List ℕ → Type 0 = λ x. IsProgress p (old ++ x) in
     let Q : List ℕ → Type 0 = λ x. IsProgress p x in
     subst Q (sym is) (subst P (take_all (length bytes) bytes (omega arith)) (progress_window p bytes h
-    (record { stage = refl; refused = refl; fresh = fresh }) fresh refl window.0 window.1 few))
+    (record { place = refl; refused = refl; fresh = fresh }) fresh refl window.0 window.1 few))

@@ -1,13 +1,7 @@
-pub mod Closed
-pub mod Windows
-pub mod Hands
-pub mod Goals
 pub mod Filled
 pub mod Found
-pub mod Coming
 pub mod Reading
 pub mod FeedLaws
-pub mod Places
 pub mod Moving
 pub mod Stepping
 mod Lent

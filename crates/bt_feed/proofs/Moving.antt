@@ -7,7 +7,7 @@ use Rattle.std.specs.Io.KnownBytes.{Consumes}
 use Rattle.bt_io.specs.Seen.{SourceSeen}
 use Rattle.bt_wire.specs.declared.item.Item.{Item}
 use Rattle.bt_wire.specs.declared.item.Refusal.{Refusal}
-use Rattle.bt_feed.specs.Stages.{start_of, number_of, limit_of, is_closed, IsItem, stage_after, Comes, stopped}
+use Rattle.bt_wire.specs.Cursors.{start_of, number_of, limit_of, is_closed, IsItem, place_after, Comes, stopped}
 use Rattle.bt_feed.specs.Feeds.{FeedState, taken, pushed}
 use Rattle.bt_feed.specs.Answers.{IsAnswer, after, finish_of, unless_refused}
 use Rattle.bt_feed.specs.Transcripts.{with_items}
@@ -17,9 +17,9 @@ use Rattle.bt_feed.specs.Progress.{IsFeed}
 use Rattle.bt_feed.specs.declared.pumping.PumpError.{PumpError}
 use Rattle.bt_feed.specs.declared.sink.SinkFault.{SinkFault}
 use Rattle.bt_feed.specs.declared.pumping.PumpError.TheVariants as error
-use Rattle.bt_feed.specs.declared.stage.Stage.{Stage}
-use Rattle.bt_feed.specs.declared.stage.Stage.TheVariants as stage
-use Rattle.bt_feed.proofs.Closed.{fault_more, fault_closed, open_parts}
+use Rattle.bt_wire.specs.declared.cursor.Place.{Place}
+use Rattle.bt_wire.specs.declared.cursor.Place.TheVariants as place
+use Rattle.bt_wire.proofs.Closed.{fault_more, fault_closed, open_parts}
 use Rattle.bt_feed.proofs.FeedLaws.{finish_verdict}
 use Rattle.bt_feed.proofs.Reasons.{no_fault_ends}
 use Rattle.bt_wire.specs.Streams.{Outcome, is_complete, end_inside}
@@ -27,7 +27,7 @@ use Rattle.bt_wire.specs.declared.fault.Reason.TheVariants.{EndInside}
 use Rattle.bt_feed.specs.declared.view.Finish.TheVariants as finish
 use Rattle.bt_wire.specs.declared.item.Item.TheVariants as items
 use Rattle.std.specs.Prelude.{IfSome}
-use Rattle.bt_feed.proofs.Coming.{item_comes, fault_comes, open_comes}
+use Rattle.bt_wire.proofs.Coming.{item_comes, fault_comes, open_comes}
 use Rattle.bt_feed.proofs.Reading.{IsPushed, taken_all}
 
 -- ---- items
@@ -69,8 +69,8 @@ fed_none f = record { comes = λ later v k. k }
 pub fed_both : (f m g : FeedState) (a b : List ℕ) (xs ys : List (ℕ × Item)) → IsFed f a xs m → IsFed m b ys g → IsFed f (a ++ b) (xs ++ ys) g
 fed_both f m g a b xs ys p q = record {
   comes = λ later v k.
-      let P : List ℕ → Type 0 = λ bytes. Comes f.stage (f.held ++ bytes) (with_items (xs ++ ys) v) in
-      let Q : List (ℕ × Item) → Type 0 = λ zs. Comes f.stage (f.held ++ (a ++ (b ++ later))) (record v { items = zs }) in
+      let P : List ℕ → Type 0 = λ bytes. Comes f.place (f.held ++ bytes) (with_items (xs ++ ys) v) in
+      let Q : List (ℕ × Item) → Type 0 = λ zs. Comes f.place (f.held ++ (a ++ (b ++ later))) (record v { items = zs }) in
       subst P (sym (append_assoc a b later)) (subst Q (sym (append_assoc xs ys v.items)) (p.comes (b ++ later) (with_items ys v) (q.comes later v k)));
 }
 
@@ -86,15 +86,15 @@ fed_push f p rest n count is =
     let P : FeedState → Type 0 = λ g. IsFed f (take n rest) [] g in
     let Q : ℕ → Type 0 = λ k. IsFed f (take k rest) [] (pushed f rest) in
     subst P (sym is) (subst Q (sym count) (record {
-      comes = λ later v k. let R : List ℕ → Type 0 = λ b. Comes f.stage b v in subst R (append_assoc f.held (take (taken f rest) rest) later) k;
+      comes = λ later v k. let R : List ℕ → Type 0 = λ b. Comes f.place b v in subst R (append_assoc f.held (take (taken f rest) rest) later) k;
     }))
 
 -- a taken item goes, with its bytes
-fed_take : (p g : FeedState) (item : Item) → limit_of p.stage ≤ 1048576 → IsItem p.stage p.held item → g ≡ after p (Ok (Some item))
-    → IsFed p [] ((start_of p.stage, item) ∷ []) g
+fed_take : (p g : FeedState) (item : Item) → limit_of p.place ≤ 1048576 → IsItem p.place p.held item → g ≡ after p (Ok (Some item))
+    → IsFed p [] ((start_of p.place, item) ∷ []) g
 fed_take p g item le is after_is =
-    let P : FeedState → Type 0 = λ s. IsFed p [] ((start_of p.stage, item) ∷ []) s in
-    subst P (sym after_is) (record { comes = λ later v k. item_comes p.stage p.held later item v (omega arith) is k })
+    let P : FeedState → Type 0 = λ s. IsFed p [] ((start_of p.place, item) ∷ []) s in
+    subst P (sym after_is) (record { comes = λ later v k. item_comes p.place p.held later item v (omega arith) is k })
 
 -- ---- a piece
 
@@ -111,27 +111,27 @@ fed_front f s p piece rest at n xs m h =
     (fed_push s p rest n h.taken_is h.held_is)))
 
 pub fed_item : {f s p g : FeedState} {piece rest : List ℕ} {at n : ℕ} {xs : List (ℕ × Item)} {answer : Result (Option Item) Refusal} {item : Item}
-    → IsFed f (take at piece) xs s → IsPushed s p piece rest at n → limit_of p.stage ≤ 1048576
-    → answer ≡ Ok (Some item) → IsAnswer p answer → g ≡ after p answer → IsFed f (take (at + n) piece) (xs ++ (start_of p.stage, item) ∷ []) g
+    → IsFed f (take at piece) xs s → IsPushed s p piece rest at n → limit_of p.place ≤ 1048576
+    → answer ≡ Ok (Some item) → IsAnswer p answer → g ≡ after p answer → IsFed f (take (at + n) piece) (xs ++ (start_of p.place, item) ∷ []) g
 fed_item {f} {s} {p} {g} {piece} {rest} {at} {n} {xs} {answer} {item} m h le e a after_is =
     let P : Result (Option Item) Refusal → Type 0 = λ x. IsAnswer p x in
-    let Q : List ℕ → Type 0 = λ b. IsFed f b (xs ++ (start_of p.stage, item) ∷ []) g in
-    subst Q (append-nil (take (at + n) piece)) (fed_both f p g (take (at + n) piece) [] xs ((start_of p.stage, item) ∷ [])
+    let Q : List ℕ → Type 0 = λ b. IsFed f b (xs ++ (start_of p.place, item) ∷ []) g in
+    subst Q (append-nil (take (at + n) piece)) (fed_both f p g (take (at + n) piece) [] xs ((start_of p.place, item) ∷ [])
     (fed_front f s p piece rest at n xs m h) (fed_take p g item le (subst P e a) (after_is ∙ ap (after p) e)))
 
 -- where the feed waits all of the piece is taken
 pub fed_all : {f s p g : FeedState} {piece rest : List ℕ} {at n : ℕ} {xs : List (ℕ × Item)} {answer : Result (Option Item) Refusal} → at ≤ length piece
     → IsFed f (take at piece) xs s → IsPushed s p piece rest at n
-    → answer ≡ Ok None → IsAnswer p answer → g ≡ after p answer → IsFed f piece xs g × (is_closed g.stage g.held ≡ false)
+    → answer ≡ Ok None → IsAnswer p answer → g ≡ after p answer → IsFed f piece xs g × (is_closed g.place g.held ≡ false)
 fed_all {f} {s} {p} {g} {piece} {rest} {at} {n} {xs} {answer} le m h e a after_is =
     let P : Result (Option Item) Refusal → Type 0 = λ x. IsAnswer p x in
-    let opens : is_closed p.stage p.held ≡ false = subst P e a in
-    let Q : FeedState → Type 0 = λ x. is_closed x.stage x.held ≡ false in
+    let opens : is_closed p.place p.held ≡ false = subst P e a in
+    let Q : FeedState → Type 0 = λ x. is_closed x.place x.held ≡ false in
     let full : n ≡ length rest = h.taken_is ∙ taken_all s rest (subst Q h.held_is opens) in
     let same : g ≡ p = after_is ∙ ap (after p) e in
     let all : take (at + n) piece ≡ piece = take_all (at + n) piece (omega (arith, ap length h.rest_is, length-drop at piece)) in
     let R : List ℕ → Type 0 = λ b. IsFed f b xs p in
-    let S : FeedState → Type 0 = λ x. IsFed f piece xs x × (is_closed x.stage x.held ≡ false) in
+    let S : FeedState → Type 0 = λ x. IsFed f piece xs x × (is_closed x.place x.held ≡ false) in
     subst S (sym same) (subst R all (fed_front f s p piece rest at n xs m h), opens)
 
 -- a refusal leaves the bytes
@@ -146,24 +146,24 @@ fed_refused {f} {s} {p} {g} {piece} {rest} {at} {n} {xs} {answer} {r} m h e a af
 
 -- ---- the feed's limit stays
 
-limit_after : (t : Stage) (size : ℕ) (item : Item) → limit_of (stage_after t size item) ≡ limit_of t
-limit_after (stage.Handshake own) size (items.Handshake h) = refl
-limit_after (stage.Message c o s n) size (items.Message m) = refl
-limit_after (stage.Handshake own) size (items.Message m) = refl
-limit_after (stage.Message c o s n) size (items.Handshake h) = refl
+limit_after : (t : Place) (size : ℕ) (item : Item) → limit_of (place_after t size item) ≡ limit_of t
+limit_after (place.Handshake own) size (items.Handshake h) = refl
+limit_after (place.Message c o s n) size (items.Message m) = refl
+limit_after (place.Handshake own) size (items.Message m) = refl
+limit_after (place.Message c o s n) size (items.Handshake h) = refl
 
-limit_of_after : (p : FeedState) (answer : Result (Option Item) Refusal) → limit_of (after p answer).stage ≡ limit_of p.stage
+limit_of_after : (p : FeedState) (answer : Result (Option Item) Refusal) → limit_of (after p answer).place ≡ limit_of p.place
 limit_of_after p (Ok None) = refl
-limit_of_after p (Ok (Some item)) = limit_after p.stage (length p.held) item
+limit_of_after p (Ok (Some item)) = limit_after p.place (length p.held) item
 limit_of_after p (Err r) = refl
 
-pub limit_kept : (p g : FeedState) (answer : Result (Option Item) Refusal) → g ≡ after p answer → limit_of p.stage ≤ 1048576 → limit_of g.stage ≤ 1048576
-limit_kept p g answer e le = omega (arith, ap (λ (x : FeedState). limit_of x.stage) e, limit_of_after p answer, le)
+pub limit_kept : (p g : FeedState) (answer : Result (Option Item) Refusal) → g ≡ after p answer → limit_of p.place ≤ 1048576 → limit_of g.place ≤ 1048576
+limit_kept p g answer e le = omega (arith, ap (λ (x : FeedState). limit_of x.place) e, limit_of_after p answer, le)
 
 -- ---- to the verdict
 
-pumped : (f g : FeedState) (bytes lost : List ℕ) (xs : List (ℕ × Item)) (last : Outcome) → IsFed f bytes xs g → Comes g.stage (g.held ++ lost) last
-    → last.items ≡ [] → last.number ≡ number_of g.stage → IsPumped f bytes lost xs g (with_items xs last)
+pumped : (f g : FeedState) (bytes lost : List ℕ) (xs : List (ℕ × Item)) (last : Outcome) → IsFed f bytes xs g → Comes g.place (g.held ++ lost) last
+    → last.items ≡ [] → last.number ≡ number_of g.place → IsPumped f bytes lost xs g (with_items xs last)
 pumped f g bytes lost xs last m k none same = record {
   fed = m;
   comes = m.comes lost last k;
@@ -171,35 +171,35 @@ pumped f g bytes lost xs last m k none same = record {
   number = same;
 }
 
-pub ended_refused : (f g : FeedState) (bytes lost : List ℕ) (xs : List (ℕ × Item)) (r : Refusal) → IsFed f bytes xs g → limit_of g.stage ≤ 1048576
+pub ended_refused : (f g : FeedState) (bytes lost : List ℕ) (xs : List (ℕ × Item)) (r : Refusal) → IsFed f bytes xs g → limit_of g.place ≤ 1048576
     → IsAnswer g (Err r) → IsPumpEnd f bytes lost xs g (Err (error.Refused r))
 ended_refused f g bytes lost xs r m le a =
-    let last = stopped g.stage (g.held ++ lost) (Some r) in
-    let P : Refusal → Type 0 = λ x. Comes g.stage (g.held ++ lost) (stopped g.stage (g.held ++ lost) (Some x)) in
-    let comes = subst P (sym a.2) (fault_comes g.stage (g.held ++ lost) a.0 (omega (arith, le)) (fault_more g.stage g.held lost a.0 a.1)) in (
+    let last = stopped g.place (g.held ++ lost) (Some r) in
+    let P : Refusal → Type 0 = λ x. Comes g.place (g.held ++ lost) (stopped g.place (g.held ++ lost) (Some x)) in
+    let comes = subst P (sym a.2) (fault_comes g.place (g.held ++ lost) a.0 (omega (arith, le)) (fault_more g.place g.held lost a.0 a.1)) in (
       with_items xs last,
       pumped f g bytes lost xs last m comes refl refl,
-      (λ e. absurd (no_fault_ends g.stage g.held a.0 a.1 (sym (ap (λ (x : Refusal). x.reason) a.2) ∙ e))),
+      (λ e. absurd (no_fault_ends g.place g.held a.0 a.1 (sym (ap (λ (x : Refusal). x.reason) a.2) ∙ e))),
       refl,
       inr a,
     )
 
-pub ended_open : (f g : FeedState) (bytes : List ℕ) (xs : List (ℕ × Item)) → IsFed f bytes xs g → limit_of g.stage ≤ 1048576 → is_closed g.stage g.held
+pub ended_open : (f g : FeedState) (bytes : List ℕ) (xs : List (ℕ × Item)) → IsFed f bytes xs g → limit_of g.place ≤ 1048576 → is_closed g.place g.held
     ≡ false → (v : Outcome) × IsPumped f bytes [] xs g v × (v.refusal ≡ None)
 ended_open f g bytes xs m le e =
     let held = append-nil g.held in
-    let last = stopped g.stage (g.held ++ []) None in (
+    let last = stopped g.place (g.held ++ []) None in (
       with_items xs last,
-      pumped f g bytes [] xs last m (open_comes g.stage (g.held ++ []) (omega (arith, le)) (ap (is_closed g.stage) held ∙ e)) refl refl,
+      pumped f g bytes [] xs last m (open_comes g.place (g.held ++ []) (omega (arith, le)) (ap (is_closed g.place) held ∙ e)) refl refl,
       refl,
     )
 
 -- where a feed waits, nothing that went into it is refused
-pub open_to : (f g : FeedState) (a b : SourceSeen) (bytes : List ℕ) (xs : List (ℕ × Item)) → IsFed f bytes xs g → limit_of g.stage ≤ 1048576
-    → is_closed g.stage g.held ≡ false → Consumes a.left b.left bytes → IsOpenTo f a b
+pub open_to : (f g : FeedState) (a b : SourceSeen) (bytes : List ℕ) (xs : List (ℕ × Item)) → IsFed f bytes xs g → limit_of g.place ≤ 1048576
+    → is_closed g.place g.held ≡ false → Consumes a.left b.left bytes → IsOpenTo f a b
 open_to f g a b bytes xs m le e c =
     let o = ended_open f g bytes xs m le e in
-    let P : List ℕ → Type 0 = λ b. Comes f.stage (f.held ++ b) o.0 in
+    let P : List ℕ → Type 0 = λ b. Comes f.place (f.held ++ b) o.0 in
     (bytes, o.0, c, subst P (append-nil bytes) o.1.comes, o.2)
 
 ended_as : (f g : FeedState) (bytes : List ℕ) (xs : List (ℕ × Item)) (r : Result ℕ PumpError) (last : Outcome)
@@ -213,7 +213,7 @@ ended_as f g bytes xs (Err error.Turns) last p v k = absurd v
 pub ended_last : (f g : FeedState) (bytes : List ℕ) (xs : List (ℕ × Item)) (r : Result ℕ PumpError) → IsFed f bytes xs g → IsEndOf g r
     → IsPumpEnd f bytes [] xs g r
 ended_last f g bytes xs r m h =
-    let P : List ℕ → Type 0 = λ b. Comes g.stage b h.last in
+    let P : List ℕ → Type 0 = λ b. Comes g.place b h.last in
     ended_as f g bytes xs r h.last (pumped f g bytes [] xs h.last m (subst P (sym (append-nil g.held)) h.comes) h.no_items h.number) h.verdict h.at_end
 
 -- where a piece stops: what went into the feed, what is lost, and how it ended
@@ -227,7 +227,7 @@ pub record IsStop (f : FeedState) (before piece : List ℕ) (xs : List (ℕ × I
 cut : (before piece : List ℕ) (n : ℕ) → before ++ piece ≡ (before ++ take n piece) ++ drop n piece
 cut before piece n = ap (λ (l : List ℕ). before ++ l) (sym (take-append-drop n piece)) ∙ sym (append_assoc before (take n piece) (drop n piece))
 
-pub stopped_by : (f s g : FeedState) (before piece : List ℕ) (xs ys : List (ℕ × Item)) (e : PumpError) → IsFed f before xs s → limit_of g.stage ≤ 1048576
+pub stopped_by : (f s g : FeedState) (before piece : List ℕ) (xs ys : List (ℕ × Item)) (e : PumpError) → IsFed f before xs s → limit_of g.place ≤ 1048576
     → IsPieceEnd s piece ys g (Err e) → IsStop f before piece (xs ++ ys) g e
 stopped_by f s g before piece xs ys (error.Refused r) m le h = record {
   bytes = before ++ take h.0 piece;
@@ -247,7 +247,7 @@ stopped_by f s g before piece xs ys error.ReadFault m le h = absurd h
 stopped_by f s g before piece xs ys error.Turns m le h = absurd h
 
 pub not_at_end : (s g : FeedState) (piece : List ℕ) (ys : List (ℕ × Item)) (e : PumpError) → IsPieceEnd s piece ys g (Err e) → IsEnd (Err e) → ⊥
-not_at_end s g piece ys (error.Refused r) h e = no_fault_ends g.stage g.held h.2.0 h.2.1 (sym (ap (λ (x : Refusal). x.reason) h.2.2) ∙ e)
+not_at_end s g piece ys (error.Refused r) h e = no_fault_ends g.place g.held h.2.0 h.2.1 (sym (ap (λ (x : Refusal). x.reason) h.2.2) ∙ e)
 not_at_end s g piece ys (error.Sink f) h e = absurd e
 not_at_end s g piece ys error.ReadFault h e = absurd h
 not_at_end s g piece ys error.Turns h e = absurd h
@@ -266,9 +266,9 @@ no_sink_fault error.Turns h = absurd h
 
 -- ---- the end
 
-not_refused : (f : FeedState) (o : Option Refusal) → f.refused ≡ o → IfSome o (λ r. IsAnswer f (Err r)) → is_closed f.stage f.held ≡ false → f.refused ≡ None
+not_refused : (f : FeedState) (o : Option Refusal) → f.refused ≡ o → IfSome o (λ r. IsAnswer f (Err r)) → is_closed f.place f.held ≡ false → f.refused ≡ None
 not_refused f None e a waits = e
-not_refused f (Some r) e a waits = absurd (let closed = fault_closed f.stage f.held a.0 a.1 in cc)
+not_refused f (Some r) e a waits = absurd (let closed = fault_closed f.place f.held a.0 a.1 in cc)
 
 -- where nothing is refused before, the verdict at the end stands only there
 ends_inside : (v : Outcome) (complete : Bool) (n : ℕ) (r : Refusal) → unless_refused (if complete then None else Some (end_inside v)) (Ok n)
@@ -276,7 +276,7 @@ ends_inside : (v : Outcome) (complete : Bool) (n : ℕ) (r : Refusal) → unless
 ends_inside v true n r h = absurd cc
 ends_inside v false n r h = let e : end_inside v ≡ r = cc in sym (ap (λ (x : Refusal). x.reason) e)
 
-ends_only : (t : Stage) (b : List ℕ) (r : Result ℕ PumpError) → IsVerdictAtEnd (stopped t b None) r → IsEnd r
+ends_only : (t : Place) (b : List ℕ) (r : Result ℕ PumpError) → IsVerdictAtEnd (stopped t b None) r → IsEnd r
 ends_only t b (Ok n) h = tt
 ends_only t b (Err (error.Refused r)) h = ends_inside (stopped t b None) (is_complete (stopped t b None)) (start_of t + length b) r h
 ends_only t b (Err (error.Sink e)) h = absurd h
@@ -284,18 +284,18 @@ ends_only t b (Err error.ReadFault) h = absurd h
 ends_only t b (Err error.Turns) h = absurd h
 
 -- a feed that holds no whole item has its verdict there
-pub end_of_open : (f : FeedState) (r : Result ℕ PumpError) → IsFeed f → is_closed f.stage f.held ≡ false
+pub end_of_open : (f : FeedState) (r : Result ℕ PumpError) → IsFeed f → is_closed f.place f.held ≡ false
     → ((v : Outcome) → finish_of f ≡ verdict_at_end v → IsVerdictAtEnd v r) → IsEndOf f r
 end_of_open f r h e verdict =
-    let last = stopped f.stage f.held None in
-    let comes = open_comes f.stage f.held (omega (arith, h.limit)) e in
+    let last = stopped f.place f.held None in
+    let comes = open_comes f.place f.held (omega (arith, h.limit)) e in
     let is = verdict last (finish_verdict f last (omega (arith, h.limit)) h.numbered (not_refused f f.refused refl h.refused e)
-    (open_parts f.stage f.held e).1 comes) in
+    (open_parts f.place f.held e).1 comes) in
     record {
       last = last;
       comes = comes;
       no_items = refl;
       number = refl;
       verdict = is;
-      at_end = ends_only f.stage f.held r is;
+      at_end = ends_only f.place f.held r is;
     }

@@ -1,76 +1,53 @@
--- The outcome of messages that are handed on where they lie.
-use Rattle.std.proofs.Common.{◌≡◌, ℕ, ◌+◌, ◌-◌, ◌^◌, ◌≤◌, ◌<◌, List, [], ◌∷◌, ◌++◌, length, take, drop, Option, None, Result, Ok, Err, sym, ap, subst, ◌∙◌}
+-- The outcome of items that are handed on where they lie.
+use Rattle.std.proofs.Common.{◌≡◌, ℕ, ◌+◌, ◌≤◌, List, [], ◌∷◌, ◌++◌, length, take, drop, Option, None, Result, Ok, Err, sym, ap, subst, ◌∙◌}
 use Rattle.std.proofs.Common.{arith}
 use Rattle.std.specs.Prelude.{IfSome, MatchResult}
-use Rattle.std.specs.List.{slice_range}
 use Rattle.std.proofs.lemmas.List.{length-take-le}
 use Rattle.bt_wire.specs.declared.context.Context.{Context}
 use Rattle.bt_wire.specs.declared.context.Order.{Order}
 use Rattle.bt_wire.specs.declared.item.Item.{Item}
-use Rattle.bt_wire.specs.declared.item.Item.TheVariants as items
 use Rattle.bt_wire.specs.declared.item.Refusal.{Refusal}
-use Rattle.bt_wire.specs.Messages.{Message}
 use Rattle.bt_wire.specs.declared.fault.Header.TheVariants as headers
-use Rattle.bt_wire.specs.Headers.{header_of, IsRead}
-use Rattle.bt_wire.specs.Messages.{order_after}
-use Rattle.bt_feed.specs.declared.stage.Stage.{Stage}
-use Rattle.bt_feed.specs.declared.stage.Stage.TheVariants as stage
+use Rattle.bt_wire.specs.Headers.{header_of}
+use Rattle.bt_wire.specs.declared.cursor.Place.{Place}
+use Rattle.bt_wire.specs.declared.cursor.Place.TheVariants as place
 use Rattle.bt_feed.specs.declared.progress.Progress.{Progress}
-use Rattle.bt_feed.specs.Stages.{IsNumbered, start_of, number_of, limit_of, capacity_of, IsItem, Comes}
+use Rattle.bt_wire.specs.Cursors.{start_of, limit_of, capacity_of, place_after, Comes, HasLength}
 use Rattle.bt_feed.specs.Feeds.{FeedState, waiting, held_of, state_of}
 use Rattle.bt_feed.specs.Answers.{IsAnswer}
-use Rattle.bt_feed.specs.Progress.{IsPartial, HasWindow, IsProgress}
+use Rattle.bt_feed.specs.Progress.{IsPartial, IsProgress}
 use Rattle.bt_feed.specs.Transcripts.{with_items}
 use Rattle.bt_feed.specs.declared.sink.SinkFault.{SinkFault}
-use Rattle.bt_feed.specs.Pumps.{Took, IsMissed, IsHanded, IsFed}
-use Rattle.bt_feed.proofs.Coming.{item_comes}
+use Rattle.bt_feed.specs.Pumps.{Took, IsMissed, IsHanded, IsFed, IsPassed}
+use Rattle.bt_wire.proofs.Coming.{item_comes, item_long}
+use Rattle.bt_wire.proofs.CursorLaws.{limit_after}
 use Rattle.bt_feed.proofs.Moving.{front, fed_both, missed_more, took_both, took_more}
-use Rattle.bt_feed.proofs.Windows.{window_taken}
 
--- a message at the front of the bytes
-passed_one : (c : Context) (o : Order) (s n k : ℕ) (rest : List ℕ) (m : Message) → s < 2 ^ 62 → c.limit ≤ 1048576 → k ≤ length rest → IsRead c o (take k rest) m
-    → IsFed (waiting (stage.Message c o s n)) (take k rest) ((s, items.Message m) ∷ []) (waiting (stage.Message c (order_after o m) (s + k) (n + 1)))
-passed_one c o s n k rest m lt le within h =
-    let item : IsItem (stage.Message c o s n) (take k rest) (items.Message m) = (
-      record { in_range = h.said.in_range; legal = h.said.legal; start = lt },
-      sym h.spelled,
-    ) in
-    record {
-      comes = λ later v q.
-          let P : ℕ → Type 0 = λ size. Comes (stage.Message c (order_after o m) (s + size) (n + 1)) later v in
-          item_comes (stage.Message c o s n) (take k rest) later (items.Message m) v (omega (arith, le)) item (subst P (sym (length-take-le k rest within)) q);
-    }
-
-pub front_range : (rest window : List ℕ) (k : ℕ) → window ≡ slice_range rest 0 k → window ≡ take k rest
-front_range rest window k e = let same : k - 0 ≡ k = omega arith in e ∙ ap (λ (n : ℕ). take n rest) same
-
--- the bytes of a message at the front
-pub window_there : (c : Context) (o : Order) (rest window : List ℕ) (k : ℕ) → header_of c o rest ≡ headers.Window k → k ≤ length rest → window ≡ take k rest
-    → header_of c o window ≡ headers.Window (length window)
-window_there c o rest window k e le is =
-    let size : length window ≡ k = ap length is ∙ length-take-le k rest le in
-    ap (header_of c o) is ∙ window_taken c o rest k e le ∙ ap headers.Window (sym size)
+-- an item at the front of the bytes
+passed_one : (t u : Place) (k : ℕ) (rest : List ℕ) (item : Item) → IsPassed t rest k item u
+    → IsFed (waiting t) (take k rest) ((start_of t, item) ∷ []) (waiting u)
+passed_one t u k rest item h = record {
+  comes = λ later v q.
+      let size : length (take k rest) ≡ k = length-take-le k rest h.within in
+      let P : Place → Type 0 = λ x. Comes x later v in
+      let Q : ℕ → Type 0 = λ n. Comes (place_after t n item) later v in
+      item_comes t (take k rest) later item v h.limit h.is (subst Q (sym size) (subst P h.next q));
+}
 
 -- one more after those that the piece begins with
-pub passed_more : {c : Context} {o o' : Order} {s n : ℕ} (at : ℕ) {k : ℕ} (count : ℕ) (piece : List ℕ)
-    {rest window : List ℕ} {xs : List (ℕ × Item)} {m : Message} → rest ≡ drop at piece
-    → window ≡ take k rest
-    → IsFed (waiting (stage.Message c o s n)) (take at piece) xs (waiting (stage.Message c o' (s + at) (n + count)))
-    → s + at < 2 ^ 62 → c.limit ≤ 1048576 → k ≤ length rest → IsRead c o' window m
-    → IsFed (waiting (stage.Message c o s n)) (take (at + k) piece) (xs ++ (s + at, items.Message m) ∷ [])
-    (waiting (stage.Message c (order_after o' m) (s + (at + k)) (n + (count + 1))))
-passed_more {c} {o} {o'} {s} {n} at {k} count piece {rest} {window} {xs} {m} e is fed lt le within h =
-    let W : List ℕ → Type 0 = λ b. IsRead c o' b m in
-    let one = passed_one c o' (s + at) (n + count) k rest m lt le within (subst W is h) in
-    let from = waiting (stage.Message c o s n) in
-    let mid = waiting (stage.Message c o' (s + at) (n + count)) in
-    let to = waiting (stage.Message c (order_after o' m) (s + at + k) (n + count + 1)) in
-    let ys = xs ++ (s + at, items.Message m) ∷ [] in
-    let P : List ℕ → Type 0 = λ b. IsFed from b ys to in
-    let Q : ℕ → Type 0 = λ start. IsFed from (take (at + k) piece) ys (waiting (stage.Message c (order_after o' m) start (n + count + 1))) in
-    let R : ℕ → Type 0 = λ number. IsFed from (take (at + k) piece) ys (waiting (stage.Message c (order_after o' m) (s + (at + k)) number)) in
-    subst R (omega arith) (subst Q (omega arith) (subst P (front piece rest at k e) (fed_both from mid to (take at piece) (take k rest) xs
-    ((s + at, items.Message m) ∷ []) fed one)))
+pub passed_more : {s t u : Place} (at : ℕ) {k : ℕ} (piece : List ℕ) {rest : List ℕ} {xs : List (ℕ × Item)} {item : Item} → rest ≡ drop at piece
+    → IsFed (waiting s) (take at piece) xs (waiting t) → IsPassed t rest k item u
+    → IsFed (waiting s) (take (at + k) piece) (xs ++ (start_of t, item) ∷ []) (waiting u)
+passed_more {s} {t} {u} at {k} piece {rest} {xs} {item} e fed h =
+    let P : List ℕ → Type 0 = λ b. IsFed (waiting s) b (xs ++ (start_of t, item) ∷ []) (waiting u) in
+    subst P (front piece rest at k e) (fed_both (waiting s) (waiting t) (waiting u) (take at piece) (take k rest) xs ((start_of t, item) ∷ []) fed
+    (passed_one t u k rest item h))
+
+pub passed_limit : (t u : Place) (n : ℕ) (rest : List ℕ) (item : Item) → IsPassed t rest n item u → limit_of u ≡ limit_of t
+passed_limit t u n rest item h = ap limit_of h.next ∙ limit_after t n item
+
+pub passed_some : (t u : Place) (n : ℕ) (rest : List ℕ) (item : Item) → IsPassed t rest n item u → 4 ≤ n
+passed_some t u n rest item h = omega (arith, item_long t (take n rest) item h.is, length-take-le n rest h.within)
 
 -- as long as the sink took all
 pub handed_all : {S : Type 0} (takes : S → ℕ × Item → S → Type 0) (misses : S → ℕ × Item → SinkFault → S → Type 0) (a b : S) (xs : List (ℕ × Item))
@@ -98,58 +75,38 @@ missed_at takes misses a b x r e is h =
     let P : Result (Unit {0}) SinkFault → Type 0 = λ y. MatchResult y (λ _. takes a x b) (λ f. misses a x f b) in
     subst P is h
 
--- none
-pub passed_none : (c : Context) (o : Order) (s n : ℕ) (piece : List ℕ) → IsFed (waiting (stage.Message c o s n)) (take 0 piece) []
-    (waiting (stage.Message c o (s + 0) (n + 0)))
-passed_none c o s n piece =
-    let from = waiting (stage.Message c o s n) in
-    let P : ℕ → Type 0 = λ start. IsFed from [] [] (waiting (stage.Message c o start (n + 0))) in
-    let Q : ℕ → Type 0 = λ number. IsFed from [] [] (waiting (stage.Message c o s number)) in
-    subst P (omega arith) (subst Q (omega arith) (record { comes = λ later v q. q }))
+-- ---- a feed that items were handed on from
 
--- ---- a feed that messages were handed on from
-
-pub fed_waiting : (p q : Progress) (buffer bytes : List ℕ) (t : Stage) (xs : List (ℕ × Item)) → p.stage ≡ t → held_of p buffer ≡ [] → held_of q buffer ≡ []
-    → IsFed (waiting t) bytes xs (waiting q.stage) → IsFed (state_of p buffer) bytes xs (state_of q buffer)
-fed_waiting p q buffer bytes t xs e none none' fed = record {
+pub fed_waiting : (p q : Progress) (buffer bytes : List ℕ) (xs : List (ℕ × Item)) → held_of p buffer ≡ [] → held_of q buffer ≡ []
+    → IsFed (waiting p.place) bytes xs (waiting q.place) → IsFed (state_of p buffer) bytes xs (state_of q buffer)
+fed_waiting p q buffer bytes xs none none' fed = record {
   comes = λ later v k.
-      let P : List ℕ → Type 0 = λ b. Comes q.stage (b ++ later) v in
-      let Q : List ℕ → Type 0 = λ b. Comes p.stage (b ++ (bytes ++ later)) (with_items xs v) in
-      let R : Stage → Type 0 = λ u. Comes u (bytes ++ later) (with_items xs v) in
-      subst Q (sym none) (subst R (sym e) (fed.comes later v (subst P none' k)));
+      let P : List ℕ → Type 0 = λ b. Comes q.place (b ++ later) v in
+      let Q : List ℕ → Type 0 = λ b. Comes p.place (b ++ (bytes ++ later)) (with_items xs v) in
+      subst Q (sym none) (fed.comes later v (subst P none' k));
 }
 
 not_wanted : (c : Context) (o : Order) (n : ℕ) → header_of c o [] ≡ headers.Window n → ⊥
 unfolding header_of
 not_wanted c o n e = absurd cc
 
-wants_none : (t : Stage) (held : List ℕ) (n : ℕ) → held ≡ [] → HasWindow t held n → ⊥
-wants_none (stage.Handshake own) held n e h = omega (arith, h)
-wants_none (stage.Message c o s i) held n e h =
+wants_none : (t : Place) (held : List ℕ) (n : ℕ) → held ≡ [] → HasLength t held n → ⊥
+wants_none (place.Handshake own) held n e h = omega (arith, h.1, ap (length {A = ℕ}) e)
+wants_none (place.Message c o s i) held n e h =
     let P : List ℕ → Type 0 = λ b. header_of c o b ≡ headers.Window n in
     not_wanted c o n (subst P e h.1)
 
-pub passed_sound : {p : Progress} {buffer : List ℕ} {c : Context} {o : Order} (o' : Order) {s n : ℕ} (bytes count : ℕ) → IsProgress p buffer
-    → p.stage ≡ stage.Message c o s n → held_of p buffer ≡ [] → p.refused ≡ None
-    → s + bytes ≤ 2 ^ 62 + 1048580 → count ≤ bytes → IsProgress (record p { stage = stage.Message c o' (s + bytes) (n + count) }) buffer
-passed_sound {p} {buffer} {c} {o} o' {s} {n} bytes count h e none calm start le =
-    let t = stage.Message c o' (s + bytes) (n + count) in
-    let L : Stage → Type 0 = λ u. limit_of u ≤ 1048576 in
-    let N : Stage → Type 0 = λ u. number_of u ≤ start_of u + 1 in
-    let M : Stage → Type 0 = IsNumbered in
-    let P : List ℕ → Type 0 = λ b. length b ≤ capacity_of t in
-    let Q : List ℕ → Type 0 = IsPartial t in
-    let R : Option Refusal → Type 0 = λ r. IfSome r (λ x. IsAnswer (state_of (record p { stage = t }) buffer) (Err x)) in
-    let number : n ≤ s + 1 = subst N e h.number in
-    let one : 1 ≤ n = subst M e h.numbered in
+pub passed_sound : {p : Progress} {buffer : List ℕ} (u : Place) → IsProgress p buffer → held_of p buffer ≡ [] → p.refused ≡ None
+    → limit_of u ≡ limit_of p.place → IsProgress (record p { place = u }) buffer
+passed_sound {p} {buffer} u h none calm same =
+    let P : List ℕ → Type 0 = λ b. length b ≤ capacity_of u in
+    let Q : List ℕ → Type 0 = IsPartial u in
+    let R : Option Refusal → Type 0 = λ r. IfSome r (λ x. IsAnswer (state_of (record p { place = u }) buffer) (Err x)) in
     record {
-      limit = subst L e h.limit;
-      start = start;
-      number = omega (arith, number, le);
-      numbered = omega (arith, one);
+      limit = omega (arith, same, h.limit);
       bound = subst P (sym none) (omega arith);
       partial = subst Q (sym none) (record { opens = λ k lt. absurd (omega (arith, lt)) });
-      wanted = λ lt. absurd (wants_none p.stage (held_of p buffer) p.wanted none (h.wanted lt).0);
+      wanted = λ lt. absurd (wants_none p.place (held_of p buffer) p.wanted none (h.wanted lt).0);
       refused = subst R (sym calm) tt;
     }
 

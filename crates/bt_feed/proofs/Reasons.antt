@@ -10,14 +10,13 @@ use Rattle.bt_wire.specs.declared.context.Own.{Own}
 use Rattle.bt_wire.specs.declared.fault.Reason.{Reason}
 use Rattle.bt_wire.specs.declared.fault.Reason.TheVariants.{BadIndex, EndInside}
 use Rattle.bt_wire.specs.declared.fault.Refused.{Refused}
-use Rattle.bt_wire.specs.Faults.{IsFault, early, unfinished, whole, IsPayloadFault, in_bytes, in_index, IsWindowFault, in_fields, in_none, in_payload}
-use Rattle.bt_wire.specs.Faults.{placed_by, header_rows, header_fault, field_rows}
+use Rattle.bt_wire.specs.Faults.{IsFault, early, unfinished, whole, IsPayloadFault, in_bytes, in_index, IsWindowFault, in_fields, in_none, in_payload, placed_by, header_rows, header_fault, field_rows}
 use Rattle.bt_wire.specs.Handshakes.{protocol, hand_fault, first_difference}
 use Rattle.bt_wire.specs.Tables.{Row, counts, first_fault}
-use Rattle.bt_feed.specs.declared.stage.Stage.{Stage}
-use Rattle.bt_feed.specs.declared.stage.Stage.TheVariants as stage
-use Rattle.bt_feed.specs.Stages.{HasFault}
-use Rattle.bt_feed.proofs.Places.{beyond}
+use Rattle.bt_wire.specs.declared.cursor.Place.{Place}
+use Rattle.bt_wire.specs.declared.cursor.Place.TheVariants as place
+use Rattle.bt_wire.specs.Cursors.{HasFault}
+use Rattle.bt_wire.proofs.Places.{beyond}
 
 is_end : Reason → Bool
 is_end EndInside = true
@@ -81,10 +80,10 @@ hand_no_end : (own : Own) (b : List ℕ) (f : Refused) → hand_fault own b ≡ 
 unfolding hand_fault is_end
 hand_no_end own b f e = one_of (is_some (first_difference protocol b)) _ f _ refl (λ more. one_of _ _ f None refl (λ none. absurd cc) more) e
 
-fault_no_end : (t : Stage) (b : List ℕ) (f : Refused) → HasFault t b f → is_end f.reason ≡ false
-fault_no_end (stage.Handshake own) b f h = hand_no_end own b f h
-fault_no_end (stage.Message c o s n) b f h = message_no_end c o s b f h
+fault_no_end : (t : Place) (b : List ℕ) (f : Refused) → HasFault t b f → is_end f.reason ≡ false
+fault_no_end (place.Handshake own) b f h = hand_no_end own b f h
+fault_no_end (place.Message c o s n) b f h = message_no_end c o s b f h
 
-pub no_fault_ends : (t : Stage) (b : List ℕ) (f : Refused) → HasFault t b f → f.reason ≡ EndInside → ⊥
+pub no_fault_ends : (t : Place) (b : List ℕ) (f : Refused) → HasFault t b f → f.reason ≡ EndInside → ⊥
 unfolding is_end
 no_fault_ends t b f h e = let none : is_end EndInside ≡ false = sym (ap is_end e) ∙ fault_no_end t b f h in absurd cc

@@ -2,7 +2,7 @@
 use Rattle.std.proofs.Common.{◌≡◌, ℕ, ◌+◌, ◌≤◌, false, List, [], ◌∷◌, ◌++◌, take, Option, Some, None, Result, Ok, Err, map, refl, sym, ap, subst, ◌∙◌, arith}
 use Rattle.bt_wire.specs.declared.item.Item.{Item}
 use Rattle.bt_wire.specs.declared.item.Refusal.{Refusal}
-use Rattle.bt_feed.specs.Stages.{start_of, limit_of, is_closed}
+use Rattle.bt_wire.specs.Cursors.{start_of, limit_of, is_closed}
 use Rattle.bt_feed.specs.Feeds.{FeedState, taken, pushed}
 use Rattle.bt_feed.specs.Answers.{IsAnswer, after}
 use Rattle.bt_feed.specs.Progress.{IsPartial}
@@ -19,8 +19,8 @@ use Rattle.bt_feed.proofs.Moving.{front, fed_both, fed_none, fed_item, fed_all, 
 pub record IsStepped (f p g : FeedState) (piece : List ℕ) (n : ℕ) (answer : Result (Option Item) Refusal) : Type 0 where
   pub taken_is : n ≡ taken f piece
   pub held_is : p ≡ pushed f piece
-  pub partial : IsPartial p.stage p.held
-  pub limit : limit_of p.stage ≤ 1048576
+  pub partial : IsPartial p.place p.held
+  pub limit : limit_of p.place ≤ 1048576
   pub answers : IsAnswer p answer
   pub after_is : g ≡ after p answer
 
@@ -29,14 +29,14 @@ pushed_at f p g piece n answer h = record { rest_is = refl; taken_is = h.taken_i
 
 pub given_item : (f p g : FeedState) (piece : List ℕ) (n : ℕ) (answer : Result (Option Item) Refusal) (item : Item)
     → IsStepped f p g piece n answer → answer ≡ Ok (Some item)
-    → IsFed f (take n piece) ((start_of p.stage, item) ∷ []) g
+    → IsFed f (take n piece) ((start_of p.place, item) ∷ []) g
 given_item f p g piece n answer item h e =
-    let P : ℕ → Type 0 = λ k. IsFed f (take k piece) ((start_of p.stage, item) ∷ []) g in
+    let P : ℕ → Type 0 = λ k. IsFed f (take k piece) ((start_of p.place, item) ∷ []) g in
     subst P (omega arith) (fed_item {at = 0} {xs = []}
     (fed_none f) (pushed_at f p g piece n answer h) h.limit e h.answers h.after_is)
 
 pub given_none : (f p g : FeedState) (piece : List ℕ) (n : ℕ) (answer : Result (Option Item) Refusal)
-    → IsStepped f p g piece n answer → answer ≡ Ok None → IsFed f piece [] g × (is_closed g.stage g.held ≡ false)
+    → IsStepped f p g piece n answer → answer ≡ Ok None → IsFed f piece [] g × (is_closed g.place g.held ≡ false)
 given_none f p g piece n answer h e =
     fed_all {at = 0} {xs = []} (omega arith) (fed_none f) (pushed_at f p g piece n answer h) e h.answers h.after_is
 
@@ -49,7 +49,7 @@ given_refusal f p g piece n answer r h e =
 -- ---- all of a piece
 
 pub given_all : {A : Type 0} (s : Items A) (xs : List (ℕ × Item)) (u : Items A) → s.over ≡ false → YieldsThen GivesNext s (map Ok xs) None u
-    → IsFed s.feed.now s.rest.now xs u.feed.now × (is_closed u.feed.now.stage u.feed.now.held ≡ false)
+    → IsFed s.feed.now s.rest.now xs u.feed.now × (is_closed u.feed.now.place u.feed.now.held ≡ false)
 given_all {A} s [] u starts y =
     let P : Items A → Type 0 = λ t. GivesNext t None u in
     let last = (subst P (sym y.1) y.2).1 starts in

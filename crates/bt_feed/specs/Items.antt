@@ -7,7 +7,7 @@ use Rattle.bt_wire.specs.declared.item.Refusal.{Refusal}
 use Rattle.bt_feed.specs.declared.items.ItemError.{ItemError}
 use Rattle.bt_feed.specs.declared.items.ItemError.TheVariants.{Refused, Memory}
 use Rattle.bt_feed.specs.declared.items.Items.{Items}
-use Rattle.bt_feed.specs.Stages.{is_closed}
+use Rattle.bt_wire.specs.Cursors.{is_closed}
 use Rattle.bt_feed.specs.Feeds.{FeedState}
 use Rattle.bt_feed.specs.Answers.{IsAnswer}
 use Rattle.bt_feed.specs.Pumps.{IsFed}
@@ -16,7 +16,7 @@ use Rattle.bt_feed.specs.Pumps.{IsFed}
 -- is fed and no whole item is held. At a refusal the bytes yield none. Out of memory they yield one, which is lost.
 abbrev pub GivesItem : FeedState → List ℕ → ℕ → Result (Option (ℕ × Item)) ItemError → FeedState → Type 0
 GivesItem f piece n (Ok (Some x)) g = IsFed f (take n piece) (x ∷ []) g
-GivesItem f piece n (Ok None) g = IsFed f piece [] g × (is_closed g.stage g.held ≡ false)
+GivesItem f piece n (Ok None) g = IsFed f piece [] g × (is_closed g.place g.held ≡ false)
 GivesItem f piece n (Err (Refused r)) g = IsFed f (take n piece) [] g × IsAnswer g (Err r)
 GivesItem f piece n (Err Memory) g = (x : ℕ × Item) × IsFed f (take n piece) (x ∷ []) g
 
@@ -46,7 +46,7 @@ IsStart s f piece = (s.feed.now ≡ f) × (s.rest.now ≡ piece) × (s.over ≡ 
 abbrev pub GivesAll : {A : Type 0} → Items A → FeedState → List ℕ → Type 0
 GivesAll {A} s f piece =
     (xs : List (ℕ × Item)) (u : Items A) → YieldsThen GivesNext s (map Ok xs) None u →
-    IsFed f piece xs u.feed.now × (is_closed u.feed.now.stage u.feed.now.held ≡ false)
+    IsFed f piece xs u.feed.now × (is_closed u.feed.now.place u.feed.now.held ≡ false)
 
 -- where the iterator gives xs and ends with a refusal, the first bytes of the piece are fed, xs are the items that they yield, and
 -- the feed is refused

@@ -1,4 +1,3 @@
-pub mod Stages
 pub mod Feeds
 pub mod Views
 pub mod Answers

@@ -2,17 +2,14 @@
 use Rattle.std.specs.Prelude.{◌≡◌, ◌⊎◌, ◌≤◌, ◌<◌, ◌-◌, ◌*◌, ◌^◌, ℕ, Option, Some, ⊤, false, length, List, [], ◌∷◌, ◌++◌, ◌+◌, take, MatchResult, None, Result, Ok, Err}
 use Rattle.std.specs.Io.KnownBytes.{Consumes, Keeps}
 use Rattle.bt_wire.specs.declared.fault.Reason.TheVariants.{EndInside}
-use Rattle.bt_wire.specs.declared.context.Context.{Context}
-use Rattle.bt_wire.specs.declared.context.Order.{Order}
 use Rattle.bt_wire.specs.declared.item.Item.{Item}
-use Rattle.bt_wire.specs.Headers.{IsRead as IsReadAs}
-use Rattle.bt_wire.specs.Messages.{Message, order_after}
 use Rattle.bt_wire.specs.Streams.{Outcome}
 use Rattle.bt_feed.specs.declared.pumping.PumpError.{PumpError}
 use Rattle.bt_feed.specs.declared.pumping.PumpError.TheVariants as error
 use Rattle.bt_feed.specs.declared.sink.SinkFault.{SinkFault}
 use Rattle.bt_feed.specs.declared.view.Finish.TheVariants as finish
-use Rattle.bt_feed.specs.Stages.{number_of, is_closed, Comes}
+use Rattle.bt_wire.specs.declared.cursor.Place.{Place}
+use Rattle.bt_wire.specs.Cursors.{number_of, limit_of, is_closed, Comes, IsItem, place_after}
 use Rattle.bt_io.specs.Seen.{SourceSeen}
 use Rattle.bt_io.specs.declared.failed.Failed.{Failed}
 use Rattle.bt_feed.specs.Feeds.{FeedState, with_bytes}
@@ -45,14 +42,14 @@ IsGiven takes misses old given new (Err (error.Sink e)) = IsMissed takes misses 
 
 -- these bytes went into the feed, which gave these items: after them, what follows has the same outcome
 pub record IsFed (f : FeedState) (bytes : List ℕ) (xs : List (ℕ × Item)) (g : FeedState) : Type 0 where
-  pub comes : (later : List ℕ) (v : Outcome) → Comes g.stage (g.held ++ later) v → Comes f.stage (f.held ++ (bytes ++ later)) (with_items xs v)
+  pub comes : (later : List ℕ) (v : Outcome) → Comes g.place (g.held ++ later) v → Comes f.place (f.held ++ (bytes ++ later)) (with_items xs v)
 
 -- what was read has the outcome v, and its items are these
 pub record IsPumped (f : FeedState) (bytes lost : List ℕ) (xs : List (ℕ × Item)) (g : FeedState) (v : Outcome) : Type 0 where
   pub fed : IsFed f bytes xs g
-  pub comes : Comes f.stage (f.held ++ (bytes ++ lost)) v
+  pub comes : Comes f.place (f.held ++ (bytes ++ lost)) v
   pub items : v.items ≡ xs
-  pub number : v.number ≡ number_of g.stage
+  pub number : v.number ≡ number_of g.place
 
 -- After a sink's fault only what went into the feed is known. Otherwise what was read has the outcome v: at its end the answer is the
 -- verdict there, and nothing is lost; a refusal is that of the verdict, and the feed is refused with it, unless it stands only at the
@@ -94,7 +91,7 @@ IsReadBy n before after = after.reads < 2 ^ 64 - 1 → ConsumesAtMost ((after.re
 -- from the one state of the source to the other it gave bytes with which nothing is refused
 abbrev pub IsOpenTo : FeedState → SourceSeen → SourceSeen → Type 0
 IsOpenTo f before after =
-    (bytes : List ℕ) × (v : Outcome) × Consumes before.left after.left bytes × Comes f.stage (f.held ++ bytes) v × (v.refusal ≡ None)
+    (bytes : List ℕ) × (v : Outcome) × Consumes before.left after.left bytes × Comes f.place (f.held ++ bytes) v × (v.refusal ≡ None)
 
 -- the answer stands only at the stream's end
 abbrev pub IsEnd : Result ℕ PumpError → Type 0
@@ -120,13 +117,12 @@ abbrev pub IsHanded : {S : Type 0} → (S → ℕ × Item → S → Type 0) → 
 IsHanded takes misses old given new (Ok u) = Took takes old given new
 IsHanded takes misses old given new (Err e) = IsMissed takes misses e old given new
 
--- the first n of these bytes are the message m, which leaves the order o'
-pub record IsPassed (c : Context) (o : Order) (rest : List ℕ) (n : ℕ) (o' : Order) (m : Message) : Type 0 where
-  pub least : 4 ≤ n
+-- the first n of these bytes are this item, and what is awaited after it is u
+pub record IsPassed (t : Place) (rest : List ℕ) (n : ℕ) (item : Item) (u : Place) : Type 0 where
+  pub limit : limit_of t < 2 ^ 32
   pub within : n ≤ length rest
-  pub most : n ≤ c.limit + 4
-  pub read : IsReadAs c o (take n rest) m
-  pub leaves : o' ≡ order_after o m
+  pub is : IsItem t (take n rest) item
+  pub next : u ≡ place_after t n item
 
 -- the sink was given this item: it took it, or answered a fault
 abbrev pub IsOffered : {S : Type 0} → (S → ℕ × Item → S → Type 0) → (S → ℕ × Item → SinkFault → S → Type 0) → S → ℕ × Item → S → Result (Unit {0}) SinkFault
@@ -135,7 +131,7 @@ IsOffered takes misses old x new r = MatchResult r (λ _. takes old x new) (λ e
 
 -- a piece is read; or its front, and what follows is refused, or the last item isn't taken
 abbrev pub IsPieceEnd : FeedState → List ℕ → List (ℕ × Item) → FeedState → Result (Unit {0}) PumpError → Type 0
-IsPieceEnd f piece xs g (Ok u) = IsFed f piece xs g × (is_closed g.stage g.held ≡ false)
+IsPieceEnd f piece xs g (Ok u) = IsFed f piece xs g × (is_closed g.place g.held ≡ false)
 IsPieceEnd f piece xs g (Err (error.Refused r)) = (n : ℕ) × IsFed f (take n piece) xs g × IsAnswer g (Err r)
 IsPieceEnd f piece xs g (Err (error.Sink e)) = (n : ℕ) × IsFed f (take n piece) xs g
 IsPieceEnd f piece xs g (Err error.ReadFault) = ⊥
@@ -166,8 +162,8 @@ IsVerdictAtEnd v (Err error.Turns) = ⊥
 -- what is held has no further item, and the answer is the verdict at the stream's end
 pub record IsEndOf (f : FeedState) (r : Result ℕ PumpError) : Type 0 where
   pub last : Outcome
-  pub comes : Comes f.stage f.held last
+  pub comes : Comes f.place f.held last
   pub no_items : last.items ≡ []
-  pub number : last.number ≡ number_of f.stage
+  pub number : last.number ≡ number_of f.place
   pub verdict : IsVerdictAtEnd last r
   pub at_end : IsEnd r

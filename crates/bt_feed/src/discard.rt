@@ -3,7 +3,7 @@ ghost use Rattle.std.specs.Prelude.{◌≡◌};
 ghost use Rattle.bt_feed.specs.Sinks.{discarded};
 
 use crate::sink::{Sink, SinkFault};
-use crate::view::View;
+use bt_wire::View;
 
 /// A sink that takes every item and keeps none, for a stream that is only checked.
 #[derive(Drop)]

@@ -5,13 +5,15 @@ use crate::buffer::Buffer;
 use crate::judged::Judged;
 use crate::progress::Progress;
 use crate::sink::{Sink, SinkFault};
-use crate::stage::{END, Stage};
-use crate::view::{Finish, TakeError, View, dict_len_of};
+use crate::view::{Finish, TakeError};
 use bt_io::{Failed, Source};
-use bt_wire::{Context, Order, Own, Refusal};
+use bt_wire::{Context, Cursor, Order, Own, Refusal, View};
 use std::alloc::{AllocError, Allocator, Global};
 use std::marker::Model;
 use thiserror::Error;
+
+/// The offset below which a message starts.
+pub(crate) const END: u64 = 1 << 62;
 
 /// The greatest limit that a receiver may have, in bytes.
 const MAX_LIMIT: u32 = 1_048_576;
@@ -70,12 +72,13 @@ impl<A: Allocator> Model for Feed<A> {
     ghost invariant = { IsSound };
 }
 
-ghost use Rattle.bt_feed.specs.Stages.{limit_of, start_of, number_of, capacity_of, is_closed, IsItem, stage_after};
+ghost use Rattle.bt_wire.specs.Cursors.{limit_of, start_of, number_of, capacity_of, is_closed, IsItem, place_after, item_of};
+ghost use Rattle.bt_wire.specs.declared.cursor.Place.TheVariants as place;
 ghost use Rattle.bt_feed.specs.Feeds.{taken, pushed};
 ghost use Rattle.bt_wire.specs.declared.item.Item.{Item};
 ghost use Rattle.bt_io.specs.Counts.{Grew, one_more, counted, is_end};
 ghost use Rattle.bt_feed.specs.Pumps.{IsHanded, IsFed, IsRead};
-ghost use Rattle.bt_feed.specs.Views.{shown, item_of};
+ghost use Rattle.bt_feed.specs.Views.{shown};
 ghost use Rattle.bt_feed.specs.Judged.{IsJudged, WasJudged};
 ghost use Rattle.bt_feed.specs.Progress.{IsPartial, IsFeed};
 ghost use Rattle.bt_feed.specs.Answers.{IsAnswer, IsFollowing, followed, after, standing, finish_of};
@@ -91,7 +94,7 @@ impl<A: Allocator> Feed<A> {
     /// # Errors
     /// `BadLimit` exactly if the limit isn't 1 to 1,048,576, `Memory` when out of memory.
     pub fn new(alloc: A, own: Own) -> Result<Feed<A>, FeedError>
-        ensures ok { IfOk result (λ feed. feed ≡ record { stage = Stage.Handshake own; held = []; refused = None }) }
+        ensures ok { IfOk result (λ feed. feed ≡ record { place = place.Handshake own; held = []; refused = None }) }
         ensures limit { IsErrOf result FeedError.BadLimit ↔ ((own.limit ≡ 0) ⊎ (1048576 < own.limit)) }
         ensures base { IsErrOf result FeedError.BadBase → ⊥ }
     {
@@ -99,7 +102,7 @@ impl<A: Allocator> Feed<A> {
             return Err(FeedError::BadLimit);
         }
         Ok(Feed {
-            progress: Progress::new(Stage::Handshake(own)),
+            progress: Progress::new(Cursor::new(own)),
             buffer: Buffer::with_capacity(alloc, (own.limit as usize + 4).max(68))?,
             is_direct: false,
         })
@@ -113,7 +116,7 @@ impl<A: Allocator> Feed<A> {
     /// `BadLimit` exactly if the limit isn't 1 to 1,048,576; else `BadBase` exactly if `base` is above 2^62. `Memory` when out of
     /// memory.
     pub fn new_at(alloc: A, context: Context, order: Order, base: u64) -> Result<Feed<A>, FeedError>
-        ensures ok { IfOk result (λ feed. feed ≡ record { stage = Stage.Message context order base 1; held = []; refused = None }) }
+        ensures ok { IfOk result (λ feed. feed ≡ record { place = place.Message context order base 1; held = []; refused = None }) }
         ensures limit { IsErrOf result FeedError.BadLimit ↔ ((context.limit ≡ 0) ⊎ (1048576 < context.limit)) }
         ensures base { IsErrOf result FeedError.BadBase ↔ ((0 < context.limit) × (context.limit ≤ 1048576) × (2 ^ 62 < base)) }
     {
@@ -124,12 +127,7 @@ impl<A: Allocator> Feed<A> {
             return Err(FeedError::BadBase);
         }
         Ok(Feed {
-            progress: Progress::new(Stage::Message {
-                context,
-                order,
-                start: base,
-                number: 1,
-            }),
+            progress: Progress::new(Cursor::at(context, order, base)),
             buffer: Buffer::with_capacity(alloc, (context.limit as usize + 4).max(68))?,
             is_direct: false,
         })
@@ -138,18 +136,18 @@ impl<A: Allocator> Feed<A> {
     /// Returns the offset at which the current item starts.
     #[inline(always)]
     pub fn start(&self) -> u64
-        ensures value { result ≡ start_of self.now.stage }
+        ensures value { result ≡ start_of self.now.place }
         ensures feed { IsFeed self.now }
     {
-        self.progress.stage.start()
+        self.progress.place.start()
     }
 
     /// Returns the number of the current item: 0 for the handshake, then 1, 2, ..
     pub fn number(&self) -> u64
-        ensures value { result ≡ number_of self.now.stage }
+        ensures value { result ≡ number_of self.now.place }
         ensures feed { IsFeed self.now }
     {
-        self.progress.stage.number()
+        self.progress.place.number()
     }
 
     /// Returns how many bytes of the current item are buffered.
@@ -168,8 +166,8 @@ impl<A: Allocator> Feed<A> {
         ensures taken { result ≡ taken self.old piece.now }
         ensures held { self.new ≡ pushed self.old piece.now }
         ensures in_range { result ≤ length piece.now }
-        ensures bound { length self.new.held ≤ capacity_of self.new.stage }
-        ensures partial { IsPartial self.new.stage self.new.held }
+        ensures bound { length self.new.held ≤ capacity_of self.new.place }
+        ensures partial { IsPartial self.new.place self.new.held }
     {
         self.progress.fill(&mut self.buffer, piece)
     }
@@ -190,7 +188,7 @@ impl<A: Allocator> Feed<A> {
         ensures items { (xs : List (ℕ × Item)) × IsHanded S.takes S.misses sink.old xs sink.new result.1 × IsFed self.old (take result.0 piece.now) xs self.new }
         ensures calm { OnOk result.1 (S.failed sink.new ≡ S.failed sink.old) }
         ensures sink { OnErr result.1 (Grew (S.failed sink.old) (S.failed sink.new)) }
-        ensures limit { limit_of self.new.stage ≤ 1048576 }
+        ensures limit { limit_of self.new.place ≤ 1048576 }
     {
         self.progress.pass(self.buffer.as_slice(), sink, piece)
     }
@@ -246,17 +244,19 @@ impl<A: Allocator> Feed<A> {
         ensures value { IsAnswer self.now (shown result) }
         ensures feed { IsFeed self.now }
     {
+        // For its second clause.
+        let _ = self.number();
         self.progress.answer(self.buffer.as_slice())
     }
 
     /// Returns what is awaited after the item that [`Feed::look`] returned as `view`.
     #[inline(always)]
-    pub fn following(&self, view: &View) -> Stage
-        requires { IsItem self.now.stage self.now.held (item_of view.now) }
-        ensures { result ≡ stage_after self.now.stage (length self.now.held) (item_of view.now) }
+    pub fn following(&self, view: &View) -> Cursor
+        requires { IsItem self.now.place self.now.held (item_of view.now) }
+        ensures { result ≡ place_after self.now.place (length self.now.held) (item_of view.now) }
     {
-        let mut next = self.progress.stage;
-        next.advance(view, self.held());
+        let mut next = self.progress.place;
+        next.pass(view, self.held());
         next
     }
 
@@ -264,7 +264,7 @@ impl<A: Allocator> Feed<A> {
     ///
     /// `next` is what [`Feed::following`] returned for it. It has the effect of [`Feed::take`].
     #[inline(always)]
-    pub fn commit(&mut self, next: Stage)
+    pub fn commit(&mut self, next: Cursor)
         requires { IsFollowing self.old next }
         ensures { self.new ≡ followed self.old next }
     {
@@ -274,12 +274,12 @@ impl<A: Allocator> Feed<A> {
     /// Returns what [`Feed::hand`] needs of the item that [`Feed::look`] returned as `view`.
     #[inline(always)]
     pub fn judged(&self, view: &View) -> Judged
-        requires { IsItem self.now.stage self.now.held (item_of view.now) }
+        requires { IsItem self.now.place self.now.held (item_of view.now) }
         ensures { IsJudged self.now (item_of view.now) result }
     {
         Judged {
             next: self.following(view),
-            dict_len: dict_len_of(view),
+            dict_len: view.dict_len(),
         }
     }
 
@@ -289,7 +289,7 @@ impl<A: Allocator> Feed<A> {
     #[inline(always)]
     pub fn hand(&mut self, judged: Judged) -> View<'_>
         requires { WasJudged self.old judged }
-        ensures value { IsItem self.old.stage self.old.held (item_of result) }
+        ensures value { IsItem self.old.place self.old.held (item_of result) }
         ensures* after { sem 𝓛 (Rests (the_row A.row A.Allocator) self.entry (λ new. new ≡ followed self.old judged.next)) }
     {
         self.progress.hand(self.buffer.as_slice(), judged)

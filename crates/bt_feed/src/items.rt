@@ -3,8 +3,8 @@ ghost use Rattle.std.specs.Prelude.{◌≡◌, ◌≤◌, ◌<◌, ◌-◌, ◌�
 ghost use Rattle.bt_feed.specs.Items.{GivesItem, work, IsStart, GivesAll, GivesUpTo};
 
 use crate::feed::Feed;
-use crate::view::{refusal_in, to_item};
-use bt_wire::{Item, Refusal};
+use crate::view::refusal_in;
+use bt_wire::{Item, Refusal, to_item};
 use std::alloc::{AllocError, Allocator, Global};
 use thiserror::Error;
 

@@ -1,10 +1,11 @@
 //! Theorems about the definitions. Each is the contract of a function with an empty body, except `closed_has_ended`.
 ghost use Rattle.std.specs.Prelude.{◌≡◌, ◌≤◌, true};
-ghost use Rattle.bt_feed.specs.Stages.{limit_of, is_closed};
+ghost use Rattle.bt_wire.specs.Cursors.{limit_of, is_closed};
 ghost use Rattle.bt_feed.specs.Progress.{IsPartial};
 ghost use Rattle.bt_feed.specs.Laws.{IsEnded, EndedIsClosed, ClosedStays, TakenIsLeast, PushesJoin, AnswerIsOne, ItemComes, FaultComes, OpenComes, OutcomeIsOne, FinishIsVerdict};
 
-use crate::stage::Stage;
+use crate::feed::END;
+use bt_wire::{Cursor, Place};
 
 /// States that bytes that encode an item or have a fault are closed, and stay so.
 pub fn ended_is_closed()
@@ -16,12 +17,26 @@ pub fn ended_is_closed()
 ///
 /// The bytes are those of one item, up to the first with which they are closed. The function finds which of both, and keeps
 /// nothing.
-pub fn closed_has_ended(stage: &Stage, held: &[u8])
-    requires limit { limit_of stage.now ≤ 1048576 }
-    requires partial { IsPartial stage.now held.now }
-    ensures { is_closed stage.now held.now ≡ true → IsEnded stage.now held.now }
+pub fn closed_has_ended(place: &Place, held: &[u8])
+    requires limit { limit_of place.now ≤ 1048576 }
+    requires partial { IsPartial place.now held.now }
+    ensures { is_closed place.now held.now ≡ true → IsEnded place.now held.now }
 {
-    let _ = stage.judge(held);
+    match place {
+        Place::Handshake(own) => {
+            let _ = Cursor::new(*own).read(held);
+        }
+        Place::Message {
+            context,
+            order,
+            start,
+            ..
+        } => {
+            if *start <= END {
+                let _ = Cursor::at(*context, *order, *start).read(held);
+            }
+        }
+    }
 }
 
 /// States that a push takes the fewest bytes with which the item is closed.

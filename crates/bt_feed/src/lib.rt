@@ -4,6 +4,7 @@
 #![tactic(auto)]
 
 mod buffer;
+mod by_id;
 mod discard;
 mod feed;
 mod items;
@@ -16,13 +17,13 @@ mod pumping;
 mod sender;
 mod sink;
 mod slices;
-mod stage;
 mod transcript;
 mod view;
 
 pub use bt_io::{
     Failed, Host, MemSource, MemTarget, Memory, Outbox, Source, Target, WriteFault, write_front,
 };
+pub use bt_wire::{Cursor, View, to_item};
 pub use discard::Discard;
 pub use feed::{Feed, FeedError};
 pub use items::{ItemError, Items};
@@ -31,6 +32,5 @@ pub use peer_error::PeerError;
 pub use pumping::{PumpError, pump, pump_with};
 pub use sender::peer_context;
 pub use sink::{Sink, SinkFault};
-pub use stage::Stage;
 pub use transcript::{Transcript, read_all};
-pub use view::{Finish, TakeError, View, refusal_in, to_item};
+pub use view::{Finish, TakeError, refusal_in};

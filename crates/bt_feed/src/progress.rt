@@ -3,28 +3,27 @@ ghost use Rattle.std.specs.Prelude.{◌≡◌, ◌+◌, ◌-◌, ◌<◌, ◌≤
 ghost use Rattle.bt_wire.specs.declared.item.Item.{Item};
 ghost use Rattle.bt_io.specs.Counts.{Grew, one_more, counted, is_end};
 ghost use Rattle.bt_feed.specs.Pumps.{IsHanded, IsFed, IsRead};
-ghost use Rattle.bt_feed.specs.Stages.{limit_of, capacity_of, is_closed, IsItem};
+ghost use Rattle.bt_wire.specs.Cursors.{limit_of, capacity_of, is_closed, IsItem, item_of, HasLength};
 ghost use Rattle.bt_feed.specs.Feeds.{held_of, state_of};
-ghost use Rattle.bt_feed.specs.Views.{shown, item_of};
+ghost use Rattle.bt_feed.specs.Views.{shown};
 ghost use Rattle.bt_feed.specs.Judged.{WasJudged};
-ghost use Rattle.bt_feed.specs.Answers.{IsAnswer, IsFound, IsFollowing, followed, after, standing, finish_of};
-ghost use Rattle.bt_feed.specs.Progress.{IsPartial, HasWindow, Fills, IsProgress, IsSameItem};
+ghost use Rattle.bt_feed.specs.Answers.{IsAnswer, IsEarly, IsFollowing, followed, after, standing, finish_of};
+ghost use Rattle.bt_feed.specs.Progress.{IsPartial, Fills, IsProgress, IsSameItem};
 
 use crate::buffer::Buffer;
 use crate::judged::Judged;
-use crate::passing::pass_messages;
+use crate::passing::pass_items;
 use crate::sink::{Sink, SinkFault};
 use crate::slices::suffix;
-use crate::stage::{Goal, Stage};
-use crate::view::{Finish, TakeError, View};
+use crate::view::{Finish, TakeError};
 use bt_io::{Failed, Source};
-use bt_wire::{Reason, Refusal, Refused, view_window};
+use bt_wire::{Cursor, Found, Measure, Reason, Refusal, Refused, View};
 use std::alloc::Allocator;
 
 /// What is known of the bytes in the buffer.
 #[derive(Drop)]
 pub struct Progress {
-    pub stage: Stage,
+    pub place: Cursor,
     /// Whether they belong to an item that was taken.
     pub spent: bool,
     /// How many bytes the current message has; 0 before its header is checked.
@@ -50,13 +49,29 @@ fn append_up_to<A: Allocator>(buffer: &mut Buffer<A>, goal: usize, bytes: &[u8])
     count
 }
 
+/// Returns whether all of the item is there.
+///
+/// # Errors
+/// The refusal that is found before all of the item is there.
+#[cold]
+#[inline(never)]
+fn early(cursor: &Cursor, held: &[u8]) -> Result<bool, Refusal>
+    ensures { IsEarly cursor.now held.now result }
+{
+    match cursor.measure(held) {
+        Measure::Need(_) => Ok(false),
+        Measure::Length(length) => Ok(held.len() >= length),
+        Measure::Refused(refusal) => Err(refusal),
+    }
+}
+
 impl Progress {
     /// Makes the progress of a feed to which nothing has come.
-    pub fn new(stage: Stage) -> Progress
-        ensures { result ≡ record { stage = stage; spent = false; wanted = 0; refused = None } }
+    pub fn new(place: Cursor) -> Progress
+        ensures { result ≡ record { place = place; spent = false; wanted = 0; refused = None } }
     {
         Progress {
-            stage,
+            place,
             spent: false,
             wanted: 0,
             refused: None,
@@ -74,19 +89,19 @@ impl Progress {
     /// Appends bytes up to the next place where they are checked; returns how many.
     fn step<A: Allocator>(&mut self, buffer: &mut Buffer<A>, piece: &[u8]) -> usize
         requires sound { IsProgress self.old buffer.old.items }
-        requires room { capacity_of self.old.stage ≤ buffer.old.capacity }
+        requires room { capacity_of self.old.place ≤ buffer.old.capacity }
         requires fresh { self.old.spent ≡ false }
         requires unjudged { self.old.wanted ≡ 0 }
-        ensures fills { Fills self.old.stage buffer.old.items piece.now buffer.new.items result }
-        ensures stops { (result ≡ 0) ⊎ (0 < self.new.wanted) → result < length piece.now → is_closed self.old.stage buffer.new.items ≡ true }
+        ensures fills { Fills self.old.place buffer.old.items piece.now buffer.new.items result }
+        ensures stops { (result ≡ 0) ⊎ (0 < self.new.wanted) → result < length piece.now → is_closed self.old.place buffer.new.items ≡ true }
         ensures sound { IsProgress self.new buffer.new.items }
         ensures room { buffer.old.capacity ≤ buffer.new.capacity }
         ensures same { IsSameItem self.old self.new }
     {
-        match self.stage.next_goal(buffer.as_slice()) {
-            Goal::Closed => 0,
-            Goal::Until(count) => append_up_to(buffer, count, piece),
-            Goal::Window(length) => {
+        match self.place.measure(buffer.as_slice()) {
+            Measure::Refused(_) => 0,
+            Measure::Need(count) => append_up_to(buffer, count, piece),
+            Measure::Length(length) => {
                 self.wanted = length;
                 append_up_to(buffer, length, piece)
             }
@@ -100,11 +115,11 @@ impl Progress {
     #[inline(never)]
     fn fill_by_steps<A: Allocator>(&mut self, buffer: &mut Buffer<A>, piece: &[u8]) -> usize
         requires sound { IsProgress self.old buffer.old.items }
-        requires room { capacity_of self.old.stage ≤ buffer.old.capacity }
+        requires room { capacity_of self.old.place ≤ buffer.old.capacity }
         requires fresh { self.old.spent ≡ false }
         requires unjudged { self.old.wanted ≡ 0 }
-        ensures fills { Fills self.old.stage buffer.old.items piece.now buffer.new.items result }
-        ensures stops { result < length piece.now → is_closed self.old.stage buffer.new.items ≡ true }
+        ensures fills { Fills self.old.place buffer.old.items piece.now buffer.new.items result }
+        ensures stops { result < length piece.now → is_closed self.old.place buffer.new.items ≡ true }
         ensures sound { IsProgress self.new buffer.new.items }
         ensures room { buffer.old.capacity ≤ buffer.new.capacity }
         ensures same { IsSameItem self.old self.new }
@@ -142,11 +157,14 @@ impl Progress {
     fn length(&self, buffer: &[u8], piece: &[u8]) -> usize
         requires sound { IsProgress self.now buffer.now }
         requires fresh { self.now.spent ≡ false }
-        ensures window { 0 < result → HasWindow self.now.stage (buffer.now ++ piece.now) result × (length buffer.now ≤ result) }
+        ensures window { 0 < result → HasLength self.now.place (buffer.now ++ piece.now) result × (length buffer.now ≤ result) }
         ensures unjudged { result ≡ 0 → self.now.wanted ≡ 0 }
     {
         if self.wanted == 0 && buffer.is_empty() {
-            self.stage.window_of(piece)
+            match self.place.measure(piece) {
+                Measure::Length(length) => length,
+                _ => 0,
+            }
         } else {
             self.wanted
         }
@@ -156,9 +174,9 @@ impl Progress {
     #[inline(always)]
     pub fn fill<A: Allocator>(&mut self, buffer: &mut Buffer<A>, piece: &[u8]) -> usize
         requires sound { IsProgress self.old buffer.old.items }
-        requires room { capacity_of self.old.stage ≤ buffer.old.capacity }
-        ensures fills { Fills self.old.stage (held_of self.old buffer.old.items) piece.now buffer.new.items result }
-        ensures stops { result < length piece.now → is_closed self.old.stage buffer.new.items ≡ true }
+        requires room { capacity_of self.old.place ≤ buffer.old.capacity }
+        ensures fills { Fills self.old.place (held_of self.old buffer.old.items) piece.now buffer.new.items result }
+        ensures stops { result < length piece.now → is_closed self.old.place buffer.new.items ≡ true }
         ensures sound { IsProgress self.new buffer.new.items }
         ensures room { buffer.old.capacity ≤ buffer.new.capacity }
         ensures same { IsSameItem self.old self.new }
@@ -183,7 +201,7 @@ impl Progress {
         most: usize,
     ) -> Option<Result<usize, Failed>>
         requires sound { IsProgress self.now buffer.old.items }
-        requires room { capacity_of self.now.stage ≤ buffer.old.capacity }
+        requires room { capacity_of self.now.place ≤ buffer.old.capacity }
         requires most { 0 < most }
         ensures none { result ≡ None → (buffer.new ≡ buffer.old) × (reader.new ≡ reader.old) }
         ensures few { IfSome result (λ r. IfOk r (λ n. n ≤ most)) }
@@ -224,50 +242,12 @@ impl Progress {
         ensures calm { OnOk result.1 (S.failed sink.new ≡ S.failed sink.old) }
         ensures sink { OnErr result.1 (Grew (S.failed sink.old) (S.failed sink.new)) }
         ensures sound { IsProgress self.new buffer.now }
-        ensures limit { limit_of self.new.stage ≡ limit_of self.old.stage }
+        ensures limit { limit_of self.new.place ≡ limit_of self.old.place }
     {
         if self.refused.is_some() || self.held(buffer).len() > 0 {
             return (0, Ok(()));
         }
-        let Stage::Message {
-            context,
-            order,
-            start,
-            number,
-        } = &mut self.stage
-        else {
-            return (0, Ok(()));
-        };
-        let passed = pass_messages(context, *order, *start, sink, piece);
-        *order = passed.order;
-        *start += passed.bytes as u64;
-        *number += passed.messages;
-        (passed.bytes, passed.taken)
-    }
-
-    /// Returns the item that the bytes are, if they are a whole one.
-    ///
-    /// # Errors
-    /// The fault of the item, with its offset in it.
-    #[inline(always)]
-    fn find<'a>(&self, held: &'a [u8]) -> Result<Option<View<'a>>, Refused>
-        requires limit { limit_of self.now.stage ≤ 1048576 }
-        requires partial { IsPartial self.now.stage held.now }
-        requires wanted { 0 < self.now.wanted → HasWindow self.now.stage held.now self.now.wanted × (length held.now ≤ self.now.wanted) }
-        ensures { IsFound self.now.stage held.now result }
-    {
-        if self.wanted > 0 {
-            if held.len() < self.wanted {
-                return Ok(None);
-            }
-            if let Stage::Message { context, order, .. } = &self.stage {
-                return match view_window(context, *order, held) {
-                    Ok(view) => Ok(Some(View::Message(view))),
-                    Err(fault) => Err(fault),
-                };
-            }
-        }
-        self.stage.judge(held)
+        pass_items(&mut self.place, sink, piece)
     }
 
     /// Returns the current item, if it is whole.
@@ -279,9 +259,10 @@ impl Progress {
         requires { IsProgress self.now buffer.now }
         ensures { IsAnswer (state_of self.now buffer.now) (shown result) }
     {
-        match self.find(self.held(buffer)) {
-            Ok(found) => Ok(found),
-            Err(fault) => Err(TakeError::Refused(self.stage.refusal(fault))),
+        match self.place.read(self.held(buffer)) {
+            Found::Need(_) => Ok(None),
+            Found::Item(view, _) => Ok(Some(view)),
+            Found::Refused(refusal) => Err(TakeError::Refused(refusal)),
         }
     }
 
@@ -296,7 +277,7 @@ impl Progress {
         ensures again { IfSome self.old.refused (λ r. result ≡ Err (TakeError.Refused r)) }
         ensures after { state_of self.new buffer.now ≡ after (state_of self.old buffer.now) (shown result) }
         ensures sound { IsProgress self.new buffer.now }
-        ensures limit { limit_of self.new.stage ≡ limit_of self.old.stage }
+        ensures limit { limit_of self.new.place ≡ limit_of self.old.place }
     {
         if let Some(refusal) = self.refused {
             return Err(TakeError::Refused(refusal));
@@ -304,7 +285,7 @@ impl Progress {
         match self.answer(buffer) {
             Ok(Some(view)) => {
                 let size = self.held(buffer).len();
-                self.stage.advance(&view, size);
+                self.place.pass(&view, size);
                 self.spent = true;
                 self.wanted = 0;
                 Ok(Some(view))
@@ -319,16 +300,16 @@ impl Progress {
 
     /// Goes on to what follows the item that the bytes are, without a second check.
     #[inline(always)]
-    pub fn commit(&mut self, buffer: &[u8], next: Stage)
+    pub fn commit(&mut self, buffer: &[u8], next: Cursor)
         requires sound { IsProgress self.old buffer.now }
         requires item { IsFollowing (state_of self.old buffer.now) next }
         ensures after { state_of self.new buffer.now ≡ followed (state_of self.old buffer.now) next }
         ensures sound { IsProgress self.new buffer.now }
-        ensures limit { limit_of self.new.stage ≡ limit_of self.old.stage }
+        ensures limit { limit_of self.new.place ≡ limit_of self.old.place }
     {
         let _ = buffer;
         *self = Progress {
-            stage: next,
+            place: next,
             spent: true,
             wanted: 0,
             refused: self.refused,
@@ -340,12 +321,12 @@ impl Progress {
     pub fn hand<'a>(&mut self, buffer: &'a [u8], judged: Judged) -> View<'a>
         requires sound { IsProgress self.old buffer.now }
         requires judged { WasJudged (state_of self.old buffer.now) judged }
-        ensures value { IsItem self.old.stage (held_of self.old buffer.now) (item_of result) }
+        ensures value { IsItem self.old.place (held_of self.old buffer.now) (item_of result) }
         ensures after { state_of self.new buffer.now ≡ followed (state_of self.old buffer.now) judged.next }
         ensures sound { IsProgress self.new buffer.now }
-        ensures limit { limit_of self.new.stage ≡ limit_of self.old.stage }
+        ensures limit { limit_of self.new.place ≡ limit_of self.old.place }
     {
-        let view = self.stage.view_judged(self.held(buffer), judged.dict_len);
+        let view = self.place.view_judged(self.held(buffer), judged.dict_len);
         self.commit(buffer, judged.next);
         view
     }
@@ -362,8 +343,8 @@ impl Progress {
         if let Some(refusal) = self.refused {
             return Some(refusal);
         }
-        match self.stage.early(self.held(buffer)) {
-            Err(fault) => Some(self.stage.refusal(fault)),
+        match early(&self.place, self.held(buffer)) {
+            Err(refusal) => Some(refusal),
             Ok(_) => None,
         }
     }
@@ -382,18 +363,16 @@ impl Progress {
             return Err(Finish::Refused(refusal));
         }
         let held = self.held(buffer);
-        match self.stage.early(held) {
-            Err(fault) => Err(Finish::Refused(self.stage.refusal(fault))),
+        match early(&self.place, held) {
+            Err(refusal) => Err(Finish::Refused(refusal)),
             Ok(true) => Err(Finish::Untaken),
-            Ok(false) => match self.stage {
-                Stage::Message { start, .. } if held.is_empty() => Ok(start),
-                _ => Err(Finish::Refused(
-                    self.stage.refusal(Refused {
-                        at: held.len() as u64,
-                        reason: Reason::EndInside,
-                    }),
-                )),
-            },
+            Ok(false) if held.is_empty() && self.place.number() > 0 => Ok(self.place.start()),
+            Ok(false) => Err(Finish::Refused(
+                self.place.refusal(Refused {
+                    at: held.len() as u64,
+                    reason: Reason::EndInside,
+                }),
+            )),
         }
     }
 }

@@ -7,7 +7,7 @@ ghost use Rattle.bt_wire.specs.declared.item.Item.{Item};
 ghost use Rattle.bt_io.specs.Counts.{Grew, one_more, counted, is_end};
 ghost use Rattle.bt_io.specs.Seen.{EndRead, ReadFailed};
 ghost use Rattle.bt_feed.specs.Pumps.{IsGiven, IsEnd, IsEndOf, IsPump, pump_state, IsOpenTo, IsPieceEnd, IsSinkFault, IsReadOn, IsReadBy, ConsumesAtMost, came};
-ghost use Rattle.bt_feed.specs.Stages.{limit_of, is_closed};
+ghost use Rattle.bt_wire.specs.Cursors.{limit_of, is_closed};
 
 use crate::feed::Feed;
 use crate::sink::{Sink, SinkFault};
@@ -45,7 +45,7 @@ fn pump_piece<S: Sink, A: Allocator>(
     ensures sink { IsSinkFault result → Grew (S.failed sink.old) (S.failed sink.new) }
     ensures quiet { (IsSinkFault result → ⊥) → S.failed sink.new ≡ S.failed sink.old }
     ensures emptied { IsSinkFault result → feed.new.held ≡ [] }
-    ensures limit { limit_of feed.new.stage ≤ 1048576 }
+    ensures limit { limit_of feed.new.place ≤ 1048576 }
 {
     let mut at = 0;
     'items: loop {
@@ -69,7 +69,7 @@ fn pump_piece<S: Sink, A: Allocator>(
 
 /// Returns the length of the stream if it may end here; no whole item is buffered.
 fn end<A: Allocator>(feed: &Feed<A>) -> Result<u64, PumpError>
-    requires { is_closed feed.now.stage feed.now.held ≡ false }
+    requires { is_closed feed.now.place feed.now.held ≡ false }
     ensures end { IsEndOf feed.now result }
 {
     let _ = feed.start();

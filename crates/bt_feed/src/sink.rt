@@ -3,9 +3,9 @@ ghost use Rattle.std.specs.Prelude.{◌≡◌, ℕ, MatchResult, is_err};
 ghost use Rattle.bt_wire.specs.declared.item.Item.{Item};
 ghost use Rattle.bt_feed.specs.declared.sink.SinkFault.{SinkFault};
 ghost use Rattle.bt_io.specs.Counts.{one_more, counted};
-ghost use Rattle.bt_feed.specs.Views.{item_of};
+ghost use Rattle.bt_wire.specs.Cursors.{item_of};
 
-use crate::view::View;
+use bt_wire::View;
 use thiserror::Error;
 
 /// Why a sink doesn't take an item.

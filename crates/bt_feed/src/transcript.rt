@@ -3,16 +3,15 @@ ghost use Rattle.std.specs.Prelude.{◌≡◌, ◌+◌, ◌<◌, ◌≤◌, ◌^
 ghost use Rattle.bt_wire.specs.declared.context.Own.{Own};
 ghost use Rattle.bt_wire.specs.declared.item.Item.{Item};
 ghost use Rattle.bt_wire.specs.declared.item.Refusal.{Refusal};
-ghost use Rattle.bt_feed.specs.declared.stage.Stage.{Stage};
-ghost use Rattle.bt_feed.specs.Stages.{is_closed};
+ghost use Rattle.bt_wire.specs.declared.cursor.Place.{Place};
+ghost use Rattle.bt_wire.specs.Cursors.{is_closed, item_of};
 ghost use Rattle.bt_feed.specs.Answers.{IsAnswer};
 ghost use Rattle.bt_feed.specs.Transcripts.{IsTranscript, Reads, IsReadTo};
-ghost use Rattle.bt_feed.specs.Views.{item_of};
 
 use crate::feed::{Feed, FeedError};
 use crate::slices::suffix;
-use crate::view::{refusal_in, to_item};
-use bt_wire::{Item, Own, Refusal};
+use crate::view::refusal_in;
+use bt_wire::{Item, Own, Refusal, to_item};
 use std::alloc::{AllocError, Global};
 
 /// All that is parsed of a stream: items with their offsets, and what follows.
@@ -32,7 +31,7 @@ fn read_piece(
     items: &mut Vec<(u64, Item)>,
     piece: &[u8],
 ) -> Result<Option<Refusal>, AllocError>
-    ensures { IfOk result (λ refused. (t : Stage) (all later : List ℕ) → Reads t all items.old.items feed.old (piece.now ++ later)
+    ensures { IfOk result (λ refused. (t : Place) (all later : List ℕ) → Reads t all items.old.items feed.old (piece.now ++ later)
         → IsReadTo t all items.new.items feed.new later refused) }
 {
     let mut at = 0;
@@ -52,7 +51,7 @@ fn read_piece(
 
 /// Parses the chunks that follow, up to their end or a refusal.
 fn read_pieces(alloc: Global, mut feed: Feed, pieces: &[Vec<u8>]) -> Result<Transcript, AllocError>
-    ensures { IfOk result (λ t. (own : Own) (all : List ℕ) → Reads (Stage.Handshake own) all [] feed (flat_map (λ piece. piece.items) pieces.now) → is_closed feed.stage feed.held ≡ false
+    ensures { IfOk result (λ t. (own : Own) (all : List ℕ) → Reads (Place.Handshake own) all [] feed (flat_map (λ piece. piece.items) pieces.now) → is_closed feed.place feed.held ≡ false
         → IsTranscript own all t.items.items t.refused t.rest) }
 {
     let mut items = Vec::new(alloc);

@@ -11,14 +11,14 @@ use Rattle.bt_wire.specs.declared.item.Refusal.{Refusal}
 use Rattle.bt_wire.specs.declared.reserved.Reserved.{Reserved}
 use Rattle.bt_wire.specs.Laws.{VerdictIsOne, RefusalStays, ItemsStay}
 use Rattle.bt_wire.specs.Streams.{Outcome, IsVerdict, refusal_at_end, is_complete, end_inside}
-use Rattle.bt_feed.specs.declared.stage.Stage.TheVariants as stage
+use Rattle.bt_wire.specs.declared.cursor.Place.TheVariants as place
 use Rattle.bt_feed.specs.declared.view.Finish.TheVariants as finish
 use Rattle.bt_feed.specs.Feeds.{FeedState}
 use Rattle.bt_feed.specs.Laws.{verdict_at_end}
 use Rattle.bt_feed.specs.Pumps.{Took, IsPumped}
-use Rattle.bt_feed.specs.Stages.{stopped}
+use Rattle.bt_wire.specs.Cursors.{stopped}
 use Rattle.bt_feed.specs.Transcripts.{with_items}
-use Rattle.bt_feed.proofs.Coming.{open_comes}
+use Rattle.bt_wire.proofs.Coming.{open_comes}
 use Rattle.bt_feed.proofs.Reading.{hand_open}
 use Rattle.bt_text.specs.declared.ended.ToolFault.{ToolFault}
 use Rattle.bt_text.specs.declared.ended.ToolFault.TheVariants as faults
@@ -173,7 +173,7 @@ pub record IsListeningTo (left left' : Option (List ℕ)) (f : FeedState) (l : L
   pub listening : IsListening bytes items f l
 
 pub listening_first : (left : Option (List ℕ)) (f : FeedState) (l : Listener) → f ≡ record {
-  stage = stage.Handshake reader_of_other;
+  place = place.Handshake reader_of_other;
   held = [];
   refused = None;
 } → IsHeard [] l → IsListeningTo left left f l
@@ -186,8 +186,8 @@ listening_first left f l e h =
         read = starts reader_of_other f (omega arith) e;
         heard = h;
         unknown = inl h.0;
-        now = stopped (stage.Handshake reader_of_other) [] None;
-        is = open_comes (stage.Handshake reader_of_other) [] (omega arith)
+        now = stopped (place.Handshake reader_of_other) [] None;
+        is = open_comes (place.Handshake reader_of_other) [] (omega arith)
             (hand_open reader_of_other);
         unrefused = refl;
       };
@@ -283,6 +283,6 @@ waits left left' f l one t =
 -- before the first read
 pub nothing_read : (left : Option (List ℕ)) → VerdictIsOne → IsOpenAfter left left
 nothing_read left one =
-    let f : FeedState = record { stage = stage.Handshake reader_of_other; held = []; refused = None } in
+    let f : FeedState = record { place = place.Handshake reader_of_other; held = []; refused = None } in
     let l : Listener = record { reserved = None; metadata = None; donthave = None; items = 0 } in
     waits left left f l one (listening_first left f l refl (refl, refl, refl))

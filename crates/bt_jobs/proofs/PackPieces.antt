@@ -3,7 +3,7 @@ use Rattle.std.proofs.Common.{◌≡◌, ℕ, ◌+◌, ◌-◌, ◌*◌, ◌<◌
 use Rattle.std.proofs.Common.{length-append}
 use Rattle.std.proofs.lemmas.List.{append-nil, append_assoc, nil_from_length}
 use Rattle.bt_feed.specs.Feeds.{FeedState}
-use Rattle.bt_feed.specs.Stages.{start_of, number_of}
+use Rattle.bt_wire.specs.Cursors.{start_of, number_of}
 use Rattle.bt_wire.specs.declared.context.Own.{Own}
 use Rattle.bt_wire.specs.Streams.{Outcome}
 use Rattle.bt_text.specs.declared.ended.ScriptReason.{ScriptReason}
@@ -200,7 +200,7 @@ pub line_stops : (own : Own) (text : List ℕ) (p : Packing) (piece following : 
     → IsLineRead own text p piece following new (Some reason) → IsPieceRead own (text ++ piece) p new (Some reason)
 line_stops own text p piece following new reason l =
     let d = l.before in
-    let number = number_of new.judge.stage in
+    let number = number_of new.judge.place in
     let stop = stops_at l.front following reason d.read l.none refl l.end.1 l.end.2 in
     let all : (text ++ d.done) ++ (l.front ++ 10 ∷ following) ≡ text ++ piece = append_assoc text d.done (l.front ++ 10 ∷ following)
     ∙ ap (λ (z : List ℕ). text ++ z) (ap (λ (z : List ℕ). d.done ++ z) (sym l.cut) ∙ sym d.parts) in
@@ -213,7 +213,7 @@ pub rest_stops : (own : Own) (text : List ℕ) (p : Packing) (piece rest new : L
     → 2 * own.limit + 256 < length (q.line ++ rest) → IsPieceRead own (text ++ piece) p (packer new q.judge q.out) (Some Syntax)
 rest_stops own text p piece rest new q d none long =
     let line = q.line ++ rest in
-    let number = number_of q.judge.stage in
+    let number = number_of q.judge.place in
     let refused = too_long own (p.lines ++ d.more) (p.bytes ++ d.named) line q.judge d.read.packed long in
     let some : 0 < length line = omega (arith, long) in
     let stop = stops_in rest Syntax d.read none refl some d.read.packed.count refused in
@@ -226,28 +226,28 @@ rest_stops own text p piece rest new q d none long =
 -- ---- the end of a script
 
 pub all_packed : {own : Own} {all : List (List ℕ)} {b : List ℕ} {f : FeedState} {messages bytes : ℕ} (text : List ℕ) → AreLines text all
-    → IsPackedTo own all b f → is_none all ≡ false → messages ≡ number_of f.stage - 1 → bytes ≡ start_of f.stage
+    → IsPackedTo own all b f → is_none all ≡ false → messages ≡ number_of f.place - 1 → bytes ≡ start_of f.place
     → (all : List (List ℕ)) × AreLines text all × IsPacked own all b (Accepted messages bytes)
 all_packed {own} {all} {b} {f} {messages} {bytes} text lines h some count size =
     let s = taken_so_far own all b f h in
     let v = s.0 in
-    let long : start_of f.stage ≡ length b = omega (arith, verdict_length own b v s.1.taken.verdict, s.1.start, ap length s.1.taken.nothing_left) in
+    let long : start_of f.place ≡ length b = omega (arith, verdict_length own b v s.1.taken.verdict, s.1.start, ap length s.1.taken.nothing_left) in
     let same : Accepted messages bytes ≡ Accepted (v.number - 1) (length b) =
     ap (λ (n : ℕ). Accepted n bytes) (count ∙ ap (λ (n : ℕ). n - 1) (sym s.1.number)) ∙ ap (λ (n : ℕ). Accepted (v.number - 1) n) (size ∙ long) in
     (all, lines, accepted v some s.1.taken same)
 
-pub nothing_packed : (own : Own) (text : List ℕ) (lines : List (List ℕ)) (b : List ℕ) (f : FeedState) → IsReadSo own text lines b [] f → number_of f.stage
+pub nothing_packed : (own : Own) (text : List ℕ) (lines : List (List ℕ)) (b : List ℕ) (f : FeedState) → IsReadSo own text lines b [] f → number_of f.place
     ≡ 0 → (all : List (List ℕ)) × AreLines text all × IsPacked own all b (Refused 1 Syntax)
 nothing_packed own text [] b f h none = ([], ([], [], h.split, refl), empty refl h.packed.named refl)
 nothing_packed own text (l ∷ lines) b f h none = absurd (omega (arith, h.packed.count, none))
 
 pub stopped_packed : {own : Own} {text line b : List ℕ} {lines : List (List ℕ)} {f : FeedState} {number : ℕ} (g : FeedState) (reason : ScriptReason)
-    → IsReadSo own text lines b line f → 0 < length line → number ≡ number_of g.stage + 1 → number_of g.stage ≡ length lines
+    → IsReadSo own text lines b line f → 0 < length line → number ≡ number_of g.place + 1 → number_of g.place ≡ length lines
     → IsRefused own lines b line reason → (all : List (List ℕ)) × AreLines text all × IsPacked own all b (Refused number reason)
 stopped_packed {text} {line} g reason h some is count r =
     let stop = stops_in [] reason h refl (sym (append-nil line)) some count r in
     let P : List ℕ → Type 0 = λ t. AreLines t stop.0 in
-    (stop.0, subst P (append-nil text) stop.1, stopped (number_of g.stage + 1) reason stop.2 (ap (λ (n : ℕ). Refused n reason) is))
+    (stop.0, subst P (append-nil text) stop.1, stopped (number_of g.place + 1) reason stop.2 (ap (λ (n : ℕ). Refused n reason) is))
 
 -- ---- what a script ends with
 
@@ -263,8 +263,8 @@ none_named own text b out out' e same h =
     ([], same ∙ sym (append-nil out), (h.0, h.1, subst P (sym (append-nil b)) h.2))
 
 pub end_empty : {own : Own} {text b line : List ℕ} {lines : List (List ℕ)} {f : FeedState} {e : PackEnd} (out : List ℕ) → IsReadSo own text lines b line f
-    → length line ≡ 0 → (number_of f.stage ≡ 0 → ⊥)
-    → e ≡ Accepted (number_of f.stage - 1) (start_of f.stage) → IsScriptEnd own text b out out e
+    → length line ≡ 0 → (number_of f.place ≡ 0 → ⊥)
+    → e ≡ Accepted (number_of f.place - 1) (start_of f.place) → IsScriptEnd own text b out out e
 end_empty {own} {text} {b} {line} {lines} {f} {e} out h none some is =
     let P : List ℕ → Type 0 = λ l. IsReadSo own text lines b l f in
     let here = subst P (nil_from_length line none) h in
@@ -274,7 +274,7 @@ end_empty {own} {text} {b} {line} {lines} {f} {e} out h none some is =
 
 pub end_line : {own : Own} {text b line : List ℕ} {lines : List (List ℕ)} {f : FeedState} {e : PackEnd} (out out' : List ℕ) (g : FeedState)
     → IsReadSo own text lines b line f → 0 < length line → IsLineEnd own (packing lines b out) line g out' None
-    → e ≡ Accepted (number_of g.stage - 1) (start_of g.stage) → IsScriptEnd own text b out out' e
+    → e ≡ Accepted (number_of g.place - 1) (start_of g.place) → IsScriptEnd own text b out out' e
 end_line {own} {text} {b} {line} {lines} {f} {e} out out' g h some end is =
     let Q : PackEnd → Type 0 = λ x. (all : List (List ℕ)) × AreLines text all × IsPacked own all (b ++ end.0) x in (
       end.0,
@@ -284,6 +284,6 @@ end_line {own} {text} {b} {line} {lines} {f} {e} out out' g h some end is =
 
 pub end_stop : {own : Own} {text b line : List ℕ} {lines : List (List ℕ)} {f : FeedState} {number : ℕ} (out out' : List ℕ) (g : FeedState)
     (reason : ScriptReason) → IsReadSo own text lines b line f → 0 < length line → IsLineEnd own (packing lines b out) line g out' (Some reason)
-    → number ≡ number_of g.stage → IsScriptEnd own text b out out' (Refused (number + 1) reason)
+    → number ≡ number_of g.place → IsScriptEnd own text b out out' (Refused (number + 1) reason)
 end_stop {own} {text} {b} {number} out out' g reason h some end is =
     none_named own text b out out' (Refused (number + 1) reason) end.0 (stopped_packed {number = number + 1} g reason h some (omega (arith, is)) end.1 end.2)

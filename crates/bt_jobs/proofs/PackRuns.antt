@@ -3,10 +3,10 @@ use Rattle.std.proofs.Common.{◌≡◌, ℕ, ◌≤◌, List, [], ◌++◌, Opt
 use Rattle.std.proofs.lemmas.List.{append-nil, append_assoc}
 use Rattle.std.proofs.KnownBytes.{Appends-nil, Appends-trans, Consumes-nil, Consumes-trans}
 use Rattle.std.specs.Io.KnownBytes.{Consumes, Appends}
-use Rattle.bt_feed.specs.declared.stage.Stage.TheVariants as stage
+use Rattle.bt_wire.specs.declared.cursor.Place.TheVariants as place
 use Rattle.bt_feed.specs.Feeds.{FeedState}
-use Rattle.bt_feed.specs.Stages.{stopped as left_at}
-use Rattle.bt_feed.proofs.Coming.{open_comes}
+use Rattle.bt_wire.specs.Cursors.{stopped as left_at}
+use Rattle.bt_wire.proofs.Coming.{open_comes}
 use Rattle.bt_feed.proofs.Reading.{hand_open}
 use Rattle.bt_wire.specs.declared.context.Own.{Own}
 use Rattle.bt_wire.specs.Streams.{Outcome}
@@ -33,7 +33,7 @@ pub record IsRun (own : Own) (before after : Devices) (line : List ℕ) (f : Fee
   pub read : IsReadSo own text lines bytes line f
 
 pub run_starts : (own : Own) (before : Devices) (line : List ℕ) (f : FeedState) → own.limit ≤ 1048576 → line ≡ [] → f
-    ≡ record { stage = stage.Handshake own; held = []; refused = None } → IsRun own before before line f
+    ≡ record { place = place.Handshake own; held = []; refused = None } → IsRun own before before line f
 run_starts own before line f le none e =
     let P : FeedState → Type 0 = λ s. IsReadSo own [] [] [] [] s in
     let Q : List ℕ → Type 0 = λ l. IsReadSo own [] [] [] l f in
@@ -57,7 +57,7 @@ run_taken own before after line f r =
 
 pub nothing_taken : (own : Own) (left : Option (List ℕ)) → own.limit ≤ 1048576 → AreTakenTo own left left
 nothing_taken own left le =
-    let v = left_at (stage.Handshake own) [] None in (
+    let v = left_at (place.Handshake own) [] None in (
       [],
       [],
       [],
@@ -65,7 +65,7 @@ nothing_taken own left le =
       record { parts = refl; whole = tt; last = refl },
       [],
       v,
-      record { named = refl; verdict = open_comes (stage.Handshake own) [] (omega (arith, le)) (hand_open own); nothing_left = refl },
+      record { named = refl; verdict = open_comes (place.Handshake own) [] (omega (arith, le)) (hand_open own); nothing_left = refl },
     )
 
 -- ---- fronts
@@ -157,14 +157,14 @@ more_fails own before mid after out next e m front =
 taken_of : (E : Type 0) (own : Own) (text : List ℕ) (all : List (List ℕ)) (b : List ℕ) (e : PackEnd) → own.limit ≤ 1048576 → AreLines text all
     → IsTimely own.limit text E e → IsPacked own all b e → (lines : List (List ℕ)) × (v : Outcome) × AreFrontLines text E lines × AreTaken own lines b v
 taken_of E own text all b e le lines timely (empty none bytes is) =
-    let v = left_at (stage.Handshake own) [] None in
+    let v = left_at (place.Handshake own) [] None in
     let P : List ℕ → Type 0 = λ l. AreTaken own [] l v in (
       [],
       v,
       inl (text, refl, tt),
       subst P (sym bytes) (record {
         named = refl;
-        verdict = open_comes (stage.Handshake own) [] (omega (arith, le))
+        verdict = open_comes (place.Handshake own) [] (omega (arith, le))
             (hand_open own);
         nothing_left = refl;
       }),
@@ -235,7 +235,7 @@ timely_line limit text E e number reason is h =
 
 pub nothing_run : (own : Own) (d : Devices) (e : ToolFault) → own.limit ≤ 1048576 → IsPackRun own d d (Err e)
 nothing_run own d e le =
-    let v = left_at (stage.Handshake own) [] None in (
+    let v = left_at (place.Handshake own) [] None in (
       [],
       [],
       Consumes-nil d.source.left,
@@ -247,7 +247,7 @@ nothing_run own d e le =
         inl ([], refl, tt),
         record {
           named = refl;
-          verdict = open_comes (stage.Handshake own) [] (omega (arith, le)) (hand_open own);
+          verdict = open_comes (place.Handshake own) [] (omega (arith, le)) (hand_open own);
           nothing_left = refl;
         },
         all_is_front d.target.held d.target.held [] (Appends-nil d.target.held),

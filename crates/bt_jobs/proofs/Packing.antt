@@ -18,14 +18,14 @@ use Rattle.bt_wire.proofs.HandLaws.{hand-length}
 use Rattle.bt_wire.proofs.HeaderLaws.{whole_there}
 use Rattle.bt_wire.proofs.NumberLaws.{number32-be32}
 use Rattle.bt_wire.proofs.SpellLaws.{fits, spelled_first}
-use Rattle.bt_feed.specs.declared.stage.Stage.{Stage}
-use Rattle.bt_feed.specs.declared.stage.Stage.TheVariants as stage
+use Rattle.bt_wire.specs.declared.cursor.Place.{Place}
+use Rattle.bt_wire.specs.declared.cursor.Place.TheVariants as place
 use Rattle.bt_feed.specs.Feeds.{FeedState}
-use Rattle.bt_feed.specs.Stages.{start_of, number_of, limit_of, early, is_all, is_closed, refusal_of, IsItem, stage_after, Comes, stopped}
+use Rattle.bt_wire.specs.Cursors.{start_of, number_of, limit_of, early, is_all, is_closed, refusal_of, IsItem, place_after, Comes, stopped}
 use Rattle.bt_feed.specs.Transcripts.{with_items}
-use Rattle.bt_feed.proofs.Closed.{closed_all, open_by}
-use Rattle.bt_feed.proofs.Coming.{item_comes, fault_comes, open_comes}
-use Rattle.bt_feed.proofs.Found.{early_has}
+use Rattle.bt_wire.proofs.Closed.{closed_all, open_by}
+use Rattle.bt_wire.proofs.Coming.{item_comes, fault_comes, open_comes}
+use Rattle.bt_wire.proofs.CursorLaws.{early_has}
 use Rattle.bt_text.specs.Lines.{spaced}
 use Rattle.bt_text.specs.Script.{IsLine, IsAdded, Said, keep_alive, known, unknown, Says, said_bytes, framed_by, SaysFields, SaysSpaced, SaysBytes}
 use Rattle.bt_text.specs.declared.ended.ScriptReason.TheVariants.{Reason}
@@ -53,19 +53,19 @@ some_lines (l ∷ lines) line = refl
 
 -- ---- what is left after the items
 
-not_all : (t : Stage) → is_all t [] ≡ false
-not_all (stage.Handshake own) = refl
-not_all (stage.Message c o s n) = refl
+not_all : (t : Place) → is_all t [] ≡ false
+not_all (place.Handshake own) = refl
+not_all (place.Message c o s n) = refl
 
 -- the outcome of no bytes
-record IsLast (t : Stage) (e : Outcome) : Type 0 where
+record IsLast (t : Place) (e : Outcome) : Type 0 where
   comes : Comes t [] e
   tail : e.tail ≡ []
   items : e.items ≡ []
   number : e.number ≡ number_of t
   start : e.start ≡ start_of t
 
-by_early : (t : Stage) (o : Option Fault) → limit_of t < 2 ^ 32 → early t [] ≡ o → (e : Outcome) × IsLast t e
+by_early : (t : Place) (o : Option Fault) → limit_of t < 2 ^ 32 → early t [] ≡ o → (e : Outcome) × IsLast t e
 by_early t (Some f) lt e = (
   stopped t [] (Some (refusal_of t f)),
   record {
@@ -91,13 +91,13 @@ by_early t None lt e = (
 pub record IsTakenSoFar (own : Own) (lines : List (List ℕ)) (b : List ℕ) (f : FeedState) (xs : List (ℕ × Item)) (v : Outcome) : Type 0 where
   pub taken : AreTaken own lines b v
   pub items : v.items ≡ xs
-  pub number : v.number ≡ number_of f.stage
-  pub start : v.start ≡ start_of f.stage
+  pub number : v.number ≡ number_of f.place
+  pub start : v.start ≡ start_of f.place
 
 pub taken_so_far : (own : Own) (lines : List (List ℕ)) (b : List ℕ) (f : FeedState) → (h : IsPackedTo own lines b f) → (v : Outcome)
     × IsTakenSoFar own lines b f h.items v
 taken_so_far own lines b f h =
-    let last = by_early f.stage (early f.stage []) (omega (arith, h.limit, h.bound)) refl in
+    let last = by_early f.place (early f.place []) (omega (arith, h.limit, h.bound)) refl in
     let P : List ℕ → Type 0 = λ l. IsVerdict own l (with_items h.items last.0) in (
       with_items h.items last.0,
       record {
@@ -150,36 +150,36 @@ said_whole text (unknown n bytes) lt h =
     ))
 
 -- all of the item's bytes are there
-abbrev AllThere : Stage → List ℕ → Type 0
-AllThere (stage.Handshake own) x = length x ≡ 68
-AllThere (stage.Message c o s n) x = window_length x ≡ length x
+abbrev AllThere : Place → List ℕ → Type 0
+AllThere (place.Handshake own) x = length x ≡ 68
+AllThere (place.Message c o s n) x = window_length x ≡ length x
 
-line_there : (t : Stage) (first : Bool) (text x : List ℕ) → length text < 2 ^ 31 → is_hand t ≡ first → IsLine first text x → AllThere t x
-line_there (stage.Handshake own) true text x lt e h = ap length h.2 ∙ hand-length h.0 h.1.3.fits
-line_there (stage.Handshake own) false text x lt e h = absurd cc
-line_there (stage.Message c o s n) true text x lt e h = absurd cc
-line_there (stage.Message c o s n) false text x lt e h = ap window_length h.2 ∙ said_whole text h.0 lt h.1 ∙ sym (ap length h.2)
+line_there : (t : Place) (first : Bool) (text x : List ℕ) → length text < 2 ^ 31 → is_hand t ≡ first → IsLine first text x → AllThere t x
+line_there (place.Handshake own) true text x lt e h = ap length h.2 ∙ hand-length h.0 h.1.3.fits
+line_there (place.Handshake own) false text x lt e h = absurd cc
+line_there (place.Message c o s n) true text x lt e h = absurd cc
+line_there (place.Message c o s n) false text x lt e h = ap window_length h.2 ∙ said_whole text h.0 lt h.1 ∙ sym (ap length h.2)
 
-there_all : (t : Stage) (x : List ℕ) → AllThere t x → is_all t x ≡ true
-there_all (stage.Handshake own) x e = ap (λ (n : ℕ). leb 68 n) e
-there_all (stage.Message c o s n) x e = whole_there x (omega (arith, e))
+there_all : (t : Place) (x : List ℕ) → AllThere t x → is_all t x ≡ true
+there_all (place.Handshake own) x e = ap (λ (n : ℕ). leb 68 n) e
+there_all (place.Message c o s n) x e = whole_there x (omega (arith, e))
 
 -- an item of their front is all of them
-front_is_all : (t : Stage) (x : List ℕ) (n : ℕ) (item : Item) → limit_of t < 2 ^ 32 → AllThere t x → n ≤ length x → IsItem t (take n x) item → take n x ≡ x
-front_is_all (stage.Handshake own) x n (items.Handshake h) lt all le p =
+front_is_all : (t : Place) (x : List ℕ) (n : ℕ) (item : Item) → limit_of t < 2 ^ 32 → AllThere t x → n ≤ length x → IsItem t (take n x) item → take n x ≡ x
+front_is_all (place.Handshake own) x n (items.Handshake h) lt all le p =
     take_all n x (omega (arith, ap length p.2, hand-length h p.1, length-take-le n x le, all))
-front_is_all (stage.Message c o s i) x n (items.Message m) lt all le p =
+front_is_all (place.Message c o s i) x n (items.Message m) lt all le p =
     let r = drop n x in
     let parts : x ≡ spell c m ++ r = sym (take-append-drop n x) ∙ ap (λ (l : List ℕ). l ++ r) p.1 in
     let first = spelled_first c m r (fits c o s m lt p.0) in
     take_all n x (omega (arith, all, ap window_length parts, first.size, ap length p.1, length-take-le n x le))
-front_is_all (stage.Handshake own) x n (items.Message m) lt all le p = absurd p
-front_is_all (stage.Message c o s i) x n (items.Handshake h) lt all le p = absurd p
+front_is_all (place.Handshake own) x n (items.Message m) lt all le p = absurd p
+front_is_all (place.Message c o s i) x n (items.Handshake h) lt all le p = absurd p
 
 -- ---- a line
 
 -- the bytes of a line are no less and no more than an item
-pub closes : (t : Stage) (text x : List ℕ) (first : Bool) → limit_of t < 2 ^ 32 → length text < 2 ^ 31 → is_hand t ≡ first → IsLine first text x
+pub closes : (t : Place) (text x : List ℕ) (first : Bool) → limit_of t < 2 ^ 32 → length text < 2 ^ 31 → is_hand t ≡ first → IsLine first text x
     → (is_closed t x ≡ false) ⊎ IsLonger t x → ⊥
 closes t text x first le lt is line (inl opens) =
     let shut = closed_all t x (there_all t x (line_there t first text x lt is line)) in
@@ -188,12 +188,12 @@ closes t text x first le lt is line (inr h) =
     let whole = front_is_all t x h.0 h.2.0 le (line_there t first text x lt is line) (omega (arith, h.1)) h.2.1 in
     omega (arith, h.1, ap length whole, length-take-le h.0 x (omega (arith, h.1)))
 
-after_number : (t : Stage) (b : List ℕ) (size : ℕ) (item : Item) → IsItem t b item → (number_of (stage_after t size item) ≡ number_of t + 1)
-    × (is_hand (stage_after t size item) ≡ false) × (limit_of (stage_after t size item) ≡ limit_of t)
-after_number (stage.Handshake own) b size (items.Handshake h) p = (refl, refl, refl)
-after_number (stage.Message c o s n) b size (items.Message m) p = (refl, refl, refl)
-after_number (stage.Handshake own) b size (items.Message m) p = absurd p
-after_number (stage.Message c o s n) b size (items.Handshake h) p = absurd p
+after_number : (t : Place) (b : List ℕ) (size : ℕ) (item : Item) → IsItem t b item → (number_of (place_after t size item) ≡ number_of t + 1)
+    × (is_hand (place_after t size item) ≡ false) × (limit_of (place_after t size item) ≡ limit_of t)
+after_number (place.Handshake own) b size (items.Handshake h) p = (refl, refl, refl)
+after_number (place.Message c o s n) b size (items.Message m) p = (refl, refl, refl)
+after_number (place.Handshake own) b size (items.Message m) p = absurd p
+after_number (place.Message c o s n) b size (items.Handshake h) p = absurd p
 
 -- The line `text` names `bytes`, and the judge, which was `f` and is `g`, answers `r` to them.
 pub record IsLineJudged (own : Own) (p : Packing) (text : List ℕ) (f g : FeedState) (r : Result Bool WireReason) : Type 0 where
@@ -209,18 +209,18 @@ line_taken own p text out f g j grown =
     let x = j.bytes in
     let is = j.judged in
     let item = is.0 in
-    let steps = after_number f.stage x (length x) item is.1 in
+    let steps = after_number f.place x (length x) item is.1 in
     let R : FeedState → Type 0 = λ s. IsPackedTo own (p.lines ++ text ∷ []) (p.bytes ++ x) s in (
       x,
       grown,
       subst R (sym is.2) (record {
         named = named_more own.limit p.lines p.bytes text x h.named j.named;
-        items = h.items ++ (start_of f.stage, item) ∷ [];
+        items = h.items ++ (start_of f.place, item) ∷ [];
         comes = λ later v k.
-            let S : List ℕ → Type 0 = λ l. IsVerdict own l (with_items (h.items ++ (start_of f.stage, item) ∷ []) v) in
+            let S : List ℕ → Type 0 = λ l. IsVerdict own l (with_items (h.items ++ (start_of f.place, item) ∷ []) v) in
             let T : List (ℕ × Item) → Type 0 = λ l. IsVerdict own (p.bytes ++ (x ++ later)) (record v { items = l }) in
-            subst S (sym (append_assoc p.bytes x later)) (subst T (sym (append_assoc h.items ((start_of f.stage, item) ∷ []) v.items))
-            (h.comes (x ++ later) (with_item (start_of f.stage) item v) (item_comes f.stage x later item v (omega (arith, h.limit, h.bound)) is.1 k)));
+            subst S (sym (append_assoc p.bytes x later)) (subst T (sym (append_assoc h.items ((start_of f.place, item) ∷ []) v.items))
+            (h.comes (x ++ later) (with_item (start_of f.place) item v) (item_comes f.place x later item v (omega (arith, h.limit, h.bound)) is.1 k)));
         empty = refl;
         first = steps.1 ∙ sym (some_lines p.lines text);
         count = steps.0 ∙ omega (arith, h.count, length-append p.lines (text ∷ []));
@@ -236,10 +236,10 @@ line_refused own p text f g reason j =
     let x = j.bytes in
     let is = j.judged in
     let fault = is.1 in
-    let last = stopped f.stage x (Some (refusal_of f.stage fault.0)) in
+    let last = stopped f.place x (Some (refusal_of f.place fault.0)) in
     let so_far = taken_so_far own p.lines p.bytes f h in (
       refl,
-      ap (λ (s : FeedState). number_of s.stage) is.0 ∙ h.count,
+      ap (λ (s : FeedState). number_of s.place) is.0 ∙ h.count,
       (
         so_far.0,
         so_far.1.taken,
@@ -247,9 +247,9 @@ line_refused own p text f g reason j =
           x,
           j.named,
           with_items h.items last,
-          h.comes x last (fault_comes f.stage x fault.0 (omega (arith, h.limit, h.bound)) fault.1),
+          h.comes x last (fault_comes f.place x fault.0 (omega (arith, h.limit, h.bound)) fault.1),
           append-nil h.items ∙ sym so_far.1.items,
-          refusal_of f.stage fault.0,
+          refusal_of f.place fault.0,
           refl,
           fault.2,
         ),
@@ -260,7 +260,7 @@ by_lines : (lines : List (List ℕ)) → eqb (length lines) 0 ≡ is_none lines
 by_lines [] = refl
 by_lines (l ∷ lines) = ne_eqb (length (l ∷ lines)) 0 (λ e. omega (arith, e))
 
-pub first_flag : (own : Own) (lines : List (List ℕ)) (b : List ℕ) (f : FeedState) (n : ℕ) → IsPackedTo own lines b f → n ≡ number_of f.stage → eqb n 0
+pub first_flag : (own : Own) (lines : List (List ℕ)) (b : List ℕ) (f : FeedState) (n : ℕ) → IsPackedTo own lines b f → n ≡ number_of f.place → eqb n 0
     ≡ is_none lines
 first_flag own lines b f n h e = ap (λ (k : ℕ). eqb k 0) (e ∙ h.count) ∙ by_lines lines
 

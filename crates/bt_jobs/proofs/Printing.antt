@@ -14,20 +14,20 @@ use Rattle.bt_wire.specs.Handshakes.{hand, hand_fault}
 use Rattle.bt_wire.specs.Laws.{VerdictIsOne, ItemsStay}
 use Rattle.bt_wire.specs.Streams.{Outcome, IsVerdict, IsVerdictBy, refusal_at_end}
 use Rattle.bt_wire.proofs.HandLaws.{hand-length}
-use Rattle.bt_feed.specs.declared.stage.Stage.TheVariants as stage
+use Rattle.bt_wire.specs.declared.cursor.Place.TheVariants as place
 use Rattle.bt_feed.specs.declared.view.Finish.TheVariants as finish
 use Rattle.bt_feed.specs.Answers.{unless_refused}
 use Rattle.bt_feed.specs.Feeds.{FeedState}
 use Rattle.bt_feed.specs.Laws.{verdict_at_end}
 use Rattle.bt_feed.specs.Pumps.{Took, IsPumped, IsOpenTo}
-use Rattle.bt_feed.specs.Stages.{number_of, stopped, Comes}
+use Rattle.bt_wire.specs.Cursors.{number_of, stopped, Comes}
 use Rattle.bt_feed.specs.Transcripts.{with_items}
 use Rattle.bt_text.specs.declared.ended.Ended.{Ended}
 use Rattle.bt_text.specs.declared.ended.Ended.TheVariants.{Accepted, Refused}
 use Rattle.bt_text.specs.declared.ended.ToolFault.{ToolFault}
 use Rattle.bt_text.specs.declared.ended.ToolFault.TheVariants as faults
 use Rattle.bt_jobs.specs.declared.printer.Form.{Form}
-use Rattle.bt_feed.proofs.Coming.{open_comes}
+use Rattle.bt_wire.proofs.Coming.{open_comes}
 use Rattle.bt_feed.proofs.Reading.{hand_open}
 use Rattle.std.specs.Prelude.{MatchResult, IfErr, OnErr}
 use Rattle.bt_jobs.specs.declared.printer.Printer.{Printer}
@@ -186,8 +186,8 @@ ends own so f before p end ended (Ok (Some e)) h is =
 ends own so f before p end ended (Ok None) h is = absurd (let no : None ≡ Some ended = h.flushed.0 in cc)
 ends own so f before p end ended (Err e) h is = (h.bytes ++ h.lost, h.consumed, front_of_turn own so f before p end (Some ended) e h)
 
-pub is_accepted : (v : Outcome) (g : FeedState) (number messages n : ℕ) → verdict_at_end v ≡ Ok n → v.number ≡ number_of g.stage → number
-    ≡ number_of g.stage → messages ≡ number - 1 → Accepted messages n ≡ ended_as v (v.start + length v.tail)
+pub is_accepted : (v : Outcome) (g : FeedState) (number messages n : ℕ) → verdict_at_end v ≡ Ok n → v.number ≡ number_of g.place → number
+    ≡ number_of g.place → messages ≡ number - 1 → Accepted messages n ≡ ended_as v (v.start + length v.tail)
 is_accepted v g number messages n e same is less =
     let a = accepted_by (refusal_at_end v) (v.start + length v.tail) n e in
     let count : messages ≡ v.number - 1 = less ∙ ap (λ (k : ℕ). k - 1) (is ∙ sym same) in
@@ -223,13 +223,13 @@ texts_both : (form : Form) (own : Own) (xs ys : List (ℕ × Item)) → texts fo
 texts_both form own xs ys = flat_map-append (text_of form own) xs ys
 
 -- a new feed
-pub starts : (own : Own) (f : FeedState) → own.limit ≤ 1048576 → f ≡ record { stage = stage.Handshake own; held = []; refused = None } → IsReadTo own [] [] f
+pub starts : (own : Own) (f : FeedState) → own.limit ≤ 1048576 → f ≡ record { place = place.Handshake own; held = []; refused = None } → IsReadTo own [] [] f
 starts own f le e =
     let P : FeedState → Type 0 = λ s. IsReadTo own [] [] s in
     subst P (sym e) (record {
       comes = λ later v k. k;
-      now = stopped (stage.Handshake own) [] None;
-      is = open_comes (stage.Handshake own) [] (omega (arith, le)) (hand_open own);
+      now = stopped (place.Handshake own) [] None;
+      is = open_comes (place.Handshake own) [] (omega (arith, le)) (hand_open own);
       items = refl;
       unrefused = refl;
     })
@@ -245,7 +245,7 @@ pub record IsToldTo (form : Form) (own : Own) (left left' held held' : Option (L
   pub empty : text_in p ≡ []
 
 pub told_first : (own : Own) (left held : Option (List ℕ)) (f : FeedState) (p : Printer) → own.limit ≤ 1048576 → f
-    ≡ record { stage = stage.Handshake own; held = []; refused = None } → text_in p ≡ [] → IsToldTo (form_of p) own left left held held f p
+    ≡ record { place = place.Handshake own; held = []; refused = None } → text_in p ≡ [] → IsToldTo (form_of p) own left left held held f p
 told_first own left held f p le e empty =
     record { bytes = []; items = []; consumed = Consumes-nil left; written = Appends-nil held; read = starts own f le e; form_is = refl; empty = empty }
 
@@ -256,11 +256,11 @@ told_unrefused form own left left' held held' f p t = (t.bytes, t.read.now, t.co
 -- where nothing is read
 pub nothing_unrefused : (own : Own) (left : Option (List ℕ)) → own.limit ≤ 1048576 → IsUnrefused own left left
 nothing_unrefused own left le =
-    ([], stopped (stage.Handshake own) [] None, Consumes-nil left, open_comes (stage.Handshake own) [] (omega (arith, le)) (hand_open own), refl)
+    ([], stopped (place.Handshake own) [] None, Consumes-nil left, open_comes (place.Handshake own) [] (omega (arith, le)) (hand_open own), refl)
 
 -- where a pump into a new feed read last
 pub pumped_unrefused : {R : Type 0} (seen : R → SourceSeen) (own : Own) (f : FeedState) (old new : R) → own.limit ≤ 1048576
-    → f ≡ record { stage = stage.Handshake own; held = []; refused = None }
+    → f ≡ record { place = place.Handshake own; held = []; refused = None }
     → ((seen new).reads ≡ (seen old).reads) ⊎ ((before : R) × IsOpenTo f (seen old) (seen before) × ((seen new).reads ≤ (seen before).reads + 1))
     → (before : R) × IsUnrefused own (seen old).left (seen before).left × ((seen new).reads ≤ (seen before).reads + 1)
 pumped_unrefused seen own f old new le is h =
@@ -424,8 +424,8 @@ pub record IsVerdictSaid (p : List ℕ) (own : Own) (before after : Devices) (e 
   pub feed : FeedState
   pub now : Outcome
   pub consumed : Consumes before.source.left after.source.left bytes
-  pub new : feed ≡ record { stage = stage.Handshake own; held = []; refused = None }
-  pub comes : Comes feed.stage (feed.held ++ bytes) now
+  pub new : feed ≡ record { place = place.Handshake own; held = []; refused = None }
+  pub comes : Comes feed.place (feed.held ++ bytes) now
   pub ended : e ≡ ended_as now (now.start + length now.tail)
   pub told : MayBeTold (EndRead before.source after.source) e
   pub written : IsWrittenOut e (p ++ verdict_line e) before.target.held after.target.held r
@@ -434,7 +434,7 @@ pub record IsVerdictSaid (p : List ℕ) (own : Own) (before after : Devices) (e 
 said_verdict : (p : List ℕ) (own : Own) (before after : Devices) (e : Ended) (r : Result Ended ToolFault) → (h : IsVerdictSaid p own before after e r)
     → IsVerdict own h.bytes h.now × (e ≡ ended_as h.now (length h.bytes))
 said_verdict p own before after e r h =
-    let F : FeedState → Type 0 = λ g. Comes g.stage (g.held ++ h.bytes) h.now in
+    let F : FeedState → Type 0 = λ g. Comes g.place (g.held ++ h.bytes) h.now in
     let is : IsVerdict own h.bytes h.now = subst F h.new h.comes in
     (is, h.ended ∙ ap (λ (n : ℕ). ended_as h.now n) (verdict_length own h.bytes h.now is))
 

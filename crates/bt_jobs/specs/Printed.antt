@@ -3,7 +3,7 @@ use Rattle.std.specs.Prelude.{◌≡◌, ◌⊎◌, ℕ, ◌+◌, ◌-◌, ◌^�
 use Rattle.std.specs.Io.KnownBytes.{Consumes, Appends}
 use Rattle.std.specs.List.{flat_map}
 use Rattle.bt_feed.specs.Feeds.{FeedState}
-use Rattle.bt_feed.specs.Stages.{Comes}
+use Rattle.bt_wire.specs.Cursors.{Comes}
 use Rattle.bt_feed.specs.Transcripts.{with_items}
 use Rattle.bt_wire.specs.declared.context.Own.{Own}
 use Rattle.bt_wire.specs.declared.fault.Reason.TheVariants.{EndInside}
@@ -130,7 +130,7 @@ IsUnrefused own left left' = (b : List ℕ) × (v : Outcome) × Consumes left le
 
 -- b was read and isn't refused, these are its items, and the feed holds what follows them
 pub record IsReadTo (own : Own) (b : List ℕ) (xs : List (ℕ × Item)) (f : FeedState) : Type 0 where
-  pub comes : (later : List ℕ) (v : Outcome) → Comes f.stage (f.held ++ later) v → IsVerdict own (b ++ later) (with_items xs v)
+  pub comes : (later : List ℕ) (v : Outcome) → Comes f.place (f.held ++ later) v → IsVerdict own (b ++ later) (with_items xs v)
   pub now : Outcome
   pub is : IsVerdict own b now
   pub items : now.items ≡ xs

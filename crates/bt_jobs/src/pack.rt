@@ -2,7 +2,7 @@
 ghost use Rattle.std.specs.Prelude.{◌≡◌, ◌≢◌, ◌≤◌, ◌++◌, ℕ, List, [], None, min, ◌+◌, ◌-◌, ◌^◌, IfOk, Err};
 ghost use Rattle.bt_wire.specs.declared.context.Own.{Own as Receiver};
 ghost use Rattle.bt_io.specs.Seen.{devices, ReadFailed, WriteFailed};
-ghost use Rattle.bt_feed.specs.Stages.{number_of, start_of};
+ghost use Rattle.bt_wire.specs.Cursors.{number_of, start_of};
 ghost use Rattle.bt_jobs.specs.Packs.{IsPackRun, AreTakenTo};
 ghost use Rattle.bt_jobs.specs.PackSteps.{IsPackedTo, packing, packer, IsLineEnd, IsReadSo, IsPieceRead, IsHeld, IsScriptEnd};
 
@@ -122,7 +122,7 @@ fn take_piece(
 
 /// Returns the counts of the items that were taken.
 fn counts(judge: &Judge) -> PackEnd
-    ensures { result ≡ PackEnd.Accepted (number_of judge.now.stage - 1) (start_of judge.now.stage) }
+    ensures { result ≡ PackEnd.Accepted (number_of judge.now.place - 1) (start_of judge.now.place) }
 {
     PackEnd::Accepted {
         messages: judge.number().saturating_sub(1),

@@ -2,7 +2,7 @@
 ghost use Rattle.std.specs.Prelude.{◌≡◌, ◌≢◌, ◌+◌, ◌<◌, ◌≤◌, ℕ, List, [], ◌++◌, length, take, vec_len, OnOk, OnErr, IfOk, IfErr};
 ghost use Rattle.std.specs.Io.KnownBytes.{Appends};
 ghost use Rattle.bt_io.specs.Seen.{WriteFailed};
-ghost use Rattle.bt_feed.specs.Views.{item_of};
+ghost use Rattle.bt_wire.specs.Cursors.{item_of};
 ghost use Rattle.bt_wire.specs.declared.context.Own.{Own as Receiver};
 ghost use Rattle.bt_wire.specs.declared.item.Item.TheVariants as items;
 ghost use Rattle.bt_wire.specs.Messages.{message_of};

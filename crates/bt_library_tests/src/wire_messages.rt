@@ -1,4 +1,6 @@
 //! Messages: judged by their first bytes, read, written, and why they may not be.
+ghost use Rattle.std.specs.Prelude.{◌≤◌, ◌^◌};
+
 use crate::ext_parts::registered;
 use bt_ext::Rules;
 use bt_wire::*;
@@ -75,9 +77,11 @@ fn headers(rt: HostRuntime) {
 const END: u64 = 1 << 62;
 
 /// Whether a keep-alive that starts there is refused, since the stream is full.
-fn is_full(start: u64) -> bool {
-    match read_front(&agreed(FREE, 0), Order::Fresh, start, b"\0\0\0\0") {
-        Front::Refused(refused) => refused.at == 0 && refused.reason == Reason::StreamFull,
+fn is_full(start: u64) -> bool
+    requires { start ≤ 2 ^ 62 }
+{
+    match Cursor::at(agreed(FREE, 0), Order::Fresh, start).read(b"\0\0\0\0") {
+        Found::Refused(refusal) => refusal.at == start && refusal.reason == Reason::StreamFull,
         _ => false,
     }
 }
@@ -124,8 +128,8 @@ fn is_copied(
 
 /// Whether the bytes are one message, which is written as the bytes again.
 fn is_read_back(alloc: Global, context: &Context, order: Order, bytes: &[u8]) -> bool {
-    match read_front(context, order, 0, bytes) {
-        Front::Whole(view, length) => {
+    match Cursor::at(*context, order, 0).read(bytes) {
+        Found::Item(View::Message(view), length) => {
             length == bytes.len() && is_copied(alloc, context, order, &view, bytes)
         }
         _ => false,
@@ -409,8 +413,8 @@ const ILLEGAL: &[Illegal] = &[
 
 /// Whether the message, which is read where nearly all are allowed, may not be written for the fault.
 fn is_illegal(alloc: Global, (setup, donthave, order, bytes, fault): &Illegal) -> bool {
-    match read_front(&agreed(FREE, 4), Order::Fresh, 0, bytes) {
-        Front::Whole(view, _) => {
+    match Cursor::at(agreed(FREE, 4), Order::Fresh, 0).read(bytes) {
+        Found::Item(View::Message(view), _) => {
             is_copy_refused(alloc, &agreed(*setup, *donthave), *order, &view, *fault)
         }
         _ => false,

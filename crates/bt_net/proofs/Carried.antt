@@ -8,7 +8,7 @@ use Rattle.bt_wire.specs.declared.item.Refusal.{Refusal}
 use Rattle.bt_wire.specs.Handshakes.{hand_fault}
 use Rattle.bt_feed.specs.Answers.{after}
 use Rattle.bt_feed.specs.Feeds.{taken}
-use Rattle.bt_feed.specs.Stages.{is_closed}
+use Rattle.bt_wire.specs.Cursors.{is_closed}
 use Rattle.bt_feed.proofs.FeedLaws.{least_taken}
 use Rattle.bt_end.specs.Ends.{EndState, react}
 use Rattle.bt_end.specs.Halves.{HalfState, with_feed, reacted, received, without_sent, stopping, connected, IsAnswered, IsTurned, AreHandled}
@@ -182,12 +182,12 @@ takes s (next ∷ ends) l half end bytes used stop r g h =
 
 -- an idle turn leaves no byte untaken, and awaits more
 none_left : (last end : HalfState) (bytes : List ℕ) → IsTurned (received last bytes) (Ok Idle) end
-    → (drop (taken last.feed bytes) bytes ≡ []) × (is_closed end.feed.stage end.feed.held ≡ false)
+    → (drop (taken last.feed bytes) bytes ≡ []) × (is_closed end.feed.place end.feed.held ≡ false)
 none_left last end bytes h =
     let all : 0 + taken last.feed bytes ≡ length bytes =
     idle_used last end bytes bytes 0 (taken last.feed bytes) refl refl (least_taken last.feed bytes).0 (omega arith) h in (
       drop_all (taken last.feed bytes) bytes (omega (arith, all)),
-      subst (λ (x : HalfState). is_closed x.feed.stage x.feed.held ≡ false) (sym h.1) h.0.1,
+      subst (λ (x : HalfState). is_closed x.feed.place x.feed.held ≡ false) (sym h.1) h.0.1,
     )
 
 -- ---- one way
@@ -198,8 +198,8 @@ pub record Follows (a b : EndState) (s : Side) (n : ℕ) (own other : HalfState)
   pub reached : IsReached a b link n
   pub own_is : IsEndOf own own_items (B.seen_from s link).own
   pub other_is : IsEndOf other other_items (B.seen_from s link).other
-  pub own_open : is_closed own.feed.stage own.feed.held ≡ false
-  pub other_open : is_closed other.feed.stage other.feed.held ≡ false
+  pub own_open : is_closed own.feed.place own.feed.held ≡ false
+  pub other_open : is_closed other.feed.place other.feed.held ≡ false
 
 pub follows_at_other : {a b : EndState} {n : ℕ} {x y : HalfState} {k m : ℕ} (s : Side) → Follows a b s n x y k m → Follows a b (other s) n y x m k
 follows_at_other Left f =
@@ -273,7 +273,7 @@ carried_follows {x} {x'} {y} {y'} {items} {k} {m} from f c clear =
         items = ap (λ (z : B.Node). length z.handled) other_node ∙ f.other_is.items;
       };
       own_open = left.1;
-      other_open = subst (λ (z : HalfState). is_closed z.feed.stage z.feed.held ≡ false) (sym c.sent) f.other_open;
+      other_open = subst (λ (z : HalfState). is_closed z.feed.place z.feed.held ≡ false) (sym c.sent) f.other_open;
     }
 
 -- how many bytes go one way

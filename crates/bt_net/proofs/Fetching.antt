@@ -5,7 +5,7 @@ use Rattle.std.proofs.lemmas.Bool.{eqb-true}
 use Rattle.std.proofs.lemmas.List.{nil_from_length}
 use Rattle.bt_ext.specs.Metadata.{block_count}
 use Rattle.bt_feed.specs.Feeds.{taken}
-use Rattle.bt_feed.specs.Stages.{is_closed}
+use Rattle.bt_wire.specs.Cursors.{is_closed}
 use Rattle.bt_metadata.specs.Blocks.{max_metadata}
 use Rattle.bt_end.specs.Ends.{EndState, metadata_of}
 use Rattle.bt_end.specs.Halves.{HalfState, high_water, is_ready, is_busy, received, with_feed}
@@ -211,7 +211,7 @@ few_rounds metadata a b n new short f st =
 record IsIdle (x : B.Node) : Type 0 where
   sent : x.half.outbox ≡ []
   untaken : x.untaken ≡ []
-  awaits : is_closed x.half.feed.stage x.half.feed.held ≡ false
+  awaits : is_closed x.half.feed.place x.half.feed.held ≡ false
 
 and_false : (x : Bool) → (x && false) ≡ false
 and_false true = refl
@@ -261,11 +261,11 @@ last_are {l} x y =
       ),
     )
 
-idle_node : (x : B.Node) (half : HalfState) (items : ℕ) → IsEndOf half items x → half.outbox ≡ [] → is_closed half.feed.stage half.feed.held ≡ false → IsIdle x
+idle_node : (x : B.Node) (half : HalfState) (items : ℕ) → IsEndOf half items x → half.outbox ≡ [] → is_closed half.feed.place half.feed.held ≡ false → IsIdle x
 idle_node x half items is empty awaits = record {
   sent = ap (λ (h : HalfState). h.outbox) is.half ∙ empty;
   untaken = is.untaken;
-  awaits = subst (λ (h : HalfState). is_closed h.feed.stage h.feed.held ≡ false) (sym is.half) awaits;
+  awaits = subst (λ (h : HalfState). is_closed h.feed.place h.feed.held ≡ false) (sym is.half) awaits;
 }
 
 outbox_empty : (a : HalfState) → (length a.outbox == 0) ≡ true → a.outbox ≡ []

@@ -1,15 +1,21 @@
 -- The message of a line, and what a line says.
-use Rattle.std.proofs.Common.{◌≡◌, ℕ, ◌⊎◌, Bool, true, false, List, [], ◌++◌, Option, Some, None, Result, Ok, Err, sym, ap, subst, ◌∙◌, arith, inl, inr}
+use Rattle.std.proofs.Common.{◌≡◌, ◌<◌, ◌≤◌, ℕ, ◌⊎◌, Bool, true, false, List, [], ◌++◌, length, take, drop, Option, Some, None, Result, Ok, Err, sym, ap, subst, ◌∙◌, arith, inl, inr}
 use Rattle.std.specs.Prelude.{IfOk, codes, option_map, option_and_then, if◌then◌else◌}
 use Rattle.std.specs.Str.{bytes_eq}
-use Rattle.std.proofs.lemmas.List.{append-nil}
+use Rattle.std.proofs.lemmas.List.{append-nil, length-drop, take-append-drop, take_all}
 use Rattle.bt_wire.specs.declared.context.Order.TheVariants.{Past}
 use Rattle.bt_wire.specs.declared.fault.Refused.{Refused}
 use Rattle.bt_wire.specs.Messages.{Message}
-use Rattle.bt_wire.specs.Faults.{IsFault, is_whole}
-use Rattle.bt_wire.specs.Fronts.{IsPartial}
-use Rattle.bt_wire.specs.Laws.{FaultIsFinal}
+use Rattle.bt_wire.specs.declared.cursor.Place.{Place}
+use Rattle.bt_wire.specs.declared.cursor.Place.TheVariants as place
+use Rattle.bt_wire.specs.declared.handshake.Handshake.{Handshake}
+use Rattle.bt_wire.specs.declared.item.Item.TheVariants as items
+use Rattle.bt_wire.specs.Cursors.{HasFault, IsItem, Awaits}
+use Rattle.bt_wire.specs.Faults.{is_whole}
+use Rattle.bt_wire.specs.Laws.{FaultIsFinal, NoneBeginsAnother}
 use Rattle.bt_wire.specs.Messages.{spell}
+use Rattle.bt_wire.proofs.Closed.{open_parts}
+use Rattle.bt_wire.proofs.CursorLaws.{awaits_open}
 use Rattle.bt_wire.proofs.SpellLaws.{spelled_first}
 use Rattle.bt_session.specs.declared.link.Side.{Side}
 use Rattle.bt_session.specs.declared.link.Step.TheVariants as steps
@@ -22,15 +28,37 @@ use Rattle.bt_rig.specs.Entries.{entry_in, cut_of, said_in}
 
 -- ---- the message of bytes
 
-pub not_refused : (b : List ℕ) (f : Refused) → FaultIsFinal → IsFault lenient Past 0 b (Some f) → IsSpelledBy b None
-not_refused b f final fault = λ m said e. final lenient Past 0 b [] [] f m (omega arith) fault said (ap (λ (z : List ℕ). z ++ []) e)
+pub found_refused : (t : Place) (b : List ℕ) (f : Refused) → t ≡ place.Message lenient Past 0 1 → FaultIsFinal → HasFault t b f → IsSpelledBy b None
+found_refused t b f e final h = λ m said is.
+    final lenient Past 0 b [] [] f m (omega arith) (subst (λ (u : Place). HasFault u b f) e h) said (ap (λ (z : List ℕ). z ++ []) is)
 
-pub not_partial : (b : List ℕ) → IsPartial lenient Past 0 b → IsSpelledBy b None
-not_partial b p = λ m said e.
+pub found_open : (t : Place) (b : List ℕ) (n : ℕ) → t ≡ place.Message lenient Past 0 1 → Awaits t b n → IsSpelledBy b None
+found_open t b n e h = λ m said is.
     let short = said.legal.short in
-    let whole : is_whole b ≡ true = ap is_whole (e ∙ sym (append-nil (spell lenient m))) ∙ (spelled_first lenient m [] (omega arith)).whole in
-    let both : true ≡ false = sym whole ∙ p.part in
+    let here = place.Message lenient Past 0 1 in
+    let part = (open_parts here b (awaits_open here b n (subst (λ (u : Place). Awaits u b n) e h))).1 in
+    let whole : is_whole b ≡ true = ap is_whole (is ∙ sym (append-nil (spell lenient m))) ∙ (spelled_first lenient m [] (omega arith)).whole in
+    let both : true ≡ false = sym whole ∙ part in
     cc
+
+-- a message, and more bytes
+pub found_longer : (t : Place) (b : List ℕ) (n : ℕ) (m : Message) → t ≡ place.Message lenient Past 0 1 → NoneBeginsAnother → n < length b
+    → IsItem t (take n b) (items.Message m) → IsSpelledBy b None
+found_longer t b n m e none lt h = λ other said is.
+    let p = subst (λ (u : Place). IsItem u (take n b) (items.Message m)) e h in
+    let joined : spell lenient m ++ drop n b ≡ spell lenient other ++ [] = ap (λ (z : List ℕ). z ++ drop n b) (sym p.1) ∙ take-append-drop n b ∙ is
+    ∙ sym (append-nil (spell lenient other)) in
+    let one = none lenient Past Past 0 0 m other (drop n b) [] (omega arith) p.0 said joined in
+    absurd (omega (arith, lt, ap (length {A = ℕ}) one.1, length-drop n b))
+
+pub found_all : (t : Place) (b : List ℕ) (n : ℕ) (m : Message) → t ≡ place.Message lenient Past 0 1 → length b ≤ n
+    → IsItem t (take n b) (items.Message m) → IsSpelledBy b (Some m)
+found_all t b n m e le h =
+    let P : List ℕ → Type 0 = λ x. IsItem (place.Message lenient Past 0 1) x (items.Message m) in
+    subst P (take_all n b le) (subst (λ (u : Place). IsItem u (take n b) (items.Message m)) e h)
+
+pub found_no_handshake : (t : Place) (b : List ℕ) (h : Handshake) → t ≡ place.Message lenient Past 0 1 → IsItem t b (items.Handshake h) → ⊥
+found_no_handshake t b h e p = subst (λ (u : Place). IsItem u b (items.Handshake h)) e p
 
 pub no_line : (words bytes : List ℕ) (ok : Bool) → ok ≡ false → IsAnswer false words bytes ok → IsMessageReading words None
 no_line words bytes true e answer = absurd cc

@@ -6,7 +6,7 @@ use bt_ext::{Registered, Rules};
 use bt_text::script::laws::one_reading;
 use bt_text::script::reading::read_line;
 use bt_wire::laws::prefixes;
-use bt_wire::{Context, Front, Message, Order, copy_message, read_front};
+use bt_wire::{Context, Cursor, Found, Message, Order, View, copy_message};
 use std::alloc::{AllocError, Global};
 
 /// Returns a context that allows every message that any end's limit does.
@@ -28,15 +28,16 @@ fn spelled(alloc: Global, bytes: &[u8]) -> Result<Option<Message>, AllocError>
     ensures { IfOk result (IsSpelledBy bytes.now) }
 {
     prefixes();
-    match read_front(&lenient_context(), Order::Past, 0, bytes) {
-        Front::Whole(view, length) => {
+    match Cursor::at(lenient_context(), Order::Past, 0).read(bytes) {
+        Found::Item(View::Message(view), length) => {
             if length < bytes.len() {
                 return Ok(None);
             }
             Ok(Some(copy_message(alloc, &view)?))
         }
-        Front::Refused(_) => Ok(None),
-        Front::Partial => Ok(None),
+        Found::Item(View::Handshake(_), _) => Ok(None),
+        Found::Refused(_) => Ok(None),
+        Found::Need(_) => Ok(None),
     }
 }
 

@@ -21,9 +21,9 @@ use Rattle.bt_wire.specs.Legal.{IsLegal, IsSaid}
 use Rattle.bt_wire.specs.Messages.{spell, order_after, IsInRange}
 use Rattle.bt_feed.specs.Feeds.{FeedState}
 use Rattle.bt_feed.specs.Progress.{IsPartial}
-use Rattle.bt_feed.specs.Stages.{IsItem, stage_after, start_of, is_closed}
-use Rattle.bt_feed.specs.declared.stage.Stage.{Stage}
-use Rattle.bt_feed.specs.declared.stage.Stage.TheVariants as stage
+use Rattle.bt_wire.specs.Cursors.{IsItem, place_after, start_of, is_closed}
+use Rattle.bt_wire.specs.declared.cursor.Place.{Place}
+use Rattle.bt_wire.specs.declared.cursor.Place.TheVariants as place
 use Rattle.bt_metadata.specs.Assemblies.{AssemblyState}
 use Rattle.bt_metadata.specs.Blocks.{block}
 use Rattle.bt_end.specs.Ends.{EndState, Part, Watching, Serving, Awaiting, Fetching, Fetched, peer_id, served_size}
@@ -106,36 +106,36 @@ AreFor c d o (msg ∷ ms) = IsFor c d o msg × AreFor c d (order_after o msg) ms
 -- ---- what is under way
 
 -- the bytes are the spellings of the items, each legal where it comes
-abbrev pub Coming : Stage → List Item → List ℕ → Type 0
+abbrev pub Coming : Place → List Item → List ℕ → Type 0
 Coming t [] b = b ≡ []
-Coming t (i ∷ is) b = (first : List ℕ) × (rest : List ℕ) × (b ≡ first ++ rest) × IsItem t first i × Coming (stage_after t (M.size i) i) is rest
+Coming t (i ∷ is) b = (first : List ℕ) × (rest : List ℕ) × (b ≡ first ++ rest) × IsItem t first i × Coming (place_after t (M.size i) i) is rest
 
 -- what is awaited after the items
-abbrev pub following : Stage → List Item → Stage
+abbrev pub following : Place → List Item → Place
 following t [] = t
-following t (i ∷ is) = following (stage_after t (M.size i) i) is
+following t (i ∷ is) = following (place_after t (M.size i) i) is
 
 -- an end that awaits the handshake isn't open
-abbrev pub IsAwaiting : EndState → Stage → Type 0
-IsAwaiting e (stage.Handshake own) = (own ≡ e.own) × (e.context ≡ None) × (e.sends ≡ Fresh)
-IsAwaiting e (stage.Message c o s n) = e.context ≡ Some c
+abbrev pub IsAwaiting : EndState → Place → Type 0
+IsAwaiting e (place.Handshake own) = (own ≡ e.own) × (e.context ≡ None) × (e.sends ≡ Fresh)
+IsAwaiting e (place.Message c o s n) = e.context ≡ Some c
 
 -- what is under way from the node x to the end e that has this feed, and what was delivered of it
 pub record Loose (a b : EndState) (x : M.Node) (e : EndState) (feed : FeedState) (untaken outbox : List ℕ) : Type 0 where
-  pub coming : Coming feed.stage (drop x.handled x.sent) (feed.held ++ (untaken ++ outbox))
-  pub following_all : following feed.stage (drop x.handled x.sent) ≡ stage.Message (reads b a) x.end.sends (M.total x.sent) (length x.sent)
-  pub start : start_of feed.stage ≡ M.total (take x.handled x.sent)
-  pub count : start_of feed.stage + (length feed.held + length untaken) ≡ x.delivered
+  pub coming : Coming feed.place (drop x.handled x.sent) (feed.held ++ (untaken ++ outbox))
+  pub following_all : following feed.place (drop x.handled x.sent) ≡ place.Message (reads b a) x.end.sends (M.total x.sent) (length x.sent)
+  pub start : start_of feed.place ≡ M.total (take x.handled x.sent)
+  pub count : start_of feed.place + (length feed.held + length untaken) ≡ x.delivered
   pub within : x.handled ≤ length x.sent
   pub unrefused : feed.refused ≡ None
-  pub partial : IsPartial feed.stage feed.held
-  pub awaited : IsAwaiting e feed.stage
+  pub partial : IsPartial feed.place feed.held
+  pub awaited : IsAwaiting e feed.place
   pub honest : AreHonest a (drop x.handled x.sent)
 
 -- and the feed has taken what it may
 pub record Flow (a b : EndState) (x : M.Node) (e : EndState) (feed : FeedState) (untaken outbox : List ℕ) : Type 0 where
   pub is : Loose a b x e feed untaken outbox
-  pub full : (is_closed feed.stage feed.held ≡ true) ⊎ (untaken ≡ [])
+  pub full : (is_closed feed.place feed.held ≡ true) ⊎ (untaken ≡ [])
 
 -- what lies in the byte link beside the ends
 pub record Wires : Type 0 where

@@ -12,9 +12,9 @@ use Rattle.bt_wire.specs.Messages.{Message}
 use Rattle.bt_wire.specs.Messages.{spell}
 use Rattle.bt_feed.specs.Feeds.{FeedState, taken, pushed}
 use Rattle.bt_feed.specs.Progress.{IsPartial}
-use Rattle.bt_feed.specs.Stages.{IsItem, stage_after, start_of, limit_of, is_closed}
-use Rattle.bt_feed.specs.declared.stage.Stage.{Stage}
-use Rattle.bt_feed.specs.declared.stage.Stage.TheVariants as stage
+use Rattle.bt_wire.specs.Cursors.{IsItem, place_after, start_of, limit_of, is_closed}
+use Rattle.bt_wire.specs.declared.cursor.Place.{Place}
+use Rattle.bt_wire.specs.declared.cursor.Place.TheVariants as place
 use Rattle.bt_feed.proofs.Filled.{partial_filled}
 use Rattle.bt_feed.proofs.Reading.{taken_least}
 use Rattle.bt_end.specs.Ends.{EndState, orders_after}
@@ -27,12 +27,12 @@ use Rattle.bt_session.proofs.LinkInvariant.{IsStill, reads, Coming, following, I
 
 -- ---- the feed takes what it may
 
-pub no_bytes : (t : Stage) → IsPartial t []
+pub no_bytes : (t : Place) → IsPartial t []
 no_bytes t = record { opens = λ k l. absurd (omega arith) }
 
-full_by : (f : FeedState) (piece : List ℕ) → (taken f piece < length piece → is_closed f.stage (f.held ++ take (taken f piece) piece) ≡ true)
+full_by : (f : FeedState) (piece : List ℕ) → (taken f piece < length piece → is_closed f.place (f.held ++ take (taken f piece) piece) ≡ true)
     → (taken f piece < length piece) ⊎ (length piece ≤ taken f piece)
-    → (is_closed f.stage (f.held ++ take (taken f piece) piece) ≡ true) ⊎ (drop (taken f piece) piece ≡ [])
+    → (is_closed f.place (f.held ++ take (taken f piece) piece) ≡ true) ⊎ (drop (taken f piece) piece ≡ [])
 full_by f piece stops (inl lt) = inl (stops lt)
 full_by f piece stops (inr le) = inr (drop_all (taken f piece) piece le)
 
@@ -40,20 +40,20 @@ pub fed : (a b : EndState) (x : M.Node) (e : EndState) (f : FeedState) (untaken 
     → Flow a b x e (pushed f untaken) (drop (taken f untaken) untaken) outbox
 fed a b x e f untaken outbox l =
     let n : ℕ = taken f untaken in
-    let least = taken_least (is_closed f.stage) f.held untaken in
+    let least = taken_least (is_closed f.place) f.held untaken in
     let parts : take n untaken ++ drop n untaken ≡ untaken = take-append-drop n untaken in
     let bytes : (f.held ++ take n untaken) ++ (drop n untaken ++ outbox) ≡ f.held ++ (untaken ++ outbox) =
     append_assoc f.held (take n untaken) (drop n untaken ++ outbox)
     ∙ ap (λ (t : List ℕ). f.held ++ t) (sym (append_assoc (take n untaken) (drop n untaken) outbox) ∙ ap (λ (t : List ℕ). t ++ outbox) parts) in
     record {
       is = record {
-        coming = subst (λ (y : List ℕ). Coming f.stage (drop x.handled x.sent) y) (sym bytes) l.coming;
+        coming = subst (λ (y : List ℕ). Coming f.place (drop x.handled x.sent) y) (sym bytes) l.coming;
         following_all = l.following_all;
         start = l.start;
         count = omega (arith, l.count, length-append f.held (take n untaken), length-append (take n untaken) (drop n untaken), ap length parts);
         within = l.within;
         unrefused = l.unrefused;
-        partial = partial_filled f.stage f.held untaken (f.held ++ take n untaken) n l.partial
+        partial = partial_filled f.place f.held untaken (f.held ++ take n untaken) n l.partial
             (record { within = least.within; held = refl; opens = least.opens });
         awaited = l.awaited;
         honest = l.honest;
@@ -70,7 +70,7 @@ waiting a b x e f untaken outbox l =
       arith,
       l.count,
       l.start,
-      coming_length f.stage (drop x.handled x.sent) (f.held ++ (untaken ++ outbox)) l.coming,
+      coming_length f.place (drop x.handled x.sent) (f.held ++ (untaken ++ outbox)) l.coming,
       length-append f.held (untaken ++ outbox),
       length-append untaken outbox,
       total_parts x.handled x.sent,
@@ -88,7 +88,7 @@ delivered a b x e f untaken outbox k le l =
     let bytes : f.held ++ ((untaken ++ take k outbox) ++ drop k outbox) ≡ f.held ++ (untaken ++ outbox) =
     ap (λ (t : List ℕ). f.held ++ t) (append_assoc untaken (take k outbox) (drop k outbox) ∙ ap (λ (t : List ℕ). untaken ++ t) (take-append-drop k outbox)) in
     record {
-      coming = subst (λ (y : List ℕ). Coming f.stage (drop x.handled x.sent) y) (sym bytes) l.coming;
+      coming = subst (λ (y : List ℕ). Coming f.place (drop x.handled x.sent) y) (sym bytes) l.coming;
       following_all = l.following_all;
       start = l.start;
       count = omega (arith, l.count, length-append untaken (take k outbox), length-take-le k outbox le);
@@ -115,25 +115,25 @@ sent {a} {b} {x} y xs {f} {untaken} {outbox} c flow all own order lt =
     let is : List Item = map items.Message xs in
     let later : drop x.handled (x.sent ++ is) ≡ drop x.handled x.sent ++ is = drop-append-le x.handled x.sent is l.within in
     let before : take x.handled (x.sent ++ is) ≡ take x.handled x.sent = take-append-le x.handled x.sent is l.within in
-    let here : Stage = stage.Message (reads b a) x.end.sends (total x.sent) (length x.sent) in
+    let here : Place = place.Message (reads b a) x.end.sends (total x.sent) (length x.sent) in
     let come : Coming here is (flat_map (spell c) xs) = messages_come c (reads b a) x.end.sends (total x.sent) (length x.sent) xs all
     (omega (arith, lt, total-append x.sent is)) in
-    let come_after : Coming (following f.stage (drop x.handled x.sent)) is (flat_map (spell c) xs) =
-    subst (λ (t : Stage). Coming t is (flat_map (spell c) xs)) (sym l.following_all) come in
+    let come_after : Coming (following f.place (drop x.handled x.sent)) is (flat_map (spell c) xs) =
+    subst (λ (t : Place). Coming t is (flat_map (spell c) xs)) (sym l.following_all) come in
     let bytes : f.held ++ (untaken ++ (outbox ++ flat_map (spell c) xs)) ≡ (f.held ++ (untaken ++ outbox)) ++ flat_map (spell c) xs =
     ap (λ (t : List ℕ). f.held ++ t) (sym (append_assoc untaken outbox (flat_map (spell c) xs)))
     ∙ sym (append_assoc f.held (untaken ++ outbox) (flat_map (spell c) xs)) in
-    let joined : Coming f.stage (drop x.handled x.sent ++ is) (f.held ++ (untaken ++ (outbox ++ flat_map (spell c) xs))) =
-    subst (λ (t : List ℕ). Coming f.stage (drop x.handled x.sent ++ is) t) (sym bytes)
-    (coming_more f.stage (drop x.handled x.sent) is (f.held ++ (untaken ++ outbox)) (flat_map (spell c) xs) l.coming come_after) in
+    let joined : Coming f.place (drop x.handled x.sent ++ is) (f.held ++ (untaken ++ (outbox ++ flat_map (spell c) xs))) =
+    subst (λ (t : List ℕ). Coming f.place (drop x.handled x.sent ++ is) t) (sym bytes)
+    (coming_more f.place (drop x.handled x.sent) is (f.held ++ (untaken ++ outbox)) (flat_map (spell c) xs) l.coming come_after) in
     record {
       is = record {
-        coming = subst (λ (js : List Item). Coming f.stage js (f.held ++ (untaken ++ (outbox ++ flat_map (spell c) xs)))) (sym later) joined;
-        following_all = ap (following f.stage) later ∙ following_more f.stage (drop x.handled x.sent) is ∙ ap (λ (t : Stage). following t is) l.following_all
+        coming = subst (λ (js : List Item). Coming f.place js (f.held ++ (untaken ++ (outbox ++ flat_map (spell c) xs)))) (sym later) joined;
+        following_all = ap (following f.place) later ∙ following_more f.place (drop x.handled x.sent) is ∙ ap (λ (t : Place). following t is) l.following_all
             ∙ messages_following (reads b a) x.end.sends (total x.sent) (length x.sent) xs
-            ∙ ap (λ (o : Order). stage.Message (reads b a) o (total x.sent + total is) (length x.sent + length is)) (sym order)
-            ∙ ap (λ (n : ℕ). stage.Message (reads b a) y.sends n (length x.sent + length is)) (sym (total-append x.sent is))
-            ∙ ap (λ (n : ℕ). stage.Message (reads b a) y.sends (total (x.sent ++ is)) n) (sym (length-append x.sent is));
+            ∙ ap (λ (o : Order). place.Message (reads b a) o (total x.sent + total is) (length x.sent + length is)) (sym order)
+            ∙ ap (λ (n : ℕ). place.Message (reads b a) y.sends n (length x.sent + length is)) (sym (total-append x.sent is))
+            ∙ ap (λ (n : ℕ). place.Message (reads b a) y.sends (total (x.sent ++ is)) n) (sym (length-append x.sent is));
         start = l.start ∙ ap total (sym before);
         count = l.count;
         within = omega (arith, l.within, length-append x.sent is);
@@ -147,27 +147,27 @@ sent {a} {b} {x} y xs {f} {untaken} {outbox} c flow all own order lt =
 
 -- ---- an item is handled
 
-start_after : (t : Stage) (b : List ℕ) (i : Item) (n : ℕ) → IsItem t b i → start_of (stage_after t n i) ≡ start_of t + n
-start_after (stage.Handshake own) b (items.Handshake h) n p = omega arith
-start_after (stage.Message c o s k) b (items.Message msg) n p = refl
-start_after (stage.Handshake own) b (items.Message msg) n p = absurd p
-start_after (stage.Message c o s k) b (items.Handshake h) n p = absurd p
+start_after : (t : Place) (b : List ℕ) (i : Item) (n : ℕ) → IsItem t b i → start_of (place_after t n i) ≡ start_of t + n
+start_after (place.Handshake own) b (items.Handshake h) n p = omega arith
+start_after (place.Message c o s k) b (items.Message msg) n p = refl
+start_after (place.Handshake own) b (items.Message msg) n p = absurd p
+start_after (place.Message c o s k) b (items.Handshake h) n p = absurd p
 
 -- what is left after the item
 pub left : {a b : EndState} {x : M.Node} {e y : EndState} {f : FeedState} {untaken outbox : List ℕ} {i : Item} {rest : List Item}
     → Loose a b x e f untaken outbox → drop x.handled x.sent ≡ i ∷ rest → drop (x.handled + 1) x.sent ≡ rest → total (take (x.handled + 1) x.sent)
     ≡ total (take x.handled x.sent) + size i → x.handled < length x.sent
-    → IsItem f.stage f.held i → Coming (stage_after f.stage (size i) i) rest (untaken ++ outbox) → IsAwaiting y (stage_after f.stage (size i) i)
-    → Loose a b (record x { handled = x.handled + 1 }) y (record { stage = stage_after f.stage (size i) i; held = []; refused = f.refused }) untaken outbox
+    → IsItem f.place f.held i → Coming (place_after f.place (size i) i) rest (untaken ++ outbox) → IsAwaiting y (place_after f.place (size i) i)
+    → Loose a b (record x { handled = x.handled + 1 }) y (record { place = place_after f.place (size i) i; held = []; refused = f.refused }) untaken outbox
 left {a} {b} {x} {e} {y} {f} {untaken} {outbox} {i} {rest} l first later more within item come awaited =
-    let t : Stage = stage_after f.stage (size i) i in
-    let here : following t rest ≡ following f.stage (drop x.handled x.sent) = ap (following f.stage) (sym first) in
+    let t : Place = place_after f.place (size i) i in
+    let here : following t rest ≡ following f.place (drop x.handled x.sent) = ap (following f.place) (sym first) in
     let own : AreHonest a (i ∷ rest) = subst (λ (js : List Item). AreHonest a js) first l.honest in
     record {
       coming = subst (λ (js : List Item). Coming t js (untaken ++ outbox)) (sym later) come;
       following_all = ap (following t) later ∙ here ∙ l.following_all;
-      start = start_after f.stage f.held i (size i) item ∙ ap (λ (n : ℕ). n + size i) l.start ∙ sym more;
-      count = omega (arith, l.count, start_after f.stage f.held i (size i) item, item_size f.stage f.held i item);
+      start = start_after f.place f.held i (size i) item ∙ ap (λ (n : ℕ). n + size i) l.start ∙ sym more;
+      count = omega (arith, l.count, start_after f.place f.held i (size i) item, item_size f.place f.held i item);
       within = omega arith;
       unrefused = l.unrefused;
       partial = no_bytes t;
@@ -177,12 +177,12 @@ left {a} {b} {x} {e} {y} {f} {untaken} {outbox} {i} {rest} l first later more wi
 
 -- ---- the limit
 
-limit_at : (a b : EndState) (e : EndState) (t : Stage) (is : List Item) (o : Order) (s n : ℕ) → IsStill b e → IsAwaiting e t → following t is
-    ≡ stage.Message (reads b a) o s n → limit_of t ≡ b.own.limit
-limit_at a b e (stage.Handshake own) is o s n still w h = ap (λ (x : Own). x.limit) (w.0 ∙ still.own)
-limit_at a b e (stage.Message c p k j) is o s n still w h = ap (λ (x : Context). x.limit) (following_message c p k j is (reads b a) o s n h)
+limit_at : (a b : EndState) (e : EndState) (t : Place) (is : List Item) (o : Order) (s n : ℕ) → IsStill b e → IsAwaiting e t → following t is
+    ≡ place.Message (reads b a) o s n → limit_of t ≡ b.own.limit
+limit_at a b e (place.Handshake own) is o s n still w h = ap (λ (x : Own). x.limit) (w.0 ∙ still.own)
+limit_at a b e (place.Message c p k j) is o s n still w h = ap (λ (x : Context). x.limit) (following_message c p k j is (reads b a) o s n h)
 
 pub limited : (a b : EndState) (x : M.Node) (e : EndState) (f : FeedState) (untaken outbox : List ℕ) → IsConfigured b → IsStill b e
-    → Loose a b x e f untaken outbox → limit_of f.stage < 2 ^ 32
+    → Loose a b x e f untaken outbox → limit_of f.place < 2 ^ 32
 limited a b x e f untaken outbox end still l =
-    omega (arith, end.most, limit_at a b e f.stage (drop x.handled x.sent) x.end.sends (total x.sent) (length x.sent) still l.awaited l.following_all)
+    omega (arith, end.most, limit_at a b e f.place (drop x.handled x.sent) x.end.sends (total x.sent) (length x.sent) still l.awaited l.following_all)

@@ -26,10 +26,10 @@ use Rattle.bt_wire.specs.Legal.{IsLegal, Refuses}
 use Rattle.bt_wire.specs.Messages.{fields_of, field_in, order_after, spell, IsShaped, IsInRange}
 use Rattle.bt_feed.specs.Answers.{standing, or_else}
 use Rattle.bt_feed.specs.Feeds.{FeedState, taken, pushed, waiting}
-use Rattle.bt_feed.specs.Stages.{early, refusal_of}
-use Rattle.bt_feed.specs.declared.stage.Stage.{Stage}
-use Rattle.bt_feed.specs.declared.stage.Stage.TheVariants as stage
-use Rattle.bt_feed.proofs.Closed.{open_parts}
+use Rattle.bt_wire.specs.Cursors.{early, refusal_of}
+use Rattle.bt_wire.specs.declared.cursor.Place.{Place}
+use Rattle.bt_wire.specs.declared.cursor.Place.TheVariants as place
+use Rattle.bt_wire.proofs.Closed.{open_parts}
 use Rattle.bt_end.specs.Ends.{EndState, Part, Watching, Serving, Awaiting, Fetching, Fetched, peer_id, belief, queueing, no_extension, renewed, part_kept}
 use Rattle.bt_end.specs.Halves.{high_water, unsaid, unsaid_by, is_own_made, tells_pieces, reacted}
 use Rattle.bt_session.specs.ByteLinks as B
@@ -91,27 +91,27 @@ delivers a b p w n inv =
 -- ---- nothing stands against what comes
 
 early_at : {a b : EndState} {x : M.Node} {e : EndState} {f : FeedState} {untaken outbox : List ℕ} → IsConfigured b → IsStill b e → M.IsSmallNode x
-    → Flow a b x e f untaken outbox → (next : Option Item) → slice_get x.sent x.handled ≡ next → early f.stage f.held ≡ None
+    → Flow a b x e f untaken outbox → (next : Option Item) → slice_get x.sent x.handled ≡ next → early f.place f.held ≡ None
 early_at {a} {b} {x} {f} {untaken} {outbox} end still few flow None next =
     let l = flow.is in
     let none : drop x.handled x.sent ≡ [] = none_left x.handled x.sent next in
-    let empty : Coming f.stage [] (f.held ++ (untaken ++ outbox)) = subst (λ (js : List Item). Coming f.stage js (f.held ++ (untaken ++ outbox))) none
+    let empty : Coming f.place [] (f.held ++ (untaken ++ outbox)) = subst (λ (js : List Item). Coming f.place js (f.held ++ (untaken ++ outbox))) none
     l.coming in
-    let is : f.stage ≡ stage.Message (reads b a) x.end.sends (total x.sent) (length x.sent) = ap (following f.stage) (sym none) ∙ l.following_all in
-    (open_parts f.stage f.held (empty_open f.stage f.held (untaken ++ outbox) (reads b a) x.end.sends (total x.sent) (length x.sent) few is empty)).0
+    let is : f.place ≡ place.Message (reads b a) x.end.sends (total x.sent) (length x.sent) = ap (following f.place) (sym none) ∙ l.following_all in
+    (open_parts f.place f.held (empty_open f.place f.held (untaken ++ outbox) (reads b a) x.end.sends (total x.sent) (length x.sent) few is empty)).0
 early_at {a} {b} {x} {e} {f} {untaken} {outbox} end still few flow (Some i) next =
     let l = flow.is in
     let parts = next_parts x.handled x.sent i next in
     let rest : List Item = drop (x.handled + 1) x.sent in
     let lt = limited a b x e f untaken outbox end still l in
-    let come : Coming f.stage (i ∷ rest) (f.held ++ (untaken ++ outbox)) = subst (λ (js : List Item). Coming f.stage js (f.held ++ (untaken ++ outbox)))
+    let come : Coming f.place (i ∷ rest) (f.held ++ (untaken ++ outbox)) = subst (λ (js : List Item). Coming f.place js (f.held ++ (untaken ++ outbox)))
     parts.0 l.coming in
     elim (cases_lt (length f.held) (size i)) [
-      | inl short ↦ (open_parts f.stage f.held (first_open f.stage i rest f.held (untaken ++ outbox) lt come short)).0
-      | inr long ↦ item_early f.stage f.held i lt (first_held f.stage i rest f.held untaken outbox lt come l.partial flow.full (omega arith)).0
+      | inl short ↦ (open_parts f.place f.held (first_open f.place i rest f.held (untaken ++ outbox) lt come short)).0
+      | inr long ↦ item_early f.place f.held i lt (first_held f.place i rest f.held untaken outbox lt come l.partial flow.full (omega arith)).0
     ]
 
-stands_by : (o : Option Refusal) (t : Stage) (f : Option Refused) → o ≡ None → f ≡ None → is_some (or_else o (option_map (refusal_of t) f)) ≡ false
+stands_by : (o : Option Refusal) (t : Place) (f : Option Refused) → o ≡ None → f ≡ None → is_some (or_else o (option_map (refusal_of t) f)) ≡ false
 stands_by o t f e h = rw (e, h) refl
 
 -- ---- sayings
@@ -120,9 +120,9 @@ stands_by o t f e h = rw (e, h) refl
 same_unsaid : (a b : EndState) (p : M.Pair) (w : Wires) (msg : Message) → IsConfigured a → Inv a b p w → M.IsSmallNode p.other
     → unsaid_by (made p w).own.half msg ≡ M.unsaid_by p.own msg
 same_unsaid a b p w msg end inv few =
-    let e : early w.feed.stage w.feed.held ≡ None = early_at end inv.own few inv.coming
+    let e : early w.feed.place w.feed.held ≡ None = early_at end inv.own few inv.coming
     (M.next_item p.other) refl in
-    let stands : is_some (standing w.feed) ≡ false = stands_by w.feed.refused w.feed.stage (early w.feed.stage w.feed.held) inv.coming.is.unrefused e in
+    let stands : is_some (standing w.feed) ≡ false = stands_by w.feed.refused w.feed.place (early w.feed.place w.feed.held) inv.coming.is.unrefused e in
     ap (λ (refused : Bool). unsaid p.own.end refused (length w.outbox) msg) stands
     ∙ ap (λ (n : ℕ). unsaid p.own.end false n msg) (undelivered_is a b p.own p.other.end w.other_feed w.other_untaken w.outbox inv.going.is)
 
@@ -232,10 +232,10 @@ own_honest a (m.Extended x) h = absurd cc
 own_honest a other h = tt
 
 -- the context of an open end
-open_context : (a b : EndState) (e : EndState) (t : Stage) (is : List Item) (o : Order) (s n : ℕ) → IsAwaiting e t → following t is
-    ≡ stage.Message (reads a b) o s n → is_none e.context ≡ false → e.context ≡ Some (reads a b)
-open_context a b e (stage.Handshake own) is o s n w follows known = absurd (let none = w.1 in let bad = rw none at known in cc)
-open_context a b e (stage.Message c p k j) is o s n w follows known = w ∙ ap Some (following_message c p k j is (reads a b) o s n follows)
+open_context : (a b : EndState) (e : EndState) (t : Place) (is : List Item) (o : Order) (s n : ℕ) → IsAwaiting e t → following t is
+    ≡ place.Message (reads a b) o s n → is_none e.context ≡ false → e.context ≡ Some (reads a b)
+open_context a b e (place.Handshake own) is o s n w follows known = absurd (let none = w.1 in let bad = rw none at known in cc)
+open_context a b e (place.Message c p k j) is o s n w follows known = w ∙ ap Some (following_message c p k j is (reads a b) o s n follows)
 
 -- the context that the other reads in is the believed one, with its own piece count and ids
 reads_moved : (a b e : EndState) → AreMatched a b → IsStill a e → e.context ≡ Some (reads a b) → moved (belief e) b.own.pieces b.own.reg ≡ reads b a
@@ -358,7 +358,7 @@ said_now a b p w msg h inv range unsaid_is legal small =
     let l = inv.coming.is in
     let tests = unsaid_none (is_none e.context || false) (nat_le high_water (M.undelivered p.own)) (is_own_made msg)
     (tells_pieces e msg && is_none e.own.pieces) unsaid_is in
-    let known : e.context ≡ Some (reads a b) = open_context a b e w.feed.stage (drop p.other.handled p.other.sent) p.other.end.sends (total p.other.sent)
+    let known : e.context ≡ Some (reads a b) = open_context a b e w.feed.place (drop p.other.handled p.other.sent) p.other.end.sends (total p.other.sent)
     (length p.other.sent) l.awaited l.following_all (or_left (is_none e.context) tests.0) in
     let for : IsFor (belief e) (reads b a) e.sends msg = said_for h inv.own inv.knows known range tests.1 tests.2 legal in
     record {
@@ -380,7 +380,7 @@ said_now a b p w msg h inv range unsaid_is legal small =
             within = l.within;
             unrefused = l.unrefused;
             partial = l.partial;
-            awaited = still_awaiting e w.feed.stage (order_after e.sends msg) known l.awaited;
+            awaited = still_awaiting e w.feed.place (order_after e.sends msg) known l.awaited;
             honest =
                 l.honest;
           };
@@ -397,9 +397,9 @@ said_now a b p w msg h inv range unsaid_is legal small =
     or_left false e = refl
     or_left true e = absurd cc
 
-    still_awaiting : (e : EndState) (t : Stage) (o : Order) → e.context ≡ Some (reads a b) → IsAwaiting e t → IsAwaiting (record e { sends = o }) t
-    still_awaiting e (stage.Handshake own) o known w = absurd (let none = w.1 in cc)
-    still_awaiting e (stage.Message c p s n) o known w = w
+    still_awaiting : (e : EndState) (t : Place) (o : Order) → e.context ≡ Some (reads a b) → IsAwaiting e t → IsAwaiting (record e { sends = o }) t
+    still_awaiting e (place.Handshake own) o known w = absurd (let none = w.1 in cc)
+    still_awaiting e (place.Message c p s n) o known w = w
 
 said : (a b : EndState) (p : M.Pair) (w : Wires) (msg : Message) (o : Outcome) → AreMatched a b → Inv a b p w → IsInRange bare msg → M.IsSayOf p.own msg o
     → M.IsSmallNode (M.after_say p msg o).own → Said a b p w msg o
@@ -459,7 +459,7 @@ pub matched_back : (a b : EndState) → AreMatched a b → AreMatched b a
 matched_back a b h = record { hash = sym h.hash; limit = sym h.limit; rules = sym h.rules; pieces = same_back a.own.pieces b.own.pieces h.pieces }
 
 new_flow : {a b e f : EndState} → IsConfigured a → IsConfigured b → AreMatched a b → IsStill a e → IsStill b f → e.sends ≡ Fresh → f.context ≡ None
-    → f.sends ≡ Fresh → Flow a b (M.first e) f (waiting (stage.Handshake f.own)) [] (hand e.handshake)
+    → f.sends ≡ Fresh → Flow a b (M.first e) f (waiting (place.Handshake f.own)) [] (hand e.handshake)
 new_flow {a} {b} {e} {f} enda endb h still other fresh closed quiet =
     let hs : IsHandshake e.handshake = subst (λ (x : Handshake). IsHandshake x) (sym still.handshake) enda.handshake in
     let hash : f.own.info_hash ≡ Some e.handshake.info_hash =
@@ -468,13 +468,13 @@ new_flow {a} {b} {e} {f} enda endb h still other fresh closed quiet =
     record {
       is = record {
         coming = (hand e.handshake, [], sym (append-nil (hand e.handshake)), (hand_faultless f.own e.handshake hs hash, hs, refl), refl);
-        following_all = ap (λ (o : Own). stage.Message (negotiated o e.handshake.reserved) Fresh 68 1) other.own
-            ∙ ap (λ (r : Reserved). stage.Message (negotiated b.own r) Fresh 68 1) reserved ∙ ap (λ (o : Order). stage.Message (reads b a) o 68 1) (sym fresh);
+        following_all = ap (λ (o : Own). place.Message (negotiated o e.handshake.reserved) Fresh 68 1) other.own
+            ∙ ap (λ (r : Reserved). place.Message (negotiated b.own r) Fresh 68 1) reserved ∙ ap (λ (o : Order). place.Message (reads b a) o 68 1) (sym fresh);
         start = refl;
         count = refl;
         within = omega arith;
         unrefused = refl;
-        partial = no_bytes (stage.Handshake f.own);
+        partial = no_bytes (place.Handshake f.own);
         awaited = (refl, closed, quiet);
         honest = (tt, tt);
       };
@@ -509,10 +509,10 @@ knows_renewed b e k = record {
 
 abbrev pub new_wires : EndState → EndState → Wires
 new_wires e f = record {
-  feed = waiting (stage.Handshake e.own);
+  feed = waiting (place.Handshake e.own);
   untaken = [];
   outbox = hand e.handshake;
-  other_feed = waiting (stage.Handshake f.own);
+  other_feed = waiting (place.Handshake f.own);
   other_untaken = [];
   other_outbox = hand f.handshake;
 }

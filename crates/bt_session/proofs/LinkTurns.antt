@@ -22,12 +22,12 @@ use Rattle.bt_wire.specs.Messages.{order_after, spell}
 use Rattle.bt_wire.proofs.SpellLaws.{length-spell}
 use Rattle.bt_feed.specs.Answers.{after as after_answer, standing}
 use Rattle.bt_feed.specs.Feeds.{FeedState, taken, pushed}
-use Rattle.bt_feed.specs.Stages.{IsItem, stage_after, limit_of, early, is_all, is_closed}
-use Rattle.bt_feed.specs.declared.stage.Stage.{Stage}
-use Rattle.bt_feed.specs.declared.stage.Stage.TheVariants as stage
-use Rattle.bt_feed.proofs.Closed.{open_parts, item_closed}
+use Rattle.bt_wire.specs.Cursors.{IsItem, place_after, limit_of, early, is_all, is_closed}
+use Rattle.bt_wire.specs.declared.cursor.Place.{Place}
+use Rattle.bt_wire.specs.declared.cursor.Place.TheVariants as place
+use Rattle.bt_wire.proofs.Closed.{open_parts, item_closed}
 use Rattle.bt_feed.proofs.FeedLaws.{answer_only}
-use Rattle.bt_feed.proofs.Windows.{need_open}
+use Rattle.bt_wire.proofs.Windows.{need_open}
 use Rattle.bt_wire.specs.Headers.{header_of}
 use Rattle.bt_end.specs.Ends.{EndState, Reaction, react, belief, greeted, at_message}
 use Rattle.bt_end.specs.Halves.{HalfState, high_water, is_ready, is_busy, IsAnswered, with_feed}
@@ -51,10 +51,10 @@ message_reacts a b e c (m.Extended x) h own end agreed honest = extended_reacts 
 message_reacts a b e c other h own end agreed honest = quiet_reacts a b e c h
 
 -- what comes of an item that a sent, whose end is e; and the end awaits what follows
-record Handles (a b e : EndState) (t : Stage) (i : Item) : Type 0 where
+record Handles (a b e : EndState) (t : Place) (i : Item) : Type 0 where
   pub context : Context
   pub reacts : Reacts a b e.sends context (react e i)
-  pub awaits : IsAwaiting (react e i).end (stage_after t (size i) i)
+  pub awaits : IsAwaiting (react e i).end (place_after t (size i) i)
 
 -- the two ends as they were made, and what the end e, which was a, knows of the other
 record AreMet (a b e : EndState) : Type 0 where
@@ -63,9 +63,9 @@ record AreMet (a b e : EndState) : Type 0 where
   still : IsStill a e
   knows : Knows b e
 
-handles_item : {a b e : EndState} (t : Stage) (held : List ℕ) (i : Item) (is : List Item) {o : Order} {s n : ℕ} → AreMet a b e → IsItem t held i
-    → IsAwaiting e t → following t (i ∷ is) ≡ stage.Message (reads a b) o s n → IsHonest b i → Handles a b e t i
-handles_item {a} {b} {e} (stage.Handshake own) held (items.Handshake h) is {o} {s} {n} met item w follows honest =
+handles_item : {a b e : EndState} (t : Place) (held : List ℕ) (i : Item) (is : List Item) {o : Order} {s n : ℕ} → AreMet a b e → IsItem t held i
+    → IsAwaiting e t → following t (i ∷ is) ≡ place.Message (reads a b) o s n → IsHonest b i → Handles a b e t i
+handles_item {a} {b} {e} (place.Handshake own) held (items.Handshake h) is {o} {s} {n} met item w follows honest =
     let same : negotiated own h.reserved ≡ reads a b = following_message (negotiated own h.reserved) Fresh (size (items.Handshake h)) 1 is (reads a b) o s n
     follows in
     let c : Context = negotiated e.own h.reserved in
@@ -78,7 +78,7 @@ handles_item {a} {b} {e} (stage.Handshake own) held (items.Handshake h) is {o} {
       reacts = subst (λ (p : Order). Reacts a b p c (greeted e c)) (sym w.2) r;
       awaits = ap (λ (x : Own). Some (negotiated x h.reserved)) (sym w.0);
     }
-handles_item {a} {b} {e} (stage.Message c p k j) held (items.Message msg) is {o} {s} {n} met item w follows honest =
+handles_item {a} {b} {e} (place.Message c p k j) held (items.Message msg) is {o} {s} {n} met item w follows honest =
     let same : c ≡ reads a b = following_message c p k j (items.Message msg ∷ is) (reads a b) o s n follows in
     let e' : EndState = record e { receives = order_after e.receives msg } in
     let ready : IsOpen a b c e' = record {
@@ -95,15 +95,15 @@ handles_item {a} {b} {e} (stage.Message c p k j) held (items.Message msg) is {o}
   where
     extended_agreed : (c : Context) (p : Order) (k : ℕ) (msg : Message) (x : Ext) → IsSaid c p k msg → msg ≡ m.Extended x → c.ext ≡ true
     extended_agreed c p k msg x said is_x = (subst (λ (y : Message). IsLegal c p y) is_x said.legal).agreed
-handles_item {a} {b} {e} (stage.Handshake own) held (items.Message msg) is {o} {s} {n} met item w follows honest = absurd item
-handles_item {a} {b} {e} (stage.Message c p k j) held (items.Handshake h) is {o} {s} {n} met item w follows honest = absurd item
+handles_item {a} {b} {e} (place.Handshake own) held (items.Message msg) is {o} {s} {n} met item w follows honest = absurd item
+handles_item {a} {b} {e} (place.Message c p k j) held (items.Handshake h) is {o} {s} {n} met item w follows honest = absurd item
 
 -- ---- the next item
 
 -- where the next item isn't wholly delivered, the feed is open
-not_busy : (a : HalfState) → is_closed a.feed.stage a.feed.held ≡ false → is_busy a ≡ false
+not_busy : (a : HalfState) → is_closed a.feed.place a.feed.held ≡ false → is_busy a ≡ false
 not_busy a o =
-    let parts = open_parts a.feed.stage a.feed.held o in
+    let parts = open_parts a.feed.place a.feed.held o in
     rw parts.1 (by_none (is_none (standing a.feed)) (nat_le high_water (length a.outbox)))
   where
     by_none : (x y : Bool) → ((x && false) && y) ≡ false
@@ -122,7 +122,7 @@ pub record Turns (a b : EndState) (p : M.Pair) (w : Wires) (o : Outcome) (q : M.
 fed_wires : Wires → Wires
 fed_wires w = record w { feed = pushed w.feed w.untaken; untaken = drop (taken w.feed w.untaken) w.untaken }
 
-idles : (a b : EndState) (p : M.Pair) (w : Wires) → Inv a b p w → is_closed w.feed.stage w.feed.held ≡ false → Turns a b p w outcome.Idle p
+idles : (a b : EndState) (p : M.Pair) (w : Wires) → Inv a b p w → is_closed w.feed.place w.feed.held ≡ false → Turns a b p w outcome.Idle p
 unfolding fed_wires
 idles a b p w i o = record {
   wires = fed_wires w;
@@ -139,23 +139,23 @@ idles a b p w i o = record {
   rests = refl;
 }
 
-pub item_early : (t : Stage) (b : List ℕ) (i : Item) → limit_of t < 2 ^ 32 → IsItem t b i → early t b ≡ None
-item_early (stage.Handshake own) b (items.Handshake h) lt p = p.0
-item_early (stage.Message c o s n) b (items.Message msg) lt p = message_early c o s b [] msg lt (append-nil b ∙ p.1) p.0 (early_fault c o s b) refl
-item_early (stage.Handshake own) b (items.Message msg) lt p = absurd p
-item_early (stage.Message c o s n) b (items.Handshake h) lt p = absurd p
+pub item_early : (t : Place) (b : List ℕ) (i : Item) → limit_of t < 2 ^ 32 → IsItem t b i → early t b ≡ None
+item_early (place.Handshake own) b (items.Handshake h) lt p = p.0
+item_early (place.Message c o s n) b (items.Message msg) lt p = message_early c o s b [] msg lt (append-nil b ∙ p.1) p.0 (early_fault c o s b) refl
+item_early (place.Handshake own) b (items.Message msg) lt p = absurd p
+item_early (place.Message c o s n) b (items.Handshake h) lt p = absurd p
 
 closed_whole : (f : Option Refused) (w : Bool) → f ≡ None → (is_some f || w) ≡ true → w ≡ true
 closed_whole None w e h = h
 closed_whole (Some f) w e h = absurd cc
 
-item_all : (t : Stage) (b : List ℕ) (i : Item) → limit_of t < 2 ^ 32 → IsItem t b i → is_all t b ≡ true
+item_all : (t : Place) (b : List ℕ) (i : Item) → limit_of t < 2 ^ 32 → IsItem t b i → is_all t b ≡ true
 item_all t b i lt p = closed_whole (early t b) (is_all t b) (item_early t b i lt p) (item_closed t b i lt p)
 
-ready_by : (f : FeedState) (i : Item) → f.refused ≡ None → limit_of f.stage < 2 ^ 32 → IsItem f.stage f.held i → is_ready f ≡ true
-ready_by f i none lt item = let e = item_early f.stage f.held i lt item in let w = item_all f.stage f.held i lt item in rw (none, e, w) refl
+ready_by : (f : FeedState) (i : Item) → f.refused ≡ None → limit_of f.place < 2 ^ 32 → IsItem f.place f.held i → is_ready f ≡ true
+ready_by f i none lt item = let e = item_early f.place f.held i lt item in let w = item_all f.place f.held i lt item in rw (none, e, w) refl
 
-busies : (a b : EndState) (p : M.Pair) (w : Wires) (i : Item) → Inv a b p w → IsItem w.feed.stage w.feed.held i → limit_of w.feed.stage < 2 ^ 32
+busies : (a b : EndState) (p : M.Pair) (w : Wires) (i : Item) → Inv a b p w → IsItem w.feed.place w.feed.held i → limit_of w.feed.place < 2 ^ 32
     → nat_le high_water (length w.outbox) ≡ true → Turns a b p w outcome.Busy p
 unfolding fed_wires
 busies a b p w i inv item lt high = record {
@@ -174,12 +174,12 @@ busies a b p w i inv item lt high = record {
 }
 
 -- the feed after an item
-following_item : (f : FeedState) (i : Item) → IsItem f.stage f.held i → after_answer f (Ok (Some i)) ≡ record {
-  stage = stage_after f.stage (size i) i;
+following_item : (f : FeedState) (i : Item) → IsItem f.place f.held i → after_answer f (Ok (Some i)) ≡ record {
+  place = place_after f.place (size i) i;
   held = [];
   refused = f.refused;
 }
-following_item f i item = ap (λ (n : ℕ). record { stage = stage_after f.stage n i; held = []; refused = f.refused }) (item_size f.stage f.held i item)
+following_item f i item = ap (λ (n : ℕ). record { place = place_after f.place n i; held = []; refused = f.refused }) (item_size f.place f.held i item)
 
 take_next : (k : ℕ) (is : List Item) (i : Item) → slice_get is k ≡ Some i → take (k + 1) is ≡ take k is ++ i ∷ []
 take_next k [] i e = absurd cc
@@ -195,7 +195,7 @@ queued_total c d o [] lt h = omega arith
 queued_total c d o (x ∷ xs) lt h = omega (arith, h.0.legal.short, length-spell d x, spell_size d x, queued_total c d (order_after o x) xs lt h.1)
 
 handles_next : {a b : EndState} {p : M.Pair} {w : Wires} (i : Item) {rest : List Item} → IsConfigured a → IsConfigured b → Inv a b p w
-    → slice_get p.other.sent p.other.handled ≡ Some i → IsItem w.feed.stage w.feed.held i → Coming (stage_after w.feed.stage (size i) i) rest (w.untaken
+    → slice_get p.other.sent p.other.handled ≡ Some i → IsItem w.feed.place w.feed.held i → Coming (place_after w.feed.place (size i) i) rest (w.untaken
     ++ w.other_outbox)
     → drop p.other.handled p.other.sent ≡ i ∷ rest → drop (p.other.handled + 1) p.other.sent ≡ rest → nat_le high_water (length w.outbox) ≡ false
     → Turns a b p w outcome.Handled (M.handles p (Some i))
@@ -204,14 +204,14 @@ handles_next {a} {b} {p} {w} i {rest} enda endb inv next item come first later l
     let l = inv.coming.is in
     let e : EndState = p.own.end in
     let parts = next_parts p.other.handled p.other.sent i next in
-    let follows : following w.feed.stage (i ∷ rest) ≡ stage.Message (reads a b) p.other.end.sends (total p.other.sent) (length p.other.sent) =
-    ap (following w.feed.stage) (sym first) ∙ l.following_all in
+    let follows : following w.feed.place (i ∷ rest) ≡ place.Message (reads a b) p.other.end.sends (total p.other.sent) (length p.other.sent) =
+    ap (following w.feed.place) (sym first) ∙ l.following_all in
     let own : AreHonest b (i ∷ rest) = subst (λ (js : List Item). AreHonest b js) first l.honest in
-    let h : Handles a b e w.feed.stage i = handles_item w.feed.stage w.feed.held i rest
+    let h : Handles a b e w.feed.place i = handles_item w.feed.place w.feed.held i rest
     (record { own = enda; other = endb; still = inv.own; knows = inv.knows }) item l.awaited follows own.0 in
     let r : Reaction = react e i in
     let more : List ℕ = flat_map (spell (belief r.end)) r.queued in
-    let f : FeedState = record { stage = stage_after w.feed.stage (size i) i; held = []; refused = w.feed.refused } in
+    let f : FeedState = record { place = place_after w.feed.place (size i) i; held = []; refused = w.feed.refused } in
     let following_is : after_answer w.feed (Ok (Some i)) ≡ f = following_item w.feed i item in
     let free : IsAnswered (made p w).own.half (Ok (Some i)) = (rw low (and_false (is_ready w.feed)), item) in
     let B0 : B.Node = B.handles (made p w).own i in
@@ -261,19 +261,19 @@ nothing_held : (xs ys : List ℕ) → xs ++ ys ≡ [] → xs ≡ []
 nothing_held [] ys e = refl
 nothing_held (x ∷ xs) ys e = absurd cc
 
-open_empty : (c : Context) (o : Order) (s n : ℕ) → s < 2 ^ 62 → is_closed (stage.Message c o s n) [] ≡ false
+open_empty : (c : Context) (o : Order) (s n : ℕ) → s < 2 ^ 62 → is_closed (place.Message c o s n) [] ≡ false
 unfolding header_of
 open_empty c o s n lt = need_open c o s n [] 4 lt refl
 
-pub empty_open : (t : Stage) (held more : List ℕ) (c : Context) (o : Order) (s n : ℕ) → s < 2 ^ 62 → t ≡ stage.Message c o s n → held ++ more ≡ []
+pub empty_open : (t : Place) (held more : List ℕ) (c : Context) (o : Order) (s n : ℕ) → s < 2 ^ 62 → t ≡ place.Message c o s n → held ++ more ≡ []
     → is_closed t held ≡ false
 empty_open t held more c o s n lt e none =
-    ap (is_closed t) (nothing_held held more none) ∙ ap (λ (x : Stage). is_closed x []) e ∙ open_empty c o s n lt
+    ap (is_closed t) (nothing_held held more none) ∙ ap (λ (x : Place). is_closed x []) e ∙ open_empty c o s n lt
 
 -- ---- a turn
 
 turn_by_high : {a b : EndState} {p : M.Pair} {w : Wires} (i : Item) {rest : List Item} → IsConfigured a → IsConfigured b → Inv a b p w
-    → slice_get p.other.sent p.other.handled ≡ Some i → IsItem w.feed.stage w.feed.held i → Coming (stage_after w.feed.stage (size i) i) rest (w.untaken
+    → slice_get p.other.sent p.other.handled ≡ Some i → IsItem w.feed.place w.feed.held i → Coming (place_after w.feed.place (size i) i) rest (w.untaken
     ++ w.other_outbox)
     → drop p.other.handled p.other.sent ≡ i ∷ rest → drop (p.other.handled + 1) p.other.sent ≡ rest → (high : Bool)
     → nat_le high_water (M.undelivered p.own) ≡ high
@@ -295,14 +295,14 @@ turn_by_there a b p w i enda endb inv next there t =
     let l = inv.coming.is in
     let parts = next_parts p.other.handled p.other.sent i next in
     let lt = limited b a p.other p.own.end w.feed w.untaken w.other_outbox enda inv.own l in
-    let come : Coming w.feed.stage (i ∷ drop (p.other.handled + 1) p.other.sent) (w.feed.held ++ (w.untaken ++ w.other_outbox)) =
-    subst (λ (js : List Item). Coming w.feed.stage js (w.feed.held ++ (w.untaken ++ w.other_outbox))) parts.0 l.coming in
+    let come : Coming w.feed.place (i ∷ drop (p.other.handled + 1) p.other.sent) (w.feed.held ++ (w.untaken ++ w.other_outbox)) =
+    subst (λ (js : List Item). Coming w.feed.place js (w.feed.held ++ (w.untaken ++ w.other_outbox))) parts.0 l.coming in
     by_there there t parts.0 parts.1 lt come
   where
     by_there : (there : Bool) → nat_le (total (take (p.other.handled + 1) p.other.sent)) p.other.delivered ≡ there
         → drop p.other.handled p.other.sent ≡ i ∷ drop (p.other.handled + 1) p.other.sent → total (take (p.other.handled + 1) p.other.sent)
         ≡ total (take p.other.handled p.other.sent) + size i
-        → limit_of w.feed.stage < 2 ^ 32 → Coming w.feed.stage (i ∷ drop (p.other.handled + 1) p.other.sent) (w.feed.held ++ (w.untaken ++ w.other_outbox))
+        → limit_of w.feed.place < 2 ^ 32 → Coming w.feed.place (i ∷ drop (p.other.handled + 1) p.other.sent) (w.feed.held ++ (w.untaken ++ w.other_outbox))
         → Turns a b p w (if there then (if nat_le high_water (M.undelivered p.own) then outcome.Busy else outcome.Handled) else outcome.Idle)
         (M.after_turn p (if there then (if nat_le high_water (M.undelivered p.own) then outcome.Busy else outcome.Handled) else outcome.Idle))
     by_there false t first more lt come =
@@ -313,11 +313,11 @@ turn_by_there a b p w i enda endb inv next there t =
           inv.coming.is.count,
           inv.coming.is.start,
         ) in
-        idles a b p w inv (first_open w.feed.stage i (drop (p.other.handled + 1) p.other.sent) w.feed.held (w.untaken ++ w.other_outbox) lt come short)
+        idles a b p w inv (first_open w.feed.place i (drop (p.other.handled + 1) p.other.sent) w.feed.held (w.untaken ++ w.other_outbox) lt come short)
     by_there true t first more lt come =
         let long : size i ≤ length w.feed.held + length w.untaken =
         omega (arith, leb-true (total (take (p.other.handled + 1) p.other.sent)) p.other.delivered t, more, inv.coming.is.count, inv.coming.is.start) in
-        let h = first_held w.feed.stage i (drop (p.other.handled + 1) p.other.sent) w.feed.held w.untaken w.other_outbox lt come inv.coming.is.partial
+        let h = first_held w.feed.place i (drop (p.other.handled + 1) p.other.sent) w.feed.held w.untaken w.other_outbox lt come inv.coming.is.partial
         inv.coming.full long in
         turn_by_high i enda endb inv next h.0 h.1 first refl (nat_le high_water (M.undelivered p.own)) refl
 
@@ -326,11 +326,11 @@ turn_by_next : (a b : EndState) (p : M.Pair) (w : Wires) → IsConfigured a → 
 turn_by_next a b p w enda endb inv few None next =
     let l = inv.coming.is in
     let none : drop p.other.handled p.other.sent ≡ [] = none_left p.other.handled p.other.sent next in
-    let empty : Coming w.feed.stage [] (w.feed.held ++ (w.untaken ++ w.other_outbox)) =
-    subst (λ (js : List Item). Coming w.feed.stage js (w.feed.held ++ (w.untaken ++ w.other_outbox))) none l.coming in
-    let is : w.feed.stage ≡ stage.Message (reads a b) p.other.end.sends (total p.other.sent) (length p.other.sent) = ap (following w.feed.stage) (sym none)
+    let empty : Coming w.feed.place [] (w.feed.held ++ (w.untaken ++ w.other_outbox)) =
+    subst (λ (js : List Item). Coming w.feed.place js (w.feed.held ++ (w.untaken ++ w.other_outbox))) none l.coming in
+    let is : w.feed.place ≡ place.Message (reads a b) p.other.end.sends (total p.other.sent) (length p.other.sent) = ap (following w.feed.place) (sym none)
     ∙ l.following_all in
-    idles a b p w inv (empty_open w.feed.stage w.feed.held (w.untaken ++ w.other_outbox) (reads a b) p.other.end.sends (total p.other.sent)
+    idles a b p w inv (empty_open w.feed.place w.feed.held (w.untaken ++ w.other_outbox) (reads a b) p.other.end.sends (total p.other.sent)
     (length p.other.sent) few is empty)
 turn_by_next a b p w enda endb inv few (Some i) next = turn_by_there a b p w i enda endb inv next (nat_le (total (take (p.other.handled + 1) p.other.sent))
     p.other.delivered) refl
@@ -367,7 +367,7 @@ gave x (outcome.NotSaid e) y h = absurd h
 gave x (outcome.Delivered n) y h = absurd h
 gave x outcome.Reset y h = absurd h
 
-one_gave : (x : B.Node) (o p : Outcome) (y z : B.Node) → limit_of x.half.feed.stage < 2 ^ 32 → Gave x o y → Gave x p z → (o ≡ p) × (y ≡ z)
+one_gave : (x : B.Node) (o p : Outcome) (y z : B.Node) → limit_of x.half.feed.place < 2 ^ 32 → Gave x o y → Gave x p z → (o ≡ p) × (y ≡ z)
 one_gave x o p y z lt (busy h e f) (busy k i j) = (e ∙ sym i, f ∙ sym j)
 one_gave x o p y z lt (busy h e f) (answered r k i j) = absurd (let low = k.0 in cc)
 one_gave x o p y z lt (answered r h e f) (busy k i j) = absurd (let low = h.0 in cc)
@@ -375,7 +375,7 @@ one_gave x o p y z lt (answered r h e f) (answered s k i j) =
     let same : r ≡ s = answer_only x.half.feed r s lt h.1 k.1 in
     (e ∙ ap outcome_of same ∙ sym i, f ∙ ap (node_after x) same ∙ sym j)
 
-pub one_turn : (p : B.Pair) (o o' : Outcome) (q q' : B.Pair) → limit_of p.own.half.feed.stage < 2 ^ 32 → B.IsTurn p o q → B.IsTurn p o' q' → (o ≡ o') × (q ≡ q')
+pub one_turn : (p : B.Pair) (o o' : Outcome) (q q' : B.Pair) → limit_of p.own.half.feed.place < 2 ^ 32 → B.IsTurn p o q → B.IsTurn p o' q' → (o ≡ o') × (q ≡ q')
 one_turn p o o' q q' lt h k =
     let one = one_gave p.own o o' h.0 k.0 lt (gave p.own o h.0 h.1) (gave p.own o' k.0 k.1) in
     (one.0, h.2 ∙ ap (λ (x : B.Node). record { own = B.fed x; other = p.other }) one.1 ∙ sym k.2)
@@ -415,33 +415,33 @@ queues_by : (a b : EndState) (p : M.Pair) (w : Wires) (next : Option Item) → I
 queues_by a b p w None enda endb inv few next i free =
     let l = inv.coming.is in
     let none : drop p.other.handled p.other.sent ≡ [] = none_left p.other.handled p.other.sent next in
-    let empty : Coming w.feed.stage [] (w.feed.held ++ (w.untaken ++ w.other_outbox)) =
-    subst (λ (js : List Item). Coming w.feed.stage js (w.feed.held ++ (w.untaken ++ w.other_outbox))) none l.coming in
-    let is : w.feed.stage ≡ stage.Message (reads a b) p.other.end.sends (total p.other.sent) (length p.other.sent) = ap (following w.feed.stage) (sym none)
+    let empty : Coming w.feed.place [] (w.feed.held ++ (w.untaken ++ w.other_outbox)) =
+    subst (λ (js : List Item). Coming w.feed.place js (w.feed.held ++ (w.untaken ++ w.other_outbox))) none l.coming in
+    let is : w.feed.place ≡ place.Message (reads a b) p.other.end.sends (total p.other.sent) (length p.other.sent) = ap (following w.feed.place) (sym none)
     ∙ l.following_all in
-    let open_is = empty_open w.feed.stage w.feed.held (w.untaken ++ w.other_outbox) (reads a b) p.other.end.sends (total p.other.sent) (length p.other.sent)
+    let open_is = empty_open w.feed.place w.feed.held (w.untaken ++ w.other_outbox) (reads a b) p.other.end.sends (total p.other.sent) (length p.other.sent)
     few is empty in
-    let closed = item_closed w.feed.stage w.feed.held i (limited b a p.other p.own.end w.feed w.untaken w.other_outbox enda inv.own l) free.1 in
+    let closed = item_closed w.feed.place w.feed.held i (limited b a p.other p.own.end w.feed w.untaken w.other_outbox enda inv.own l) free.1 in
     absurd cc
 queues_by a b p w (Some j) enda endb inv few next i free =
     let l = inv.coming.is in
     let lt = limited b a p.other p.own.end w.feed w.untaken w.other_outbox enda inv.own l in
     let parts = next_parts p.other.handled p.other.sent j next in
     let rest : List Item = drop (p.other.handled + 1) p.other.sent in
-    let come : Coming w.feed.stage (j ∷ rest) (w.feed.held ++ (w.untaken ++ w.other_outbox)) =
-    subst (λ (js : List Item). Coming w.feed.stage js (w.feed.held ++ (w.untaken ++ w.other_outbox))) parts.0 l.coming in
+    let come : Coming w.feed.place (j ∷ rest) (w.feed.held ++ (w.untaken ++ w.other_outbox)) =
+    subst (λ (js : List Item). Coming w.feed.place js (w.feed.held ++ (w.untaken ++ w.other_outbox))) parts.0 l.coming in
     let long : size j ≤ length w.feed.held = elim (cases_lt (length w.feed.held) (size j)) [
-      | inl short ↦ absurd (let open_is = first_open w.feed.stage j rest w.feed.held (w.untaken ++ w.other_outbox) lt come short in
-          let closed = item_closed w.feed.stage w.feed.held i lt free.1 in cc)
+      | inl short ↦ absurd (let open_is = first_open w.feed.place j rest w.feed.held (w.untaken ++ w.other_outbox) lt come short in
+          let closed = item_closed w.feed.place w.feed.held i lt free.1 in cc)
       | inr le ↦ le
     ] in
-    let h = first_held w.feed.stage j rest w.feed.held w.untaken w.other_outbox lt come l.partial inv.coming.full (omega arith) in
+    let h = first_held w.feed.place j rest w.feed.held w.untaken w.other_outbox lt come l.partial inv.coming.full (omega arith) in
     let same : Ok (Some i) ≡ Ok (Some j) = answer_only w.feed (Ok (Some i)) (Ok (Some j)) lt free.1 h.0 in
     let is : j ≡ i = cc in
-    let follows : following w.feed.stage (j ∷ rest) ≡ stage.Message (reads a b) p.other.end.sends (total p.other.sent) (length p.other.sent) =
-    ap (following w.feed.stage) (sym parts.0) ∙ l.following_all in
+    let follows : following w.feed.place (j ∷ rest) ≡ place.Message (reads a b) p.other.end.sends (total p.other.sent) (length p.other.sent) =
+    ap (following w.feed.place) (sym parts.0) ∙ l.following_all in
     let own : AreHonest b (j ∷ rest) = subst (λ (js : List Item). AreHonest b js) parts.0 l.honest in
-    let r : Handles a b p.own.end w.feed.stage j = handles_item w.feed.stage w.feed.held j rest
+    let r : Handles a b p.own.end w.feed.place j = handles_item w.feed.place w.feed.held j rest
     (record { own = enda; other = endb; still = inv.own; knows = inv.knows }) h.0 l.awaited follows own.0 in
     let well : B.MayBeSent (belief (react p.own.end j).end) p.own.end.sends (react p.own.end j).queued = sent_well (belief (react p.own.end j).end)
     (reads b a) p.own.end.sends (react p.own.end j).queued r.reacts.queued in

@@ -8,7 +8,11 @@ use Rattle.bt_wire.specs.declared.item.Item.{Item}
 use Rattle.bt_wire.specs.declared.item.Item.TheVariants as items
 use Rattle.bt_wire.specs.Messages.{Message}
 use Rattle.bt_wire.specs.Faults.{IsFault, is_whole}
-use Rattle.bt_wire.specs.Fronts.{BeginsBy, IsPartial}
+use Rattle.bt_wire.specs.Fronts.{BeginsBy}
+use Rattle.bt_wire.specs.declared.cursor.Place.TheVariants as place
+use Rattle.bt_wire.specs.Cursors.{Awaits}
+use Rattle.bt_wire.proofs.Closed.{open_parts}
+use Rattle.bt_wire.proofs.CursorLaws.{awaits_open}
 use Rattle.bt_wire.specs.Messages.{spell, order_after}
 use Rattle.bt_wire.proofs.SpellLaws.{none_begins, length-spell, spelled_first, fits}
 use Rattle.bt_wire.proofs.WindowLaws.{fault-spell, one_fault}
@@ -50,17 +54,19 @@ pub record_refused : (c : Context) (o : Order) (rest : List ℕ) (old new : List
     → IsFault c o 0 rest (Some f) → IsRecording c o rest old new xs → new ≡ old ++ map items.Message xs
 record_refused c o rest old new xs f lt h r = refused_by old new xs r.left f lt h r.spells r.same
 
-partial_by : (c : Context) (o : Order) (rest : List ℕ) (old new : List Item) (xs left : List Message) → c.limit < 2 ^ 32 → IsPartial c o 0 rest
+partial_by : (c : Context) (o : Order) (rest : List ℕ) (old new : List Item) (xs left : List Message) → c.limit < 2 ^ 32 → is_whole rest ≡ false
     → Spells c o rest left → new ++ map items.Message left ≡ old ++ map items.Message xs → new ≡ old ++ map items.Message xs
 partial_by c o rest old new xs [] lt h s e = sym (append-nil new) ∙ e
 partial_by c o rest old new xs (y ∷ ys) lt h s e =
     let whole = (spelled_first c y (flat_map (spell c) ys) (fits c o 0 y lt s.well.0)).whole in
-    let part : is_whole (spell c y ++ flat_map (spell c) ys) ≡ false = ap is_whole (sym s.spelled) ∙ h.part in
+    let part : is_whole (spell c y ++ flat_map (spell c) ys) ≡ false = ap is_whole (sym s.spelled) ∙ h in
     absurd cc
 
-pub record_partial : (c : Context) (o : Order) (rest : List ℕ) (old new : List Item) (xs : List Message) → c.limit < 2 ^ 32 → IsPartial c o 0 rest
-    → IsRecording c o rest old new xs → new ≡ old ++ map items.Message xs
-record_partial c o rest old new xs lt h r = partial_by c o rest old new xs r.left lt h r.spells r.same
+pub record_open : (c : Context) (o : Order) (rest : List ℕ) (n : ℕ) (old new : List Item) (xs : List Message) → c.limit < 2 ^ 32
+    → Awaits (place.Message c o 0 1) rest n → IsRecording c o rest old new xs → new ≡ old ++ map items.Message xs
+record_open c o rest n old new xs lt h r =
+    let parts = open_parts (place.Message c o 0 1) rest (awaits_open (place.Message c o 0 1) rest n h) in
+    partial_by c o rest old new xs r.left lt parts.1 r.spells r.same
 
 -- ---- what an end queued
 

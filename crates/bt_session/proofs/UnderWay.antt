@@ -25,10 +25,11 @@ use Rattle.bt_wire.proofs.NumberLaws.{number32-append}
 use Rattle.bt_wire.proofs.SpellLaws.{fits, length-spell, said_length-spell}
 use Rattle.bt_wire.proofs.WindowLaws.{fault-spell, fault_stays, one_fault, never}
 use Rattle.bt_feed.specs.Progress.{IsPartial}
-use Rattle.bt_feed.specs.Stages.{IsItem, stage_after, limit_of, is_closed}
-use Rattle.bt_feed.specs.declared.stage.Stage.{Stage}
-use Rattle.bt_feed.specs.declared.stage.Stage.TheVariants as stage
-use Rattle.bt_feed.proofs.Closed.{item_closed, no_longer, open_by}
+use Rattle.bt_wire.specs.Cursors.{IsItem, place_after, limit_of, is_closed}
+use Rattle.bt_wire.specs.declared.cursor.Place.{Place}
+use Rattle.bt_wire.specs.declared.cursor.Place.TheVariants as place
+use Rattle.bt_wire.proofs.Closed.{item_closed, open_by}
+use Rattle.bt_feed.proofs.Found.{no_longer}
 use Rattle.bt_end.specs.Ends.{orders_after}
 use Rattle.bt_session.specs.MessageLinks.{bare, size, total}
 use Rattle.bt_session.proofs.LinkInvariant.{Coming, following, AreFor}
@@ -58,11 +59,11 @@ body_length c d (m.Unknown n bytes) = refl
 pub spell_size : (c : Context) (msg : Message) → length (spell c msg) ≡ size (items.Message msg)
 spell_size c msg = omega (arith, length-spell c msg, length-spell bare msg, body_length c bare msg)
 
-pub item_size : (t : Stage) (b : List ℕ) (i : Item) → IsItem t b i → length b ≡ size i
-item_size (stage.Handshake own) b (items.Handshake h) p = ap length p.2 ∙ hand-length h p.1
-item_size (stage.Message c o s n) b (items.Message msg) p = ap length p.1 ∙ spell_size c msg
-item_size (stage.Handshake own) b (items.Message msg) p = absurd p
-item_size (stage.Message c o s n) b (items.Handshake h) p = absurd p
+pub item_size : (t : Place) (b : List ℕ) (i : Item) → IsItem t b i → length b ≡ size i
+item_size (place.Handshake own) b (items.Handshake h) p = ap length p.2 ∙ hand-length h p.1
+item_size (place.Message c o s n) b (items.Message msg) p = ap length p.1 ∙ spell_size c msg
+item_size (place.Handshake own) b (items.Message msg) p = absurd p
+item_size (place.Message c o s n) b (items.Handshake h) p = absurd p
 
 pub total-append : (is js : List Item) → total (is ++ js) ≡ total is + total js
 total-append [] js = omega arith
@@ -87,24 +88,24 @@ none_left (suc k) [] e = refl
 none_left zero (i ∷ is) e = absurd cc
 none_left (suc k) (i ∷ is) e = none_left k is e
 
-pub coming_length : (t : Stage) (is : List Item) (b : List ℕ) → Coming t is b → length b ≡ total is
+pub coming_length : (t : Place) (is : List Item) (b : List ℕ) → Coming t is b → length b ≡ total is
 coming_length t [] b h = ap length h
 coming_length t (i ∷ is) b h =
-    omega (arith, ap length h.2, length-append h.0 h.1, item_size t h.0 i h.3, coming_length (stage_after t (size i) i) is h.1 h.4)
+    omega (arith, ap length h.2, length-append h.0 h.1, item_size t h.0 i h.3, coming_length (place_after t (size i) i) is h.1 h.4)
 
 -- ---- more
 
-pub coming_more : (t : Stage) (is js : List Item) (b d : List ℕ) → Coming t is b → Coming (following t is) js d → Coming t (is ++ js) (b ++ d)
+pub coming_more : (t : Place) (is js : List Item) (b d : List ℕ) → Coming t is b → Coming (following t is) js d → Coming t (is ++ js) (b ++ d)
 coming_more t [] js b d h k = subst (λ (x : List ℕ). Coming t js (x ++ d)) (sym h) k
 coming_more t (i ∷ is) js b d h k =
-    (h.0, h.1 ++ d, ap (λ (x : List ℕ). x ++ d) h.2 ∙ append_assoc h.0 h.1 d, h.3, coming_more (stage_after t (size i) i) is js h.1 d h.4 k)
+    (h.0, h.1 ++ d, ap (λ (x : List ℕ). x ++ d) h.2 ∙ append_assoc h.0 h.1 d, h.3, coming_more (place_after t (size i) i) is js h.1 d h.4 k)
 
-pub following_more : (t : Stage) (is js : List Item) → following t (is ++ js) ≡ following (following t is) js
+pub following_more : (t : Place) (is js : List Item) → following t (is ++ js) ≡ following (following t is) js
 following_more t [] js = refl
-following_more t (i ∷ is) js = following_more (stage_after t (size i) i) is js
+following_more t (i ∷ is) js = following_more (place_after t (size i) i) is js
 
 pub messages_come : (c d : Context) (o : Order) (s n : ℕ) (xs : List Message) → AreFor c d o xs → s + total (map items.Message xs) < 2 ^ 62
-    → Coming (stage.Message d o s n) (map items.Message xs) (flat_map (spell c) xs)
+    → Coming (place.Message d o s n) (map items.Message xs) (flat_map (spell c) xs)
 messages_come c d o s n [] h lt = refl
 messages_come c d o s n (x ∷ xs) h lt = (
   spell c x,
@@ -114,19 +115,19 @@ messages_come c d o s n (x ∷ xs) h lt = (
   messages_come c d (order_after o x) (s + size (items.Message x)) (n + 1) xs h.1 (omega arith),
 )
 
-stage_same : (d : Context) (o : Order) (s t n k : ℕ) → s ≡ t → n ≡ k → stage.Message d o s n ≡ stage.Message d o t k
-stage_same d o s t n k e f = ap (λ (x : ℕ). stage.Message d o x n) e ∙ ap (λ (x : ℕ). stage.Message d o t x) f
+stage_same : (d : Context) (o : Order) (s t n k : ℕ) → s ≡ t → n ≡ k → place.Message d o s n ≡ place.Message d o t k
+stage_same d o s t n k e f = ap (λ (x : ℕ). place.Message d o x n) e ∙ ap (λ (x : ℕ). place.Message d o t x) f
 
-pub messages_following : (d : Context) (o : Order) (s n : ℕ) (xs : List Message) → following (stage.Message d o s n) (map items.Message xs)
-    ≡ stage.Message d (orders_after o xs) (s + total (map items.Message xs)) (n + length (map items.Message xs))
+pub messages_following : (d : Context) (o : Order) (s n : ℕ) (xs : List Message) → following (place.Message d o s n) (map items.Message xs)
+    ≡ place.Message d (orders_after o xs) (s + total (map items.Message xs)) (n + length (map items.Message xs))
 messages_following d o s n [] = stage_same d o s (s + 0) n (n + 0) (omega arith) (omega arith)
 messages_following d o s n (x ∷ xs) =
     messages_following d (order_after o x) (s + size (items.Message x)) (n + 1) xs
     ∙ stage_same d (orders_after (order_after o x) xs) _ _ _ _ (omega arith) (omega arith)
 
 -- what follows messages is a message in the same context
-pub following_message : (d : Context) (o : Order) (s n : ℕ) (is : List Item) (c : Context) (p : Order) (t k : ℕ) → following (stage.Message d o s n) is
-    ≡ stage.Message c p t k → d ≡ c
+pub following_message : (d : Context) (o : Order) (s n : ℕ) (is : List Item) (c : Context) (p : Order) (t k : ℕ) → following (place.Message d o s n) is
+    ≡ place.Message c p t k → d ≡ c
 following_message d o s n [] c p t k e = cc
 following_message d o s n (items.Message x ∷ is) c p t k e = following_message d (order_after o x) (s + size (items.Message x)) (n + 1) is c p t k e
 following_message d o s n (items.Handshake h ∷ is) c p t k e = following_message d o s n is c p t k e
@@ -158,16 +159,16 @@ message_short {c} {o} {s} b x {msg} lt e said short true w =
     let same : said_length (b ++ x) ≡ length (body c msg) = ap said_length (e ∙ sym (append-nil (spell c msg))) ∙ said_m in
     absurd (omega (arith, le, said_b, same, length-spell c msg))
 
-pub open_before : (t : Stage) (b x first : List ℕ) (i : Item) → limit_of t < 2 ^ 32 → IsItem t first i → b ++ x ≡ first → length b < length first
+pub open_before : (t : Place) (b x first : List ℕ) (i : Item) → limit_of t < 2 ^ 32 → IsItem t first i → b ++ x ≡ first → length b < length first
     → is_closed t b ≡ false
-open_before (stage.Handshake own) b x first (items.Handshake h) lt p e short =
-    open_by (stage.Handshake own) b (hand_early own b x h (e ∙ p.2) (ap (hand_fault own) (sym p.2) ∙ p.0) (hand_fault own b) refl)
+open_before (place.Handshake own) b x first (items.Handshake h) lt p e short =
+    open_by (place.Handshake own) b (hand_early own b x h (e ∙ p.2) (ap (hand_fault own) (sym p.2) ∙ p.0) (hand_fault own b) refl)
     (lt-leb 68 (length b) (omega (arith, ap length p.2, hand-length h p.1)))
-open_before (stage.Message c o s n) b x first (items.Message msg) lt p e short =
-    open_by (stage.Message c o s n) b (message_early c o s b x msg lt (e ∙ p.1) p.0 (early_fault c o s b) refl)
+open_before (place.Message c o s n) b x first (items.Message msg) lt p e short =
+    open_by (place.Message c o s n) b (message_early c o s b x msg lt (e ∙ p.1) p.0 (early_fault c o s b) refl)
     (message_short b x lt (e ∙ p.1) p.0 (omega (arith, ap length p.1)) (is_whole b) refl)
-open_before (stage.Handshake own) b x first (items.Message msg) lt p e short = absurd p
-open_before (stage.Message c o s n) b x first (items.Handshake h) lt p e short = absurd p
+open_before (place.Handshake own) b x first (items.Message msg) lt p e short = absurd p
+open_before (place.Message c o s n) b x first (items.Handshake h) lt p e short = absurd p
 
 -- ---- the first item
 
@@ -184,7 +185,7 @@ front_of x y a b le e =
     (drop (length x) y, ap (λ (w : List ℕ). w ++ drop (length x) y) (sym whole) ∙ take-append-drop (length x) y)
 
 -- fewer bytes than the first item has are open
-pub first_open : (t : Stage) (i : Item) (is : List Item) (held more : List ℕ) → limit_of t < 2 ^ 32 → Coming t (i ∷ is) (held ++ more)
+pub first_open : (t : Place) (i : Item) (is : List Item) (held more : List ℕ) → limit_of t < 2 ^ 32 → Coming t (i ∷ is) (held ++ more)
     → length held < size i → is_closed t held ≡ false
 first_open t i is held more lt h short =
     let len : length h.0 ≡ size i = item_size t h.0 i h.3 in
@@ -192,9 +193,9 @@ first_open t i is held more lt h short =
     open_before t held z.0 h.0 i lt h.3 z.1 (omega arith)
 
 -- where as many bytes came as the first item has, just these are held
-pub first_held : (t : Stage) (i : Item) (is : List Item) (held untaken outbox : List ℕ) → limit_of t < 2 ^ 32
+pub first_held : (t : Place) (i : Item) (is : List Item) (held untaken outbox : List ℕ) → limit_of t < 2 ^ 32
     → Coming t (i ∷ is) (held ++ (untaken ++ outbox)) → IsPartial t held → (is_closed t held ≡ true) ⊎ (untaken ≡ [])
-    → size i ≤ length held + length untaken → IsItem t held i × Coming (stage_after t (size i) i) is (untaken ++ outbox)
+    → size i ≤ length held + length untaken → IsItem t held i × Coming (place_after t (size i) i) is (untaken ++ outbox)
 first_held t i is held untaken outbox lt h p full le =
     let len : length h.0 ≡ size i = item_size t h.0 i h.3 in
     let long : size i ≤ length held = elim (cases_lt (length held) (size i)) [
@@ -205,7 +206,7 @@ first_held t i is held untaken outbox lt h p full le =
     ∙ take_at h.0 h.1 (size i) len in
     let not_longer : length held ≤ size i = no_longer t held (size i) p (ap (is_closed t) front ∙ item_closed t h.0 i lt h.3) in
     let parts = both_parts held h.0 (untaken ++ outbox) h.1 (omega arith) h.2 in
-    (subst (λ (x : List ℕ). IsItem t x i) (sym parts.0) h.3, subst (λ (x : List ℕ). Coming (stage_after t (size i) i) is x) (sym parts.1) h.4)
+    (subst (λ (x : List ℕ). IsItem t x i) (sym parts.0) h.3, subst (λ (x : List ℕ). Coming (place_after t (size i) i) is x) (sym parts.1) h.4)
   where
     not_short : is_closed t held ≡ false → (is_closed t held ≡ true) ⊎ (untaken ≡ []) → length held < size i → ⊥
     not_short o (inl c) s = cc

@@ -8,7 +8,7 @@ ghost use Rattle.bt_session.specs.ByteLinks as links;
 use crate::link::Outcome;
 use bt_end::{End, SayError, Turn, TurnError};
 use bt_feed::{Memory, Outbox};
-use bt_wire::{Context, Front, Item, Message, Order, copy_message, next, read_front};
+use bt_wire::{Context, Cursor, Found, Item, Message, Order, View, copy_message, next};
 use std::alloc::{AllocError, Global};
 use std::mem;
 
@@ -48,15 +48,16 @@ fn record(
     let mut order = first;
     let mut at = 0;
     'messages: loop {
-        match read_front(context, order, 0, rest(bytes, at)) {
-            Front::Whole(view, length) => {
+        match Cursor::at(*context, order, 0).read(rest(bytes, at)) {
+            Found::Item(View::Message(view), length) => {
                 let message = copy_message(alloc, &view)?;
                 order = next(order, &message);
                 sent.push(Item::Message(message))?;
                 at += length;
             }
-            Front::Refused(_) => return Ok(()),
-            Front::Partial => return Ok(()),
+            Found::Item(View::Handshake(_), _) => return Ok(()),
+            Found::Refused(_) => return Ok(()),
+            Found::Need(_) => return Ok(()),
         }
     }
 }

@@ -17,3 +17,10 @@ pub mod VerdictLaws
 pub mod WalkLaws
 pub mod Parts
 pub mod ContextLaws
+pub mod Closed
+pub mod Windows
+pub mod Hands
+pub mod Coming
+pub mod Places
+pub mod CursorLaws
+pub mod JudgedItems

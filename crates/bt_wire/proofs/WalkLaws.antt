@@ -43,18 +43,6 @@ message_size c o s b m n p = (
   omega (arith, p.size, ap length p.parts, length-append (spell c m) (drop n b)),
 )
 
-pub message_more : {c : Context} {o p : Order} {s number n : ℕ} {d : List ℕ} {m : Message} {v : Outcome} (at : ℕ) (all : List ℕ) → c.limit < 2 ^ 32
-    → d ≡ drop at all → BeginsBy c o s d m n → p ≡ order_after o m
-    → IsOutcome c p (s + n) (number + 1) (drop (at + n) all) v → IsOutcome c o s number (drop at all) (with_item s (items.Message m) v)
-message_more {c} {o} {p} {s} {number} {n} {d} {m} {v} at all lt e q after h =
-    let P : List ℕ → Type 0 = λ z. BeginsBy c o s z m n in
-    let here = subst P e q in
-    let Q : Order → Type 0 = λ z. IsOutcome c z (s + n) (number + 1) (drop (at + n) all) v in
-    let R : ℕ → Type 0 = λ k. IsOutcome c (order_after o m) (s + k) (number + 1) (drop (at + n) all) v in
-    let T : List ℕ → Type 0 = λ z. IsOutcome c (order_after o m) (s + length (spell c m)) (number + 1) z v in
-    message_then lt here.said here.parts
-    (subst T (sym (drop-drop n at all)) (subst R here.size (subst Q after h)))
-
 -- ---- the handshake
 
 pub refused_opening : (own : Own) (b : List ℕ) (f : Refused) → hand_fault own b ≡ Some f → IsVerdict own b (awaiting (Some f) b)

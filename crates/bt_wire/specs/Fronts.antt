@@ -2,8 +2,6 @@
 use Rattle.std.specs.Prelude.{◌≡◌, ℕ, ◌<◌, List, ◌++◌, length, drop, false, Some, None}
 use Rattle.bt_wire.specs.declared.context.Context.{Context}
 use Rattle.bt_wire.specs.declared.context.Order.{Order}
-use Rattle.bt_wire.specs.declared.front.Front.{Front}
-use Rattle.bt_wire.specs.declared.front.Front.TheVariants as front
 use Rattle.bt_wire.specs.Messages.{Message}
 use Rattle.bt_wire.specs.declared.context.Own.{Own}
 use Rattle.bt_wire.specs.declared.handshake.Opening.{Opening}
@@ -11,7 +9,7 @@ use Rattle.bt_wire.specs.declared.handshake.Opening.TheVariants as opening
 use Rattle.bt_wire.specs.Handshakes.{hand_fault, IsHandshakeOf}
 use Rattle.bt_wire.specs.Faults.{IsFault, is_whole}
 use Rattle.bt_wire.specs.Legal.{IsSaid}
-use Rattle.bt_wire.specs.Messages.{spell, message_of}
+use Rattle.bt_wire.specs.Messages.{spell}
 
 -- they begin with the spelling of this message, which has n bytes and may be sent
 pub record BeginsBy (c : Context) (o : Order) (s : ℕ) (b : List ℕ) (m : Message) (n : ℕ) : Type 0 where
@@ -23,11 +21,6 @@ pub record BeginsBy (c : Context) (o : Order) (s : ℕ) (b : List ℕ) (m : Mess
 pub record IsPartial (c : Context) (o : Order) (s : ℕ) (b : List ℕ) : Type 0 where
   pub none : IsFault c o s b None
   pub part : is_whole b ≡ false
-
-abbrev pub IsFront : Context → Order → ℕ → List ℕ → Front → Type 0
-IsFront c o s b (front.Refused f) = IsFault c o s b (Some f)
-IsFront c o s b front.Partial = IsPartial c o s b
-IsFront c o s b (front.Whole view n) = BeginsBy c o s b (message_of view) n
 
 -- ---- the handshake
 

@@ -16,3 +16,4 @@ pub mod Fronts
 pub mod Laws
 pub mod Contexts
 pub mod Reasons
+pub mod Cursors

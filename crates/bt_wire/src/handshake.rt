@@ -111,7 +111,7 @@ pub fn handshake_judged(bytes: &[u8]) -> Handshake
 
 /// The handshake with the fields that the bytes after the protocol's name are.
 #[inline(always)]
-fn fields_in(bytes: &[u8]) -> Handshake
+pub(crate) fn fields_in(bytes: &[u8]) -> Handshake
     requires { 68 ≤ length bytes.now }
     ensures small { result.reserved.0 < 2 ^ 64 }
     ensures reserved { be64 result.reserved.0 ≡ take 8 (drop 20 bytes.now) }

@@ -1,12 +1,10 @@
 //! Theorems about the definitions. Each is the contract of a function with an empty body, except the walk over a stream.
 ghost use Rattle.bt_wire.specs.Contexts.{LegalElsewhere, LegalIsNotRefused, RefusalIsOne};
 ghost use Rattle.bt_wire.specs.Laws.{LegalHasNoFault, FaultlessIsLegal, FaultIsOne, FaultStays, FaultIsFinal, NoneBeginsAnother, VerdictIsOne, RefusalStays, ItemsStay};
-ghost use Rattle.bt_wire.specs.Streams.{Outcome, IsOutcome, IsVerdict};
+ghost use Rattle.bt_wire.specs.Streams.{Outcome, IsVerdict};
 
-use crate::context::{Context, Order, Own, negotiate};
-use crate::front::{Front, read_front};
-use crate::handshake::{Opening, read_opening};
-use crate::order::next_of_view as next;
+use crate::context::Own;
+use crate::cursor::{Cursor, Found};
 use crate::slices::suffix;
 
 /// States that a whole window has one fault, or its message is legal, never both.
@@ -31,33 +29,16 @@ pub fn prefixes()
 pub fn each_has_a_verdict(own: &Own, stream: &[u8])
     ensures { (v : Outcome) × IsVerdict own.now stream.now v }
 {
-    match read_opening(own, stream) {
-        Opening::Refused(_) => {}
-        Opening::Partial => {}
-        Opening::Whole(handshake) => {
-            walk(&negotiate(own, handshake.reserved), suffix(stream, 68));
-        }
-    }
-}
-
-/// The messages after a handshake have an outcome.
-fn walk(context: &Context, messages: &[u8])
-    ensures { (v : Outcome) × IsOutcome context.now Order.Fresh 68 1 messages.now v }
-{
-    let _limit = context.limit;
-    let mut order = Order::Fresh;
+    let mut cursor = Cursor::new(*own);
     let mut at: usize = 0;
-    let mut number: u64 = 1;
-    'messages: loop {
-        let front = read_front(context, order, 68 + at as u64, suffix(messages, at));
-        match front {
-            Front::Whole(message, length) => {
-                order = next(order, &message);
-                at += length;
-                number += 1;
+    'items: loop {
+        match cursor.read(suffix(stream, at)) {
+            Found::Item(view, size) => {
+                cursor.pass(&view, size);
+                at += size;
             }
-            Front::Refused(_) => return,
-            Front::Partial => return,
+            Found::Refused(_) => return,
+            Found::Need(_) => return,
         }
     }
 }

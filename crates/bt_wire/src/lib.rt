@@ -3,12 +3,12 @@
 #![tactic(auto)]
 
 mod context;
+mod cursor;
 mod decode;
 mod encoding;
 mod fault;
 mod fields;
 mod framing;
-mod front;
 mod handshake;
 mod head;
 mod header;
@@ -22,12 +22,12 @@ mod reserved;
 mod slices;
 
 pub use context::{Context, Order, Own, negotiate};
+pub use cursor::{Cursor, Found, Measure, Place, View, to_item};
 pub use decode::{copy_message, decode_window, dict_len, view_judged, view_window};
 pub use encoding::{encode, legal, legal_length};
 pub use fault::{DecodeError, EncodeError, Fault, Header, Reason, Refused};
 pub use fields::Fields;
 pub use framing::frame;
-pub use front::{Front, read_front};
 pub use handshake::{
     Handshake, Opening, handshake_judged, judge_handshake, read_opening, spell_handshake,
 };

@@ -2,7 +2,7 @@ use Rattle.std.proofs.Common.{◌≡◌, ℕ, Bool, true, false, ◌&&◌, if◌
 use Rattle.std.specs.Prelude.{is_none}
 use Rattle.bt_wire.specs.declared.item.Refusal.{Refusal}
 use Rattle.bt_feed.specs.Answers.{standing, is_between, end_inside, unless_refused}
-use Rattle.bt_feed.specs.Stages.{is_all, start_of}
+use Rattle.bt_wire.specs.Cursors.{is_all, start_of}
 use Rattle.bt_feed.specs.declared.view.Finish.{Finish}
 use Rattle.bt_feed.specs.declared.view.Finish.TheVariants.{Refused, Untaken}
 use Rattle.bt_end.proofs.end.is_ready.Goals as goal
@@ -24,16 +24,16 @@ unready None false between n r x e h = refl
 pub returns-in-Err-Untaken : goal.returns-in-Err-Untaken
 returns-in-Err-Untaken g c =
     let f = c.args.feed.now in
-    ready (standing f) (is_all f.stage f.held) (is_between f.stage f.held) (start_of f.stage) (end_inside f.stage f.held) c.finish.result c.finish.ensures (cc)
+    ready (standing f) (is_all f.place f.held) (is_between f.place f.held) (start_of f.place) (end_inside f.place f.held) c.finish.result c.finish.ensures (cc)
 
 pub returns-in_default : goal.returns-in_default
 returns-in_default g c =
     let f = c.args.feed.now in
-    unready (standing f) (is_all f.stage f.held) (is_between f.stage f.held) (start_of f.stage) (end_inside f.stage f.held) c.finish.result c.finish.ensures
+    unready (standing f) (is_all f.place f.held) (is_between f.place f.held) (start_of f.place) (end_inside f.place f.held) c.finish.result c.finish.ensures
     (λ e. cc)
 
 pub returns-in_default-2 : goal.returns-in_default-2
 returns-in_default-2 g c =
     let f = c.args.feed.now in
-    unready (standing f) (is_all f.stage f.held) (is_between f.stage f.held) (start_of f.stage) (end_inside f.stage f.held) c.finish.result c.finish.ensures
+    unready (standing f) (is_all f.place f.held) (is_between f.place f.held) (start_of f.place) (end_inside f.place f.held) c.finish.result c.finish.ensures
     (λ e. cc)

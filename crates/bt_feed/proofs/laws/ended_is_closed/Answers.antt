@@ -1,4 +1,4 @@
-use Rattle.bt_feed.proofs.Closed.{closed_more}
+use Rattle.bt_wire.proofs.Closed.{closed_more}
 use Rattle.bt_feed.proofs.FeedLaws.{ended_closed}
 use Rattle.bt_feed.proofs.laws.ended_is_closed.Goals as goal
 

@@ -1,4 +1,4 @@
-use Rattle.bt_feed.proofs.Coming.{item_comes, fault_comes, open_comes}
+use Rattle.bt_wire.proofs.Coming.{item_comes, fault_comes, open_comes}
 use Rattle.bt_feed.proofs.FeedLaws.{outcome_one, finish_verdict}
 use Rattle.bt_feed.proofs.laws.outcomes.Goals as goal
 

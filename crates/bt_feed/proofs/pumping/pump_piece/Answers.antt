@@ -1,6 +1,7 @@
 use Rattle.std.proofs.Common.{◌∙◌, ◌+◌, ◌++◌, ◌∷◌, ◌≤◌, [], ℕ, List, length, take, Ok, Err, refl, sym, subst, ap, arith, length-drop}
 use Rattle.bt_wire.specs.declared.item.Item.{Item}
-use Rattle.bt_feed.specs.Views.{item_of, shown}
+use Rattle.bt_wire.specs.Cursors.{item_of}
+use Rattle.bt_feed.specs.Views.{shown}
 use Rattle.bt_feed.specs.Pumps.{IsFed}
 use Rattle.bt_feed.proofs.Reading.{IsPushed}
 use Rattle.bt_feed.proofs.Passed.{fed_passed, passed_on, missed_by}

@@ -1,8 +1,8 @@
-use Rattle.std.proofs.Common.{◌≡◌, ◌∙◌, ◌≤◌, [], ℕ, List, take, drop, length, refl, sym, ap, subst, arith, append_assoc, rules}
+use Rattle.std.proofs.Common.{◌≡◌, ◌∙◌, ◌≤◌, [], ℕ, List, drop, length, refl, sym, ap, subst, arith, append_assoc, rules}
 use Rattle.std.proofs.lemmas.List.{append-nil, nil_from_length, take-append-le, length-append}
 use Rattle.std.specs.Io.KnownBytes.{Consumes}
 use Rattle.bt_feed.specs.Feeds.{FeedState, with_bytes}
-use Rattle.bt_feed.specs.Stages.{Comes}
+use Rattle.bt_wire.specs.Cursors.{Comes}
 use Rattle.bt_feed.specs.Pumps.{IsFed}
 use Rattle.bt_feed.proofs.Moving.{fed_none}
 use Rattle.bt_feed.proofs.pumping.read_once.Goals as goal
@@ -12,13 +12,13 @@ fed_bytes f g bytes e =
     let P : FeedState → Type 0 = λ x. IsFed f bytes [] x in
     subst P (sym e) (record {
       comes = λ later v q.
-          let Q : List ℕ → Type 0 = λ b. Comes f.stage b v in
+          let Q : List ℕ → Type 0 = λ b. Comes f.place b v in
           subst Q (append_assoc f.held bytes later) q;
     })
 
 none_read : (f g : FeedState) (bytes : List ℕ) → g ≡ with_bytes f bytes → bytes ≡ [] → g ≡ f
 none_read f g bytes e none =
-    e ∙ ap (with_bytes f) none ∙ ap (λ (b : List ℕ). record { stage = f.stage; held = b; refused = f.refused }) (append-nil f.held)
+    e ∙ ap (with_bytes f) none ∙ ap (λ (b : List ℕ). record { place = f.place; held = b; refused = f.refused }) (append-nil f.held)
 
 pub returns-in-Some-Ok-clause-some : goal.returns-in-Some-Ok-clause-some
 returns-in-Some-Ok-clause-some g c =

@@ -1,6 +1,6 @@
 use Rattle.std.proofs.Common.{◌≤◌, inl, inr, arith}
 use Rattle.std.proofs.lemmas.Bool.{cases_lt}
-use Rattle.bt_feed.specs.declared.stage.Stage.TheVariants as stage
+use Rattle.bt_wire.specs.declared.cursor.Place.TheVariants as place
 use Rattle.bt_feed.proofs.Reading.{reads_new, open_new, one_transcript}
 use Rattle.bt_feed.proofs.transcript.read_all.Goals as goal
 
@@ -11,7 +11,7 @@ returns-clause-verdict c =
           absurd (let bad = c.in_ok-new.ensures.limit.1 (inr over) in cc)
       | inr le ↦ le
     ] in
-    c.in_ok-read_pieces.ensures c.args.own _ (reads_new (stage.Handshake c.args.own) _ c.in_ok-new.field-0 within c.in_ok-new.ensures.ok)
+    c.in_ok-read_pieces.ensures c.args.own _ (reads_new (place.Handshake c.args.own) _ c.in_ok-new.field-0 within c.in_ok-new.ensures.ok)
     (open_new c.args.own c.in_ok-new.field-0 c.in_ok-new.ensures.ok)
 
 pub returns-clause-only : goal.returns-clause-only
@@ -22,5 +22,5 @@ returns-clause-only c = λ items refused rest h.
       | inr le ↦ le
     ] in
     one_transcript c.args.own _ _ _ _ _ _ _ (omega arith) (c.in_ok-read_pieces.ensures c.args.own _
-    (reads_new (stage.Handshake c.args.own) _ c.in_ok-new.field-0 within c.in_ok-new.ensures.ok)
+    (reads_new (place.Handshake c.args.own) _ c.in_ok-new.field-0 within c.in_ok-new.ensures.ok)
     (open_new c.args.own c.in_ok-new.field-0 c.in_ok-new.ensures.ok)) h

@@ -1,5 +1,5 @@
 use Rattle.std.proofs.Common.{◌≤◌, ◌+◌, ◌-◌, ◌*◌, ◌++◌, List, ℕ, length, drop, min}
-use Rattle.bt_feed.specs.declared.stage.Stage.{Stage}
+use Rattle.bt_wire.specs.declared.cursor.Place.{Place}
 use Rattle.bt_feed.specs.Transcripts.{Reads}
 use Rattle.bt_feed.proofs.transcript.read_piece.Given as goal
 
@@ -7,7 +7,7 @@ use Rattle.bt_feed.proofs.transcript.read_piece.Given as goal
 abbrev pub invariant-items : goal.invariant-items
 invariant-items l = record {
   within : l.at ≤ length l.piece;
-  reads : (t : Stage) (all later : List ℕ) → Reads t all l.fn.items.items l.fn.feed (l.piece ++ later) → Reads t all l.items.items l.feed (drop l.at l.piece
+  reads : (t : Place) (all later : List ℕ) → Reads t all l.fn.items.items l.fn.feed (l.piece ++ later) → Reads t all l.items.items l.feed (drop l.at l.piece
       ++ later);
 }
 

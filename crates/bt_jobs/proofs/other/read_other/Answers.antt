@@ -1,7 +1,7 @@
 use Rattle.std.proofs.Common.{Bool, Ok, [], refl, subst, ap, ◌∙◌, arith}
 use Rattle.std.proofs.KnownBytes.{Consumes-nil}
 use Rattle.std.proofs.Common.{None}
-use Rattle.bt_feed.specs.declared.stage.Stage.TheVariants as stage
+use Rattle.bt_wire.specs.declared.cursor.Place.TheVariants as place
 use Rattle.bt_text.specs.declared.ended.ToolFault.TheVariants as fault
 use Rattle.bt_jobs.specs.Printed.{so_far}
 use Rattle.bt_jobs.specs.Others.{IsTurnHeard}
@@ -15,7 +15,7 @@ loop-turn-init g c = record {
   most = omega arith;
   failed = refl;
   ends = refl;
-  heard = listening_first _ c.in-Ok.feed _ (c.in-Ok.ensures.ok ∙ ap (λ o. record { stage = stage.Handshake o; held = []; refused = None })
+  heard = listening_first _ c.in-Ok.feed _ (c.in-Ok.ensures.ok ∙ ap (λ o. record { place = place.Handshake o; held = []; refused = None })
       c.reader_of_other.ensures) c.new-listener.ensures;
 }
 

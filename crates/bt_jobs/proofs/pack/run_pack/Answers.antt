@@ -4,7 +4,7 @@ use Rattle.std.proofs.lemmas.Bool.{ne_eqb}
 use Rattle.std.specs.Io.KnownBytes.{Consumes, Appends}
 use Rattle.bt_io.specs.Seen.{devices, EndRead, AppendsPrefix}
 use Rattle.bt_jobs.specs.Printed.{IsWrittenOut}
-use Rattle.bt_feed.specs.Stages.{number_of}
+use Rattle.bt_wire.specs.Cursors.{number_of}
 use Rattle.bt_text.specs.declared.ended.PackEnd.{PackEnd}
 use Rattle.bt_text.specs.declared.ended.PackEnd.TheVariants.{Refused}
 use Rattle.bt_text.specs.declared.ended.ScriptReason.{ScriptReason}
@@ -104,7 +104,7 @@ returns-in-Ok-Some-clause-packed g c =
     let P : Option ScriptReason → Type 0 = λ o. IsPieceRead c.args.own.now (r.text ++ piece)
     (packing r.lines r.bytes c.loop-turn.out.items) (packer c.take_piece.new.line.items c.take_piece.new.judge c.take_piece.new.out.items) o in
     let p = subst P c.in-Ok-Some.field-0-is (c.in-Ok-Some.ensures c.args.own.now r.text r.lines r.bytes refl r.read) in
-    let number = number_of c.take_piece.new.judge.stage + 1 in
+    let number = number_of c.take_piece.new.judge.place + 1 in
     let e : PackEnd = Refused (c.number-line.result + 1) c.in-Ok-Some.reason in
     let S : List ℕ → Type 0 = λ l. IsWrittenOut e l (g.W.Target.seen c.loop-turn.writer).held (g.W.Target.seen c.write_out-in-Ok-Some.new.writer).held
     c.write_out-in-Ok-Some.result in

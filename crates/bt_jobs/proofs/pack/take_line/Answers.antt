@@ -68,7 +68,7 @@ returns-in-Ok-true c = λ own lines b e h.
 pub returns-in-Ok-false : goal.returns-in-Ok-false
 returns-in-Ok-false c = λ own lines b e h.
     let j = line_judged (goal.at.returns-in-Ok-false c).After-take_item own lines b e h (Ok false) (c.in-Ok-false.is ∙ ap Ok c.in-Ok-false.field-0-test) in
-    absurd (closes c.args.judge.now.stage c.args.text.now j.0.bytes (is_none lines) (omega (arith, h.limit, h.bound))
+    absurd (closes c.args.judge.now.place c.args.text.now j.0.bytes (is_none lines) (omega (arith, h.limit, h.bound))
     (omega (arith, c.if-text-from.false, c.requires)) h.first j.0.named.line j.0.judged.1)
 
 pub returns-in-Err : goal.returns-in-Err

@@ -1,7 +1,7 @@
 use Rattle.std.proofs.Common.{◌≡◌, ◌++◌, ℕ, take, ap, sym, ◌∙◌}
 use Rattle.std.proofs.lemmas.Result.{IfOk-weaker}
-use Rattle.bt_feed.specs.Views.{item_of}
-use Rattle.bt_feed.specs.declared.view.View.{View}
+use Rattle.bt_wire.specs.Cursors.{item_of}
+use Rattle.bt_wire.specs.declared.cursor.View.{View}
 use Rattle.bt_text.specs.Script.{script_line}
 use Rattle.bt_jobs.proofs.printer.add_script.Goals as goal
 

@@ -1,6 +1,6 @@
 use Rattle.std.proofs.Common.{◌++◌, ap, sym, ◌∙◌}
-use Rattle.bt_feed.specs.Views.{item_of}
-use Rattle.bt_feed.specs.declared.view.View.{View}
+use Rattle.bt_wire.specs.Cursors.{item_of}
+use Rattle.bt_wire.specs.declared.cursor.View.{View}
 use Rattle.bt_json.specs.Objects.{item_line as object_of}
 use Rattle.std.proofs.lemmas.Result.{on_ok_weaker}
 use Rattle.bt_jobs.proofs.printer.push_object.Goals as goal

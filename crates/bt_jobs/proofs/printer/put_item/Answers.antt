@@ -1,6 +1,6 @@
 use Rattle.std.proofs.Common.{◌++◌, take, ap, sym, ◌∙◌}
-use Rattle.bt_feed.specs.Views.{item_of}
-use Rattle.bt_feed.specs.declared.view.View.{View}
+use Rattle.bt_wire.specs.Cursors.{item_of}
+use Rattle.bt_wire.specs.declared.cursor.View.{View}
 use Rattle.bt_text.specs.Lines.{item_line}
 use Rattle.bt_jobs.proofs.printer.put_item.Goals as goal
 

@@ -1,19 +1,43 @@
-use Rattle.std.proofs.Common.{ℕ, List, drop, subst}
-use Rattle.bt_wire.specs.declared.context.Context.{Context}
-use Rattle.bt_wire.specs.declared.context.Order.TheVariants.{Fresh}
-use Rattle.bt_wire.specs.Streams.{IsOutcome}
-use Rattle.bt_wire.proofs.WalkLaws.{refused_opening, partial_opening, opening_more}
+use Rattle.std.proofs.Common.{◌∙◌, ℕ, length, ap, arith}
+use Rattle.std.proofs.lemmas.List.{length-drop, length-take-le}
+use Rattle.bt_wire.specs.Cursors.{item_of, limit_of}
+use Rattle.bt_wire.proofs.Coming.{item_long, item_then, fault_then, open_then}
+use Rattle.bt_wire.proofs.CursorLaws.{awaits_open, limit_after}
 use Rattle.bt_wire.proofs.laws.each_has_a_verdict.Goals as goal
 
 pub returns-in-Refused : goal.returns-in-Refused
-returns-in-Refused c = (_, refused_opening _ _ _ c.in-Refused.ensures)
+returns-in-Refused c =
+    let f = c.in-Refused.ensures in
+    c.items.invariant.told _ (fault_then c.items.cursor f.0 c.items.at c.args.stream.now (omega (arith, c.items.invariant.limit)) c.suffix.ensures f.1)
 
-pub returns-in-Partial : goal.returns-in-Partial
-returns-in-Partial c = (_, partial_opening _ _ c.in-Partial.ensures.0 c.in-Partial.ensures.1)
+pub returns-in-Need : goal.returns-in-Need
+returns-in-Need c =
+    c.items.invariant.told _ (open_then c.items.cursor c.items.at c.args.stream.now (omega (arith, c.items.invariant.limit)) c.suffix.ensures
+    (awaits_open c.items.cursor _ _ c.in-Need.ensures))
 
-pub returns-in-Whole : goal.returns-in-Whole
-returns-in-Whole c =
-    let v = c.walk.ensures.0 in
-    let P : Context → Type 0 = λ k. IsOutcome k Fresh 68 1 (drop 68 c.args.stream.now) v in
-    let Q : List ℕ → Type 0 = λ b. IsOutcome c.negotiate.result Fresh 68 1 b v in
-    (_, opening_more _ _ _ v c.in-Whole.ensures.0 c.in-Whole.ensures.1 (subst P c.negotiate.ensures (subst Q c.suffix.ensures c.walk.ensures.1)))
+pub pass-requires : goal.pass-requires
+pass-requires c = (c.suffix.result.now, c.in-Item.ensures)
+
+pub items-preserved : goal.items-preserved
+items-preserved c =
+    let found = c.in-Item.ensures in
+    let item = item_of c.in-Item.view in
+    record {
+      within = omega (arith, found.0, ap (length {A = ℕ}) c.suffix.ensures, length-drop c.items.at c.args.stream.now, c.items.invariant.within);
+      limit = ap limit_of c.pass.ensures ∙ limit_after c.items.cursor c.in-Item.size item ∙ c.items.invariant.limit;
+      told = λ v h. c.items.invariant.told _ (item_then c.items.cursor item v c.items.at c.args.stream.now (omega (arith, c.items.invariant.limit))
+          c.suffix.ensures found.0 found.1 c.pass.ensures h);
+    }
+
+pub items-smaller : goal.items-smaller
+items-smaller c =
+    let found = c.in-Item.ensures in
+    omega (
+      arith,
+      found.0,
+      item_long c.items.cursor _ (item_of c.in-Item.view) found.1,
+      length-take-le c.in-Item.size c.suffix.result.now found.0,
+      ap (length {A = ℕ}) c.suffix.ensures,
+      length-drop c.items.at c.args.stream.now,
+      c.items.invariant.within,
+    )

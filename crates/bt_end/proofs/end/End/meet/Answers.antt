@@ -1,5 +1,5 @@
 use Rattle.std.proofs.Common.{◌≡◌, false, Option, Some, None, Ok, refl, sym, ap, ◌∙◌}
-use Rattle.bt_feed.specs.declared.view.View.{View}
+use Rattle.bt_wire.specs.declared.cursor.View.{View}
 use Rattle.bt_end.specs.Halves.{is_busy}
 use Rattle.bt_end.specs.Wholes.{half_of}
 use Rattle.bt_end.proofs.Turns.{sturdy}

@@ -7,7 +7,7 @@ use Rattle.bt_feed.proofs.progress.Progress.read.Goals as goal
 pub read-requires-clause-room : goal.read-requires-clause-room
 read-requires-clause-room g c =
     let window = c.requires.sound.wanted (omega (arith, c.if-self-len.false)) in
-    omega (arith, (window_bound c.args.self.now.stage _ _ window.0).1, c.requires.room)
+    omega (arith, (window_bound c.args.self.now.place _ _ window.0).1, c.requires.room)
 
 pub returns-clause-sound : goal.returns-clause-sound
 returns-clause-sound g c =
