@@ -1,5 +1,5 @@
 //! The text of a stream's items, until it is written.
-ghost use Rattle.std.specs.Prelude.{◌≡◌, ◌≢◌, ◌+◌, ◌<◌, ◌≤◌, ℕ, List, [], ◌++◌, length, take, vec_len, OnOk, OnErr, IfOk, IfErr};
+ghost use Rattle.std.specs.Prelude.{◌≡◌, ◌≢◌, ◌+◌, ◌<◌, ◌≤◌, ℕ, List, [], ◌++◌, length, take, vec_len, OnOk, OnErr, IfOk, IfErr, IfNone, IfSome};
 ghost use Rattle.std.specs.Io.KnownBytes.{Appends};
 ghost use Rattle.bt_io.specs.Seen.{WriteFailed};
 ghost use Rattle.bt_feed.specs.Views.{item_of};
@@ -131,9 +131,11 @@ fn push_object(alloc: Global, at: u64, view: &View, text: &mut Vec<u8>) -> Resul
     }
 }
 
-/// Adds the object of an item to what is used of the text; returns how much is used then.
+/// Adds the object of an item, a token at a time, to what is used of the text; returns how much is used then.
+///
+/// It is made in a text of its own, so the room after what is used stays.
 #[inline(never)]
-fn add_object(
+fn add_tokens(
     alloc: Global,
     at: u64,
     view: &View,
@@ -142,9 +144,53 @@ fn add_object(
 ) -> Result<usize, AllocError>
     ensures { IfOk result (λ n. (own : Receiver) → take n text.new.items ≡ take used text.old.items ++ object_of own (at, item_of view.now)) }
 {
-    text.truncate(used);
-    match push_object(alloc, at, view, text) {
-        Ok(()) => Ok(text.len()),
+    let mut line = Vec::new(alloc);
+    push_object(alloc, at, view, &mut line)?;
+    match make_room(text, used, line.len().max(1)) {
+        Ok(place) => Ok(put(line.as_slice(), text.as_mut_slice(), place)),
+        Err(error) => Err(error),
+    }
+}
+
+/// Puts the object of a message at a place that has room for it; returns the place after it.
+///
+/// It returns `None` for a handshake, and for a message whose object may be of any length.
+#[inline(always)]
+fn put_object(
+    at: u64,
+    view: &View,
+    offset: &mut Offset,
+    text: &mut [u8],
+    place: usize,
+) -> Option<usize>
+    requires { place + 160 ≤ length text.old }
+    ensures size { length text.new ≡ length text.old }
+    ensures kept { IfNone result (take place text.new ≡ take place text.old) }
+    ensures text { IfSome result (λ n. (own : Receiver) → take n text.new ≡ take place text.old ++ object_of own (at, item_of view.now)) }
+{
+    match view {
+        View::Handshake(_) => None,
+        View::Message(message) => bt_json::put_message_line(offset, at, message, text, place),
+    }
+}
+
+/// Adds the object of an item to what is used of the text; returns how much is used then.
+#[inline(never)]
+fn add_object(
+    alloc: Global,
+    at: u64,
+    view: &View,
+    offset: &mut Offset,
+    text: &mut Vec<u8>,
+    used: usize,
+) -> Result<usize, AllocError>
+    ensures { IfOk result (λ n. (own : Receiver) → take n text.new.items ≡ take used text.old.items ++ object_of own (at, item_of view.now)) }
+{
+    match make_room(text, used, LINE_ROOM) {
+        Ok(place) => match put_object(at, view, offset, text.as_mut_slice(), place) {
+            Some(end) => Ok(end),
+            None => add_tokens(alloc, at, view, text, place),
+        },
         Err(error) => Err(error),
     }
 }
@@ -269,6 +315,7 @@ fn add_other(
     alloc: Global,
     at: u64,
     view: &View,
+    offset: &mut Offset,
     text: &mut Vec<u8>,
     used: usize,
 ) -> Result<usize, AllocError>
@@ -278,7 +325,7 @@ fn add_other(
     let view = copied(view);
     match form {
         Form::Show => unreachable!(),
-        Form::Json => add_object(alloc, at, &view, text, used),
+        Form::Json => add_object(alloc, at, &view, offset, text, used),
         Form::Unpack(own) => add_script(&own, &view, text, used),
     }
 }
@@ -364,7 +411,15 @@ impl Sink for Printer {
         self.calls = self.calls.saturating_add(1);
         let added = match self.form {
             Form::Show => push_item(at, view, &mut self.offset, &mut self.text, self.used),
-            form => add_other(form, self.alloc, at, view, &mut self.text, self.used),
+            form => add_other(
+                form,
+                self.alloc,
+                at,
+                view,
+                &mut self.offset,
+                &mut self.text,
+                self.used,
+            ),
         };
         match added {
             Ok(used) => {

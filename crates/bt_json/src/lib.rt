@@ -4,5 +4,7 @@
 mod fields;
 mod items;
 mod lines;
+mod members;
 
 pub use lines::{handshake_line, message_line, verdict_line};
+pub use members::put_message_line;

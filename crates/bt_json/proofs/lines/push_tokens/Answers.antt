@@ -3,7 +3,7 @@ use Rattle.json.specs.Token.{Token}
 use Rattle.bt_wire.specs.Messages.{message_of}
 use Rattle.bt_json.specs.Objects.{a_number, message_fields, object_line}
 use Rattle.std.proofs.lemmas.Result.{on_ok_weaker}
-use Rattle.bt_json.proofs.lines.message_line.Goals as goal
+use Rattle.bt_json.proofs.lines.push_tokens.Goals as goal
 
 pub returns : goal.returns
 returns c =
