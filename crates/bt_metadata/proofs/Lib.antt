@@ -1,7 +1,9 @@
 pub mod Counts
+pub mod Firsts
 pub mod Kept
 pub mod LawProofs
 pub mod Lengths
 pub mod Parts
 pub mod Slots
 pub mod States
+pub mod Tallies

@@ -1,6 +1,7 @@
 -- What is so of every assembly; and for private contracts and the invariant alone, its private fields.
-use Rattle.std.specs.Prelude.{◌≡◌, ℕ, ◌<◌, ◌≤◌, Bool, true, false, if◌then◌else◌, List, [], ◌∷◌, length, take, drop, count_by, slice_get, nat_le, Option}
+use Rattle.std.specs.Prelude.{◌≡◌, ℕ, ◌+◌, ◌-◌, ◌<◌, ◌≤◌, Bool, true, false, if◌then◌else◌, List, [], ◌∷◌, length, take, drop, count_by, slice_get, nat_le, Option}
 use Rattle.std.specs.Prelude.{Some, None}
+use Rattle.std.specs.List.{position_or_len}
 use Rattle.bt_ext.specs.Metadata.{block_count, block_len}
 use Rattle.bt_metadata.specs.Blocks.{block_size, max_metadata, window}
 use Rattle.bt_metadata.specs.Assemblies.{Slot, Lacking, Asked, Rejected, Held, AssemblyState, is_asked}
@@ -8,6 +9,7 @@ use Rattle.bt_metadata.specs.declared.assembly.BlockError.{BlockError}
 use Rattle.bt_metadata.specs.declared.assembly.BlockError.TheVariants.{PieceRange, NotAsked}
 use Rattle.bt_metadata.specs.declared.assembly.Status.{Status}
 use Rattle.bt_metadata.specs.declared.assembly.Status.TheVariants as status
+use Rattle.bt_metadata.specs.declared.assembly.Tally.{Tally}
 use Rattle.bt_metadata.specs.declared.assembly.Assembly.TheInside.{Inside}
 
 pub record IsAssembly (a : AssemblyState) : Type 0 where
@@ -50,6 +52,12 @@ holds status.Asked = false
 holds status.Rejected = false
 holds status.Held = true
 
+abbrev pub rejects : Status → Bool
+rejects status.Lacking = false
+rejects status.Asked = false
+rejects status.Rejected = true
+rejects status.Held = false
+
 abbrev pub settles : Status → Bool
 settles status.Lacking = false
 settles status.Asked = false
@@ -75,8 +83,37 @@ abbrev pub error_at : List Status → ℕ → Option BlockError
 error_at ss piece =
     if nat_le (length ss) piece then Some PieceRange else (if asks_at (slice_get ss piece) then None else Some NotAsked)
 
+-- ---- the counts that are kept beside the statuses
+
+-- each count is right, and no block before `lowest` is lacking
+pub record IsTallied (t : Tally) (ss : List Status) : Type 0 where
+  pub asked : t.asked ≡ count_by asks ss
+  pub held : t.held ≡ count_by holds ss
+  pub rejected : t.rejected ≡ count_by rejects ss
+  pub lowest : t.lowest ≤ position_or_len lacks ss
+
+abbrev pub no_tally : Tally
+no_tally = record { asked = 0; held = 0; rejected = 0; lowest = 0 }
+
+-- the block at k is asked for, the first that is lacking
+abbrev pub after_ask : Tally → ℕ → Tally
+after_ask t k = record t { asked = t.asked + 1; lowest = k + 1 }
+
+-- a block that was asked for is held
+abbrev pub after_hold : Tally → Tally
+after_hold t = record t { asked = t.asked - 1; held = t.held + 1 }
+
+-- a block that was asked for is rejected
+abbrev pub after_reject : Tally → Tally
+after_reject t = record t { asked = t.asked - 1; rejected = t.rejected + 1 }
+
+-- what is asked and rejected is lacking again
+abbrev pub after_forget : Tally → Tally
+after_forget t = record t { asked = 0; rejected = 0; lowest = 0 }
+
 pub record IsSound {A : Type 0} (a : Inside A) : Type 0 where
   pub least : 0 < length a.bytes.items
   pub most : length a.bytes.items ≤ max_metadata
   pub count : length a.states.items ≡ block_count (length a.bytes.items)
   pub asked : count_by asks a.states.items ≤ window
+  pub tallied : IsTallied a.tally a.states.items

@@ -2,10 +2,11 @@
 ghost use Rattle.std.specs.Prelude.{◌≡◌, ◌⊎◌, ◌↔◌, ◌+◌, ◌<◌, ◌≤◌, ◌++◌, Some, None, length, map, take, drop, count_by, position, slice_get, option_copied, IfOk, IfSome, IsErrOf, MatchResult};
 ghost use Rattle.std.specs.List.{list_all};
 ghost use Rattle.bt_ext.specs.Metadata.{block_count};
-ghost use Rattle.bt_metadata.specs.Blocks.{max_metadata};
+ghost use Rattle.bt_metadata.specs.Blocks.{max_metadata, window};
 ghost use Rattle.bt_metadata.specs.Assemblies.{is_asked, is_held, is_settled, started, ask_of, asking, with_slots, data_error, with_data, piece_error, with_reject, disconnected, IsFinished, held_block};
 ghost use Rattle.bt_metadata.specs.Unfinished.{IsUnfinished};
-ghost use Rattle.bt_metadata.specs.Sound.{IsAssembly, lacks, asks, holds, settles, kept_status, error_at, holds_at};
+ghost use Rattle.bt_metadata.specs.Sound.{IsAssembly, lacks, holds, settles, kept_status, error_at, holds_at};
+ghost use Rattle.bt_metadata.specs.Sound.{IsTallied, no_tally, after_ask, after_hold, after_reject, after_forget};
 
 use sha1::Sha1;
 use std::alloc::{AllocError, Allocator, Global};
@@ -79,6 +80,95 @@ impl From<AllocError> for NewError {
     }
 }
 
+/// Counts the blocks by what is known of them, so that no call has to look at each.
+#[derive(Clone, Copy)]
+struct Tally {
+    asked: usize,
+    held: usize,
+    rejected: usize,
+    /// No block before this one is lacking.
+    lowest: usize,
+}
+
+impl Tally {
+    /// Makes the tally of blocks that are all lacking.
+    fn new() -> Tally
+        ensures { result ≡ no_tally }
+    {
+        Tally {
+            asked: 0,
+            held: 0,
+            rejected: 0,
+            lowest: 0,
+        }
+    }
+
+    /// Returns the first lacking block of these, without a look at those before `lowest`.
+    fn first_lacking(&self, states: &[Status]) -> Option<usize>
+        requires { IsTallied self.now states.now }
+        ensures first { result ≡ position lacks states.now }
+        ensures within { IfSome result (λ k. k < length states.now) }
+    {
+        let k = first_lacking(&states[self.lowest..])?;
+        Some(self.lowest + k)
+    }
+
+    /// Returns whether each of these blocks has come or was rejected.
+    fn is_settled(&self, states: &[Status]) -> bool
+        requires { IsTallied self.now states.now }
+        ensures { result ≡ list_all settles states.now }
+    {
+        self.held + self.rejected == states.len()
+    }
+
+    /// Returns whether each of these blocks has come.
+    fn is_whole(&self, states: &[Status]) -> bool
+        requires { IsTallied self.now states.now }
+        ensures { result ≡ list_all holds states.now }
+    {
+        self.held == states.len()
+    }
+
+    /// Counts the first lacking block, the one at `k`, as requested.
+    fn ask(&mut self, k: usize)
+        requires asked { self.old.asked < window }
+        requires place { k < max_metadata }
+        ensures { self.new ≡ after_ask self.old k }
+    {
+        self.asked += 1;
+        self.lowest = k + 1;
+    }
+
+    /// Counts a requested block as one that has come.
+    fn hold(&mut self)
+        requires asked { 0 < self.old.asked }
+        requires held { self.old.held < max_metadata }
+        ensures { self.new ≡ after_hold self.old }
+    {
+        self.asked -= 1;
+        self.held += 1;
+    }
+
+    /// Counts a requested block as rejected.
+    fn reject(&mut self)
+        requires asked { 0 < self.old.asked }
+        requires rejected { self.old.rejected < max_metadata }
+        ensures { self.new ≡ after_reject self.old }
+    {
+        self.asked -= 1;
+        self.rejected += 1;
+    }
+
+    /// Counts what is requested and rejected as lacking.
+    fn forget(&mut self)
+        ensures { self.new ≡ after_forget self.old }
+    {
+        self.asked = 0;
+        self.rejected = 0;
+        self.lowest = 0;
+    }
+}
+
 /// Reassembles metadata from blocks; each block is requested once (BEP 9).
 ///
 /// A contract sees its size, its SHA-1, and what is known of each block. `bt_end` handles the answer to a request like this:
@@ -102,6 +192,7 @@ pub struct Assembly<A: Allocator = Global> {
     /// The metadata, with zeros for blocks that haven't come.
     bytes: Vec<u8, A>,
     states: Vec<Status, A>,
+    tally: Tally,
 }
 
 impl<A: Allocator> Model for Assembly<A> {
@@ -132,40 +223,6 @@ fn first_lacking(states: &[Status]) -> Option<usize>
     ensures within { IfSome result (λ k. k < length states.now) }
 {
     states.iter().position(|state| *state == Status::Lacking)
-}
-
-/// Returns how many blocks are requested.
-fn count_asked(states: &[Status]) -> usize
-    ensures { result ≡ count_by asks states.now }
-{
-    states
-        .iter()
-        .filter(|state| **state == Status::Asked)
-        .count()
-}
-
-/// Returns how many blocks have come.
-fn count_held(states: &[Status]) -> usize
-    ensures { result ≡ count_by holds states.now }
-{
-    states
-        .iter()
-        .filter(|state| **state == Status::Held)
-        .count()
-}
-
-/// Returns whether each block has come or was rejected.
-fn is_settled(states: &[Status]) -> bool
-    ensures { result ≡ list_all settles states.now }
-{
-    states.iter().all(|state| *state == Status::Held || *state == Status::Rejected)
-}
-
-/// Returns whether each block has come.
-fn is_whole(states: &[Status]) -> bool
-    ensures { result ≡ list_all holds states.now }
-{
-    states.iter().all(|state| *state == Status::Held)
 }
 
 /// Returns the index of a block that was requested.
@@ -232,6 +289,7 @@ impl<A: Allocator + Copy> Assembly<A> {
             info_hash,
             bytes: vec![in alloc; 0; size]?,
             states: vec![in alloc; Status::Lacking; block_count(size)]?,
+            tally: Tally::new(),
         })
     }
 }
@@ -249,7 +307,7 @@ impl<A: Allocator> Assembly<A> {
     pub fn asked(&self) -> usize
         ensures { result ≡ count_by is_asked self.now.slots }
     {
-        count_asked(&self.states)
+        self.tally.asked
     }
 
     /// Returns how many blocks the metadata has.
@@ -263,14 +321,14 @@ impl<A: Allocator> Assembly<A> {
     pub fn held(&self) -> usize
         ensures { result ≡ count_by is_held self.now.slots }
     {
-        count_held(&self.states)
+        self.tally.held
     }
 
     /// Returns whether each block has come or was rejected, so that no more can come.
     pub fn is_settled(&self) -> bool
         ensures { result ≡ list_all is_settled self.now.slots }
     {
-        is_settled(&self.states)
+        self.tally.is_settled(&self.states)
     }
 
     /// Returns the block `piece`, if it has come.
@@ -294,11 +352,16 @@ impl<A: Allocator> Assembly<A> {
         ensures value { result ≡ ask_of self.old.slots }
         ensures state { self.new ≡ with_slots self.old (asking result self.old.slots) }
     {
-        if count_asked(&self.states) >= WINDOW {
+        if self.tally.asked >= WINDOW {
             return None;
         }
-        let k = first_lacking(&self.states)?;
+        let Some(k) = self.tally.first_lacking(&self.states) else {
+            // None is left, so the next call looks at none.
+            self.tally.lowest = self.states.len();
+            return None;
+        };
         self.states[k] = Status::Asked;
+        self.tally.ask(k);
         Some(k as u32)
     }
 
@@ -324,6 +387,7 @@ impl<A: Allocator> Assembly<A> {
         }
         store(&mut self.bytes, at, block);
         self.states[k] = Status::Held;
+        self.tally.hold();
         Ok(())
     }
 
@@ -339,6 +403,7 @@ impl<A: Allocator> Assembly<A> {
     {
         let place = asked_at(&self.states, piece)?;
         self.states[place] = Status::Rejected;
+        self.tally.reject();
         Ok(())
     }
 
@@ -347,6 +412,7 @@ impl<A: Allocator> Assembly<A> {
         ensures { self.new ≡ disconnected self.old }
     {
         forget(&mut self.states);
+        self.tally.forget();
     }
 
     /// Returns the metadata, if each block has come and their SHA-1 is the info hash.
@@ -357,11 +423,12 @@ impl<A: Allocator> Assembly<A> {
     pub fn finish(mut self) -> Result<Vec<u8, A>, Unfinished<A>>
         ensures { MatchResult result (λ v. IsFinished self v.items) (IsUnfinished self) }
     {
-        if !is_whole(&self.states) {
+        if !self.tally.is_whole(&self.states) {
             return Err(Unfinished::Lacking(self));
         }
         if Sha1::digest(&self.bytes) != self.info_hash {
             self.states.fill(Status::Lacking);
+            self.tally = Tally::new();
             return Err(Unfinished::Mismatch(self));
         }
         Ok(self.bytes)

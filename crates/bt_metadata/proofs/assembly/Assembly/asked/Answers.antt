@@ -1,11 +1,10 @@
 use Rattle.std.proofs.Common.{count_by, ap, sym, ◌∙◌}
 use Rattle.bt_metadata.specs.Assemblies.{AssemblyState, is_asked}
-use Rattle.bt_metadata.specs.Sound.{asks}
 use Rattle.bt_metadata.proofs.Slots.{count_asked-slots}
 use Rattle.bt_metadata.proofs.assembly.Assembly.asked.Goals as goal
 
 pub returns : goal.returns
 returns g c =
     let inside = c.self.inside in
-    c.count_asked.ensures ∙ ap (count_by asks) c.deref.ensures.value ∙ sym (count_asked-slots inside.states.items inside.bytes.items)
+    c.self.invariant.tallied.asked ∙ sym (count_asked-slots inside.states.items inside.bytes.items)
     ∙ ap (λ (a : AssemblyState). count_by is_asked a.slots) c.self.view_is

@@ -5,12 +5,13 @@ use Rattle.std.proofs.lemmas.Result.{err_from_is_err_and}
 use Rattle.bt_ext.specs.Metadata.{block_count, block_len}
 use Rattle.bt_metadata.specs.declared.assembly.BlockError.{BlockError}
 use Rattle.bt_metadata.specs.declared.assembly.Status.TheVariants as status
+use Rattle.bt_metadata.specs.declared.assembly.Tally.{Tally}
 use Rattle.bt_metadata.specs.Assemblies.{AssemblyState, data_error, with_data}
-use Rattle.bt_metadata.specs.Sound.{state_of, error_at}
-use Rattle.bt_metadata.proofs.Counts.{count-set}
+use Rattle.bt_metadata.specs.Sound.{state_of, error_at, IsTallied, after_hold}
 use Rattle.bt_metadata.proofs.Lengths.{block_len_is, block_starts, whole_slice}
 use Rattle.bt_metadata.proofs.Slots.{paste, length-paste}
 use Rattle.bt_metadata.proofs.States.{refused_is, wrong_total_is, wrong_size_is, nothing_wrong, held_is, not_held}
+use Rattle.bt_metadata.proofs.Tallies.{none_at, one_asked, tallied-hold}
 use Rattle.bt_metadata.proofs.assembly.Assembly.data.Goals as goal
 
 same_rest : (n piece size k : ℕ) → size ≡ n → k ≡ piece → min 16384 (size - 16384 * k) ≡ min 16384 (n - 16384 * piece)
@@ -118,16 +119,25 @@ returns-clause-state g c =
     ∙ held_is h d b ss piece total i c.self.invariant.count n (nothing_wrong h d b ss piece total e (c.if-total-size.false ∙ l) m)
     ∙ ap (λ (a : AssemblyState). with_data a piece total b) c.self.view_is
 
+pub hold-requires-clause-asked : goal.hold-requires-clause-asked
+hold-requires-clause-asked g c =
+    let inside = c.self.inside in
+    one_asked inside.tally inside.states.items c.in_ok-k.k c.self.invariant.tallied
+    (none_at c.deref.ensures.value c.in_ok-k.ensures.0 c.in_ok-k.ensures.2)
+
 pub invariant_of-self : goal.invariant_of-self
 invariant_of-self g c =
     let inside = c.self.inside in
+    let ss = inside.states.items in
     let j = c.in_ok-k.k in
-    let i : j < length inside.states.items = omega (arith, c.in_ok-k.ensures.1, ap length c.deref.ensures.value) in
+    let none = none_at c.deref.ensures.value c.in_ok-k.ensures.0 c.in_ok-k.ensures.2 in
+    let right : IsTallied (after_hold inside.tally) (set ss j status.Held) = tallied-hold inside.tally ss j c.self.invariant.tallied none in
     let f : length (take inside.bytes.len (c.store.new.bytes ++ drop (length c.store.new.bytes) inside.bytes.items)) ≡ length inside.bytes.items =
     sym (length_refill inside.bytes.len inside.bytes.items c.store.new.bytes inside.bytes.ok.0) ∙ inside.bytes.ok.0 in
     record {
       least = omega (arith, f, c.self.invariant.least);
       most = rw f c.self.invariant.most;
-      count = length-set inside.states.items j status.Held ∙ c.self.invariant.count ∙ ap block_count (sym f);
-      asked = omega (arith, count-set inside.states.items j status.Held i, c.self.invariant.asked);
+      count = length-set ss j status.Held ∙ c.self.invariant.count ∙ ap block_count (sym f);
+      asked = omega (arith, right.asked, c.self.invariant.asked, c.self.invariant.tallied.asked);
+      tallied = subst (λ (t : Tally). IsTallied t (set ss j status.Held)) (sym c.hold.ensures) right;
     }

@@ -7,10 +7,11 @@ use Rattle.sha1.specs.Sha1.{sha1}
 use Rattle.bt_ext.specs.Metadata.{block_count}
 use Rattle.bt_metadata.specs.declared.assembly.Status.{Status}
 use Rattle.bt_metadata.specs.declared.assembly.Status.TheVariants as status
+use Rattle.bt_metadata.specs.declared.assembly.Tally.{Tally}
 use Rattle.bt_metadata.specs.Blocks.{block_size}
 use Rattle.bt_metadata.specs.Assemblies.{AssemblyState, is_whole, joined, IsRight, IsFinished, emptied}
-use Rattle.bt_metadata.specs.Sound.{state_of, slots_of, asks, holds}
-use Rattle.bt_metadata.proofs.Counts.{count-lacking}
+use Rattle.bt_metadata.specs.Sound.{state_of, slots_of, asks, holds, IsTallied, no_tally}
+use Rattle.bt_metadata.proofs.Tallies.{tallied-lacking}
 use Rattle.bt_metadata.proofs.Lengths.{count_covers}
 use Rattle.bt_metadata.proofs.Slots.{all_held-slots, joined-slots}
 use Rattle.bt_metadata.proofs.States.{emptied_is}
@@ -62,12 +63,16 @@ pub invariant_of-self : goal.invariant_of-self
 invariant_of-self g c =
     let ss = c.self.inside.states in
     let f = c.fill.ensures.items (λ y x. x) ∙ ap (λ m. replicate m status.Lacking) ss.ok.0 in
-    let z : count_by asks c.fill.new.self.items ≡ 0 = ap (count_by asks) f ∙ count-lacking (length ss.items) in
+    let start : IsTallied no_tally (replicate (length ss.items) status.Lacking) = tallied-lacking (length ss.items) in
+    let right : IsTallied c.new-self-inside.result c.fill.new.self.items = subst (λ (t : Tally). IsTallied t c.fill.new.self.items) (sym c.new-self-inside.ensures) (subst (λ (xs : List Status).
+    IsTallied no_tally xs) (sym f) start) in
+    let none : count_by asks c.fill.new.self.items ≡ 0 = sym right.asked ∙ ap (λ (t : Tally). t.asked) c.new-self-inside.ensures in
     record {
       least = c.self.invariant.least;
       most = c.self.invariant.most;
       count = ap length f ∙ length-replicate (length ss.items) status.Lacking ∙ c.self.invariant.count;
-      asked = omega (arith, z);
+      asked = omega (arith, none);
+      tallied = right;
     }
 
 pub returns : goal.returns

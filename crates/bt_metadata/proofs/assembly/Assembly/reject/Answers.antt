@@ -1,10 +1,13 @@
-use Rattle.std.proofs.Common.{◌≡◌, None, Some, set, ap, subst, sym, ◌∙◌}
+use Rattle.std.proofs.Common.{◌≡◌, None, Some, set, ap, subst, sym, ◌∙◌, arith}
+use Rattle.std.proofs.lemmas.List.{length-set}
 use Rattle.std.proofs.lemmas.Result.{err_from_is_err_and}
 use Rattle.bt_metadata.specs.declared.assembly.BlockError.{BlockError}
 use Rattle.bt_metadata.specs.declared.assembly.Status.TheVariants as status
+use Rattle.bt_metadata.specs.declared.assembly.Tally.{Tally}
 use Rattle.bt_metadata.specs.Assemblies.{AssemblyState, piece_error, with_reject}
-use Rattle.bt_metadata.specs.Sound.{state_of, error_at}
+use Rattle.bt_metadata.specs.Sound.{state_of, error_at, IsTallied, after_reject}
 use Rattle.bt_metadata.proofs.States.{error_is, rejected_is, not_rejected}
+use Rattle.bt_metadata.proofs.Tallies.{none_at, one_asked, tallied-reject}
 use Rattle.bt_metadata.proofs.assembly.Assembly.reject.Goals as goal
 
 pub returns-in_err-place-clause-value : goal.returns-in_err-place-clause-value
@@ -40,3 +43,24 @@ returns-clause-state g c =
     let e : error_at ss piece ≡ None = ap (λ ss. error_at ss piece) (sym c.deref.ensures.value) ∙ c.in_ok-place.ensures.2 in
     ap (λ k. state_of h d (set ss k status.Rejected)) c.in_ok-place.ensures.0 ∙ rejected_is h d ss piece e ∙ ap (λ (a : AssemblyState). with_reject a piece)
     c.self.view_is
+
+pub reject-requires-clause-asked : goal.reject-requires-clause-asked
+reject-requires-clause-asked g c =
+    let inside = c.self.inside in
+    one_asked inside.tally inside.states.items c.in_ok-place.place c.self.invariant.tallied
+    (none_at c.deref.ensures.value c.in_ok-place.ensures.0 c.in_ok-place.ensures.2)
+
+pub invariant_of-self : goal.invariant_of-self
+invariant_of-self g c =
+    let inside = c.self.inside in
+    let ss = inside.states.items in
+    let k = c.in_ok-place.place in
+    let none = none_at c.deref.ensures.value c.in_ok-place.ensures.0 c.in_ok-place.ensures.2 in
+    let right : IsTallied (after_reject inside.tally) (set ss k status.Rejected) = tallied-reject inside.tally ss k c.self.invariant.tallied none in
+    record {
+      least = c.self.invariant.least;
+      most = c.self.invariant.most;
+      count = length-set ss k status.Rejected ∙ c.self.invariant.count;
+      asked = omega (arith, right.asked, c.self.invariant.asked, c.self.invariant.tallied.asked);
+      tallied = subst (λ (t : Tally). IsTallied t (set ss k status.Rejected)) (sym c.reject.ensures) right;
+    }
