@@ -3,7 +3,9 @@ pub mod Firsts
 pub mod Kept
 pub mod LawProofs
 pub mod Lengths
+pub mod Padded
 pub mod Parts
 pub mod Slots
 pub mod States
 pub mod Tallies
+pub mod Written

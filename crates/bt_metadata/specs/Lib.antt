@@ -1,4 +1,5 @@
 pub mod Blocks
+pub mod Arrivals
 pub mod Assemblies
 pub mod Unfinished
 pub mod Sound

@@ -1,5 +1,5 @@
 -- What is so of every assembly; and for private contracts and the invariant alone, its private fields.
-use Rattle.std.specs.Prelude.{◌≡◌, ℕ, ◌+◌, ◌-◌, ◌<◌, ◌≤◌, Bool, true, false, if◌then◌else◌, List, [], ◌∷◌, length, take, drop, count_by, slice_get, nat_le, Option}
+use Rattle.std.specs.Prelude.{◌≡◌, ℕ, ◌+◌, ◌-◌, ◌*◌, ◌<◌, ◌≤◌, Bool, true, false, if◌then◌else◌, List, [], ◌∷◌, length, take, drop, count_by, slice_get, nat_le, min, Option}
 use Rattle.std.specs.Prelude.{Some, None}
 use Rattle.std.specs.List.{position_or_len}
 use Rattle.bt_ext.specs.Metadata.{block_count, block_len}
@@ -111,9 +111,14 @@ after_reject t = record t { asked = t.asked - 1; rejected = t.rejected + 1 }
 abbrev pub after_forget : Tally → Tally
 after_forget t = record t { asked = 0; rejected = 0; lowest = 0 }
 
+-- each held block is in memory: its end is within the bytes that are written
+abbrev pub AreWritten : List Status → ℕ → ℕ → Type 0
+AreWritten ss size written = (k : ℕ) → holds_at (slice_get ss k) ≡ true → min (block_size * k + block_size) size ≤ written
+
 pub record IsSound {A : Type 0} (a : Inside A) : Type 0 where
-  pub least : 0 < length a.bytes.items
-  pub most : length a.bytes.items ≤ max_metadata
-  pub count : length a.states.items ≡ block_count (length a.bytes.items)
+  pub least : 0 < length a.bytes.whole
+  pub most : length a.bytes.whole ≤ max_metadata
+  pub count : length a.states.items ≡ block_count (length a.bytes.whole)
   pub asked : count_by asks a.states.items ≤ window
   pub tallied : IsTallied a.tally a.states.items
+  pub written : AreWritten a.states.items (length a.bytes.whole) a.bytes.written

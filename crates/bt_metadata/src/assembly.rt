@@ -8,6 +8,7 @@ ghost use Rattle.bt_metadata.specs.Unfinished.{IsUnfinished};
 ghost use Rattle.bt_metadata.specs.Sound.{IsAssembly, lacks, holds, settles, kept_status, error_at, holds_at};
 ghost use Rattle.bt_metadata.specs.Sound.{IsTallied, no_tally, after_ask, after_hold, after_reject, after_forget};
 
+use crate::arriving::Arriving;
 use sha1::Sha1;
 use std::alloc::{AllocError, Allocator, Global};
 use std::marker::Model;
@@ -189,8 +190,7 @@ impl Tally {
 #[derive(Drop)]
 pub struct Assembly<A: Allocator = Global> {
     info_hash: [u8; 20],
-    /// The metadata, with zeros for blocks that haven't come.
-    bytes: Vec<u8, A>,
+    bytes: Arriving<A>,
     states: Vec<Status, A>,
     tally: Tally,
 }
@@ -201,7 +201,7 @@ impl<A: Allocator> Model for Assembly<A> {
 
     ghost Value = { AssemblyState };
 
-    ghost view = { λ a. state_of a.info_hash a.bytes.items a.states.items };
+    ghost view = { λ a. state_of a.info_hash a.bytes.whole a.states.items };
 
     ghost invariant = { IsSound };
 }
@@ -262,14 +262,6 @@ pub fn block_count(size: usize) -> usize
     size.div_ceil(BLOCK)
 }
 
-/// Puts a block in its place.
-fn store(bytes: &mut [u8], at: usize, block: &[u8])
-    requires { at + length block.now ≤ length bytes.old }
-    ensures { bytes.new ≡ take at bytes.old ++ block.now ++ drop (at + length block.now) bytes.old }
-{
-    bytes[at..at + block.len()].copy_from_slice(block);
-}
-
 impl<A: Allocator + Copy> Assembly<A> {
     /// Makes an assembly of `size` bytes with this info hash, and no block.
     ///
@@ -287,7 +279,7 @@ impl<A: Allocator + Copy> Assembly<A> {
         let size = size as usize;
         Ok(Assembly {
             info_hash,
-            bytes: vec![in alloc; 0; size]?,
+            bytes: Arriving::new(alloc, size)?,
             states: vec![in alloc; Status::Lacking; block_count(size)]?,
             tally: Tally::new(),
         })
@@ -341,7 +333,7 @@ impl<A: Allocator> Assembly<A> {
             return None;
         }
         let at = BLOCK * piece;
-        Some(&self.bytes[at..(at + BLOCK).min(self.bytes.len())])
+        Some(self.bytes.part(at, (at + BLOCK).min(self.bytes.len())))
     }
 
     /// Returns the next block to request, and marks it as requested.
@@ -385,7 +377,7 @@ impl<A: Allocator> Assembly<A> {
         if block.len() != BLOCK.min(size - at) {
             return Err(BlockError::WrongSize);
         }
-        store(&mut self.bytes, at, block);
+        self.bytes.write(at, block);
         self.states[k] = Status::Held;
         self.tally.hold();
         Ok(())
@@ -426,11 +418,11 @@ impl<A: Allocator> Assembly<A> {
         if !self.tally.is_whole(&self.states) {
             return Err(Unfinished::Lacking(self));
         }
-        if Sha1::digest(&self.bytes) != self.info_hash {
+        if Sha1::digest(self.bytes.as_slice()) != self.info_hash {
             self.states.fill(Status::Lacking);
             self.tally = Tally::new();
             return Err(Unfinished::Mismatch(self));
         }
-        Ok(self.bytes)
+        Ok(self.bytes.into_vec())
     }
 }

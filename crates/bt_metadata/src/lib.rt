@@ -3,6 +3,7 @@
 //! Messages and connections don't belong here.
 #![tactic(auto)]
 
+mod arriving;
 mod assembly;
 pub mod laws;
 mod server;

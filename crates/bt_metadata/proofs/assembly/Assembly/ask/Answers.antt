@@ -1,4 +1,4 @@
-use Rattle.std.proofs.Common.{◌≡◌, ℕ, ◌<◌, ◌≤◌, Option, None, Some, List, count_by, position, nat_lt, if◌then◌else◌, set, ap, subst, sym, ◌∙◌, arith}
+use Rattle.std.proofs.Common.{◌≡◌, ℕ, ◌<◌, ◌≤◌, Option, None, Some, List, length, count_by, position, nat_lt, if◌then◌else◌, set, refl, ap, subst, sym, ◌∙◌, arith}
 use Rattle.std.proofs.lemmas.Bool.{le-ltb, lt-ltb}
 use Rattle.std.proofs.lemmas.List.{length-set}
 use Rattle.bt_metadata.specs.declared.assembly.Status.{Status}
@@ -9,6 +9,7 @@ use Rattle.bt_metadata.specs.Assemblies.{AssemblyState, ask_of, asking, with_slo
 use Rattle.bt_metadata.specs.Sound.{asks, lacks, IsTallied, after_ask}
 use Rattle.bt_metadata.proofs.States.{ask_is, asked_is}
 use Rattle.bt_metadata.proofs.Tallies.{tallied-ask, tallied-passed}
+use Rattle.bt_metadata.proofs.Written.{written-set}
 use Rattle.bt_metadata.proofs.assembly.Assembly.ask.Goals as goal
 
 -- where some are asked, and where none is
@@ -26,7 +27,7 @@ none_lacks v e f = sym e ∙ f ∙ ap (λ xs. position lacks xs) v
 pub returns-then-self-ge-WINDOW-clause-value : goal.returns-then-self-ge-WINDOW-clause-value
 returns-then-self-ge-WINDOW-clause-value g c =
     let ss = c.self.inside.states.items in
-    sym (ap (λ (a : AssemblyState). ask_of a.slots) (sym c.self.view_is) ∙ ask_is c.self.inside.bytes.items ss
+    sym (ap (λ (a : AssemblyState). ask_of a.slots) (sym c.self.view_is) ∙ ask_is c.self.inside.bytes.whole ss
     ∙ busy ss c.self.inside.tally.asked c.self.invariant.tallied.asked c.if-self-ge-WINDOW.true)
 
 pub first_lacking-requires : goal.first_lacking-requires
@@ -37,7 +38,7 @@ returns-in_default-clause-value g c =
     let ss = c.self.inside.states.items in
     let l : c.self.inside.tally.asked < window = omega (arith, c.if-self-ge-WINDOW.false) in
     none_lacks c.deref.ensures.value c.in_default.is c.first_lacking.ensures.first
-    ∙ sym (ap (λ (a : AssemblyState). ask_of a.slots) (sym c.self.view_is) ∙ ask_is c.self.inside.bytes.items ss
+    ∙ sym (ap (λ (a : AssemblyState). ask_of a.slots) (sym c.self.view_is) ∙ ask_is c.self.inside.bytes.whole ss
     ∙ free ss c.self.inside.tally.asked c.self.invariant.tallied.asked l)
 
 pub returns-clause-value : goal.returns-clause-value
@@ -45,13 +46,13 @@ returns-clause-value g c =
     let ss = c.self.inside.states.items in
     let l : c.self.inside.tally.asked < window = omega (arith, c.if-self-ge-WINDOW.false) in
     let p : Some c.in-Some.k ≡ position lacks ss = c.in-Some.ensures.first ∙ ap (λ xs. position lacks xs) c.deref.ensures.value in
-    p ∙ sym (ap (λ (a : AssemblyState). ask_of a.slots) (sym c.self.view_is) ∙ ask_is c.self.inside.bytes.items ss
+    p ∙ sym (ap (λ (a : AssemblyState). ask_of a.slots) (sym c.self.view_is) ∙ ask_is c.self.inside.bytes.whole ss
     ∙ free ss c.self.inside.tally.asked c.self.invariant.tallied.asked l)
 
 pub returns-clause-state : goal.returns-clause-state
 returns-clause-state g c =
     let k = c.in-Some.k in
-    asked_is c.self.inside.info_hash c.self.inside.bytes.items c.self.inside.states.items k
+    asked_is c.self.inside.info_hash c.self.inside.bytes.whole c.self.inside.states.items k
     ∙ ap (λ (a : AssemblyState). with_slots a (asking (Some k) a.slots)) c.self.view_is
 
 pub invariant_of-self : goal.invariant_of-self
@@ -66,6 +67,7 @@ invariant_of-self g c =
       tallied =
           tallied-passed inside.tally inside.states.items c.len-self-inside.result c.self.invariant.tallied none
           (c.len-self-inside.ensures ∙ inside.states.ok.0);
+      written = c.self.invariant.written;
     }
 
 pub invariant_of-self-2 : goal.invariant_of-self-2
@@ -81,4 +83,5 @@ invariant_of-self-2 g c =
       count = length-set ss k status.Asked ∙ c.self.invariant.count;
       asked = omega (arith, right.asked, c.if-self-ge-WINDOW.false);
       tallied = subst (λ (t : Tally). IsTallied t (set ss k status.Asked)) (sym c.ask.ensures) right;
+      written = written-set ss k (length c.self.inside.bytes.whole) c.self.inside.bytes.written status.Asked refl c.self.invariant.written;
     }

@@ -6,5 +6,5 @@ use Rattle.bt_metadata.proofs.assembly.Assembly.asked.Goals as goal
 pub returns : goal.returns
 returns g c =
     let inside = c.self.inside in
-    c.self.invariant.tallied.asked ∙ sym (count_asked-slots inside.states.items inside.bytes.items)
+    c.self.invariant.tallied.asked ∙ sym (count_asked-slots inside.states.items inside.bytes.whole)
     ∙ ap (λ (a : AssemblyState). count_by is_asked a.slots) c.self.view_is

@@ -3,10 +3,11 @@ use Rattle.std.proofs.lemmas.List.{length-map}
 use Rattle.bt_metadata.specs.declared.assembly.Status.{Status}
 use Rattle.bt_metadata.specs.declared.assembly.Tally.{Tally}
 use Rattle.bt_metadata.specs.Assemblies.{disconnected}
-use Rattle.bt_metadata.specs.Sound.{state_of, asks, kept_status, IsTallied, after_forget}
+use Rattle.bt_metadata.specs.Sound.{state_of, asks, kept_status, IsTallied, after_forget, AreWritten}
 use Rattle.bt_metadata.proofs.Lengths.{whole_slice}
 use Rattle.bt_metadata.proofs.States.{disconnected_is}
 use Rattle.bt_metadata.proofs.Tallies.{tallied-forget}
+use Rattle.bt_metadata.proofs.Written.{written-kept}
 use Rattle.bt_metadata.proofs.assembly.Assembly.disconnect.Goals as goal
 
 pub returns : goal.returns
@@ -14,8 +15,8 @@ returns g c =
     let ss = c.self.inside.states in
     let e = c.forget.ensures ∙ ap (map kept_status) c.deref_mut.ensures.value in
     let l = ss.ok.0 ∙ sym (ap length e ∙ length-map ss.items kept_status) in
-    ap (λ (xs : List Status). state_of c.self.inside.info_hash c.self.inside.bytes.items xs) (whole_slice ss.len c.forget.new.states ss.items l ∙ e)
-    ∙ disconnected_is c.self.inside.info_hash c.self.inside.bytes.items ss.items ∙ ap disconnected c.self.view_is
+    ap (λ (xs : List Status). state_of c.self.inside.info_hash c.self.inside.bytes.whole xs) (whole_slice ss.len c.forget.new.states ss.items l ∙ e)
+    ∙ disconnected_is c.self.inside.info_hash c.self.inside.bytes.whole ss.items ∙ ap disconnected c.self.view_is
 
 pub invariant_of-self : goal.invariant_of-self
 invariant_of-self g c =
@@ -35,4 +36,6 @@ invariant_of-self g c =
       count = ap length w ∙ n ∙ c.self.invariant.count;
       asked = omega (arith, none);
       tallied = right;
+      written = subst (λ (xs : List Status). AreWritten xs (length c.self.inside.bytes.whole) c.self.inside.bytes.written) (sym kept)
+          (written-kept ss.items (length c.self.inside.bytes.whole) c.self.inside.bytes.written c.self.invariant.written);
     }

@@ -1,4 +1,4 @@
-use Rattle.std.proofs.Common.{◌≡◌, ℕ, ◌≤◌, ◌*◌, Bool, true, false, not, nat_eq, List, length, replicate, count_by, refl, ap, subst, sym, ◌∙◌, arith}
+use Rattle.std.proofs.Common.{◌≡◌, ℕ, ◌≤◌, ◌<◌, ◌*◌, Bool, true, false, not, nat_eq, List, length, replicate, count_by, refl, ap, subst, sym, ◌∙◌, arith}
 use Rattle.std.specs.Cmp.Lexicographic.{pointwise}
 use Rattle.std.specs.List.{list_all}
 use Rattle.std.proofs.lemmas.List.{length-replicate}
@@ -10,11 +10,12 @@ use Rattle.bt_metadata.specs.declared.assembly.Status.TheVariants as status
 use Rattle.bt_metadata.specs.declared.assembly.Tally.{Tally}
 use Rattle.bt_metadata.specs.Blocks.{block_size}
 use Rattle.bt_metadata.specs.Assemblies.{AssemblyState, is_whole, joined, IsRight, IsFinished, emptied}
-use Rattle.bt_metadata.specs.Sound.{state_of, slots_of, asks, holds, IsTallied, no_tally}
+use Rattle.bt_metadata.specs.Sound.{state_of, slots_of, asks, holds, IsTallied, no_tally, AreWritten}
 use Rattle.bt_metadata.proofs.Tallies.{tallied-lacking}
 use Rattle.bt_metadata.proofs.Lengths.{count_covers}
 use Rattle.bt_metadata.proofs.Slots.{all_held-slots, joined-slots}
 use Rattle.bt_metadata.proofs.States.{emptied_is}
+use Rattle.bt_metadata.proofs.Written.{written-lacking, written-all}
 use Rattle.bt_metadata.proofs.assembly.Assembly.finish.Goals as goal
 
 -- the blocks cover the bytes
@@ -38,9 +39,24 @@ same x y h = (bytes_eq-Decides x y).0 (from_not (pointwise nat_eq x y) h)
 other : (x y : List ℕ) → true ≡ not (pointwise nat_eq x y) → x ≡ y → ⊥
 other x y h e = let t : pointwise nat_eq x y ≡ true = (bytes_eq-Decides x y).1 e in cc
 
+-- all is written
+whole_written : {ss now : List Status} {size written : ℕ} {b : Bool} → now ≡ ss → b ≡ list_all holds now → b ≡ true → length ss ≡ block_count size → 0 < size
+    → AreWritten ss size written → size ≤ written
+whole_written {ss} {now} {size} {written} v e t c l w = written-all ss size written (ap (list_all holds) (sym v) ∙ sym e ∙ t) c l w
+
+pub as_slice-requires : goal.as_slice-requires
+as_slice-requires g c =
+    let i = c.self.invariant in
+    whole_written c.deref.ensures.value c.if-not-is_whole.ensures refl i.count i.least i.written
+
+pub into_vec-requires : goal.into_vec-requires
+into_vec-requires g c =
+    let i = c.self.invariant in
+    whole_written c.deref.ensures.value c.if-not-is_whole.ensures refl i.count i.least i.written
+
 pub returns-then-not-is_whole : goal.returns-then-not-is_whole
 returns-then-not-is_whole g c =
-    let d = c.self.inside.bytes.items in
+    let d = c.self.inside.bytes.whole in
     let ss = c.self.inside.states.items in
     let e : list_all holds ss ≡ false = ap (list_all holds) (sym c.deref.ensures.value) ∙ sym c.if-not-is_whole.ensures in
     (ap (λ (a : AssemblyState). is_whole a) (sym c.self.view_is) ∙ all_held-slots ss d ∙ e, refl)
@@ -48,11 +64,11 @@ returns-then-not-is_whole g c =
 pub returns-then-ne : goal.returns-then-ne
 returns-then-ne g c =
     let h = c.self.inside.info_hash in
-    let d = c.self.inside.bytes.items in
+    let d = c.self.inside.bytes.whole in
     let ss = c.self.inside.states.items in
     let v = c.self.view_is in
     let e : list_all holds ss ≡ true = ap (list_all holds) (sym c.deref.ensures.value) ∙ sym c.if-not-is_whole.ensures in
-    let n : sha1 d ≡ h → ⊥ = λ r. other c.digest.result h c.if-ne.ensures (c.digest.ensures ∙ ap sha1 c.deref-2.ensures.value ∙ r) in
+    let n : sha1 d ≡ h → ⊥ = λ r. other c.digest.result h c.if-ne.ensures (c.digest.ensures ∙ ap sha1 c.as_slice.ensures ∙ r) in
     let f = c.fill.ensures.items (λ y x. x) ∙ ap (λ m. replicate m status.Lacking) c.self.inside.states.ok.0 in (
       ap (λ (a : AssemblyState). is_whole a) (sym v) ∙ all_held-slots ss d ∙ e,
       subst (λ (a : AssemblyState). IsRight a → ⊥) v (not_right h d ss e c.self.invariant.count n),
@@ -73,13 +89,16 @@ invariant_of-self g c =
       count = ap length f ∙ length-replicate (length ss.items) status.Lacking ∙ c.self.invariant.count;
       asked = omega (arith, none);
       tallied = right;
+      written = subst (λ (xs : List Status). AreWritten xs (length c.self.inside.bytes.whole) c.self.inside.bytes.written) (sym f)
+          (written-lacking (length ss.items) (length c.self.inside.bytes.whole) c.self.inside.bytes.written);
     }
 
 pub returns : goal.returns
 returns g c =
     let h = c.self.inside.info_hash in
-    let d = c.self.inside.bytes.items in
+    let d = c.self.inside.bytes.whole in
     let ss = c.self.inside.states.items in
     let e : list_all holds ss ≡ true = ap (list_all holds) (sym c.deref.ensures.value) ∙ sym c.if-not-is_whole.ensures in
-    let r : sha1 d ≡ h = ap sha1 (sym c.deref-2.ensures.value) ∙ sym c.digest.ensures ∙ same c.digest.result h c.if-ne.ensures in
-    subst (λ (a : AssemblyState). IsFinished a d) c.self.view_is (finished_is h d ss e c.self.invariant.count r)
+    let r : sha1 d ≡ h = ap sha1 (sym c.as_slice.ensures) ∙ sym c.digest.ensures ∙ same c.digest.result h c.if-ne.ensures in
+    subst (λ (v : List ℕ). IsFinished c.args.self v) (sym c.into_vec.ensures)
+    (subst (λ (a : AssemblyState). IsFinished a d) c.self.view_is (finished_is h d ss e c.self.invariant.count r))

@@ -6,5 +6,5 @@ use Rattle.bt_metadata.proofs.assembly.Assembly.held.Goals as goal
 pub returns : goal.returns
 returns g c =
     let inside = c.self.inside in
-    c.self.invariant.tallied.held ∙ sym (count_held-slots inside.states.items inside.bytes.items)
+    c.self.invariant.tallied.held ∙ sym (count_held-slots inside.states.items inside.bytes.whole)
     ∙ ap (λ (a : AssemblyState). count_by is_held a.slots) c.self.view_is

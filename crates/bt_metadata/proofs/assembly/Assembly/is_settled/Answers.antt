@@ -9,7 +9,7 @@ use Rattle.bt_metadata.proofs.assembly.Assembly.is_settled.Goals as goal
 pub returns : goal.returns
 returns g c =
     let inside = c.self.inside in
-    c.is_settled.ensures ∙ ap (list_all settles) c.deref.ensures.value ∙ sym (all_settled-slots inside.states.items inside.bytes.items)
+    c.is_settled.ensures ∙ ap (list_all settles) c.deref.ensures.value ∙ sym (all_settled-slots inside.states.items inside.bytes.whole)
     ∙ ap (λ (a : AssemblyState). list_all is_settled a.slots) c.self.view_is
 
 pub is_settled-requires : goal.is_settled-requires

@@ -1,4 +1,4 @@
-use Rattle.std.proofs.Common.{◌≡◌, None, Some, set, ap, subst, sym, ◌∙◌, arith}
+use Rattle.std.proofs.Common.{◌≡◌, None, Some, length, set, refl, ap, subst, sym, ◌∙◌, arith}
 use Rattle.std.proofs.lemmas.List.{length-set}
 use Rattle.std.proofs.lemmas.Result.{err_from_is_err_and}
 use Rattle.bt_metadata.specs.declared.assembly.BlockError.{BlockError}
@@ -8,6 +8,7 @@ use Rattle.bt_metadata.specs.Assemblies.{AssemblyState, piece_error, with_reject
 use Rattle.bt_metadata.specs.Sound.{state_of, error_at, IsTallied, after_reject}
 use Rattle.bt_metadata.proofs.States.{error_is, rejected_is, not_rejected}
 use Rattle.bt_metadata.proofs.Tallies.{none_at, one_asked, tallied-reject}
+use Rattle.bt_metadata.proofs.Written.{written-set}
 use Rattle.bt_metadata.proofs.assembly.Assembly.reject.Goals as goal
 
 pub returns-in_err-place-clause-value : goal.returns-in_err-place-clause-value
@@ -16,7 +17,7 @@ returns-in_err-place-clause-value g c =
     let o = err_from_is_err_and c.from_residual.result c.from_residual.ensures.1 in
     let e : error_at c.self.inside.states.items piece ≡ Some c.in_err-place.field-0.0 = ap (λ ss. error_at ss piece) (sym c.deref.ensures.value)
     ∙ c.in_err-place.ensures in
-    rw (o.1) (ap (λ (a : AssemblyState). piece_error a piece) (sym c.self.view_is) ∙ error_is c.self.inside.info_hash c.self.inside.bytes.items
+    rw (o.1) (ap (λ (a : AssemblyState). piece_error a piece) (sym c.self.view_is) ∙ error_is c.self.inside.info_hash c.self.inside.bytes.whole
     c.self.inside.states.items piece ∙ e ∙ ap (λ (x : BlockError). Some x) (sym o.2))
 
 pub returns-in_err-place-clause-state : goal.returns-in_err-place-clause-state
@@ -25,20 +26,20 @@ returns-in_err-place-clause-state g c =
     let e : error_at c.self.inside.states.items piece ≡ Some c.in_err-place.field-0.0 = ap (λ ss. error_at ss piece) (sym c.deref.ensures.value)
     ∙ c.in_err-place.ensures in
     subst (λ (a : AssemblyState). a ≡ with_reject a piece) c.self.view_is
-    (not_rejected c.self.inside.info_hash c.self.inside.bytes.items c.self.inside.states.items piece c.in_err-place.field-0.0 e)
+    (not_rejected c.self.inside.info_hash c.self.inside.bytes.whole c.self.inside.states.items piece c.in_err-place.field-0.0 e)
 
 pub returns-clause-value : goal.returns-clause-value
 returns-clause-value g c =
     let piece = c.args.piece in
     let e : error_at c.self.inside.states.items piece ≡ None = ap (λ ss. error_at ss piece) (sym c.deref.ensures.value) ∙ c.in_ok-place.ensures.2 in
-    ap (λ (a : AssemblyState). piece_error a piece) (sym c.self.view_is) ∙ error_is c.self.inside.info_hash c.self.inside.bytes.items
+    ap (λ (a : AssemblyState). piece_error a piece) (sym c.self.view_is) ∙ error_is c.self.inside.info_hash c.self.inside.bytes.whole
     c.self.inside.states.items piece ∙ e
 
 pub returns-clause-state : goal.returns-clause-state
 returns-clause-state g c =
     let piece = c.args.piece in
     let h = c.self.inside.info_hash in
-    let d = c.self.inside.bytes.items in
+    let d = c.self.inside.bytes.whole in
     let ss = c.self.inside.states.items in
     let e : error_at ss piece ≡ None = ap (λ ss. error_at ss piece) (sym c.deref.ensures.value) ∙ c.in_ok-place.ensures.2 in
     ap (λ k. state_of h d (set ss k status.Rejected)) c.in_ok-place.ensures.0 ∙ rejected_is h d ss piece e ∙ ap (λ (a : AssemblyState). with_reject a piece)
@@ -63,4 +64,5 @@ invariant_of-self g c =
       count = length-set ss k status.Rejected ∙ c.self.invariant.count;
       asked = omega (arith, right.asked, c.self.invariant.asked, c.self.invariant.tallied.asked);
       tallied = subst (λ (t : Tally). IsTallied t (set ss k status.Rejected)) (sym c.reject.ensures) right;
+      written = written-set ss k (length inside.bytes.whole) inside.bytes.written status.Rejected refl c.self.invariant.written;
     }
