@@ -51,18 +51,26 @@ IsSpelling-prop bytes = λ a b.
     let P : Pairs → Type 0 = λ qs. (t : Spells qs bytes) → ◌≡◌ {A = IsSpelling bytes} a (qs, t) in
     subst P (one_spelled bytes a.0 b.0 a.1 b.1) (λ t. ap (λ (s : Spells a.0 bytes). let r : IsSpelling bytes = (a.0, s) in r) (Spells-prop a.0 bytes a.1 t)) b.1
 
+Followed-prop : (ps : Pairs) (bytes : List ℕ) → PairsInRange ps → IsProp ((more : List ℕ) × (bytes ≡ ben_pairs ps ++ 101 ∷ more))
+Followed-prop ps bytes h = λ a b.
+    let S : Type 0 = (more : List ℕ) × (bytes ≡ ben_pairs ps ++ 101 ∷ more) in
+    let P : List ℕ → Type 0 = λ m. (e : bytes ≡ ben_pairs ps ++ 101 ∷ m) → ◌≡◌ {A = S} a (m, e) in
+    subst P (same_pairs ps ps a.0 b.0 h h (sym a.1 ∙ b.1)).1
+    (λ e. ap (λ (q : bytes ≡ ben_pairs ps ++ 101 ∷ a.0). let r : S = (a.0, q) in r)
+    (Coded-set (coded_list coded_ℕ) bytes (ben_pairs ps ++ 101 ∷ a.0) a.1 e)) b.1
+
 SpellsPairs-prop : (ps : Pairs) (bytes : List ℕ) → IsProp (SpellsPairs ps bytes)
 SpellsPairs-prop ps bytes = λ s t.
     ap (λ (f : PairsInRange ps). let r : SpellsPairs ps bytes = record { range = f; spelled = s.spelled } in r) (PairsInRange-prop ps s.range t.range)
-    ∙ ap (λ (e : bytes ≡ ben_pairs ps ++ 101 ∷ []). let r : SpellsPairs ps bytes = record { range = t.range; spelled = e } in r)
-    (Coded-set (coded_list coded_ℕ) bytes (ben_pairs ps ++ 101 ∷ []) s.spelled t.spelled)
+    ∙ ap (λ (e : (more : List ℕ) × (bytes ≡ ben_pairs ps ++ 101 ∷ more)). let r : SpellsPairs ps bytes = record { range = t.range; spelled = e } in r)
+    (Followed-prop ps bytes t.range s.spelled t.spelled)
 
 LeaveAs-prop : (ps : Pairs) (l : Left) → IsProp (LeaveAs ps l)
 LeaveAs-prop ps (left.Encoded bytes) = SpellsPairs-prop ps bytes.now
 LeaveAs-prop ps (left.Values values) = Coded-set pairs_code ps (pairs_of values.now)
 
 one_left : (l : Left) (ps qs : Pairs) → LeaveAs ps l → LeaveAs qs l → ps ≡ qs
-one_left (left.Encoded bytes) ps qs s t = (same_pairs ps qs [] [] s.range t.range (sym s.spelled ∙ t.spelled)).0
+one_left (left.Encoded bytes) ps qs s t = (same_pairs ps qs s.spelled.0 t.spelled.0 s.range t.range (sym s.spelled.1 ∙ t.spelled.1)).0
 one_left (left.Values values) ps qs s t = s ∙ sym t
 
 pub AreLeft-prop : (l : Left) → IsProp (AreLeft l)

@@ -1,5 +1,5 @@
 -- What the readers of a checked spelling meet. (For the contracts of functions that are not public.)
-use Rattle.std.specs.Prelude.{◌≡◌, ℕ, ℤ, ◌≤◌, ◌^◌, List, ◌∷◌, ◌++◌, length, FitsSigned, Option, Some, None, Result, Ok, Err, []}
+use Rattle.std.specs.Prelude.{◌≡◌, ℕ, ℤ, ◌≤◌, ◌^◌, List, ◌∷◌, ◌++◌, length, FitsSigned, Option, Some, None, Result, Ok, Err}
 use Rattle.std.specs.Borrow.{Bor}
 use Rattle.std.specs.Int.{w64}
 use Rattle.std.specs.Fmt.{decimal, signed_decimal}
@@ -52,10 +52,10 @@ abbrev pub FindsValue : Option (Bor (List ℕ)) → Option Tree → Type 0
 FindsValue None o = o ≡ None
 FindsValue (Some bytes) o = (t : Tree) × (rest : List ℕ) × (o ≡ Some t) × InRange t × (bytes.now ≡ ben t ++ rest)
 
--- the bytes spell the pairs, and the end of their dictionary
+-- the bytes begin with the pairs and the end of their dictionary, and whatever may follow
 pub record SpellsPairs (ps : Pairs) (bytes : List ℕ) : Type 0 where
   pub range : PairsInRange ps
-  pub spelled : bytes ≡ ben_pairs ps ++ 101 ∷ []
+  pub spelled : (more : List ℕ) × (bytes ≡ ben_pairs ps ++ 101 ∷ more)
 
 -- the pairs are those that are left, encoded or as values
 abbrev pub LeaveAs : Pairs → Left → Type 0

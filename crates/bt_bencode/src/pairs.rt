@@ -1,13 +1,17 @@
 //! Walks over the pairs of a dictionary, encoded or as values.
-ghost use Rattle.bt_bencode.specs.Readable.{AreLeft};
+ghost use Rattle.std.specs.Prelude.{◌≡◌, ℕ, ◌++◌, List, Option, IfSome, option_map};
+ghost use Rattle.bt_bencode.specs.Trees.{Tree};
+ghost use Rattle.bt_bencode.specs.Bencoding.{ben, InRange};
+ghost use Rattle.bt_bencode.specs.LookUps.{dictionary_of};
+ghost use Rattle.bt_bencode.specs.Readable.{AreLeft, FindsValue, HasValue};
 ghost use Rattle.bt_bencode.specs.OneSpelling.{AreLeft-prop};
 
-use crate::read::split_string;
+use crate::read::{following, split_string};
 use crate::skip::split_int;
 use crate::tree::{ByteString, Value};
 use std::marker::Model;
 
-/// The pairs that are left, and the end of their dictionary if they are encoded.
+/// The pairs that are left; if they are encoded, the end of their dictionary and what may follow it come after them.
 #[derive(Clone, Copy)]
 pub(crate) enum Left<'a> {
     Encoded(&'a [u8]),
@@ -32,6 +36,34 @@ impl<'a> Model for IntPairs<'a> {
     ghost coded = { pairs_code };
 
     ghost view = { λ p. p.pairs.0 };
+}
+
+/// Returns the pairs of the dictionary that `value` begins with.
+///
+/// `None` if it is a value of another kind.
+#[inline(always)]
+pub(crate) fn pairs_in(value: &[u8]) -> Option<IntPairs<'_>>
+    requires { HasValue value.now }
+    ensures { (t : Tree) (more : List ℕ) → InRange t → value.now ≡ ben t ++ more → result ≡ dictionary_of t }
+{
+    if value[0] != b'd' {
+        return None;
+    }
+    Some(IntPairs {
+        left: Left::Encoded(following(value)),
+    })
+}
+
+/// Returns whether there is a value, and its pairs if it is a dictionary.
+#[inline(always)]
+pub(crate) fn pairs_if_any(value: Option<&[u8]>) -> Option<Option<IntPairs<'_>>>
+    requires { IfSome value (λ bytes. HasValue bytes.now) }
+    ensures { (found : Option Tree) → FindsValue value.entry found → result ≡ option_map dictionary_of found }
+{
+    match value {
+        None => None,
+        Some(value) => Some(pairs_in(value)),
+    }
 }
 
 impl<'a> Iterator for IntPairs<'a> {

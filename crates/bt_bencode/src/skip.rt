@@ -1,7 +1,7 @@
 //! Skipping a value in validated bytes, and finding the value of a key.
 //!
 //! It doesn't allocate. Skipping recurses by the value's nesting, which is at most 32 after validation.
-ghost use Rattle.std.specs.Prelude.{◌≡◌, ℕ, ◌<◌, ◌∷◌, ◌++◌, List, length, option_map};
+ghost use Rattle.std.specs.Prelude.{◌≡◌, ℕ, ◌<◌, ◌∷◌, ◌++◌, List, length, Option, IfSome, option_map};
 ghost use Rattle.bt_bencode.specs.Trees.{Tree, Trees, Pairs};
 ghost use Rattle.bt_bencode.specs.Bencoding.{ben, ben_all, ben_pairs, InRange, AllInRange, PairsInRange};
 ghost use Rattle.bt_bencode.specs.Keys.{value_at};
@@ -88,6 +88,30 @@ pub fn find<'a>(pairs: &'a [u8], key: &[u8]) -> Option<&'a [u8]>
     None
 }
 
+/// Returns the bytes from the values of the first pairs with two keys on.
+///
+/// They are those that [`find`] returns for each, by one walk.
+#[inline(always)]
+pub fn find_two<'a>(pairs: &'a [u8], one: &[u8], two: &[u8]) -> (Option<&'a [u8]>, Option<&'a [u8]>)
+    requires { HasPairs pairs.now }
+    ensures one { (ps : Pairs) (more : List ℕ) → PairsInRange ps → pairs.now ≡ ben_pairs ps ++ 101 ∷ more → FindsValue result.0 (value_at one.now ps) }
+    ensures two { (ps : Pairs) (more : List ℕ) → PairsInRange ps → pairs.now ≡ ben_pairs ps ++ 101 ∷ more → FindsValue result.1 (value_at two.now ps) }
+{
+    let mut rest = pairs;
+    let mut first: Option<&[u8]> = None;
+    let mut second: Option<&[u8]> = None;
+    while rest[0] != b'e' {
+        let (name, value) = split_string(rest);
+        first = first.or((name == one).then_some(value));
+        second = second.or((name == two).then_some(value));
+        if first.is_some() && second.is_some() {
+            return (first, second);
+        }
+        rest = pass_value(value);
+    }
+    (first, second)
+}
+
 /// Returns the integer at `key` in the value that `value` begins with.
 ///
 /// `None` if that is no dictionary, or has no integer at the key.
@@ -129,6 +153,18 @@ pub fn int_in(value: &[u8]) -> Option<i64>
         Some(read_int(following(value)).0)
     } else {
         None
+    }
+}
+
+/// Returns whether there is a value, and which integer it is if it is one.
+#[inline(always)]
+pub fn int_if_any(value: Option<&[u8]>) -> Option<Option<i64>>
+    requires { IfSome value (λ bytes. HasValue bytes.now) }
+    ensures { (found : Option Tree) → FindsValue value.entry found → result ≡ option_map integer_of found }
+{
+    match value {
+        None => None,
+        Some(value) => Some(int_in(value)),
     }
 }
 

@@ -10,3 +10,4 @@ pub mod Made
 pub mod Laws
 -- what only the contracts of functions that are not public cite
 pub mod Holding
+pub mod Ordered

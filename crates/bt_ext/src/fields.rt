@@ -1,7 +1,7 @@
 //! The fields of an extended handshake (BEP 10, BEP 9), in values and in validated slices.
-ghost use Rattle.std.specs.Prelude.{◌≡◌, codes, option_and_then};
-ghost use Rattle.bt_bencode.specs.Trees.{dictionary};
-ghost use Rattle.bt_bencode.specs.Keys.{lookup_of};
+ghost use Rattle.std.specs.Prelude.{◌≡◌, Option, option_and_then, option_map};
+ghost use Rattle.bt_bencode.specs.Trees.{Tree, dictionary};
+ghost use Rattle.bt_bencode.specs.LookUps.{dictionary_of, integer_of};
 ghost use Rattle.bt_bencode.specs.Views.{tree_of};
 ghost use Rattle.bt_ext.specs.Fields.{byte_of, has_bad_id, is_bad_m, size_of, is_bad_size, has_bad_field, natural};
 
@@ -61,24 +61,31 @@ fn bad_id(m: IntPairs) -> bool
     false
 }
 
-fn bad_m<'a, D: Dict<'a>>(dict: D) -> bool
-    ensures { result ≡ is_bad_m (lookup_of (codes "m") (D.tree dict)) }
+/// Returns whether the value of `m`, if there is one, is of the wrong kind.
+fn bad_m(m: Option<Option<IntPairs>>) -> bool
+    ensures { (value : Option Tree) → m.entry ≡ option_map dictionary_of value → result ≡ is_bad_m value }
 {
-    match dict.pairs(b"m") {
-        Some(m) => bad_id(m),
-        None => dict.has(b"m"),
+    match m {
+        None => false,
+        Some(None) => true,
+        Some(Some(m)) => bad_id(m),
     }
 }
 
-fn bad_size<'a, D: Dict<'a>>(dict: D) -> bool
-    ensures { result ≡ is_bad_size (lookup_of (codes "metadata_size") (D.tree dict)) }
+/// Returns whether the value of `metadata_size`, if there is one, is of the wrong kind.
+fn bad_size(size: Option<Option<i64>>) -> bool
+    ensures { (value : Option Tree) → size ≡ option_map integer_of value → result ≡ is_bad_size value }
 {
-    size_in(dict).is_none() && dict.has(b"metadata_size")
+    match size {
+        None => false,
+        Some(size) => natural(size).is_none(),
+    }
 }
 
 /// Returns whether an extended handshake has a field of the wrong kind (BEP 10).
 pub fn bad_field<'a, D: Dict<'a>>(dict: D) -> bool
     ensures { result ≡ has_bad_field (D.tree dict) }
 {
-    bad_m(dict) || bad_size(dict)
+    let (m, size) = dict.pairs_and_int(b"m", b"metadata_size");
+    bad_m(m) || bad_size(size)
 }

@@ -6,7 +6,10 @@ ghost use Rattle.bt_bencode.specs.Payloads.{BeginsWithNone};
 ghost use Rattle.bt_ext.specs.Payloads.{IsExt, index_bytes, seen};
 ghost use Rattle.bt_ext.specs.declared.ids.Rules.{Rules};
 ghost use Rattle.bt_ext.specs.Judged.{dict_length, WasJudged, IsValueOf};
-ghost use Rattle.bt_ext.specs.Faults.{Reads, Refuses, RefusesToRead, fault_of, handshake_fault_of, metadata_fault_of};
+ghost use Rattle.bt_bencode.specs.Keys.{unsorted};
+ghost use Rattle.bt_ext.specs.Fields.{has_bad_field};
+ghost use Rattle.bt_ext.specs.Faults.{Reads, Refuses, RefusesToRead, fault_if, fault_of, handshake_fault_of, metadata_fault_of};
+ghost use Rattle.bt_ext.specs.Ordered.{HasOrder, metadata_field_fault_of};
 
 use crate::bytes::copy_bytes;
 use crate::ext::{Ext, ExtError, ExtView, ViewError};
@@ -14,7 +17,7 @@ use crate::fields::bad_field;
 use crate::ids::{Registered, Rules};
 use crate::kinds::kind_ref;
 use crate::metadata::{block_ok, is_malformed};
-use bt_bencode::{Bad, ByteString, DictRef, Value, check};
+use bt_bencode::{Bad, ByteString, DictRef, Value, check, check_sorted};
 use std::alloc::{AllocError, Global};
 
 /// Returns the dictionary in front and what follows it.
@@ -70,24 +73,33 @@ fn shape<'a>(reg: Registered, id: u8, payload: &'a [u8]) -> Result<ExtView<'a>, 
     }
 }
 
+/// Returns the fault of an extended handshake's fields.
+#[inline(never)]
+fn handshake_field_fault(dict: &DictRef) -> Option<ViewError>
+    ensures { result ≡ fault_if (has_bad_field (dictionary dict.now.tree.0)) ViewError.BadField }
+{
+    if bad_field(*dict) {
+        Some(ViewError::BadField)
+    } else {
+        None
+    }
+}
+
 #[inline(never)]
 fn handshake_fault(dict: &DictRef) -> Option<ViewError>
     ensures { result ≡ handshake_fault_of (dictionary dict.now.tree.0) }
 {
     match dict.first_unsorted() {
         Some(at) => Some(ViewError::Unsorted { at }),
-        None if bad_field(*dict) => Some(ViewError::BadField),
-        None => None,
+        None => handshake_field_fault(dict),
     }
 }
 
+/// Returns the first fault of a metadata message's fields and of the block after its dictionary.
 #[inline(never)]
-fn metadata_fault(dict: &DictRef, rest_len: usize) -> Option<ViewError>
-    ensures { result ≡ metadata_fault_of (dictionary dict.now.tree.0) rest_len }
+fn metadata_field_fault(dict: &DictRef, rest_len: usize) -> Option<ViewError>
+    ensures { result ≡ metadata_field_fault_of (dictionary dict.now.tree.0) rest_len }
 {
-    if let Some(at) = dict.first_unsorted() {
-        return Some(ViewError::Unsorted { at });
-    }
     let kind = kind_ref(dict);
     if is_malformed(kind) {
         Some(ViewError::BadField)
@@ -96,6 +108,16 @@ fn metadata_fault(dict: &DictRef, rest_len: usize) -> Option<ViewError>
     } else {
         let at = dict.spelled().len();
         Some(ViewError::BadBlock { at })
+    }
+}
+
+#[inline(never)]
+fn metadata_fault(dict: &DictRef, rest_len: usize) -> Option<ViewError>
+    ensures { result ≡ metadata_fault_of (dictionary dict.now.tree.0) rest_len }
+{
+    match dict.first_unsorted() {
+        Some(at) => Some(ViewError::Unsorted { at }),
+        None => metadata_field_fault(dict, rest_len),
     }
 }
 
@@ -112,6 +134,52 @@ fn fault_in(rules: Rules, view: &ExtView) -> Option<ViewError>
             ExtView::DontHave(_) => None,
             ExtView::Raw { .. } => None,
         },
+    }
+}
+
+/// Returns the dictionary in front and what follows it, if its keys are in order.
+///
+/// `None` promises nothing.
+#[inline(always)]
+fn split_sorted(payload: &[u8]) -> Option<(DictRef<'_>, &[u8])>
+    ensures fits { IfSome result (λ x. Fits (dictionary x.0.tree.0)) }
+    ensures parts { IfSome result (λ x. payload.now ≡ ben (dictionary x.0.tree.0) ++ x.1.now) }
+    ensures rises { IfSome result (λ x. unsorted (dictionary x.0.tree.0) ≡ None) }
+{
+    let (dict, n) = check_sorted(payload)?;
+    Some((dict, &payload[n..]))
+}
+
+/// Returns the value that the id and the payload are, if it has a dictionary whose keys are in order.
+///
+/// `None` promises nothing.
+#[inline(always)]
+fn shape_sorted<'a>(reg: &Registered, id: u8, payload: &'a [u8]) -> Option<ExtView<'a>>
+    ensures value { IfSome result (λ v. IsExt reg.now (seen v) id payload.now) }
+    ensures rises { IfSome result (λ v. HasOrder (seen v)) }
+{
+    if !reg.needs_dict(id) {
+        return None;
+    }
+    let (dict, rest) = split_sorted(payload)?;
+    if id == 0 {
+        Some(ExtView::Handshake { dict, rest })
+    } else {
+        Some(ExtView::Metadata { dict, rest })
+    }
+}
+
+/// Returns the first fault that strict rules find in a value whose keys are in order.
+#[inline(always)]
+fn field_fault(view: &ExtView) -> Option<ViewError>
+    requires { HasOrder (seen view.now) }
+    ensures { result ≡ fault_of Rules.Bep (seen view.now) }
+{
+    match view {
+        ExtView::Handshake { dict, .. } => handshake_field_fault(dict),
+        ExtView::Metadata { dict, rest } => metadata_field_fault(dict, rest.len()),
+        ExtView::DontHave(_) => None,
+        ExtView::Raw { .. } => None,
     }
 }
 
@@ -132,6 +200,15 @@ pub fn view_ext<'a>(
     ensures ok { IfOk result (λ v. Reads reg rules id payload.now (seen v)) }
     ensures err { IfErr result (Refuses reg rules id payload.now) }
 {
+    // Strict rules try one pass that also compares the keys; what it doesn't answer is looked at by parts.
+    if let Rules::Bep = rules {
+        if let Some(view) = shape_sorted(&reg, id, payload) {
+            return match field_fault(&view) {
+                None => Ok(view),
+                Some(fault) => Err(fault),
+            };
+        }
+    }
     match shape(reg, id, payload) {
         Err(fault) => Err(fault),
         Ok(view) => match fault_in(rules, &view) {

@@ -1,0 +1,24 @@
+-- What the pass that validates bytes and compares keys has passed. (For the contracts of functions that are not public.)
+use Rattle.std.specs.Prelude.{◌≡◌, ℕ, ℤ, List, ◌∷◌, ◌++◌, FitsSigned, Option}
+use Rattle.std.specs.Int.{w64}
+use Rattle.std.specs.Fmt.{signed_decimal}
+use Rattle.bt_bencode.specs.Trees.{Tree, Trees, Pairs}
+use Rattle.bt_bencode.specs.Bencoding.{ben, ben_all, ben_pairs}
+use Rattle.bt_bencode.specs.Keys.{IsSorted, AllAreSorted, PairsAreSorted}
+use Rattle.bt_bencode.specs.Room.{FitsIn, AllFitIn, PairsFitIn}
+
+-- the bytes are an integer after its `i`, and `rest`
+abbrev pub PassesInteger : List ℕ → List ℕ → Type 0
+PassesInteger bytes rest = (z : ℤ) × FitsSigned w64 z × (bytes ≡ signed_decimal z ++ 101 ∷ rest)
+
+-- they are a value that fits in the room and whose keys rise, and `rest`
+abbrev pub PassesValue : ℕ → List ℕ → List ℕ → Type 0
+PassesValue room bytes rest = (t : Tree) × FitsIn room t × IsSorted t × (bytes ≡ ben t ++ rest)
+
+-- they are the further values of a list, its end, and `rest`
+abbrev pub PassesItems : ℕ → List ℕ → List ℕ → Type 0
+PassesItems room bytes rest = (ts : Trees) × AllFitIn room ts × AllAreSorted ts × (bytes ≡ ben_all ts ++ 101 ∷ rest)
+
+-- they are the further pairs of a dictionary, which follow a last key, its end, and `rest`
+abbrev pub PassesPairs : ℕ → Option (List ℕ) → List ℕ → List ℕ → Type 0
+PassesPairs room last bytes rest = (ps : Pairs) × PairsFitIn room ps × PairsAreSorted last ps × (bytes ≡ ben_pairs ps ++ 101 ∷ rest)
