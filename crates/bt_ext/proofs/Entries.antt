@@ -196,6 +196,16 @@ pub keep-absent : (name : List ℕ) (id : ℕ) (es : Entries) → length name �
 keep-absent name id es short off none =
     rw (not_long (length name) short, is_0 id off) (sym (removed-absent name es none))
 
+-- a name that isn't there and isn't to be added changes nothing
+pub stays_absent : (name : List ℕ) (id : ℕ) (es : Entries) → id_of_name name es ≡ None → (0 < id → length es < 256 → ⊥) → es ≡ entered name id es
+stays_absent name id es none full =
+    both_ways _ (nat_lt 255 (length name)) (λ long. rw long refl)
+    (λ short. rw short (both_ways _ (id == 0)
+    (λ off. rw off (sym (removed-absent name es none)))
+    (λ on. rw (on, none) (both_ways _ (nat_lt (length es) 256)
+    (λ room. absurd (full (above_0 id on) (is_few (length es) room)))
+    (λ no. rw no refl)))))
+
 -- a table after `enter`, which may want memory
 pub table-after : (name : List ℕ) (id : ℕ) (old new : Entries) (r : Result (Unit {0}) AllocError) → IsTable old → OnOk r (new ≡ entered name id old)
     → OnErr r (new ≡ old) → IsTable new

@@ -1,11 +1,11 @@
 -- A set with the names of a table, and perhaps more.
-use Rattle.std.proofs.Common.{◌≡◌, ℕ, ◌+◌, ◌<◌, ◌==◌, ◌||◌, List, length, take, get_or, Bool, true, false, nat_lt, refl, sym, ◌∙◌, add-one}
+use Rattle.std.proofs.Common.{◌≡◌, ℕ, ◌+◌, ◌<◌, ◌||◌, List, length, take, get_or, Bool, true, false, refl, sym, ◌∙◌, add-one}
 use Rattle.std.specs.List.{list_any}
 use Rattle.std.specs.Str.{bytes_eq}
 use Rattle.bt_ext.specs.Tables.{Entries, entered}
 use Rattle.bt_ext.specs.Holding.{HasNames, AddsName}
 use Rattle.bt_ext.proofs.ByName.{by_other}
-use Rattle.bt_ext.proofs.Entries.{flip, above_0, both_ways, is_few, none_more, removed-absent}
+use Rattle.bt_ext.proofs.Entries.{flip, none_more, stays_absent}
 
 neither : (a b : Bool) → (a || b) ≡ false → (a ≡ false) × (b ≡ false)
 neither true b h = absurd (cc)
@@ -35,11 +35,4 @@ names-entered old new name id es adds h other u =
 -- a name that isn't there and isn't to be added changes nothing
 pub kept : (names : List (List ℕ)) (name : List ℕ) (id : ℕ) (es : Entries) → HasNames names es → list_any (bytes_eq name) names ≡ false
     → (0 < id → length es < 256 → ⊥) → es ≡ entered name id es
-kept names name id es h u full =
-    let none = h name u in
-    both_ways _ (nat_lt 255 (length name)) (λ long. rw long refl)
-    (λ short. rw short (both_ways _ (id == 0)
-    (λ off. rw off (sym (removed-absent name es none)))
-    (λ on. rw (on, none) (both_ways _ (nat_lt (length es) 256)
-    (λ room. absurd (full (above_0 id on) (is_few (length es) room)))
-    (λ no. rw no refl)))))
+kept names name id es h u full = stays_absent name id es (h name u) full

@@ -3,6 +3,7 @@ pub mod ByName
 pub mod Entries
 pub mod KnownDict
 pub mod LawProofs
+pub mod InPlace
 pub mod MadeKinds
 pub mod MadeRight
 pub mod Known
@@ -10,5 +11,6 @@ pub mod Names
 pub mod OneExt
 pub mod OneFault
 pub mod PeerIds
+pub mod Rising
 pub mod Sorted
 pub mod Telling

@@ -1,9 +1,9 @@
 //! The names and ids that a peer announced (BEP 10). Which pairs of `m` count is in `told`.
-ghost use Rattle.std.specs.Prelude.{◌≡◌, ◌<◌, ◌≤◌, [], ◌∷◌, ◌++◌, length, OnOk, OnErr, IfOk, IfSome};
+ghost use Rattle.std.specs.Prelude.{◌≡◌, ◌+◌, ◌<◌, ◌≤◌, [], ◌∷◌, ◌++◌, length, min, OnOk, OnErr, IfOk, IfSome, IsTrue, vec_len, vec_capacity};
 ghost use Rattle.bt_bencode.specs.Trees.{dictionary};
 ghost use Rattle.bt_bencode.specs.Views.{tree_of};
-ghost use Rattle.bt_ext.specs.Tables.{id_of_name, told_ids, entered, entered_all, applied, IsTable};
-ghost use Rattle.bt_ext.specs.Holding.{entries_of, names_of, HasNames, HoldsAt};
+ghost use Rattle.bt_ext.specs.Tables.{Entries, id_of_name, told_ids, entered, entered_all, applied, IsTable};
+ghost use Rattle.bt_ext.specs.Holding.{entries_of, names_of, HasNames, HoldsAt, KeepsName, KeepNames};
 
 use crate::dict::Dict;
 use crate::ids::{ExtId, Registered};
@@ -19,6 +19,11 @@ const MAX_NAMES: usize = 256;
 
 /// The longest name that a table keeps.
 const MAX_NAME: usize = 255;
+
+/// The most pairs that are entered in place, without a set of the table's names.
+///
+/// So many searches of a full table cost less than the set.
+const FEW: usize = 64;
 
 /// The peer's names of extensions and the ids under which it wants them (BEP 10).
 ///
@@ -110,6 +115,104 @@ fn enter<A: Allocator + Copy>(
         None => {}
     }
     Ok(())
+}
+
+/// Returns whether no pair adds or removes a name.
+///
+/// So it is when a handshake comes again.
+fn keep_names<A: Allocator>(entries: &[(Name<A>, u8)], told: &[(&[u8], u8)]) -> bool
+    ensures { IsTrue result → KeepNames (entries_of told.now) entries.now }
+{
+    for (name, id) in told {
+        if place_of(entries, name).is_some() != (*id != 0) {
+            return false;
+        }
+    }
+    true
+}
+
+/// Sets the id of a name, if it is there.
+fn renumber<A: Allocator>(entries: &mut Vec<(Name<A>, u8), A>, name: &[u8], id: u8)
+    requires { KeepsName name.now id entries.old.items }
+    ensures { entries.new.items ≡ entered name.now id entries.old.items }
+{
+    if name.len() > MAX_NAME {
+        return;
+    }
+    if let Some(i) = place_of(entries, name) {
+        entries[i].1 = id;
+    }
+}
+
+/// Sets the ids of names, without an allocation.
+fn renumber_all<A: Allocator>(entries: &mut Vec<(Name<A>, u8), A>, told: &[(&[u8], u8)])
+    requires { KeepNames (entries_of told.now) entries.old.items }
+    ensures { entries.new.items ≡ entered_all (entries_of told.now) entries.old.items }
+{
+    for (name, id) in told {
+        renumber(entries, name, *id);
+    }
+}
+
+/// Adds a copy of a pair at the end, unless its name is too long for a table.
+fn push_copy<A: Allocator + Copy>(
+    copies: &mut Vec<(Name<A>, u8), A>,
+    name: &[u8],
+    id: u8,
+) -> Result<(), AllocError>
+    ensures { OnOk result ((es : Entries) → entered_all copies.new.items es ≡ entered name.now id (entered_all copies.old.items es)) }
+{
+    if name.len() > MAX_NAME {
+        return Ok(());
+    }
+    push_entry(copies, name, id)
+}
+
+/// Copies the pairs that can change a table.
+fn copy_told<A: Allocator + Copy>(
+    alloc: A,
+    told: &[(&[u8], u8)],
+) -> Result<Vec<(Name<A>, u8), A>, AllocError>
+    ensures { IfOk result (λ copies. (es : Entries) → entered_all copies.items es ≡ entered_all (entries_of told.now) es) }
+{
+    let mut copies = Vec::with_capacity(alloc, told.len())?;
+    for (name, id) in told {
+        push_copy(&mut copies, name, *id)?;
+    }
+    Ok(copies)
+}
+
+/// Enters a copied pair, as the table's rules are, without an allocation.
+fn enter_copy<A: Allocator>(entries: &mut Vec<(Name<A>, u8), A>, name: Name<A>, id: u8)
+    requires { vec_len entries.old < 256 → vec_len entries.old < vec_capacity entries.old }
+    ensures items { entries.new.items ≡ entered name id entries.old.items }
+    ensures len { vec_len entries.new ≤ vec_len entries.old + 1 }
+    ensures capacity { vec_capacity entries.old ≤ vec_capacity entries.new }
+{
+    if name.as_slice().len() > MAX_NAME {
+        return;
+    }
+    match place_of(entries, name.as_slice()) {
+        Some(i) if id == 0 => {
+            let _ = entries.remove(i);
+        }
+        Some(i) => entries[i].1 = id,
+        None if id > 0 && entries.len() < MAX_NAMES => match entries.push((name, id)) {
+            Ok(()) => {}
+            Err(_) => unreachable!(),
+        },
+        None => {}
+    }
+}
+
+/// Enters copied pairs in order, without an allocation.
+fn enter_copies<A: Allocator>(entries: &mut Vec<(Name<A>, u8), A>, copies: Vec<(Name<A>, u8), A>)
+    requires { min (vec_len entries.old + vec_len copies) 256 ≤ vec_capacity entries.old }
+    ensures { entries.new.items ≡ entered_all copies.items entries.old.items }
+{
+    for (name, id) in copies {
+        enter_copy(entries, name, id);
+    }
 }
 
 impl<A: Allocator + Copy> Table<A> {
@@ -233,6 +336,45 @@ impl<A: Allocator + Copy> Table<A> {
         Ok(next)
     }
 
+    /// Takes ids for few names, in place.
+    ///
+    /// All memory is there before the first change, so the table stays if memory runs out.
+    fn enter_few(&mut self, told: &[(&[u8], u8)]) -> Result<(), AllocError>
+        ensures ok { OnOk result (self.new ≡ entered_all (entries_of told.now) self.old) }
+        ensures memory { OnErr result (self.new ≡ self.old) }
+    {
+        let copies = copy_told(*self.entries.allocator(), told)?;
+        // A table needs room for 256 names at most, so handshakes that come again and again don't make it grow.
+        let room = MAX_NAMES - self.entries.len();
+        self.entries.reserve_exact(copies.len().min(room))?;
+        enter_copies(&mut self.entries, copies);
+        Ok(())
+    }
+
+    /// Sets the ids of names that are there.
+    fn renumber_all(&mut self, told: &[(&[u8], u8)])
+        requires { KeepNames (entries_of told.now) self.old }
+        ensures { self.new ≡ entered_all (entries_of told.now) self.old }
+    {
+        renumber_all(&mut self.entries, told);
+    }
+
+    /// Takes ids for names, in place if they are few.
+    fn take_told(&mut self, told: &[(&[u8], u8)]) -> Result<(), AllocError>
+        ensures ok { OnOk result (self.new ≡ entered_all (entries_of told.now) self.old) }
+        ensures memory { OnErr result (self.new ≡ self.old) }
+    {
+        if told.len() > FEW {
+            *self = self.after(told)?;
+            return Ok(());
+        }
+        if keep_names(&self.entries, told) {
+            self.renumber_all(told);
+            return Ok(());
+        }
+        self.enter_few(told)
+    }
+
     /// Applies what a dictionary announces.
     fn apply_told<'a, D: Dict<'a>>(&mut self, dict: D) -> Result<(), AllocError>
         ensures ok { OnOk result (self.new ≡ applied (D.tree dict) self.old) }
@@ -240,8 +382,7 @@ impl<A: Allocator + Copy> Table<A> {
         ensures memory { OnErr result (self.new ≡ self.old) }
     {
         let told = told_of(*self.entries.allocator(), dict)?;
-        *self = self.after(&told)?;
-        Ok(())
+        self.take_told(&told)
     }
 
     /// Applies the pairs of `m` in an extended handshake's dictionary, in order.

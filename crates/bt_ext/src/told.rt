@@ -1,7 +1,9 @@
 //! What the `m` of an extended handshake announces (BEP 10), without a table.
-ghost use Rattle.std.specs.Prelude.{◌≡◌, ◌++◌, IfOk, OnOk, not, if◌then◌else◌, []};
+ghost use Rattle.std.specs.Prelude.{◌≡◌, ◌++◌, IfOk, IfSome, OnOk, not, if◌then◌else◌, []};
 ghost use Rattle.std.specs.List.{list_any};
+ghost use Rattle.std.specs.Option.{option_copied};
 ghost use Rattle.std.specs.Str.{bytes_eq};
+ghost use Rattle.bt_bencode.specs.Keys.{is_above};
 ghost use Rattle.bt_ext.specs.Tables.{told, told_by, told_of};
 ghost use Rattle.bt_ext.specs.Holding.{entries_of, names_of, AddsName};
 
@@ -9,6 +11,7 @@ use crate::dict::Dict;
 use crate::fields::byte_of;
 use bt_bencode::IntPairs;
 use std::alloc::{AllocError, Allocator};
+use std::cmp::Ordering;
 use std::collections::BTreeSet;
 
 /// Adds a name, and says whether it is new.
@@ -42,7 +45,7 @@ fn tell<'a, A: Allocator + Clone>(
     Ok(())
 }
 
-/// Returns what the pairs announce.
+/// Returns what the pairs announce, in whatever order they are.
 ///
 /// The names are in a tree, so that many pairs stay cheap.
 fn told_by<'a, A: Allocator + Copy>(
@@ -59,6 +62,65 @@ fn told_by<'a, A: Allocator + Copy>(
     Ok(entries)
 }
 
+/// Returns whether the name is above the last one, or there is no last one.
+fn is_above(last: Option<&[u8]>, name: &[u8]) -> bool
+    ensures { result ≡ is_above (option_copied last.entry) name.now }
+{
+    match last {
+        None => true,
+        Some(last) => matches!(last.cmp(name), Ordering::Less),
+    }
+}
+
+/// Adds the entry of a name that is new, if its value is an id.
+fn tell_new<'a, A: Allocator>(
+    entries: &mut Vec<(&'a [u8], u8), A>,
+    name: &'a [u8],
+    id: Option<u8>,
+) -> Result<(), AllocError>
+    ensures { OnOk result (entries_of entries.new.items ≡ entries_of entries.old.items ++ told name.now id) }
+{
+    match id {
+        Some(new_id) => entries.push((name, new_id))?,
+        None => {}
+    }
+    Ok(())
+}
+
+/// Returns what the pairs announce, or `None` if a name isn't above the one before it.
+///
+/// Sorted keys, as BEP 3 wants them, are distinct, so this needs no set of names.
+fn told_rising<'a, A: Allocator + Copy>(
+    alloc: A,
+    m: IntPairs<'a>,
+) -> Result<Option<Vec<(&'a [u8], u8), A>>, AllocError>
+    ensures { IfOk result (λ told. IfSome told (λ v. entries_of v.items ≡ told_by [] m.entry)) }
+{
+    let mut entries = Vec::new(alloc);
+    let mut last: Option<&[u8]> = None;
+    for (name, value) in m {
+        if !is_above(last, name) {
+            return Ok(None);
+        }
+        tell_new(&mut entries, name, byte_of(value))?;
+        last = Some(name);
+    }
+    Ok(Some(entries))
+}
+
+/// Returns what a dictionary announces, in whatever order its names are.
+fn told_unsorted<'a, A: Allocator + Copy, D: Dict<'a>>(
+    alloc: A,
+    dict: D,
+) -> Result<Vec<(&'a [u8], u8), A>, AllocError>
+    ensures { IfOk result (λ v. entries_of v.items ≡ told_of (D.tree dict)) }
+{
+    match dict.pairs(b"m") {
+        Some(m) => told_by(alloc, m),
+        None => Ok(Vec::new(alloc)),
+    }
+}
+
 /// Returns the names and ids that an extended handshake's dictionary announces.
 ///
 /// They are in the order of their pairs, and of several pairs with one name the first counts.
@@ -71,8 +133,11 @@ pub fn told_of<'a, A: Allocator + Copy, D: Dict<'a>>(
 ) -> Result<Vec<(&'a [u8], u8), A>, AllocError>
     ensures { IfOk result (λ v. entries_of v.items ≡ told_of (D.tree dict)) }
 {
-    match dict.pairs(b"m") {
-        Some(m) => told_by(alloc, m),
-        None => Ok(Vec::new(alloc)),
+    let Some(m) = dict.pairs(b"m") else {
+        return Ok(Vec::new(alloc));
+    };
+    match told_rising(alloc, m)? {
+        Some(told) => Ok(told),
+        None => told_unsorted(alloc, dict),
     }
 }
