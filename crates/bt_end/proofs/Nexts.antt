@@ -1,5 +1,5 @@
 -- Turns that tell of their item.
-use Rattle.std.proofs.Common.{◌≡◌, ℕ, false, ◌++◌, length, Option, None, Some, Result, Ok, Err, refl, sym, ap, subst, ◌∙◌, arith}
+use Rattle.std.proofs.Common.{◌≡◌, ℕ, false, ◌++◌, Option, None, Some, Result, Ok, Err, refl, sym, ap, subst, ◌∙◌, arith}
 use Rattle.bt_wire.specs.declared.item.Item.{Item}
 use Rattle.bt_wire.specs.declared.item.Refusal.{Refusal}
 use Rattle.bt_feed.specs.Answers.{IsAnswer, after, followed}
@@ -8,7 +8,7 @@ use Rattle.bt_feed.specs.Judged.{IsJudged, WasJudged}
 use Rattle.bt_feed.specs.declared.stage.Stage.{Stage}
 use Rattle.bt_feed.specs.Feeds.{FeedState}
 use Rattle.bt_feed.specs.Progress.{IsFeed}
-use Rattle.bt_feed.specs.Stages.{start_of, stage_after, IsItem}
+use Rattle.bt_feed.specs.Stages.{start_of, IsItem}
 use Rattle.bt_feed.specs.Views.{item_of, shown}
 use Rattle.bt_feed.specs.declared.view.View.{View}
 use Rattle.bt_feed.specs.declared.view.TakeError.{TakeError}

@@ -5,6 +5,7 @@ use Rattle.bt_bencode.specs.Trees.{Tree, dictionary}
 use Rattle.bt_bencode.specs.declared.dict_ref.DictRef.{DictRef}
 use Rattle.bt_ext.specs.Fields.{size_of}
 use Rattle.bt_ext.specs.Tables.{Entries, applied}
+use Rattle.bt_ext.specs.Updates.{IsUpdate}
 use Rattle.bt_ext.specs.declared.ext.Ext.{Ext}
 use Rattle.bt_ext.specs.declared.ext.Ext.TheVariants as ext
 use Rattle.bt_wire.specs.declared.item.Item.{Item}
@@ -47,10 +48,10 @@ dict_in (items.Message (m.Extended (ext.Handshake dict rest))) None = ⊥
 dict_in item (Some d) = ⊥
 dict_in item None = ⊤
 
--- the table and the assembly that an extended handshake's dictionary makes
+-- the change of the table and the assembly that an extended handshake's dictionary makes
 abbrev pub IsLesson : {A : Type 0} → EndState → Tree → Plan A → Type 0
-IsLesson e t (Learn table assembly) =
-    (table ≡ applied t e.table) × (assembly ≡ assembly_of e.handshake.info_hash e.part (size_of t))
+IsLesson e t (Learn update assembly) =
+    IsUpdate e.table (applied t e.table) update × (assembly ≡ assembly_of e.handshake.info_hash e.part (size_of t))
 IsLesson e t Nothing = ⊥
 
 abbrev pub IsPlanOf : {A : Type 0} → EndState → Ext → Plan A → Type 0

@@ -2,6 +2,8 @@
 ghost use Rattle.std.specs.Prelude.{◌≡◌, ◌+◌, ◌<◌, ◌≤◌, Some, true, false, [], length, length as list_length, IfOk, IfSome, OnErr};
 ghost use Rattle.bt_bencode.specs.Trees.{dictionary};
 ghost use Rattle.bt_ext.specs.Payloads.{seen};
+ghost use Rattle.bt_ext.specs.Tables.{Entries};
+ghost use Rattle.bt_ext.specs.Updates.{IsUpdate};
 ghost use Rattle.bt_feed.specs.Views.{item_of};
 ghost use Rattle.bt_wire.specs.Legal.{IsLegal};
 ghost use Rattle.bt_wire.specs.Messages.{IsExtended, body};
@@ -20,7 +22,7 @@ use crate::event::{Event, plain_event};
 use crate::part::Part;
 use crate::queueing::{ROOM, put, put_donthave, put_handshake, put_message, put_plain};
 use bt_bencode::DictRef;
-use bt_ext::{Ext, ExtView, Kind, Table, kind_ref, metadata_size_ref};
+use bt_ext::{Ext, ExtView, Kind, Table, Update, kind_ref, metadata_size_ref};
 use bt_feed::{Memory, Outbox, View};
 use bt_metadata::{Assembly, Reply, WINDOW};
 use bt_wire::{
@@ -57,9 +59,9 @@ pub struct Reactor<A: Allocator> {
 pub enum Plan<A: Allocator> {
     /// Only room in the outbox, or nothing.
     Nothing,
-    /// The table as it will be, and an assembly for a fetch that begins.
+    /// The change of the table, and an assembly for a fetch that begins.
     Learn {
-        table: Table<A>,
+        update: Update<A>,
         assembly: Option<Assembly<A>>,
     },
 }
@@ -232,11 +234,12 @@ impl<A: Allocator + Copy> Reactor<A> {
     }
 
     /// Applies the peer's names and ids, and begins the assembly.
-    fn learn(&mut self, table: Table<A>, assembly: Option<Assembly<A>>)
-        ensures end { end_of self.new ≡ learned (end_of self.old) table assembly }
+    fn learn(&mut self, update: Update<A>, assembly: Option<Assembly<A>>)
+        requires { (next : Entries) × IsUpdate self.old.table next update }
+        ensures end { (next : Entries) → IsUpdate self.old.table next update → end_of self.new ≡ learned (end_of self.old) next assembly }
         ensures outbox { self.new.outbox ≡ self.old.outbox }
     {
-        self.table = table;
+        self.table.update(update);
         if let Some(assembly) = assembly {
             self.part = Part::Fetching(assembly);
         }
@@ -313,12 +316,12 @@ impl<A: Allocator + Copy> Reactor<A> {
     {
         match ext {
             ExtView::Handshake { dict, .. } => {
-                let Plan::Learn { table, assembly } = plan else {
+                let Plan::Learn { update, assembly } = plan else {
                     unreachable!();
                 };
                 let size = metadata_size_ref(dict);
                 let begins = assembly.is_some();
-                self.learn(table, assembly);
+                self.learn(update, assembly);
                 let id = self.peer_id();
                 self.ask();
                 Event::Announced { id, size, begins }
@@ -329,14 +332,11 @@ impl<A: Allocator + Copy> Reactor<A> {
         }
     }
 
-    /// Makes the table and the assembly that an extended handshake leads to.
+    /// Makes the change of the table and the assembly that an extended handshake leads to.
     fn lesson(&self, dict: &DictRef) -> Result<Plan<A>, Memory>
         ensures { IfOk result (λ plan. IsLesson (end_of self.now) (dictionary dict.now.tree.0) plan) }
     {
-        let Ok(mut table) = self.table.copy() else {
-            return Err(Memory);
-        };
-        let Ok(()) = table.apply_ref(dict) else {
+        let Ok(update) = self.table.prepare(dict) else {
             return Err(Memory);
         };
         let hash = self.handshake.info_hash;
@@ -344,7 +344,7 @@ impl<A: Allocator + Copy> Reactor<A> {
             .part
             .assembly(self.alloc, hash, metadata_size_ref(dict))
         {
-            Ok(assembly) => Ok(Plan::Learn { table, assembly }),
+            Ok(assembly) => Ok(Plan::Learn { update, assembly }),
             Err(_) => Err(Memory),
         }
     }

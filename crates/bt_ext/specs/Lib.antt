@@ -7,6 +7,7 @@ pub mod Faults
 pub mod Judged
 pub mod Tables
 pub mod Made
+pub mod Updates
 pub mod Laws
 -- what only the contracts of functions that are not public cite
 pub mod Holding

@@ -25,5 +25,5 @@ pub use kinds::{kind, kind_ref};
 pub use made::{dict_of, handshake_dict};
 pub use metadata::{Kind, block_ok};
 pub use spelling::{append_ext, ext_len, ext_reason, spell_ext};
-pub use table::Table;
+pub use table::{Table, Update};
 pub use view::{copy_ext, read_ext, view_ext, view_judged};

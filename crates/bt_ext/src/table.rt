@@ -3,6 +3,7 @@ ghost use Rattle.std.specs.Prelude.{◌≡◌, ◌+◌, ◌<◌, ◌≤◌, [], 
 ghost use Rattle.bt_bencode.specs.Trees.{dictionary};
 ghost use Rattle.bt_bencode.specs.Views.{tree_of};
 ghost use Rattle.bt_ext.specs.Tables.{Entries, id_of_name, told_ids, entered, entered_all, applied, IsTable};
+ghost use Rattle.bt_ext.specs.Updates.{with_id, renumbered, IsChange, IsUpdate};
 ghost use Rattle.bt_ext.specs.Holding.{entries_of, names_of, HasNames, HoldsAt, KeepsName, KeepNames};
 
 use crate::dict::Dict;
@@ -39,6 +40,27 @@ const FEW: usize = 64;
 #[derive(Debug, Drop)]
 pub struct Table<A: Allocator = Global> {
     entries: Vec<(Name<A>, u8), A>,
+}
+
+/// A change of a table: all that it takes, allocated.
+///
+/// [`Table::prepare`] makes it, and [`Table::update`] takes it.
+#[derive(Debug, Drop)]
+pub struct Update<A: Allocator = Global> {
+    change: Change<A>,
+}
+
+#[derive(Debug, Drop)]
+enum Change<A: Allocator> {
+    /// Ids for the names at these places.
+    Renumber(Vec<(usize, u8), A>),
+    /// Few pairs, and an empty vector with room for the table after them.
+    Enter {
+        copies: Vec<(Name<A>, u8), A>,
+        room: Vec<(Name<A>, u8), A>,
+    },
+    /// The table after many pairs.
+    Replace(Table<A>),
 }
 
 impl<A: Allocator> Model for Table<A> {
@@ -213,6 +235,86 @@ fn enter_copies<A: Allocator>(entries: &mut Vec<(Name<A>, u8), A>, copies: Vec<(
     for (name, id) in copies {
         enter_copy(entries, name, id);
     }
+}
+
+/// Adds the place of a pair's name, with its id, and returns whether the pair adds no name and removes none.
+fn push_place<A: Allocator>(
+    places: &mut Vec<(usize, u8), A>,
+    entries: &[(Name<A>, u8)],
+    name: &[u8],
+    id: u8,
+) -> Result<bool, AllocError>
+    ensures { IfOk result (λ keeps. IsTrue keeps
+        → renumbered places.new.items entries.now ≡ entered name.now id (renumbered places.old.items entries.now)) }
+{
+    if name.len() > MAX_NAME {
+        return Ok(true);
+    }
+    match place_of(entries, name) {
+        Some(i) if id != 0 => {
+            places.push((i, id))?;
+            Ok(true)
+        }
+        None if id == 0 => Ok(true),
+        _ => Ok(false),
+    }
+}
+
+/// Returns the places of the names with their new ids, if no pair adds a name or removes one.
+///
+/// So it is when a handshake comes again.
+fn places_of<A: Allocator>(
+    alloc: A,
+    entries: &[(Name<A>, u8)],
+    told: &[(&[u8], u8)],
+) -> Result<Option<Vec<(usize, u8), A>>, AllocError>
+    ensures { IfOk result (λ places. IfSome places (λ v. renumbered v.items entries.now ≡ entered_all (entries_of told.now) entries.now)) }
+{
+    let mut places = Vec::with_capacity(alloc, told.len())?;
+    for (name, id) in told {
+        if !push_place(&mut places, entries, name, *id)? {
+            return Ok(None);
+        }
+    }
+    Ok(Some(places))
+}
+
+/// Sets the id at a place, if there is one.
+fn set_id<A: Allocator>(entries: &mut Vec<(Name<A>, u8), A>, place: usize, id: u8)
+    ensures { entries.new.items ≡ with_id place id entries.old.items }
+{
+    if place < entries.len() {
+        entries[place].1 = id;
+    }
+}
+
+/// Sets the ids at places.
+fn set_ids<A: Allocator>(entries: &mut Vec<(Name<A>, u8), A>, places: &[(usize, u8)])
+    ensures { entries.new.items ≡ renumbered places.now entries.old.items }
+{
+    for (place, id) in places {
+        set_id(entries, *place, *id);
+    }
+}
+
+/// Moves the entries to where there is room, and takes ids for names there, without an allocation.
+fn enter_in_room<A: Allocator>(
+    entries: &mut Vec<(Name<A>, u8), A>,
+    copies: Vec<(Name<A>, u8), A>,
+    room: Vec<(Name<A>, u8), A>,
+)
+    requires few { vec_len entries.old ≤ 256 }
+    requires empty { room.items ≡ [] }
+    requires room { min (vec_len entries.old + vec_len copies) 256 ≤ vec_capacity room }
+    ensures { entries.new.items ≡ entered_all copies.items entries.old.items }
+{
+    let mut room = room;
+    match room.append(entries) {
+        Ok(()) => {}
+        Err(_) => unreachable!(),
+    }
+    enter_copies(&mut room, copies);
+    *entries = room;
 }
 
 impl<A: Allocator + Copy> Table<A> {
@@ -413,5 +515,56 @@ impl<A: Allocator + Copy> Table<A> {
         ensures memory { OnErr result (self.new ≡ self.old) }
     {
         self.apply_told(*dict)
+    }
+
+    /// Makes the change that takes ids for few names.
+    fn enter_later(&self, told: &[(&[u8], u8)]) -> Result<Change<A>, AllocError>
+        ensures { IfOk result (λ change. IsChange self.now (entered_all (entries_of told.now) self.now) change) }
+    {
+        let alloc = *self.entries.allocator();
+        let copies = copy_told(alloc, told)?;
+        // A table never holds more, so its memory stays small however often handshakes come.
+        let most = (self.entries.len() + copies.len()).min(MAX_NAMES);
+        let room = Vec::with_capacity(alloc, most)?;
+        Ok(Change::Enter { copies, room })
+    }
+
+    /// Makes the change that takes ids for names.
+    fn change_by(&self, told: &[(&[u8], u8)]) -> Result<Change<A>, AllocError>
+        ensures { IfOk result (λ change. IsChange self.now (entered_all (entries_of told.now) self.now) change) }
+    {
+        if told.len() > FEW {
+            return Ok(Change::Replace(self.after(told)?));
+        }
+        match places_of(*self.entries.allocator(), &self.entries, told)? {
+            Some(places) => Ok(Change::Renumber(places)),
+            None => self.enter_later(told),
+        }
+    }
+
+    /// Makes the change that [`Table::apply_ref`] makes, without making it yet.
+    ///
+    /// All memory is allocated here, so that a caller can allocate more before anything changes.
+    ///
+    /// # Errors
+    /// `AllocError` when out of memory.
+    pub fn prepare(&self, dict: &DictRef) -> Result<Update<A>, AllocError>
+        ensures { IfOk result (λ u. IsUpdate self.now (applied (dictionary dict.now.tree.0) self.now) u) }
+    {
+        let told = told_of(*self.entries.allocator(), *dict)?;
+        let change = self.change_by(&told)?;
+        Ok(Update { change })
+    }
+
+    /// Makes a change that was prepared for this table as it is. It neither allocates nor fails.
+    pub fn update(&mut self, update: Update<A>)
+        requires { (next : Entries) × IsUpdate self.old next update }
+        ensures { (next : Entries) → IsUpdate self.old next update → self.new ≡ next }
+    {
+        match update.change {
+            Change::Renumber(places) => set_ids(&mut self.entries, &places),
+            Change::Enter { copies, room } => enter_in_room(&mut self.entries, copies, room),
+            Change::Replace(table) => *self = table,
+        }
     }
 }
