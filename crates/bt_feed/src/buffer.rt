@@ -1,11 +1,16 @@
 //! The buffer of a feed: memory that is reserved once, into which a source can read directly.
-ghost use Rattle.std.specs.Prelude.{◌≡◌, ℕ, List, ◌+◌, ◌<◌, ◌≤◌, [], ◌++◌, length, OnErr, IfOk, is_err, replicate, vec_len, vec_capacity};
+ghost use Rattle.std.specs.Prelude.{◌≡◌, ℕ, List, ◌+◌, ◌<◌, ◌≤◌, [], ◌++◌, length, take, drop, OnErr, IfOk, is_err, replicate, vec_len, vec_capacity};
 ghost use Rattle.std.specs.Io.KnownBytes.{Consumes, Keeps};
 ghost use Rattle.bt_io.specs.Counts.{one_more, counted, is_end};
 
 use bt_io::{Failed, Source};
 use std::alloc::{AllocError, Allocator};
 use std::marker::Model;
+
+/// How many bytes a copy of few bytes moves, whatever their number.
+///
+/// Messages without bytes of their own have at most 17.
+const FEW: usize = 32;
 
 /// The bytes that are buffered.
 ///
@@ -26,6 +31,16 @@ impl<A: Allocator> Model for Buffer<A> {
     ghost view = { λ b. record { items = take b.size b.bytes.items; capacity = vec_capacity b.bytes } };
 
     ghost invariant = { λ b. b.size ≤ vec_len b.bytes };
+}
+
+/// Copies the first 32 bytes of a chunk to an offset.
+#[inline(always)]
+fn copy_few(into: &mut [u8], at: usize, chunk: &[u8])
+    requires room { at + 32 ≤ length into.old }
+    requires there { 32 ≤ length chunk.now }
+    ensures { into.new ≡ take at into.old ++ (take 32 chunk.now ++ drop (at + 32) into.old) }
+{
+    into[at..at + FEW].copy_from_slice(&chunk[..FEW]);
 }
 
 /// Puts zeros after the bytes, so that they are at least `goal`.
@@ -97,6 +112,24 @@ impl<A: Allocator> Buffer<A> {
             Err(_) => unreachable!(),
         }
         self.size += bytes.len();
+    }
+
+    /// Appends the first `count` bytes of a chunk, for which there is room.
+    ///
+    /// A few bytes are copied with those after them in one move of a length that the compiler knows, so that it calls nothing.
+    #[inline(always)]
+    pub fn append_front(&mut self, chunk: &[u8], count: usize)
+        requires front { count ≤ length chunk.now }
+        requires room { length self.old.items + count ≤ self.old.capacity }
+        ensures items { self.new.items ≡ self.old.items ++ take count chunk.now }
+        ensures capacity { self.old.capacity ≤ self.new.capacity }
+    {
+        if count <= FEW && chunk.len() >= FEW && self.bytes.len() - self.size >= FEW {
+            copy_few(self.bytes.as_mut_slice(), self.size, chunk);
+            self.size += count;
+            return;
+        }
+        self.append(&chunk[..count]);
     }
 
     /// Reads bytes to the end of the buffer, and returns how many came.

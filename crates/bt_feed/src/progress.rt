@@ -46,7 +46,7 @@ fn append_up_to<A: Allocator>(buffer: &mut Buffer<A>, goal: usize, bytes: &[u8])
     ensures capacity { buffer.old.capacity ≤ buffer.new.capacity }
 {
     let count = (goal - buffer.len()).min(bytes.len());
-    buffer.append(&bytes[..count]);
+    buffer.append_front(bytes, count);
     count
 }
 
