@@ -84,6 +84,36 @@ fn payloads(rt: HostRuntime) {
     }
 }
 
+/// Payloads, and the length of the dictionary that they begin with, if its keys are sorted at each depth.
+const SORTED: &[(&[u8], Option<usize>)] = &[
+    (b"", None),
+    (b"le", None),
+    (b"de", Some(2)),
+    (b"d1:ai1e1:bi2eerest", Some(14)),
+    (b"d1:bi1e1:ai2ee", None),
+    (b"d1:ai1e1:ai2ee", None),
+    (b"d1:ad1:yi1e1:xi2eee", None),
+    (b"d1:al2:xyi-5edeee", Some(17)),
+    (b"d1:ai01ee", None),
+    (b"d1:ae", None),
+    (b"d1:ai1e", None),
+];
+
+/// Whether the payload begins with a dictionary of this length that is found sorted in one pass.
+fn is_sorted_in_one_pass(payload: &[u8], answer: Option<usize>) -> bool {
+    match check_sorted(payload) {
+        Some((dict, len)) => answer == Some(len) && dict.spelled().len() == len,
+        None => answer.is_none(),
+    }
+}
+
+#[test]
+fn one_pass(rt: HostRuntime) {
+    for (payload, answer) in SORTED {
+        assert!(rt; is_sorted_in_one_pass(payload, *answer), "{payload:?}");
+    }
+}
+
 /// Payloads that are cut after each byte.
 const CUT: &[&[u8]] = &[
     b"d0:i-10e1:bl0:12:abcdefghijkli0ee1:cd2:ddlleeee",

@@ -64,6 +64,26 @@ fn both_integers() -> Option<(Option<i64>, Option<i64>)> {
     Some(dict.lookup_ints(b"c", b"e", b"a"))
 }
 
+/// Whether the dictionary at `c` has one pair, `e`, and there is none at `a`.
+fn has_inner_pairs() -> bool {
+    match check(PAYLOAD) {
+        Ok((dict, _)) => match dict.lookup_pairs(b"c") {
+            Some(mut pairs) => {
+                pairs.next() == Some((b"e".as_slice(), Some(-1)))
+                    && pairs.next().is_none()
+                    && dict.lookup_pairs(b"a").is_none()
+            }
+            None => false,
+        },
+        Err(_) => false,
+    }
+}
+
+#[test]
+fn pairs_at_a_key(rt: HostRuntime) {
+    assert!(rt; has_inner_pairs());
+}
+
 #[test]
 fn look_ups(rt: HostRuntime) {
     for (key, integer, text, has) in KEYS {

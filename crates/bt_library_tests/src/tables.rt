@@ -12,6 +12,22 @@ fn applies(table: &mut Table, payload: &[u8], name: &[u8], id: Option<u8>) -> bo
     }
 }
 
+/// Whether the name has the id after the change that the payload makes is prepared, and not before it is made.
+fn changes(table: &mut Table, payload: &[u8], name: &[u8], id: Option<u8>) -> bool {
+    let before = table.id_of(name);
+    match check(payload) {
+        Ok((dict, _)) => match table.prepare(&dict) {
+            Ok(update) => {
+                let stays = table.id_of(name) == before;
+                table.update(update);
+                stays && table.id_of(name) == id
+            }
+            Err(_) => false,
+        },
+        Err(_) => false,
+    }
+}
+
 /// Handshakes one after the other, and the id that the name has after each.
 const CHANGES: &[(&[u8], Option<u8>)] = &[
     (b"d1:md11:ut_metadatai3eee", Some(3)),
@@ -57,6 +73,23 @@ fn one_name(rt: HostRuntime) {
     let wrong = wrong_change(&mut table);
     assert!(rt; wrong.is_none(), "{wrong:?}");
     assert!(rt; applies_to_copy(rt.alloc(), &table, b"d1:md11:ut_metadatai5eee", 5));
+}
+
+/// The number of the first handshake, counted from 0, after whose change the name has another id.
+fn wrong_update(table: &mut Table) -> Option<usize> {
+    for (number, (payload, id)) in CHANGES.iter().enumerate() {
+        if !changes(table, payload, b"ut_metadata", *id) {
+            return Some(number);
+        }
+    }
+    None
+}
+
+#[test]
+fn one_name_prepared(rt: HostRuntime) {
+    let mut table = Table::new(rt.alloc());
+    let wrong = wrong_update(&mut table);
+    assert!(rt; wrong.is_none(), "{wrong:?}");
 }
 
 /// How many names of two bytes a handshake has, from `\0\0` on, each with the id 1, the pairs that follow them, a name, and
@@ -106,6 +139,26 @@ fn is_right(alloc: Global, (count, pairs, name, id): &Filling) -> bool {
 fn fillings(rt: HostRuntime) {
     for row in FILLINGS {
         assert!(rt; is_right(rt.alloc(), row), "{} {:?}", row.0, row.2);
+    }
+}
+
+fn is_right_prepared(alloc: Global, (count, pairs, name, id): &Filling) -> bool {
+    let mut table = Table::new(alloc);
+    match filling(alloc, *count, pairs) {
+        Ok(payload) => {
+            changes(&mut table, &payload, name, *id)
+                && changes(&mut table, CHANGE, b"new", Some(7))
+                && table.id_of(b"\0\x01") == Some(5)
+        }
+        Err(_) => false,
+    }
+}
+
+/// The same by changes that are prepared.
+#[test]
+fn fillings_prepared(rt: HostRuntime) {
+    for row in FILLINGS {
+        assert!(rt; is_right_prepared(rt.alloc(), row), "{} {:?}", row.0, row.2);
     }
 }
 
