@@ -105,6 +105,23 @@ impl<A: Allocator> Buffer<A> {
         ensures items { self.new.items ≡ self.old.items ++ bytes.now }
         ensures capacity { self.old.capacity ≤ self.new.capacity }
     {
+        if bytes.len() > self.bytes.len() - self.size {
+            self.append_longer(bytes);
+            return;
+        }
+        let end = self.size + bytes.len();
+        self.bytes[self.size..end].copy_from_slice(bytes);
+        self.size = end;
+    }
+
+    /// Appends bytes for which there is room, past those that are kept from before.
+    #[cold]
+    #[inline(never)]
+    fn append_longer(&mut self, bytes: &[u8])
+        requires { length self.old.items + length bytes.now ≤ self.old.capacity }
+        ensures items { self.new.items ≡ self.old.items ++ bytes.now }
+        ensures capacity { self.old.capacity ≤ self.new.capacity }
+    {
         let over = (self.bytes.len() - self.size).min(bytes.len());
         self.bytes[self.size..self.size + over].copy_from_slice(&bytes[..over]);
         match self.bytes.extend_from_slice(&bytes[over..]) {
