@@ -64,6 +64,10 @@ either : (ss : List Status) (k j size n m : ℕ) → AreWritten ss size n → n 
 either ss k j size n m w l e (inl p) = subst (λ i. min (block_size * i + block_size) size ≤ m) (sym p.0) e
 either ss k j size n m w l e (inr q) = let i : min (block_size * j + block_size) size ≤ n = w j q in omega arith
 
+-- more memory does no harm
+pub written-more : (ss : List Status) (size n m : ℕ) → n ≤ m → AreWritten ss size n → AreWritten ss size m
+written-more ss size n m l w = λ j h. let i : min (block_size * j + block_size) size ≤ n = w j h in omega arith
+
 -- one that came is written
 pub written-held : (ss : List Status) (k size n m : ℕ) → AreWritten ss size n → n ≤ m → min (block_size * k + block_size) size ≤ m
     → AreWritten (set ss k status.Held) size m

@@ -104,6 +104,18 @@ impl<A: Allocator> Arriving<A> {
         self.bytes
     }
 
+    /// Writes zeros up to `end`, as far as no memory is written there.
+    ///
+    /// It is for a block that doesn't come, so that the next one has no long gap before it to fill.
+    pub(crate) fn reach(&mut self, end: usize)
+        requires { end ≤ length self.old.whole }
+        ensures whole { self.new.whole ≡ self.old.whole }
+        ensures before { self.old.written ≤ self.new.written }
+        ensures written { end ≤ self.new.written }
+    {
+        lengthen(&mut self.bytes, end);
+    }
+
     /// Puts a block in its place.
     ///
     /// What comes in order is written once. A block that comes early has zeros before it until the others come.

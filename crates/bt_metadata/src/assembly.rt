@@ -396,6 +396,8 @@ impl<A: Allocator> Assembly<A> {
         let place = asked_at(&self.states, piece)?;
         self.states[place] = Status::Rejected;
         self.tally.reject();
+        let size = self.bytes.len();
+        self.bytes.reach((BLOCK * place + BLOCK).min(size));
         Ok(())
     }
 

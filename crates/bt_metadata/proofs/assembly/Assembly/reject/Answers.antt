@@ -1,14 +1,16 @@
-use Rattle.std.proofs.Common.{◌≡◌, None, Some, length, set, refl, ap, subst, sym, ◌∙◌, arith}
+use Rattle.std.proofs.Common.{◌≡◌, ◌<◌, ◌≤◌, None, Some, length, set, refl, ap, subst, sym, ◌∙◌, arith}
 use Rattle.std.proofs.lemmas.List.{length-set}
 use Rattle.std.proofs.lemmas.Result.{err_from_is_err_and}
 use Rattle.bt_metadata.specs.declared.assembly.BlockError.{BlockError}
 use Rattle.bt_metadata.specs.declared.assembly.Status.TheVariants as status
 use Rattle.bt_metadata.specs.declared.assembly.Tally.{Tally}
 use Rattle.bt_metadata.specs.Assemblies.{AssemblyState, piece_error, with_reject}
-use Rattle.bt_metadata.specs.Sound.{state_of, error_at, IsTallied, after_reject}
+use Rattle.bt_ext.specs.Metadata.{block_count}
+use Rattle.bt_metadata.specs.Blocks.{max_metadata}
+use Rattle.bt_metadata.specs.Sound.{state_of, error_at, AreWritten, IsTallied, after_reject}
 use Rattle.bt_metadata.proofs.States.{error_is, rejected_is, not_rejected}
 use Rattle.bt_metadata.proofs.Tallies.{none_at, one_asked, tallied-reject}
-use Rattle.bt_metadata.proofs.Written.{written-set}
+use Rattle.bt_metadata.proofs.Written.{written-set, written-more}
 use Rattle.bt_metadata.proofs.assembly.Assembly.reject.Goals as goal
 
 pub returns-in_err-place-clause-value : goal.returns-in_err-place-clause-value
@@ -42,7 +44,8 @@ returns-clause-state g c =
     let d = c.self.inside.bytes.whole in
     let ss = c.self.inside.states.items in
     let e : error_at ss piece ≡ None = ap (λ ss. error_at ss piece) (sym c.deref.ensures.value) ∙ c.in_ok-place.ensures.2 in
-    ap (λ k. state_of h d (set ss k status.Rejected)) c.in_ok-place.ensures.0 ∙ rejected_is h d ss piece e ∙ ap (λ (a : AssemblyState). with_reject a piece)
+    ap (λ w. state_of h w (set ss c.in_ok-place.place status.Rejected)) c.reach.ensures.whole
+    ∙ ap (λ k. state_of h d (set ss k status.Rejected)) c.in_ok-place.ensures.0 ∙ rejected_is h d ss piece e ∙ ap (λ (a : AssemblyState). with_reject a piece)
     c.self.view_is
 
 pub reject-requires-clause-asked : goal.reject-requires-clause-asked
@@ -58,11 +61,14 @@ invariant_of-self g c =
     let k = c.in_ok-place.place in
     let none = none_at c.deref.ensures.value c.in_ok-place.ensures.0 c.in_ok-place.ensures.2 in
     let right : IsTallied (after_reject inside.tally) (set ss k status.Rejected) = tallied-reject inside.tally ss k c.self.invariant.tallied none in
+    let same = sym c.reach.ensures.whole in
+    let kept = written-set ss k (length inside.bytes.whole) inside.bytes.written status.Rejected refl c.self.invariant.written in
+    let more = written-more (set ss k status.Rejected) (length inside.bytes.whole) inside.bytes.written c.reach.new.self.written c.reach.ensures.before kept in
     record {
-      least = c.self.invariant.least;
-      most = c.self.invariant.most;
-      count = length-set ss k status.Rejected ∙ c.self.invariant.count;
+      least = subst (λ w. 0 < length w) same c.self.invariant.least;
+      most = subst (λ w. length w ≤ max_metadata) same c.self.invariant.most;
+      count = length-set ss k status.Rejected ∙ c.self.invariant.count ∙ ap (λ w. block_count (length w)) same;
       asked = omega (arith, right.asked, c.self.invariant.asked, c.self.invariant.tallied.asked);
       tallied = subst (λ (t : Tally). IsTallied t (set ss k status.Rejected)) (sym c.reject.ensures) right;
-      written = written-set ss k (length inside.bytes.whole) inside.bytes.written status.Rejected refl c.self.invariant.written;
+      written = subst (λ w. AreWritten (set ss k status.Rejected) (length w) c.reach.new.self.written) same more;
     }
