@@ -24,7 +24,7 @@ const MAX_NAME: usize = 255;
 /// The most pairs that are entered in place, without a set of the table's names.
 ///
 /// So many searches of a full table cost less than the set.
-const FEW: usize = 64;
+const FEW: usize = 16;
 
 /// The peer's names of extensions and the ids under which it wants them (BEP 10).
 ///
