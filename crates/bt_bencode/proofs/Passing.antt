@@ -4,7 +4,7 @@ use Rattle.std.proofs.Common.{arith, append_assoc, length-append, pos, negsuc, z
 use Rattle.std.specs.Fmt.{decimal, signed_decimal}
 use Rattle.bt_bencode.specs.Trees.{integer, string, list, dictionary, no_trees, tree, Pairs, no_pairs, pair}
 use Rattle.bt_bencode.specs.Bencoding.{ben, ben_all, ben_pairs, ben_string, longest_string, Spells}
-use Rattle.bt_bencode.specs.Keys.{IsAbove, unsorted}
+use Rattle.bt_bencode.specs.Keys.{IsAbove, PairsAreSorted, unsorted}
 use Rattle.bt_bencode.specs.Scanner.{IsDigit}
 use Rattle.bt_bencode.specs.Unique.{regroup}
 use Rattle.bt_bencode.specs.OnePass.{PassesInteger, PassesValue, PassesItems, PassesPairs}
@@ -12,7 +12,7 @@ use Rattle.bt_bencode.proofs.Numbers.{decimal_first, decimal_push}
 use Rattle.bt_bencode.proofs.Heads.{headed}
 use Rattle.bt_bencode.proofs.Nesting.{in_range, deep}
 use Rattle.bt_bencode.proofs.Rising.{none_of}
-use Rattle.bt_bencode.specs.Room.{FitsIn}
+use Rattle.bt_bencode.specs.Room.{FitsIn, PairsFitIn}
 use Rattle.std.proofs.Common.{take}
 use Rattle.std.proofs.Math.Seq.{take-append_seam}
 
@@ -107,13 +107,13 @@ pair_passes room last bytes key value next more short split above (t, fits, sort
 )
 
 -- the whole dictionary
-pub record Passed (payload rest : List ℕ) : Type 0 where
-  pub pairs : Pairs
+pub record Passed (pairs : Pairs) (payload rest : List ℕ) : Type 0 where
   pub spells : Spells pairs (take (length payload - length rest) payload)
   pub rises : unsorted (dictionary pairs) ≡ None
 
-pub dictionary_passed : (payload tail rest : List ℕ) → get_or payload 0 0 ≡ 100 → tail ≡ drop 1 payload → PassesPairs 31 None tail rest → Passed payload rest
-dictionary_passed payload tail rest e t (ps, fit, sorted, is) =
+pub dictionary_passed : (payload tail rest : List ℕ) (ps : Pairs) → get_or payload 0 0 ≡ 100 → tail ≡ drop 1 payload → PairsFitIn 31 ps
+    → PairsAreSorted None ps → tail ≡ ben_pairs ps ++ 101 ∷ rest → Passed ps payload rest
+dictionary_passed payload tail rest ps e t fit sorted is =
     let front : List ℕ = ben (dictionary ps) in
     let whole : payload ≡ front ++ rest = headed payload 100 e (omega arith)
     ∙ ap (λ (x : List ℕ). 100 ∷ x) (sym t ∙ is ∙ sym (append_assoc (ben_pairs ps) (101 ∷ []) rest)) in
@@ -121,7 +121,6 @@ dictionary_passed payload tail rest e t (ps, fit, sorted, is) =
     let n : length payload - length rest ≡ length front = omega (arith, long) in
     let fits : FitsIn 32 (dictionary ps) = fit in
     record {
-      pairs = ps;
       spells = record {
         fits = record { in_range = in_range 32 (dictionary ps) fits; nested = deep 32 (dictionary ps) fits };
         spelled = rw n (ap (λ (x : List ℕ). take (length front) x) whole ∙ take-append_seam front rest);

@@ -1,11 +1,13 @@
 -- What the pass that validates bytes and compares keys has passed. (For the contracts of functions that are not public.)
-use Rattle.std.specs.Prelude.{◌≡◌, ℕ, ℤ, List, ◌∷◌, ◌++◌, FitsSigned, Option}
+use Rattle.std.specs.Prelude.{◌≡◌, ℕ, ℤ, List, ◌∷◌, ◌++◌, FitsSigned, Option, None}
 use Rattle.std.specs.Int.{w64}
 use Rattle.std.specs.Fmt.{signed_decimal}
 use Rattle.bt_bencode.specs.Trees.{Tree, Trees, Pairs}
 use Rattle.bt_bencode.specs.Bencoding.{ben, ben_all, ben_pairs}
-use Rattle.bt_bencode.specs.Keys.{IsSorted, AllAreSorted, PairsAreSorted}
+use Rattle.bt_bencode.specs.Keys.{IsSorted, AllAreSorted, PairsAreSorted, value_at}
+use Rattle.bt_bencode.specs.Readable.{FindsValue}
 use Rattle.bt_bencode.specs.Room.{FitsIn, AllFitIn, PairsFitIn}
+use Rattle.bt_bencode.specs.declared.noted.Noted.{Noted}
 
 -- the bytes are an integer after its `i`, and `rest`
 abbrev pub PassesInteger : List ℕ → List ℕ → Type 0
@@ -22,3 +24,13 @@ PassesItems room bytes rest = (ts : Trees) × AllFitIn room ts × AllAreSorted t
 -- they are the further pairs of a dictionary, which follow a last key, its end, and `rest`
 abbrev pub PassesPairs : ℕ → Option (List ℕ) → List ℕ → List ℕ → Type 0
 PassesPairs room last bytes rest = (ps : Pairs) × PairsFitIn room ps × PairsAreSorted last ps × (bytes ≡ ben_pairs ps ++ 101 ∷ rest)
+
+-- they are the pairs of an outermost dictionary, its end, and what is noted as following it, and so are the values of three keys
+pub record PassesNoted (one two three bytes : List ℕ) (x : Noted) : Type 0 where
+  pub pairs : Pairs
+  pub fit : PairsFitIn 31 pairs
+  pub sorted : PairsAreSorted None pairs
+  pub spelled : bytes ≡ ben_pairs pairs ++ 101 ∷ x.rest.now
+  pub first : FindsValue x.first (value_at one pairs)
+  pub second : FindsValue x.second (value_at two pairs)
+  pub third : FindsValue x.third (value_at three pairs)

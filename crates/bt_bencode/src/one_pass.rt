@@ -53,7 +53,7 @@ fn number_in_front(bytes: &[u8], stop: u8, high: u64) -> Option<(u64, &[u8])>
 ///
 /// `None` if there is none, or its length is too near the limit.
 #[inline(always)]
-fn text_in_front(bytes: &[u8]) -> Option<(&[u8], &[u8])>
+pub fn text_in_front(bytes: &[u8]) -> Option<(&[u8], &[u8])>
     ensures short { IfSome result (λ x. length x.0.now ≤ longest_string) }
     ensures split { IfSome result (λ x. bytes.now ≡ ben_string x.0.now ++ x.1.now) }
 {
@@ -88,7 +88,7 @@ fn after_integer(bytes: &[u8]) -> Option<&[u8]>
 /// Inline, so that an integer or a byte string costs no call.
 #[cycle(one_pass)]
 #[inline(always)]
-fn after_value(bytes: &[u8], room: usize) -> Option<&[u8]>
+pub fn after_value(bytes: &[u8], room: usize) -> Option<&[u8]>
     ensures passes { IfSome result (λ rest. PassesValue room bytes.now rest.now) }
     ensures shorter { IfSome result (λ rest. length rest.now < length bytes.now) }
 {
