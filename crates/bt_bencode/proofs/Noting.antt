@@ -80,14 +80,12 @@ step wanted key value next t us ps None false e range is h =
 -- what the step over a pair computes for a key
 pub record Notes (wanted key : List ℕ) (value : Bor (List ℕ)) (found r : Option (Bor (List ℕ))) : Type 0 where
   pub same : Bool
-  pub seen : Option (Bor (List ℕ))
   pub tested : same ≡ bytes_eq key wanted
-  pub taken : seen ≡ then_some same value
-  pub noted : r ≡ option_or found seen
+  pub noted : r ≡ option_or found (then_some same value)
 
 noted_step : (wanted key : List ℕ) (value : Bor (List ℕ)) (next : List ℕ) (t : Tree) (us ps : Pairs) (found r : Option (Bor (List ℕ)))
     → Notes wanted key value found r → InRange t → value.now ≡ ben t ++ next → IsNoted wanted found (pair key t us) ps → IsNoted wanted r us ps
-noted_step wanted key value next t us ps found r n range is h = rw (n.noted, n.taken) (step wanted key value next t us ps found n.same n.tested range is h)
+noted_step wanted key value next t us ps found r n range is h = rw n.noted (step wanted key value next t us ps found n.same n.tested range is h)
 
 -- a pair in front of what passes
 module _ (one two three bytes : List ℕ) {rest key : List ℕ} (value : Bor (List ℕ)) (next : List ℕ) (short : length key ≤ longest_string)

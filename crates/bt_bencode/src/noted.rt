@@ -2,6 +2,8 @@
 //!
 //! It answers where that pass does, recurses as it does, and doesn't allocate.
 ghost use Rattle.std.specs.Prelude.{◌≡◌, Option, None, IfSome, option_map, option_and_then};
+ghost use Rattle.std.specs.Option.{option_or};
+ghost use Rattle.std.specs.Bool.{then_some};
 ghost use Rattle.bt_bencode.specs.Trees.{Tree, dictionary};
 ghost use Rattle.bt_bencode.specs.Bencoding.{BeginsWith};
 ghost use Rattle.bt_bencode.specs.Keys.{unsorted, value_at};
@@ -24,6 +26,20 @@ pub(crate) struct Noted<'a> {
     first: Option<&'a [u8]>,
     second: Option<&'a [u8]>,
     third: Option<&'a [u8]>,
+}
+
+/// Returns what was found before, or the value if nothing was and its key is the one that is sought.
+///
+/// Where the key is another, nothing is computed.
+#[inline(always)]
+fn note<'a>(found: Option<&'a [u8]>, is_sought: bool, value: &'a [u8]) -> Option<&'a [u8]>
+    ensures { result ≡ option_or found.entry (then_some is_sought value.entry) }
+{
+    if is_sought && found.is_none() {
+        Some(value)
+    } else {
+        found
+    }
 }
 
 /// Returns what follows the outermost dictionary, whose pairs are in front, and what three keys have in it.
@@ -54,9 +70,9 @@ fn after_noted<'a>(bytes: &'a [u8], one: &[u8], two: &[u8], three: &[u8]) -> Opt
             return None;
         }
         last = Some(key);
-        first = first.or((key == one).then_some(value));
-        second = second.or((key == two).then_some(value));
-        third = third.or((key == three).then_some(value));
+        first = note(first, key == one, value);
+        second = note(second, key == two, value);
+        third = note(third, key == three, value);
         rest = after_value(value, MAX_NESTING - 1)?;
     }
     None
@@ -109,7 +125,7 @@ pub fn check_sorted_pairs_and_int<'a>(
     ensures pairs { IfSome result (λ x. x.2 ≡ option_map dictionary_of (value_at outer.now x.0.tree.0)) }
     ensures int { IfSome result (λ x. x.3 ≡ option_map integer_of (value_at key.now x.0.tree.0)) }
 {
-    let (dict, n, noted) = check_noted(payload, outer, key, key)?;
+    let (dict, n, noted) = check_noted(payload, outer, key, outer)?;
     Some((dict, n, pairs_if_any(noted.first), int_if_any(noted.second)))
 }
 

@@ -62,7 +62,7 @@ fn bad_id(m: IntPairs) -> bool
 }
 
 /// Returns whether the value of `m`, if there is one, is of the wrong kind.
-fn bad_m(m: Option<Option<IntPairs>>) -> bool
+pub fn bad_m(m: Option<Option<IntPairs>>) -> bool
     ensures { (value : Option Tree) → m.entry ≡ option_map dictionary_of value → result ≡ is_bad_m value }
 {
     match m {
@@ -73,7 +73,7 @@ fn bad_m(m: Option<Option<IntPairs>>) -> bool
 }
 
 /// Returns whether the value of `metadata_size`, if there is one, is of the wrong kind.
-fn bad_size(size: Option<Option<i64>>) -> bool
+pub fn bad_size(size: Option<Option<i64>>) -> bool
     ensures { (value : Option Tree) → size ≡ option_map integer_of value → result ≡ is_bad_size value }
 {
     match size {

@@ -23,7 +23,7 @@ fn total_of(value: Option<i64>) -> Option<u64>
 }
 
 /// Returns the kind of a metadata message by the integers of its three fields.
-fn kind_by(msg_type: Option<i64>, piece: Option<i64>, total: Option<i64>) -> Kind
+pub fn kind_by(msg_type: Option<i64>, piece: Option<i64>, total: Option<i64>) -> Kind
     ensures { result ≡ kind_by msg_type piece total }
 {
     let Some(msg_type) = msg_type else {

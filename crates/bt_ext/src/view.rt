@@ -6,18 +6,19 @@ ghost use Rattle.bt_bencode.specs.Payloads.{BeginsWithNone};
 ghost use Rattle.bt_ext.specs.Payloads.{IsExt, index_bytes, seen};
 ghost use Rattle.bt_ext.specs.declared.ids.Rules.{Rules};
 ghost use Rattle.bt_ext.specs.Judged.{dict_length, WasJudged, IsValueOf};
-ghost use Rattle.bt_bencode.specs.Keys.{unsorted};
 ghost use Rattle.bt_ext.specs.Fields.{has_bad_field};
 ghost use Rattle.bt_ext.specs.Faults.{Reads, Refuses, RefusesToRead, fault_if, fault_of, handshake_fault_of, metadata_fault_of};
-ghost use Rattle.bt_ext.specs.Ordered.{HasOrder, metadata_field_fault_of};
+ghost use Rattle.bt_ext.specs.Ordered.{kind_fault_of, metadata_field_fault_of};
 
 use crate::bytes::copy_bytes;
 use crate::ext::{Ext, ExtError, ExtView, ViewError};
-use crate::fields::bad_field;
+use crate::fields::{bad_field, bad_m, bad_size};
 use crate::ids::{Registered, Rules};
-use crate::kinds::kind_ref;
-use crate::metadata::{block_ok, is_malformed};
-use bt_bencode::{Bad, ByteString, DictRef, Value, check, check_sorted};
+use crate::kinds::{kind_by, kind_ref};
+use crate::metadata::{Kind, block_ok, is_malformed};
+use bt_bencode::{
+    Bad, ByteString, DictRef, Value, check, check_sorted_ints, check_sorted_pairs_and_int,
+};
 use std::alloc::{AllocError, Global};
 
 /// Returns the dictionary in front and what follows it.
@@ -95,20 +96,28 @@ fn handshake_fault(dict: &DictRef) -> Option<ViewError>
     }
 }
 
-/// Returns the first fault of a metadata message's fields and of the block after its dictionary.
-#[inline(never)]
-fn metadata_field_fault(dict: &DictRef, rest_len: usize) -> Option<ViewError>
-    ensures { result ≡ metadata_field_fault_of (dictionary dict.now.tree.0) rest_len }
+/// Returns the first fault of a metadata message of the kind, whose dictionary has `dict_len` bytes.
+///
+/// After the dictionary it has `rest_len` bytes.
+#[inline(always)]
+fn kind_fault(kind: Kind, dict_len: usize, rest_len: usize) -> Option<ViewError>
+    ensures { result ≡ kind_fault_of kind dict_len rest_len }
 {
-    let kind = kind_ref(dict);
     if is_malformed(kind) {
         Some(ViewError::BadField)
     } else if block_ok(kind, rest_len) {
         None
     } else {
-        let at = dict.spelled().len();
-        Some(ViewError::BadBlock { at })
+        Some(ViewError::BadBlock { at: dict_len })
     }
+}
+
+/// Returns the first fault of a metadata message's fields and of the block after its dictionary.
+#[inline(never)]
+fn metadata_field_fault(dict: &DictRef, rest_len: usize) -> Option<ViewError>
+    ensures { result ≡ metadata_field_fault_of (dictionary dict.now.tree.0) rest_len }
+{
+    kind_fault(kind_ref(dict), dict.spelled().len(), rest_len)
 }
 
 #[inline(never)]
@@ -137,49 +146,64 @@ fn fault_in(rules: Rules, view: &ExtView) -> Option<ViewError>
     }
 }
 
-/// Returns the dictionary in front and what follows it, if its keys are in order.
+/// Returns the dictionary and what follows it of an extended handshake whose keys are in order, and its fault.
 ///
-/// `None` promises nothing.
-#[inline(always)]
-fn split_sorted(payload: &[u8]) -> Option<(DictRef<'_>, &[u8])>
+/// `None` promises nothing. The fields are found in the pass that validates, without a second walk.
+#[inline(never)]
+fn sorted_handshake(payload: &[u8]) -> Option<(DictRef<'_>, &[u8], Option<ViewError>)>
     ensures fits { IfSome result (λ x. Fits (dictionary x.0.tree.0)) }
     ensures parts { IfSome result (λ x. payload.now ≡ ben (dictionary x.0.tree.0) ++ x.1.now) }
-    ensures rises { IfSome result (λ x. unsorted (dictionary x.0.tree.0) ≡ None) }
+    ensures fault { IfSome result (λ x. x.2 ≡ handshake_fault_of (dictionary x.0.tree.0)) }
 {
-    let (dict, n) = check_sorted(payload)?;
-    Some((dict, &payload[n..]))
-}
-
-/// Returns the value that the id and the payload are, if it has a dictionary whose keys are in order.
-///
-/// `None` promises nothing.
-#[inline(always)]
-fn shape_sorted<'a>(reg: &Registered, id: u8, payload: &'a [u8]) -> Option<ExtView<'a>>
-    ensures value { IfSome result (λ v. IsExt reg.now (seen v) id payload.now) }
-    ensures rises { IfSome result (λ v. HasOrder (seen v)) }
-{
-    if !reg.needs_dict(id) {
-        return None;
-    }
-    let (dict, rest) = split_sorted(payload)?;
-    if id == 0 {
-        Some(ExtView::Handshake { dict, rest })
+    let (dict, n, m, size) = check_sorted_pairs_and_int(payload, b"m", b"metadata_size")?;
+    let fault = if bad_m(m) || bad_size(size) {
+        Some(ViewError::BadField)
     } else {
-        Some(ExtView::Metadata { dict, rest })
-    }
+        None
+    };
+    Some((dict, &payload[n..], fault))
 }
 
-/// Returns the first fault that strict rules find in a value whose keys are in order.
-#[inline(always)]
-fn field_fault(view: &ExtView) -> Option<ViewError>
-    requires { HasOrder (seen view.now) }
-    ensures { result ≡ fault_of Rules.Bep (seen view.now) }
+/// Returns the dictionary and what follows it of a metadata message whose keys are in order, and its first fault.
+///
+/// `None` promises nothing. The fields are found in the pass that validates, without a second walk.
+#[inline(never)]
+fn sorted_metadata(payload: &[u8]) -> Option<(DictRef<'_>, &[u8], Option<ViewError>)>
+    ensures fits { IfSome result (λ x. Fits (dictionary x.0.tree.0)) }
+    ensures parts { IfSome result (λ x. payload.now ≡ ben (dictionary x.0.tree.0) ++ x.1.now) }
+    ensures fault { IfSome result (λ x. x.2 ≡ metadata_fault_of (dictionary x.0.tree.0) (length x.1.now)) }
 {
-    match view {
-        ExtView::Handshake { dict, .. } => handshake_field_fault(dict),
-        ExtView::Metadata { dict, rest } => metadata_field_fault(dict, rest.len()),
-        ExtView::DontHave(_) => None,
-        ExtView::Raw { .. } => None,
+    let (dict, n, msg_type, piece, total) = check_sorted_ints(
+        payload,
+        b"msg_type",
+        b"piece",
+        b"total_size",
+    )?;
+    let rest = &payload[n..];
+    let kind = kind_by(msg_type, piece, total);
+    Some((dict, rest, kind_fault(kind, n, rest.len())))
+}
+
+/// Returns the value that the id and the payload are, and its first fault, if it has a dictionary whose keys are in order.
+///
+/// The fault is that of strict rules. `None` promises nothing.
+#[inline(always)]
+fn shape_sorted<'a>(
+    reg: &Registered,
+    id: u8,
+    payload: &'a [u8],
+) -> Option<(ExtView<'a>, Option<ViewError>)>
+    ensures value { IfSome result (λ x. IsExt reg.now (seen x.0) id payload.now) }
+    ensures fault { IfSome result (λ x. x.1 ≡ fault_of Rules.Bep (seen x.0)) }
+{
+    if id == 0 {
+        let (dict, rest, fault) = sorted_handshake(payload)?;
+        Some((ExtView::Handshake { dict, rest }, fault))
+    } else if reg.is_metadata(id) {
+        let (dict, rest, fault) = sorted_metadata(payload)?;
+        Some((ExtView::Metadata { dict, rest }, fault))
+    } else {
+        None
     }
 }
 
@@ -202,8 +226,8 @@ pub fn view_ext<'a>(
 {
     // Strict rules try one pass that also compares the keys; what it doesn't answer is looked at by parts.
     if let Rules::Bep = rules {
-        if let Some(view) = shape_sorted(&reg, id, payload) {
-            return match field_fault(&view) {
+        if let Some((view, fault)) = shape_sorted(&reg, id, payload) {
+            return match fault {
                 None => Ok(view),
                 Some(fault) => Err(fault),
             };

@@ -12,27 +12,21 @@ pub loop-rest-preserved : goal.loop-rest-preserved
 loop-rest-preserved c =
     let key = c.in_ok-key.key.now in
     let value = c.in_ok-key.value in
-    let one : Notes c.args.one.now key value c.loop-rest.first c.or-first.result = record {
+    let one : Notes c.args.one.now key value c.loop-rest.first c.note-first.result = record {
       same = c.eq.result;
-      seen = c.then_some.result;
       tested = c.eq.ensures;
-      taken = c.then_some.ensures;
-      noted = c.or-first.ensures;
+      noted = c.note-first.ensures;
     } in
-    let two : Notes c.args.two.now key value c.loop-rest.second c.or-second.result = record {
+    let two : Notes c.args.two.now key value c.loop-rest.second c.note-second.result = record {
       same = c.eq-in-loop-rest.result;
-      seen = c.then_some-in-loop-rest.result;
       tested = c.eq-in-loop-rest.ensures;
-      taken = c.then_some-in-loop-rest.ensures;
-      noted = c.or-second.ensures;
+      noted = c.note-second.ensures;
     } in
-    let three : Notes c.args.three.now key value c.loop-rest.third c.or-third.result = record {
+    let three : Notes c.args.three.now key value c.loop-rest.third c.note-third.result = record {
       same = c.eq-in-loop-rest-2.result;
-      seen = c.then_some-in-loop-rest-2.result;
       tested = c.eq-in-loop-rest-2.ensures;
-      taken = c.then_some-in-loop-rest-2.ensures;
-      noted = c.or-third.ensures;
+      noted = c.note-third.ensures;
     } in
     pair_noted c.args.one.now c.args.two.now c.args.three.now c.args.bytes.now value c.in_ok-rest.rest.now c.in_ok-key.ensures.short c.in_ok-key.ensures.split
-    c.in_ok-rest.ensures.passes (option_copied c.loop-rest.last) c.loop-rest.first c.loop-rest.second c.loop-rest.third c.or-first.result
-    c.or-second.result c.or-third.result (sym c.is_above.ensures ∙ c.if-not-is_above.false) one two three c.loop-rest.invariant
+    c.in_ok-rest.ensures.passes (option_copied c.loop-rest.last) c.loop-rest.first c.loop-rest.second c.loop-rest.third c.note-first.result
+    c.note-second.result c.note-third.result (sym c.is_above.ensures ∙ c.if-not-is_above.false) one two three c.loop-rest.invariant

@@ -10,7 +10,7 @@ returns-in-None-clause-ok c =
     let strict = ap (λ (r : Rules). fault_of r (seen c.in-Some.view)) c.in-Bep.is in
     record {
       is = c.in-Some.ensures.value;
-      allowed = allowed c.args.rules (seen c.in-Some.view) (strict ∙ sym c.field_fault.ensures ∙ c.in-None.is);
+      allowed = allowed c.args.rules (seen c.in-Some.view) (strict ∙ sym c.in-Some.ensures.fault ∙ c.in-None.is);
     }
 
 pub returns-in-None-fault_in-clause-ok : goal.returns-in-None-fault_in-clause-ok
