@@ -114,6 +114,41 @@ fn one_pass(rt: HostRuntime) {
     }
 }
 
+/// A payload, and what it has at `m` and `size`: how many pairs and which integer, if any.
+const PAIRS_AND_INTS: &[(&[u8], Option<(usize, Option<i64>)>)] = &[
+    (b"d1:md1:ai1e1:bi2ee4:sizei7eerest", Some((2, Some(7)))),
+    (b"d1:mdee", Some((0, None))),
+    (b"d1:mi1ee", None),
+    (b"d4:sizei7e1:mdee", None),
+];
+
+/// Whether the pass finds what the payload has at `m` and `size`.
+fn has_pairs_and_int(payload: &[u8], answer: Option<(usize, Option<i64>)>) -> bool {
+    match check_sorted_pairs_and_int(payload, b"m", b"size") {
+        Some((_, _, Some(Some(pairs)), int)) => answer == Some((pairs.count(), int.flatten())),
+        _ => answer.is_none(),
+    }
+}
+
+#[test]
+fn pairs_and_ints_in_one_pass(rt: HostRuntime) {
+    for (payload, answer) in PAIRS_AND_INTS {
+        assert!(rt; has_pairs_and_int(payload, *answer), "{payload:?}");
+    }
+}
+
+#[test]
+fn ints_in_one_pass(rt: HostRuntime) {
+    let payload = b"d1:ai1e1:b1:x1:ci-3ee";
+    match check_sorted_ints(payload, b"a", b"b", b"c") {
+        Some((_, len, one, two, three)) => {
+            assert!(rt; len == payload.len());
+            assert!(rt; one == Some(1) && two.is_none() && three == Some(-3));
+        }
+        None => panic!(rt; "not sorted"),
+    }
+}
+
 /// Payloads that are cut after each byte.
 const CUT: &[&[u8]] = &[
     b"d0:i-10e1:bl0:12:abcdefghijkli0ee1:cd2:ddlleeee",
