@@ -13,10 +13,11 @@ ghost use Rattle.bt_bencode.specs.OnePass.{PassesNoted};
 
 use crate::MAX_NESTING;
 use crate::dict_ref::DictRef;
-use crate::one_pass::{after_value, rises, text_in_front};
+use crate::one_pass::{after_value, text_in_front};
 use crate::pairs::{IntPairs, pairs_if_any};
 use crate::read::following;
 use crate::skip::{int_if_any, int_in};
+use crate::sorted::is_above;
 
 /// What follows a dictionary, and the bytes from the values of the first pairs with three keys on.
 #[derive(Clone, Copy)]
@@ -65,7 +66,7 @@ fn after_noted<'a>(bytes: &'a [u8], one: &[u8], two: &[u8], three: &[u8]) -> Opt
             });
         }
         let (key, value) = text_in_front(rest)?;
-        if !rises(last, key) {
+        if !is_above(last, key) {
             return None;
         }
         last = Some(key);

@@ -4,18 +4,17 @@
 //! costs about what the validation alone does. What it doesn't answer is left to [`check`](crate::check) and
 //! [`first_unsorted`](crate::first_unsorted), which say why. It recurses by the nesting, at most 32 deep, and doesn't allocate.
 ghost use Rattle.std.specs.Prelude.{◌≡◌, ℕ, ◌<◌, ◌≤◌, ◌^◌, ◌∷◌, ◌++◌, length, None, IfSome};
-ghost use Rattle.std.specs.Option.{option_copied};
 ghost use Rattle.std.specs.Fmt.{decimal};
 ghost use Rattle.bt_bencode.specs.Trees.{dictionary};
 ghost use Rattle.bt_bencode.specs.Bencoding.{BeginsWith, ben_string, longest_string};
-ghost use Rattle.bt_bencode.specs.Keys.{is_above, unsorted};
+ghost use Rattle.bt_bencode.specs.Keys.{unsorted};
 ghost use Rattle.bt_bencode.specs.OnePass.{PassesInteger, PassesValue, PassesItems, PassesPairs};
 
 use crate::dict_ref::DictRef;
 use crate::read::following;
 use crate::scan::is_digit;
+use crate::sorted::is_above;
 use crate::{MAX_NESTING, MAX_STRING};
-use std::cmp::Ordering;
 
 /// The greatest integer, 2^63 - 1.
 const MAX_INTEGER: u64 = (1 << 63) - 1;
@@ -84,21 +83,6 @@ fn after_integer(bytes: &[u8]) -> Option<&[u8]>
     Some(rest)
 }
 
-/// Returns whether the key is above the last one, or there is no last one.
-// Inline, since mostly the first bytes differ, and nothing else is compared then.
-#[inline(always)]
-pub fn rises(last: Option<&[u8]>, key: &[u8]) -> bool
-    ensures { result ≡ is_above (option_copied last.entry) key.now }
-{
-    let Some(last) = last else {
-        return true;
-    };
-    if last.len() > 0 && key.len() > 0 && last[0] != key[0] {
-        return last[0] < key[0];
-    }
-    matches!(last.cmp(key), Ordering::Less)
-}
-
 /// Returns what follows the value in front, in which `room` lists and dictionaries may nest.
 ///
 /// Inline, so that an integer or a byte string costs no call.
@@ -151,7 +135,7 @@ fn after_pairs(bytes: &[u8], room: usize) -> Option<&[u8]>
             return Some(following(rest));
         }
         let (key, value) = text_in_front(rest)?;
-        if !rises(last, key) {
+        if !is_above(last, key) {
             return None;
         }
         last = Some(key);

@@ -54,11 +54,14 @@ fn pairs_are_sorted(pairs: &Pairs) -> bool
 }
 
 /// Returns whether the key is above the last one, or there is no last one.
+// Inline, since mostly the first bytes differ, and nothing else is compared then.
+#[inline(always)]
 pub fn is_above(last: Option<&[u8]>, key: &[u8]) -> bool
     ensures { result ≡ is_above (option_copied last.entry) key.now }
 {
     match last {
         None => true,
+        Some(last) if last.len() > 0 && key.len() > 0 && last[0] != key[0] => last[0] < key[0],
         Some(last) => matches!(last.cmp(key), Ordering::Less),
     }
 }

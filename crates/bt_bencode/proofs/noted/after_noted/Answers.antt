@@ -29,4 +29,4 @@ loop-rest-preserved c =
     } in
     pair_noted c.args.one.now c.args.two.now c.args.three.now c.args.bytes.now value c.in_ok-rest.rest.now c.in_ok-key.ensures.short c.in_ok-key.ensures.split
     c.in_ok-rest.ensures.passes (option_copied c.loop-rest.last) c.loop-rest.first c.loop-rest.second c.loop-rest.third c.note-first.result
-    c.note-second.result c.note-third.result (sym c.rises.ensures ∙ c.if-not-rises.false) one two three c.loop-rest.invariant
+    c.note-second.result c.note-third.result (sym c.is_above.ensures ∙ c.if-not-is_above.false) one two three c.loop-rest.invariant

@@ -24,7 +24,7 @@ after_pairs-loop-rest-preserved t c =
     record {
       within = omega (arith, c.loop-rest.invariant.within, c.in_ok-rest.ensures.shorter, parts);
       passes = λ more h. c.loop-rest.invariant.passes more (pair_passes c.args.room (option_copied c.loop-rest.last) c.loop-rest.rest.now c.in_ok-key.key.now
-          c.in_ok-key.value.now c.in_ok-rest.rest.now more c.in_ok-key.ensures.short c.in_ok-key.ensures.split (sym c.rises.ensures ∙ c.if-not-rises.false)
+          c.in_ok-key.value.now c.in_ok-rest.rest.now more c.in_ok-key.ensures.short c.in_ok-key.ensures.split (sym c.is_above.ensures ∙ c.if-not-is_above.false)
           c.in_ok-rest.ensures.passes h);
     }
 
