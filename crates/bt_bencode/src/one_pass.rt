@@ -97,8 +97,15 @@ pub fn after_value(bytes: &[u8], room: usize) -> Option<&[u8]>
     }
     match bytes[0] {
         b'i' => after_integer(following(bytes)),
-        b'l' if room > 0 => after_items(following(bytes), room - 1),
-        b'd' if room > 0 => after_pairs(following(bytes), room - 1),
+        // By `?`, so that what follows a value is kept in registers.
+        b'l' if room > 0 => {
+            let rest = after_items(following(bytes), room - 1)?;
+            Some(rest)
+        }
+        b'd' if room > 0 => {
+            let rest = after_pairs(following(bytes), room - 1)?;
+            Some(rest)
+        }
         _ => {
             let (_, rest) = text_in_front(bytes)?;
             Some(rest)

@@ -1,4 +1,4 @@
-use Rattle.std.proofs.Common.{◌∙◌, sym, arith, ap, length, length-append}
+use Rattle.std.proofs.Common.{◌∙◌, sym, arith, ap, length, length-append, Some}
 use Rattle.bt_bencode.specs.Bencoding.{ben_string}
 use Rattle.std.specs.Option.{option_copied}
 use Rattle.bt_bencode.proofs.Passing.{text_passes, integer_passes, items_pass, pairs_pass, no_items_pass, item_passes, no_pairs_pass, pair_passes}
@@ -32,13 +32,13 @@ pub after_value-returns-in-105-clause-passes : goal.after_value-returns-in-105-c
 after_value-returns-in-105-clause-passes t c = integer_passes c.args.room c.args.bytes.now c.following.result.now c.after_integer.result c.in-105.is
     c.following.ensures c.after_integer.ensures
 
-pub after_value-returns-in-108-clause-passes : goal.after_value-returns-in-108-clause-passes
-after_value-returns-in-108-clause-passes t c = items_pass c.args.room c.args.bytes.now c.following-in-108.result.now c.after_items.result c.if-room-gt0.true
-    c.in-108.is c.following-in-108.ensures c.after_items.ensures.passes
+pub after_value-returns-in_ok-rest-in-108-clause-passes : goal.after_value-returns-in_ok-rest-in-108-clause-passes
+after_value-returns-in_ok-rest-in-108-clause-passes t c = items_pass c.args.room c.args.bytes.now c.following-in-108.result.now (Some c.in_ok-rest-in-108.rest) c.if-room-gt0.true
+    c.in-108.is c.following-in-108.ensures c.in_ok-rest-in-108.ensures.passes
 
-pub after_value-returns-in-100-clause-passes : goal.after_value-returns-in-100-clause-passes
-after_value-returns-in-100-clause-passes t c = pairs_pass c.args.room c.args.bytes.now c.following-in-100.result.now c.after_pairs.result c.if-room-gt0-2.true
-    c.in-100.is c.following-in-100.ensures c.after_pairs.ensures.passes
+pub after_value-returns-in_ok-rest-in-100-clause-passes : goal.after_value-returns-in_ok-rest-in-100-clause-passes
+after_value-returns-in_ok-rest-in-100-clause-passes t c = pairs_pass c.args.room c.args.bytes.now c.following-in-100.result.now (Some c.in_ok-rest-in-100.rest) c.if-room-gt0-2.true
+    c.in-100.is c.following-in-100.ensures c.in_ok-rest-in-100.ensures.passes
 
 pub after_value-returns-in_ok-rest-in_default-clause-passes : goal.after_value-returns-in_ok-rest-in_default-clause-passes
 after_value-returns-in_ok-rest-in_default-clause-passes t c = text_passes c.args.room c.args.bytes.now c.in_ok-rest-in_default.field-0-0.now
