@@ -114,19 +114,22 @@ fn one_pass(rt: HostRuntime) {
     }
 }
 
-/// A payload, and what it has at `m` and `size`: how many pairs and which integer, if any.
-const PAIRS_AND_INTS: &[(&[u8], Option<(usize, Option<i64>)>)] = &[
-    (b"d1:md1:ai1e1:bi2ee4:sizei7eerest", Some((2, Some(7)))),
-    (b"d1:mdee", Some((0, None))),
-    (b"d1:mi1ee", None),
+/// Payloads, and whether they have a dictionary at `m`, and what they have at `size`, if their keys are sorted.
+const PAIRS_AND_INTS: &[(&[u8], Option<(bool, Option<Option<i64>>)>)] = &[
+    (
+        b"d1:md1:ai1e1:bi2ee4:sizei7eerest",
+        Some((true, Some(Some(7)))),
+    ),
+    (b"d1:mdee", Some((true, None))),
+    (b"d1:mi1e4:size0:e", Some((false, Some(None)))),
     (b"d4:sizei7e1:mdee", None),
 ];
 
 /// Whether the pass finds what the payload has at `m` and `size`.
-fn has_pairs_and_int(payload: &[u8], answer: Option<(usize, Option<i64>)>) -> bool {
+fn has_pairs_and_int(payload: &[u8], answer: Option<(bool, Option<Option<i64>>)>) -> bool {
     match check_sorted_pairs_and_int(payload, b"m", b"size") {
-        Some((_, _, Some(Some(pairs)), int)) => answer == Some((pairs.count(), int.flatten())),
-        _ => answer.is_none(),
+        Some((_, _, pairs, int)) => answer == Some((pairs.flatten().is_some(), int)),
+        None => answer.is_none(),
     }
 }
 
@@ -137,16 +140,18 @@ fn pairs_and_ints_in_one_pass(rt: HostRuntime) {
     }
 }
 
+/// Whether the pass finds these integers at `a`, `b` and `c`.
+fn has_ints(payload: &[u8], ints: (Option<i64>, Option<i64>, Option<i64>)) -> bool {
+    match check_sorted_ints(payload, b"a", b"b", b"c") {
+        Some((_, _, one, two, three)) => ints == (one, two, three),
+        None => false,
+    }
+}
+
 #[test]
 fn ints_in_one_pass(rt: HostRuntime) {
-    let payload = b"d1:ai1e1:b1:x1:ci-3ee";
-    match check_sorted_ints(payload, b"a", b"b", b"c") {
-        Some((_, len, one, two, three)) => {
-            assert!(rt; len == payload.len());
-            assert!(rt; one == Some(1) && two.is_none() && three == Some(-3));
-        }
-        None => panic!(rt; "not sorted"),
-    }
+    let ints = (Some(1), None, Some(-3));
+    assert!(rt; has_ints(b"d1:ai1e1:b1:x1:ci-3ee", ints));
 }
 
 /// Payloads that are cut after each byte.
