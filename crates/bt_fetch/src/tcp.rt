@@ -5,14 +5,11 @@ ghost use Rattle.bt_fetch.specs.declared.device.Happening.{Happening};
 
 use crate::device::{Device, Ending};
 use bt_end::Progress;
-use bt_exchange::Stream;
+use bt_exchange::{Stream, rest_after};
 use mio::net::TcpStream;
 use std::io;
 use std::net::{Net, SocketAddr};
 use std::time::{Clock, Duration};
-
-/// How long a fetch waits if no connection can go on, in milliseconds.
-const REST: u64 = 5;
 
 /// Hears what happens at the addresses, each by its number.
 pub trait Watcher {
@@ -44,6 +41,10 @@ pub struct TcpSwarm<'a, R: Net + Clock, T: Watcher + Drop> {
     inside: usize,
     places: usize,
     time: u64,
+    /// How long the last wait was, in microseconds; 0 after a round in which a connection went on.
+    pause: u64,
+    /// The round before this one ended in a wait.
+    has_rested: bool,
 }
 
 impl<'a, R: Net + Clock, T: Watcher + Drop> TcpSwarm<'a, R, T> {
@@ -65,6 +66,8 @@ impl<'a, R: Net + Clock, T: Watcher + Drop> TcpSwarm<'a, R, T> {
             inside: 0,
             places,
             time: 0,
+            pause: 0,
+            has_rested: false,
         }
     }
 
@@ -113,13 +116,20 @@ impl<'a, R: Net + Clock, T: Watcher + Drop> Device for TcpSwarm<'a, R, T> {
     }
 
     fn time(&mut self) -> u64 {
+        if !self.has_rested {
+            self.pause = 0;
+        }
+        self.has_rested = false;
         if let Ok(time) = self.runtime.monotonic() {
             self.time = u64::try_from(time.as_millis()).unwrap_or(u64::MAX);
         }
         self.time
     }
 
+    // The waits begin short, since a peer that is near answers soon, and double while nothing comes.
     fn rest(&mut self) {
-        self.runtime.sleep(Duration::from_millis(REST));
+        self.pause = rest_after(self.pause, self.inside);
+        self.has_rested = true;
+        self.runtime.sleep(Duration::from_micros(self.pause));
     }
 }

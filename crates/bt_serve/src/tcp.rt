@@ -3,13 +3,10 @@ ghost use Rattle.std.specs.Prelude.{◌≡◌};
 ghost use Rattle.bt_exchange.specs.Lists.{IsAdded};
 
 use crate::door::{Door, Parting};
-use bt_exchange::Stream;
+use bt_exchange::{Stream, rest_after};
 use std::io;
 use std::net::{Net, OpenListener, OpenStream, SocketAddr};
 use std::time::{Clock, Duration};
-
-/// How long a server waits if no connection can go on, in milliseconds.
-const REST: u64 = 5;
 
 /// Takes note of how each connection over TCP ended.
 pub trait Farewell {
@@ -34,6 +31,8 @@ pub struct TcpDoor<'a, R: Net + Clock, F: Farewell + Drop> {
     inside: usize,
     places: usize,
     rounds: u64,
+    /// How long the last wait was, in microseconds; 0 after a round in which a connection went on.
+    pause: u64,
 }
 
 impl<'a, R: Net + Clock, F: Farewell + Drop> TcpDoor<'a, R, F> {
@@ -55,6 +54,7 @@ impl<'a, R: Net + Clock, F: Farewell + Drop> TcpDoor<'a, R, F> {
             inside: 0,
             places,
             rounds: 0,
+            pause: 0,
         }
     }
 }
@@ -102,11 +102,15 @@ impl<'a, R: Net + Clock, F: Farewell + Drop> Door for TcpDoor<'a, R, F> {
         Some((Stream::new(stream, self.runtime), peer))
     }
 
+    // The waits begin short, since a peer that is near answers soon, and double while nothing comes.
     fn rest(&mut self, is_idle: bool) {
         self.rounds = self.rounds.saturating_add(1);
-        if is_idle {
-            self.runtime.sleep(Duration::from_millis(REST));
+        if !is_idle {
+            self.pause = 0;
+            return;
         }
+        self.pause = rest_after(self.pause, self.inside);
+        self.runtime.sleep(Duration::from_micros(self.pause));
     }
 
     fn ended(&mut self, name: SocketAddr, parting: Parting) {
