@@ -1,11 +1,12 @@
 //! The order of keys: whether a value's keys rise, and the first key in encoded bytes that isn't above the one before.
-ghost use Rattle.std.specs.Prelude.{◌≡◌, ◌↔◌, IsTrue, ℕ, ◌<◌, ◌∷◌, ◌++◌, List, length, None, IfOk, IfErr};
+ghost use Rattle.std.specs.Prelude.{◌≡◌, ◌↔◌, IsTrue, ℕ, ◌<◌, ◌≤◌, ◌∷◌, ◌++◌, List, length, None, IfOk, IfErr};
 ghost use Rattle.std.specs.Option.{option_copied};
 ghost use Rattle.bt_bencode.specs.Trees.{Tree, Trees, Pairs as PairsOfTrees, dictionary};
 ghost use Rattle.bt_bencode.specs.Bencoding.{ben, ben_all, ben_pairs, BeginsWith, InRange, AllInRange, PairsInRange};
 ghost use Rattle.bt_bencode.specs.Keys.{IsSorted, AllAreSorted, PairsAreSorted, is_above, unsorted, unsorted_all, unsorted_pairs};
 ghost use Rattle.bt_bencode.specs.Readable.{HasValue, HasItems, HasPairs, Walks};
 ghost use Rattle.bt_bencode.specs.Views.{tree_of};
+ghost use Rattle.bt_bencode.specs.Words.{IsWord};
 
 use crate::read::{following, read_int, split_string};
 use crate::tree::{Pairs, Value, Values};
@@ -53,6 +54,20 @@ fn pairs_are_sorted(pairs: &Pairs) -> bool
     true
 }
 
+/// How many bytes of two keys are compared at once.
+const WORD: usize = 8;
+
+/// Returns the number of the first eight bytes, in big-endian order.
+#[inline(always)]
+fn word(bytes: &[u8]) -> u64
+    requires { 8 ≤ length bytes.now }
+    ensures { IsWord bytes.now result }
+{
+    let (a, b, c, d) = (bytes[0], bytes[1], bytes[2], bytes[3]);
+    let (e, f, g, h) = (bytes[4], bytes[5], bytes[6], bytes[7]);
+    u64::from_be_bytes([a, b, c, d, e, f, g, h])
+}
+
 /// Returns whether the key is above the last one, or there is no last one.
 // Inline, since mostly the first bytes differ, and nothing else is compared then.
 #[inline(always)]
@@ -62,6 +77,9 @@ pub fn is_above(last: Option<&[u8]>, key: &[u8]) -> bool
     match last {
         None => true,
         Some(last) if last.len() > 0 && key.len() > 0 && last[0] != key[0] => last[0] < key[0],
+        Some(last) if last.len() >= WORD && key.len() >= WORD && word(last) != word(key) => {
+            word(last) < word(key)
+        }
         Some(last) => matches!(last.cmp(key), Ordering::Less),
     }
 }

@@ -1,0 +1,7 @@
+use Rattle.std.proofs.Common.{arith}
+use Rattle.bt_bencode.proofs.Wording.{is_word}
+use Rattle.bt_bencode.proofs.sorted.word.Goals as goal
+
+pub returns : goal.returns
+returns c = is_word c.args.bytes.now c.from_be_bytes.result c.requires (omega arith) (omega arith) (omega arith) (omega arith) (omega arith) (omega arith)
+    (omega arith) (omega arith) c.from_be_bytes.ensures
