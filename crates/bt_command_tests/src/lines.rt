@@ -1,6 +1,7 @@
 //! The lines of scripts: public calls that the program doesn't make, and texts that no script can hold as a line.
 use bt_ext::{ExtId, Registered, Rules};
 use bt_text::script::reading::read_line;
+use bt_text::script::short::append_short;
 use bt_text::script::writing::{push_handshake_line, push_message_line};
 use bt_wire::{Front, Opening, Order, Own, Reserved, negotiate, read_front, read_opening};
 use std::alloc::Global;
@@ -23,6 +24,75 @@ fn says(alloc: Global, text: &[u8], bytes: Option<&[u8]>) -> bool {
 fn texts_are_read(rt: HostRuntime) {
     for (text, bytes) in LINES {
         assert!(rt; says(rt.alloc(), text, *bytes), "{text:?}");
+    }
+}
+
+/// Texts that begin with a line of numbers only, the bytes that it names, and what follows its line feed.
+const SHORT: &[(&[u8], &[u8], &[u8])] = &[
+    (b"keep-alive\n", b"\0\0\0\0", b""),
+    (b"choke\n\n", b"\0\0\0\x01\0", b"\n"),
+    (b"not-interested\nno line", b"\0\0\0\x01\x03", b"no line"),
+    (b"have-none\n", b"\0\0\0\x01\x0f", b""),
+    (b"have 0\nhave 1\n", b"\0\0\0\x05\x04\0\0\0\0", b"have 1\n"),
+    (b"have 4294967289\n", b"\0\0\0\x05\x04\xff\xff\xff\xf9", b""),
+    (b"allowed-fast 258\n", b"\0\0\0\x05\x11\0\0\x01\x02", b""),
+    (
+        b"request 1 16384 10\n1",
+        b"\0\0\0\x0d\x06\0\0\0\x01\0\0\x40\0\0\0\0\x0a",
+        b"1",
+    ),
+    (
+        b"reject 0 0 1\n",
+        b"\0\0\0\x0d\x10\0\0\0\0\0\0\0\0\0\0\0\x01",
+        b"",
+    ),
+];
+
+/// Texts that don't, or whose number is next to 2^32.
+const NOT_SHORT: &[&[u8]] = &[
+    b"",
+    b"\n",
+    b"choke",
+    b"choke \n",
+    b"choke 1\n",
+    b"Choke\n",
+    b"have\n",
+    b"have \n",
+    b"have  1\n",
+    b"have 1",
+    b"have 1 \n",
+    b"have 1 2\n",
+    b"have 00\n",
+    b"have 01\n",
+    b"have -1\n",
+    b"have 4294967295\n",
+    b"have 4294967296\n",
+    b"have 42949672960\n",
+    b"request 1 2\n",
+    b"request 1 2 3 4\n",
+    b"request 1 2 3",
+    b"request 1 2\n3\n",
+    b"port 1\n",
+    b"unknown 99 -\n",
+];
+
+fn takes(alloc: Global, text: &[u8], bytes: &[u8], following: &[u8]) -> bool {
+    let mut out = Vec::new(alloc);
+    append_short(text, &mut out) == Ok(Some(following)) && out.as_slice() == bytes
+}
+
+fn leaves(alloc: Global, text: &[u8]) -> bool {
+    let mut out = Vec::new(alloc);
+    append_short(text, &mut out) == Ok(None) && out.as_slice().is_empty()
+}
+
+#[test]
+fn short_lines_are_taken(rt: HostRuntime) {
+    for (text, bytes, following) in SHORT {
+        assert!(rt; takes(rt.alloc(), text, bytes, following), "{text:?}");
+    }
+    for text in NOT_SHORT {
+        assert!(rt; leaves(rt.alloc(), text), "{text:?}");
     }
 }
 

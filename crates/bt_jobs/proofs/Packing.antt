@@ -30,7 +30,7 @@ use Rattle.bt_text.specs.Lines.{spaced}
 use Rattle.bt_text.specs.Script.{IsLine, IsAdded, Said, keep_alive, known, unknown, Says, said_bytes, framed_by, SaysFields, SaysSpaced, SaysBytes}
 use Rattle.bt_text.specs.declared.ended.ScriptReason.TheVariants.{Reason}
 use Rattle.bt_jobs.specs.Packs.{IsNamed, AreNamed, AreTaken, is_none}
-use Rattle.bt_jobs.specs.PackSteps.{IsLonger, IsJudged, is_hand, IsPackedTo, Packing, IsLineEnd}
+use Rattle.bt_jobs.specs.PackSteps.{IsLonger, IsJudged, is_hand, IsPackedTo, Packing, IsNamedAfter, IsLineEnd}
 
 -- ---- lines that are named
 
@@ -263,12 +263,6 @@ by_lines (l ∷ lines) = ne_eqb (length (l ∷ lines)) 0 (λ e. omega (arith, e)
 pub first_flag : (own : Own) (lines : List (List ℕ)) (b : List ℕ) (f : FeedState) (n : ℕ) → IsPackedTo own lines b f → n ≡ number_of f.stage → eqb n 0
     ≡ is_none lines
 first_flag own lines b f n h e = ap (λ (k : ℕ). eqb k 0) (e ∙ h.count) ∙ by_lines lines
-
--- the bytes that a line was read as follow the others
-pub record IsNamedAfter (limit : ℕ) (flag : Bool) (text old new : List ℕ) : Type 0 where
-  pub bytes : List ℕ
-  pub named : IsNamed limit flag text bytes
-  pub joined : new ≡ old ++ bytes
 
 pub read_as : (limit : ℕ) (first flag : Bool) (text old new : List ℕ) (ok : Bool) → ok ≡ true → first ≡ flag → length text ≤ 2 * limit + 256
     → IsAdded first text old new ok → IsNamedAfter limit flag text old new

@@ -11,7 +11,7 @@ use Rattle.bt_wire.specs.declared.fault.Refused.{Refused as Fault}
 use Rattle.bt_wire.specs.declared.item.Item.{Item}
 use Rattle.bt_wire.specs.Streams.{Outcome, IsVerdict}
 use Rattle.bt_text.specs.declared.ended.ScriptReason.{ScriptReason}
-use Rattle.bt_jobs.specs.Packs.{IsSplit, IsEndedLine, AreLines, AreNamed, AreTaken, IsNotTaken, IsStop, IsPacked, is_none}
+use Rattle.bt_jobs.specs.Packs.{IsSplit, IsEndedLine, AreLines, IsNamed, AreNamed, AreTaken, IsNotTaken, IsStop, IsPacked, is_none}
 use Rattle.bt_text.specs.declared.ended.PackEnd.{PackEnd}
 
 -- ---- whole items
@@ -67,6 +67,12 @@ pub record Packer : Type 0 where
 abbrev pub packer : List ℕ → FeedState → List ℕ → Packer
 packer line judge out = record { line = line; judge = judge; out = out }
 
+-- the bytes that a line names follow the others
+pub record IsNamedAfter (limit : ℕ) (first : Bool) (text old new : List ℕ) : Type 0 where
+  pub bytes : List ℕ
+  pub named : IsNamed limit first text bytes
+  pub joined : new ≡ old ++ bytes
+
 -- a line is taken, and its bytes are put after the others; or it isn't
 abbrev pub IsLineEnd : Own → Packing → List ℕ → FeedState → List ℕ → Option ScriptReason → Type 0
 IsLineEnd own p text g out None = (x : List ℕ) × (out ≡ p.out ++ x) × IsPackedTo own (p.lines ++ text ∷ []) (p.bytes ++ x) g
@@ -85,6 +91,20 @@ IsPieceRead own text p q None = (more : List (List ℕ)) × (x : List ℕ) × (q
 IsPieceRead own text p q (Some reason) = (x : List ℕ) × (q.out ≡ p.out ++ x)
     × ((all : List (List ℕ)) × AreLines text all × IsStop own all (p.bytes ++ x) (number_of q.judge.stage + 1) reason)
     × IsEndedLine own.limit text (number_of q.judge.stage + 1)
+
+-- What was read of the piece so far: `done`, which `rest` follows. Its lines `more` are taken and name `named`; `q` is where the packer stands.
+pub record IsDone (own : Own) (text : List ℕ) (p : Packing) (piece rest : List ℕ) (q : Packer) : Type 0 where
+  pub done : List ℕ
+  pub parts : piece ≡ done ++ rest
+  pub more : List (List ℕ)
+  pub named : List ℕ
+  pub grown : q.out ≡ p.out ++ named
+  pub read : IsReadSo own (text ++ done) (p.lines ++ more) (p.bytes ++ named) q.line q.judge
+
+-- what follows the lines that were taken, or that one of them isn't taken
+abbrev pub IsRunRead : Own → List ℕ → Packing → List ℕ → List ℕ → Packer → Option ScriptReason → Type 0
+IsRunRead own text p piece rest q None = IsDone own text p piece rest q
+IsRunRead own text p piece rest q (Some reason) = IsPieceRead own (text ++ piece) p q (Some reason)
 
 -- the bytes follow those of the present line, or it is too long with them and as it was
 abbrev pub IsHeld : ℕ → List ℕ → List ℕ → List ℕ → Bool → Type 0

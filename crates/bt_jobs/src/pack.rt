@@ -1,10 +1,10 @@
 //! The command `pack`: a script is encoded into a stream.
-ghost use Rattle.std.specs.Prelude.{◌≡◌, ◌≢◌, ◌≤◌, ◌++◌, ℕ, List, [], None, min, ◌+◌, ◌-◌, ◌^◌, IfOk, Err};
+ghost use Rattle.std.specs.Prelude.{◌≡◌, ◌≢◌, ◌≤◌, ◌++◌, ℕ, List, [], false, None, min, ◌+◌, ◌-◌, ◌^◌, IfOk, Err, length};
 ghost use Rattle.bt_wire.specs.declared.context.Own.{Own as Receiver};
 ghost use Rattle.bt_io.specs.Seen.{devices, ReadFailed, WriteFailed};
 ghost use Rattle.bt_feed.specs.Stages.{number_of, start_of};
-ghost use Rattle.bt_jobs.specs.Packs.{IsPackRun, AreTakenTo};
-ghost use Rattle.bt_jobs.specs.PackSteps.{IsPackedTo, packing, packer, IsLineEnd, IsReadSo, IsPieceRead, IsHeld, IsScriptEnd};
+ghost use Rattle.bt_jobs.specs.Packs.{IsPackRun, AreTakenTo, is_none};
+ghost use Rattle.bt_jobs.specs.PackSteps.{is_hand, IsPackedTo, Packing, packing, packer, IsNamedAfter, IsLineEnd, IsReadSo, IsPieceRead, IsDone, IsRunRead, IsHeld, IsScriptEnd};
 
 use crate::judge::Judge;
 use crate::output::write_out;
@@ -12,9 +12,27 @@ use crate::show::MAX_READS;
 use bt_feed::{Source, Target};
 use bt_text::ended::{PackEnd, ScriptReason, ToolFault};
 use bt_text::script::reading::append_line;
+use bt_text::script::short::append_short;
 use bt_text::splitting::split_line;
 use bt_wire::Own;
 use std::alloc::{AllocError, Global};
+
+/// Accepts the bytes of a line that stand from `start` on, or removes them and returns why they are refused.
+fn judge_added(judge: &mut Judge, start: usize, out: &mut Vec<u8>) -> Option<ScriptReason>
+    requires { start ≤ length out.now.items }
+    ensures { (own : Receiver) (lines : List (List ℕ)) (b text old : List ℕ) → IsPackedTo own lines b judge.old → start ≡ length old
+        → IsNamedAfter own.limit (is_none lines) text old out.old.items → IsLineEnd own (packing lines b old) text judge.new out.new.items result }
+{
+    let whole = out.as_slice();
+    match judge.take_item(&whole[start..]) {
+        Ok(true) => None,
+        Ok(false) => Some(ScriptReason::Syntax),
+        Err(reason) => {
+            out.truncate(start);
+            Some(ScriptReason::Reason(reason))
+        }
+    }
+}
 
 /// Appends the bytes that a line names, or returns why it isn't accepted.
 ///
@@ -37,15 +55,7 @@ fn take_line(
     if !append_line(text, first, out)? {
         return Ok(Some(ScriptReason::Syntax));
     }
-    let whole = out.as_slice();
-    match judge.take_item(&whole[start..]) {
-        Ok(true) => Ok(None),
-        Ok(false) => Ok(Some(ScriptReason::Syntax)),
-        Err(reason) => {
-            out.truncate(start);
-            Ok(Some(ScriptReason::Reason(reason)))
-        }
-    }
+    Ok(judge_added(judge, start, out))
 }
 
 /// Appends bytes to the current line; returns whether it isn't too long then.
@@ -87,6 +97,33 @@ fn take_ended(
     Ok(answer)
 }
 
+/// Accepts the lines in front that name messages of numbers only, up to another line.
+///
+/// It returns what follows them, and why the last of them isn't accepted. The script's first line has been taken.
+fn take_run<'a>(
+    judge: &mut Judge,
+    text: &'a [u8],
+    out: &mut Vec<u8>,
+) -> Result<(&'a [u8], Option<ScriptReason>), AllocError>
+    ensures taken { IfOk result (λ x. (own : Receiver) (before : List ℕ) (p : Packing) (piece : List ℕ) → is_hand judge.old.stage ≡ false
+        → IsDone own before p piece text.now (packer [] judge.old out.old.items) → IsRunRead own before p piece x.0.now (packer [] judge.new out.new.items) x.1) }
+    ensures short { IfOk result (λ x. length x.0.now ≤ length text.now) }
+{
+    let mut rest = text;
+    'lines: loop {
+        let start = out.len();
+        match append_short(rest, out)? {
+            None => return Ok((rest, None)),
+            Some(following) => {
+                if let Some(reason) = judge_added(judge, start, out) {
+                    return Ok((following, Some(reason)));
+                }
+                rest = following;
+            }
+        }
+    }
+}
+
 /// Accepts the lines that a chunk of the script ends.
 ///
 /// It keeps the first part of the next line, and returns why a line isn't accepted.
@@ -114,7 +151,11 @@ fn take_piece(
                 if let Some(reason) = take_ended(judge, line, front, limit, out)? {
                     return Ok(Some(reason));
                 }
-                rest = following;
+                let (other, refused) = take_run(judge, following, out)?;
+                if refused.is_some() {
+                    return Ok(refused);
+                }
+                rest = other;
             }
         }
     }

@@ -58,7 +58,7 @@ dash_has_none : (bytes : List ℕ) → has_feed (spaced_hex bytes) ≡ false
 dash_has_none [] = refl
 dash_has_none (x ∷ xs) = hex_has_none (x ∷ xs)
 
-fields_have_none : (f : Fields) → AreInRange f → has_feed (script_fields f) ≡ false
+pub fields_have_none : (f : Fields) → AreInRange f → has_feed (script_fields f) ≡ false
 fields_have_none none range = refl
 fields_have_none (index i) range = spaced_has_none i range
 fields_have_none (part i b l) range =
@@ -74,7 +74,7 @@ fields_have_none (payload bytes) range = dash_has_none bytes
 
 -- ---- lengths
 
-length-spaced : (n : ℕ) → n < 2 ^ 32 → length (spaced n) ≤ 11
+pub length-spaced : (n : ℕ) → n < 2 ^ 32 → length (spaced n) ≤ 11
 length-spaced n lt = omega (arith, length-decimal-le 10 n (omega arith) (omega arith) (omega arith))
 
 length-spaced_hex : (bytes : List ℕ) → length (spaced_hex bytes) ≤ 2 * length bytes + 2
@@ -82,7 +82,7 @@ length-spaced_hex [] = omega arith
 length-spaced_hex (x ∷ xs) = omega (arith, length-encode_with lower_digits (x ∷ xs))
 
 -- the numbers and the bytes
-length-two : (i b : ℕ) (rest : List ℕ) → i < 2 ^ 32 → b < 2 ^ 32 → length (spaced i ++ (spaced b ++ rest)) ≤ 22 + length rest
+pub length-two : (i b : ℕ) (rest : List ℕ) → i < 2 ^ 32 → b < 2 ^ 32 → length (spaced i ++ (spaced b ++ rest)) ≤ 22 + length rest
 length-two i b rest li lb =
     omega (arith, length-append (spaced i) (spaced b ++ rest), length-append (spaced b) rest, length-spaced i li, length-spaced b lb)
 

@@ -3,4 +3,5 @@ pub mod laws;
 pub mod misfit;
 pub mod numbers;
 pub mod reading;
+pub mod short;
 pub mod writing;

@@ -45,7 +45,12 @@ fn push_decoded(digits: &[u8], bytes: &mut Vec<u8>) -> Result<bool, AllocError>
 /// `size` bytes follow. The numbers' count is known at the place where this is inlined, so one copy of fixed size appends all
 /// of it.
 #[inline(always)]
-fn push_begin(id: u8, numbers: &[u8], size: usize, bytes: &mut Vec<u8>) -> Result<(), AllocError>
+pub(crate) fn push_begin(
+    id: u8,
+    numbers: &[u8],
+    size: usize,
+    bytes: &mut Vec<u8>,
+) -> Result<(), AllocError>
     requires { (length numbers.now ≤ 12) × (size < 2 ^ 31) }
     ensures { OnOk result (bytes.new.items ≡ bytes.old.items ++ (be32 (1 + length numbers.now + size) ++ (id ∷ numbers.now))) }
 {

@@ -1,9 +1,9 @@
-use Rattle.std.proofs.Common.{◌≡◌, ◌++◌, Bool, List, ℕ, Option, subst, arith}
+use Rattle.std.proofs.Common.{◌≡◌, ◌∙◌, ◌++◌, Bool, List, ℕ, [], Option, None, sym, subst, arith}
 use Rattle.bt_wire.specs.declared.context.Own.{Own}
-use Rattle.bt_jobs.specs.PackSteps.{packing, packer, IsReadSo, IsLineEnd, IsHeld}
+use Rattle.bt_jobs.specs.PackSteps.{Packing, packing, packer, IsReadSo, IsDone, IsRunRead, IsLineEnd, IsHeld}
 use Rattle.bt_text.specs.declared.ended.ScriptReason.{ScriptReason}
-use Rattle.bt_jobs.proofs.PackPieces.{IsLineRead, nothing_done, all_done, line_done, line_stops, rest_stops}
-use Rattle.bt_jobs.proofs.pack.take_piece.Goals.{After-take_ended}
+use Rattle.bt_jobs.proofs.PackPieces.{IsLineRead, nothing_done, all_done, line_done, line_moves, line_stops, run_done, run_stops, rest_stops}
+use Rattle.bt_jobs.proofs.pack.take_piece.Goals.{After-take_ended, After-is_some}
 use Rattle.bt_jobs.proofs.pack.take_piece.Goals as goal
 
 pub lines-init : goal.lines-init
@@ -45,10 +45,34 @@ returns-in-Some-2 c = λ own text lines b e h.
     (line_read (goal.at.returns-in-Some-2 c).After-take_ended own text lines b e h _
     (rw c.in-Some-2.is at c.in_ok-reason-in-Some.ensures.taken own (lines ++ d.more) (b ++ d.named) e d.read.packed))
 
+-- a line was taken; and then those after it, or one of them isn't
+run_read : (c : After-is_some) (own : Own) (text : List ℕ) (p : Packing) → c.take_ended.new.line.items ≡ []
+    → IsLineRead own text p c.args.piece.now c.in-Some.following.now
+    (packer c.take_ended.new.line.items c.take_ended.new.judge c.take_ended.new.out.items) None
+    → IsRunRead own text p c.args.piece.now c.in_ok-other-in-Some.other.now (packer [] c.take_run.new.judge c.take_run.new.out.items)
+    c.in_ok-other-in-Some.refused
+run_read c own text p empty line =
+    let P : List ℕ → Type 0 = λ l. IsDone own text p c.args.piece.now c.in-Some.following.now (packer l c.take_ended.new.judge c.take_ended.new.out.items) in
+    c.in_ok-other-in-Some.ensures.taken own text p c.args.piece.now (line_moves own _ _ _ _ line.end)
+    (subst P empty (line_done own text p c.args.piece.now _ _ empty line))
+
+pub returns-then-is_some : goal.returns-then-is_some
+returns-then-is_some c = λ own text lines b e h.
+    let d = c.lines.invariant own text lines b e h in
+    let none = c.in_default.is in
+    let line = line_read (goal.at.returns-then-is_some c).After-take_ended own text lines b e h None
+    (rw none at c.in_ok-reason-in-Some.ensures.taken own (lines ++ d.more) (b ++ d.named) e d.read.packed) in
+    run_stops own text _ _ _ _ _ _ _ _ (sym c.is_some.ensures ∙ c.if-is_some.true)
+    (run_read (goal.at.returns-then-is_some c).After-is_some own text (packing lines b c.args.out.now.items) (c.in_ok-reason-in-Some.ensures.empty none) line)
+
 pub lines-preserved : goal.lines-preserved
 lines-preserved c = λ own text lines b e h.
     let d = c.lines.invariant own text lines b e h in
     let none = c.in_default.is in
-    line_done own text _ _ _ _ (c.in_ok-reason-in-Some.ensures.empty none)
-    (line_read (goal.at.lines-preserved c).After-take_ended own text lines b e h _
-    (rw none at c.in_ok-reason-in-Some.ensures.taken own (lines ++ d.more) (b ++ d.named) e d.read.packed))
+    let empty = c.in_ok-reason-in-Some.ensures.empty none in
+    let line = line_read (goal.at.lines-preserved c).After-take_ended own text lines b e h None
+    (rw none at c.in_ok-reason-in-Some.ensures.taken own (lines ++ d.more) (b ++ d.named) e d.read.packed) in
+    let run = run_read (goal.at.lines-preserved c).After-is_some own text (packing lines b c.args.out.now.items) empty line in
+    let P : List ℕ → Type 0 = λ l. IsDone own text (packing lines b c.args.out.now.items) c.args.piece.now c.in_ok-other-in-Some.other.now
+    (packer l c.take_run.new.judge c.take_run.new.out.items) in
+    subst P (sym empty) (run_done own text _ _ _ _ _ (sym c.is_some.ensures ∙ c.if-is_some.false) run)

@@ -1,7 +1,6 @@
 use Rattle.std.proofs.Common.{◌≡◌, ℕ, List, length}
 use Rattle.bt_wire.specs.declared.context.Own.{Own}
-use Rattle.bt_jobs.specs.PackSteps.{packing, packer, IsReadSo}
-use Rattle.bt_jobs.proofs.PackPieces.{IsDone}
+use Rattle.bt_jobs.specs.PackSteps.{packing, packer, IsReadSo, IsDone}
 use Rattle.bt_jobs.proofs.pack.take_piece.Given as goal
 
 -- the lines of the piece so far are taken
