@@ -1,6 +1,7 @@
 //! The command `loop` on any source and target: metadata is read, served by one end, and fetched by another one.
 ghost use Rattle.std.specs.Prelude.{◌≡◌, ◌≢◌, ◌≤◌, ◌+◌, ◌++◌, codes, decimal, length, true, Ok, Err, IfOk, OnOk, OnErr};
 ghost use Rattle.hex.specs.Hex.{encode_lower};
+ghost use Rattle.sha1.specs.Sha1.{sha1};
 ghost use Rattle.bt_end.specs.Configs.{is_bad_size};
 ghost use Rattle.bt_io.specs.Seen.{EndRead, ReadFailed, WriteFailed};
 ghost use Rattle.bt_net.specs.Loops.{Fetches, IsFetching, IsInput, IsLinked, IsLoop, IsLooped, IsPrinted, IsWireFault, IsWrite, count_line, fetched_line, fetched_lines, status_of};
@@ -95,22 +96,30 @@ fn push_digest(digest: &[u8], text: &mut Vec<u8>) -> Result<(), AllocError>
     text.extend_from_slice(b"\n")
 }
 
-/// Appends the metadata's size and SHA-1.
+/// Appends the metadata's size and SHA-1, which is known.
 #[tactic(auto, using(std::proofs::lemmas::List::append_assoc))]
-fn push_fetched(metadata: &[u8], text: &mut Vec<u8>) -> Result<(), AllocError>
+fn push_fetched(metadata: &[u8], hash: &[u8; 20], text: &mut Vec<u8>) -> Result<(), AllocError>
+    requires { hash.now ≡ sha1 metadata.now }
     ensures { OnOk result (text.new.items ≡ text.old.items ++ fetched_line metadata.now) }
 {
     push_size(metadata.len() as u64, text)?;
-    push_digest(&Sha1::digest(metadata), text)
+    push_digest(hash, text)
 }
 
 /// Returns the lines of a fetch.
 #[tactic(auto, using(std::proofs::lemmas::List::append_assoc))]
-fn lines_of(alloc: Global, metadata: &[u8], left: u64, right: u64) -> Result<Vec<u8>, AllocError>
+fn lines_of(
+    alloc: Global,
+    metadata: &[u8],
+    hash: &[u8; 20],
+    left: u64,
+    right: u64,
+) -> Result<Vec<u8>, AllocError>
+    requires { hash.now ≡ sha1 metadata.now }
     ensures { IfOk result (λ v. v.items ≡ fetched_lines metadata.now left right) }
 {
     let mut text = Vec::new(alloc);
-    push_fetched(metadata, &mut text)?;
+    push_fetched(metadata, hash, &mut text)?;
     push_counts(b"left", right, left, &mut text)?;
     push_counts(b"right", left, right, &mut text)?;
     Ok(text)
@@ -140,7 +149,9 @@ fn print<T: Target>(
     let Some(metadata) = right.metadata() else {
         return write_lines(writer, b"unfetched\n", LoopEnd::Unfetched);
     };
-    match lines_of(alloc, metadata, handled.left, handled.right) {
+    // An end has only metadata whose SHA-1 is its info hash.
+    let hash = right.handshake().info_hash;
+    match lines_of(alloc, metadata, &hash, handled.left, handled.right) {
         Ok(lines) => write_lines(writer, lines.as_slice(), LoopEnd::Fetched),
         Err(_) => Err(ToolFault::Memory),
     }
@@ -186,7 +197,7 @@ fn run_metadata<W: Wire, T: Target>(
     ensures failed { result ≡ Err ToolFault.Write → WriteFailed (T.seen writer.old) (T.seen writer.new) }
 {
     let hash = Sha1::digest(metadata.as_slice());
-    let mut left = match serving(alloc, metadata, rules, limit) {
+    let mut left = match serving(alloc, metadata, hash, rules, limit) {
         Ok(left) => left,
         Err(EndError::BadSize) => return Ok(LoopEnd::BadSize),
         Err(_) => return Err(ToolFault::Memory),
