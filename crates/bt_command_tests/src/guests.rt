@@ -1,6 +1,6 @@
 //! Serving over connections in memory, of which calls fail, and where memory is refused.
 use bt_end::{Announce, Config, End, Role, Window};
-use bt_exchange::Connection;
+use bt_exchange::{Connection, rest_after};
 use bt_ext::{ExtId, Registered, Rules};
 use bt_io::{Failed, Memory};
 use bt_serve::{Door, Ending, Hospitality, Parting, piece_count, serve};
@@ -316,5 +316,25 @@ const PIECES: [(&[u8], Option<u32>); 7] = [
 fn pieces_are_counted(rt: HostRuntime) {
     for (info, pieces) in PIECES {
         assert!(rt; piece_count(info) == pieces);
+    }
+}
+
+/// The wait before in microseconds, how many connections are open, and the wait after it: 20 for each connection, twice the one
+/// before, and 5,000 at most.
+const WAITS: [(u64, usize, u64); 8] = [
+    (0, 0, 5_000),
+    (20, 0, 5_000),
+    (0, 1, 20),
+    (20, 1, 40),
+    (0, 16, 320),
+    (2_500, 1, 5_000),
+    (2_501, 1, 5_000),
+    (0, 1_000, 5_000),
+];
+
+#[test]
+fn waits_double(rt: HostRuntime) {
+    for (last, connections, wait) in WAITS {
+        assert!(rt; rest_after(last, connections) == wait);
     }
 }

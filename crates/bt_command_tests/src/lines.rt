@@ -65,6 +65,7 @@ const NOT_SHORT: &[&[u8]] = &[
     b"have 00\n",
     b"have 01\n",
     b"have -1\n",
+    b"have 4294967290\n",
     b"have 4294967295\n",
     b"have 4294967296\n",
     b"have 42949672960\n",

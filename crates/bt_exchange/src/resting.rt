@@ -9,11 +9,11 @@ const LONGEST: u64 = 5_000;
 /// A look at a connection costs about a twentieth of it.
 const FIRST: u64 = 20;
 
-/// Returns how long to wait after a wait of `last` microseconds in which nothing came, in microseconds.
+/// Returns how long to wait if no connection can go on, in microseconds.
 ///
-/// `last` is 0 if a connection could go on since. A peer that is near answers soon, so the waits begin short and double up to 5
-/// milliseconds. The first one is longer if more connections are open, since each is looked at after it. Without a connection it
-/// is 5 milliseconds.
+/// `last` is how long the wait before was, or 0 if something came since. A peer that is near answers soon, so the waits begin
+/// short and double up to 5 milliseconds. The first one is longer if more connections are open, since each is looked at after it.
+/// Without a connection it is 5 milliseconds.
 pub fn rest_after(last: u64, connections: usize) -> u64
     ensures open { 0 < connections → result ≡ min 5000 (max (20 * connections) (2 * last)) }
     ensures idle { connections ≡ 0 → result ≡ 5000 }

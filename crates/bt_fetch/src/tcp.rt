@@ -41,10 +41,8 @@ pub struct TcpSwarm<'a, R: Net + Clock, T: Watcher + Drop> {
     inside: usize,
     places: usize,
     time: u64,
-    /// How long the last wait was, in microseconds; 0 after a round in which a connection went on.
+    /// How long the last wait was, in microseconds; 0 if a block came or an address was dialled since.
     pause: u64,
-    /// The round before this one ended in a wait.
-    has_rested: bool,
 }
 
 impl<'a, R: Net + Clock, T: Watcher + Drop> TcpSwarm<'a, R, T> {
@@ -67,7 +65,6 @@ impl<'a, R: Net + Clock, T: Watcher + Drop> TcpSwarm<'a, R, T> {
             places,
             time: 0,
             pause: 0,
-            has_rested: false,
         }
     }
 
@@ -103,6 +100,7 @@ impl<'a, R: Net + Clock, T: Watcher + Drop> Device for TcpSwarm<'a, R, T> {
         self.watcher.dialled(address, begun.is_some());
         let stream = begun?;
         self.inside += 1;
+        self.pause = 0;
         Some(Stream::new(stream, self.runtime))
     }
 
@@ -112,24 +110,20 @@ impl<'a, R: Net + Clock, T: Watcher + Drop> Device for TcpSwarm<'a, R, T> {
     }
 
     fn came(&mut self, address: usize, progress: Progress) {
+        self.pause = 0;
         self.watcher.came(address, progress, self.time);
     }
 
     fn time(&mut self) -> u64 {
-        if !self.has_rested {
-            self.pause = 0;
-        }
-        self.has_rested = false;
         if let Ok(time) = self.runtime.monotonic() {
             self.time = u64::try_from(time.as_millis()).unwrap_or(u64::MAX);
         }
         self.time
     }
 
-    // The waits begin short, since a peer that is near answers soon, and double while nothing comes.
+    // The waits begin short after a block, since a peer that is near sends the next one soon.
     fn rest(&mut self) {
         self.pause = rest_after(self.pause, self.inside);
-        self.has_rested = true;
         self.runtime.sleep(Duration::from_micros(self.pause));
     }
 }

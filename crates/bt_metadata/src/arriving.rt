@@ -7,11 +7,11 @@ use std::marker::Model;
 
 /// Holds metadata of a known size.
 ///
-/// Memory for all of it is reserved at once, but none is touched before a block comes: a peer that announces a great size and
+/// Memory for all of it is reserved at once, but none is touched before a block comes or is rejected: a peer that announces a size and
 /// sends nothing makes nobody fill it.
 #[derive(Drop)]
 pub(crate) struct Arriving<A: Allocator> {
-    /// The front, up to the end of the last block that has come, with zeros for the others.
+    /// The front, up to the end of the last block that has come or was rejected, with zeros for the others.
     bytes: Vec<u8, A>,
     size: usize,
 }

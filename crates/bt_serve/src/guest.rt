@@ -298,6 +298,13 @@ impl<L: Connection + Drop> Guest<L> {
         done
     }
 
+    /// Returns how many items of the peer were handled, with the handshake.
+    pub fn handled(&self) -> u64
+        ensures { result ≡ self.now.tally.handled }
+    {
+        self.tally.handled
+    }
+
     /// Returns how the connection ended, for this reason.
     pub fn parting(&self, ending: Ending) -> Parting
         ensures { result ≡ record { ending = ending; sent = self.now.tally.sent; handled = self.now.tally.handled } }

@@ -104,7 +104,9 @@ fn after_turn<T: Drop>(pace: Option<Pace>, at: usize, guests: &mut Vec<T>) -> us
     at
 }
 
-/// Gives each connection its turn, and drops those that ended. It returns how many ended, and whether one can go on at once.
+/// Gives each connection its turn, and drops those that ended.
+///
+/// It returns how many ended, and whether one can go on at once or has handled an item.
 fn tend_all<D: Door>(door: &mut D, guests: &mut Guests<D>) -> (u64, bool)
     requires { vec_len guests.old ≤ D.inside door.old }
     ensures inside { D.inside door.new + vec_len guests.old ≡ D.inside door.old + vec_len guests.new }
@@ -121,8 +123,9 @@ fn tend_all<D: Door>(door: &mut D, guests: &mut Guests<D>) -> (u64, bool)
             return (ended, is_busy);
         }
         let name = guests[at].1;
+        let before = guests[at].0.handled();
         let pace = tend_one(door, name, &mut guests[at].0);
-        is_busy |= pace == Some(Pace::GoesOn);
+        is_busy |= (pace == Some(Pace::GoesOn)) | (guests[at].0.handled() != before);
         ended += one_if_gone(pace);
         at = after_turn(pace, at, guests);
     }

@@ -31,7 +31,7 @@ pub struct TcpDoor<'a, R: Net + Clock, F: Farewell + Drop> {
     inside: usize,
     places: usize,
     rounds: u64,
-    /// How long the last wait was, in microseconds; 0 after a round in which a connection went on.
+    /// How long the last wait was, in microseconds; 0 after a round that wasn't idle.
     pause: u64,
 }
 
@@ -102,7 +102,7 @@ impl<'a, R: Net + Clock, F: Farewell + Drop> Door for TcpDoor<'a, R, F> {
         Some((Stream::new(stream, self.runtime), peer))
     }
 
-    // The waits begin short, since a peer that is near answers soon, and double while nothing comes.
+    // The waits begin short after an item, since a peer that is near sends the next one soon.
     fn rest(&mut self, is_idle: bool) {
         self.rounds = self.rounds.saturating_add(1);
         if !is_idle {
