@@ -18,6 +18,7 @@ use bt_wire::Own;
 use std::alloc::{AllocError, Global};
 
 /// Accepts the bytes of a line that stand from `start` on, or removes them and returns why they are refused.
+#[inline(always)]
 fn judge_added(judge: &mut Judge, start: usize, out: &mut Vec<u8>) -> Option<ScriptReason>
     requires { start ≤ length out.now.items }
     ensures { (own : Receiver) (lines : List (List ℕ)) (b text old : List ℕ) → IsPackedTo own lines b judge.old → start ≡ length old
@@ -124,6 +125,25 @@ fn take_run<'a>(
     }
 }
 
+/// Accepts the lines in front as [`take_run`] does.
+///
+/// It doesn't call it for a line whose first byte none of its lines has.
+#[inline(always)]
+fn take_more<'a>(
+    judge: &mut Judge,
+    text: &'a [u8],
+    out: &mut Vec<u8>,
+) -> Result<(&'a [u8], Option<ScriptReason>), AllocError>
+    ensures taken { IfOk result (λ x. (own : Receiver) (before : List ℕ) (p : Packing) (piece : List ℕ) → is_hand judge.old.stage ≡ false
+        → IsDone own before p piece text.now (packer [] judge.old out.old.items) → IsRunRead own before p piece x.0.now (packer [] judge.new out.new.items) x.1) }
+    ensures short { IfOk result (λ x. length x.0.now ≤ length text.now) }
+{
+    match text.first() {
+        Some(b'p' | b'e' | b'b') | None => Ok((text, None)),
+        _ => take_run(judge, text, out),
+    }
+}
+
 /// Accepts the lines that a chunk of the script ends.
 ///
 /// It keeps the first part of the next line, and returns why a line isn't accepted.
@@ -151,7 +171,7 @@ fn take_piece(
                 if let Some(reason) = take_ended(judge, line, front, limit, out)? {
                     return Ok(Some(reason));
                 }
-                let (other, refused) = take_run(judge, following, out)?;
+                let (other, refused) = take_more(judge, following, out)?;
                 if refused.is_some() {
                     return Ok(refused);
                 }

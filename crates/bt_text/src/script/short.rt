@@ -125,7 +125,21 @@ fn append_part<'a>(
     Ok(Some(rest))
 }
 
-/// Does what [`append_short`] does for `keep-alive` and the messages that have no fields, but not for `choke`.
+/// Does what [`append_short`] does for `unchoke`.
+#[inline(never)]
+fn append_unchoke<'a>(text: &'a [u8], out: &mut Vec<u8>) -> Result<Option<&'a [u8]>, AllocError>
+    ensures none { IfOk result (λ found. found ≡ None → out.new.items ≡ out.old.items) }
+    ensures added { IfOk result (λ found. IfSome found (λ rest. IsShortLine text.now rest.now out.old.items out.new.items)) }
+{
+    match after(text, b"unchoke\n") {
+        Some(rest) => append_nothing(1, rest, out),
+        None => Ok(None),
+    }
+}
+
+/// Does what [`append_short`] does for `keep-alive` and messages without fields.
+///
+/// Not for `choke` and `unchoke`.
 #[inline(never)]
 fn append_bare<'a>(text: &'a [u8], out: &mut Vec<u8>) -> Result<Option<&'a [u8]>, AllocError>
     ensures none { IfOk result (λ found. found ≡ None → out.new.items ≡ out.old.items) }
@@ -134,9 +148,6 @@ fn append_bare<'a>(text: &'a [u8], out: &mut Vec<u8>) -> Result<Option<&'a [u8]>
     if let Some(rest) = after(text, b"keep-alive\n") {
         out.extend_from_slice(&[0; 4])?;
         return Ok(Some(rest));
-    }
-    if let Some(rest) = after(text, b"unchoke\n") {
-        return append_nothing(1, rest, out);
     }
     if let Some(rest) = after(text, b"interested\n") {
         return append_nothing(2, rest, out);
@@ -195,7 +206,9 @@ pub fn append_short<'a>(text: &'a [u8], out: &mut Vec<u8>) -> Result<Option<&'a 
     }
     match text.first() {
         Some(b'c' | b'r' | b'a' | b's') => append_rare(text, out),
-        Some(b'k' | b'u' | b'i' | b'n' | b'h') => append_bare(text, out),
+        Some(b'k' | b'i' | b'n' | b'h') => append_bare(text, out),
+        // (`unknown` lines come here too)
+        Some(b'u') => append_unchoke(text, out),
         _ => Ok(None),
     }
 }

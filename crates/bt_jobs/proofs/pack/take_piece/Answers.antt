@@ -49,7 +49,7 @@ returns-in-Some-2 c = λ own text lines b e h.
 run_read : (c : After-is_some) (own : Own) (text : List ℕ) (p : Packing) → c.take_ended.new.line.items ≡ []
     → IsLineRead own text p c.args.piece.now c.in-Some.following.now
     (packer c.take_ended.new.line.items c.take_ended.new.judge c.take_ended.new.out.items) None
-    → IsRunRead own text p c.args.piece.now c.in_ok-other-in-Some.other.now (packer [] c.take_run.new.judge c.take_run.new.out.items)
+    → IsRunRead own text p c.args.piece.now c.in_ok-other-in-Some.other.now (packer [] c.take_more.new.judge c.take_more.new.out.items)
     c.in_ok-other-in-Some.refused
 run_read c own text p empty line =
     let P : List ℕ → Type 0 = λ l. IsDone own text p c.args.piece.now c.in-Some.following.now (packer l c.take_ended.new.judge c.take_ended.new.out.items) in
@@ -74,5 +74,5 @@ lines-preserved c = λ own text lines b e h.
     (rw none at c.in_ok-reason-in-Some.ensures.taken own (lines ++ d.more) (b ++ d.named) e d.read.packed) in
     let run = run_read (goal.at.lines-preserved c).After-is_some own text (packing lines b c.args.out.now.items) empty line in
     let P : List ℕ → Type 0 = λ l. IsDone own text (packing lines b c.args.out.now.items) c.args.piece.now c.in_ok-other-in-Some.other.now
-    (packer l c.take_run.new.judge c.take_run.new.out.items) in
+    (packer l c.take_more.new.judge c.take_more.new.out.items) in
     subst P (sym empty) (run_done own text _ _ _ _ _ (sym c.is_some.ensures ∙ c.if-is_some.false) run)

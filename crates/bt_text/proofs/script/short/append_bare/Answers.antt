@@ -12,30 +12,24 @@ returns-in-Some-clause-added c = alive_taken _ _ _ _ c.in-Some.ensures c.in_ok-e
 
 pub returns-in-Some-after-clause-added : goal.returns-in-Some-after-clause-added
 returns-in-Some-after-clause-added c =
-    let row : Id = id 1 (codes "unchoke") Nothing Neither Counted in
+    let row : Id = id 2 (codes "interested") Nothing Neither Counted in
     let is : IsShortRow row Nothing = record { named = refl; shaped = refl; whole = refl; short = omega arith } in
     nothing_taken row _ _ _ _ _ is c.in-Some-after.ensures c.append_nothing.ensures.added
 
 pub returns-in-Some-after-2-clause-added : goal.returns-in-Some-after-2-clause-added
 returns-in-Some-after-2-clause-added c =
-    let row : Id = id 2 (codes "interested") Nothing Neither Counted in
+    let row : Id = id 3 (codes "not-interested") Nothing Neither Counted in
     let is : IsShortRow row Nothing = record { named = refl; shaped = refl; whole = refl; short = omega arith } in
     nothing_taken row _ _ _ _ _ is c.in-Some-after-2.ensures c.append_nothing-in-Some-after-2.ensures.added
 
 pub returns-in-Some-after-3-clause-added : goal.returns-in-Some-after-3-clause-added
 returns-in-Some-after-3-clause-added c =
-    let row : Id = id 3 (codes "not-interested") Nothing Neither Counted in
+    let row : Id = id 14 (codes "have-all") Nothing Fast Opening in
     let is : IsShortRow row Nothing = record { named = refl; shaped = refl; whole = refl; short = omega arith } in
     nothing_taken row _ _ _ _ _ is c.in-Some-after-3.ensures c.append_nothing-in-Some-after-3.ensures.added
 
 pub returns-in-Some-after-4-clause-added : goal.returns-in-Some-after-4-clause-added
 returns-in-Some-after-4-clause-added c =
-    let row : Id = id 14 (codes "have-all") Nothing Fast Opening in
-    let is : IsShortRow row Nothing = record { named = refl; shaped = refl; whole = refl; short = omega arith } in
-    nothing_taken row _ _ _ _ _ is c.in-Some-after-4.ensures c.append_nothing-in-Some-after-4.ensures.added
-
-pub returns-in-Some-after-5-clause-added : goal.returns-in-Some-after-5-clause-added
-returns-in-Some-after-5-clause-added c =
     let row : Id = id 15 (codes "have-none") Nothing Fast Opening in
     let is : IsShortRow row Nothing = record { named = refl; shaped = refl; whole = refl; short = omega arith } in
-    nothing_taken row _ _ _ _ _ is c.in-Some-after-5.ensures c.append_nothing-in-Some-after-5.ensures.added
+    nothing_taken row _ _ _ _ _ is c.in-Some-after-4.ensures c.append_nothing-in-Some-after-4.ensures.added
