@@ -36,6 +36,31 @@ const SHORT: &[(&[u8], &[u8], &[u8])] = &[
     (b"have 0\nhave 1\n", b"\0\0\0\x05\x04\0\0\0\0", b"have 1\n"),
     (b"have 4294967289\n", b"\0\0\0\x05\x04\xff\xff\xff\xf9", b""),
     (b"allowed-fast 258\n", b"\0\0\0\x05\x11\0\0\x01\x02", b""),
+    (b"unchoke\nchoke\n", b"\0\0\0\x01\x01", b"choke\n"),
+    // (of eight digits and of nine, with bytes after them and without)
+    (
+        b"have 12345678\nhave 1\n",
+        b"\0\0\0\x05\x04\0\xbc\x61\x4e",
+        b"have 1\n",
+    ),
+    (
+        b"request 12345678 123456789 16384\nhave 1\n",
+        b"\0\0\0\x0d\x06\0\xbc\x61\x4e\x07\x5b\xcd\x15\0\0\x40\0",
+        b"have 1\n",
+    ),
+    (b"have 1234567\n", b"\0\0\0\x05\x04\0\x12\xd6\x87", b""),
+    (b"have 12345678\n", b"\0\0\0\x05\x04\0\xbc\x61\x4e", b""),
+    (b"have 99999999\n", b"\0\0\0\x05\x04\x05\xf5\xe0\xff", b""),
+    (
+        b"have 123456789\nhave 1\n",
+        b"\0\0\0\x05\x04\x07\x5b\xcd\x15",
+        b"have 1\n",
+    ),
+    (
+        b"suggest 0\nunchoke\n",
+        b"\0\0\0\x05\x0d\0\0\0\0",
+        b"unchoke\n",
+    ),
     (
         b"request 1 16384 10\n1",
         b"\0\0\0\x0d\x06\0\0\0\x01\0\0\x40\0\0\0\0\x0a",
@@ -64,6 +89,13 @@ const NOT_SHORT: &[&[u8]] = &[
     b"have 1 2\n",
     b"have 00\n",
     b"have 01\n",
+    b"have 01\nhave 01\n",
+    b"have 012345678\n",
+    b"have 1234567x\n",
+    b"have 12345678",
+    b"have 12345678 \n",
+    b"have 123456789012\n",
+    b"have x1234567\n",
     b"have -1\n",
     b"have 4294967290\n",
     b"have 4294967295\n",
@@ -75,6 +107,10 @@ const NOT_SHORT: &[&[u8]] = &[
     b"request 1 2\n3\n",
     b"port 1\n",
     b"unknown 99 -\n",
+    b"unchok\n",
+    b"unchoke",
+    b"unchokes\n",
+    b"uninterested\n",
 ];
 
 fn takes(alloc: Global, text: &[u8], bytes: &[u8], following: &[u8]) -> bool {

@@ -32,9 +32,38 @@ fn following(text: &[u8]) -> &[u8]
 
 /// Returns the number in front, and what follows the byte `stop` after it.
 ///
-/// `None` if there is none, or it is next to 2^32.
+/// `None` if there is none, it has more than eight digits, another byte follows it, or fewer than nine bytes are there.
 #[inline(always)]
-fn number_until(text: &[u8], stop: u8) -> Option<(u32, &[u8])>
+fn number_in_front(text: &[u8], stop: u8) -> Option<(u32, &[u8])>
+    ensures range { IfSome result (λ x. x.0 < 2 ^ 32) }
+    ensures split { IfSome result (λ x. text.now ≡ decimal x.0 ++ stop ∷ x.1.now) }
+{
+    if text.len() < 9 || !text[0].is_ascii_digit() {
+        return None;
+    }
+    let mut n = (text[0] - b'0') as u32;
+    for at in 1..9 {
+        let byte = text[at];
+        if !byte.is_ascii_digit() {
+            return if byte == stop {
+                Some((n, &text[at + 1..]))
+            } else {
+                None
+            };
+        }
+        if n == 0 {
+            return None;
+        }
+        n = n * 10 + (byte - b'0') as u32;
+    }
+    None
+}
+
+/// Returns the number in front, of up to ten digits, and what follows the byte `stop` after it.
+///
+/// `None` if there is none, or it is next to 2^32.
+#[inline(never)]
+fn number_by_digits(text: &[u8], stop: u8) -> Option<(u32, &[u8])>
     ensures range { IfSome result (λ x. x.0 < 2 ^ 32) }
     ensures split { IfSome result (λ x. text.now ≡ decimal x.0 ++ stop ∷ x.1.now) }
 {
@@ -59,6 +88,20 @@ fn number_until(text: &[u8], stop: u8) -> Option<(u32, &[u8])>
         rest = following(rest);
     }
     None
+}
+
+/// Returns the number in front, and what follows the byte `stop` after it.
+///
+/// `None` if there is none, or it is next to 2^32.
+#[inline(always)]
+fn number_until(text: &[u8], stop: u8) -> Option<(u32, &[u8])>
+    ensures range { IfSome result (λ x. x.0 < 2 ^ 32) }
+    ensures split { IfSome result (λ x. text.now ≡ decimal x.0 ++ stop ∷ x.1.now) }
+{
+    match number_in_front(text, stop) {
+        Some(found) => Some(found),
+        None => number_by_digits(text, stop),
+    }
 }
 
 /// Appends the message of an id that has no fields.

@@ -2,7 +2,7 @@ use Rattle.std.proofs.Common.{arith, rules}
 use Rattle.bt_bencode.proofs.Passing.{number_begins, number_grows}
 use Rattle.bt_bencode.specs.Scanner.{IsDigit}
 use Rattle.std.specs.Prelude.{get_or}
-use Rattle.bt_text.proofs.script.short.number_until.Goals as goal
+use Rattle.bt_text.proofs.script.short.number_by_digits.Goals as goal
 
 pub loop-rest-init : goal.loop-rest-init
 loop-rest-init c =

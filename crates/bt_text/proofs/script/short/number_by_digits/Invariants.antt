@@ -1,7 +1,7 @@
 -- The digits before the rest are the number's.
 use Rattle.std.proofs.Common.{◌≡◌, ◌<◌, ◌^◌, ◌++◌, length}
 use Rattle.std.specs.Fmt.{decimal}
-use Rattle.bt_text.proofs.script.short.number_until.Given as goal
+use Rattle.bt_text.proofs.script.short.number_by_digits.Given as goal
 
 abbrev pub invariant-loop-rest : goal.invariant-loop-rest
 invariant-loop-rest l = record {
