@@ -110,6 +110,8 @@ ALL = (b"\0\0\0\0" + message(5, b"\xff\xc0") + message(0) + message(1) + message
        + extended(3, b"d8:msg_typei1e5:piecei0e10:total_sizei5eehello") + extended(3, b"d8:msg_typei2e5:piecei4ee")
        + extended(3, b"d8:msg_typei9ee??") + extended(3, b"de?") + extended(0, b"de"))
 
+MIXED = [b"Name 1.2", b"a \"b\"", "\u00b5T".encode(), b"\\x\n"]
+
 # The options, the stream, and the texts of peer ids and clients that have to be there.
 ROWS = [
     ([], hand(PEER), [PEER.decode()]),
@@ -124,6 +126,12 @@ ROWS = [
     ([], hand(PEER) + extended(0, b"d1:vi7ee") + extended(0, b"d1:vl1:aee") + extended(0, b"d1:v1:a1:v1:be"),
      [PEER.decode(), None, None, "a"]),
     ([], hand(PEER) + client(b"x" * 200000), [PEER.decode(), "x" * 200000]),
+    ([], hand(PEER) + b"".join(client(b"x" * n) for n in (255, 256, 257)), [PEER.decode(), "x" * 255, "x" * 256, "x" * 257]),
+    ([], hand(PEER) + b"".join(client(bytes([byte])) for byte in range(256)),
+     [PEER.decode()] + [text_of(bytes([byte])) for byte in range(256)]),
+    # (the text grows at many places of a line, before names that are put at once and others)
+    ([], hand(PEER) + b"".join(message(4, numbers(n)) * (n % 7) + client(MIXED[n % 4] * (n % 90)) for n in range(3000)),
+     [PEER.decode()] + [(MIXED[n % 4] * (n % 90)).decode() for n in range(3000)]),
     ([], hand(PEER) + message(4), [PEER.decode()]),
     ([], b"", []),
     ([], b"GET / HTTP/1.1\r\n\r\n", []),

@@ -13,6 +13,7 @@ ghost use Rattle.bt_jobs.specs.Printed.{IsFlushed, Prints, form_of, text_in, tex
 ghost use Rattle.bt_jobs.specs.declared.printer.Form.TheVariants as shape;
 
 use crate::output::write_out;
+use bt_ext::ExtView;
 use bt_feed::{Sink, SinkFault, Target, View};
 use bt_text::ended::{Ended, ToolFault};
 use bt_text::lines::{put_handshake, put_message, verdict_line};
@@ -34,6 +35,11 @@ pub enum Form {
 
 /// How many bytes of room a message's line needs.
 const LINE_ROOM: usize = 160;
+
+/// How many bytes of room an extended handshake's object needs.
+///
+/// That of one whose client's name is short and plain.
+const EXT_HANDSHAKE_ROOM: usize = 512;
 
 /// How many bytes the text grows by if it has no room.
 const GROWTH: usize = 8192;
@@ -174,6 +180,31 @@ fn put_object(
     }
 }
 
+/// Adds the object of an item that `put_object` doesn't put.
+///
+/// It is added to what is used of the text; returns how much is used then. An extended handshake's object is put straight
+/// into the text, unless its client's name is long or needs an escape.
+#[inline(never)]
+fn add_long_object(
+    alloc: Global,
+    at: u64,
+    view: &View,
+    offset: &mut Offset,
+    text: &mut Vec<u8>,
+    used: usize,
+) -> Result<usize, AllocError>
+    ensures { IfOk result (λ n. (own : Receiver) → take n text.new.items ≡ take used text.old.items ++ object_of own (at, item_of view.now)) }
+{
+    let View::Message(MessageView::Extended(ExtView::Handshake { dict, rest })) = view else {
+        return add_tokens(alloc, at, view, text, used);
+    };
+    let place = make_room(text, used, EXT_HANDSHAKE_ROOM)?;
+    match bt_json::put_ext_handshake_line(offset, at, dict, rest, text.as_mut_slice(), place) {
+        Some(end) => Ok(end),
+        None => add_tokens(alloc, at, view, text, place),
+    }
+}
+
 /// Adds the object of an item to what is used of the text; returns how much is used then.
 #[inline(never)]
 fn add_object(
@@ -189,7 +220,7 @@ fn add_object(
     match make_room(text, used, LINE_ROOM) {
         Ok(place) => match put_object(at, view, offset, text.as_mut_slice(), place) {
             Some(end) => Ok(end),
-            None => add_tokens(alloc, at, view, text, place),
+            None => add_long_object(alloc, at, view, offset, text, place),
         },
         Err(error) => Err(error),
     }
