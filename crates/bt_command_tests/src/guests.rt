@@ -1,4 +1,6 @@
 //! Serving over connections in memory, of which calls fail, and where memory is refused.
+ghost use Rattle.std.specs.Prelude.{◌≡◌};
+
 use bt_end::{Announce, Config, End, Role, Window};
 use bt_exchange::{Connection, rest_after};
 use bt_ext::{ExtId, Registered, Rules};
@@ -110,6 +112,8 @@ struct Two<'a> {
     entered: u64,
     inside: usize,
     rounds: u64,
+    /// How many turns it heard of in which a connection handled an item.
+    heard: u64,
     first: Option<Parting>,
     second: Option<Parting>,
 }
@@ -146,6 +150,10 @@ impl<'a> Door for Two<'a> {
         Some((leech, number))
     }
 
+    fn handled(&mut self) {
+        self.heard = self.heard.saturating_add(1);
+    }
+
     fn rest(&mut self, _is_idle: bool) {
         self.rounds = self.rounds.saturating_add(1);
     }
@@ -160,24 +168,27 @@ impl<'a> Door for Two<'a> {
     }
 }
 
-/// A service of two connections: its answer, how many ends fetched, and how the connections ended.
+/// A service of two connections: its answer, how many ends fetched, of how many turns with an item the door heard, and how the
+/// connections ended.
 #[derive(Clone, Copy)]
 struct Came {
     answer: Result<(), Memory>,
     fetched: u64,
+    heard: u64,
     first: Option<Parting>,
     second: Option<Parting>,
 }
 
-fn answer(alloc: Global, metadata: &Rc<Vec<u8>>, door: &mut Two) -> Result<(), Memory> {
-    let hospitality = Hospitality {
+fn hospitality() -> Hospitality
+    ensures { result.limit ≡ 32768 }
+{
+    Hospitality {
         info_hash: ABC,
         peer_id: [48; 20],
         rules: Rules::Bep,
         limit: 32_768,
         patience: 60,
-    };
-    serve(alloc, &hospitality, metadata, Some(2), door)
+    }
 }
 
 /// Serves the metadata to two ends.
@@ -190,13 +201,15 @@ fn served(alloc: Global, metadata: &Rc<Vec<u8>>, fails_at: Option<u64>) -> Came 
         entered: 0,
         inside: 0,
         rounds: 0,
+        heard: 0,
         first: None,
         second: None,
     };
-    let answer = answer(alloc, metadata, &mut door);
+    let answer = serve(alloc, &hospitality(), metadata, Some(2), &mut door);
     Came {
         answer,
         fetched: fetched.get(),
+        heard: door.heard,
         first: door.first,
         second: door.second,
     }
@@ -238,8 +251,9 @@ fn is_closed(parting: Option<Parting>) -> bool {
     )
 }
 
+/// A connection handles four items, so the door hears of eight turns at most.
 fn how(came: &Came) -> Went {
-    if came.answer != Ok(()) || came.second != WHOLE {
+    if came.answer != Ok(()) || came.second != WHOLE || !matches!(came.heard, 1..=8) {
         Went::Wrong
     } else if came.fetched == 2 && came.first == WHOLE {
         Went::Unharmed
@@ -296,6 +310,140 @@ fn is_right(alloc: Global) -> bool {
 #[test]
 fn memory_is_refused_or_all_are_served(rt: HostRuntime) {
     assert!(rt; is_right(rt.alloc()));
+}
+
+/// A peer's handshake (BEP 3), with the bits of both extensions.
+const HAND: &[u8; 68] = b"\x13BitTorrent protocol\0\0\0\0\0\x10\0\x04\
+\xa9\x99\x3e\x36\x47\x06\x81\x6a\xba\x3e\x25\x71\x78\x50\xc2\x6c\x9c\xd0\xd8\x9d-XX0001-000000000000";
+
+/// A peer that takes what is sent, says its handshake late, and nothing after it.
+#[derive(Drop)]
+struct Late {
+    said: usize,
+    calls: u64,
+    time: u64,
+}
+
+impl Connection for Late {
+    ghost use Rattle.std.specs.Prelude.{None, false};
+
+    ghost seen = { λ s. record {
+      coming = None;
+      gone = None;
+      counts = record { calls = s.calls; ends = 0; failed = 0; clock = s.time };
+    } };
+
+    ghost prompt = { false };
+
+    fn read(&mut self, into: &mut [u8]) -> Result<Option<usize>, Failed> {
+        self.calls = self.calls.saturating_add(1);
+        let Some(rest) = HAND.get(self.said..) else {
+            return Ok(None);
+        };
+        let count = rest.len().min(into.len());
+        if self.calls < 64 || count == 0 {
+            return Ok(None);
+        }
+        into[..count].copy_from_slice(&rest[..count]);
+        self.said = self.said.saturating_add(count);
+        Ok(Some(count))
+    }
+
+    fn write(&mut self, from: &[u8]) -> Result<Option<usize>, Failed> {
+        self.calls = self.calls.saturating_add(1);
+        if from.is_empty() {
+            return Ok(None);
+        }
+        Ok(Some(from.len()))
+    }
+
+    fn now(&mut self) -> u64 {
+        self.time = self.calls / 16;
+        self.time
+    }
+}
+
+/// Lets in one connection, and counts the rounds in which none can go on, the others, and the turns with an item.
+#[derive(Drop)]
+struct Counting {
+    inside: usize,
+    has_entered: bool,
+    rounds: u64,
+    idle: u64,
+    busy: u64,
+    heard: u64,
+}
+
+impl Door for Counting {
+    type Link = Late;
+
+    type Name = ();
+
+    ghost inside = { λ d. d.inside };
+
+    ghost places = { λ d. 1 };
+
+    ghost rounds = { λ d. d.rounds };
+
+    fn has_place(&self) -> bool {
+        self.inside < 1
+    }
+
+    fn enter(&mut self) -> Option<(Late, ())> {
+        if self.has_entered {
+            return None;
+        }
+        self.has_entered = true;
+        self.inside += 1;
+        let late = Late {
+            said: 0,
+            calls: 0,
+            time: 0,
+        };
+        Some((late, ()))
+    }
+
+    fn handled(&mut self) {
+        self.heard = self.heard.saturating_add(1);
+    }
+
+    fn rest(&mut self, is_idle: bool) {
+        self.rounds = self.rounds.saturating_add(1);
+        if is_idle {
+            self.idle = self.idle.saturating_add(1);
+        } else {
+            self.busy = self.busy.saturating_add(1);
+        }
+    }
+
+    fn ended(&mut self, _name: (), _parting: Parting) {
+        self.inside -= 1;
+    }
+}
+
+/// How many rounds were idle and how many weren't, and how many turns had an item, until a late peer was left.
+fn waited(alloc: Global) -> Option<(u64, u64, u64)> {
+    let metadata = metadata(alloc)?;
+    let mut door = Counting {
+        inside: 0,
+        has_entered: false,
+        rounds: 0,
+        idle: 0,
+        busy: 0,
+        heard: 0,
+    };
+    serve(alloc, &hospitality(), &metadata, Some(1), &mut door).ok()?;
+    Some((door.idle, door.busy, door.heard))
+}
+
+/// Only the round in which a connection enters and the one in which it ends aren't idle, also if an item was handled in another.
+#[test]
+fn a_round_with_an_item_is_idle(rt: HostRuntime) {
+    let waited = waited(rt.alloc());
+    assert!(rt;
+        matches!(waited, Some((idle, 2, 1)) if idle > 64),
+        "{waited:?}"
+    );
 }
 
 /// Info dictionaries, and how many pieces they have: 20 bytes of `pieces` for each (BEP 3).

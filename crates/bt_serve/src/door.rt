@@ -51,6 +51,14 @@ pub trait Door {
         ensures told { told self.new ≡ told self.old }
         ensures rounds { rounds self.new ≡ rounds self.old };
 
+    /// Hears that a connection handled an item in its turn.
+    fn handled(&mut self)
+        ensures inside { inside self.new ≡ inside self.old }
+        ensures places { places self.new ≡ places self.old }
+        ensures told { told self.new ≡ told self.old }
+        ensures rounds { rounds self.new ≡ rounds self.old }
+    {}
+
     /// Ends a round, in which each connection had its turn. Waits a moment, if none of them can go on.
     fn rest(&mut self, is_idle: bool)
         ensures inside { inside self.new ≡ inside self.old }

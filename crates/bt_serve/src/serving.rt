@@ -104,9 +104,20 @@ fn after_turn<T: Drop>(pace: Option<Pace>, at: usize, guests: &mut Vec<T>) -> us
     at
 }
 
+/// Tells the door of a connection that handled an item.
+fn tell_handled<D: Door>(door: &mut D, has_handled: bool)
+    ensures inside { D.inside door.new ≡ D.inside door.old }
+    ensures told { D.told door.new ≡ D.told door.old }
+    ensures rounds { D.rounds door.new ≡ D.rounds door.old }
+{
+    if has_handled {
+        door.handled();
+    }
+}
+
 /// Gives each connection its turn, and drops those that ended.
 ///
-/// It returns how many ended, and whether one can go on at once or has handled an item.
+/// It returns how many ended, and whether one can go on at once.
 fn tend_all<D: Door>(door: &mut D, guests: &mut Guests<D>) -> (u64, bool)
     requires { vec_len guests.old ≤ D.inside door.old }
     ensures inside { D.inside door.new + vec_len guests.old ≡ D.inside door.old + vec_len guests.new }
@@ -125,7 +136,8 @@ fn tend_all<D: Door>(door: &mut D, guests: &mut Guests<D>) -> (u64, bool)
         let name = guests[at].1;
         let before = guests[at].0.handled();
         let pace = tend_one(door, name, &mut guests[at].0);
-        is_busy |= (pace == Some(Pace::GoesOn)) | (guests[at].0.handled() != before);
+        tell_handled(door, guests[at].0.handled() != before);
+        is_busy |= pace == Some(Pace::GoesOn);
         ended += one_if_gone(pace);
         at = after_turn(pace, at, guests);
     }

@@ -31,7 +31,7 @@ pub struct TcpDoor<'a, R: Net + Clock, F: Farewell + Drop> {
     inside: usize,
     places: usize,
     rounds: u64,
-    /// How long the last wait was, in microseconds; 0 after a round that wasn't idle.
+    /// How long the last wait was, in microseconds; 0 if an item was handled since, or a round wasn't idle.
     pause: u64,
 }
 
@@ -103,6 +103,10 @@ impl<'a, R: Net + Clock, F: Farewell + Drop> Door for TcpDoor<'a, R, F> {
     }
 
     // The waits begin short after an item, since a peer that is near sends the next one soon.
+    fn handled(&mut self) {
+        self.pause = 0;
+    }
+
     fn rest(&mut self, is_idle: bool) {
         self.rounds = self.rounds.saturating_add(1);
         if !is_idle {
