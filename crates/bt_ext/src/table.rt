@@ -1,5 +1,5 @@
 //! The names and ids that a peer announced (BEP 10). Which pairs of `m` count is in `told`.
-ghost use Rattle.std.specs.Prelude.{◌≡◌, ◌+◌, ◌<◌, ◌≤◌, [], ◌∷◌, ◌++◌, length, min, OnOk, OnErr, IfOk, IfSome, IsTrue, vec_len, vec_capacity};
+ghost use Rattle.std.specs.Prelude.{◌≡◌, ◌↔◌, ◌+◌, ◌<◌, ◌≤◌, [], ◌∷◌, ◌++◌, length, min, OnOk, OnErr, IfOk, IfSome, IsTrue, vec_len, vec_capacity};
 ghost use Rattle.bt_bencode.specs.Trees.{dictionary};
 ghost use Rattle.bt_bencode.specs.Views.{tree_of};
 ghost use Rattle.bt_ext.specs.Tables.{Entries, id_of_name, told_ids, entered, entered_all, applied, IsTable};
@@ -21,10 +21,13 @@ const MAX_NAMES: usize = 256;
 /// The longest name that a table keeps.
 const MAX_NAME: usize = 255;
 
-/// The most pairs that are entered in place, without a set of the table's names.
+/// The most pairs that are entered without a set of the table's names.
 ///
 /// So many searches of a full table cost less than the set.
 const FEW: usize = 16;
+
+/// For how many names more than it has a table may have room when a handshake changes only ids.
+const SPARE: usize = 16;
 
 /// The peer's names of extensions and the ids under which it wants them (BEP 10).
 ///
@@ -137,6 +140,15 @@ fn enter<A: Allocator + Copy>(
         None => {}
     }
     Ok(())
+}
+
+/// Returns whether a table has no more room than few names need.
+///
+/// Else its entries are moved to where they have less, so that its memory follows its names.
+fn has_little_room<A: Allocator>(entries: &Vec<(Name<A>, u8), A>) -> bool
+    ensures { IsTrue result ↔ (vec_capacity entries.now ≤ vec_len entries.now + 16) }
+{
+    entries.capacity() <= entries.len() + SPARE
 }
 
 /// Returns whether no pair adds or removes a name.
@@ -297,6 +309,19 @@ fn set_ids<A: Allocator>(entries: &mut Vec<(Name<A>, u8), A>, places: &[(usize, 
     }
 }
 
+/// Returns an empty vector with room for a table after few pairs, 256 names at most.
+fn room_for<A: Allocator>(
+    alloc: A,
+    entries: &[(Name<A>, u8)],
+    copies: &[(Name<A>, u8)],
+) -> Result<Vec<(Name<A>, u8), A>, AllocError>
+    ensures empty { IfOk result (λ room. room.items ≡ []) }
+    ensures room { IfOk result (λ room. min (length entries.now + length copies.now) 256 ≤ vec_capacity room) }
+{
+    let most = (entries.len() + copies.len()).min(MAX_NAMES);
+    Vec::with_capacity(alloc, most)
+}
+
 /// Moves the entries to where there is room, and takes ids for names there, without an allocation.
 fn enter_in_room<A: Allocator>(
     entries: &mut Vec<(Name<A>, u8), A>,
@@ -438,7 +463,7 @@ impl<A: Allocator + Copy> Table<A> {
         Ok(next)
     }
 
-    /// Takes ids for few names, in place.
+    /// Takes ids for few names.
     ///
     /// All memory is there before the first change, so the table stays if memory runs out.
     fn enter_few(&mut self, told: &[(&[u8], u8)]) -> Result<(), AllocError>
@@ -446,10 +471,8 @@ impl<A: Allocator + Copy> Table<A> {
         ensures memory { OnErr result (self.new ≡ self.old) }
     {
         let copies = copy_told(*self.entries.allocator(), told)?;
-        // A table needs room for 256 names at most, so handshakes that come again and again don't make it grow.
-        let room = MAX_NAMES - self.entries.len();
-        self.entries.reserve_exact(copies.len().min(room))?;
-        enter_copies(&mut self.entries, copies);
+        let room = room_for(*self.entries.allocator(), &self.entries, &copies)?;
+        enter_in_room(&mut self.entries, copies, room);
         Ok(())
     }
 
@@ -461,7 +484,7 @@ impl<A: Allocator + Copy> Table<A> {
         renumber_all(&mut self.entries, told);
     }
 
-    /// Takes ids for names, in place if they are few.
+    /// Takes ids for names, without a set of the table's names if they are few.
     fn take_told(&mut self, told: &[(&[u8], u8)]) -> Result<(), AllocError>
         ensures ok { OnOk result (self.new ≡ entered_all (entries_of told.now) self.old) }
         ensures memory { OnErr result (self.new ≡ self.old) }
@@ -470,7 +493,7 @@ impl<A: Allocator + Copy> Table<A> {
             *self = self.after(told)?;
             return Ok(());
         }
-        if keep_names(&self.entries, told) {
+        if has_little_room(&self.entries) && keep_names(&self.entries, told) {
             self.renumber_all(told);
             return Ok(());
         }
@@ -523,9 +546,7 @@ impl<A: Allocator + Copy> Table<A> {
     {
         let alloc = *self.entries.allocator();
         let copies = copy_told(alloc, told)?;
-        // A table never holds more, so its memory stays small however often handshakes come.
-        let most = (self.entries.len() + copies.len()).min(MAX_NAMES);
-        let room = Vec::with_capacity(alloc, most)?;
+        let room = room_for(alloc, &self.entries, &copies)?;
         Ok(Change::Enter { copies, room })
     }
 
@@ -535,6 +556,9 @@ impl<A: Allocator + Copy> Table<A> {
     {
         if told.len() > FEW {
             return Ok(Change::Replace(self.after(told)?));
+        }
+        if !has_little_room(&self.entries) {
+            return self.enter_later(told);
         }
         match places_of(*self.entries.allocator(), &self.entries, told)? {
             Some(places) => Ok(Change::Renumber(places)),

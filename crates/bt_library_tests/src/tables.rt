@@ -2,10 +2,16 @@
 use crate::bencode::padded;
 use bt_bencode::{check, read_dict};
 use bt_ext::Table;
-use std::alloc::{AllocError, Global};
+use linked_list_allocator::LocalHeap;
+use std::alloc::{AllocError, Allocator, Global};
 
 /// Whether the name has the id after the payload is applied to the table.
-fn applies(table: &mut Table, payload: &[u8], name: &[u8], id: Option<u8>) -> bool {
+fn applies<A: Allocator + Copy>(
+    table: &mut Table<A>,
+    payload: &[u8],
+    name: &[u8],
+    id: Option<u8>,
+) -> bool {
     match check(payload) {
         Ok((dict, _)) => table.apply_ref(&dict).is_ok() && table.id_of(name) == id,
         Err(_) => false,
@@ -13,7 +19,12 @@ fn applies(table: &mut Table, payload: &[u8], name: &[u8], id: Option<u8>) -> bo
 }
 
 /// Whether the name has the id after the change that the payload makes is prepared, and not before it is made.
-fn changes(table: &mut Table, payload: &[u8], name: &[u8], id: Option<u8>) -> bool {
+fn changes<A: Allocator + Copy>(
+    table: &mut Table<A>,
+    payload: &[u8],
+    name: &[u8],
+    id: Option<u8>,
+) -> bool {
     let before = table.id_of(name);
     match check(payload) {
         Ok((dict, _)) => match table.prepare(&dict) {
@@ -105,15 +116,26 @@ const FILLINGS: &[Filling] = &[
     (256, b"3:newi7e", b"new", None),
 ];
 
-fn filling(alloc: Global, count: u16, pairs: &[u8]) -> Result<Vec<u8>, AllocError> {
+/// A handshake with the names of two bytes from one number to before another, each with the id of this digit, and pairs after them.
+fn numbered(
+    alloc: Global,
+    from: u16,
+    to: u16,
+    digit: u8,
+    pairs: &[u8],
+) -> Result<Vec<u8>, AllocError> {
     let mut payload = b"d1:md".to_vec(alloc)?;
-    for number in 0..count {
+    for number in from..to {
         let [high, low] = number.to_be_bytes();
-        payload.extend_from_slice(&[b'2', b':', high, low, b'i', b'1', b'e'])?;
+        payload.extend_from_slice(&[b'2', b':', high, low, b'i', digit, b'e'])?;
     }
     payload.extend_from_slice(pairs)?;
     payload.extend_from_slice(b"ee")?;
     Ok(payload)
+}
+
+fn filling(alloc: Global, count: u16, pairs: &[u8]) -> Result<Vec<u8>, AllocError> {
+    numbered(alloc, 0, count, b'1', pairs)
 }
 
 /// What takes the id from one name, gives another its own, and has a new one.
@@ -160,6 +182,63 @@ fn fillings_prepared(rt: HostRuntime) {
     for row in FILLINGS {
         assert!(rt; is_right_prepared(rt.alloc(), row), "{} {:?}", row.0, row.2);
     }
+}
+
+/// How many parts of 64 bytes a heap of 65,536 bytes has left.
+fn left(alloc: Global, heap: &LocalHeap) -> usize {
+    let mut parts = Vec::new(alloc);
+    for _ in 0..1_024 {
+        let Ok(part) = Vec::<u8, &LocalHeap>::with_capacity(heap, 64) else {
+            break;
+        };
+        if parts.push(part).is_err() {
+            break;
+        }
+    }
+    parts.len()
+}
+
+/// Whether the first name has the id after a handshake, which is applied or prepared.
+fn tells<A: Allocator + Copy>(
+    table: &mut Table<A>,
+    payload: &[u8],
+    id: u8,
+    prepares: bool,
+) -> bool {
+    if prepares {
+        changes(table, payload, b"\0\0", Some(id))
+    } else {
+        applies(table, payload, b"\0\0", Some(id))
+    }
+}
+
+/// Whether a table that had 256 names and has one takes few parts of its heap once a handshake tells that name again.
+fn takes_little(alloc: Global, heap: &LocalHeap, many: &[u8], none: &[u8], prepares: bool) -> bool {
+    let before = left(alloc, heap);
+    let mut table = Table::new(heap);
+    tells(&mut table, many, 1, prepares)
+        && tells(&mut table, none, 1, prepares)
+        && tells(&mut table, b"d1:md2:\0\0i5eee", 5, prepares)
+        && before > 500
+        && before <= left(alloc, heap).saturating_add(24)
+}
+
+fn takes_little_of_a_heap(alloc: Global, prepares: bool) -> bool {
+    match (
+        LocalHeap::new(alloc, 65_536),
+        filling(alloc, 256, b""),
+        numbered(alloc, 1, 256, b'0', b""),
+    ) {
+        (Ok(heap), Ok(many), Ok(none)) => takes_little(alloc, &heap, &many, &none, prepares),
+        _ => false,
+    }
+}
+
+/// A table's memory follows its names.
+#[test]
+fn memory_of_names(rt: HostRuntime) {
+    assert!(rt; takes_little_of_a_heap(rt.alloc(), false));
+    assert!(rt; takes_little_of_a_heap(rt.alloc(), true));
 }
 
 /// A name of 255 letters, and one of 256.
