@@ -127,6 +127,7 @@ ROWS = [
      [PEER.decode(), None, None, "a"]),
     ([], hand(PEER) + client(b"x" * 200000), [PEER.decode(), "x" * 200000]),
     ([], hand(PEER) + b"".join(client(b"x" * n) for n in (255, 256, 257)), [PEER.decode(), "x" * 255, "x" * 256, "x" * 257]),
+    ([], hand(PEER) + b"".join(client(b"\x01" * n) for n in (255, 256, 257)), [PEER.decode(), "\x01" * 255, "\x01" * 256, "\x01" * 257]),
     ([], hand(PEER) + b"".join(client(bytes([byte])) for byte in range(256)),
      [PEER.decode()] + [text_of(bytes([byte])) for byte in range(256)]),
     # (the text grows at many places of a line, before names that are put at once and others)

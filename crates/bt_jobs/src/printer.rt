@@ -36,10 +36,8 @@ pub enum Form {
 /// How many bytes of room a message's line needs.
 const LINE_ROOM: usize = 160;
 
-/// How many bytes of room an extended handshake's object needs.
-///
-/// That of one whose client's name is short and plain.
-const EXT_HANDSHAKE_ROOM: usize = 512;
+/// How many bytes of room an extended handshake's object needs whose client's name isn't long.
+const EXT_HANDSHAKE_ROOM: usize = 1792;
 
 /// How many bytes the text grows by if it has no room.
 const GROWTH: usize = 8192;
@@ -183,7 +181,7 @@ fn put_object(
 /// Adds the object of an item that `put_object` doesn't put.
 ///
 /// It is added to what is used of the text; returns how much is used then. An extended handshake's object is put straight
-/// into the text, unless its client's name is long or needs an escape.
+/// into the text, unless its client's name is long.
 #[inline(never)]
 fn add_long_object(
     alloc: Global,

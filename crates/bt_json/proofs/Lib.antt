@@ -1,3 +1,3 @@
+pub mod EscapeLaws
 pub mod FieldLaws
 pub mod MemberLaws
-pub mod PlainLaws

@@ -1,3 +1,3 @@
 pub mod Members
 pub mod Objects
-pub mod Plain
+pub mod Short

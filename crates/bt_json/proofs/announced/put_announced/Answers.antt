@@ -2,7 +2,7 @@ use Rattle.std.proofs.Common.{take}
 use Rattle.std.specs.Prelude.{codes, option_map}
 use Rattle.json.specs.Print.{escape_byte}
 use Rattle.bt_json.specs.Objects.{number_or_null, text_or_null}
-use Rattle.bt_json.proofs.PlainLaws.{ends_number_or_null, ends_text_or_null, three_fields}
+use Rattle.bt_json.proofs.EscapeLaws.{ends_number_or_null, ends_text_or_null, three_fields}
 use Rattle.bt_json.proofs.announced.put_announced.Goals as goal
 
 pub returns-clause-text : goal.returns-clause-text

@@ -5,7 +5,7 @@ use Rattle.bt_bencode.specs.Bencoding.{ben}
 use Rattle.bt_bencode.specs.Trees.{Tree, dictionary}
 use Rattle.bt_json.specs.Objects.{announced_fields, kind_field, size_fields}
 use Rattle.bt_json.proofs.MemberLaws.{offset_line}
-use Rattle.bt_json.proofs.PlainLaws.{two_before}
+use Rattle.bt_json.proofs.EscapeLaws.{two_before}
 use Rattle.bt_json.proofs.announced.put_ext_handshake_line.Goals as goal
 
 pub returns-clause-text : goal.returns-clause-text

@@ -1,16 +1,14 @@
--- Laws of plain texts, and of the text of an extended handshake's line.
-use Rattle.std.proofs.Common.{◌≡◌, ◌≤◌, ◌<◌, ◌++◌, ◌∷◌, [], List, ℕ, Bool, true, false, not, ltb, ◌==◌, refl, sym, ap, ◌∙◌, append_assoc, arith}
-use Rattle.std.proofs.lemmas.Bool.{and_parts, eqb-false, ltb-true, not-true}
-use Rattle.std.specs.Prelude.{codes, decimal, IsUtf8, Option, Some, None, length, if◌then◌else◌}
-use Rattle.std.specs.List.{list_all}
+-- Laws of escapes, and of the text of an extended handshake's line.
+use Rattle.std.proofs.Common.{◌≡◌, ◌<◌, ◌≤◌, ◌/◌, ◌%◌, ◌++◌, ◌∷◌, [], List, ℕ, Bool, true, false, refl, sym, ap, ◌∙◌, append_assoc}
+use Rattle.std.proofs.lemmas.Bool.{lt-ltb, le-ltb}
+use Rattle.std.specs.Prelude.{codes, decimal, IsUtf8, Option, Some, None, if◌then◌else◌}
+use Rattle.std.specs.Char.{digit_char}
 use Rattle.std.specs.Str.{is_utf8}
-use Rattle.json.specs.Print.{ends, escape, print_from, quoted, token_text}
+use Rattle.json.specs.Print.{ends, escape, escape_byte, escape_letter, print_from, quoted, token_text}
 use Rattle.json.specs.Token.{Token, end_object, null, string}
-use Rattle.json.proofs.Printed.Strings.{escape_byte_plain}
-use Rattle.bt_json.proofs.FieldLaws.{is_text}
+use Rattle.bt_json.proofs.FieldLaws.{is_no_text, is_text}
 use Rattle.bt_json.specs.Members.{kind_and_name, named, rest_of_line}
 use Rattle.bt_json.specs.Objects.{a_field, a_number, kind_field, number_or_null, text_or_null}
-use Rattle.bt_json.specs.Plain.{IsPlain, is_plain_byte}
 
 pub ends_number_or_null : (o : Option ℕ) → ends (number_or_null o) ≡ true
 ends_number_or_null None = refl
@@ -57,33 +55,25 @@ two_before old kind name second n m fields =
     joined_front old (named (codes "item")) (quoted kind) (named name) (decimal n) (named second) (decimal m)
     (print_from true (fields ++ end_object ∷ [])) (codes "\n")
 
-record IsPlainByte (x : ℕ) : Type 0 where
-  low : 32 ≤ x
-  no_quote : x ≡ 34 → ⊥
-  no_slash : x ≡ 92 → ⊥
+-- ---- what stands in a string for a byte
 
-plain_byte : (x : ℕ) → is_plain_byte x ≡ true → IsPlainByte x
-plain_byte x e =
-    let a = and_parts (ltb 31 x) _ e in
-    let d = and_parts (not (x == 34)) (not (x == 92)) a.1 in
-    let low : 31 < x = ltb-true 31 x a.0 in
-    record {
-      low = omega (arith, low);
-      no_quote = eqb-false x 34 (not-true (x == 34) d.0);
-      no_slash = eqb-false x 92 (not-true (x == 92) d.1);
-    }
+pub escape_by_letter : (x : ℕ) → 0 < escape_letter x → escape_byte x ≡ 92 ∷ escape_letter x ∷ []
+unfolding escape_byte
+escape_by_letter x some = rw (lt-ltb 0 (escape_letter x) some) refl
 
-plain_escape : (s : List ℕ) → list_all is_plain_byte s ≡ true → escape s ≡ s
-plain_escape [] e = refl
-plain_escape (x ∷ xs) e =
-    let parts = and_parts (is_plain_byte x) (list_all is_plain_byte xs) e in
-    let byte = plain_byte x parts.0 in
-    λ i. escape_byte_plain x byte.no_quote byte.no_slash byte.low i ++ plain_escape xs parts.1 i
+pub escape_by_code : (x : ℕ) → escape_letter x ≡ 0 → x < 32
+    → escape_byte x ≡ 92 ∷ 117 ∷ 48 ∷ 48 ∷ digit_char (x / 16) ∷ digit_char (x % 16) ∷ []
+unfolding escape_byte
+escape_by_code x none low = rw (none, lt-ltb x 32 low) refl
 
--- what the three tests of a text show
-pub plain_text : (s : List ℕ) → length s ≤ 256 → list_all is_plain_byte s ≡ true → IsUtf8 s → IsPlain s
-plain_text s short e utf8 = (short, (utf8, plain_escape s e))
+pub escape_by_itself : (x : ℕ) → escape_letter x ≡ 0 → 32 ≤ x → escape_byte x ≡ x ∷ []
+unfolding escape_byte
+escape_by_itself x none high = rw (none, le-ltb x 32 high) refl
 
--- between quotes, a plain text is the text of its token
-pub plain_token : (s : List ℕ) → IsPlain s → codes "\"" ++ (s ++ codes "\"") ≡ token_text (text_or_null (Some s))
-plain_token s p = rw (is_text s p.1.0) (rw p.1.1 refl)
+-- ---- what a text is printed as
+
+pub text_token : (s : List ℕ) → IsUtf8 s → codes "\"" ++ (escape s ++ codes "\"") ≡ token_text (text_or_null (Some s))
+text_token s u = rw (is_text s u) refl
+
+pub no_text_token : (s : List ℕ) → (IsUtf8 s → ⊥) → codes "null" ≡ token_text (text_or_null (Some s))
+no_text_token s bad = rw (is_no_text s bad) refl
