@@ -32,20 +32,24 @@ const OBJECTS: &[(&[u8], &[u8])] = &[
     ),
     (
         b"\0\0\0\x3a\x14\0d1:md11:ut_metadatai3ee13:metadata_sizei31235e1:v2:bteyz",
-        b"before\n{\"offset\":68,\"item\":\"ext-handshake\",\"dictionary\":54,\"rest\":2,\"metadata_size\":31235,\"ut_metadata\":3,\"client\":\"bt\"}\n",
+        b"before\n{\"offset\":68,\"item\":\"ext-handshake\",\"dictionary\":54,\"rest\":2\
+,\"metadata_size\":31235,\"ut_metadata\":3,\"client\":\"bt\"}\n",
     ),
     (
         b"\0\0\0\x04\x14\0de",
-        b"before\n{\"offset\":68,\"item\":\"ext-handshake\",\"dictionary\":2,\"rest\":0,\"metadata_size\":null,\"ut_metadata\":null,\"client\":null}\n",
+        b"before\n{\"offset\":68,\"item\":\"ext-handshake\",\"dictionary\":2,\"rest\":0\
+,\"metadata_size\":null,\"ut_metadata\":null,\"client\":null}\n",
     ),
     // (names with escapes, in UTF-8 and not)
     (
         b"\0\0\0\x12\x14\0d1:v9:a\"b\\c\n\x1f\xc3\xa9e",
-        b"before\n{\"offset\":68,\"item\":\"ext-handshake\",\"dictionary\":16,\"rest\":0,\"metadata_size\":null,\"ut_metadata\":null,\"client\":\"a\\\"b\\\\c\\n\\u001f\xc3\xa9\"}\n",
+        b"before\n{\"offset\":68,\"item\":\"ext-handshake\",\"dictionary\":16,\"rest\":0\
+,\"metadata_size\":null,\"ut_metadata\":null,\"client\":\"a\\\"b\\\\c\\n\\u001f\xc3\xa9\"}\n",
     ),
     (
         b"\0\0\0\x0a\x14\0d1:v1:\xffe",
-        b"before\n{\"offset\":68,\"item\":\"ext-handshake\",\"dictionary\":8,\"rest\":0,\"metadata_size\":null,\"ut_metadata\":null,\"client\":null}\n",
+        b"before\n{\"offset\":68,\"item\":\"ext-handshake\",\"dictionary\":8,\"rest\":0\
+,\"metadata_size\":null,\"ut_metadata\":null,\"client\":null}\n",
     ),
 ];
 
