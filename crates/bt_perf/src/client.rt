@@ -4,29 +4,12 @@ ghost use Rattle.std.specs.Prelude.{◌<◌};
 use crate::digest::Digest;
 use crate::draw::Draw;
 use crate::receivers::receiver;
+use crate::results::{add_item, add_view};
 use crate::stopped::Stopped;
-use bt_ext::{ExtView, Rules};
-use bt_feed::{Feed, FeedError, ItemError, View, refusal_in};
-use bt_wire::{Item, Message, MessageView, Own};
+use bt_ext::Rules;
+use bt_feed::{Feed, FeedError, ItemError, refusal_in};
+use bt_wire::Own;
 use std::alloc::Global;
-
-/// Returns a number of a view that tells it from most others.
-fn weight(view: &View) -> u64 {
-    match view {
-        View::Handshake(_) => 1,
-        View::Message(MessageView::Have(index)) => u64::from(*index),
-        View::Message(MessageView::Request { index, begin, .. }) => {
-            u64::from(*index) ^ u64::from(*begin)
-        }
-        View::Message(MessageView::Piece { index, block, .. }) => {
-            u64::from(*index) ^ block.len() as u64
-        }
-        View::Message(MessageView::Extended(ExtView::Handshake { dict, .. })) => {
-            dict.spelled().len() as u64
-        }
-        View::Message(_) => 2,
-    }
-}
 
 /// Takes the items that a chunk completes.
 fn take_chunk(feed: &mut Feed, chunk: &[u8], digest: &mut Digest) -> Result<(), Stopped> {
@@ -36,7 +19,8 @@ fn take_chunk(feed: &mut Feed, chunk: &[u8], digest: &mut Digest) -> Result<(), 
         let at = feed.start();
         match feed.take() {
             Ok(Some(view)) => {
-                digest.add(at ^ weight(&view));
+                digest.add(at);
+                add_view(&view, digest);
                 digest.count(1);
             }
             Ok(None) => return Ok(()),
@@ -81,8 +65,10 @@ fn take_copies(
     for chunk in stream.chunks(16_384) {
         for item in feed.items(alloc, chunk) {
             match item {
-                Ok((at, Item::Message(Message::Have(index)))) => digest.add(at ^ u64::from(index)),
-                Ok((at, _)) => digest.add(at),
+                Ok((at, item)) => {
+                    digest.add(at);
+                    add_item(&item, digest);
+                }
                 Err(ItemError::Refused(refusal)) => return Err(Stopped::Refused(refusal)),
                 Err(ItemError::Memory) => return Err(Stopped::Memory),
             }

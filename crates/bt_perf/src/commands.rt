@@ -1,8 +1,8 @@
 //! What `show`, `show --json`, `check`, `unpack` and `pack` do, on streams in memory.
-ghost use Rattle.std.specs.Prelude.{◌≡◌};
+ghost use Rattle.std.specs.Prelude.{◌≤◌};
 
 use crate::digest::Digest;
-use crate::receivers::receiver;
+use crate::receivers::{patient, receiver};
 use crate::stopped::Stopped;
 use bt_ext::Rules;
 use bt_feed::{MemSource, MemTarget};
@@ -40,7 +40,7 @@ fn add(
 
 /// Shows a stream.
 fn show(alloc: Global, stream: &[u8], own: &Own, digest: &mut Digest) -> Result<(), Stopped>
-    requires { own.now.limit ≡ 262144 }
+    requires { (1 ≤ own.now.limit) × (own.now.limit ≤ 1048576) }
 {
     let mut target = target(alloc);
     let ended = run_show(alloc, &mut source(alloc, stream)?, &mut target, own);
@@ -49,7 +49,7 @@ fn show(alloc: Global, stream: &[u8], own: &Own, digest: &mut Digest) -> Result<
 
 /// Shows a stream as JSON.
 fn show_json(alloc: Global, stream: &[u8], own: &Own, digest: &mut Digest) -> Result<(), Stopped>
-    requires { own.now.limit ≡ 262144 }
+    requires { (1 ≤ own.now.limit) × (own.now.limit ≤ 1048576) }
 {
     let mut target = target(alloc);
     let ended = run_json(alloc, &mut source(alloc, stream)?, &mut target, own);
@@ -58,7 +58,7 @@ fn show_json(alloc: Global, stream: &[u8], own: &Own, digest: &mut Digest) -> Re
 
 /// Checks a stream.
 fn check(alloc: Global, stream: &[u8], own: &Own, digest: &mut Digest) -> Result<(), Stopped>
-    requires { own.now.limit ≡ 262144 }
+    requires { (1 ≤ own.now.limit) × (own.now.limit ≤ 1048576) }
 {
     let mut target = target(alloc);
     let ended = run_check(alloc, &mut source(alloc, stream)?, &mut target, own);
@@ -72,7 +72,7 @@ fn unpack(
     own: &Own,
     digest: &mut Digest,
 ) -> Result<MemTarget, Stopped>
-    requires { own.now.limit ≡ 262144 }
+    requires { (1 ≤ own.now.limit) × (own.now.limit ≤ 1048576) }
 {
     let mut target = target(alloc);
     let ended = run_unpack(alloc, &mut source(alloc, stream)?, &mut target, own);
@@ -82,7 +82,7 @@ fn unpack(
 
 /// Packs a script.
 fn pack(alloc: Global, script: &[u8], own: &Own, digest: &mut Digest) -> Result<(), Stopped>
-    requires { own.now.limit ≡ 262144 }
+    requires { (1 ≤ own.now.limit) × (own.now.limit ≤ 1048576) }
 {
     let mut target = target(alloc);
     match run_pack(alloc, &mut source(alloc, script)?, &mut target, own) {
@@ -132,4 +132,63 @@ pub fn there_and_back(alloc: Global, stream: &[u8], digest: &mut Digest) -> Resu
 pub fn judge(alloc: Global, stream: &[u8], digest: &mut Digest) -> Result<(), Stopped> {
     check(alloc, stream, &receiver(Rules::Bep, true), digest)?;
     check(alloc, stream, &receiver(Rules::Free, false), digest)
+}
+
+/// Counts a stream that has to be refused, and adds what was written: the message, the offset and the reason.
+fn add_refused(
+    ended: Result<Ended, ToolFault>,
+    target: &MemTarget,
+    digest: &mut Digest,
+) -> Result<(), Stopped> {
+    match ended {
+        Ok(Ended::Refused(refusal)) => {
+            digest.count(refusal.message);
+            digest.add_bytes(target.bytes());
+            Ok(())
+        }
+        Ok(Ended::Accepted { .. }) => Err(Stopped::Accepted),
+        Err(_) => Err(Stopped::Device),
+    }
+}
+
+/// Checks a stream that strict rules refuse, and so do lenient ones if `is_broken`.
+///
+/// # Errors
+/// `Stopped` if the verdict is another one, or when out of memory.
+pub fn refuse(
+    alloc: Global,
+    stream: &[u8],
+    is_broken: bool,
+    digest: &mut Digest,
+) -> Result<(), Stopped> {
+    let mut strict = target(alloc);
+    let ended = run_check(
+        alloc,
+        &mut source(alloc, stream)?,
+        &mut strict,
+        &patient(Rules::Bep),
+    );
+    add_refused(ended, &strict, digest)?;
+    let mut lenient = target(alloc);
+    let ended = run_check(
+        alloc,
+        &mut source(alloc, stream)?,
+        &mut lenient,
+        &patient(Rules::Free),
+    );
+    if is_broken {
+        add_refused(ended, &lenient, digest)
+    } else {
+        add(ended, &lenient, digest)
+    }
+}
+
+/// Shows and checks a stream by the lenient rules.
+///
+/// # Errors
+/// `Stopped` if the stream is refused, or when out of memory.
+pub fn read_leniently(alloc: Global, stream: &[u8], digest: &mut Digest) -> Result<(), Stopped> {
+    let own = receiver(Rules::Free, false);
+    show(alloc, stream, &own, digest)?;
+    check(alloc, stream, &own, digest)
 }

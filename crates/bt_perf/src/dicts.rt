@@ -143,3 +143,87 @@ pub fn put_data(dict: &mut Vec<u8>, piece: u32, total: u32) -> Result<(), AllocE
     put_integer(dict, total)?;
     put(dict, b"e")
 }
+
+/// Appends an extended handshake's dictionary whose keys aren't in order, as some clients send it.
+///
+/// # Errors
+/// `AllocError` when out of memory.
+pub fn put_unsorted(dict: &mut Vec<u8>, draw: &mut Draw) -> Result<(), AllocError> {
+    put(dict, b"d1:md11:ut_metadata")?;
+    put_integer(dict, 1 + draw.below(20))?;
+    put(dict, b"6:ut_pex")?;
+    put_integer(dict, 1 + draw.below(20))?;
+    put(dict, b"11:lt_donthave")?;
+    put_integer(dict, 1 + draw.below(20))?;
+    put(dict, b"e1:p")?;
+    put_integer(dict, draw.below(65_536))?;
+    put(dict, b"1:v13:BitLord 2.4.613:metadata_size")?;
+    put_integer(dict, draw.below(60_000_000))?;
+    put(dict, b"4:reqq")?;
+    put_integer(dict, 250 + draw.below(1_750))?;
+    put(dict, b"e")
+}
+
+/// Appends the dictionary of a peer exchange (BEP 11) with up to 50 addresses.
+///
+/// # Errors
+/// `AllocError` when out of memory.
+pub fn put_peers(dict: &mut Vec<u8>, draw: &mut Draw) -> Result<(), AllocError> {
+    let count = 1 + draw.below(50);
+    put(dict, b"d5:added")?;
+    put_decimal(dict, count * 6)?;
+    put(dict, b":")?;
+    for _peer in 0..count {
+        put(dict, &draw.next().to_be_bytes())?;
+        put(dict, b"\x1A\xE1")?;
+    }
+    put(dict, b"7:added.f")?;
+    put_decimal(dict, count)?;
+    put(dict, b":")?;
+    for _peer in 0..count {
+        put(dict, b"\x10")?;
+    }
+    put(dict, b"7:dropped0:e")
+}
+
+/// Appends a metadata request with the greatest integers that there are.
+///
+/// # Errors
+/// `AllocError` when out of memory.
+pub fn put_greatest(dict: &mut Vec<u8>, piece: u32) -> Result<(), AllocError> {
+    put(dict, b"d8:msg_typei0e5:piece")?;
+    put_integer(dict, piece)?;
+    put(
+        dict,
+        b"10:total_sizei9223372036854775807e1:zi-9223372036854775808ee",
+    )
+}
+
+/// Appends the dictionary of a handshake that changes the ids of up to 4 names of nobody's, and often of the two that are
+/// registered. The id 0 takes a name back.
+///
+/// # Errors
+/// `AllocError` when out of memory.
+pub fn put_renaming(
+    alloc: Global,
+    dict: &mut Vec<u8>,
+    first: u32,
+    draw: &mut Draw,
+) -> Result<(), AllocError> {
+    put(dict, b"d1:md")?;
+    for k in 0..1 + draw.below(4) {
+        put(dict, b"8:")?;
+        put_hex(alloc, dict, first.wrapping_add(k))?;
+        let id = (1 + draw.below(255)) * (draw.below(4).min(1));
+        put_integer(dict, id)?;
+    }
+    if draw.below(2) == 0 {
+        put(dict, b"11:lt_donthave")?;
+        put_integer(dict, draw.below(256))?;
+    }
+    if draw.below(2) == 0 {
+        put(dict, b"11:ut_metadata")?;
+        put_integer(dict, draw.below(256))?;
+    }
+    put(dict, b"ee")
+}

@@ -7,12 +7,13 @@ ghost use Rattle.std.specs.Prelude.{◌≤◌, length, IfOk};
 use crate::digest::Digest;
 use crate::draw::Draw;
 use crate::peers::{
-    BLOCK, GREATEST, great_seed, leecher, nuisance, opening, renamings, seed, strangers,
+    BLOCK, GREATEST, NAMES, crowd, great_seed, hellos, leecher, nuisance, opening, renamings, seed,
 };
 use crate::receivers::receiver;
 use crate::stopped::Stopped;
+use bt_bencode::check;
 use bt_end::{Announce, Config, End, EndError, Role, Turn, TurnError, Window};
-use bt_ext::Rules;
+use bt_ext::{ExtId, Rules, Table};
 use sha1::Sha1;
 use std::alloc::{AllocError, Global};
 
@@ -97,6 +98,21 @@ fn made(alloc: Global, hash: [u8; 20], rules: Rules, role: Role) -> Result<End, 
     }
 }
 
+/// Returns an id as a number, 0 if there is none.
+fn number(id: Option<ExtId>) -> u64 {
+    match id {
+        Some(id) => u64::from(id.get()),
+        None => 0,
+    }
+}
+
+/// Adds the ids under which the peer wants metadata messages and `lt_donthave`.
+fn add_names(end: &End, digest: &mut Digest) {
+    let reg = end.belief().reg;
+    digest.add(number(reg.metadata()));
+    digest.add(number(reg.donthave()));
+}
+
 /// Brings two parts of what a peer sends.
 fn bring_both(
     end: &mut End,
@@ -110,6 +126,7 @@ fn bring_both(
         Some(metadata) => digest.add_bytes(metadata),
         None => digest.add(0),
     }
+    add_names(end, digest);
     Ok(())
 }
 
@@ -149,7 +166,7 @@ fn serve_one(
     run(alloc, hash, rules(draw), role, &first, &second, digest)
 }
 
-/// Serves metadata to `count` peers, one after the other.
+/// Serves metadata of two blocks to `count` peers, one after the other.
 ///
 /// # Errors
 /// `Stopped` if an end refuses or can't be made, or when out of memory.
@@ -159,7 +176,7 @@ pub fn serve(
     draw: &mut Draw,
     digest: &mut Digest,
 ) -> Result<(), Stopped> {
-    let served = metadata(alloc, 20_000, draw)?;
+    let served = metadata(alloc, 16_385 + draw.below(16_000), draw)?;
     let hash = Sha1::digest(&served);
     for _peer in 0..count {
         serve_one(alloc, &served, hash, draw, digest)?;
@@ -237,6 +254,49 @@ pub fn fetch_nothing(
     fetch_one(alloc, [8; 20], GREATEST, &messages, draw, digest)
 }
 
+/// Adds the ids that a table of a peer's names has after it heard these dictionaries.
+fn look_up(
+    alloc: Global,
+    dicts: &[Vec<u8>],
+    first: u32,
+    digest: &mut Digest,
+) -> Result<(), Stopped> {
+    let mut table = Table::new(alloc);
+    for dict in dicts {
+        match check(dict) {
+            Ok((dict, _)) => table.apply_ref(&dict)?,
+            Err(_) => return Err(Stopped::Unmade),
+        }
+    }
+    for k in 0..NAMES {
+        let name = hex::encode(alloc, first.wrapping_add(k).to_be_bytes())?;
+        digest.add(u64::from(table.id_of(name.as_bytes()).unwrap_or(0)));
+    }
+    Ok(())
+}
+
+/// Hears a peer that sends these dictionaries as extended handshakes, in an end and in a table.
+fn hear(
+    alloc: Global,
+    dicts: &[Vec<u8>],
+    first: u32,
+    draw: &mut Draw,
+    digest: &mut Digest,
+) -> Result<(), Stopped> {
+    let begin = opening(alloc, &[9; 20], 0, draw)?;
+    let messages = hellos(alloc, dicts)?;
+    run(
+        alloc,
+        [9; 20],
+        Rules::Free,
+        Role::Watch,
+        &begin,
+        &messages,
+        digest,
+    )?;
+    look_up(alloc, dicts, first, digest)
+}
+
 /// Hears a peer that announces 256 names, and then `count` times 1 to 4 of them and of others.
 ///
 /// # Errors
@@ -248,19 +308,8 @@ pub fn hear_names(
     digest: &mut Digest,
 ) -> Result<(), Stopped> {
     let name = draw.next();
-    let mut first = opening(alloc, &[9; 20], 0, draw)?;
-    let table = strangers(alloc, name, 256)?;
-    first.extend_from_slice(&table)?;
-    let messages = renamings(alloc, name, count, draw)?;
-    run(
-        alloc,
-        [9; 20],
-        Rules::Free,
-        Role::Watch,
-        &first,
-        &messages,
-        digest,
-    )
+    let dicts = renamings(alloc, name, count, draw)?;
+    hear(alloc, &dicts, name, draw, digest)
 }
 
 /// Hears a peer that announces 10,000 names at once.
@@ -268,15 +317,7 @@ pub fn hear_names(
 /// # Errors
 /// `Stopped` if an end refuses or can't be made, or when out of memory.
 pub fn hear_many_names(alloc: Global, draw: &mut Draw, digest: &mut Digest) -> Result<(), Stopped> {
-    let first = opening(alloc, &[9; 20], 0, draw)?;
-    let names = strangers(alloc, draw.next(), 10_000)?;
-    run(
-        alloc,
-        [9; 20],
-        Rules::Free,
-        Role::Watch,
-        &first,
-        &names,
-        digest,
-    )
+    let name = draw.next();
+    let dicts = crowd(alloc, name)?;
+    hear(alloc, &dicts, name, draw, digest)
 }

@@ -8,8 +8,10 @@ mod dicts;
 mod digest;
 mod draw;
 mod ends;
+mod odd;
 mod peers;
 mod receivers;
+mod results;
 mod segments;
 mod stopped;
 mod streams;
@@ -25,7 +27,7 @@ use std::{env, io};
 
 /// How the program is called.
 const USAGE: &str = "\
-usage: bt_perf show|json|script|client|dicts|ends SEED ROUNDS
+usage: bt_perf show|json|script|client|dicts|ends|odd SEED ROUNDS
        bt_perf count SEED
 
 The first does so many rounds of a workload on inputs of the seed, and prints how many messages that were and a digest of all
@@ -64,6 +66,7 @@ fn workload(name: &str) -> Option<Workload> {
         "client" => Some(Workload::Client),
         "dicts" => Some(Workload::Dicts),
         "ends" => Some(Workload::Ends),
+        "odd" => Some(Workload::Odd),
         _ => None,
     }
 }
@@ -105,8 +108,9 @@ fn count_line(alloc: Global, seed: u32) -> Result<String, Stopped> {
     let client = counted(alloc, Workload::Client, seed)?;
     let dicts = counted(alloc, Workload::Dicts, seed)?;
     let ends = counted(alloc, Workload::Ends, seed)?;
+    let odd = counted(alloc, Workload::Odd, seed)?;
     Ok(format!(in alloc;
-        "show={show} json={json} script={script} client={client} dicts={dicts} ends={ends}"
+        "show={show} json={json} script={script} client={client} dicts={dicts} ends={ends} odd={odd}"
     )?)
 }
 

@@ -1,7 +1,7 @@
 //! What peers send to an end: honest ones that fetch or serve metadata, and hostile ones.
 
 use crate::bytes::put;
-use crate::dicts::{put_asking, put_data, put_greeting, put_strangers};
+use crate::dicts::{put_asking, put_data, put_greeting, put_renaming, put_strangers};
 use crate::draw::Draw;
 use crate::segments::{METADATA_ID, PIECES, put_extended};
 use crate::streams::put_handshake;
@@ -9,6 +9,9 @@ use std::alloc::{AllocError, Global};
 
 /// How many bytes a block of metadata has.
 pub const BLOCK: usize = 16_384;
+
+/// How many names of nobody's a peer uses.
+pub const NAMES: u32 = 300;
 
 /// The greatest size of metadata that an end fetches.
 pub const GREATEST: u32 = 67_108_864;
@@ -135,19 +138,33 @@ pub fn nuisance(alloc: Global, count: u32, draw: &mut Draw) -> Result<Vec<u8>, A
     Ok(bytes)
 }
 
-/// Returns an extended handshake with `count` names of nobody's from the number `first` on.
+/// Returns the dictionary of an extended handshake with `count` names of nobody's from the number `first` on.
 ///
 /// # Errors
 /// `AllocError` when out of memory.
-pub fn strangers(alloc: Global, first: u32, count: u32) -> Result<Vec<u8>, AllocError> {
+fn strangers(alloc: Global, first: u32, count: u32) -> Result<Vec<u8>, AllocError> {
     let mut dict = Vec::new(alloc);
     put_strangers(alloc, &mut dict, first, count)?;
-    let mut bytes = Vec::new(alloc);
-    put_extended(&mut bytes, 0, &dict, &[])?;
-    Ok(bytes)
+    Ok(dict)
 }
 
-/// Returns `count` extended handshakes of 1 to 4 names, each known or not to an end that knows 256 from `first` on.
+/// Adds a dictionary.
+fn add(dicts: &mut Vec<Vec<u8>>, dict: Vec<u8>) -> Result<(), AllocError> {
+    dicts.push(dict)?;
+    Ok(())
+}
+
+/// Returns the dictionary of a handshake with 10,000 names of nobody's from the number `first` on.
+///
+/// # Errors
+/// `AllocError` when out of memory.
+pub fn crowd(alloc: Global, first: u32) -> Result<Vec<Vec<u8>>, AllocError> {
+    let mut dicts = Vec::new(alloc);
+    add(&mut dicts, strangers(alloc, first, 10_000)?)?;
+    Ok(dicts)
+}
+
+/// Returns the dictionaries of a handshake with 256 names from `first` on, and of `count` with 1 to 4 names, of these or others.
 ///
 /// # Errors
 /// `AllocError` when out of memory.
@@ -156,12 +173,26 @@ pub fn renamings(
     first: u32,
     count: u32,
     draw: &mut Draw,
-) -> Result<Vec<u8>, AllocError> {
-    let mut bytes = Vec::new(alloc);
+) -> Result<Vec<Vec<u8>>, AllocError> {
+    let mut dicts = Vec::new(alloc);
+    add(&mut dicts, strangers(alloc, first, 256)?)?;
     for _handshake in 0..count {
-        let name = first.wrapping_add(draw.below(300));
-        let message = strangers(alloc, name, 1 + draw.below(4))?;
-        put(&mut bytes, &message)?;
+        let name = first.wrapping_add(draw.below(NAMES));
+        let mut dict = Vec::new(alloc);
+        put_renaming(alloc, &mut dict, name, draw)?;
+        add(&mut dicts, dict)?;
+    }
+    Ok(dicts)
+}
+
+/// Returns extended handshakes with these dictionaries.
+///
+/// # Errors
+/// `AllocError` when out of memory.
+pub fn hellos(alloc: Global, dicts: &[Vec<u8>]) -> Result<Vec<u8>, AllocError> {
+    let mut bytes = Vec::new(alloc);
+    for dict in dicts {
+        put_extended(&mut bytes, 0, dict, &[])?;
     }
     Ok(bytes)
 }

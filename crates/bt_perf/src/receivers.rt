@@ -6,7 +6,10 @@ use bt_ext::{ExtId, Registered, Rules};
 use bt_wire::{Own, Reserved};
 
 /// The limit of a message in bytes.
-pub const LIMIT: u32 = 262_144;
+const LIMIT: u32 = 262_144;
+
+/// The limit of a receiver that takes the longest messages.
+const GREATEST_LIMIT: u32 = 1_048_576;
 
 /// Returns a receiver with these rules, which knows how many pieces there are or doesn't.
 pub fn receiver(rules: Rules, knows_pieces: bool) -> Own
@@ -21,4 +24,13 @@ pub fn receiver(rules: Rules, knows_pieces: bool) -> Own
         rules,
         limit: LIMIT,
     }
+}
+
+/// Returns a receiver with these rules that takes the longest messages.
+pub fn patient(rules: Rules) -> Own
+    ensures { result.limit ≡ 1048576 }
+{
+    let mut own = receiver(rules, false);
+    own.limit = GREATEST_LIMIT;
+    own
 }

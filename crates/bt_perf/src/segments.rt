@@ -1,7 +1,9 @@
 //! Segments of streams: some messages each, made once, of which many streams are put together.
 
 use crate::bytes::put;
-use crate::dicts::{put_asking, put_greeting, put_many_pairs, put_nested};
+use crate::dicts::{
+    put_asking, put_greatest, put_greeting, put_many_pairs, put_nested, put_peers, put_unsorted,
+};
 use crate::draw::Draw;
 use std::alloc::{AllocError, Global};
 
@@ -10,6 +12,9 @@ pub const PIECES: u32 = 4_000;
 
 /// The id under which the receivers want metadata messages.
 pub const METADATA_ID: u8 = 3;
+
+/// The id of peer exchanges, which the receivers didn't register.
+const PEERS_ID: u8 = 1;
 
 /// How many messages a segment of small messages has, and one of blocks.
 pub const SMALL: u32 = 500;
@@ -34,6 +39,12 @@ pub enum Kind {
     ManyPairs,
     /// Dictionaries that nest deep.
     Nested,
+    /// Peer exchanges, under an id that the receivers didn't register.
+    Strange,
+    /// Metadata requests with the greatest integers.
+    Greatest,
+    /// Extended handshakes whose keys aren't in order.
+    Unsorted,
 }
 
 /// Appends a message that has three numbers.
@@ -118,6 +129,18 @@ fn put_dict(
         }
         Kind::Nested => {
             put_nested(dict, draw)?;
+            Ok(0)
+        }
+        Kind::Strange => {
+            put_peers(dict, draw)?;
+            Ok(PEERS_ID)
+        }
+        Kind::Greatest => {
+            put_greatest(dict, draw.below(4_096))?;
+            Ok(METADATA_ID)
+        }
+        Kind::Unsorted => {
+            put_unsorted(dict, draw)?;
             Ok(0)
         }
     }

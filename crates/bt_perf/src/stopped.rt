@@ -9,6 +9,8 @@ use thiserror::Error;
 pub enum Stopped {
     #[error("message {} at {}: {}", .0.message, .0.at, .0.reason)]
     Refused(Refusal),
+    #[error("a stream that has a fault is accepted")]
+    Accepted,
     #[error("a script is refused")]
     Script,
     #[error("a device fails")]

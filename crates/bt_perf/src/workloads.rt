@@ -1,10 +1,11 @@
 //! The workloads: what each does, and how much of it.
 
 use crate::client::parse;
-use crate::commands::{as_json, judge, look_at, there_and_back};
+use crate::commands::{as_json, judge, look_at, read_leniently, there_and_back};
 use crate::digest::Digest;
 use crate::draw::Draw;
 use crate::ends::{fetch, fetch_much, fetch_nothing, hear_many_names, hear_names, serve};
+use crate::odd::{Flawed, refuse_all};
 use crate::segments::Kind;
 use crate::stopped::Stopped;
 use crate::streams::{Part, Streams};
@@ -25,6 +26,8 @@ pub enum Workload {
     Dicts,
     /// Ends that serve and fetch metadata, with honest peers and hostile ones.
     Ends,
+    /// Extended messages under other ids, unsorted keys, the greatest integers, and streams of 1 MiB that are refused.
+    Odd,
 }
 
 /// Segments of one kind.
@@ -103,7 +106,9 @@ fn dicts(alloc: Global, seed: u32, rounds: u32, digest: &mut Digest) -> Result<(
 fn ends(alloc: Global, seed: u32, rounds: u32, digest: &mut Digest) -> Result<(), Stopped> {
     let mut draw = Draw::new(seed);
     for _round in 0..rounds {
-        serve(alloc, 200, &mut draw, digest)?;
+        for _torrent in 0..8 {
+            serve(alloc, 25, &mut draw, digest)?;
+        }
         fetch(alloc, 20, &mut draw, digest)?;
         fetch_nothing(alloc, 400, &mut draw, digest)?;
         hear_names(alloc, 100, &mut draw, digest)?;
@@ -115,6 +120,20 @@ fn ends(alloc: Global, seed: u32, rounds: u32, digest: &mut Digest) -> Result<()
         &mut draw,
         digest,
     )
+}
+
+fn odd(alloc: Global, seed: u32, rounds: u32, digest: &mut Digest) -> Result<(), Stopped> {
+    let legal = [part(Kind::Strange, 40), part(Kind::Greatest, 40)];
+    let unsorted = [part(Kind::Unsorted, 40)];
+    let mut sorted = Streams::new(alloc, seed, &legal)?;
+    let mut unsorted = Streams::new(alloc, seed, &unsorted)?;
+    let flawed = Flawed::new(alloc, seed)?;
+    for _round in 0..rounds {
+        judge(alloc, &sorted.next()?, digest)?;
+        read_leniently(alloc, &unsorted.next()?, digest)?;
+        refuse_all(alloc, &flawed, digest)?;
+    }
+    Ok(())
 }
 
 /// Does so many rounds of a workload on inputs of this seed.
@@ -130,6 +149,7 @@ pub fn work(alloc: Global, workload: Workload, seed: u32, rounds: u32) -> Result
         Workload::Client => client(alloc, seed, rounds, &mut digest)?,
         Workload::Dicts => dicts(alloc, seed, rounds, &mut digest)?,
         Workload::Ends => ends(alloc, seed, rounds, &mut digest)?,
+        Workload::Odd => odd(alloc, seed, rounds, &mut digest)?,
     }
     Ok(digest)
 }
