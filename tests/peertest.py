@@ -395,7 +395,9 @@ def interrupted(path, failures):
     """Ctrl-C ends it and its client, with a word."""
     port = client.free_port("127.0.0.1")
     words = [sys.executable, SUITE, "127.0.0.1:%d" % port, "--torrent", path, "--jobs", "2", "--start", listener("seed", path)]
-    with subprocess.Popen(words, stdout=subprocess.DEVNULL, stderr=subprocess.PIPE, text=True, start_new_session=True) as played:
+    # (a shell's background job ignores SIGINT, and what it starts does too)
+    with subprocess.Popen(words, stdout=subprocess.DEVNULL, stderr=subprocess.PIPE, text=True, start_new_session=True,
+                          preexec_fn=lambda: signal.signal(signal.SIGINT, signal.SIG_DFL)) as played:
         while played.poll() is None:
             try:
                 socket.create_connection(("127.0.0.1", port), 1).close()
