@@ -1,0 +1,77 @@
+//! Numbers that wrap, and segments that come out of order, twice or not at all. All values are by hand.
+use bt_tcp::{Captured, Put, Ring, place, reassemble};
+
+/// A number near the wrap stands before or after it, whichever is nearer.
+#[test]
+fn wraps_both_ways(rt: HostRuntime) {
+    let first = 0x100_0000_0000u64;
+    assert_eq!(rt; place(0xffff_fff0, first, 0xffff_fff0), first);
+    assert_eq!(rt; place(0xffff_fff0, first, 0x10), first + 0x20);
+    assert_eq!(rt; place(0xffff_fff0, first + 0x20, 0xffff_fff1), first + 1);
+    assert_eq!(rt; place(0x10, first, 0xf), first - 1);
+}
+
+/// Segments that come swapped, twice and with another copy of bytes that came before.
+#[test]
+fn fills_a_gap(rt: HostRuntime) {
+    let mut known = [true; 8];
+    let mut bytes = [0u8; 8];
+    let mut ring = Ring::new(1000, &mut known, &bytes);
+    assert_eq!(rt;
+        ring.put(&mut known, &mut bytes, 1000, b"ab"),
+        Put::Taken { from: 0, len: 2 }
+    );
+    assert_eq!(rt; ring.ready(&mut known, &bytes).len(), 0);
+    assert_eq!(rt;
+        ring.put(&mut known, &mut bytes, 1004, b"ef"),
+        Put::Taken { from: 0, len: 0 }
+    );
+    assert_eq!(rt; ring.put(&mut known, &mut bytes, 1012, b"x"), Put::Full);
+    assert_eq!(rt;
+        ring.put(&mut known, &mut bytes, 1001, b"?cd??gh"),
+        Put::Taken { from: 1, len: 2 }
+    );
+    assert_eq!(rt; ring.ready(&mut known, &bytes), b"efgh".as_slice());
+    assert_eq!(rt; ring.ready(&mut known, &bytes).len(), 0);
+    assert_eq!(rt; ring.next(), 1008);
+    assert_eq!(rt;
+        ring.put(&mut known, &mut bytes, 1014, b"op"),
+        Put::Taken { from: 0, len: 0 }
+    );
+    assert_eq!(rt; ring.give_up(&known, &bytes), 6);
+    assert_eq!(rt; ring.ready(&mut known, &bytes), b"op".as_slice());
+    assert_eq!(rt; ring.next(), 1016);
+}
+
+/// A whole direction: swapped, repeated, changed on the second time, and with a gap in the end.
+#[test]
+fn makes_the_stream(rt: HostRuntime) {
+    let mut known = [true; 8];
+    let mut bytes = [0u8; 8];
+    let captured = [
+        Captured {
+            place: 1004,
+            bytes: b"ef",
+        },
+        Captured {
+            place: 1000,
+            bytes: b"abcd??gh",
+        },
+        Captured {
+            place: 1002,
+            bytes: b"??",
+        },
+        Captured {
+            place: 1008,
+            bytes: b"ij",
+        },
+        Captured {
+            place: 1011,
+            bytes: b"l",
+        },
+    ];
+    match reassemble(rt.alloc(), 1000, &mut known, &mut bytes, &captured) {
+        Ok(out) => assert_eq!(rt; out.as_slice(), b"abcdefghij".as_slice()),
+        Err(_) => panic!(rt; "no stream"),
+    }
+}

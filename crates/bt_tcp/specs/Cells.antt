@@ -1,0 +1,18 @@
+-- How a ring keeps the bytes that are ahead.
+use Rattle.std.specs.Prelude.{◌≡◌, ℕ, ◌+◌, ◌-◌, ◌<◌, Bool, false, List, length, slice_index_or, Option, Some, None, if◌then◌else◌, nat_lt}
+
+-- where an offset lies in a ring
+abbrev pub slot_of : ℕ → ℕ → ℕ → ℕ
+slot_of capacity head k = if nat_lt k (capacity - head) then head + k else k - (capacity - head)
+
+-- whether a byte has come
+unfoldable pub is_known : List Bool → ℕ → ℕ → Bool
+is_known known head k = if nat_lt k (length known) then slice_index_or known (slot_of (length known) head k) false else false
+
+-- the ring's byte
+abbrev pub ring : List Bool → List ℕ → ℕ → ℕ → Option ℕ
+ring known bytes head k = if is_known known head k then Some (slice_index_or bytes (slot_of (length known) head k) 0) else None
+
+pub record IsRing (known : List Bool) (bytes : List ℕ) (head : ℕ) : Type 0 where
+  pub inside : head < length known
+  pub same : length bytes ≡ length known

@@ -1,0 +1,233 @@
+//! The reassembly window as a ring over the caller's memory.
+ghost use Rattle.std.specs.Prelude.{◌≡◌, ℕ, ◌+◌, ◌-◌, ◌<◌, ◌≤◌, ◌^◌, Bool, true, false, List, [], length, slice_index_or, slice_get, None, IsSome};
+ghost use Rattle.bt_tcp.specs.Segments.{Segment, or_else, byte_in};
+ghost use Rattle.bt_tcp.specs.Cells.{slot_of, is_known, ring, IsRing};
+ghost use Rattle.bt_tcp.specs.Rings.{ahead, IsSound};
+ghost use Rattle.bt_tcp.specs.Windows.{IsTaken, IsPutOf, IsReady, TakesOneMore, HandsOutMore, EndsStream, BeginsAnew};
+
+/// What became of a segment.
+#[derive(Clone, Copy, Debug, PartialEq, Eq)]
+pub enum Put {
+    /// It was taken. Its bytes from `from` on, `len` of them, are the next ones of the stream.
+    Taken { from: usize, len: usize },
+    /// It reaches past the ring. Nothing has changed.
+    Full,
+}
+
+/// Returns where an offset lies.
+fn slot(capacity: usize, head: usize, k: usize) -> usize
+    requires head { head < capacity }
+    requires k { k < capacity }
+    ensures slot { result ≡ slot_of capacity head k }
+    ensures within { result < capacity }
+{
+    if k < capacity - head {
+        head + k
+    } else {
+        k - (capacity - head)
+    }
+}
+
+/// Counts the offsets without a byte from the head on, at most `most`.
+///
+/// Past the ring there is no byte.
+fn count_unknown(known: &[bool], head: usize, most: usize) -> usize
+    requires { head < length known.now }
+    ensures most { result ≤ most }
+    ensures unknown { (k : ℕ) → k < result → is_known known.now head k ≡ false }
+    ensures ends { result < most → is_known known.now head result ≡ true }
+{
+    let capacity = known.len();
+    for k in 0..capacity {
+        if k >= most {
+            return most;
+        }
+        if known[slot(capacity, head, k)] {
+            return k;
+        }
+    }
+    most
+}
+
+/// Puts bytes where there are none from an offset on. The earlier copy of a byte stays.
+fn store(known: &mut [bool], bytes: &mut [u8], head: usize, gap: usize, part: &[u8])
+    requires ring { IsRing known.old bytes.old head }
+    requires room { gap + length part.now ≤ length known.old }
+    ensures { (k : ℕ) → ring known.new bytes.new head k ≡ or_else (ring known.old bytes.old head k) (byte_in (record { place = gap; bytes = part.now }) k) }
+{
+    let capacity = known.len();
+    for (j, b) in part.iter().enumerate() {
+        let i = slot(capacity, head, gap + j);
+        if !known[i] {
+            known[i] = true;
+            bytes[i] = *b;
+        }
+    }
+}
+
+/// Counts the bytes at the front that have come.
+fn count_known(known: &[bool]) -> usize
+    ensures within { result ≤ length known.now }
+    ensures known { (k : ℕ) → k < result → slice_index_or known.now k false ≡ true }
+    ensures ends { slice_index_or known.now result false ≡ false }
+{
+    for (k, b) in known.iter().enumerate() {
+        if !*b {
+            return k;
+        }
+    }
+    known.len()
+}
+
+/// Forgets that bytes have come.
+fn clear(known: &mut [bool], from: usize, count: usize)
+    requires { from + count ≤ length known.old }
+    ensures cleared { (k : ℕ) → from ≤ k → k < from + count → slice_index_or known.new k false ≡ false }
+    ensures before { (k : ℕ) → k < from → slice_index_or known.new k false ≡ slice_index_or known.old k false }
+    ensures after { (k : ℕ) → from + count ≤ k → slice_index_or known.new k false ≡ slice_index_or known.old k false }
+{
+    for i in from..from + count {
+        known[i] = false;
+    }
+}
+
+/// Returns the head after offsets without a byte, as many as there may be.
+fn advanced(known: &[bool], head: usize, count: usize) -> usize
+    requires head { head < length known.now }
+    requires unknown { (k : ℕ) → k < count → is_known known.now head k ≡ false }
+    ensures inside { result < length known.now }
+    ensures moved { (bytes : List ℕ) → (k : ℕ) → ring known.now bytes result k ≡ ring known.now bytes head (count + k) }
+{
+    if count < known.len() {
+        slot(known.len(), head, count)
+    } else {
+        head
+    }
+}
+
+/// One direction's place in its stream.
+///
+/// Bytes ahead are in the caller's ring: of each place in it `known` says whether its byte has come.
+#[derive(Clone, Copy, Debug)]
+pub struct Ring {
+    next: u64,
+    head: usize,
+    /// No byte is ahead from here on.
+    end: u64,
+}
+
+impl Ring {
+    /// Starts at a place. The ring has no byte.
+    pub fn new(base: u64, known: &mut [bool], bytes: &[u8]) -> Ring
+        requires room { 0 < length known.old }
+        requires same { length bytes.now ≡ length known.old }
+        ensures next { result.next ≡ base }
+        ensures sound { IsSound result known.new bytes.now }
+        ensures taken { IsTaken [] base [] result.next (ahead result known.new bytes.now) }
+    {
+        let count = known.len();
+        clear(known, 0, count);
+        Ring {
+            next: base,
+            head: 0,
+            end: base,
+        }
+    }
+
+    /// Returns the place that is handed out next.
+    pub fn next(&self) -> u64
+        ensures { result ≡ self.now.next }
+    {
+        self.next
+    }
+
+    /// Counts the places without a byte from the next one on, at most `most`.
+    fn count_fresh(&self, known: &[bool], most: usize) -> usize
+        requires inside { self.now.head < length known.now }
+        requires over { (k : ℕ) → self.now.end ≤ self.now.next + k → is_known known.now self.now.head k ≡ false }
+        ensures most { result ≤ most }
+        ensures unknown { (k : ℕ) → k < result → is_known known.now self.now.head k ≡ false }
+    {
+        if self.end <= self.next {
+            return most;
+        }
+        count_unknown(known, self.head, most)
+    }
+
+    /// Takes a segment, and says which of its bytes are ready now.
+    ///
+    /// Call `ready` then, until it gives nothing. While nothing is ahead, a segment in order costs no more than this call.
+    pub fn put(&mut self, known: &mut [bool], bytes: &mut [u8], at: u64, part: &[u8]) -> Put
+        requires sound { IsSound self.old known.old bytes.old }
+        requires end { at + length part.now < 2 ^ 64 }
+        ensures sound { IsSound self.new known.new bytes.new }
+        ensures put { IsPutOf (length known.old) at part.now self.old.next (ahead self.old known.old bytes.old) result self.new.next (ahead self.new known.new bytes.new) }
+        ensures taken { TakesOneMore at part.now self.old.next (ahead self.old known.old bytes.old) result self.new.next (ahead self.new known.new bytes.new) }
+    {
+        let done = self.next.saturating_sub(at);
+        let from = if done < part.len() as u64 {
+            done as usize
+        } else {
+            part.len()
+        };
+        let gap = at.saturating_sub(self.next);
+        let len = if gap == 0 {
+            self.count_fresh(known, part.len() - from)
+        } else {
+            0
+        };
+        let head = advanced(known, self.head, len);
+        let rest = &part[from + len..];
+        if rest.len() > 0 {
+            if gap > known.len() as u64 {
+                return Put::Full;
+            }
+            if rest.len() > known.len() - gap as usize {
+                return Put::Full;
+            }
+            store(known, bytes, head, gap as usize, rest);
+        }
+        self.head = head;
+        self.next += len as u64;
+        self.end = self.end.max(at + part.len() as u64);
+        Put::Taken { from, len }
+    }
+
+    /// Hands out bytes that a filled gap has made ready, without a copy.
+    pub fn ready<'m>(&mut self, known: &mut [bool], bytes: &'m [u8]) -> &'m [u8]
+        requires { IsSound self.old known.old bytes.now }
+        ensures sound { IsSound self.new known.new bytes.now }
+        ensures ready { IsReady self.old.next (ahead self.old known.old bytes.now) result.now self.new.next (ahead self.new known.new bytes.now) }
+        ensures taken { HandsOutMore self.old.next (ahead self.old known.old bytes.now) result.now self.new.next (ahead self.new known.new bytes.now) }
+        ensures end { self.new.end ≡ self.old.end }
+        ensures within { 0 < length result.now → self.new.next ≤ self.new.end }
+        ensures stream { result.now ≡ [] → EndsStream self.old.next (ahead self.old known.old bytes.now) result.now }
+    {
+        let head = self.head;
+        let count = count_known(&known[head..]);
+        clear(known, head, count);
+        self.head = advanced(known, head, count);
+        self.next += count as u64;
+        &bytes[head..head + count]
+    }
+
+    /// Gives up the gap before the first byte ahead, and returns how many places that are. The stream goes on after them, as one of its own.
+    ///
+    /// With no byte ahead there is no gap to give up.
+    pub fn give_up(&mut self, known: &[bool], bytes: &[u8]) -> usize
+        requires { IsSound self.old known.now bytes.now }
+        ensures sound { IsSound self.new known.now bytes.now }
+        ensures next { self.new.next ≡ self.old.next + result }
+        ensures gap { (k : ℕ) → k < result → ahead self.old known.now bytes.now k ≡ None }
+        ensures ends { ahead self.new known.now bytes.now 0 ≡ None → (k : ℕ) → ahead self.new known.now bytes.now k ≡ None }
+        ensures taken { 0 < result → BeginsAnew self.old.next (ahead self.old known.now bytes.now) self.new.next (ahead self.new known.now bytes.now) }
+    {
+        let count = count_unknown(known, self.head, known.len());
+        if count == known.len() {
+            return 0;
+        }
+        self.head = advanced(known, self.head, count);
+        self.next += count as u64;
+        count
+    }
+}
