@@ -111,9 +111,13 @@ after_reject t = record t { asked = t.asked - 1; rejected = t.rejected + 1 }
 abbrev pub after_forget : Tally → Tally
 after_forget t = record t { asked = 0; rejected = 0; lowest = 0 }
 
--- each held block is in memory: its end is within the bytes that are written
+abbrev pub settles_at : Option Status → Bool
+settles_at None = false
+settles_at (Some s) = settles s
+
+-- each block that is held or rejected is in memory: its end is within the bytes that are written
 abbrev pub AreWritten : List Status → ℕ → ℕ → Type 0
-AreWritten ss size written = (k : ℕ) → holds_at (slice_get ss k) ≡ true → min (block_size * k + block_size) size ≤ written
+AreWritten ss size written = (k : ℕ) → settles_at (slice_get ss k) ≡ true → min (block_size * k + block_size) size ≤ written
 
 pub record IsSound {A : Type 0} (a : Inside A) : Type 0 where
   pub least : 0 < length a.bytes.whole

@@ -1,5 +1,5 @@
 //! Metadata in memory, written only as far as blocks have come.
-ghost use Rattle.std.specs.Prelude.{◌≡◌, ◌+◌, ◌-◌, ◌≤◌, ◌++◌, length, take, drop, replicate, vec_len, vec_capacity, IfOk};
+ghost use Rattle.std.specs.Prelude.{◌≡◌, ◌+◌, ◌-◌, ◌≤◌, ◌++◌, length, take, drop, max, replicate, vec_len, vec_capacity, IfOk};
 ghost use Rattle.bt_metadata.specs.Arrivals.{unwritten};
 
 use std::alloc::{AllocError, Allocator};
@@ -31,7 +31,7 @@ impl<A: Allocator> Model for Arriving<A> {
 fn lengthen<A: Allocator>(bytes: &mut Vec<u8, A>, goal: usize)
     requires { goal ≤ vec_capacity bytes.old }
     ensures items { bytes.new.items ≡ bytes.old.items ++ replicate (goal - vec_len bytes.old) 0 }
-    ensures len { goal ≤ vec_len bytes.new }
+    ensures len { vec_len bytes.new ≡ max (vec_len bytes.old) goal }
     ensures capacity { vec_capacity bytes.old ≤ vec_capacity bytes.new }
 {
     if bytes.len() >= goal {
@@ -48,6 +48,7 @@ fn store<A: Allocator>(bytes: &mut Vec<u8, A>, at: usize, block: &[u8])
     requires place { at ≤ vec_len bytes.old }
     requires room { at + length block.now ≤ vec_capacity bytes.old }
     ensures items { bytes.new.items ≡ take at bytes.old.items ++ block.now ++ drop (at + length block.now) bytes.old.items }
+    ensures len { vec_len bytes.new ≡ max (vec_len bytes.old) (at + length block.now) }
     ensures capacity { vec_capacity bytes.old ≤ vec_capacity bytes.new }
 {
     let over = (bytes.len() - at).min(block.len());
@@ -106,24 +107,23 @@ impl<A: Allocator> Arriving<A> {
 
     /// Writes zeros up to `end`, as far as no memory is written there.
     ///
-    /// It is for a block that doesn't come, so that the next one has no long gap before it to fill.
+    /// It is for a block that doesn't come, so that the next one has no long gap before it to fill. Nothing is written past `end`.
     pub(crate) fn reach(&mut self, end: usize)
         requires { end ≤ length self.old.whole }
         ensures whole { self.new.whole ≡ self.old.whole }
-        ensures before { self.old.written ≤ self.new.written }
-        ensures written { end ≤ self.new.written }
+        ensures written { self.new.written ≡ max self.old.written end }
     {
         lengthen(&mut self.bytes, end);
     }
 
     /// Puts a block in its place.
     ///
-    /// What comes in order is written once. A block that comes early has zeros before it until the others come.
+    /// What comes in order is written once. A block that comes early has zeros before it until the others come. Nothing is written
+    /// past the block's end.
     pub(crate) fn write(&mut self, at: usize, block: &[u8])
         requires { at + length block.now ≤ length self.old.whole }
         ensures whole { self.new.whole ≡ take at self.old.whole ++ block.now ++ drop (at + length block.now) self.old.whole }
-        ensures before { self.old.written ≤ self.new.written }
-        ensures written { at + length block.now ≤ self.new.written }
+        ensures written { self.new.written ≡ max self.old.written (at + length block.now) }
     {
         lengthen(&mut self.bytes, at);
         store(&mut self.bytes, at, block);

@@ -1,4 +1,4 @@
-use Rattle.std.proofs.Common.{◌≡◌, ℕ, ◌-◌, ◌≤◌, ◌++◌, length, replicate, ap, ◌∙◌, arith}
+use Rattle.std.proofs.Common.{◌-◌, ◌≤◌, ◌++◌, length, replicate, ap, ◌∙◌, arith}
 use Rattle.bt_metadata.specs.Arrivals.{Arrival, padded}
 use Rattle.bt_metadata.proofs.Padded.{length-padded, padded-longer}
 use Rattle.bt_metadata.proofs.arriving.Arriving.reach.Goals as goal

@@ -8,6 +8,7 @@ use Rattle.bt_metadata.specs.declared.assembly.Status.{Status}
 use Rattle.bt_metadata.proofs.Lengths.{block_starts}
 use Rattle.bt_metadata.proofs.Parts.{is_assembly}
 use Rattle.bt_metadata.proofs.Slots.{block-slots, no_block-slots, held_within}
+use Rattle.bt_metadata.proofs.Written.{held-settled}
 use Rattle.bt_metadata.proofs.assembly.Assembly.block.Goals as goal
 
 -- up to the end, where that comes first
@@ -45,7 +46,7 @@ part-requires-clause-written g c =
     let inside = c.self.inside in
     let held : holds_at (slice_get inside.states.items c.args.piece) ≡ true = ap (λ ss. holds_at (slice_get ss c.args.piece)) (sym c.deref.ensures.value)
     ∙ sym c.is_held.ensures ∙ c.if-not-is_held.false in
-    omega (arith, c.self.invariant.written c.args.piece held, c.min.ensures, c.len.ensures)
+    omega (arith, c.self.invariant.written c.args.piece (held-settled inside.states.items c.args.piece held), c.min.ensures, c.len.ensures)
 
 pub returns-clause-value : goal.returns-clause-value
 returns-clause-value g c =

@@ -11,7 +11,7 @@ use Rattle.bt_metadata.proofs.Lengths.{block_len_is, block_starts}
 use Rattle.bt_metadata.proofs.Slots.{paste, length-paste}
 use Rattle.bt_metadata.proofs.States.{refused_is, wrong_total_is, wrong_size_is, nothing_wrong, held_is, not_held}
 use Rattle.bt_metadata.proofs.Tallies.{none_at, one_asked, tallied-hold}
-use Rattle.bt_metadata.proofs.Written.{written-held}
+use Rattle.bt_metadata.proofs.Written.{written-settled}
 use Rattle.bt_metadata.proofs.assembly.Assembly.data.Goals as goal
 
 same_rest : (n piece size k : ℕ) → size ≡ n → k ≡ piece → min 16384 (size - 16384 * k) ≡ min 16384 (n - 16384 * piece)
@@ -127,8 +127,8 @@ invariant_of-self g c =
     let a : 16384 * j < length d = block_starts (length d) j i in
     let n : length b ≡ min 16384 (length d - 16384 * j) = omega (arith, c.if-block-min.false, c.min.ensures, c.len-size.ensures) in
     let f : length c.write.new.self.whole ≡ length d = ap length c.write.ensures.whole ∙ length-paste d b (16384 * j) (omega arith) in
-    let w : AreWritten (set ss j status.Held) (length d) c.write.new.self.written = written-held ss j (length d) inside.bytes.written
-    c.write.new.self.written c.self.invariant.written c.write.ensures.before (omega (arith, c.write.ensures.written)) in
+    let w : AreWritten (set ss j status.Held) (length d) c.write.new.self.written = written-settled ss j (length d) inside.bytes.written
+    c.write.new.self.written status.Held c.self.invariant.written (omega (arith, c.write.ensures.written)) (omega (arith, c.write.ensures.written)) in
     record {
       least = omega (arith, f, c.self.invariant.least);
       most = rw f c.self.invariant.most;

@@ -1,4 +1,4 @@
-use Rattle.std.proofs.Common.{◌≡◌, ◌<◌, ◌≤◌, None, Some, length, set, refl, ap, subst, sym, ◌∙◌, arith}
+use Rattle.std.proofs.Common.{◌≡◌, ◌+◌, ◌*◌, ◌<◌, ◌≤◌, None, Some, length, set, min, ap, subst, sym, ◌∙◌, arith}
 use Rattle.std.proofs.lemmas.List.{length-set}
 use Rattle.std.proofs.lemmas.Result.{err_from_is_err_and}
 use Rattle.bt_metadata.specs.declared.assembly.BlockError.{BlockError}
@@ -10,7 +10,7 @@ use Rattle.bt_metadata.specs.Blocks.{max_metadata}
 use Rattle.bt_metadata.specs.Sound.{state_of, error_at, AreWritten, IsTallied, after_reject}
 use Rattle.bt_metadata.proofs.States.{error_is, rejected_is, not_rejected}
 use Rattle.bt_metadata.proofs.Tallies.{none_at, one_asked, tallied-reject}
-use Rattle.bt_metadata.proofs.Written.{written-set, written-more}
+use Rattle.bt_metadata.proofs.Written.{written-settled}
 use Rattle.bt_metadata.proofs.assembly.Assembly.reject.Goals as goal
 
 pub returns-in_err-place-clause-value : goal.returns-in_err-place-clause-value
@@ -62,13 +62,15 @@ invariant_of-self g c =
     let none = none_at c.deref.ensures.value c.in_ok-place.ensures.0 c.in_ok-place.ensures.2 in
     let right : IsTallied (after_reject inside.tally) (set ss k status.Rejected) = tallied-reject inside.tally ss k c.self.invariant.tallied none in
     let same = sym c.reach.ensures.whole in
-    let kept = written-set ss k (length inside.bytes.whole) inside.bytes.written status.Rejected refl c.self.invariant.written in
-    let more = written-more (set ss k status.Rejected) (length inside.bytes.whole) inside.bytes.written c.reach.new.self.written c.reach.ensures.before kept in
+    let end : min (16384 * k + 16384) (length inside.bytes.whole) ≤ c.reach.new.self.written =
+    omega (arith, c.reach.ensures.written, c.min.ensures, c.len-size.ensures) in
+    let all : AreWritten (set ss k status.Rejected) (length inside.bytes.whole) c.reach.new.self.written = written-settled ss k (length inside.bytes.whole)
+    inside.bytes.written c.reach.new.self.written status.Rejected c.self.invariant.written (omega (arith, c.reach.ensures.written)) end in
     record {
       least = subst (λ w. 0 < length w) same c.self.invariant.least;
       most = subst (λ w. length w ≤ max_metadata) same c.self.invariant.most;
       count = length-set ss k status.Rejected ∙ c.self.invariant.count ∙ ap (λ w. block_count (length w)) same;
       asked = omega (arith, right.asked, c.self.invariant.asked, c.self.invariant.tallied.asked);
       tallied = subst (λ (t : Tally). IsTallied t (set ss k status.Rejected)) (sym c.reject.ensures) right;
-      written = subst (λ w. AreWritten (set ss k status.Rejected) (length w) c.reach.new.self.written) same more;
+      written = subst (λ w. AreWritten (set ss k status.Rejected) (length w) c.reach.new.self.written) same all;
     }
