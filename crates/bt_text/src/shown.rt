@@ -1,6 +1,5 @@
 //! Items as text, in the words of `show`, and the names of ids.
-ghost use Rattle.std.specs.Prelude.{◌≡◌, option_map};
-ghost use Rattle.bt_wire.specs.Ids.{ids, row_in};
+ghost use Rattle.std.specs.Prelude.{◌≡◌};
 ghost use Rattle.bt_text.specs.Shown.{item_in};
 
 use crate::script::writing::put_handshake_line;
@@ -9,30 +8,7 @@ use bt_wire::{Handshake, Item, Message};
 use std::fmt;
 use std::str::from_utf8;
 
-/// Returns the name of a message's id; `None` for an id without a meaning.
-pub fn id_name(id: u8) -> Option<&'static str>
-    ensures { option_map (λ name. name.now) result ≡ option_map (λ row. row.name) (row_in id ids) }
-{
-    match id {
-        0 => Some("choke"),
-        1 => Some("unchoke"),
-        2 => Some("interested"),
-        3 => Some("not-interested"),
-        4 => Some("have"),
-        5 => Some("bitfield"),
-        6 => Some("request"),
-        7 => Some("piece"),
-        8 => Some("cancel"),
-        9 => Some("port"),
-        13 => Some("suggest"),
-        14 => Some("have-all"),
-        15 => Some("have-none"),
-        16 => Some("reject"),
-        17 => Some("allowed-fast"),
-        20 => Some("extended"),
-        _ => None,
-    }
-}
+pub use bt_wire::id_name;
 
 /// What is printed of an item.
 ///

@@ -1,5 +1,6 @@
 -- The ids of messages (BEP 3, "peer messages"; BEP 5, "BitTorrent protocol extension"; BEP 6; BEP 10).
 use Rattle.std.specs.Prelude.{ℕ, ◌==◌, Bool, List, [], ◌∷◌, Option, Some, None, is_some, option_map, codes, if◌then◌else◌}
+use Rattle.std.specs.Str.{bytes_eq}
 use Rattle.bt_wire.specs.declared.ids.Kind.{Kind}
 use Rattle.bt_wire.specs.declared.ids.Needs.{Needs}
 use Rattle.bt_wire.specs.declared.ids.Needs.TheVariants.{Neither, Fast, Extension}
@@ -42,6 +43,11 @@ ids =
 abbrev pub row_in : ℕ → List Id → Option Id
 row_in n [] = None
 row_in n (i ∷ is) = if n == i.number then Some i else row_in n is
+
+-- the row with this name
+abbrev pub row_named : List ℕ → List Id → Option Id
+row_named name [] = None
+row_named name (i ∷ is) = if bytes_eq name i.name then Some i else row_named name is
 
 abbrev pub kind_of : ℕ → Option Kind
 kind_of n = option_map (λ i. i.kind) (row_in n ids)

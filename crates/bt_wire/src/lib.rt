@@ -33,7 +33,7 @@ pub use handshake::{
 };
 pub use head::{Head, head_and_tail};
 pub use header::judge_header;
-pub use ids::Shape;
+pub use ids::{Kind, Needs, Shape, Turn, id_name, id_named, kind_of};
 pub use item::{Item, Refusal};
 pub use message::{Message, MessageView};
 pub use order::{next, next_of_view};
