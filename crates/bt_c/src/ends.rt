@@ -203,7 +203,7 @@ pub extern "C" fn bt_end_progress(alloc: Global, end: &mut BtEnd, progress: &mut
     }
 }
 
-/// Returns whether it fetches, and no block can come any more on this connection.
+/// Returns whether it fetches, and by what is known no block can come any more on this connection.
 #[unsafe(no_mangle)]
 pub extern "C" fn bt_end_is_hopeless(alloc: Global, end: &mut BtEnd) -> u32
     ensures value { nat_lt 0 result ≡ hopeless_in end.old.slot.value }
@@ -250,7 +250,7 @@ pub extern "C" fn bt_end_reset(alloc: Global, end: &mut BtEnd) -> u32
     }
 }
 
-/// Fetches metadata of this size from now on, and drops blocks of another size.
+/// Begins a fetch of this size anew. All blocks that are held are dropped.
 #[unsafe(no_mangle)]
 pub extern "C" fn bt_end_begin(alloc: Global, end: &mut BtEnd, size: u64) -> u32
     ensures { IsBegunBy end.old.slot.value size end.new.slot.value result }
