@@ -1,5 +1,6 @@
 //! The names of items and of reasons as text of C.
-ghost use Rattle.std.specs.Prelude.{◌≡◌, ◌≤◌, ◌<◌, length, None, IfSome};
+ghost use Rattle.std.specs.Prelude.{◌≡◌, ◌≤◌, ◌<◌, length, codes, None, IfSome, option_map, unwrap_or};
+ghost use Rattle.bt_wire.specs.Ids.{ids, row_in};
 ghost use Rattle.bt_wire.specs.Reasons.{reason_name};
 ghost use Rattle.bt_c.specs.Names.{extended_name, item_name, IsPut};
 ghost use Rattle.bt_c.specs.Readers.{reason_number};
@@ -7,7 +8,7 @@ ghost use Rattle.bt_wire.specs.declared.fault.Reason.{Reason};
 
 use crate::item::BtItem;
 use bt_bencode::put_bytes;
-use bt_wire::Reason;
+use bt_wire::{Reason, id_name};
 
 /// Writes the name of a reason's number, as `WrongLength`, and a zero after it.
 ///
@@ -71,25 +72,24 @@ fn name_at(id: u16, kind: u8) -> &'static [u8]
     ensures short { length result.now ≤ 20 }
 {
     match id {
-        0 => b"choke",
-        1 => b"unchoke",
-        2 => b"interested",
-        3 => b"not-interested",
-        4 => b"have",
-        5 => b"bitfield",
-        6 => b"request",
-        7 => b"piece",
-        8 => b"cancel",
-        9 => b"port",
-        13 => b"suggest",
-        14 => b"have-all",
-        15 => b"have-none",
-        16 => b"reject",
-        17 => b"allowed-fast",
         20 => extended_name(kind),
         256 => b"keep-alive",
         257 => b"handshake",
-        _ => b"unknown",
+        _ => message_name(id),
+    }
+}
+
+/// The name of a message by its id.
+fn message_name(id: u16) -> &'static [u8]
+    ensures name { result.now ≡ unwrap_or (option_map (λ row. row.name) (row_in id ids)) (codes "unknown") }
+    ensures short { length result.now ≤ 20 }
+{
+    match u8::try_from(id) {
+        Ok(id) => match id_name(id) {
+            Some(name) => name.as_bytes(),
+            None => b"unknown",
+        },
+        Err(_) => b"unknown",
     }
 }
 

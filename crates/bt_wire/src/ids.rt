@@ -1,5 +1,5 @@
 //! The ids of messages (BEP 3, BEP 5, BEP 6, BEP 10).
-ghost use Rattle.std.specs.Prelude.{◌≡◌, option_map, option_and_then};
+ghost use Rattle.std.specs.Prelude.{◌≡◌, ◌≤◌, length, option_map, option_and_then, IfSome};
 ghost use Rattle.std.specs.Str.{bytes_eq};
 ghost use Rattle.bt_wire.specs.Ids.{ids, row_in, row_named, kind_of as kind_at};
 
@@ -81,7 +81,8 @@ pub fn kind_of(id: u8) -> Option<Kind>
 /// Returns the name of a message's id; `None` for an id without a meaning.
 #[inline]
 pub fn id_name(id: u8) -> Option<&'static str>
-    ensures { option_map (λ name. name.now) result ≡ option_map (λ row. row.name) (row_in id ids) }
+    ensures name { option_map (λ name. name.now) result ≡ option_map (λ row. row.name) (row_in id ids) }
+    ensures short { IfSome result (λ name. length name.now ≤ 14) }
 {
     match id {
         0 => Some("choke"),
