@@ -4,11 +4,10 @@ ghost use Rattle.bt_text.specs.Shown.{item_in};
 
 use crate::script::writing::put_handshake_line;
 use crate::words::put_words;
+pub use bt_wire::id_name;
 use bt_wire::{Handshake, Item, Message};
 use std::fmt;
 use std::str::from_utf8;
-
-pub use bt_wire::id_name;
 
 /// What is printed of an item.
 ///
