@@ -474,3 +474,28 @@ fn messages_are_framed(rt: HostRuntime) {
         assert!(rt; is_framed(frame(rt.alloc(), id, fields), bytes), "{id}");
     }
 }
+
+/// Ids and their names.
+const NAMES: &[(u8, &str)] = &[
+    (0, "choke"),
+    (3, "not-interested"),
+    (4, "have"),
+    (16, "reject"),
+    (20, "extended"),
+];
+
+fn is_named(id: u8, name: &str) -> bool {
+    let back = match id_name(id) {
+        Some(found) => found == name,
+        None => false,
+    };
+    back && id_named(name.as_bytes()) == Some(id) && kind_of(id).is_some()
+}
+
+#[test]
+fn names(rt: HostRuntime) {
+    for &(id, name) in NAMES {
+        assert!(rt; is_named(id, name), "{name}");
+    }
+    assert!(rt; id_name(10).is_none() && id_named(b"Choke").is_none() && kind_of(10).is_none());
+}
