@@ -1,7 +1,6 @@
 -- What a table has under a name after entries were told.
 use Rattle.std.proofs.Common.{◌≡◌, ℕ, ◌==◌, ◌||◌, List, [], ◌∷◌, ◌++◌, length, Bool, true, false, Option, Some, None, option_and_then, MatchOption, is_some}
-use Rattle.std.proofs.Common.{nat_lt, if◌then◌else◌, Result, Ok, Err, OnOk, OnErr, refl, sym, subst, ◌∙◌, codes}
-use Rattle.std.specs.declared.alloc.AllocError.{AllocError}
+use Rattle.std.proofs.Common.{nat_lt, if◌then◌else◌, refl, sym, subst, ◌∙◌, codes}
 use Rattle.std.specs.List.{list_any}
 use Rattle.std.specs.Str.{bytes_eq}
 use Rattle.std.proofs.lemmas.Slice.Eq.{bytes_eq-Decides}
@@ -74,11 +73,6 @@ entered-name name other id es h = both_ways _ (bytes_eq name other)
 pub table-all : (xs es : Entries) → IsTable es → IsTable (entered_all xs es)
 table-all [] es h = h
 table-all (x ∷ xs) es h = table-all xs (entered x.0 x.1 es) (table-entered x.0 x.1 es h)
-
--- a table after entries were taken, which may want memory
-pub table-taken : (xs old new : Entries) (r : Result (Unit {0}) AllocError) → IsTable old → OnOk r (new ≡ entered_all xs old) → OnErr r (new ≡ old) → IsTable new
-table-taken xs old new (Ok x) h ok err = subst IsTable (sym ok) (table-all xs old h)
-table-taken xs old new (Err x) h ok err = subst IsTable (sym err) h
 
 pub table-applied : (t : Tree) (es : Entries) → IsTable es → IsTable (applied t es)
 table-applied t es h = table-all (told_of t) es h

@@ -2,7 +2,7 @@
 use Rattle.std.specs.Prelude.{ℕ, ℤ, pos, negsuc, List, Bool, true, false, ◌||◌, Option, Some, None, option_and_then, is_none, nat_le, if◌then◌else◌, codes}
 use Rattle.bt_bencode.specs.Trees.{Tree, integer, string, list, dictionary, Pairs, no_pairs, pair}
 use Rattle.bt_bencode.specs.Keys.{lookup_of}
-use Rattle.bt_bencode.specs.LookUps.{integer_of}
+use Rattle.bt_bencode.specs.LookUps.{integer_of, dictionary_of}
 
 -- the integer of the first pair with the key
 abbrev pub int_at : List ℕ → Tree → Option ℤ
@@ -42,6 +42,14 @@ is_bad_m (Some (dictionary ps)) = has_bad_id ps
 -- the size of the metadata, where it is told as an integer of at least 0
 abbrev pub size_of : Tree → Option ℕ
 size_of t = option_and_then natural (int_at (codes "metadata_size") t)
+
+-- the id that the first `m` gives a name, where it is an integer from 0 to 255
+abbrev pub told_as : List ℕ → Tree → Option ℕ
+told_as name t = option_and_then (λ m. byte_of (int_at name (dictionary m))) (option_and_then dictionary_of (lookup_of (codes "m") t))
+
+-- that of `ut_metadata`; with 0 a peer switches it off
+abbrev pub told_id : Tree → Option ℕ
+told_id t = told_as (codes "ut_metadata") t
 
 -- a `metadata_size` that is no integer of at least 0
 abbrev pub is_bad_size : Option Tree → Bool

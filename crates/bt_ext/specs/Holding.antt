@@ -1,5 +1,5 @@
 -- How the code holds names and entries while it reads a dictionary, for the contracts of functions that are not public.
-use Rattle.std.specs.Prelude.{◌≡◌, ℕ, ◌<◌, ◌==◌, List, [], ◌∷◌, length, map, take, slice_index_or, true, false, not, Option, Some, None, is_some, ⊤}
+use Rattle.std.specs.Prelude.{◌≡◌, ℕ, ◌<◌, List, length, map, take, slice_index_or, true, false, Option, Some, None}
 use Rattle.std.specs.Prelude.{◌||◌}
 use Rattle.std.specs.Borrow.{Bor}
 use Rattle.std.specs.BTreeSet.{BTreeSet}
@@ -28,12 +28,3 @@ HoldsAt name es (Some i) =
 -- a name that isn't among these is none of the entries'
 abbrev pub HasNames : List (List ℕ) → Entries → Type 0
 HasNames names es = (name : List ℕ) → list_any (bytes_eq name) names ≡ false → id_of_name name es ≡ None
-
--- the name is there if the id is above 0, so that taking the id neither adds nor removes it
-abbrev pub KeepsName : List ℕ → ℕ → Entries → Type 0
-KeepsName name id es = is_some (id_of_name name es) ≡ not (id == 0)
-
--- so it is for each of the pairs
-abbrev pub KeepNames : Entries → Entries → Type 0
-KeepNames [] es = ⊤
-KeepNames (x ∷ xs) es = KeepsName x.0 x.1 es × KeepNames xs es

@@ -1,5 +1,5 @@
 -- What a change of a table holds before it is made. That it is a change of one table to another is what the contracts say of it.
-use Rattle.std.specs.Prelude.{◌≡◌, ℕ, zero, suc, ◌+◌, ◌≤◌, List, [], ◌∷◌, length, min, vec_len, vec_capacity}
+use Rattle.std.specs.Prelude.{◌≡◌, ℕ, zero, suc, ◌+◌, ◌≤◌, List, [], ◌∷◌, length, min, vec_len, vec_capacity, ⊤}
 use Rattle.bt_ext.specs.Tables.{Entries, IsTable, entered_all}
 use Rattle.bt_ext.specs.declared.table.Change.{Change}
 use Rattle.bt_ext.specs.declared.table.Change.TheVariants.{Renumber, Enter, Replace}
@@ -23,6 +23,13 @@ IsChange es next (Renumber places) = renumbered places.items es ≡ next
 IsChange es next (Enter copies room) =
     (entered_all copies.items es ≡ next) × (room.items ≡ []) × (min (length es + vec_len copies) 256 ≤ vec_capacity room)
 IsChange es next (Replace table) = table ≡ next
+
+-- After few pairs, a table that had so many entries, and room for so many, has room for at most 16 more than it had: its own
+-- room if the names stay, or new room for what may be there then, and for no more.
+abbrev pub FollowsNames : {A : Type 0} → ℕ → ℕ → Change A → Type 0
+FollowsNames len capacity (Renumber places) = capacity ≤ len + 16
+FollowsNames len capacity (Enter copies room) = (vec_capacity room ≡ min (len + vec_len copies) 256) × (vec_len copies ≤ 16)
+FollowsNames len capacity (Replace table) = ⊤
 
 -- it changes a table with the first entries to one with the second
 pub record IsUpdate {A : Type 0} (es next : Entries) (u : Update A) : Type 0 where

@@ -1,5 +1,5 @@
 //! Look-ups in a dictionary, be it a value or a validated slice.
-ghost use Rattle.std.specs.Prelude.{◌≡◌, is_some, option_and_then, option_map};
+ghost use Rattle.std.specs.Prelude.{◌≡◌, option_and_then, option_map};
 ghost use Rattle.bt_bencode.specs.Trees.{Tree, dictionary};
 ghost use Rattle.bt_bencode.specs.Keys.{lookup_of};
 ghost use Rattle.bt_bencode.specs.LookUps.{dictionary_of, integer_of};
@@ -11,10 +11,6 @@ use bt_bencode::{DictRef, IntPairs, Value, lookup};
 /// A dictionary that is looked into. Nothing is found in a value of another kind.
 pub trait Dict<'a>: Copy {
     ghost tree: { Self → Tree };
-
-    /// Returns whether a pair has the key.
-    fn has(self, key: &[u8]) -> bool
-        ensures { result ≡ is_some (lookup_of key.now (tree self)) };
 
     /// Returns the integer of the first pair with the key.
     fn int(self, key: &[u8]) -> Option<i64>
@@ -38,10 +34,6 @@ pub trait Dict<'a>: Copy {
 
 impl<'a> Dict<'a> for &'a Value {
     ghost tree = { λ v. tree_of v.now };
-
-    fn has(self, key: &[u8]) -> bool {
-        lookup(self, key).is_some()
-    }
 
     fn int(self, key: &[u8]) -> Option<i64> {
         match lookup(self, key) {
@@ -77,10 +69,6 @@ impl<'a> Dict<'a> for &'a Value {
 
 impl<'a> Dict<'a> for DictRef<'a> {
     ghost tree = { λ d. dictionary d.tree.0 };
-
-    fn has(self, key: &[u8]) -> bool {
-        DictRef::has(&self, key)
-    }
 
     // Inline, so that a literal key is compared by its length first.
     #[inline(always)]

@@ -19,7 +19,7 @@ mod view;
 
 pub use dict_text::{DictText, handshake_text, message_text};
 pub use ext::{Ext, ExtError, ExtReason, ExtView, ViewError};
-pub use fields::{metadata_size, metadata_size_ref};
+pub use fields::{announced, announced_id, announced_ref, metadata_size, metadata_size_ref};
 pub use ids::{ExtId, Registered, Rules, SameId};
 pub use kinds::{kind, kind_ref};
 pub use made::{dict_of, handshake_dict};

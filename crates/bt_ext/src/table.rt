@@ -3,8 +3,8 @@ ghost use Rattle.std.specs.Prelude.{◌≡◌, ◌↔◌, ◌+◌, ◌<◌, ◌�
 ghost use Rattle.bt_bencode.specs.Trees.{dictionary};
 ghost use Rattle.bt_bencode.specs.Views.{tree_of};
 ghost use Rattle.bt_ext.specs.Tables.{Entries, id_of_name, told_ids, entered, entered_all, applied, IsTable};
-ghost use Rattle.bt_ext.specs.Updates.{with_id, renumbered, IsChange, IsUpdate};
-ghost use Rattle.bt_ext.specs.Holding.{entries_of, names_of, HasNames, HoldsAt, KeepsName, KeepNames};
+ghost use Rattle.bt_ext.specs.Updates.{with_id, renumbered, IsChange, IsUpdate, FollowsNames};
+ghost use Rattle.bt_ext.specs.Holding.{entries_of, names_of, HasNames, HoldsAt};
 
 use crate::dict::Dict;
 use crate::ids::{ExtId, Registered};
@@ -103,18 +103,20 @@ fn push_entry<A: Allocator + Copy>(
     Ok(())
 }
 
-/// Appends copies of entries; there are none yet.
-fn push_entries<A: Allocator + Copy>(
-    entries: &mut Vec<(Name<A>, u8), A>,
-    copied: &[(Name<A>, u8)],
-) -> Result<(), AllocError>
-    requires { entries.old.items ≡ [] }
-    ensures { OnOk result (entries.new.items ≡ copied.now) }
+/// Copies entries, with room for no more.
+fn copied<A: Allocator + Copy>(
+    entries: &Vec<(Name<A>, u8), A>,
+) -> Result<Vec<(Name<A>, u8), A>, AllocError>
+    ensures items { IfOk result (λ copies. copies.items ≡ entries.now.items) }
+    ensures room { IfOk result (λ copies. vec_capacity copies ≡ vec_len entries.now) }
 {
-    for (name, id) in copied {
-        push_entry(entries, name.as_slice(), *id)?;
+    let alloc = *entries.allocator();
+    let mut copies = Vec::with_capacity(alloc, entries.len())?;
+    for (name, id) in entries {
+        let name = Name::copied(alloc, name.as_slice())?;
+        copies.push_reserved((name, *id));
     }
-    Ok(())
+    Ok(copies)
 }
 
 /// Takes an id for a name, as the table's rules are.
@@ -151,50 +153,14 @@ fn has_little_room<A: Allocator>(entries: &Vec<(Name<A>, u8), A>) -> bool
     entries.capacity() <= entries.len() + SPARE
 }
 
-/// Returns whether no pair adds or removes a name.
-///
-/// So it is when a handshake comes again.
-fn keep_names<A: Allocator>(entries: &[(Name<A>, u8)], told: &[(&[u8], u8)]) -> bool
-    ensures { IsTrue result → KeepNames (entries_of told.now) entries.now }
-{
-    for (name, id) in told {
-        if place_of(entries, name).is_some() != (*id != 0) {
-            return false;
-        }
-    }
-    true
-}
-
-/// Sets the id of a name, if it is there.
-fn renumber<A: Allocator>(entries: &mut Vec<(Name<A>, u8), A>, name: &[u8], id: u8)
-    requires { KeepsName name.now id entries.old.items }
-    ensures { entries.new.items ≡ entered name.now id entries.old.items }
-{
-    if name.len() > MAX_NAME {
-        return;
-    }
-    if let Some(i) = place_of(entries, name) {
-        entries[i].1 = id;
-    }
-}
-
-/// Sets the ids of names, without an allocation.
-fn renumber_all<A: Allocator>(entries: &mut Vec<(Name<A>, u8), A>, told: &[(&[u8], u8)])
-    requires { KeepNames (entries_of told.now) entries.old.items }
-    ensures { entries.new.items ≡ entered_all (entries_of told.now) entries.old.items }
-{
-    for (name, id) in told {
-        renumber(entries, name, *id);
-    }
-}
-
 /// Adds a copy of a pair at the end, unless its name is too long for a table.
 fn push_copy<A: Allocator + Copy>(
     copies: &mut Vec<(Name<A>, u8), A>,
     name: &[u8],
     id: u8,
 ) -> Result<(), AllocError>
-    ensures { OnOk result ((es : Entries) → entered_all copies.new.items es ≡ entered name.now id (entered_all copies.old.items es)) }
+    ensures entries { OnOk result ((es : Entries) → entered_all copies.new.items es ≡ entered name.now id (entered_all copies.old.items es)) }
+    ensures len { OnOk result (vec_len copies.new ≤ vec_len copies.old + 1) }
 {
     if name.len() > MAX_NAME {
         return Ok(());
@@ -207,7 +173,8 @@ fn copy_told<A: Allocator + Copy>(
     alloc: A,
     told: &[(&[u8], u8)],
 ) -> Result<Vec<(Name<A>, u8), A>, AllocError>
-    ensures { IfOk result (λ copies. (es : Entries) → entered_all copies.items es ≡ entered_all (entries_of told.now) es) }
+    ensures entries { IfOk result (λ copies. (es : Entries) → entered_all copies.items es ≡ entered_all (entries_of told.now) es) }
+    ensures len { IfOk result (λ copies. vec_len copies ≤ length told.now) }
 {
     let mut copies = Vec::with_capacity(alloc, told.len())?;
     for (name, id) in told {
@@ -221,7 +188,7 @@ fn enter_copy<A: Allocator>(entries: &mut Vec<(Name<A>, u8), A>, name: Name<A>, 
     requires { vec_len entries.old < 256 → vec_len entries.old < vec_capacity entries.old }
     ensures items { entries.new.items ≡ entered name id entries.old.items }
     ensures len { vec_len entries.new ≤ vec_len entries.old + 1 }
-    ensures capacity { vec_capacity entries.old ≤ vec_capacity entries.new }
+    ensures capacity { vec_capacity entries.new ≡ vec_capacity entries.old }
 {
     if name.as_slice().len() > MAX_NAME {
         return;
@@ -231,10 +198,7 @@ fn enter_copy<A: Allocator>(entries: &mut Vec<(Name<A>, u8), A>, name: Name<A>, 
             let _ = entries.remove(i);
         }
         Some(i) => entries[i].1 = id,
-        None if id > 0 && entries.len() < MAX_NAMES => match entries.push((name, id)) {
-            Ok(()) => {}
-            Err(_) => unreachable!(),
-        },
+        None if id > 0 && entries.len() < MAX_NAMES => entries.push_reserved((name, id)),
         None => {}
     }
 }
@@ -242,7 +206,8 @@ fn enter_copy<A: Allocator>(entries: &mut Vec<(Name<A>, u8), A>, name: Name<A>, 
 /// Enters copied pairs in order, without an allocation.
 fn enter_copies<A: Allocator>(entries: &mut Vec<(Name<A>, u8), A>, copies: Vec<(Name<A>, u8), A>)
     requires { min (vec_len entries.old + vec_len copies) 256 ≤ vec_capacity entries.old }
-    ensures { entries.new.items ≡ entered_all copies.items entries.old.items }
+    ensures items { entries.new.items ≡ entered_all copies.items entries.old.items }
+    ensures capacity { vec_capacity entries.new ≡ vec_capacity entries.old }
 {
     for (name, id) in copies {
         enter_copy(entries, name, id);
@@ -309,14 +274,14 @@ fn set_ids<A: Allocator>(entries: &mut Vec<(Name<A>, u8), A>, places: &[(usize, 
     }
 }
 
-/// Returns an empty vector with room for a table after few pairs, 256 names at most.
+/// Returns an empty vector with room for a table after few pairs, and for no more.
 fn room_for<A: Allocator>(
     alloc: A,
     entries: &[(Name<A>, u8)],
     copies: &[(Name<A>, u8)],
 ) -> Result<Vec<(Name<A>, u8), A>, AllocError>
     ensures empty { IfOk result (λ room. room.items ≡ []) }
-    ensures room { IfOk result (λ room. min (length entries.now + length copies.now) 256 ≤ vec_capacity room) }
+    ensures room { IfOk result (λ room. vec_capacity room ≡ min (length entries.now + length copies.now) 256) }
 {
     let most = (entries.len() + copies.len()).min(MAX_NAMES);
     Vec::with_capacity(alloc, most)
@@ -340,6 +305,39 @@ fn enter_in_room<A: Allocator>(
     }
     enter_copies(&mut room, copies);
     *entries = room;
+}
+
+/// Makes the change that enters few pairs where there is room for them, and for no more.
+fn enter_later<A: Allocator + Copy>(
+    entries: &Vec<(Name<A>, u8), A>,
+    told: &[(&[u8], u8)],
+) -> Result<Change<A>, AllocError>
+    requires { length told.now ≤ 16 }
+    ensures change { IfOk result (λ change. IsChange entries.now.items (entered_all (entries_of told.now) entries.now.items) change) }
+    ensures memory { IfOk result (λ change. FollowsNames (vec_len entries.now) (vec_capacity entries.now) change) }
+{
+    let alloc = *entries.allocator();
+    let copies = copy_told(alloc, told)?;
+    let room = room_for(alloc, entries, &copies)?;
+    Ok(Change::Enter { copies, room })
+}
+
+/// Makes the change that takes ids for few names.
+fn change_few<A: Allocator + Copy>(
+    entries: &Vec<(Name<A>, u8), A>,
+    told: &[(&[u8], u8)],
+) -> Result<Change<A>, AllocError>
+    requires { length told.now ≤ 16 }
+    ensures change { IfOk result (λ change. IsChange entries.now.items (entered_all (entries_of told.now) entries.now.items) change) }
+    ensures memory { IfOk result (λ change. FollowsNames (vec_len entries.now) (vec_capacity entries.now) change) }
+{
+    if !has_little_room(entries) {
+        return enter_later(entries, told);
+    }
+    match places_of(*entries.allocator(), entries, told)? {
+        Some(places) => Ok(Change::Renumber(places)),
+        None => enter_later(entries, told),
+    }
 }
 
 impl<A: Allocator + Copy> Table<A> {
@@ -389,8 +387,7 @@ impl<A: Allocator + Copy> Table<A> {
     pub fn copy(&self) -> Result<Table<A>, AllocError>
         ensures { IfOk result (λ t. t ≡ self.now) }
     {
-        let mut entries = Vec::with_capacity(*self.entries.allocator(), self.entries.len())?;
-        push_entries(&mut entries, &self.entries)?;
+        let entries = copied(&self.entries)?;
         Ok(Table { entries })
     }
 
@@ -463,53 +460,6 @@ impl<A: Allocator + Copy> Table<A> {
         Ok(next)
     }
 
-    /// Takes ids for few names.
-    ///
-    /// All memory is there before the first change, so the table stays if memory runs out.
-    fn enter_few(&mut self, told: &[(&[u8], u8)]) -> Result<(), AllocError>
-        ensures ok { OnOk result (self.new ≡ entered_all (entries_of told.now) self.old) }
-        ensures memory { OnErr result (self.new ≡ self.old) }
-    {
-        let copies = copy_told(*self.entries.allocator(), told)?;
-        let room = room_for(*self.entries.allocator(), &self.entries, &copies)?;
-        enter_in_room(&mut self.entries, copies, room);
-        Ok(())
-    }
-
-    /// Sets the ids of names that are there.
-    fn renumber_all(&mut self, told: &[(&[u8], u8)])
-        requires { KeepNames (entries_of told.now) self.old }
-        ensures { self.new ≡ entered_all (entries_of told.now) self.old }
-    {
-        renumber_all(&mut self.entries, told);
-    }
-
-    /// Takes ids for names, without a set of the table's names if they are few.
-    fn take_told(&mut self, told: &[(&[u8], u8)]) -> Result<(), AllocError>
-        ensures ok { OnOk result (self.new ≡ entered_all (entries_of told.now) self.old) }
-        ensures memory { OnErr result (self.new ≡ self.old) }
-    {
-        if told.len() > FEW {
-            *self = self.after(told)?;
-            return Ok(());
-        }
-        if has_little_room(&self.entries) && keep_names(&self.entries, told) {
-            self.renumber_all(told);
-            return Ok(());
-        }
-        self.enter_few(told)
-    }
-
-    /// Applies what a dictionary announces.
-    fn apply_told<'a, D: Dict<'a>>(&mut self, dict: D) -> Result<(), AllocError>
-        ensures ok { OnOk result (self.new ≡ applied (D.tree dict) self.old) }
-        ensures table { IsTable self.new }
-        ensures memory { OnErr result (self.new ≡ self.old) }
-    {
-        let told = told_of(*self.entries.allocator(), dict)?;
-        self.take_told(&told)
-    }
-
     /// Applies the pairs of `m` in an extended handshake's dictionary, in order.
     ///
     /// See BEP 10. Nothing changes if `m` is no dictionary. Of several pairs with one name the first counts. A pair with a
@@ -523,7 +473,9 @@ impl<A: Allocator + Copy> Table<A> {
         ensures table { IsTable self.new }
         ensures memory { OnErr result (self.new ≡ self.old) }
     {
-        self.apply_told(dict)
+        let update = self.prepare_told(dict)?;
+        self.update(update);
+        Ok(())
     }
 
     /// Applies the pairs of `m` in an extended handshake's dictionary, in order.
@@ -537,17 +489,9 @@ impl<A: Allocator + Copy> Table<A> {
         ensures table { IsTable self.new }
         ensures memory { OnErr result (self.new ≡ self.old) }
     {
-        self.apply_told(*dict)
-    }
-
-    /// Makes the change that takes ids for few names.
-    fn enter_later(&self, told: &[(&[u8], u8)]) -> Result<Change<A>, AllocError>
-        ensures { IfOk result (λ change. IsChange self.now (entered_all (entries_of told.now) self.now) change) }
-    {
-        let alloc = *self.entries.allocator();
-        let copies = copy_told(alloc, told)?;
-        let room = room_for(alloc, &self.entries, &copies)?;
-        Ok(Change::Enter { copies, room })
+        let update = self.prepare_told(*dict)?;
+        self.update(update);
+        Ok(())
     }
 
     /// Makes the change that takes ids for names.
@@ -557,13 +501,17 @@ impl<A: Allocator + Copy> Table<A> {
         if told.len() > FEW {
             return Ok(Change::Replace(self.after(told)?));
         }
-        if !has_little_room(&self.entries) {
-            return self.enter_later(told);
-        }
-        match places_of(*self.entries.allocator(), &self.entries, told)? {
-            Some(places) => Ok(Change::Renumber(places)),
-            None => self.enter_later(told),
-        }
+        change_few(&self.entries, told)
+    }
+
+    /// Prepares the change that a dictionary announces.
+    fn prepare_told<'a, D: Dict<'a>>(&self, dict: D) -> Result<Update<A>, AllocError>
+        ensures update { IfOk result (λ u. IsUpdate self.now (applied (D.tree dict) self.now) u) }
+        ensures table { IsTable self.now }
+    {
+        let told = told_of(*self.entries.allocator(), dict)?;
+        let change = self.change_by(&told)?;
+        Ok(Update { change })
     }
 
     /// Makes the change that [`Table::apply_ref`] makes, without making it yet.
@@ -575,9 +523,7 @@ impl<A: Allocator + Copy> Table<A> {
     pub fn prepare(&self, dict: &DictRef) -> Result<Update<A>, AllocError>
         ensures { IfOk result (λ u. IsUpdate self.now (applied (dictionary dict.now.tree.0) self.now) u) }
     {
-        let told = told_of(*self.entries.allocator(), *dict)?;
-        let change = self.change_by(&told)?;
-        Ok(Update { change })
+        self.prepare_told(*dict)
     }
 
     /// Makes a change that was prepared for this table as it is. It neither allocates nor fails.

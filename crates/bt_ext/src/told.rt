@@ -1,17 +1,14 @@
 //! What the `m` of an extended handshake announces (BEP 10), without a table.
 ghost use Rattle.std.specs.Prelude.{◌≡◌, ◌++◌, IfOk, IfSome, OnOk, not, if◌then◌else◌, []};
 ghost use Rattle.std.specs.List.{list_any};
-ghost use Rattle.std.specs.Option.{option_copied};
 ghost use Rattle.std.specs.Str.{bytes_eq};
-ghost use Rattle.bt_bencode.specs.Keys.{is_above};
 ghost use Rattle.bt_ext.specs.Tables.{told, told_by, told_of};
 ghost use Rattle.bt_ext.specs.Holding.{entries_of, names_of, AddsName};
 
 use crate::dict::Dict;
 use crate::fields::byte_of;
-use bt_bencode::IntPairs;
+use bt_bencode::{IntPairs, is_above};
 use std::alloc::{AllocError, Allocator};
-use std::cmp::Ordering;
 use std::collections::BTreeSet;
 
 /// Adds a name, and says whether it is new.
@@ -60,16 +57,6 @@ fn told_by<'a, A: Allocator + Copy>(
         tell(&mut names, &mut entries, name, byte_of(value))?;
     }
     Ok(entries)
-}
-
-/// Returns whether the name is above the last one, or there is no last one.
-fn is_above(last: Option<&[u8]>, name: &[u8]) -> bool
-    ensures { result ≡ is_above (option_copied last.entry) name.now }
-{
-    match last {
-        None => true,
-        Some(last) => matches!(last.cmp(name), Ordering::Less),
-    }
 }
 
 /// Adds the entry of a name that is new, if its value is an id.

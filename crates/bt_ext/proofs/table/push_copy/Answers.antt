@@ -1,5 +1,5 @@
 use Rattle.bt_ext.proofs.InPlace.{copied}
 use Rattle.bt_ext.proofs.table.push_copy.Goals as goal
 
-pub returns : goal.returns
-returns g c = copied c.push_entry.result c.args.copies.now.items c.push_entry.new.entries.items c.args.name.now c.args.id c.push_entry.ensures.ok
+pub returns-clause-entries : goal.returns-clause-entries
+returns-clause-entries g c = copied c.push_entry.result c.args.copies.now.items c.push_entry.new.entries.items c.args.name.now c.args.id c.push_entry.ensures.ok
