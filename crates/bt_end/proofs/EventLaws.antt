@@ -41,13 +41,13 @@ plain e (views.Extended x) h = absurd (h x refl)
 plain e other h = refl
 
 -- an extended handshake is learnt, and then requests are queued
-pub learn_reacted : {A : Type 0} → (old mid new : Reactor A) (t : Tree) (update : Update A) (assembly : Option AssemblyState)
+pub learn_reacted : {A : Type 0} → (old mid new : Reactor A) (t : Tree) (update : Update A) (size : Option ℕ) (assembly : Option AssemblyState)
     → ((next : Entries) → IsUpdate old.table next update → end_of mid ≡ learned (end_of old) next assembly) → mid.outbox ≡ old.outbox
-    → IsLesson {A = A} (end_of old) t (Learn update assembly)
+    → IsLesson {A = A} (end_of old) t (Learn update size assembly)
     → IsReacted mid new (then_asked (end_of mid)) → IsReacted old new (then_asked (learnt (end_of old) t))
-learn_reacted old mid new t update assembly same box l h =
+learn_reacted old mid new t update size assembly same box l h =
     let e : end_of mid ≡ learnt (end_of old) t =
-    same (applied t old.table) l.0 ∙ ap (λ (x : Option AssemblyState). learned (end_of old) (applied t old.table) x) l.1 in
+    same (applied t old.table) l.0 ∙ ap (λ (x : Option AssemblyState). learned (end_of old) (applied t old.table) x) l.2 in
     let r : IsReacted mid new (then_asked (learnt (end_of old) t)) = subst (λ (x : EndState). IsReacted mid new (then_asked x)) e h in
     let bytes_are : mid.outbox.bytes ≡ old.outbox.bytes = ap (λ (o : Outgoing). o.bytes) box in
     let x = then_asked (learnt (end_of old) t) in

@@ -1,9 +1,9 @@
 -- For private contracts: an end but for its feed, and what handling an item does to it.
 use Rattle.std.specs.Prelude.{◌≡◌, ◌+◌, ◌≤◌, ◌⊎◌, Bool, [], ◌∷◌, ◌++◌, length, Option, Some, None, Result, Ok, Err, ⊤}
 use Rattle.bt_bencode.specs.Views.{tree_of}
-use Rattle.bt_bencode.specs.Trees.{Tree, dictionary}
-use Rattle.bt_bencode.specs.declared.dict_ref.DictRef.{DictRef}
+use Rattle.bt_bencode.specs.Trees.{Tree}
 use Rattle.bt_ext.specs.Fields.{size_of}
+use Rattle.bt_ext.specs.Metadata.{kind_of}
 use Rattle.bt_ext.specs.Tables.{Entries, applied}
 use Rattle.bt_ext.specs.Updates.{IsUpdate}
 use Rattle.bt_ext.specs.declared.ext.Ext.{Ext}
@@ -22,7 +22,7 @@ use Rattle.bt_wire.specs.Messages.{spell}
 use Rattle.bt_end.specs.Parts.{part_of}
 use Rattle.bt_end.specs.declared.reactor.Reactor.{Reactor}
 use Rattle.bt_end.specs.declared.reactor.Plan.{Plan}
-use Rattle.bt_end.specs.declared.reactor.Plan.TheVariants.{Nothing, Learn}
+use Rattle.bt_end.specs.declared.reactor.Plan.TheVariants.{Learn, Metadata}
 
 abbrev pub end_of : {A : Type 0} → Reactor A → EndState
 end_of r = record {
@@ -41,21 +41,16 @@ end_of r = record {
 abbrev pub learned : EndState → Entries → Option AssemblyState → EndState
 learned e table assembly = record e { table = table; part = begun assembly e.part }
 
--- the dictionary of an extended handshake, where the item is one
-abbrev pub dict_in : Item → Option DictRef → Type 0
-dict_in (items.Message (m.Extended (ext.Handshake dict rest))) (Some d) = tree_of dict ≡ dictionary d.tree.0
-dict_in (items.Message (m.Extended (ext.Handshake dict rest))) None = ⊥
-dict_in item (Some d) = ⊥
-dict_in item None = ⊤
-
--- the change of the table and the assembly that an extended handshake's dictionary makes
+-- the change of the table, the size and the assembly that an extended handshake's dictionary makes
 abbrev pub IsLesson : {A : Type 0} → EndState → Tree → Plan A → Type 0
-IsLesson e t (Learn update assembly) =
-    IsUpdate e.table (applied t e.table) update × (assembly ≡ assembly_of e.handshake.info_hash e.part (size_of t))
-IsLesson e t Nothing = ⊥
+IsLesson e t (Learn update size assembly) =
+    IsUpdate e.table (applied t e.table) update × (size ≡ size_of t) × (assembly ≡ assembly_of e.handshake.info_hash e.part (size_of t))
+IsLesson e t plan = ⊥
 
+-- what is found in an extended message, and allocated for it
 abbrev pub IsPlanOf : {A : Type 0} → EndState → Ext → Plan A → Type 0
 IsPlanOf e (ext.Handshake dict rest) plan = IsLesson e (tree_of dict) plan
+IsPlanOf e (ext.Metadata dict rest) plan = plan ≡ Metadata (kind_of (tree_of dict))
 IsPlanOf e x plan = ⊤
 
 abbrev pub IsPlan : {A : Type 0} → EndState → Item → Plan A → Type 0

@@ -1,6 +1,7 @@
 //! What each item does to an end, and what the end sends for it. The bytes that come are the feed's.
 ghost use Rattle.std.specs.Prelude.{◌≡◌, ◌+◌, ◌<◌, ◌≤◌, Some, true, false, [], length, length as list_length, IfOk, IfSome, OnErr};
 ghost use Rattle.bt_bencode.specs.Trees.{dictionary};
+ghost use Rattle.bt_ext.specs.Metadata.{kind_of};
 ghost use Rattle.bt_ext.specs.Payloads.{seen};
 ghost use Rattle.bt_ext.specs.Tables.{Entries};
 ghost use Rattle.bt_ext.specs.Updates.{IsUpdate};
@@ -14,7 +15,8 @@ ghost use Rattle.bt_end.specs.Events.{answer_event, block_event, kind_event, ext
 ghost use Rattle.bt_end.specs.Halves.{kind_takes_memory, extended_takes_memory, takes_memory, is_own_made, tells_pieces, unsaid};
 ghost use Rattle.bt_metadata.specs.Blocks.{window};
 ghost use Rattle.bt_end.specs.Parts.{part_of};
-ghost use Rattle.bt_end.specs.Reactors.{end_of, learned, IsPlan, IsPlanOf, IsLesson, IsReacted, IsQueued, IsSpoken, dict_in};
+ghost use Rattle.bt_end.specs.Reactors.{end_of, learned, IsPlan, IsPlanOf, IsLesson, IsReacted, IsQueued, IsSpoken};
+ghost use Rattle.bt_end.specs.declared.reactor.Plan.TheVariants as plans;
 
 use crate::config::{Announce, Window};
 use crate::end::{HIGH_WATER, SayError};
@@ -54,16 +56,19 @@ pub struct Reactor<A: Allocator> {
     pub outbox: Outbox<A>,
 }
 
-/// What was allocated before an item is handled.
+/// What was found in an item, and allocated for it, before it is handled.
 #[derive(Drop)]
 pub enum Plan<A: Allocator> {
     /// Only room in the outbox, or nothing.
     Nothing,
-    /// The change of the table, and an assembly for a fetch that begins.
+    /// The change of the table, the size of the metadata that is announced, and an assembly for a fetch that begins.
     Learn {
         update: Update<A>,
+        size: Option<u64>,
         assembly: Option<Assembly<A>>,
     },
+    /// The kind of a metadata message.
+    Metadata(Kind),
 }
 
 /// Returns whether a metadata message needs an allocation.
@@ -78,35 +83,11 @@ fn kind_takes_memory(kind: Kind) -> bool
     }
 }
 
-/// Returns whether an item needs an allocation.
-fn takes_memory(view: &View) -> bool
-    ensures { result ≡ takes_memory (item_of view.now) }
-{
-    match view {
-        View::Handshake(_) => true,
-        View::Message(MessageView::Extended(ExtView::Handshake { .. })) => true,
-        View::Message(MessageView::Extended(ExtView::Metadata { dict, .. })) => {
-            kind_takes_memory(kind_ref(dict))
-        }
-        View::Message(_) => false,
-    }
-}
-
 /// A count with one more, if there is one more. It stays at 2^64 - 1.
 fn one_more(more: bool, count: u64) -> u64
     ensures { result ≡ one_more more count }
 {
     if more { count.saturating_add(1) } else { count }
-}
-
-/// The dictionary of an extended handshake.
-fn dict_in<'a>(view: &View<'a>) -> Option<DictRef<'a>>
-    ensures { dict_in (item_of view.now) result }
-{
-    match view {
-        View::Message(MessageView::Extended(ExtView::Handshake { dict, .. })) => Some(*dict),
-        _ => None,
-    }
 }
 
 impl<A: Allocator + Copy> Reactor<A> {
@@ -315,18 +296,27 @@ impl<A: Allocator + Copy> Reactor<A> {
         ensures event { result ≡ extended_event (end_of self.old) (seen ext.now) }
     {
         match ext {
-            ExtView::Handshake { dict, .. } => {
-                let Plan::Learn { update, assembly } = plan else {
+            ExtView::Handshake { .. } => {
+                let Plan::Learn {
+                    update,
+                    size,
+                    assembly,
+                } = plan
+                else {
                     unreachable!();
                 };
-                let size = metadata_size_ref(dict);
                 let begins = assembly.is_some();
                 self.learn(update, assembly);
                 let id = self.peer_id();
                 self.ask();
                 Event::Announced { id, size, begins }
             }
-            ExtView::Metadata { dict, rest } => self.handle_metadata(kind_ref(dict), rest),
+            ExtView::Metadata { rest, .. } => {
+                let Plan::Metadata(kind) = plan else {
+                    unreachable!();
+                };
+                self.handle_metadata(kind, rest)
+            }
             ExtView::DontHave(_) => Event::Other,
             ExtView::Raw { .. } => Event::Other,
         }
@@ -340,12 +330,47 @@ impl<A: Allocator + Copy> Reactor<A> {
             return Err(Memory);
         };
         let hash = self.handshake.info_hash;
-        match self
-            .part
-            .assembly(self.alloc, hash, metadata_size_ref(dict))
-        {
-            Ok(assembly) => Ok(Plan::Learn { update, assembly }),
+        let size = metadata_size_ref(dict);
+        match self.part.assembly(self.alloc, hash, size) {
+            Ok(assembly) => Ok(Plan::Learn {
+                update,
+                size,
+                assembly,
+            }),
             Err(_) => Err(Memory),
+        }
+    }
+
+    /// Reads the kind of a metadata message, and makes room for what is queued for it.
+    fn metadata_plan(&mut self, dict: &DictRef) -> Result<Plan<A>, Memory>
+        ensures ok { IfOk result (λ plan. plan ≡ plans.Metadata (kind_of (dictionary dict.now.tree.0))) }
+        ensures room { IfOk result (λ plan. kind_takes_memory (kind_of (dictionary dict.now.tree.0)) ≡ true → 16610 ≤ self.new.outbox.room) }
+        ensures end { end_of self.new ≡ end_of self.old }
+        ensures bytes { self.new.outbox.bytes ≡ self.old.outbox.bytes }
+        ensures memory { OnErr result (kind_takes_memory (kind_of (dictionary dict.now.tree.0)) ≡ true) }
+    {
+        let kind = kind_ref(dict);
+        if kind_takes_memory(kind) {
+            self.outbox.reserve(ROOM)?;
+        }
+        Ok(Plan::Metadata(kind))
+    }
+
+    /// Allocates what handling an extended message will need.
+    fn extended_plan(&mut self, ext: &ExtView) -> Result<Plan<A>, Memory>
+        ensures ok { IfOk result (λ plan. IsPlanOf (end_of self.old) (seen ext.now) plan) }
+        ensures room { IfOk result (λ plan. extended_takes_memory (seen ext.now) ≡ true → 16610 ≤ self.new.outbox.room) }
+        ensures end { end_of self.new ≡ end_of self.old }
+        ensures bytes { self.new.outbox.bytes ≡ self.old.outbox.bytes }
+        ensures memory { OnErr result (extended_takes_memory (seen ext.now) ≡ true) }
+    {
+        match ext {
+            ExtView::Handshake { dict, .. } => {
+                self.outbox.reserve(ROOM)?;
+                self.lesson(dict)
+            }
+            ExtView::Metadata { dict, .. } => self.metadata_plan(dict),
+            ExtView::DontHave(_) | ExtView::Raw { .. } => Ok(Plan::Nothing),
         }
     }
 
@@ -360,12 +385,13 @@ impl<A: Allocator + Copy> Reactor<A> {
         ensures bytes { self.new.outbox.bytes ≡ self.old.outbox.bytes }
         ensures memory { OnErr result (takes_memory (item_of view.now) ≡ true) }
     {
-        if takes_memory(view) {
-            self.outbox.reserve(ROOM)?;
-        }
-        match dict_in(view) {
-            Some(dict) => self.lesson(&dict),
-            None => Ok(Plan::Nothing),
+        match view {
+            View::Handshake(_) => {
+                self.outbox.reserve(ROOM)?;
+                Ok(Plan::Nothing)
+            }
+            View::Message(MessageView::Extended(ext)) => self.extended_plan(ext),
+            View::Message(_) => Ok(Plan::Nothing),
         }
     }
 
