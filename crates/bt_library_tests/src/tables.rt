@@ -198,47 +198,84 @@ fn left(alloc: Global, heap: &LocalHeap) -> usize {
     parts.len()
 }
 
-/// Whether the first name has the id after a handshake, which is applied or prepared.
-fn tells<A: Allocator + Copy>(
+/// Whether a table takes a handshake, at once or prepared.
+fn takes<A: Allocator + Copy>(table: &mut Table<A>, payload: &[u8], prepares: bool) -> bool {
+    let Ok((dict, _)) = check(payload) else {
+        return false;
+    };
+    if !prepares {
+        return table.apply_ref(&dict).is_ok();
+    }
+    match table.prepare(&dict) {
+        Ok(update) => {
+            table.update(update);
+            true
+        }
+        Err(_) => false,
+    }
+}
+
+/// The first number and the one after the last of the names of two bytes that a handshake has, and the digit of their ids.
+type Numbered = (u16, u16, u8);
+
+/// Handshakes one after the other, after which the table has few names; the first one has the id 5.
+const FEW_NAMES: &[&[Numbered]] = &[
+    &[(0, 1, b'5')],
+    &[(0, 1, b'1'), (0, 1, b'5')],
+    &[(0, 1, b'1'), (0, 2, b'5'), (1, 2, b'0')],
+    &[(0, 1, b'5'), (1, 18, b'0')],
+    &[(0, 17, b'5')],
+    &[(0, 256, b'1'), (1, 256, b'0'), (0, 1, b'5')],
+    &[(0, 256, b'1'), (1, 256, b'0'), (0, 2, b'5')],
+    &[(0, 256, b'5'), (1, 256, b'0'), (1, 18, b'0')],
+];
+
+/// Whether a table takes these handshakes one after the other.
+fn takes_all<A: Allocator + Copy>(
+    alloc: Global,
     table: &mut Table<A>,
-    payload: &[u8],
-    id: u8,
+    handshakes: &[Numbered],
     prepares: bool,
 ) -> bool {
-    if prepares {
-        changes(table, payload, b"\0\0", Some(id))
-    } else {
-        applies(table, payload, b"\0\0", Some(id))
+    for (from, to, digit) in handshakes {
+        match numbered(alloc, *from, *to, *digit, b"") {
+            Ok(payload) if takes(table, &payload, prepares) => {}
+            _ => return false,
+        }
     }
+    true
 }
 
-/// Whether a table that had 256 names and has one takes few parts of its heap once a handshake tells that name again.
-fn takes_little(alloc: Global, heap: &LocalHeap, many: &[u8], none: &[u8], prepares: bool) -> bool {
+/// Whether a table with few names takes few parts of its heap.
+fn takes_little(alloc: Global, heap: &LocalHeap, handshakes: &[Numbered], prepares: bool) -> bool {
     let before = left(alloc, heap);
     let mut table = Table::new(heap);
-    tells(&mut table, many, 1, prepares)
-        && tells(&mut table, none, 1, prepares)
-        && tells(&mut table, b"d1:md2:\0\0i5eee", 5, prepares)
+    takes_all(alloc, &mut table, handshakes, prepares)
+        && table.id_of(b"\0\0") == Some(5)
         && before > 500
-        && before <= left(alloc, heap).saturating_add(24)
+        && before <= left(alloc, heap).saturating_add(32)
 }
 
-fn takes_little_of_a_heap(alloc: Global, prepares: bool) -> bool {
-    match (
-        LocalHeap::new(alloc, 65_536),
-        filling(alloc, 256, b""),
-        numbered(alloc, 1, 256, b'0', b""),
-    ) {
-        (Ok(heap), Ok(many), Ok(none)) => takes_little(alloc, &heap, &many, &none, prepares),
-        _ => false,
+fn takes_little_of_a_heap(alloc: Global, handshakes: &[Numbered], prepares: bool) -> bool {
+    match LocalHeap::new(alloc, 65_536) {
+        Ok(heap) => takes_little(alloc, &heap, handshakes, prepares),
+        Err(_) => false,
     }
 }
 
-/// A table's memory follows its names.
+/// A table's memory follows its names, whatever change they come from.
 #[test]
 fn memory_of_names(rt: HostRuntime) {
-    assert!(rt; takes_little_of_a_heap(rt.alloc(), false));
-    assert!(rt; takes_little_of_a_heap(rt.alloc(), true));
+    for handshakes in FEW_NAMES {
+        assert!(rt;
+            takes_little_of_a_heap(rt.alloc(), handshakes, false),
+            "{handshakes:?}"
+        );
+        assert!(rt;
+            takes_little_of_a_heap(rt.alloc(), handshakes, true),
+            "{handshakes:?}, prepared"
+        );
+    }
 }
 
 /// A name of 255 letters, and one of 256.
