@@ -1,14 +1,14 @@
 //! What an extended message shows (BEP 10, BEP 9). Items have it.
-ghost use Rattle.std.specs.Prelude.{◌≡◌, length, option_and_then};
+ghost use Rattle.std.specs.Prelude.{◌≡◌, length};
 ghost use Rattle.bt_bencode.specs.Bencoding.{ben};
 ghost use Rattle.bt_bencode.specs.Trees.{dictionary};
-ghost use Rattle.bt_ext.specs.Fields.{byte_of, natural, size_of};
+ghost use Rattle.bt_ext.specs.Fields.{size_of, told_id};
 ghost use Rattle.bt_ext.specs.Metadata.{kind_of};
 ghost use Rattle.bt_ext.specs.Payloads.{seen};
-ghost use Rattle.bt_c.specs.Readers.{ShowsExt, ShowsKind, flagged, told_id};
+ghost use Rattle.bt_c.specs.Readers.{ShowsExt, ShowsKind, flagged};
 
 use bt_bencode::DictRef;
-use bt_ext::{ExtView, Kind, kind_ref};
+use bt_ext::{ExtView, Kind, announced_ref, kind_ref};
 
 /// The fields of an extended message. A flag is on if it isn't 0.
 #[repr(C)]
@@ -76,32 +76,6 @@ fn dict_length(dict: &DictRef) -> usize
     dict.spelled().len()
 }
 
-/// Returns a number of one byte.
-fn byte_in(number: Option<i64>) -> Option<u8>
-    ensures { result ≡ byte_of number }
-{
-    let n = number?;
-    u8::try_from(n).ok()
-}
-
-/// Returns a number that is at least 0.
-fn natural_in(number: Option<i64>) -> Option<u64>
-    ensures { result ≡ option_and_then natural number }
-{
-    let n = number?;
-    u64::try_from(n).ok()
-}
-
-/// Returns the id of `ut_metadata` and the size of the metadata that an extended handshake announces.
-fn announced(dict: &DictRef) -> (Option<u8>, Option<u64>)
-    ensures id { result.0 ≡ told_id (dictionary dict.now.tree.0) }
-    ensures size { result.1 ≡ size_of (dictionary dict.now.tree.0) }
-{
-    // The inner dictionary isn't checked again.
-    let (id, size) = dict.lookup_ints(b"m", b"ut_metadata", b"metadata_size");
-    (byte_in(id), natural_in(size))
-}
-
 /// An extended handshake.
 fn handshake_of(dict: &DictRef) -> BtExtended
     ensures kind { result.kind ≡ 1 }
@@ -110,7 +84,7 @@ fn handshake_of(dict: &DictRef) -> BtExtended
     ensures id { flagged result.has_ut_metadata result.ut_metadata ≡ told_id (dictionary dict.now.tree.0) }
 {
     let mut shown = plain(1, dict_length(dict));
-    let (id, size) = announced(dict);
+    let (id, size) = announced_ref(dict);
     if let Some(size) = size {
         shown.metadata_size = size;
         shown.has_metadata_size = 1;

@@ -18,7 +18,7 @@ use Rattle.bt_feed.specs.Feeds.{FeedState}
 use Rattle.bt_io.specs.Seen.{SourceSeen, EndRead, ReadFailed}
 use Rattle.bt_text.specs.declared.ended.ToolFault.{ToolFault}
 use Rattle.bt_text.specs.declared.ended.ToolFault.TheVariants as fault
-use Rattle.bt_text.specs.Lines.{told_as}
+use Rattle.bt_ext.specs.Fields.{told_as}
 use Rattle.bt_jobs.specs.declared.other.Announced.{Announced}
 use Rattle.bt_jobs.specs.declared.other.Listener.{Listener}
 use Rattle.bt_jobs.specs.declared.other.OtherError.{OtherError}

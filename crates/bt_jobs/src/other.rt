@@ -1,16 +1,13 @@
 //! What one direction of a connection announces about its sender, which is the receiver of the other one (`--other`).
 ghost use Rattle.std.specs.Prelude.{◌≡◌, ◌+◌, ◌-◌, ◌≤◌, ◌^◌, ◌<◌, ℕ, min, List, length, false, Ok, OnOk, IfErr, ok_or, option_and_then};
-ghost use Rattle.bt_bencode.specs.Trees.{dictionary};
 ghost use Rattle.bt_io.specs.Seen.{ReadFailed};
 ghost use Rattle.bt_jobs.specs.Printed.{so_far};
 ghost use Rattle.bt_wire.specs.declared.item.Item.{Item};
 ghost use Rattle.bt_ext.specs.Ids.{extension_id};
-ghost use Rattle.bt_text.specs.Lines.{told_as};
 ghost use Rattle.bt_jobs.specs.Others.{IsFaultOfOther, IsUnknown, IsHeard, IsLearnt, IsListening, IsOpenAfter, IsTurnHeard, announced, reader_of_other as reader_by_rule};
 
 use crate::show::MAX_READS;
-use bt_bencode::DictRef;
-use bt_ext::{ExtId, ExtView, Registered, Rules};
+use bt_ext::{ExtId, ExtView, Registered, Rules, announced_id};
 use bt_feed::{Feed, PumpError, Sink, SinkFault, Source, View, pump_with};
 use bt_text::ended::ToolFault;
 use bt_wire::{MessageView, Own, Reserved, laws};
@@ -50,15 +47,6 @@ struct Listener {
     metadata: Option<u8>,
     donthave: Option<u8>,
     items: u64,
-}
-
-/// Returns the id that an extended handshake announces for a name; 0 is none.
-fn announced_id(dict: &DictRef, name: &[u8]) -> Option<u8>
-    ensures { result ≡ told_as name.now (dictionary dict.now.tree.0) }
-{
-    let m = dict.lookup_dict(b"m")?;
-    let id = m.lookup_int(name)?;
-    u8::try_from(id).ok()
 }
 
 /// Returns the id of an extension by its number, of which 0 is none.

@@ -14,7 +14,7 @@ use Rattle.bt_ext.specs.declared.ext.Ext.{Ext}
 use Rattle.bt_ext.specs.declared.ext.Ext.TheVariants as ext
 use Rattle.bt_ext.specs.declared.metadata.Kind.{Kind}
 use Rattle.bt_ext.specs.declared.metadata.Kind.TheVariants as kinds
-use Rattle.bt_ext.specs.Fields.{size_of}
+use Rattle.bt_ext.specs.Fields.{size_of, told_id}
 use Rattle.bt_ext.specs.Metadata.{kind_of}
 use Rattle.bt_wire.specs.declared.context.Own.{Own}
 use Rattle.bt_wire.specs.declared.handshake.Handshake.{Handshake}
@@ -27,7 +27,7 @@ use Rattle.bt_wire.specs.Numbers.{be64}
 use Rattle.bt_wire.specs.Streams.{Outcome}
 use Rattle.bt_text.specs.declared.ended.Ended.{Ended}
 use Rattle.bt_text.specs.declared.ended.Ended.TheVariants.{Accepted, Refused}
-use Rattle.bt_text.specs.Lines.{name_of, own_context, told_id, ended_as}
+use Rattle.bt_text.specs.Lines.{name_of, own_context, ended_as}
 use Rattle.bt_wire.specs.Reasons.{reason_name}
 
 -- ---- a field

@@ -1,17 +1,15 @@
 -- The lines of `show`: one for each item of a stream, and one for the verdict. And what `pack` says of a refused line.
-use Rattle.std.specs.Prelude.{ℕ, ◌-◌, List, [], ◌++◌, length, codes, decimal, false, Option, Some, None, option_and_then}
+use Rattle.std.specs.Prelude.{ℕ, ◌-◌, List, [], ◌++◌, length, codes, decimal, false, Option, Some, None}
 use Rattle.std.specs.List.{flat_map}
 use Rattle.hex.specs.Hex.{encode_lower}
 use Rattle.bt_bencode.specs.Bencoding.{ben}
-use Rattle.bt_bencode.specs.Keys.{lookup_of}
-use Rattle.bt_bencode.specs.LookUps.{dictionary_of}
-use Rattle.bt_bencode.specs.Trees.{Tree, dictionary, Pairs}
+use Rattle.bt_bencode.specs.Trees.{Tree}
 use Rattle.bt_bencode.specs.Views.{tree_of}
 use Rattle.bt_ext.specs.declared.ext.Ext.{Ext}
 use Rattle.bt_ext.specs.declared.ext.Ext.TheVariants as ext
 use Rattle.bt_ext.specs.declared.metadata.Kind.{Kind}
 use Rattle.bt_ext.specs.declared.metadata.Kind.TheVariants as kinds
-use Rattle.bt_ext.specs.Fields.{int_at, byte_of, size_of}
+use Rattle.bt_ext.specs.Fields.{size_of, told_id}
 use Rattle.bt_ext.specs.Ids.{metadata_only}
 use Rattle.bt_ext.specs.declared.ids.Rules.TheVariants.{Free}
 use Rattle.bt_ext.specs.Metadata.{kind_of}
@@ -79,17 +77,6 @@ or_dash (Some n) = decimal n
 -- the length of the dictionary's spelling, and how many bytes follow it
 abbrev pub lengths : Tree → List ℕ → List ℕ
 lengths t rest = spaced (length (ben t)) ++ spaced (length rest)
-
--- the first `ut_metadata` in the first `m`, where it is an integer from 0 to 255
-abbrev pub told_in : Pairs → Option ℕ
-told_in m = byte_of (int_at (codes "ut_metadata") (dictionary m))
-
-abbrev pub told_id : Tree → Option ℕ
-told_id t = option_and_then told_in (option_and_then dictionary_of (lookup_of (codes "m") t))
-
--- the id that is told under any name
-abbrev pub told_as : List ℕ → Tree → Option ℕ
-told_as name t = option_and_then (λ m. byte_of (int_at name (dictionary m))) (option_and_then dictionary_of (lookup_of (codes "m") t))
 
 abbrev pub kind_words : Kind → Tree → List ℕ → List ℕ
 kind_words (kinds.Request piece) t rest = codes "metadata-request" ++ spaced piece

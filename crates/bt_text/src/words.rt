@@ -1,21 +1,21 @@
 //! The words of a message, owned or viewed alike.
 //!
 //! They are written into a text that has room for them, with a line feed after them; a call returns the offset after that.
-ghost use Rattle.std.specs.Prelude.{◌≡◌, ◌<◌, ◌≤◌, ◌+◌, ◌^◌, ℕ, List, ◌++◌, length as list_length, take, codes, decimal, option_and_then, ⊤};
+ghost use Rattle.std.specs.Prelude.{◌≡◌, ◌<◌, ◌≤◌, ◌+◌, ◌^◌, ℕ, List, ◌++◌, length as list_length, take, codes, decimal, ⊤};
 ghost use Rattle.bt_bencode.specs.Bencoding.{ben};
 ghost use Rattle.bt_bencode.specs.Trees.{Tree, dictionary};
 ghost use Rattle.bt_bencode.specs.Views.{tree_of};
 ghost use Rattle.bt_ext.specs.declared.ext.Ext.{Ext as ExtValue};
-ghost use Rattle.bt_ext.specs.Fields.{byte_of, natural, size_of};
+ghost use Rattle.bt_ext.specs.Fields.{size_of, told_id};
 ghost use Rattle.bt_ext.specs.Metadata.{kind_of};
 ghost use Rattle.bt_ext.specs.Payloads.{seen as seen_ext};
 ghost use Rattle.bt_wire.specs.Messages.{map};
-ghost use Rattle.bt_text.specs.Lines.{spaced, or_dash, told_id, announced_words, kind_words, ext_words, message_words};
+ghost use Rattle.bt_text.specs.Lines.{spaced, or_dash, announced_words, kind_words, ext_words, message_words};
 ghost use Rattle.bt_text.specs.Words.{HasLength, IsCounted};
 
 use crate::putting::{put_number, put_one, put_three, put_two, put_word};
-use bt_bencode::{ByteString, DictRef, Value, ben_len, lookup};
-use bt_ext::{Ext, ExtView, Kind, kind, kind_ref, metadata_size};
+use bt_bencode::{ByteString, DictRef, Value, ben_len};
+use bt_ext::{Ext, ExtView, Kind, announced, announced_ref, kind, kind_ref};
 use bt_wire::Message;
 
 /// The bytes of a message, owned or borrowed.
@@ -66,19 +66,14 @@ pub trait Dictionary {
         ensures size { result.1 ≡ size_of (tree self.now) };
 }
 
-/// Returns a number of one byte.
-fn byte_in(number: Option<i64>) -> Option<u64>
-    ensures { result ≡ byte_of number }
+/// Returns an id as a number of a text.
+fn number_of(id: Option<u8>) -> Option<u64>
+    ensures { result ≡ id }
 {
-    let id = u8::try_from(number?).ok()?;
-    Some(u64::from(id))
-}
-
-/// Returns a number of at least 0.
-fn natural_in(number: Option<i64>) -> Option<u64>
-    ensures { result ≡ option_and_then natural number }
-{
-    u64::try_from(number?).ok()
+    match id {
+        Some(id) => Some(u64::from(id)),
+        None => None,
+    }
 }
 
 impl Dictionary for DictRef<'_> {
@@ -97,21 +92,8 @@ impl Dictionary for DictRef<'_> {
     }
 
     fn announced(&self) -> (Option<u64>, Option<u64>) {
-        let (id, size) = self.lookup_ints(b"m", b"ut_metadata", b"metadata_size");
-        (byte_in(id), natural_in(size))
-    }
-}
-
-/// Returns the id of `ut_metadata` that an extended handshake announces.
-fn told(dict: &Value) -> Option<u64>
-    ensures { result ≡ told_id (tree_of dict.now) }
-{
-    match lookup(lookup(dict, b"m")?, b"ut_metadata") {
-        Some(Value::Int(id)) => match u8::try_from(*id) {
-            Ok(id) => Some(u64::from(id)),
-            Err(_) => None,
-        },
-        _ => None,
+        let (id, size) = announced_ref(self);
+        (number_of(id), size)
     }
 }
 
@@ -129,7 +111,8 @@ impl Dictionary for Value {
     }
 
     fn announced(&self) -> (Option<u64>, Option<u64>) {
-        (told(self), metadata_size(self))
+        let (id, size) = announced(self);
+        (number_of(id), size)
     }
 }
 

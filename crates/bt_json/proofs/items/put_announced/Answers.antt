@@ -1,7 +1,6 @@
 use Rattle.std.specs.Prelude.{codes}
 use Rattle.bt_bencode.specs.Trees.{Tree, dictionary}
-use Rattle.bt_ext.specs.Fields.{size_of}
-use Rattle.bt_text.specs.Lines.{told_id}
+use Rattle.bt_ext.specs.Fields.{size_of, told_id}
 use Rattle.bt_json.specs.Objects.{a_field, number_or_null, text_or_null, client_in}
 use Rattle.std.proofs.lemmas.Result.{on_ok_weaker}
 use Rattle.bt_json.proofs.FieldLaws.{three_parts}

@@ -1,8 +1,8 @@
 use Rattle.std.proofs.Common.{◌≡◌, ℕ, List, ◌++◌, length, take, append_assoc}
 use Rattle.std.specs.Prelude.{codes, decimal}
 use Rattle.bt_bencode.specs.Bencoding.{ben}
-use Rattle.bt_ext.specs.Fields.{size_of}
-use Rattle.bt_text.specs.Lines.{or_dash, told_id}
+use Rattle.bt_ext.specs.Fields.{size_of, told_id}
+use Rattle.bt_text.specs.Lines.{or_dash}
 use Rattle.bt_text.proofs.words.put_handshake.Goals as goal
 
 regrouped : (o a n d r z s w u e : List ℕ) → ((((o ++ (n ++ a)) ++ d) ++ a) ++ r) ++ (z ++ (s ++ (w ++ (u ++ e))))
