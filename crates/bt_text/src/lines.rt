@@ -9,8 +9,8 @@ ghost use Rattle.bt_text.specs.Lines.{script_reason_name, item_line, words as wo
 ghost use Rattle.bt_text.specs.Words.{HasLengths};
 
 use crate::ended::{Ended, ScriptReason, ToolFault};
-use crate::putting::{Offset, put_number, put_word};
-use crate::script::writing::{grow, put_handshake_line};
+use crate::putting::{Offset, grow, put_number, put_word};
+use crate::script::writing::put_handshake_line;
 use crate::words::put_words;
 use bt_wire::{Handshake, Item, MessageView};
 use itoa::write_digits;

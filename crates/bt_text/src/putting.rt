@@ -1,10 +1,12 @@
 //! Words and numbers written into a buffer that has room for them, from an offset on.
 //!
 //! A call returns the offset after what it wrote.
-ghost use Rattle.std.specs.Prelude.{◌≡◌, ◌+◌, ◌-◌, ◌*◌, ◌/◌, ◌%◌, ◌^◌, ◌<◌, ◌≤◌, [], ◌∷◌, ◌++◌, length, take, codes, decimal};
+ghost use Rattle.std.specs.Prelude.{◌≡◌, ◌+◌, ◌-◌, ◌*◌, ◌/◌, ◌%◌, ◌^◌, ◌<◌, ◌≤◌, [], ◌∷◌, ◌++◌, length, take, codes, decimal, vec_capacity, vec_len, IfOk, OnErr};
+ghost use Rattle.hex.specs.Hex.{encode_lower};
 ghost use Rattle.bt_text.specs.Lines.{spaced};
 
 use itoa::write_digits;
+use std::alloc::AllocError;
 
 /// The digits of each number below 100, two of them.
 static PAIRS: [u8; 200] =
@@ -37,6 +39,19 @@ pub fn put_word<const N: usize>(word: &[u8; N], text: &mut [u8], at: usize) -> u
 {
     let word = *word;
     put(&word, text, at)
+}
+
+/// Writes bytes in hex at the offset `at`; returns the offset after them.
+#[inline(always)]
+pub fn put_hex(bytes: &[u8], text: &mut [u8], at: usize) -> usize
+    requires { at + 2 * length bytes.now ≤ length text.old }
+    ensures room { result ≡ at + 2 * length bytes.now }
+    ensures size { length text.new ≡ length text.old }
+    ensures text { take result text.new ≡ take at text.old ++ encode_lower bytes.now }
+{
+    let end = at + 2 * bytes.len();
+    let _ = hex::encode_to_slice(bytes, &mut text[at..end]);
+    end
 }
 
 /// Puts the two digits of a number below 100.
@@ -196,6 +211,22 @@ pub fn put_three<const N: usize>(
 {
     let place = put_word(name, text, at);
     end_three(n, m, k, text, place)
+}
+
+/// Makes a text longer by this room, and returns the offset of the room.
+///
+/// # Errors
+/// `AllocError` if the capacity lacks the room and out of memory; the text is then as before.
+pub fn grow(text: &mut Vec<u8>, room: usize) -> Result<usize, AllocError>
+    ensures room { IfOk result (λ at. (at + room ≤ vec_len text.new) × (take at text.new.items ≡ text.old.items)) }
+    ensures kept { OnErr result (text.new.items ≡ text.old.items) }
+    ensures full { OnErr result (vec_capacity text.old < vec_len text.old + room) }
+{
+    let at = text.len();
+    match text.resize(at.saturating_add(room), 0) {
+        Ok(()) => Ok(at),
+        Err(error) => Err(error),
+    }
 }
 
 /// The digits of an offset without the last four: nearby offsets share them.

@@ -2,7 +2,7 @@
 //!
 //! A line is written directly into a text that has room for it; the call returns the offset after the line. Or it is
 //! appended, with at most one allocation.
-ghost use Rattle.std.specs.Prelude.{◌≡◌, ◌≤◌, ◌+◌, ◌-◌, ◌*◌, ◌^◌, ◌++◌, length, take, min, codes, decimal, vec_len, unwrap_or, IfOk, OnOk};
+ghost use Rattle.std.specs.Prelude.{◌≡◌, ◌≤◌, ◌+◌, ◌-◌, ◌*◌, ◌^◌, ◌++◌, length, take, min, codes, decimal, unwrap_or, OnOk};
 ghost use Rattle.hex.specs.Hex.{encode_lower};
 ghost use Rattle.bt_ext.specs.Payloads.{ext_id, payload_of, seen as seen_ext};
 ghost use Rattle.bt_wire.specs.Messages.{message_of};
@@ -11,7 +11,7 @@ ghost use Rattle.bt_wire.specs.declared.item.Item.TheVariants as items;
 ghost use Rattle.bt_text.specs.Lines.{spaced, handshake_words};
 ghost use Rattle.bt_text.specs.Script.{spaced_hex, script_line, kept as kept_of};
 
-use crate::putting::{put_number, put_word};
+use crate::putting::{grow, put_hex, put_number, put_word};
 use crate::words::put_words;
 use bt_ext::{ExtView, Registered};
 use bt_wire::{Handshake, MessageView, Own};
@@ -19,19 +19,6 @@ use std::alloc::AllocError;
 
 /// How many bytes of room the line of a handshake needs.
 pub const HANDSHAKE_ROOM: usize = 109;
-
-/// Puts bytes in hex.
-#[inline(always)]
-fn put_hex(bytes: &[u8], text: &mut [u8], at: usize) -> usize
-    requires { at + 2 * length bytes.now ≤ length text.old }
-    ensures room { result ≡ at + 2 * length bytes.now }
-    ensures size { length text.new ≡ length text.old }
-    ensures text { take result text.new ≡ take at text.old ++ encode_lower bytes.now }
-{
-    let end = at + 2 * bytes.len();
-    let _ = hex::encode_to_slice(bytes, &mut text[at..end]);
-    end
-}
 
 /// Puts a space, two parts of bytes in hex, or `-` for no bytes, and the line's end.
 #[inline(never)]
@@ -207,17 +194,6 @@ pub fn put_message_line(own: &Own, view: &MessageView, text: &mut [u8], at: usiz
             at,
         ),
         _ => put_words(view, text, at),
-    }
-}
-
-/// Makes a text longer by this room, and returns the offset of the room.
-pub(crate) fn grow(text: &mut Vec<u8>, room: usize) -> Result<usize, AllocError>
-    ensures { IfOk result (λ at. (at + room ≤ vec_len text.new) × (take at text.new.items ≡ text.old.items)) }
-{
-    let at = text.len();
-    match text.resize(at.saturating_add(room), 0) {
-        Ok(()) => Ok(at),
-        Err(error) => Err(error),
     }
 }
 
