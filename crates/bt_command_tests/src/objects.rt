@@ -1,9 +1,10 @@
 //! The objects of `show --json`, by the call that appends them and by those that put them into a buffer.
-use bt_ext::{ExtId, ExtView, Registered, Rules};
-use bt_json::{message_line, put_ext_handshake_line, put_message_line};
+use bt_ext::{ExtId, Registered, Rules};
+use bt_json::{client_of, message_line, put_message_line, room_for};
 use bt_text::putting::Offset;
 use bt_wire::{Front, MessageView, Order, Own, Reserved, negotiate, read_front};
 use std::alloc::Global;
+use std::str::from_utf8;
 
 /// What stands before an object.
 const BEFORE: &[u8] = b"before\n";
@@ -72,20 +73,19 @@ fn appended(alloc: Global, view: &MessageView) -> Option<Vec<u8>> {
     Some(lines)
 }
 
-/// Puts the object after what stands before it.
-fn put(view: &MessageView, buffer: &mut [u8; 2048]) -> Option<usize> {
-    let mut offset = Offset::new();
-    match view {
-        MessageView::Extended(ExtView::Handshake { dict, rest }) => {
-            put_ext_handshake_line(&mut offset, 68, dict, rest, buffer, BEFORE.len())
-        }
-        _ => put_message_line(&mut offset, 68, view, buffer, BEFORE.len()),
+/// Puts the object after what stands before it, if there is the room that it asks for.
+fn put(view: &MessageView, buffer: &mut [u8; 2560]) -> Option<usize> {
+    let client = client_of(view);
+    if room_for(client) > buffer.len() - BEFORE.len() {
+        return None;
     }
+    let mut offset = Offset::new();
+    Some(put_message_line(&mut offset, 68, view, client, buffer, BEFORE.len()))
 }
 
 /// Whether this text is put.
 fn is_put(view: &MessageView, text: &[u8]) -> bool {
-    let mut buffer = [b'.'; 2048];
+    let mut buffer = [b'.'; 2560];
     buffer[..BEFORE.len()].copy_from_slice(BEFORE);
     match put(view, &mut buffer) {
         Some(end) => buffer.get(..end) == Some(text),
@@ -115,47 +115,99 @@ fn objects_are_written(rt: HostRuntime) {
     }
 }
 
-/// An extended handshake with a client's name of one byte again and again; `front` is what stands before it in the dictionary.
-fn named(alloc: Global, front: &[u8], byte: u8, count: usize) -> Option<Vec<u8>> {
-    let length = u32::try_from(front.len().saturating_add(count).saturating_add(3)).ok()?;
-    let mut bytes = Vec::from_slice(alloc, &length.to_be_bytes()).ok()?;
-    bytes.extend_from_slice(b"\x14\0").ok()?;
-    bytes.extend_from_slice(front).ok()?;
-    for _ in 0..count {
-        bytes.push(byte).ok()?;
-    }
+/// An extended handshake with this client's name.
+fn named(alloc: Global, name: &[u8]) -> Option<Vec<u8>> {
+    let size = format!(in alloc; "{}", name.len()).ok()?;
+    let length = name.len().saturating_add(size.len()).saturating_add(8);
+    let mut bytes = Vec::from_slice(alloc, &u32::try_from(length).ok()?.to_be_bytes()).ok()?;
+    bytes.extend_from_slice(b"\x14\0d1:v").ok()?;
+    bytes.extend_from_slice(size.as_bytes()).ok()?;
+    bytes.push(b':').ok()?;
+    bytes.extend_from_slice(name).ok()?;
     bytes.push(b'e').ok()?;
     Some(bytes)
 }
 
-/// Whether the object of a message is put as it is appended, or nothing is put.
-fn is_either_way(alloc: Global, bytes: &[u8], short: bool) -> bool {
-    let Some(view) = read(&own(), bytes) else {
-        return false;
-    };
-    match appended(alloc, &view) {
-        Some(text) if short => is_put(&view, &text),
-        Some(_) => put(&view, &mut [b'.'; 2048]).is_none(),
-        None => false,
+/// Appends a byte as RFC 8259 has it between quotes, by the shortest escape.
+fn push_escaped(alloc: Global, text: &mut Vec<u8>, byte: u8) -> Option<()> {
+    match byte {
+        b'"' => text.extend_from_slice(b"\\\"").ok(),
+        b'\\' => text.extend_from_slice(b"\\\\").ok(),
+        0x08 => text.extend_from_slice(b"\\b").ok(),
+        0x09 => text.extend_from_slice(b"\\t").ok(),
+        0x0A => text.extend_from_slice(b"\\n").ok(),
+        0x0C => text.extend_from_slice(b"\\f").ok(),
+        0x0D => text.extend_from_slice(b"\\r").ok(),
+        0..=0x1F => {
+            let escape = format!(in alloc; "\\u{byte:04x}").ok()?;
+            text.extend_from_slice(escape.as_bytes()).ok()
+        }
+        _ => text.push(byte).ok(),
     }
 }
 
-fn is_name_right(alloc: Global, front: &[u8], byte: u8, count: usize) -> bool {
-    match named(alloc, front, byte, count) {
-        Some(bytes) => is_either_way(alloc, &bytes, count <= 256),
-        None => false,
+/// The object with this client's name after what stands before it; null stands for a name that isn't UTF-8.
+fn expected(alloc: Global, name: &[u8]) -> Option<Vec<u8>> {
+    let mut text = Vec::from_slice(alloc, BEFORE).ok()?;
+    let size = format!(in alloc; "{}", name.len()).ok()?;
+    let length = name.len().saturating_add(size.len()).saturating_add(6);
+    let front = format!(in alloc;
+        "{{\"offset\":68,\"item\":\"ext-handshake\",\"dictionary\":{length},\"rest\":0"
+    ).ok()?;
+    text.extend_from_slice(front.as_bytes()).ok()?;
+    text.extend_from_slice(b",\"metadata_size\":null,\"ut_metadata\":null,\"client\":")
+        .ok()?;
+    if from_utf8(name).is_err() {
+        text.extend_from_slice(b"null}\n").ok()?;
+        return Some(text);
+    }
+    text.push(b'"').ok()?;
+    for byte in name {
+        push_escaped(alloc, &mut text, *byte)?;
+    }
+    text.extend_from_slice(b"\"}\n").ok()?;
+    Some(text)
+}
+
+/// Whether the object is right of a name of `count` bytes `q`, the one at `place` replaced by `byte`.
+fn is_name_right(alloc: Global, count: usize, place: usize, byte: u8) -> bool {
+    let mut name = [b'q'; 300];
+    name[place % 300] = byte;
+    let name = &name[..count.min(300)];
+    match (named(alloc, name), expected(alloc, name)) {
+        (Some(bytes), Some(text)) => is_right(alloc, &bytes, text.as_slice()),
+        _ => false,
     }
 }
 
-/// A name of 256 bytes is put, and one of 257 isn't; each byte is put as it is appended.
+/// Whether the object is right of a name of `count` times the same byte.
+fn is_row_right(alloc: Global, count: usize, byte: u8) -> bool {
+    let name = [byte; 300];
+    let name = &name[..count.min(300)];
+    match (named(alloc, name), expected(alloc, name)) {
+        (Some(bytes), Some(text)) => is_right(alloc, &bytes, text.as_slice()),
+        _ => false,
+    }
+}
+
+/// Each byte, and names of 0 to 300 bytes with an escape next to the steps of 16 in which runs are looked for.
 #[test]
-fn names_either_way(rt: HostRuntime) {
+fn names_are_escaped(rt: HostRuntime) {
     for byte in 0..=255u8 {
-        assert!(rt; is_name_right(rt.alloc(), b"d1:v1:", byte, 1), "{byte}");
-        assert!(rt; is_name_right(rt.alloc(), b"d1:v256:", byte, 256), "{byte}");
+        assert!(rt; is_name_right(rt.alloc(), 1, 0, byte), "{byte}");
+        assert!(rt; is_name_right(rt.alloc(), 40, 20, byte), "{byte}");
     }
-    for byte in [b'q', 1, 0xFF] {
-        assert!(rt; is_name_right(rt.alloc(), b"d1:v255:", byte, 255), "{byte}");
-        assert!(rt; is_name_right(rt.alloc(), b"d1:v257:", byte, 257), "{byte}");
+    for byte in [b'q', b'"', 1, 0xFF] {
+        for count in [0, 15, 16, 17, 255, 256, 257, 300] {
+            assert!(rt; is_row_right(rt.alloc(), count, byte), "{byte} {count}");
+            assert!(rt;
+                is_name_right(rt.alloc(), count, 15, byte),
+                "{byte} {count}"
+            );
+            assert!(rt;
+                is_name_right(rt.alloc(), count, 16, byte),
+                "{byte} {count}"
+            );
+        }
     }
 }

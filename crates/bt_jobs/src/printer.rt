@@ -1,5 +1,5 @@
 //! The text of a stream's items, until it is written.
-ghost use Rattle.std.specs.Prelude.{◌≡◌, ◌≢◌, ◌+◌, ◌<◌, ◌≤◌, ℕ, List, [], ◌++◌, length, take, vec_len, OnOk, OnErr, IfOk, IfErr, IfNone, IfSome};
+ghost use Rattle.std.specs.Prelude.{◌≡◌, ◌≢◌, ◌+◌, ◌<◌, ◌≤◌, ℕ, List, [], ◌++◌, length, take, vec_len, OnOk, OnErr, IfOk, IfErr};
 ghost use Rattle.std.specs.Io.KnownBytes.{Appends};
 ghost use Rattle.bt_io.specs.Seen.{WriteFailed};
 ghost use Rattle.bt_feed.specs.Views.{item_of};
@@ -13,8 +13,8 @@ ghost use Rattle.bt_jobs.specs.Printed.{IsFlushed, Prints, form_of, text_in, tex
 ghost use Rattle.bt_jobs.specs.declared.printer.Form.TheVariants as shape;
 
 use crate::output::write_out;
-use bt_ext::ExtView;
 use bt_feed::{Sink, SinkFault, Target, View};
+use bt_json::client_of;
 use bt_text::ended::{Ended, ToolFault};
 use bt_text::lines::{put_handshake, put_message, verdict_line};
 use bt_text::putting::{Offset, put};
@@ -35,9 +35,6 @@ pub enum Form {
 
 /// How many bytes of room a message's line needs.
 const LINE_ROOM: usize = 160;
-
-/// How many bytes of room an extended handshake's object needs whose client's name isn't long.
-const EXT_HANDSHAKE_ROOM: usize = 1792;
 
 /// How many bytes the text grows by if it has no room.
 const GROWTH: usize = 8192;
@@ -78,6 +75,17 @@ fn grow(text: &mut Vec<u8>, used: usize, room: usize) -> Result<usize, AllocErro
     match text.resize(used.saturating_add(room).saturating_add(GROWTH), 0) {
         Ok(()) => Ok(used),
         Err(error) => Err(error),
+    }
+}
+
+/// Returns what is used of the text.
+fn used_part(text: &Vec<u8>, used: usize) -> &[u8]
+    ensures { result.now ≡ take used text.now.items }
+{
+    if used < text.len() {
+        &text.as_slice()[..used]
+    } else {
+        text.as_slice()
     }
 }
 
@@ -125,88 +133,46 @@ fn push_verdict(ended: Ended, text: &mut Vec<u8>, used: usize) -> Result<usize, 
     }
 }
 
-/// Adds the object of an item.
-fn push_object(alloc: Global, at: u64, view: &View, text: &mut Vec<u8>) -> Result<(), AllocError>
-    ensures { OnOk result ((own : Receiver) → text.new.items ≡ text.old.items ++ object_of own (at, item_of view.now)) }
-{
-    match view {
-        View::Handshake(handshake) => bt_json::handshake_line(alloc, at, handshake, text),
-        View::Message(message) => bt_json::message_line(alloc, at, message, text),
-    }
-}
-
-/// Adds the object of an item, a token at a time, to what is used of the text; returns how much is used then.
-///
-/// It is made in a text of its own, so the room after what is used stays.
-#[inline(never)]
-fn add_tokens(
-    alloc: Global,
+/// Adds the object of a message to what is used of the text; returns how much is used then.
+#[inline(always)]
+fn add_message_object(
     at: u64,
-    view: &View,
+    message: &MessageView,
+    offset: &mut Offset,
     text: &mut Vec<u8>,
     used: usize,
 ) -> Result<usize, AllocError>
-    ensures { IfOk result (λ n. (own : Receiver) → take n text.new.items ≡ take used text.old.items ++ object_of own (at, item_of view.now)) }
+    ensures { IfOk result (λ n. (own : Receiver) → take n text.new.items ≡ take used text.old.items ++ object_of own (at, items.Message (message_of message.now))) }
 {
-    let mut line = Vec::new(alloc);
-    push_object(alloc, at, view, &mut line)?;
-    match make_room(text, used, line.len().max(1)) {
-        Ok(place) => Ok(put(line.as_slice(), text.as_mut_slice(), place)),
+    let client = client_of(message);
+    match make_room(text, used, bt_json::room_for(client)) {
+        Ok(place) => {
+            let text = text.as_mut_slice();
+            Ok(bt_json::put_message_line(offset, at, message, client, text, place))
+        }
         Err(error) => Err(error),
     }
 }
 
-/// Puts the object of a message at a place that has room for it; returns the place after it.
-///
-/// It returns `None` for a handshake, and for a message whose object may be of any length.
-#[inline(always)]
-fn put_object(
-    at: u64,
-    view: &View,
-    offset: &mut Offset,
-    text: &mut [u8],
-    place: usize,
-) -> Option<usize>
-    requires { place + 160 ≤ length text.old }
-    ensures size { length text.new ≡ length text.old }
-    ensures kept { IfNone result (take place text.new ≡ take place text.old) }
-    ensures text { IfSome result (λ n. (own : Receiver) → take n text.new ≡ take place text.old ++ object_of own (at, item_of view.now)) }
-{
-    match view {
-        View::Handshake(_) => None,
-        View::Message(message) => bt_json::put_message_line(offset, at, message, text, place),
-    }
-}
-
-/// Adds the object of an item that `put_object` doesn't put.
-///
-/// It is added to what is used of the text; returns how much is used then. An extended handshake's object is put straight
-/// into the text, unless its client's name is long.
+/// Adds the object of a handshake to what is used of the text; returns how much is used then.
 #[inline(never)]
-fn add_long_object(
-    alloc: Global,
+fn add_handshake_object(
     at: u64,
-    view: &View,
-    offset: &mut Offset,
+    handshake: &Handshake,
     text: &mut Vec<u8>,
     used: usize,
 ) -> Result<usize, AllocError>
-    ensures { IfOk result (λ n. (own : Receiver) → take n text.new.items ≡ take used text.old.items ++ object_of own (at, item_of view.now)) }
+    ensures { IfOk result (λ n. (own : Receiver) → take n text.new.items ≡ take used text.old.items ++ object_of own (at, items.Handshake handshake.now)) }
 {
-    let View::Message(MessageView::Extended(ExtView::Handshake { dict, rest })) = view else {
-        return add_tokens(alloc, at, view, text, used);
-    };
-    let place = make_room(text, used, EXT_HANDSHAKE_ROOM)?;
-    match bt_json::put_ext_handshake_line(offset, at, dict, rest, text.as_mut_slice(), place) {
-        Some(end) => Ok(end),
-        None => add_tokens(alloc, at, view, text, place),
+    match make_room(text, used, bt_json::room_for(Some(&handshake.peer_id))) {
+        Ok(place) => Ok(bt_json::put_handshake_line(at, handshake, text.as_mut_slice(), place)),
+        Err(error) => Err(error),
     }
 }
 
 /// Adds the object of an item to what is used of the text; returns how much is used then.
 #[inline(never)]
 fn add_object(
-    alloc: Global,
     at: u64,
     view: &View,
     offset: &mut Offset,
@@ -215,12 +181,9 @@ fn add_object(
 ) -> Result<usize, AllocError>
     ensures { IfOk result (λ n. (own : Receiver) → take n text.new.items ≡ take used text.old.items ++ object_of own (at, item_of view.now)) }
 {
-    match make_room(text, used, LINE_ROOM) {
-        Ok(place) => match put_object(at, view, offset, text.as_mut_slice(), place) {
-            Some(end) => Ok(end),
-            None => add_long_object(alloc, at, view, offset, text, place),
-        },
-        Err(error) => Err(error),
+    match view {
+        View::Handshake(handshake) => add_handshake_object(at, handshake, text, used),
+        View::Message(message) => add_message_object(at, message, offset, text, used),
     }
 }
 
@@ -341,7 +304,6 @@ fn add_script(own: &Own, view: &View, text: &mut Vec<u8>, used: usize) -> Result
 #[inline(always)]
 fn add_other(
     form: Form,
-    alloc: Global,
     at: u64,
     view: &View,
     offset: &mut Offset,
@@ -354,7 +316,7 @@ fn add_other(
     let view = copied(view);
     match form {
         Form::Show => unreachable!(),
-        Form::Json => add_object(alloc, at, &view, offset, text, used),
+        Form::Json => add_object(at, &view, offset, text, used),
         Form::Unpack(own) => add_script(&own, &view, text, used),
     }
 }
@@ -411,8 +373,7 @@ impl Printer {
         ensures form { form_of self.new ≡ form_of self.old }
         ensures fault { IfErr result (λ fault. fault ≡ ToolFault.Write) }
     {
-        self.text.truncate(self.used);
-        match write_out(writer, self.text.as_slice(), answer) {
+        match write_out(writer, used_part(&self.text, self.used), answer) {
             Ok(answer) => {
                 self.used = 0;
                 Ok(answer)
@@ -440,15 +401,7 @@ impl Sink for Printer {
         self.calls = self.calls.saturating_add(1);
         let added = match self.form {
             Form::Show => push_item(at, view, &mut self.offset, &mut self.text, self.used),
-            form => add_other(
-                form,
-                self.alloc,
-                at,
-                view,
-                &mut self.offset,
-                &mut self.text,
-                self.used,
-            ),
+            form => add_other(form, at, view, &mut self.offset, &mut self.text, self.used),
         };
         match added {
             Ok(used) => {

@@ -1,7 +1,13 @@
 -- Laws of escapes, and of the text of an extended handshake's line.
-use Rattle.std.proofs.Common.{◌≡◌, ◌<◌, ◌≤◌, ◌/◌, ◌%◌, ◌++◌, ◌∷◌, [], List, ℕ, Bool, true, false, refl, sym, ap, ◌∙◌, append_assoc}
-use Rattle.std.proofs.lemmas.Bool.{lt-ltb, le-ltb}
+use Rattle.std.proofs.Common.{◌≡◌, ◌<◌, ◌≤◌, ◌+◌, ◌*◌, ◌/◌, ◌%◌, ◌++◌, ◌∷◌, ◌&&◌, ◌⊎◌, [], List, ℕ, zero, suc, Bool, true, false, inl, inr, refl, sym, ap, ◌∙◌, append_assoc, arith, drop, take, length, get_or, slice_index, cond, nat_lt, get_or-take}
+use Rattle.std.proofs.lemmas.Bool.{lt-ltb, le-ltb, and_parts, cases_lt}
+use Rattle.std.proofs.lemmas.Grind.{flat_map-append}
+use Rattle.std.proofs.lemmas.List.{drop_more, length-append, length-take-le, take-append-drop}
 use Rattle.std.specs.Prelude.{codes, decimal, IsUtf8, Option, Some, None, if◌then◌else◌}
+use Rattle.hex.specs.Hex.{IsBytes, encode_lower, encode_with, lower_digits}
+use Rattle.json.proofs.Printed.Plain.{escape_on_plain}
+use Rattle.json.specs.Run.{is_plain}
+use Rattle.json.specs.Written.{PlainBetween}
 use Rattle.std.specs.Char.{digit_char}
 use Rattle.std.specs.Str.{is_utf8}
 use Rattle.json.specs.Print.{ends, escape, escape_byte, escape_letter, print_from, quoted, token_text}
@@ -77,3 +83,69 @@ text_token s u = rw (is_text s u) refl
 
 pub no_text_token : (s : List ℕ) → (IsUtf8 s → ⊥) → codes "null" ≡ token_text (text_or_null (Some s))
 no_text_token s bad = rw (is_no_text s bad) refl
+
+-- ---- how many bytes stand in a string
+
+sizes : (b c : Bool) (l h g y : ℕ)
+    → (1 ≤ length (cond b (92 ∷ l ∷ []) (cond c (92 ∷ 117 ∷ 48 ∷ 48 ∷ h ∷ g ∷ []) (y ∷ []))))
+    × (length (cond b (92 ∷ l ∷ []) (cond c (92 ∷ 117 ∷ 48 ∷ 48 ∷ h ∷ g ∷ []) (y ∷ []))) ≤ 6)
+sizes true c l h g y = (omega arith, omega arith)
+sizes false true l h g y = (omega arith, omega arith)
+sizes false false l h g y = (omega arith, omega arith)
+
+pub byte_size : (x : ℕ) → (1 ≤ length (escape_byte x)) × (length (escape_byte x) ≤ 6)
+unfolding escape_byte
+byte_size x = sizes (nat_lt 0 (escape_letter x)) (nat_lt x 32) (escape_letter x) (digit_char (x / 16)) (digit_char (x % 16)) x
+
+pub escape_size : (s : List ℕ) → length (escape s) ≤ 6 * length s
+escape_size [] = omega arith
+escape_size (x ∷ xs) =
+    let both = length-append (escape_byte x) (escape xs) in
+    let first = (byte_size x).1 in
+    let rest = escape_size xs in
+    omega (arith, both, first, rest)
+
+-- the first of the bytes that are left, and the others
+pub next_size : (s : List ℕ) (i : ℕ) → i < length s
+    → length (escape (drop i s)) ≡ length (escape_byte (get_or s i 0)) + length (escape (drop (i + 1) s))
+next_size s i lt =
+    ap (λ (l : List ℕ). length (escape l)) (drop_more s i 0 lt) ∙ length-append (escape_byte (get_or s i 0)) (escape (drop (i + 1) s))
+
+pub escape_parts : (n : ℕ) (s : List ℕ) → escape s ≡ escape (take n s) ++ escape (drop n s)
+escape_parts n s = ap escape (sym (take-append-drop n s)) ∙ flat_map-append escape_byte (take n s) (drop n s)
+
+pub part_sizes : (n : ℕ) (s : List ℕ) → length (escape s) ≡ length (escape (take n s)) + length (escape (drop n s))
+part_sizes n s = ap length (escape_parts n s) ∙ length-append (escape (take n s)) (escape (drop n s))
+
+-- ---- bytes that need no escape
+
+pub plain_front : (s : List ℕ) (n : ℕ) → n ≤ length s → PlainBetween s 0 n → escape (take n s) ≡ take n s
+plain_front s n long h =
+    let size = length-take-le n s long in
+    escape_on_plain true (take n s) (λ k p q. ap is_plain (get_or-take n s k 0 (omega (arith, size))) ∙ h k p (omega (arith, size)))
+
+-- the hex digits below n are plain, which computes
+abbrev plain_below : ℕ → Bool
+plain_below zero = true
+plain_below (suc n) = is_plain (slice_index lower_digits n) && plain_below n
+
+plain_digit : (n k : ℕ) → plain_below n ≡ true → k < n → is_plain (slice_index lower_digits k) ≡ true
+plain_digit zero k h lt = absurd (omega arith)
+plain_digit (suc n) k h lt =
+    let parts = and_parts (is_plain (slice_index lower_digits n)) (plain_below n) h in
+    elim (cases_lt k n) [
+      | inl below ↦ plain_digit n k parts.1 below
+      | inr top ↦
+          let e : k ≡ n = omega arith in
+          rw e parts.0
+    ]
+
+plain_hex : (s : List ℕ) → IsBytes s → PlainBetween (encode_lower s) 0 (length (encode_lower s))
+unfolding encode_with
+plain_hex [] h k p q = absurd (omega arith)
+plain_hex (b ∷ rest) h zero p q = let byte : b < 256 = h 0 in plain_digit 16 (b / 16) refl (omega arith)
+plain_hex (b ∷ rest) h (suc zero) p q = let byte : b < 256 = h 0 in plain_digit 16 (b % 16) refl (omega arith)
+plain_hex (b ∷ rest) h (suc (suc k)) p q = plain_hex rest (λ i. h (suc i)) k (omega arith) (omega arith)
+
+pub escape_hex : (s : List ℕ) → IsBytes s → escape (encode_lower s) ≡ encode_lower s
+escape_hex s h = escape_on_plain true (encode_lower s) (plain_hex s h)

@@ -1,10 +1,14 @@
 -- The text of an object's line by its fields, for each number of them.
-use Rattle.std.proofs.Common.{◌≡◌, ◌++◌, ◌∷◌, [], List, ℕ, append_assoc}
+use Rattle.std.proofs.Common.{◌≡◌, ◌++◌, ◌∷◌, ◌∙◌, [], List, ℕ, ap, append_assoc, length, refl, sym, take}
+use Rattle.std.proofs.Math.Seq.{take-append_seam}
 use Rattle.std.specs.Prelude.{codes, decimal, true}
-use Rattle.json.specs.Print.{escape_byte, print_from, quoted}
+use Rattle.json.specs.Print.{ends, escape, escape_byte, print_from, quoted, token_text}
 use Rattle.json.specs.Token.{Token, end_object}
 use Rattle.bt_json.specs.Members.{kind_and_name, named, rest_of_line}
-use Rattle.bt_json.specs.Objects.{a_field, a_number, kind_field, object_line}
+use Rattle.bt_json.specs.Objects.{a_field, a_number, a_text, kind_field, object_line, verdict_line}
+use Rattle.bt_text.specs.declared.ended.Ended.TheVariants.{Accepted, Refused}
+use Rattle.bt_wire.specs.declared.item.Refusal.{Refusal}
+use Rattle.bt_wire.specs.Reasons.{reason_name}
 
 joined_one : (o a b c d e f : List ℕ) → o ++ ((a ++ (b ++ c)) ++ (d ++ (e ++ f))) ≡ o ++ ((a ++ (b ++ (c ++ (d ++ e)))) ++ f)
 joined_one o a b c d e f = simp append_assoc
@@ -49,3 +53,59 @@ pub offset_line : (old : List ℕ) (at : ℕ) (fields : List Token)
 unfolding print_from a_field escape_byte
 offset_line old at fields =
     joined_line old (codes "{\"offset\":") (decimal at) (print_from true (fields ++ end_object ∷ [])) (codes "\n")
+
+-- a handshake's fields, of its texts in hex
+abbrev hand_fields : List ℕ → List ℕ → List ℕ → Token → List Token
+hand_fields x y z t =
+    kind_field (codes "handshake")
+    ++ (a_text (codes "reserved") x ++ (a_text (codes "info_hash") y ++ (a_text (codes "peer_id") z ++ a_field (codes "peer_id_text") t)))
+
+joined_hand : (o a x q b y c z d t e f : List ℕ)
+    → (((((((((o ++ a) ++ x) ++ (q ++ b)) ++ y) ++ (q ++ c)) ++ z) ++ (q ++ d)) ++ t) ++ (e ++ f))
+    ≡ o ++ ((a ++ ((x ++ q) ++ (b ++ ((y ++ q) ++ (c ++ ((z ++ q) ++ (d ++ (t ++ e)))))))) ++ f)
+joined_hand o a x q b y c z d t e f = simp append_assoc
+
+hand_text : (x y z : List ℕ) (t : Token) → ends t ≡ true
+    → print_from true (hand_fields x y z t ++ end_object ∷ [])
+    ≡ codes ",\"item\":\"handshake\",\"reserved\":\"" ++ ((escape x ++ 34 ∷ []) ++ (codes ",\"info_hash\":\"" ++ ((escape y ++ 34 ∷ [])
+    ++ (codes ",\"peer_id\":\"" ++ ((escape z ++ 34 ∷ []) ++ (codes ",\"peer_id_text\":" ++ (token_text t ++ codes "}")))))))
+unfolding print_from a_field escape_byte
+hand_text x y z t et = rw et refl
+
+-- the fields of a handshake, after a text
+pub hand_line : (old x y z : List ℕ) (t : Token) → ends t ≡ true
+    → ((((((((old ++ codes ",\"item\":\"handshake\",\"reserved\":\"") ++ escape x) ++ codes "\",\"info_hash\":\"") ++ escape y) ++ codes "\",\"peer_id\":\"")
+    ++ escape z) ++ codes "\",\"peer_id_text\":") ++ token_text t) ++ codes "}\n"
+    ≡ old ++ rest_of_line (hand_fields x y z t)
+hand_line old x y z t et =
+    joined_hand old (codes ",\"item\":\"handshake\",\"reserved\":\"") (escape x) (34 ∷ []) (codes ",\"info_hash\":\"") (escape y) (codes ",\"peer_id\":\"")
+    (escape z) (codes ",\"peer_id_text\":") (token_text t) (codes "}") (codes "\n")
+    ∙ ap (λ (l : List ℕ). old ++ (l ++ codes "\n")) (sym (hand_text x y z t et))
+
+joined_refused : (o a n b m c s q e f : List ℕ)
+    → ((((((o ++ a) ++ n) ++ b) ++ m) ++ c) ++ s) ++ (q ++ (e ++ f)) ≡ o ++ ((a ++ (n ++ (b ++ (m ++ (c ++ ((s ++ q) ++ e)))))) ++ f)
+joined_refused o a n b m c s q e f = simp append_assoc
+
+-- the line of a refusal, after a text
+pub refused_line : (old : List ℕ) (r : Refusal)
+    → ((((((old ++ codes "{\"verdict\":\"refused\",\"message\":") ++ decimal r.message) ++ codes ",\"offset\":") ++ decimal r.at) ++ codes ",\"reason\":\"")
+    ++ escape (reason_name r.reason)) ++ codes "\"}\n"
+    ≡ old ++ verdict_line (Refused r)
+unfolding print_from a_field escape_byte
+refused_line old r =
+    joined_refused old (codes "{\"verdict\":\"refused\",\"message\":") (decimal r.message) (codes ",\"offset\":") (decimal r.at) (codes ",\"reason\":\"")
+    (escape (reason_name r.reason)) (34 ∷ []) (codes "}") (codes "\n")
+
+joined_accepted : (o a n b m e f : List ℕ) → o ++ (a ++ (n ++ (b ++ (m ++ (e ++ f))))) ≡ o ++ ((a ++ (n ++ (b ++ (m ++ e)))) ++ f)
+joined_accepted o a n b m e f = simp append_assoc
+
+-- the line of a stream that is accepted, after a text
+pub accepted_line : (old : List ℕ) (n m : ℕ)
+    → old ++ (codes "{\"verdict\":\"ok\",\"messages\":" ++ (decimal n ++ (codes ",\"bytes\":" ++ (decimal m ++ codes "}\n")))) ≡ old ++ verdict_line (Accepted n m)
+unfolding print_from a_field escape_byte
+accepted_line old n m =
+    joined_accepted old (codes "{\"verdict\":\"ok\",\"messages\":") (decimal n) (codes ",\"bytes\":") (decimal m) (codes "}") (codes "\n")
+
+-- what was put into a whole buffer is in it
+pub in_buffer : (n size : ℕ) (put kept old line : List ℕ) → length put ≡ size → take n put ≡ old ++ line → take n (take size (put ++ kept)) ≡ old ++ line
+in_buffer n size put kept old line long told = ap (λ (m : ℕ). take n (take m (put ++ kept))) (sym long) ∙ (ap (take n) (take-append_seam put kept) ∙ told)

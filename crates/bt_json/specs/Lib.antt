@@ -1,3 +1,2 @@
 pub mod Members
 pub mod Objects
-pub mod Short

@@ -2,7 +2,7 @@ use Rattle.std.proofs.Common.{rules, ◌≡◌, ◌++◌, List, ℕ, ap, append_
 use Rattle.std.specs.Prelude.{codes, IsUtf8}
 use Rattle.json.specs.Print.{escape}
 use Rattle.bt_json.proofs.EscapeLaws.{text_token, no_text_token}
-use Rattle.bt_json.proofs.announced.put_text.Goals as goal
+use Rattle.bt_json.proofs.texts.put_text.Goals as goal
 
 regrouped : (o q s : List ℕ) → ((o ++ q) ++ s) ++ q ≡ o ++ (q ++ (s ++ q))
 regrouped o q s = simp append_assoc
