@@ -36,7 +36,7 @@ number_ends bytes (c ∷ rest) tail n stop h s e is = is ∙ rw (e, ← s) refl
 pub plus_passes : (bytes rest : List ℕ) (n : ℕ) → n < 2 ^ 63 → bytes ≡ decimal n ++ 101 ∷ rest → PassesInteger bytes rest
 plus_passes bytes rest n h is = (pos n, omega arith, is)
 
-pub minus_passes : (bytes tail rest : List ℕ) (n : ℕ) → get_or bytes 0 0 ≡ 45 → tail ≡ drop 1 bytes → 0 < n → n < 2 ^ 63 → tail ≡ decimal n ++ 101 ∷ rest
+pub minus_passes : (bytes tail rest : List ℕ) (n : ℕ) → get_or bytes 0 0 ≡ 45 → tail ≡ drop 1 bytes → 0 < n → n ≤ 2 ^ 63 → tail ≡ decimal n ++ 101 ∷ rest
     → PassesInteger bytes rest
 minus_passes bytes tail rest zero e t low h is = absurd (omega arith)
 minus_passes bytes tail rest (suc n) e t low h is = (negsuc n, omega arith, headed bytes 45 e (omega arith) ∙ ap (λ (x : List ℕ). 45 ∷ x) (sym t ∙ is))

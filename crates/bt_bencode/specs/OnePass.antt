@@ -1,10 +1,10 @@
 -- What the pass that validates bytes and compares keys has passed. (For the contracts of functions that are not public.)
-use Rattle.std.specs.Prelude.{◌≡◌, ℕ, ℤ, List, ◌∷◌, ◌++◌, FitsSigned, Option, None}
+use Rattle.std.specs.Prelude.{◌≡◌, ℕ, ℤ, ◌<◌, ◌+◌, List, ◌∷◌, ◌++◌, length, FitsSigned, Option, Some, None}
 use Rattle.std.specs.Int.{w64}
 use Rattle.std.specs.Fmt.{signed_decimal}
 use Rattle.bt_bencode.specs.Trees.{Tree, Trees, Pairs}
 use Rattle.bt_bencode.specs.Bencoding.{ben, ben_all, ben_pairs}
-use Rattle.bt_bencode.specs.Keys.{IsSorted, AllAreSorted, PairsAreSorted, value_at}
+use Rattle.bt_bencode.specs.Keys.{IsSorted, AllAreSorted, PairsAreSorted, value_at, unsorted, unsorted_all, unsorted_pairs}
 use Rattle.bt_bencode.specs.Readable.{FindsValue}
 use Rattle.bt_bencode.specs.Room.{FitsIn, AllFitIn, PairsFitIn}
 use Rattle.bt_bencode.specs.declared.noted.Noted.{Noted}
@@ -24,6 +24,23 @@ PassesItems room bytes rest = (ts : Trees) × AllFitIn room ts × AllAreSorted t
 -- they are the further pairs of a dictionary, which follow a last key, its end, and `rest`
 abbrev pub PassesPairs : ℕ → Option (List ℕ) → List ℕ → List ℕ → Type 0
 PassesPairs room last bytes rest = (ps : Pairs) × PairsFitIn room ps × PairsAreSorted last ps × (bytes ≡ ben_pairs ps ++ 101 ∷ rest)
+
+-- the offset of the first key out of order, from which `left` of the bytes are left
+abbrev pub StopsAt : Option ℕ → List ℕ → ℕ → Type 0
+StopsAt offset bytes left = (n : ℕ) × (offset ≡ Some n) × (n + left ≡ length bytes) × (0 < left)
+
+-- whichever value the bytes begin with, its first key out of order is there; so there is none if nothing is left
+abbrev pub StopsValue : ℕ → List ℕ → ℕ → Type 0
+StopsValue room bytes left = (t : Tree) (more : List ℕ) → FitsIn room t → bytes ≡ ben t ++ more → StopsAt (unsorted t) bytes left
+
+-- the same of the further values of a list
+abbrev pub StopsItems : ℕ → List ℕ → ℕ → Type 0
+StopsItems room bytes left = (ts : Trees) (more : List ℕ) → AllFitIn room ts → bytes ≡ ben_all ts ++ 101 ∷ more → StopsAt (unsorted_all ts) bytes left
+
+-- and of the further pairs of a dictionary, which follow a last key
+abbrev pub StopsPairs : ℕ → Option (List ℕ) → List ℕ → ℕ → Type 0
+StopsPairs room last bytes left =
+    (ps : Pairs) (more : List ℕ) → PairsFitIn room ps → bytes ≡ ben_pairs ps ++ 101 ∷ more → StopsAt (unsorted_pairs last ps) bytes left
 
 -- they are the pairs of an outermost dictionary, its end, and what is noted as following it, and so are the values of three keys
 pub record PassesNoted (one two three bytes : List ℕ) (x : Noted) : Type 0 where

@@ -8,10 +8,10 @@ ghost use Rattle.bt_bencode.specs.Payloads.{Refuses};
 ghost use Rattle.bt_bencode.specs.Readable.{FindsValue, HasValue};
 ghost use Rattle.bt_bencode.specs.OneSpelling.{IsSpelling-prop};
 
-use crate::pairs::{IntPairs, Left, pairs_if_any, pairs_in};
+use crate::pairs::{IntPairs, Left, pairs_in};
 use crate::read::{following, read_value};
 use crate::scan::{Bad, scan};
-use crate::skip::{find, find_two, inner_int, int_if_any, int_in, text_in};
+use crate::skip::{find, inner_int, int_in, text_in};
 use crate::sorted::first_unsorted;
 use crate::tree::Value;
 use std::alloc::{AllocError, Global};
@@ -144,23 +144,6 @@ impl<'a> DictRef<'a> {
             None => None,
             Some(value) => pairs_in(value),
         }
-    }
-
-    /// Looks up the pairs of an inner dictionary and an integer by one walk.
-    ///
-    /// The first are those that [`DictRef::lookup_pairs`] finds at `outer`, the second that which [`DictRef::lookup_int`] finds
-    /// at `key`. `None`: no pair has the key. `Some(None)`: its value is of another kind.
-    #[inline(always)]
-    pub fn lookup_pairs_and_int(
-        &self,
-        outer: &[u8],
-        key: &[u8],
-    ) -> (Option<Option<IntPairs<'a>>>, Option<Option<i64>>)
-        ensures pairs { result.0 ≡ option_map dictionary_of (value_at outer.now self.now.tree.0) }
-        ensures int { result.1 ≡ option_map integer_of (value_at key.now self.now.tree.0) }
-    {
-        let (first, second) = find_two(following(self.spelled()), outer, key);
-        (pairs_if_any(first), int_if_any(second))
     }
 
     /// Returns the pairs in order: each key, and the value if it is an integer.

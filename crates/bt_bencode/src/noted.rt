@@ -1,7 +1,7 @@
-//! The pass of [`check_sorted`](crate::check_sorted) that also finds the values of some keys, so that they need no second walk.
+//! The pass over a dictionary whose keys are in order, which also finds the values of some keys, so that they need no second walk.
 //!
-//! It answers where that pass does, recurses as it does, and doesn't allocate.
-ghost use Rattle.std.specs.Prelude.{◌≡◌, Option, None, IfSome, option_map, option_and_then};
+//! It recurses as [`after_value`](crate::one_pass::after_value) does, and doesn't allocate.
+ghost use Rattle.std.specs.Prelude.{◌≡◌, Option, None, IfOk, IfErr, IfSome, option_map, option_and_then};
 ghost use Rattle.std.specs.Option.{option_or};
 ghost use Rattle.std.specs.Bool.{then_some};
 ghost use Rattle.bt_bencode.specs.Trees.{Tree, dictionary};
@@ -9,7 +9,8 @@ ghost use Rattle.bt_bencode.specs.Bencoding.{BeginsWith};
 ghost use Rattle.bt_bencode.specs.Keys.{unsorted, value_at};
 ghost use Rattle.bt_bencode.specs.LookUps.{integer_of, dictionary_of};
 ghost use Rattle.bt_bencode.specs.Readable.{FindsValue, HasValue};
-ghost use Rattle.bt_bencode.specs.OnePass.{PassesNoted};
+ghost use Rattle.bt_bencode.specs.OnePass.{PassesNoted, StopsValue, StopsPairs};
+ghost use Rattle.bt_bencode.specs.Disorders.{RefusesSorted};
 
 use crate::MAX_NESTING;
 use crate::dict_ref::DictRef;
@@ -18,6 +19,17 @@ use crate::pairs::{IntPairs, pairs_if_any};
 use crate::read::following;
 use crate::skip::{int_if_any, int_in};
 use crate::sorted::is_above;
+
+/// Why a payload begins with no dictionary whose keys are in order.
+#[derive(Clone, Copy)]
+pub enum Disorder {
+    /// The payload begins with no dictionary within the limits.
+    Bytes,
+    /// If it begins with a dictionary, the first key out of order, at any depth, is at `at`.
+    ///
+    /// The bytes after that key weren't looked at.
+    Order { at: usize },
+}
 
 /// What follows a dictionary, and the bytes from the values of the first pairs with three keys on.
 #[derive(Clone, Copy)]
@@ -44,11 +56,18 @@ fn note<'a>(found: Option<&'a [u8]>, is_sought: bool, value: &'a [u8]) -> Option
 
 /// Returns what follows the outermost dictionary, whose pairs are in front, and what three keys have in it.
 ///
-/// `None` if there is none, its keys aren't in order, or a number is too near a limit.
+/// If it returns `None`, `left` becomes how many bytes there were from the first key out of order on, or the bytes are wrong.
 // Inline, so that a literal key is compared by its length first, and mostly by nothing else.
 #[inline(always)]
-fn after_noted<'a>(bytes: &'a [u8], one: &[u8], two: &[u8], three: &[u8]) -> Option<Noted<'a>>
-    ensures { IfSome result (PassesNoted one.now two.now three.now bytes.now) }
+fn after_noted<'a>(
+    bytes: &'a [u8],
+    one: &[u8],
+    two: &[u8],
+    three: &[u8],
+    left: &mut usize,
+) -> Option<Noted<'a>>
+    ensures passes { IfSome result (PassesNoted one.now two.now three.now bytes.now) }
+    ensures stops { result ≡ None → StopsPairs 31 None bytes.now left.new }
 {
     let mut rest = bytes;
     let mut last: Option<&[u8]> = None;
@@ -67,66 +86,96 @@ fn after_noted<'a>(bytes: &'a [u8], one: &[u8], two: &[u8], three: &[u8]) -> Opt
         }
         let (key, value) = text_in_front(rest)?;
         if !is_above(last, key) {
+            *left = rest.len();
             return None;
         }
         last = Some(key);
         first = note(first, key == one, value);
         second = note(second, key == two, value);
         third = note(third, key == three, value);
-        rest = after_value(value, MAX_NESTING - 1)?;
+        rest = after_value(value, MAX_NESTING - 1, left)?;
     }
     None
+}
+
+/// Returns why the pass stopped, of which `left` bytes were left at the first key out of order.
+#[inline(never)]
+fn disorder_at(payload: &[u8], left: usize) -> Disorder
+    requires { StopsValue 32 payload.now left }
+    ensures { RefusesSorted payload.now result }
+{
+    if left == 0 || left > payload.len() {
+        Disorder::Bytes
+    } else {
+        Disorder::Order {
+            at: payload.len() - left,
+        }
+    }
 }
 
 /// Parses the dictionary that the payload begins with, if its keys are in order at any depth; returns its length and what
 /// three keys have in it too.
 ///
-/// `None` promises nothing, as that of [`check_sorted`](crate::check_sorted).
+/// # Errors
+/// `Bytes` if no dictionary is in front; `Order` if one, if it is there, has a key out of order.
 #[inline(always)]
 fn check_noted<'a>(
     payload: &'a [u8],
     one: &[u8],
     two: &[u8],
     three: &[u8],
-) -> Option<(DictRef<'a>, usize, Noted<'a>)>
-    ensures begins { IfSome result (λ x. BeginsWith payload.now x.0.tree.0 x.1) }
-    ensures rises { IfSome result (λ x. unsorted (dictionary x.0.tree.0) ≡ None) }
-    ensures first { IfSome result (λ x. FindsValue x.2.first (value_at one.now x.0.tree.0)) }
-    ensures second { IfSome result (λ x. FindsValue x.2.second (value_at two.now x.0.tree.0)) }
-    ensures third { IfSome result (λ x. FindsValue x.2.third (value_at three.now x.0.tree.0)) }
+) -> Result<(DictRef<'a>, usize, Noted<'a>), Disorder>
+    ensures begins { IfOk result (λ x. BeginsWith payload.now x.0.tree.0 x.1) }
+    ensures rises { IfOk result (λ x. unsorted (dictionary x.0.tree.0) ≡ None) }
+    ensures first { IfOk result (λ x. FindsValue x.2.first (value_at one.now x.0.tree.0)) }
+    ensures second { IfOk result (λ x. FindsValue x.2.second (value_at two.now x.0.tree.0)) }
+    ensures third { IfOk result (λ x. FindsValue x.2.third (value_at three.now x.0.tree.0)) }
+    ensures err { IfErr result (RefusesSorted payload.now) }
 {
     if payload.len() == 0 || payload[0] != b'd' {
-        return None;
+        return Err(Disorder::Bytes);
     }
-    let noted = after_noted(following(payload), one, two, three)?;
-    let n = payload.len() - noted.rest.len();
-    Some((DictRef::of_spelled(&payload[..n]), n, noted))
+    let mut left = 0;
+    match after_noted(following(payload), one, two, three, &mut left) {
+        Some(noted) => {
+            let n = payload.len() - noted.rest.len();
+            Ok((DictRef::of_spelled(&payload[..n]), n, noted))
+        }
+        None => Err(disorder_at(payload, left)),
+    }
 }
 
-/// Parses a dictionary as [`check_sorted`](crate::check_sorted) does, and looks up two keys in the same pass.
+/// Parses a dictionary whose keys are in order at any depth, and looks up two keys in the same pass.
 ///
-/// It returns the dictionary, its length, the pairs of the dictionary at `outer` and the integer at `key`. The last two are
-/// those of [`DictRef::lookup_pairs_and_int`]. `None` promises nothing.
+/// The dictionary is the one that [`check`](crate::check) returns, and [`DictRef::first_unsorted`] finds no key in it. Its
+/// length is returned too, the pairs of the dictionary at `outer`, as [`DictRef::lookup_pairs`] finds them, and the integer at
+/// `key`, as [`DictRef::lookup_int`] does. `None`: no pair has the key. `Some(None)`: its value is of another kind.
+///
+/// # Errors
+/// `Bytes` if the payload begins with no dictionary. `Order` with the offset of the first key that is out of order, if it
+/// begins with one: bytes after that key may be wrong.
 #[inline(always)]
 pub fn check_sorted_pairs_and_int<'a>(
     payload: &'a [u8],
     outer: &[u8],
     key: &[u8],
-) -> Option<
+) -> Result<
     (
         DictRef<'a>,
         usize,
         Option<Option<IntPairs<'a>>>,
         Option<Option<i64>>,
     ),
+    Disorder,
 >
-    ensures begins { IfSome result (λ x. BeginsWith payload.now x.0.tree.0 x.1) }
-    ensures rises { IfSome result (λ x. unsorted (dictionary x.0.tree.0) ≡ None) }
-    ensures pairs { IfSome result (λ x. x.2 ≡ option_map dictionary_of (value_at outer.now x.0.tree.0)) }
-    ensures int { IfSome result (λ x. x.3 ≡ option_map integer_of (value_at key.now x.0.tree.0)) }
+    ensures begins { IfOk result (λ x. BeginsWith payload.now x.0.tree.0 x.1) }
+    ensures rises { IfOk result (λ x. unsorted (dictionary x.0.tree.0) ≡ None) }
+    ensures pairs { IfOk result (λ x. x.2 ≡ option_map dictionary_of (value_at outer.now x.0.tree.0)) }
+    ensures int { IfOk result (λ x. x.3 ≡ option_map integer_of (value_at key.now x.0.tree.0)) }
+    ensures err { IfErr result (RefusesSorted payload.now) }
 {
     let (dict, n, noted) = check_noted(payload, outer, key, outer)?;
-    Some((dict, n, pairs_if_any(noted.first), int_if_any(noted.second)))
+    Ok((dict, n, pairs_if_any(noted.first), int_if_any(noted.second)))
 }
 
 /// Returns the value as an integer, if there is one and it is one.
@@ -141,26 +190,30 @@ fn int_found(value: Option<&[u8]>) -> Option<i64>
     }
 }
 
-/// Parses a dictionary as [`check_sorted`](crate::check_sorted) does, and looks up three integers in the same pass.
+/// Parses a dictionary whose keys are in order at any depth, and looks up three integers in the same pass.
 ///
-/// It returns the dictionary, its length and the integers, which are those that [`DictRef::lookup_int`] finds. `None` promises
-/// nothing.
+/// The dictionary is the one that [`check`](crate::check) returns, and [`DictRef::first_unsorted`] finds no key in it. Its
+/// length is returned too, and the integers, which are those that [`DictRef::lookup_int`] finds.
+///
+/// # Errors
+/// Those of [`check_sorted_pairs_and_int`].
 #[inline(always)]
 pub fn check_sorted_ints<'a>(
     payload: &'a [u8],
     one: &[u8],
     two: &[u8],
     three: &[u8],
-) -> Option<(DictRef<'a>, usize, Option<i64>, Option<i64>, Option<i64>)>
-    ensures begins { IfSome result (λ x. BeginsWith payload.now x.0.tree.0 x.1) }
-    ensures rises { IfSome result (λ x. unsorted (dictionary x.0.tree.0) ≡ None) }
-    ensures one { IfSome result (λ x. x.2 ≡ option_and_then integer_of (value_at one.now x.0.tree.0)) }
-    ensures two { IfSome result (λ x. x.3 ≡ option_and_then integer_of (value_at two.now x.0.tree.0)) }
-    ensures three { IfSome result (λ x. x.4 ≡ option_and_then integer_of (value_at three.now x.0.tree.0)) }
+) -> Result<(DictRef<'a>, usize, Option<i64>, Option<i64>, Option<i64>), Disorder>
+    ensures begins { IfOk result (λ x. BeginsWith payload.now x.0.tree.0 x.1) }
+    ensures rises { IfOk result (λ x. unsorted (dictionary x.0.tree.0) ≡ None) }
+    ensures one { IfOk result (λ x. x.2 ≡ option_and_then integer_of (value_at one.now x.0.tree.0)) }
+    ensures two { IfOk result (λ x. x.3 ≡ option_and_then integer_of (value_at two.now x.0.tree.0)) }
+    ensures three { IfOk result (λ x. x.4 ≡ option_and_then integer_of (value_at three.now x.0.tree.0)) }
+    ensures err { IfErr result (RefusesSorted payload.now) }
 {
     let (dict, n, noted) = check_noted(payload, one, two, three)?;
     let first = int_found(noted.first);
     let second = int_found(noted.second);
     let third = int_found(noted.third);
-    Some((dict, n, first, second, third))
+    Ok((dict, n, first, second, third))
 }

@@ -1,33 +1,54 @@
 //! A pass that validates bytes and compares the keys at once.
 //!
-//! It answers only where each byte is right, each key is above the one before it and no number is next to a limit, so it
-//! costs about what the validation alone does. What it doesn't answer is left to [`check`](crate::check) and
-//! [`first_unsorted`](crate::first_unsorted), which say why. It recurses by the nesting, at most 32 deep, and doesn't allocate.
-ghost use Rattle.std.specs.Prelude.{◌≡◌, ℕ, ◌<◌, ◌≤◌, ◌^◌, ◌∷◌, ◌++◌, length, None, IfSome};
+//! It costs about what the validation alone does. If it fails, it has noted how many bytes were left at the first key out of
+//! order, or that the bytes are wrong. It recurses by the nesting, at most 32 deep, and doesn't allocate.
+ghost use Rattle.std.specs.Prelude.{◌≡◌, ◌↔◌, IsTrue, ℕ, ◌<◌, ◌≤◌, ◌^◌, ◌+◌, ◌-◌, ◌*◌, ◌∷◌, ◌++◌, List, length, None, IfSome};
 ghost use Rattle.std.specs.Fmt.{decimal};
-ghost use Rattle.bt_bencode.specs.Trees.{dictionary};
-ghost use Rattle.bt_bencode.specs.Bencoding.{BeginsWith, ben_string, longest_string};
-ghost use Rattle.bt_bencode.specs.Keys.{unsorted};
-ghost use Rattle.bt_bencode.specs.OnePass.{PassesInteger, PassesValue, PassesItems, PassesPairs};
+ghost use Rattle.bt_bencode.specs.Bencoding.{ben_string, longest_string};
+ghost use Rattle.bt_bencode.specs.OnePass.{PassesInteger, PassesValue, PassesItems, PassesPairs, StopsValue, StopsItems, StopsPairs};
+ghost use Rattle.bt_bencode.specs.Readable.{HasInteger, HasString};
+ghost use Rattle.bt_bencode.specs.Scanner.{IsDigit};
 
-use crate::dict_ref::DictRef;
+use crate::MAX_STRING;
 use crate::read::following;
 use crate::scan::is_digit;
 use crate::sorted::is_above;
-use crate::{MAX_NESTING, MAX_STRING};
 
 /// The greatest integer, 2^63 - 1.
 const MAX_INTEGER: u64 = (1 << 63) - 1;
 
-/// Returns the number in front and what follows the byte `stop` after it.
+/// Returns whether the number stays within the limit with one digit more.
 ///
-/// `None` if there is none, or it is too near `high`.
+/// It is called only for a number next to the limit.
+#[inline(never)]
+fn keeps_limit(n: u64, digit: u8, high: u64) -> bool
+    requires digit { IsDigit digit }
+    requires fits { high ≤ 2 ^ 63 }
+    ensures { IsTrue result ↔ n * 10 + (digit - 48) ≤ high }
+{
+    n <= high / 10 && n * 10 + (digit - b'0') as u64 <= high
+}
+
+/// Returns whether the number stays within the limit with one digit more.
+#[inline(always)]
+fn may_grow(n: u64, digit: u8, high: u64) -> bool
+    requires digit { IsDigit digit }
+    requires large { 9 ≤ high }
+    requires fits { high ≤ 2 ^ 63 }
+    ensures { IsTrue result ↔ n * 10 + (digit - 48) ≤ high }
+{
+    // Mostly each digit would do.
+    n <= (high - 9) / 10 || keeps_limit(n, digit, high)
+}
+
+/// Returns the number in front, at most `high`, and what follows the byte `stop` after it; `None` if there is none.
 #[inline(always)]
 fn number_in_front(bytes: &[u8], stop: u8, high: u64) -> Option<(u64, &[u8])>
     requires digit { 9 ≤ high }
-    requires fits { high < 2 ^ 63 }
+    requires fits { high ≤ 2 ^ 63 }
     ensures bound { IfSome result (λ x. x.0 ≤ high) }
     ensures split { IfSome result (λ x. bytes.now ≡ decimal x.0 ++ stop ∷ x.1.now) }
+    ensures none { result ≡ None → (m : ℕ) (more : List ℕ) → m ≤ high → bytes.now ≡ decimal m ++ stop ∷ more → ⊥ }
 {
     if bytes.len() == 0 || !is_digit(bytes[0]) {
         return None;
@@ -39,8 +60,7 @@ fn number_in_front(bytes: &[u8], stop: u8, high: u64) -> Option<(u64, &[u8])>
         if byte == stop {
             return Some((n, following(rest)));
         }
-        // One digit more, whichever it is, keeps to the limit.
-        if !is_digit(byte) || n == 0 || n > (high - 9) / 10 {
+        if !is_digit(byte) || n == 0 || !may_grow(n, byte, high) {
             return None;
         }
         n = n * 10 + (byte - b'0') as u64;
@@ -49,13 +69,12 @@ fn number_in_front(bytes: &[u8], stop: u8, high: u64) -> Option<(u64, &[u8])>
     None
 }
 
-/// Returns the byte string in front and what follows it.
-///
-/// `None` if there is none, or its length is too near the limit.
+/// Returns the byte string in front and what follows it; `None` if there is none.
 #[inline(always)]
 pub fn text_in_front(bytes: &[u8]) -> Option<(&[u8], &[u8])>
     ensures short { IfSome result (λ x. length x.0.now ≤ longest_string) }
     ensures split { IfSome result (λ x. bytes.now ≡ ben_string x.0.now ++ x.1.now) }
+    ensures none { result ≡ None → HasString bytes.now → ⊥ }
 {
     let (n, rest) = number_in_front(bytes, b':', MAX_STRING as u64)?;
     let len = n as usize;
@@ -65,15 +84,14 @@ pub fn text_in_front(bytes: &[u8]) -> Option<(&[u8], &[u8])>
     Some(rest.split_at(len))
 }
 
-/// Returns what follows the integer in front, whose `i` is passed.
-///
-/// `None` if there is none, or it is too near a limit.
+/// Returns what follows the integer in front, whose `i` is passed; `None` if there is none.
 #[inline(always)]
 fn after_integer(bytes: &[u8]) -> Option<&[u8]>
-    ensures { IfSome result (λ rest. PassesInteger bytes.now rest.now) }
+    ensures passes { IfSome result (λ rest. PassesInteger bytes.now rest.now) }
+    ensures none { result ≡ None → HasInteger bytes.now → ⊥ }
 {
     if bytes.len() > 0 && bytes[0] == b'-' {
-        let (n, rest) = number_in_front(following(bytes), b'e', MAX_INTEGER)?;
+        let (n, rest) = number_in_front(following(bytes), b'e', MAX_INTEGER + 1)?;
         if n == 0 {
             return None;
         }
@@ -85,12 +103,14 @@ fn after_integer(bytes: &[u8]) -> Option<&[u8]>
 
 /// Returns what follows the value in front, in which `room` lists and dictionaries may nest.
 ///
+/// If it returns `None`, `left` becomes how many bytes there were from the first key out of order on, or the value is none.
 /// Inline, so that an integer or a byte string costs no call.
 #[cycle(one_pass)]
 #[inline(always)]
-pub fn after_value(bytes: &[u8], room: usize) -> Option<&[u8]>
+pub fn after_value<'a>(bytes: &'a [u8], room: usize, left: &mut usize) -> Option<&'a [u8]>
     ensures passes { IfSome result (λ rest. PassesValue room bytes.now rest.now) }
     ensures shorter { IfSome result (λ rest. length rest.now < length bytes.now) }
+    ensures stops { result ≡ None → StopsValue room bytes.now left.new }
 {
     if bytes.len() == 0 {
         return None;
@@ -99,11 +119,11 @@ pub fn after_value(bytes: &[u8], room: usize) -> Option<&[u8]>
         b'i' => after_integer(following(bytes)),
         // By `?`, so that what follows a value is kept in registers.
         b'l' if room > 0 => {
-            let rest = after_items(following(bytes), room - 1)?;
+            let rest = after_items(following(bytes), room - 1, left)?;
             Some(rest)
         }
         b'd' if room > 0 => {
-            let rest = after_pairs(following(bytes), room - 1)?;
+            let rest = after_pairs(following(bytes), room - 1, left)?;
             Some(rest)
         }
         _ => {
@@ -115,25 +135,27 @@ pub fn after_value(bytes: &[u8], room: usize) -> Option<&[u8]>
 
 /// Returns what follows the list whose further values are in front.
 #[cycle(one_pass)]
-fn after_items(bytes: &[u8], room: usize) -> Option<&[u8]>
+fn after_items<'a>(bytes: &'a [u8], room: usize, left: &mut usize) -> Option<&'a [u8]>
     ensures passes { IfSome result (λ rest. PassesItems room bytes.now rest.now) }
     ensures shorter { IfSome result (λ rest. length rest.now < length bytes.now) }
+    ensures stops { result ≡ None → StopsItems room bytes.now left.new }
 {
     let mut rest = bytes;
     while rest.len() > 0 {
         if rest[0] == b'e' {
             return Some(following(rest));
         }
-        rest = after_value(rest, room)?;
+        rest = after_value(rest, room, left)?;
     }
     None
 }
 
 /// Returns what follows the dictionary whose pairs are in front.
 #[cycle(one_pass)]
-fn after_pairs(bytes: &[u8], room: usize) -> Option<&[u8]>
+fn after_pairs<'a>(bytes: &'a [u8], room: usize, left: &mut usize) -> Option<&'a [u8]>
     ensures passes { IfSome result (λ rest. PassesPairs room None bytes.now rest.now) }
     ensures shorter { IfSome result (λ rest. length rest.now < length bytes.now) }
+    ensures stops { result ≡ None → StopsPairs room None bytes.now left.new }
 {
     let mut rest = bytes;
     let mut last: Option<&[u8]> = None;
@@ -143,26 +165,11 @@ fn after_pairs(bytes: &[u8], room: usize) -> Option<&[u8]>
         }
         let (key, value) = text_in_front(rest)?;
         if !is_above(last, key) {
+            *left = rest.len();
             return None;
         }
         last = Some(key);
-        rest = after_value(value, room)?;
+        rest = after_value(value, room, left)?;
     }
     None
-}
-
-/// Parses the dictionary that the payload begins with, if its keys are in order at any depth; returns its length too.
-///
-/// It is the dictionary that [`check`](crate::check) returns, and [`DictRef::first_unsorted`] finds no key in it. `None`
-/// promises nothing: the payload begins with no such dictionary, or a number in it is too near a limit. Nothing is copied.
-pub fn check_sorted(payload: &[u8]) -> Option<(DictRef<'_>, usize)>
-    ensures begins { IfSome result (λ x. BeginsWith payload.now x.0.tree.0 x.1) }
-    ensures rises { IfSome result (λ x. unsorted (dictionary x.0.tree.0) ≡ None) }
-{
-    if payload.len() == 0 || payload[0] != b'd' {
-        return None;
-    }
-    let rest = after_pairs(following(payload), MAX_NESTING - 1)?;
-    let n = payload.len() - rest.len();
-    Some((DictRef::of_spelled(&payload[..n]), n))
 }

@@ -88,30 +88,6 @@ pub fn find<'a>(pairs: &'a [u8], key: &[u8]) -> Option<&'a [u8]>
     None
 }
 
-/// Returns the bytes from the values of the first pairs with two keys on.
-///
-/// They are those that [`find`] returns for each, by one walk.
-#[inline(always)]
-pub fn find_two<'a>(pairs: &'a [u8], one: &[u8], two: &[u8]) -> (Option<&'a [u8]>, Option<&'a [u8]>)
-    requires { HasPairs pairs.now }
-    ensures one { (ps : Pairs) (more : List ℕ) → PairsInRange ps → pairs.now ≡ ben_pairs ps ++ 101 ∷ more → FindsValue result.0 (value_at one.now ps) }
-    ensures two { (ps : Pairs) (more : List ℕ) → PairsInRange ps → pairs.now ≡ ben_pairs ps ++ 101 ∷ more → FindsValue result.1 (value_at two.now ps) }
-{
-    let mut rest = pairs;
-    let mut first: Option<&[u8]> = None;
-    let mut second: Option<&[u8]> = None;
-    while rest[0] != b'e' {
-        let (name, value) = split_string(rest);
-        first = first.or((name == one).then_some(value));
-        second = second.or((name == two).then_some(value));
-        if first.is_some() && second.is_some() {
-            return (first, second);
-        }
-        rest = pass_value(value);
-    }
-    (first, second)
-}
-
 /// Returns the integer at `key` in the value that `value` begins with.
 ///
 /// `None` if that is no dictionary, or has no integer at the key.

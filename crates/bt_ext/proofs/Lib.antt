@@ -9,6 +9,7 @@ pub mod MadeRight
 pub mod Known
 pub mod Names
 pub mod OneExt
+pub mod Disordered
 pub mod OneFault
 pub mod PeerIds
 pub mod Rising

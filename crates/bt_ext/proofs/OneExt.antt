@@ -4,8 +4,8 @@ use Rattle.std.proofs.Common.{length-append, take, arith, ◌==◌, if◌then◌
 use Rattle.std.proofs.Math.Seq.{take-append_seam}
 use Rattle.std.proofs.lemmas.Grind.{common_steps}
 use Rattle.bt_bencode.specs.Payloads.{BeginsWithNone}
-use Rattle.bt_bencode.specs.Trees.{dictionary}
-use Rattle.bt_bencode.specs.Bencoding.{ben}
+use Rattle.bt_bencode.specs.Trees.{dictionary, Pairs}
+use Rattle.bt_bencode.specs.Bencoding.{ben, BeginsWith, Fits}
 use Rattle.bt_bencode.proofs.LawProofs.{none_begins}
 use Rattle.bt_bencode.specs.Views.{tree_of}
 use Rattle.bt_bencode.specs.declared.tree.Value.{Value}
@@ -128,14 +128,18 @@ same_ext reg (ext.Raw i x) (ext.Raw j y) id p he hf =
     let fourth = hf.spelled in
     cc
 
+pub begins_with : (ps : Pairs) (x payload : List ℕ) → Fits (dictionary ps) → payload ≡ ben (dictionary ps) ++ x
+    → BeginsWith payload ps (length (ben (dictionary ps)))
+begins_with ps x payload fits is =
+    let long = ap length is ∙ length-append (ben (dictionary ps)) x in
+    record {
+      within = omega arith;
+      spells = record { fits = fits; spelled = ap (λ (b : List ℕ). take (length (ben (dictionary ps))) b) is ∙ take-append_seam (ben (dictionary ps)) x };
+    }
+
 begins : (v : Value) (x payload : List ℕ) → IsDict v → payload ≡ ben (tree_of v) ++ x → BeginsWithNone payload → ⊥
 begins v x payload d e none =
-    let is : payload ≡ ben (dictionary d.0) ++ x = e ∙ ap (λ (u : Value). ben (tree_of u) ++ x) d.1 in
-    let long = ap length is ∙ length-append (ben (dictionary d.0)) x in
-    none d.0 (length (ben (dictionary d.0))) (record {
-      within = omega arith;
-      spells = record { fits = d.2; spelled = ap (λ (b : List ℕ). take (length (ben (dictionary d.0))) b) is ∙ take-append_seam (ben (dictionary d.0)) x };
-    })
+    none d.0 (length (ben (dictionary d.0))) (begins_with d.0 x payload d.2 (e ∙ ap (λ (u : Value). ben (tree_of u) ++ x) d.1))
 
 -- a payload without the dictionary that its id needs is that of no value
 pub no_value : (reg : Registered) (e : Ext) (id : ℕ) (payload : List ℕ) → needs_dict reg id ≡ true → BeginsWithNone payload → IsExt reg e id payload → ⊥

@@ -19,17 +19,6 @@ pub trait Dict<'a>: Copy {
     /// Returns the pairs of the dictionary of the first pair with the key.
     fn pairs(self, key: &[u8]) -> Option<IntPairs<'a>>
         ensures { result ≡ option_and_then dictionary_of (lookup_of key.now (tree self)) };
-
-    /// Returns the pairs of the dictionary at `outer` and the integer at `key`.
-    ///
-    /// `None`: no pair has the key. `Some(None)`: the value of the first that has it is of another kind.
-    fn pairs_and_int(
-        self,
-        outer: &[u8],
-        key: &[u8],
-    ) -> (Option<Option<IntPairs<'a>>>, Option<Option<i64>>)
-        ensures pairs { result.0 ≡ option_map dictionary_of (lookup_of outer.now (tree self)) }
-        ensures int { result.1 ≡ option_map integer_of (lookup_of key.now (tree self)) };
 }
 
 impl<'a> Dict<'a> for &'a Value {
@@ -48,23 +37,6 @@ impl<'a> Dict<'a> for &'a Value {
             _ => None,
         }
     }
-
-    fn pairs_and_int(
-        self,
-        outer: &[u8],
-        key: &[u8],
-    ) -> (Option<Option<IntPairs<'a>>>, Option<Option<i64>>) {
-        let pairs = match lookup(self, outer) {
-            None => None,
-            Some(Value::Dict(pairs)) => Some(Some(pairs.int_pairs())),
-            Some(_) => Some(None),
-        };
-        let int = match lookup(self, key) {
-            None => None,
-            Some(value) => Some(value.as_int()),
-        };
-        (pairs, int)
-    }
 }
 
 impl<'a> Dict<'a> for DictRef<'a> {
@@ -78,15 +50,5 @@ impl<'a> Dict<'a> for DictRef<'a> {
 
     fn pairs(self, key: &[u8]) -> Option<IntPairs<'a>> {
         self.lookup_pairs(key)
-    }
-
-    // Inline, so that literal keys are compared by their lengths first.
-    #[inline(always)]
-    fn pairs_and_int(
-        self,
-        outer: &[u8],
-        key: &[u8],
-    ) -> (Option<Option<IntPairs<'a>>>, Option<Option<i64>>) {
-        self.lookup_pairs_and_int(outer, key)
     }
 }

@@ -124,9 +124,17 @@ pub fn bad_size(size: Option<Option<i64>>) -> bool
 }
 
 /// Returns whether an extended handshake has a field of the wrong kind (BEP 10).
-pub fn bad_field<'a, D: Dict<'a>>(dict: D) -> bool
-    ensures { result ≡ has_bad_field (D.tree dict) }
+pub fn bad_field(dict: &Value) -> bool
+    ensures { result ≡ has_bad_field (tree_of dict.now) }
 {
-    let (m, size) = dict.pairs_and_int(b"m", b"metadata_size");
+    let m = match lookup(dict, b"m") {
+        None => None,
+        Some(Value::Dict(pairs)) => Some(Some(pairs.int_pairs())),
+        Some(_) => Some(None),
+    };
+    let size = match lookup(dict, b"metadata_size") {
+        None => None,
+        Some(value) => Some(value.as_int()),
+    };
     bad_m(m) || bad_size(size)
 }

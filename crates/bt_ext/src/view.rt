@@ -1,23 +1,24 @@
 //! Parsing of an extended payload.
-ghost use Rattle.std.specs.Prelude.{◌≡◌, ◌≢◌, ◌++◌, ◌<◌, ◌≤◌, ◌^◌, None, length, take, IfOk, IfErr, IfSome};
+ghost use Rattle.std.specs.Prelude.{◌≡◌, ◌≢◌, ◌++◌, ◌<◌, ◌≤◌, ◌^◌, None, IsTrue, false, length, take, IfOk, IfErr, IfSome};
 ghost use Rattle.bt_bencode.specs.Trees.{dictionary};
 ghost use Rattle.bt_bencode.specs.Bencoding.{ben, Fits, IsPlace, IsSpelling};
 ghost use Rattle.bt_bencode.specs.Payloads.{BeginsWithNone};
+ghost use Rattle.bt_bencode.specs.Disorders.{RefusesSorted};
+ghost use Rattle.bt_ext.specs.Ids.{needs_dict};
 ghost use Rattle.bt_ext.specs.Payloads.{IsExt, index_bytes, seen};
 ghost use Rattle.bt_ext.specs.declared.ids.Rules.{Rules};
 ghost use Rattle.bt_ext.specs.Judged.{dict_length, WasJudged, IsValueOf};
-ghost use Rattle.bt_ext.specs.Fields.{has_bad_field};
-ghost use Rattle.bt_ext.specs.Faults.{Reads, Refuses, RefusesToRead, fault_if, fault_of, handshake_fault_of, metadata_fault_of};
-ghost use Rattle.bt_ext.specs.Ordered.{kind_fault_of, metadata_field_fault_of};
+ghost use Rattle.bt_ext.specs.Faults.{Reads, Refuses, RefusesToRead, fault_of, handshake_fault_of, metadata_fault_of};
+ghost use Rattle.bt_ext.specs.Ordered.{kind_fault_of};
 
 use crate::bytes::copy_bytes;
 use crate::ext::{Ext, ExtError, ExtView, ViewError};
-use crate::fields::{bad_field, bad_m, bad_size};
+use crate::fields::{bad_m, bad_size};
 use crate::ids::{Registered, Rules};
-use crate::kinds::{kind_by, kind_ref};
+use crate::kinds::kind_by;
 use crate::metadata::{Kind, block_ok, is_malformed};
 use bt_bencode::{
-    Bad, ByteString, DictRef, Value, check, check_sorted_ints, check_sorted_pairs_and_int,
+    Bad, ByteString, DictRef, Disorder, Value, check, check_sorted_ints, check_sorted_pairs_and_int,
 };
 use std::alloc::{AllocError, Global};
 
@@ -48,6 +49,27 @@ fn read_index(payload: &[u8]) -> Option<u32>
     Some(u32::from_be_bytes([payload[0], payload[1], payload[2], payload[3]]))
 }
 
+/// Returns the value that the id and the payload are, if the id needs no dictionary.
+///
+/// # Errors
+/// Why they are none.
+#[inline(always)]
+fn shape_plain<'a>(reg: Registered, id: u8, payload: &'a [u8]) -> Result<ExtView<'a>, ViewError>
+    requires { needs_dict reg id ≡ false }
+    ensures ok { IfOk result (λ v. IsExt reg (seen v) id payload.now) }
+    ensures faultless { IfOk result (λ v. fault_of Rules.Bep (seen v) ≡ None) }
+    ensures err { IfErr result (λ fault. (r : Rules) → Refuses reg r id payload.now fault) }
+{
+    if reg.is_donthave(id) {
+        match read_index(payload) {
+            Some(index) => Ok(ExtView::DontHave(index)),
+            None => Err(ViewError::BadExtLength),
+        }
+    } else {
+        Ok(ExtView::Raw { id, payload })
+    }
+}
+
 /// Returns the value that the id and the payload are.
 ///
 /// # Errors
@@ -57,12 +79,6 @@ fn shape<'a>(reg: Registered, id: u8, payload: &'a [u8]) -> Result<ExtView<'a>, 
     ensures ok { IfOk result (λ v. IsExt reg (seen v) id payload.now) }
     ensures err { IfErr result (λ fault. (r : Rules) → Refuses reg r id payload.now fault) }
 {
-    if reg.is_donthave(id) {
-        return match read_index(payload) {
-            Some(index) => Ok(ExtView::DontHave(index)),
-            None => Err(ViewError::BadExtLength),
-        };
-    }
     if reg.needs_dict(id) {
         match split_dict(payload) {
             Ok((dict, rest)) if id == 0 => Ok(ExtView::Handshake { dict, rest }),
@@ -70,29 +86,7 @@ fn shape<'a>(reg: Registered, id: u8, payload: &'a [u8]) -> Result<ExtView<'a>, 
             Err(at) => Err(ViewError::BadBencode { at }),
         }
     } else {
-        Ok(ExtView::Raw { id, payload })
-    }
-}
-
-/// Returns the fault of an extended handshake's fields.
-#[inline(never)]
-fn handshake_field_fault(dict: &DictRef) -> Option<ViewError>
-    ensures { result ≡ fault_if (has_bad_field (dictionary dict.now.tree.0)) ViewError.BadField }
-{
-    if bad_field(*dict) {
-        Some(ViewError::BadField)
-    } else {
-        None
-    }
-}
-
-#[inline(never)]
-fn handshake_fault(dict: &DictRef) -> Option<ViewError>
-    ensures { result ≡ handshake_fault_of (dictionary dict.now.tree.0) }
-{
-    match dict.first_unsorted() {
-        Some(at) => Some(ViewError::Unsorted { at }),
-        None => handshake_field_fault(dict),
+        shape_plain(reg, id, payload)
     }
 }
 
@@ -112,48 +106,18 @@ fn kind_fault(kind: Kind, dict_len: usize, rest_len: usize) -> Option<ViewError>
     }
 }
 
-/// Returns the first fault of a metadata message's fields and of the block after its dictionary.
-#[inline(never)]
-fn metadata_field_fault(dict: &DictRef, rest_len: usize) -> Option<ViewError>
-    ensures { result ≡ metadata_field_fault_of (dictionary dict.now.tree.0) rest_len }
-{
-    kind_fault(kind_ref(dict), dict.spelled().len(), rest_len)
-}
-
-#[inline(never)]
-fn metadata_fault(dict: &DictRef, rest_len: usize) -> Option<ViewError>
-    ensures { result ≡ metadata_fault_of (dictionary dict.now.tree.0) rest_len }
-{
-    match dict.first_unsorted() {
-        Some(at) => Some(ViewError::Unsorted { at }),
-        None => metadata_field_fault(dict, rest_len),
-    }
-}
-
-/// Returns the first fault that the rules check.
-#[inline(always)]
-fn fault_in(rules: Rules, view: &ExtView) -> Option<ViewError>
-    ensures { result ≡ fault_of rules (seen view.now) }
-{
-    match rules {
-        Rules::Free => None,
-        Rules::Bep => match view {
-            ExtView::Handshake { dict, .. } => handshake_fault(dict),
-            ExtView::Metadata { dict, rest } => metadata_fault(dict, rest.len()),
-            ExtView::DontHave(_) => None,
-            ExtView::Raw { .. } => None,
-        },
-    }
-}
-
 /// Returns the dictionary and what follows it of an extended handshake whose keys are in order, and its fault.
 ///
-/// `None` promises nothing. The fields are found in the pass that validates, without a second walk.
+/// The fields are found in the pass that validates, without a second walk.
+///
+/// # Errors
+/// Why the payload begins with no such dictionary.
 #[inline(never)]
-fn sorted_handshake(payload: &[u8]) -> Option<(DictRef<'_>, &[u8], Option<ViewError>)>
-    ensures fits { IfSome result (λ x. Fits (dictionary x.0.tree.0)) }
-    ensures parts { IfSome result (λ x. payload.now ≡ ben (dictionary x.0.tree.0) ++ x.1.now) }
-    ensures fault { IfSome result (λ x. x.2 ≡ handshake_fault_of (dictionary x.0.tree.0)) }
+fn sorted_handshake(payload: &[u8]) -> Result<(DictRef<'_>, &[u8], Option<ViewError>), Disorder>
+    ensures fits { IfOk result (λ x. Fits (dictionary x.0.tree.0)) }
+    ensures parts { IfOk result (λ x. payload.now ≡ ben (dictionary x.0.tree.0) ++ x.1.now) }
+    ensures fault { IfOk result (λ x. x.2 ≡ handshake_fault_of (dictionary x.0.tree.0)) }
+    ensures err { IfErr result (RefusesSorted payload.now) }
 {
     let (dict, n, m, size) = check_sorted_pairs_and_int(payload, b"m", b"metadata_size")?;
     let fault = if bad_m(m) || bad_size(size) {
@@ -161,17 +125,21 @@ fn sorted_handshake(payload: &[u8]) -> Option<(DictRef<'_>, &[u8], Option<ViewEr
     } else {
         None
     };
-    Some((dict, &payload[n..], fault))
+    Ok((dict, &payload[n..], fault))
 }
 
 /// Returns the dictionary and what follows it of a metadata message whose keys are in order, and its first fault.
 ///
-/// `None` promises nothing. The fields are found in the pass that validates, without a second walk.
+/// The fields are found in the pass that validates, without a second walk.
+///
+/// # Errors
+/// Why the payload begins with no such dictionary.
 #[inline(never)]
-fn sorted_metadata(payload: &[u8]) -> Option<(DictRef<'_>, &[u8], Option<ViewError>)>
-    ensures fits { IfSome result (λ x. Fits (dictionary x.0.tree.0)) }
-    ensures parts { IfSome result (λ x. payload.now ≡ ben (dictionary x.0.tree.0) ++ x.1.now) }
-    ensures fault { IfSome result (λ x. x.2 ≡ metadata_fault_of (dictionary x.0.tree.0) (length x.1.now)) }
+fn sorted_metadata(payload: &[u8]) -> Result<(DictRef<'_>, &[u8], Option<ViewError>), Disorder>
+    ensures fits { IfOk result (λ x. Fits (dictionary x.0.tree.0)) }
+    ensures parts { IfOk result (λ x. payload.now ≡ ben (dictionary x.0.tree.0) ++ x.1.now) }
+    ensures fault { IfOk result (λ x. x.2 ≡ metadata_fault_of (dictionary x.0.tree.0) (length x.1.now)) }
+    ensures err { IfErr result (RefusesSorted payload.now) }
 {
     let (dict, n, msg_type, piece, total) = check_sorted_ints(
         payload,
@@ -181,29 +149,57 @@ fn sorted_metadata(payload: &[u8]) -> Option<(DictRef<'_>, &[u8], Option<ViewErr
     )?;
     let rest = &payload[n..];
     let kind = kind_by(msg_type, piece, total);
-    Some((dict, rest, kind_fault(kind, n, rest.len())))
+    Ok((dict, rest, kind_fault(kind, n, rest.len())))
 }
 
-/// Returns the value that the id and the payload are, and its first fault, if it has a dictionary whose keys are in order.
+/// Returns the first fault of a payload that begins with no dictionary whose keys are in order.
 ///
-/// The fault is that of strict rules. `None` promises nothing.
+/// A wrong byte comes before keys out of order, so the payload is scanned first.
+#[cold]
+#[inline(never)]
+fn disorder_fault(reg: Registered, id: u8, payload: &[u8], disorder: Disorder) -> ViewError
+    requires needed { IsTrue (needs_dict reg id) }
+    requires disordered { RefusesSorted payload.now disorder }
+    ensures { Refuses reg Rules.Bep id payload.now result }
+{
+    match split_dict(payload) {
+        Err(at) => ViewError::BadBencode { at },
+        Ok(_) => match disorder {
+            Disorder::Order { at } => ViewError::Unsorted { at },
+            Disorder::Bytes => unreachable!(),
+        },
+    }
+}
+
+/// Returns the value that the id and the payload are, and its first fault under strict rules.
+///
+/// # Errors
+/// Why they are none, or the first fault if that is a key out of order.
 #[inline(always)]
 fn shape_sorted<'a>(
-    reg: &Registered,
+    reg: Registered,
     id: u8,
     payload: &'a [u8],
-) -> Option<(ExtView<'a>, Option<ViewError>)>
-    ensures value { IfSome result (λ x. IsExt reg.now (seen x.0) id payload.now) }
-    ensures fault { IfSome result (λ x. x.1 ≡ fault_of Rules.Bep (seen x.0)) }
+) -> Result<(ExtView<'a>, Option<ViewError>), ViewError>
+    ensures value { IfOk result (λ x. IsExt reg (seen x.0) id payload.now) }
+    ensures fault { IfOk result (λ x. x.1 ≡ fault_of Rules.Bep (seen x.0)) }
+    ensures err { IfErr result (Refuses reg Rules.Bep id payload.now) }
 {
     if id == 0 {
-        let (dict, rest, fault) = sorted_handshake(payload)?;
-        Some((ExtView::Handshake { dict, rest }, fault))
+        match sorted_handshake(payload) {
+            Ok((dict, rest, fault)) => Ok((ExtView::Handshake { dict, rest }, fault)),
+            Err(disorder) => Err(disorder_fault(reg, id, payload, disorder)),
+        }
     } else if reg.is_metadata(id) {
-        let (dict, rest, fault) = sorted_metadata(payload)?;
-        Some((ExtView::Metadata { dict, rest }, fault))
+        match sorted_metadata(payload) {
+            Ok((dict, rest, fault)) => Ok((ExtView::Metadata { dict, rest }, fault)),
+            Err(disorder) => Err(disorder_fault(reg, id, payload, disorder)),
+        }
     } else {
-        None
+        match shape_plain(reg, id, payload) {
+            Ok(view) => Ok((view, None)),
+            Err(fault) => Err(fault),
+        }
     }
 }
 
@@ -224,20 +220,12 @@ pub fn view_ext<'a>(
     ensures ok { IfOk result (λ v. Reads reg rules id payload.now (seen v)) }
     ensures err { IfErr result (Refuses reg rules id payload.now) }
 {
-    // Strict rules try one pass that also compares the keys; what it doesn't answer is looked at by parts.
-    if let Rules::Bep = rules {
-        if let Some((view, fault)) = shape_sorted(&reg, id, payload) {
-            return match fault {
-                None => Ok(view),
-                Some(fault) => Err(fault),
-            };
-        }
-    }
-    match shape(reg, id, payload) {
-        Err(fault) => Err(fault),
-        Ok(view) => match fault_in(rules, &view) {
-            None => Ok(view),
-            Some(fault) => Err(fault),
+    match rules {
+        Rules::Free => shape(reg, id, payload),
+        Rules::Bep => match shape_sorted(reg, id, payload) {
+            Ok((view, None)) => Ok(view),
+            Ok((_, Some(fault))) => Err(fault),
+            Err(fault) => Err(fault),
         },
     }
 }

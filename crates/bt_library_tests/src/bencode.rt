@@ -84,26 +84,38 @@ fn payloads(rt: HostRuntime) {
     }
 }
 
-/// Payloads, and the length of the dictionary that they begin with, if its keys are sorted at each depth.
-const SORTED: &[(&[u8], Option<usize>)] = &[
-    (b"", None),
-    (b"le", None),
-    (b"de", Some(2)),
-    (b"d1:ai1e1:bi2eerest", Some(14)),
-    (b"d1:bi1e1:ai2ee", None),
-    (b"d1:ai1e1:ai2ee", None),
-    (b"d1:ad1:yi1e1:xi2eee", None),
-    (b"d1:al2:xyi-5edeee", Some(17)),
-    (b"d1:ai01ee", None),
-    (b"d1:ae", None),
-    (b"d1:ai1e", None),
+/// A payload, and the length of the dictionary that it begins with, whose keys are sorted at each depth.
+///
+/// If it has none: the offset of the first key out of order, or `None` if its bytes are wrong before that key.
+type SortedRow = (&'static [u8], Result<usize, Option<usize>>);
+
+const SORTED: &[SortedRow] = &[
+    (b"", Err(None)),
+    (b"le", Err(None)),
+    (b"de", Ok(2)),
+    (b"d1:ai1e1:bi2eerest", Ok(14)),
+    (b"d1:bi1e1:ai2ee", Err(Some(7))),
+    (b"d1:ai1e1:ai2ee", Err(Some(7))),
+    (b"d1:ad1:yi1e1:xi2eee", Err(Some(11))),
+    (b"d1:bi1e1:ai01ee", Err(Some(7))),
+    (b"d1:al2:xyi-5edeee", Ok(17)),
+    (b"d1:ai9223372036854775807ee", Ok(26)),
+    (b"d1:ai-9223372036854775808ee", Ok(27)),
+    (b"d1:ai9223372036854775808ee", Err(None)),
+    (b"d1:ai-9223372036854775809ee", Err(None)),
+    (b"d1:ai92233720368547758070ee", Err(None)),
+    (b"d1:ai-0ee", Err(None)),
+    (b"d1:ai01ee", Err(None)),
+    (b"d1:ae", Err(None)),
+    (b"d1:ai1e", Err(None)),
 ];
 
-/// Whether the payload begins with a dictionary of this length that is found sorted in one pass.
-fn is_sorted_in_one_pass(payload: &[u8], answer: Option<usize>) -> bool {
-    match check_sorted(payload) {
-        Some((dict, len)) => answer == Some(len) && dict.spelled().len() == len,
-        None => answer.is_none(),
+/// Whether the pass that compares keys gives the answer.
+fn is_sorted_in_one_pass(payload: &[u8], answer: Result<usize, Option<usize>>) -> bool {
+    match check_sorted_ints(payload, b"a", b"b", b"c") {
+        Ok((dict, len, _, _, _)) => answer == Ok(len) && dict.spelled().len() == len,
+        Err(Disorder::Bytes) => answer == Err(None),
+        Err(Disorder::Order { at }) => answer == Err(Some(at)),
     }
 }
 
@@ -128,8 +140,8 @@ const PAIRS_AND_INTS: &[(&[u8], Option<(bool, Option<Option<i64>>)>)] = &[
 /// Whether the pass finds what the payload has at `m` and `size`.
 fn has_pairs_and_int(payload: &[u8], answer: Option<(bool, Option<Option<i64>>)>) -> bool {
     match check_sorted_pairs_and_int(payload, b"m", b"size") {
-        Some((_, _, pairs, int)) => answer == Some((pairs.flatten().is_some(), int)),
-        None => answer.is_none(),
+        Ok((_, _, pairs, int)) => answer == Some((pairs.flatten().is_some(), int)),
+        Err(_) => answer.is_none(),
     }
 }
 
@@ -143,8 +155,8 @@ fn pairs_and_ints_in_one_pass(rt: HostRuntime) {
 /// Whether the pass finds these integers at `a`, `b` and `c`.
 fn has_ints(payload: &[u8], ints: (Option<i64>, Option<i64>, Option<i64>)) -> bool {
     match check_sorted_ints(payload, b"a", b"b", b"c") {
-        Some((_, _, one, two, three)) => ints == (one, two, three),
-        None => false,
+        Ok((_, _, one, two, three)) => ints == (one, two, three),
+        Err(_) => false,
     }
 }
 

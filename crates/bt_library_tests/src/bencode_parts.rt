@@ -84,31 +84,9 @@ fn is_inner_pair(mut pairs: IntPairs) -> bool {
     pairs.next() == Some((b"e".as_slice(), Some(-1))) && pairs.next().is_none()
 }
 
-/// Whether the pairs of the dictionary at `c` and the integer at `a` are found by one walk, and neither where the other is.
-fn has_pairs_and_integer() -> bool {
-    let Ok((dict, _)) = check(PAYLOAD) else {
-        return false;
-    };
-    let (pairs, integer) = dict.lookup_pairs_and_int(b"c", b"a");
-    let (other_pairs, other_integer) = dict.lookup_pairs_and_int(b"a", b"c");
-    let (no_pairs, no_integer) = dict.lookup_pairs_and_int(b"z", b"z");
-    let is_inner = match pairs.flatten() {
-        Some(pairs) => is_inner_pair(pairs),
-        None => false,
-    };
-    is_inner
-        && integer == Some(Some(7))
-        && other_pairs.is_some()
-        && other_pairs.flatten().is_none()
-        && other_integer == Some(None)
-        && no_pairs.is_none()
-        && no_integer.is_none()
-}
-
 #[test]
 fn pairs_at_a_key(rt: HostRuntime) {
     assert!(rt; has_inner_pairs());
-    assert!(rt; has_pairs_and_integer());
 }
 
 #[test]

@@ -1,7 +1,7 @@
--- What passes after what was passed makes the whole pass.
+-- What passes after what was passed makes the whole pass, and where the rest stops the whole does.
 use Rattle.std.proofs.Common.{◌≤◌, ℕ, ◌+◌, ◌*◌, List, None, length}
 use Rattle.std.specs.Option.{option_copied}
-use Rattle.bt_bencode.specs.OnePass.{PassesItems, PassesPairs}
+use Rattle.bt_bencode.specs.OnePass.{PassesItems, PassesPairs, StopsItems, StopsPairs}
 use Rattle.bt_bencode.proofs.one_pass.+one_pass.Given as goal
 
 abbrev pub decreases-after_value : goal.decreases-after_value
@@ -17,6 +17,7 @@ abbrev pub invariant-after_items-loop-rest : goal.invariant-after_items-loop-res
 invariant-after_items-loop-rest l = record {
   within : length l.rest ≤ length l.fn.bytes;
   passes : (more : List ℕ) → PassesItems l.room l.rest more → PassesItems l.room l.fn.bytes more;
+  stops : (left : ℕ) → StopsItems l.room l.rest left → StopsItems l.room l.fn.bytes left;
 }
 
 abbrev pub decreases-after_items-loop-rest : goal.decreases-after_items-loop-rest
@@ -26,6 +27,7 @@ abbrev pub invariant-after_pairs-loop-rest : goal.invariant-after_pairs-loop-res
 invariant-after_pairs-loop-rest l = record {
   within : length l.rest ≤ length l.fn.bytes;
   passes : (more : List ℕ) → PassesPairs l.room (option_copied l.last) l.rest more → PassesPairs l.room None l.fn.bytes more;
+  stops : (left : ℕ) → StopsPairs l.room (option_copied l.last) l.rest left → StopsPairs l.room None l.fn.bytes left;
 }
 
 abbrev pub decreases-after_pairs-loop-rest : goal.decreases-after_pairs-loop-rest
