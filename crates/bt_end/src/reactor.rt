@@ -1,7 +1,6 @@
 //! What each item does to an end, and what the end sends for it. The bytes that come are the feed's.
 ghost use Rattle.std.specs.Prelude.{◌≡◌, ◌+◌, ◌<◌, ◌≤◌, Some, true, false, [], length, length as list_length, IfOk, IfSome, OnErr};
 ghost use Rattle.bt_bencode.specs.Trees.{dictionary};
-ghost use Rattle.bt_ext.specs.Metadata.{kind_of};
 ghost use Rattle.bt_ext.specs.Payloads.{seen};
 ghost use Rattle.bt_ext.specs.Tables.{Entries};
 ghost use Rattle.bt_ext.specs.Updates.{IsUpdate};
@@ -16,7 +15,6 @@ ghost use Rattle.bt_end.specs.Halves.{kind_takes_memory, extended_takes_memory, 
 ghost use Rattle.bt_metadata.specs.Blocks.{window};
 ghost use Rattle.bt_end.specs.Parts.{part_of};
 ghost use Rattle.bt_end.specs.Reactors.{end_of, learned, IsPlan, IsPlanOf, IsLesson, IsReacted, IsQueued, IsSpoken};
-ghost use Rattle.bt_end.specs.declared.reactor.Plan.TheVariants as plans;
 
 use crate::config::{Announce, Window};
 use crate::end::{HIGH_WATER, SayError};
@@ -341,22 +339,7 @@ impl<A: Allocator + Copy> Reactor<A> {
         }
     }
 
-    /// Reads the kind of a metadata message, and makes room for what is queued for it.
-    fn metadata_plan(&mut self, dict: &DictRef) -> Result<Plan<A>, Memory>
-        ensures ok { IfOk result (λ plan. plan ≡ plans.Metadata (kind_of (dictionary dict.now.tree.0))) }
-        ensures room { IfOk result (λ plan. kind_takes_memory (kind_of (dictionary dict.now.tree.0)) ≡ true → 16610 ≤ self.new.outbox.room) }
-        ensures end { end_of self.new ≡ end_of self.old }
-        ensures bytes { self.new.outbox.bytes ≡ self.old.outbox.bytes }
-        ensures memory { OnErr result (kind_takes_memory (kind_of (dictionary dict.now.tree.0)) ≡ true) }
-    {
-        let kind = kind_ref(dict);
-        if kind_takes_memory(kind) {
-            self.outbox.reserve(ROOM)?;
-        }
-        Ok(Plan::Metadata(kind))
-    }
-
-    /// Allocates what handling an extended message will need.
+    /// Reads and allocates what handling an extended message will need.
     fn extended_plan(&mut self, ext: &ExtView) -> Result<Plan<A>, Memory>
         ensures ok { IfOk result (λ plan. IsPlanOf (end_of self.old) (seen ext.now) plan) }
         ensures room { IfOk result (λ plan. extended_takes_memory (seen ext.now) ≡ true → 16610 ≤ self.new.outbox.room) }
@@ -369,12 +352,18 @@ impl<A: Allocator + Copy> Reactor<A> {
                 self.outbox.reserve(ROOM)?;
                 self.lesson(dict)
             }
-            ExtView::Metadata { dict, .. } => self.metadata_plan(dict),
+            ExtView::Metadata { dict, .. } => {
+                let kind = kind_ref(dict);
+                if kind_takes_memory(kind) {
+                    self.outbox.reserve(ROOM)?;
+                }
+                Ok(Plan::Metadata(kind))
+            }
             ExtView::DontHave(_) | ExtView::Raw { .. } => Ok(Plan::Nothing),
         }
     }
 
-    /// Allocates what handling an item will need. Only the room of the end changes.
+    /// Reads and allocates what handling an item will need. Only the room of the end changes.
     ///
     /// # Errors
     /// `Memory` when out of memory; it comes only for an item for which something is allocated.
