@@ -1,8 +1,8 @@
 -- Laws of escapes, and of the text of an extended handshake's line.
-use Rattle.std.proofs.Common.{◌≡◌, ◌<◌, ◌≤◌, ◌+◌, ◌-◌, ◌*◌, ◌/◌, ◌%◌, ◌++◌, ◌∷◌, ◌&&◌, ◌⊎◌, [], List, ℕ, zero, suc, Bool, true, false, inl, inr, refl, sym, ap, ◌∙◌, append_assoc, arith, drop, take, length, get_or, slice_index, cond, nat_lt}
+use Rattle.std.proofs.Common.{◌≡◌, ◌<◌, ◌≤◌, ◌+◌, ◌*◌, ◌/◌, ◌%◌, ◌++◌, ◌∷◌, ◌&&◌, ◌⊎◌, [], List, ℕ, zero, suc, Bool, true, false, inl, inr, refl, sym, ap, ◌∙◌, append_assoc, arith, drop, take, length, get_or, slice_index, cond, nat_lt, get_or-take}
 use Rattle.std.proofs.lemmas.Bool.{lt-ltb, le-ltb, and_parts, cases_lt}
 use Rattle.std.proofs.lemmas.Grind.{flat_map-append}
-use Rattle.std.proofs.lemmas.List.{drop-drop, drop_all, drop_more, get_or-drop, get_or-take, length-append, length-drop, length-take-le, take-append-drop}
+use Rattle.std.proofs.lemmas.List.{drop_more, length-append, length-take-le, take-append-drop}
 use Rattle.std.specs.Prelude.{codes, decimal, IsUtf8, Option, Some, None, if◌then◌else◌}
 use Rattle.hex.specs.Hex.{IsBytes, encode_lower, encode_with, lower_digits}
 use Rattle.json.proofs.Printed.Plain.{escape_on_plain}
@@ -106,47 +106,23 @@ escape_size (x ∷ xs) =
     omega (arith, both, first, rest)
 
 -- the first of the bytes that are left, and the others
-pub next_parts : (s : List ℕ) (i : ℕ) → i < length s → escape (drop i s) ≡ escape_byte (get_or s i 0) ++ escape (drop (i + 1) s)
-next_parts s i lt = ap escape (drop_more s i 0 lt)
-
 pub next_size : (s : List ℕ) (i : ℕ) → i < length s
     → length (escape (drop i s)) ≡ length (escape_byte (get_or s i 0)) + length (escape (drop (i + 1) s))
-next_size s i lt = ap length (next_parts s i lt) ∙ length-append (escape_byte (get_or s i 0)) (escape (drop (i + 1) s))
+next_size s i lt =
+    ap (λ (l : List ℕ). length (escape l)) (drop_more s i 0 lt) ∙ length-append (escape_byte (get_or s i 0)) (escape (drop (i + 1) s))
 
-plain_front : (s : List ℕ) (n : ℕ) → n ≤ length s → PlainBetween s 0 n → escape (take n s) ≡ take n s
+pub escape_parts : (n : ℕ) (s : List ℕ) → escape s ≡ escape (take n s) ++ escape (drop n s)
+escape_parts n s = ap escape (sym (take-append-drop n s)) ∙ flat_map-append escape_byte (take n s) (drop n s)
+
+pub part_sizes : (n : ℕ) (s : List ℕ) → length (escape s) ≡ length (escape (take n s)) + length (escape (drop n s))
+part_sizes n s = ap length (escape_parts n s) ∙ length-append (escape (take n s)) (escape (drop n s))
+
+-- ---- bytes that need no escape
+
+pub plain_front : (s : List ℕ) (n : ℕ) → n ≤ length s → PlainBetween s 0 n → escape (take n s) ≡ take n s
 plain_front s n long h =
     let size = length-take-le n s long in
     escape_on_plain true (take n s) (λ k p q. ap is_plain (get_or-take n s k 0 (omega (arith, size))) ∙ h k p (omega (arith, size)))
-
--- a run of bytes that need no escape, and the others
-pub run_parts : (s : List ℕ) (i stop : ℕ) → i ≤ stop → stop ≤ length s → PlainBetween s i stop
-    → escape (drop i s) ≡ take (stop - i) (drop i s) ++ escape (drop stop s)
-run_parts s i stop le within h =
-    let n = stop - i in
-    let rest = drop i s in
-    let left = length-drop i s in
-    let back : i + n ≡ stop = omega arith in
-    let plain = plain_front rest n (omega (arith, left)) (λ k p q. ap is_plain (get_or-drop i s k 0) ∙ h (i + k) (omega arith) (omega arith)) in
-    ap escape (sym (take-append-drop n rest)) ∙ (flat_map-append escape_byte (take n rest) (drop n rest)
-    ∙ (ap (λ (l : List ℕ). l ++ escape (drop n rest)) plain ∙ ap (λ (l : List ℕ). take n rest ++ escape l) (drop-drop n i s ∙ ap (λ (k : ℕ). drop k s) back)))
-
-pub run_length : (s : List ℕ) (i stop : ℕ) → i ≤ stop → stop ≤ length s → i + length (take (stop - i) (drop i s)) ≡ stop
-run_length s i stop le within =
-    let left = length-drop i s in
-    let run = length-take-le (stop - i) (drop i s) (omega (arith, left, within)) in
-    omega (arith, le, run)
-
-pub run_sizes : (s : List ℕ) (i stop : ℕ) → i ≤ stop → stop ≤ length s → PlainBetween s i stop
-    → i + length (escape (drop i s)) ≡ stop + length (escape (drop stop s))
-run_sizes s i stop le within h =
-    let parts = ap length (run_parts s i stop le within h) ∙ length-append (take (stop - i) (drop i s)) (escape (drop stop s)) in
-    let run = run_length s i stop le within in
-    omega (arith, parts, run)
-
-pub no_size : (s : List ℕ) (i : ℕ) → length s ≤ i → escape (drop i s) ≡ []
-no_size s i past = ap escape (drop_all i s past)
-
--- ---- bytes that need no escape
 
 -- the hex digits below n are plain, which computes
 abbrev plain_below : ℕ → Bool

@@ -19,9 +19,6 @@ pub(crate) const LINE_ROOM: usize = 254;
 /// How many bytes are tested in one step.
 const LANES: usize = 16;
 
-/// How many bytes of a run are tested by themselves first.
-const FEW: usize = 4;
-
 /// Returns the hex digit of a number below 16.
 fn hex_digit(n: u8) -> u8
     requires { n < 16 }
@@ -70,6 +67,34 @@ fn put_escape(byte: u8, text: &mut [u8], at: usize) -> usize
     put_word(&[byte], text, at)
 }
 
+/// Puts a byte as it stands between quotes, mostly itself.
+#[inline(always)]
+fn put_byte(byte: u8, text: &mut [u8], at: usize) -> usize
+    requires { at + 6 ≤ length text.old }
+    ensures room { result ≡ at + length (escape_byte byte) }
+    ensures size { length text.new ≡ length text.old }
+    ensures text { take result text.new ≡ take at text.old ++ escape_byte byte }
+{
+    if byte > 0x1F && byte != b'"' && byte != b'\\' {
+        return put_word(&[byte], text, at);
+    }
+    put_escape(byte, text, at)
+}
+
+/// Puts a few bytes as they stand between quotes, each by itself.
+fn put_few(bytes: &[u8], text: &mut [u8], at: usize) -> usize
+    requires { at + (length (escape bytes.now) + 5) ≤ length text.old }
+    ensures room { result ≡ at + length (escape bytes.now) }
+    ensures size { length text.new ≡ length text.old }
+    ensures text { take result text.new ≡ take at text.old ++ escape bytes.now }
+{
+    let mut place = at;
+    for byte in bytes {
+        place = put_byte(*byte, text, place);
+    }
+    place
+}
+
 /// Returns whether none of the 16 bytes from `at` on needs an escape.
 #[inline(always)]
 fn is_plain_at(bytes: &[u8], at: usize) -> bool
@@ -83,37 +108,44 @@ fn is_plain_at(bytes: &[u8], at: usize) -> bool
         == 0
 }
 
-/// Returns the end of the run from `from` on that needs no escape, or `to`, a byte at a time.
-#[inline(always)]
-fn plain_end_slowly(bytes: &[u8], from: usize, to: usize) -> usize
-    requires { (from ≤ to) × (to ≤ length bytes.now) }
-    ensures within { (from ≤ result) × (result ≤ to) }
-    ensures plain { PlainBetween bytes.now from result }
+/// Returns a length, a multiple of 16, of bytes at the front that need no escape.
+fn plain_run(bytes: &[u8]) -> usize
+    ensures within { result ≤ length bytes.now }
+    ensures plain { escape (take result bytes.now) ≡ take result bytes.now }
 {
-    let mut i = from;
-    while i < to && bytes[i] != b'"' && bytes[i] != b'\\' && bytes[i] >= 0x20 {
-        i += 1;
+    let mut run = 0;
+    while bytes.len() - run >= LANES && is_plain_at(bytes, run) {
+        run += LANES;
     }
-    i
+    run
 }
 
-/// Returns the end of the run from `from` on that needs no escape.
-///
-/// A few bytes are tested by themselves first, since escapes may follow one another.
-fn plain_end(bytes: &[u8], from: usize) -> usize
-    requires { from ≤ length bytes.now }
-    ensures within { (from ≤ result) × (result ≤ length bytes.now) }
-    ensures plain { PlainBetween bytes.now from result }
+/// Returns the bytes that follow the first `n`.
+#[inline(always)]
+fn bytes_after(bytes: &[u8], n: usize) -> &[u8]
+    requires { n ≤ length bytes.now }
+    ensures { result.now ≡ drop n bytes.now }
 {
-    let few = from + (bytes.len() - from).min(FEW);
-    let mut i = plain_end_slowly(bytes, from, few);
-    if i < few {
-        return i;
+    &bytes[n..]
+}
+
+/// Puts a run of bytes that need no escape, or else at most 16 bytes, from the front.
+///
+/// It returns how many bytes it took, and the offset.
+fn put_front(bytes: &[u8], text: &mut [u8], at: usize) -> (usize, usize)
+    requires some { 0 < length bytes.now }
+    requires free { at + (length (escape bytes.now) + 5) ≤ length text.old }
+    ensures taken { (0 < result.0) × (result.0 ≤ length bytes.now) }
+    ensures room { result.1 ≡ at + length (escape (take result.0 bytes.now)) }
+    ensures size { length text.new ≡ length text.old }
+    ensures text { take result.1 text.new ≡ take at text.old ++ escape (take result.0 bytes.now) }
+{
+    let run = plain_run(bytes);
+    if run > 0 {
+        return (run, put(&bytes[..run], text, at));
     }
-    while bytes.len() - i >= LANES && is_plain_at(bytes, i) {
-        i += LANES;
-    }
-    plain_end_slowly(bytes, i, bytes.len())
+    let few = bytes.len().min(LANES);
+    (few, put_few(&bytes[..few], text, at))
 }
 
 /// Puts bytes as they stand between quotes.
@@ -123,16 +155,12 @@ pub(crate) fn put_bytes(bytes: &[u8], text: &mut [u8], at: usize) -> usize
     ensures size { length text.new ≡ length text.old }
     ensures text { take result text.new ≡ take at text.old ++ escape bytes.now }
 {
-    let mut from = 0;
+    let mut rest = bytes;
     let mut place = at;
-    while from < bytes.len() {
-        let stop = plain_end(bytes, from);
-        place = put(&bytes[from..stop], text, place);
-        if stop == bytes.len() {
-            return place;
-        }
-        place = put_escape(bytes[stop], text, place);
-        from = stop + 1;
+    while !rest.is_empty() {
+        let (taken, end) = put_front(rest, text, place);
+        rest = bytes_after(rest, taken);
+        place = end;
     }
     place
 }
@@ -168,31 +196,36 @@ pub(crate) fn put_text_or_null(bytes: Option<&[u8]>, text: &mut [u8], at: usize)
 }
 
 /// Returns how many bytes a byte takes between quotes.
+#[inline(always)]
 fn escaped_size(byte: u8) -> usize
     ensures { result ≡ length (escape_byte byte) }
 {
+    if byte > 0x1F && byte != b'"' && byte != b'\\' {
+        return 1;
+    }
     if escape_letter(byte) > 0 {
         return 2;
     }
     if byte < 32 { 6 } else { 1 }
 }
 
+/// Adds to `size` how many bytes a text takes between quotes; returns at most 2^64 - 1.
+fn add_sizes(bytes: &[u8], size: usize) -> usize
+    ensures { result ≡ min (size + length (escape bytes.now)) (2 ^ 64 - 1) }
+{
+    let mut sum = size;
+    for byte in bytes {
+        sum = sum.saturating_add(escaped_size(*byte));
+    }
+    sum
+}
+
 /// Returns how many bytes a text takes between quotes, at most 2^64 - 1.
 fn escaped_length(bytes: &[u8]) -> usize
     ensures { result ≡ min (length (escape bytes.now)) (2 ^ 64 - 1) }
 {
-    let mut from = 0;
-    let mut size = 0usize;
-    while from < bytes.len() {
-        let stop = plain_end(bytes, from);
-        size = size.saturating_add(stop - from);
-        if stop == bytes.len() {
-            return size;
-        }
-        size = size.saturating_add(escaped_size(bytes[stop]));
-        from = stop + 1;
-    }
-    size
+    let run = plain_run(bytes);
+    add_sizes(bytes_after(bytes, run), run)
 }
 
 /// Returns how many bytes of room a line needs by its text of any length, at most 2^64 - 1.

@@ -1,9 +1,0 @@
-use Rattle.std.proofs.Common.{◌-◌, ◌≤◌}
-use Rattle.json.specs.Written.{PlainBetween}
-use Rattle.bt_json.proofs.texts.plain_end_slowly.Given as goal
-
-abbrev pub invariant-loop-i : goal.invariant-loop-i
-invariant-loop-i l = (l.from ≤ l.i) × (l.i ≤ l.to) × PlainBetween l.bytes l.from l.i
-
-abbrev pub decreases-loop-i : goal.decreases-loop-i
-decreases-loop-i l = l.to - l.i
