@@ -220,12 +220,32 @@ fn add_sizes(bytes: &[u8], size: usize) -> usize
     sum
 }
 
+/// Adds what `put_front` would put; returns how many bytes it took, and the sum, at most 2^64 - 1.
+fn add_front(bytes: &[u8], size: usize) -> (usize, usize)
+    requires { 0 < length bytes.now }
+    ensures taken { (0 < result.0) × (result.0 ≤ length bytes.now) }
+    ensures size { result.1 ≡ min (size + length (escape (take result.0 bytes.now))) (2 ^ 64 - 1) }
+{
+    let run = plain_run(bytes);
+    if run > 0 {
+        return (run, size.saturating_add(run));
+    }
+    let few = bytes.len().min(LANES);
+    (few, add_sizes(&bytes[..few], size))
+}
+
 /// Returns how many bytes a text takes between quotes, at most 2^64 - 1.
 fn escaped_length(bytes: &[u8]) -> usize
     ensures { result ≡ min (length (escape bytes.now)) (2 ^ 64 - 1) }
 {
-    let run = plain_run(bytes);
-    add_sizes(bytes_after(bytes, run), run)
+    let mut rest = bytes;
+    let mut size = 0usize;
+    while !rest.is_empty() {
+        let (taken, sum) = add_front(rest, size);
+        rest = bytes_after(rest, taken);
+        size = sum;
+    }
+    size
 }
 
 /// Returns how many bytes of room a line needs by its text of any length, at most 2^64 - 1.

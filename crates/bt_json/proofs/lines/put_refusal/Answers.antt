@@ -1,4 +1,4 @@
-use Rattle.std.proofs.Common.{arith, take, length, ap, ◌∙◌}
+use Rattle.std.proofs.Common.{arith, take, length, ap}
 use Rattle.bt_json.proofs.EscapeLaws.{escape_size}
 use Rattle.bt_json.proofs.MemberLaws.{refused_line}
 use Rattle.bt_json.proofs.lines.put_refusal.Goals as goal

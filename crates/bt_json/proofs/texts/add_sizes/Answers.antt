@@ -1,6 +1,6 @@
-use Rattle.std.proofs.Common.{◌≡◌, ◌+◌, ◌-◌, ◌^◌, List, ℕ, arith, ap, drop, get_or, length, min, ◌∙◌}
+use Rattle.std.proofs.Common.{List, ℕ, arith, ap, length}
 use Rattle.std.proofs.lemmas.List.{drop_all}
-use Rattle.json.specs.Print.{escape, escape_byte}
+use Rattle.json.specs.Print.{escape}
 use Rattle.bt_json.proofs.EscapeLaws.{next_size}
 use Rattle.bt_json.proofs.texts.add_sizes.Goals as goal
 

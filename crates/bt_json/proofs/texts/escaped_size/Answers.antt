@@ -1,4 +1,4 @@
-use Rattle.std.proofs.Common.{◌≡◌, ◌<◌, ℕ, arith, subst, refl}
+use Rattle.std.proofs.Common.{◌≡◌, ◌<◌, arith, subst, refl}
 use Rattle.json.specs.Print.{escape_letter}
 use Rattle.json.proofs.Printed.Strings.{escape_byte_plain}
 use Rattle.bt_json.proofs.EscapeLaws.{escape_by_letter, escape_by_code, escape_by_itself}
