@@ -142,7 +142,8 @@ fn add_message_object(
     text: &mut Vec<u8>,
     used: usize,
 ) -> Result<usize, AllocError>
-    ensures { IfOk result (λ n. (own : Receiver) → take n text.new.items ≡ take used text.old.items ++ object_of own (at, items.Message (message_of message.now))) }
+    ensures { IfOk result (λ n. (own : Receiver) → take n text.new.items
+        ≡ take used text.old.items ++ object_of own (at, items.Message (message_of message.now))) }
 {
     let client = client_of(message);
     match make_room(text, used, bt_json::room_for(client)) {

@@ -1,5 +1,6 @@
 -- Laws of escapes, and of the text of an extended handshake's line.
-use Rattle.std.proofs.Common.{◌≡◌, ◌<◌, ◌≤◌, ◌+◌, ◌*◌, ◌/◌, ◌%◌, ◌++◌, ◌∷◌, ◌&&◌, [], List, ℕ, zero, suc, Bool, true, false, inl, inr, refl, sym, ap, ◌∙◌, append_assoc, arith, drop, take, length, get_or, slice_index, cond, nat_lt, get_or-take}
+use Rattle.std.proofs.Common.{◌≡◌, ◌<◌, ◌≤◌, ◌+◌, ◌*◌, ◌/◌, ◌%◌, ◌++◌, ◌∷◌, ◌&&◌, [], List, ℕ, zero, suc, Bool, true, false, inl, inr, refl}
+use Rattle.std.proofs.Common.{sym, ap, ◌∙◌, append_assoc, arith, drop, take, length, get_or, slice_index, cond, nat_lt, get_or-take}
 use Rattle.std.proofs.lemmas.Bool.{lt-ltb, le-ltb, and_parts, cases_lt}
 use Rattle.std.proofs.lemmas.Grind.{flat_map-append}
 use Rattle.std.proofs.lemmas.List.{drop_more, length-append, length-take-le, take-append-drop}

@@ -101,7 +101,8 @@ joined_accepted o a n b m e f = simp append_assoc
 
 -- the line of a stream that is accepted, after a text
 pub accepted_line : (old : List ℕ) (n m : ℕ)
-    → old ++ (codes "{\"verdict\":\"ok\",\"messages\":" ++ (decimal n ++ (codes ",\"bytes\":" ++ (decimal m ++ codes "}\n")))) ≡ old ++ verdict_line (Accepted n m)
+    → old ++ (codes "{\"verdict\":\"ok\",\"messages\":" ++ (decimal n ++ (codes ",\"bytes\":" ++ (decimal m ++ codes "}\n"))))
+    ≡ old ++ verdict_line (Accepted n m)
 unfolding print_from a_field escape_byte
 accepted_line old n m =
     joined_accepted old (codes "{\"verdict\":\"ok\",\"messages\":") (decimal n) (codes ",\"bytes\":") (decimal m) (codes "}") (codes "\n")

@@ -85,4 +85,5 @@ returns-in-AllowedFast-clause-text c = λ own. rw c.in-AllowedFast.is (rw (← c
 pub returns-in-Unknown-clause-text : goal.returns-in-Unknown-clause-text
 unfolding escape_byte
 returns-in-Unknown-clause-text c = λ own. rw c.in-Unknown.is (rw (← c.from-in-Unknown.ensures)
-    (c.put_two.ensures.text ∙ two_numbers (take c.args.at c.args.text.now) (codes "unknown") (codes "id") (codes "bytes") c.from-in-Unknown.result (length c.in-Unknown.payload.now)))
+    (c.put_two.ensures.text
+    ∙ two_numbers (take c.args.at c.args.text.now) (codes "unknown") (codes "id") (codes "bytes") c.from-in-Unknown.result (length c.in-Unknown.payload.now)))
