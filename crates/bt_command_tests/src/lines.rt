@@ -1,10 +1,9 @@
 //! The lines of scripts: public calls that the program doesn't make, and texts that no script can hold as a line.
 use bt_ext::{ExtId, Registered, Rules};
-use bt_text::script::reading::read_line;
-use bt_text::script::short::append_short;
+use bt_text::script::reading::{LineFront, append_front, read_line};
 use bt_text::script::writing::{push_handshake_line, push_message_line};
 use bt_wire::{Front, Opening, Order, Own, Reserved, negotiate, read_front, read_opening};
-use std::alloc::Global;
+use std::alloc::{AllocError, Global};
 
 /// Texts, and the bytes that they name as a line after the first, where they are one.
 const LINES: &[(&[u8], Option<&[u8]>)] = &[
@@ -27,8 +26,8 @@ fn texts_are_read(rt: HostRuntime) {
     }
 }
 
-/// Texts that begin with a line of numbers only, the bytes that it names, and what follows its line feed.
-const SHORT: &[(&[u8], &[u8], &[u8])] = &[
+/// Texts that begin with a line after the first, the bytes that it names, and what follows its line feed.
+const FRONTS: &[(&[u8], &[u8], &[u8])] = &[
     (b"keep-alive\n", b"\0\0\0\0", b""),
     (b"choke\n\n", b"\0\0\0\x01\0", b"\n"),
     (b"not-interested\nno line", b"\0\0\0\x01\x03", b"no line"),
@@ -71,20 +70,31 @@ const SHORT: &[(&[u8], &[u8], &[u8])] = &[
         b"\0\0\0\x0d\x10\0\0\0\0\0\0\0\0\0\0\0\x01",
         b"",
     ),
+    (b"have 4294967290\n", b"\0\0\0\x05\x04\xff\xff\xff\xfa", b""),
+    (b"have 4294967295\n", b"\0\0\0\x05\x04\xff\xff\xff\xff", b""),
+    (
+        b"request 4294967295 4294967295 4294967295\nhave 1\n",
+        b"\0\0\0\x0d\x06\xff\xff\xff\xff\xff\xff\xff\xff\xff\xff\xff\xff",
+        b"have 1\n",
+    ),
+    (
+        b"cancel 2147483648 0 16384\ncancel 0\n",
+        b"\0\0\0\x0d\x08\x80\0\0\0\0\0\0\0\0\0\x40\0",
+        b"cancel 0\n",
+    ),
+    (b"port 1\n", b"\0\0\0\x03\x09\0\x01", b""),
+    (b"unknown 99 -\n", b"\0\0\0\x01\x63", b""),
 ];
 
-/// Texts that don't, or whose number is next to 2^32.
-const NOT_SHORT: &[&[u8]] = &[
-    b"",
+/// Texts whose first line is none.
+const NO_FRONTS: &[&[u8]] = &[
     b"\n",
-    b"choke",
     b"choke \n",
     b"choke 1\n",
     b"Choke\n",
     b"have\n",
     b"have \n",
     b"have  1\n",
-    b"have 1",
     b"have 1 \n",
     b"have 1 2\n",
     b"have 00\n",
@@ -92,44 +102,93 @@ const NOT_SHORT: &[&[u8]] = &[
     b"have 01\nhave 01\n",
     b"have 012345678\n",
     b"have 1234567x\n",
-    b"have 12345678",
     b"have 12345678 \n",
     b"have 123456789012\n",
     b"have x1234567\n",
     b"have -1\n",
-    b"have 4294967290\n",
-    b"have 4294967295\n",
     b"have 4294967296\n",
     b"have 42949672960\n",
+    b"have 4294967296\nhave 1\n",
+    b"have 18446744073709551617\nhave 1\n",
+    b"have 1\r\nhave 1\n",
+    b"request 1 2 3\r\nhave 1\n",
+    b"request 01 2 3\nhave 1 2 3 4\n",
+    b"haves 1\nhave 1\n",
     b"request 1 2\n",
     b"request 1 2 3 4\n",
-    b"request 1 2 3",
     b"request 1 2\n3\n",
-    b"port 1\n",
-    b"unknown 99 -\n",
     b"unchok\n",
-    b"unchoke",
     b"unchokes\n",
     b"uninterested\n",
 ];
 
+/// Texts that no line feed ends.
+const UNENDED: &[&[u8]] = &[
+    b"",
+    b"choke",
+    b"have 1",
+    b"have 12345678",
+    b"have 123456789012",
+    b"request 1 2 3",
+    b"unchoke",
+];
+
+/// How long the lines of these texts may be, less 256 and halved.
+const LIMIT: u32 = 16;
+
 fn takes(alloc: Global, text: &[u8], bytes: &[u8], following: &[u8]) -> bool {
     let mut out = Vec::new(alloc);
-    append_short(text, &mut out) == Ok(Some(following)) && out.as_slice() == bytes
+    match append_front(text, false, LIMIT, &mut out) {
+        Ok(LineFront::Line(rest)) => rest == following && out.as_slice() == bytes,
+        _ => false,
+    }
 }
 
-fn leaves(alloc: Global, text: &[u8]) -> bool {
+fn is_no_line(alloc: Global, text: &[u8], first: bool) -> bool {
     let mut out = Vec::new(alloc);
-    append_short(text, &mut out) == Ok(None) && out.as_slice().is_empty()
+    let answer = append_front(text, first, LIMIT, &mut out);
+    matches!(answer, Ok(LineFront::Syntax)) && out.as_slice().is_empty()
+}
+
+fn is_unended(alloc: Global, text: &[u8]) -> bool {
+    let mut out = Vec::new(alloc);
+    let answer = append_front(text, false, LIMIT, &mut out);
+    matches!(answer, Ok(LineFront::Unended)) && out.as_slice().is_empty()
+}
+
+/// Returns a line of a field whose text has this many bytes, and its line feed.
+fn long_line(alloc: Global, size: usize) -> Result<Vec<u8>, AllocError> {
+    let mut line = Vec::from_slice(alloc, b"bitfield ")?;
+    line.resize(size, b'0')?;
+    line.push(b'\n')?;
+    Ok(line)
 }
 
 #[test]
-fn short_lines_are_taken(rt: HostRuntime) {
-    for (text, bytes, following) in SHORT {
+fn fronts_are_taken(rt: HostRuntime) {
+    for (text, bytes, following) in FRONTS {
         assert!(rt; takes(rt.alloc(), text, bytes, following), "{text:?}");
+        assert!(rt; is_no_line(rt.alloc(), text, true), "{text:?}");
     }
-    for text in NOT_SHORT {
-        assert!(rt; leaves(rt.alloc(), text), "{text:?}");
+    for text in NO_FRONTS {
+        assert!(rt; is_no_line(rt.alloc(), text, false), "{text:?}");
+    }
+    for text in UNENDED {
+        assert!(rt; is_unended(rt.alloc(), text), "{text:?}");
+    }
+}
+
+#[test]
+fn long_lines_are_refused(rt: HostRuntime) {
+    // (288 bytes are the most, and hex digits come in pairs)
+    match (long_line(rt.alloc(), 287), long_line(rt.alloc(), 289)) {
+        (Ok(longest), Ok(longer)) => {
+            let mut out = Vec::new(rt.alloc());
+            let answer = append_front(longest.as_slice(), false, LIMIT, &mut out);
+            assert!(rt; matches!(answer, Ok(LineFront::Line(b""))) && out.len() == 5 + 139);
+            assert!(rt; is_no_line(rt.alloc(), longer.as_slice(), false));
+        }
+        _ => assert!(rt; false),
     }
 }
 

@@ -1,7 +1,7 @@
 -- A script that is read piece by piece.
 use Rattle.std.proofs.Common.{◌≡◌, ℕ, ◌+◌, ◌-◌, ◌*◌, ◌<◌, false, List, [], ◌∷◌, ◌++◌, length, Some, Option, None, refl, sym, ap, subst, ◌∙◌, arith, inl, inr}
-use Rattle.std.proofs.Common.{length-append, true}
-use Rattle.std.specs.Prelude.{is_some}
+use Rattle.std.proofs.Common.{length-append, Result, Ok, Err}
+use Rattle.std.specs.Prelude.{IfOk}
 use Rattle.std.proofs.lemmas.List.{append-nil, append_assoc, nil_from_length}
 use Rattle.bt_feed.specs.Feeds.{FeedState}
 use Rattle.bt_feed.specs.Stages.{start_of, number_of}
@@ -15,7 +15,7 @@ use Rattle.bt_jobs.specs.Packs.{is_none}
 use Rattle.bt_text.specs.declared.ended.PackEnd.{PackEnd}
 use Rattle.bt_text.specs.declared.ended.PackEnd.TheVariants.{Accepted, Refused}
 use Rattle.bt_jobs.proofs.Printing.{verdict_length}
-use Rattle.bt_jobs.specs.PackSteps.{IsPackedTo, Packing, Packer, packing, packer, is_hand, IsLineEnd, IsReadSo, IsPieceRead, IsDone, IsRunRead, IsScriptEnd}
+use Rattle.bt_jobs.specs.PackSteps.{IsPackedTo, Packing, Packer, packing, packer, IsLineEnd, IsReadSo, IsPieceRead, IsDone, IsScriptEnd}
 use Rattle.bt_jobs.proofs.Packing.{taken_so_far, some_lines}
 use Rattle.bt_text.proofs.ScriptBounds.{has_feed-append}
 use Rattle.bt_jobs.proofs.PackText.{ended_more, ended_both, whole_both, split_of}
@@ -188,10 +188,6 @@ line_done own text p piece following new nothing l =
           (append_assoc text d.done up_to) (read_line l.front l.end.0 d.read l.none refl l.end.2))));
     }
 
--- what is taken isn't the first line
-pub line_moves : (own : Own) (p : Packing) (line : List ℕ) (g : FeedState) (out : List ℕ) → IsLineEnd own p line g out None → is_hand g.stage ≡ false
-line_moves own p line g out end = end.2.first ∙ some_lines p.lines line
-
 pub line_stops : (own : Own) (text : List ℕ) (p : Packing) (piece following : List ℕ) (new : Packer) (reason : ScriptReason)
     → IsLineRead own text p piece following new (Some reason) → IsPieceRead own (text ++ piece) p new (Some reason)
 line_stops own text p piece following new reason l =
@@ -203,17 +199,6 @@ line_stops own text p piece following new reason l =
     let P : List ℕ → Type 0 = λ t. AreLines t stop.0 in
     let Q : List ℕ → Type 0 = λ t. IsEndedLine own.limit t (number + 1) in
     (d.named, l.end.0 ∙ d.grown, (stop.0, subst P all stop.1, stop.2), subst Q all stop.3)
-
--- lines that were taken one after the other, or one that isn't
-pub run_done : (own : Own) (text : List ℕ) (p : Packing) (piece rest : List ℕ) (q : Packer) (answer : Option ScriptReason) → is_some answer ≡ false
-    → IsRunRead own text p piece rest q answer → IsDone own text p piece rest q
-run_done own text p piece rest q None some r = r
-run_done own text p piece rest q (Some reason) some r = absurd cc
-
-pub run_stops : (own : Own) (text : List ℕ) (p : Packing) (piece rest line held : List ℕ) (g : FeedState) (out : List ℕ) (answer : Option ScriptReason)
-    → is_some answer ≡ true → IsRunRead own text p piece rest (packer line g out) answer → IsPieceRead own (text ++ piece) p (packer held g out) answer
-run_stops own text p piece rest line held g out None some r = absurd cc
-run_stops own text p piece rest line held g out (Some reason) some r = r
 
 -- the line isn't ended yet, and is too long
 pub rest_stops : (own : Own) (text : List ℕ) (p : Packing) (piece rest new : List ℕ) (q : Packer) → IsDone own text p piece rest q → has_feed rest ≡ false
@@ -294,3 +279,9 @@ pub end_stop : {own : Own} {text b line : List ℕ} {lines : List (List ℕ)} {f
     → number ≡ number_of g.stage → IsScriptEnd own text b out out' (Refused (number + 1) reason)
 end_stop {own} {text} {b} {number} out out' g reason h some end is =
     none_named own text b out out' (Refused (number + 1) reason) end.0 (stopped_packed {number = number + 1} g reason h some (omega (arith, is)) end.1 end.2)
+
+-- ---- what follows an answer
+
+pub ok_more : {A E : Type 0} (P Q : A → Type 0) (r : Result A E) → ((a : A) → P a → Q a) → IfOk r P → IfOk r Q
+ok_more P Q (Ok a) f h = f a h
+ok_more P Q (Err e) f h = tt

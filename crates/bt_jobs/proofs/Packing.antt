@@ -279,3 +279,9 @@ not_read limit first flag text old new ok e same h =
     let Q : Bool → Type 0 = λ f. (x : List ℕ) → IsNamed limit f text x → ⊥ in
     let no = subst P e h in
     (subst Q same (λ x n. no.0 x n.line), no.1)
+
+pub no_line : (own_limit limit : ℕ) (first flag : Bool) (text : List ℕ) → limit ≡ own_limit → first ≡ flag
+    → ((bytes : List ℕ) → length text ≤ 2 * limit + 256 → IsLine first text bytes → ⊥) → (x : List ℕ) → IsNamed own_limit flag text x → ⊥
+no_line own_limit limit first flag text e same not_one =
+    let Q : Bool → Type 0 = λ f. (x : List ℕ) → IsNamed own_limit f text x → ⊥ in
+    subst Q same (λ x n. not_one x (omega (arith, n.short, e)) n.line)

@@ -101,11 +101,6 @@ pub record IsDone (own : Own) (text : List ℕ) (p : Packing) (piece rest : List
   pub grown : q.out ≡ p.out ++ named
   pub read : IsReadSo own (text ++ done) (p.lines ++ more) (p.bytes ++ named) q.line q.judge
 
--- what follows the lines that were taken, or that one of them isn't taken
-abbrev pub IsRunRead : Own → List ℕ → Packing → List ℕ → List ℕ → Packer → Option ScriptReason → Type 0
-IsRunRead own text p piece rest q None = IsDone own text p piece rest q
-IsRunRead own text p piece rest q (Some reason) = IsPieceRead own (text ++ piece) p q (Some reason)
-
 -- the bytes follow those of the present line, or it is too long with them and as it was
 abbrev pub IsHeld : ℕ → List ℕ → List ℕ → List ℕ → Bool → Type 0
 IsHeld limit old more new true = (new ≡ old ++ more) × (length (old ++ more) ≤ 2 * limit + 256)

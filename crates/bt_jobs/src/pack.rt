@@ -1,18 +1,17 @@
 //! The command `pack`: a script is encoded into a stream.
-ghost use Rattle.std.specs.Prelude.{◌≡◌, ◌≢◌, ◌≤◌, ◌++◌, ℕ, List, [], false, None, min, ◌+◌, ◌-◌, ◌^◌, IfOk, Err, length};
+ghost use Rattle.std.specs.Prelude.{◌≡◌, ◌≢◌, ◌≤◌, ◌++◌, ℕ, List, [], None, min, ◌+◌, ◌-◌, ◌^◌, IfOk, Err, length};
 ghost use Rattle.bt_wire.specs.declared.context.Own.{Own as Receiver};
 ghost use Rattle.bt_io.specs.Seen.{devices, ReadFailed, WriteFailed};
 ghost use Rattle.bt_feed.specs.Stages.{number_of, start_of};
 ghost use Rattle.bt_jobs.specs.Packs.{IsPackRun, AreTakenTo, is_none};
-ghost use Rattle.bt_jobs.specs.PackSteps.{is_hand, IsPackedTo, Packing, packing, packer, IsNamedAfter, IsLineEnd, IsReadSo, IsPieceRead, IsDone, IsRunRead, IsHeld, IsScriptEnd};
+ghost use Rattle.bt_jobs.specs.PackSteps.{IsPackedTo, Packing, packing, packer, IsNamedAfter, IsLineEnd, IsReadSo, IsPieceRead, IsDone, IsHeld, IsScriptEnd};
 
 use crate::judge::Judge;
 use crate::output::write_out;
 use crate::show::MAX_READS;
 use bt_feed::{Source, Target};
 use bt_text::ended::{PackEnd, ScriptReason, ToolFault};
-use bt_text::script::reading::append_line;
-use bt_text::script::short::append_short;
+use bt_text::script::reading::{LineFront, append_front, append_line};
 use bt_text::splitting::split_line;
 use bt_wire::Own;
 use std::alloc::{AllocError, Global};
@@ -71,10 +70,9 @@ fn hold(line: &mut Vec<u8>, more: &[u8], limit: u32) -> Result<bool, AllocError>
     Ok(true)
 }
 
-/// Completes a line, and accepts it or not.
+/// Completes a line of which an earlier read had the first part, and accepts it or not.
 ///
-/// `text` is the line's last part. `line` has its first part if an earlier read split the line, and is empty otherwise. The
-/// line is copied only if it was split. After a line is accepted, `line` is empty.
+/// `text` is the line's last part. After a line is accepted, `line` is empty.
 fn take_ended(
     judge: &mut Judge,
     line: &mut Vec<u8>,
@@ -87,9 +85,6 @@ fn take_ended(
         → IsLineEnd own (packing lines b out.old.items) (line.old.items ++ text.now) judge.new out.new.items answer) }
     ensures empty { IfOk result (λ answer. answer ≡ None → line.new.items ≡ []) }
 {
-    if line.as_slice().is_empty() {
-        return take_line(judge, text, limit, out);
-    }
     if !hold(line, text, limit)? {
         return Ok(Some(ScriptReason::Syntax));
     }
@@ -98,26 +93,36 @@ fn take_ended(
     Ok(answer)
 }
 
-/// Accepts the lines in front that name messages of numbers only, up to another line.
+/// Accepts the lines that a text ends, each where it stands.
 ///
-/// It returns what follows them, and why the last of them isn't accepted. The script's first line has been taken.
-fn take_run<'a>(
+/// It keeps the first part of the next line, and returns why a line isn't accepted.
+fn take_lines(
     judge: &mut Judge,
-    text: &'a [u8],
+    line: &mut Vec<u8>,
+    text: &[u8],
+    limit: u32,
     out: &mut Vec<u8>,
-) -> Result<(&'a [u8], Option<ScriptReason>), AllocError>
-    ensures taken { IfOk result (λ x. (own : Receiver) (before : List ℕ) (p : Packing) (piece : List ℕ) → is_hand judge.old.stage ≡ false
-        → IsDone own before p piece text.now (packer [] judge.old out.old.items) → IsRunRead own before p piece x.0.now (packer [] judge.new out.new.items) x.1) }
-    ensures short { IfOk result (λ x. length x.0.now ≤ length text.now) }
+) -> Result<Option<ScriptReason>, AllocError>
+    requires limit { limit ≤ 1048576 }
+    requires empty { line.old.items ≡ [] }
+    ensures { IfOk result (λ answer. (own : Receiver) (before : List ℕ) (p : Packing) (piece : List ℕ) → limit ≡ own.limit
+        → IsDone own before p piece text.now (packer [] judge.old out.old.items)
+        → IsPieceRead own (before ++ piece) p (packer line.new.items judge.new out.new.items) answer) }
 {
     let mut rest = text;
     'lines: loop {
         let start = out.len();
-        match append_short(rest, out)? {
-            None => return Ok((rest, None)),
-            Some(following) => {
+        match append_front(rest, judge.number() == 0, limit, out)? {
+            LineFront::Unended => {
+                if !hold(line, rest, limit)? {
+                    return Ok(Some(ScriptReason::Syntax));
+                }
+                return Ok(None);
+            }
+            LineFront::Syntax => return Ok(Some(ScriptReason::Syntax)),
+            LineFront::Line(following) => {
                 if let Some(reason) = judge_added(judge, start, out) {
-                    return Ok((following, Some(reason)));
+                    return Ok(Some(reason));
                 }
                 rest = following;
             }
@@ -125,28 +130,10 @@ fn take_run<'a>(
     }
 }
 
-/// Accepts the lines in front as [`take_run`] does.
-///
-/// It doesn't call it for a line whose first byte none of its lines has.
-#[inline(always)]
-fn take_more<'a>(
-    judge: &mut Judge,
-    text: &'a [u8],
-    out: &mut Vec<u8>,
-) -> Result<(&'a [u8], Option<ScriptReason>), AllocError>
-    ensures taken { IfOk result (λ x. (own : Receiver) (before : List ℕ) (p : Packing) (piece : List ℕ) → is_hand judge.old.stage ≡ false
-        → IsDone own before p piece text.now (packer [] judge.old out.old.items) → IsRunRead own before p piece x.0.now (packer [] judge.new out.new.items) x.1) }
-    ensures short { IfOk result (λ x. length x.0.now ≤ length text.now) }
-{
-    match text.first() {
-        Some(b'p' | b'e' | b'b') | None => Ok((text, None)),
-        _ => take_run(judge, text, out),
-    }
-}
-
 /// Accepts the lines that a chunk of the script ends.
 ///
-/// It keeps the first part of the next line, and returns why a line isn't accepted.
+/// `line` has the first part of a line that an earlier chunk began. It keeps the first part of the next line, and returns why a line
+/// isn't accepted.
 fn take_piece(
     judge: &mut Judge,
     line: &mut Vec<u8>,
@@ -158,27 +145,19 @@ fn take_piece(
     ensures { IfOk result (λ answer. (own : Receiver) (text : List ℕ) (lines : List (List ℕ)) (b : List ℕ) → limit ≡ own.limit → IsReadSo own text lines b line.old.items judge.old
         → IsPieceRead own (text ++ piece.now) (packing lines b out.old.items) (packer line.new.items judge.new out.new.items) answer) }
 {
-    let mut rest = piece;
-    'lines: loop {
-        match split_line(rest) {
-            None => {
-                if !hold(line, rest, limit)? {
-                    return Ok(Some(ScriptReason::Syntax));
-                }
-                return Ok(None);
-            }
-            Some((front, following)) => {
-                if let Some(reason) = take_ended(judge, line, front, limit, out)? {
-                    return Ok(Some(reason));
-                }
-                let (other, refused) = take_more(judge, following, out)?;
-                if refused.is_some() {
-                    return Ok(refused);
-                }
-                rest = other;
-            }
-        }
+    if line.len() == 0 {
+        return take_lines(judge, line, piece, limit, out);
     }
+    let Some((front, following)) = split_line(piece) else {
+        if !hold(line, piece, limit)? {
+            return Ok(Some(ScriptReason::Syntax));
+        }
+        return Ok(None);
+    };
+    if let Some(reason) = take_ended(judge, line, front, limit, out)? {
+        return Ok(Some(reason));
+    }
+    take_lines(judge, line, following, limit, out)
 }
 
 /// Returns the counts of the items that were taken.

@@ -7,7 +7,7 @@ pub mod ScriptLines
 pub mod ScriptText
 pub mod ScriptSpoken
 pub mod ScriptBounds
-mod Short
+mod Fronts
 mod Misfits
 mod Digits
 mod SameWords

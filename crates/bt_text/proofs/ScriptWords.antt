@@ -1,9 +1,9 @@
 -- The words of a line: its front up to a space, and the numbers that words say.
 use Rattle.std.proofs.Common.{◌≡◌, ℕ, suc, ◌+◌, ◌-◌, ◌*◌, ◌<◌, ◌≤◌, ◌^◌, ◌==◌, Bool, true, false, ◌&&◌, not, List, [], ◌∷◌, ◌++◌, length, take, drop}
-use Rattle.std.proofs.Common.{get_or, Some, None, Result, Ok, Err, refl, sym, ap, ◌∙◌, arith, inl, inr, cond, zero}
+use Rattle.std.proofs.Common.{get_or, Option, Some, None, Result, Ok, Err, refl, sym, ap, ◌∙◌, arith, inl, inr, cond, zero}
 use Rattle.std.proofs.lemmas.Bool.{cases_Bool, cases_lt, and_parts, eqb-true, ltb-true, ltb-false, lt-ltb, le-ltb}
 use Rattle.std.proofs.lemmas.Fmt.{digits_decimal, digits_value-decimal, decimal-digits_value, length-decimal-le, decimal_nonempty, first_decimal, decimal_digit}
-use Rattle.std.proofs.lemmas.List.{length-append, length-take, length-take-le, get_or-take, get_or_append_left, take-append-drop, take_all}
+use Rattle.std.proofs.lemmas.List.{length-append, length-take, length-take-le, get_or-take, get_or_append_left, take-append-drop, take_all, append-nil, nil_from_length}
 use Rattle.std.proofs.lemmas.List.Sums.{prefix_len-le-length}
 use Rattle.std.proofs.lemmas.Slice.Eq.{bytes_eq-Decides}
 use Rattle.std.proofs.lemmas.Str.Parse.{IsNumeralModel, numerals_by_value, tells_by_index, digits_value_short}
@@ -337,3 +337,41 @@ led_number t n k r led some nought e h =
     let w = first_word t n k led e in
     let value : result_ok r ≡ number_in_word (word_of t) = rw w.word (led_value t n k r led some nought h) in
     rw (value, w.after) refl
+
+-- ---- a word that is a number, and nothing more
+
+first_of_decimal : (w : List ℕ) (n : ℕ) → IsDecimal w n → first_number w ≡ Some (n, [])
+first_of_decimal w n is =
+    let none = decimal_has_no_space n (omega (arith, is.small)) in
+    let word : word_of (decimal n) ≡ decimal n = ap word_of (sym (append-nil (decimal n))) ∙ word_of-append (decimal n) [] none tt in
+    let after : after_word (decimal n) ≡ [] = ap after_word (sym (append-nil (decimal n))) ∙ after_word-append (decimal n) [] none tt in
+    rw is.digits (rw (word, after, number_in_word-decimal n is.small) refl)
+
+abbrev head_of : Option (ℕ × List ℕ) → Option ℕ
+head_of None = None
+head_of (Some p) = Some p.0
+
+abbrev tail_of : Option (ℕ × List ℕ) → List ℕ
+tail_of None = []
+tail_of (Some p) = p.1
+
+pub none_whole : (w : List ℕ) → None ≡ first_number w → None ≡ number_in_word w
+none_whole w e = sym (number_in_word-None w (λ n is. let k = e ∙ first_of_decimal w n is in cc k))
+
+pub more_whole : (w rest : List ℕ) (m : ℕ) → Some (m, rest) ≡ first_number w → (length rest ≡ 0 → ⊥) → None ≡ number_in_word w
+more_whole w rest m e more =
+    sym (number_in_word-None w (λ n is.
+    let k : Some (m, rest) ≡ Some (n, []) = e ∙ first_of_decimal w n is in
+    more (ap length (ap tail_of k))))
+
+by_parts : (o : Option ℕ) (t rest : List ℕ) (m : ℕ) → ◌≡◌ {A = Option (ℕ × List ℕ)} (Some (m, rest)) (option_map (λ n. (n, t)) o) → (o ≡ Some m)
+    × (t ≡ rest)
+by_parts None t rest m e = absurd (cc e)
+by_parts (Some n) t rest m e = (sym (ap head_of e), sym (ap tail_of e))
+
+pub some_whole : (w rest : List ℕ) (m : ℕ) → Some (m, rest) ≡ first_number w → length rest ≡ 0 → Some m ≡ number_in_word w
+some_whole w rest m e nothing =
+    let p = by_parts (number_in_word (word_of w)) (after_word w) rest m e in
+    let after : after_word w ≡ [] = p.1 ∙ nil_from_length rest nothing in
+    let word : word_of w ≡ w = sym (append-nil (word_of w)) ∙ ap (λ (x : List ℕ). word_of w ++ x) (sym after) ∙ word-parts w in
+    sym p.0 ∙ ap number_in_word word

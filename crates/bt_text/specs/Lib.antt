@@ -2,7 +2,7 @@ pub mod Lines
 pub mod Script
 pub mod ScriptReading
 pub mod ScriptLaws
-pub mod Short
+pub mod Fronts
 pub mod Misfits
 pub mod Shown
 pub mod Splitting

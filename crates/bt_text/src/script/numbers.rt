@@ -46,23 +46,6 @@ fn has_leading_zero(word: &[u8]) -> bool
     word.len() > 1 && word[0] == b'0'
 }
 
-/// Parses a decimal number below 2^32 without leading zeros.
-pub fn plain_number(word: &[u8]) -> Option<u32>
-    ensures { result ≡ number_in_word word.now }
-{
-    if word.is_empty() || word.len() > 10 || has_leading_zero(word) {
-        return None;
-    }
-    let mut n: u64 = 0;
-    for digit in word {
-        if !digit.is_ascii_digit() {
-            return None;
-        }
-        n = n * 10 + u64::from(digit - b'0');
-    }
-    u32::try_from(n).ok()
-}
-
 /// Returns the value of the digits in front, and how many they are.
 ///
 /// No more than 11 of them are read.
@@ -112,6 +95,16 @@ fn leading_number(text: &[u8]) -> Option<(u32, &[u8])>
     match u32::try_from(n) {
         Ok(n) => Some((n, rest)),
         Err(_) => None,
+    }
+}
+
+/// Parses a decimal number below 2^32 without leading zeros.
+pub fn plain_number(word: &[u8]) -> Option<u32>
+    ensures { result ≡ number_in_word word.now }
+{
+    match leading_number(word) {
+        Some((n, rest)) if rest.is_empty() => Some(n),
+        _ => None,
     }
 }
 

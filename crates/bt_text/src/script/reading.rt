@@ -4,6 +4,7 @@ ghost use Rattle.std.specs.Result.{result_ok};
 ghost use Rattle.hex.specs.Hex.{decode_of};
 ghost use Rattle.bt_wire.specs.Numbers.{be32, be64};
 ghost use Rattle.bt_wire.specs.Ids.{ids, has_meaning as is_known};
+ghost use Rattle.bt_text.specs.Fronts.{IsFront};
 ghost use Rattle.bt_text.specs.Script.{row_named, framed_by, IsAnswer, IsAdded};
 ghost use Rattle.bt_text.specs.ScriptReading.{
   bytes_in_word,
@@ -21,11 +22,24 @@ ghost use Rattle.bt_text.specs.ScriptReading.{
   Adds,
 };
 
+use crate::script::front::append_numbers;
 pub use crate::script::numbers::plain_number;
 use crate::script::numbers::{is, number_following, split_word, three_numbers, two_numbers};
+use crate::splitting::split_line;
 use bt_wire::{Handshake, Reserved, Shape, spell_handshake};
 use hex::FromHex;
 use std::alloc::AllocError;
+
+/// What the front of a text is to the reader of a script.
+#[derive(Drop)]
+pub enum LineFront<'a> {
+    /// A line; this text follows its line feed.
+    Line(&'a [u8]),
+    /// Up to a line feed no line of a script, or one that is too long.
+    Syntax,
+    /// The text has no line feed.
+    Unended,
+}
 
 /// Appends the bytes of hex digits of either case; returns whether they are hex digits.
 fn push_decoded(digits: &[u8], bytes: &mut Vec<u8>) -> Result<bool, AllocError>
@@ -416,4 +430,38 @@ fn put_line(text: &[u8], first: bool, bytes: &mut Vec<u8>) -> Result<bool, Alloc
         return put_message(text, bytes);
     }
     put_handshake(text, bytes)
+}
+
+/// Parses the line that a text begins with, and appends the bytes that it names to `out`.
+///
+/// The line is that of [`append_line`], up to its line feed, and has at most `2 * limit + 256` bytes. `out` is unchanged if there is none.
+///
+/// # Errors
+/// `AllocError` when out of memory. At most one allocation is made.
+#[inline(always)]
+pub fn append_front<'a>(
+    text: &'a [u8],
+    first: bool,
+    limit: u32,
+    out: &mut Vec<u8>,
+) -> Result<LineFront<'a>, AllocError>
+    requires { limit ≤ 1048576 }
+    ensures { IfOk result (IsFront first limit text.now out.old.items out.new.items) }
+{
+    if !first {
+        if let Some(rest) = append_numbers(text, out)? {
+            return Ok(LineFront::Line(rest));
+        }
+    }
+    let Some((line, rest)) = split_line(text) else {
+        return Ok(LineFront::Unended);
+    };
+    if line.len() as u64 > 2 * u64::from(limit) + 256 {
+        return Ok(LineFront::Syntax);
+    }
+    if append_line(line, first, out)? {
+        Ok(LineFront::Line(rest))
+    } else {
+        Ok(LineFront::Syntax)
+    }
 }

@@ -4,8 +4,8 @@ use Rattle.bt_wire.specs.declared.ids.Needs.TheVariants.{Neither}
 use Rattle.bt_wire.specs.declared.ids.Shape.TheVariants.{Index, Part}
 use Rattle.bt_wire.specs.declared.ids.Turn.TheVariants.{Counted}
 use Rattle.bt_wire.specs.Ids.{Id, id}
-use Rattle.bt_text.proofs.Short.{IsShortRow, index_taken, part_taken}
-use Rattle.bt_text.proofs.script.short.append_short.Goals as goal
+use Rattle.bt_text.proofs.Fronts.{IsShortRow, index_taken, part_taken}
+use Rattle.bt_text.proofs.script.front.append_numbers.Goals as goal
 
 pub returns-in-Some-clause-added : goal.returns-in-Some-clause-added
 returns-in-Some-clause-added c =
@@ -15,6 +15,6 @@ returns-in-Some-clause-added c =
 
 pub returns-in-Some-after-clause-added : goal.returns-in-Some-after-clause-added
 returns-in-Some-after-clause-added c =
-    let row : Id = id 6 (codes "request") Part Neither Counted in
+    let row : Id = id 8 (codes "cancel") Part Neither Counted in
     let is : IsShortRow row Part = record { named = refl; shaped = refl; whole = refl; short = omega arith } in
     part_taken row _ _ _ _ _ is c.in-Some-after.ensures c.append_part.ensures.added

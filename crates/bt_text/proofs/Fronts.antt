@@ -1,17 +1,17 @@
--- The line in front of a text that names a message of numbers only.
+-- The line in front of a text: one of numbers only, and what is read of any.
 use Rattle.std.proofs.Common.{◌≡◌, ℕ, ◌≤◌, false, List, [], ◌∷◌, ◌++◌, length, Option, Some, None, Result, Ok, Err, refl, ap, sym, ◌∙◌}
 use Rattle.std.proofs.Common.{arith, append_assoc, Bor, IfSome}
 use Rattle.std.specs.Prelude.{codes, IfOk}
 use Rattle.std.specs.Fmt.{decimal}
 use Rattle.std.proofs.lemmas.List.{append-nil, length-append}
 use Rattle.bt_wire.specs.declared.ids.Shape.{Shape}
-use Rattle.bt_wire.specs.declared.ids.Shape.TheVariants.{Nothing, Index, Part}
+use Rattle.bt_wire.specs.declared.ids.Shape.TheVariants.{Index, Part}
 use Rattle.bt_wire.specs.Ids.{Id, ids}
-use Rattle.bt_wire.specs.Messages.{Fields, none, index, part, spell_fields, AreInRange}
+use Rattle.bt_wire.specs.Messages.{Fields, index, part, spell_fields, AreInRange}
 use Rattle.bt_wire.specs.Numbers.{be32}
 use Rattle.bt_text.specs.Lines.{spaced}
-use Rattle.bt_text.specs.Script.{has_feed, script_fields, SaysFields, shape_of, row_named, known, keep_alive, framed_by}
-use Rattle.bt_text.specs.Short.{IsShortLine, AddsNothing, AddsIndex, AddsPart}
+use Rattle.bt_text.specs.Script.{has_feed, script_fields, SaysFields, shape_of, row_named, known, framed_by}
+use Rattle.bt_text.specs.Fronts.{IsShortLine, AddsIndex, AddsPart}
 use Rattle.bt_text.proofs.ScriptBounds.{has_feed-append, fields_have_none, length-spaced, length-two}
 
 -- a row of the table of ids that the line of a message of this shape names
@@ -48,24 +48,11 @@ line_of row shape f text rest old new is shaped range says short parts added =
       );
     }
 
-bare_name : (n f r : List ℕ) → (n ++ f) ++ r ≡ (n ++ []) ++ (f ++ r)
-bare_name n f r = append_assoc n f r ∙ ap (λ (x : List ℕ). x ++ (f ++ r)) (sym (append-nil n))
-
 after_name : (n s d f r : List ℕ) → (n ++ s) ++ (d ++ (f ++ r)) ≡ (n ++ (s ++ d)) ++ (f ++ r)
 after_name n s d f r = simp append_assoc
 
 three_after_name : (n s a b c f r : List ℕ) → (n ++ s) ++ (a ++ (s ++ (b ++ (s ++ (c ++ (f ++ r)))))) ≡ (n ++ ((s ++ a) ++ ((s ++ b) ++ (s ++ c)))) ++ (f ++ r)
 three_after_name n s a b c f r = simp append_assoc
-
-pub nothing_taken : {E : Type 0} (row : Id) (text t old new : List ℕ) (r : Result (Option (Bor (List ℕ))) E) → IsShortRow row Nothing
-    → text ≡ (row.name ++ codes "\n") ++ t → IfOk r (λ f. IfSome f (λ rest. AddsNothing row.number t rest.now old new))
-    → IfOk r (λ f. IfSome f (λ rest. IsShortLine text rest.now old new))
-nothing_taken row text t old new (Err e) is at h = tt
-nothing_taken row text t old new (Ok None) is at h = tt
-nothing_taken row text t old new (Ok (Some rest)) is at h =
-    let parts : text ≡ (row.name ++ []) ++ 10 ∷ rest.now =
-    at ∙ bare_name row.name (codes "\n") t ∙ ap (λ (x : List ℕ). (row.name ++ []) ++ 10 ∷ x) (sym h.0) in
-    line_of row Nothing none text rest.now old new is refl tt refl (omega arith) parts h.1
 
 pub index_taken : {E : Type 0} (row : Id) (text t old new : List ℕ) (r : Result (Option (Bor (List ℕ))) E) → IsShortRow row Index
     → text ≡ (row.name ++ codes " ") ++ t → IfOk r (λ f. IfSome f (λ rest. AddsIndex row.number t rest.now old new))
@@ -92,11 +79,3 @@ part_taken row text t old new (Ok (Some rest)) is at (bytes, p, added) =
     line_of row Part (part i b l) text rest.now old new is refl (p.index_fits, p.begin_fits, p.length_fits) refl
     (omega (arith, length-two i b (spaced l) p.index_fits p.begin_fits, length-spaced l p.length_fits)) parts
     (added ∙ ap (λ (x : List ℕ). old ++ framed_by row.number x) p.spelled)
-
-pub alive_taken : (text rest old new : List ℕ) → text ≡ codes "keep-alive\n" ++ rest → new ≡ old ++ be32 0 → IsShortLine text rest old new
-alive_taken text rest old new parts added = record {
-  line = codes "keep-alive";
-  cut = (parts, refl);
-  short = omega arith;
-  added = (be32 0, (keep_alive, refl, refl), added);
-}

@@ -2,7 +2,7 @@ use Rattle.std.proofs.Common.{◌≡◌, ◌∙◌, ◌++◌, ℕ, List, drop, s
 use Rattle.std.proofs.lemmas.Bool.Decides.{Decides-eqb}
 use Rattle.std.proofs.lemmas.List.{take-append-drop}
 use Rattle.std.proofs.lemmas.Slice.Eq.{slice_eq-Decides}
-use Rattle.bt_text.proofs.script.short.after.Goals as goal
+use Rattle.bt_text.proofs.script.front.after.Goals as goal
 
 pub returns-then-eq : goal.returns-then-eq
 returns-then-eq g c =

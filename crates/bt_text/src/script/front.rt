@@ -1,0 +1,144 @@
+//! The line in front of a text, if it is one of `have`, `request`, `cancel` or `reject`, read and encoded in one pass.
+//!
+//! It may give up on any line: [`append_front`](crate::script::reading::append_front) goes on.
+ghost use Rattle.std.specs.Prelude.{◌≡◌, ◌<◌, ◌^◌, ◌++◌, ◌∷◌, false, length, get_or, None, IfOk, IfSome};
+ghost use Rattle.std.specs.Char.{is_ascii_digit};
+ghost use Rattle.std.specs.Fmt.{decimal};
+ghost use Rattle.bt_text.specs.Fronts.{IsShortLine, AddsIndex, HasPart, AddsPart};
+
+use crate::script::reading::push_begin;
+use std::alloc::AllocError;
+
+/// Returns what follows `front`, if the text begins with it.
+#[inline(always)]
+fn after<'a, const N: usize>(text: &'a [u8], front: &[u8; N]) -> Option<&'a [u8]>
+    ensures { IfSome result (λ rest. text.now ≡ front.now ++ rest.now) }
+{
+    let (head, rest) = text.split_first_chunk::<N>()?;
+    if head == front { Some(rest) } else { None }
+}
+
+/// Returns whether a zero comes before another digit.
+#[inline(always)]
+fn has_leading_zero(text: &[u8]) -> bool
+    requires { 1 < length text.now }
+    ensures { result ≡ false → get_or text.now 0 0 ≡ 48 → is_ascii_digit (get_or text.now 1 0) ≡ false }
+{
+    text[0] == b'0' && text[1].is_ascii_digit()
+}
+
+/// Returns a number of at most ten digits, and what follows the byte `stop` after it.
+///
+/// `None` if the text doesn't begin so, or if it has fewer than eleven bytes.
+#[inline(always)]
+fn number_until(text: &[u8], stop: u8) -> Option<(u32, &[u8])>
+    ensures range { IfSome result (λ x. x.0 < 2 ^ 32) }
+    ensures split { IfSome result (λ x. text.now ≡ decimal x.0 ++ stop ∷ x.1.now) }
+{
+    if text.len() < 11 || !text[0].is_ascii_digit() || has_leading_zero(text) {
+        return None;
+    }
+    let mut n = u64::from(text[0] - b'0');
+    for at in 1..11 {
+        let byte = text[at];
+        if !byte.is_ascii_digit() {
+            return match u32::try_from(n) {
+                Ok(n) if byte == stop => Some((n, &text[at + 1..])),
+                _ => None,
+            };
+        }
+        n = n * 10 + u64::from(byte - b'0');
+    }
+    None
+}
+
+/// Appends the message of an id and of the number in front, if a line feed ends it.
+#[inline(never)]
+fn append_index<'a>(
+    id: u8,
+    text: &'a [u8],
+    out: &mut Vec<u8>,
+) -> Result<Option<&'a [u8]>, AllocError>
+    ensures none { IfOk result (λ found. found ≡ None → out.new.items ≡ out.old.items) }
+    ensures added { IfOk result (λ found. IfSome found (λ rest. AddsIndex id text.now rest.now out.old.items out.new.items)) }
+{
+    let Some((index, rest)) = number_until(text, b'\n') else {
+        return Ok(None);
+    };
+    push_begin(id, &index.to_be_bytes(), 0, out)?;
+    Ok(Some(rest))
+}
+
+/// Returns the bytes of the three numbers in front, and what follows the line feed after them.
+#[inline(always)]
+fn part_in_front(text: &[u8]) -> Option<([u8; 12], &[u8])>
+    ensures { IfSome result (λ x. HasPart x.0 text.now x.1.now) }
+{
+    let (index, rest) = number_until(text, b' ')?;
+    let (begin, rest) = number_until(rest, b' ')?;
+    let (length, rest) = number_until(rest, b'\n')?;
+    let mut numbers = [0u8; 12];
+    numbers[..4].copy_from_slice(&index.to_be_bytes());
+    numbers[4..8].copy_from_slice(&begin.to_be_bytes());
+    numbers[8..].copy_from_slice(&length.to_be_bytes());
+    Some((numbers, rest))
+}
+
+/// Appends the message of an id and of the three numbers in front, if a line feed ends the last.
+#[inline(never)]
+fn append_part<'a>(
+    id: u8,
+    text: &'a [u8],
+    out: &mut Vec<u8>,
+) -> Result<Option<&'a [u8]>, AllocError>
+    ensures none { IfOk result (λ found. found ≡ None → out.new.items ≡ out.old.items) }
+    ensures added { IfOk result (λ found. IfSome found (λ rest. AddsPart id text.now rest.now out.old.items out.new.items)) }
+{
+    let Some(found) = part_in_front(text) else {
+        return Ok(None);
+    };
+    let (numbers, rest) = found;
+    push_begin(id, &numbers, 0, out)?;
+    Ok(Some(rest))
+}
+
+/// Does what [`append_numbers`] does for `request` and `reject`.
+#[inline(always)]
+fn append_request<'a>(text: &'a [u8], out: &mut Vec<u8>) -> Result<Option<&'a [u8]>, AllocError>
+    ensures none { IfOk result (λ found. found ≡ None → out.new.items ≡ out.old.items) }
+    ensures added { IfOk result (λ found. IfSome found (λ rest. IsShortLine text.now rest.now out.old.items out.new.items)) }
+{
+    if let Some(rest) = after(text, b"request ") {
+        return append_part(6, rest, out);
+    }
+    match after(text, b"reject ") {
+        Some(rest) => append_part(16, rest, out),
+        None => Ok(None),
+    }
+}
+
+/// Appends the bytes of the line in front, if it is `have`, `request`, `cancel` or `reject`; returns what follows it.
+///
+/// The line isn't the first of its script. `None` promises nothing, and `out` is then unchanged.
+#[inline(always)]
+pub(super) fn append_numbers<'a>(
+    text: &'a [u8],
+    out: &mut Vec<u8>,
+) -> Result<Option<&'a [u8]>, AllocError>
+    ensures none { IfOk result (λ found. found ≡ None → out.new.items ≡ out.old.items) }
+    ensures added { IfOk result (λ found. IfSome found (λ rest. IsShortLine text.now rest.now out.old.items out.new.items)) }
+{
+    // (other lines cost no more than the look at their first byte)
+    match text.first() {
+        Some(b'h') => match after(text, b"have ") {
+            Some(rest) => append_index(4, rest, out),
+            None => Ok(None),
+        },
+        Some(b'r') => append_request(text, out),
+        Some(b'c') => match after(text, b"cancel ") {
+            Some(rest) => append_part(8, rest, out),
+            None => Ok(None),
+        },
+        _ => Ok(None),
+    }
+}
