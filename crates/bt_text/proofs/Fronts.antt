@@ -1,14 +1,13 @@
 -- The line in front of a text: one of numbers only, and what is read of any.
-use Rattle.std.proofs.Common.{◌≡◌, ℕ, ◌≤◌, false, List, [], ◌∷◌, ◌++◌, length, Option, Some, None, Result, Ok, Err, refl, ap, sym, ◌∙◌}
+use Rattle.std.proofs.Common.{◌≡◌, ℕ, ◌≤◌, false, List, ◌∷◌, ◌++◌, length, Option, Some, None, Result, Ok, Err, refl, ap, sym, ◌∙◌}
 use Rattle.std.proofs.Common.{arith, append_assoc, Bor, IfSome}
 use Rattle.std.specs.Prelude.{codes, IfOk}
 use Rattle.std.specs.Fmt.{decimal}
-use Rattle.std.proofs.lemmas.List.{append-nil, length-append}
+use Rattle.std.proofs.lemmas.List.{length-append}
 use Rattle.bt_wire.specs.declared.ids.Shape.{Shape}
 use Rattle.bt_wire.specs.declared.ids.Shape.TheVariants.{Index, Part}
 use Rattle.bt_wire.specs.Ids.{Id, ids}
 use Rattle.bt_wire.specs.Messages.{Fields, index, part, spell_fields, AreInRange}
-use Rattle.bt_wire.specs.Numbers.{be32}
 use Rattle.bt_text.specs.Lines.{spaced}
 use Rattle.bt_text.specs.Script.{has_feed, script_fields, SaysFields, shape_of, row_named, known, framed_by}
 use Rattle.bt_text.specs.Fronts.{IsShortLine, AddsIndex, AddsPart}

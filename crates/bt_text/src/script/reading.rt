@@ -434,7 +434,8 @@ fn put_line(text: &[u8], first: bool, bytes: &mut Vec<u8>) -> Result<bool, Alloc
 
 /// Parses the line that a text begins with, and appends the bytes that it names to `out`.
 ///
-/// The line is that of [`append_line`], up to its line feed, and has at most `2 * limit + 256` bytes. `out` is unchanged if there is none.
+/// `first` says that the line is the first of its script. A line has at most `2 * limit + 256` bytes before its line feed. If the
+/// answer is another than a line, `out` is unchanged.
 ///
 /// # Errors
 /// `AllocError` when out of memory. At most one allocation is made.

@@ -21,7 +21,8 @@ returns-in_default c = λ own text lines b e h.
     let held = subst P c.if-not-branch.false c.in_ok-hold.ensures in
     all_done own text (packing lines b c.args.out.now.items) c.args.piece.now c.args.piece.now c.hold.new.line.items
     (packer c.args.line.now.items c.args.judge.now c.args.out.now.items)
-    (nothing_done own text lines b c.args.piece.now c.args.line.now.items c.args.judge.now c.args.out.now.items h) (rw c.in_default.is at c.split_line.ensures.cut) held.0
+    (nothing_done own text lines b c.args.piece.now c.args.line.now.items c.args.judge.now c.args.out.now.items h)
+    (rw c.in_default.is at c.split_line.ensures.cut) held.0
 
 pub returns-then-not-branch : goal.returns-then-not-branch
 returns-then-not-branch c = λ own text lines b e h.
@@ -29,8 +30,8 @@ returns-then-not-branch c = λ own text lines b e h.
     let held = subst P c.if-not-branch.true c.in_ok-hold.ensures in
     rest_stops own text (packing lines b c.args.out.now.items) c.args.piece.now c.args.piece.now c.hold.new.line.items
     (packer c.args.line.now.items c.args.judge.now c.args.out.now.items)
-    (nothing_done own text lines b c.args.piece.now c.args.line.now.items c.args.judge.now c.args.out.now.items h) (rw c.in_default.is at c.split_line.ensures.cut)
-    (omega (arith, held.1, e))
+    (nothing_done own text lines b c.args.piece.now c.args.line.now.items c.args.judge.now c.args.out.now.items h)
+    (rw c.in_default.is at c.split_line.ensures.cut) (omega (arith, held.1, e))
 
 -- the line of which an earlier chunk had the first part is read
 line_read : (c : After-take_ended) (own : Own) (text : List ℕ) (lines : List (List ℕ)) (b : List ℕ)
