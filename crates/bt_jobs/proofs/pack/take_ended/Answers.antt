@@ -1,9 +1,5 @@
-use Rattle.std.proofs.Common.{◌≡◌, ◌++◌, ℕ, List, [], length, Bool, refl, sym, subst, ◌∙◌, arith}
-use Rattle.std.proofs.lemmas.Bool.{eqb-true}
-use Rattle.std.proofs.lemmas.List.{nil_from_length}
-use Rattle.std.specs.Prelude.{IfOk}
-use Rattle.bt_wire.specs.declared.context.Own.{Own}
-use Rattle.bt_jobs.specs.PackSteps.{IsPackedTo, packing, IsLineEnd, IsHeld}
+use Rattle.std.proofs.Common.{◌++◌, Bool, refl, subst, arith}
+use Rattle.bt_jobs.specs.PackSteps.{IsHeld}
 use Rattle.bt_jobs.proofs.PackPieces.{too_long}
 use Rattle.bt_jobs.proofs.pack.take_ended.Goals as goal
 

@@ -1,4 +1,4 @@
-use Rattle.std.proofs.Common.{◌≡◌, ◌++◌, Bool, List, ℕ, [], Option, None, sym, subst, arith}
+use Rattle.std.proofs.Common.{◌≡◌, ◌++◌, Bool, List, ℕ, [], Option, None, subst, arith}
 use Rattle.std.proofs.lemmas.List.{nil_from_length}
 use Rattle.bt_wire.specs.declared.context.Own.{Own}
 use Rattle.bt_text.specs.declared.ended.ScriptReason.{ScriptReason}
