@@ -6,10 +6,10 @@ use Rattle.std.specs.Fmt.{decimal}
 use Rattle.std.proofs.lemmas.List.{length-append}
 use Rattle.bt_wire.specs.declared.ids.Shape.{Shape}
 use Rattle.bt_wire.specs.declared.ids.Shape.TheVariants.{Index, Part}
-use Rattle.bt_wire.specs.Ids.{Id, ids}
+use Rattle.bt_wire.specs.Ids.{Id, ids, row_named}
 use Rattle.bt_wire.specs.Messages.{Fields, index, part, spell_fields, AreInRange}
 use Rattle.bt_text.specs.Lines.{spaced}
-use Rattle.bt_text.specs.Script.{has_feed, script_fields, SaysFields, shape_of, row_named, known, framed_by}
+use Rattle.bt_text.specs.Script.{has_feed, script_fields, SaysFields, shape_of, known, framed_by}
 use Rattle.bt_text.specs.Fronts.{IsShortLine, AddsIndex, AddsPart}
 use Rattle.bt_text.proofs.ScriptBounds.{has_feed-append, fields_have_none, length-spaced, length-two}
 

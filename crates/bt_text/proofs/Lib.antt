@@ -11,3 +11,4 @@ mod Fronts
 mod Misfits
 mod Digits
 mod SameWords
+pub mod RowsByName

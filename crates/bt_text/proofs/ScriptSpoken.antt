@@ -14,11 +14,11 @@ use Rattle.bt_wire.specs.declared.handshake.Handshake.{Handshake}
 use Rattle.bt_wire.specs.Messages.{Message}
 use Rattle.bt_wire.specs.declared.message.Message.TheVariants as m
 use Rattle.bt_wire.specs.Handshakes.{hand, IsHandshake, protocol}
-use Rattle.bt_wire.specs.Ids.{Id, id, ids, has_meaning}
+use Rattle.bt_wire.specs.Ids.{Id, id, ids, has_meaning, row_named}
 use Rattle.bt_wire.specs.Messages.{Fields, none, index, part, block, port, field, extended, payload, spell_fields, spell, AreInRange, IsShaped, IsInRange}
 use Rattle.bt_wire.specs.Numbers.{be32, be64, AreBytes}
 use Rattle.bt_text.specs.Lines.{spaced, handshake_words}
-use Rattle.bt_text.specs.Script.{hex_or_dash, spaced_hex, script_fields, script_message, SaysBytes, SaysSpaced, SaysFields, shape_of, row_named, framed_by}
+use Rattle.bt_text.specs.Script.{hex_or_dash, spaced_hex, script_fields, script_message, SaysBytes, SaysSpaced, SaysFields, shape_of, framed_by}
 use Rattle.bt_text.specs.Script.{known, unknown, keep_alive, IsMessageLine, IsHandshakeLine, HasHandshakeWords}
 
 says_hex : (bytes : List ℕ) → AreBytes bytes → SaysBytes (hex_or_dash bytes) bytes

@@ -2,8 +2,8 @@
 use Rattle.std.specs.Prelude.{◌≡◌, ◌==◌, ◌⊎◌, if◌then◌else◌, ℕ, ◌+◌, Bool, true, false, List, [], ◌∷◌, ◌++◌, length, codes, decimal, None}
 use Rattle.std.specs.Char.{is_ascii_digit}
 use Rattle.std.specs.List.{AllPass}
-use Rattle.bt_wire.specs.Ids.{ids}
-use Rattle.bt_text.specs.Script.{row_named, IsLine}
+use Rattle.bt_wire.specs.Ids.{ids, row_named}
+use Rattle.bt_text.specs.Script.{IsLine}
 use Rattle.bt_text.specs.ScriptReading.{word_of}
 use Rattle.bt_text.specs.declared.script.misfit.Expected.{Expected}
 use Rattle.bt_text.specs.declared.script.misfit.Expected.TheVariants.{Handshake, Name, Reserved, InfoHash, PeerId, Number, Port, Byte, FreeId, Bytes, End}

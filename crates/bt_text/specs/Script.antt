@@ -14,7 +14,7 @@ use Rattle.bt_wire.specs.declared.item.Item.TheVariants as items
 use Rattle.bt_wire.specs.Messages.{Message}
 use Rattle.bt_wire.specs.declared.message.Message.TheVariants.{KeepAlive, Bitfield, Piece, Extended, Unknown}
 use Rattle.bt_wire.specs.Handshakes.{hand, IsHandshake}
-use Rattle.bt_wire.specs.Ids.{Id, ids, has_meaning}
+use Rattle.bt_wire.specs.Ids.{Id, ids, has_meaning, row_named}
 use Rattle.bt_wire.specs.Messages.{Fields, none, index, part, block, port, field, extended, payload, known_id, fields_of, spell_fields, AreInRange}
 use Rattle.bt_wire.specs.Numbers.{be32, be64}
 use Rattle.bt_text.specs.Lines.{spaced, name_of, own_context, handshake_words}
@@ -102,11 +102,6 @@ shape_of (port p) = Some shapes.Port
 shape_of (field bits) = Some shapes.Field
 shape_of (extended n bytes) = Some shapes.Extended
 shape_of (payload bytes) = None
-
--- the row of the table of ids with this name
-abbrev pub row_named : List ℕ → List Id → Option Id
-row_named name [] = None
-row_named name (i ∷ is) = if bytes_eq name i.name then Some i else row_named name is
 
 -- the name is that of the row, the fields are of its shape, and their numbers within their bounds
 pub record IsOfRow (name : List ℕ) (i : Id) (f : Fields) : Type 0 where

@@ -14,9 +14,9 @@ use Rattle.bt_wire.specs.declared.ids.Shape.{Shape}
 use Rattle.bt_wire.specs.declared.ids.Shape.TheVariants.{Nothing, Index, Part, Block, Port, Field, Extended}
 use Rattle.bt_wire.specs.declared.handshake.Handshake.{Handshake}
 use Rattle.bt_wire.specs.Handshakes.{protocol}
-use Rattle.bt_wire.specs.Ids.{Id, ids, has_meaning}
+use Rattle.bt_wire.specs.Ids.{Id, ids, has_meaning, row_named}
 use Rattle.bt_wire.specs.Numbers.{be16, be32, be64}
-use Rattle.bt_text.specs.Script.{row_named, framed_by}
+use Rattle.bt_text.specs.Script.{framed_by}
 
 -- ---- words
 

@@ -3,9 +3,9 @@ ghost use Rattle.std.specs.Prelude.{◌≡◌, ◌+◌, ◌<◌, ◌≤◌, ◌^
 ghost use Rattle.std.specs.Result.{result_ok};
 ghost use Rattle.hex.specs.Hex.{decode_of};
 ghost use Rattle.bt_wire.specs.Numbers.{be32, be64};
-ghost use Rattle.bt_wire.specs.Ids.{ids, has_meaning as is_known};
+ghost use Rattle.bt_wire.specs.Ids.{ids, row_named};
 ghost use Rattle.bt_text.specs.Fronts.{IsFront};
-ghost use Rattle.bt_text.specs.Script.{row_named, framed_by, IsAnswer, IsAdded};
+ghost use Rattle.bt_text.specs.Script.{framed_by, IsAnswer, IsAdded};
 ghost use Rattle.bt_text.specs.ScriptReading.{
   bytes_in_word,
   closed,
@@ -26,7 +26,7 @@ use crate::script::front::append_numbers;
 pub use crate::script::numbers::plain_number;
 use crate::script::numbers::{is, number_following, split_word, three_numbers, two_numbers};
 use crate::splitting::split_line;
-use bt_wire::{Handshake, Reserved, Shape, spell_handshake};
+use bt_wire::{Handshake, Reserved, Shape, id_named, kind_of, spell_handshake};
 use hex::FromHex;
 use std::alloc::AllocError;
 
@@ -236,23 +236,13 @@ fn put_extended(id: u8, text: &[u8], bytes: &mut Vec<u8>) -> Result<bool, AllocE
     }
 }
 
-/// Returns whether an id is in the table of ids.
-fn has_meaning(id: u8) -> bool
-    ensures { result ≡ is_known id }
-{
-    match id {
-        0..=9 | 13..=17 | 20 => true,
-        _ => false,
-    }
-}
-
 /// Appends the message of an id that has no meaning and its payload.
 fn put_unknown(text: &[u8], bytes: &mut Vec<u8>) -> Result<bool, AllocError>
     requires { length text.now < 2 ^ 32 }
     ensures { IfOk result (Adds (unknown_in text.now) bytes.old.items bytes.new.items) }
 {
     match number_following(text) {
-        Some((id, rest)) if id < 256 && !has_meaning(id as u8) => {
+        Some((id, rest)) if id < 256 && kind_of(id as u8).is_none() => {
             put_bytes(id as u8, b"", rest, bytes)
         }
         _ => Ok(false),
@@ -263,41 +253,9 @@ fn put_unknown(text: &[u8], bytes: &mut Vec<u8>) -> Result<bool, AllocError>
 pub(crate) fn row_of(name: &[u8]) -> Option<(u8, Shape)>
     ensures { result ≡ option_map (λ i. (i.number, i.kind.shape)) (row_named name.now ids) }
 {
-    if is(name, b"choke") {
-        Some((0, Shape::Nothing))
-    } else if is(name, b"unchoke") {
-        Some((1, Shape::Nothing))
-    } else if is(name, b"interested") {
-        Some((2, Shape::Nothing))
-    } else if is(name, b"not-interested") {
-        Some((3, Shape::Nothing))
-    } else if is(name, b"have") {
-        Some((4, Shape::Index))
-    } else if is(name, b"bitfield") {
-        Some((5, Shape::Field))
-    } else if is(name, b"request") {
-        Some((6, Shape::Part))
-    } else if is(name, b"piece") {
-        Some((7, Shape::Block))
-    } else if is(name, b"cancel") {
-        Some((8, Shape::Part))
-    } else if is(name, b"port") {
-        Some((9, Shape::Port))
-    } else if is(name, b"suggest") {
-        Some((13, Shape::Index))
-    } else if is(name, b"have-all") {
-        Some((14, Shape::Nothing))
-    } else if is(name, b"have-none") {
-        Some((15, Shape::Nothing))
-    } else if is(name, b"reject") {
-        Some((16, Shape::Part))
-    } else if is(name, b"allowed-fast") {
-        Some((17, Shape::Index))
-    } else if is(name, b"extended") {
-        Some((20, Shape::Extended))
-    } else {
-        None
-    }
+    let id = id_named(name)?;
+    let kind = kind_of(id)?;
+    Some((id, kind.shape))
 }
 
 /// Appends the message of a name and of the fields that follow it.
