@@ -251,6 +251,16 @@ def as_rtorrent(link, count):
         link.send(data(3, piece))
 
 
+def one_outstanding(link, count):
+    """Stops for good at a request that comes before it has answered the one before, as `as_rtorrent`, with another peer id."""
+    greet(link)
+    while True:
+        piece = link.request()
+        if link.has_more():
+            link.hold()
+        link.send(data(3, piece))
+
+
 def in_two_reads(link, count):
     """An honest peer whose extended handshake comes in two reads."""
     link.exactly(68)
@@ -429,6 +439,9 @@ ROWS = [
     ([one_at_a_time], "--timeout 2", INFO, "@0 silent\n@0 fetched\n", 0),
     ([one_at_a_time], "--timeout 2 --window 8", b"", "@0 silent\n", 1),
     ([as_rtorrent], "", INFO, "@0 fetched\n", 0),
+    ([half_size, as_rtorrent], "--timeout 3", INFO, "@0 closed\n@1 fetched\n", 0),
+    ([half_size, one_outstanding], "--timeout 3 --window 1", INFO, "@0 closed\n@1 fetched\n", 0),
+    ([cut, one_outstanding], "--timeout 3 --window 1", INFO, "@0 closed\n@1 fetched\n", 0),
     ([wrong_hash], "", b"", "@0 refused message=0 at=28 WrongInfoHash\n", 1),
     ([too_long], "", b"", "@0 refused message=1 at=68 TooLong\n", 1),
     ([quiet_flood(bytes(4))], "--timeout 2", b"", "@0 silent\n", 1),
@@ -739,6 +752,16 @@ def dialled(program):
         peer.close()
     return (differs("dialled", done, b"", 2 * ("%s closed\n%s silent\n" % tuple(peer.address for peer in peers)), 1)
             + same("connections", str([peer.count for peer in peers]), "[2, 2]")), 2
+
+
+def placed(program):
+    """At all places peers tell false sizes, each another one, and hold. A peer that takes one request at a time is asked by its own size."""
+    peers = [Peer(telling(20000 + number)) for number in range(16)] + [Peer(as_rtorrent)]
+    done = run(program, HASH, [peer.address for peer in peers], ["--timeout", "20"])
+    for peer in peers:
+        peer.close()
+    giver = [end for end in told(done.stderr.decode()) if end[1] == "fetched"]
+    return same("placed", done.stdout, INFO) + same("its giver", giver, [[peers[16].address, "fetched"]]), 2
 
 
 def told(errors):
@@ -1126,7 +1149,7 @@ def served_apart(program):
 def main(words):
     program = program_of(words)
     failed = count = 0
-    for part in (hostile, kept, linked, hosted, taken, largest, million, single, shown, unread, unwritten, dialled, both, swarm, objects,
+    for part in (hostile, kept, linked, hosted, taken, largest, million, single, shown, unread, unwritten, dialled, placed, both, swarm, objects,
                  several_ids, serving, pieces, one_write, memory, served_apart):
         more, tried = part(program)
         failed += more

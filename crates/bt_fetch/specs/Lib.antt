@@ -1,5 +1,6 @@
 pub mod Wishes
 pub mod Outcomes
+pub mod Signs
 pub mod Fetches
 pub mod Links
 pub mod Queues

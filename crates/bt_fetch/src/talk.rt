@@ -4,6 +4,7 @@ ghost use Rattle.bt_end.specs.Ends.{belief};
 ghost use Rattle.bt_exchange.specs.Courses.{Moment};
 ghost use Rattle.bt_exchange.specs.Stops.{IsStopped};
 ghost use Rattle.bt_fetch.specs.Outcomes.{IsOutcome, is_untaken as is_untaken_by, outcome_by};
+ghost use Rattle.bt_fetch.specs.Signs.{IsRestarted, IsTried};
 
 use crate::device::Outcome;
 use crate::wish::Wish;
@@ -95,9 +96,28 @@ fn narrow(end: &mut End, handshake: &Handshake) -> bool
     true
 }
 
+/// Begins anew with a size, and returns whether it did.
+///
+/// The requests that wait to be sent are those of another size: they are dropped, so that no more are outstanding than the window has.
+fn begin_anew(end: &mut End, size: u64) -> Result<bool, Memory>
+    ensures handshake { end.new.end.handshake ≡ end.old.end.handshake }
+    ensures anew { IfOk result (λ begins. IsTried end.old size begins end.new) }
+{
+    let queued = end.outgoing().len();
+    match end.begin(size) {
+        Ok(true) => {
+            end.sent(queued);
+            Ok(true)
+        }
+        Ok(false) | Err(BeginError::Busy) => Ok(false),
+        Err(BeginError::Memory) => Err(Memory),
+    }
+}
+
 /// Begins anew if the peer announces another size than that of the fetch, and returns whether it did.
 fn restart(end: &mut End, size: Option<u64>) -> Result<bool, Memory>
     ensures handshake { end.new.end.handshake ≡ end.old.end.handshake }
+    ensures anew { IfOk result (λ begins. IsRestarted end.old size begins end.new) }
 {
     let (Some(size), Some(progress)) = (size, end.progress()) else {
         return Ok(false);
@@ -105,11 +125,7 @@ fn restart(end: &mut End, size: Option<u64>) -> Result<bool, Memory>
     if size == progress.size {
         return Ok(false);
     }
-    match end.begin(size) {
-        Ok(begins) => Ok(begins),
-        Err(BeginError::Busy) => Ok(false),
-        Err(BeginError::Memory) => Err(Memory),
-    }
+    begin_anew(end, size)
 }
 
 /// Acts on news, and returns what the peer has announced by then; `None` if the patience is over.
