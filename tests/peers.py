@@ -360,6 +360,22 @@ def quiet_flood(bytes_of):
     return talk
 
 
+def repeating(link, count):
+    """Sends its extended handshake again and again, ten times a second, and no block."""
+    greet(link)
+    while True:
+        time.sleep(0.1)
+        link.send(extended(len(INFO)))
+
+
+def changing_size_no_more(link, count):
+    """Changes its size twice, and from then on each tenth of a second, which is no progress any more."""
+    greet(link)
+    for size in range(20001, 30000):
+        time.sleep(0.1)
+        link.send(extended(size))
+
+
 def bytewise(link, count):
     """Sends each byte by itself."""
     link.link.setsockopt(socket.IPPROTO_TCP, socket.TCP_NODELAY, 1)
@@ -448,6 +464,7 @@ ROWS = [
     ([quiet_flood(message(4, bytes(4)))], "--timeout 2 --rules bep", b"", "@0 silent\n", 1),
     ([quiet_flood(message(4, bytes(4)))], "--timeout 2", b"", "@0 silent\n", 1),
     ([flood(bytes(4))], "--timeout 2", b"", "@0 no-metadata\n", 1),
+    ([repeating], "--timeout 2", b"", "@0 silent\n", 1),
     ([unasked], "", INFO, "@0 fetched\n", 0),
     ([block_of_piece, honest], "", INFO, "@0 unasked\n@1 fetched\n", 0),
     ([requesting], "", INFO, "@0 fetched\n", 0),
@@ -762,6 +779,23 @@ def placed(program):
         peer.close()
     giver = [end for end in told(done.stderr.decode()) if end[1] == "fetched"]
     return same("placed", done.stdout, INFO) + same("its giver", giver, [[peers[16].address, "fetched"]]), 2
+
+
+def hindered(program):
+    """At all places peers send messages that bring no block. Each gives up its place after half a second, as a silent one does."""
+    failed = 0
+    talks = [repeating, changing_size_no_more, flood(bytes(4)), flood(message(4, bytes(4))), flood(extended(len(INFO)))]
+    for talk in talks:
+        peers = [Peer(talk) for _ in range(16)] + [Peer(honest)]
+        begin = time.monotonic()
+        done = run(program, HASH, [peer.address for peer in peers], ["--timeout", "10"])
+        took = time.monotonic() - begin
+        for peer in peers:
+            peer.close()
+        giver = [end for end in told(done.stderr.decode()) if end[1] == "fetched"]
+        failed += (same("hindered by " + talk.__qualname__, done.stdout, INFO) + same("its giver", giver, [[peers[16].address, "fetched"]])
+                   + same("its time", took < 4, True))
+    return failed, 3 * len(talks)
 
 
 def told(errors):
@@ -1149,7 +1183,7 @@ def served_apart(program):
 def main(words):
     program = program_of(words)
     failed = count = 0
-    for part in (hostile, kept, linked, hosted, taken, largest, million, single, shown, unread, unwritten, dialled, placed, both, swarm, objects,
+    for part in (hostile, kept, linked, hosted, taken, largest, million, single, shown, unread, unwritten, dialled, placed, hindered, both, swarm, objects,
                  several_ids, serving, pieces, one_write, memory, served_apart):
         more, tried = part(program)
         failed += more

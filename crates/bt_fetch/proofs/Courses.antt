@@ -1,13 +1,11 @@
 -- What happened so far, and one thing more.
-use Rattle.std.proofs.Common.{◌≡◌, ◌==◌, ℕ, ◌+◌, ◌<◌, ◌≤◌, Bool, true, false, cond, if◌then◌else◌, List, [], ◌∷◌, ◌++◌, length, fold, get_or, Option, Some, None, Result, Ok, Err}
+use Rattle.std.proofs.Common.{◌≡◌, ℕ, ◌+◌, ◌<◌, ◌≤◌, Bool, true, false, cond, if◌then◌else◌, List, [], ◌∷◌, ◌++◌, length, get_or, Option, Some, None, Result, Err}
 use Rattle.std.proofs.Common.{refl, sym, ap, subst, ◌∙◌, append_assoc, append-nil, add-zero, nat_lt, arith}
-use Rattle.std.specs.List.{count_by}
 use Rattle.std.proofs.lemmas.List.Sums.{fold_push, sum_by_push}
 use Rattle.std.proofs.lemmas.List.{get_or_past}
 use Rattle.std.proofs.lemmas.Bool.Decides.{nat_tests}
 use Rattle.bt_exchange.specs.Lists.{IsAdded}
 use Rattle.bt_fetch.specs.declared.device.Outcome.{Outcome}
-use Rattle.bt_fetch.specs.declared.device.Outcome.TheVariants as outcome
 use Rattle.bt_fetch.specs.declared.file.FetchError.{FetchError}
 use Rattle.bt_fetch.specs.declared.file.FetchError.TheVariants as error
 use Rattle.bt_fetch.specs.declared.device.Ending.{Ending}
@@ -15,7 +13,7 @@ use Rattle.bt_fetch.specs.declared.device.Ending.TheVariants.{By, Left}
 use Rattle.bt_fetch.specs.declared.device.Happening.{Happening}
 use Rattle.bt_fetch.specs.declared.device.Happening.TheVariants.{Dialled, Ended}
 use Rattle.bt_fetch.specs.Queues.{dials_of, one, taken}
-use Rattle.bt_fetch.specs.Logs.{AddsAll, is_dial, is_fetched, Stage, Going, Won, Wrong, stage_after, stage_of, IsCourse, IsStage, IsLogged}
+use Rattle.bt_fetch.specs.Logs.{AddsAll, is_dial, is_fetched, Stage, Going, Won, Wrong, stage_after, IsCourse, IsStage, IsLogged}
 
 adds_none : (a : Option (List Happening)) → AddsAll a a []
 adds_none None = tt

@@ -1,5 +1,5 @@
 -- A connection that ended since nothing was told for too long.
-use Rattle.std.proofs.Common.{◌≡◌, ℕ, ◌<◌, Bool, true, false, None, refl, sym, ◌∙◌, is_some, [], arith}
+use Rattle.std.proofs.Common.{◌≡◌, Bool, true, false, None, refl, sym, ◌∙◌, is_some, [], arith}
 use Rattle.bt_end.specs.Ends.{metadata_of}
 use Rattle.bt_end.specs.Halves.{HalfState}
 use Rattle.bt_exchange.specs.Courses.{Moment}

@@ -1,5 +1,5 @@
 -- What a fetch from many peers does with its device, in order.
-use Rattle.std.specs.Prelude.{◌≡◌, ◌==◌, ℕ, ◌≤◌, ◌<◌, Bool, true, false, if◌then◌else◌, List, [], ◌∷◌, ◌++◌, fold, count_by, Option, Some, None, Result, Ok, Err, ⊤}
+use Rattle.std.specs.Prelude.{◌≡◌, ◌==◌, ℕ, ◌≤◌, ◌<◌, Bool, true, false, if◌then◌else◌, List, ◌++◌, fold, count_by, Option, Some, None, Result, Ok, Err, ⊤}
 use Rattle.bt_fetch.specs.declared.device.Outcome.{Outcome}
 use Rattle.bt_fetch.specs.declared.device.Outcome.TheVariants.{Fetched}
 use Rattle.bt_fetch.specs.declared.file.FetchError.{FetchError}

@@ -1,8 +1,10 @@
--- What a peer's extended handshake makes of the end that fetches (BEP 9, BEP 10).
-use Rattle.std.specs.Prelude.{◌≡◌, ◌==◌, ℕ, Bool, true, false, not, Option, Some, None, option_map}
+-- What a peer's messages make of a fetch: what is progress, and what another size does (BEP 9, BEP 10).
+use Rattle.std.specs.Prelude.{◌≡◌, ◌==◌, ◌-◌, ◌||◌, nat_lt, ℕ, Bool, true, false, not, Option, Some, None}
 use Rattle.bt_metadata.specs.Assemblies.{AssemblyState}
 use Rattle.bt_end.specs.Ends.{anew, progress_of, restarted, spelled}
 use Rattle.bt_end.specs.Halves.{HalfState}
+use Rattle.bt_end.specs.declared.event.Event.{Event}
+use Rattle.bt_end.specs.declared.event.Event.TheVariants as event
 use Rattle.bt_end.specs.declared.part.Progress.{Progress}
 
 -- The end fetches metadata of this size from the start, whatever it held. The requests of this fetch are all that waits to be sent: a
@@ -28,3 +30,20 @@ abbrev pub IsRestarted : HalfState → Option ℕ → Bool → HalfState → Typ
 IsRestarted old (Some size) true new = IsAnew old size new × (is_of_other (Some size) (progress_of old.end.part) ≡ true)
 IsRestarted old None true new = ⊥
 IsRestarted old size false new = new ≡ old
+
+-- ---- progress
+
+-- The peer's handshake; an extended handshake with which a fetch begins, or begins anew with another size; and each requested block that
+-- comes or is rejected. Nothing else is progress: a connection over which nothing else comes is one whose peer is silent.
+abbrev pub is_progress : Event → (is_anew : Bool) → Bool
+is_progress (event.Opened h) is_anew = true
+is_progress (event.Announced id size begins) is_anew = begins || is_anew
+is_progress (event.Block k) is_anew = true
+is_progress (event.Rejected k) is_anew = true
+is_progress event.Fetched is_anew = true
+is_progress event.Mismatched is_anew = true
+is_progress e is_anew = false
+
+-- for more than half a second, by a clock of milliseconds, there was no progress
+abbrev pub is_late : (heard time : ℕ) → Bool
+is_late heard time = nat_lt 500 (time - heard)

@@ -1,5 +1,5 @@
 -- For private contracts: the places of a fetch from many peers.
-use Rattle.std.specs.Prelude.{◌≡◌, ℕ, ◌+◌, ◌*◌, ◌≤◌, ◌^◌, Bool, true, false, Option, Some, None, Result, Ok, Err, ⊤}
+use Rattle.std.specs.Prelude.{ℕ, ◌+◌, ◌*◌, Bool, true, false, Option, Some, None, Result, Ok, ⊤}
 use Rattle.bt_fetch.specs.Logs.{Stage, Going, Won}
 use Rattle.bt_fetch.specs.declared.fetching.Turn.{Turn}
 use Rattle.bt_fetch.specs.declared.fetching.Turn.TheVariants as turn

@@ -1,5 +1,5 @@
 -- For private contracts: one connection of a fetch from many peers.
-use Rattle.std.specs.Prelude.{Bool, true, false, Result, Ok, Err, ⊤}
+use Rattle.std.specs.Prelude.{Bool, true, false, Result, Ok, ⊤}
 use Rattle.bt_end.specs.Halves.{HalfState}
 use Rattle.bt_fetch.specs.Outcomes.{IsOutcome}
 use Rattle.bt_fetch.specs.declared.visit.Pace.{Pace}

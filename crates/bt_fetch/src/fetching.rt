@@ -7,6 +7,7 @@ ghost use Rattle.bt_fetch.specs.Fetches.{IsWritten};
 ghost use Rattle.bt_fetch.specs.Queues.{dials_of, rest_of, one};
 ghost use Rattle.bt_exchange.specs.Lists.{IsAdded};
 ghost use Rattle.bt_fetch.specs.Logs.{IsCourse, IsLogged, IsStage, Stage, Going, is_fetched as is_fetched_by, stage_after};
+ghost use Rattle.bt_fetch.specs.Signs.{is_late};
 ghost use Rattle.bt_fetch.specs.Swarms.{IfWon, cost, is_free, is_over, is_won, stage_at, stage_by, stage_when, weight};
 ghost use Rattle.bt_fetch.specs.declared.device.Happening.{Happening};
 ghost use Rattle.bt_fetch.specs.declared.device.Happening.TheVariants.{Ended as EndedSo};
@@ -176,6 +177,7 @@ fn tend<D: Device>(
     ensures handshake { place.new.end.end.handshake ≡ place.old.end.end.handshake }
     ensures inside { D.inside device.new + 1 ≡ D.inside device.old + one (is_some place.new.visit) }
     ensures places { D.places device.new ≡ D.places device.old }
+    ensures late { is_needed ≡ true → IfSome place.new.visit (λ v. is_late v.talk.heard time ≡ false) }
     ensures weight { IfOk result (λ t. weight (option_map (λ v. v.left) place.new.visit) ≤ visit.left) }
     ensures free { result ≢ Ok Turn.Free }
     ensures won { result ≡ Ok Turn.Won → is_some (metadata_of place.new.end.end.part) ≡ true }
@@ -188,7 +190,9 @@ fn tend<D: Device>(
     let mut visit = visit;
     let pace = visit.go_on(wish, &mut place.end, &mut place.hearing, time);
     tell(&visit, place, device);
+    let is_late = is_needed && visit.is_late(time);
     match pace {
+        Ok(Pace::GoesOn) if is_late => free(visit, Ending::Left, place, queue, device),
         Ok(Pace::GoesOn) => {
             place.visit = Some(visit);
             Ok(Turn::GoesOn)
@@ -200,9 +204,7 @@ fn tend<D: Device>(
             }
             free(visit, Ending::By(outcome), place, queue, device)
         }
-        Ok(Pace::Waits) if is_needed && visit.is_late(time) => {
-            free(visit, Ending::Left, place, queue, device)
-        }
+        Ok(Pace::Waits) if is_late => free(visit, Ending::Left, place, queue, device),
         Ok(Pace::Waits) => {
             place.visit = Some(visit);
             Ok(Turn::Waits)

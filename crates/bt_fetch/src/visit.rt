@@ -3,6 +3,7 @@ ghost use Rattle.std.specs.Prelude.{◌≡◌, ◌+◌, ◌≤◌, ◌^◌, ℕ,
 ghost use Rattle.bt_exchange.specs.Courses.{Moment};
 ghost use Rattle.bt_exchange.specs.Stops.{IsStopped};
 ghost use Rattle.bt_fetch.specs.Outcomes.{is_untaken as is_untaken_by};
+ghost use Rattle.bt_fetch.specs.Signs.{is_late as is_late_by, is_progress};
 ghost use Rattle.bt_fetch.specs.Visits.{IsEnded, goes_on, waits};
 
 use crate::device::Outcome;
@@ -22,9 +23,6 @@ const TURN: u32 = 64;
 /// How long an address may take until bytes are moved, in seconds.
 const CONNECT: u64 = 5;
 
-/// How long a peer may tell nothing while other addresses wait, in milliseconds.
-const LATE: u64 = 500;
-
 /// A connection to an address, and what its peer has told.
 #[derive(Drop)]
 pub struct Visit<L: Connection + Drop> {
@@ -33,8 +31,6 @@ pub struct Visit<L: Connection + Drop> {
     talk: Talk,
     /// How many steps are left.
     pub left: u64,
-    /// When the peer told news last, in milliseconds of the device's clock.
-    heard: u64,
     /// There was news at the last turn.
     pub has_news: bool,
     ghost brief: { (L.seen line.link).counts.calls + left ≤ 2 ^ 32 },
@@ -58,7 +54,7 @@ impl<L: Connection + Drop> Visit<L> {
         ensures { result.left ≡ 2 ^ 32 }
     {
         let mut link = link;
-        let talk = Talk::new(link.now(), is_wide);
+        let talk = Talk::new(link.now(), time, is_wide);
         Visit {
             address,
             line: Line {
@@ -68,14 +64,15 @@ impl<L: Connection + Drop> Visit<L> {
             },
             talk,
             left: STEPS,
-            heard: time,
             has_news: false,
         }
     }
 
-    /// Whether the peer has told nothing for so long that its place is given to another, if one waits.
-    pub fn is_late(&self, time: u64) -> bool {
-        time.saturating_sub(self.heard) > LATE
+    /// Returns whether the fetch over it has made no progress for so long that its place is given to another address, if one waits.
+    pub fn is_late(&self, time: u64) -> bool
+        ensures { result ≡ is_late_by self.now.talk.heard time }
+    {
+        self.talk.is_late(time)
     }
 
     /// Returns the seconds without a sign of life after which the connection ends.
@@ -117,15 +114,15 @@ impl<L: Connection + Drop> Visit<L> {
         ensures spent { (L.seen self.new.line.link).counts.calls ≡ (L.seen self.old.line.link).counts.calls }
         ensures left { self.new.left ≡ self.old.left }
         ensures address { self.new.address ≡ self.old.address }
+        ensures still { is_progress event true ≡ false → (self.new.talk.watch ≡ self.old.talk.watch) × (self.new.talk.heard ≡ self.old.talk.heard) }
         ensures none { waits result ≡ false }
     {
         if is_untaken(event, wish.most) {
             return Ok(Pace::Ended(Outcome::NoMetadata));
         }
-        match heed(wish, end, self.talk, event, self.line.now())? {
+        match heed(wish, end, self.talk, event, self.line.now(), time)? {
             Some(talk) => {
                 self.talk = talk;
-                self.heard = time;
                 self.has_news = true;
                 Ok(Pace::GoesOn)
             }

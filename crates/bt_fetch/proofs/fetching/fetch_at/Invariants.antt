@@ -1,7 +1,7 @@
-use Rattle.std.proofs.Common.{◌≡◌, ◌≤◌, ◌<◌, ◌+◌, ℕ, true, not, List, Option, is_some, option_map, count_by, sum_by, All, vec_len}
+use Rattle.std.proofs.Common.{◌≡◌, ◌+◌, List, Option, is_some, option_map, count_by, sum_by, All, vec_len}
 use Rattle.bt_fetch.specs.Wishes.{handshake_of}
 use Rattle.bt_fetch.specs.Logs.{IsCourse, Going}
-use Rattle.bt_fetch.specs.Queues.{dials_of, one, rest_of}
+use Rattle.bt_fetch.specs.Queues.{dials_of, rest_of}
 use Rattle.bt_fetch.specs.Swarms.{cost, weight}
 use Rattle.bt_fetch.specs.declared.device.Happening.{Happening}
 use Rattle.bt_fetch.proofs.fetching.fetch_at.Given as goal

@@ -1,4 +1,3 @@
-use Rattle.std.proofs.Common.{ℕ}
 use Rattle.bt_fetch.specs.Logs.{Going}
 use Rattle.bt_fetch.specs.Queues.{dials_of}
 use Rattle.bt_fetch.proofs.Courses.{course_dialled, course_same, dials_same}

@@ -1,4 +1,4 @@
-use Rattle.std.proofs.Common.{◌≡◌, false, is_some, arith}
+use Rattle.std.proofs.Common.{is_some, arith}
 use Rattle.bt_fetch.specs.declared.place.Place.{Place}
 use Rattle.bt_fetch.proofs.Counts.{free_room}
 use Rattle.bt_fetch.proofs.fetching.give_turns.Goals as goal

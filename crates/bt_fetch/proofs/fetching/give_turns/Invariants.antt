@@ -1,4 +1,4 @@
-use Rattle.std.proofs.Common.{◌≡◌, ◌≤◌, ◌<◌, ◌+◌, ℕ, true, not, List, Option, is_some, option_map, count_by, sum_by, All, vec_len}
+use Rattle.std.proofs.Common.{◌≡◌, ◌≤◌, ◌<◌, ◌+◌, true, not, List, Option, is_some, option_map, count_by, sum_by, All, vec_len}
 use Rattle.bt_fetch.specs.Wishes.{handshake_of}
 use Rattle.bt_fetch.specs.Logs.{IsCourse, Going}
 use Rattle.bt_fetch.specs.Queues.{dials_of, one, rest_of}

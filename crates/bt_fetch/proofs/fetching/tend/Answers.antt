@@ -13,9 +13,15 @@ returns-then-is_fetched-clause-log g c = λ start dials h.
 
 pub returns-else-is_fetched-clause-log : goal.returns-else-is_fetched-clause-log
 returns-else-is_fetched-clause-log g c = λ start dials h.
+    course_told Going (stage_by c.free-in-Ok-Ended.result) start (g.D.Device.log c.args.device.now) (g.D.Device.log c.tell.new.device)
+    (g.D.Device.log c.free-in-Ok-Ended.new.device) c.go_on-pace.new.self.address (By c.in-Ok-Ended.outcome) dials c.tell.ensures.log
+    (other_goes_on c.go_on-pace.new.self.address c.in-Ok-Ended.outcome (sym c.is_fetched.ensures ∙ c.if-is_fetched.false)) c.free-in-Ok-Ended.ensures.unwon h c.free-in-Ok-Ended.ensures.told
+
+pub returns-in-Ok-GoesOn-clause-log : goal.returns-in-Ok-GoesOn-clause-log
+returns-in-Ok-GoesOn-clause-log g c = λ start dials h.
     course_told Going (stage_by c.free.result) start (g.D.Device.log c.args.device.now) (g.D.Device.log c.tell.new.device)
-    (g.D.Device.log c.free.new.device) c.go_on-pace.new.self.address (By c.in-Ok-Ended.outcome) dials c.tell.ensures.log
-    (other_goes_on c.go_on-pace.new.self.address c.in-Ok-Ended.outcome (sym c.is_fetched.ensures ∙ c.if-is_fetched.false)) c.free.ensures.unwon h c.free.ensures.told
+    (g.D.Device.log c.free.new.device) c.go_on-pace.new.self.address Left dials c.tell.ensures.log refl
+    c.free.ensures.unwon h c.free.ensures.told
 
 pub returns-in-Ok-Waits-clause-log : goal.returns-in-Ok-Waits-clause-log
 returns-in-Ok-Waits-clause-log g c = λ start dials h.
