@@ -14,6 +14,7 @@ import os
 import pty
 import random
 import re
+import resource
 import socket
 import struct
 import subprocess
@@ -1180,11 +1181,47 @@ def served_apart(program):
     return failed + same("peer ids of serve", str(len(ids)), "2"), 3
 
 
+def spent(process):
+    """The processor seconds of a process so far."""
+    with open("/proc/%d/stat" % process.pid) as stat:
+        fields = stat.read().rsplit(")", 1)[1].split()
+    return (int(fields[11]) + int(fields[12])) / os.sysconf("SC_CLK_TCK")
+
+
+def descriptors(program):
+    """At its limit of open files `serve` keeps serving those it has, doesn't spin, and lets in others when one leaves."""
+    with tempfile.NamedTemporaryFile() as file:
+        file.write(INFO)
+        file.flush()
+        limit = lambda: resource.setrlimit(resource.RLIMIT_NOFILE, (16, 16))
+        process = subprocess.Popen([program, "serve", file.name], stdin=subprocess.DEVNULL, stdout=subprocess.PIPE, preexec_fn=limit)
+        port = int(process.stdout.readline().decode().rsplit(":", 1)[1])
+        links = [Link(socket.create_connection(("127.0.0.1", port))) for _ in range(32)]
+        for link in links:
+            link.send(handshake(), message(20, b"\0d1:md11:ut_metadatai7eee"))
+        inside = [link for link in links if bytes_within(link, 0.2)]
+        outside = [link for link in links if link not in inside]
+        before = spent(process)
+        time.sleep(2)
+        failed = same("some are inside", 4 <= len(inside) < 16, True) + same("processor at the limit", spent(process) - before < 0.4, True)
+        inside[0].send(message(20, b"\3d8:msg_typei0e5:piecei0ee"))
+        inside[0].exactly(16384)
+        failed += same("goes on", process.poll(), None)
+        inside[1].link.close()
+        time.sleep(1)
+        failed += same("another is let in", any(bytes_within(link, 0.2) for link in outside), True)
+        for link in links:
+            link.link.close()
+        process.kill()
+        process.communicate()
+    return failed, 4
+
+
 def main(words):
     program = program_of(words)
     failed = count = 0
     for part in (hostile, kept, linked, hosted, taken, largest, million, single, shown, unread, unwritten, dialled, placed, hindered, both, swarm, objects,
-                 several_ids, serving, pieces, one_write, memory, served_apart):
+                 several_ids, serving, pieces, one_write, memory, served_apart, descriptors):
         more, tried = part(program)
         failed += more
         count += tried
