@@ -480,7 +480,7 @@ impl<A: Allocator + Copy> End<A> {
 
     /// Fetches metadata of `size` bytes from now on, and returns whether it does.
     ///
-    /// Blocks of another size are dropped, and requests are queued. It doesn't if the end fetches nothing, if it has the
+    /// The blocks that it has are dropped, and requests are queued. It doesn't if the end fetches nothing, if it has the
     /// metadata, or if `size` isn't 1 to `MAX_METADATA`. With it a caller goes on over the same connection if the size that a
     /// peer announced was false.
     ///
