@@ -1,121 +1,37 @@
 // The BitTorrent peer wire (BEP 3, 5, 6, 9 and 10) for Node and browsers, over the proved library dist/bt.wasm.
 //
-//   const bt = await load('dist/bt.wasm');                  // a path, a URL, bytes or a module
+//   const bt = await load();                                // or of a path, a URL, bytes or a module
 //   for (const item of bt.read(bytes)) console.log(item.start, item.name);
 //
-// Nothing of this file is proved. A library is used by one thread.
-import { END, ITEM, ITEM_SIZE, Library, MORE, OWN_SIZE, READER_SIZE, REFUSED } from './library.mjs';
+// end.mjs has an end of a connection, for Node. Nothing of this file is proved. A library is used by one thread.
+import { END, inNode, ITEM, ITEM_SIZE, Library, MORE, OWN_SIZE, READER_SIZE, REFUSED } from './library.mjs';
+import { completed, content, DHT, EXTENSIONS, FAST, fill, Id, Item, Items, Kind, number, Refused } from './values.mjs';
 
-export const FAST = 0x4n, DHT = 0x1n, EXTENSIONS = 0x100000n;
-
-/** The ids of messages, and those of a keep-alive and the handshake, which have none on the wire. */
-export const Id = Object.freeze({
-  CHOKE: 0, UNCHOKE: 1, INTERESTED: 2, NOT_INTERESTED: 3, HAVE: 4, BITFIELD: 5, REQUEST: 6, PIECE: 7, CANCEL: 8, PORT: 9, SUGGEST: 13,
-  HAVE_ALL: 14, HAVE_NONE: 15, REJECT: 16, ALLOWED_FAST: 17, EXTENDED: 20, KEEP_ALIVE: 256, HANDSHAKE: 257,
-});
-
-/** What an extended message is. */
-export const Kind = Object.freeze({
-  EXT_HANDSHAKE: 1, METADATA_REQUEST: 2, METADATA_DATA: 3, METADATA_REJECT: 4, METADATA_OTHER: 5, METADATA_MALFORMED: 6, EXT_RAW: 7,
-  DONTHAVE: 8,
-});
+export { DHT, EXTENSIONS, FAST, Id, Item, Kind, Refused };
 
 const HEAD = 17, DICT = 160;    // what a message has besides its body, and a dictionary that the library writes
-const ROOM = 256, WINDOW = 65536;
-const WITH_INDEX = [4, 13, 17, 6, 8, 16, 7], WITH_BEGIN = [6, 8, 16, 7], WITH_LENGTH = [6, 8, 16], WITH_PIECE = [2, 3, 4, 8];
+const ROOM = 4096, WINDOW = 65536;
 
 /**
  * Loads the library, and returns its calls.
- * @param {string | URL | BufferSource | WebAssembly.Module} source A path (in Node) or URL of bt.wasm, or its bytes, or the module
+ * @param {string | URL | BufferSource | WebAssembly.Module} [source] A path (in Node) or URL of bt.wasm, or its bytes, or the module. If
+ *  it is left out, bt.wasm beside this file, or in Node that of the repository.
  */
 export async function load(source) {
+  source ??= await usual();
   if (typeof source === 'string' || source instanceof URL) source = await fetched(source);
   return new Wire(await Library.make(source));
 }
 
+async function usual() {
+  const beside = new URL('bt.wasm', import.meta.url);
+  if (!inNode() || (await import('node:fs')).existsSync(beside)) return beside;
+  return new URL('../../dist/bt.wasm', import.meta.url);
+}
+
 async function fetched(source) {
-  if (globalThis.process?.versions?.node && !/^https?:/.test(String(source))) return (await import('node:fs/promises')).readFile(source);
+  if (inNode() && !/^https?:/.test(String(source))) return (await import('node:fs/promises')).readFile(source);
   return (await fetch(source)).arrayBuffer();
-}
-
-/** Thrown if a stream breaks a rule, or if the peer would refuse a message that is to be written. */
-export class Refused extends Error {
-  constructor(at, reason, number) {
-    super(`message ${number} refused at byte ${at}: ${reason}`);
-    this.name = 'Refused';
-    /** The offset on the stream. */
-    this.at = at;
-    /** The name of the rule that is broken, like 'WrongLength'. */
-    this.reason = reason;
-    /** The number of the message; 0 is the handshake. */
-    this.number = number;
-  }
-}
-
-/** The handshake or a message. A field that this kind of item doesn't have is null. */
-export class Item {
-  /** @param {Library} library @param {number} at Where its bt_item is. @param {Uint8Array} data @param {string} name */
-  constructor({ view }, at, data, name) {
-    const id = view.getUint16(at + 46, true), has = ids => ids.includes(id);
-    /** Its offset on the stream. */
-    this.start = Number(view.getBigUint64(at, true));
-    /** Its `Id`, or the number of an unknown message. */
-    this.id = id;
-    /** Its name as `bt_tool show` prints it, like 'have' or 'metadata-request'. */
-    this.name = name;
-    /** All its bytes. */
-    this.data = data;
-    this.index = has(WITH_INDEX) ? view.getUint32(at + 32, true) : null;
-    this.begin = has(WITH_BEGIN) ? view.getUint32(at + 36, true) : null;
-    this.length = has(WITH_LENGTH) ? view.getUint32(at + 40, true) : null;
-    this.port = id === Id.PORT ? view.getUint16(at + 44, true) : null;
-    const greets = id === Id.HANDSHAKE;
-    /** The bitfield, block or payload, which is empty if the message has none. */
-    this.body = greets ? null : data.subarray(data.length - Number(view.getBigUint64(at + 16, true)));
-    /** The reserved bits of a handshake, as a BigInt. */
-    this.reserved = greets ? view.getBigUint64(at + 24, true) : null;
-    this.infoHash = greets ? data.subarray(28, 48) : null;
-    this.peerId = greets ? data.subarray(48, 68) : null;
-    const kind = id === Id.EXTENDED ? view.getUint8(at + 84) : 0, told = kind === Kind.EXT_HANDSHAKE;
-    /** The id within the extension protocol. */
-    this.extendedId = kind ? view.getUint8(at + 48) : null;
-    /** What an extended message is: a `Kind`. */
-    this.kind = kind || null;
-    /** The number of a metadata block, or the piece that the peer no longer has (lt_donthave). */
-    this.piece = WITH_PIECE.includes(kind) ? view.getUint32(at + 80, true) : null;
-    /** How many bytes the metadata has, by a data message; a BigInt from 2^53 on. */
-    this.totalSize = kind === Kind.METADATA_DATA ? wide(view.getBigUint64(at + 56, true)) : null;
-    /** How many bytes of the body are the dictionary of an extended message. */
-    this.dictSize = kind ? Number(view.getBigUint64(at + 72, true)) : null;
-    /** How many bytes the metadata has, by an extended handshake; a BigInt from 2^53 on. */
-    this.metadataSize = told && view.getUint8(at + 86) ? wide(view.getBigUint64(at + 64, true)) : null;
-    /** The id for ut_metadata that an extended handshake announces. */
-    this.utMetadata = told && view.getUint8(at + 87) ? view.getUint8(at + 85) : null;
-  }
-
-  /** What follows the dictionary of an extended message, as the block of a data message. */
-  get rest() {
-    return this.body === null || this.dictSize === null ? null : this.body.subarray(this.dictSize);
-  }
-}
-
-const wide = number => number <= Number.MAX_SAFE_INTEGER ? Number(number) : number;
-
-/** A number of so many bits. */
-function number(value, bits, what) {
-  if (typeof value !== 'number' && typeof value !== 'bigint') throw new TypeError(`${what} is no number`);
-  if (typeof value === 'number' && !Number.isSafeInteger(value) || value < 0 || BigInt(value) >> BigInt(bits)) {
-    throw new RangeError(`${what} is ${value}, not an integer of ${bits} bits`);
-  }
-  return value;
-}
-
-/** The bytes of a Uint8Array or an ArrayBuffer. */
-function content(value, what, size = null) {
-  const bytes = value instanceof ArrayBuffer ? new Uint8Array(value) : value;
-  if (!(bytes instanceof Uint8Array)) throw new TypeError(`${what} is no Uint8Array`);
-  if (size !== null && bytes.length !== size) throw new RangeError(`${what} has ${bytes.length} bytes, not ${size}`);
-  return bytes;
 }
 
 /** Writes the bt_item of a message, of numbers that fit, and returns its address. */
@@ -130,17 +46,6 @@ function putItem({ view, bytes, item }, { index = 0, begin = 0, length = 0, port
   return item;
 }
 
-/** The receiver with all fields, each of which fits. */
-function completed(own = {}) {
-  const { reserved = FAST | DHT | EXTENSIONS, infoHash = null, pieces = null, metadataId = 3, donthaveId = 0, strict = false, limit = 262144 } = own;
-  if (pieces !== null) number(pieces, 32, 'pieces');
-  return {
-    reserved: BigInt(number(reserved, 64, 'reserved')), pieces, strict: Boolean(strict), limit: Number(number(limit, 32, 'limit')),
-    infoHash: infoHash === null ? null : content(infoHash, 'infoHash', 20).slice(), metadataId: Number(number(metadataId, 8, 'metadataId')),
-    donthaveId: Number(number(donthaveId, 8, 'donthaveId')),
-  };
-}
-
 /** The calls of a loaded library. Each receiver is {reserved, infoHash, pieces, metadataId, donthaveId, strict, limit}; what is left out is usual. */
 class Wire {
   /** @param {Library} library */
@@ -149,12 +54,39 @@ class Wire {
     this.items = library.take((ROOM + 1) * ITEM_SIZE);
     this.area = library.take(WINDOW);
     this.room = WINDOW;
-    this.names = new Map();
+    this.names = [];
   }
 
   /** Returns an iterator over the items of a whole stream. It throws Refused. */
   read(bytes, own) {
-    return drained(new Reader(this, own), content(bytes, 'bytes'));
+    const feed = new Feed(this, own);
+    feed.bytes = content(bytes, 'bytes');
+    return feed.items(true);
+  }
+
+  /**
+   * Reads a whole stream into columns of numbers, a row an item, and 0 for what an item doesn't have. `body` are sizes: a body is the end
+   * of its item. A stream that breaks a rule isn't thrown: `refused` says it, and the rows are those before.
+   */
+  columns(bytes, own) {
+    const reader = new Reader(this, own), whole = content(bytes, 'bytes');
+    let columns = grown(null, 0, 0), rows = 0, refused = null;
+    try {
+      for (let at = 0; ;) {
+        const { count, used } = reader.next(whole, at, true);
+        if (!count) break;
+        at += used;
+        // as many as there are if the rest is alike
+        if (rows + count > columns.id.length) columns = grown(columns, rows, Math.ceil(1.1 * (rows + count) * whole.length / at));
+        fill(columns, rows, this.words(count), count);
+        rows += count;
+      }
+    } catch (error) {
+      if (!(error instanceof Refused)) throw error;
+      refused = error;
+    }
+    for (const name in columns) columns[name] = columns[name].subarray(0, rows);
+    return { ...columns, refused };
   }
 
   /** Judges a whole stream, and returns how many messages it has. Throws Refused. */
@@ -199,12 +131,36 @@ class Wire {
     return BigInt(bytes.length);
   }
 
-  /** The item whose bt_item is there. */
-  item(at, data) {
-    const { view } = this.library, id = view.getUint16(at + 46, true), key = id === Id.EXTENDED ? 1000 + view.getUint8(at + 84) : id;
-    if (!this.names.has(key)) this.names.set(key, this.library.itemName(at));
-    return new Item(this.library, at, data, this.names.get(key));
+  /** The words of the items that were read last, while they are in the library's memory. */
+  words(count) {
+    return new Uint32Array(this.library.bytes.buffer, this.items, count * WORDS);
   }
+
+  /** The name of an item, by its id and the kind of an extended message. */
+  name(id, kind) {
+    return this.names[1024 * kind + id] ??= this.asked(id, kind);
+  }
+
+  asked(id, kind) {
+    const at = putItem(this.library, { id });
+    this.library.view.setUint8(at + 84, kind);
+    return this.library.itemName(at);
+  }
+}
+
+const WORDS = ITEM_SIZE / 4;
+const COLUMNS = {
+  start: Float64Array, size: Uint32Array, id: Uint16Array, kind: Uint8Array, index: Uint32Array, begin: Uint32Array, length: Uint32Array,
+  body: Uint32Array,
+};
+
+/** Columns with the first rows of these, and room for so many. */
+function grown(columns, rows, room) {
+  return Object.fromEntries(Object.entries(COLUMNS).map(([name, Type]) => {
+    const made = new Type(room);
+    if (rows) made.set(columns[name].subarray(0, rows));
+    return [name, made];
+  }));
 }
 
 /** How far a stream is read. Its bt_reader is in the library's memory only during a call. */
@@ -226,45 +182,30 @@ class Reader {
     return Number(new DataView(this.state.buffer).getBigUint64(READER_SIZE - 8, true));
   }
 
-  /** Reads some items from `at` on, and returns them: none if no item is whole. Throws Refused if the stream is refused there. */
+  /**
+   * Reads some items from `at` on, into the library's memory. Returns how many, 0 if no item is whole, and how many bytes they have.
+   * Throws Refused if the stream is refused there.
+   */
   next(bytes, at, ended) {
     const { wire } = this, { library } = wire;
     for (;;) {
-      const n = Math.min(bytes.length - at, this.window), found = [];
+      const n = Math.min(bytes.length - at, this.window);
       wire.put(bytes.subarray(at, at + n));
       library.bytes.set(this.state, library.reader);
-      let from = 0, answer = ITEM;
-      while (answer === ITEM) {
-        const batch = library.batch(wire.area + from, n - from, wire.items, ROOM);
-        answer = batch.answer;
-        for (let k = 0, it = wire.items; k < batch.count; k++, it += ITEM_SIZE) {
-          const size = Number(library.view.getBigUint64(it + 8, true));
-          found.push(wire.item(it, bytes.subarray(at + from, at + from + size)));
-          from += size;
-        }
-      }
-      if (!found.length && answer === MORE && n < bytes.length - at) {
+      const { answer, count, used } = library.batch(wire.area, n, wire.items, ROOM);
+      if (!count && answer === MORE && n < bytes.length - at) {
         this.window *= 2;
         continue;
       }
-      if (!found.length && answer === MORE && ended) answer = library.finish(wire.area, n, wire.items);
-      if (!found.length && answer === REFUSED) {
+      const last = !count && answer === MORE && ended ? library.finish(wire.area, n, wire.items) : answer;
+      if (!count && last === REFUSED) {
         const refusal = library.refusal(wire.items);
         throw new Refused(refusal.at, refusal.reason, this.count);
       }
       this.save();
-      this.count += found.length;
-      return found;
+      this.count += count;
+      return { count, used };
     }
-  }
-}
-
-function* drained(reader, bytes) {
-  for (let at = 0; ;) {
-    const found = reader.next(bytes, at, true);
-    if (!found.length) return;
-    for (const item of found) at += item.data.length;
-    yield* found;
   }
 }
 
@@ -275,13 +216,16 @@ function* drained(reader, bytes) {
 class Feed {
   constructor(wire, own) {
     this.reader = new Reader(wire, own);
+    /** What isn't read yet. */
     this.bytes = new Uint8Array();
-    this.ready = [];
+    // The items that are read, and the words of the first that isn't taken.
+    this.batch = { names: wire, words: new Uint32Array(), bytes: this.bytes, base: 0 };
+    this.w = 0;
   }
 
   /** Where the next item starts on the stream. */
   get start() {
-    return this.ready.length ? this.ready[0].start : this.reader.start;
+    return this.isEmpty ? this.reader.start : new Item(this.batch, this.w).start;
   }
 
   /** Takes all bytes of the chunk, and returns an iterator over the items that are whole. It throws Refused. */
@@ -295,21 +239,30 @@ class Feed {
 
   /** Ends the stream, and returns an iterator over the items that are left. If none is left and one is unfinished, it throws at once. */
   finish() {
-    if (!this.ready.length) this.fill(true);
+    if (this.isEmpty) this.fill(true);
     return this.items(true);
   }
 
-  fill(ended) {
-    this.ready = this.reader.next(this.bytes, 0, ended);
-    this.bytes = this.bytes.subarray(this.ready.reduce((sum, item) => sum + item.data.length, 0));
+  get isEmpty() {
+    return this.w === this.batch.words.length;
   }
 
-  * items(ended) {
-    for (;;) {
-      while (this.ready.length) yield this.ready.shift();
-      this.fill(ended);
-      if (!this.ready.length) return;
-    }
+  /** Reads more items, and returns whether there are any. */
+  fill(ended) {
+    const { reader, bytes, reader: { wire } } = this, base = reader.start, { count, used } = reader.next(bytes, 0, ended);
+    this.batch = { names: wire, words: wire.words(count).slice(), bytes, base };
+    this.w = 0;
+    this.bytes = bytes.subarray(used);
+    return count > 0;
+  }
+
+  items(ended) {
+    return new Items(() => {
+      if (this.isEmpty && !this.fill(ended)) return null;
+      const item = new Item(this.batch, this.w);
+      this.w += WORDS;
+      return item;
+    });
   }
 }
 

@@ -10,6 +10,8 @@ const MEMORY64 = Uint8Array.of(0, 0x61, 0x73, 0x6d, 1, 0, 0, 0, 5, 3, 1, 4, 1);
 
 export const NEEDS_MEMORY64 = 'This browser cannot run the proved reader, which needs WebAssembly memories of 64 bits (memory64). ' +
   'Chromium and Chrome have them from version 133 on, Firefox from version 134 on.';
+const NODE_NEEDS_MEMORY64 = 'This Node has WebAssembly memories of 64 bits (memory64) only with a flag: ' +
+  'run node --experimental-wasm-memory64, or Node 24 or later.';
 
 /**
  * The receiver: what a stream is judged by.
@@ -17,10 +19,34 @@ export const NEEDS_MEMORY64 = 'This browser cannot run the proved reader, which 
  *  donthaveId?: number, strict?: boolean }} Own
  */
 
+/** Whether this is Node, and no browser. */
+export function inNode() {
+  return Boolean(/** @type {any} */ (globalThis).process?.versions?.node);
+}
+
+/**
+ * Writes a bt_own at an address.
+ * @param {DataView} view
+ * @param {Uint8Array} bytes The same memory.
+ * @param {number} at
+ * @param {Own} own
+ */
+export function packOwn(view, bytes, at, { reserved, limit, pieces, metadataId, donthaveId, strict, infoHash }) {
+  view.setBigUint64(at, reserved, true);
+  view.setUint32(at + 8, limit, true);
+  view.setUint32(at + 12, pieces ?? 0, true);
+  bytes[at + 16] = pieces === null ? 0 : 1;
+  bytes[at + 17] = infoHash ? 1 : 0;
+  bytes[at + 18] = metadataId;
+  bytes[at + 19] = donthaveId ?? 0;
+  bytes[at + 20] = strict ? 1 : 0;
+  bytes.set(infoHash ?? new Uint8Array(20), at + 21);
+}
+
 export class Library {
   /** @param {BufferSource | WebAssembly.Module} source */
   static async make(source) {
-    if (!WebAssembly.validate(MEMORY64)) throw new Error(NEEDS_MEMORY64);
+    if (!WebAssembly.validate(MEMORY64)) throw new Error(inNode() ? NODE_NEEDS_MEMORY64 : NEEDS_MEMORY64);
     const module = source instanceof WebAssembly.Module ? source : await WebAssembly.compile(source);
     return new Library((await WebAssembly.instantiate(module, {})).exports);
   }
@@ -72,17 +98,8 @@ export class Library {
    * @param {number} at
    * @param {Own} own
    */
-  putOwn(at, { reserved, limit, pieces, metadataId, donthaveId, strict, infoHash }) {
-    const { view } = this;
-    view.setBigUint64(at, reserved, true);
-    view.setUint32(at + 8, limit, true);
-    view.setUint32(at + 12, pieces ?? 0, true);
-    view.setUint8(at + 16, pieces === null ? 0 : 1);
-    view.setUint8(at + 17, infoHash ? 1 : 0);
-    view.setUint8(at + 18, metadataId);
-    view.setUint8(at + 19, donthaveId ?? 0);
-    view.setUint8(at + 20, strict ? 1 : 0);
-    this.bytes.set(infoHash ?? new Uint8Array(20), at + 21);
+  putOwn(at, own) {
+    packOwn(this.view, this.bytes, at, own);
   }
 
   /**

@@ -5,6 +5,7 @@
 // The messages' bytes are those of BEP 3, BEP 5, BEP 6, BEP 9 and BEP 10.
 import assert from 'node:assert/strict';
 import fs from 'node:fs';
+import { inspect } from 'node:util';
 import { EXTENSIONS, FAST, Id, Item, Kind, load, Refused } from '../bt.mjs';
 
 const bt = await load(process.argv[2] ?? new URL('../../../dist/bt.wasm', import.meta.url));
@@ -27,7 +28,7 @@ function openWriter(own = {}, metadataId = 7) {
 function told(items) {
   const found = [];
   try {
-    for (const item of items) found.push({ ...item, rest: item.rest });
+    for (const item of items) found.push({ ...item.toObject(), rest: item.rest });
   } catch (refused) {
     if (!(refused instanceof Refused)) throw refused;
     return [found, refused.message];
@@ -63,6 +64,43 @@ const TESTS = {
       [Kind.EXT_HANDSHAKE, 0, 7, null, 24, 0]);
     const large = Buffer.from('\0\0\0\x29\x14\0d13:metadata_sizei9223372036854775807ee');
     assert.equal([...bt.read(joined([HELLO, large]))][1].metadataSize, 2n ** 63n - 1n);
+  },
+
+  itemsAreReadOnlyAndShowTheirFields() {
+    const stream = joined([HELLO, bytesOf('00000005 04 00000009')]), [, have] = bt.read(stream);
+    assert.throws(() => { have.index = 5; }, TypeError);
+    assert.deepEqual(have.toObject(), {
+      start: 68, size: 9, id: Id.HAVE, name: 'have', index: 9, body: new Uint8Array(), data: bytesOf('00000005 04 00000009'),
+    });
+    assert.match(inspect(have), /name: 'have',\n {2}index: 9,\n/);
+    assert.equal(JSON.stringify(have), '{"start":68,"size":9,"id":4,"name":"have","index":9,"body":"","data":"000000050400000009"}');
+    assert.match(JSON.stringify([...bt.read(stream)][0]), /"reserved":"1048581","infoHash":"000102/);
+    // what was read of one batch stays while others are read
+    for (const _ of bt.read(example('downloading')));
+    assert.deepEqual([have.start, have.name, have.index, have.begin], [68, 'have', 9, null]);
+  },
+
+  iterators() {
+    const items = bt.read(example('downloading'));
+    for (const item of items) if (item.start === 68) break;
+    assert.deepEqual(items.next(), { value: undefined, done: true });
+    assert.equal(items[Symbol.iterator](), items);
+    const refused = bt.read(example('first'), STRICT);
+    assert.throws(() => [...refused], { reason: 'Missing' });
+    assert.deepEqual([...refused], []);
+  },
+
+  columns() {
+    const NAMES = ['start', 'size', 'id', 'kind', 'index', 'begin', 'length'];
+    const long = joined([HELLO, ...Array.from({ length: 20000 }, (_, k) => bytesOf(k % 3 ? '00000000' : '0000000d 06 00000007 00004000 00000001'))]);
+    for (const [stream, own] of [...EXAMPLES.map(name => [example(name), {}]), [example('first'), STRICT], [long, {}], [long.subarray(0, 90), {}],
+      [new Uint8Array(), {}]]) {
+      const [items, refusal] = told(bt.read(stream, own)), columns = bt.columns(stream, own);
+      for (const name of NAMES) assert.deepEqual([...columns[name]], items.map(item => item[name] ?? 0), name);
+      assert.deepEqual([...columns.body], items.map(item => item.body?.length ?? 0));
+      assert.equal(columns.refused?.message ?? null, refusal);
+    }
+    assert.deepEqual([bt.columns(long).id.constructor, bt.columns(long).start.constructor], [Uint16Array, Float64Array]);
   },
 
   refusals() {

@@ -1,0 +1,55 @@
+// Measures bt.mjs beside loops by hand (hand.mjs), in turn, and prints a line for each: NAME, SECONDS BY HAND, SECONDS OURS.
+//
+// usage: node --experimental-wasm-memory64 bench/bindings/run.mjs FOLDER
+//
+// FOLDER has the streams small.bin, blocks.bin and ext.bin. Each time is the best of TIMES runs, 15 if it isn't given. BT_WASM is the
+// library, if it isn't dist/bt.wasm.
+import fs from 'node:fs';
+import { load } from '../../bindings/js/bt.mjs';
+import * as hand from './hand.mjs';
+
+const [folder] = process.argv.slice(2), TIMES = Number(process.env.TIMES ?? 15), CHUNK = 65536;
+const bt = await load(process.env.BT_WASM);
+const [small, blocks, ext] = ['small', 'blocks', 'ext'].map(name => new Uint8Array(fs.readFileSync(`${folder}/${name}.bin`)));
+
+// Each job is a function of its own, so that the engine specializes it for its kind of item.
+const job = (source, body) => new Function('source', `return stream => { let sum = 0; for (const item of source(stream)) ${body}; return sum; }`)(source);
+const START = 'sum += item.start', FIELDS = 'sum += item.start + item.id + item.index', BODY = 'sum += item.id === 7 ? item.body.length : 1';
+const pair = (name, stream, body, one, two) => [name, stream, job(one, body), job(two, body)];
+
+function* fed(stream) {
+  const feed = bt.feed();
+  for (let at = 0; at < stream.length; at += CHUNK) yield* feed.push(stream.subarray(at, at + CHUNK));
+  yield* feed.finish();
+}
+
+/** A sum over columns, as FIELDS is one over items. */
+function summed(stream) {
+  const { start, id, index } = bt.columns(stream);
+  let sum = 0;
+  for (let row = 0; row < id.length; row++) sum += start[row] + id[row] + index[row];
+  return sum;
+}
+
+const read = stream => bt.read(stream), fedByHand = stream => hand.feed(stream, CHUNK);
+const ROWS = [
+  pair('read small, start', small, START, hand.read, read), pair('read small, start id index', small, FIELDS, hand.read, read),
+  pair('feed small', small, FIELDS, fedByHand, fed), ['columns small', small, job(hand.read, FIELDS), summed],
+  pair('read blocks', blocks, BODY, hand.read, read), pair('read ext', ext, START, hand.read, read),
+];
+
+function seconds(run, stream) {
+  const begin = performance.now();
+  const sum = run(stream);
+  return [(performance.now() - begin) / 1000, sum];
+}
+
+for (const [name, stream, byHand, ours] of ROWS) {
+  let least = [Infinity, Infinity];
+  for (let k = 0; k < TIMES; k++) {
+    const [one, two] = [seconds(byHand, stream), seconds(ours, stream)];
+    if (one[1] !== two[1]) throw new Error(`${name}: the loop by hand finds ${one[1]}, and not ${two[1]}`);
+    least = [Math.min(least[0], one[0]), Math.min(least[1], two[0])];
+  }
+  console.log([name, ...least.map(it => it.toFixed(6))].join('\t'));
+}
