@@ -3,8 +3,8 @@
 
 usage: tests/bindings.py [LIBRARIES]
 
-LIBRARIES is the folder of libbt.a and libbt.so, with bt.wasm in the folder above, or else dist/x86_64-linux. The three examples `show`
-have to print the same of the example streams, of their cuts, and of streams with changed bytes, under each rule set and in chunks of
+LIBRARIES is the folder of libbt.a, libbt.so and bt.node, with bt.wasm in the folder above, or else dist/x86_64-linux. The three examples
+`show` have to print the same of the example streams, of their cuts, and of streams with changed bytes, under each rule set and in chunks of
 each size. The examples `fetch`, also in C, have to fetch from a peer that is right, and from none that breaks a rule. A language whose
 tool isn't installed is left out, and that is said.
 """
@@ -19,7 +19,7 @@ import time
 
 ROOT = pathlib.Path(__file__).resolve().parent.parent
 LIBRARIES = pathlib.Path(sys.argv[1] if len(sys.argv) > 1 else ROOT / "dist/x86_64-linux").resolve()
-WASM = LIBRARIES.parent / "bt.wasm"
+WASM, ADDON = LIBRARIES.parent / "bt.wasm", LIBRARIES / "bt.node"
 BINDINGS = ROOT / "bindings"
 NODE = ["node", "--experimental-wasm-memory64", "--no-warnings"]
 STREAMS = 300
@@ -28,7 +28,8 @@ SECONDS = "2"
 
 def environment(room):
     return {**os.environ, "BT_LIBRARY": str(LIBRARIES / "libbt.so"), "BT_WASM": str(WASM), "BT_LIB_DIR": str(LIBRARIES),
-            "CARGO_TARGET_DIR": str(room / "target"), "PYTHONDONTWRITEBYTECODE": "1"}
+            "CARGO_TARGET_DIR": str(room / "target"), "PYTHONDONTWRITEBYTECODE": "1",
+            **({"BT_ADDON": str(ADDON)} if ADDON.is_file() else {})}
 
 
 def passes(words, given, **how):
@@ -50,7 +51,9 @@ def shows(room, given):
         found["Rust"] = [room / "target/debug/examples/show"]
     if shutil.which("node") and WASM.is_file():
         for test in sorted((BINDINGS / "js/tests").glob("*.mjs")):
-            passes([*NODE, test, WASM], given)
+            for line in passes([*NODE, test, WASM], given).decode().splitlines():
+                if " left out" in line:
+                    print("bindings: " + line)
         found["JavaScript"] = [*NODE, BINDINGS / "js/examples/show.mjs"]
     for language in {"Rust", "JavaScript"} - {*found}:
         print("bindings: %s is left out, since its tool isn't installed" % language)

@@ -346,6 +346,32 @@ def in_javascript(at):
     reads_all(at, [*node, "bindings/js/examples/show.mjs"], at)
 
 
+def in_node(at):
+    """The addon needs no flag and no new C library, exports what Node looks for, and calls nothing else of other files than Node's calls."""
+    native = at / "dist/x86_64-linux"
+    wanted = {tuple(map(int, it.split(b"."))) for it in re.findall(rb"GLIBC_([\d.]+)", (native / "bt.node").read_bytes())}
+    assert max(wanted) <= (2, 17), "bt.node needs the C library %s" % (max(wanted),)
+    if which("nm"):
+        rows = [row.split()[-2:] for row in passes(["nm", "-D", native / "bt.node"], at).decode().splitlines()]
+        exported = sorted(name for kind, name in rows if kind != "U")
+        assert exported == ["napi_register_module_v1", "node_api_module_get_api_version_v1"], exported
+        assert all(re.match(r"napi_|(calloc|free|malloc|realloc|mem\w+)@GLIBC_", name) for kind, name in rows if kind == "U"), rows
+    if which("node"):
+        code = "import { End } from './bindings/js/end.mjs'; console.log(new End({ infoHash: new Uint8Array(20) }).take().length)"
+        assert passes([shutil.which("node"), "--input-type=module", "-e", code], at) == b"68\n"
+
+
+def addon_again(at):
+    """The addon is made of dist's library with the same bytes, in any folder. (This needs the toolchain.)"""
+    if not which("rt"):
+        return
+    for folder in ("one", "two"):
+        done = subprocess.run([at / "tools/dist", "--addon", at / "made" / folder], cwd="/", capture_output=True, text=True)
+        assert done.returncode == 0, done
+        assert filecmp.cmp(at / "made" / folder / "bt.node", at / "dist/x86_64-linux/bt.node", shallow=False), "bt.node is another one"
+    shutil.rmtree(at / "made")
+
+
 # ---- tools/install ----
 
 
@@ -429,7 +455,7 @@ def texts(at):
 
 
 CHECKS = [first_run, version, sources, page, tampered, other_machines, built_here, not_writable, all_files, in_c, in_python, in_javascript,
-          installed, packaged, texts]
+          in_node, addon_again, installed, packaged, texts]
 
 
 def main():

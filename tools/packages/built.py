@@ -16,8 +16,10 @@ SPECS_OF_ENDS = ("Calls", "Configs", "Held", "Nexts", "Sayings", "Statuses")
 PROOFS_OF_ENDS = ("Boxes", "Slots", "Words")
 # The toolchain's own object files for memory.
 HEAPS = {"heap.o", "heap.pic.o"}
-# The shared library exports these and nothing else.
+# The shared library exports these and nothing else, and the addon those for which Node looks.
 EXPORTS = "{ global: bt_*; local: *; };\n"
+ADDON_EXPORTS = "{ global: napi_register_module_v1; node_api_module_get_api_version_v1; local: *; };\n"
+ADDON = prover.ROOT / "bindings/js/addon"
 
 
 class Failed(Exception):
@@ -95,11 +97,21 @@ class Maker:
 
     def shared(self, to, archive, name):
         """The C library as a shared one, which programs ask for by this name."""
+        self.link(to, EXPORTS, "-soname", name, "--no-undefined", "--whole-archive", archive, "--no-whole-archive")
+
+    def addon(self, to, archive):
+        """The end as an addon for Node, over the C library. What it calls of Node is undefined in it."""
+        made = self.work / "bt_node.o"
+        words = [self.toolchain / "bin/clang", "-O2", "-fPIC", "-ffunction-sections", "-nostdinc", "-I", "freestanding"]
+        run([*words, "-I", prover.CRATES / "bt_c", "-c", "bt_node.c", "-o", made], cwd=ADDON)
+        self.link(to, ADDON_EXPORTS, made, archive)
+
+    def link(self, to, exported, *words):
         exports = self.work / "exports"
-        exports.write_text(EXPORTS)
-        words = [self.toolchain / "bin/ld.lld", "-shared", "-soname", name, "--version-script", exports, "--gc-sections", "-s"]
-        words += ["--build-id=none", "--hash-style=gnu", "--no-undefined", "-z", "relro", "-z", "now", "-z", "noexecstack", "-o", to]
-        run([*words, "--whole-archive", archive, "--no-whole-archive", self.toolchain / "lib/libc.so.6"])
+        exports.write_text(exported)
+        usual = [self.toolchain / "bin/ld.lld", "-shared", "--version-script", exports, "--gc-sections", "-s", "--build-id=none"]
+        usual += ["--hash-style=gnu", "-z", "relro", "-z", "now", "-z", "noexecstack", "-o", to]
+        run([*usual, *words, self.toolchain / "lib/libc.so.6"])
         to.chmod(0o755)
 
     def module(self, to, kept):
