@@ -10,7 +10,7 @@ import { completed, content, DHT, EXTENSIONS, FAST, fill, Id, Item, Items, Kind,
 export { DHT, EXTENSIONS, FAST, Id, Item, Kind, Refused };
 
 const HEAD = 17, DICT = 160;    // what a message has besides its body, and a dictionary that the library writes
-const ROOM = 4096, WINDOW = 65536;
+const ROOM = 2048, WINDOW = 65536;
 
 /**
  * Loads the library, and returns its calls.

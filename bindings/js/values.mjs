@@ -63,21 +63,22 @@ export class Item {
    */
   constructor(batch, w) {
     this._batch = batch;
+    this._words = batch.words;
     this._w = w;
   }
 
   /** Its offset on the stream. */
-  get start() { return startAt(this._batch.words, this._w); }
+  get start() { return startAt(this._words, this._w); }
   /** How many bytes it has. */
-  get size() { return this._batch.words[this._w + 2]; }
+  get size() { return this._words[this._w + 2]; }
   /** Its `Id`, or the number of an unknown message. */
-  get id() { return idAt(this._batch.words, this._w); }
+  get id() { return idAt(this._words, this._w); }
   /** Its name as `bt_tool show` prints it, like 'have' or 'metadata-request'. */
-  get name() { return this._batch.names.name(this.id, kindAt(this._batch.words, this._w)); }
-  get index() { return WITH_INDEX[this.id] ? this._batch.words[this._w + 8] : null; }
-  get begin() { return WITH_BEGIN[this.id] ? this._batch.words[this._w + 9] : null; }
-  get length() { return WITH_LENGTH[this.id] ? this._batch.words[this._w + 10] : null; }
-  get port() { return this.id === PORT ? this._batch.words[this._w + 11] & 65535 : null; }
+  get name() { return this._batch.names.name(this.id, kindAt(this._words, this._w)); }
+  get index() { return WITH_INDEX[this.id] ? this._words[this._w + 8] : null; }
+  get begin() { return WITH_BEGIN[this.id] ? this._words[this._w + 9] : null; }
+  get length() { return WITH_LENGTH[this.id] ? this._words[this._w + 10] : null; }
+  get port() { return this.id === PORT ? this._words[this._w + 11] & 65535 : null; }
 
   /** All its bytes. */
   get data() {
@@ -89,33 +90,33 @@ export class Item {
   get body() {
     if (this.id === HANDSHAKE) return null;
     const end = this.start - this._batch.base + this.size;
-    return this._batch.bytes.subarray(end - this._batch.words[this._w + 4], end);
+    return this._batch.bytes.subarray(end - this._words[this._w + 4], end);
   }
 
   /** The reserved bits of a handshake, as a BigInt. */
-  get reserved() { return this.id === HANDSHAKE ? bigAt(this._batch.words, this._w + 6) : null; }
+  get reserved() { return this.id === HANDSHAKE ? bigAt(this._words, this._w + 6) : null; }
   get infoHash() { return this.id === HANDSHAKE ? this.data.subarray(28, 48) : null; }
   get peerId() { return this.id === HANDSHAKE ? this.data.subarray(48, 68) : null; }
   /** What an extended message is: a `Kind`. */
-  get kind() { return kindAt(this._batch.words, this._w) || null; }
+  get kind() { return kindAt(this._words, this._w) || null; }
   /** The id within the extension protocol. */
-  get extendedId() { return this.kind && this._batch.words[this._w + 12] & 255; }
+  get extendedId() { return this.kind && this._words[this._w + 12] & 255; }
   /** The number of a metadata block, or the piece that the peer no longer has (lt_donthave). */
-  get piece() { return WITH_PIECE[kindAt(this._batch.words, this._w)] ? this._batch.words[this._w + 20] : null; }
+  get piece() { return WITH_PIECE[kindAt(this._words, this._w)] ? this._words[this._w + 20] : null; }
   /** How many bytes the metadata has, by a data message; a BigInt from 2^53 on. */
-  get totalSize() { return this.kind === METADATA_DATA ? wide(bigAt(this._batch.words, this._w + 14)) : null; }
+  get totalSize() { return this.kind === METADATA_DATA ? wide(bigAt(this._words, this._w + 14)) : null; }
   /** How many bytes of the body are the dictionary of an extended message. */
-  get dictSize() { return this.kind && this._batch.words[this._w + 18]; }
+  get dictSize() { return this.kind && this._words[this._w + 18]; }
 
   /** How many bytes the metadata has, by an extended handshake; a BigInt from 2^53 on. */
   get metadataSize() {
-    const has = this.kind === EXT_HANDSHAKE && this._batch.words[this._w + 21] >>> 16 & 255;
-    return has ? wide(bigAt(this._batch.words, this._w + 16)) : null;
+    const has = this.kind === EXT_HANDSHAKE && this._words[this._w + 21] >>> 16 & 255;
+    return has ? wide(bigAt(this._words, this._w + 16)) : null;
   }
 
   /** The id for ut_metadata that an extended handshake announces. */
   get utMetadata() {
-    const last = this._batch.words[this._w + 21];
+    const last = this._words[this._w + 21];
     return this.kind === EXT_HANDSHAKE && last >>> 24 ? last >>> 8 & 255 : null;
   }
 
