@@ -21,7 +21,6 @@ enum { napi_ok = 0, napi_uint8_array = 1 };
 
 napi_status napi_get_cb_info(napi_env, napi_callback_info, size_t *, napi_value *, napi_value *, void **);
 napi_status napi_is_exception_pending(napi_env, _Bool *);
-napi_status napi_throw_error(napi_env, const char *, const char *);
 napi_status napi_throw_type_error(napi_env, const char *, const char *);
 napi_status napi_create_object(napi_env, napi_value *);
 napi_status napi_create_double(napi_env, double, napi_value *);
