@@ -51,6 +51,11 @@ def content(path):
         return file.read()
 
 
+def crate_rows():
+    """The rows of crates.txt, without comments."""
+    return [line for line in content(os.path.join(ROOT, "crates.txt")).decode().splitlines() if not line.startswith("#")]
+
+
 def directions(capture):
     """The bytes of each direction in a classic pcap of TCP over IPv4 over Ethernet, by sender and receiver."""
     assert capture[:4] == b"\xd4\xc3\xb2\xa1" and capture[20:24] == b"\1\0\0\0", "no classic pcap of Ethernet frames"
@@ -177,7 +182,7 @@ def unproved():
     code = b"".join(content(path) for path in glob.glob(os.path.join(ROOT, "crates/bt_*/src/**/*.rt"), recursive=True)).decode()
     calls = re.findall(r"`([\w:]+)`", " ".join(re.findall(r"^\| [^|]* \| ([^|]*) \| `bt_\w+/", text, re.M)))
     wrong += ["docs/PROVED.md: no such call: %s\n" % call for call in calls if not re.search(r"\b%s\b" % call.split("::")[-1], code)]
-    rows = [line.partition(":") for line in content(os.path.join(ROOT, "crates.txt")).decode().splitlines()]
+    rows = [line.partition(":") for line in crate_rows()]
     trusted = {name for crate, _, below in rows if not crate.endswith("_tests") for name in below.split() if not name.startswith("bt_")}
     wrong += ["docs/PROVED.md: `%s` isn't named as trusted\n" % name for name in sorted(trusted) if "`%s`" % name not in text]
     named = text + content(os.path.join(ROOT, "docs/DEFINITIONS.md")).decode()
@@ -238,7 +243,7 @@ def misnamed():
 
 def unlisted():
     """The crates that docs/ARCHITECTURE.md doesn't name."""
-    names = [re.split(r"[: ]", line)[0] for line in content(os.path.join(ROOT, "crates.txt")).decode().splitlines()]
+    names = [re.split(r"[: ]", line)[0] for line in crate_rows()]
     text = content(os.path.join(ROOT, "docs/ARCHITECTURE.md")).decode()
     return ["docs/ARCHITECTURE.md: the crate %s isn't named\n" % name for name in names if "`%s`" % name not in text]
 
