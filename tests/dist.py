@@ -149,14 +149,14 @@ def sources(at):
     """What changes the digest and what doesn't. Times of files that are set back deceive nobody."""
     more = lambda text: text + b"\n"
     spec, proof = (next((at / "crates/bt_wire" / part).rglob("*.antt")) for part in ("specs", "proofs"))
-    for file in (spec, proof, at / "crates/bt_bench/src/main.rt", at / "CHANGELOG.md", at / "crates/bt_tool/src/sources.rt"):
+    for file in (spec, proof, at / "crates/bt_bench/src/main.rt", at / "CHANGELOG.md", at / "crates/bt_tool/src/sources.rt",
+                 at / "bindings/python/bt/_library.py"):
         with changed(file, more):
             assert show(at).stdout == FIRST, "%s changed" % file.name
     with changed(at / "crates.txt", lambda text: b"# a comment\n" + text.replace(b"bt_bench:", b"bt_bench : ")):
         assert show(at).stdout == FIRST, "a comment in crates.txt"
     swaps = [("crates.txt", b"bt_io: thiserror", b"bt_io: thiserror itoa"), ("README.md", b"`logic ", b"`logic 9"),
-             ("crates/bt_c/bt.h", b"/*", b"/* "), ("bindings/python/bt/_library.py", b"import os", b"import  os"),
-             ("crates/bt_wire/src/lib.rt", b"//!", b"//!  ")]
+             ("crates/bt_c/bt.h", b"/*", b"/* "), ("crates/bt_wire/src/lib.rt", b"//!", b"//!  ")]
     for name, old, new in swaps:
         with changed(at / name, lambda text: text.replace(old, new, 1)):
             is_refused(show(at), "other sources", "'rt'", "README.md")
@@ -171,18 +171,26 @@ def sources(at):
     assert show(at).stdout == FIRST
 
 
-def page(at):
-    """A change of the viewer is seen, and mended without the toolchain."""
+def made_aside(at, source, more, made, word):
+    """A change of a file of which dist/ has something that no toolchain makes is seen, and mended without the toolchain."""
     here = {"PATH": os.environ["PATH"]}
-    was = (at / "dist/viewer.html").read_bytes()
-    with changed(at / "viewer/style/print.css", lambda text: text + b"/* more */\n"):
+    was = made.read_bytes()
+    with changed(source, lambda text: text + more):
         done = run(["tools/dist", "--check"], at, environment=here)
-        assert done.returncode == 1 and b"tools/dist --page" in done.stdout, done
-        passes(["tools/dist", "--page"], at, environment=here)
+        assert done.returncode == 1 and b"tools/dist " + word in done.stdout, done
+        passes(["tools/dist", word], at, environment=here)
         passes(["tools/dist", "--check"], at, environment=here)
-        assert (at / "dist/viewer.html").read_bytes() != was
-    passes(["tools/dist", "--page"], at, environment=here)
-    assert (at / "dist/viewer.html").read_bytes() == was
+        assert made.read_bytes() != was
+    passes(["tools/dist", word], at, environment=here)
+    assert made.read_bytes() == was
+
+
+def page(at):
+    made_aside(at, at / "viewer/style/print.css", b"/* more */\n", at / "dist/viewer.html", b"--page")
+
+
+def package(at):
+    made_aside(at, at / "bindings/python/bt/_library.py", b"# more\n", next((at / "dist").glob("*.whl")), b"--wheel")
 
 
 def tampered(at):
@@ -454,7 +462,7 @@ def texts(at):
         assert done.returncode == 0 and not done.stderr, done.stderr
 
 
-CHECKS = [first_run, version, sources, page, tampered, other_machines, built_here, not_writable, all_files, in_c, in_python, in_javascript,
+CHECKS = [first_run, version, sources, page, package, tampered, other_machines, built_here, not_writable, all_files, in_c, in_python, in_javascript,
           in_node, addon_again, installed, packaged, texts]
 
 
