@@ -15,6 +15,11 @@ is_wait kind.TimedOut = true
 is_wait kind.Interrupted = true
 is_wait _ = false
 
+-- The call would have to wait: the socket isn't ready. After a signal or a time limit nothing is known of the socket.
+abbrev pub would_wait : ErrorKind → Bool
+would_wait kind.WouldBlock = true
+would_wait _ = false
+
 -- What std answers becomes the answer of a connection: nothing can be moved yet if the call has to wait.
 abbrev pub IsMovedBy : {F : Type 0} → Result ℕ Error → Result (Option ℕ) F → Type 0
 IsMovedBy (Ok n) r = r ≡ Ok (Some n)

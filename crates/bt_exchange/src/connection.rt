@@ -37,6 +37,11 @@ pub trait Connection {
     /// The time in seconds, by the connection's own clock. Only differences count.
     fn now(&mut self) -> u64
         ensures { seen self.new ≡ at_time result (seen self.old) };
+
+    /// Returns whether a read or a write may move something. A loop over many connections passes by those that can't go on.
+    fn may_go_on(&self) -> bool {
+        true
+    }
 }
 
 /// The count after a call that is counted or isn't.

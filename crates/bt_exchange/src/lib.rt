@@ -3,14 +3,18 @@
 
 mod connection;
 mod hearing;
+mod polled;
 mod resting;
+mod sleeping;
 mod stream;
 mod talking;
 mod watch;
 
 pub use connection::Connection;
 pub use hearing::Hearing;
+pub use polled::{Flag, Polled};
 pub use resting::rest_after;
+pub use sleeping::Sleeper;
 pub use stream::Stream;
 pub use talking::{Step, Stop, advance, exchange, is_piece};
 pub use watch::Watch;

@@ -80,6 +80,11 @@ impl<S: Read + Write + Drop, K: Clock + Drop> Stream<S, K> {
             time: 0,
         }
     }
+
+    /// Returns the stream.
+    pub(crate) fn stream(&self) -> &S {
+        &self.stream
+    }
 }
 
 impl<S: Read + Write + Drop, K: Clock + Drop> Connection for Stream<S, K> {

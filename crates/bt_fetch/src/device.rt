@@ -94,6 +94,13 @@ pub trait Device {
         ensures inside { inside self.new ≡ inside self.old }
         ensures places { places self.new ≡ places self.old };
 
+    /// Ends a round in which a connection could go on. Looks which others can, without a wait.
+    fn look(&mut self)
+        ensures log { log self.new ≡ log self.old }
+        ensures inside { inside self.new ≡ inside self.old }
+        ensures places { places self.new ≡ places self.old }
+    {}
+
     /// Waits a moment, since no connection can go on.
     fn rest(&mut self)
         ensures log { log self.new ≡ log self.old }

@@ -341,7 +341,7 @@ fn fetch_at<D: Device>(
         match give_turns(wish, places, queue, device)? {
             Round::Over => return Ok(None),
             Round::Waits => device.rest(),
-            Round::GoesOn => {}
+            Round::GoesOn => device.look(),
             Round::Won(at) => return Ok(Some(at)),
         }
     }

@@ -39,4 +39,8 @@ impl<L: Connection + Drop> Connection for Line<L> {
     fn now(&mut self) -> u64 {
         self.link.now()
     }
+
+    fn may_go_on(&self) -> bool {
+        self.link.may_go_on()
+    }
 }

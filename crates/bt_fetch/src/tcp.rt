@@ -5,11 +5,16 @@ ghost use Rattle.bt_fetch.specs.declared.device.Happening.{Happening};
 
 use crate::device::{Device, Ending};
 use bt_end::Progress;
-use bt_exchange::{Stream, rest_after};
+use bt_exchange::{Flag, Polled, Sleeper, rest_after};
 use mio::net::TcpStream;
+use std::alloc::Global;
 use std::io;
 use std::net::{Net, SocketAddr};
+use std::os::fd::AsRawFd;
 use std::time::{Clock, Duration};
+
+/// How long a loop sleeps at most if no socket is ready, in milliseconds.
+const LONGEST: u64 = 50;
 
 /// Hears what happens at the addresses, each by its number.
 pub trait Watcher {
@@ -41,7 +46,9 @@ pub struct TcpSwarm<'a, R: Net + Clock, T: Watcher + Drop> {
     inside: usize,
     places: usize,
     time: u64,
-    /// How long the last wait was, in microseconds; 0 if a block came or an address was dialled since.
+    /// What sleeps until a socket is ready; without it the loop naps.
+    sleeper: Option<Sleeper>,
+    /// How long the last nap was, in microseconds; 0 if a block came or an address was dialled since.
     pause: u64,
 }
 
@@ -64,8 +71,28 @@ impl<'a, R: Net + Clock, T: Watcher + Drop> TcpSwarm<'a, R, T> {
             inside: 0,
             places,
             time: 0,
+            sleeper: None,
             pause: 0,
         }
+    }
+
+    /// Returns a device whose loop sleeps until a socket is ready.
+    ///
+    /// If the system has no descriptor for that, or when out of memory, it naps as that of [`TcpSwarm::new`].
+    pub fn sleeping(
+        runtime: &'a R,
+        alloc: Global,
+        addresses: &'a [SocketAddr],
+        watcher: T,
+        places: usize,
+    ) -> TcpSwarm<'a, R, T>
+        ensures inside { ⟦<TcpSwarm<'a, R, T> as Device>⟧.inside result ≡ 0 }
+        ensures places { ⟦<TcpSwarm<'a, R, T> as Device>⟧.places result ≡ places }
+        ensures log { ⟦<TcpSwarm<'a, R, T> as Device>⟧.log result ≡ T.heard watcher }
+    {
+        let mut swarm = TcpSwarm::new(runtime, addresses, watcher, places);
+        swarm.sleeper = Sleeper::new(runtime, alloc, places, LONGEST);
+        swarm
     }
 
     /// Returns who heard what happened.
@@ -84,7 +111,7 @@ fn begin<R: Net>(net: &R, address: SocketAddr) -> io::Result<TcpStream> {
 }
 
 impl<'a, R: Net + Clock, T: Watcher + Drop> Device for TcpSwarm<'a, R, T> {
-    type Link = Stream<TcpStream, &'a R>;
+    type Link = Polled<TcpStream, &'a R>;
 
     ghost log = { λ d. T.heard d.watcher };
 
@@ -92,7 +119,7 @@ impl<'a, R: Net + Clock, T: Watcher + Drop> Device for TcpSwarm<'a, R, T> {
 
     ghost places = { λ d. d.places };
 
-    fn dial(&mut self, address: usize) -> Option<Stream<TcpStream, &'a R>> {
+    fn dial(&mut self, address: usize) -> Option<Polled<TcpStream, &'a R>> {
         let begun = match self.addresses.get(address) {
             Some(at) => begin(self.runtime, *at).ok(),
             None => None,
@@ -101,10 +128,14 @@ impl<'a, R: Net + Clock, T: Watcher + Drop> Device for TcpSwarm<'a, R, T> {
         let stream = begun?;
         self.inside += 1;
         self.pause = 0;
-        Some(Stream::new(stream, self.runtime))
+        let flag = match &mut self.sleeper {
+            Some(sleeper) => sleeper.watch(stream.as_raw_fd()),
+            None => Flag::always(),
+        };
+        Some(Polled::new(stream, self.runtime, flag))
     }
 
-    fn ended(&mut self, address: usize, _link: Stream<TcpStream, &'a R>, ending: Ending) {
+    fn ended(&mut self, address: usize, _link: Polled<TcpStream, &'a R>, ending: Ending) {
         self.inside -= 1;
         self.watcher.ended(address, ending);
     }
@@ -121,8 +152,19 @@ impl<'a, R: Net + Clock, T: Watcher + Drop> Device for TcpSwarm<'a, R, T> {
         self.time
     }
 
-    // The waits begin short after a block, since a peer that is near sends the next one soon.
+    fn look(&mut self) {
+        if let Some(sleeper) = &mut self.sleeper {
+            let _ = sleeper.sleep(false, self.time);
+        }
+    }
+
+    // The naps begin short after a block, since a peer that is near sends the next one soon.
     fn rest(&mut self) {
+        if let Some(sleeper) = &mut self.sleeper {
+            if sleeper.sleep(true, self.time) {
+                return;
+            }
+        }
         self.pause = rest_after(self.pause, self.inside);
         self.runtime.sleep(Duration::from_micros(self.pause));
     }

@@ -305,6 +305,11 @@ impl<L: Connection + Drop> Guest<L> {
         self.tally.handled
     }
 
+    /// Returns whether a read or a write of it may move something.
+    pub fn may_go_on(&self) -> bool {
+        self.link.may_go_on()
+    }
+
     /// Returns how the connection ended, for this reason.
     pub fn parting(&self, ending: Ending) -> Parting
         ensures { result ≡ record { ending = ending; sent = self.now.tally.sent; handled = self.now.tally.handled } }

@@ -82,6 +82,25 @@ fn tend_one<D: Door>(door: &mut D, name: D::Name, guest: &mut Guest<D::Link>) ->
     }
 }
 
+/// Gives a connection its turn, if its socket may be ready. Else it passes by, at the price of a look at a flag.
+fn visit<D: Door>(door: &mut D, name: D::Name, guest: &mut Guest<D::Link>) -> Option<Pace>
+    requires { 0 < D.inside door.old }
+    ensures inside { D.inside door.new + leaving result ≡ D.inside door.old }
+    ensures patience { guest.new.patience ≡ guest.old.patience }
+    ensures told { AreTold (D.told door.old) (D.told door.new) true }
+    ensures more { AreMore (leaving result) (D.told door.old) (D.told door.new) }
+    ensures rounds { D.rounds door.new ≡ D.rounds door.old }
+    ensures turned { (start : Moment)
+        → IsServed start (record { seen = D.Link.seen guest.old.link; pending = guest.old.hearing; half = guest.old.end }) guest.old.watch.since guest.old.tally
+        → IsTurned guest.old.patience start (record { seen = D.Link.seen guest.new.link; pending = guest.new.hearing; half = guest.new.end })
+        guest.new.watch.since guest.new.tally name (D.told door.old) (D.told door.new) result }
+{
+    if !guest.may_go_on() {
+        return Some(Pace::Waits);
+    }
+    tend_one(door, name, guest)
+}
+
 /// Returns 1 after a turn that ended its connection, else 0.
 fn one_if_gone(pace: Option<Pace>) -> u64
     ensures { result ≡ leaving pace }
@@ -135,7 +154,7 @@ fn tend_all<D: Door>(door: &mut D, guests: &mut Guests<D>) -> (u64, bool)
         }
         let name = guests[at].1;
         let before = guests[at].0.handled();
-        let pace = tend_one(door, name, &mut guests[at].0);
+        let pace = visit(door, name, &mut guests[at].0);
         tell_handled(door, guests[at].0.handled() != before);
         is_busy |= pace == Some(Pace::GoesOn);
         ended += one_if_gone(pace);

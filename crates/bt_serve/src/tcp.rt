@@ -3,10 +3,15 @@ ghost use Rattle.std.specs.Prelude.{◌≡◌};
 ghost use Rattle.bt_exchange.specs.Lists.{IsAdded};
 
 use crate::door::{Door, Parting};
-use bt_exchange::{Stream, rest_after};
+use bt_exchange::{Flag, Polled, Sleeper, rest_after};
+use std::alloc::Global;
 use std::io;
 use std::net::{Net, OpenListener, OpenStream, SocketAddr};
+use std::os::fd::AsRawFd;
 use std::time::{Clock, Duration};
+
+/// How long a loop sleeps at most if no socket is ready, in milliseconds.
+const LONGEST: u64 = 200;
 
 /// Takes note of how each connection over TCP ended.
 pub trait Farewell {
@@ -31,7 +36,11 @@ pub struct TcpDoor<'a, R: Net + Clock, F: Farewell + Drop> {
     inside: usize,
     places: usize,
     rounds: u64,
-    /// How long the last wait was, in microseconds; 0 if an item was handled since, or a round wasn't idle.
+    /// What sleeps until a socket is ready; without it the loop naps.
+    sleeper: Option<Sleeper>,
+    /// Whether a connection may wait at the listener.
+    arrivals: Flag,
+    /// How long the last nap was, in microseconds; 0 if an item was handled since, or a round wasn't idle.
     pause: u64,
 }
 
@@ -54,7 +63,41 @@ impl<'a, R: Net + Clock, F: Farewell + Drop> TcpDoor<'a, R, F> {
             inside: 0,
             places,
             rounds: 0,
+            sleeper: None,
+            arrivals: Flag::always(),
             pause: 0,
+        }
+    }
+
+    /// Returns a door whose loop sleeps until a socket is ready.
+    ///
+    /// If the system has no descriptor for that, or when out of memory, it naps as that of [`TcpDoor::new`].
+    pub fn sleeping(
+        runtime: &'a R,
+        alloc: Global,
+        listener: R::Listener,
+        farewell: F,
+        places: usize,
+    ) -> TcpDoor<'a, R, F>
+        ensures inside { ⟦<TcpDoor<'a, R, F> as Door>⟧.inside result ≡ 0 }
+        ensures places { ⟦<TcpDoor<'a, R, F> as Door>⟧.places result ≡ places }
+        ensures told { ⟦<TcpDoor<'a, R, F> as Door>⟧.told result ≡ F.told farewell }
+    {
+        let mut door = TcpDoor::new(runtime, listener, farewell, places);
+        let sockets = places.saturating_add(1);
+        if let Some(sleeper) = Sleeper::new(runtime, alloc, sockets, LONGEST) {
+            let mut sleeper = sleeper;
+            door.arrivals = sleeper.watch(door.listener.as_raw_fd());
+            door.sleeper = Some(sleeper);
+        }
+        door
+    }
+
+    /// Returns the time of the clock in milliseconds; 0 if it fails.
+    fn time(&self) -> u64 {
+        match self.runtime.monotonic() {
+            Ok(time) => u64::try_from(time.as_millis()).unwrap_or(u64::MAX),
+            Err(_) => 0,
         }
     }
 }
@@ -79,7 +122,7 @@ fn ready<S: OpenStream>(stream: &S) -> io::Result<()> {
 }
 
 impl<'a, R: Net + Clock, F: Farewell + Drop> Door for TcpDoor<'a, R, F> {
-    type Link = Stream<R::Stream, &'a R>;
+    type Link = Polled<R::Stream, &'a R>;
 
     type Name = SocketAddr;
 
@@ -95,20 +138,39 @@ impl<'a, R: Net + Clock, F: Farewell + Drop> Door for TcpDoor<'a, R, F> {
         self.inside < self.places
     }
 
-    fn enter(&mut self) -> Option<(Stream<R::Stream, &'a R>, SocketAddr)> {
-        let (stream, peer) = self.listener.accept().ok()?;
+    fn enter(&mut self) -> Option<(Polled<R::Stream, &'a R>, SocketAddr)> {
+        if !self.arrivals.is_up() {
+            return None;
+        }
+        let (stream, peer) = match self.listener.accept() {
+            Ok(arrived) => arrived,
+            Err(error) => {
+                self.arrivals.failed(&error);
+                return None;
+            }
+        };
         ready(&stream).ok()?;
         self.inside += 1;
-        Some((Stream::new(stream, self.runtime), peer))
+        let flag = match &mut self.sleeper {
+            Some(sleeper) => sleeper.watch(stream.as_raw_fd()),
+            None => Flag::always(),
+        };
+        Some((Polled::new(stream, self.runtime, flag), peer))
     }
 
-    // The waits begin short after an item, since a peer that is near sends the next one soon.
+    // The naps begin short after an item, since a peer that is near sends the next one soon.
     fn handled(&mut self) {
         self.pause = 0;
     }
 
     fn rest(&mut self, is_idle: bool) {
         self.rounds = self.rounds.saturating_add(1);
+        let time = self.time();
+        if let Some(sleeper) = &mut self.sleeper {
+            if sleeper.sleep(is_idle, time) {
+                return;
+            }
+        }
         if !is_idle {
             self.pause = 0;
             return;

@@ -6,8 +6,8 @@ use Rattle.bt_serve.proofs.serving.tend_all.Goals as goal
 pub loop-preserved : goal.loop-preserved
 loop-preserved g c = record {
   inside = search rules;
-  told = rw c.tell_handled.ensures.told (added_on _ _ _ _ _ c.loop.invariant.told c.tend_one-pace.ensures.told);
+  told = rw c.tell_handled.ensures.told (added_on _ _ _ _ _ c.loop.invariant.told c.visit-pace.ensures.told);
   ended = search rules;
-  more = rw c.tell_handled.ensures.told (more_both _ _ _ _ _ _ (search rules) c.loop.invariant.more c.tend_one-pace.ensures.more);
+  more = rw c.tell_handled.ensures.told (more_both _ _ _ _ _ _ (search rules) c.loop.invariant.more c.visit-pace.ensures.more);
   rounds = search rules;
 }
