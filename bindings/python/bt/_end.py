@@ -4,12 +4,12 @@ from __future__ import annotations
 import ctypes as C
 import struct
 import threading
+from functools import partial
 from typing import Any, Iterator, NamedTuple, Optional
 
 from . import _library as lib
 from ._names import Announce, Event, Id, Kind
 from ._values import Item, Own, Refused
-from ._writing import handshake
 
 _DONE, _BUSY, _NO_MEMORY = 0, 5, 6
 _WATCH, _SERVE, _FETCH = range(3)
@@ -17,8 +17,11 @@ _WHY = {lib.UNWRITTEN: "an end doesn't say it", _BUSY: "1 MiB or more waits to b
         8: "the limit isn't 32,768 to 1,048,576", 9: "there is no info hash", 10: "the metadata hasn't 1 to 67,108,864 bytes",
         11: "the connection isn't open", 12: "the piece count isn't known", 13: "the peer would refuse it",
         14: "no metadata of this size can be fetched now"}
-_NUMBERS = {Id.PORT: ">H", Id.PIECE: ">II", **{id: ">I" for id in (Id.HAVE, Id.SUGGEST, Id.ALLOWED_FAST)},
-            **{id: ">III" for id in (Id.REQUEST, Id.CANCEL, Id.REJECT)}}
+# A bt_heard: how many bytes were used, the item as of ITEM_FIELDS, and the event.
+_HEARD = struct.Struct("<Q4Q3I2H2B6x32sQ2I4B20x")
+_EVENTS = tuple(Event)
+_WITH_PIECE = frozenset(map(int, (Event.BLOCK, Event.REJECTED, Event.SERVED, Event.DECLINED)))
+_ANNOUNCED = int(Event.ANNOUNCED)
 
 
 class Heard(NamedTuple):
@@ -82,7 +85,16 @@ class End:
         if fetch and most == 0:
             raise ValueError("most is 0")
         _done(lib.bt.bt_end_new(self._c, config, metadata, len(metadata)))
-        self._out, self._rest, self._at, self._count = C.create_string_buffer(own.limit), bytearray(), 0, 0
+        self._view, self._place, self._size = memoryview(self._heard).cast("B"), C.c_void_p(), C.c_size_t()
+        # (no body is copied: items have the bytes that came)
+        self._next = partial(lib.end_next, C.byref(self._c), self._place, self._size, C.byref(self._heard), None, C.c_size_t(0))
+        self._begin()
+
+    def _begin(self) -> None:
+        """Nothing came. What isn't handled is `_data` from `_at` on; `_kept` is what came from the offset `_from` on."""
+        self._data, self._address, self._at = b"", 0, 0
+        self._kept, self._from = bytearray(), 0
+        self._source, self._ends = (b"", 0), 0
 
     def close(self) -> None:
         """Frees it. Later calls raise ValueError."""
@@ -122,17 +134,20 @@ class End:
         later one; MemoryError, after which the next goes on; and ValueError if the end is closed.
         """
         self._open()
-        del self._rest[:self._at]
-        self._at = 0
-        self._rest += lib.content(data)
+        data = lib.content(data)
+        self._data, self._at = self._data[self._at:] + data, 0
+        self._address = lib.address(self._data) or 0
+        self._kept += data
         return self._items()
 
     def _items(self) -> Iterator[Heard]:
         while True:
-            self._open()
-            place, n = lib.address(self._rest, self._at), len(self._rest) - self._at
-            answer = lib.bt.bt_end_next(self._c, place, n, self._heard, self._out, len(self._out))
-            self._at += self._heard.used
+            if not self._c.held or self._thread != threading.get_ident():
+                self._open()
+            self._place.value, self._size.value = self._address + self._at, len(self._data) - self._at
+            answer = self._next()
+            told = _HEARD.unpack_from(self._view)
+            self._at += told[0]
             if answer == lib.REFUSED:
                 verdict = self._heard.verdict
                 raise Refused(verdict.at, verdict.reason, verdict.message)
@@ -140,33 +155,19 @@ class End:
                 return
             if answer != lib.ITEM:
                 _done(answer)
-            yield self._told()
+            if told[1] + told[2] > self._ends:
+                self._show(told[1])
+            item, kind = Item(told[1:13], self._source), told[14]
+            if kind == _ANNOUNCED:
+                yield Heard(item, _EVENTS[kind], None, told[16] if told[17] else None, told[13] if told[18] else None, bool(told[19]))
+            else:
+                yield Heard(item, _EVENTS[kind], told[15] if kind in _WITH_PIECE else None)
 
-    def _told(self) -> Heard:
-        fields, event = [*lib.ITEM_FIELDS.unpack(bytes(self._heard.item))], self._heard.event
-        if fields[8] == Id.EXTENDED:
-            own = {Kind.EXT_HANDSHAKE: 0, Kind.EXT_RAW: fields[9], Kind.DONTHAVE: self._own.donthave_id}
-            fields[9] = own.get(fields[15], self._own.metadata_id)
-        kind = Event(event.kind)
-        has_piece = kind in (Event.BLOCK, Event.REJECTED, Event.SERVED, Event.DECLINED)
-        item, announced = Item(tuple(fields), self._bytes(fields, bytes(event.peer_id))), kind == Event.ANNOUNCED
-        return Heard(item, kind, event.piece if has_piece else None, event.id if announced and event.has_id else None,
-                     event.size if announced and event.has_size else None, announced and bool(event.begins))
-
-    def _bytes(self, fields: Any, peer_id: bytes) -> bytes:
-        """The bytes of an item, each of which has one spelling."""
-        number, body = fields[8], self._out[:fields[2]]
-        if number == Id.HANDSHAKE:
-            return handshake(self._own.info_hash or b"", peer_id, fields[3])
-        if number == Id.KEEP_ALIVE:
-            return bytes(4)
-        if number == Id.EXTENDED:
-            content = bytes([fields[9]])
-        else:
-            numbers = [fields[7]] if number == Id.PORT else fields[4:7]
-            shape = _NUMBERS.get(number, ">")
-            content = struct.pack(shape, *numbers[:len(shape) - 1])
-        return struct.pack(">IB", 1 + len(content) + len(body), number) + content + body
+    def _show(self, start: int) -> None:
+        """Copies what came from this offset on, where an item starts, for its items. What comes before isn't kept any more."""
+        del self._kept[:start - self._from]
+        self._from, self._source = start, (bytes(self._kept), start)
+        self._ends = start + len(self._kept)
 
     def outgoing(self, most: int = 65536) -> bytes:
         """Returns the first bytes that wait to be sent, at most this many. They still wait."""
@@ -230,7 +231,7 @@ class End:
     def mismatches(self) -> int:
         """How often, on this connection, the blocks that came were those of other metadata."""
         self._open()
-        return lib.bt.bt_end_mismatches(self._c)
+        return int(lib.bt.bt_end_mismatches(self._c))
 
     def begin(self, size: int) -> None:
         """Fetches metadata of this size from now on, for a peer that announced a false one. Raises ValueError or MemoryError."""
@@ -246,4 +247,4 @@ class End:
         """Begins a new connection, with another peer or the same. What was fetched stays. Raises MemoryError."""
         self._see()
         _done(lib.bt.bt_end_reset(self._c))
-        self._rest, self._at = bytearray(), 0
+        self._begin()

@@ -1,7 +1,6 @@
 """The metadata of a torrent, from a peer."""
 from __future__ import annotations
 
-import asyncio
 import socket
 import time
 from typing import Optional, Tuple, Union
@@ -11,7 +10,7 @@ from ._end import End
 from ._names import EXTENSIONS, FAST, Event
 from ._values import Own
 
-# A host and a port, or both in one text with a colon between.
+# The name or the IP address of a host, and a port; or both in one text with a colon between.
 Address = Union[str, Tuple[str, int]]
 _CHUNK = 65536
 # Clients of this kind answer one request at a time: a second one makes them stop.
@@ -23,10 +22,13 @@ class FetchError(OSError):
 
 
 def _split(address: Address) -> Tuple[str, int]:
-    if isinstance(address, str):
-        host, _, port = address.rpartition(":")
-        address = host.strip("[]"), int(port)
-    return address[0], lib.number(address[1], 16, "port")
+    if not isinstance(address, str):
+        host, number = address
+        return host, lib.number(number, 16, "port")
+    host, _, port = address.rpartition(":")
+    if not host or not port.isdecimal():
+        raise ValueError("address is %r, not 'HOST:PORT'" % address)
+    return host.strip("[]"), lib.number(int(port), 16, "port")
 
 
 class _Fetch:
@@ -74,6 +76,8 @@ def fetch(address: Address, info_hash: lib.Bytes, timeout: float = 30, most: Opt
 async def fetch_async(address: Address, info_hash: lib.Bytes, timeout: float = 30, most: Optional[int] = None,
                       limit: int = 262144) -> bytes:
     """Returns the metadata as `fetch` does, by asyncio."""
+    import asyncio  # (it takes longer to load than all of this package)
+
     talk = _Fetch(info_hash, most, limit)
     with talk.end:
         try:
@@ -83,6 +87,8 @@ async def fetch_async(address: Address, info_hash: lib.Bytes, timeout: float = 3
 
 
 async def _talk(talk: _Fetch, address: Tuple[str, int]) -> bytes:
+    import asyncio
+
     reader, writer = await asyncio.open_connection(*address)
     try:
         while True:

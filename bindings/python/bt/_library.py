@@ -5,7 +5,7 @@ import ctypes as C
 import operator
 import os
 import struct
-from typing import Any, Dict, Optional, Tuple, Union
+from typing import Any, Dict, List, Optional, Tuple, Union
 
 ABI = 2
 MORE, ITEM, REFUSED, END, UNWRITTEN = range(5)
@@ -37,9 +37,10 @@ class Item(C.Structure):
                 ("id", C.c_uint16), ("extended_id", C.c_uint8), ("reason", C.c_uint8), ("extended", Extended)]
 
 
-# The fields of Item in one tuple, which is quicker than to ask for each.
-ITEM_FIELDS = struct.Struct("<4Q3I2H2B6x3QI4B")
-assert ITEM_FIELDS.size == C.sizeof(Item)
+# The fields of Item in one tuple, which is quicker than to ask for each; those of Extended are bytes in it.
+ITEM_FIELDS = struct.Struct("<4Q3I2H2B6x32s")
+EXTENDED_FIELDS = struct.Struct("<3QI4B")
+assert ITEM_FIELDS.size == C.sizeof(Item) and EXTENDED_FIELDS.size == C.sizeof(Extended)
 
 
 class Batch(C.Structure):
@@ -91,7 +92,7 @@ def _place() -> str:
     raise ImportError("there is no libbt.so; BT_LIBRARY may name its place")
 
 
-def _calls() -> Dict[str, Tuple[Any, list]]:
+def _calls() -> Dict[str, Tuple[Any, List[Any]]]:
     """The result and the parameters of each call of bt.h."""
     at, n, to, status = C.c_void_p, C.c_size_t, C.POINTER, C.c_uint32
     out = [at, n, to(Item)]
@@ -139,6 +140,10 @@ def _load() -> Any:
 
 
 bt = _load()
+# Two calls for arguments that are already of C, which are taken as they are: much quicker than to convert seven.
+_raw = C.CDLL(bt._name)
+write, end_next = _raw.bt_write, _raw.bt_end_next
+write.restype = end_next.restype = C.c_uint32
 
 
 def name_of(call: Any, of: Any) -> str:
@@ -150,15 +155,28 @@ def name_of(call: Any, of: Any) -> str:
 
 def number(value: int, bits: int, what: str) -> int:
     """Returns the number if it is one of so many bits. Raises ValueError or TypeError if it isn't."""
-    value = operator.index(value)
+    try:
+        value = operator.index(value)
+    except TypeError:
+        raise TypeError("%s is %s, not an integer" % (what, type(value).__name__)) from None
     if not 0 <= value < 1 << bits:
         raise ValueError("%s is %d, not 0 to %d" % (what, value, (1 << bits) - 1))
     return value
 
 
+def positive(value: int, what: str) -> int:
+    """Returns the number if it is one of 31 bits, and not 0."""
+    if number(value, 31, what) == 0:
+        raise ValueError("%s is 0" % what)
+    return value
+
+
 def content(data: Bytes, what: str = "data", size: Optional[int] = None) -> bytes:
     """Returns the bytes, if they are as many as wanted. Raises ValueError or TypeError if not."""
-    view = memoryview(data)
+    try:
+        view = memoryview(data)
+    except TypeError:
+        raise TypeError("%s is %s, not bytes" % (what, type(data).__name__)) from None
     if view.itemsize != 1:
         raise TypeError("%s has elements of %d bytes each" % (what, view.itemsize))
     found = data if isinstance(data, bytes) else bytes(view)

@@ -1,13 +1,16 @@
 """Streams read: whole, or in chunks."""
 from __future__ import annotations
 
-import ctypes as C
 from collections import deque
-from itertools import islice
-from typing import Deque, Iterator, Optional, Union
+from functools import partial
+from itertools import chain, islice, repeat
+from typing import TYPE_CHECKING, Any, AsyncIterator, Deque, Iterator, Optional, Union
 
 from . import _library as lib
 from ._values import Item, Own, Refused
+
+if TYPE_CHECKING:
+    import asyncio
 
 _ROOM = 256
 
@@ -19,41 +22,37 @@ class _Reader:
         self.state, self.items, self.batch, self.count = lib.Reader(), (lib.Item * _ROOM)(), lib.Batch(), 0
         lib.bt.bt_reader_init(self.state, (own or Own())._struct())
 
-    def next(self, data: Union[bytes, bytearray], at: int, ended: bool, out: Deque[Item]) -> int:
+    def next(self, data: Union[bytes, bytearray], at: int, ended: bool) -> int:
         """Reads from `at` on as many items as there is room for, and returns how many bytes they have.
 
         Raises Refused if there is none, since the stream is refused there.
         """
-        start, place = at, lib.address(data, at)
+        place = lib.address(data, at)
         answer = lib.bt.bt_reader_batch(self.state, place, len(data) - at, self.items, _ROOM, self.batch)
         if self.batch.count == 0 and answer == lib.MORE and ended:
             answer = lib.bt.bt_reader_finish(self.state, place, len(data) - at, self.items)
         if self.batch.count == 0 and answer == lib.REFUSED:
             refusal = self.items[0]
             raise Refused(refusal.start + refusal.size, refusal.reason, self.count)
-        with memoryview(data) as view:
-            for fields in islice(lib.ITEM_FIELDS.iter_unpack(self.items), self.batch.count):
-                out.append(Item(fields, bytes(view[at:at + fields[1]])))
-                at += fields[1]
         self.count += self.batch.count
-        return at - start
+        return int(self.batch.used)
+
+    def shown(self, data: bytes, base: int) -> Iterator[Item]:
+        """The items that were read last, with the bytes that they lie in and the offset of these. Use it up before `next`."""
+        return map(Item, islice(lib.ITEM_FIELDS.iter_unpack(self.items), self.batch.count), repeat((data, base)))
 
 
 def read(data: lib.Bytes, own: Optional[Own] = None) -> Iterator[Item]:
     """Returns an iterator over the items of a whole stream, which raises Refused if the stream is refused."""
-    return _items(lib.content(data), _Reader(own))
+    return chain.from_iterable(_batches(lib.content(data), _Reader(own)))
 
 
-def _items(data: bytes, reader: _Reader) -> Iterator[Item]:
-    out: Deque[Item] = deque()
-    at = 0
-    while True:
-        used = reader.next(data, at, True, out)
-        if not used:
-            return
+def _batches(data: bytes, reader: _Reader) -> Iterator[Iterator[Item]]:
+    at, used = 0, reader.next(data, 0, True)
+    while used:
+        yield reader.shown(data, 0)
         at += used
-        while out:
-            yield out.popleft()
+        used = reader.next(data, at, True)
 
 
 class Feed:
@@ -71,7 +70,7 @@ class Feed:
     @property
     def start(self) -> int:
         """The offset of the next item in the stream."""
-        return self._ready[0].start if self._ready else self._reader.state.start
+        return self._ready[0].start if self._ready else int(self._reader.state.start)
 
     def push(self, chunk: lib.Bytes) -> Iterator[Item]:
         """Takes all bytes of the chunk, and returns an iterator over the items that are whole."""
@@ -90,7 +89,12 @@ class Feed:
         return self._items(True)
 
     def _read(self, ended: bool) -> None:
-        self._at += self._reader.next(self._data, self._at, ended, self._ready)
+        base = self._reader.state.start
+        used = self._reader.next(self._data, self._at, ended)
+        if used:
+            with memoryview(self._data) as view:
+                self._ready.extend(self._reader.shown(bytes(view[self._at:self._at + used]), base))
+        self._at += used
 
     def _items(self, ended: bool) -> Iterator[Item]:
         while True:
@@ -101,9 +105,44 @@ class Feed:
                 return
 
 
+def stream(source: Any, own: Optional[Own] = None, size: int = 65536) -> Iterator[Item]:
+    """Returns an iterator over the items of a socket, a binary file, or an iterable of bytes, until that ends.
+
+    It takes at most `size` bytes at a time, and raises Refused as `Feed` does.
+    """
+    return _fed(_chunks(source, lib.positive(size, "size")), Feed(own))
+
+
+def _chunks(source: Any, size: int) -> Iterator[Any]:
+    if isinstance(source, (bytes, bytearray, memoryview, str)):
+        raise TypeError("source is %s, not a socket, a file or an iterable of bytes: `read` takes bytes" % type(source).__name__)
+    # (a buffered file's `read` waits until it has all)
+    for name in ("recv", "read1", "read"):
+        if hasattr(source, name):
+            return iter(partial(getattr(source, name), size), b"")
+    return iter(source)
+
+
+def _fed(chunks: Iterator[Any], feed: Feed) -> Iterator[Item]:
+    for chunk in chunks:
+        yield from feed.push(chunk)
+    yield from feed.finish()
+
+
+async def stream_async(reader: asyncio.StreamReader, own: Optional[Own] = None, size: int = 65536) -> AsyncIterator[Item]:
+    """Iterates over the items of an `asyncio.StreamReader` until its stream ends, as `stream`: `async for item in ..`."""
+    feed = Feed(own)
+    while True:
+        chunk = await reader.read(lib.positive(size, "size"))
+        for item in feed.push(chunk) if chunk else feed.finish():
+            yield item
+        if not chunk:
+            return
+
+
 def check(data: lib.Bytes, own: Optional[Own] = None) -> int:
     """Judges a whole stream, and returns how many messages it has. Raises Refused."""
     verdict, stream = lib.Verdict(), lib.content(data)
     if lib.bt.bt_check((own or Own())._struct(), stream, len(stream), verdict) == lib.REFUSED:
         raise Refused(verdict.at, verdict.reason, verdict.message)
-    return verdict.message
+    return int(verdict.message)

@@ -8,12 +8,15 @@ from typing import Any, Dict, Optional, Tuple
 from . import _library as lib
 from ._names import DHT, EXTENSIONS, FAST, Id, Kind, Reason
 
-_IDS: Dict[int, int] = {it.value: it for it in Id}
-_WITH_INDEX = frozenset((Id.HAVE, Id.SUGGEST, Id.ALLOWED_FAST, Id.REQUEST, Id.CANCEL, Id.REJECT, Id.PIECE))
-_WITH_BEGIN = frozenset((Id.REQUEST, Id.CANCEL, Id.REJECT, Id.PIECE))
-_WITH_LENGTH = frozenset((Id.REQUEST, Id.CANCEL, Id.REJECT))
-_WITH_PIECE = frozenset((Kind.METADATA_REQUEST, Kind.METADATA_DATA, Kind.METADATA_REJECT, Kind.DONTHAVE))
-_names: Dict[Tuple[int, int], str] = {}
+# by the number of a bt_item, which is at most that of the handshake
+_IDS: Dict[int, int] = {**{number: number for number in range(258)}, **{it.value: it for it in Id}}
+_KINDS: Dict[int, Kind] = {it.value: it for it in Kind}
+_PORT, _EXTENDED, _HANDSHAKE = (int(id) for id in (Id.PORT, Id.EXTENDED, Id.HANDSHAKE))
+_WITH_INDEX = frozenset(map(int, (Id.HAVE, Id.SUGGEST, Id.ALLOWED_FAST, Id.REQUEST, Id.CANCEL, Id.REJECT, Id.PIECE)))
+_WITH_BEGIN = frozenset(map(int, (Id.REQUEST, Id.CANCEL, Id.REJECT, Id.PIECE)))
+_WITH_LENGTH = frozenset(map(int, (Id.REQUEST, Id.CANCEL, Id.REJECT)))
+_WITH_PIECE = frozenset(map(int, (Kind.METADATA_REQUEST, Kind.METADATA_DATA, Kind.METADATA_REJECT, Kind.DONTHAVE)))
+_NOT_EXTENDED = (0,) * 8
 
 
 class Refused(ValueError):
@@ -72,96 +75,188 @@ class Own:
 
 
 class Item:
-    """The handshake or a message. A field that this kind of item doesn't have is None."""
+    """The handshake or a message. A field that this kind of item doesn't have is None.
 
-    start: int
-    """Its offset on the stream."""
-    id: int
-    """Its `Id`, or the number of an unknown message."""
-    name: str
-    """Its name as `bt_tool show` prints it, like 'have' or 'metadata-request'."""
-    data: bytes
-    """All its bytes."""
-    index: Optional[int]
-    begin: Optional[int]
-    length: Optional[int]
-    port: Optional[int]
-    body: Optional[bytes]
-    """The bitfield, block or payload, which is empty if the message has none. None of a handshake."""
-    reserved: Optional[int]
-    """The reserved bits of a handshake."""
-    info_hash: Optional[bytes]
-    peer_id: Optional[bytes]
-    extended_id: Optional[int]
-    """The id within the extension protocol."""
-    kind: Optional[Kind]
-    """What an extended message is."""
-    piece: Optional[int]
-    """The number of a metadata block, or the piece that the peer no longer has (lt_donthave)."""
-    total_size: Optional[int]
-    """How many bytes the metadata has, by a data message."""
-    dict_size: Optional[int]
-    """How many bytes of the body are the dictionary of an extended message."""
-    metadata_size: Optional[int]
-    """How many bytes the metadata has, by an extended handshake."""
-    ut_metadata: Optional[int]
-    """The id for ut_metadata that an extended handshake announces."""
+    An item is what the library read, and keeps the bytes that it was read from. A field is worked out when it is asked for;
+    `data`, `body` and `rest` are copied then, and `view` isn't. Items can't be changed.
+    """
 
-    __slots__ = ("start", "id", "name", "data", "index", "begin", "length", "port", "body", "reserved", "info_hash", "peer_id",
-                 "extended_id", "kind", "piece", "total_size", "dict_size", "metadata_size", "ut_metadata")
+    __slots__ = ("_fields", "_source")
 
-    def __init__(self, fields: Tuple[int, ...], data: bytes) -> None:
-        """Takes the fields of a `bt_item` in order, and the item's bytes. Readers call it."""
-        number, kind = fields[8], fields[15] if fields[8] == Id.EXTENDED else 0
-        self.start, self.id, self.data, self.name = fields[0], _IDS.get(number, number), data, _name(number, kind)
-        self.index = fields[4] if number in _WITH_INDEX else None
-        self.begin = fields[5] if number in _WITH_BEGIN else None
-        self.length = fields[6] if number in _WITH_LENGTH else None
-        self.port = fields[7] if number == Id.PORT else None
-        self.body = self.reserved = self.info_hash = self.peer_id = None
-        if number == Id.HANDSHAKE:
-            self.reserved, self.info_hash, self.peer_id = fields[3], data[28:48], data[48:68]
-        else:
-            self.body = data[len(data) - fields[2]:]
-        self.extended_id = self.kind = self.piece = self.total_size = None
-        self.dict_size = self.metadata_size = self.ut_metadata = None
-        if kind:
-            self._extend(fields[9], fields[11:])
+    def __init__(self, fields: Tuple[Any, ...], source: Tuple[bytes, int]) -> None:
+        """Takes the fields of a `bt_item` in order, and bytes with their offset on the stream. Readers call it."""
+        self._fields = fields
+        self._source = source
 
-    def _extend(self, extended_id: int, fields: Tuple[int, ...]) -> None:
-        total_size, metadata_size, dict_size, piece, kind, ut_metadata, has_size, has_id = fields
-        self.extended_id, self.kind, self.dict_size = extended_id, Kind(kind), dict_size
-        if kind in _WITH_PIECE:
-            self.piece = piece
-        if kind == Kind.METADATA_DATA:
-            self.total_size = total_size
-        if kind == Kind.EXT_HANDSHAKE:
-            self.metadata_size = metadata_size if has_size else None
-            self.ut_metadata = ut_metadata if has_id else None
+    @property
+    def start(self) -> int:
+        """Its offset on the stream."""
+        return self._fields[0]  # type: ignore[no-any-return]
+
+    @property
+    def size(self) -> int:
+        """How many bytes it has."""
+        return self._fields[1]  # type: ignore[no-any-return]
+
+    @property
+    def id(self) -> int:
+        """Its `Id`, or the number of an unknown message."""
+        return _IDS[self._fields[8]]
+
+    @property
+    def name(self) -> str:
+        """Its name as `bt_tool show` prints it, like 'have' or 'metadata-request'."""
+        fields = self._fields
+        return _NAMES[fields[8] if fields[8] != _EXTENDED else _EXTENDED + (fields[11][28] << 9)]
+
+    @property
+    def data(self) -> bytes:
+        """All its bytes."""
+        fields, (source, base) = self._fields, self._source
+        at = fields[0] - base
+        return source[at:at + fields[1]]
+
+    @property
+    def index(self) -> Optional[int]:
+        """The number of a piece, of have, suggest, allowed-fast, request, piece, cancel and reject."""
+        fields = self._fields
+        return fields[4] if fields[8] in _WITH_INDEX else None
+
+    @property
+    def begin(self) -> Optional[int]:
+        """The offset of a block in its piece, of request, piece, cancel and reject."""
+        fields = self._fields
+        return fields[5] if fields[8] in _WITH_BEGIN else None
+
+    @property
+    def length(self) -> Optional[int]:
+        """How many bytes the block has, of request, cancel and reject. A piece has them as its body."""
+        fields = self._fields
+        return fields[6] if fields[8] in _WITH_LENGTH else None
+
+    @property
+    def port(self) -> Optional[int]:
+        """The port of the peer's DHT node."""
+        fields = self._fields
+        return fields[7] if fields[8] == _PORT else None
+
+    @property
+    def body(self) -> Optional[bytes]:
+        """The bitfield, block or payload, which is empty if the message has none. None of a handshake."""
+        fields, (source, base) = self._fields, self._source
+        end = fields[0] + fields[1] - base
+        return source[end - fields[2]:end] if fields[8] != _HANDSHAKE else None
+
+    @property
+    def view(self) -> memoryview:
+        """The body without a copy, or all bytes of a handshake."""
+        fields, (source, base) = self._fields, self._source
+        end = fields[0] + fields[1] - base
+        return memoryview(source)[end - (fields[2] if fields[8] != _HANDSHAKE else fields[1]):end]
+
+    @property
+    def reserved(self) -> Optional[int]:
+        """The reserved bits of a handshake."""
+        return self._fields[3] if self._fields[8] == _HANDSHAKE else None
+
+    @property
+    def info_hash(self) -> Optional[bytes]:
+        """The info hash of a handshake, 20 bytes."""
+        return self.data[28:48] if self._fields[8] == _HANDSHAKE else None
+
+    @property
+    def peer_id(self) -> Optional[bytes]:
+        """The peer id of a handshake, 20 bytes."""
+        return self.data[48:68] if self._fields[8] == _HANDSHAKE else None
+
+    @property
+    def _extended(self) -> Tuple[int, ...]:
+        """The fields of a `bt_extended` in order."""
+        return lib.EXTENDED_FIELDS.unpack(self._fields[11]) if self._fields[8] == _EXTENDED else _NOT_EXTENDED
+
+    @property
+    def extended_id(self) -> Optional[int]:
+        """The id within the extension protocol."""
+        fields, (source, base) = self._fields, self._source
+        return source[fields[0] - base + 5] if fields[8] == _EXTENDED else None
+
+    @property
+    def kind(self) -> Optional[Kind]:
+        """What an extended message is."""
+        fields = self._fields
+        return _KINDS[fields[11][28]] if fields[8] == _EXTENDED else None
+
+    @property
+    def piece(self) -> Optional[int]:
+        """The number of a metadata block, or the piece that the peer no longer has (lt_donthave)."""
+        fields = self._extended
+        return fields[3] if fields[4] in _WITH_PIECE else None
+
+    @property
+    def total_size(self) -> Optional[int]:
+        """How many bytes the metadata has, by a data message."""
+        fields = self._extended
+        return fields[0] if fields[4] == Kind.METADATA_DATA else None
+
+    @property
+    def dict_size(self) -> Optional[int]:
+        """How many bytes of the body are the dictionary of an extended message."""
+        return self._extended[2] if self._fields[8] == _EXTENDED else None
+
+    @property
+    def metadata_size(self) -> Optional[int]:
+        """How many bytes the metadata has, by an extended handshake."""
+        fields = self._extended
+        return fields[1] if fields[4] == Kind.EXT_HANDSHAKE and fields[6] else None
+
+    @property
+    def ut_metadata(self) -> Optional[int]:
+        """The id for ut_metadata that an extended handshake announces."""
+        fields = self._extended
+        return fields[5] if fields[4] == Kind.EXT_HANDSHAKE and fields[7] else None
 
     @property
     def rest(self) -> Optional[bytes]:
         """What follows the dictionary of an extended message, as the block of a data message."""
-        return None if self.body is None or self.dict_size is None else self.body[self.dict_size:]
+        body, size = self.body, self.dict_size
+        return None if body is None or size is None else body[size:]
+
+    def asdict(self) -> Dict[str, Any]:
+        """Returns the fields that it has by name, except `data`. `json.dumps(item.asdict(), default=bytes.hex)` makes a line."""
+        found = {name: getattr(self, name) for name in _SHOWN if name != "data"}
+        return {name: value for name, value in found.items() if value is not None}
 
     def _all(self) -> Tuple[Any, ...]:
-        return tuple(getattr(self, slot) for slot in self.__slots__)
+        return tuple(getattr(self, name) for name in _SHOWN)
 
     def __eq__(self, other: object) -> bool:
-        return self._all() == other._all() if isinstance(other, Item) else NotImplemented
+        if not isinstance(other, Item):
+            return NotImplemented
+        return self._all() == other._all()
 
     def __hash__(self) -> int:
         return hash((self.start, self.data))
 
     def __repr__(self) -> str:
-        return "<bt.Item %s at %d, %d bytes>" % (self.name, self.start, len(self.data))
+        return "<bt.Item %s at %d, %d bytes>" % (self.name, self.start, self.size)
+
+    def __reduce__(self) -> Tuple[Any, Tuple[Any, Tuple[bytes, int]]]:
+        # (a copy has its own bytes only, not the whole buffer)
+        return type(self), (self._fields, (self.data, self.start))
 
 
-def _name(number: int, kind: int) -> str:
-    """The name of an item, by its id and the kind of an extended message."""
-    found = _names.get((number, kind))
-    if found is None:
-        item = lib.Item(id=number)
-        item.extended.kind = kind
-        found = _names[number, kind] = lib.name_of(lib.bt.bt_item_name, C.byref(item))
-    return found
+_SHOWN = ("start", "size", "id", "name", "data", "index", "begin", "length", "port", "body", "reserved", "info_hash", "peer_id",
+          "extended_id", "kind", "piece", "total_size", "dict_size", "metadata_size", "ut_metadata")
+
+
+class _Names(Dict[int, str]):
+    """The names of items by their id, and 512 times the kind of an extended message. Each is asked for once."""
+
+    def __missing__(self, key: int) -> str:
+        item = lib.Item(id=key % 512)
+        item.extended.kind = key // 512
+        found = self[key] = lib.name_of(lib.bt.bt_item_name, C.byref(item))
+        return found
+
+
+_NAMES = _Names()

@@ -2,7 +2,9 @@
 from __future__ import annotations
 
 import ctypes as C
+import struct
 from dataclasses import replace
+from functools import partial
 from typing import Any, Optional
 
 from . import _library as lib
@@ -11,6 +13,8 @@ from ._values import Item, Own, Refused
 
 # What a message has besides its body, and a dictionary that the library writes.
 _HEAD, _DICT = 17, 160
+# The numbers of a bt_item that a message may have, in order.
+_NUMBERS = struct.Struct("<32x3I2HB")
 
 
 def handshake(info_hash: lib.Bytes, peer_id: lib.Bytes, reserved: int = FAST | DHT | EXTENSIONS) -> bytes:
@@ -31,9 +35,20 @@ class Writer:
     """
 
     def __init__(self, own: Own, reserved: int) -> None:
-        self._c, self._written, self._own, self._count = lib.Reader(), lib.Item(), own, 1
+        self._c, self._written, self._item, self._own, self._count = lib.Reader(), lib.Item(), lib.Item(), own, 1
         lib.bt.bt_writer_init(self._c, own._struct(), lib.number(reserved, 64, "reserved"))
         self._own = replace(own, reserved=self._c.own.reserved, metadata_id=self._c.own.metadata_id)
+        self._numbers = memoryview(self._item).cast("B")
+        self._sizes = memoryview(self._written).cast("B")[:16].cast("Q")
+        self._make_room(512)
+
+    def _make_room(self, room: int) -> None:
+        """Makes the buffer for what is written, and the calls with all arguments that stay, which ctypes then needn't convert."""
+        self._room, out = room, C.create_string_buffer(room)
+        self._out = memoryview(out).cast("B")
+        end = C.byref(out), C.c_size_t(room), C.byref(self._written)
+        self._body, self._size = C.c_char_p(), C.c_size_t()
+        self._write = partial(lib.write, C.byref(self._c), C.byref(self._item), self._body, self._size, *end)
 
     @property
     def peer(self) -> Own:
@@ -58,18 +73,28 @@ class Writer:
         if answer != lib.ITEM:
             raise ValueError(why)
         self._count += 1
-        return out.raw[:self._written.size]
+        return bytes(out[:self._sizes[1]])
 
     def message(self, id: int, index: int = 0, begin: int = 0, length: int = 0, port: int = 0, extended_id: int = 0,
                 body: lib.Bytes = b"") -> bytes:
         """Writes a message by its id, the numbers that the id has, and its bitfield, block or payload."""
-        item = lib.Item(id=lib.number(id, 16, "id"), index=lib.number(index, 32, "index"), begin=lib.number(begin, 32, "begin"),
-                        length=lib.number(length, 32, "length"), port=lib.number(port, 16, "port"),
-                        extended_id=lib.number(extended_id, 8, "extended_id"))
-        body = lib.content(body, "body")
-        out = C.create_string_buffer(_HEAD + len(body))
-        answer = lib.bt.bt_write(self._c, item, body, len(body), out, len(out), self._written)
-        return self._end(answer, out, "no message has the id %d" % id)
+        try:
+            _NUMBERS.pack_into(self._numbers, 0, index, begin, length, port, id, extended_id)
+        except struct.error:
+            for value, bits, what in ((id, 16, "id"), (index, 32, "index"), (begin, 32, "begin"), (length, 32, "length"),
+                                      (port, 16, "port"), (extended_id, 8, "extended_id")):
+                lib.number(value, bits, what)
+            raise
+        if type(body) is not bytes:
+            body = lib.content(body, "body")
+        if _HEAD + len(body) > self._room:
+            self._make_room(_HEAD + len(body))
+        self._body.value, self._size.value = body, len(body)
+        answer = self._write()
+        if answer != lib.ITEM:
+            return self._end(answer, self._out, "no message has the id %d" % id)
+        self._count += 1
+        return bytes(self._out[:self._sizes[1]])
 
     def keep_alive(self) -> bytes:
         """Writes a keep-alive."""

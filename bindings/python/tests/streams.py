@@ -4,11 +4,15 @@
 The messages' bytes are those of BEP 3, BEP 5, BEP 6, BEP 9 and BEP 10. SECONDS is how long random messages are written and read.
 """
 import array
+import asyncio
 import copy
 import dataclasses
+import io
+import json
 import os
 import pickle
 import random
+import socket
 import subprocess
 import sys
 import time
@@ -228,6 +232,135 @@ class Items(unittest.TestCase):
                          (bt.Kind.EXT_HANDSHAKE, 0, 7, None, 24))
         self.assertEqual((extended.rest, extended.data[6:]), (b"", b"d1:md11:ut_metadatai7eee"))
         self.assertEqual((extended.kind.name, bt.Reason(9).name, repr(request)), ("EXT_HANDSHAKE", "LATE", "<bt.Item request at 68, 17 bytes>"))
+
+
+    def test_a_view_is_no_copy(self):
+        data = example("downloading")
+        for item in bt.read(data):
+            self.assertIs(item.view.obj, data)
+            self.assertEqual(bytes(item.view), item.data if item.id == bt.HANDSHAKE else item.body)
+
+    def test_they_cannot_be_changed(self):
+        item = next(bt.read(HELLO))
+        for name in ("start", "id", "data", "kind", "another"):
+            self.assertRaises(AttributeError, setattr, item, name, 1)
+
+    def test_they_keep_what_they_were_read_from(self):
+        given = bytearray(example("downloading"))
+        items, fed = list(bt.read(given)), list(bt.Feed().push(given))
+        given[:] = bytes(len(given))
+        self.assertEqual((items, fed), (list(bt.read(example("downloading"))),) * 2)
+        self.assertLess(len(pickle.dumps(items[0])), 500)
+
+    def test_a_dictionary(self):
+        items = list(bt.read(HELLO + open_writer().have_none() + open_writer().request(1, 2, 3)))
+        self.assertEqual(items[2].asdict(), {"start": 73, "size": 17, "id": bt.REQUEST, "name": "request", "index": 1, "begin": 2,
+                                             "length": 3, "body": b""})
+        line = json.loads(json.dumps(items[0].asdict(), default=bytes.hex))
+        self.assertEqual((line["info_hash"], line["name"], line["id"]), (HASH.hex(), "handshake", 257))
+
+    def test_each_property_says_what_it_is(self):
+        for name, found in vars(bt.Item).items():
+            if isinstance(found, property):
+                self.assertTrue(found.__doc__, name)
+
+
+class Streams(unittest.TestCase):
+    WANTED = [(it.start, it.data) for it in bt.read(example("downloading"))]
+
+    def said(self, items):
+        return [(it.start, it.data) for it in items]
+
+    def test_files_and_chunks(self):
+        data = example("downloading")
+        for source in (io.BytesIO(data), io.BufferedReader(io.BytesIO(data)), [data], (data[k:k + 1] for k in range(len(data))),
+                       [data[:70], b"", memoryview(data)[70:]]):
+            self.assertEqual(self.said(bt.stream(source, size=7)), self.WANTED)
+
+    def test_a_socket(self):
+        one, other = socket.socketpair()
+        with other:
+            with one:
+                one.sendall(example("first"))
+                items = bt.stream(other)
+                # (an item is there before the stream ends)
+                self.assertEqual(next(items).name, "handshake")
+            self.assertEqual(self.said(items), self.said(bt.read(example("first")))[1:])
+
+    def test_by_asyncio(self):
+        async def told(data):
+            reader = asyncio.StreamReader()
+            reader.feed_data(data)
+            reader.feed_eof()
+            return [item async for item in bt.stream_async(reader, size=11)]
+        self.assertEqual(self.said(asyncio.run(told(example("downloading")))), self.WANTED)
+        self.assertRaises(bt.Refused, lambda: asyncio.run(told(HELLO[:-1])))
+
+    def test_what_is_no_source(self):
+        for source in (b"bytes", "text", 5, io.StringIO("text"), ["text"], [1]):
+            self.assertRaises(TypeError, lambda: list(bt.stream(source)))
+        self.assertRaisesRegex(ValueError, "^size is 0$", bt.stream, [], None, 0)
+        self.assertRaises(bt.Refused, list, bt.stream([]))
+        self.assertRaises(bt.Refused, list, bt.stream([example("first")], STRICT))
+
+
+class Columns(unittest.TestCase):
+    FIELDS = ("start", "size", "id", "kind", "index", "begin", "length", "body", "port", "extended_id", "piece", "dict_size",
+              "total_size", "metadata_size", "ut_metadata")
+
+    def wanted(self, field, items):
+        return [len(item.body or b"") if field == "body" else getattr(item, field) or 0 for item in items]
+
+    def test_they_say_what_items_say(self):
+        chosen = random.Random(5)
+        for name in ("first", "fetching", "serving", "downloading"):
+            for k in range(40):
+                data = bytearray(example(name) + bytes(4) * chosen.choice([0, 1, 3000]))
+                if k:
+                    data = data[:chosen.randrange(len(data) + 1)]
+                    for _ in range(chosen.randrange(2) if data else 0):
+                        data[chosen.randrange(min(len(data), 400))] = chosen.randrange(256)
+                items, end = told(bt.read(data))
+                found = bt.columns(data, fields=self.FIELDS, partial=True)
+                self.assertEqual(repr(found.refused) if found.refused else len(found) - 1, end)
+                for field in self.FIELDS:
+                    self.assertEqual(getattr(found, field).tolist(), self.wanted(field, items), field)
+
+    def test_as_many_as_a_batch_has(self):
+        for more in range(1020, 1028):
+            data = HELLO + bytes(4) * more
+            self.assertEqual(bt.columns(data).start.tolist(), [0, *range(68, len(data), 4)])
+            broken = bt.columns(data + b"\0\0\0\1\x63", bt.Own(strict=True), ["id"], partial=True)
+            self.assertEqual((len(broken), broken.refused.message, broken.refused.at), (more + 1, more + 1, len(data) + 4))
+
+    def test_names(self):
+        found = bt.columns(HELLO)
+        self.assertEqual({name: list(column) for name, column in dict(found).items()},
+                         dict(start=[0], size=[68], id=[bt.HANDSHAKE], kind=[0], index=[0], begin=[0], length=[0], body=[0]))
+        self.assertRaises(AttributeError, lambda: found.nothing)
+        self.assertRaises(KeyError, lambda: found["nothing"])
+        self.assertEqual((len(bt.columns(HELLO, fields=[])), found.refused, found.id.readonly), (1, None, True))
+        self.assertRaisesRegex(ValueError, "fields has 'data'", bt.columns, HELLO, None, ["data"])
+
+    def test_refusals(self):
+        self.assertRaises(bt.Refused, bt.columns, example("first"), STRICT)
+        self.assertRaises(bt.Refused, bt.columns, b"")
+
+
+class Package(unittest.TestCase):
+    def test_it_loads_without_asyncio(self):
+        program = "import sys, bt; print(*sorted({'asyncio', 'ssl', 'subprocess'} & {*sys.modules}))"
+        said = subprocess.run([sys.executable, "-c", program], env={**os.environ, "PYTHONPATH": PACKAGE}, stdout=subprocess.PIPE, check=True)
+        self.assertEqual(said.stdout.strip(), b"")
+
+    def test_messages_name_the_argument(self):
+        for says, call in (("^info_hash is str, not bytes$", lambda: bt.fetch("localhost:1", "00" * 20)),
+                           ("^data is int, not bytes$", lambda: bt.read(5)), ("^index is str, not an integer$", lambda: open_writer().have("1")),
+                           ("^limit is float, not an integer$", lambda: bt.Own(limit=1.5))):
+            self.assertRaisesRegex(TypeError, says, call)
+        for address in ("localhost", "localhost:", ":6881", "localhost:http"):
+            self.assertRaisesRegex(ValueError, "address is '%s', not 'HOST:PORT'" % address, bt.fetch, address, HASH)
+        self.assertRaisesRegex(ValueError, "port is 65536", bt.fetch, ("localhost", 65536), HASH)
 
 
 class Written(unittest.TestCase):
