@@ -33,8 +33,8 @@ sys.dont_write_bytecode = True
 sys.path.insert(0, os.path.join(ROOT, "tools/packages"))
 import help_texts  # noqa: E402
 
-# The documents whose programs are tried: README.md and docs/RATTLE.md here, docs/C.md by tests/c_library.
-COMPILED = ("README.md", "docs/RATTLE.md", "docs/C.md")
+# The documents whose programs are tried: README.md and docs/RATTLE.md here, docs/C.md and docs/PYTHON.md by tests/c_library.
+COMPILED = ("README.md", "docs/RATTLE.md", "docs/C.md", "docs/PYTHON.md")
 # The most bytes of a document.
 LONGEST = 12 * 1024
 # How the paths begin that documents name from the top of the repository.

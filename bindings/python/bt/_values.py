@@ -9,7 +9,7 @@ from . import _library as lib
 from ._names import DHT, EXTENSIONS, FAST, Id, Kind, Reason
 
 # by the number of a bt_item, which is at most that of the handshake
-_IDS: Dict[int, int] = {**{number: number for number in range(258)}, **{it.value: it for it in Id}}
+_IDS: Tuple[int, ...] = tuple({it.value: it for it in Id}.get(number, number) for number in range(258))
 _KINDS: Dict[int, Kind] = {it.value: it for it in Kind}
 _PORT, _EXTENDED, _HANDSHAKE = (int(id) for id in (Id.PORT, Id.EXTENDED, Id.HANDSHAKE))
 _WITH_INDEX = frozenset(map(int, (Id.HAVE, Id.SUGGEST, Id.ALLOWED_FAST, Id.REQUEST, Id.CANCEL, Id.REJECT, Id.PIECE)))
@@ -101,7 +101,7 @@ class Item:
     @property
     def id(self) -> int:
         """Its `Id`, or the number of an unknown message."""
-        return _IDS[self._fields[8]]
+        return _IDS[self._fields[8]]  # type: ignore[no-any-return]
 
     @property
     def name(self) -> str:
