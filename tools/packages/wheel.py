@@ -12,8 +12,15 @@ METADATA = """Metadata-Version: 2.1
 Name: {name}
 Version: {version}
 Summary: Reads and writes the BitTorrent peer wire (BEP 3, 5, 6, 9 and 10), over a proved library
+Keywords: bittorrent,protocol,parser
+Classifier: Intended Audience :: Developers
+Classifier: Operating System :: POSIX :: Linux
+Classifier: Programming Language :: Python :: 3
+Classifier: Typing :: Typed
 Requires-Python: >=3.8
-"""
+Description-Content-Type: text/markdown
+
+{text}"""
 
 WHEEL = """Wheel-Version: 1.0
 Generator: tools/dist
@@ -24,6 +31,10 @@ Tag: py3-none-{platform}
 
 class TooNew(Exception):
     """Says which version of the C library is wanted."""
+
+
+class OtherVersion(Exception):
+    """Says which version the package has, and which the program."""
 
 
 def file_name(version):
@@ -43,14 +54,27 @@ def package(root):
     return {it.name: it.read_bytes() for it in (root / "bindings/python/bt").iterdir() if it.suffix in (".py", ".typed")}
 
 
+def described(package):
+    """The text that the package begins with, where its first programs are."""
+    return re.match(r'"""(.*?)"""', package["__init__.py"].decode(), re.S)[1]
+
+
+def see_version(package, version):
+    """Fails if the package says another version."""
+    said = re.search(r'^__version__ = "(.*)"$', package["__init__.py"].decode(), re.M)
+    if not said or said[1] != version:
+        raise OtherVersion("bindings/python/bt has the __version__ %s, and the program %s" % (said and said[1], version))
+
+
 def make(to, version, package, library):
     """Writes the wheel of the package's files and the library's bytes."""
     see_platform(library)
+    see_version(package, version)
     info = "%s-%s.dist-info" % (NAME, version)
     files = {
         **{"bt/" + name: text for name, text in package.items()},
         "bt/libbt.so": library,
-        info + "/METADATA": METADATA.format(name=NAME.replace("_", "-"), version=version).encode(),
+        info + "/METADATA": METADATA.format(name=NAME.replace("_", "-"), version=version, text=described(package)).encode(),
         info + "/WHEEL": WHEEL.format(platform=PLATFORM).encode(),
     }
     record = ""

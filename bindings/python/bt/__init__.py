@@ -16,7 +16,17 @@
     writer = bt.Writer(own, handshake.reserved)     # what is sent is judged as the peer reads it
     sock.sendall(writer.request(0, 0, 16384))       # raises bt.Refused if the peer would refuse it
 
-    metadata = bt.fetch("192.0.2.1:6881", info_hash)    # bt.End is one end of a connection, without a socket
+    metadata = bt.fetch("localhost:6881", info_hash)    # bt.End is one end of a connection, without a socket
+
+What there is, each with its own help, as help(bt.Item):
+
+    read, stream, stream_async, Feed, check     items of bytes, of a socket or a file, of chunks; a verdict only
+    columns, Columns                            numbers of all items at once
+    Own, Item, Refused                          what a stream is judged by, the handshake or a message, why it is refused
+    Writer, handshake                           messages and the handshake, as bytes
+    End, Heard, Progress, Event, Announce       one end of a connection, and what it heard
+    fetch, fetch_async, FetchError              a torrent's metadata from a peer
+    Id, Kind, Reason                            numbers by name; HAVE is Id.HAVE, and METADATA_DATA is Kind.METADATA_DATA
 
 The library is looked for in BT_LIBRARY if that is set, beside this package, and in dist/ and crates/bt_c/out of the repository.
 An object is used by one thread at a time.

@@ -150,6 +150,12 @@ class Fetches(unittest.TestCase):
             with self.subTest(broken), Peer(broken) as address:
                 self.assertEqual(self.fetched(address, 20), METADATA)
 
+    def test_by_the_name_of_a_host(self):
+        with Peer() as address:
+            self.assertEqual(self.fetched(address.replace("127.0.0.1", "localhost"), 20), METADATA)
+        with Peer() as address:
+            self.assertEqual(self.fetched(("localhost", int(address.split(":")[1])), 20), METADATA)
+
     def test_from_a_peer_that_breaks_a_rule(self):
         for broken, (kind, text) in FAILS.items():
             with self.subTest(broken), Peer(broken) as address:
