@@ -141,6 +141,35 @@ FAILS = {
 RIGHT = ["", "bytes come one by one", "blocks that nobody asked for"]
 
 
+class Bytes(unittest.TestCase):
+    """Items have the bytes that came, in chunks of each size."""
+
+    STREAM = (bt.handshake(INFO_HASH, b"-XX0001-000000000000") + bytes.fromhex("00000001 0f" "00000000" "00000005 04 00000007") * 40
+              + bytes.fromhex("00000003 14 05 78" "00000002 0505"))
+
+    def test_in_chunks(self):
+        for size in (1, 3, 64, 5000):
+            with bt.End(bt.Own(info_hash=INFO_HASH)) as end:
+                items = []
+                for at in range(0, len(self.STREAM), size):
+                    items += [heard.item for heard in end.receive(self.STREAM[at:at + size])]
+                self.assertEqual(items, list(bt.read(self.STREAM)), size)
+
+    def test_what_is_not_taken_comes_next(self):
+        with bt.End(bt.Own(info_hash=INFO_HASH)) as end:
+            first = [next(end.receive(self.STREAM[:100])).item]
+            self.assertEqual(first + [heard.item for heard in end.receive(self.STREAM[100:])], list(bt.read(self.STREAM)))
+
+    def test_an_old_iterator_after_a_reset(self):
+        with bt.End(bt.Own(info_hash=INFO_HASH)) as end:
+            old = end.receive(self.STREAM)
+            kept = next(old).item
+            end.reset()
+            another = bt.handshake(INFO_HASH, b"-YY0001-000000000000")
+            end.receive(another)
+            self.assertEqual((next(old).item.data, kept.data), (another, self.STREAM[:68]))
+
+
 class Fetches(unittest.TestCase):
     def fetched(self, address, seconds):
         return bt.fetch(address, INFO_HASH, timeout=seconds, most=50000)
