@@ -169,12 +169,25 @@ fn expected(alloc: Global, name: &[u8]) -> Option<Vec<u8>> {
     Some(text)
 }
 
-/// Whether the object is right of a name of `count` bytes `q`, the one at `place` replaced by `byte`.
+/// Returns `count` bytes `q`, the one at `place` replaced by `byte`.
+fn name_with(alloc: Global, count: usize, place: usize, byte: u8) -> Option<Vec<u8>> {
+    let mut name = Vec::new(alloc);
+    for k in 0..count {
+        let next = if k == place { byte } else { b'q' };
+        name.push(next).ok()?;
+    }
+    Some(name)
+}
+
+/// Whether the object is right of such a name.
 fn is_name_right(alloc: Global, count: usize, place: usize, byte: u8) -> bool {
-    let mut name = [b'q'; 300];
-    name[place % 300] = byte;
-    let name = &name[..count.min(300)];
-    match (named(alloc, name), expected(alloc, name)) {
+    let Some(name) = name_with(alloc, count, place, byte) else {
+        return false;
+    };
+    match (
+        named(alloc, name.as_slice()),
+        expected(alloc, name.as_slice()),
+    ) {
         (Some(bytes), Some(text)) => is_right(alloc, &bytes, text.as_slice()),
         _ => false,
     }
