@@ -132,7 +132,8 @@ typedef struct bt_extended {
     uint8_t has_ut_metadata;
 } bt_extended;
 
-/* An item of a stream; or, after BT_REFUSED, start, size and reason. Fields that don't apply to the message are left unchanged. */
+/* An item of a stream; or, after BT_REFUSED, start, size and reason. Fields that don't apply mean nothing: of a message they are
+ * left unchanged, of a handshake and of a refusal they become 0. */
 typedef struct bt_item {
     uint64_t start;     /* where the item starts on the stream */
     uint64_t size;      /* how many bytes it has; of a refusal the place, counted from start */
@@ -367,7 +368,7 @@ enum { BT_WATCH = 0, BT_SERVE = 1, BT_FETCH = 2 };
 /* What an end is made with. Another number than those named is 0. */
 typedef struct bt_end_config {
     bt_own own;           /* own.reserved are its own bits; has_info_hash on, and a limit of 32,768 to 1,048,576 */
-    uint64_t most;        /* the greatest size of metadata that is fetched; 0 for 67,108,864, which is always the greatest */
+    uint64_t most;        /* the greatest size that is fetched when a peer announces it; 0 for 67,108,864, always the greatest */
     uint8_t peer_id[20];
     uint8_t announce;
     uint8_t window;       /* how many blocks it asks for at once, 1 to 8; any other number is 8 */
@@ -461,14 +462,17 @@ typedef struct bt_progress {
  * is fetched. */
 uint32_t bt_end_progress(bt_end *end, bt_progress *progress);
 
-/* Returns 1 if the end fetches and no block can come any more on this connection, whatever the peer sends; else 0. */
+/* Returns 1 if the end fetches, and by what is known no block can come any more on this connection, whatever the peer sends:
+ * own.metadata_id is 0; or the peer's handshake came, and not both ends have the Extension Protocol; or each block is held or
+ * was rejected. Else 0. BT_REFUSED changes nothing here: that status itself says that the connection is over. */
 uint32_t bt_end_is_hopeless(bt_end *end);
 
 /* Returns how often, on this connection, the blocks that came were those of other metadata. */
 uint64_t bt_end_mismatches(bt_end *end);
 
-/* Fetches metadata of this size from now on, and drops what was held of another size: for a peer that announced a size which
- * was false. BT_DONE; else nothing has changed: BT_NOT_BEGUN, BT_BUSY, BT_NO_MEMORY. */
+/* Begins a fetch of this size anew, whatever config.most is: for a peer that announced a size which was false. All blocks that
+ * are held are dropped, and each is asked for again, also if the size is the present one (bt_end_progress has that) and if its
+ * request is outstanding. BT_DONE; else nothing has changed: BT_NOT_BEGUN, BT_BUSY, BT_NO_MEMORY. */
 uint32_t bt_end_begin(bt_end *end, uint64_t size);
 
 /* Asks for at most this many blocks at once from now on: 1 to 8; any other number is 8. What is asked stays asked. */
