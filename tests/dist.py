@@ -177,7 +177,7 @@ def made_aside(at, source, more, made, word):
     was = made.read_bytes()
     with changed(source, lambda text: text + more):
         done = run(["tools/dist", "--check"], at, environment=here)
-        assert done.returncode == 1 and b"tools/dist " + word in done.stdout, done
+        assert done.returncode == 1 and ("tools/dist " + word).encode() in done.stdout, done
         passes(["tools/dist", word], at, environment=here)
         passes(["tools/dist", "--check"], at, environment=here)
         assert made.read_bytes() != was
@@ -186,11 +186,11 @@ def made_aside(at, source, more, made, word):
 
 
 def page(at):
-    made_aside(at, at / "viewer/style/print.css", b"/* more */\n", at / "dist/viewer.html", b"--page")
+    made_aside(at, at / "viewer/style/print.css", b"/* more */\n", at / "dist/viewer.html", "--page")
 
 
 def package(at):
-    made_aside(at, at / "bindings/python/bt/_library.py", b"# more\n", next((at / "dist").glob("*.whl")), b"--wheel")
+    made_aside(at, at / "bindings/python/bt/_library.py", b"# more\n", next((at / "dist").glob("*.whl")), "--wheel")
 
 
 def tampered(at):
