@@ -40,20 +40,25 @@ def passes(words, given, **how):
     return done.stdout
 
 
+def tests(words, given):
+    """Runs a language's own tests, which have to pass, and prints what they left out."""
+    for line in passes(words, given).decode().splitlines():
+        if " left out" in line:
+            print("bindings: " + line)
+
+
 def shows(room, given):
     """The commands that show streams, by language, for the tools that are installed. Each language's own tests have passed."""
     found = {"Python": [sys.executable, BINDINGS / "python/examples/show.py"]}
     for test in sorted((BINDINGS / "python/tests").glob("*.py")):
-        passes([sys.executable, "-W", "error", test, SECONDS], given)
+        tests([sys.executable, "-W", "error", test, SECONDS], given)
     if shutil.which("cargo"):
         passes(["cargo", "test", "--offline", "--quiet"], given, cwd=BINDINGS / "rust")
         passes(["cargo", "build", "--offline", "--quiet", "--examples"], given, cwd=BINDINGS / "rust")
         found["Rust"] = [room / "target/debug/examples/show"]
     if shutil.which("node") and WASM.is_file():
         for test in sorted((BINDINGS / "js/tests").glob("*.mjs")):
-            for line in passes([*NODE, test, WASM], given).decode().splitlines():
-                if " left out" in line:
-                    print("bindings: " + line)
+            tests([*NODE, test, WASM], given)
         found["JavaScript"] = [*NODE, BINDINGS / "js/examples/show.mjs"]
     for language in {"Rust", "JavaScript"} - {*found}:
         print("bindings: %s is left out, since its tool isn't installed" % language)

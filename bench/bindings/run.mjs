@@ -8,7 +8,7 @@ import fs from 'node:fs';
 import { load } from '../../bindings/js/bt.mjs';
 import * as hand from './hand.mjs';
 
-const [folder] = process.argv.slice(2), TIMES = Number(process.env.TIMES ?? 15), CHUNK = 65536;
+const [folder] = process.argv.slice(2), TIMES = Number(process.env.TIMES ?? 15), PASSES = 5, CHUNK = 65536;
 const bt = await load(process.env.BT_WASM);
 const [small, blocks, ext] = ['small', 'blocks', 'ext'].map(name => new Uint8Array(fs.readFileSync(`${folder}/${name}.bin`)));
 
@@ -44,12 +44,17 @@ function seconds(run, stream) {
   return [(performance.now() - begin) / 1000, sum];
 }
 
-for (const [name, stream, byHand, ours] of ROWS) {
-  let least = [Infinity, Infinity];
-  for (let k = 0; k < TIMES; k++) {
+/** The least seconds of a row by hand and of ours, in some runs after those before. */
+function measured([name, stream, byHand, ours], least, times) {
+  for (let k = 0; k < times; k++) {
     const [one, two] = [seconds(byHand, stream), seconds(ours, stream)];
     if (one[1] !== two[1]) throw new Error(`${name}: the loop by hand finds ${one[1]}, and not ${two[1]}`);
     least = [Math.min(least[0], one[0]), Math.min(least[1], two[0])];
   }
-  console.log([name, ...least.map(it => it.toFixed(6))].join('\t'));
+  return least;
 }
+
+// (in passes, so that other work beside it for some seconds doesn't slow all runs of a row)
+let least = ROWS.map(() => [Infinity, Infinity]);
+for (let pass = 0; pass < PASSES; pass++) least = ROWS.map((row, k) => measured(row, least[k], Math.ceil(TIMES / PASSES)));
+for (const [row, [name]] of ROWS.entries()) console.log([name, ...least[row].map(it => it.toFixed(6))].join('\t'));

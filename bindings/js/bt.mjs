@@ -218,9 +218,10 @@ class Feed {
     this.reader = new Reader(wire, own);
     /** What isn't read yet. */
     this.bytes = new Uint8Array();
-    // The items that are read, and the words of the first that isn't taken.
+    // The items that are read, the words of the first that isn't taken, and the end of the words.
     this.batch = { names: wire, words: new Uint32Array(), bytes: this.bytes, base: 0 };
     this.w = 0;
+    this.end = 0;
   }
 
   /** Where the next item starts on the stream. */
@@ -244,7 +245,7 @@ class Feed {
   }
 
   get isEmpty() {
-    return this.w === this.batch.words.length;
+    return this.w === this.end;
   }
 
   /** Reads more items, and returns whether there are any. */
@@ -252,17 +253,37 @@ class Feed {
     const { reader, bytes, reader: { wire } } = this, base = reader.start, { count, used } = reader.next(bytes, 0, ended);
     this.batch = { names: wire, words: wire.words(count).slice(), bytes, base };
     this.w = 0;
+    this.end = this.batch.words.length;
     this.bytes = bytes.subarray(used);
     return count > 0;
   }
 
   items(ended) {
-    return new Items(() => {
-      if (this.isEmpty && !this.fill(ended)) return null;
-      const item = new Item(this.batch, this.w);
-      this.w += WORDS;
-      return item;
-    });
+    return new FeedItems(this, ended);
+  }
+}
+
+/** What a feed has, as `Items`. It calls no function that it was given, which is quicker. */
+class FeedItems extends Items {
+  constructor(feed, ended) {
+    super(null);
+    this.feed = feed;
+    this.ended = ended;
+  }
+
+  next() {
+    const { feed } = this;
+    if (this.over || feed.w === feed.end && !this.more()) return { value: undefined, done: true };
+    const value = new Item(feed.batch, feed.w);
+    feed.w += WORDS;
+    return { value, done: false };
+  }
+
+  /** Reads more items, and returns whether there are any. It is over if not, or if that throws. */
+  more() {
+    this.over = true;
+    this.over = !this.feed.fill(this.ended);
+    return !this.over;
   }
 }
 

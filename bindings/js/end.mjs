@@ -9,7 +9,7 @@ import { createRequire } from 'node:module';
 import net from 'node:net';
 import { fileURLToPath } from 'node:url';
 import { ITEM_SIZE, OWN_SIZE, packOwn, REFUSED } from './library.mjs';
-import { completed, content, DHT, EXTENSIONS, FAST, Id, Item, Items, Kind, number, Refused } from './values.mjs';
+import { allKnown, completed, content, DHT, EXTENSIONS, FAST, Id, Item, Items, Kind, number, OWN, Refused } from './values.mjs';
 
 export { DHT, EXTENSIONS, FAST, Id, Item, Kind, Refused };
 
@@ -18,6 +18,7 @@ export const Event = Object.freeze({
   OTHER: 0, OPENED: 1, ANNOUNCED: 2, BLOCK: 3, REJECTED: 4, FETCHED: 5, MISMATCHED: 6, SERVED: 7, DECLINED: 8, REQUESTED: 9, PIECE: 10,
 });
 
+const OPTIONS = [...OWN, 'fetch', 'serve', 'most', 'window', 'peerId'], FETCH_OPTIONS = ['timeout', 'signal', 'most', 'limit'];
 const ABI = 2, CONFIG_SIZE = 80, HEARD_SIZE = 160, WATCH = 0, SERVE = 1, FETCH = 2, SAY_NONE = 2;
 const DONE = 0, ITEM = 1, BUSY = 5;
 const WHY = {
@@ -101,7 +102,9 @@ export class End {
    * The receiver's fields are those of `bt.read`; it has an `infoHash`, and a `limit` of 32,768 to 1,048,576. `fetch` fetches the
    * metadata, of at most `most` bytes, and asks for `window` blocks at once, 1 to 8. `serve` is metadata to serve.
    */
-  constructor({ fetch = false, serve = null, most = null, window = 8, peerId = Buffer.from('-XX0001-node-node-no'), ...own } = {}) {
+  constructor(options = {}) {
+    allKnown(options, OPTIONS, 'options');
+    const { fetch = false, serve = null, most = null, window = 8, peerId = Buffer.from('-XX0001-node-node-no'), ...own } = options;
     const metadata = serve === null ? new Uint8Array() : content(serve, 'serve');
     if (fetch && serve !== null) throw new RangeError('an end fetches or serves');
     if (most !== null && !number(most, 64, 'most')) throw new RangeError('most is 0');
@@ -224,7 +227,9 @@ async function send(socket, bytes, signal) {
  * TimeoutError if the time is over. It rejects with Refused if the peer breaks a rule, with FetchError if it doesn't give the metadata, and
  * with the socket's error if it isn't reached. `most` and `limit` are those of `End`.
  */
-export async function fetch(host, port, infoHash, { timeout = 30000, signal, most, limit } = {}) {
+export async function fetch(host, port, infoHash, options = {}) {
+  allKnown(options, FETCH_OPTIONS, 'options');
+  const { timeout = 30000, signal, most, limit } = options;
   number(port, 16, 'port');
   number(timeout, 31, 'timeout');
   const end = new End({ infoHash: content(infoHash, 'infoHash', 20), fetch: true, most, limit }), stop = new AbortController();

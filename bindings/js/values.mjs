@@ -195,8 +195,18 @@ export function content(value, what, size = null) {
   return bytes;
 }
 
+/** Throws TypeError for the first name that isn't among these. */
+export function allKnown(given, names, what) {
+  if (typeof given !== 'object' || given === null) throw new TypeError(`${what} is no object`);
+  const unknown = Object.keys(given).find(name => !names.includes(name));
+  if (unknown !== undefined) throw new TypeError(`${what} has no ${unknown}: it has ${names.join(', ')}`);
+}
+
+export const OWN = ['reserved', 'infoHash', 'pieces', 'metadataId', 'donthaveId', 'strict', 'limit'];
+
 /** The receiver with all fields, each of which fits. */
 export function completed(own = {}) {
+  allKnown(own, OWN, 'own');
   const { reserved = FAST | DHT | EXTENSIONS, infoHash = null, pieces = null, metadataId = 3, donthaveId = 0, strict = false, limit = 262144 } = own;
   if (pieces !== null) number(pieces, 32, 'pieces');
   return {

@@ -18,7 +18,7 @@ Classifier: Operating System :: POSIX :: Linux
 Classifier: Programming Language :: Python :: 3
 Classifier: Typing :: Typed
 Requires-Python: >=3.8
-Description-Content-Type: text/markdown
+Description-Content-Type: text/plain
 
 {text}"""
 

@@ -1,9 +1,9 @@
 // Tests end.mjs: two ends, fetches over loopback, arguments that don't fit, the addon with random arguments, memory.
 //
-// usage: [ROUNDS=20000] [ENDS=3000] node --experimental-wasm-memory64 --expose-gc bindings/js/tests/ends.mjs [LIBRARY]
+// usage: [ROUNDS=20000] [ENDS=3000] [MEBIBYTES=40] node --experimental-wasm-memory64 --expose-gc bindings/js/tests/ends.mjs [LIBRARY]
 //
 // LIBRARY is dist/bt.wasm if it isn't given, and BT_ADDON the addon, if it isn't dist's. ROUNDS are calls of the addon with random
-// arguments, and ENDS are ends that are dropped.
+// arguments, ENDS are ends that are dropped, and MEBIBYTES is how much memory these may leave.
 import assert from 'node:assert/strict';
 import crypto from 'node:crypto';
 import { once } from 'node:events';
@@ -13,7 +13,8 @@ import { Worker } from 'node:worker_threads';
 import { load } from '../bt.mjs';
 import { End, Event, EXTENSIONS, FAST, fetch, Id, Item, Refused } from '../end.mjs';
 
-const bt = await load(process.argv[2]), { ROUNDS = 20000, ENDS = 3000, BT_ADDON = '../../../dist/x86_64-linux/bt.node' } = process.env;
+const bt = await load(process.argv[2]);
+const { ROUNDS = 20000, ENDS = 3000, MEBIBYTES = 40, BT_ADDON = '../../../dist/x86_64-linux/bt.node' } = process.env;
 const addon = createRequire(import.meta.url)(BT_ADDON);
 const METADATA = Uint8Array.from({ length: 40000 }, (_, k) => k * k >> 3), infoHash = crypto.createHash('sha1').update(METADATA).digest();
 const PEER = Buffer.from('-XX0001-000000000000'), NOTHING = new Uint8Array();
@@ -134,6 +135,8 @@ const TESTS = {
     assert.throws(() => end.setWindow(0), RangeError);
     for (const call of [() => new End({ infoHash: 5 }), () => new End({ infoHash, serve: 5 }), () => end.receive(5), () => end.receive([1]),
       () => end.setWindow('1')]) assert.throws(call, TypeError, String(call));
+    assert.throws(() => new End({ infoHash, windw: 3 }), { name: 'TypeError', message: /^options has no windw: it has .*window/ });
+    assert.throws(() => new End(null), { name: 'TypeError', message: 'options is no object' });
   },
 
   aClosedEnd() {
@@ -165,6 +168,7 @@ const TESTS = {
     closed.close();
     await assert.rejects(fetch('127.0.0.1', port, infoHash), { code: 'ECONNREFUSED' });
     for (const timeout of [-1, 2 ** 31, NaN]) await assert.rejects(fetch('127.0.0.1', port, infoHash, { timeout }), RangeError);
+    await assert.rejects(fetch('127.0.0.1', port, infoHash, { timeot: 3 }), { name: 'TypeError', message: /^options has no timeot/ });
     await assert.rejects(fetch('127.0.0.1', 70000, infoHash), RangeError);
     await assert.rejects(fetch('127.0.0.1', 6881, NOTHING), RangeError);
   },
@@ -228,7 +232,7 @@ const TESTS = {
     const before = await resident();
     await make(Number(ENDS));
     const more = await resident() - before;
-    assert.ok(more < 40, `${ENDS} dropped ends leave ${more.toFixed(1)} MiB`);
+    assert.ok(more < Number(MEBIBYTES), `${ENDS} dropped ends leave ${more.toFixed(1)} MiB`);
   },
 };
 

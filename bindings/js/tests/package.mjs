@@ -70,7 +70,10 @@ const TYPES = {
     fs.mkdirSync(path.join(folder, 'node_modules'), { recursive: true });
     fs.symlinkSync(PACKAGE, path.join(folder, 'node_modules/bt-peer-wire'));
     fs.copyFileSync(new URL('types/uses.mts', import.meta.url), path.join(folder, 'uses.mts'));
-    run(['tsc', '--strict', '--noEmit', '--target', 'es2022', '--lib', 'es2022,dom', '--module', 'node16', 'uses.mts'], folder);
+    const words = ['tsc', '--strict', '--noEmit', '--target', 'es2022', '--lib', 'es2022,dom', 'uses.mts', '--module'];
+    run([...words, 'node16'], folder);
+    // (this one doesn't know `exports`; later versions of TypeScript call it node10)
+    run([...words, 'es2022', '--moduleResolution', 'node'], folder);
   },
 };
 

@@ -50,6 +50,10 @@ const TESTS = {
       () => writer.bitfield(3), () => writer.piece(0, 0, Uint32Array.of(1)), () => bt.read(HELLO, { limit: '1' })]) {
       assert.throws(call, TypeError, String(call));
     }
+    for (const call of [own => bt.read(HELLO, own), own => bt.feed(own), own => bt.writer(own, 0), own => { writer.peer = own; }]) {
+      assert.throws(() => call({ strickt: true }), { name: 'TypeError', message: /^own has no strickt: it has .*strict/ });
+      assert.throws(() => call(3), { name: 'TypeError', message: 'own is no object' });
+    }
     assert.throws(() => openWriter({}, 0).metadataRequest(0), /announced no id/);
   },
 

@@ -6,7 +6,7 @@ from array import array
 from typing import Any, Dict, List, Optional, Sequence, Tuple
 
 from . import _library as lib
-from ._values import Own, Refused
+from ._values import Own, Refused, receiver
 
 _ROOM = 1024
 # The columns: the kind of number, and where it lies in a bt_item.
@@ -22,10 +22,11 @@ class Columns:
 
     `columns["id"]` is the same, and `dict(columns)` has all by name. What an item doesn't have is 0. `body` is how many bytes
     the body has, which are an item's last. A column can't be changed; `numpy.asarray(columns.id)` copies nothing.
+
+    `refused` says why the stream ends here, if it was read with `partial` and is refused; else it is None.
     """
 
     refused: Optional[Refused]
-    """Why the stream ends here, if it was read with `partial` and is refused; else None."""
 
     def __init__(self, made: Dict[str, memoryview], count: int, refused: Optional[Refused]) -> None:
         """Takes the columns by name, and how many items they have. `columns` calls it."""
@@ -58,7 +59,7 @@ def columns(data: lib.Bytes, own: Optional[Own] = None, fields: Sequence[str] = 
     a field that isn't a column.
     """
     stream, items, state, batch = lib.content(data), (lib.Item * _ROOM)(), lib.Reader(), lib.Batch()
-    lib.bt.bt_reader_init(state, (own or Own())._struct())
+    lib.bt.bt_reader_init(state, receiver(Own() if own is None else own))
     made = _made(items, fields)
     at = count = 0
     answer = lib.ITEM
@@ -80,6 +81,8 @@ def columns(data: lib.Bytes, own: Optional[Own] = None, fields: Sequence[str] = 
 def _made(items: Any, fields: Sequence[str]) -> Dict[str, Tuple[Any, Any]]:
     """An empty column for each field, and the numbers of the field in the batch, without a copy."""
     raw, made = memoryview(items).cast("B"), {}
+    if isinstance(fields, str) or not hasattr(fields, "__iter__"):
+        raise TypeError("fields is %s, not a sequence of names" % type(fields).__name__)
     for name in fields:
         if name not in _FIELDS:
             raise ValueError("fields has %r, which is none of: %s" % (name, ", ".join(_FIELDS)))

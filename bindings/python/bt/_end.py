@@ -9,7 +9,7 @@ from typing import Any, Iterator, NamedTuple, Optional
 
 from . import _library as lib
 from ._names import Announce, Event, Id, Kind
-from ._values import Item, Own, Refused
+from ._values import Item, Own, Refused, receiver
 
 _DONE, _BUSY, _NO_MEMORY = 0, 5, 6
 _WATCH, _SERVE, _FETCH = range(3)
@@ -17,37 +17,47 @@ _WHY = {lib.UNWRITTEN: "an end doesn't say it", _BUSY: "1 MiB or more waits to b
         8: "the limit isn't 32,768 to 1,048,576", 9: "there is no info hash", 10: "the metadata hasn't 1 to 67,108,864 bytes",
         11: "the connection isn't open", 12: "the piece count isn't known", 13: "the peer would refuse it",
         14: "no metadata of this size can be fetched now"}
-# A bt_heard: how many bytes were used, the item as of ITEM_FIELDS, and the event.
-_HEARD = struct.Struct("<Q4Q3I2H2B6x32sQ2I4B20x")
+# Of a bt_heard: how many bytes were used, the item as of ITEM_FIELDS, and the event.
+_told = struct.Struct("<Q3Q8x3I2xH8x32sQ2I4B20x").unpack_from
 _EVENTS = tuple(Event)
-_WITH_PIECE = frozenset(map(int, (Event.BLOCK, Event.REJECTED, Event.SERVED, Event.DECLINED)))
+_WITH_PIECE = tuple(it in (Event.BLOCK, Event.REJECTED, Event.SERVED, Event.DECLINED) for it in Event)
 _ANNOUNCED = int(Event.ANNOUNCED)
 
 
 class Heard(NamedTuple):
-    """What the peer said, and what that made of the end."""
+    """What the peer said, and what that made of the end.
+
+    item     what the peer said
+    event    what that made of the end
+    piece    the number of a metadata block, of BLOCK, REJECTED, SERVED and DECLINED
+    id       the id under which the peer wants metadata messages, if it announced one (ANNOUNCED)
+    size     the size of the metadata that the peer announced (ANNOUNCED)
+    begins   whether metadata of this size is fetched from now on (ANNOUNCED)
+    """
 
     item: Item
     event: Event
     piece: Optional[int] = None
-    """The number of a metadata block, of BLOCK, REJECTED, SERVED and DECLINED."""
     id: Optional[int] = None
-    """The id under which the peer wants metadata messages, if it announced one (ANNOUNCED)."""
     size: Optional[int] = None
-    """The size of the metadata that the peer announced (ANNOUNCED)."""
     begins: bool = False
-    """Whether metadata of this size is fetched from now on (ANNOUNCED)."""
+
+
+# Heard of its fields in a tuple, which is quicker.
+_heard: Any = partial(tuple.__new__, Heard)
 
 
 class Progress(NamedTuple):
-    """How far a fetch has come."""
+    """How far a fetch has come.
+
+    size     the size of the metadata in bytes
+    blocks   how many blocks it has
+    held     how many of them are held
+    """
 
     size: int
-    """The size of the metadata in bytes."""
     blocks: int
-    """How many blocks it has."""
     held: int
-    """How many of them are held."""
 
 
 def _done(status: int) -> None:
@@ -80,8 +90,8 @@ class End:
         if fetch and serve is not None:
             raise ValueError("an end fetches or serves")
         metadata = b"" if serve is None else lib.content(serve, "serve")
-        config = lib.Config(own._struct(), lib.number(most or 0, 64, "most"), lib.array(lib.content(peer_id, "peer_id", 20)),
-                            Announce(announce), self._window(window), _FETCH if fetch else _WATCH if serve is None else _SERVE)
+        config = lib.Config(receiver(own), lib.number(most or 0, 64, "most"), lib.array(lib.content(peer_id, "peer_id", 20)),
+                            self._announced(announce), self._window(window), _FETCH if fetch else _WATCH if serve is None else _SERVE)
         if fetch and most == 0:
             raise ValueError("most is 0")
         _done(lib.bt.bt_end_new(self._c, config, metadata, len(metadata)))
@@ -126,6 +136,13 @@ class End:
             raise ValueError("window is %d, not 1 to 8" % window)
         return window
 
+    @staticmethod
+    def _announced(announce: Announce) -> Announce:
+        try:
+            return Announce(announce)
+        except ValueError:
+            raise ValueError("announce is %r, not one of bt.Announce" % (announce,)) from None
+
     def receive(self, data: lib.Bytes) -> Iterator[Heard]:
         """Takes all bytes, and returns an iterator over the items in them, each handled before it is returned.
 
@@ -141,27 +158,33 @@ class End:
         return self._items()
 
     def _items(self) -> Iterator[Heard]:
+        thread, place, size, view = self._thread, self._place, self._size, self._view
         while True:
-            if not self._c.held or self._thread != threading.get_ident():
-                self._open()
-            self._place.value, self._size.value = self._address + self._at, len(self._data) - self._at
+            if thread != threading.get_ident():
+                self._see()
+            # (between two items the program may have called `receive`)
+            at = self._at
+            place.value, size.value = self._address + at, len(self._data) - at
             answer = self._next()
-            told = _HEARD.unpack_from(self._view)
-            self._at += told[0]
-            if answer == lib.REFUSED:
-                verdict = self._heard.verdict
-                raise Refused(verdict.at, verdict.reason, verdict.message)
-            if answer in (lib.MORE, _BUSY):
-                return
+            told = _told(view)
+            self._at = at + told[0]
             if answer != lib.ITEM:
-                _done(answer)
+                return self._stop(answer)
             if told[1] + told[2] > self._ends:
                 self._show(told[1])
-            item, kind = Item(told[1:13], self._source), told[14]
+            item, kind = Item(told[1:9], self._source), told[10]
             if kind == _ANNOUNCED:
-                yield Heard(item, _EVENTS[kind], None, told[16] if told[17] else None, told[13] if told[18] else None, bool(told[19]))
+                yield Heard(item, _EVENTS[kind], None, told[12] if told[13] else None, told[9] if told[14] else None, bool(told[15]))
             else:
-                yield Heard(item, _EVENTS[kind], told[15] if kind in _WITH_PIECE else None)
+                yield _heard((item, _EVENTS[kind], told[11] if _WITH_PIECE[kind] else None, None, None, False))
+
+    def _stop(self, answer: int) -> None:
+        """Raises why no item comes, if that isn't that none is whole, or that too much waits to be sent."""
+        if answer == lib.REFUSED:
+            verdict = self._heard.verdict
+            raise Refused(verdict.at, verdict.reason, verdict.message)
+        if answer not in (lib.MORE, _BUSY):
+            _done(answer)
 
     def _show(self, start: int) -> None:
         """Copies what came from this offset on, where an item starts, for its items. What comes before isn't kept any more."""
@@ -172,7 +195,7 @@ class End:
     def outgoing(self, most: int = 65536) -> bytes:
         """Returns the first bytes that wait to be sent, at most this many. They still wait."""
         self._open()
-        out = C.create_string_buffer(min(most, lib.bt.bt_end_waiting(self._c)))
+        out = C.create_string_buffer(min(lib.number(most, 63, "most"), lib.bt.bt_end_waiting(self._c)))
         n = lib.bt.bt_end_outgoing(self._c, out, len(out))
         return out.raw[:n]
 
@@ -234,7 +257,10 @@ class End:
         return int(lib.bt.bt_end_mismatches(self._c))
 
     def begin(self, size: int) -> None:
-        """Fetches metadata of this size from now on, for a peer that announced a false one. Raises ValueError or MemoryError."""
+        """Begins a fetch of this size anew, for a peer that announced a false one. Raises ValueError or MemoryError.
+
+        The blocks that are held are dropped, and each is asked for again, also if the size is the present one.
+        """
         self._see()
         _done(lib.bt.bt_end_begin(self._c, lib.number(size, 64, "size")))
 

@@ -23,7 +23,13 @@ class FetchError(OSError):
 
 def _split(address: Address) -> Tuple[str, int]:
     if not isinstance(address, str):
+        if not isinstance(address, (tuple, list)):
+            raise TypeError("address is %s, not 'HOST:PORT' or (HOST, PORT)" % type(address).__name__)
+        if len(address) != 2:
+            raise ValueError("address is %r, not 'HOST:PORT' or (HOST, PORT)" % (address,))
         host, number = address
+        if not isinstance(host, str):
+            raise TypeError("host is %s, not str" % type(host).__name__)
         return host, lib.number(number, 16, "port")
     host, _, port = address.rpartition(":")
     if not host or not port.isdecimal():
@@ -60,8 +66,9 @@ def fetch(address: Address, info_hash: lib.Bytes, timeout: float = 30, most: Opt
     It ends within `timeout` seconds, takes at most `most` bytes of metadata, and messages up to `limit`. Raises Refused if the
     peer breaks a rule, FetchError if it doesn't give the metadata, another OSError if it isn't reached, TimeoutError among them.
     """
+    place, timeout = _split(address), lib.seconds(timeout, "timeout")
     ends, talk = time.monotonic() + timeout, _Fetch(info_hash, most, limit)
-    with talk.end, socket.create_connection(_split(address), timeout) as sock:
+    with talk.end, socket.create_connection(place, timeout) as sock:
         while True:
             sock.settimeout(max(ends - time.monotonic(), 0.001))
             try:
@@ -78,10 +85,11 @@ async def fetch_async(address: Address, info_hash: lib.Bytes, timeout: float = 3
     """Returns the metadata as `fetch` does, by asyncio."""
     import asyncio  # (it takes longer to load than all of this package)
 
+    place, timeout = _split(address), lib.seconds(timeout, "timeout")
     talk = _Fetch(info_hash, most, limit)
     with talk.end:
         try:
-            return await asyncio.wait_for(_talk(talk, _split(address)), timeout)
+            return await asyncio.wait_for(_talk(talk, place), timeout)
         except asyncio.TimeoutError as silent:
             raise TimeoutError("the peer didn't give the metadata in time") from silent
 

@@ -37,8 +37,9 @@ class Item(C.Structure):
                 ("id", C.c_uint16), ("extended_id", C.c_uint8), ("reason", C.c_uint8), ("extended", Extended)]
 
 
-# The fields of Item in one tuple, which is quicker than to ask for each; those of Extended are bytes in it.
-ITEM_FIELDS = struct.Struct("<4Q3I2H2B6x32s")
+# The fields of Item in one tuple, which is quicker than to ask for each: start, size, body, index, begin, length, id, and the bytes of
+# Extended. The others are in the message's own bytes.
+ITEM_FIELDS = struct.Struct("<3Q8x3I2xH8x32s")
 EXTENDED_FIELDS = struct.Struct("<3QI4B")
 assert ITEM_FIELDS.size == C.sizeof(Item) and EXTENDED_FIELDS.size == C.sizeof(Extended)
 
@@ -162,6 +163,19 @@ def number(value: int, bits: int, what: str) -> int:
     if not 0 <= value < 1 << bits:
         raise ValueError("%s is %d, not 0 to %d" % (what, value, (1 << bits) - 1))
     return value
+
+
+def seconds(value: float, what: str) -> float:
+    """Returns the number if it is above 0 and at most 1e9. Raises ValueError or TypeError if it isn't."""
+    try:
+        found = float(value) if not isinstance(value, (str, bytes, bytearray)) else None
+    except TypeError:
+        found = None
+    if found is None:
+        raise TypeError("%s is %s, not a number of seconds" % (what, type(value).__name__))
+    if not 0 < found <= 1e9:
+        raise ValueError("%s is %r, not above 0 and at most 1e9 seconds" % (what, value))
+    return found
 
 
 def positive(value: int, what: str) -> int:

@@ -2,13 +2,21 @@
 from __future__ import annotations
 
 import enum
+from typing import List
 
 FAST = 0x4
 DHT = 0x1
 EXTENSIONS = 0x100000
 
 
-class Id(enum.IntEnum):
+class _Named(enum.EnumMeta):
+    """Has the names only, so that `help` shows them without the methods of `int`."""
+
+    def __dir__(cls) -> List[str]:
+        return ["__doc__", *cls.__members__]
+
+
+class Id(enum.IntEnum, metaclass=_Named):
     """The id of a message; or that of a keep-alive or the handshake, which have none on the wire."""
 
     CHOKE = 0
@@ -31,7 +39,7 @@ class Id(enum.IntEnum):
     HANDSHAKE = 257
 
 
-class Kind(enum.IntEnum):
+class Kind(enum.IntEnum, metaclass=_Named):
     """What an extended message is."""
 
     EXT_HANDSHAKE = 1
@@ -44,7 +52,7 @@ class Kind(enum.IntEnum):
     DONTHAVE = 8
 
 
-class Reason(enum.IntEnum):
+class Reason(enum.IntEnum, metaclass=_Named):
     """Why a stream or a message is refused."""
 
     BAD_PROTOCOL = 1
@@ -66,34 +74,36 @@ class Reason(enum.IntEnum):
     BAD_EXT_LENGTH = 17
 
 
-class Event(enum.IntEnum):
-    """What an item of the peer made of an end."""
+class Event(enum.IntEnum, metaclass=_Named):
+    """What an item of the peer made of an end.
+
+    OTHER        nothing that the item itself doesn't say
+    OPENED       the peer's handshake came
+    ANNOUNCED    the peer's extended handshake came
+    BLOCK        a block that was asked for came, and others lack
+    REJECTED     a block that was asked for was rejected
+    FETCHED      the last block came, and the metadata is there
+    MISMATCHED   the last block came, and the blocks are those of other metadata: the fetch starts over
+    SERVED       the peer asked for a block of the metadata, which waits to be sent
+    DECLINED     the peer asked for a block of the metadata, and a reject waits to be sent
+    REQUESTED    the peer asked for a block of a piece
+    PIECE        a block of a piece came
+    """
 
     OTHER = 0
-    """Nothing that the item itself doesn't say."""
     OPENED = 1
-    """The peer's handshake came."""
     ANNOUNCED = 2
-    """The peer's extended handshake came."""
     BLOCK = 3
-    """A block that was asked for came, and others lack."""
     REJECTED = 4
-    """A block that was asked for was rejected."""
     FETCHED = 5
-    """The last block came, and the metadata is there."""
     MISMATCHED = 6
-    """The last block came, and the blocks are those of other metadata: the fetch starts over."""
     SERVED = 7
-    """The peer asked for a block of the metadata, which waits to be sent."""
     DECLINED = 8
-    """The peer asked for a block of the metadata, and a reject waits to be sent."""
     REQUESTED = 9
-    """The peer asked for a block of a piece."""
     PIECE = 10
-    """A block of a piece came."""
 
 
-class Announce(enum.IntEnum):
+class Announce(enum.IntEnum, metaclass=_Named):
     """What an end announces of its pieces after the handshakes."""
 
     NOTHING = 0

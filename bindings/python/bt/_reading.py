@@ -7,7 +7,7 @@ from itertools import chain, islice, repeat
 from typing import TYPE_CHECKING, Any, AsyncIterator, Deque, Iterator, Optional, Union
 
 from . import _library as lib
-from ._values import Item, Own, Refused
+from ._values import Item, Own, Refused, receiver
 
 if TYPE_CHECKING:
     import asyncio
@@ -20,7 +20,7 @@ class _Reader:
 
     def __init__(self, own: Optional[Own]) -> None:
         self.state, self.items, self.batch, self.count = lib.Reader(), (lib.Item * _ROOM)(), lib.Batch(), 0
-        lib.bt.bt_reader_init(self.state, (own or Own())._struct())
+        lib.bt.bt_reader_init(self.state, receiver(Own() if own is None else own))
 
     def next(self, data: Union[bytes, bytearray], at: int, ended: bool) -> int:
         """Reads from `at` on as many items as there is room for, and returns how many bytes they have.
@@ -120,7 +120,10 @@ def _chunks(source: Any, size: int) -> Iterator[Any]:
     for name in ("recv", "read1", "read"):
         if hasattr(source, name):
             return iter(partial(getattr(source, name), size), b"")
-    return iter(source)
+    try:
+        return iter(source)
+    except TypeError:
+        raise TypeError("source is %s, not a socket, a file or an iterable of bytes" % type(source).__name__) from None
 
 
 def _fed(chunks: Iterator[Any], feed: Feed) -> Iterator[Item]:
@@ -131,9 +134,11 @@ def _fed(chunks: Iterator[Any], feed: Feed) -> Iterator[Item]:
 
 async def stream_async(reader: asyncio.StreamReader, own: Optional[Own] = None, size: int = 65536) -> AsyncIterator[Item]:
     """Iterates over the items of an `asyncio.StreamReader` until its stream ends, as `stream`: `async for item in ..`."""
-    feed = Feed(own)
+    feed, size = Feed(own), lib.positive(size, "size")
+    if not hasattr(reader, "read"):
+        raise TypeError("reader is %s, not an asyncio.StreamReader" % type(reader).__name__)
     while True:
-        chunk = await reader.read(lib.positive(size, "size"))
+        chunk = await reader.read(size)
         for item in feed.push(chunk) if chunk else feed.finish():
             yield item
         if not chunk:
@@ -143,6 +148,6 @@ async def stream_async(reader: asyncio.StreamReader, own: Optional[Own] = None, 
 def check(data: lib.Bytes, own: Optional[Own] = None) -> int:
     """Judges a whole stream, and returns how many messages it has. Raises Refused."""
     verdict, stream = lib.Verdict(), lib.content(data)
-    if lib.bt.bt_check((own or Own())._struct(), stream, len(stream), verdict) == lib.REFUSED:
+    if lib.bt.bt_check(receiver(Own() if own is None else own), stream, len(stream), verdict) == lib.REFUSED:
         raise Refused(verdict.at, verdict.reason, verdict.message)
     return int(verdict.message)

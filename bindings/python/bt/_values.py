@@ -12,9 +12,9 @@ from ._names import DHT, EXTENSIONS, FAST, Id, Kind, Reason
 _IDS: Tuple[int, ...] = tuple({it.value: it for it in Id}.get(number, number) for number in range(258))
 _KINDS: Dict[int, Kind] = {it.value: it for it in Kind}
 _PORT, _EXTENDED, _HANDSHAKE = (int(id) for id in (Id.PORT, Id.EXTENDED, Id.HANDSHAKE))
-_WITH_INDEX = frozenset(map(int, (Id.HAVE, Id.SUGGEST, Id.ALLOWED_FAST, Id.REQUEST, Id.CANCEL, Id.REJECT, Id.PIECE)))
-_WITH_BEGIN = frozenset(map(int, (Id.REQUEST, Id.CANCEL, Id.REJECT, Id.PIECE)))
-_WITH_LENGTH = frozenset(map(int, (Id.REQUEST, Id.CANCEL, Id.REJECT)))
+_WITH_LENGTH = tuple(number in (Id.REQUEST, Id.CANCEL, Id.REJECT) for number in range(258))
+_WITH_BEGIN = tuple(_WITH_LENGTH[number] or number == Id.PIECE for number in range(258))
+_WITH_INDEX = tuple(_WITH_BEGIN[number] or number in (Id.HAVE, Id.SUGGEST, Id.ALLOWED_FAST) for number in range(258))
 _WITH_PIECE = frozenset(map(int, (Kind.METADATA_REQUEST, Kind.METADATA_DATA, Kind.METADATA_REJECT, Kind.DONTHAVE)))
 _NOT_EXTENDED = (0,) * 8
 
@@ -41,23 +41,24 @@ class Refused(ValueError):
 class Own:
     """The receiver: what a stream is judged by. `dataclasses.replace` makes one with other values.
 
+    reserved      its reserved bits, as a big-endian number
+    info_hash     the torrent's info hash; None accepts every one
+    pieces        how many pieces the torrent has, if that is known
+    metadata_id   the id that it announced for ut_metadata; 0 for none
+    donthave_id   the id that it announced for lt_donthave; 0 for none
+    strict        whether all rules hold (`bep`), or only those that a decoder needs (`free`)
+    limit         the greatest length of a message
+
     Raises ValueError for a number that doesn't fit.
     """
 
     reserved: int = FAST | DHT | EXTENSIONS
-    """Its reserved bits, as a big-endian number."""
     info_hash: Optional[bytes] = None
-    """The torrent's info hash; None accepts every one."""
     pieces: Optional[int] = None
-    """How many pieces the torrent has, if that is known."""
     metadata_id: int = 3
-    """The id that it announced for ut_metadata; 0 for none."""
     donthave_id: int = 0
-    """The id that it announced for lt_donthave; 0 for none."""
     strict: bool = False
-    """Whether all rules hold (`bep`), or only those that a decoder needs (`free`)."""
     limit: int = 262144
-    """The greatest length of a message."""
 
     def __post_init__(self) -> None:
         lib.number(self.reserved, 64, "reserved")
@@ -74,6 +75,13 @@ class Own:
                        self.metadata_id, self.donthave_id, bool(self.strict), lib.array(self.info_hash or bytes(20)))
 
 
+def receiver(own: Own, what: str = "own") -> lib.Own:
+    """Returns the struct of the receiver. Raises TypeError for another object."""
+    if not isinstance(own, Own):
+        raise TypeError("%s is %s, not bt.Own" % (what, type(own).__name__))
+    return own._struct()
+
+
 class Item:
     """The handshake or a message. A field that this kind of item doesn't have is None.
 
@@ -84,7 +92,7 @@ class Item:
     __slots__ = ("_fields", "_source")
 
     def __init__(self, fields: Tuple[Any, ...], source: Tuple[bytes, int]) -> None:
-        """Takes the fields of a `bt_item` in order, and bytes with their offset on the stream. Readers call it."""
+        """Takes the fields of a `bt_item` by ITEM_FIELDS, and bytes with their offset on the stream. Readers call it."""
         self._fields = fields
         self._source = source
 
@@ -101,13 +109,13 @@ class Item:
     @property
     def id(self) -> int:
         """Its `Id`, or the number of an unknown message."""
-        return _IDS[self._fields[8]]  # type: ignore[no-any-return]
+        return _IDS[self._fields[6]]  # type: ignore[no-any-return]
 
     @property
     def name(self) -> str:
         """Its name as `bt_tool show` prints it, like 'have' or 'metadata-request'."""
         fields = self._fields
-        return _NAMES[fields[8] if fields[8] != _EXTENDED else _EXTENDED + (fields[11][28] << 9)]
+        return _NAMES[fields[6] if fields[6] != _EXTENDED else _EXTENDED + (fields[7][28] << 9)]
 
     @property
     def data(self) -> bytes:
@@ -120,71 +128,70 @@ class Item:
     def index(self) -> Optional[int]:
         """The number of a piece, of have, suggest, allowed-fast, request, piece, cancel and reject."""
         fields = self._fields
-        return fields[4] if fields[8] in _WITH_INDEX else None
+        return fields[3] if _WITH_INDEX[fields[6]] else None
 
     @property
     def begin(self) -> Optional[int]:
         """The offset of a block in its piece, of request, piece, cancel and reject."""
         fields = self._fields
-        return fields[5] if fields[8] in _WITH_BEGIN else None
+        return fields[4] if _WITH_BEGIN[fields[6]] else None
 
     @property
     def length(self) -> Optional[int]:
         """How many bytes the block has, of request, cancel and reject. A piece has them as its body."""
         fields = self._fields
-        return fields[6] if fields[8] in _WITH_LENGTH else None
+        return fields[5] if _WITH_LENGTH[fields[6]] else None
 
     @property
     def port(self) -> Optional[int]:
         """The port of the peer's DHT node."""
-        fields = self._fields
-        return fields[7] if fields[8] == _PORT else None
+        return int.from_bytes(self.data[5:7], "big") if self._fields[6] == _PORT else None
 
     @property
     def body(self) -> Optional[bytes]:
         """The bitfield, block or payload, which is empty if the message has none. None of a handshake."""
         fields, (source, base) = self._fields, self._source
         end = fields[0] + fields[1] - base
-        return source[end - fields[2]:end] if fields[8] != _HANDSHAKE else None
+        return source[end - fields[2]:end] if fields[6] != _HANDSHAKE else None
 
     @property
     def view(self) -> memoryview:
         """The body without a copy, or all bytes of a handshake."""
         fields, (source, base) = self._fields, self._source
         end = fields[0] + fields[1] - base
-        return memoryview(source)[end - (fields[2] if fields[8] != _HANDSHAKE else fields[1]):end]
+        return memoryview(source)[end - (fields[2] if fields[6] != _HANDSHAKE else fields[1]):end]
 
     @property
     def reserved(self) -> Optional[int]:
         """The reserved bits of a handshake."""
-        return self._fields[3] if self._fields[8] == _HANDSHAKE else None
+        return int.from_bytes(self.data[20:28], "big") if self._fields[6] == _HANDSHAKE else None
 
     @property
     def info_hash(self) -> Optional[bytes]:
         """The info hash of a handshake, 20 bytes."""
-        return self.data[28:48] if self._fields[8] == _HANDSHAKE else None
+        return self.data[28:48] if self._fields[6] == _HANDSHAKE else None
 
     @property
     def peer_id(self) -> Optional[bytes]:
         """The peer id of a handshake, 20 bytes."""
-        return self.data[48:68] if self._fields[8] == _HANDSHAKE else None
+        return self.data[48:68] if self._fields[6] == _HANDSHAKE else None
 
     @property
     def _extended(self) -> Tuple[int, ...]:
         """The fields of a `bt_extended` in order."""
-        return lib.EXTENDED_FIELDS.unpack(self._fields[11]) if self._fields[8] == _EXTENDED else _NOT_EXTENDED
+        return lib.EXTENDED_FIELDS.unpack(self._fields[7]) if self._fields[6] == _EXTENDED else _NOT_EXTENDED
 
     @property
     def extended_id(self) -> Optional[int]:
         """The id within the extension protocol."""
         fields, (source, base) = self._fields, self._source
-        return source[fields[0] - base + 5] if fields[8] == _EXTENDED else None
+        return source[fields[0] - base + 5] if fields[6] == _EXTENDED else None
 
     @property
     def kind(self) -> Optional[Kind]:
         """What an extended message is."""
         fields = self._fields
-        return _KINDS[fields[11][28]] if fields[8] == _EXTENDED else None
+        return _KINDS[fields[7][28]] if fields[6] == _EXTENDED else None
 
     @property
     def piece(self) -> Optional[int]:
@@ -201,7 +208,7 @@ class Item:
     @property
     def dict_size(self) -> Optional[int]:
         """How many bytes of the body are the dictionary of an extended message."""
-        return self._extended[2] if self._fields[8] == _EXTENDED else None
+        return self._extended[2] if self._fields[6] == _EXTENDED else None
 
     @property
     def metadata_size(self) -> Optional[int]:

@@ -9,12 +9,17 @@ from typing import Any, Optional
 
 from . import _library as lib
 from ._names import DHT, EXTENSIONS, FAST, Id, Kind
-from ._values import Item, Own, Refused
+from ._values import Item, Own, Refused, receiver
 
 # What a message has besides its body, and a dictionary that the library writes.
 _HEAD, _DICT = 17, 160
 # The numbers of a bt_item that a message may have, in order.
 _NUMBERS = struct.Struct("<32x3I2HB")
+
+
+def _block(data: lib.Bytes, what: str) -> bytes:
+    """The bytes of a message, so that `message` gets no others."""
+    return data if type(data) is bytes else lib.content(data, what)
 
 
 def handshake(info_hash: lib.Bytes, peer_id: lib.Bytes, reserved: int = FAST | DHT | EXTENSIONS) -> bytes:
@@ -36,7 +41,7 @@ class Writer:
 
     def __init__(self, own: Own, reserved: int) -> None:
         self._c, self._written, self._item, self._own, self._count = lib.Reader(), lib.Item(), lib.Item(), own, 1
-        lib.bt.bt_writer_init(self._c, own._struct(), lib.number(reserved, 64, "reserved"))
+        lib.bt.bt_writer_init(self._c, receiver(own), lib.number(reserved, 64, "reserved"))
         self._own = replace(own, reserved=self._c.own.reserved, metadata_id=self._c.own.metadata_id)
         self._numbers = memoryview(self._item).cast("B")
         self._sizes = memoryview(self._written).cast("B")[:16].cast("Q")
@@ -60,10 +65,12 @@ class Writer:
 
     @peer.setter
     def peer(self, own: Own) -> None:
-        self._own, self._c.own = own, own._struct()
+        self._c.own, self._own = receiver(own, "peer"), own
 
     def hear(self, item: Item) -> None:
         """Takes the id for ut_metadata if the peer's item announces one."""
+        if not isinstance(item, Item):
+            raise TypeError("item is %s, not bt.Item" % type(item).__name__)
         if item.ut_metadata is not None:
             self.peer = replace(self.peer, metadata_id=item.ut_metadata)
 
@@ -122,7 +129,7 @@ class Writer:
 
     def bitfield(self, bits: lib.Bytes) -> bytes:
         """Writes which pieces you have, a bit each, the first piece in the highest bit."""
-        return self.message(Id.BITFIELD, body=bits)
+        return self.message(Id.BITFIELD, body=_block(bits, "bits"))
 
     def request(self, index: int, begin: int, length: int) -> bytes:
         """Writes a request for a block."""
@@ -130,7 +137,7 @@ class Writer:
 
     def piece(self, index: int, begin: int, block: lib.Bytes) -> bytes:
         """Writes a block."""
-        return self.message(Id.PIECE, index, begin, body=block)
+        return self.message(Id.PIECE, index, begin, body=_block(block, "block"))
 
     def cancel(self, index: int, begin: int, length: int) -> bytes:
         """Writes that a requested block is no more wanted."""
@@ -162,7 +169,7 @@ class Writer:
 
     def extended(self, extended_id: int, payload: lib.Bytes) -> bytes:
         """Writes an extended message under the id that the peer announced for it (BEP 10)."""
-        return self.message(Id.EXTENDED, extended_id=extended_id, body=payload)
+        return self.message(Id.EXTENDED, extended_id=extended_id, body=_block(payload, "payload"))
 
     def extended_handshake(self, metadata_id: int = 0, size: Optional[int] = None) -> bytes:
         """Writes the extended handshake: your id for ut_metadata, if it isn't 0, and the size of the metadata that you serve."""

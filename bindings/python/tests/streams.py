@@ -11,6 +11,7 @@ import io
 import json
 import os
 import pickle
+import pydoc
 import random
 import socket
 import subprocess
@@ -223,7 +224,8 @@ class Items(unittest.TestCase):
 
     def test_fields(self):
         stream = HELLO + bytes.fromhex("0000000d 06 00000007 00004000 00000001") + b"\0\0\0\x1a\x14\0d1:md11:ut_metadatai7eee"
-        hello, request, extended = bt.read(stream)
+        hello, request, extended, port = bt.read(stream + bytes.fromhex("00000003 09 1ae1"))
+        self.assertEqual((port.name, port.port, port.index, port.body, extended.port), ("port", 6881, None, b"", None))
         self.assertEqual((hello.id, hello.reserved, hello.info_hash, hello.peer_id, hello.body),
                          (bt.Id.HANDSHAKE, 0x100005, HASH, PEER, None))
         self.assertEqual((request.start, request.id, request.name, request.index, request.begin, request.length, request.port),
@@ -232,7 +234,6 @@ class Items(unittest.TestCase):
                          (bt.Kind.EXT_HANDSHAKE, 0, 7, None, 24))
         self.assertEqual((extended.rest, extended.data[6:]), (b"", b"d1:md11:ut_metadatai7eee"))
         self.assertEqual((extended.kind.name, bt.Reason(9).name, repr(request)), ("EXT_HANDSHAKE", "LATE", "<bt.Item request at 68, 17 bytes>"))
-
 
     def test_a_view_is_no_copy(self):
         data = example("downloading")
@@ -353,11 +354,46 @@ class Package(unittest.TestCase):
         said = subprocess.run([sys.executable, "-c", program], env={**os.environ, "PYTHONPATH": PACKAGE}, stdout=subprocess.PIPE, check=True)
         self.assertEqual(said.stdout.strip(), b"")
 
+    def test_help_is_for_people(self):
+        text = pydoc.plain(pydoc.render_doc(bt))
+        self.assertLess(text.count("\n"), 1500)
+        for said in ("metadata_id   the id that it announced", "blocks   how many blocks it has", "begins   whether metadata of this size",
+                     "SERVED       the peer asked", "refused` says why"):
+            self.assertIn(said, text)
+        for kind in (bt.Id, bt.Kind, bt.Reason, bt.Event, bt.Announce):
+            self.assertEqual(sorted(dir(kind)), sorted(["__doc__", *kind.__members__]))
+            self.assertLessEqual({"name", "value"}, {*dir(list(kind)[0])})
+        for kind in (bt.Own, bt.Heard, bt.Progress):
+            for name in kind.__annotations__:
+                self.assertRegex(kind.__doc__, r"(?m)^ *%s +\w" % name)
+        for event in bt.Event:
+            self.assertRegex(bt.Event.__doc__, r"(?m)^ *%s +\w" % event.name)
+
     def test_messages_name_the_argument(self):
-        for says, call in (("^info_hash is str, not bytes$", lambda: bt.fetch("localhost:1", "00" * 20)),
-                           ("^data is int, not bytes$", lambda: bt.read(5)), ("^index is str, not an integer$", lambda: open_writer().have("1")),
-                           ("^limit is float, not an integer$", lambda: bt.Own(limit=1.5))):
-            self.assertRaisesRegex(TypeError, says, call)
+        writer = open_writer()
+        for says, call in (("info_hash is str, not bytes", lambda: bt.fetch("localhost:1", "00" * 20)),
+                           ("data is int, not bytes", lambda: bt.read(5)), ("index is str, not an integer", lambda: writer.have("1")),
+                           ("limit is float, not an integer", lambda: bt.Own(limit=1.5)),
+                           ("own is int, not bt.Own", lambda: bt.read(HELLO, 3)), ("own is int, not bt.Own", lambda: bt.check(HELLO, 0)),
+                           ("own is int, not bt.Own", lambda: bt.columns(HELLO, 3)), ("own is bytes, not bt.Own", lambda: bt.Feed(b"x")),
+                           ("own is int, not bt.Own", lambda: bt.Writer(3, 0)), ("own is NoneType, not bt.Own", lambda: bt.End(None)),
+                           ("peer is int, not bt.Own", lambda: setattr(writer, "peer", 3)), ("item is int, not bt.Item", lambda: writer.hear(3)),
+                           ("source is int, not a socket, a file or an iterable of bytes", lambda: bt.stream(5)),
+                           ("reader is int, not an asyncio.StreamReader", lambda: asyncio.run(bt.stream_async(5).__anext__())),
+                           ("fields is int, not a sequence of names", lambda: bt.columns(HELLO, fields=5)),
+                           ("fields is str, not a sequence of names", lambda: bt.columns(HELLO, fields="id")),
+                           ("block is str, not bytes", lambda: writer.piece(0, 0, "x")), ("bits is int, not bytes", lambda: writer.bitfield(3)),
+                           ("payload is str, not bytes", lambda: writer.extended(1, "x")),
+                           ("address is int, not 'HOST:PORT' or \\(HOST, PORT\\)", lambda: bt.fetch(5, HASH)),
+                           ("host is int, not str", lambda: bt.fetch((5, 80), HASH)), ("port is str, not an integer", lambda: bt.fetch(("a", "b"), HASH)),
+                           ("timeout is str, not a number of seconds", lambda: bt.fetch("localhost:1", HASH, timeout="x")),
+                           ("timeout is NoneType, not a number of seconds", lambda: asyncio.run(bt.fetch_async("localhost:1", HASH, timeout=None)))):
+            self.assertRaisesRegex(TypeError, "^%s$" % says, call)
+        for says, call in (("address is \\('a',\\), not 'HOST:PORT' or \\(HOST, PORT\\)", lambda: bt.fetch(("a",), HASH)),
+                           ("timeout is -1, not above 0 and at most 1e9 seconds", lambda: bt.fetch("localhost:1", HASH, timeout=-1)),
+                           ("timeout is nan, not above 0 .*", lambda: asyncio.run(bt.fetch_async("localhost:1", HASH, timeout=float("nan")))),
+                           ("announce is 7, not one of bt.Announce", lambda: bt.End(bt.Own(info_hash=HASH), announce=7))):
+            self.assertRaisesRegex(ValueError, "^%s$" % says, call)
         for address in ("localhost", "localhost:", ":6881", "localhost:http"):
             self.assertRaisesRegex(ValueError, "address is '%s', not 'HOST:PORT'" % address, bt.fetch, address, HASH)
         self.assertRaisesRegex(ValueError, "port is 65536", bt.fetch, ("localhost", 65536), HASH)

@@ -87,4 +87,4 @@ class Types(unittest.TestCase):
 if __name__ == "__main__":
     if USES_MODULE or works(["mypy"]):
         unittest.main(argv=sys.argv[:1])
-    print("types_seen: mypy isn't installed, so no types are tested")
+    print("types_seen: mypy isn't installed, so the types of Python are left out")

@@ -9,7 +9,6 @@ fn hex(bytes: &[u8]) -> String {
 /// The name of an event, and a line's words after that.
 fn words(event: &Event) -> (&'static str, String) {
     match event {
-        Event::Other => ("OTHER", String::new()),
         Event::Opened => ("OPENED", String::new()),
         Event::Announced { id, size, begins } => {
             let (id, size) = (id.map(|it| format!(" {it}")), size.map(|it| format!(" {it}")));
@@ -24,6 +23,7 @@ fn words(event: &Event) -> (&'static str, String) {
         Event::Declined(piece) => ("DECLINED", format!(" {piece}")),
         Event::Requested => ("REQUESTED", String::new()),
         Event::Piece => ("PIECE", String::new()),
+        _ => ("OTHER", String::new()),
     }
 }
 

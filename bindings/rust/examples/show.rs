@@ -29,6 +29,7 @@ fn extended(id: u8, payload: &[u8], told: &Extended<'_>) -> String {
             format!(" {} {}", dict.len(), rest.len())
         }
         Extended::Raw => format!(" {id} {}", payload.len()),
+        _ => String::new(),
     }
 }
 

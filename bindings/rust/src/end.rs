@@ -15,6 +15,7 @@ const HEAD: usize = 68;
 
 /// What an end does with metadata.
 #[derive(Clone, Copy, Debug, PartialEq, Eq)]
+#[non_exhaustive]
 pub enum Role<'a> {
     /// Nothing.
     Watch,
@@ -26,6 +27,7 @@ pub enum Role<'a> {
 
 /// What an end announces of its pieces after the handshakes (BEP 6).
 #[derive(Clone, Copy, Debug, PartialEq, Eq)]
+#[non_exhaustive]
 pub enum Announce {
     /// Nothing.
     Nothing = 0,
@@ -59,6 +61,7 @@ impl Default for Config<'_> {
 
 /// Why a call for an end did nothing.
 #[derive(Clone, Copy, Debug, PartialEq, Eq)]
+#[non_exhaustive]
 pub enum EndError {
     /// The peer broke a rule. Each later call that receives says so again, until the end is reset.
     Refused(Refused),
@@ -123,6 +126,7 @@ impl Error for EndError {}
 
 /// What an item of the peer made of an end.
 #[derive(Clone, Copy, Debug, PartialEq, Eq)]
+#[non_exhaustive]
 pub enum Event {
     /// Nothing that the item itself doesn't say.
     Other,
@@ -352,7 +356,9 @@ impl End {
         unsafe { ffi::bt_end_mismatches(&mut self.c) }
     }
 
-    /// Fetches metadata of this size from now on, for a peer that announced a false one.
+    /// Begins a fetch of this size anew, for a peer that announced a false one.
+    ///
+    /// The blocks that are held are dropped, and each is asked for again, also if the size is the present one.
     ///
     /// # Errors
     /// Why nothing has changed.
@@ -365,6 +371,12 @@ impl End {
     pub fn set_window(&mut self, window: u8) {
         // SAFETY: it is what the calls left.
         unsafe { ffi::bt_end_set_window(&mut self.c, window) };
+    }
+}
+
+impl fmt::Debug for End {
+    fn fmt(&self, to: &mut fmt::Formatter<'_>) -> fmt::Result {
+        to.debug_struct("End").field("own", &self.own).finish_non_exhaustive()
     }
 }
 

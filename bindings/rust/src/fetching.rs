@@ -6,11 +6,12 @@ use crate::refused::Refused;
 use std::error::Error;
 use std::fmt;
 use std::io::{self, ErrorKind, Read, Write};
-use std::net::{SocketAddr, TcpStream};
+use std::net::{TcpStream, ToSocketAddrs};
 use std::time::{Duration, Instant};
 
 /// Why a peer didn't give the metadata.
 #[derive(Debug)]
+#[non_exhaustive]
 pub enum FetchError {
     /// The connection failed.
     Io(io::Error),
@@ -64,17 +65,19 @@ impl From<EndError> for FetchError {
 
 /// Fetches the metadata of a torrent from a peer, at most `most` bytes of it. Its SHA-1 is the info hash.
 ///
+/// The peer is an address, or the name of a host with a port, like `"localhost:6881"` or `("localhost", 6881)`. The addresses of a
+/// name are tried in turn until one is reached. The time doesn't limit how long the system looks up a name.
+///
 /// # Errors
 /// Why the peer didn't give it within the time.
-pub fn fetch(peer: SocketAddr, info_hash: [u8; 20], most: Option<u64>, timeout: Duration) -> Result<Vec<u8>, FetchError> {
+pub fn fetch(peer: impl ToSocketAddrs, info_hash: [u8; 20], most: Option<u64>, timeout: Duration) -> Result<Vec<u8>, FetchError> {
     let ends = Instant::now() + timeout;
     let own = Own { reserved: FAST | EXTENSIONS, info_hash: Some(info_hash), ..Own::default() };
     let mut end = End::new(&Config { own, role: Role::Fetch(most), ..Config::default() })?;
-    let (mut stream, mut buffer) = (TcpStream::connect_timeout(&peer, timeout)?, vec![0; 65_536]);
+    let (mut stream, mut buffer) = (connected(peer, ends)?, vec![0; 65_536]);
     loop {
-        let left = ends.saturating_duration_since(Instant::now()).max(Duration::from_millis(1));
-        stream.set_read_timeout(Some(left))?;
-        stream.set_write_timeout(Some(left))?;
+        stream.set_read_timeout(Some(left(ends)))?;
+        stream.set_write_timeout(Some(left(ends)))?;
         let waiting = end.outgoing();
         stream.write_all(&waiting)?;
         end.sent(waiting.len());
@@ -89,6 +92,23 @@ pub fn fetch(peer: SocketAddr, info_hash: [u8; 20], most: Option<u64>, timeout: 
             return Err(FetchError::NoMetadata);
         }
     }
+}
+
+/// How long it is until then, and at least a millisecond.
+fn left(ends: Instant) -> Duration {
+    ends.saturating_duration_since(Instant::now()).max(Duration::from_millis(1))
+}
+
+/// Connects to the first address that is reached.
+fn connected(peer: impl ToSocketAddrs, ends: Instant) -> io::Result<TcpStream> {
+    let mut last = io::Error::new(ErrorKind::InvalidInput, "the peer has no address");
+    for address in peer.to_socket_addrs()? {
+        match TcpStream::connect_timeout(&address, left(ends)) {
+            Ok(stream) => return Ok(stream),
+            Err(error) => last = error,
+        }
+    }
+    Err(last)
 }
 
 /// Handles what was received, and returns the metadata once it is there.

@@ -25,6 +25,7 @@ pub struct Block {
 
 /// The handshake or a message.
 #[derive(Clone, Copy, Debug, PartialEq, Eq)]
+#[non_exhaustive]
 pub enum Message<'a> {
     /// The handshake (BEP 3).
     Handshake {
@@ -94,6 +95,7 @@ pub enum Message<'a> {
 
 /// What an extended message is. `dict` is its dictionary, `rest` what follows that.
 #[derive(Clone, Copy, Debug, PartialEq, Eq)]
+#[non_exhaustive]
 pub enum Extended<'a> {
     /// An extended handshake (BEP 10).
     Handshake {

@@ -1,8 +1,14 @@
-//! Streams read: whole, or in chunks.
+//! Streams read: whole, in chunks, or of a socket or a file.
 use crate::ffi;
 use crate::item::{Item, Message};
 use crate::own::Own;
 use crate::refused::Refused;
+use std::error::Error;
+use std::fmt;
+use std::io::{self, ErrorKind, Read};
+
+/// How many bytes a [`Stream`] asks its source for.
+const CHUNK: usize = 65_536;
 
 /// How far a stream is read.
 #[derive(Clone, Copy, Default)]
@@ -19,21 +25,34 @@ impl State {
         state
     }
 
-    /// Reads the item at the front of the bytes, if it is whole.
-    fn next<'a>(&mut self, bytes: &'a [u8], ended: bool) -> Option<Result<Item<'a>, Refused>> {
-        let mut item = ffi::Item::default();
+    /// Reads the struct of the item at the front of the bytes, if it is whole.
+    fn step(&mut self, bytes: &[u8], ended: bool, item: &mut ffi::Item) -> Option<Result<(), Refused>> {
         let call = if ended { ffi::bt_reader_finish } else { ffi::bt_reader_next };
         // SAFETY: the pointer and the length are those of `bytes`.
-        match unsafe { call(&mut self.reader, bytes.as_ptr(), bytes.len(), &mut item) } {
+        match unsafe { call(&mut self.reader, bytes.as_ptr(), bytes.len(), item) } {
             ffi::ITEM => {
-                let data = &bytes[..item.size as usize];
                 self.count += 1;
-                Some(Ok(Item { start: item.start, data, message: Message::of(&item, data) }))
+                Some(Ok(()))
             }
-            ffi::REFUSED => Some(Err(Refused::by(&item, self.count))),
+            ffi::REFUSED => Some(Err(Refused::by(item, self.count))),
             _ => None,
         }
     }
+
+    /// Reads the item at the front of the bytes, if it is whole.
+    fn next<'a>(&mut self, bytes: &'a [u8], ended: bool) -> Option<Result<Item<'a>, Refused>> {
+        let mut item = ffi::Item::default();
+        match self.step(bytes, ended, &mut item)? {
+            Ok(()) => Some(Ok(shown(&item, bytes))),
+            Err(refused) => Some(Err(refused)),
+        }
+    }
+}
+
+/// The item at the front of the bytes, by its struct.
+fn shown<'a>(item: &ffi::Item, bytes: &'a [u8]) -> Item<'a> {
+    let data = &bytes[..item.size as usize];
+    Item { start: item.start, data, message: Message::of(item, data) }
 }
 
 /// The items of a whole stream. It ends after a refusal.
@@ -46,12 +65,23 @@ pub struct Items<'a> {
 /// Returns an iterator over the items of a whole stream, which borrow its bytes.
 ///
 /// ```
-/// for item in bt::read(&[], &bt::Own::default()) {
-///     assert_eq!(item.unwrap_err().to_string(), "message 0 refused at byte 0: EndInside");
-/// }
+/// let mut bytes = bt::handshake(bt::FAST, [7; 20], *b"-XX0001-000000000000").to_vec();
+/// bytes.extend(b"\0\0\0\x05\x04\0\0\0\x09\0\0");
+/// let mut items = bt::read(&bytes, &bt::Own::default());
+/// assert_eq!(items.next().unwrap()?.name(), "handshake");
+/// assert_eq!(items.next().unwrap()?.message, bt::Message::Have(9));
+/// assert_eq!(items.next().unwrap().unwrap_err().to_string(), "message 2 refused at byte 79: EndInside");
+/// # Ok::<(), bt::Refused>(())
 /// ```
 pub fn read<'a>(bytes: &'a [u8], own: &Own) -> Items<'a> {
     Items { state: State::new(own), bytes, over: false }
+}
+
+impl fmt::Debug for Items<'_> {
+    fn fmt(&self, to: &mut fmt::Formatter<'_>) -> fmt::Result {
+        let (start, left) = (self.state.reader.start, self.bytes.len());
+        to.debug_struct("Items").field("start", &start).field("left", &left).finish_non_exhaustive()
+    }
 }
 
 impl<'a> Iterator for Items<'a> {
@@ -79,6 +109,13 @@ pub struct Feed {
     state: State,
     bytes: Vec<u8>,
     at: usize,
+}
+
+impl fmt::Debug for Feed {
+    fn fmt(&self, to: &mut fmt::Formatter<'_>) -> fmt::Result {
+        let left = self.bytes.len() - self.at;
+        to.debug_struct("Feed").field("start", &self.start()).field("left", &left).finish_non_exhaustive()
+    }
 }
 
 impl Feed {
@@ -119,6 +156,13 @@ pub struct FeedItems<'a> {
     over: bool,
 }
 
+impl fmt::Debug for FeedItems<'_> {
+    fn fmt(&self, to: &mut fmt::Formatter<'_>) -> fmt::Result {
+        let (start, left) = (self.state.reader.start, self.bytes.len() - *self.at);
+        to.debug_struct("FeedItems").field("start", &start).field("left", &left).finish_non_exhaustive()
+    }
+}
+
 impl<'a> Iterator for FeedItems<'a> {
     type Item = Result<Item<'a>, Refused>;
 
@@ -132,6 +176,126 @@ impl<'a> Iterator for FeedItems<'a> {
             _ => self.over = true,
         }
         found
+    }
+}
+
+/// Why a [`Stream`] gives no item.
+#[derive(Debug)]
+#[non_exhaustive]
+pub enum StreamError {
+    /// The source failed.
+    Io(io::Error),
+    /// The stream breaks a rule.
+    Refused(Refused),
+}
+
+impl fmt::Display for StreamError {
+    fn fmt(&self, to: &mut fmt::Formatter<'_>) -> fmt::Result {
+        match self {
+            StreamError::Io(error) => error.fmt(to),
+            StreamError::Refused(refused) => refused.fmt(to),
+        }
+    }
+}
+
+impl Error for StreamError {}
+
+impl From<io::Error> for StreamError {
+    fn from(error: io::Error) -> Self {
+        StreamError::Io(error)
+    }
+}
+
+impl From<Refused> for StreamError {
+    fn from(refused: Refused) -> Self {
+        StreamError::Refused(refused)
+    }
+}
+
+/// The items of a socket, a file or another source of bytes. [`stream`] makes it.
+pub struct Stream<R> {
+    source: R,
+    state: State,
+    /// What came and isn't taken yet is `buffer[at..end]`.
+    buffer: Vec<u8>,
+    at: usize,
+    end: usize,
+    ended: bool,
+}
+
+/// Returns the items of a source of bytes, each as soon as its bytes are there.
+///
+/// It reads up to 65,536 bytes at a time, so the source needs no buffer of its own.
+///
+/// ```
+/// # let mut bytes = bt::handshake(bt::FAST, [7; 20], *b"-XX0001-000000000000").to_vec();
+/// # bytes.extend(b"\0\0\0\x05\x04\0\0\0\x09");
+/// # let socket = &bytes[..];
+/// let mut stream = bt::stream(socket, &bt::Own::default());
+/// while let Some(item) = stream.next()? {
+///     println!("{} {}", item.start, item.name());
+/// }
+/// # assert_eq!(stream.start(), 77);
+/// # Ok::<(), bt::StreamError>(())
+/// ```
+pub fn stream<R: Read>(source: R, own: &Own) -> Stream<R> {
+    Stream { source, state: State::new(own), buffer: Vec::new(), at: 0, end: 0, ended: false }
+}
+
+impl<R> fmt::Debug for Stream<R> {
+    fn fmt(&self, to: &mut fmt::Formatter<'_>) -> fmt::Result {
+        let left = self.end - self.at;
+        to.debug_struct("Stream").field("start", &self.start()).field("left", &left).finish_non_exhaustive()
+    }
+}
+
+impl<R> Stream<R> {
+    /// Returns the offset of the next item in the stream.
+    pub fn start(&self) -> u64 {
+        self.state.reader.start
+    }
+}
+
+impl<R: Read> Stream<R> {
+    /// Returns the next item, which borrows the stream; or none, if the source is at its end.
+    ///
+    /// # Errors
+    /// The source failed, and the next call goes on; or the stream breaks a rule, and each later call says so again.
+    #[allow(clippy::should_implement_trait)] // an iterator's items can't borrow it
+    pub fn next(&mut self) -> Result<Option<Item<'_>>, StreamError> {
+        let mut item = ffi::Item::default();
+        loop {
+            match self.state.step(&self.buffer[self.at..self.end], self.ended, &mut item) {
+                Some(found) => {
+                    found?;
+                    let from = self.at;
+                    self.at += item.size as usize;
+                    return Ok(Some(shown(&item, &self.buffer[from..self.at])));
+                }
+                None if self.ended => return Ok(None),
+                None => self.fill()?,
+            }
+        }
+    }
+
+    /// Reads some bytes, or the source's end.
+    fn fill(&mut self) -> io::Result<()> {
+        if self.at > 0 {
+            self.buffer.copy_within(self.at..self.end, 0);
+            (self.at, self.end) = (0, self.end - self.at);
+        }
+        if self.buffer.len() < self.end + CHUNK {
+            self.buffer.resize(self.end + CHUNK, 0);
+        }
+        let n = loop {
+            match self.source.read(&mut self.buffer[self.end..]) {
+                Err(error) if error.kind() == ErrorKind::Interrupted => {}
+                other => break other?,
+            }
+        };
+        self.end += n;
+        self.ended = n == 0;
+        Ok(())
     }
 }
 

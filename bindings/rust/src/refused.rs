@@ -7,6 +7,7 @@ use std::fmt;
 #[derive(Clone, Copy, Debug, PartialEq, Eq, Hash)]
 #[repr(u8)]
 #[allow(missing_docs)] // docs/RULES.md has them
+#[non_exhaustive]
 pub enum Reason {
     BadProtocol = 1,
     WrongInfoHash = 2,

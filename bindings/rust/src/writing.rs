@@ -12,6 +12,7 @@ const DICT: usize = 160;
 
 /// Why a message isn't written.
 #[derive(Clone, Copy, Debug, PartialEq, Eq)]
+#[non_exhaustive]
 pub enum WriteError {
     /// The peer would refuse it.
     Refused(Refused),
@@ -48,6 +49,12 @@ pub fn handshake(reserved: u64, info_hash: [u8; 20], peer_id: [u8; 20]) -> [u8; 
 pub struct Writer {
     peer: ffi::Reader,
     count: u64,
+}
+
+impl fmt::Debug for Writer {
+    fn fmt(&self, to: &mut fmt::Formatter<'_>) -> fmt::Result {
+        to.debug_struct("Writer").field("peer", &self.peer()).field("message", &self.count).finish_non_exhaustive()
+    }
 }
 
 impl Writer {

@@ -144,6 +144,10 @@ fn fetched() {
     let (peer, thread) = serving(b"abc", ABC, usize::MAX);
     assert_eq!(bt::fetch(peer, ABC, None, second).unwrap(), b"abc");
     thread.join().unwrap();
+    let (peer, thread) = serving(b"abc", ABC, usize::MAX);
+    assert_eq!(bt::fetch(format!("localhost:{}", peer.port()), ABC, None, second).unwrap(), b"abc");
+    thread.join().unwrap();
+    assert!(matches!(bt::fetch("localhost", ABC, None, second), Err(FetchError::Io(_))));
     let (peer, thread) = serving(b"abd", ABC, usize::MAX);
     assert!(matches!(bt::fetch(peer, ABC, None, second), Err(FetchError::OtherMetadata)));
     thread.join().unwrap();

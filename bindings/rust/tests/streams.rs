@@ -1,5 +1,7 @@
 //! Streams read, judged and written again.
-use bt::{Block, Extended, Feed, Item, Message, Own, Reason, Refused, WriteError, Writer};
+use bt::{Block, Config, End, Extended, Feed, Item, Message, Own, Reason, Refused, StreamError, WriteError, Writer};
+use std::fmt::Debug;
+use std::io::{self, ErrorKind, Read};
 
 const EXAMPLES: [&str; 4] = ["first", "fetching", "serving", "downloading"];
 
@@ -28,6 +30,36 @@ fn fed(stream: &[u8], own: &Own, sizes: &[usize]) -> Vec<String> {
     }
     found.extend(told(feed.finish()));
     found
+}
+
+/// A source that gives chunks of these sizes, in turn.
+struct Chunks<'a> {
+    rest: &'a [u8],
+    sizes: std::iter::Cycle<std::slice::Iter<'a, usize>>,
+}
+
+impl Read for Chunks<'_> {
+    fn read(&mut self, to: &mut [u8]) -> io::Result<usize> {
+        let n = self.sizes.next().copied().unwrap_or(1).min(to.len());
+        self.rest.read(&mut to[..n])
+    }
+}
+
+/// What a stream of a source tells of these bytes in chunks of these sizes, in turn.
+fn streamed(bytes: &[u8], own: &Own, sizes: &[usize]) -> Vec<String> {
+    let (mut stream, mut found) = (bt::stream(Chunks { rest: bytes, sizes: sizes.iter().cycle() }, own), Vec::new());
+    loop {
+        match stream.next() {
+            Ok(Some(item)) => found.push(format!("{:?}", Ok::<_, Refused>(item))),
+            Ok(None) => return found,
+            Err(StreamError::Refused(refused)) => {
+                found.push(format!("{:?}", Err::<Item<'_>, _>(refused)));
+                assert!(matches!(stream.next(), Err(StreamError::Refused(again)) if again == refused));
+                return found;
+            }
+            Err(other) => panic!("{other}"),
+        }
+    }
 }
 
 #[test]
@@ -60,12 +92,76 @@ fn a_feed_tells_what_read_tells() {
             }
             let own = Own { strict: round % 3 == 0, pieces: (round % 5 == 0).then_some(38), ..Own::default() };
             let wanted = told(bt::read(&bytes, &own));
-            assert_eq!(fed(&bytes, &own, &[1, 4, 9, 700, 20_000]), wanted, "{name}, round {round}");
+            let sizes = [1, 4, 9, 700, 20_000];
+            assert_eq!(fed(&bytes, &own, &sizes), wanted, "{name}, round {round}");
+            assert_eq!(streamed(&bytes, &own, &sizes), wanted, "{name}, round {round}");
             let verdict = bt::check(&bytes, &own).map(|messages| messages as usize + 1);
             let refused = wanted.last().filter(|it| it.starts_with("Err"));
             assert_eq!(verdict.ok(), refused.is_none().then_some(wanted.len()));
         }
     }
+}
+
+/// A message of 1,000,005 bytes, which is longer than what a source is asked for at once.
+#[test]
+fn a_long_message_of_a_source() {
+    let mut bytes = bt::handshake(0, [7; 20], [1; 20]).to_vec();
+    bytes.extend(1_000_001_u32.to_be_bytes());
+    bytes.push(5);
+    bytes.extend(vec![0x80; 1_000_000]);
+    bytes.extend([0; 4]);
+    let own = Own { limit: 1_048_576, ..Own::default() };
+    for sizes in [&[70_000][..], &[1, 65_536]] {
+        assert_eq!(streamed(&bytes, &own, sizes), told(bt::read(&bytes, &own)));
+    }
+    assert_eq!(bt::check(&bytes, &own), Ok(2));
+}
+
+/// A source that fails before each chunk: it was interrupted, and has nothing yet.
+struct Failing<'a>(u32, Chunks<'a>);
+
+impl Read for Failing<'_> {
+    fn read(&mut self, to: &mut [u8]) -> io::Result<usize> {
+        self.0 += 1;
+        match self.0 % 3 {
+            1 => Err(ErrorKind::Interrupted.into()),
+            2 => Err(ErrorKind::WouldBlock.into()),
+            _ => self.1.read(to),
+        }
+    }
+}
+
+#[test]
+fn a_source_that_fails_is_asked_again() {
+    let (bytes, mut items, mut failures) = (example("first"), 0, 0);
+    let mut stream = bt::stream(Failing(0, Chunks { rest: &bytes, sizes: [40].iter().cycle() }), &Own::default());
+    loop {
+        match stream.next() {
+            Ok(Some(_)) => items += 1,
+            Ok(None) => break,
+            Err(StreamError::Io(error)) if error.kind() == ErrorKind::WouldBlock => failures += 1,
+            Err(other) => panic!("{other}"),
+        }
+    }
+    // (40, 40, 1 and the end)
+    assert_eq!((items, failures, stream.start()), (3, 4, 81));
+    assert!(stream.next().unwrap().is_none());
+}
+
+#[test]
+fn debug_is_short() {
+    fn is_short(value: impl Debug, wanted: &str) {
+        let found = format!("{value:?}");
+        assert!(found.starts_with(wanted) && found.ends_with(" .. }") && found.len() < 300, "{found}");
+    }
+    let (own, bytes) = (Own { info_hash: Some([7; 20]), ..Own::default() }, vec![0; 1_000_000]);
+    let mut feed = Feed::new(&Own::default());
+    is_short(bt::read(&bytes, &own), "Items { start: 0, left: 1000000,");
+    is_short(feed.push(&bytes), "FeedItems { start: 0, left: 1000000,");
+    is_short(feed, "Feed { start: 0, left: 1000000,");
+    is_short(bt::stream(io::empty(), &own), "Stream { start: 0, left: 0,");
+    is_short(Writer::new(&own, 0), "Writer { peer: Own {");
+    is_short(End::new(&Config { own, ..Config::default() }).unwrap(), "End { own: Own {");
 }
 
 #[test]
