@@ -645,8 +645,20 @@ def largest(program):
             server.kill()
             errors = server.communicate(timeout=60)[1]
         wanted = begin and b"serving %s size=%d on " % (hashlib.sha1(info).hexdigest().encode(), size)
-        failed += same("length", len(info), size) + same("largest", str((first[:len(wanted)], errors)), str((wanted, b"" if begin else b"refused file\n")))
+        failed += same("length", len(info), size) + same("largest", str((first[:len(wanted)], errors)), str((wanted, b"" if begin else b"refused file: info dictionary of more than 67108864 bytes\n")))
     return failed, 4
+
+
+def many_pieces(program):
+    """A .torrent whose SHA-1s of pieces have more bytes than a string of the wire may have is served, and fetched again."""
+    info = b"d4:name1:a12:piece lengthi16384e6:pieces1300000:" + os.urandom(1300000) + b"e"
+    with tempfile.NamedTemporaryFile() as file:
+        file.write(b"d8:announce3:udp4:info" + info + b"e")
+        file.flush()
+        server = Server(program, file.name)
+        done = run(program, hashlib.sha1(info).digest(), ["127.0.0.1:%d" % server.port], [])
+        server.process.kill()
+    return same("first line of many pieces", "size=%d " % len(info) in server.first, True) + same("many pieces", done.stdout == info, True), 2
 
 
 def hosted(program):
@@ -916,7 +928,7 @@ def serving(program):
             with open(name, "wb") as file:
                 file.write(content)
         done = subprocess.run([program, "serve", names[2]], capture_output=True, timeout=60)
-        failed += differs_whole("serve neither", done, b"", "refused file\n", 1)
+        failed += differs_whole("serve neither", done, b"", "refused file: no dictionary under 'info' and no number under 'piece length'\n", 1)
 
         server = Server(program, names[0], "--exit-after", "4", "--timeout", "3")
         failed += same("first line", server.first, "serving %s size=%d on 127.0.0.1:%d\n" % (HASH.hex(), len(INFO), server.port))
@@ -1217,11 +1229,18 @@ def descriptors(program):
     return failed, 4
 
 
+def soaked(program):
+    """No edge is lost in a short soak, where strace can tell."""
+    words = [os.path.join(ROOT, "tests", "soak_sockets"), "3", "1", program]
+    last = subprocess.run(words, capture_output=True, text=True, timeout=300).stdout
+    return same("edges of %r" % last, (" 0 lost edges" in last or "no edges were counted" in last) and "serve ended" not in last, True), 1
+
+
 def main(words):
     program = program_of(words)
     failed = count = 0
-    for part in (hostile, kept, linked, hosted, taken, largest, million, single, shown, unread, unwritten, dialled, placed, hindered, both, swarm, objects,
-                 several_ids, serving, pieces, one_write, memory, served_apart, descriptors):
+    for part in (hostile, kept, linked, hosted, taken, largest, many_pieces, million, single, shown, unread, unwritten, dialled, placed, hindered, both, swarm, objects,
+                 several_ids, serving, pieces, one_write, memory, served_apart, descriptors, soaked):
         more, tried = part(program)
         failed += more
         count += tried

@@ -169,7 +169,7 @@ ROWS = [
     ("serve /dev/null --exit-after 0", b"", b"", Parts(b"error: '--exit-after' takes "), 2),
     ("serve /dev/null --connections 4294967296", b"", b"", Parts(b"error: '--exit-after' takes "), 2),
     ("serve /dev/null --timeout 0", b"", b"", Parts(b"error: '--timeout' takes "), 2),
-    ("serve /dev/null", b"", b"", b"refused file\n", 1),
+    ("serve /dev/null", b"", b"", b"refused file: not one bencoded dictionary that nests at most 32 deep\n", 1),
     ("serve /dev/null/none", b"", b"", b"fault: read\n", 3),
     # scripts
     ("pack", LINE, HAND, b"", 0),

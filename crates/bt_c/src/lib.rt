@@ -16,7 +16,6 @@ pub mod laws;
 mod loose;
 mod names;
 mod next;
-mod quick;
 mod reader;
 mod receiver;
 mod say;

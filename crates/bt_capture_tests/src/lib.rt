@@ -2,4 +2,14 @@
 #![tactic(auto)]
 
 #[cfg(test)]
+mod files;
+#[cfg(test)]
+mod flows;
+#[cfg(test)]
+mod frames;
+#[cfg(test)]
+mod halves;
+#[cfg(test)]
+mod remarks;
+#[cfg(test)]
 mod streams;

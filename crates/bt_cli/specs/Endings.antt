@@ -3,12 +3,12 @@ use Rattle.std.specs.Prelude.{ℕ, Bool, List, [], Result, Ok, Err, codes}
 use Rattle.bt_text.specs.declared.ended.ToolFault.{ToolFault}
 use Rattle.bt_text.specs.Lines.{fault_line}
 use Rattle.bt_session.specs.declared.report.LinkError.{LinkError}
-use Rattle.bt_rig.specs.declared.run.RigEnd.{RigEnd}
-use Rattle.bt_rig.specs.declared.run.RigEnd.TheVariants.{Unrun}
-use Rattle.bt_rig.specs.Runs.{complaint as rig_complaint, status_of as rig_status}
-use Rattle.bt_net.specs.declared.looped.LoopEnd.{LoopEnd}
-use Rattle.bt_net.specs.declared.looped.LoopEnd.TheVariants.{Fetched, Unfetched, BadSize}
-use Rattle.bt_net.specs.Loops.{status_of as looped_status}
+use Rattle.bt_link.specs.declared.run.RigEnd.{RigEnd}
+use Rattle.bt_link.specs.declared.run.RigEnd.TheVariants.{Unrun}
+use Rattle.bt_link.specs.Runs.{complaint as rig_complaint, status_of as rig_status}
+use Rattle.bt_loop.specs.declared.looped.LoopEnd.{LoopEnd}
+use Rattle.bt_loop.specs.declared.looped.LoopEnd.TheVariants.{Fetched, Unfetched, BadSize}
+use Rattle.bt_loop.specs.Loops.{status_of as looped_status}
 use Rattle.bt_run.specs.Endings.{fault_status, fault_words}
 
 -- ---- standard error

@@ -11,36 +11,47 @@ use Rattle.bt_text.specs.declared.ended.ToolFault.{ToolFault}
 use Rattle.bt_text.specs.declared.ended.ToolFault.TheVariants as fault
 use Rattle.bt_text.specs.Lines.{fault_line, verdict_line}
 use Rattle.bt_run.specs.Runs.{IsSaid}
-use Rattle.bt_serve.specs.Files.{IsInfoKept}
+use Rattle.bt_bencode.specs.Trees.{Pairs}
+use Rattle.bt_serve.specs.Files.{IsFileOf, IsInfoKept}
 use Rattle.bt_serve.specs.declared.door.Parting.{Parting}
 use Rattle.bt_serve.specs.declared.guest.Ending.{Ending}
 use Rattle.bt_serve.specs.declared.guest.Ending.TheVariants as ending
+use Rattle.bt_cli.specs.declared.serve.FileFault.{FileFault}
+use Rattle.bt_cli.specs.declared.serve.FileFault.TheVariants.{NoDictionary, NoInfo, TooLong}
 use Rattle.bt_cli.specs.declared.serve.Service.{Service}
 use Rattle.bt_cli.specs.declared.serve.Service.TheVariants.{Done, RefusedFile, Fault, NoListener}
 
--- a fault has its line, and so has a file without metadata; the line of a failed listener has come before
+-- why a file isn't served: a .torrent has a dictionary under `info`, and an info dictionary a number under `piece length` (BEP 3)
+abbrev pub refused_words : FileFault → List ℕ
+refused_words NoDictionary = codes "refused file: not one bencoded dictionary that nests at most 32 deep\n"
+refused_words NoInfo = codes "refused file: no dictionary under 'info' and no number under 'piece length'\n"
+refused_words TooLong = codes "refused file: info dictionary of more than 67108864 bytes\n"
+
+-- a fault has its line, and so has a file that isn't served; the line of a failed listener has come before
 abbrev pub serve_words : Service → List ℕ
 serve_words Done = []
 serve_words NoListener = []
-serve_words RefusedFile = codes "refused file\n"
+serve_words (RefusedFile f) = refused_words f
 serve_words (Fault f) = fault_line f
 
 abbrev pub serve_status : Service → ℕ
 serve_status Done = 0
 serve_status NoListener = 3
-serve_status RefusedFile = 1
+serve_status (RefusedFile f) = 1
 serve_status (Fault f) = 3
 
 -- ---- the file
 
-abbrev pub IsTooLong : Option (Vec ℕ) → Type 0
-IsTooLong None = ⊤
-IsTooLong (Some metadata) = max_metadata < length metadata.items
+-- the reason is right: of a file that spells no dictionary, of one without an info dictionary, or of one whose info dictionary is too long
+abbrev pub IsRefusedFor : List ℕ → FileFault → Type 0
+IsRefusedFor file NoDictionary = (ps : Pairs) → IsFileOf ps file → ⊥
+IsRefusedFor file NoInfo = ((ps : Pairs) × IsFileOf ps file) × IsInfoKept file None
+IsRefusedFor file TooLong = (info : Vec ℕ) × IsInfoKept file (Some info) × (max_metadata < length info.items)
 
 -- the info dictionary of the file, if it isn't too long
 abbrev pub IsMetadataOf : List ℕ → Result (Vec ℕ) Service → Type 0
 IsMetadataOf file (Ok metadata) = IsInfoKept file (Some metadata) × (length metadata.items ≤ max_metadata)
-IsMetadataOf file (Err RefusedFile) = (info : Option (Vec ℕ)) × IsInfoKept file info × IsTooLong info
+IsMetadataOf file (Err (RefusedFile f)) = IsRefusedFor file f
 IsMetadataOf file (Err (Fault f)) = f ≡ fault.Memory
 IsMetadataOf file (Err Done) = ⊥
 IsMetadataOf file (Err NoListener) = ⊥
@@ -60,7 +71,7 @@ is_done other = false
 abbrev pub IsServiceEnd : Service → Type 0
 IsServiceEnd Done = ⊤
 IsServiceEnd (Fault f) = f ≡ fault.Memory
-IsServiceEnd RefusedFile = ⊥
+IsServiceEnd (RefusedFile f) = ⊥
 IsServiceEnd NoListener = ⊥
 
 -- ---- its lines

@@ -1,5 +1,5 @@
 -- What a fetch says of its connections, and its summary.
-use Rattle.std.specs.Prelude.{ℕ, ◌+◌, ◌-◌, ◌^◌, min, List, ◌++◌, codes, decimal}
+use Rattle.std.specs.Prelude.{ℕ, ◌+◌, ◌-◌, ◌^◌, min, nat_le, Bool, true, List, ◌++◌, Option, Some, None, codes, decimal}
 use Rattle.bt_wire.specs.Reasons.{reason_name}
 use Rattle.bt_fetch.specs.declared.device.Ending.{Ending}
 use Rattle.bt_fetch.specs.declared.device.Ending.TheVariants.{By, Left}
@@ -16,6 +16,11 @@ counted t (By outcome.Silent) = record t { tried = one_more t.tried; silent = on
 counted t (By outcome.Unreachable) = record t { tried = one_more t.tried; unreachable = one_more t.unreachable }
 counted t (By (outcome.Refused r)) = record t { tried = one_more t.tried; refused = one_more t.refused }
 counted t other = record t { tried = one_more t.tried }
+
+-- A line that was drawn at this time, in milliseconds, may be drawn again: at most every 50.
+abbrev pub is_due : Option ℕ → ℕ → Bool
+is_due None time = true
+is_due (Some drawn) time = nat_le (drawn + 50) time
 
 -- how long it took, and the tries
 abbrev pub tally_words : ℕ → Tally → List ℕ

@@ -9,8 +9,8 @@ ghost use Rattle.bt_cli.specs.Endings.{link_status as link_status_by_rule, link_
 use crate::link::report_link;
 use crate::looped::report_loop;
 use bt_feed::Target;
-use bt_net::{LoopEnd, status as loop_status};
-use bt_rig::{RigEnd, status as link_status};
+use bt_link::{RigEnd, status as link_status};
+use bt_loop::{LoopEnd, status as loop_status};
 pub use bt_run::ending::{end_by_fault, end_job, end_text, say_both};
 use bt_text::ended::ToolFault;
 

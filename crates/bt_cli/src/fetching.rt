@@ -167,10 +167,19 @@ pub fn run_fetch<R: Net + Clock + RandomSource, W: Target, E: Target>(
     let Ok((targets, tally)) = targets_of(rt, alloc, form, job, listed, errors) else {
         return Err(FetchError::Memory);
     };
-    let lines = Lines::new(alloc, targets.names.as_slice(), errors, form, tally, begun);
+    let lines = Lines::new(
+        rt,
+        alloc,
+        targets.names.as_slice(),
+        errors,
+        form,
+        tally,
+        begun,
+    );
     let at_once = job.at_once.max(1);
     let count = targets.addresses.len();
-    let mut swarm = TcpSwarm::new(rt, targets.addresses.as_slice(), lines, at_once);
+    let addresses = targets.addresses.as_slice();
+    let mut swarm = TcpSwarm::sleeping(rt, alloc, addresses, lines, at_once);
     let fetched = fetch(
         alloc,
         &wish,

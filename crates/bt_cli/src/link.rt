@@ -4,7 +4,7 @@ ghost use Rattle.bt_run.specs.Runs.{IsSaid};
 ghost use Rattle.bt_cli.specs.Endings.{link_complaint, unrun_line as unrun_words};
 
 use bt_feed::Target;
-use bt_rig::RigEnd;
+use bt_link::RigEnd;
 use bt_run::run::{say, say_refused};
 use bt_session::{EndError, LinkError};
 use bt_text::ended::{ScriptReason, ToolFault};

@@ -3,7 +3,7 @@ ghost use Rattle.bt_run.specs.Runs.{IsSaid};
 ghost use Rattle.bt_cli.specs.Endings.{loop_complaint};
 
 use bt_feed::Target;
-use bt_net::LoopEnd;
+use bt_loop::LoopEnd;
 use bt_run::run::say;
 use bt_text::ended::ToolFault;
 use bt_text::lines::fault_line;

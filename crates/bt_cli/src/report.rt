@@ -1,6 +1,6 @@
 //! What standard error gets of a fetch: how each connection goes and ends, and the summary.
 ghost use Rattle.std.specs.Prelude.{◌≡◌, ◌≢◌, ◌++◌, [], IfOk, codes, string_bytes};
-ghost use Rattle.bt_cli.specs.Tallies.{counted as counted_by_rule, ending_word, tally_fields, tally_words};
+ghost use Rattle.bt_cli.specs.Tallies.{counted as counted_by_rule, ending_word, is_due as is_due_by_rule, tally_fields, tally_words};
 
 use bt_end::Progress;
 use bt_feed::Target;
@@ -9,6 +9,7 @@ use bt_run::run::say;
 use bt_text::ended::Ended;
 use bt_text::lines::verdict_line;
 use std::alloc::{AllocError, Global};
+use std::time::Clock;
 
 /// How many tries ended so. Each stays at 2^32 - 1.
 #[derive(Clone, Copy, PartialEq, Eq, Debug)]
@@ -234,15 +235,31 @@ fn progress_line(alloc: Global, inside: u32, front: Option<Front>) -> Result<Str
     format!(in alloc; "fetching {held} of {blocks} blocks at {rate} KiB/s, {inside} open")
 }
 
+/// How many milliseconds pass before a terminal's line is drawn again.
+const REDRAW: u64 = 50;
+
+/// Returns whether a line that was drawn at one time may be drawn at another, in milliseconds.
+fn is_due(drawn: Option<u64>, time: u64) -> bool
+    ensures { result ≡ is_due_by_rule drawn time }
+{
+    match drawn {
+        Some(drawn) => time.saturating_sub(drawn) >= REDRAW,
+        None => true,
+    }
+}
+
 /// Prints on standard error how each connection ended, and on a terminal how it goes on.
 #[derive(Drop)]
-pub struct Lines<'a, E: Target> {
+pub struct Lines<'a, R: Clock, E: Target> {
+    clock: &'a R,
     alloc: Global,
     names: &'a [&'a str],
     errors: &'a mut E,
     form: Form,
     /// A line that is to be cleared stands there.
     is_shown: bool,
+    /// When the line was drawn last, in milliseconds.
+    drawn: Option<u64>,
     tally: Tally,
     /// How many connections are open.
     inside: u32,
@@ -253,22 +270,25 @@ pub struct Lines<'a, E: Target> {
     source: &'a str,
 }
 
-impl<'a, E: Target> Lines<'a, E> {
+impl<'a, R: Clock, E: Target> Lines<'a, R, E> {
     /// Returns the lines of connections to peers with these names, of a fetch that began at this second.
     pub fn new(
+        clock: &'a R,
         alloc: Global,
         names: &'a [&'a str],
         errors: &'a mut E,
         form: Form,
         tally: Tally,
         begun: u64,
-    ) -> Lines<'a, E> {
+    ) -> Lines<'a, R, E> {
         Lines {
+            clock,
             alloc,
             names,
             errors,
             form,
             is_shown: false,
+            drawn: None,
             tally,
             inside: 0,
             front: None,
@@ -289,11 +309,24 @@ impl<'a, E: Target> Lines<'a, E> {
         }
     }
 
-    /// Shows how far the fetch has come, if standard error is a terminal.
+    /// Returns the time of the clock in milliseconds; 0 if it fails.
+    fn time(&self) -> u64 {
+        match self.clock.monotonic() {
+            Ok(time) => u64::try_from(time.as_millis()).unwrap_or(u64::MAX),
+            Err(_) => 0,
+        }
+    }
+
+    /// Shows how far the fetch has come, if standard error is a terminal and the line wasn't drawn just now.
     fn show(&mut self) {
         if self.form != Form::Shown {
             return;
         }
+        let time = self.time();
+        if !is_due(self.drawn, time) {
+            return;
+        }
+        self.drawn = Some(time);
         let Ok(text) = progress_line(self.alloc, self.inside, self.front) else {
             return;
         };
@@ -317,7 +350,7 @@ impl<'a, E: Target> Lines<'a, E> {
     }
 }
 
-impl<'a, E: Target> Watcher for Lines<'a, E> {
+impl<'a, R: Clock, E: Target> Watcher for Lines<'a, R, E> {
     ghost use Rattle.std.specs.Prelude.{None};
 
     ghost heard = { λ l. None };

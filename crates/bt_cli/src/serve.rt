@@ -8,17 +8,19 @@ ghost use Rattle.bt_run.specs.Runs.{IsSaid};
 ghost use Rattle.bt_serve.specs.Doors.{AreEnough, AreTold, AreWithin};
 ghost use Rattle.bt_serve.specs.Guests.{IsHospitality};
 ghost use Rattle.bt_cli.specs.Services.{IsAnnounced, IsMetadataOf, IsPartingLine, IsPartingSaid, IsServiceEnd};
-ghost use Rattle.bt_cli.specs.Services.{ending_word, is_done, parting_words, read_fault, serve_status, serve_words, serving_line};
+ghost use Rattle.bt_cli.specs.Services.{ending_word, is_done, parting_words, read_fault, refused_words, serve_status, serve_words, serving_line};
 ghost use Rattle.bt_cli.specs.Wanted.{IsServeAsked, exit_after_in as exit_after_in_by_rule};
 
 use crate::fetch::{DEFAULT_LIMIT, DEFAULT_TIMEOUT, Mistake, number_or, rules_in};
 use crate::fetching::drawn_peer_id;
 use bt_ext::Rules;
 use bt_feed::Target;
+use bt_link::text::{push_hex, push_number};
 use bt_metadata::MAX_METADATA;
-use bt_rig::text::{push_hex, push_number};
 use bt_run::run::say;
-use bt_serve::{Door, Ending, Farewell, Hospitality, Parting, TcpDoor, into_info, listen, serve};
+use bt_serve::{
+    Door, Ending, Farewell, Hospitality, Parting, TcpDoor, into_info, is_dictionary, listen, serve,
+};
 use bt_text::ended::{Ended, ToolFault};
 use bt_text::lines::{fault_line, verdict_line};
 use clap::ArgMatches;
@@ -51,13 +53,24 @@ pub struct ServeJob {
     pub at_once: usize,
 }
 
+/// Why a file isn't served.
+#[derive(Clone, Copy, PartialEq, Eq, Debug)]
+pub enum FileFault {
+    /// It isn't a dictionary, or lists and dictionaries nest more than 32 deep.
+    NoDictionary,
+    /// It is neither a .torrent nor an info dictionary.
+    NoInfo,
+    /// The info dictionary has more than 67,108,864 bytes.
+    TooLong,
+}
+
 /// How a service ended.
 #[derive(Clone, Copy, PartialEq, Eq, Debug)]
 pub enum Service {
     /// As many connections were served as were asked for.
     Done,
-    /// The file is neither a .torrent nor an info dictionary.
-    RefusedFile,
+    /// The file isn't served.
+    RefusedFile(FileFault),
     /// What kept it from its work, as a line of standard error.
     Fault(ToolFault),
     /// It can't listen at the address; standard error has the line already.
@@ -197,13 +210,22 @@ fn fault_of(error: &io::Error) -> Service
 /// Returns the metadata of a file: its info dictionary.
 ///
 /// # Errors
-/// How the service ends: `RefusedFile` if there is none, or if it has more than 67,108,864 bytes; `Fault(Memory)` when out of memory.
+/// How the service ends: `RefusedFile` if there is none, or if it has more than 67,108,864 bytes; `Fault(Memory)` when out of
+/// memory.
 fn metadata_of(alloc: Global, file: Vec<u8>) -> Result<Vec<u8>, Service>
     ensures { IsMetadataOf file.items result }
 {
+    if !is_dictionary(file.as_slice()) {
+        return Err(Service::RefusedFile(FileFault::NoDictionary));
+    }
     match into_info(alloc, file) {
-        Ok(Some(metadata)) if metadata.len() <= MAX_METADATA => Ok(metadata),
-        Ok(_) => Err(Service::RefusedFile),
+        Ok(Some(metadata)) => {
+            if metadata.len() > MAX_METADATA {
+                return Err(Service::RefusedFile(FileFault::TooLong));
+            }
+            Ok(metadata)
+        }
+        Ok(None) => Err(Service::RefusedFile(FileFault::NoInfo)),
         Err(_) => Err(Service::Fault(ToolFault::Memory)),
     }
 }
@@ -278,6 +300,7 @@ fn hospitality_of(job: &ServeJob, metadata: &[u8], peer_id: [u8; 20]) -> Hospita
 /// Returns the door through which as many peers may come at the same time as the job says.
 fn door_of<'a, R: Net + Clock, F: Farewell + Drop>(
     rt: &'a R,
+    alloc: Global,
     listener: R::Listener,
     farewell: F,
     job: &ServeJob,
@@ -285,7 +308,7 @@ fn door_of<'a, R: Net + Clock, F: Farewell + Drop>(
     ensures places { ⟦<TcpDoor<'a, R, F> as Door>⟧.places result ≡ job.now.at_once }
     ensures inside { ⟦<TcpDoor<'a, R, F> as Door>⟧.inside result ≡ 0 }
 {
-    TcpDoor::new(rt, listener, farewell, job.at_once)
+    TcpDoor::sleeping(rt, alloc, listener, farewell, job.at_once)
 }
 
 /// Serves as many peers of a door as the job says.
@@ -331,7 +354,7 @@ fn serve_over_tcp<R: Net + Clock + RandomSource, W: Target, E: Target>(
     if announce(alloc, &hospitality.info_hash, bytes.len(), address, writer).is_err() {
         return Service::Fault(ToolFault::Memory);
     }
-    let mut door = door_of(rt, listener, Lines { alloc, writer }, job);
+    let mut door = door_of(rt, alloc, listener, Lines { alloc, writer }, job);
     serve_through(alloc, job, &hospitality, metadata, &mut door)
 }
 
@@ -359,6 +382,19 @@ pub fn run_serve<R: Net + Clock + RandomSource + Files + AllocGlobal, W: Target,
     }
 }
 
+/// Returns the line that says why a file isn't served.
+fn refused_line(fault: FileFault) -> &'static [u8]
+    ensures { result.now ≡ refused_words fault }
+{
+    match fault {
+        FileFault::NoDictionary =>
+            b"refused file: not one bencoded dictionary that nests at most 32 deep\n",
+        FileFault::NoInfo =>
+            b"refused file: no dictionary under 'info' and no number under 'piece length'\n",
+        FileFault::TooLong => b"refused file: info dictionary of more than 67108864 bytes\n",
+    }
+}
+
 /// Says why a service didn't do its work, and returns the exit status.
 ///
 /// Nothing is printed if it did.
@@ -375,8 +411,8 @@ pub fn end_serve<E: Target>(service: Service, errors: &mut E) -> u8
             say(b"", errors);
             3
         }
-        Service::RefusedFile => {
-            say(b"refused file\n", errors);
+        Service::RefusedFile(fault) => {
+            say(refused_line(fault), errors);
             1
         }
         Service::Fault(fault) => {

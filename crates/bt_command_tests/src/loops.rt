@@ -1,7 +1,7 @@
 //! Metadata over a wire in memory, which moves few bytes a call or fails once.
 use bt_ext::Rules;
 use bt_io::{MemSource, MemTarget};
-use bt_net::{LoopEnd, MemWire, run_loop, status};
+use bt_loop::{LoopEnd, MemWire, run_loop, status};
 use bt_text::ended::ToolFault;
 use std::test::Fail;
 

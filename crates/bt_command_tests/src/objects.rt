@@ -1,6 +1,6 @@
-//! The objects of `show --json`, by the call that appends them and by those that put them into a buffer.
+//! The objects of `show --json`, by the call that appends them and by the one that writes them into room that is there.
 use bt_ext::{ExtId, Registered, Rules};
-use bt_json::{client_of, message_line, put_message_line, room_for};
+use bt_json::{LINE_ROOM, add_message_line, message_line};
 use bt_text::putting::Offset;
 use bt_wire::{Front, MessageView, Order, Own, Reserved, negotiate, read_front};
 use std::alloc::Global;
@@ -73,24 +73,13 @@ fn appended(alloc: Global, view: &MessageView) -> Option<Vec<u8>> {
     Some(lines)
 }
 
-/// Puts the object after what stands before it, if there is the room that it asks for.
-fn put(view: &MessageView, buffer: &mut [u8; 2560]) -> Option<usize> {
-    let client = client_of(view);
-    if room_for(client) > buffer.len() - BEFORE.len() {
-        return None;
-    }
-    let mut offset = Offset::new();
-    Some(put_message_line(&mut offset, 68, view, client, buffer, BEFORE.len()))
-}
-
-/// Whether this text is put.
-fn is_put(view: &MessageView, text: &[u8]) -> bool {
-    let mut buffer = [b'.'; 2560];
-    buffer[..BEFORE.len()].copy_from_slice(BEFORE);
-    match put(view, &mut buffer) {
-        Some(end) => buffer.get(..end) == Some(text),
-        None => false,
-    }
+/// Writes the object after what stands before it, into a text that has the room that a line needs.
+fn added(alloc: Global, view: &MessageView) -> Option<Vec<u8>> {
+    let mut text = Vec::from_slice(alloc, BEFORE).ok()?;
+    text.resize(BEFORE.len() + LINE_ROOM, b'.').ok()?;
+    let end = add_message_line(&mut Offset::new(), 68, view, &mut text, BEFORE.len()).ok()?;
+    text.truncate(end);
+    Some(text)
 }
 
 /// Returns the message.
@@ -103,7 +92,10 @@ fn read<'a>(own: &Own, bytes: &'a [u8]) -> Option<MessageView<'a>> {
 
 fn is_right(alloc: Global, bytes: &[u8], text: &[u8]) -> bool {
     match read(&own(), bytes) {
-        Some(view) => appended(alloc, &view).as_deref() == Some(text) && is_put(&view, text),
+        Some(view) => {
+            appended(alloc, &view).as_deref() == Some(text)
+                && added(alloc, &view).as_deref() == Some(text)
+        }
         None => false,
     }
 }
@@ -203,7 +195,7 @@ fn is_row_right(alloc: Global, count: usize, byte: u8) -> bool {
     }
 }
 
-/// Each byte, and names of 0 to 300 bytes with an escape next to the steps of 16 in which runs are looked for.
+/// Each byte, and names of 0 to 300 bytes with an escape next to the steps of 32 in which runs are looked for.
 #[test]
 fn names_are_escaped(rt: HostRuntime) {
     for byte in 0..=255u8 {
@@ -211,14 +203,14 @@ fn names_are_escaped(rt: HostRuntime) {
         assert!(rt; is_name_right(rt.alloc(), 40, 20, byte), "{byte}");
     }
     for byte in [b'q', b'"', 1, 0xFF] {
-        for count in [0, 15, 16, 17, 255, 256, 257, 300] {
+        for count in [0, 31, 32, 33, 255, 256, 257, 300] {
             assert!(rt; is_row_right(rt.alloc(), count, byte), "{byte} {count}");
             assert!(rt;
-                is_name_right(rt.alloc(), count, 15, byte),
+                is_name_right(rt.alloc(), count, 31, byte),
                 "{byte} {count}"
             );
             assert!(rt;
-                is_name_right(rt.alloc(), count, 16, byte),
+                is_name_right(rt.alloc(), count, 32, byte),
                 "{byte} {count}"
             );
         }

@@ -13,7 +13,7 @@ mod watch;
 pub use connection::Connection;
 pub use hearing::Hearing;
 pub use polled::{Flag, Polled};
-pub use resting::rest_after;
+pub use resting::{Naps, rest_after};
 pub use sleeping::Sleeper;
 pub use stream::Stream;
 pub use talking::{Step, Stop, advance, exchange, is_piece};

@@ -1,5 +1,5 @@
 //! A connection that makes no system call until its socket may be ready.
-ghost use Rattle.std.specs.Prelude.{◌≡◌};
+ghost use Rattle.std.specs.Prelude.{◌≡◌, ◌&&◌, not};
 ghost use Rattle.std.specs.IoError.{error_kind};
 ghost use Rattle.bt_exchange.specs.Streams.{would_wait as would_wait_by};
 
@@ -50,13 +50,17 @@ impl Flag {
     ///
     /// A call that a signal broke off, or that met a time limit, leaves it up: the socket may be ready, and nobody would raise it.
     pub fn failed(&self, error: &io::Error) {
-        if !would_wait(error) {
-            return;
-        }
         if let Some(flag) = &self.shared {
-            flag.set(false);
+            flag.set(stays_up(flag.get(), error));
         }
     }
+}
+
+/// Returns whether a flag is up after a call that failed.
+fn stays_up(is_up: bool, error: &io::Error) -> bool
+    ensures { result ≡ (is_up && not (would_wait_by (error_kind error.now))) }
+{
+    is_up && !would_wait(error)
 }
 
 /// Returns whether the error says that the call would have to wait.

@@ -1,5 +1,5 @@
 //! Sleeps until a socket may be ready, and says which. A loop over many connections calls it.
-ghost use Rattle.std.specs.Prelude.{◌≡◌, ◌<◌, vec_len, IfSome};
+ghost use Rattle.std.specs.Prelude.{◌≡◌, ◌==◌, ◌<◌, vec_len, IfSome};
 
 use crate::polled::Flag;
 use mio::unix::SourceFd;
@@ -41,12 +41,19 @@ fn raise_all(flags: &Vec<Rc<Cell<bool>>>) {
     }
 }
 
+/// Returns whether a slot is free whose flag has so many owners: nobody has it but the sleeper.
+fn is_free(owners: usize) -> bool
+    ensures { result ≡ (owners == 1) }
+{
+    owners == 1
+}
+
 /// Returns the first slot whose flag nobody else has.
 fn free_slot(flags: &Vec<Rc<Cell<bool>>>) -> Option<usize>
     ensures { IfSome result (λ slot. slot < vec_len flags.now) }
 {
     for slot in 0..flags.len() {
-        if Rc::strong_count(&flags[slot]) == 1 {
+        if is_free(Rc::strong_count(&flags[slot])) {
             return Some(slot);
         }
     }

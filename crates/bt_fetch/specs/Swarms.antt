@@ -1,6 +1,7 @@
 -- For private contracts: the places of a fetch from many peers.
-use Rattle.std.specs.Prelude.{ℕ, ◌+◌, ◌*◌, Bool, true, false, Option, Some, None, Result, Ok, ⊤}
+use Rattle.std.specs.Prelude.{ℕ, ◌+◌, ◌*◌, ◌<◌, ◌≤◌, ◌⊎◌, Bool, true, false, Option, Some, None, Result, Ok, ⊤}
 use Rattle.bt_fetch.specs.Logs.{Stage, Going, Won}
+use Rattle.bt_fetch.specs.declared.talk.Talk.{Talk}
 use Rattle.bt_fetch.specs.declared.fetching.Turn.{Turn}
 use Rattle.bt_fetch.specs.declared.fetching.Turn.TheVariants as turn
 use Rattle.bt_fetch.specs.declared.fetching.Round.{Round}
@@ -43,3 +44,7 @@ stage_at other = Going
 abbrev pub stage_when : {E : Type 0} → Result (Option ℕ) E → Stage
 stage_when (Ok (Some k)) = Won
 stage_when other = Going
+
+-- The patience of a connection that waits isn't over, by its own clock of seconds or by the device's of milliseconds.
+abbrev pub IsPatient : (patience time clock : ℕ) → Talk → Type 0
+IsPatient patience time clock t = (clock ≤ t.watch.since + patience) ⊎ (time < t.heard + 1000 * patience)

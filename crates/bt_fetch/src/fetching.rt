@@ -8,7 +8,7 @@ ghost use Rattle.bt_fetch.specs.Queues.{dials_of, rest_of, one};
 ghost use Rattle.bt_exchange.specs.Lists.{IsAdded};
 ghost use Rattle.bt_fetch.specs.Logs.{IsCourse, IsLogged, IsStage, Stage, Going, is_fetched as is_fetched_by, stage_after};
 ghost use Rattle.bt_fetch.specs.Signs.{is_late};
-ghost use Rattle.bt_fetch.specs.Swarms.{IfWon, cost, is_free, is_over, is_won, stage_at, stage_by, stage_when, weight};
+ghost use Rattle.bt_fetch.specs.Swarms.{IfWon, IsPatient, cost, is_free, is_over, is_won, stage_at, stage_by, stage_when, weight};
 ghost use Rattle.bt_fetch.specs.declared.device.Happening.{Happening};
 ghost use Rattle.bt_fetch.specs.declared.device.Happening.TheVariants.{Ended as EndedSo};
 
@@ -157,7 +157,7 @@ fn tell<D: Device>(visit: &Visit<D::Link>, place: &Place<D::Link>, device: &mut 
     }
 }
 
-/// Gives the connection of a place its turn.
+/// Gives the connection of a place its turn, or passes by it as long as nothing can be moved and no time is up.
 ///
 /// `is_needed` says that another address waits for the place.
 ///
@@ -178,6 +178,7 @@ fn tend<D: Device>(
     ensures inside { D.inside device.new + 1 ≡ D.inside device.old + one (is_some place.new.visit) }
     ensures places { D.places device.new ≡ D.places device.old }
     ensures late { is_needed ≡ true → IfSome place.new.visit (λ v. is_late v.talk.heard time ≡ false) }
+    ensures patient { result ≡ Ok Turn.Waits → IfSome place.new.visit (λ v. IsPatient wish.now.patience time (D.Link.seen v.line.link).counts.clock v.talk) }
     ensures weight { IfOk result (λ t. weight (option_map (λ v. v.left) place.new.visit) ≤ visit.left) }
     ensures free { result ≢ Ok Turn.Free }
     ensures won { result ≡ Ok Turn.Won → is_some (metadata_of place.new.end.end.part) ≡ true }
@@ -188,6 +189,10 @@ fn tend<D: Device>(
         → IsCourse (stage_by result) start (D.log device.new) dials }
 {
     let mut visit = visit;
+    if visit.passes_by(wish, is_needed, time) {
+        place.visit = Some(visit);
+        return Ok(Turn::Waits);
+    }
     let pace = visit.go_on(wish, &mut place.end, &mut place.hearing, time);
     tell(&visit, place, device);
     let is_late = is_needed && visit.is_late(time);

@@ -1,5 +1,5 @@
 //! The addresses that wait to be dialled.
-ghost use Rattle.std.specs.Prelude.{◌≡◌, ◌+◌, ◌≤◌, ℕ, None, true, vec_len, is_some, IfOk};
+ghost use Rattle.std.specs.Prelude.{◌≡◌, ◌+◌, ◌<◌, ◌≤◌, ℕ, None, Some, true, vec_len, is_some, IfOk};
 ghost use Rattle.bt_fetch.specs.Queues.{dials_of, rest_of, one, taken};
 
 use bt_io::Memory;
@@ -49,6 +49,7 @@ impl Queue {
     pub fn take(&mut self) -> Option<usize>
         ensures dials { (k : ℕ) → dials_of self.new.next self.new.again.items k ≡ dials_of self.old.next self.old.again.items k + taken result k }
         ensures rest { rest_of self.new.next self.new.again.items + one (is_some result) ≡ rest_of self.old.next self.old.again.items }
+        ensures first { self.old.next < vec_len self.old.again → result ≡ Some self.old.next }
         ensures all { result ≡ None → self.new.next ≡ vec_len self.new.again }
         ensures len { vec_len self.new.again ≡ vec_len self.old.again }
     {

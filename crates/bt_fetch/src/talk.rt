@@ -1,5 +1,5 @@
 //! What the peer of a connection tells, and what is made of it. The module `visit` calls it.
-ghost use Rattle.std.specs.Prelude.{◌≡◌, ◌+◌, ◌≤◌, ◌⊎◌, nat_lt, ℕ, true, false, Some, IfOk, IfSome, OnErr};
+ghost use Rattle.std.specs.Prelude.{◌≡◌, ◌+◌, ◌*◌, ◌<◌, ◌≤◌, ◌⊎◌, nat_lt, ℕ, true, false, Some, IfOk, IfSome, OnErr};
 ghost use Rattle.bt_end.specs.Ends.{belief};
 ghost use Rattle.bt_exchange.specs.Courses.{Moment};
 ghost use Rattle.bt_exchange.specs.Stops.{IsStopped};
@@ -60,6 +60,13 @@ impl Talk {
         ensures { result ≡ is_late_by self.heard time }
     {
         time.saturating_sub(self.heard) > LATE
+    }
+
+    /// Returns whether the fetch made progress less than `patience` seconds ago, by the device's clock.
+    pub fn is_recent(self, patience: u64, time: u64) -> bool
+        ensures { result ≡ true → time < self.heard + 1000 * patience }
+    {
+        time.saturating_sub(self.heard) < patience.saturating_mul(1000)
     }
 }
 

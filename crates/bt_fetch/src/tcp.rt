@@ -5,13 +5,13 @@ ghost use Rattle.bt_fetch.specs.declared.device.Happening.{Happening};
 
 use crate::device::{Device, Ending};
 use bt_end::Progress;
-use bt_exchange::{Flag, Polled, Sleeper, rest_after};
+use bt_exchange::{Flag, Naps, Polled, Sleeper};
 use mio::net::TcpStream;
 use std::alloc::Global;
 use std::io;
 use std::net::{Net, SocketAddr};
 use std::os::fd::AsRawFd;
-use std::time::{Clock, Duration};
+use std::time::Clock;
 
 /// How long a loop sleeps at most if no socket is ready, in milliseconds.
 const LONGEST: u64 = 50;
@@ -48,8 +48,8 @@ pub struct TcpSwarm<'a, R: Net + Clock, T: Watcher + Drop> {
     time: u64,
     /// What sleeps until a socket is ready; without it the loop naps.
     sleeper: Option<Sleeper>,
-    /// How long the last nap was, in microseconds; 0 if a block came or an address was dialled since.
-    pause: u64,
+    /// The naps. They begin short after a block and a dial, since a peer that is near sends the next block soon.
+    naps: Naps,
 }
 
 impl<'a, R: Net + Clock, T: Watcher + Drop> TcpSwarm<'a, R, T> {
@@ -72,7 +72,7 @@ impl<'a, R: Net + Clock, T: Watcher + Drop> TcpSwarm<'a, R, T> {
             places,
             time: 0,
             sleeper: None,
-            pause: 0,
+            naps: Naps::new(),
         }
     }
 
@@ -127,7 +127,7 @@ impl<'a, R: Net + Clock, T: Watcher + Drop> Device for TcpSwarm<'a, R, T> {
         self.watcher.dialled(address, begun.is_some());
         let stream = begun?;
         self.inside += 1;
-        self.pause = 0;
+        self.naps.came();
         let flag = match &mut self.sleeper {
             Some(sleeper) => sleeper.watch(stream.as_raw_fd()),
             None => Flag::always(),
@@ -141,7 +141,7 @@ impl<'a, R: Net + Clock, T: Watcher + Drop> Device for TcpSwarm<'a, R, T> {
     }
 
     fn came(&mut self, address: usize, progress: Progress) {
-        self.pause = 0;
+        self.naps.came();
         self.watcher.came(address, progress, self.time);
     }
 
@@ -158,14 +158,12 @@ impl<'a, R: Net + Clock, T: Watcher + Drop> Device for TcpSwarm<'a, R, T> {
         }
     }
 
-    // The naps begin short after a block, since a peer that is near sends the next one soon.
     fn rest(&mut self) {
         if let Some(sleeper) = &mut self.sleeper {
             if sleeper.sleep(true, self.time) {
                 return;
             }
         }
-        self.pause = rest_after(self.pause, self.inside);
-        self.runtime.sleep(Duration::from_micros(self.pause));
+        self.naps.take(self.runtime, self.inside);
     }
 }

@@ -1,9 +1,10 @@
 //! One connection of a fetch from many peers.
-ghost use Rattle.std.specs.Prelude.{◌≡◌, ◌+◌, ◌≤◌, ◌^◌, ℕ, true, false, Ok};
+ghost use Rattle.std.specs.Prelude.{◌≡◌, ◌+◌, ◌*◌, ◌<◌, ◌≤◌, ◌^◌, ℕ, true, false, Ok};
 ghost use Rattle.bt_exchange.specs.Courses.{Moment};
 ghost use Rattle.bt_exchange.specs.Stops.{IsStopped};
 ghost use Rattle.bt_fetch.specs.Outcomes.{is_untaken as is_untaken_by};
 ghost use Rattle.bt_fetch.specs.Signs.{is_late as is_late_by, is_progress};
+ghost use Rattle.bt_fetch.specs.Queues.{one};
 ghost use Rattle.bt_fetch.specs.Visits.{IsEnded, goes_on, waits};
 
 use crate::device::Outcome;
@@ -185,6 +186,32 @@ impl<L: Connection + Drop> Visit<L> {
             Err(Stop::Rounds) => self.idle(wish, end),
             Err(stop) => self.stopped(end, stop),
         }
+    }
+
+    /// Returns whether its turn passes by it: nothing can be moved, and no time is up. That counts as a step.
+    ///
+    /// `is_needed` says that another address waits for the place.
+    pub fn passes_by(&mut self, wish: &Wish, is_needed: bool, time: u64) -> bool
+        ensures spent { (L.seen self.new.line.link).counts.calls + self.new.left ≤ (L.seen self.old.line.link).counts.calls + self.old.left }
+        ensures left { self.new.left + one result ≡ self.old.left }
+        ensures address { self.new.address ≡ self.old.address }
+        ensures late { result ≡ true → is_needed ≡ true → is_late_by self.new.talk.heard time ≡ false }
+        ensures patient { result ≡ true → time < self.new.talk.heard + 1000 * wish.now.patience }
+    {
+        let Some(left) = self.left.checked_sub(1) else {
+            return false;
+        };
+        if self.line.may_go_on() {
+            return false;
+        }
+        if is_needed && self.is_late(time) {
+            return false;
+        }
+        if !self.talk.is_recent(self.patience(wish), time) {
+            return false;
+        }
+        self.left = left;
+        true
     }
 
     /// Makes steps until the peer has to be waited for, or others are to have their turn.

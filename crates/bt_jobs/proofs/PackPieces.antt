@@ -10,7 +10,7 @@ use Rattle.bt_wire.specs.Streams.{Outcome}
 use Rattle.bt_text.specs.declared.ended.ScriptReason.{ScriptReason}
 use Rattle.bt_text.specs.declared.ended.ScriptReason.TheVariants.{Syntax}
 use Rattle.bt_text.specs.Script.{has_feed}
-use Rattle.bt_jobs.specs.Packs.{ended_lines, with_last, IsSplit, IsEndedLine, AreLines, AreTaken, IsNotTaken, IsStop, IsPacked, empty, stopped, accepted}
+use Rattle.bt_jobs.specs.Packs.{ended_lines, with_last, IsSplit, IsEndedLine, AreLines, AreTaken, IsNotTaken, IsStop, IsPacked, stopped, accepted}
 use Rattle.bt_jobs.specs.Packs.{is_none}
 use Rattle.bt_text.specs.declared.ended.PackEnd.{PackEnd}
 use Rattle.bt_text.specs.declared.ended.PackEnd.TheVariants.{Accepted, Refused}
@@ -227,11 +227,6 @@ all_packed {own} {all} {b} {f} {messages} {bytes} text lines h some count size =
     let same : Accepted messages bytes ≡ Accepted (v.number - 1) (length b) =
     ap (λ (n : ℕ). Accepted n bytes) (count ∙ ap (λ (n : ℕ). n - 1) (sym s.1.number)) ∙ ap (λ (n : ℕ). Accepted (v.number - 1) n) (size ∙ long) in
     (all, lines, accepted v some s.1.taken same)
-
-pub nothing_packed : (own : Own) (text : List ℕ) (lines : List (List ℕ)) (b : List ℕ) (f : FeedState) → IsReadSo own text lines b [] f → number_of f.stage
-    ≡ 0 → (all : List (List ℕ)) × AreLines text all × IsPacked own all b (Refused 1 Syntax)
-nothing_packed own text [] b f h none = ([], ([], [], h.split, refl), empty refl h.packed.named refl)
-nothing_packed own text (l ∷ lines) b f h none = absurd (omega (arith, h.packed.count, none))
 
 pub stopped_packed : {own : Own} {text line b : List ℕ} {lines : List (List ℕ)} {f : FeedState} {number : ℕ} (g : FeedState) (reason : ScriptReason)
     → IsReadSo own text lines b line f → 0 < length line → number ≡ number_of g.stage + 1 → number_of g.stage ≡ length lines

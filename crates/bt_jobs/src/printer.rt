@@ -14,10 +14,10 @@ ghost use Rattle.bt_jobs.specs.declared.printer.Form.TheVariants as shape;
 
 use crate::output::write_out;
 use bt_feed::{Sink, SinkFault, Target, View};
-use bt_json::client_of;
+use bt_json::{add_handshake_line, add_message_line};
 use bt_text::ended::{Ended, ToolFault};
 use bt_text::lines::{put_handshake, put_message, verdict_line};
-use bt_text::putting::{Offset, put};
+use bt_text::putting::{self, Offset, put};
 use bt_text::script::writing::{HANDSHAKE_ROOM, put_handshake_line, put_message_line, room_for};
 use bt_wire::{Handshake, MessageView, Own};
 use std::alloc::{AllocError, Global};
@@ -36,8 +36,8 @@ pub enum Form {
 /// How many bytes of room a message's line needs.
 const LINE_ROOM: usize = 160;
 
-/// How many bytes the text grows by if it has no room.
-const GROWTH: usize = 8192;
+/// How many bytes the text grows by if it has no room, besides the room.
+const GROWTH: usize = 1024;
 
 /// A sink that turns items into text, and keeps the text until it is written.
 #[derive(Drop)]
@@ -71,11 +71,7 @@ fn grow(text: &mut Vec<u8>, used: usize, room: usize) -> Result<usize, AllocErro
     ensures { IfOk result (λ n. (n + room ≤ vec_len text.new) × (take n text.new.items ≡ take used text.old.items)) }
 {
     text.truncate(used);
-    let used = text.len();
-    match text.resize(used.saturating_add(room).saturating_add(GROWTH), 0) {
-        Ok(()) => Ok(used),
-        Err(error) => Err(error),
-    }
+    putting::grow(text, room.saturating_add(GROWTH))
 }
 
 /// Returns what is used of the text.
@@ -86,19 +82,6 @@ fn used_part(text: &Vec<u8>, used: usize) -> &[u8]
         &text.as_slice()[..used]
     } else {
         text.as_slice()
-    }
-}
-
-/// Puts the line of an item at a place that has room for it; returns the place after it.
-#[inline(always)]
-fn put_item(at: u64, view: &View, offset: &mut Offset, text: &mut [u8], place: usize) -> usize
-    requires { place + 160 ≤ length text.old }
-    ensures size { length text.new ≡ length text.old }
-    ensures text { take result text.new ≡ take place text.old ++ item_line (at, item_of view.now) }
-{
-    match view {
-        View::Handshake(handshake) => put_handshake(at, handshake, text, place),
-        View::Message(message) => put_message(offset, at, message, text, place),
     }
 }
 
@@ -113,9 +96,14 @@ fn push_item(
 ) -> Result<usize, AllocError>
     ensures { IfOk result (λ n. take n text.new.items ≡ take used text.old.items ++ item_line (at, item_of view.now)) }
 {
-    match make_room(text, used, LINE_ROOM) {
-        Ok(place) => Ok(put_item(at, view, offset, text.as_mut_slice(), place)),
-        Err(error) => Err(error),
+    let place = make_room(text, used, LINE_ROOM)?;
+    match view {
+        View::Handshake(handshake) => {
+            Ok(put_handshake(at, handshake, text.as_mut_slice(), place))
+        }
+        View::Message(message) => {
+            Ok(put_message(offset, at, message, text.as_mut_slice(), place))
+        }
     }
 }
 
@@ -123,52 +111,10 @@ fn push_item(
 fn push_verdict(ended: Ended, text: &mut Vec<u8>, used: usize) -> Result<usize, AllocError>
     ensures { IfOk result (λ n. take n text.new.items ≡ take used text.old.items ++ verdict_words ended) }
 {
-    match make_room(text, used, LINE_ROOM) {
-        Ok(place) => {
-            let mut line = [0; LINE_ROOM];
-            let from = verdict_line(ended, &mut line);
-            Ok(put(&line[from..], text.as_mut_slice(), place))
-        }
-        Err(error) => Err(error),
-    }
-}
-
-/// Adds the object of a message to what is used of the text; returns how much is used then.
-#[inline(always)]
-fn add_message_object(
-    at: u64,
-    message: &MessageView,
-    offset: &mut Offset,
-    text: &mut Vec<u8>,
-    used: usize,
-) -> Result<usize, AllocError>
-    ensures { IfOk result (λ n. (own : Receiver) → take n text.new.items
-        ≡ take used text.old.items ++ object_of own (at, items.Message (message_of message.now))) }
-{
-    let client = client_of(message);
-    match make_room(text, used, bt_json::room_for(client)) {
-        Ok(place) => {
-            let text = text.as_mut_slice();
-            Ok(bt_json::put_message_line(offset, at, message, client, text, place))
-        }
-        Err(error) => Err(error),
-    }
-}
-
-/// Adds the object of a handshake to what is used of the text; returns how much is used then.
-#[inline(never)]
-fn add_handshake_object(
-    at: u64,
-    handshake: &Handshake,
-    text: &mut Vec<u8>,
-    used: usize,
-) -> Result<usize, AllocError>
-    ensures { IfOk result (λ n. (own : Receiver) → take n text.new.items ≡ take used text.old.items ++ object_of own (at, items.Handshake handshake.now)) }
-{
-    match make_room(text, used, bt_json::room_for(Some(&handshake.peer_id))) {
-        Ok(place) => Ok(bt_json::put_handshake_line(at, handshake, text.as_mut_slice(), place)),
-        Err(error) => Err(error),
-    }
+    let place = make_room(text, used, LINE_ROOM)?;
+    let mut line = [0; LINE_ROOM];
+    let from = verdict_line(ended, &mut line);
+    Ok(put(&line[from..], text.as_mut_slice(), place))
 }
 
 /// Adds the object of an item to what is used of the text; returns how much is used then.
@@ -182,39 +128,10 @@ fn add_object(
 ) -> Result<usize, AllocError>
     ensures { IfOk result (λ n. (own : Receiver) → take n text.new.items ≡ take used text.old.items ++ object_of own (at, item_of view.now)) }
 {
+    let place = make_room(text, used, bt_json::LINE_ROOM)?;
     match view {
-        View::Handshake(handshake) => add_handshake_object(at, handshake, text, used),
-        View::Message(message) => add_message_object(at, message, offset, text, used),
-    }
-}
-
-/// Adds the script's line of a handshake to what is used of the text; returns how much is used then.
-fn add_handshake(
-    handshake: &Handshake,
-    text: &mut Vec<u8>,
-    used: usize,
-) -> Result<usize, AllocError>
-    ensures { IfOk result (λ n. (own : Receiver) → take n text.new.items ≡ take used text.old.items ++ script_line own (items.Handshake handshake.now)) }
-{
-    match make_room(text, used, HANDSHAKE_ROOM) {
-        Ok(place) => Ok(put_handshake_line(handshake, text.as_mut_slice(), place)),
-        Err(error) => Err(error),
-    }
-}
-
-/// Adds the script's line of a message to what is used of the text; returns how much is used then.
-#[inline(always)]
-fn add_message(
-    own: &Own,
-    message: &MessageView,
-    text: &mut Vec<u8>,
-    used: usize,
-) -> Result<usize, AllocError>
-    ensures { IfOk result (λ n. take n text.new.items ≡ take used text.old.items ++ script_line own.now (items.Message (message_of message.now))) }
-{
-    match make_room(text, used, room_for(message)) {
-        Ok(place) => Ok(put_message_line(own, message, text.as_mut_slice(), place)),
-        Err(error) => Err(error),
+        View::Handshake(handshake) => add_handshake_line(at, handshake, text, place),
+        View::Message(message) => add_message_line(offset, at, message, text, place),
     }
 }
 
@@ -279,7 +196,8 @@ fn copied_message<'a>(message: &MessageView<'a>) -> MessageView<'a>
 
 /// Returns the same item, in a place of its own.
 ///
-/// A call that is handed this one leaves the parts of the other in registers.
+/// A call that is handed this one leaves the parts of the other in registers. Without it a line of `show` takes a tenth more
+/// instructions.
 #[inline(always)]
 fn copied<'a>(view: &View<'a>) -> View<'a>
     ensures { item_of result ≡ item_of view.now }
@@ -296,8 +214,14 @@ fn add_script(own: &Own, view: &View, text: &mut Vec<u8>, used: usize) -> Result
     ensures { IfOk result (λ n. take n text.new.items ≡ take used text.old.items ++ script_line own.now (item_of view.now)) }
 {
     match view {
-        View::Handshake(handshake) => add_handshake(handshake, text, used),
-        View::Message(message) => add_message(own, message, text, used),
+        View::Handshake(handshake) => {
+            let place = make_room(text, used, HANDSHAKE_ROOM)?;
+            Ok(put_handshake_line(handshake, text.as_mut_slice(), place))
+        }
+        View::Message(message) => {
+            let place = make_room(text, used, room_for(message))?;
+            Ok(put_message_line(own, message, text.as_mut_slice(), place))
+        }
     }
 }
 

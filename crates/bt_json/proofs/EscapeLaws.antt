@@ -1,10 +1,11 @@
 -- Laws of escapes, and of the text of an extended handshake's line.
 use Rattle.std.proofs.Common.{◌≡◌, ◌<◌, ◌≤◌, ◌+◌, ◌*◌, ◌/◌, ◌%◌, ◌++◌, ◌∷◌, ◌&&◌, [], List, ℕ, zero, suc, Bool, true, false, inl, inr, refl}
-use Rattle.std.proofs.Common.{sym, ap, ◌∙◌, append_assoc, arith, drop, take, length, get_or, slice_index, cond, nat_lt, get_or-take}
-use Rattle.std.proofs.lemmas.Bool.{lt-ltb, le-ltb, and_parts, cases_lt}
+use Rattle.std.proofs.Common.{sym, ap, ◌∙◌, add-one, append_assoc, append-nil, arith, drop, take, length, get_or, slice_index, cond, nat_lt, get_or-take}
+use Rattle.std.proofs.lemmas.Bool.{and_parts, cases_lt}
 use Rattle.std.proofs.lemmas.Grind.{flat_map-append}
-use Rattle.std.proofs.lemmas.List.{drop_more, length-append, length-take-le, take-append-drop}
-use Rattle.std.specs.Prelude.{codes, decimal, IsUtf8, Option, Some, None, if◌then◌else◌}
+use Rattle.std.proofs.lemmas.List.{length-append, length-take, length-take-le, take-append-drop, take-take}
+use Rattle.std.proofs.Math.Seq.{take-suc}
+use Rattle.std.specs.Prelude.{codes, decimal, IsUtf8, Err, Ok, OnErr, Option, Result, Some, None, if◌then◌else◌}
 use Rattle.hex.specs.Hex.{IsBytes, encode_lower, encode_with, lower_digits}
 use Rattle.json.proofs.Printed.Plain.{escape_on_plain}
 use Rattle.json.specs.Run.{is_plain}
@@ -30,7 +31,7 @@ ends_text_or_null None = refl
 ends_text_or_null (Some s) = either_ends (is_utf8 s) s
 
 joined : (o a x b y c z e f : List ℕ)
-    → ((((((o ++ a) ++ x) ++ b) ++ y) ++ c) ++ z) ++ (e ++ f) ≡ o ++ ((a ++ (x ++ (b ++ (y ++ (c ++ (z ++ e)))))) ++ f)
+    → (o ++ (a ++ (x ++ (b ++ (y ++ c))))) ++ (z ++ (e ++ f)) ≡ o ++ ((a ++ (x ++ (b ++ (y ++ (c ++ (z ++ e)))))) ++ f)
 joined o a x b y c z e f = simp append_assoc
 
 -- three fields and the object's end
@@ -42,7 +43,7 @@ fields_text a b c x y z ex ey ez = rw ex (rw ey (rw ez refl))
 
 -- three fields after a text, each with its value, and the object's end
 pub three_fields : (old a b c : List ℕ) (x y z : Token) → ends x ≡ true → ends y ≡ true → ends z ≡ true
-    → ((((((old ++ named a) ++ token_text x) ++ named b) ++ token_text y) ++ named c) ++ token_text z) ++ codes "}\n"
+    → (old ++ (named a ++ (token_text x ++ (named b ++ (token_text y ++ named c))))) ++ (token_text z ++ codes "}\n")
     ≡ old ++ rest_of_line (a_field a x ++ (a_field b y ++ a_field c z))
 unfolding a_field
 three_fields old a b c x y z ex ey ez =
@@ -61,21 +62,6 @@ unfolding print_from a_field
 two_before old kind name second n m fields =
     joined_front old (named (codes "item")) (quoted kind) (named name) (decimal n) (named second) (decimal m)
     (print_from true (fields ++ end_object ∷ [])) (codes "\n")
-
--- ---- what stands in a string for a byte
-
-pub escape_by_letter : (x : ℕ) → 0 < escape_letter x → escape_byte x ≡ 92 ∷ escape_letter x ∷ []
-unfolding escape_byte
-escape_by_letter x some = rw (lt-ltb 0 (escape_letter x) some) refl
-
-pub escape_by_code : (x : ℕ) → escape_letter x ≡ 0 → x < 32
-    → escape_byte x ≡ 92 ∷ 117 ∷ 48 ∷ 48 ∷ digit_char (x / 16) ∷ digit_char (x % 16) ∷ []
-unfolding escape_byte
-escape_by_code x none low = rw (none, lt-ltb x 32 low) refl
-
-pub escape_by_itself : (x : ℕ) → escape_letter x ≡ 0 → 32 ≤ x → escape_byte x ≡ x ∷ []
-unfolding escape_byte
-escape_by_itself x none high = rw (none, le-ltb x 32 high) refl
 
 -- ---- what a text is printed as
 
@@ -106,12 +92,6 @@ escape_size (x ∷ xs) =
     let rest = escape_size xs in
     omega (arith, both, first, rest)
 
--- the first of the bytes that are left, and the others
-pub next_size : (s : List ℕ) (i : ℕ) → i < length s
-    → length (escape (drop i s)) ≡ length (escape_byte (get_or s i 0)) + length (escape (drop (i + 1) s))
-next_size s i lt =
-    ap (λ (l : List ℕ). length (escape l)) (drop_more s i 0 lt) ∙ length-append (escape_byte (get_or s i 0)) (escape (drop (i + 1) s))
-
 pub escape_parts : (n : ℕ) (s : List ℕ) → escape s ≡ escape (take n s) ++ escape (drop n s)
 escape_parts n s = ap escape (sym (take-append-drop n s)) ∙ flat_map-append escape_byte (take n s) (drop n s)
 
@@ -124,6 +104,40 @@ pub plain_front : (s : List ℕ) (n : ℕ) → n ≤ length s → PlainBetween s
 plain_front s n long h =
     let size = length-take-le n s long in
     escape_on_plain true (take n s) (λ k p q. ap is_plain (get_or-take n s k 0 (omega (arith, size))) ∙ h k p (omega (arith, size)))
+
+pub plain_more : (s : List ℕ) (n : ℕ) → PlainBetween s 0 n → is_plain (get_or s n 0) ≡ true → PlainBetween s 0 (n + 1)
+plain_more s n h e k p q =
+    elim (cases_lt k n) [
+      | inl below ↦ h k p below
+      | inr top ↦
+          let same : k ≡ n = omega arith in
+          rw same e
+    ]
+
+-- plain bytes, and the byte after them
+pub plain_and_next : (s : List ℕ) (n : ℕ) → n < length s → PlainBetween s 0 n → escape (take (n + 1) s) ≡ take n s ++ escape_byte (get_or s n 0)
+plain_and_next s n lt h =
+    ap escape (ap (λ (k : ℕ). take k s) (add-one n) ∙ take-suc s n 0 lt) ∙ flat_map-append escape_byte (take n s) (get_or s n 0 ∷ [])
+    ∙ (ap (λ (l : List ℕ). l ++ (escape_byte (get_or s n 0) ++ [])) (plain_front s n (omega arith) h) ∙ ap (λ (l : List ℕ). take n s ++ l) (append-nil _))
+
+-- they are no longer than the whole text
+pub plain_size : (s : List ℕ) (n : ℕ) → n ≤ length s → PlainBetween s 0 n → n ≤ length (escape s)
+plain_size s n long h = omega (arith, part_sizes n s, ap length (plain_front s n long h), length-take-le n s long)
+
+pub next_size : (s : List ℕ) (n : ℕ) → n < length s → PlainBetween s 0 n → n + length (escape_byte (get_or s n 0)) ≤ length (escape s)
+next_size s n lt h =
+    let both = ap length (plain_and_next s n lt h) ∙ length-append (take n s) (escape_byte (get_or s n 0)) in
+    let size = length-take-le n s (omega arith) in
+    omega (arith, part_sizes (n + 1) s, both, size)
+
+-- what stands after the one is after the other
+pub kept_on : (new mid old : List ℕ) → take (length mid) new ≡ mid → take (length old) mid ≡ old → take (length old) new ≡ old
+kept_on new mid old a b =
+    sym (take-take (length old) (length mid) new (omega (arith, ap length b, length-take (length old) mid))) ∙ ap (take (length old)) a ∙ b
+
+pub any_err : {T E P : Type 0} (r : Result T E) → P → OnErr r P
+any_err (Ok a) p = tt
+any_err (Err e) p = p
 
 -- the hex digits below n are plain, which computes
 abbrev plain_below : ℕ → Bool

@@ -1,5 +1,6 @@
 -- The text of an object's line by its fields, for each number of them.
-use Rattle.std.proofs.Common.{◌≡◌, ◌++◌, ◌∷◌, ◌∙◌, [], List, ℕ, ap, append_assoc, length, refl, sym, take}
+use Rattle.std.proofs.Common.{◌≡◌, ◌≤◌, ◌++◌, ◌∷◌, ◌∙◌, [], List, ℕ, ap, append_assoc, arith, drop, length, refl, sym, take}
+use Rattle.std.proofs.lemmas.List.{length-take-le, take-append-le, take-take}
 use Rattle.std.proofs.Math.Seq.{take-append_seam}
 use Rattle.std.specs.Prelude.{codes, decimal, true}
 use Rattle.json.specs.Print.{ends, escape, escape_byte, print_from, quoted, token_text}
@@ -44,12 +45,12 @@ three_numbers old kind name second third n m k =
     joined_three old (named (codes "item")) (quoted kind) (named name) (decimal n) (named second) (decimal m) (named third) (decimal k) (codes "}")
     (codes "\n")
 
-joined_line : (o a b c d : List ℕ) → ((o ++ a) ++ b) ++ (c ++ d) ≡ o ++ ((a ++ (b ++ c)) ++ d)
+joined_line : (o a b c d : List ℕ) → (o ++ (a ++ b)) ++ (c ++ d) ≡ o ++ ((a ++ (b ++ c)) ++ d)
 joined_line o a b c d = simp append_assoc
 
--- a message's line: its offset and what follows it, after a text
+-- a line: its offset and what follows it, after a text
 pub offset_line : (old : List ℕ) (at : ℕ) (fields : List Token)
-    → ((old ++ codes "{\"offset\":") ++ decimal at) ++ rest_of_line fields ≡ old ++ object_line (a_number (codes "offset") at ++ fields)
+    → (old ++ (codes "{\"offset\":" ++ decimal at)) ++ rest_of_line fields ≡ old ++ object_line (a_number (codes "offset") at ++ fields)
 unfolding print_from a_field escape_byte
 offset_line old at fields =
     joined_line old (codes "{\"offset\":") (decimal at) (print_from true (fields ++ end_object ∷ [])) (codes "\n")
@@ -61,7 +62,7 @@ hand_fields x y z t =
     ++ (a_text (codes "reserved") x ++ (a_text (codes "info_hash") y ++ (a_text (codes "peer_id") z ++ a_field (codes "peer_id_text") t)))
 
 joined_hand : (o a x q b y c z d t e f : List ℕ)
-    → (((((((((o ++ a) ++ x) ++ (q ++ b)) ++ y) ++ (q ++ c)) ++ z) ++ (q ++ d)) ++ t) ++ (e ++ f))
+    → ((((((((o ++ a) ++ x) ++ (q ++ b)) ++ y) ++ (q ++ c)) ++ z) ++ (q ++ d)) ++ (t ++ (e ++ f)))
     ≡ o ++ ((a ++ ((x ++ q) ++ (b ++ ((y ++ q) ++ (c ++ ((z ++ q) ++ (d ++ (t ++ e)))))))) ++ f)
 joined_hand o a x q b y c z d t e f = simp append_assoc
 
@@ -74,27 +75,26 @@ hand_text x y z t et = rw et refl
 
 -- the fields of a handshake, after a text
 pub hand_line : (old x y z : List ℕ) (t : Token) → ends t ≡ true
-    → ((((((((old ++ codes ",\"item\":\"handshake\",\"reserved\":\"") ++ escape x) ++ codes "\",\"info_hash\":\"") ++ escape y) ++ codes "\",\"peer_id\":\"")
-    ++ escape z) ++ codes "\",\"peer_id_text\":") ++ token_text t) ++ codes "}\n"
+    → (((((((old ++ codes ",\"item\":\"handshake\",\"reserved\":\"") ++ escape x) ++ codes "\",\"info_hash\":\"") ++ escape y) ++ codes "\",\"peer_id\":\"")
+    ++ escape z) ++ codes "\",\"peer_id_text\":") ++ (token_text t ++ codes "}\n")
     ≡ old ++ rest_of_line (hand_fields x y z t)
 hand_line old x y z t et =
     joined_hand old (codes ",\"item\":\"handshake\",\"reserved\":\"") (escape x) (34 ∷ []) (codes ",\"info_hash\":\"") (escape y) (codes ",\"peer_id\":\"")
     (escape z) (codes ",\"peer_id_text\":") (token_text t) (codes "}") (codes "\n")
     ∙ ap (λ (l : List ℕ). old ++ (l ++ codes "\n")) (sym (hand_text x y z t et))
 
-joined_refused : (o a n b m c s q e f : List ℕ)
-    → ((((((o ++ a) ++ n) ++ b) ++ m) ++ c) ++ s) ++ (q ++ (e ++ f)) ≡ o ++ ((a ++ (n ++ (b ++ (m ++ (c ++ ((s ++ q) ++ e)))))) ++ f)
-joined_refused o a n b m c s q e f = simp append_assoc
+joined_refused : (o a n b m c s e f : List ℕ) → (((((o ++ a) ++ n) ++ b) ++ m) ++ c) ++ (s ++ (e ++ f)) ≡ o ++ ((a ++ (n ++ (b ++ (m ++ (c ++ (s ++ e)))))) ++ f)
+joined_refused o a n b m c s e f = simp append_assoc
 
 -- the line of a refusal, after a text
 pub refused_line : (old : List ℕ) (r : Refusal)
-    → ((((((old ++ codes "{\"verdict\":\"refused\",\"message\":") ++ decimal r.message) ++ codes ",\"offset\":") ++ decimal r.at) ++ codes ",\"reason\":\"")
-    ++ escape (reason_name r.reason)) ++ codes "\"}\n"
+    → (((((old ++ codes "{\"verdict\":\"refused\",\"message\":") ++ decimal r.message) ++ codes ",\"offset\":") ++ decimal r.at) ++ codes ",\"reason\":")
+    ++ (quoted (reason_name r.reason) ++ codes "}\n")
     ≡ old ++ verdict_line (Refused r)
 unfolding print_from a_field escape_byte
 refused_line old r =
-    joined_refused old (codes "{\"verdict\":\"refused\",\"message\":") (decimal r.message) (codes ",\"offset\":") (decimal r.at) (codes ",\"reason\":\"")
-    (escape (reason_name r.reason)) (34 ∷ []) (codes "}") (codes "\n")
+    joined_refused old (codes "{\"verdict\":\"refused\",\"message\":") (decimal r.message) (codes ",\"offset\":") (decimal r.at) (codes ",\"reason\":")
+    (quoted (reason_name r.reason)) (codes "}") (codes "\n")
 
 joined_accepted : (o a n b m e f : List ℕ) → o ++ (a ++ (n ++ (b ++ (m ++ (e ++ f))))) ≡ o ++ ((a ++ (n ++ (b ++ (m ++ e)))) ++ f)
 joined_accepted o a n b m e f = simp append_assoc
@@ -108,5 +108,14 @@ accepted_line old n m =
     joined_accepted old (codes "{\"verdict\":\"ok\",\"messages\":") (decimal n) (codes ",\"bytes\":") (decimal m) (codes "}") (codes "\n")
 
 -- what was put into a whole buffer is in it
-pub in_buffer : (n size : ℕ) (put kept old line : List ℕ) → length put ≡ size → take n put ≡ old ++ line → take n (take size (put ++ kept)) ≡ old ++ line
-in_buffer n size put kept old line long told = ap (λ (m : ℕ). take n (take m (put ++ kept))) (sym long) ∙ (ap (take n) (take-append_seam put kept) ∙ told)
+pub whole_buffer : (size : ℕ) (put items : List ℕ) → length put ≡ size → take size (put ++ drop (length put) items) ≡ put
+whole_buffer size put items long = ap (λ (m : ℕ). take m (put ++ drop (length put) items)) (sym long) ∙ take-append_seam put _
+
+-- what stands before a line is kept, if its front was put into the buffer and the rest follows that
+pub kept_front : (at end size : ℕ) (put items new old last line : List ℕ) → at ≤ end → end ≤ length put → at ≤ length old → length put ≡ size
+    → take end put ++ last ≡ take at old ++ line → take end new ≡ take end (take size (put ++ drop (length put) items)) → take at new ≡ take at old
+kept_front at end size put items new old last line some long room same told kept =
+    let front = take-append-le at (take end put) last (omega (arith, length-take-le end put long)) in
+    let before = take-append-le at (take at old) line (omega (arith, length-take-le at old room)) in
+    sym (take-take at end new some) ∙ ap (take at) kept ∙ take-take at end _ some ∙ ap (take at) (whole_buffer size put items same)
+    ∙ sym (take-take at end put some) ∙ sym front ∙ ap (take at) told ∙ before ∙ take-take at at old (omega arith)

@@ -1,5 +1,5 @@
 -- The text of an object's line, from the first field's value on.
-use Rattle.std.specs.Prelude.{List, ℕ, [], ◌∷◌, ◌++◌, true, codes, length, Option, Some, None}
+use Rattle.std.specs.Prelude.{List, ℕ, [], ◌∷◌, ◌++◌, true, codes, length, Option, Some, None, ⊤}
 use Rattle.json.specs.Token.{Token, end_object}
 use Rattle.json.specs.Print.{escape, print_from, quoted}
 use Rattle.bt_bencode.specs.Views.{tree_of}
@@ -37,3 +37,12 @@ client_announced (ext.Raw id bytes) = None
 abbrev pub client_of : Message → Option (List ℕ)
 client_of (Extended e) = client_announced e
 client_of m = None
+
+-- it is no extended handshake, so its line has no text of any length
+abbrev pub HasNoText : Ext → Type 0
+HasNoText (ext.Handshake dict rest) = ⊥
+HasNoText e = ⊤
+
+abbrev pub IsShort : Message → Type 0
+IsShort (Extended e) = HasNoText e
+IsShort m = ⊤

@@ -1,19 +1,20 @@
-//! The fields of an extended handshake (BEP 10), written into a buffer that has room for them.
+//! The fields of an extended handshake (BEP 10).
 //!
 //! A call returns the offset after what it wrote.
-ghost use Rattle.std.specs.Prelude.{◌≡◌, ◌+◌, ◌≤◌, ◌++◌, codes, decimal, take, length, option_map};
+ghost use Rattle.std.specs.Prelude.{◌≡◌, ◌+◌, ◌<◌, ◌≤◌, ◌++◌, codes, decimal, take, length, vec_capacity, vec_len, IfOk, OnErr};
 ghost use Rattle.json.specs.Print.{token_text};
 ghost use Rattle.bt_bencode.specs.Bencoding.{ben};
 ghost use Rattle.bt_bencode.specs.Trees.{dictionary};
 ghost use Rattle.bt_bencode.specs.declared.tree.Value.TheVariants as value;
 ghost use Rattle.bt_ext.specs.declared.ext.Ext.TheVariants as ext;
-ghost use Rattle.bt_json.specs.Members.{kind_and_name, named, rest_of_line, text_room};
-ghost use Rattle.bt_json.specs.Objects.{a_field, client_in, ext_fields, number_or_null, text_or_null};
+ghost use Rattle.bt_json.specs.Members.{kind_and_name, named, text_room};
+ghost use Rattle.bt_json.specs.Objects.{a_number, client_in, ext_fields, object_line, number_or_null, text_or_null};
 
-use crate::texts::put_text_or_null;
+use crate::texts::{add_last, put_offset};
 use bt_bencode::DictRef;
-use bt_text::putting::{put_number, put_word};
+use bt_text::putting::{Offset, put_number, put_word};
 use bt_text::words::Dictionary;
+use std::alloc::AllocError;
 
 /// Puts a number, or null for `None`.
 fn put_number_or_null(n: Option<u64>, text: &mut [u8], at: usize) -> usize
@@ -43,47 +44,58 @@ fn put_sizes(dict: &DictRef, rest: &[u8], text: &mut [u8], at: usize) -> usize
     put_number(rest.len() as u64, text, place)
 }
 
-/// Puts what is announced, and the end of the object and its line.
-fn put_announced(
-    size: Option<u64>,
-    id: Option<u64>,
-    client: Option<&[u8]>,
-    text: &mut [u8],
-    at: usize,
-) -> usize
-    requires { at + (100 + text_room (option_map (λ s. s.now) client)) ≤ length text.old }
-    ensures room { (at ≤ result) × (result ≤ at + (100 + text_room (option_map (λ s. s.now) client.entry))) }
+/// Puts what is announced, and the name of the client's field.
+fn put_announced(size: Option<u64>, id: Option<u64>, text: &mut [u8], at: usize) -> usize
+    requires { at + 100 ≤ length text.old }
+    ensures room { (at ≤ result) × (result ≤ at + 100) }
     ensures size { length text.new ≡ length text.old }
-    ensures text { take result text.new ≡ take at text.old
-        ++ rest_of_line (a_field (codes "metadata_size") (number_or_null size) ++ (a_field (codes "ut_metadata") (number_or_null id)
-        ++ a_field (codes "client") (text_or_null (option_map (λ s. s.now) client.entry)))) }
+    ensures text { take result text.new ≡ take at text.old ++ (named (codes "metadata_size") ++ (token_text (number_or_null size)
+        ++ (named (codes "ut_metadata") ++ (token_text (number_or_null id) ++ named (codes "client"))))) }
 {
     let place = put_word(b",\"metadata_size\":", text, at);
     let place = put_number_or_null(size, text, place);
     let place = put_word(b",\"ut_metadata\":", text, place);
     let place = put_number_or_null(id, text, place);
-    let place = put_word(b",\"client\":", text, place);
-    let place = put_text_or_null(client, text, place);
-    put_word(b"}\n", text, place)
+    put_word(b",\"client\":", text, place)
 }
 
-/// Puts the fields of an extended handshake, and the end of the object and its line.
-///
-/// `client` is the client's name, the byte string under `v`.
-pub(crate) fn put_ext_handshake(
+/// Puts the line of an extended handshake up to the client's name.
+fn put_front(
+    offset: &mut Offset,
+    at: u64,
     dict: &DictRef,
     rest: &[u8],
-    client: Option<&[u8]>,
     text: &mut [u8],
-    at: usize,
+    place: usize,
 ) -> usize
-    requires named { option_map (λ s. s.now) client ≡ client_in (dictionary dict.now.tree.0) }
-    requires free { at + (220 + text_room (option_map (λ s. s.now) client)) ≤ length text.old }
-    ensures room { (at ≤ result) × (result ≤ at + (220 + text_room (option_map (λ s. s.now) client.entry))) }
+    requires { place + 234 ≤ length text.old }
+    ensures room { (place ≤ result) × (result ≤ place + 234) }
     ensures size { length text.new ≡ length text.old }
-    ensures text { take result text.new ≡ take at text.old ++ rest_of_line (ext_fields (ext.Handshake (value.Dict dict.now.tree.0) rest.now)) }
+    ensures text { take result text.new ++ (token_text (text_or_null (client_in (dictionary dict.now.tree.0))) ++ codes "}\n")
+        ≡ take place text.old ++ object_line (a_number (codes "offset") at ++ ext_fields (ext.Handshake (value.Dict dict.now.tree.0) rest.now)) }
 {
     let (id, size) = dict.announced();
-    let place = put_sizes(dict, rest, text, at);
-    put_announced(size, id, client, text, place)
+    let place = put_offset(offset, at, text, place);
+    let place = put_sizes(dict, rest, text, place);
+    put_announced(size, id, text, place)
+}
+
+/// Writes the line of an extended handshake after the first `place` bytes of the text; returns its end.
+#[inline(never)]
+pub(crate) fn add_ext_handshake(
+    offset: &mut Offset,
+    at: u64,
+    dict: &DictRef,
+    rest: &[u8],
+    text: &mut Vec<u8>,
+    place: usize,
+) -> Result<usize, AllocError>
+    requires { place + 254 ≤ vec_len text.old }
+    ensures line { IfOk result (λ n. take n text.new.items
+        ≡ take place text.old.items ++ object_line (a_number (codes "offset") at ++ ext_fields (ext.Handshake (value.Dict dict.now.tree.0) rest.now))) }
+    ensures kept { take place text.new.items ≡ take place text.old.items }
+    ensures full { OnErr result (vec_capacity text.old < place + (254 + text_room (client_in (dictionary dict.now.tree.0)))) }
+{
+    let end = put_front(offset, at, dict, rest, text.as_mut_slice(), place);
+    add_last(dict.lookup_bytes(b"v"), text, end)
 }

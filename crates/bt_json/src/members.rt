@@ -1,7 +1,7 @@
-//! The line of a message, written into a buffer that has room for it.
+//! The line of a message, which begins with the message's offset in its stream.
 //!
-//! A call returns the offset after what it wrote. The line begins with the message's offset in its stream.
-ghost use Rattle.std.specs.Prelude.{◌≡◌, ◌+◌, ◌≤◌, ◌++◌, codes, decimal, take, length, option_map};
+//! A call returns the offset after what it wrote.
+ghost use Rattle.std.specs.Prelude.{◌≡◌, ◌+◌, ◌<◌, ◌≤◌, ◌++◌, codes, decimal, take, length, vec_capacity, vec_len, IfOk, OnErr};
 ghost use Rattle.bt_bencode.specs.Bencoding.{ben};
 ghost use Rattle.bt_bencode.specs.Trees.{dictionary};
 ghost use Rattle.bt_bencode.specs.declared.tree.Value.TheVariants as value;
@@ -10,14 +10,16 @@ ghost use Rattle.bt_ext.specs.declared.ext.Ext.TheVariants as ext;
 ghost use Rattle.bt_wire.specs.Messages.{message_of};
 ghost use Rattle.bt_wire.specs.declared.context.Own.{Own};
 ghost use Rattle.bt_wire.specs.declared.item.Item.TheVariants as items;
-ghost use Rattle.bt_json.specs.Members.{client_announced, client_of as client_in_line, rest_of_line, text_room};
+ghost use Rattle.bt_json.specs.Members.{HasNoText, IsShort, client_of as client_in_line, rest_of_line, text_room};
 ghost use Rattle.bt_json.specs.Objects.{a_number, ext_fields, kind_field, line as line_of, message_fields};
 
-use crate::announced::put_ext_handshake;
+use crate::announced::add_ext_handshake;
+use crate::texts::put_offset;
 use bt_bencode::DictRef;
 use bt_ext::{ExtView, Kind, kind_ref};
 use bt_text::putting::{Offset, put_number, put_word};
 use bt_wire::MessageView;
+use std::alloc::AllocError;
 
 /// Puts a text, a number, and the end of the object and its line.
 #[inline(always)]
@@ -154,17 +156,17 @@ fn put_metadata(dict: &DictRef, rest: &[u8], text: &mut [u8], at: usize) -> usiz
     }
 }
 
-/// Puts the fields of an extended message, and the end of the object and its line.
+/// Puts the fields of an extended message that is no handshake, and the end of the object and its line.
 #[inline(never)]
-fn put_ext(payload: &ExtView, client: Option<&[u8]>, text: &mut [u8], at: usize) -> usize
-    requires named { option_map (λ s. s.now) client ≡ client_announced (seen_ext payload.now) }
-    requires free { at + (220 + text_room (option_map (λ s. s.now) client)) ≤ length text.old }
-    ensures room { (at ≤ result) × (result ≤ at + (220 + text_room (option_map (λ s. s.now) client.entry))) }
+fn put_ext(payload: &ExtView, text: &mut [u8], at: usize) -> usize
+    requires short { HasNoText (seen_ext payload.now) }
+    requires free { at + 220 ≤ length text.old }
+    ensures room { (at ≤ result) × (result ≤ at + 220) }
     ensures size { length text.new ≡ length text.old }
     ensures text { take result text.new ≡ take at text.old ++ rest_of_line (ext_fields (seen_ext payload.now)) }
 {
     match payload {
-        ExtView::Handshake { dict, rest } => put_ext_handshake(dict, rest, client, text, at),
+        ExtView::Handshake { .. } => unreachable!(),
         ExtView::Metadata { dict, rest } => put_metadata(dict, rest, text, at),
         ExtView::DontHave(index) => {
             let front = b",\"item\":\"donthave\",\"index\":";
@@ -178,12 +180,13 @@ fn put_ext(payload: &ExtView, client: Option<&[u8]>, text: &mut [u8], at: usize)
     }
 }
 
-/// Puts the fields of a message that follow its offset, and the end of the object and its line.
+/// Puts the fields of a message but an extended handshake that follow its offset, and the end of the object and its line.
+#[tactic(auto, using(crate::proofs::MemberLaws::one_number, crate::proofs::MemberLaws::two_numbers, crate::proofs::MemberLaws::three_numbers), unfolding(json::specs::Print::escape_byte, json::specs::Print::print_from, crate::specs::Objects::a_field))]
 #[inline(always)]
-fn put_fields(view: &MessageView, client: Option<&[u8]>, text: &mut [u8], at: usize) -> usize
-    requires named { option_map (λ s. s.now) client ≡ client_in_line (message_of view.now) }
-    requires free { at + (220 + text_room (option_map (λ s. s.now) client)) ≤ length text.old }
-    ensures room { (at ≤ result) × (result ≤ at + (220 + text_room (option_map (λ s. s.now) client.entry))) }
+fn put_fields(view: &MessageView, text: &mut [u8], at: usize) -> usize
+    requires short { IsShort (message_of view.now) }
+    requires free { at + 220 ≤ length text.old }
+    ensures room { (at ≤ result) × (result ≤ at + 220) }
     ensures size { length text.new ≡ length text.old }
     ensures text { (own : Own) → take result text.new ≡ take at text.old ++ rest_of_line (message_fields own (message_of view.now)) }
 {
@@ -255,7 +258,7 @@ fn put_fields(view: &MessageView, client: Option<&[u8]>, text: &mut [u8], at: us
             let front = b",\"item\":\"allowed-fast\",\"index\":";
             put_one(front, u64::from(*index), text, at)
         }
-        MessageView::Extended(payload) => put_ext(payload, client, text, at),
+        MessageView::Extended(payload) => put_ext(payload, text, at),
         MessageView::Unknown { id, payload } => {
             let front = b",\"item\":\"unknown\",\"id\":";
             let bytes = payload.len() as u64;
@@ -264,39 +267,50 @@ fn put_fields(view: &MessageView, client: Option<&[u8]>, text: &mut [u8], at: us
     }
 }
 
-/// Returns the client's name of an extended handshake (BEP 10), the byte string under `v`.
-///
-/// It is the only text of any length in a message's line, and `None` for other messages.
+/// Puts the line of a message but an extended handshake.
+#[tactic(auto, using(crate::proofs::MemberLaws::offset_line))]
 #[inline(always)]
-pub fn client_of<'a>(view: &MessageView<'a>) -> Option<&'a [u8]>
-    ensures { option_map (λ s. s.now) result ≡ client_in_line (message_of view.now) }
-{
-    match view {
-        MessageView::Extended(ExtView::Handshake { dict, .. }) => dict.lookup_bytes(b"v"),
-        _ => None,
-    }
-}
-
-/// Writes a message's line at the offset `place` of the text; returns its end.
-///
-/// `at` is the message's offset in its stream, and `client` is what [`client_of`] returns. There is the room that
-/// [`room_for`](crate::room_for) returns for it.
-#[inline(always)]
-pub fn put_message_line(
+fn put_message_line(
     offset: &mut Offset,
     at: u64,
     view: &MessageView,
-    client: Option<&[u8]>,
     text: &mut [u8],
     place: usize,
 ) -> usize
-    requires named { option_map (λ s. s.now) client ≡ client_in_line (message_of view.now) }
-    requires free { place + (254 + text_room (option_map (λ s. s.now) client)) ≤ length text.old }
-    ensures room { (place ≤ result) × (result ≤ place + (254 + text_room (option_map (λ s. s.now) client.entry))) }
+    requires short { IsShort (message_of view.now) }
+    requires free { place + 254 ≤ length text.old }
     ensures size { length text.new ≡ length text.old }
     ensures text { (own : Own) → take result text.new ≡ take place text.old ++ line_of own (at, items.Message (message_of view.now)) }
 {
-    let place = put_word(b"{\"offset\":", text, place);
-    let place = offset.put(at, text, place);
-    put_fields(view, client, text, place)
+    let place = put_offset(offset, at, text, place);
+    put_fields(view, text, place)
+}
+
+/// Writes a message's line from the offset `place` on; returns its end.
+///
+/// `at` is the message's offset in its stream. The text has room for 254 bytes from there on. The call asks for memory only if
+/// the line is that of an extended handshake and the capacity has no room for 254 bytes and the client's name with its escapes.
+///
+/// # Errors
+/// `AllocError` when out of memory; the bytes before `place` are then as before.
+#[inline(always)]
+pub fn add_message_line(
+    offset: &mut Offset,
+    at: u64,
+    view: &MessageView,
+    text: &mut Vec<u8>,
+    place: usize,
+) -> Result<usize, AllocError>
+    requires { place + 254 ≤ vec_len text.old }
+    ensures line { IfOk result (λ n. (own : Own) → take n text.new.items
+        ≡ take place text.old.items ++ line_of own (at, items.Message (message_of view.now))) }
+    ensures kept { OnErr result (take place text.new.items ≡ take place text.old.items) }
+    ensures full { OnErr result (vec_capacity text.old < place + (254 + text_room (client_in_line (message_of view.now)))) }
+{
+    match view {
+        MessageView::Extended(ExtView::Handshake { dict, rest }) => {
+            add_ext_handshake(offset, at, dict, rest, text, place)
+        }
+        _ => Ok(put_message_line(offset, at, view, text.as_mut_slice(), place)),
+    }
 }

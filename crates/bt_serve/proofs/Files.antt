@@ -1,74 +1,57 @@
 -- Why a file has no info dictionary.
-use Rattle.std.proofs.Common.{◌≡◌, ℕ, ℤ, ◌<◌, ◌≤◌, List, length, Option, Some, None, refl, sym, ap, ◌∙◌, subst, arith}
+use Rattle.std.proofs.Common.{◌≡◌, ℕ, ℤ, true, false, List, [], Option, Some, None, is_some, refl, sym, ◌∙◌, subst}
 use Rattle.std.specs.Prelude.{option_map, option_and_then, codes}
 use Rattle.std.specs.Borrow.{Bor}
 use Rattle.bt_bencode.specs.Trees.{Pairs}
-use Rattle.bt_bencode.specs.Bencoding.{BeginsWith}
-use Rattle.bt_bencode.specs.Payloads.{BeginsWithNone}
-use Rattle.bt_bencode.proofs.Payloads.{one_dictionary}
 use Rattle.bt_bencode.specs.Keys.{value_at}
 use Rattle.bt_bencode.specs.LookUps.{dictionary_of, integer_of, string_of}
-use Rattle.bt_serve.specs.Files.{IsCounted, IsFoundBy, IsFoundIn, IsInfo, IsInfoIn, IsPieceCount, pieces_in}
+use Rattle.bt_serve.specs.Bencoded.{ArePairs}
+use Rattle.bt_serve.specs.Files.{IsCounted, IsFileOf, IsFoundBy, IsFoundIn, IsInfo, IsInfoIn, IsPieceCount, pieces_in}
 
--- it begins with no dictionary
-pub none_begins : (file : List ℕ) → BeginsWithNone file → (info : List ℕ) → IsInfo file info → ⊥
-none_begins file none info i = none i.pairs (length file) i.whole
+-- ---- by the two keys
 
--- its dictionary is followed by more
-pub more_follows : (file : List ℕ) (ps : Pairs) (n : ℕ) → BeginsWith file ps n → n < length file → (info : List ℕ) → IsInfo file info → ⊥
-more_follows file ps n b h info i =
-    let same : n ≡ length file = (one_dictionary file ps i.pairs n (length file) b i.whole).1 in omega (arith, same, h)
+pub found_inner : (file info : List ℕ) (d : Option Pairs) (l : Option ℤ) → ((ps : Pairs) × (d ≡ Some ps) × IsFileOf ps info) → IsFoundBy file d l (Some info)
+found_inner file info d l (ps, e, is) = subst (λ (x : Option Pairs). IsFoundBy file x l (Some info)) (sym e) is
+
+pub found_itself : (file : List ℕ) (d : Option Pairs) (l : Option ℤ) → d ≡ None → true ≡ is_some l → IsFoundBy file d l (Some file)
+found_itself file (Some ps) l e n = absurd cc
+found_itself file None (Some z) e n = refl
+found_itself file None None e n = absurd cc
+
+pub found_nothing : (file : List ℕ) (d : Option Pairs) (l : Option ℤ) → d ≡ None → false ≡ is_some l → IsFoundBy file d l None
+found_nothing file (Some ps) l e n = absurd cc
+found_nothing file None (Some z) e n = absurd cc
+found_nothing file None None e n = tt
 
 not_both : (file : List ℕ) (d : Option Pairs) (l : Option ℤ) → IsFoundBy file d l None → (info : List ℕ) → IsFoundBy file d l (Some info) → ⊥
 not_both file (Some inner) l n info s = n
 not_both file None (Some z) n info s = n
 not_both file None None n info s = s
 
--- its dictionary has neither key
-nothing_found : (file : List ℕ) (ps : Pairs) (n : ℕ) → BeginsWith file ps n → IsFoundIn file ps None → (info : List ℕ) → IsInfo file info → ⊥
-nothing_found file ps n b none info i =
-    let same : ps ≡ i.pairs = (one_dictionary file ps i.pairs n (length file) b i.whole).0 in
-    let none' : IsFoundIn file i.pairs None = subst (λ (p : Pairs). IsFoundIn file p None) same none in
-    not_both file (option_and_then dictionary_of (value_at (codes "info") i.pairs)) (option_and_then integer_of (value_at (codes "piece length") i.pairs)) none'
-    info i.found
+-- ---- a file and its pairs
 
--- its dictionary is all of it
-pub found_or_none : (file : List ℕ) (ps : Pairs) (n : ℕ) → BeginsWith file ps n → length file ≤ n → (o : Option (Bor (List ℕ)))
-    → IsFoundIn file ps (option_map (λ (b : Bor (List ℕ)). b.now) o) → IsInfoIn file o
-found_or_none file ps n b all None f = nothing_found file ps n b f
-found_or_none file ps n b all (Some info) f =
-    let whole : n ≡ length file = omega (arith, all, b.within) in
-    record { pairs = ps; whole = subst (λ (k : ℕ). BeginsWith file ps k) whole b; found = f }
+abbrev pub AreThePairs : List ℕ → List ℕ → Type 0
+AreThePairs file pairs = (ps : Pairs) → IsFileOf ps file → ArePairs 31 pairs ps []
+
+pub no_info : (file : List ℕ) → ((ps : Pairs) → IsFileOf ps file → ⊥) → (info : List ℕ) → IsInfo file info → ⊥
+no_info file none info i = none i.pairs i.whole
+
+pub found_or_none : (file pairs : List ℕ) → ((ps : Pairs) × IsFileOf ps file) → AreThePairs file pairs → (o : Option (Bor (List ℕ)))
+    → ((ps : Pairs) (more : List ℕ) → ArePairs 31 pairs ps more → IsFoundIn file ps (option_map (λ (b : Bor (List ℕ)). b.now) o)) → IsInfoIn file o
+found_or_none file pairs w are None f = λ info i.
+    not_both file (option_and_then dictionary_of (value_at (codes "info") i.pairs)) (option_and_then integer_of (value_at (codes "piece length") i.pairs))
+    (f i.pairs [] (are i.pairs i.whole)) info i.found
+found_or_none file pairs w are (Some info) f = record { pairs = w.0; whole = w.1; found = f w.0 [] (are w.0 w.1) }
 
 -- ---- pieces
 
--- its dictionary is followed by more
-pub more_counted : (info : List ℕ) (ps : Pairs) (n : ℕ) → BeginsWith info ps n → n < length info → (count : ℕ) → IsCounted info count → ⊥
-more_counted info ps n b h count i =
-    let same : n ≡ length info = (one_dictionary info ps i.pairs n (length info) b i.whole).1 in omega (arith, same, h)
+pub no_count : (info : List ℕ) → ((ps : Pairs) → IsFileOf ps info → ⊥) → (count : ℕ) → IsCounted info count → ⊥
+no_count info none count i = none i.pairs i.whole
 
-counted_in : Pairs → Option ℕ
-counted_in ps = option_and_then pieces_in (option_and_then string_of (value_at (codes "pieces") ps))
-
--- its dictionary is all of it
-counted_or_none : (info : List ℕ) (ps : Pairs) (n : ℕ) → BeginsWith info ps n → length info ≤ n → (o : Option ℕ) → counted_in ps ≡ o → IsPieceCount info o
-unfolding counted_in
-counted_or_none info ps n b all (Some count) e =
-    let whole : n ≡ length info = omega (arith, all, b.within) in
-    record { pairs = ps; whole = subst (λ (k : ℕ). BeginsWith info ps k) whole b; hashes = e }
-counted_or_none info ps n b all None e = λ count i.
-    let same : ps ≡ i.pairs = (one_dictionary info ps i.pairs n (length info) b i.whole).0 in
-    let both : None ≡ Some count = sym e ∙ ap counted_in same ∙ i.hashes in absurd cc
-
--- its string `pieces` is these bytes
-pub counted_by : (info : List ℕ) (ps : Pairs) (n : ℕ) (hashes : List ℕ) (o : Option ℕ) → BeginsWith info ps n → length info ≤ n
-    → Some hashes ≡ option_and_then string_of (value_at (codes "pieces") ps) → o ≡ pieces_in hashes → IsPieceCount info o
-unfolding counted_in
-counted_by info ps n hashes o b all found is =
-    counted_or_none info ps n b all o (ap (option_and_then pieces_in) (sym found) ∙ sym is)
-
--- it has no such string
-pub uncounted : (info : List ℕ) (ps : Pairs) (n : ℕ) → BeginsWith info ps n → length info ≤ n
-    → None ≡ option_and_then string_of (value_at (codes "pieces") ps) → IsPieceCount info None
-unfolding counted_in
-uncounted info ps n b all found = counted_or_none info ps n b all None (ap (option_and_then pieces_in) (sym found))
+-- what the string `pieces` gives of each dictionary that the bytes spell
+pub counted_or_none : (info pairs : List ℕ) → ((ps : Pairs) × IsFileOf ps info) → AreThePairs info pairs → (o : Option ℕ)
+    → ((ps : Pairs) (more : List ℕ) → ArePairs 31 pairs ps more → option_and_then pieces_in (option_and_then string_of (value_at (codes "pieces") ps)) ≡ o)
+    → IsPieceCount info o
+counted_or_none info pairs w are (Some count) f = record { pairs = w.0; whole = w.1; hashes = f w.0 [] (are w.0 w.1) }
+counted_or_none info pairs w are None f = λ count i.
+    let both : None ≡ Some count = sym (f i.pairs [] (are i.pairs i.whole)) ∙ i.hashes in absurd cc

@@ -1,38 +1,35 @@
 //! The file that is served: a .torrent, or an info dictionary (BEP 3, "metainfo files").
-ghost use Rattle.std.specs.Prelude.{◌≡◌, ◌+◌, ◌≤◌, drop, take, length, option_map, IfOk, IfSome};
+ghost use Rattle.std.specs.Prelude.{◌≡◌, ℕ, ◌+◌, ◌≤◌, List, drop, take, length, option_map, IfOk, IfSome};
+ghost use Rattle.bt_bencode.specs.Trees.{Pairs};
+ghost use Rattle.bt_serve.specs.Bencoded.{ArePairs};
 ghost use Rattle.bt_serve.specs.Files.{IsFoundIn, IsInfoIn, IsInfoKept, IsPieceCount, pieces_in};
 
-use bt_bencode::{DictRef, check};
+use crate::bencoded::{dictionary_at, has_integer, pairs_of, text_at};
 use std::alloc::{AllocError, Global};
 
-/// Returns the info dictionary in the dictionary that a file is.
-fn info_of<'a>(file: &'a [u8], dict: &DictRef<'a>) -> Option<&'a [u8]>
-    ensures { IsFoundIn file.now dict.now.tree.0 (option_map (λ info. info.now) result) }
+/// Returns the info dictionary in a file of these pairs.
+fn info_of<'a>(file: &'a [u8], pairs: &'a [u8]) -> Option<&'a [u8]>
+    ensures { (ps : Pairs) (more : List ℕ) → ArePairs 31 pairs.now ps more → IsFoundIn file.now ps (option_map (λ info. info.now) result) }
 {
-    if let Some(info) = dict.lookup_dict(b"info") {
-        return Some(info.spelled());
+    if let Some(info) = dictionary_at(pairs, b"info") {
+        return Some(info);
     }
-    match dict.lookup_int(b"piece length") {
-        Some(_) => Some(file),
-        None => None,
+    if has_integer(pairs, b"piece length") {
+        return Some(file);
     }
+    None
 }
 
 /// Returns the info dictionary of a file; `None` if there is none.
 ///
-/// The file is a .torrent, or an info dictionary itself.
+/// The file is a .torrent, or an info dictionary itself. Its strings may be of any length.
 ///
 /// A .torrent has a dictionary under `info`. An info dictionary has none, and a number under `piece length`.
 pub fn info_in(file: &[u8]) -> Option<&[u8]>
     ensures { IsInfoIn file.now result }
 {
-    let Ok((dict, size)) = check(file) else {
-        return None;
-    };
-    if size < file.len() {
-        return None;
-    }
-    info_of(file, &dict)
+    let pairs = pairs_of(file)?;
+    info_of(file, pairs)
 }
 
 /// Returns how many pieces these SHA-1s are for; `None` if they aren't 20 bytes for each of at most 2^32 - 1 pieces.
@@ -51,16 +48,9 @@ fn count_of(hashes: &[u8]) -> Option<u32>
 pub fn piece_count(info: &[u8]) -> Option<u32>
     ensures { IsPieceCount info.now result }
 {
-    let Ok((dict, size)) = check(info) else {
-        return None;
-    };
-    if size < info.len() {
-        return None;
-    }
-    match dict.lookup_bytes(b"pieces") {
-        None => None,
-        Some(hashes) => count_of(hashes),
-    }
+    let pairs = pairs_of(info)?;
+    let hashes = text_at(pairs, b"pieces")?;
+    count_of(hashes)
 }
 
 /// Returns the place at which a part of the bytes stands first.

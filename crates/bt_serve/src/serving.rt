@@ -82,23 +82,37 @@ fn tend_one<D: Door>(door: &mut D, name: D::Name, guest: &mut Guest<D::Link>) ->
     }
 }
 
+/// Tells the door of a connection that handled an item.
+fn tell_handled<D: Door>(door: &mut D, has_handled: bool)
+    ensures inside { D.inside door.new ≡ D.inside door.old }
+    ensures told { D.told door.new ≡ D.told door.old }
+    ensures rounds { D.rounds door.new ≡ D.rounds door.old }
+{
+    if has_handled {
+        door.handled();
+    }
+}
+
 /// Gives a connection its turn, if its socket may be ready. Else it passes by, at the price of a look at a flag.
-fn visit<D: Door>(door: &mut D, name: D::Name, guest: &mut Guest<D::Link>) -> Option<Pace>
+fn visit<D: Door>(door: &mut D, guest: &mut (Guest<D::Link>, D::Name)) -> Option<Pace>
     requires { 0 < D.inside door.old }
     ensures inside { D.inside door.new + leaving result ≡ D.inside door.old }
-    ensures patience { guest.new.patience ≡ guest.old.patience }
+    ensures patience { guest.new.0.patience ≡ guest.old.0.patience }
     ensures told { AreTold (D.told door.old) (D.told door.new) true }
     ensures more { AreMore (leaving result) (D.told door.old) (D.told door.new) }
     ensures rounds { D.rounds door.new ≡ D.rounds door.old }
     ensures turned { (start : Moment)
-        → IsServed start (record { seen = D.Link.seen guest.old.link; pending = guest.old.hearing; half = guest.old.end }) guest.old.watch.since guest.old.tally
-        → IsTurned guest.old.patience start (record { seen = D.Link.seen guest.new.link; pending = guest.new.hearing; half = guest.new.end })
-        guest.new.watch.since guest.new.tally name (D.told door.old) (D.told door.new) result }
+        → IsServed start (record { seen = D.Link.seen guest.old.0.link; pending = guest.old.0.hearing; half = guest.old.0.end }) guest.old.0.watch.since guest.old.0.tally
+        → IsTurned guest.old.0.patience start (record { seen = D.Link.seen guest.new.0.link; pending = guest.new.0.hearing; half = guest.new.0.end })
+        guest.new.0.watch.since guest.new.0.tally guest.old.1 (D.told door.old) (D.told door.new) result }
 {
-    if !guest.may_go_on() {
+    if !guest.0.may_go_on() {
         return Some(Pace::Waits);
     }
-    tend_one(door, name, guest)
+    let before = guest.0.handled();
+    let pace = tend_one(door, guest.1, &mut guest.0);
+    tell_handled(door, guest.0.handled() != before);
+    pace
 }
 
 /// Returns 1 after a turn that ended its connection, else 0.
@@ -123,17 +137,6 @@ fn after_turn<T: Drop>(pace: Option<Pace>, at: usize, guests: &mut Vec<T>) -> us
     at
 }
 
-/// Tells the door of a connection that handled an item.
-fn tell_handled<D: Door>(door: &mut D, has_handled: bool)
-    ensures inside { D.inside door.new ≡ D.inside door.old }
-    ensures told { D.told door.new ≡ D.told door.old }
-    ensures rounds { D.rounds door.new ≡ D.rounds door.old }
-{
-    if has_handled {
-        door.handled();
-    }
-}
-
 /// Gives each connection its turn, and drops those that ended.
 ///
 /// It returns how many ended, and whether one can go on at once.
@@ -152,10 +155,7 @@ fn tend_all<D: Door>(door: &mut D, guests: &mut Guests<D>) -> (u64, bool)
         if at >= guests.len() {
             return (ended, is_busy);
         }
-        let name = guests[at].1;
-        let before = guests[at].0.handled();
-        let pace = visit(door, name, &mut guests[at].0);
-        tell_handled(door, guests[at].0.handled() != before);
+        let pace = visit(door, &mut guests[at]);
         is_busy |= pace == Some(Pace::GoesOn);
         ended += one_if_gone(pace);
         at = after_turn(pace, at, guests);

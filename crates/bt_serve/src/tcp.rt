@@ -1,17 +1,23 @@
 //! Connections over TCP that are let in by a listener.
 ghost use Rattle.std.specs.Prelude.{◌≡◌};
+ghost use Rattle.std.specs.IoError.{error_kind};
+ghost use Rattle.bt_serve.specs.Arrivals.{is_lost as is_lost_by};
 ghost use Rattle.bt_exchange.specs.Lists.{IsAdded};
 
 use crate::door::{Door, Parting};
-use bt_exchange::{Flag, Polled, Sleeper, rest_after};
+use bt_exchange::{Flag, Naps, Polled, Sleeper};
 use std::alloc::Global;
 use std::io;
+use std::io::ErrorKind;
 use std::net::{Net, OpenListener, OpenStream, SocketAddr};
 use std::os::fd::AsRawFd;
-use std::time::{Clock, Duration};
+use std::time::Clock;
 
 /// How long a loop sleeps at most if no socket is ready, in milliseconds.
 const LONGEST: u64 = 200;
+
+/// How many connections that were lost before they were let in a round passes over, so that others need not wait for the next one.
+const LOST: u32 = 128;
 
 /// Takes note of how each connection over TCP ended.
 pub trait Farewell {
@@ -40,8 +46,8 @@ pub struct TcpDoor<'a, R: Net + Clock, F: Farewell + Drop> {
     sleeper: Option<Sleeper>,
     /// Whether a connection may wait at the listener.
     arrivals: Flag,
-    /// How long the last nap was, in microseconds; 0 if an item was handled since, or a round wasn't idle.
-    pause: u64,
+    /// The naps. They begin short after an item and a busy round, since a peer that is near sends the next item soon.
+    naps: Naps,
 }
 
 impl<'a, R: Net + Clock, F: Farewell + Drop> TcpDoor<'a, R, F> {
@@ -65,7 +71,7 @@ impl<'a, R: Net + Clock, F: Farewell + Drop> TcpDoor<'a, R, F> {
             rounds: 0,
             sleeper: None,
             arrivals: Flag::always(),
-            pause: 0,
+            naps: Naps::new(),
         }
     }
 
@@ -100,6 +106,61 @@ impl<'a, R: Net + Clock, F: Farewell + Drop> TcpDoor<'a, R, F> {
             Err(_) => 0,
         }
     }
+}
+
+/// What a look at the listener gave.
+enum Arrival<S> {
+    /// A connection whose calls don't wait, and its other end.
+    Came(S, SocketAddr),
+    /// A connection was lost before it was let in. Others may wait.
+    Lost,
+    /// None waits, or none can be let in now.
+    Nobody,
+}
+
+/// Returns whether an error of the listener is that of one connection, and not of the listener, the limit of descriptors or the memory.
+fn is_lost(error: &io::Error) -> bool
+    ensures { result ≡ is_lost_by (error_kind error.now) }
+{
+    !matches!(
+        error.kind(),
+        ErrorKind::WouldBlock
+            | ErrorKind::OutOfMemory
+            | ErrorKind::InvalidInput
+            | ErrorKind::Uncategorized
+    )
+}
+
+/// Looks whether a connection waits at the listener. The flag falls if none does.
+fn look<R: Net>(listener: &R::Listener, arrivals: &Flag) -> Arrival<R::Stream> {
+    if !arrivals.is_up() {
+        return Arrival::Nobody;
+    }
+    match listener.accept() {
+        Ok((stream, peer)) => match ready(&stream) {
+            Ok(()) => Arrival::Came(stream, peer),
+            Err(_) => Arrival::Lost,
+        },
+        Err(error) => {
+            arrivals.failed(&error);
+            if is_lost(&error) {
+                return Arrival::Lost;
+            }
+            Arrival::Nobody
+        }
+    }
+}
+
+/// Returns the connection that waits at the listener, if one does. It passes over those that were lost.
+fn arrived<R: Net>(listener: &R::Listener, arrivals: &Flag) -> Option<(R::Stream, SocketAddr)> {
+    for _lost in 0..LOST {
+        match look::<R>(listener, arrivals) {
+            Arrival::Came(stream, peer) => return Some((stream, peer)),
+            Arrival::Lost => {}
+            Arrival::Nobody => return None,
+        }
+    }
+    None
 }
 
 /// Returns a listener at an address, and the address at which it listens.
@@ -139,17 +200,7 @@ impl<'a, R: Net + Clock, F: Farewell + Drop> Door for TcpDoor<'a, R, F> {
     }
 
     fn enter(&mut self) -> Option<(Polled<R::Stream, &'a R>, SocketAddr)> {
-        if !self.arrivals.is_up() {
-            return None;
-        }
-        let (stream, peer) = match self.listener.accept() {
-            Ok(arrived) => arrived,
-            Err(error) => {
-                self.arrivals.failed(&error);
-                return None;
-            }
-        };
-        ready(&stream).ok()?;
+        let (stream, peer) = arrived::<R>(&self.listener, &self.arrivals)?;
         self.inside += 1;
         let flag = match &mut self.sleeper {
             Some(sleeper) => sleeper.watch(stream.as_raw_fd()),
@@ -158,9 +209,8 @@ impl<'a, R: Net + Clock, F: Farewell + Drop> Door for TcpDoor<'a, R, F> {
         Some((Polled::new(stream, self.runtime, flag), peer))
     }
 
-    // The naps begin short after an item, since a peer that is near sends the next one soon.
     fn handled(&mut self) {
-        self.pause = 0;
+        self.naps.came();
     }
 
     fn rest(&mut self, is_idle: bool) {
@@ -172,11 +222,10 @@ impl<'a, R: Net + Clock, F: Farewell + Drop> Door for TcpDoor<'a, R, F> {
             }
         }
         if !is_idle {
-            self.pause = 0;
+            self.naps.came();
             return;
         }
-        self.pause = rest_after(self.pause, self.inside);
-        self.runtime.sleep(Duration::from_micros(self.pause));
+        self.naps.take(self.runtime, self.inside);
     }
 
     fn ended(&mut self, name: SocketAddr, parting: Parting) {

@@ -3,7 +3,8 @@ ghost use Rattle.std.specs.Prelude.{◌≡◌, ℕ, ◌+◌, ◌-◌, ◌<◌, �
 ghost use Rattle.bt_tcp.specs.Segments.{Segment, or_else, byte_in};
 ghost use Rattle.bt_tcp.specs.Cells.{slot_of, is_known, ring, IsRing};
 ghost use Rattle.bt_tcp.specs.Rings.{ahead, IsSound};
-ghost use Rattle.bt_tcp.specs.Windows.{IsTaken, IsPutOf, IsReady, TakesOneMore, HandsOutMore, EndsStream, BeginsAnew};
+ghost use Rattle.bt_tcp.specs.Windows.{IsTaken, IsPutOf, IsReady, TakesOneMore, HandsOutMore, EndsStream, BeginsAnew, GoesOn};
+ghost use Rattle.bt_tcp.specs.History.{differs, conflicts, held};
 
 /// What became of a segment.
 #[derive(Clone, Copy, Debug, PartialEq, Eq)]
@@ -102,6 +103,22 @@ fn advanced(known: &[bool], head: usize, count: usize) -> usize
         slot(known.len(), head, count)
     } else {
         head
+    }
+}
+
+/// Copies a ring to the front of larger memory that has no byte.
+fn copy(known: &[bool], bytes: &[u8], head: usize, to_known: &mut [bool], to_bytes: &mut [u8])
+    requires ring { IsRing known.now bytes.now head }
+    requires room { length known.now ≤ length to_known.old }
+    requires same { length to_bytes.old ≡ length to_known.old }
+    requires unknown { (k : ℕ) → slice_index_or to_known.old k false ≡ false }
+    ensures { (k : ℕ) → ring to_known.new to_bytes.new 0 k ≡ ring known.now bytes.now head k }
+{
+    let capacity = known.len();
+    for k in 0..capacity {
+        let i = slot(capacity, head, k);
+        to_known[k] = known[i];
+        to_bytes[k] = bytes[i];
     }
 }
 
@@ -229,5 +246,65 @@ impl Ring {
         self.head = advanced(known, self.head, count);
         self.next += count as u64;
         count
+    }
+
+    /// Tells whether a byte differs from the one ahead at its place, if there is one.
+    fn is_conflict_ahead(&self, known: &[bool], bytes: &[u8], place: u64, byte: u8) -> bool
+        requires { IsSound self.now known.now bytes.now }
+        ensures { result ≡ differs (held self.now.next (ahead self.now known.now bytes.now) place) byte }
+    {
+        if place < self.next || place - self.next >= known.len() as u64 {
+            return false;
+        }
+        let i = slot(known.len(), self.head, (place - self.next) as usize);
+        known[i] && bytes[i] != byte
+    }
+
+    /// Counts the bytes of a segment that differ from those ahead, which came first.
+    ///
+    /// While nothing is ahead, it looks at none.
+    pub fn count_conflicts_ahead(&self, known: &[bool], bytes: &[u8], at: u64, part: &[u8]) -> usize
+        requires sound { IsSound self.now known.now bytes.now }
+        requires end { at + length part.now < 2 ^ 64 }
+        ensures { result ≡ conflicts (held self.now.next (ahead self.now known.now bytes.now)) at part.now }
+    {
+        if self.next >= self.end {
+            return 0;
+        }
+        let mut count = 0usize;
+        for (j, b) in part.iter().enumerate() {
+            if self.is_conflict_ahead(known, bytes, at + j as u64, *b) {
+                count += 1;
+            }
+        }
+        count
+    }
+
+    /// Moves to larger memory, whatever was in it. The bytes ahead stay the same.
+    ///
+    /// So a segment that didn't fit may be put.
+    pub fn moved(
+        &self,
+        known: &[bool],
+        bytes: &[u8],
+        to_known: &mut [bool],
+        to_bytes: &mut [u8],
+    ) -> Ring
+        requires sound { IsSound self.now known.now bytes.now }
+        requires room { length known.now ≤ length to_known.old }
+        requires same { length to_bytes.old ≡ length to_known.old }
+        ensures sound { IsSound result to_known.new to_bytes.new }
+        ensures next { result.next ≡ self.now.next }
+        ensures ahead { (k : ℕ) → ahead result to_known.new to_bytes.new k ≡ ahead self.now known.now bytes.now k }
+        ensures taken { GoesOn self.now.next (ahead self.now known.now bytes.now) result.next (ahead result to_known.new to_bytes.new) }
+    {
+        let count = to_known.len();
+        clear(to_known, 0, count);
+        copy(known, bytes, self.head, to_known, to_bytes);
+        Ring {
+            next: self.next,
+            head: 0,
+            end: self.end,
+        }
     }
 }

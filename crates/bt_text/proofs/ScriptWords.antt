@@ -206,9 +206,6 @@ is_digit c e = grind arith
 is_none : (c : ℕ) → is_ascii_digit c ≡ false → IsInRange 48 57 c → ⊥
 is_none c e digit = grind arith
 
-pub IsDecimal-other : (w : List ℕ) (n i : ℕ) → IsDecimal w n → i < length w → is_ascii_digit (get_or w i 0) ≡ false → ⊥
-IsDecimal-other w n i h lt e = is_none (get_or w i 0) e (IsDecimal-digits w n h i lt)
-
 pub value_short : (w : List ℕ) (i n : ℕ) → i ≤ 10 → i ≤ length w → n ≡ digits_value 10 (take i w)
     → ((k : ℕ) → k < i → IsInRange 48 57 (get_or w k 0)) → n < 10000000000
 value_short w i n short le is digits =

@@ -219,8 +219,10 @@ pub fn put_three<const N: usize>(
 /// `AllocError` if the capacity lacks the room and out of memory; the text is then as before.
 pub fn grow(text: &mut Vec<u8>, room: usize) -> Result<usize, AllocError>
     ensures room { IfOk result (λ at. (at + room ≤ vec_len text.new) × (take at text.new.items ≡ text.old.items)) }
+    ensures place { IfOk result (λ at. at ≡ vec_len text.old) }
     ensures kept { OnErr result (text.new.items ≡ text.old.items) }
     ensures full { OnErr result (vec_capacity text.old < vec_len text.old + room) }
+    ensures capacity { vec_capacity text.old ≤ vec_capacity text.new }
 {
     let at = text.len();
     match text.resize(at.saturating_add(room), 0) {

@@ -174,50 +174,36 @@ pub returns-in_default-with_capacity-clause-needed : goal.returns-in_default-wit
 returns-in_default-with_capacity-clause-needed g c = (c.args.reader.now, nothing_taken c.args.own.now _ c.requires.1, omega arith)
 
 pub returns-in-Ok-end_script-clause-needed : goal.returns-in-Ok-end_script-clause-needed
-returns-in-Ok-end_script-clause-needed g c = (
-  c.loop-turn.reader,
-  run_taken c.args.own.now _ _ c.loop-turn.line.items c.loop-turn.judge c.loop-turn.invariant.run,
-  omega (arith, c.in-Ok-eq0.ensures.reads),
-)
+returns-in-Ok-end_script-clause-needed g c =
+    let i = c.loop-turn in
+    (i.reader, run_taken c.args.own.now _ _ i.line.items i.judge i.invariant.run, omega (arith, c.in-Ok-eq0.ensures.reads))
 
 pub returns-in-Err-end_script-clause-needed : goal.returns-in-Err-end_script-clause-needed
-returns-in-Err-end_script-clause-needed g c = (
-  c.loop-turn.reader,
-  run_taken c.args.own.now _ _ c.loop-turn.line.items c.loop-turn.judge c.loop-turn.invariant.run,
-  omega (arith, c.in-Ok-eq0.ensures.reads),
-)
+returns-in-Err-end_script-clause-needed g c =
+    let i = c.loop-turn in
+    (i.reader, run_taken c.args.own.now _ _ i.line.items i.judge i.invariant.run, omega (arith, c.in-Ok-eq0.ensures.reads))
 
 pub returns-in-Err-write_out-clause-needed : goal.returns-in-Err-write_out-clause-needed
-returns-in-Err-write_out-clause-needed g c = (
-  c.loop-turn.reader,
-  run_taken c.args.own.now _ _ c.loop-turn.line.items c.loop-turn.judge c.loop-turn.invariant.run,
-  omega (arith, c.in-Ok-read.ensures.reads),
-)
+returns-in-Err-write_out-clause-needed g c =
+    let i = c.loop-turn in
+    (i.reader, run_taken c.args.own.now _ _ i.line.items i.judge i.invariant.run, omega (arith, c.in-Ok-read.ensures.reads))
 
 pub returns-in-Ok-Some-clause-needed : goal.returns-in-Ok-Some-clause-needed
-returns-in-Ok-Some-clause-needed g c = (
-  c.loop-turn.reader,
-  run_taken c.args.own.now _ _ c.loop-turn.line.items c.loop-turn.judge c.loop-turn.invariant.run,
-  omega (arith, c.in-Ok-read.ensures.reads),
-)
+returns-in-Ok-Some-clause-needed g c =
+    let i = c.loop-turn in
+    (i.reader, run_taken c.args.own.now _ _ i.line.items i.judge i.invariant.run, omega (arith, c.in-Ok-read.ensures.reads))
 
 pub returns-in-Err-take_piece-clause-needed : goal.returns-in-Err-take_piece-clause-needed
-returns-in-Err-take_piece-clause-needed g c = (
-  c.loop-turn.reader,
-  run_taken c.args.own.now _ _ c.loop-turn.line.items c.loop-turn.judge c.loop-turn.invariant.run,
-  omega (arith, c.in-Ok-read.ensures.reads),
-)
+returns-in-Err-take_piece-clause-needed g c =
+    let i = c.loop-turn in
+    (i.reader, run_taken c.args.own.now _ _ i.line.items i.judge i.invariant.run, omega (arith, c.in-Ok-read.ensures.reads))
 
 pub returns-in-Err-clause-needed : goal.returns-in-Err-clause-needed
-returns-in-Err-clause-needed g c = (
-  c.loop-turn.reader,
-  run_taken c.args.own.now _ _ c.loop-turn.line.items c.loop-turn.judge c.loop-turn.invariant.run,
-  omega (arith, c.in-Err.ensures.reads),
-)
+returns-in-Err-clause-needed g c =
+    let i = c.loop-turn in
+    (i.reader, run_taken c.args.own.now _ _ i.line.items i.judge i.invariant.run, omega (arith, c.in-Err.ensures.reads))
 
 pub returns-clause-needed : goal.returns-clause-needed
-returns-clause-needed g c = (
-  c.loop-turn.reader,
-  run_taken c.args.own.now _ _ c.loop-turn.line.items c.loop-turn.judge c.loop-turn.invariant.run,
-  omega arith,
-)
+returns-clause-needed g c =
+    let i = c.loop-turn in
+    (i.reader, run_taken c.args.own.now _ _ i.line.items i.judge i.invariant.run, omega arith)

@@ -1,17 +1,17 @@
-use Rattle.std.proofs.Common.{take}
-use Rattle.std.specs.Prelude.{codes, option_map}
-use Rattle.json.specs.Print.{escape_byte}
-use Rattle.bt_json.specs.Objects.{number_or_null, text_or_null}
-use Rattle.bt_json.proofs.EscapeLaws.{ends_number_or_null, ends_text_or_null, three_fields}
+use Rattle.std.proofs.Common.{◌≡◌, ◌++◌, List, ℕ, append_assoc, take}
+use Rattle.std.specs.Prelude.{codes}
+use Rattle.json.specs.Print.{escape_byte, token_text}
+use Rattle.bt_json.specs.Members.{named}
+use Rattle.bt_json.specs.Objects.{number_or_null}
 use Rattle.bt_json.proofs.announced.put_announced.Goals as goal
+
+regrouped : (o a x b y c : List ℕ) → ((((o ++ a) ++ x) ++ b) ++ y) ++ c ≡ o ++ (a ++ (x ++ (b ++ (y ++ c))))
+regrouped o a x b y c = simp append_assoc
 
 pub returns-clause-text : goal.returns-clause-text
 unfolding escape_byte
 returns-clause-text c =
-    let client = option_map (λ s. s.now) c.args.client in
-    rw c.put_word.ensures.text (rw c.put_text_or_null-place.ensures.text (rw c.put_word-place-3.ensures.text
-    (rw c.put_number_or_null-place-2.ensures.text (rw c.put_word-place-2.ensures.text
+    rw c.put_word.ensures.text (rw c.put_number_or_null-place-2.ensures.text (rw c.put_word-place-2.ensures.text
     (rw c.put_number_or_null-place.ensures.text (rw c.put_word-place.ensures.text
-    (three_fields (take c.args.at c.args.text.now) (codes "metadata_size") (codes "ut_metadata") (codes "client")
-    (number_or_null c.args.size) (number_or_null c.args.id) (text_or_null client)
-    (ends_number_or_null c.args.size) (ends_number_or_null c.args.id) (ends_text_or_null client))))))))
+    (regrouped (take c.args.at c.args.text.now) (named (codes "metadata_size")) (token_text (number_or_null c.args.size)) (named (codes "ut_metadata"))
+    (token_text (number_or_null c.args.id)) (named (codes "client")))))))

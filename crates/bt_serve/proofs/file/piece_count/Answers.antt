@@ -1,13 +1,16 @@
-use Rattle.std.proofs.Common.{◌≡◌, Option, Some, sym, ap, ◌∙◌, arith}
-use Rattle.bt_serve.proofs.Files.{counted_by, more_counted, uncounted}
+use Rattle.std.proofs.Common.{None, ap, sym, ◌∙◌, refl}
+use Rattle.std.specs.Prelude.{option_and_then}
+use Rattle.bt_serve.specs.Files.{pieces_in}
+use Rattle.bt_serve.proofs.Files.{counted_or_none, no_count}
 use Rattle.bt_serve.proofs.file.piece_count.Goals as goal
 
-pub returns-then-size-info : goal.returns-then-size-info
-returns-then-size-info c = more_counted c.args.info.now c.in-Ok.dict.tree.0 c.in-Ok.size c.in-Ok.ensures.ok c.if-size-info.true
+pub returns-in_err-pairs : goal.returns-in_err-pairs
+returns-in_err-pairs c = rw c.from_residual.ensures (no_count c.args.info.now (c.in_err-pairs.ensures.none refl))
 
-pub returns-in-None : goal.returns-in-None
-returns-in-None c = uncounted c.args.info.now c.in-Ok.dict.tree.0 c.in-Ok.size c.in-Ok.ensures.ok (omega (arith, c.if-size-info.false)) c.in-None.ensures
+pub returns-in_err-hashes : goal.returns-in_err-hashes
+returns-in_err-hashes c = rw c.from_residual-in_err-hashes.ensures (counted_or_none c.args.info.now c.in_ok-pairs.pairs.now c.in_ok-pairs.ensures.whole
+    c.in_ok-pairs.ensures.pairs None (λ ps more h. ap (option_and_then pieces_in) (sym (c.in_err-hashes.ensures ps more h))))
 
-pub returns-in-Some : goal.returns-in-Some
-returns-in-Some c = counted_by c.args.info.now c.in-Ok.dict.tree.0 c.in-Ok.size c.in-Some.hashes.now c.count_of.result c.in-Ok.ensures.ok
-    (omega (arith, c.if-size-info.false)) c.in-Some.ensures c.count_of.ensures
+pub returns : goal.returns
+returns c = counted_or_none c.args.info.now c.in_ok-pairs.pairs.now c.in_ok-pairs.ensures.whole c.in_ok-pairs.ensures.pairs c.count_of.result
+    (λ ps more h. ap (option_and_then pieces_in) (sym (c.in_ok-hashes.ensures ps more h)) ∙ sym c.count_of.ensures)

@@ -1,4 +1,4 @@
-use Rattle.std.proofs.Common.{rules, refl}
+use Rattle.std.proofs.Common.{rules}
 use Rattle.bt_exchange.proofs.Lists.{added_on}
 use Rattle.bt_serve.proofs.Doors.{more_both}
 use Rattle.bt_serve.proofs.serving.tend_all.Goals as goal
@@ -6,8 +6,8 @@ use Rattle.bt_serve.proofs.serving.tend_all.Goals as goal
 pub loop-preserved : goal.loop-preserved
 loop-preserved g c = record {
   inside = search rules;
-  told = rw c.tell_handled.ensures.told (added_on _ _ _ _ _ c.loop.invariant.told c.visit-pace.ensures.told);
+  told = added_on _ _ _ _ _ c.loop.invariant.told c.visit-pace.ensures.told;
   ended = search rules;
-  more = rw c.tell_handled.ensures.told (more_both _ _ _ _ _ _ (search rules) c.loop.invariant.more c.visit-pace.ensures.more);
+  more = more_both _ _ _ _ _ _ (search rules) c.loop.invariant.more c.visit-pace.ensures.more;
   rounds = search rules;
 }

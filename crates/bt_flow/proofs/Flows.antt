@@ -1,0 +1,246 @@
+-- What a direction has taken after a call.
+use Rattle.std.proofs.Common.{◌≡◌, ℕ, ◌+◌, ◌-◌, min, ◌≤◌, ◌%◌, ◌^◌, true, false, List, [], ◌∷◌, ◌++◌, length, length-append, append_assoc, append-nil}
+use Rattle.std.proofs.Common.{refl, sym, ap, subst, ◌∙◌, arith, inl, inr}
+use Rattle.std.specs.Prelude.{Option, Some, None, unwrap_or, ◌⊎◌, if◌then◌else◌}
+use Rattle.bt_tcp.specs.declared.halves.Half.{Half}
+use Rattle.bt_tcp.specs.Segments.{Segment}
+use Rattle.bt_tcp.specs.Heard.{Heard, Sent, Took, opening_of, IsBase, IsAfterSyn}
+use Rattle.bt_tcp.specs.History.{conflicts, first_known}
+use Rattle.bt_tcp.proofs.HistoryProofs.{conflicts_add_up}
+use Rattle.bt_tcp.specs.Halves.{IsHalf, HearsMore, IsOutOfRange}
+use Rattle.bt_flow.specs.declared.stream.Stream.{Stream}
+use Rattle.bt_flow.specs.declared.flow.Flow.{Flow}
+use Rattle.bt_flow.specs.declared.flow.Given.{Given}
+use Rattle.bt_flow.specs.declared.noted.Noted.{Noted}
+use Rattle.bt_flow.specs.Memory.{next_of, seen}
+use Rattle.bt_flow.specs.Notes.{AreNoted}
+use Rattle.bt_flow.proofs.Notes.{notes_none, noted_more}
+use Rattle.bt_flow.specs.Counts.{counts}
+use Rattle.bt_flow.specs.Streams.{IsStreamOf, conflicts_with}
+use Rattle.bt_flow.specs.Flows.{has_bytes, AreQuiet, IsBaseOf, IsStreamFor, is_lost_stream, with_segment, sent_at, FlowTakes, BeginsAt, StreamsOnly}
+use Rattle.bt_flow.specs.Flows.{AreNotedFor, NotesIn, IsCounted, GivesUpLate}
+
+quiet_more : (heard : List Heard) (e : Heard) → AreQuiet heard → has_bytes e ≡ false → AreQuiet (heard ++ e ∷ [])
+quiet_more [] e q h = (h, tt)
+quiet_more (d ∷ heard) e q h = (q.0, quiet_more heard e q.1 h)
+
+base_more : (heard : List Heard) (e : Heard) (base : ℕ) → IsBaseOf heard base → IsBaseOf (heard ++ e ∷ []) base
+base_more heard e base b = record {
+  quiet = b.quiet;
+  first = b.first;
+  later = b.later ++ e ∷ [];
+  is = ap (λ x. x ++ e ∷ []) b.is ∙ append_assoc (b.quiet ++ Took b.first ∷ []) b.later (e ∷ []);
+  silent = b.silent;
+  bytes = b.bytes;
+  base_is = b.base_is;
+}
+
+-- What has no bytes leaves the stream.
+pub stream_quiet : (heard : List Heard) (e : Heard) (segs : List Segment) (out : List ℕ) (o : Option Stream) → has_bytes e ≡ false
+    → IsStreamFor heard segs out o → IsStreamFor (heard ++ e ∷ []) segs out o
+stream_quiet heard e segs out (Some s) h i = (base_more heard e s.base i.0, i.1)
+stream_quiet heard e segs out None h i = (quiet_more heard e i.0 h, i.1, i.2)
+
+pub base_begun : (heard : List Heard) (o : Option ℕ) (at b base : ℕ) → IsBase heard o → b ≡ unwrap_or o at → base ≡ b
+    → IsAfterSyn heard base ⊎ ((opening_of heard ≡ None) × (base ≡ at))
+base_begun heard None at b base i e f = inr (i, f ∙ e)
+base_begun heard (Some k) at b base i e f = inl (subst (λ x. IsAfterSyn heard x) (sym (f ∙ e)) i)
+
+pub begins_new : (at : ℕ) (flow : Flow) (o : Option Stream) (s : Stream) → o ≡ None → IsStreamOf [] [] s → s.is_lost ≡ false → s.conflicts ≡ 0
+    → ((heard : List Heard) → IsHalf heard flow.half → IsAfterSyn heard s.base ⊎ ((opening_of heard ≡ None) × (s.base ≡ at))) → BeginsAt at flow o (Some s)
+begins_new at flow None s e i l z b = (i, l, z, b)
+begins_new at flow (Some t) s e i l z b = absurd (cc)
+
+pub begins_same : (at : ℕ) (flow : Flow) (o : Option Stream) (s : Stream) → o ≡ Some s → BeginsAt at flow o o
+begins_same at flow (Some t) s e = refl
+begins_same at flow None s e = absurd (cc)
+
+counted_one : (segs : List Segment) (out : List ℕ) (s s' : Stream) (at : ℕ) (bytes : List ℕ) → IsStreamOf segs out s → s.is_lost ≡ false → s'.base ≡ s.base
+    → s'.conflicts ≡ min (2 ^ 64 - 1) (s.conflicts + conflicts_with out s at bytes)
+    → s'.conflicts ≡ min (2 ^ 64 - 1) (s.conflicts + conflicts (first_known segs s'.base (s'.base + length out)) at bytes)
+counted_one segs out s s' at bytes i l b e =
+    e ∙ ap (λ x. min (2 ^ 64 - 1) (s.conflicts + x))
+    (conflicts_add_up segs s.base out (next_of s.window) (seen s.window) at bytes (i.taken l)
+    ∙ ap (λ n. conflicts (first_known segs s.base n) at bytes) i.next_is
+    ∙ ap (λ k. conflicts (first_known segs k (k + length out)) at bytes) (sym b))
+
+same_noted : (segs : List Segment) (o o' : Option Stream) (n n' : Option Noted) → o' ≡ o → n' ≡ n → AreNotedFor segs o n → AreNotedFor segs o' n'
+same_noted segs o o' n n' s m a = subst (λ x. AreNotedFor segs o' x) (sym m) (subst (λ x. AreNotedFor segs x n) (sym s) a)
+
+-- ---- a segment
+
+uncounted : (segs : List Segment) (out : List ℕ) (o : Option Stream) (at : ℕ) (bytes : List ℕ) (o' : Option Stream)
+    → counts at (length bytes) ≡ false → IsCounted segs out o at bytes o'
+uncounted segs out o at bytes None n = tt
+uncounted segs out o at bytes (Some s) n = λ y _. absurd (let e : true ≡ false = sym y ∙ n in cc)
+
+late_same : (out : List ℕ) (o : Option Stream) (at : ℕ) (bytes : List ℕ) (o' : Option Stream) → o' ≡ o → GivesUpLate out o at bytes o'
+late_same out o at bytes None e = tt
+late_same out o at bytes (Some s') e = λ l x. absurd (let z : true ≡ false = sym x ∙ ap is_lost_stream e ∙ l in cc)
+
+-- one that isn't counted
+pub takes_quiet : (g : Given) (flow : Flow) (given : List ℕ) (flow' : Flow) (at : ℕ) → flow'.stream ≡ flow.stream → flow'.noted ≡ flow.noted
+    → HearsMore flow.half (Took (sent_at g at)) flow'.half
+    → counts at (length g.payload.now) ≡ false → FlowTakes g flow given flow' given
+takes_quiet g flow given flow' at s m h n = record {
+  more = [];
+  is = sym (append-nil given);
+  none = λ l. (refl, ap is_lost_stream s ∙ l);
+  taken = λ heard segs out f. (
+      let e : segs ≡ with_segment segs at g.payload.now = ap (λ b. if b then segs ++ record { place = at; bytes = g.payload.now } ∷ [] else segs) (sym n) in
+      let quiet = stream_quiet heard (Took (sent_at g at)) segs out flow.stream n f.stream in
+      let moved = subst (λ o. IsStreamFor (heard ++ Took (sent_at g at) ∷ []) segs out o) (sym s) quiet in
+      let more = subst (λ x. IsStreamFor (heard ++ Took (sent_at g at) ∷ []) segs x flow'.stream) (sym (append-nil out)) moved in
+      inl (
+        at,
+        record {
+          half = h heard f.half;
+          stream = subst (λ x. IsStreamFor (heard ++ Took (sent_at g at) ∷ []) x (out ++ []) flow'.stream) e more;
+          noted = subst (λ x. AreNotedFor x flow'.stream flow'.noted) e (same_noted segs flow.stream flow'.stream flow.noted flow'.noted s m f.noted);
+        },
+        uncounted segs out flow.stream at g.payload.now flow'.stream n,
+        late_same out flow.stream at g.payload.now flow'.stream s,
+      ));
+}
+
+record TakesBytes (at : ℕ) (bytes : List ℕ) (sent : Sent) (half : Half) (o : Option Stream) (given : List ℕ) (o' : Option Stream) (given' : List ℕ)
+    (n n' : Option Noted) : Type 0 where
+  more : List ℕ
+  is : given' ≡ given ++ more
+  none : is_lost_stream o ≡ true → (more ≡ []) × (is_lost_stream o' ≡ true)
+  taken : (heard : List Heard) (segs : List Segment) (out : List ℕ) → IsStreamFor heard segs out o → IsHalf (heard ++ Took sent ∷ []) half
+      → IsStreamFor (heard ++ Took sent ∷ []) (segs ++ record { place = at; bytes = bytes } ∷ []) (out ++ more) o'
+  noted : (heard : List Heard) (segs : List Segment) (out : List ℕ) → IsStreamFor heard segs out o → AreNotedFor segs o n
+      → AreNotedFor (segs ++ record { place = at; bytes = bytes } ∷ []) o' n'
+  counted : (heard : List Heard) (segs : List Segment) (out : List ℕ) → IsStreamFor heard segs out o → IsCounted segs out o at bytes o'
+  late : (heard : List Heard) (segs : List Segment) (out : List ℕ) → IsStreamFor heard segs out o → GivesUpLate out o at bytes o'
+
+takes_bytes : (at : ℕ) (bytes : List ℕ) (sent : Sent) (flow : Flow) (o o1 : Option Stream) (given : List ℕ) (o2 : Option Stream) (given' : List ℕ)
+    (n n' : Option Noted)
+    → has_bytes (Took sent) ≡ true → sent.place ≡ at → BeginsAt at flow o o1 → StreamsOnly at bytes o1 given o2 given'
+    → NotesIn at (at + length bytes) o2 n n' → TakesBytes at bytes sent flow.half o given o2 given' n n'
+takes_bytes at bytes sent flow None None given o2 given' n n' y p b t w = absurd b
+takes_bytes at bytes sent flow (Some s) None given o2 given' n n' y p b t w = absurd b
+takes_bytes at bytes sent flow None (Some s1) given None given' n n' y p b t w = absurd t
+takes_bytes at bytes sent flow (Some s) (Some s1) given None given' n n' y p b t w = absurd t
+takes_bytes at bytes sent flow (Some s) (Some s1) given (Some s2) given' n n' y p b t w = record {
+  more = t.more;
+  is = t.is;
+  none = λ l. (let l1 : s1.is_lost ≡ true = ap (λ x. x.is_lost) b ∙ l in (t.none l1, t.final l1));
+  taken = λ heard segs out i h. (
+      let e : s2.base ≡ s.base = t.base ∙ ap (λ x. x.base) b in (
+        subst (λ x. IsBaseOf (heard ++ Took sent ∷ []) x) (sym e) (base_more heard (Took sent) s.base i.0),
+        t.taken segs out (subst
+            (λ x. IsStreamOf segs out x) (sym b) i.1),
+      ));
+  noted = λ heard segs out i a. (
+      let e : s2.base ≡ s.base = t.base ∙ ap (λ x. x.base) b in
+      let j = t.taken segs out (subst (λ x. IsStreamOf segs out x) (sym b) i.1) in
+      let l : next_of s.window ≤ next_of s2.window = omega (arith, e, i.1.next_is, j.next_is, length-append out t.more) in
+      noted_more segs at bytes (next_of s.window) (next_of s2.window) n n' l a w);
+  counted = λ heard segs out i _ l. (
+      let i1 : IsStreamOf segs out s1 = subst (λ x. IsStreamOf segs out x) (sym b) i.1 in
+      counted_one segs out s1 s2 at bytes i1 (ap (λ x. x.is_lost) b ∙ l) t.base (t.counted segs out i1)
+      ∙ ap (λ x. min (2 ^ 64 - 1) (x.conflicts + conflicts (first_known segs s2.base (s2.base + length out)) at bytes)) b);
+  late = λ heard segs out i l x. (
+      let i1 : IsStreamOf segs out s1 = subst (λ x. IsStreamOf segs out x) (sym b) i.1 in
+      omega (arith, t.lost (ap (λ x. x.is_lost) b ∙ l) x, i1.next_is, t.base));
+}
+takes_bytes at bytes sent flow None (Some s1) given (Some s2) given' n n' y p b t w = record {
+  more = t.more;
+  is = t.is;
+  none = λ l. absurd (let e : false ≡ true = l in cc);
+  taken = λ heard segs out i h. (
+      let u = b.3 (heard ++ Took sent ∷ []) h in
+      let v : IsAfterSyn (heard ++ Took sent ∷ []) s2.base ⊎ ((opening_of (heard ++ Took sent ∷ []) ≡ None) × (s2.base ≡ sent.place)) = elim u [
+        | inl a ↦ inl (subst (λ x. IsAfterSyn (heard ++ Took sent ∷ []) x) (sym t.base) a)
+        | inr a ↦ inr (a.0, t.base ∙ a.1 ∙ sym p)
+      ] in
+      let i0 : IsStreamOf segs out s1 = subst (λ x. IsStreamOf segs x s1) (sym i.2) (subst (λ x. IsStreamOf x [] s1) (sym i.1) b.0) in (
+        record {
+          quiet = heard;
+          first = sent;
+          later = [];
+          is = sym (append-nil (heard ++ Took sent ∷ []));
+          silent = i.0;
+          bytes = y;
+          base_is
+              = v;
+        },
+        t.taken segs out i0,
+      ));
+  noted = λ heard segs out i a. (
+      let j = t.taken [] [] b.0 in
+      let l : next_of s1.window ≤ next_of s2.window = omega (arith, t.base, b.0.next_is, j.next_is, length-append [] t.more) in
+      let z : AreNoted [] (next_of s1.window) None = λ full k h. refl in
+      let y : AreNoted segs (next_of s1.window) n = subst (λ x. AreNoted x (next_of s1.window) n) (sym i.1) (subst (λ x. AreNoted []
+      (next_of s1.window) x) (sym a) z) in
+      noted_more segs at bytes (next_of s1.window) (next_of s2.window) n n' l y w);
+  counted = λ heard segs out i _ l. (
+      let i1 : IsStreamOf segs out s1 = subst (λ x. IsStreamOf segs x s1) (sym i.2) (subst (λ x. IsStreamOf x [] s1) (sym i.1) b.0) in
+      counted_one segs out s1 s2 at bytes i1 b.1 t.base (t.counted segs out i1)
+      ∙ ap (λ x. min (2 ^ 64 - 1) (x + conflicts (first_known segs s2.base (s2.base + length out)) at bytes)) b.2);
+  late = λ heard segs out i l x. (
+      let i1 : IsStreamOf segs out s1 = subst (λ x. IsStreamOf segs x s1) (sym i.2) (subst (λ x. IsStreamOf x [] s1) (sym i.1) b.0) in
+      omega (arith, t.lost b.1 x, i1.next_is, t.base));
+}
+
+pub takes_counted : (g : Given) (flow : Flow) (given : List ℕ) (flow0 flow1 flow2 flow3 : Flow) (given' : List ℕ) (at : ℕ)
+    → flow3.half ≡ flow2.half → flow3.stream ≡ flow2.stream → NotesIn at (at + length g.payload.now) flow2.stream flow2.noted flow3.noted
+    → flow2.noted ≡ flow1.noted → flow1.noted ≡ flow.noted → flow0.stream ≡ flow.stream → HearsMore flow.half (Took (sent_at g at)) flow0.half
+    → counts at (length g.payload.now) ≡ true → BeginsAt at flow0 flow0.stream flow1.stream → flow1.half ≡ flow0.half → flow2.half ≡ flow1.half
+    → StreamsOnly at g.payload.now flow1.stream given flow2.stream given' → FlowTakes g flow given flow3 given'
+takes_counted g flow given flow0 flow1 flow2 flow3 given' at u v w m1 m0 s h y b e f t =
+    let r : TakesBytes at g.payload.now (sent_at g at) flow0.half flow0.stream given flow2.stream given' flow2.noted flow3.noted
+    = takes_bytes at g.payload.now (sent_at g at) flow0 flow0.stream flow1.stream given flow2.stream given' flow2.noted flow3.noted y refl b t w in
+    record {
+      more = r.more;
+      is = r.is;
+      none = λ l. (let x = r.none (ap is_lost_stream s ∙ l) in (x.0, ap is_lost_stream v ∙ x.1));
+      taken = λ heard segs out i. (
+          let now : IsHalf (heard ++ Took (sent_at g at) ∷ []) flow0.half = h heard i.half in
+          let k : segs ++ record { place = at; bytes = g.payload.now } ∷ [] ≡ with_segment segs at g.payload.now
+          = ap (λ b. if b then segs ++ record { place = at; bytes = g.payload.now } ∷ [] else segs) (sym y) in
+          let one = r.taken heard segs out (subst (λ o. IsStreamFor heard segs out o) (sym s) i.stream) now in
+          inl (
+            at,
+            record {
+              half = subst (λ x. IsHalf (heard ++ Took (sent_at g at) ∷ []) x) (sym (u ∙ f ∙ e)) now;
+              stream = subst (λ x. IsStreamFor (heard ++ Took (sent_at g at) ∷ []) x (out ++ r.more) flow3.stream) k
+                  (subst (λ o. IsStreamFor (heard ++ Took (sent_at g at) ∷ []) (segs ++ record { place = at; bytes = g.payload.now } ∷ [])
+                  (out ++ r.more) o) (sym v) one);
+              noted = subst (λ x. AreNotedFor x flow3.stream flow3.noted) k (subst (λ o. AreNotedFor (segs ++ record {
+                place = at;
+                bytes
+                    = g.payload.now;
+              } ∷ []) o flow3.noted) (sym v)
+                  (r.noted heard segs out (subst (λ o. IsStreamFor heard segs out o) (sym s) i.stream)
+                  (same_noted segs flow.stream flow0.stream flow.noted flow2.noted s (m1 ∙ m0) i.noted)));
+            },
+            subst (λ o. IsCounted segs out flow.stream at g.payload.now o) (sym v) (subst (λ o. IsCounted segs out o at g.payload.now flow2.stream) s
+                (r.counted heard segs out (subst (λ o. IsStreamFor heard segs out o) (sym s) i.stream))),
+            subst (λ o. GivesUpLate out flow.stream at g.payload.now o) (sym v) (subst (λ o. GivesUpLate out o at g.payload.now flow2.stream) s
+                (r.late heard segs out (subst (λ o. IsStreamFor heard segs out o) (sym s) i.stream))),
+          ));
+    }
+
+-- one that is out of range
+pub takes_refused : (g : Given) (flow : Flow) (given : List ℕ) (flow' : Flow) → flow'.stream ≡ flow.stream → flow'.noted ≡ flow.noted → flow'.half ≡ flow.half
+    → IsOutOfRange flow.half ((g.sequence + (if g.syn then 1 else 0)) % 2 ^ 32) (length g.payload.now) g.length → FlowTakes g flow given flow' given
+takes_refused g flow given flow' s m h r = record {
+  more = [];
+  is = sym (append-nil given);
+  none = λ l. (refl, ap is_lost_stream s ∙ l);
+  taken = λ heard segs out f. inr (
+    r,
+    refl,
+    record {
+      half = subst (λ x. IsHalf heard x) (sym h) f.half;
+      stream = subst (λ o. IsStreamFor heard segs out o) (sym s) f.stream;
+      noted = same_noted segs flow.stream flow'.stream flow.noted flow'.noted s m f.noted;
+    },
+  );
+}
+
+pub notes_at_end : (at «end» : ℕ) (s : Stream) (o : Option Stream) (n : Option Noted) → o ≡ Some s → «end» ≤ next_of s.window → NotesIn at «end» o n n
+notes_at_end at «end» s o n e h = subst (λ x. NotesIn at «end» x n n) (sym e) (notes_none (next_of s.window) at «end» n h)

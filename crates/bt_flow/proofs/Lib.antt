@@ -1,0 +1,6 @@
+pub mod Windows
+pub mod Streams
+pub mod Flows
+pub mod Notes
+pub mod Gaps
+pub mod Told

@@ -1,0 +1,118 @@
+-- What a stream has handed out after a segment.
+use Rattle.std.proofs.Common.{◌≡◌, ℕ, ◌+◌, ◌-◌, ◌<◌, ◌≤◌, ◌^◌, min, true, false, List, [], ◌∷◌, ◌++◌, length, length-append, append-nil, zero-add, refl}
+use Rattle.std.proofs.Common.{sym, ap, subst, ◌∙◌, arith}
+use Rattle.std.specs.Prelude.{None, slice_get, if◌then◌else◌}
+use Rattle.std.proofs.lemmas.Grind.{common_steps}
+use Rattle.std.proofs.lemmas.Option.{slice_get_past}
+use Rattle.bt_tcp.specs.Segments.{Segment, IsFront, IsStream}
+use Rattle.bt_tcp.specs.Windows.{IsTaken}
+use Rattle.bt_tcp.specs.History.{IsHistory, differs, conflicts, kept}
+use Rattle.bt_tcp.proofs.Taken.{front_push}
+use Rattle.bt_flow.specs.declared.stream.Stream.{Stream}
+use Rattle.bt_flow.specs.Memory.{next_of, seen}
+use Rattle.bt_flow.specs.Views.{TakesIn}
+use Rattle.bt_flow.specs.Streams.{IsStreamOf, Advances, StreamTakes, conflicts_with}
+
+kept_past : (base : ℕ) (out : List ℕ) (i : ℕ) → base + length out ≤ i → kept base out i ≡ None
+kept_past base out i h =
+    let p : length out ≤ i - base = omega arith in
+    let n : slice_get out (i - base) ≡ None = slice_get_past out (i - base) p in
+    grind (arith, common_steps)
+
+-- A segment that begins at the next place or later differs from no byte that was handed out.
+pub conflicts_past : (base : ℕ) (out : List ℕ) (at : ℕ) (bytes : List ℕ) → base + length out ≤ at → conflicts (kept base out) at bytes ≡ 0
+conflicts_past base out at [] h = refl
+conflicts_past base out at (b ∷ bytes) h =
+    let h' : base + length out ≤ at + 1 = omega (arith, h) in
+    ap (λ o. (if differs o b then 1 else 0) + conflicts (kept base out) (at + 1) bytes) (kept_past base out at h)
+    ∙ zero-add (conflicts (kept base out) (at + 1) bytes)
+    ∙ conflicts_past base out (at + 1) bytes h'
+
+-- A segment was taken.
+pub advance : (at : ℕ) (bytes : List ℕ) (s : Stream) (given : List ℕ) (s' : Stream) (given' part : List ℕ) → s'.base ≡ s.base
+    → s'.conflicts ≡ s.conflicts → s.is_lost ≡ false → s'.is_lost ≡ false
+    → (t : TakesIn at bytes (next_of s.window) (seen s.window) given (next_of s'.window) (seen s'.window) given') → part ≡ t.more
+    → ((base : ℕ) (out : List ℕ) → next_of s.window ≡ base + length out → IsHistory s.history.items base out → IsHistory s'.history.items base (out ++ part))
+    → Advances at bytes s given s' given'
+advance at bytes s given s' given' part b c l l' t p h = record {
+  more = t.more;
+  is = t.is;
+  base = b;
+  conflicts = c;
+  lost = λ x. absurd (let e : true ≡ false = sym x ∙ l' in cc);
+  taken = λ segs out i. (
+      let one : Segment = record { place = at; bytes = bytes } in
+      let both = t.taken segs s.base out (i.taken l) in
+      record {
+        next_is = omega (arith, t.next_is, i.next_is, b, length-append out t.more);
+        front = subst (λ x. IsFront (segs ++ one ∷ []) x (out ++ t.more)) (sym b) both.0.front;
+        history = subst (λ x. IsHistory s'.history.items x (out ++ t.more)) (sym b) (subst (λ x. IsHistory s'.history.items s.base (out ++ x)) p
+            (h s.base out i.next_is i.history));
+        taken = λ _. subst (λ x. IsTaken (segs ++ one ∷ []) x (out ++ t.more) (next_of s'.window) (seen s'.window)) (sym b) both.0;
+        stream = λ _. subst (λ x. IsStream (segs ++ one ∷ []) x (out ++ t.more)) (sym b) both.1;
+      });
+}
+
+-- A gap became final, or was final before.
+pub lost_one : (at : ℕ) (bytes : List ℕ) (s s' : Stream) → s'.base ≡ s.base → s'.is_lost ≡ true → next_of s'.window ≡ next_of s.window
+    → s'.history.items ≡ s.history.items → (segs : List Segment) (out : List ℕ) → IsStreamOf segs out s
+    → IsStreamOf (segs ++ record { place = at; bytes = bytes } ∷ []) (out ++ []) s'
+lost_one at bytes s s' b l n h segs out i =
+    let one : Segment = record { place = at; bytes = bytes } in
+    let e : out ≡ out ++ [] = sym (append-nil out) in
+    let f : IsFront (segs ++ one ∷ []) s'.base out = subst (λ x. IsFront (segs ++ one ∷ []) x out) (sym b) (front_push segs one s.base out i.front) in
+    let m : IsHistory s'.history.items s'.base out = subst (λ x. IsHistory s'.history.items x out) (sym b) (subst (λ x. IsHistory x s.base out)
+    (sym h) i.history) in
+    record {
+      next_is = n ∙ i.next_is ∙ ap (λ x. x + length out) (sym b) ∙ ap (λ x. s'.base + length x) e;
+      front = subst (λ x. IsFront (segs ++ one ∷ []) s'.base x) e f;
+      history = subst (λ x. IsHistory s'.history.items s'.base x) e m;
+      taken = λ x. absurd (let t : true ≡ false = sym l ∙ x in cc);
+      stream = λ x. absurd (let t : true ≡ false = sym l ∙ x in cc);
+    }
+
+pub advance_lost : (at : ℕ) (bytes : List ℕ) (s : Stream) (given : List ℕ) (s' : Stream) (given' : List ℕ) → s'.base ≡ s.base
+    → s'.conflicts ≡ s.conflicts → s'.is_lost ≡ true
+    → next_of s'.window ≡ next_of s.window → s'.history.items ≡ s.history.items → given' ≡ given → next_of s.window + 16777216 < at + length bytes
+    → Advances at bytes s given s' given'
+advance_lost at bytes s given s' given' b c l n h g p = record {
+  more = [];
+  is = g ∙ sym (append-nil given);
+  base = b;
+  conflicts = c;
+  lost = λ _. p;
+  taken = lost_one at bytes s s' b l n h;
+}
+
+pub takes_lost : (at : ℕ) (bytes : List ℕ) (s : Stream) (given : List ℕ) (s' : Stream) → s'.base ≡ s.base → s.is_lost ≡ true → s'.is_lost ≡ true
+    → next_of s'.window ≡ next_of s.window → s'.history.items ≡ s.history.items
+    → ((segs : List Segment) (out : List ℕ) → IsStreamOf segs out s → s'.conflicts ≡ min (2 ^ 64 - 1) (s.conflicts + conflicts_with out s at bytes))
+    → StreamTakes at bytes s given s' given
+takes_lost at bytes s given s' b l l' n h counted = record {
+  more = [];
+  is = sym (append-nil given);
+  base = b;
+  none = λ _. refl;
+  final = λ _. l';
+  lost = λ x _. absurd (let t : true ≡ false = sym l ∙ x in cc);
+  counted = counted;
+  taken = lost_one at bytes s s' b l' n h;
+}
+
+-- The conflicts were counted, and then the segment was taken.
+pub takes_on : (at : ℕ) (bytes : List ℕ) (s : Stream) (given : List ℕ) (s1 s' : Stream) (given' : List ℕ) → s1.base ≡ s.base → s.is_lost ≡ false
+    → next_of s1.window ≡ next_of s.window
+    → Advances at bytes s1 given s' given'
+    → ((segs : List Segment) (out : List ℕ) → IsStreamOf segs out s → IsStreamOf segs out s1)
+    → ((segs : List Segment) (out : List ℕ) → IsStreamOf segs out s → s1.conflicts ≡ min (2 ^ 64 - 1) (s.conflicts + conflicts_with out s at bytes))
+    → StreamTakes at bytes s given s' given'
+takes_on at bytes s given s1 s' given' b l n a keep counted = record {
+  more = a.more;
+  is = a.is;
+  base = a.base ∙ b;
+  none = λ x. absurd (let t : true ≡ false = sym x ∙ l in cc);
+  final = λ x. absurd (let t : true ≡ false = sym x ∙ l in cc);
+  lost = λ _ x. subst (λ k. k + 16777216 < at + length bytes) n (a.lost x);
+  counted = λ segs out i. a.conflicts ∙ counted segs out i;
+  taken = λ segs out i. a.taken segs out (keep segs out i);
+}

@@ -1,0 +1,80 @@
+-- What a window has taken after several calls.
+use Rattle.std.proofs.Common.{◌≡◌, ℕ, ◌+◌, ◌≤◌, List, [], ◌∷◌, ◌++◌, length, take, drop, length-take, length-drop, length-append, append_assoc, append-nil}
+use Rattle.std.proofs.Common.{Option, sym, ap, subst, ◌∙◌, arith, inl, inr}
+use Rattle.std.proofs.lemmas.Bool.{cases_lt}
+use Rattle.bt_tcp.specs.declared.rings.Put.{Put}
+use Rattle.bt_tcp.specs.declared.rings.Put.TheVariants.{Taken, Full}
+use Rattle.bt_tcp.specs.Segments.{Segment, IsStream}
+use Rattle.bt_tcp.specs.Windows.{IsTaken, IsPutOf, TakesOneMore, GoesOn, HandsOutMore, EndsStream}
+use Rattle.bt_tcp.proofs.Taken.{taken_on}
+use Rattle.bt_flow.specs.Views.{Places, HandsSome, HandsOut, TakesIn}
+
+-- a put as the window is
+pub places_at_once : (at : ℕ) (bytes : List ℕ) (n : ℕ) (a : ℕ → Option ℕ) (capacity from len n' : ℕ) (a' : ℕ → Option ℕ)
+    → IsPutOf capacity at bytes n a (Taken from len) n' a' → TakesOneMore at bytes n a (Taken from len) n' a' → Places at bytes n a (Taken from len) n' a'
+places_at_once at bytes n a capacity from len n' a' p t =
+    let e : length (take len (drop from bytes)) ≡ len = omega (arith, p.0, length-take len (drop from bytes), length-drop from bytes) in
+    (p.0, omega (arith, p.1.next_is, e), t)
+
+-- a put after room was made
+pub places_after : (at : ℕ) (bytes : List ℕ) (n : ℕ) (a : ℕ → Option ℕ) (n1 : ℕ) (a1 : ℕ → Option ℕ) (put : Put) (n2 : ℕ) (a2 : ℕ
+    → Option ℕ) (capacity : ℕ) → n1 ≡ n
+    → (at + length bytes ≤ n + 16777216 → at + length bytes ≤ n1 + capacity)
+    → GoesOn n a n1 a1 → IsPutOf capacity at bytes n1 a1 put n2 a2 → TakesOneMore at bytes n1 a1 put n2 a2 → Places at bytes n a put n2 a2
+places_after at bytes n a n1 a1 (Taken from len) n2 a2 capacity e room goes p t =
+    let l : length (take len (drop from bytes)) ≡ len = omega (arith, p.0, length-take len (drop from bytes), length-drop from bytes) in
+    (p.0, omega (arith, e, p.1.next_is, l), λ segs base out h. t segs base out (goes segs base out h))
+places_after at bytes n a n1 a1 Full n2 a2 capacity e room goes p t =
+    (elim (cases_lt (n + 16777216) (at + length bytes)) [ inl l ↦ l | inr r ↦ absurd (omega (arith, room r, p.0)) ], omega (arith, e, p.1))
+
+pub hands_none : (n : ℕ) (a : ℕ → Option ℕ) (given : List ℕ) → HandsSome n a given n a given
+hands_none n a given = record {
+  more = [];
+  is = sym (append-nil given);
+  next_is = omega arith;
+  taken = λ segs base out h. subst (λ x. IsTaken segs base x n a) (sym (append-nil out)) h;
+}
+
+abbrev pub hands_more : (n : ℕ) (a : ℕ → Option ℕ) (given : List ℕ) (n1 : ℕ) (a1 : ℕ → Option ℕ) (given1 : List ℕ) (n2 : ℕ) (a2 : ℕ
+    → Option ℕ) (given2 part : List ℕ) → HandsSome n a given n1 a1 given1
+    → n2 ≡ n1 + length part → HandsOutMore n1 a1 part n2 a2 → given2 ≡ given1 ++ part → HandsSome n a given n2 a2 given2
+hands_more n a given n1 a1 given1 n2 a2 given2 part s e t g = record {
+  more = s.more ++ part;
+  is = g ∙ ap (λ x. x ++ part) s.is ∙ append_assoc given s.more part;
+  next_is = omega (arith, s.next_is, e, length-append s.more part);
+  taken = λ segs base out h. subst (λ x. IsTaken segs base x n2 a2) (append_assoc out s.more part) (t segs base (out ++ s.more) (s.taken segs base out h));
+}
+
+pub hands_out : (n : ℕ) (a : ℕ → Option ℕ) (given : List ℕ) (n1 : ℕ) (a1 : ℕ → Option ℕ) (given1 : List ℕ) (n2 : ℕ) (a2 : ℕ
+    → Option ℕ) (part : List ℕ) → HandsSome n a given n1 a1 given1
+    → n2 ≡ n1 + length part → HandsOutMore n1 a1 part n2 a2 → EndsStream n1 a1 part → part ≡ [] → HandsOut n a given n2 a2 given1
+hands_out n a given n1 a1 given1 n2 a2 part s e t ends z =
+    let f : given1 ≡ given1 ++ part = sym (ap (λ x. given1 ++ x) z ∙ append-nil given1) in
+    record {
+      some = hands_more n a given n1 a1 given1 n2 a2 given1 part s e t f;
+      stream = λ segs base out h. subst (λ x. IsStream segs base x) (append_assoc out s.more part) (ends segs base (out ++ s.more) (s.taken segs base out h));
+    }
+
+-- A segment was put, its fresh bytes were appended, and then what is ready.
+pub takes_in : (at : ℕ) (bytes : List ℕ) (n : ℕ) (a : ℕ → Option ℕ) (given : List ℕ) (from len n1 : ℕ) (a1 : ℕ
+    → Option ℕ) (given1 : List ℕ) (n2 : ℕ) (a2 : ℕ → Option ℕ) (given2 : List ℕ)
+    → Places at bytes n a (Taken from len) n1 a1 → given1 ≡ given ++ take len (drop from bytes) → HandsOut n1 a1 given1 n2 a2 given2
+    → TakesIn at bytes n a given n2 a2 given2
+takes_in at bytes n a given from len n1 a1 given1 n2 a2 given2 p e o =
+    let s : Segment = record { place = at; bytes = bytes } in
+    let fresh : List ℕ = take len (drop from bytes) in
+    let l : length fresh ≡ len = omega (arith, p.0, length-take len (drop from bytes), length-drop from bytes) in
+    record {
+      more = fresh ++ o.some.more;
+      is = o.some.is ∙ ap (λ x. x ++ o.some.more) e ∙ append_assoc given fresh o.some.more;
+      next_is = omega (arith, p.1, o.some.next_is, l, length-append fresh o.some.more);
+      taken = λ segs base out h. (
+          let h1 = p.2 segs base out h in (
+            subst (λ x. IsTaken (segs ++ s ∷ []) base x n2 a2) (append_assoc out fresh o.some.more) (o.some.taken (segs ++ s ∷ []) base (out ++ fresh) h1),
+            subst (λ x. IsStream (segs ++ s ∷ []) base x) (append_assoc out fresh o.some.more) (o.stream (segs ++ s ∷ []) base (out ++ fresh) h1),
+          ));
+    }
+
+-- A window that was full is the same.
+pub goes_same : (n : ℕ) (a : ℕ → Option ℕ) (n1 : ℕ) (a1 : ℕ → Option ℕ) → n1 ≡ n → ((k : ℕ) → a1 k ≡ a k) → GoesOn n a n1 a1
+goes_same n a n1 a1 e f segs base out h = subst (λ x. IsTaken segs base out x a1) (sym e) (taken_on segs base out n a a1 f h)

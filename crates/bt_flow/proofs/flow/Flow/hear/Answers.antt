@@ -1,0 +1,14 @@
+use Rattle.std.proofs.Common.{refl}
+use Rattle.bt_flow.proofs.Flows.{stream_quiet}
+use Rattle.bt_flow.proofs.flow.Flow.hear.Goals as goal
+
+pub returns : goal.returns
+returns c = λ heard segs out f. (
+  c.hear.result,
+  record {
+    half = c.hear.ensures heard f.half;
+    stream
+        = stream_quiet heard _ segs out c.args.self.now.stream refl f.stream;
+    noted = f.noted;
+  },
+)

@@ -1,0 +1,162 @@
+-- A direction: what was heard of it, the segments with data that it has taken, and the bytes that it has handed out.
+use Rattle.std.specs.Prelude.{◌≡◌, ℕ, ◌+◌, ◌<◌, ◌-◌, ◌^◌, ◌%◌, Bool, true, false, List, [], ◌∷◌, ◌++◌, length, Option, Some, None, ◌⊎◌, is_some, min, max, if◌then◌else◌, nat_lt}
+use Rattle.bt_tcp.specs.Segments.{Segment, byte_at}
+use Rattle.bt_tcp.specs.History.{conflicts, first_known}
+use Rattle.bt_tcp.specs.Covered.{AreGaps, sent_end, no_gaps}
+use Rattle.bt_tcp.specs.declared.covered.Gaps.{Gaps}
+use Rattle.bt_tcp.specs.Heard.{Heard, Sent, Took, Acked, opening_of, high_of, fin_of, acked_of, sent_of, IsBase, IsAfterSyn}
+use Rattle.bt_tcp.specs.Halves.{IsHalf, IsOutOfRange}
+use Rattle.bt_flow.specs.declared.stream.Stream.{Stream}
+use Rattle.bt_flow.specs.declared.noted.Noted.{Noted}
+use Rattle.bt_flow.specs.Notes.{AreNoted, NotesOne, spans_noted, is_full}
+use Rattle.bt_flow.specs.Memory.{next_of}
+use Rattle.bt_flow.specs.declared.flow.Flow.{Flow}
+use Rattle.bt_flow.specs.declared.flow.Given.{Given}
+use Rattle.bt_flow.specs.Counts.{counts, is_closed_at, from_base}
+use Rattle.bt_flow.specs.Streams.{IsStreamOf, StreamTakes}
+
+abbrev pub has_bytes : Heard → Bool
+has_bytes (Took s) = counts s.place s.captured
+has_bytes (Acked a) = false
+
+-- None of them has bytes.
+abbrev pub AreQuiet : List Heard → Type 0
+AreQuiet [] = Unit {0}
+AreQuiet (e ∷ heard) = (has_bytes e ≡ false) × AreQuiet heard
+
+-- The base follows the SYN, if its number was known at the first captured byte; otherwise it is the place of that (RFC 9293 3.5).
+pub record IsBaseOf (heard : List Heard) (base : ℕ) : Type 0 where
+  pub quiet : List Heard
+  pub first : Sent
+  pub later : List Heard
+  pub is : heard ≡ (quiet ++ Took first ∷ []) ++ later
+  pub silent : AreQuiet quiet
+  pub bytes : has_bytes (Took first) ≡ true
+  pub base_is : IsAfterSyn (quiet ++ Took first ∷ []) base ⊎ ((opening_of (quiet ++ Took first ∷ []) ≡ None) × (base ≡ first.place))
+
+abbrev pub IsStreamFor : List Heard → List Segment → List ℕ → Option Stream → Type 0
+IsStreamFor heard segs out None = AreQuiet heard × (segs ≡ []) × (out ≡ [])
+IsStreamFor heard segs out (Some s) = IsBaseOf heard s.base × IsStreamOf segs out s
+
+-- Before the first captured byte nothing is noted.
+abbrev pub AreNotedFor : List Segment → Option Stream → Option Noted → Type 0
+AreNotedFor segs None o = o ≡ None
+AreNotedFor segs (Some s) o = AreNoted segs (next_of s.window) o
+
+-- This was heard, these segments were taken, and these bytes were handed out.
+pub record IsFlow (heard : List Heard) (segs : List Segment) (out : List ℕ) (flow : Flow) : Type 0 where
+  pub half : IsHalf heard flow.half
+  pub stream : IsStreamFor heard segs out flow.stream
+  pub noted : AreNotedFor segs flow.stream flow.noted
+
+abbrev pub is_lost_stream : Option Stream → Bool
+is_lost_stream None = false
+is_lost_stream (Some s) = s.is_lost
+
+abbrev pub conflicts_in : Option Stream → ℕ
+conflicts_in None = 0
+conflicts_in (Some s) = s.conflicts
+
+-- A gap is final, and nothing is handed out.
+abbrev pub IsLost : Flow → Type 0
+IsLost flow = is_lost_stream flow.stream ≡ true
+
+-- one segment more, if its bytes count
+abbrev pub with_segment : List Segment → ℕ → List ℕ → List Segment
+with_segment segs at bytes = if counts at (length bytes) then segs ++ record { place = at; bytes = bytes } ∷ [] else segs
+
+-- the segment, at its place
+abbrev pub sent_at : Given → ℕ → Sent
+sent_at g at = record { sequence = g.sequence; syn = g.syn; fin = g.fin; captured = length g.payload.now; size = g.length; place = at }
+
+-- Until a gap is final, those of its bytes are counted that differ from the first captured ones, except from those that are no longer in the memory.
+abbrev pub IsCounted : List Segment → List ℕ → Option Stream → ℕ → List ℕ → Option Stream → Type 0
+IsCounted segs out o at bytes None = Unit {0}
+IsCounted segs out o at bytes (Some s') =
+    counts at (length bytes) ≡ true → is_lost_stream o ≡ false
+    → s'.conflicts ≡ min (2 ^ 64 - 1) (conflicts_in o + conflicts (first_known segs s'.base (s'.base + length out)) at bytes)
+
+-- A gap becomes final only if a segment ends more than 16 MiB past the next place.
+abbrev pub GivesUpLate : List ℕ → Option Stream → ℕ → List ℕ → Option Stream → Type 0
+GivesUpLate out o at bytes None = Unit {0}
+GivesUpLate out o at bytes (Some s') = is_lost_stream o ≡ false → s'.is_lost ≡ true → s'.base + length out + 16777216 < at + length bytes
+
+-- The segment was taken at its place, or its place is out of range and nothing has changed.
+abbrev pub HasTaken : Given → List Heard → List Segment → List ℕ → Flow → List ℕ → Flow → Type 0
+HasTaken g heard segs out flow more flow' =
+    ((at : ℕ) × IsFlow (heard ++ Took (sent_at g at) ∷ []) (with_segment segs at g.payload.now) (out ++ more) flow' × IsCounted segs out flow.stream at g.payload.now flow'.stream
+    × GivesUpLate out flow.stream at g.payload.now flow'.stream)
+    ⊎ (IsOutOfRange flow.half ((g.sequence + (if g.syn then 1 else 0)) % 2 ^ 32) (length g.payload.now) g.length × (more ≡ []) × IsFlow heard segs out flow')
+
+-- The bytes that a segment makes ready were appended. Nothing is after a final gap.
+pub record FlowTakes (g : Given) (flow : Flow) (given : List ℕ) (flow' : Flow) (given' : List ℕ) : Type 0 where
+  pub more : List ℕ
+  pub is : given' ≡ given ++ more
+  pub none : IsLost flow → (more ≡ []) × IsLost flow'
+  pub taken : (heard : List Heard) (segs : List Segment) (out : List ℕ) → IsFlow heard segs out flow → HasTaken g heard segs out flow more flow'
+
+-- ---- what is told of it
+
+abbrev pub IsBaseNow : List Heard → Option Stream → Option ℕ → Type 0
+IsBaseNow heard None base = IsBase heard base
+IsBaseNow heard (Some s) base = (base ≡ Some s.base) × IsBaseOf heard s.base
+
+-- the next place: before the first captured byte the base, if that is known
+abbrev pub IsPlaceNow : List Heard → List ℕ → Option Stream → Option ℕ → Type 0
+IsPlaceNow heard out None place = IsBase heard place
+IsPlaceNow heard out (Some s) place = place ≡ Some (s.base + length out)
+
+abbrev pub is_hole_at : List Heard → Option ℕ → Bool
+is_hole_at heard None = false
+is_hole_at heard (Some next) = nat_lt next (sent_of heard next)
+
+-- Bytes from the next place on are known to be sent.
+abbrev pub HasHole : List Heard → List ℕ → Option Stream → Bool → Type 0
+HasHole heard out stream hole = (place : Option ℕ) × IsPlaceNow heard out stream place × (hole ≡ is_hole_at heard place)
+
+-- The FIN's place was reached, and its number acknowledged (RFC 9293 3.6).
+abbrev pub IsClosed : List Heard → List ℕ → Option Stream → Bool → Type 0
+IsClosed heard out stream closed = (place : Option ℕ) × IsPlaceNow heard out stream place × (closed ≡ is_closed_at (fin_of heard) place (acked_of heard))
+
+-- Gaps end where what was sent ends, or the last captured bytes, if that is later.
+abbrev pub gaps_end : List Heard → Option Noted → ℕ → ℕ
+gaps_end heard o next = sent_end (spans_noted o) (sent_of heard (max next (high_of heard)))
+
+abbrev pub is_captured : List Segment → ℕ → Bool
+is_captured segs i = is_some (byte_at segs i)
+
+-- the runs of places from the next one on that no segment covers
+abbrev pub AreGapsAt : List Heard → List Segment → Flow → Option ℕ → Gaps → Type 0
+AreGapsAt heard segs flow None gaps = gaps ≡ no_gaps
+AreGapsAt heard segs flow (Some next) gaps =
+    is_full flow.noted ≡ false → (base : ℕ) × (found : Gaps) × IsBaseNow heard flow.stream (Some base) × AreGaps (is_captured segs) next (gaps_end heard flow.noted next) found × (gaps ≡ from_base base found)
+
+abbrev pub AreGapsOf : List Heard → List Segment → List ℕ → Flow → Gaps → Type 0
+AreGapsOf heard segs out flow gaps = (place : Option ℕ) × IsPlaceNow heard out flow.stream place × AreGapsAt heard segs flow place gaps
+
+abbrev pub high_in : List Heard → Option Stream → ℕ
+high_in heard None = 0
+high_in heard (Some s) = high_of heard - s.base
+
+-- ---- parts of it
+
+-- The stream is as before, or begins.
+abbrev pub BeginsAt : ℕ → Flow → Option Stream → Option Stream → Type 0
+BeginsAt at flow (Some s) (Some s') = s' ≡ s
+BeginsAt at flow (Some s) None = ⊥
+BeginsAt at flow None None = ⊥
+BeginsAt at flow None (Some s) = IsStreamOf [] [] s × (s.is_lost ≡ false) × (s.conflicts ≡ 0) × ((heard : List Heard) → IsHalf heard flow.half → IsAfterSyn heard s.base ⊎ ((opening_of heard ≡ None) × (s.base ≡ at)))
+
+abbrev pub Begins : ℕ → Flow → Flow → Type 0
+Begins at flow flow' = BeginsAt at flow flow.stream flow'.stream
+
+abbrev pub StreamsOnly : ℕ → List ℕ → Option Stream → List ℕ → Option Stream → List ℕ → Type 0
+StreamsOnly at bytes (Some s) given (Some s') given' = StreamTakes at bytes s given s' given'
+StreamsOnly at bytes _ given _ given' = ⊥
+
+abbrev pub StreamOnly : ℕ → List ℕ → Flow → List ℕ → Flow → List ℕ → Type 0
+StreamOnly at bytes flow given flow' given' = StreamsOnly at bytes flow.stream given flow'.stream given'
+
+abbrev pub NotesIn : ℕ → ℕ → Option Stream → Option Noted → Option Noted → Type 0
+NotesIn at «end» None o o' = o' ≡ o
+NotesIn at «end» (Some s) o o' = NotesOne (next_of s.window) (record { from = at; to = «end» }) o o'

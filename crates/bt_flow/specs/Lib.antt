@@ -1,0 +1,7 @@
+pub mod Views
+pub mod Memory
+pub mod Streams
+pub mod Flows
+pub mod Counts
+pub mod Notes
+pub mod Apart

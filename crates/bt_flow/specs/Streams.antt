@@ -1,0 +1,38 @@
+-- A stream from its base on: what it has handed out of the segments that it has taken.
+use Rattle.std.specs.Prelude.{◌≡◌, ℕ, ◌+◌, ◌-◌, ◌<◌, ◌^◌, min, true, false, List, [], ◌∷◌, ◌++◌, length}
+use Rattle.bt_tcp.specs.Segments.{Segment, IsFront, IsStream}
+use Rattle.bt_tcp.specs.Windows.{IsTaken}
+use Rattle.bt_tcp.specs.History.{IsHistory, conflicts, kept, held}
+use Rattle.bt_flow.specs.declared.stream.Stream.{Stream}
+use Rattle.bt_flow.specs.Memory.{next_of, seen}
+
+-- Of these segments the bytes `out` were handed out. Until a gap is final they are the whole stream, and after that a front of it.
+pub record IsStreamOf (segs : List Segment) (out : List ℕ) (s : Stream) : Type 0 where
+  pub next_is : next_of s.window ≡ s.base + length out
+  pub front : IsFront segs s.base out
+  pub history : IsHistory s.history.items s.base out
+  pub taken : s.is_lost ≡ false → IsTaken segs s.base out (next_of s.window) (seen s.window)
+  pub stream : s.is_lost ≡ false → IsStream segs s.base out
+
+-- how many bytes of a segment differ from those that were handed out, as far as these are kept, and from those ahead
+abbrev pub conflicts_with : List ℕ → Stream → ℕ → List ℕ → ℕ
+conflicts_with out s at bytes = conflicts (kept s.base out) at bytes + conflicts (held (next_of s.window) (seen s.window)) at bytes
+
+-- A segment was taken, and what it makes ready was appended. Nothing is appended after a final gap, and one is final only past 16 MiB.
+pub record Advances (at : ℕ) (bytes : List ℕ) (s : Stream) (given : List ℕ) (s' : Stream) (given' : List ℕ) : Type 0 where
+  pub more : List ℕ
+  pub is : given' ≡ given ++ more
+  pub base : s'.base ≡ s.base
+  pub conflicts : s'.conflicts ≡ s.conflicts
+  pub lost : s'.is_lost ≡ true → next_of s.window + 16777216 < at + length bytes
+  pub taken : (segs : List Segment) (out : List ℕ) → IsStreamOf segs out s → IsStreamOf (segs ++ record { place = at; bytes = bytes } ∷ []) (out ++ more) s'
+
+pub record StreamTakes (at : ℕ) (bytes : List ℕ) (s : Stream) (given : List ℕ) (s' : Stream) (given' : List ℕ) : Type 0 where
+  pub more : List ℕ
+  pub is : given' ≡ given ++ more
+  pub base : s'.base ≡ s.base
+  pub none : s.is_lost ≡ true → more ≡ []
+  pub final : s.is_lost ≡ true → s'.is_lost ≡ true
+  pub lost : s.is_lost ≡ false → s'.is_lost ≡ true → next_of s.window + 16777216 < at + length bytes
+  pub counted : (segs : List Segment) (out : List ℕ) → IsStreamOf segs out s → s'.conflicts ≡ min (2 ^ 64 - 1) (s.conflicts + conflicts_with out s at bytes)
+  pub taken : (segs : List Segment) (out : List ℕ) → IsStreamOf segs out s → IsStreamOf (segs ++ record { place = at; bytes = bytes } ∷ []) (out ++ more) s'

@@ -1,0 +1,304 @@
+//! One direction of a captured TCP connection.
+ghost use Rattle.std.specs.Prelude.{◌≡◌, ℕ, ◌+◌, ◌<◌, ◌^◌, List, [], ◌∷◌, ◌++◌, length, IsSome, IsTrue, ◌↔◌, OnOk, OnErr};
+ghost use Rattle.bt_flow.specs.Counts.{counts, is_closed_at, from_base};
+
+use crate::noted::Noted;
+use crate::stream::Stream;
+use bt_tcp::{Gap, Gaps, Half, Spans};
+use std::alloc::{AllocError, Global};
+
+/// The last place.
+const LAST: u64 = 0x4000_0000_0000_0000;
+
+/// A segment as it was captured (RFC 9293 3.1).
+#[derive(Clone, Copy)]
+pub struct Given<'a> {
+    pub sequence: u32,
+    pub syn: bool,
+    pub fin: bool,
+    /// The captured bytes.
+    pub payload: &'a [u8],
+    /// How many data bytes it had.
+    pub length: u64,
+}
+
+/// One direction of a connection, with the memory that it owns.
+#[derive(Drop)]
+pub struct Flow {
+    alloc: Global,
+    half: Half,
+    /// The stream, from the first captured byte on.
+    stream: Option<Stream>,
+    /// What was captured past the first gap, from when there was one on.
+    noted: Option<Noted>,
+}
+
+/// Tells whether bytes at a place count: there are some, and they end in range.
+fn has_bytes(at: u64, size: usize) -> bool
+    ensures { result ≡ counts at size }
+{
+    size > 0 && at <= LAST && size as u64 <= LAST - at
+}
+
+/// Tells whether a FIN was reached and acknowledged.
+fn is_reached(fin: Option<u64>, place: Option<u64>, acked: u64) -> bool
+    ensures { result ≡ is_closed_at fin place acked }
+{
+    match (fin, place) {
+        (Some(fin), Some(place)) => fin <= place && fin < acked,
+        _ => false,
+    }
+}
+
+/// Returns gaps with offsets from the base.
+fn offsets(gaps: Gaps, base: u64) -> Gaps
+    ensures { result ≡ from_base base gaps }
+{
+    match gaps.first {
+        Some(gap) => Gaps {
+            first: Some(Gap {
+                place: gap.place.saturating_sub(base),
+                length: gap.length,
+            }),
+            count: gaps.count,
+            sum: gaps.sum,
+        },
+        None => gaps,
+    }
+}
+
+impl Flow {
+    ghost use Rattle.bt_tcp.specs.Heard.{Heard, Acked, opening_of};
+    ghost use Rattle.bt_tcp.specs.Segments.{Segment};
+    ghost use Rattle.bt_flow.specs.Flows.{IsFlow, FlowTakes, IsLost, Begins, StreamOnly, IsBaseNow, IsPlaceNow, HasHole, IsClosed, conflicts_in, high_in, NotesIn, AreGapsOf, gaps_end};
+    ghost use Rattle.bt_flow.specs.Notes.{spans_noted};
+    ghost use Rattle.bt_tcp.specs.Covered.{is_covered, AreGaps};
+    ghost use Rattle.bt_tcp.specs.Halves.{IsHalf};
+
+    /// Returns a direction of which nothing was captured.
+    pub fn new(alloc: Global) -> Flow
+        ensures { IsFlow [] [] [] result }
+    {
+        Flow {
+            alloc,
+            half: Half::new(),
+            stream: None,
+            noted: None,
+        }
+    }
+
+    /// Begins the stream, if it isn't there: after the SYN if that is known, else at a place.
+    fn begin(&mut self, at: u64) -> Result<(), AllocError>
+        ensures half { self.new.half ≡ self.old.half }
+        ensures noted { self.new.noted ≡ self.old.noted }
+        ensures there { OnOk result (IsSome self.new.stream) }
+        ensures begins { OnOk result (Begins at self.old self.new) }
+        ensures kept { IsLost self.old → IsLost self.new }
+    {
+        match &self.stream {
+            Some(_) => Ok(()),
+            None => {
+                let base = self.half.base().unwrap_or(at);
+                self.stream = Some(Stream::new(self.alloc, base)?);
+                Ok(())
+            }
+        }
+    }
+
+    /// Takes bytes at a place.
+    fn go_on(&mut self, at: u64, part: &[u8], out: &mut Vec<u8>) -> Result<(), AllocError>
+        requires end { at + length part.now < 2 ^ 63 }
+        requires there { IsSome self.old.stream }
+        ensures half { self.new.half ≡ self.old.half }
+        ensures noted { self.new.noted ≡ self.old.noted }
+        ensures taken { OnOk result (StreamOnly at part.now self.old out.old.items self.new out.new.items) }
+        ensures lost { OnErr result (IsLost self.new) }
+    {
+        match &mut self.stream {
+            Some(stream) => stream.take(at, part, out),
+            None => unreachable!(),
+        }
+    }
+
+    /// Notes captured places, if some are ahead.
+    fn note(&mut self, at: u64, end: u64) -> Result<(), AllocError>
+        ensures half { self.new.half ≡ self.old.half }
+        ensures stream { self.new.stream ≡ self.old.stream }
+        ensures noted { OnOk result (NotesIn at end self.old.stream self.old.noted self.new.noted) }
+    {
+        let Some(stream) = &self.stream else {
+            return Ok(());
+        };
+        let (base, next) = (stream.base(), stream.next());
+        if end <= next {
+            return Ok(());
+        }
+        match &mut self.noted {
+            Some(noted) => noted.note(base, next, at, end),
+            None => {
+                let mut noted = Noted::new(self.alloc)?;
+                noted.note(base, next, at, end);
+                self.noted = Some(noted);
+            }
+        }
+        Ok(())
+    }
+
+    /// Takes a segment that this side sent, which has no RST, and appends the bytes that are ready now.
+    ///
+    /// A segment whose place is out of range is passed over. If one needs more than `MOST` places, the gap
+    /// before it is final: nothing is handed out from then on.
+    ///
+    /// # Errors
+    /// `AllocError` when out of memory. Nothing is promised of the direction then.
+    pub fn take(&mut self, given: &Given, out: &mut Vec<u8>) -> Result<(), AllocError>
+        ensures { OnOk result (FlowTakes given.now self.old out.old.items self.new out.new.items) }
+    {
+        let part = given.payload;
+        let taken = self.half.take(
+            given.sequence,
+            given.syn,
+            given.fin,
+            part.len(),
+            given.length,
+        );
+        let at = match taken {
+            Ok(at) => at,
+            Err(_) => return Ok(()),
+        };
+        if !has_bytes(at, part.len()) {
+            return Ok(());
+        }
+        self.begin(at)?;
+        self.go_on(at, part, out)?;
+        self.note(at, at + part.len() as u64)?;
+        Ok(())
+    }
+
+    /// Takes an acknowledgement by the other side. `opens` says whether it came with that side's SYN.
+    pub fn hear(&mut self, acked: u32, opens: bool)
+        ensures { (heard : List Heard) → (segs : List Segment) → (out : List ℕ) → IsFlow heard segs out self.old
+            → (at : ℕ) × IsFlow (heard ++ Acked (record { number = acked; opens = opens; place = at }) ∷ []) segs out self.new }
+    {
+        self.half.hear(acked, opens);
+    }
+
+    /// Returns where the stream begins, if that is known.
+    pub fn base(&self) -> Option<u64>
+        ensures { (heard : List Heard) → (segs : List Segment) → (out : List ℕ) → IsFlow heard segs out self.now → IsBaseNow heard self.now.stream result }
+    {
+        match &self.stream {
+            Some(stream) => Some(stream.base()),
+            None => self.half.base(),
+        }
+    }
+
+    /// Returns how many bytes were handed out.
+    pub fn next(&self) -> u64
+        ensures { (heard : List Heard) → (segs : List Segment) → (out : List ℕ) → IsFlow heard segs out self.now → result ≡ length out }
+    {
+        match &self.stream {
+            Some(stream) => stream.next().saturating_sub(stream.base()),
+            None => 0,
+        }
+    }
+
+    /// Returns the place that is handed out next, if that is known.
+    fn place(&self) -> Option<u64>
+        ensures { (heard : List Heard) → (segs : List Segment) → (out : List ℕ) → IsFlow heard segs out self.now → IsPlaceNow heard out self.now.stream result }
+    {
+        match &self.stream {
+            Some(stream) => Some(stream.next()),
+            None => self.half.base(),
+        }
+    }
+
+    /// Tells whether bytes are known to be sent that weren't handed out.
+    pub fn has_hole(&self) -> bool
+        ensures { (heard : List Heard) → (segs : List Segment) → (out : List ℕ) → IsFlow heard segs out self.now → HasHole heard out self.now.stream result }
+    {
+        match self.place() {
+            Some(place) => place < self.half.sent(place),
+            None => false,
+        }
+    }
+
+    /// Returns the gaps from a place on.
+    fn gaps_from(&self, next: u64) -> Gaps
+        ensures { (heard : List Heard) → IsHalf heard self.now.half → AreGaps (is_covered (spans_noted self.now.noted)) next (gaps_end heard self.now.noted next) result }
+    {
+        let sent = self.half.sent(next.max(self.half.high()));
+        match &self.noted {
+            Some(noted) => noted.gaps(next, sent),
+            None => Spans::new(&[]).gaps(&[], next, sent),
+        }
+    }
+
+    /// Returns the runs of bytes that were sent but not captured, with offsets from the base.
+    ///
+    /// If more than 1,024 spans of captured bytes lie past the first gap, some aren't noted and count as not captured.
+    pub fn gaps(&self) -> Gaps
+        ensures { (heard : List Heard) → (segs : List Segment) → (out : List ℕ) → IsFlow heard segs out self.now → AreGapsOf heard segs out self.now result }
+    {
+        match self.place() {
+            Some(next) => offsets(self.gaps_from(next), self.base().unwrap_or(next)),
+            None => Gaps {
+                first: None,
+                count: 0,
+                sum: 0,
+            },
+        }
+    }
+
+    /// Returns how many captured bytes differed from those that came first, as far as these were still in memory.
+    pub fn conflicts(&self) -> u64
+        ensures { result ≡ conflicts_in self.now.stream }
+    {
+        match &self.stream {
+            Some(stream) => stream.conflicts(),
+            None => 0,
+        }
+    }
+
+    /// Returns how far captured bytes reach: the greatest offset from the base, and one.
+    pub fn high(&self) -> u64
+        ensures { (heard : List Heard) → (segs : List Segment) → (out : List ℕ) → IsFlow heard segs out self.now → result ≡ high_in heard self.now.stream }
+    {
+        match &self.stream {
+            Some(stream) => self.half.high().saturating_sub(stream.base()),
+            None => 0,
+        }
+    }
+
+    /// Returns the number of this side's SYN, if it is known.
+    pub fn opening(&self) -> Option<u32>
+        ensures { (heard : List Heard) → (segs : List Segment) → (out : List ℕ) → IsFlow heard segs out self.now → result ≡ opening_of heard }
+    {
+        self.half.opening()
+    }
+
+    /// Tells whether the FIN was reached and acknowledged (RFC 9293 3.6).
+    pub fn is_closed(&self) -> bool
+        ensures { (heard : List Heard) → (segs : List Segment) → (out : List ℕ) → IsFlow heard segs out self.now → IsClosed heard out self.now.stream result }
+    {
+        is_reached(self.half.fin(), self.place(), self.half.acked())
+    }
+
+    /// Tells whether a gap is final, so that nothing more is handed out.
+    pub fn is_lost(&self) -> bool
+        ensures { IsTrue result ↔ IsLost self.now }
+    {
+        match &self.stream {
+            Some(stream) => stream.is_lost(),
+            None => false,
+        }
+    }
+
+    /// Returns how many bytes of memory it holds past a gap.
+    pub fn held(&self) -> usize {
+        match &self.stream {
+            Some(stream) => stream.held(),
+            None => 0,
+        }
+    }
+}

@@ -1,0 +1,67 @@
+//! The captured places past a gap, as spans.
+ghost use Rattle.std.specs.Prelude.{◌≡◌, ℕ, ◌≤◌, length, take, false, IfOk};
+ghost use Rattle.bt_tcp.specs.Covered.{AreApart};
+ghost use Rattle.bt_flow.specs.Apart.{AreApart-prop};
+
+use bt_tcp::{Gaps, Span, Spans};
+use std::alloc::{AllocError, Global};
+
+/// How many spans there may be.
+const SPANS: usize = 1024;
+
+/// Spans of captured places, and their memory.
+#[derive(Drop)]
+pub struct Noted {
+    spans: Spans,
+    table: Vec<Span>,
+    /// A span wasn't noted.
+    is_full: bool,
+    ghost fits: { spans.count ≤ length table.items },
+    ghost apart: { AreApart 0 (take spans.count table.items) } by { AreApart-prop 0 (take spans.count table.items) },
+}
+
+impl Noted {
+    ghost use Rattle.bt_tcp.specs.Covered.{is_covered, AreGaps, sent_end};
+    ghost use Rattle.bt_flow.specs.Notes.{spans_in, NotesMore, NotesPast};
+
+    /// Returns no spans.
+    ///
+    /// # Errors
+    /// `AllocError` when out of memory.
+    pub fn new(alloc: Global) -> Result<Noted, AllocError>
+        ensures { IfOk result (λ n. (i : ℕ) → is_covered (spans_in n) i ≡ false) }
+    {
+        let mut table = Vec::new(alloc);
+        table.resize(SPANS, Span { from: 0, to: 0 })?;
+        let spans = Spans::new(&table);
+        Ok(Noted {
+            spans,
+            table,
+            is_full: false,
+        })
+    }
+
+    /// Notes the places from `from` on and before `to`.
+    fn add(&mut self, from: u64, to: u64)
+        ensures { NotesMore (record { from = from; to = to }) self.old self.new }
+    {
+        if self.spans.add(&mut self.table, from, to).is_err() {
+            self.is_full = true;
+        }
+    }
+
+    /// Notes the places from `from` on and before `to`, and joins those before `next`, which no longer matter.
+    pub fn note(&mut self, base: u64, next: u64, from: u64, to: u64)
+        ensures { NotesPast next (record { from = from; to = to }) self.old self.new }
+    {
+        self.add(base, next);
+        self.add(from, to);
+    }
+
+    /// Returns the gaps from `next` up to `sent`, or up to the last span's end, if that is later.
+    pub fn gaps(&self, next: u64, sent: u64) -> Gaps
+        ensures { AreGaps (is_covered (spans_in self.now)) next (sent_end (spans_in self.now) sent) result }
+    {
+        self.spans.gaps(&self.table, next, sent)
+    }
+}

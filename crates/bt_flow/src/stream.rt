@@ -1,0 +1,149 @@
+//! A stream from its base on, with the memory that it owns.
+ghost use Rattle.std.specs.Prelude.{◌≡◌, ℕ, ◌+◌, ◌-◌, ◌<◌, ◌^◌, List, [], ◌++◌, length, true, false, min, IfOk, OnOk, OnErr};
+ghost use Rattle.bt_tcp.specs.History.{IsHistory};
+
+use crate::window::Window;
+use bt_tcp::history;
+use std::alloc::{AllocError, Global};
+
+/// How many bytes are remembered.
+const HISTORY: usize = 16_384;
+
+/// Remembers bytes that were handed out.
+fn remember(memory: &mut Vec<u8>, next: u64, bytes: &[u8])
+    requires size { length memory.old.items ≡ 16384 }
+    requires end { next + length bytes.now < 2 ^ 64 }
+    ensures size { length memory.new.items ≡ 16384 }
+    ensures kept { (base : ℕ) → (out : List ℕ) → next ≡ base + length out → IsHistory memory.old.items base out → IsHistory memory.new.items base (out ++ bytes.now) }
+{
+    history::remember(memory, next, bytes);
+}
+
+/// A stream from its base on.
+#[derive(Drop)]
+pub struct Stream {
+    base: u64,
+    window: Window,
+    history: Vec<u8>,
+    conflicts: u64,
+    is_lost: bool,
+    ghost size: { length history.items ≡ 16384 },
+}
+
+impl Stream {
+    ghost use Rattle.bt_flow.specs.Memory.{next_of};
+    ghost use Rattle.bt_flow.specs.Streams.{IsStreamOf, Advances, StreamTakes, conflicts_with};
+
+    /// Returns a stream that begins at a place.
+    ///
+    /// # Errors
+    /// `AllocError` when out of memory.
+    pub fn new(alloc: Global, base: u64) -> Result<Stream, AllocError>
+        ensures base { IfOk result (λ s. s.base ≡ base) }
+        ensures taken { IfOk result (λ s. IsStreamOf [] [] s) }
+        ensures conflicts { IfOk result (λ s. s.conflicts ≡ 0) }
+        ensures open { IfOk result (λ s. s.is_lost ≡ false) }
+    {
+        let mut history = Vec::new(alloc);
+        history.resize(HISTORY, 0)?;
+        let window = Window::new(alloc, base)?;
+        Ok(Stream {
+            base,
+            window,
+            history,
+            conflicts: 0,
+            is_lost: false,
+        })
+    }
+
+    /// Returns where it begins.
+    pub fn base(&self) -> u64
+        ensures { result ≡ self.now.base }
+    {
+        self.base
+    }
+
+    /// Returns the place that is handed out next.
+    pub fn next(&self) -> u64
+        ensures { result ≡ next_of self.now.window }
+    {
+        self.window.next()
+    }
+
+    /// Returns how many bytes of segments differed from those that came first.
+    pub fn conflicts(&self) -> u64
+        ensures { result ≡ self.now.conflicts }
+    {
+        self.conflicts
+    }
+
+    /// Tells whether a gap is final.
+    pub fn is_lost(&self) -> bool
+        ensures { result ≡ self.now.is_lost }
+    {
+        self.is_lost
+    }
+
+    /// Returns how many bytes of memory it has past a gap.
+    pub fn held(&self) -> usize {
+        self.window.held()
+    }
+
+    /// Counts the bytes of a segment that differ from those that came first.
+    fn count_conflicts(&self, at: u64, part: &[u8]) -> u64
+        requires { at + length part.now < 2 ^ 63 }
+        ensures { (out : List ℕ) → next_of self.now.window ≡ self.now.base + length out → IsHistory self.now.history.items self.now.base out
+            → result ≡ min (2 ^ 64 - 1) (conflicts_with out self.now at part.now) }
+    {
+        let next = self.window.next();
+        let ahead = self.window.count_conflicts(at, part);
+        if at >= next {
+            return ahead as u64;
+        }
+        let before = history::count_conflicts(&self.history, self.base, next, at, part);
+        before.saturating_add(ahead) as u64
+    }
+
+    /// Takes a segment while nothing is lost.
+    fn go_on(&mut self, at: u64, part: &[u8], out: &mut Vec<u8>) -> Result<(), AllocError>
+        requires end { at + length part.now < 2 ^ 63 }
+        requires open { self.old.is_lost ≡ false }
+        ensures { OnOk result (Advances at part.now self.old out.old.items self.new out.new.items) }
+    {
+        let next = self.window.next();
+        if self.window.take(at, part, out)? {
+            let count = (self.window.next() - next) as usize;
+            let more = &out[out.len() - count..];
+            remember(&mut self.history, next, more);
+        } else {
+            self.window.close();
+            self.is_lost = true;
+        }
+        Ok(())
+    }
+
+    /// Takes a segment, and appends the bytes that are ready now.
+    ///
+    /// If it needs more than `MOST` places, the gap before it is final: nothing is handed out from then on.
+    ///
+    /// # Errors
+    /// `AllocError` when out of memory.
+    pub fn take(&mut self, at: u64, part: &[u8], out: &mut Vec<u8>) -> Result<(), AllocError>
+        requires { at + length part.now < 2 ^ 63 }
+        ensures taken { OnOk result (StreamTakes at part.now self.old out.old.items self.new out.new.items) }
+        ensures lost { OnErr result (self.new.is_lost ≡ true) }
+    {
+        let count = self.count_conflicts(at, part);
+        self.conflicts = self.conflicts.saturating_add(count);
+        if self.is_lost {
+            return Ok(());
+        }
+        match self.go_on(at, part, out) {
+            Ok(()) => Ok(()),
+            Err(error) => {
+                self.is_lost = true;
+                Err(error)
+            }
+        }
+    }
+}

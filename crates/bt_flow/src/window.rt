@@ -1,0 +1,195 @@
+//! A ring with its memory, which grows when a segment needs it.
+ghost use Rattle.std.specs.Prelude.{◌≡◌, ℕ, ◌+◌, ◌<◌, ◌≤◌, ◌^◌, [], length, false, None, IfOk, OnOk};
+ghost use Rattle.bt_tcp.specs.Cells.{is_known};
+ghost use Rattle.bt_tcp.specs.Rings.{ahead, IsSound};
+ghost use Rattle.bt_tcp.specs.History.{conflicts, held};
+ghost use Rattle.bt_flow.specs.Views.{Places, HandsOut, Takes};
+
+use bt_tcp::{Put, Ring};
+use std::alloc::{AllocError, Global};
+
+/// The most places that a ring may have.
+pub const MOST: u64 = 16_777_216;
+
+/// Appends what is ready, until nothing is.
+fn drain(
+    ring: &mut Ring,
+    known: &mut [bool],
+    memory: &[u8],
+    out: &mut Vec<u8>,
+) -> Result<(), AllocError>
+    requires { IsSound ring.old known.old memory.now }
+    ensures sound { IsSound ring.new known.new memory.now }
+    ensures drained { OnOk result (HandsOut ring.old.next (ahead ring.old known.old memory.now) out.old.items ring.new.next (ahead ring.new known.new memory.now) out.new.items) }
+{
+    loop {
+        let part = ring.ready(known, memory);
+        if part.is_empty() {
+            return Ok(());
+        }
+        out.extend_from_slice(part)?;
+    }
+}
+
+/// A ring and its memory.
+#[derive(Drop)]
+pub struct Window {
+    alloc: Global,
+    ring: Ring,
+    known: Vec<bool>,
+    ahead: Vec<u8>,
+    ghost inside: { ring.head < length known.items },
+    ghost same: { length ahead.items ≡ length known.items },
+    ghost over: { (k : ℕ) → ring.end ≤ ring.next + k → is_known known.items ring.head k ≡ false },
+}
+
+impl Window {
+    ghost use Rattle.bt_tcp.specs.Windows.{IsTaken, IsPutOf, TakesOneMore, GoesOn};
+    ghost use Rattle.bt_flow.specs.Memory.{next_of, seen, capacity_of};
+
+    /// Returns a window that begins at a place, with room for one byte.
+    ///
+    /// # Errors
+    /// `AllocError` when out of memory.
+    pub fn new(alloc: Global, base: u64) -> Result<Window, AllocError>
+        ensures next { IfOk result (λ w. next_of w ≡ base) }
+        ensures taken { IfOk result (λ w. IsTaken [] base [] (next_of w) (seen w)) }
+    {
+        let mut known = Vec::new(alloc);
+        known.resize(1, false)?;
+        let mut ahead = Vec::new(alloc);
+        ahead.resize(1, 0)?;
+        let ring = Ring::new(base, &mut known, &ahead);
+        Ok(Window {
+            alloc,
+            ring,
+            known,
+            ahead,
+        })
+    }
+
+    /// Returns the place that is handed out next.
+    pub fn next(&self) -> u64
+        ensures { result ≡ next_of self.now }
+    {
+        self.ring.next()
+    }
+
+    /// Returns how many bytes of memory it has past the first one.
+    pub fn held(&self) -> usize
+        ensures { result + 1 ≡ capacity_of self.now }
+    {
+        self.known.len() - 1
+    }
+
+    /// Counts the bytes of a segment that differ from those ahead.
+    pub fn count_conflicts(&self, at: u64, part: &[u8]) -> usize
+        requires { at + length part.now < 2 ^ 64 }
+        ensures { result ≡ conflicts (held (next_of self.now) (seen self.now)) at part.now }
+    {
+        self.ring
+            .count_conflicts_ahead(&self.known, &self.ahead, at, part)
+    }
+
+    /// Drops the bytes ahead, and their memory.
+    pub fn close(&mut self)
+        ensures next { next_of self.new ≡ next_of self.old }
+        ensures none { (k : ℕ) → seen self.new k ≡ None }
+    {
+        let next = self.ring.next();
+        self.known.truncate(1);
+        self.ahead.truncate(1);
+        self.known.shrink_to_fit();
+        self.ahead.shrink_to_fit();
+        self.ring = Ring::new(next, &mut self.known, &self.ahead);
+    }
+
+    /// Takes a segment as the ring is.
+    fn put(&mut self, at: u64, part: &[u8]) -> Put
+        requires { at + length part.now < 2 ^ 64 }
+        ensures put { IsPutOf (capacity_of self.old) at part.now (next_of self.old) (seen self.old) result (next_of self.new) (seen self.new) }
+        ensures taken { TakesOneMore at part.now (next_of self.old) (seen self.old) result (next_of self.new) (seen self.new) }
+    {
+        self.ring.put(&mut self.known, &mut self.ahead, at, part)
+    }
+
+    /// Moves the bytes ahead to memory for `count` places, if it has less.
+    fn grow(&mut self, count: usize) -> Result<(), AllocError>
+        ensures next { next_of self.new ≡ next_of self.old }
+        ensures room { OnOk result (count ≤ capacity_of self.new) }
+        ensures taken { GoesOn (next_of self.old) (seen self.old) (next_of self.new) (seen self.new) }
+    {
+        if count <= self.known.len() {
+            return Ok(());
+        }
+        let mut known = Vec::new(self.alloc);
+        known.resize(count, false)?;
+        let mut ahead = Vec::new(self.alloc);
+        ahead.resize(count, 0)?;
+        let ring = self
+            .ring
+            .moved(&self.known, &self.ahead, &mut known, &mut ahead);
+        *self = Window {
+            alloc: self.alloc,
+            ring,
+            known,
+            ahead,
+        };
+        Ok(())
+    }
+
+    /// Makes room for bytes before a place, if there may be as much. It is at least doubled.
+    fn make_room(&mut self, end: u64) -> Result<(), AllocError>
+        ensures next { next_of self.new ≡ next_of self.old }
+        ensures room { OnOk result (end ≤ next_of self.old + 16777216 → end ≤ next_of self.new + capacity_of self.new) }
+        ensures taken { GoesOn (next_of self.old) (seen self.old) (next_of self.new) (seen self.new) }
+    {
+        let need = end.saturating_sub(self.next());
+        if need > MOST {
+            return Ok(());
+        }
+        let twice = (self.known.len() as u64).saturating_mul(2).min(MOST);
+        self.grow(need.max(twice) as usize)
+    }
+
+    /// Takes a segment, and makes room if it needs more. It is full only if more than `MOST` places are needed.
+    fn place(&mut self, at: u64, part: &[u8]) -> Result<Put, AllocError>
+        requires { at + length part.now < 2 ^ 64 }
+        ensures { IfOk result (λ put. Places at part.now (next_of self.old) (seen self.old) put (next_of self.new) (seen self.new)) }
+    {
+        match self.put(at, part) {
+            Put::Taken { from, len } => Ok(Put::Taken { from, len }),
+            Put::Full => {
+                self.make_room(at + part.len() as u64)?;
+                Ok(self.put(at, part))
+            }
+        }
+    }
+
+    /// Appends what is ready, until nothing is.
+    fn drain(&mut self, out: &mut Vec<u8>) -> Result<(), AllocError>
+        ensures { OnOk result (HandsOut (next_of self.old) (seen self.old) out.old.items (next_of self.new) (seen self.new) out.new.items) }
+    {
+        drain(&mut self.ring, &mut self.known, &self.ahead, out)
+    }
+
+    /// Takes a segment, and appends what it makes ready; returns whether it did.
+    ///
+    /// It doesn't if more than `MOST` places are needed.
+    ///
+    /// # Errors
+    /// `AllocError` when out of memory.
+    pub fn take(&mut self, at: u64, part: &[u8], out: &mut Vec<u8>) -> Result<bool, AllocError>
+        requires { at + length part.now < 2 ^ 64 }
+        ensures { IfOk result (λ was_taken. Takes at part.now (next_of self.old) (seen self.old) out.old.items was_taken (next_of self.new) (seen self.new) out.new.items) }
+    {
+        match self.place(at, part)? {
+            Put::Full => Ok(false),
+            Put::Taken { from, len } => {
+                out.extend_from_slice(&part[from..from + len])?;
+                self.drain(out)?;
+                Ok(true)
+            }
+        }
+    }
+}

@@ -1,0 +1,93 @@
+-- What is known of a front that was heard.
+use Rattle.std.proofs.Common.{◌≡◌, ◌∙◌, ℕ, ◌+◌, ◌-◌, ◌≤◌, true, List, [], ◌∷◌, ◌++◌, length, take, drop, Option, Some, None, refl, sym, ap, subst, arith, inl}
+use Rattle.std.specs.Prelude.{min, ◌^◌, nat_le}
+use Rattle.std.proofs.lemmas.Bool.Decides.{nat_tests}
+use Rattle.std.proofs.Math.Seq.{drop-append_seam}
+use Rattle.std.proofs.lemmas.List.{drop-append-le}
+use Rattle.bt_wire.specs.declared.item.Item.{Item}
+use Rattle.bt_wire.specs.declared.item.Refusal.{Refusal}
+use Rattle.bt_wire.specs.Streams.{Outcome, IsVerdict, awaiting}
+use Rattle.bt_judge.specs.Readings.{IsStanding}
+use Rattle.bt_jobs.specs.Others.{reader_of_other}
+use Rattle.bt_intro.specs.declared.introduction.Introduction.{Introduction}
+use Rattle.bt_intro.specs.declared.voice.Voice.{Voice}
+use Rattle.bt_intro.specs.Hellos.{IsFirstHello, HasNoHello, IsFirstFrom}
+use Rattle.bt_intro.specs.Listening.{IsHeard}
+use Rattle.bt_intro.specs.Hearing.{IsSaid, IsVoiceOf, IsVoiced, IsHeardOf}
+use Rattle.bt_intro.proofs.Searching.{whole, hello_fits, first_more, start_more}
+
+-- without a handshake nothing is said
+pub silent : (front : List ℕ) (i : Introduction) → IsHeardOf front i → i.voice ≡ None → IsSaid front (awaiting None [])
+silent front i h e = inl (subst (λ (o : Option Voice). IsVoiced front o) e h.voiced, refl)
+
+-- the outcome of the bytes of a voice, and what its listener heard
+pub record Told (b : List ℕ) (voice : Voice) : Type 0 where
+  pub now : Outcome
+  pub is : IsVerdict reader_of_other b now
+  pub heard : IsHeard now.items voice.listener
+
+pub told_by : (b : List ℕ) (voice : Voice) → IsVoiceOf b voice → Told b voice
+told_by b voice h = record {
+  now = h.judged.now;
+  is = h.judged.is;
+  heard = subst (λ (xs : List (ℕ × Item)). IsHeard xs voice.listener) (sym h.judged.items) h.heard;
+}
+
+pub voiced : (front : List ℕ) (i : Introduction) (v : Voice) → IsHeardOf front i → i.voice ≡ Some v → IsFirstHello front v.start
+    × IsVoiceOf (drop v.start front) v
+voiced front i v h e = subst (λ (o : Option Voice). IsVoiced front o) e h.voiced
+
+append_nil : (xs : List ℕ) → xs ++ [] ≡ xs
+append_nil [] = refl
+append_nil (x ∷ xs) = ap (λ zs. x ∷ zs) (append_nil xs)
+
+-- the standing refusal is that of the verdict
+pub standing : (b : List ℕ) (r : Option Refusal) (v : Outcome) → IsVerdict reader_of_other b v → IsStanding reader_of_other b r → v.refusal ≡ r
+standing b None v is h = h v is
+standing b (Some r) v is h = h [] v (subst (λ (l : List ℕ). IsVerdict reader_of_other l v) (sym (append_nil b)) is)
+
+-- the test of a count that stays at its greatest value
+pub awaited_by : (n m : ℕ) → n ≡ min m (2 ^ 64 - 1) → nat_le 1001 n ≡ true → 1001 ≤ m
+awaited_by n m e h = let le : 1001 ≤ n = grind (arith, nat_tests) in omega arith
+
+pub is_awaited : (n m : ℕ) → n ≡ min m (2 ^ 64 - 1) → 1001 ≤ m → nat_le 1001 n ≡ true
+is_awaited n m e h = let le : 1001 ≤ n = omega arith in grind (arith, nat_tests)
+
+pub rest_is : (front old more new : List ℕ) (n : ℕ) → front ≡ old ++ more → n ≡ length old → new ≡ drop n front → new ≡ more
+rest_is front old more new n parts size is =
+    is ∙ ap (λ (l : List ℕ). drop n l) parts ∙ ap (λ (k : ℕ). drop k (old ++ more)) size ∙ drop-append_seam old more
+
+-- what was heard, and the bytes that follow
+pub voiced_more : (front more : List ℕ) (old new : Voice) → IsFirstHello front old.start → new.start ≡ old.start
+    → IsVoiceOf (drop old.start front ++ more) new → IsVoiced (front ++ more) (Some new)
+voiced_more front more old new first same h =
+    let fits : old.start + 20 ≤ length front = hello_fits front old.start first.here in
+    let within : old.start ≤ length front = omega arith in
+    let parts : drop old.start (front ++ more) ≡ drop old.start front ++ more = drop-append-le old.start front more within in
+    let P : ℕ → Type 0 = λ k. IsFirstHello (front ++ more) k × IsVoiceOf (drop k (front ++ more)) new in
+    subst P (sym same) (first_more front more old.start first, subst (λ (l : List ℕ). IsVoiceOf l new) (sym parts) h)
+
+-- a handshake is found in what is new
+pub voiced_first : (front old more : List ℕ) (i : Introduction) (low start : ℕ) (new : Voice) → IsHeardOf old i → i.voice ≡ None → front ≡ old ++ more
+    → low ≡ i.heard - 19 → IsFirstFrom front low (Some start) → new.start ≡ start
+    → IsVoiceOf (take (length front - start) (drop start front)) new → IsVoiced front (Some new)
+voiced_first front old more i low start new h none parts size first same voice =
+    let silence : HasNoHello old = subst (λ (o : Option Voice). IsVoiced old o) none h.voiced in
+    let from : low ≡ length old - 19 = size ∙ ap (λ (n : ℕ). n - 19) h.all in
+    let here : IsFirstFrom (old ++ more) (length old - 19) (Some start) =
+    subst (λ (n : ℕ). IsFirstFrom (old ++ more) n (Some start)) from (subst (λ (l : List ℕ). IsFirstFrom l low (Some start)) parts first) in
+    let found : IsFirstHello front start = subst (λ (l : List ℕ). IsFirstHello l start) (sym parts) (start_more old more (Some start) silence here) in
+    let fits : start + 20 ≤ length front = hello_fits front start found.here in
+    let within : start ≤ length front = omega arith in
+    let all : IsVoiceOf (drop start front) new = subst (λ (l : List ℕ). IsVoiceOf l new) (whole front start within) voice in
+    subst (λ (k : ℕ). IsFirstHello front k × IsVoiceOf (drop k front) new) (sym same) (found, all)
+
+-- none is found
+pub unvoiced : (front old more : List ℕ) (i : Introduction) (low : ℕ) → IsHeardOf old i → i.voice ≡ None → front ≡ old ++ more
+    → low ≡ i.heard - 19 → IsFirstFrom front low None → IsVoiced front None
+unvoiced front old more i low h none parts size first =
+    let silence : HasNoHello old = subst (λ (o : Option Voice). IsVoiced old o) none h.voiced in
+    let from : low ≡ length old - 19 = size ∙ ap (λ (n : ℕ). n - 19) h.all in
+    let here : IsFirstFrom (old ++ more) (length old - 19) None =
+    subst (λ (n : ℕ). IsFirstFrom (old ++ more) n None) from (subst (λ (l : List ℕ). IsFirstFrom l low None) parts first) in
+    subst HasNoHello (sym parts) (start_more old more None silence here)

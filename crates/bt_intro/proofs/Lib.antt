@@ -1,0 +1,3 @@
+mod Searching
+mod Listening
+mod Hearing

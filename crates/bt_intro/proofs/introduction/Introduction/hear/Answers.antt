@@ -1,0 +1,48 @@
+use Rattle.std.proofs.Common.{◌≡◌, ◌∙◌, ℕ, List, ◌++◌, [], Some, Option, drop, refl, sym, subst}
+use Rattle.bt_intro.specs.declared.introduction.Introduction.{Introduction}
+use Rattle.bt_intro.specs.declared.voice.Voice.{Voice}
+use Rattle.bt_intro.specs.Hearing.{IsVoiced, IsVoiceOf}
+use Rattle.bt_intro.proofs.Searching.{whole}
+use Rattle.bt_intro.proofs.Hearing.{voiced, voiced_more, voiced_first, unvoiced, rest_is}
+use Rattle.bt_intro.proofs.introduction.Introduction.hear.Goals as goal
+use Rattle.bt_intro.proofs.introduction.Introduction.hear.Goals.{in-Some-voice, in_default-voice+in_default-find_hello}
+use Rattle.bt_intro.proofs.introduction.Introduction.hear.Goals.{in_default-voice+in-Some-find_hello+in_ok-voice+in-Some-1}
+use Rattle.bt_intro.proofs.introduction.Introduction.hear.Goals.{in_default-voice+in-Some-find_hello+in_ok-voice+in-None-1}
+
+by_voice : (front : List ℕ) (i : Introduction) (o : Option Voice) (j : Introduction) → j ≡ record { heard = i.heard; voice = o }
+    → IsVoiced front o → IsVoiced front j.voice
+by_voice front i o j e h = subst (λ (k : Introduction). IsVoiced front k.voice) (sym e) h
+
+pub returns-clause-ok : goal.returns-clause-ok
+returns-clause-ok c = λ old more h parts.
+    let lookup = c.in-Some.ensures.lookup in
+    let front = c.args.front.now in
+    let i = c.args.self.now in
+    record {
+      all = refl;
+      voiced = elim c.match-self.branch [
+        | in-Some-voice w ↦
+            let v = voiced old i w.in-Some-voice.voice h w.in-Some-voice.is in
+            let rest : c.in-Some.new.now ≡ more = rest_is front old more c.in-Some.new.now i.heard parts h.all (lookup.0.2 ∙ whole front i.heard lookup.0.0) in
+            let first : List ℕ = drop w.in-Some-voice.voice.start old in
+            let more_heard : IsVoiceOf (first ++ more) w.hear.new.self =
+            subst (λ (l : List ℕ). IsVoiceOf (first ++ l) w.hear.new.self) rest (w.hear.ensures.heard first v.1) in
+            by_voice front i (Some w.hear.new.self) c.match-self.self w.self-is (subst (λ (l : List ℕ). IsVoiced l (Some w.hear.new.self)) (sym parts)
+            (voiced_more old more w.in-Some-voice.voice w.hear.new.self v.0 w.hear.ensures.start more_heard))
+        | in_default-voice+in-Some-find_hello+in_ok-voice+in-Some-1 w ↦
+            let made = w.in_ok-voice.ensures in
+            let new : Voice = w.hear-in-Some-find_hello.new.self in
+            by_voice front i (Some new) c.match-self.self w.self-is
+            (voiced_first front old more i w.saturating_sub.result w.in-Some-find_hello.start new h w.in_default-voice.is parts w.saturating_sub.ensures
+            w.in-Some-find_hello.ensures (w.hear-in-Some-find_hello.ensures.start ∙ made.1) (w.hear-in-Some-find_hello.ensures.heard [] made.0))
+        | in_default-voice+in-Some-find_hello+in_ok-voice+in-None-1 w ↦
+            let made = w.in_ok-voice.ensures in
+            let new : Voice = w.hear-in-Some-find_hello.new.self in
+            by_voice front i (Some new) c.match-self.self w.self-is
+            (voiced_first front old more i w.saturating_sub.result w.in-Some-find_hello.start new h w.in_default-voice.is parts w.saturating_sub.ensures
+            w.in-Some-find_hello.ensures (w.hear-in-Some-find_hello.ensures.start ∙ made.1) (w.hear-in-Some-find_hello.ensures.heard [] made.0))
+        | in_default-voice+in_default-find_hello w ↦
+            by_voice front i i.voice c.match-self.self w.self-is (subst (λ (o : Option Voice). IsVoiced front o) (sym w.in_default-voice.is)
+            (unvoiced front old more i w.saturating_sub.result h w.in_default-voice.is parts w.saturating_sub.ensures w.in_default-find_hello.ensures))
+      ];
+    }

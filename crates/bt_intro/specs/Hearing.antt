@@ -1,0 +1,35 @@
+-- What the front of what one side sends says of that side.
+use Rattle.std.specs.Prelude.{◌≡◌, ◌≤◌, ◌⊎◌, ℕ, true, List, [], length, drop, Option, Some, None, IsSome}
+use Rattle.bt_wire.specs.declared.item.Item.{Item}
+use Rattle.bt_wire.specs.Streams.{Outcome, IsVerdict, awaiting}
+use Rattle.bt_judge.specs.Readings.{IsJudged}
+use Rattle.bt_jobs.specs.Others.{reader_of_other}
+use Rattle.bt_intro.specs.declared.introduction.Introduction.{Introduction}
+use Rattle.bt_intro.specs.declared.voice.Voice.{Voice}
+use Rattle.bt_intro.specs.Hellos.{IsFirstHello, HasNoHello}
+use Rattle.bt_intro.specs.Listening.{IsHeard, has_extended}
+
+-- The verdict of what a side sends, from its handshake on, as `--other` reads it; nothing is said without one.
+abbrev pub IsSaid : List ℕ → Outcome → Type 0
+IsSaid front v = (HasNoHello front × (v ≡ awaiting None [])) ⊎ ((k : ℕ) × IsFirstHello front k × IsVerdict reader_of_other (drop k front) v)
+
+-- nothing more is awaited: an extended handshake came, or a refusal, or the handshake and 1,000 messages
+abbrev pub HasSaidAll : Outcome → Type 0
+HasSaidAll v = (has_extended v.items ≡ true) ⊎ (IsSome v.refusal ⊎ (1001 ≤ length v.items))
+
+-- ---- what was heard
+
+-- these bytes were read by the reading, and heard by the listener
+pub record IsVoiceOf (b : List ℕ) (voice : Voice) : Type 0 where
+  pub items : List (ℕ × Item)
+  pub judged : IsJudged reader_of_other b items voice.reading
+  pub heard : IsHeard items voice.listener
+
+abbrev pub IsVoiced : List ℕ → Option Voice → Type 0
+IsVoiced front None = HasNoHello front
+IsVoiced front (Some voice) = IsFirstHello front voice.start × IsVoiceOf (drop voice.start front) voice
+
+-- all of this front was heard
+pub record IsHeardOf (front : List ℕ) (intro : Introduction) : Type 0 where
+  pub all : intro.heard ≡ length front
+  pub voiced : IsVoiced front intro.voice

@@ -1,0 +1,164 @@
+-- How far a stream is judged, piece by piece.
+use Rattle.std.proofs.Common.{◌≡◌, ℕ, ◌≤◌, ◌<◌, ◌-◌, ◌^◌, false, List, [], ◌++◌, length, take, drop, Option, Some, None, Err, refl, sym, ap, subst, ◌∙◌, arith}
+use Rattle.std.proofs.lemmas.List.{append-nil, append_assoc, length-drop, take_all, take-append-drop}
+use Rattle.std.specs.Prelude.{IsSome, is_some, Result, Ok}
+use Rattle.bt_wire.specs.declared.context.Own.{Own}
+use Rattle.bt_wire.specs.declared.fault.Refused.{Refused as Fault}
+use Rattle.bt_wire.specs.declared.item.Item.{Item}
+use Rattle.bt_wire.specs.declared.item.Refusal.{Refusal}
+use Rattle.bt_wire.specs.Streams.{Outcome, IsVerdict}
+use Rattle.bt_wire.proofs.VerdictLaws.{verdict_only, verdict_stays, verdict_items}
+use Rattle.bt_feed.specs.declared.stage.Stage.{Stage}
+use Rattle.bt_feed.specs.declared.stage.Stage.TheVariants as stage
+use Rattle.bt_feed.specs.Answers.{IsAnswer, after}
+use Rattle.bt_feed.specs.Feeds.{FeedState}
+use Rattle.bt_feed.specs.Pumps.{IsFed}
+use Rattle.bt_feed.specs.Stages.{limit_of, early, is_all, is_closed, refusal_of, Comes, stopped}
+use Rattle.bt_feed.specs.Transcripts.{with_items}
+use Rattle.bt_feed.proofs.Closed.{open_by, fault_more}
+use Rattle.bt_feed.proofs.Coming.{open_comes, fault_comes}
+use Rattle.bt_feed.proofs.Found.{early_has}
+use Rattle.bt_feed.proofs.Reading.{hand_open}
+use Rattle.bt_judge.specs.Readings.{ReadingState, reading_state, IsHeld, IsJudged, BeginsWith, IsStanding, IsPieceTaken}
+
+-- ---- the beginning
+
+pub first : (own : Own) (f : FeedState) → own.limit ≤ 1048576 → f ≡ record { stage = stage.Handshake own; held = []; refused = None }
+    → IsJudged own [] [] (reading_state f None)
+first own f le e =
+    let P : FeedState → Type 0 = λ g. IsJudged own [] [] (reading_state g None) in
+    subst P (sym e) (record {
+      limit = le;
+      now = stopped (stage.Handshake own) [] None;
+      is = open_comes (stage.Handshake own) [] (omega (arith, le)) (hand_open own);
+      items = refl;
+      refusal = refl;
+      held = λ _. record { comes = λ later v k. k; waits = hand_open own };
+    })
+
+-- ---- a piece more
+
+-- what follows the first bytes
+pub rest_is : (piece : List ℕ) (at : ℕ) → take (length piece - at) (drop at piece) ≡ drop at piece
+rest_is piece at = take_all (length piece - at) (drop at piece) (omega (arith, length-drop at piece))
+
+fed_verdict : (own : Own) (b : List ℕ) (xs : List (ℕ × Item)) (f g : FeedState) (bytes : List ℕ) (ys : List (ℕ × Item)) → IsHeld own b xs f
+    → IsFed f bytes ys g → (later : List ℕ) (v : Outcome) → Comes g.stage (g.held ++ later) v
+    → IsVerdict own ((b ++ bytes) ++ later) (with_items (xs ++ ys) v)
+fed_verdict own b xs f g bytes ys h m later v k =
+    let P : List ℕ → Type 0 = λ l. IsVerdict own l (with_items (xs ++ ys) v) in
+    let Q : List (ℕ × Item) → Type 0 = λ l. IsVerdict own (b ++ (bytes ++ later)) (record v { items = l }) in
+    subst P (sym (append_assoc b bytes later)) (subst Q (sym (append_assoc xs ys v.items)) (h.comes (bytes ++ later) (with_items ys v) (m.comes later v k)))
+
+goes_on : (own : Own) (b : List ℕ) (xs : List (ℕ × Item)) (f g : FeedState) (piece : List ℕ) (ys : List (ℕ × Item)) → own.limit ≤ 1048576
+    → limit_of g.stage ≤ 1048576 → IsHeld own b xs f → IsFed f piece ys g → is_closed g.stage g.held ≡ false
+    → IsJudged own (b ++ piece) (xs ++ ys) (reading_state g None)
+goes_on own b xs f g piece ys le limit h m waits =
+    let told = fed_verdict own b xs f g piece ys h m in
+    let last = stopped g.stage (g.held ++ []) None in
+    let P : List ℕ → Type 0 = λ l. IsVerdict own l (with_items (xs ++ ys) last) in
+    record {
+      limit = le;
+      now = with_items (xs ++ ys) last;
+      is = subst P (append-nil (b ++ piece)) (told [] last (open_comes g.stage (g.held ++ []) (omega (arith, limit))
+          (ap (is_closed g.stage) (append-nil g.held) ∙ waits)));
+      items = append-nil (xs ++ ys);
+      refusal = refl;
+      held = λ _. record { comes = told; waits = waits };
+    }
+
+stops : (own : Own) (b : List ℕ) (xs : List (ℕ × Item)) (f g : FeedState) (piece : List ℕ) (ys : List (ℕ × Item)) (n : ℕ) (r : Refusal)
+    → own.limit ≤ 1048576 → limit_of g.stage ≤ 1048576 → IsHeld own b xs f → IsFed f (take n piece) ys g → IsAnswer g (Err r)
+    → IsJudged own (b ++ piece) (xs ++ ys) (reading_state g (Some r))
+stops own b xs f g piece ys n r le limit h m a =
+    let rest = drop n piece in
+    let last = stopped g.stage (g.held ++ rest) (Some r) in
+    let P : Refusal → Type 0 = λ x. Comes g.stage (g.held ++ rest) (stopped g.stage (g.held ++ rest) (Some x)) in
+    let comes = subst P (sym a.2) (fault_comes g.stage (g.held ++ rest) a.0 (omega (arith, limit)) (fault_more g.stage g.held rest a.0 a.1)) in
+    let parts : (b ++ take n piece) ++ rest ≡ b ++ piece =
+    append_assoc b (take n piece) rest ∙ ap (λ (l : List ℕ). b ++ l) (take-append-drop n piece) in
+    let Q : List ℕ → Type 0 = λ l. IsVerdict own l (with_items (xs ++ ys) last) in
+    record {
+      limit = le;
+      now = with_items (xs ++ ys) last;
+      is = subst Q parts (fed_verdict own b xs f g (take n piece) ys h m rest last comes);
+      items = append-nil (xs ++ ys);
+      refusal = refl;
+      held = λ none. absurd (let bad : Some r ≡ None = none in cc);
+    }
+
+is_refused : (o : Option Refusal) (r : Refusal) → o ≡ Some r → IsSome o
+is_refused o r e = subst (λ (x : Option Refusal). IsSome x) (sym e) refl
+
+pub takes : (own : Own) (b : List ℕ) (xs : List (ℕ × Item)) (f g : FeedState) (piece : List ℕ) (ys : List (ℕ × Item)) (o : Option Refusal)
+    → own.limit ≤ 1048576 → limit_of g.stage ≤ 1048576 → IsHeld own b xs f → IsPieceTaken f piece ys g (Ok o)
+    → IsJudged own (b ++ piece) (xs ++ ys) (reading_state g o)
+takes own b xs f g piece ys None le limit h e = goes_on own b xs f g piece ys le limit h e.0 e.1
+takes own b xs f g piece ys (Some r) le limit h e = stops own b xs f g piece ys e.0 r le limit h e.1 e.2
+
+-- what follows a refusal
+pub passes : (own : Own) (b : List ℕ) (xs : List (ℕ × Item)) (s : ReadingState) (more : List ℕ) → IsSome s.refused → IsJudged own b xs s
+    → IsJudged own (b ++ more) (xs ++ []) s
+passes own b xs s more some j =
+    let limit = j.limit in
+    let P : Option Refusal → Type 0 = λ o. IsSome o in
+    record {
+      limit = limit;
+      now = record j.now { tail = j.now.tail ++ more };
+      is = verdict_stays own b more j.now (omega (arith, limit)) j.is (subst P (sym j.refusal) some);
+      items = j.items ∙ sym (append-nil xs);
+      refusal = j.refusal;
+      held = λ none. absurd (let bad = subst P none some in cc);
+    }
+
+pub none_by : (o : Option Refusal) → is_some o ≡ false → o ≡ None
+none_by None e = refl
+none_by (Some r) e = absurd cc
+
+-- ---- a fault of the sink
+
+nothing_whole : (t : Stage) → is_all t [] ≡ false
+nothing_whole (stage.Handshake own) = refl
+nothing_whole (stage.Message c o s n) = refl
+
+nothing_by : (t : Stage) (o : Option Fault) → limit_of t < 2 ^ 32 → early t [] ≡ o → (v : Outcome) × Comes t [] v × (v.items ≡ [])
+nothing_by t (Some f) lt e = (stopped t [] (Some (refusal_of t f)), fault_comes t [] f lt (early_has t [] f e), refl)
+nothing_by t None lt e = (stopped t [] None, open_comes t [] lt (open_by t [] e (nothing_whole t)), refl)
+
+-- an item that is taken leaves nothing
+pub nothing_held : (p g : FeedState) (item : Item) {answer : Result (Option Item) Refusal} → answer ≡ Ok (Some item) → g ≡ after p answer → g.held ≡ []
+nothing_held p g item e after_is = ap (λ (f : FeedState). f.held) (after_is ∙ ap (after p) e)
+
+pub begins : (own : Own) (b : List ℕ) (xs : List (ℕ × Item)) (f g : FeedState) (piece : List ℕ) (ys : List (ℕ × Item)) (n : ℕ)
+    → own.limit ≤ 1048576 → limit_of g.stage ≤ 1048576 → IsHeld own b xs f → IsFed f (take n piece) ys g → g.held ≡ []
+    → BeginsWith own (b ++ piece) (xs ++ ys)
+begins own b xs f g piece ys n le limit h m none v is =
+    let front = (b ++ take n piece) ++ [] in
+    let rest = drop n piece in
+    let here = nothing_by g.stage (early g.stage []) (omega (arith, limit)) refl in
+    let P : List ℕ → Type 0 = λ l. Comes g.stage l here.0 in
+    let told = fed_verdict own b xs f g (take n piece) ys h m [] here.0 (subst P (sym (append-nil g.held ∙ none)) here.1) in
+    let parts : b ++ piece ≡ front ++ rest =
+    ap (λ (l : List ℕ). b ++ l) (sym (take-append-drop n piece)) ∙ sym (append_assoc b (take n piece) rest)
+    ∙ ap (λ (l : List ℕ). l ++ rest) (sym (append-nil (b ++ take n piece))) in
+    let Q : List ℕ → Type 0 = λ l. IsVerdict own l v in
+    let more = verdict_items own front rest (with_items (xs ++ ys) here.0) v (omega (arith, le)) told (subst Q parts is) in (
+      more.0,
+      more.1 ∙ ap (λ (l : List (ℕ × Item)). l ++ more.0) (ap (λ (l : List (ℕ × Item)). (xs ++ ys) ++ l) here.2 ∙ append-nil (xs ++ ys)),
+    )
+
+-- ---- a refusal that stands
+
+stands_by : (own : Own) (b : List ℕ) (xs : List (ℕ × Item)) (s : ReadingState) (o : Option Refusal) → s.refused ≡ o → IsJudged own b xs s
+    → IsStanding own b o
+stands_by own b xs s None e j = λ v is.
+    let limit = j.limit in
+    ap (λ (u : Outcome). u.refusal) (verdict_only own b v j.now (omega (arith, limit)) is j.is) ∙ j.refusal ∙ e
+stands_by own b xs s (Some r) e j = λ later v is.
+    let limit = j.limit in
+    let stays = verdict_stays own b later j.now (omega (arith, limit)) j.is (is_refused j.now.refusal r (j.refusal ∙ e)) in
+    ap (λ (u : Outcome). u.refusal) (verdict_only own (b ++ later) v (record j.now { tail = j.now.tail ++ later }) (omega (arith, limit)) is stays) ∙ j.refusal
+    ∙ e
+
+pub stands : (own : Own) (b : List ℕ) (xs : List (ℕ × Item)) (s : ReadingState) → IsJudged own b xs s → IsStanding own b s.refused
+stands own b xs s j = stands_by own b xs s s.refused refl j

@@ -1,0 +1,61 @@
+-- How far a stream is read by one rule set, and what may be told of it.
+use Rattle.std.specs.Prelude.{◌≡◌, ◌≤◌, ℕ, false, List, [], ◌++◌, length, take, Option, Some, None, Result, Ok, Err}
+use Rattle.bt_wire.specs.declared.context.Own.{Own}
+use Rattle.bt_wire.specs.declared.item.Item.{Item}
+use Rattle.bt_wire.specs.declared.item.Refusal.{Refusal}
+use Rattle.bt_wire.specs.Streams.{Outcome, IsVerdict}
+use Rattle.bt_text.specs.declared.ended.Ended.{Ended}
+use Rattle.bt_text.specs.Lines.{ended_as}
+use Rattle.bt_feed.specs.declared.sink.SinkFault.{SinkFault}
+use Rattle.bt_feed.specs.Answers.{IsAnswer}
+use Rattle.bt_feed.specs.Feeds.{FeedState}
+use Rattle.bt_feed.specs.Pumps.{IsFed}
+use Rattle.bt_feed.specs.Stages.{is_all, is_closed, Comes}
+use Rattle.bt_feed.specs.Transcripts.{with_items}
+
+-- a parser, and the refusal after which it gets no more bytes
+pub record ReadingState : Type 0 where
+  pub feed : FeedState
+  pub refused : Option Refusal
+
+abbrev pub reading_state : FeedState → Option Refusal → ReadingState
+reading_state feed refused = record { feed = feed; refused = refused }
+
+-- b went into the feed and has these items; the feed holds what follows them, which is no whole item
+pub record IsHeld (own : Own) (b : List ℕ) (xs : List (ℕ × Item)) (f : FeedState) : Type 0 where
+  pub comes : (later : List ℕ) (v : Outcome) → Comes f.stage (f.held ++ later) v → IsVerdict own (b ++ later) (with_items xs v)
+  pub waits : is_closed f.stage f.held ≡ false
+
+-- b was taken, and these are its items. Its verdict has the refusal that is kept, or none; without one the feed holds the rest of b.
+pub record IsJudged (own : Own) (b : List ℕ) (xs : List (ℕ × Item)) (r : ReadingState) : Type 0 where
+  pub limit : own.limit ≤ 1048576
+  pub now : Outcome
+  pub is : IsVerdict own b now
+  pub items : now.items ≡ xs
+  pub refusal : now.refusal ≡ r.refused
+  pub held : r.refused ≡ None → IsHeld own b xs r.feed
+
+-- b begins with these items, whatever they are followed by
+abbrev pub BeginsWith : Own → List ℕ → List (ℕ × Item) → Type 0
+BeginsWith own b xs = (v : Outcome) → IsVerdict own b v → (more : List (ℕ × Item)) × (v.items ≡ xs ++ more)
+
+-- the verdict of b, if the stream ends there; these are its items
+abbrev pub IsTold : Own → List ℕ → List (ℕ × Item) → Ended → Type 0
+IsTold own b xs e = (v : Outcome) × IsVerdict own b v × (v.items ≡ xs) × (e ≡ ended_as v (length b))
+
+-- b is refused in this way, and so is all that begins with b; or b isn't refused
+abbrev pub IsStanding : Own → List ℕ → Option Refusal → Type 0
+IsStanding own b None = (v : Outcome) → IsVerdict own b v → v.refusal ≡ None
+IsStanding own b (Some r) = (later : List ℕ) (v : Outcome) → IsVerdict own (b ++ later) v → v.refusal ≡ Some r
+
+-- ---- for private contracts, and for the invariant
+
+-- a piece is read, and no whole item is held; or its front is, and what follows is refused, or the last item isn't taken
+abbrev pub IsPieceTaken : FeedState → List ℕ → List (ℕ × Item) → FeedState → Result (Option Refusal) SinkFault → Type 0
+IsPieceTaken f piece xs g (Ok None) = IsFed f piece xs g × (is_closed g.stage g.held ≡ false)
+IsPieceTaken f piece xs g (Ok (Some r)) = (n : ℕ) × IsFed f (take n piece) xs g × IsAnswer g (Err r)
+IsPieceTaken f piece xs g (Err e) = (n : ℕ) × IsFed f (take n piece) xs g × (g.held ≡ [])
+
+-- no whole item is held that wasn't taken
+abbrev pub HoldsNoItem : ReadingState → Type 0
+HoldsNoItem r = r.refused ≡ None → is_all r.feed.stage r.feed.held ≡ false

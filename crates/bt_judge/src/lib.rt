@@ -1,0 +1,12 @@
+//! Verdicts of a stream whose bytes come piece by piece, by both rule sets.
+//!
+//! What follows a piece isn't known, so a verdict that stands only at the stream's end is told on request. Capture files and
+//! segments don't belong here.
+#![tactic(auto)]
+
+mod judge;
+mod piece;
+mod reading;
+
+pub use judge::{Judge, Verdicts};
+pub use reading::Reading;

@@ -1,0 +1,179 @@
+//! A stream that is read by one rule set, and its verdict.
+ghost use Rattle.std.specs.Prelude.{◌≡◌, ◌<◌, ◌≤◌, ◌++◌, ℕ, List, [], length, MatchResult, IfOk, OnOk, OnErr};
+ghost use Rattle.bt_wire.specs.declared.context.Own.{Own};
+ghost use Rattle.bt_wire.specs.declared.item.Item.{Item};
+ghost use Rattle.bt_feed.specs.Pumps.{Took, IsMissed};
+ghost use Rattle.bt_feed.specs.Stages.{limit_of};
+ghost use Rattle.bt_io.specs.Counts.{Grew};
+ghost use Rattle.bt_judge.specs.Readings.{IsJudged, BeginsWith, IsTold, IsStanding, IsPieceTaken};
+
+use crate::piece::Piece;
+use bt_feed::{Feed, Finish, PumpError, Sink, SinkFault, pump_with, refusal_in};
+use bt_text::ended::Ended;
+use bt_wire::{Own, Refusal};
+use std::alloc::{AllocError, Global};
+use std::marker::Model;
+
+/// Gives the sink the items that a piece completes, and returns the refusal that it leads to.
+///
+/// It copies all of the piece into the buffer of the feed.
+fn push_piece<S: Sink>(
+    feed: &mut Feed,
+    piece: &[u8],
+    sink: &mut S,
+) -> Result<Option<Refusal>, SinkFault>
+    ensures items { (xs : List (ℕ × Item)) × IsPieceTaken feed.old piece.now xs feed.new result
+        × MatchResult result (λ _. Took S.takes sink.old xs sink.new) (λ e. IsMissed S.takes S.misses e sink.old xs sink.new) }
+    ensures calm { OnOk result (S.failed sink.new ≡ S.failed sink.old) }
+    ensures sink { OnErr result (Grew (S.failed sink.old) (S.failed sink.new)) }
+    ensures limit { limit_of feed.new.stage ≤ 1048576 }
+{
+    let mut at = 0;
+    'items: loop {
+        at += feed.push(&piece[at..]);
+        let start = feed.start();
+        match feed.take() {
+            Ok(Some(view)) => match sink.item(start, &view) {
+                Ok(()) => {}
+                Err(fault) => return Err(fault),
+            },
+            Ok(None) => return Ok(None),
+            Err(error) => return Ok(Some(refusal_in(error))),
+        }
+    }
+}
+
+/// Gives the sink the items that a piece completes, and returns the refusal that it leads to.
+///
+/// Its whole messages aren't copied into the buffer of the feed, if `buffer` has room for all of it.
+fn read_piece<S: Sink>(
+    feed: &mut Feed,
+    piece: &[u8],
+    sink: &mut S,
+    buffer: &mut [u8],
+) -> Result<Option<Refusal>, SinkFault>
+    requires { 0 < length buffer.old }
+    ensures items { (xs : List (ℕ × Item)) × IsPieceTaken feed.old piece.now xs feed.new result
+        × MatchResult result (λ _. Took S.takes sink.old xs sink.new) (λ e. IsMissed S.takes S.misses e sink.old xs sink.new) }
+    ensures calm { OnOk result (S.failed sink.new ≡ S.failed sink.old) }
+    ensures sink { OnErr result (Grew (S.failed sink.old) (S.failed sink.new)) }
+    ensures limit { limit_of feed.new.stage ≤ 1048576 }
+{
+    if piece.is_empty() {
+        return push_piece(feed, piece, sink);
+    }
+    let mut source = Piece::new(piece);
+    match pump_with(&mut source, feed, sink, 1, buffer) {
+        Err(PumpError::Turns) => push_piece(feed, source.rest(), sink),
+        Err(PumpError::Refused(refusal)) => {
+            let _ = feed.start();
+            Ok(Some(refusal))
+        }
+        Err(PumpError::Sink(fault)) => {
+            let _ = feed.start();
+            Err(fault)
+        }
+        Err(PumpError::ReadFault) => unreachable!(),
+        Ok(_) => unreachable!(),
+    }
+}
+
+/// A stream that is read by one rule set, as its bytes come.
+///
+/// It has a parser, whose buffer is reserved once. However the stream is split into pieces, the items and the verdict are the same.
+#[derive(Drop)]
+pub struct Reading {
+    feed: Feed,
+    refused: Option<Refusal>,
+}
+
+impl Model for Reading {
+    ghost use Rattle.bt_judge.specs.Readings.{ReadingState, reading_state, HoldsNoItem};
+
+    ghost Value = { ReadingState };
+
+    ghost view = { λ r. reading_state r.feed r.refused };
+
+    ghost invariant = { λ r. HoldsNoItem (reading_state r.feed r.refused) };
+}
+
+impl Reading {
+    /// Makes a reading of a stream of which no byte has come.
+    ///
+    /// `own` describes the receiver of the stream. The larger of 68 and `own.limit` + 4 bytes are reserved; nothing else takes memory.
+    ///
+    /// # Errors
+    /// `AllocError` when out of memory.
+    pub fn new(alloc: Global, own: Own) -> Result<Reading, AllocError>
+        requires { (1 ≤ own.limit) × (own.limit ≤ 1048576) }
+        ensures { IfOk result (λ reading. IsJudged own [] [] reading) }
+    {
+        match Feed::new(alloc, own) {
+            Ok(feed) => Ok(Reading {
+                feed,
+                refused: None,
+            }),
+            Err(_) => Err(AllocError),
+        }
+    }
+
+    /// Takes the next bytes of the stream, and gives the sink each item that they complete.
+    ///
+    /// Each item comes with the offset at which it starts. After a refusal the bytes are passed over. `buffer` isn't empty; it's best as
+    /// long as `bytes`. It takes no memory, except what the sink does.
+    ///
+    /// # Errors
+    /// The fault of the sink, which didn't take the last item that it was given. Nothing more is known of the stream then.
+    pub fn take<S: Sink>(
+        &mut self,
+        bytes: &[u8],
+        sink: &mut S,
+        buffer: &mut [u8],
+    ) -> Result<(), SinkFault>
+        requires { 0 < length buffer.old }
+        ensures judged { (own : Own) (b : List ℕ) (xs : List (ℕ × Item)) → IsJudged own b xs self.old
+            → (ys : List (ℕ × Item))
+            × MatchResult result (λ _. Took S.takes sink.old ys sink.new × IsJudged own (b ++ bytes.now) (xs ++ ys) self.new)
+            (λ e. IsMissed S.takes S.misses e sink.old ys sink.new × BeginsWith own (b ++ bytes.now) (xs ++ ys)) }
+        ensures calm { OnOk result (S.failed sink.new ≡ S.failed sink.old) }
+        ensures sink { OnErr result (Grew (S.failed sink.old) (S.failed sink.new)) }
+    {
+        if self.refused.is_some() {
+            return Ok(());
+        }
+        match read_piece(&mut self.feed, bytes, sink, buffer) {
+            Ok(refused) => {
+                self.refused = refused;
+                Ok(())
+            }
+            Err(fault) => Err(fault),
+        }
+    }
+
+    /// Returns the verdict of the stream, if it ends here.
+    ///
+    /// Inside an item that is a refusal (`EndInside`), which further bytes may undo.
+    pub fn ended(&self) -> Ended
+        ensures { (own : Own) (b : List ℕ) (xs : List (ℕ × Item)) → IsJudged own b xs self.now → IsTold own b xs result }
+    {
+        if let Some(refusal) = self.refused {
+            return Ended::Refused(refusal);
+        }
+        let number = self.feed.number();
+        match self.feed.finish() {
+            Ok(bytes) => Ended::Accepted {
+                messages: number - 1,
+                bytes,
+            },
+            Err(Finish::Refused(refusal)) => Ended::Refused(refusal),
+            Err(Finish::Untaken) => unreachable!(),
+        }
+    }
+
+    /// Returns the refusal of the stream that no further byte undoes, if there is one.
+    pub fn refusal(&self) -> Option<Refusal>
+        ensures { (own : Own) (b : List ℕ) (xs : List (ℕ × Item)) → IsJudged own b xs self.now → IsStanding own b result }
+    {
+        self.refused
+    }
+}

@@ -1,5 +1,0 @@
-use Rattle.bt_net.proofs.Fetching as fetching
-use Rattle.bt_net.proofs.laws.rounds_are_steps.Goals as goal
-
-pub returns : goal.returns
-returns c = fetching.rounds_are_steps

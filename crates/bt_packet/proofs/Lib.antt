@@ -1,0 +1,10 @@
+pub mod Types
+pub mod Extensions
+pub mod Packets
+pub mod Segments
+pub mod Frames
+pub mod Texts
+pub mod Found
+pub mod FoundIp
+pub mod Read
+pub mod Told

@@ -1,0 +1,79 @@
+-- What the definitions on types give, case by case.
+use Rattle.std.proofs.Common.{◌≡◌, ℕ, ◌-◌, ◌<◌, ◌≤◌, List, [], ◌∷◌, length, get_or, take, drop, Some, None, true, false, option_and_then, ap, sym, ◌∙◌, refl, arith}
+use Rattle.std.proofs.lemmas.List.{take_rest, length-drop}
+use Rattle.bt_packet.specs.Bytes.{word, after}
+use Rattle.bt_packet.specs.Links.{is_tag, is_ip, after_type, typed, cooked}
+
+-- what follows n bytes is shorter
+pub shorter : (bytes : List ℕ) (n : ℕ) → 0 < n → n ≤ length bytes → length (take (length bytes - n) (drop n bytes)) < length bytes
+shorter bytes n some h = rw (take_rest bytes n) (omega (arith, length-drop n bytes))
+
+-- a tag is stepped over
+pub after_tag : (type : ℕ) (bytes : List ℕ) (next : ℕ) → is_tag type ≡ true → 4 ≤ length bytes → next ≡ word (get_or bytes 2 0) (get_or bytes 3 0)
+    → after_type type bytes ≡ after_type next (take (length bytes - 4) (drop 4 bytes))
+unfolding after_type
+after_tag type (a ∷ b ∷ c ∷ d ∷ rest) next tag h e = rw (tag, e, take_rest (a ∷ b ∷ c ∷ d ∷ rest) 4) refl
+after_tag type (a ∷ b ∷ c ∷ []) next tag h e = absurd (omega arith)
+after_tag type (a ∷ b ∷ []) next tag h e = absurd (omega arith)
+after_tag type (a ∷ []) next tag h e = absurd (omega arith)
+after_tag type [] next tag h e = absurd (omega arith)
+
+-- a tag that isn't whole
+pub cut_tag : (type : ℕ) (bytes : List ℕ) → is_tag type ≡ true → length bytes < 4 → after_type type bytes ≡ None
+unfolding after_type
+cut_tag type (a ∷ b ∷ c ∷ d ∷ rest) tag h = absurd (omega arith)
+cut_tag type (a ∷ b ∷ c ∷ []) tag h = rw tag refl
+cut_tag type (a ∷ b ∷ []) tag h = rw tag refl
+cut_tag type (a ∷ []) tag h = rw tag refl
+cut_tag type [] tag h = rw tag refl
+
+-- a packet
+pub after_ip : (type : ℕ) (bytes : List ℕ) → is_tag type ≡ false → is_ip type ≡ true → after_type type bytes ≡ Some bytes
+unfolding after_type
+after_ip type (a ∷ b ∷ c ∷ d ∷ rest) tag ip = rw tag (rw ip refl)
+after_ip type (a ∷ b ∷ c ∷ []) tag ip = rw tag (rw ip refl)
+after_ip type (a ∷ b ∷ []) tag ip = rw tag (rw ip refl)
+after_ip type (a ∷ []) tag ip = rw tag (rw ip refl)
+after_ip type [] tag ip = rw tag (rw ip refl)
+
+-- another type
+pub after_other : (type : ℕ) (bytes : List ℕ) → is_tag type ≡ false → is_ip type ≡ false → after_type type bytes ≡ None
+unfolding after_type
+after_other type (a ∷ b ∷ c ∷ d ∷ rest) tag ip = rw tag (rw ip refl)
+after_other type (a ∷ b ∷ c ∷ []) tag ip = rw tag (rw ip refl)
+after_other type (a ∷ b ∷ []) tag ip = rw tag (rw ip refl)
+after_other type (a ∷ []) tag ip = rw tag (rw ip refl)
+after_other type [] tag ip = rw tag (rw ip refl)
+
+pub typed_whole : (bytes : List ℕ) (type : ℕ) → 2 ≤ length bytes → type ≡ word (get_or bytes 0 0) (get_or bytes 1 0)
+    → typed bytes ≡ after_type type (take (length bytes - 2) (drop 2 bytes))
+unfolding typed
+typed_whole (a ∷ b ∷ rest) type h e = rw (e, take_rest (a ∷ b ∷ rest) 2) refl
+typed_whole (a ∷ []) type h e = absurd (omega arith)
+typed_whole [] type h e = absurd (omega arith)
+
+pub typed_cut : (bytes : List ℕ) → length bytes < 2 → typed bytes ≡ None
+unfolding typed
+typed_cut (a ∷ b ∷ rest) h = absurd (omega arith)
+typed_cut (a ∷ []) h = refl
+typed_cut [] h = refl
+
+pub cooked_whole : (bytes : List ℕ) (type : ℕ) → 2 ≤ length bytes → type ≡ word (get_or bytes 0 0) (get_or bytes 1 0)
+    → cooked bytes ≡ option_and_then (after_type type) (after 18 (take (length bytes - 2) (drop 2 bytes)))
+unfolding cooked
+cooked_whole (a ∷ b ∷ rest) type h e = rw (e, take_rest (a ∷ b ∷ rest) 2) refl
+cooked_whole (a ∷ []) type h e = absurd (omega arith)
+cooked_whole [] type h e = absurd (omega arith)
+
+pub cooked_cut : (bytes : List ℕ) → length bytes < 2 → cooked bytes ≡ None
+unfolding cooked
+cooked_cut (a ∷ b ∷ rest) h = absurd (omega arith)
+cooked_cut (a ∷ []) h = refl
+cooked_cut [] h = refl
+
+pub cooked_short : (bytes : List ℕ) → 2 ≤ length bytes → after 18 (take (length bytes - 2) (drop 2 bytes)) ≡ None → cooked bytes ≡ None
+cooked_short bytes h e = cooked_whole bytes (word (get_or bytes 0 0) (get_or bytes 1 0)) h refl ∙ ap (option_and_then (after_type (word (get_or bytes 0 0) (get_or bytes 1 0)))) e
+
+pub cooked_after : (bytes rest : List ℕ) (type : ℕ) → 2 ≤ length bytes → type ≡ word (get_or bytes 0 0) (get_or bytes 1 0)
+    → Some rest ≡ after 18 (take (length bytes - 2) (drop 2 bytes)) → cooked bytes ≡ after_type type rest
+cooked_after bytes rest type h e is = cooked_whole bytes type h e ∙ sym (ap (option_and_then (after_type type)) is)

@@ -1,0 +1,10 @@
+use Rattle.std.proofs.Common.{sym, ◌∙◌, arith}
+use Rattle.bt_packet.proofs.Types.{after_tag, shorter}
+use Rattle.bt_packet.proofs.link.after_type.Goals as goal
+
+pub loop-bytes-smaller : goal.loop-bytes-smaller
+loop-bytes-smaller c = shorter c.loop-bytes.bytes.now 4 (omega arith) c.in-len4-up.len_at_least
+
+pub loop-bytes-preserved : goal.loop-bytes-preserved
+loop-bytes-preserved c =
+    c.loop-bytes.invariant ∙ after_tag c.loop-bytes.kind c.loop-bytes.bytes.now c.from_be_bytes-kind.result (sym c.is_tag.ensures ∙ c.loop-bytes-test.true) c.in-len4-up.len_at_least c.from_be_bytes-kind.ensures

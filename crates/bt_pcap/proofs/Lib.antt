@@ -1,0 +1,16 @@
+pub mod OptionProofs
+pub mod Bodies
+pub mod NumberLaws
+pub mod Readings
+pub mod Resolution
+pub mod Firsts
+pub mod SameFront
+pub mod BodyLaws
+pub mod BodyAgain
+pub mod Cuts
+pub mod Complete
+pub mod Sound
+pub mod FaultLaws
+pub mod FaultAgain
+pub mod StepLaws
+pub mod LawProofs

@@ -1,0 +1,64 @@
+-- What the options of an interface say, option by option.
+use Rattle.std.proofs.Common.{◌≡◌, ℕ, zero, suc, ◌-◌, ◌<◌, ◌≤◌, true, false, List, length, take, drop, get_or, refl, sym, ap, subst, ◌∙◌, arith, Option}
+use Rattle.std.proofs.Common.{Some, None, unwrap_or}
+use Rattle.std.proofs.lemmas.Bool.Decides.{nat_tests}
+use Rattle.std.proofs.lemmas.List.{length-drop, take_all}
+use Rattle.std.specs.Option.{SomeIff}
+use Rattle.bt_pcap.specs.declared.numbers.Order.{Order}
+use Rattle.bt_pcap.specs.Numbers.{number16}
+use Rattle.bt_pcap.specs.Times.{fitted}
+use Rattle.bt_pcap.specs.Options.{padded, is_resolution, resolution_in}
+
+pub ended : (fuel : ℕ) (order : Order) (rest : List ℕ) → length rest < 4 → 6 ≡ resolution_in fuel order rest
+ended zero order rest lt = refl
+ended (suc n) order rest lt = grind (arith, nat_tests)
+
+pub found : (fuel : ℕ) (order : Order) (rest value : List ℕ) → length rest ≤ fuel → 4 ≤ length rest → value ≡ drop 2 (drop 2 rest)
+    → is_resolution (number16 order rest) (number16 order (drop 2 rest)) ≡ true → get_or value 0 6 ≡ resolution_in fuel order rest
+found zero order rest value enough le e is = absurd (omega arith)
+found (suc n) order rest value enough le e is = grind (arith, nat_tests)
+
+pub cut : (fuel : ℕ) (order : Order) (rest value : List ℕ) → length rest ≤ fuel → 4 ≤ length rest → value ≡ drop 2 (drop 2 rest)
+    → is_resolution (number16 order rest) (number16 order (drop 2 rest)) ≡ false → length value < padded (number16 order (drop 2 rest))
+    → 6 ≡ resolution_in fuel order rest
+cut zero order rest value enough le e is lt = absurd (omega arith)
+cut (suc n) order rest value enough le e is lt = grind (arith, nat_tests)
+
+pub passed : (fuel : ℕ) (order : Order) (rest value : List ℕ) → length rest ≤ fuel → 4 ≤ length rest → value ≡ drop 2 (drop 2 rest)
+    → is_resolution (number16 order rest) (number16 order (drop 2 rest)) ≡ false → padded (number16 order (drop 2 rest)) ≤ length value
+    → (m : ℕ) × (length (drop (padded (number16 order (drop 2 rest))) value) ≤ m) × (resolution_in m order (drop (padded (number16 order
+    (drop 2 rest))) value) ≡ resolution_in fuel order rest)
+passed zero order rest value enough le e is ge = absurd (omega arith)
+passed (suc n) order rest value enough le e is ge = (
+  n,
+  omega (
+    arith,
+    length-drop (padded (number16 order (drop 2 rest))) value,
+    ap (length {A = ℕ}) e,
+    length-drop 2
+        (drop 2 rest),
+    length-drop 2 rest,
+  ),
+  grind (arith, nat_tests),
+)
+
+-- the same, at the code's values
+pub goes_on : (fuel : ℕ) (order : Order) (rest value : List ℕ) (size target : ℕ) → length rest ≤ fuel → 4 ≤ length rest
+    → value ≡ drop 2 (drop 2 rest) → size ≡ number16 order (drop 2 rest)
+    → is_resolution (number16 order rest) (number16 order (drop 2 rest)) ≡ false → padded size ≤ length value → resolution_in fuel order rest ≡ target
+    → (m : ℕ) × (length (take (length value - padded size) (drop (padded size) value)) ≤ m) × (resolution_in m order (take
+    (length value - padded size) (drop (padded size) value)) ≡ target)
+goes_on fuel order rest value size target enough le e s is ge t =
+    let after = passed fuel order rest value enough le e is (subst (λ (k : ℕ). padded k ≤ length value) s ge) in
+    let same : take (length value - padded size) (drop (padded size) value) ≡ drop (padded (number16 order (drop 2 rest))) value =
+    take_all (length value - padded size) (drop (padded size) value) (omega (arith, length-drop (padded size) value))
+    ∙ ap (λ (k : ℕ). drop (padded k) value) s in
+    (after.0, subst (λ (x : List ℕ). length x ≤ after.0) (sym same) after.1, ap (resolution_in after.0 order) same ∙ (after.2 ∙ t))
+
+-- a power that 64 bits hold, or 1
+pub power : (o : Option ℕ) (n : ℕ) → SomeIff o (n < 18446744073709551616) n → unwrap_or o 1 ≡ fitted n
+power (Some x) n h = grind (arith, nat_tests)
+power None n h = grind (arith, nat_tests)
+
+pub fitted_pos : (n : ℕ) → 0 < n → 0 < fitted n
+fitted_pos n lt = grind (arith, nat_tests)

@@ -1,0 +1,15 @@
+pub mod Sizes
+pub mod Numbers
+pub mod Interfaces
+pub mod Times
+pub mod Options
+pub mod Formats
+pub mod Packets
+pub mod Items
+pub mod Reading
+pub mod Faults
+pub mod Steps
+pub mod Files
+pub mod Captures
+pub mod Laws
+pub mod Texts

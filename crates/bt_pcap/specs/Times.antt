@@ -1,0 +1,18 @@
+-- Time stamps in nanoseconds.
+use Rattle.std.specs.Prelude.{ℕ, ◌+◌, ◌-◌, ◌*◌, ◌/◌, ◌^◌, min, if◌then◌else◌, nat_lt, nat_le}
+
+-- a unit that 64 bits don't hold counts as one second
+abbrev pub fitted : ℕ → ℕ
+fitted unit = if nat_lt unit (2 ^ 64) then unit else 1
+
+-- the time stamps in a second, by the option if_tsresol (draft-ietf-opsawg-pcapng 4.2): a power of 2 if the highest bit is set, else of 10
+abbrev pub unit_of : ℕ → ℕ
+unit_of v = fitted (if nat_le 128 v then 2 ^ (v - 128) else 10 ^ v)
+
+-- the nanoseconds of a time stamp of a pcapng file, at most the greatest number of 64 bits
+unfoldable pub nanos_of : ℕ → ℕ → ℕ
+nanos_of v ticks = min (ticks * 1000000000 / unit_of v) (2 ^ 64 - 1)
+
+-- the nanoseconds of a time stamp of a pcap file, whose fraction counts this many nanoseconds
+abbrev pub nanos_in : ℕ → ℕ → ℕ → ℕ
+nanos_in scale seconds fraction = seconds * 1000000000 + fraction * scale

@@ -1,0 +1,124 @@
+//! The bodies of pcapng blocks.
+ghost use Rattle.std.specs.Prelude.{◌≡◌, ◌≤◌, length};
+ghost use Rattle.std.specs.Option.{option_map};
+ghost use Rattle.bt_pcap.specs.Interfaces.{interfaces_of};
+ghost use Rattle.bt_pcap.specs.Packets.{packet_on};
+ghost use Rattle.bt_pcap.specs.Reading.{read_stamped, read_packet, read_interface, read_interfaces, least};
+ghost use Rattle.bt_pcap.specs.Steps.{captured};
+
+use crate::fronts::{KEEP, Packet};
+use crate::interfaces::{Interface, Interfaces};
+use crate::numbers::{Order, at_most, u16_at, u32_at};
+use crate::options::{nanos, resolution};
+
+/// The type of an interface description block.
+const INTERFACE: u32 = 1;
+/// The type of an obsolete packet block.
+const OBSOLETE: u32 = 2;
+/// The type of a simple packet block.
+const SIMPLE: u32 = 3;
+/// The type of an enhanced packet block.
+const ENHANCED: u32 = 6;
+
+/// Returns the length of the fields that a body of that type has at least.
+#[tactic(auto, unfolding(crate::specs::Reading::least))]
+pub(crate) fn least_body(kind: u32) -> u32
+    ensures { result ≡ least kind }
+{
+    match kind {
+        INTERFACE => 8,
+        OBSOLETE | ENHANCED => 20,
+        SIMPLE => 4,
+        _ => 0,
+    }
+}
+
+/// Reads an interface description.
+fn interface(order: Order, body: &[u8]) -> Interface
+    requires { 8 ≤ length body.now }
+    ensures { result ≡ read_interface order body.now }
+{
+    let (link, rest) = u16_at(order, body);
+    let (_, rest) = u16_at(order, rest);
+    let (_, options) = u32_at(order, rest);
+    Interface {
+        link,
+        resolution: resolution(order, at_most(options, KEEP)),
+    }
+}
+
+/// Notes the interface that a block describes, if it does.
+#[tactic(auto, unfolding(crate::specs::Reading::read_interfaces, crate::specs::Reading::least))]
+pub(crate) fn note(interfaces: &mut Interfaces, order: Order, kind: u32, body: &[u8])
+    requires { least kind ≤ length body.now }
+    ensures { interfaces_of interfaces.new ≡ read_interfaces order (interfaces_of interfaces.old) kind body.now }
+{
+    if kind == INTERFACE {
+        interfaces.note(interface(order, body));
+    }
+}
+
+/// Makes a packet of an interface, if the interface is noted.
+fn packet(interface: Option<Interface>, ticks: u64, bytes: &[u8], length: u32) -> Option<Packet<'_>>
+    ensures { option_map captured result ≡ packet_on interface ticks bytes.now length }
+{
+    match interface {
+        None => None,
+        Some(interface) => Some(Packet {
+            link: u32::from(interface.link),
+            nanos: nanos(ticks, interface.resolution),
+            bytes: at_most(bytes, KEEP),
+            length,
+        }),
+    }
+}
+
+/// Reads a packet from its time stamp on.
+#[tactic(auto, unfolding(crate::specs::Reading::read_stamped))]
+fn stamped<'a>(
+    order: Order,
+    interfaces: &Interfaces,
+    number: usize,
+    bytes: &'a [u8],
+) -> Option<Packet<'a>>
+    requires { 16 ≤ length bytes.now }
+    ensures { option_map captured result ≡ read_stamped order (interfaces_of interfaces.now) number bytes.now }
+{
+    let (high, rest) = u32_at(order, bytes);
+    let (low, rest) = u32_at(order, rest);
+    let (captured, rest) = u32_at(order, rest);
+    let (length, rest) = u32_at(order, rest);
+    let ticks = u64::from(high) * 0x1_0000_0000 + u64::from(low);
+    let bytes = at_most(rest, captured as usize);
+    packet(interfaces.get(number), ticks, bytes, length)
+}
+
+/// Reads the packet of a block, if it has one.
+#[tactic(auto, unfolding(crate::specs::Reading::read_packet, crate::specs::Reading::least))]
+pub(crate) fn packet_of<'a>(
+    order: Order,
+    interfaces: &Interfaces,
+    kind: u32,
+    body: &'a [u8],
+) -> Option<Packet<'a>>
+    requires { least kind ≤ length body.now }
+    ensures { option_map captured result ≡ read_packet order (interfaces_of interfaces.now) kind body.now }
+{
+    match kind {
+        ENHANCED => {
+            let (number, rest) = u32_at(order, body);
+            stamped(order, interfaces, number as usize, rest)
+        }
+        OBSOLETE => {
+            let (number, rest) = u16_at(order, body);
+            let (_, rest) = u16_at(order, rest);
+            stamped(order, interfaces, usize::from(number), rest)
+        }
+        SIMPLE => {
+            let (length, rest) = u32_at(order, body);
+            let bytes = at_most(rest, length as usize);
+            packet(interfaces.get(0), 0, bytes, length)
+        }
+        _ => None,
+    }
+}

@@ -1,0 +1,5 @@
+pub mod SetProofs
+pub mod RequestProofs
+pub mod HistoryProofs
+pub mod EndProofs
+pub mod LawProofs

@@ -1,0 +1,10 @@
+pub mod Sets
+pub mod Requests
+pub mod Said
+pub mod Tables
+pub mod Known
+pub mod Remarked
+pub mod Ends
+pub mod Laws
+pub mod Steps
+pub mod Matched

@@ -1,0 +1,35 @@
+-- One event, as the code keeps what it knows of a side.
+use Rattle.std.specs.Prelude.{◌≡◌, ℕ, ◌||◌, Bool}
+use Rattle.bt_remarks.specs.Said.{Message, asked_block, asked_metadata, answered_block, answered_metadata}
+use Rattle.bt_remarks.specs.declared.halves.Half.{Half}
+use Rattle.bt_remarks.specs.Known.{choking_after, choke_after, all_after, named_after, allowed_after, came_after}
+use Rattle.bt_remarks.specs.Sets.{has_bit}
+use Rattle.bt_remarks.specs.Requests.{is_unasked, is_again}
+use Rattle.bt_remarks.specs.Tables.{request_at, IsAfter}
+use Rattle.bt_remarks.specs.declared.pieces.PieceSet.{PieceSet}
+
+abbrev pub has : PieceSet → ℕ → Bool
+has pieces = has_bit pieces.field.items
+
+-- whether an answer has no pending request of this side
+abbrev pub unasks : Half → Message → Bool
+unasks half message =
+    is_unasked (answered_block message) half.blocks.overflowed (request_at half.blocks)
+    || is_unasked (answered_metadata message) half.metadata.overflowed (request_at half.metadata)
+
+-- whether a request of this side is of a block with a pending one
+abbrev pub asks_again : Half → Message → Bool
+asks_again half message =
+    is_again (asked_block message) half.blocks.overflowed (request_at half.blocks)
+    || is_again (asked_metadata message) half.metadata.overflowed (request_at half.metadata)
+
+-- The side said the first event, and heard the second.
+pub record IsHalfAfter (says hears : Message) (known : Bool) (number mark : ℕ) (old new : Half) : Type 0 where
+  pub choking : new.is_choking ≡ choking_after says old.is_choking
+  pub choke : new.choke ≡ choke_after says number old.choke
+  pub all : new.has_all ≡ all_after says known old.has_all
+  pub named : (k : ℕ) → has new.named k ≡ named_after says known k (has old.named k)
+  pub allowed : (k : ℕ) → has new.allowed k ≡ allowed_after hears k (has old.allowed k)
+  pub came : (k : ℕ) → has new.came k ≡ came_after hears k (has old.came k)
+  pub blocks : IsAfter (asked_block says) (answered_block hears) number mark old.blocks new.blocks
+  pub metadata : IsAfter (asked_metadata says) (answered_metadata hears) number mark old.metadata new.metadata

@@ -1,0 +1,178 @@
+//! The pending requests of a side.
+ghost use Rattle.std.specs.Prelude.{◌≡◌, ℕ, None, Some, OnOk, OnErr, count_by, fold, filter, max};
+ghost use Rattle.std.specs.BTreeMap.{btree_map_len, values, IsOrdered};
+ghost use Rattle.std.specs.Ordering.{nat_cmp, ordering_then};
+ghost use Rattle.bt_remarks.specs.Requests.{has_length, is_unasked, is_again, is_too_much, is_late, sooner};
+ghost use Rattle.bt_remarks.specs.Ends.{late_of, IsFoundOf};
+ghost use Rattle.bt_remarks.specs.Tables.{request_at, IsNew, IsAfter};
+
+use crate::events::Block;
+use crate::tallies::Found;
+use std::alloc::{AllocError, Global};
+use std::collections::BTreeMap;
+
+/// A side with this many pending requests takes no further one.
+const LIMIT: usize = 65536;
+
+/// A request that was made.
+#[derive(Clone, Copy, Debug, PartialEq, Eq)]
+pub struct Asked {
+    /// The number of its event.
+    pub number: u64,
+    pub length: u32,
+    pub mark: u64,
+}
+
+/// Tells whether a request should have been answered before a later event.
+fn is_late(asked: Asked, closed: bool, later: u64) -> bool
+    ensures { result ≡ is_late closed later asked }
+{
+    closed || asked.number < later
+}
+
+/// Returns the first of two requests.
+fn sooner(first: Option<Asked>, asked: Asked) -> Option<Asked>
+    ensures { result ≡ sooner first asked }
+{
+    match first {
+        Some(request) if request.number <= asked.number => Some(request),
+        _ => Some(asked),
+    }
+}
+
+/// The pending requests of a side, by their pieces' indexes and their begins.
+#[derive(Debug, Drop)]
+pub struct Requests {
+    pending: BTreeMap<(u32, u32), Asked>,
+    overflowed: bool,
+    /// The newest request that was answered.
+    answered: u64,
+}
+
+impl Requests {
+    /// Returns no requests.
+    pub fn new(alloc: Global) -> Requests
+        ensures { IsNew result }
+    {
+        Requests {
+            pending: BTreeMap::new(alloc),
+            overflowed: false,
+            answered: 0,
+        }
+    }
+
+    /// Tells whether there were too many pending requests.
+    pub fn overflowed(&self) -> bool
+        ensures { result ≡ self.now.overflowed }
+    {
+        self.overflowed
+    }
+
+    /// Tells whether a request of the block and of its length is pending.
+    fn has(&self, block: Block) -> bool
+        ensures { result ≡ has_length block.length (request_at self.now block.index block.begin) }
+    {
+        match self.pending.get(&(block.index, block.begin)) {
+            Some(asked) => asked.length == block.length,
+            None => false,
+        }
+    }
+
+    /// Tells whether nobody asked for a block that comes.
+    pub fn is_unasked(&self, block: Block) -> bool
+        ensures { result ≡ is_unasked (Some block) self.now.overflowed (request_at self.now) }
+    {
+        !self.overflowed && !self.has(block)
+    }
+
+    /// Tells whether a block was asked for before.
+    pub fn is_again(&self, block: Block) -> bool
+        ensures { result ≡ is_again (Some block) self.now.overflowed (request_at self.now) }
+    {
+        !self.overflowed && self.pending.contains_key(&(block.index, block.begin))
+    }
+
+    /// Tells whether a request finds no room.
+    fn is_full(&self, block: Block) -> bool
+        ensures { result ≡ is_too_much (Some block) (request_at self.now) (btree_map_len self.now.pending) }
+    {
+        self.pending.len() >= LIMIT && !self.pending.contains_key(&(block.index, block.begin))
+    }
+
+    /// Opens a request.
+    ///
+    /// # Errors
+    /// `AllocError` if memory runs out. The requests are as before.
+    pub fn ask(&mut self, block: Block, number: u64, mark: u64) -> Result<(), AllocError>
+        ensures ok { OnOk result (IsAfter (Some block) None number mark self.old self.new) }
+        ensures err { OnErr result (IsAfter None None number mark self.old self.new) }
+    {
+        if self.overflowed {
+            return Ok(());
+        }
+        if self.is_full(block) {
+            self.overflowed = true;
+            self.pending.clear();
+            return Ok(());
+        }
+        let asked = Asked {
+            number,
+            length: block.length,
+            mark,
+        };
+        self.pending.insert((block.index, block.begin), asked)?;
+        Ok(())
+    }
+
+    /// Closes the request of a block, if it is pending and of the block's length.
+    pub fn answer(&mut self, block: Block)
+        ensures { (number mark : ℕ) → IsAfter None (Some block) number mark self.old self.new }
+    {
+        let key = (block.index, block.begin);
+        let number = match self.pending.get(&key) {
+            Some(asked) if asked.length == block.length => asked.number,
+            _ => return,
+        };
+        let _ = self.pending.remove(&key);
+        self.answered = self.answered.max(number);
+    }
+
+    /// Counts the pending requests that are late.
+    fn count_late(&self, closed: bool, later: u64) -> usize
+        ensures count { result ≡ count_by (is_late closed later) (values self.now.pending) }
+        ensures ordered { IsOrdered (λ x y. ordering_then (nat_cmp x.0 y.0) (nat_cmp x.1 y.1)) self.now.pending }
+    {
+        self.pending
+            .values()
+            .filter(|asked| is_late(**asked, closed, later))
+            .count()
+    }
+
+    /// Returns the first of the pending requests that are late.
+    fn first_late(&self, closed: bool, later: u64) -> Option<Asked>
+        ensures { result ≡ fold sooner None (filter (is_late closed later) (values self.now.pending)) }
+    {
+        self.pending
+            .values()
+            .filter(|asked| is_late(**asked, closed, later))
+            .fold(None, |first, asked| sooner(first, *asked))
+    }
+
+    /// Returns how many pending requests are late, and the first one's mark.
+    pub fn late(&self, closed: bool, later: u64) -> Found
+        ensures { IsFoundOf (late_of self.now.overflowed closed (max later self.now.answered) (request_at self.now)) result }
+    {
+        if self.overflowed {
+            return Found::NOTHING;
+        }
+        let later = later.max(self.answered);
+        let count = self.count_late(closed, later) as u64;
+        match self.first_late(closed, later) {
+            Some(asked) => Found {
+                count,
+                first: Some(asked.mark),
+            },
+            None => Found { count, first: None },
+        }
+    }
+}

@@ -1,0 +1,77 @@
+//! How many remarks there are, and the first of each.
+ghost use Rattle.std.specs.Prelude.{◌≡◌, [], IfOk};
+ghost use Rattle.bt_remarks.specs.declared.events.Side.{Side};
+ghost use Rattle.bt_remarks.specs.Remarked.{found_after, tally_after, tally_of};
+
+use crate::events::Remarks;
+use std::alloc::AllocError;
+
+/// The events of a side that have a remark.
+#[derive(Clone, Copy, Debug, PartialEq, Eq)]
+pub struct Found {
+    pub count: u64,
+    /// The first one's mark.
+    pub first: Option<u64>,
+}
+
+/// The events of a side by their remarks.
+#[derive(Clone, Copy, Debug, PartialEq, Eq)]
+pub struct Tally {
+    pub unasked: Found,
+    pub choked: Found,
+    pub again: Found,
+    pub elsewhere: Found,
+}
+
+impl Found {
+    /// No event.
+    pub const NOTHING: Found = Found {
+        count: 0,
+        first: None,
+    };
+
+    /// Counts an event, if it has the remark.
+    fn with(self, is_remarked: bool, mark: u64) -> Result<Found, AllocError>
+        ensures { IfOk result (λ found. found ≡ found_after is_remarked mark self) }
+    {
+        if !is_remarked {
+            return Ok(self);
+        }
+        match self.count.checked_add(1) {
+            None => Err(AllocError),
+            Some(count) => Ok(Found {
+                count,
+                first: Some(self.first.unwrap_or(mark)),
+            }),
+        }
+    }
+}
+
+impl Tally {
+    /// Returns the tally of no events.
+    pub fn new() -> Tally
+        ensures { (side : Side) → result ≡ tally_of side [] }
+    {
+        Tally {
+            unasked: Found::NOTHING,
+            choked: Found::NOTHING,
+            again: Found::NOTHING,
+            elsewhere: Found::NOTHING,
+        }
+    }
+
+    /// Counts an event with its remarks.
+    ///
+    /// # Errors
+    /// `AllocError` if there are 2^64 of a remark.
+    pub fn with(self, remarks: Remarks, mark: u64) -> Result<Tally, AllocError>
+        ensures { IfOk result (λ tally. tally ≡ tally_after remarks mark self) }
+    {
+        Ok(Tally {
+            unasked: self.unasked.with(remarks.unasked, mark)?,
+            choked: self.choked.with(remarks.choked, mark)?,
+            again: self.again.with(remarks.again, mark)?,
+            elsewhere: self.elsewhere.with(remarks.elsewhere, mark)?,
+        })
+    }
+}
