@@ -9,7 +9,7 @@ from typing import Any, Iterator, NamedTuple, Optional
 
 from . import _library as lib
 from ._names import Announce, Event, Id, Kind
-from ._values import Item, Own, Refused, receiver
+from ._values import Item, Own, Refused, item, receiver
 
 _DONE, _BUSY, _NO_MEMORY = 0, 5, 6
 _WATCH, _SERVE, _FETCH = range(3)
@@ -17,8 +17,8 @@ _WHY = {lib.UNWRITTEN: "an end doesn't say it", _BUSY: "1 MiB or more waits to b
         8: "the limit isn't 32,768 to 1,048,576", 9: "there is no info hash", 10: "the metadata hasn't 1 to 67,108,864 bytes",
         11: "the connection isn't open", 12: "the piece count isn't known", 13: "the peer would refuse it",
         14: "no metadata of this size can be fetched now"}
-# Of a bt_heard: how many bytes were used, the item as of ITEM_FIELDS, and the event.
-_told = struct.Struct("<Q3Q8x3I2xH8x32sQ2I4B20x").unpack_from
+# Of a bt_heard: how many bytes were used, the item as of ITEM_FIELDS, the bytes of its Extended, and the event.
+_told = struct.Struct("<Q2Q16xI10xH8x32sQ2I4B20x").unpack_from
 _EVENTS = tuple(Event)
 _WITH_PIECE = tuple(it in (Event.BLOCK, Event.REJECTED, Event.SERVED, Event.DECLINED) for it in Event)
 _ANNOUNCED = int(Event.ANNOUNCED)
@@ -158,25 +158,25 @@ class End:
         return self._items()
 
     def _items(self) -> Iterator[Heard]:
-        thread, place, size, view = self._thread, self._place, self._size, self._view
+        thread, place, room, view = self._thread, self._place, self._size, self._view
         while True:
             if thread != threading.get_ident():
                 self._see()
             # (between two items the program may have called `receive`)
             at = self._at
-            place.value, size.value = self._address + at, len(self._data) - at
+            place.value, room.value = self._address + at, len(self._data) - at
             answer = self._next()
-            told = _told(view)
-            self._at = at + told[0]
+            used, start, length, index, number, extended, size, kind, piece, id, has_id, has_size, begins = _told(view)
+            self._at = at + used
             if answer != lib.ITEM:
                 return self._stop(answer)
-            if told[1] + told[2] > self._ends:
-                self._show(told[1])
-            item, kind = Item(told[1:9], self._source), told[10]
+            if start + length > self._ends:
+                self._show(start)
+            said = item(start, length, index, number, extended, self._source)
             if kind == _ANNOUNCED:
-                yield Heard(item, _EVENTS[kind], None, told[12] if told[13] else None, told[9] if told[14] else None, bool(told[15]))
+                yield Heard(said, _EVENTS[kind], None, id if has_id else None, size if has_size else None, bool(begins))
             else:
-                yield _heard((item, _EVENTS[kind], told[11] if _WITH_PIECE[kind] else None, None, None, False))
+                yield _heard((said, _EVENTS[kind], piece if _WITH_PIECE[kind] else None, None, None, False))
 
     def _stop(self, answer: int) -> None:
         """Raises why no item comes, if that isn't that none is whole, or that too much waits to be sent."""
@@ -220,13 +220,13 @@ class End:
 
     def say_donthave(self, piece: int) -> None:
         """Announces that a piece isn't there any more, as `say`. The peer has announced lt_donthave."""
-        item = lib.Item(id=Id.EXTENDED)
-        item.extended.kind, item.extended.piece = Kind.DONTHAVE, lib.number(piece, 32, "piece")
-        self._say(item, b"")
+        message = lib.Item(id=Id.EXTENDED)
+        message.extended.kind, message.extended.piece = Kind.DONTHAVE, lib.number(piece, 32, "piece")
+        self._say(message, b"")
 
-    def _say(self, item: lib.Item, body: bytes) -> None:
+    def _say(self, message: lib.Item, body: bytes) -> None:
         self._see()
-        _done(lib.bt.bt_end_say(self._c, item, body, len(body)))
+        _done(lib.bt.bt_end_say(self._c, message, body, len(body)))
 
     @property
     def metadata(self) -> Optional[bytes]:

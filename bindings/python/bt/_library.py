@@ -37,10 +37,10 @@ class Item(C.Structure):
                 ("id", C.c_uint16), ("extended_id", C.c_uint8), ("reason", C.c_uint8), ("extended", Extended)]
 
 
-# The fields of Item in one tuple, which is quicker than to ask for each: start, size, body, index, begin, length, id, and the bytes of
-# Extended. The others are in the message's own bytes.
-ITEM_FIELDS = struct.Struct("<3Q8x3I2xH8x32s")
-EXTENDED_FIELDS = struct.Struct("<3QI4B")
+# The fields of Item that items keep, in one tuple, which is quicker than to ask for each: start, size, index, id. The others are in the
+# message's own bytes, except those of Extended, which are at EXTENDED_AT.
+ITEM_FIELDS = struct.Struct("<2Q16xI10xH40x")
+EXTENDED_FIELDS, EXTENDED_AT = struct.Struct("<3QI4B"), Item.extended.offset
 assert ITEM_FIELDS.size == C.sizeof(Item) and EXTENDED_FIELDS.size == C.sizeof(Extended)
 
 

@@ -3,11 +3,11 @@ from __future__ import annotations
 
 from collections import deque
 from functools import partial
-from itertools import chain, islice, repeat
-from typing import TYPE_CHECKING, Any, AsyncIterator, Deque, Iterator, Optional, Union
+from itertools import chain
+from typing import TYPE_CHECKING, Any, AsyncIterator, Deque, Iterator, List, Optional, Union
 
 from . import _library as lib
-from ._values import Item, Own, Refused, receiver
+from ._values import Item, Own, Refused, items, receiver
 
 if TYPE_CHECKING:
     import asyncio
@@ -20,6 +20,7 @@ class _Reader:
 
     def __init__(self, own: Optional[Own]) -> None:
         self.state, self.items, self.batch, self.count = lib.Reader(), (lib.Item * _ROOM)(), lib.Batch(), 0
+        self.structs = memoryview(self.items).cast("B")
         lib.bt.bt_reader_init(self.state, receiver(Own() if own is None else own))
 
     def next(self, data: Union[bytes, bytearray], at: int, ended: bool) -> int:
@@ -37,9 +38,9 @@ class _Reader:
         self.count += self.batch.count
         return int(self.batch.used)
 
-    def shown(self, data: bytes, base: int) -> Iterator[Item]:
-        """The items that were read last, with the bytes that they lie in and the offset of these. Use it up before `next`."""
-        return map(Item, islice(lib.ITEM_FIELDS.iter_unpack(self.items), self.batch.count), repeat((data, base)))
+    def shown(self, data: bytes, base: int) -> List[Item]:
+        """The items that were read last, with the bytes that they lie in and the offset of these."""
+        return items(self.structs[:self.batch.count * lib.ITEM_FIELDS.size], (data, base))
 
 
 def read(data: lib.Bytes, own: Optional[Own] = None) -> Iterator[Item]:
@@ -47,7 +48,7 @@ def read(data: lib.Bytes, own: Optional[Own] = None) -> Iterator[Item]:
     return chain.from_iterable(_batches(lib.content(data), _Reader(own)))
 
 
-def _batches(data: bytes, reader: _Reader) -> Iterator[Iterator[Item]]:
+def _batches(data: bytes, reader: _Reader) -> Iterator[List[Item]]:
     at, used = 0, reader.next(data, 0, True)
     while used:
         yield reader.shown(data, 0)

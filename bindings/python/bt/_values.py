@@ -2,8 +2,11 @@
 from __future__ import annotations
 
 import ctypes as C
+import struct
+import sys
 from dataclasses import dataclass
-from typing import Any, Dict, Optional, Tuple
+from operator import attrgetter
+from typing import Any, Dict, List, Optional, Tuple
 
 from . import _library as lib
 from ._names import DHT, EXTENSIONS, FAST, Id, Kind, Reason
@@ -11,12 +14,17 @@ from ._names import DHT, EXTENSIONS, FAST, Id, Kind, Reason
 # by the number of a bt_item, which is at most that of the handshake
 _IDS: Tuple[int, ...] = tuple({it.value: it for it in Id}.get(number, number) for number in range(258))
 _KINDS: Dict[int, Kind] = {it.value: it for it in Kind}
-_PORT, _EXTENDED, _HANDSHAKE = (int(id) for id in (Id.PORT, Id.EXTENDED, Id.HANDSHAKE))
 _WITH_LENGTH = tuple(number in (Id.REQUEST, Id.CANCEL, Id.REJECT) for number in range(258))
 _WITH_BEGIN = tuple(_WITH_LENGTH[number] or number == Id.PIECE for number in range(258))
 _WITH_INDEX = tuple(_WITH_BEGIN[number] or number in (Id.HAVE, Id.SUGGEST, Id.ALLOWED_FAST) for number in range(258))
+# where the body begins, or where a message without one ends; the view of a handshake is all of it
+_BODY_AT = tuple({Id.HANDSHAKE: 0, Id.KEEP_ALIVE: 4, Id.PORT: 7, Id.EXTENDED: 6}.get(number, 5) + 4 * (
+    _WITH_INDEX[number] + _WITH_BEGIN[number] + _WITH_LENGTH[number]) for number in range(258))
 _WITH_PIECE = frozenset(map(int, (Kind.METADATA_REQUEST, Kind.METADATA_DATA, Kind.METADATA_REJECT, Kind.DONTHAVE)))
 _NOT_EXTENDED = (0,) * 8
+_u32 = struct.Struct(">I").unpack_from
+_ITEM = C.sizeof(lib.Item)
+_EXTENDED = int(Id.EXTENDED)
 
 
 class Refused(ValueError):
@@ -85,141 +93,144 @@ def receiver(own: Own, what: str = "own") -> lib.Own:
 class Item:
     """The handshake or a message. A field that this kind of item doesn't have is None.
 
-    An item is what the library read, and keeps the bytes that it was read from. A field is worked out when it is asked for;
+    Readers make items. An item keeps the bytes that it was read from. Most fields are worked out when they are asked for;
     `data`, `body` and `rest` are copied then, and `view` isn't. Items can't be changed.
     """
 
-    __slots__ = ("_fields", "_source")
-
-    def __init__(self, fields: Tuple[Any, ...], source: Tuple[bytes, int]) -> None:
-        """Takes the fields of a `bt_item` by ITEM_FIELDS, and bytes with their offset on the stream. Readers call it."""
-        self._fields = fields
-        self._source = source
+    __slots__ = ("_start", "_size", "_id", "_index", "_extended", "_source")
+    _start: int
+    _size: int
+    _id: int
+    _index: Optional[int]
+    _extended: bytes  # of an extended message only
+    _source: Tuple[bytes, int]  # what it was read from, and the offset of that on the stream
 
     @property
     def start(self) -> int:
         """Its offset on the stream."""
-        return self._fields[0]  # type: ignore[no-any-return]
+        return self._start
 
     @property
     def size(self) -> int:
         """How many bytes it has."""
-        return self._fields[1]  # type: ignore[no-any-return]
+        return self._size
 
     @property
     def id(self) -> int:
         """Its `Id`, or the number of an unknown message."""
-        return _IDS[self._fields[6]]  # type: ignore[no-any-return]
+        return self._id
 
     @property
     def name(self) -> str:
         """Its name as `bt_tool show` prints it, like 'have' or 'metadata-request'."""
-        fields = self._fields
-        return _NAMES[fields[6] if fields[6] != _EXTENDED else _EXTENDED + (fields[7][28] << 9)]
+        number = self._id
+        return _NAMES[number if number != _EXTENDED else _EXTENDED + (self._extended[28] << 9)]
 
     @property
     def data(self) -> bytes:
         """All its bytes."""
-        fields, (source, base) = self._fields, self._source
-        at = fields[0] - base
-        return source[at:at + fields[1]]
+        source, base = self._source
+        at = self._start - base
+        return source[at:at + self._size]
 
     @property
     def index(self) -> Optional[int]:
         """The number of a piece, of have, suggest, allowed-fast, request, piece, cancel and reject."""
-        fields = self._fields
-        return fields[3] if _WITH_INDEX[fields[6]] else None
+        return self._index
+
+    def _number(self, at: int) -> int:
+        source, base = self._source
+        return _u32(source, self._start - base + at)[0]  # type: ignore[no-any-return]
 
     @property
     def begin(self) -> Optional[int]:
         """The offset of a block in its piece, of request, piece, cancel and reject."""
-        fields = self._fields
-        return fields[4] if _WITH_BEGIN[fields[6]] else None
+        return self._number(9) if _WITH_BEGIN[self._id] else None
 
     @property
     def length(self) -> Optional[int]:
         """How many bytes the block has, of request, cancel and reject. A piece has them as its body."""
-        fields = self._fields
-        return fields[5] if _WITH_LENGTH[fields[6]] else None
+        return self._number(13) if _WITH_LENGTH[self._id] else None
 
     @property
     def port(self) -> Optional[int]:
         """The port of the peer's DHT node."""
-        return int.from_bytes(self.data[5:7], "big") if self._fields[6] == _PORT else None
+        return int.from_bytes(self.data[5:7], "big") if self._id == Id.PORT else None
 
     @property
     def body(self) -> Optional[bytes]:
         """The bitfield, block or payload, which is empty if the message has none. None of a handshake."""
-        fields, (source, base) = self._fields, self._source
-        end = fields[0] + fields[1] - base
-        return source[end - fields[2]:end] if fields[6] != _HANDSHAKE else None
+        if self._id == Id.HANDSHAKE:
+            return None
+        source, base = self._source
+        at = self._start - base
+        return source[at + _BODY_AT[self._id]:at + self._size]
 
     @property
     def view(self) -> memoryview:
         """The body without a copy, or all bytes of a handshake."""
-        fields, (source, base) = self._fields, self._source
-        end = fields[0] + fields[1] - base
-        return memoryview(source)[end - (fields[2] if fields[6] != _HANDSHAKE else fields[1]):end]
+        source, base = self._source
+        at = self._start - base
+        return memoryview(source)[at + _BODY_AT[self._id]:at + self._size]
 
     @property
     def reserved(self) -> Optional[int]:
         """The reserved bits of a handshake."""
-        return int.from_bytes(self.data[20:28], "big") if self._fields[6] == _HANDSHAKE else None
+        return int.from_bytes(self.data[20:28], "big") if self._id == Id.HANDSHAKE else None
 
     @property
     def info_hash(self) -> Optional[bytes]:
         """The info hash of a handshake, 20 bytes."""
-        return self.data[28:48] if self._fields[6] == _HANDSHAKE else None
+        return self.data[28:48] if self._id == Id.HANDSHAKE else None
 
     @property
     def peer_id(self) -> Optional[bytes]:
         """The peer id of a handshake, 20 bytes."""
-        return self.data[48:68] if self._fields[6] == _HANDSHAKE else None
+        return self.data[48:68] if self._id == Id.HANDSHAKE else None
 
     @property
-    def _extended(self) -> Tuple[int, ...]:
+    def _parsed(self) -> Tuple[int, ...]:
         """The fields of a `bt_extended` in order."""
-        return lib.EXTENDED_FIELDS.unpack(self._fields[7]) if self._fields[6] == _EXTENDED else _NOT_EXTENDED
+        return lib.EXTENDED_FIELDS.unpack(self._extended) if self._id == _EXTENDED else _NOT_EXTENDED
 
     @property
     def extended_id(self) -> Optional[int]:
         """The id within the extension protocol."""
-        fields, (source, base) = self._fields, self._source
-        return source[fields[0] - base + 5] if fields[6] == _EXTENDED else None
+        source, base = self._source
+        return source[self._start - base + 5] if self._id == _EXTENDED else None
 
     @property
     def kind(self) -> Optional[Kind]:
         """What an extended message is."""
-        fields = self._fields
-        return _KINDS[fields[7][28]] if fields[6] == _EXTENDED else None
+        return _KINDS[self._extended[28]] if self._id == _EXTENDED else None
 
     @property
     def piece(self) -> Optional[int]:
         """The number of a metadata block, or the piece that the peer no longer has (lt_donthave)."""
-        fields = self._extended
+        fields = self._parsed
         return fields[3] if fields[4] in _WITH_PIECE else None
 
     @property
     def total_size(self) -> Optional[int]:
         """How many bytes the metadata has, by a data message."""
-        fields = self._extended
+        fields = self._parsed
         return fields[0] if fields[4] == Kind.METADATA_DATA else None
 
     @property
     def dict_size(self) -> Optional[int]:
         """How many bytes of the body are the dictionary of an extended message."""
-        return self._extended[2] if self._fields[6] == _EXTENDED else None
+        return self._parsed[2] if self._id == _EXTENDED else None
 
     @property
     def metadata_size(self) -> Optional[int]:
         """How many bytes the metadata has, by an extended handshake."""
-        fields = self._extended
+        fields = self._parsed
         return fields[1] if fields[4] == Kind.EXT_HANDSHAKE and fields[6] else None
 
     @property
     def ut_metadata(self) -> Optional[int]:
         """The id for ut_metadata that an extended handshake announces."""
-        fields = self._extended
+        fields = self._parsed
         return fields[5] if fields[4] == Kind.EXT_HANDSHAKE and fields[7] else None
 
     @property
@@ -247,9 +258,52 @@ class Item:
     def __repr__(self) -> str:
         return "<bt.Item %s at %d, %d bytes>" % (self.name, self.start, self.size)
 
-    def __reduce__(self) -> Tuple[Any, Tuple[Any, Tuple[bytes, int]]]:
+    def __reduce__(self) -> Tuple[Any, Tuple[Any, ...]]:
         # (a copy has its own bytes only, not the whole buffer)
-        return type(self), (self._fields, (self.data, self.start))
+        source = self.data, self._start
+        return item, (self._start, self._size, self._index or 0, int(self._id), getattr(self, "_extended", b""), source)
+
+
+if sys.version_info < (3, 12):
+    # (they are quicker so; later ones read a property as quickly)
+    for _name in ("start", "size", "id", "index"):
+        _quicker = property(attrgetter("_" + _name), doc=getattr(Item, _name).__doc__)
+        getattr(_quicker, "__set_name__", lambda *_: None)(Item, _name)  # (so that messages have the name)
+        setattr(Item, _name, _quicker)
+
+
+def item(start: int, size: int, index: int, number: int, extended: bytes, source: Tuple[bytes, int]) -> Item:
+    """Returns the item of these fields of a `bt_item`, the bytes of its `bt_extended`, and the bytes that it lies in."""
+    made = Item()
+    made._start = start
+    made._size = size
+    made._source = source
+    made._id = _IDS[number]
+    made._index = index if _WITH_INDEX[number] else None
+    if number == _EXTENDED:
+        made._extended = extended
+    return made
+
+
+def items(structs: memoryview, source: Tuple[bytes, int]) -> List[Item]:
+    """Returns the items of the bytes of these structs. It does what `item` does, without a call for each."""
+    found: List[Item] = []
+    new, add, ids, with_index = Item, found.append, _IDS, _WITH_INDEX
+    for start, size, index, number in lib.ITEM_FIELDS.iter_unpack(structs):
+        made = new()
+        made._start = start
+        made._size = size
+        made._source = source
+        made._id = ids[number]
+        if with_index[number]:
+            made._index = index
+        else:
+            made._index = None
+            if number == _EXTENDED:
+                at = len(found) * _ITEM + lib.EXTENDED_AT
+                made._extended = bytes(structs[at:at + 32])
+        add(made)
+    return found
 
 
 _SHOWN = ("start", "size", "id", "name", "data", "index", "begin", "length", "port", "body", "reserved", "info_hash", "peer_id",
@@ -260,9 +314,9 @@ class _Names(Dict[int, str]):
     """The names of items by their id, and 512 times the kind of an extended message. Each is asked for once."""
 
     def __missing__(self, key: int) -> str:
-        item = lib.Item(id=key % 512)
-        item.extended.kind = key // 512
-        found = self[key] = lib.name_of(lib.bt.bt_item_name, C.byref(item))
+        named = lib.Item(id=key % 512)
+        named.extended.kind = key // 512
+        found = self[key] = lib.name_of(lib.bt.bt_item_name, C.byref(named))
         return found
 
 
