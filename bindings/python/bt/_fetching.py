@@ -1,7 +1,6 @@
 """The metadata of a torrent, from a peer."""
 from __future__ import annotations
 
-import socket
 import time
 from typing import Optional, Tuple, Union
 
@@ -66,6 +65,8 @@ def fetch(address: Address, info_hash: lib.Bytes, timeout: float = 30, most: Opt
     It ends within `timeout` seconds, takes at most `most` bytes of metadata, and messages up to `limit`. Raises Refused if the
     peer breaks a rule, FetchError if it doesn't give the metadata, another OSError if it isn't reached, TimeoutError among them.
     """
+    import socket  # (only who fetches needs it)
+
     place, timeout = _split(address), lib.seconds(timeout, "timeout")
     ends, talk = time.monotonic() + timeout, _Fetch(info_hash, most, limit)
     with talk.end, socket.create_connection(place, timeout) as sock:

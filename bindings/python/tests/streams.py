@@ -87,6 +87,21 @@ class Values(unittest.TestCase):
         self.assertEqual(eval(repr(STRICT), {"Own": bt.Own}), STRICT)
         self.assertEqual(STRICT.pieces, 8)
 
+    def test_own_is_a_dataclass(self):
+        self.assertEqual([it.name for it in dataclasses.fields(bt.Own)], list(bt.Own.__match_args__))
+        self.assertEqual((dataclasses.replace(STRICT, pieces=9), dataclasses.asdict(STRICT)["limit"]), (bt.Own(pieces=9, strict=True), 262144))
+        self.assertNotEqual(STRICT, bt.Own(pieces=8))
+        self.assertEqual(len({STRICT, copy.copy(STRICT), pickle.loads(pickle.dumps(STRICT)), dataclasses.replace(STRICT)}), 1)
+        self.assertRaises(ValueError, dataclasses.replace, STRICT, info_hash=b"short")
+        for call in (lambda: setattr(STRICT, "pieces", 9), lambda: delattr(STRICT, "pieces")):
+            self.assertRaisesRegex(dataclasses.FrozenInstanceError, "pieces can't be changed", call)
+
+        @dataclasses.dataclass(frozen=True)
+        class Named(bt.Own):
+            name: str = ""
+        self.assertEqual(bt.Writer(Named(pieces=8, name="one"), 0).peer.name, "one")
+        self.assertNotEqual(Named(pieces=8, strict=True), STRICT)
+
     def test_names(self):
         self.assertEqual(sorted(bt.__all__), sorted(name for name in dir(bt) if not name.startswith("_")))
         for name in bt.__all__:
@@ -243,8 +258,10 @@ class Items(unittest.TestCase):
 
     def test_they_cannot_be_changed(self):
         item = next(bt.read(HELLO))
-        for name in ("start", "id", "data", "kind", "another"):
+        for name in ("start", "size", "id", "index", "data", "kind", "another"):
             self.assertRaises(AttributeError, setattr, item, name, 1)
+            self.assertRaises(AttributeError, delattr, item, name)
+        self.assertRaisesRegex(AttributeError, "start" if sys.version_info >= (3, 10) else "", setattr, item, "start", 1)
 
     def test_they_keep_what_they_were_read_from(self):
         given = bytearray(example("downloading"))
@@ -252,6 +269,8 @@ class Items(unittest.TestCase):
         given[:] = bytes(len(given))
         self.assertEqual((items, fed), (list(bt.read(example("downloading"))),) * 2)
         self.assertLess(len(pickle.dumps(items[0])), 500)
+        for again in (pickle.loads(pickle.dumps(items)), copy.deepcopy(items)):
+            self.assertEqual([it.asdict() for it in again], [it.asdict() for it in items])
 
     def test_a_dictionary(self):
         items = list(bt.read(HELLO + open_writer().have_none() + open_writer().request(1, 2, 3)))
@@ -349,9 +368,9 @@ class Columns(unittest.TestCase):
 
 
 class Package(unittest.TestCase):
-    def test_it_loads_without_asyncio(self):
-        program = "import sys, bt; print(*sorted({'asyncio', 'ssl', 'subprocess'} & {*sys.modules}))"
-        said = subprocess.run([sys.executable, "-c", program], env={**os.environ, "PYTHONPATH": PACKAGE}, stdout=subprocess.PIPE, check=True)
+    def test_it_loads_little(self):
+        program = "import sys, bt; print(*sorted({'asyncio', 'dataclasses', 'inspect', 'socket', 'ssl', 'subprocess'} & {*sys.modules}))"
+        said = subprocess.run([sys.executable, "-S", "-c", program], env={**os.environ, "PYTHONPATH": PACKAGE}, stdout=subprocess.PIPE, check=True)
         self.assertEqual(said.stdout.strip(), b"")
 
     def test_help_is_for_people(self):
