@@ -17,15 +17,25 @@ else:
         """Does nothing: `Own` has itself what the library's one would make, and loads that only for who uses it."""
         return lambda made: made
 
-# by the number of a bt_item, which is at most that of the handshake
-_IDS: Tuple[int, ...] = tuple({it.value: it for it in Id}.get(number, number) for number in range(258))
+
+def _table(others: Any, given: Dict[Id, Any]) -> Tuple[Any, ...]:
+    """A table by the number of a bt_item, which is at most that of the handshake: these, and the others."""
+    made = list(others)
+    for number, value in given.items():
+        made[number] = value
+    return tuple(made)
+
+
+_EACH = range(Id.HANDSHAKE + 1)
+_IDS = _table(_EACH, {it: it for it in Id})
 _KINDS: Dict[int, Kind] = {it.value: it for it in Kind}
-_WITH_LENGTH = tuple(number in (Id.REQUEST, Id.CANCEL, Id.REJECT) for number in range(258))
-_WITH_BEGIN = tuple(_WITH_LENGTH[number] or number == Id.PIECE for number in range(258))
-_WITH_INDEX = tuple(_WITH_BEGIN[number] or number in (Id.HAVE, Id.SUGGEST, Id.ALLOWED_FAST) for number in range(258))
+_BLOCKS = Id.REQUEST, Id.CANCEL, Id.REJECT
+_WITH_LENGTH = _table([False] * len(_EACH), dict.fromkeys(_BLOCKS, True))
+_WITH_BEGIN = _table(_WITH_LENGTH, {Id.PIECE: True})
+_WITH_INDEX = _table(_WITH_BEGIN, dict.fromkeys((Id.HAVE, Id.SUGGEST, Id.ALLOWED_FAST), True))
 # where the body begins, or where a message without one ends; the view of a handshake is all of it
-_BODY_AT = tuple({Id.HANDSHAKE: 0, Id.KEEP_ALIVE: 4, Id.PORT: 7, Id.EXTENDED: 6}.get(number, 5) + 4 * (
-    _WITH_INDEX[number] + _WITH_BEGIN[number] + _WITH_LENGTH[number]) for number in range(258))
+_BODY_AT = _table([5 + 4 * sum(has) for has in zip(_WITH_INDEX, _WITH_BEGIN, _WITH_LENGTH)],
+                  {Id.HANDSHAKE: 0, Id.KEEP_ALIVE: 4, Id.PORT: 7, Id.EXTENDED: 6})
 _WITH_PIECE = frozenset(map(int, (Kind.METADATA_REQUEST, Kind.METADATA_DATA, Kind.METADATA_REJECT, Kind.DONTHAVE)))
 _NOT_EXTENDED = (0,) * 8
 _u32 = struct.Struct(">I").unpack_from
