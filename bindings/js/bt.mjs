@@ -5,7 +5,7 @@
 //
 // end.mjs has an end of a connection, for Node. Nothing of this file is proved. A library is used by one thread.
 import { END, inNode, ITEM, ITEM_SIZE, Library, MORE, OWN_SIZE, READER_SIZE, REFUSED } from './library.mjs';
-import { completed, content, DHT, EXTENSIONS, FAST, fill, Id, Item, Items, Kind, number, Refused } from './values.mjs';
+import { batchOf, completed, content, DHT, EXTENSIONS, FAST, fill, Id, Item, Items, KEPT, Kind, number, Refused } from './values.mjs';
 
 export { DHT, EXTENSIONS, FAST, Id, Item, Kind, Refused };
 
@@ -218,8 +218,8 @@ class Feed {
     this.reader = new Reader(wire, own);
     /** What isn't read yet. */
     this.bytes = new Uint8Array();
-    // The items that are read, the words of the first that isn't taken, and the end of the words.
-    this.batch = { names: wire, words: new Uint32Array(), bytes: this.bytes, base: 0 };
+    // The items that are read, the first word of the first that isn't taken, and the end of the words.
+    this.batch = batchOf(wire, new Uint32Array(), this.bytes, 0);
     this.w = 0;
     this.end = 0;
   }
@@ -251,7 +251,7 @@ class Feed {
   /** Reads more items, and returns whether there are any. */
   fill(ended) {
     const { reader, bytes, reader: { wire } } = this, base = reader.start, { count, used } = reader.next(bytes, 0, ended);
-    this.batch = { names: wire, words: wire.words(count).slice(), bytes, base };
+    this.batch = batchOf(wire, wire.words(count), bytes, base);
     this.w = 0;
     this.end = this.batch.words.length;
     this.bytes = bytes.subarray(used);
@@ -275,7 +275,7 @@ class FeedItems extends Items {
     const { feed } = this;
     if (this.over || feed.w === feed.end && !this.more()) return { value: undefined, done: true };
     const value = new Item(feed.batch, feed.w);
-    feed.w += WORDS;
+    feed.w += KEPT;
     return { value, done: false };
   }
 

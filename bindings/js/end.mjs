@@ -9,7 +9,7 @@ import { createRequire } from 'node:module';
 import net from 'node:net';
 import { fileURLToPath } from 'node:url';
 import { ITEM_SIZE, OWN_SIZE, packOwn, REFUSED } from './library.mjs';
-import { allKnown, completed, content, DHT, EXTENSIONS, FAST, Id, Item, Items, Kind, number, OWN, Refused } from './values.mjs';
+import { allKnown, batchOf, completed, content, DHT, EXTENSIONS, FAST, Id, Item, Items, Kind, number, OWN, Refused } from './values.mjs';
 
 export { DHT, EXTENSIONS, FAST, Id, Item, Kind, Refused };
 
@@ -156,10 +156,8 @@ export class End {
 
   /** What the addon has put into #heard: an item, and what it made of the end. */
   #told() {
-    const view = this.#view, words = new Uint32Array(this.#heard.buffer.slice(8, 8 + ITEM_SIZE)), EVENT = 8 + ITEM_SIZE;
-    const item = new Item({ names, words, bytes: this.#bytes, base: this.#base }, 0);
-    // (the library doesn't say this id again of each kind)
-    if (item.id === Id.EXTENDED) words[12] = words[12] & ~255 | this.#bytes[this.#from + 5];
+    const view = this.#view, struct = new Uint32Array(this.#heard.buffer, 8, ITEM_SIZE / 4), EVENT = 8 + ITEM_SIZE;
+    const item = new Item(batchOf(names, struct, this.#bytes, this.#base), 0);
     this.#from = this.#taken;
     const event = view.getUint32(EVENT + 8, true), announced = event === Event.ANNOUNCED;
     return {

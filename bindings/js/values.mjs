@@ -36,25 +36,63 @@ const FIELDS = ['start', 'size', 'id', 'name', 'index', 'begin', 'length', 'port
   'totalSize', 'dictSize', 'metadataSize', 'utMetadata', 'body', 'data'];
 
 // (what this file exports is slower to look up)
-const { PORT, EXTENDED, HANDSHAKE } = Id, { EXT_HANDSHAKE, METADATA_DATA } = Kind, WORDS = ITEM_SIZE / 4;
+const { PORT, EXTENDED, KEEP_ALIVE, HANDSHAKE } = Id, { EXT_HANDSHAKE, METADATA_DATA } = Kind, WORDS = ITEM_SIZE / 4;
 
 // The words of a bt_item, by their numbers.
 const idAt = (words, w) => words[w + 11] >>> 16;
 const kindAt = (words, w) => idAt(words, w) === EXTENDED ? words[w + 21] & 255 : 0;
 const startAt = (words, w) => words[w] + words[w + 1] * 4294967296;
 const bigAt = (words, w) => BigInt(words[w + 1]) << 32n | BigInt(words[w]);
+
+/** How many words an item keeps: where it starts in the batch's bytes, its size and index, and its id with flags and the kind above it. */
+export const KEPT = 4;
+const INDEX = 1 << 24, BEGIN = 1 << 25, LENGTH = 1 << 26;
+const WHAT = Uint32Array.from(WITH_INDEX, (has, id) => id | has * INDEX | WITH_BEGIN[id] * BEGIN | WITH_LENGTH[id] * LENGTH);
+// Where the body begins, or where a message without one ends.
+const BODY_AT = Uint8Array.from(WITH_INDEX, (has, id) => 5 + 4 * (has + WITH_BEGIN[id] + WITH_LENGTH[id]));
+[BODY_AT[PORT], BODY_AT[EXTENDED], BODY_AT[KEEP_ALIVE]] = [7, 6, 4];
+const u32At = (bytes, at) => (bytes[at] << 24 | bytes[at + 1] << 16 | bytes[at + 2] << 8 | bytes[at + 3]) >>> 0;
+
+/**
+ * The batch of these bt_items, which lie in bytes that begin at the offset `base` on the stream. Whole structs are copied only if there
+ * are extended messages, since to copy all takes as long as to read them.
+ * @param {Batch['names']} names
+ * @param {Uint32Array} structs
+ * @param {Uint8Array} bytes
+ * @param {number} base
+ * @returns {Batch}
+ */
+export function batchOf(names, structs, bytes, base) {
+  const words = new Uint32Array(structs.length / WORDS * KEPT), low = base % 4294967296;
+  let isExtended = false;
+  for (let from = 0, to = 0; to < words.length; from += WORDS, to += KEPT) {
+    const id = structs[from + 11] >>> 16;
+    words[to] = structs[from] - low;
+    words[to + 1] = structs[from + 2];
+    words[to + 2] = structs[from + 8];
+    words[to + 3] = WHAT[id];
+    if (id === EXTENDED) {
+      words[to + 3] |= (structs[from + 21] & 255) << 16;
+      isExtended = true;
+    }
+  }
+  return { names, words, structs: isExtended ? structs.slice() : null, bytes, base };
+}
+
 const hex = bytes => Array.from(bytes, byte => byte.toString(16).padStart(2, '0')).join('');
 const inJson = value => value instanceof Uint8Array ? hex(value) : typeof value === 'bigint' ? String(value) : value;
 const wide = number => number <= Number.MAX_SAFE_INTEGER ? Number(number) : number;
 
 /**
- * What items were read of: the words of their structs, bytes of the stream, and the offset on the stream of the first of these.
- * @typedef {{ names: { name(id: number, kind: number): string }, words: Uint32Array, bytes: Uint8Array, base: number }} Batch
+ * What items were read of: what each keeps, the structs if there are extended messages, bytes of the stream, and the offset on the stream
+ * of the first of these.
+ * @typedef {{ names: { name(id: number, kind: number): string }, words: Uint32Array, structs: Uint32Array | null, bytes: Uint8Array,
+ *  base: number }} Batch
  */
 
 /**
  * The handshake or a message. A field that this kind of item doesn't have is null. Each is read when it is asked for: an item keeps the
- * batch of structs that it came in, and the bytes of the stream, of which `data`, `body` and others are views.
+ * batch that it came in, and the bytes of the stream, of which `data`, `body` and others are views.
  */
 export class Item {
   /**
@@ -68,57 +106,58 @@ export class Item {
   }
 
   /** Its offset on the stream. */
-  get start() { return startAt(this._words, this._w); }
+  get start() { return this._batch.base + this._words[this._w]; }
   /** How many bytes it has. */
-  get size() { return this._words[this._w + 2]; }
+  get size() { return this._words[this._w + 1]; }
   /** Its `Id`, or the number of an unknown message. */
-  get id() { return idAt(this._words, this._w); }
+  get id() { return this._words[this._w + 3] & 65535; }
   /** Its name as `bt_tool show` prints it, like 'have' or 'metadata-request'. */
-  get name() { return this._batch.names.name(this.id, kindAt(this._words, this._w)); }
-  get index() { return WITH_INDEX[this.id] ? this._words[this._w + 8] : null; }
-  get begin() { return WITH_BEGIN[this.id] ? this._words[this._w + 9] : null; }
-  get length() { return WITH_LENGTH[this.id] ? this._words[this._w + 10] : null; }
-  get port() { return this.id === PORT ? this._words[this._w + 11] & 65535 : null; }
+  get name() { return this._batch.names.name(this.id, this.kind ?? 0); }
+  get index() { return this._words[this._w + 3] & INDEX ? this._words[this._w + 2] : null; }
+  get begin() { return this._words[this._w + 3] & BEGIN ? u32At(this._batch.bytes, this._words[this._w] + 9) : null; }
+  get length() { return this._words[this._w + 3] & LENGTH ? u32At(this._batch.bytes, this._words[this._w] + 13) : null; }
+  get port() {
+    const { data } = this;
+    return this.id === PORT ? data[5] << 8 | data[6] : null;
+  }
 
   /** All its bytes. */
   get data() {
-    const at = this.start - this._batch.base;
+    const at = this._words[this._w];
     return this._batch.bytes.subarray(at, at + this.size);
   }
 
   /** The bitfield, block or payload, which is empty if the message has none. */
   get body() {
-    if (this.id === HANDSHAKE) return null;
-    const end = this.start - this._batch.base + this.size;
-    return this._batch.bytes.subarray(end - this._words[this._w + 4], end);
+    const { id } = this, at = this._words[this._w];
+    return id === HANDSHAKE ? null : this._batch.bytes.subarray(at + BODY_AT[id], at + this.size);
   }
 
   /** The reserved bits of a handshake, as a BigInt. */
-  get reserved() { return this.id === HANDSHAKE ? bigAt(this._words, this._w + 6) : null; }
+  get reserved() {
+    const { bytes } = this._batch, at = this._words[this._w] + 20;
+    return this.id === HANDSHAKE ? BigInt(u32At(bytes, at)) << 32n | BigInt(u32At(bytes, at + 4)) : null;
+  }
+
   get infoHash() { return this.id === HANDSHAKE ? this.data.subarray(28, 48) : null; }
   get peerId() { return this.id === HANDSHAKE ? this.data.subarray(48, 68) : null; }
   /** What an extended message is: a `Kind`. */
-  get kind() { return kindAt(this._words, this._w) || null; }
+  get kind() { return this._words[this._w + 3] >>> 16 & 255 || null; }
   /** The id within the extension protocol. */
-  get extendedId() { return this.kind && this._words[this._w + 12] & 255; }
+  get extendedId() { return this.kind && this._batch.bytes[this._words[this._w] + 5]; }
+  /** A word of its bt_item, of an extended message. */
+  _word(number) { return this._batch.structs[this._w / KEPT * WORDS + number]; }
+  _big(number) { return wide(bigAt(this._batch.structs, this._w / KEPT * WORDS + number)); }
   /** The number of a metadata block, or the piece that the peer no longer has (lt_donthave). */
-  get piece() { return WITH_PIECE[kindAt(this._words, this._w)] ? this._words[this._w + 20] : null; }
+  get piece() { return WITH_PIECE[this.kind] ? this._word(20) : null; }
   /** How many bytes the metadata has, by a data message; a BigInt from 2^53 on. */
-  get totalSize() { return this.kind === METADATA_DATA ? wide(bigAt(this._words, this._w + 14)) : null; }
+  get totalSize() { return this.kind === METADATA_DATA ? this._big(14) : null; }
   /** How many bytes of the body are the dictionary of an extended message. */
-  get dictSize() { return this.kind && this._words[this._w + 18]; }
-
+  get dictSize() { return this.kind && this._word(18); }
   /** How many bytes the metadata has, by an extended handshake; a BigInt from 2^53 on. */
-  get metadataSize() {
-    const has = this.kind === EXT_HANDSHAKE && this._words[this._w + 21] >>> 16 & 255;
-    return has ? wide(bigAt(this._words, this._w + 16)) : null;
-  }
-
+  get metadataSize() { return this.kind === EXT_HANDSHAKE && this._word(21) >>> 16 & 255 ? this._big(16) : null; }
   /** The id for ut_metadata that an extended handshake announces. */
-  get utMetadata() {
-    const last = this._words[this._w + 21];
-    return this.kind === EXT_HANDSHAKE && last >>> 24 ? last >>> 8 & 255 : null;
-  }
+  get utMetadata() { return this.kind === EXT_HANDSHAKE && this._word(21) >>> 24 ? this._word(21) >>> 8 & 255 : null; }
 
   /** What follows the dictionary of an extended message, as the block of a data message. */
   get rest() { return this.kind ? this.body.subarray(this.dictSize) : null; }
