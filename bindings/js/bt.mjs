@@ -5,7 +5,7 @@
 //
 // end.mjs has an end of a connection, for Node. Nothing of this file is proved. A library is used by one thread.
 import { END, inNode, ITEM, ITEM_SIZE, Library, MORE, OWN_SIZE, READER_SIZE, REFUSED } from './library.mjs';
-import { batchOf, completed, content, DHT, EXTENSIONS, FAST, fill, Id, Item, Items, KEPT, Kind, number, Refused } from './values.mjs';
+import { batchOf, completed, content, DHT, EXTENSIONS, FAST, fill, Id, Item, Items, KEPT, Kind, kindOf, number, Refused } from './values.mjs';
 
 export { DHT, EXTENSIONS, FAST, Id, Item, Kind, Refused };
 
@@ -44,6 +44,13 @@ function putItem({ view, bytes, item }, { index = 0, begin = 0, length = 0, port
   view.setUint16(item + 46, Number(number(id, 16, 'id')), true);
   view.setUint8(item + 48, Number(number(extendedId, 8, 'extendedId')));
   return item;
+}
+
+/** The fields of a message, none of which may be left out. */
+function given(fields) {
+  const missing = Object.keys(fields).find(name => fields[name] === undefined);
+  if (missing) throw new TypeError(`${missing} is missing`);
+  return fields;
 }
 
 /** The calls of a loaded library. Each receiver is {reserved, infoHash, pieces, metadataId, donthaveId, strict, limit}; what is left out is usual. */
@@ -322,6 +329,7 @@ class Writer {
 
   /** Takes the id for ut_metadata if the peer's item announces one. */
   hear(item) {
+    if (!(item instanceof Item)) throw new TypeError(`item is ${kindOf(item)}, not an Item`);
     if (item.utMetadata !== null) this.peer = { ...this.known, metadataId: item.utMetadata };
   }
 
@@ -353,20 +361,20 @@ class Writer {
   unchoke() { return this.message(Id.UNCHOKE); }
   interested() { return this.message(Id.INTERESTED); }
   notInterested() { return this.message(Id.NOT_INTERESTED); }
-  have(index) { return this.message(Id.HAVE, { index }); }
-  bitfield(body) { return this.message(Id.BITFIELD, { body }); }
-  request(index, begin, length) { return this.message(Id.REQUEST, { index, begin, length }); }
-  piece(index, begin, body) { return this.message(Id.PIECE, { index, begin, body }); }
-  cancel(index, begin, length) { return this.message(Id.CANCEL, { index, begin, length }); }
-  port(port) { return this.message(Id.PORT, { port }); }
-  suggest(index) { return this.message(Id.SUGGEST, { index }); }
+  have(index) { return this.message(Id.HAVE, given({ index })); }
+  bitfield(body) { return this.message(Id.BITFIELD, given({ body })); }
+  request(index, begin, length) { return this.message(Id.REQUEST, given({ index, begin, length })); }
+  piece(index, begin, body) { return this.message(Id.PIECE, given({ index, begin, body })); }
+  cancel(index, begin, length) { return this.message(Id.CANCEL, given({ index, begin, length })); }
+  port(port) { return this.message(Id.PORT, given({ port })); }
+  suggest(index) { return this.message(Id.SUGGEST, given({ index })); }
   haveAll() { return this.message(Id.HAVE_ALL); }
   haveNone() { return this.message(Id.HAVE_NONE); }
-  reject(index, begin, length) { return this.message(Id.REJECT, { index, begin, length }); }
-  allowedFast(index) { return this.message(Id.ALLOWED_FAST, { index }); }
+  reject(index, begin, length) { return this.message(Id.REJECT, given({ index, begin, length })); }
+  allowedFast(index) { return this.message(Id.ALLOWED_FAST, given({ index })); }
 
   /** Writes an extended message under the id that the peer announced for it. */
-  extended(extendedId, body) { return this.message(Id.EXTENDED, { extendedId, body }); }
+  extended(extendedId, body) { return this.message(Id.EXTENDED, given({ extendedId, body })); }
 
   /** Writes the extended handshake: your id for ut_metadata, if it isn't 0, and the size of the metadata that you serve. */
   extendedHandshake(metadataId = 0, size = null) {

@@ -22,7 +22,7 @@ const OPTIONS = [...OWN, 'fetch', 'serve', 'most', 'window', 'peerId'], FETCH_OP
 const ABI = 2, CONFIG_SIZE = 80, HEARD_SIZE = 160, WATCH = 0, SERVE = 1, FETCH = 2, SAY_NONE = 2;
 const DONE = 0, ITEM = 1, BUSY = 5;
 const WHY = {
-  6: 'out of memory', 7: 'the end is closed', 8: "the limit isn't 32,768 to 1,048,576", 9: 'there is no info hash',
+  6: 'out of memory', 7: 'the end is closed', 8: "limit isn't 32,768 to 1,048,576", 9: 'infoHash is missing',
   10: "serve hasn't 1 to 67,108,864 bytes",
 };
 const WITH_PIECE = [Event.BLOCK, Event.REJECTED, Event.SERVED, Event.DECLINED];

@@ -217,9 +217,15 @@ export function fill(columns, from, words, count) {
   }
 }
 
+/** What a value is, for a message. */
+export function kindOf(value) {
+  if (value === undefined || value === null) return String(value);
+  return typeof value === 'object' ? value.constructor?.name ?? 'object' : typeof value;
+}
+
 /** A number of so many bits. */
 export function number(value, bits, what) {
-  if (typeof value !== 'number' && typeof value !== 'bigint') throw new TypeError(`${what} is no number`);
+  if (typeof value !== 'number' && typeof value !== 'bigint') throw new TypeError(`${what} is ${kindOf(value)}, not a number`);
   if (typeof value === 'number' && !Number.isSafeInteger(value) || value < 0 || BigInt(value) >> BigInt(bits)) {
     throw new RangeError(`${what} is ${value}, not an integer of ${bits} bits`);
   }
@@ -229,14 +235,14 @@ export function number(value, bits, what) {
 /** The bytes of a Uint8Array or an ArrayBuffer. */
 export function content(value, what, size = null) {
   const bytes = value instanceof ArrayBuffer ? new Uint8Array(value) : value;
-  if (!(bytes instanceof Uint8Array)) throw new TypeError(`${what} is no Uint8Array`);
+  if (!(bytes instanceof Uint8Array)) throw new TypeError(`${what} is ${kindOf(value)}, not a Uint8Array`);
   if (size !== null && bytes.length !== size) throw new RangeError(`${what} has ${bytes.length} bytes, not ${size}`);
   return bytes;
 }
 
 /** Throws TypeError for the first name that isn't among these. */
 export function allKnown(given, names, what) {
-  if (typeof given !== 'object' || given === null) throw new TypeError(`${what} is no object`);
+  if (typeof given !== 'object' || given === null) throw new TypeError(`${what} is ${kindOf(given)}, not an object`);
   const unknown = Object.keys(given).find(name => !names.includes(name));
   if (unknown !== undefined) throw new TypeError(`${what} has no ${unknown}: it has ${names.join(', ')}`);
 }

@@ -136,7 +136,8 @@ const TESTS = {
     for (const call of [() => new End({ infoHash: 5 }), () => new End({ infoHash, serve: 5 }), () => end.receive(5), () => end.receive([1]),
       () => end.setWindow('1')]) assert.throws(call, TypeError, String(call));
     assert.throws(() => new End({ infoHash, windw: 3 }), { name: 'TypeError', message: /^options has no windw: it has .*window/ });
-    assert.throws(() => new End(null), { name: 'TypeError', message: 'options is no object' });
+    assert.throws(() => new End({}), { name: 'RangeError', message: 'infoHash is missing' });
+    assert.throws(() => new End(null), { name: 'TypeError', message: 'options is null, not an object' });
   },
 
   aClosedEnd() {

@@ -52,9 +52,21 @@ const TESTS = {
     }
     for (const call of [own => bt.read(HELLO, own), own => bt.feed(own), own => bt.writer(own, 0), own => { writer.peer = own; }]) {
       assert.throws(() => call({ strickt: true }), { name: 'TypeError', message: /^own has no strickt: it has .*strict/ });
-      assert.throws(() => call(3), { name: 'TypeError', message: 'own is no object' });
+      assert.throws(() => call(3), { name: 'TypeError', message: 'own is number, not an object' });
     }
     assert.throws(() => openWriter({}, 0).metadataRequest(0), /announced no id/);
+  },
+
+  messagesNameTheArgument() {
+    const writer = openWriter(), { metadataId } = writer.peer;
+    for (const [says, call] of [['index is missing', () => writer.have()], ['begin is missing', () => writer.request(1)],
+      ['body is missing', () => writer.piece(0, 0)], ['body is missing', () => writer.extended(1)], ['port is missing', () => writer.port()],
+      ['index is string, not a number', () => writer.have('1')], ['bytes is undefined, not a Uint8Array', () => bt.read()],
+      ['chunk is Array, not a Uint8Array', () => bt.feed().push([1])], ['item is number, not an Item', () => writer.hear(5)],
+      ['item is Object, not an Item', () => writer.hear({})], ['item is null, not an Item', () => writer.hear(null)]]) {
+      assert.throws(call, { name: 'TypeError', message: says }, says);
+    }
+    assert.equal(writer.peer.metadataId, metadataId);
   },
 
   items() {

@@ -46,7 +46,7 @@ class Columns:
         try:
             return self.__dict__["_made"][name]  # type: ignore[no-any-return]
         except KeyError:
-            raise AttributeError("there is no column %s" % name) from None
+            raise AttributeError("there is no column %s: `fields` has %s" % (name, ", ".join(self._made))) from None
 
     def __repr__(self) -> str:
         return "<bt.Columns %s of %d items>" % (" ".join(self._made), self._count)

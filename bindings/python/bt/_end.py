@@ -14,7 +14,7 @@ from ._values import Item, Own, Refused, item, receiver
 _DONE, _BUSY, _NO_MEMORY = 0, 5, 6
 _WATCH, _SERVE, _FETCH = range(3)
 _WHY = {lib.UNWRITTEN: "an end doesn't say it", _BUSY: "1 MiB or more waits to be sent", 7: "the end is closed",
-        8: "the limit isn't 32,768 to 1,048,576", 9: "there is no info hash", 10: "the metadata hasn't 1 to 67,108,864 bytes",
+        8: "limit isn't 32,768 to 1,048,576", 9: "own has no info_hash", 10: "serve hasn't 1 to 67,108,864 bytes",
         11: "the connection isn't open", 12: "the piece count isn't known", 13: "the peer would refuse it",
         14: "no metadata of this size can be fetched now"}
 # Of a bt_heard: how many bytes were used, the item as of ITEM_FIELDS, the bytes of its Extended, and the event.

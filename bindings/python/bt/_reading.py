@@ -45,6 +45,8 @@ class _Reader:
 
 def read(data: lib.Bytes, own: Optional[Own] = None) -> Iterator[Item]:
     """Returns an iterator over the items of a whole stream, which raises Refused if the stream is refused."""
+    if hasattr(data, "read") or hasattr(data, "recv"):
+        raise TypeError("data is %s, not bytes: `stream` reads files and sockets" % type(data).__name__)
     return chain.from_iterable(_batches(lib.content(data), _Reader(own)))
 
 

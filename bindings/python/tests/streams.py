@@ -357,7 +357,7 @@ class Columns(unittest.TestCase):
         found = bt.columns(HELLO)
         self.assertEqual({name: list(column) for name, column in dict(found).items()},
                          dict(start=[0], size=[68], id=[bt.HANDSHAKE], kind=[0], index=[0], begin=[0], length=[0], body=[0]))
-        self.assertRaises(AttributeError, lambda: found.nothing)
+        self.assertRaisesRegex(AttributeError, "no column nothing: `fields` has start, size", lambda: found.nothing)
         self.assertRaises(KeyError, lambda: found["nothing"])
         self.assertEqual((len(bt.columns(HELLO, fields=[])), found.refused, found.id.readonly), (1, None, True))
         self.assertRaisesRegex(ValueError, "fields has 'data'", bt.columns, HELLO, None, ["data"])
@@ -391,7 +391,9 @@ class Package(unittest.TestCase):
     def test_messages_name_the_argument(self):
         writer = open_writer()
         for says, call in (("info_hash is str, not bytes", lambda: bt.fetch("localhost:1", "00" * 20)),
-                           ("data is int, not bytes", lambda: bt.read(5)), ("index is str, not an integer", lambda: writer.have("1")),
+                           ("data is int, not bytes", lambda: bt.read(5)),
+                           ("data is BytesIO, not bytes: `stream` reads files and sockets", lambda: bt.read(io.BytesIO(HELLO))),
+                           ("index is str, not an integer", lambda: writer.have("1")),
                            ("limit is float, not an integer", lambda: bt.Own(limit=1.5)),
                            ("own is int, not bt.Own", lambda: bt.read(HELLO, 3)), ("own is int, not bt.Own", lambda: bt.check(HELLO, 0)),
                            ("own is int, not bt.Own", lambda: bt.columns(HELLO, 3)), ("own is bytes, not bt.Own", lambda: bt.Feed(b"x")),
@@ -411,6 +413,8 @@ class Package(unittest.TestCase):
         for says, call in (("address is \\('a',\\), not 'HOST:PORT' or \\(HOST, PORT\\)", lambda: bt.fetch(("a",), HASH)),
                            ("timeout is -1, not above 0 and at most 1e9 seconds", lambda: bt.fetch("localhost:1", HASH, timeout=-1)),
                            ("timeout is nan, not above 0 .*", lambda: asyncio.run(bt.fetch_async("localhost:1", HASH, timeout=float("nan")))),
+                           ("own has no info_hash", lambda: bt.End(bt.Own())), ("serve hasn't 1 to .*", lambda: bt.End(bt.Own(info_hash=HASH), serve=b"")),
+                           ("limit isn't 32,768 to 1,048,576", lambda: bt.End(bt.Own(info_hash=HASH, limit=5))),
                            ("announce is 7, not one of bt.Announce", lambda: bt.End(bt.Own(info_hash=HASH), announce=7))):
             self.assertRaisesRegex(ValueError, "^%s$" % says, call)
         for address in ("localhost", "localhost:", ":6881", "localhost:http"):
