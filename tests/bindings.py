@@ -5,8 +5,8 @@ usage: tests/bindings.py [LIBRARIES]
 
 LIBRARIES is the folder of libbt.a, libbt.so and bt.node, with bt.wasm in the folder above, or else dist/x86_64-linux. The three examples
 `show` have to print the same of the example streams, of their cuts, and of streams with changed bytes, under each rule set and in chunks of
-each size. The examples `fetch`, also in C, have to fetch from a peer that is right, and from none that breaks a rule. A language whose
-tool isn't installed is left out, and that is said.
+each size. The examples `fetch`, also in C, have to fetch from a peer that is right, from `bt_tool serve` if LIBRARIES has it, and from none
+that breaks a rule. A language whose tool isn't installed is left out, and that is said.
 """
 import os
 import pathlib
@@ -109,6 +109,28 @@ def real(room, commands, given):
     return len(commands)
 
 
+def served(room, commands, given):
+    """How many fetches from `bt_tool serve` had its metadata, if that is beside the libraries."""
+    tool = LIBRARIES / "bt_tool"
+    if not tool.is_file():
+        print("bindings: nothing is fetched from bt_tool, since it isn't beside the libraries")
+        return 0
+    metadata = b"d6:lengthi100e4:name1:a12:piece lengthi16384e6:pieces40000:%se" % bytes(40000)
+    (room / "served").write_bytes(metadata)
+    server = subprocess.Popen([tool, "serve", "--listen", "127.0.0.1:0", room / "served"], stdout=subprocess.PIPE, stderr=subprocess.STDOUT)
+    try:
+        _, digits, _, _, address = server.stdout.readline().decode().split()
+        for language, words in commands.items():
+            given_to = address.split(":") if language == "C" else [address]
+            done = subprocess.run([*map(str, words), digits, *given_to], env=given, capture_output=True, timeout=60)
+            if done.stdout != metadata:
+                sys.exit("bindings: failed: %s from bt_tool serve: %s" % (language, done.stderr.decode()[-2000:]))
+    finally:
+        server.kill()
+        server.communicate()
+    return len(commands)
+
+
 def changed(chosen, examples):
     """Streams, then some of them cut, and some with changed bytes."""
     yield from examples
@@ -200,7 +222,7 @@ def main():
             fetchers["C"] = [room / "fetch"]
             passes(["cc", "-D_GNU_SOURCE", "-I", ROOT / "crates/bt_c", ROOT / "crates/bt_c/examples/fetch.c", LIBRARIES / "libbt.a",
                     "-o", room / "fetch"], given)
-        fetched = fetches(fetchers, given) + real(room, fetchers, given)
+        fetched = fetches(fetchers, given) + served(room, fetchers, given) + real(room, fetchers, given)
     print("bindings: ok: %s, %d streams shown alike, %d heard alike, %d fetches" % (", ".join(commands), shown, heard, fetched))
 
 
