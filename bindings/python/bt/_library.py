@@ -38,10 +38,10 @@ class Item(C.Structure):
 
 
 # The fields of Item that items keep, in one tuple, which is quicker than to ask for each: start, size, index, id. The others are in the
-# message's own bytes, except those of Extended, which are at EXTENDED_AT.
+# message's own bytes, except those of Extended, which EACH_EXTENDED has.
 ITEM_FIELDS = struct.Struct("<2Q16xI10xH40x")
-EXTENDED_FIELDS, EXTENDED_AT = struct.Struct("<3QI4B"), Item.extended.offset
-assert ITEM_FIELDS.size == C.sizeof(Item) and EXTENDED_FIELDS.size == C.sizeof(Extended)
+EXTENDED_FIELDS, EACH_EXTENDED = struct.Struct("<3QI4B"), struct.Struct("<56x32s")
+assert ITEM_FIELDS.size == EACH_EXTENDED.size == C.sizeof(Item) and Item.extended.offset == 56 and EXTENDED_FIELDS.size == C.sizeof(Extended)
 
 
 class Batch(C.Structure):

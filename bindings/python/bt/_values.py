@@ -39,7 +39,6 @@ _BODY_AT = _table([5 + 4 * sum(has) for has in zip(_WITH_INDEX, _WITH_BEGIN, _WI
 _WITH_PIECE = frozenset(map(int, (Kind.METADATA_REQUEST, Kind.METADATA_DATA, Kind.METADATA_REJECT, Kind.DONTHAVE)))
 _NOT_EXTENDED = (0,) * 8
 _u32 = struct.Struct(">I").unpack_from
-_ITEM = C.sizeof(lib.Item)
 _EXTENDED = int(Id.EXTENDED)
 
 
@@ -357,6 +356,7 @@ def item(start: int, size: int, index: int, number: int, extended: bytes, source
 def items(structs: memoryview, source: Tuple[bytes, int]) -> List[Item]:
     """Returns the items of the bytes of these structs. It does what `item` does, without a call for each."""
     found: List[Item] = []
+    has_extended = False
     new, add, ids, with_index = Item, found.append, _IDS, _WITH_INDEX
     for start, size, index, number in lib.ITEM_FIELDS.iter_unpack(structs):
         made = new()
@@ -369,9 +369,12 @@ def items(structs: memoryview, source: Tuple[bytes, int]) -> List[Item]:
         else:
             made._index = None
             if number == _EXTENDED:
-                at = len(found) * _ITEM + lib.EXTENDED_AT
-                made._extended = bytes(structs[at:at + 32])
+                has_extended = True
         add(made)
+    if has_extended:
+        for made, (extended,) in zip(found, lib.EACH_EXTENDED.iter_unpack(structs)):
+            if made._id == _EXTENDED:
+                made._extended = extended
     return found
 
 
