@@ -4,19 +4,12 @@ from __future__ import annotations
 import ctypes as C
 import struct
 import sys
+from dataclasses import dataclass
 from operator import attrgetter
-from typing import TYPE_CHECKING, Any, Dict, List, Optional, Tuple
+from typing import Any, Dict, List, Optional, Tuple
 
 from . import _library as lib
 from ._names import DHT, EXTENSIONS, FAST, Id, Kind, Reason
-
-if TYPE_CHECKING:
-    from dataclasses import dataclass
-else:
-    def dataclass(frozen):
-        """Does nothing: `Own` has itself what the library's one would make, and loads that only for who uses it."""
-        return lambda made: made
-
 
 def _table(others: Any, given: Dict[Id, Any]) -> Tuple[Any, ...]:
     """A table by the number of a bt_item, which is at most that of the handshake: these, and the others."""
@@ -60,24 +53,6 @@ class Refused(ValueError):
         return type(self), (self.at, int(self.reason), self.message)
 
 
-_OWN = ("reserved", "info_hash", "pieces", "metadata_id", "donthave_id", "strict", "limit")
-
-
-class _OfDataclass:
-    """An attribute that `dataclass` gives a class. It is made when `dataclasses` asks for it, since to load that takes long."""
-
-    def __set_name__(self, _: type, name: str) -> None:
-        self._name = name
-
-    def __get__(self, _: object, __: type) -> Any:
-        import dataclasses
-
-        fields = [(name, kind, dataclasses.field(default=getattr(Own, name))) for name, kind in Own.__annotations__.items()]
-        found = getattr(dataclasses.make_dataclass("Own", fields, frozen=True), self._name)
-        setattr(Own, self._name, found)
-        return found
-
-
 @dataclass(frozen=True)
 class Own:
     """The receiver: what a stream is judged by. `dataclasses.replace` makes one with other values.
@@ -101,17 +76,6 @@ class Own:
     strict: bool = False
     limit: int = 262144
 
-    if not TYPE_CHECKING:
-        __dataclass_fields__, __dataclass_params__ = _OfDataclass(), _OfDataclass()
-    __match_args__ = _OWN
-
-    def __init__(self, reserved: int = reserved, info_hash: Optional[lib.Bytes] = info_hash, pieces: Optional[int] = pieces,
-                 metadata_id: int = metadata_id, donthave_id: int = donthave_id, strict: bool = strict, limit: int = limit) -> None:
-        """Takes values that differ from the usual ones."""
-        self.__dict__.update(reserved=reserved, info_hash=info_hash, pieces=pieces, metadata_id=metadata_id, donthave_id=donthave_id,
-                             strict=strict, limit=limit)
-        self.__post_init__()
-
     def __post_init__(self) -> None:
         lib.number(self.reserved, 64, "reserved")
         lib.number(self.limit, 32, "limit")
@@ -120,31 +84,7 @@ class Own:
         if self.pieces is not None:
             lib.number(self.pieces, 32, "pieces")
         if self.info_hash is not None:
-            self.__dict__["info_hash"] = lib.content(self.info_hash, "info_hash", 20)
-
-    def __setattr__(self, name: str, _: object) -> None:
-        from dataclasses import FrozenInstanceError
-
-        raise FrozenInstanceError("%s can't be changed; dataclasses.replace makes one with other values" % name)
-
-    def __delattr__(self, name: str) -> None:
-        self.__setattr__(name, None)
-
-    def _all(self) -> Tuple[Any, ...]:
-        return tuple(getattr(self, name) for name in _OWN)
-
-    def __eq__(self, other: object) -> bool:
-        return self._all() == other._all() if isinstance(other, Own) and type(other) is type(self) else NotImplemented
-
-    def __hash__(self) -> int:
-        return hash(self._all())
-
-    def __repr__(self) -> str:
-        return "Own(%s)" % ", ".join("%s=%r" % pair for pair in zip(_OWN, self._all()))
-
-    def __replace__(self, **changed: Any) -> Own:
-        """Returns what `dataclasses.replace` and `copy.replace` return."""
-        return type(self)(**{**self.__dict__, **changed})
+            object.__setattr__(self, "info_hash", lib.content(self.info_hash, "info_hash", 20))
 
     def _struct(self) -> lib.Own:
         return lib.Own(self.reserved, self.limit, self.pieces or 0, self.pieces is not None, self.info_hash is not None,

@@ -3,6 +3,7 @@ from __future__ import annotations
 
 import ctypes as C
 import struct
+from dataclasses import replace
 from functools import partial
 from typing import Any, Optional
 
@@ -41,7 +42,7 @@ class Writer:
     def __init__(self, own: Own, reserved: int) -> None:
         self._c, self._written, self._item, self._own, self._count = lib.Reader(), lib.Item(), lib.Item(), own, 1
         lib.bt.bt_writer_init(self._c, receiver(own), lib.number(reserved, 64, "reserved"))
-        self._own = own.__replace__(reserved=self._c.own.reserved, metadata_id=self._c.own.metadata_id)
+        self._own = replace(own, reserved=self._c.own.reserved, metadata_id=self._c.own.metadata_id)
         self._numbers = memoryview(self._item).cast("B")
         self._sizes = memoryview(self._written).cast("B")[:16].cast("Q")
         self._make_room(512)
@@ -71,7 +72,7 @@ class Writer:
         if not isinstance(item, Item):
             raise TypeError("item is %s, not bt.Item" % type(item).__name__)
         if item.ut_metadata is not None:
-            self.peer = self.peer.__replace__(metadata_id=item.ut_metadata)
+            self.peer = replace(self.peer, metadata_id=item.ut_metadata)
 
     def _end(self, answer: int, out: Any, why: str) -> bytes:
         if answer == lib.REFUSED:

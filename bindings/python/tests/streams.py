@@ -94,7 +94,7 @@ class Values(unittest.TestCase):
         self.assertEqual(len({STRICT, copy.copy(STRICT), pickle.loads(pickle.dumps(STRICT)), dataclasses.replace(STRICT)}), 1)
         self.assertRaises(ValueError, dataclasses.replace, STRICT, info_hash=b"short")
         for call in (lambda: setattr(STRICT, "pieces", 9), lambda: delattr(STRICT, "pieces")):
-            self.assertRaisesRegex(dataclasses.FrozenInstanceError, "pieces can't be changed", call)
+            self.assertRaisesRegex(dataclasses.FrozenInstanceError, "pieces", call)
 
         @dataclasses.dataclass(frozen=True)
         class Named(bt.Own):
@@ -369,7 +369,7 @@ class Columns(unittest.TestCase):
 
 class Package(unittest.TestCase):
     def test_it_loads_little(self):
-        program = "import sys, bt; print(*sorted({'asyncio', 'dataclasses', 'inspect', 'socket', 'ssl', 'subprocess'} & {*sys.modules}))"
+        program = "import sys, bt; print(*sorted({'asyncio', 'socket', 'ssl', 'subprocess'} & {*sys.modules}))"
         said = subprocess.run([sys.executable, "-S", "-c", program], env={**os.environ, "PYTHONPATH": PACKAGE}, stdout=subprocess.PIPE, check=True)
         self.assertEqual(said.stdout.strip(), b"")
 
