@@ -6,6 +6,7 @@ mod hearing;
 mod polled;
 mod resting;
 mod sleeping;
+mod slots;
 mod stream;
 mod talking;
 mod watch;

@@ -1,5 +1,5 @@
 //! A connection that makes no system call until its socket may be ready.
-ghost use Rattle.std.specs.Prelude.{◌≡◌, ◌&&◌, not};
+ghost use Rattle.std.specs.Prelude.{◌≡◌, ◌&&◌, not, is_some, if◌then◌else◌, Some, None, IfOk, true};
 ghost use Rattle.std.specs.IoError.{error_kind};
 ghost use Rattle.bt_exchange.specs.Streams.{would_wait as would_wait_by};
 
@@ -19,23 +19,42 @@ use std::time::Clock;
 #[derive(Drop)]
 pub struct Flag {
     shared: Option<Rc<Cell<bool>>>,
+    /// The number of the slot that shares it, if one does.
+    slot: usize,
 }
 
 impl Flag {
     /// Returns a flag that is always up: each call is made.
     pub fn always() -> Flag {
-        Flag { shared: None }
+        Flag {
+            shared: None,
+            slot: 0,
+        }
     }
 
-    /// Returns a flag that is up, and that is shared with this one.
+    /// Returns a flag that is up, and that is shared with the one of this slot.
     ///
     /// # Errors
     /// `AllocError` if it has too many owners.
-    pub(crate) fn of(shared: &Rc<Cell<bool>>) -> Result<Flag, AllocError> {
+    pub(crate) fn of(shared: &Rc<Cell<bool>>, slot: usize) -> Result<Flag, AllocError>
+        ensures shared { IfOk result (λ flag. is_some flag.shared ≡ true) }
+        ensures slot { IfOk result (λ flag. flag.slot ≡ slot) }
+    {
         shared.set(true);
         Ok(Flag {
             shared: Some(shared.clone()?),
+            slot,
         })
+    }
+
+    /// Returns the number of the slot that shares the flag, if one does.
+    pub(crate) fn slot(&self) -> Option<usize>
+        ensures { result ≡ (if is_some self.now.shared then Some self.now.slot else None) }
+    {
+        if self.shared.is_none() {
+            return None;
+        }
+        Some(self.slot)
     }
 
     /// Returns whether the socket may be ready.
@@ -128,6 +147,11 @@ impl<S: Read + Write + Drop, K: Clock + Drop> Polled<S, K> {
             line: Stream::new(Flagged { stream, flag }, clock),
         }
     }
+
+    /// Returns its flag.
+    pub fn flag(&self) -> &Flag {
+        &self.line.stream().flag
+    }
 }
 
 impl<S: Read + Write + Drop, K: Clock + Drop> Connection for Polled<S, K> {
@@ -148,6 +172,6 @@ impl<S: Read + Write + Drop, K: Clock + Drop> Connection for Polled<S, K> {
     }
 
     fn may_go_on(&self) -> bool {
-        self.line.stream().flag.is_up()
+        self.flag().is_up()
     }
 }

@@ -1,14 +1,12 @@
 //! Sleeps until a socket may be ready, and says which. A loop over many connections calls it.
-ghost use Rattle.std.specs.Prelude.{◌≡◌, ◌==◌, ◌<◌, vec_len, IfSome};
 
 use crate::polled::Flag;
+use crate::slots::Slots;
 use mio::unix::SourceFd;
 use mio::{Events, Interest, Poll, Token};
 use std::alloc::Global;
-use std::cell::Cell;
 use std::net::Net;
 use std::os::fd::RawFd;
-use std::rc::Rc;
 use std::time::Duration;
 
 /// How many sockets one sleep reports at most. The next one reports the others.
@@ -19,45 +17,13 @@ const EVENTS: usize = 256;
 pub struct Sleeper {
     poll: Poll,
     events: Events,
-    /// The flag of each slot. A slot is free while nobody else has its flag.
-    flags: Vec<Rc<Cell<bool>>>,
+    slots: Slots,
+    /// Whether a socket has a flag that is always up, and so no slot.
+    has_unwatched: bool,
     /// How long a sleep lasts at most, in milliseconds.
     longest: u64,
     /// When all flags were raised last, in milliseconds.
     raised: u64,
-}
-
-/// Raises a flag, if there is one of this number.
-fn raise(flags: &Vec<Rc<Cell<bool>>>, slot: usize) {
-    if let Some(flag) = flags.get(slot) {
-        flag.set(true);
-    }
-}
-
-/// Raises all flags.
-fn raise_all(flags: &Vec<Rc<Cell<bool>>>) {
-    for flag in flags {
-        flag.set(true);
-    }
-}
-
-/// Returns whether a slot is free whose flag has so many owners: nobody has it but the sleeper.
-fn is_free(owners: usize) -> bool
-    ensures { result ≡ (owners == 1) }
-{
-    owners == 1
-}
-
-/// Returns the first slot whose flag nobody else has.
-fn free_slot(flags: &Vec<Rc<Cell<bool>>>) -> Option<usize>
-    ensures { IfSome result (λ slot. slot < vec_len flags.now) }
-{
-    for slot in 0..flags.len() {
-        if is_free(Rc::strong_count(&flags[slot])) {
-            return Some(slot);
-        }
-    }
-    None
 }
 
 impl Sleeper {
@@ -67,15 +33,12 @@ impl Sleeper {
     pub fn new<R: Net>(net: &R, alloc: Global, sockets: usize, longest: u64) -> Option<Sleeper> {
         let poll = Poll::new(net).ok()?;
         let events = Events::with_capacity(alloc, EVENTS).ok()?;
-        let mut flags = Vec::new(alloc);
-        for _socket in 0..sockets {
-            let flag = Rc::new(alloc, Cell::new(true)).ok()?;
-            flags.push(flag).ok()?;
-        }
+        let slots = Slots::new(alloc, sockets).ok()?;
         Some(Sleeper {
             poll,
             events,
-            flags,
+            slots,
+            has_unwatched: false,
             longest,
             raised: 0,
         })
@@ -85,21 +48,35 @@ impl Sleeper {
     ///
     /// A closed socket gives its slot back. If the system or the memory refuses, the flag is always up.
     pub fn watch(&mut self, socket: RawFd) -> Flag {
-        let Some(slot) = free_slot(&self.flags) else {
-            return Flag::always();
-        };
-        let Ok(flag) = Flag::of(&self.flags[slot]) else {
-            return Flag::always();
-        };
-        let interest = Interest::READABLE | Interest::WRITABLE;
-        match self
-            .poll
-            .registry()
-            .register(&mut SourceFd(&socket), Token(slot), interest)
-        {
-            Ok(()) => flag,
-            Err(_) => Flag::always(),
+        if let Some((flag, number)) = self.slots.take() {
+            let interest = Interest::READABLE | Interest::WRITABLE;
+            let registry = self.poll.registry();
+            if registry
+                .register(&mut SourceFd(&socket), Token(number), interest)
+                .is_ok()
+            {
+                return flag;
+            }
         }
+        self.has_unwatched = true;
+        Flag::always()
+    }
+
+    /// Hears that the connection of this index in the loop has this flag.
+    pub fn place(&mut self, flag: &Flag, at: usize) {
+        if let Some(number) = flag.slot() {
+            self.slots.place(number, at);
+        }
+    }
+
+    /// Returns the index of the next connection that may be able to go on.
+    ///
+    /// Between two sleeps it returns each one that was placed once, if its flag is up. If a socket can't be watched it returns `next`.
+    pub fn due(&mut self, next: usize) -> Option<usize> {
+        if self.has_unwatched {
+            return Some(next);
+        }
+        self.slots.next()
     }
 
     /// Raises the flags of the sockets that may be ready. If the loop is idle it sleeps until one is.
@@ -111,21 +88,22 @@ impl Sleeper {
         let waited = self
             .poll
             .poll(&mut self.events, Some(Duration::from_millis(most)));
+        self.slots.begin();
         let mut is_woken = false;
         for event in self.events.iter() {
-            raise(&self.flags, event.token().0);
+            self.slots.raise(event.token().0);
             is_woken = true;
         }
         if waited.is_err() {
-            raise_all(&self.flags);
+            self.slots.raise_all();
             return false;
         }
         if is_idle && !is_woken {
             self.raised = time.saturating_add(self.longest);
-            raise_all(&self.flags);
+            self.slots.raise_all();
         } else if time.saturating_sub(self.raised) >= self.longest {
             self.raised = time;
-            raise_all(&self.flags);
+            self.slots.raise_all();
         }
         true
     }

@@ -59,7 +59,28 @@ pub trait Door {
         ensures rounds { rounds self.new ≡ rounds self.old }
     {}
 
-    /// Ends a round, in which each connection had its turn. Waits a moment, if none of them can go on.
+    /// Hears which index a connection has from now on.
+    fn placed(&mut self, _link: &Self::Link, _at: usize)
+        ensures inside { inside self.new ≡ inside self.old }
+        ensures places { places self.new ≡ places self.old }
+        ensures told { told self.new ≡ told self.old }
+        ensures rounds { rounds self.new ≡ rounds self.old }
+    {}
+
+    /// Returns the index of the next connection in this round that may be able to go on; `None` if no other one may.
+    ///
+    /// `next` is the index after the one that had its turn last. A door that doesn't know which can go on returns it, so that each
+    /// has its turn. An index that no connection has is passed over.
+    fn due(&mut self, next: usize) -> Option<usize>
+        ensures inside { inside self.new ≡ inside self.old }
+        ensures places { places self.new ≡ places self.old }
+        ensures told { told self.new ≡ told self.old }
+        ensures rounds { rounds self.new ≡ rounds self.old }
+    {
+        Some(next)
+    }
+
+    /// Ends a round, in which each connection that was due had its turn. Waits a moment, if none of them can go on.
     fn rest(&mut self, is_idle: bool)
         ensures inside { inside self.new ≡ inside self.old }
         ensures places { places self.new ≡ places self.old }

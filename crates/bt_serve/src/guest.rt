@@ -305,6 +305,11 @@ impl<L: Connection + Drop> Guest<L> {
         self.tally.handled
     }
 
+    /// Returns the connection itself.
+    pub fn link(&self) -> &L {
+        &self.link
+    }
+
     /// Returns whether a read or a write of it may move something.
     pub fn may_go_on(&self) -> bool {
         self.link.may_go_on()

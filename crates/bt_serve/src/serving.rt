@@ -1,6 +1,7 @@
 //! The loop over all connections that are served.
-ghost use Rattle.std.specs.Prelude.{◌≡◌, ◌+◌, ◌<◌, ◌≤◌, vec_len, true, false, Some, IfOk, OnOk, OnErr, if◌then◌else◌};
+ghost use Rattle.std.specs.Prelude.{◌≡◌, ◌+◌, ◌-◌, ◌<◌, ◌≤◌, vec_len, true, false, Some, IfOk, OnOk, OnErr, if◌then◌else◌};
 ghost use Rattle.std.specs.Result.{is_ok};
+ghost use Rattle.bt_exchange.specs.Boths.{capped};
 ghost use Rattle.bt_exchange.specs.Courses.{Moment};
 ghost use Rattle.bt_serve.specs.Doors.{AreEnough, AreMore, AreServed, AreTold, AreWithin, IsWithin, leaving};
 ghost use Rattle.bt_serve.specs.Guests.{IsHospitality, IsServed, IsTurned};
@@ -22,6 +23,9 @@ const UNSERVED: Parting = Parting {
     sent: 0,
     handled: 0,
 };
+
+/// What a visit returns if no connection has the index.
+const PASSED: Option<Pace> = Some(Pace::Waits);
 
 /// Lets a connection in, if one more may enter, there is a place and one waits. It returns whether one came.
 fn let_in<D: Door>(
@@ -56,7 +60,19 @@ fn let_in<D: Door>(
         door.ended(name, UNSERVED);
         return Err(Memory);
     }
+    tell_place(door, guests, guests.len() - 1);
     Ok(true)
+}
+
+/// Tells the door which connection has this index, if one has it.
+fn tell_place<D: Door>(door: &mut D, guests: &Guests<D>, at: usize)
+    ensures inside { D.inside door.new ≡ D.inside door.old }
+    ensures told { D.told door.new ≡ D.told door.old }
+    ensures rounds { D.rounds door.new ≡ D.rounds door.old }
+{
+    if let Some((guest, _)) = guests.get(at) {
+        door.placed(guest.link(), at);
+    }
 }
 
 /// Gives a connection its turn. If it ends, reports that to the door, and returns `None`.
@@ -125,19 +141,37 @@ fn one_if_gone(pace: Option<Pace>) -> u64
     }
 }
 
-/// Drops a connection whose turn ended it. It returns the place of the one that is next.
-fn after_turn<T: Drop>(pace: Option<Pace>, at: usize, guests: &mut Vec<T>) -> usize
-    requires { at < vec_len guests.old }
-    ensures { vec_len guests.new + leaving pace ≡ vec_len guests.old }
+/// Returns the index after the connection that had its turn: if it ended, another one has its index.
+fn after(pace: Option<Pace>, at: usize) -> usize
+    ensures { result ≡ capped (at + (1 - leaving pace)) }
 {
-    if pace.is_some() {
-        return at + 1;
+    match pace {
+        Some(_) => at.saturating_add(1),
+        None => at,
     }
-    let _ = guests.swap_remove(at);
-    at
 }
 
-/// Gives each connection its turn, and drops those that ended.
+/// Visits the connection of this index, if one has it, and drops it if it ended. Then the last one has its index.
+fn visit_at<D: Door>(door: &mut D, at: usize, guests: &mut Guests<D>) -> Option<Pace>
+    requires { vec_len guests.old ≤ D.inside door.old }
+    ensures inside { D.inside door.new + leaving result ≡ D.inside door.old }
+    ensures guests { vec_len guests.new + leaving result ≡ vec_len guests.old }
+    ensures told { AreTold (D.told door.old) (D.told door.new) true }
+    ensures more { AreMore (leaving result) (D.told door.old) (D.told door.new) }
+    ensures rounds { D.rounds door.new ≡ D.rounds door.old }
+{
+    if at >= guests.len() {
+        return PASSED;
+    }
+    let pace = visit(door, &mut guests[at]);
+    if pace.is_none() {
+        let _ = guests.swap_remove(at);
+        tell_place(door, guests, at);
+    }
+    pace
+}
+
+/// Gives each connection that is due its turn, and drops those that ended.
 ///
 /// It returns how many ended, and whether one can go on at once.
 fn tend_all<D: Door>(door: &mut D, guests: &mut Guests<D>) -> (u64, bool)
@@ -150,15 +184,15 @@ fn tend_all<D: Door>(door: &mut D, guests: &mut Guests<D>) -> (u64, bool)
 {
     let mut ended = 0u64;
     let mut is_busy = false;
-    let mut at = 0;
+    let mut next = 0;
     for _ in 0..guests.len() {
-        if at >= guests.len() {
+        let Some(at) = door.due(next) else {
             return (ended, is_busy);
-        }
-        let pace = visit(door, &mut guests[at]);
+        };
+        let pace = visit_at(door, at, guests);
         is_busy |= pace == Some(Pace::GoesOn);
         ended += one_if_gone(pace);
-        at = after_turn(pace, at, guests);
+        next = after(pace, at);
     }
     (ended, is_busy)
 }

@@ -213,6 +213,19 @@ impl<'a, R: Net + Clock, F: Farewell + Drop> Door for TcpDoor<'a, R, F> {
         self.naps.came();
     }
 
+    fn placed(&mut self, link: &Polled<R::Stream, &'a R>, at: usize) {
+        if let Some(sleeper) = &mut self.sleeper {
+            sleeper.place(link.flag(), at);
+        }
+    }
+
+    fn due(&mut self, next: usize) -> Option<usize> {
+        match &mut self.sleeper {
+            Some(sleeper) => sleeper.due(next),
+            None => Some(next),
+        }
+    }
+
     fn rest(&mut self, is_idle: bool) {
         self.rounds = self.rounds.saturating_add(1);
         let time = self.time();
