@@ -179,7 +179,7 @@ struct Came {
     second: Option<Parting>,
 }
 
-fn hospitality() -> Hospitality
+pub(crate) fn hospitality() -> Hospitality
     ensures { result.limit ≡ 32768 }
 {
     Hospitality {
@@ -216,7 +216,7 @@ fn served(alloc: Global, metadata: &Rc<Vec<u8>>, fails_at: Option<u64>) -> Came 
 }
 
 /// Returns the metadata, `abc`; none where memory is refused.
-fn metadata(alloc: Global) -> Option<Rc<Vec<u8>>> {
+pub(crate) fn metadata(alloc: Global) -> Option<Rc<Vec<u8>>> {
     match b"abc".to_vec(alloc) {
         Ok(bytes) => Rc::new(alloc, bytes).ok(),
         Err(_) => None,
@@ -313,7 +313,7 @@ fn memory_is_refused_or_all_are_served(rt: HostRuntime) {
 }
 
 /// A peer's handshake (BEP 3), with the bits of both extensions.
-const HAND: &[u8; 68] = b"\x13BitTorrent protocol\0\0\0\0\0\x10\0\x04\
+pub(crate) const HAND: &[u8; 68] = b"\x13BitTorrent protocol\0\0\0\0\0\x10\0\x04\
 \xa9\x99\x3e\x36\x47\x06\x81\x6a\xba\x3e\x25\x71\x78\x50\xc2\x6c\x9c\xd0\xd8\x9d-XX0001-000000000000";
 
 /// A peer that takes what is sent, says its handshake late, and nothing after it.
