@@ -75,7 +75,7 @@ fn finding_in(told: &Told) -> Finding
     }
 }
 
-impl Report<'_> {
+impl Report {
     /// Returns what the report's verdicts come to.
     pub fn finding(&self) -> Finding
         ensures { result ≡ finding_of self.now }
