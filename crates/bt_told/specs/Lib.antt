@@ -1,0 +1,10 @@
+pub mod Said
+pub mod Names
+pub mod Numbers
+pub mod Sides
+pub mod Closings
+pub mod Remarked
+pub mod Reports
+pub mod Rows
+pub mod Utp
+pub mod Findings

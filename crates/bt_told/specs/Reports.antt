@@ -1,0 +1,32 @@
+-- A report on a connection.
+use Rattle.std.specs.Prelude.{ℕ, List, ◌++◌, Option, Some, None, codes, decimal}
+use Rattle.bt_packet.specs.Addresses.{address_text}
+use Rattle.bt_remarks.specs.declared.events.Side.{Side}
+use Rattle.bt_remarks.specs.declared.events.Side.TheVariants.{A, B}
+use Rattle.bt_told.specs.declared.report.Body.{Body}
+use Rattle.bt_told.specs.declared.report.Body.TheVariants as body
+use Rattle.bt_told.specs.declared.report.Closed.{Closed}
+use Rattle.bt_told.specs.declared.report.Report.{Report}
+use Rattle.bt_told.specs.declared.report.Told.{Told}
+use Rattle.bt_told.specs.Closings.{closing_text}
+use Rattle.bt_told.specs.Remarked.{remarked_text}
+use Rattle.bt_told.specs.Sides.{direction_text}
+
+-- the side that closed first
+abbrev pub closer : Option Closed → Option Side
+closer None = None
+closer (Some c) = Some c.first
+
+abbrev pub told_text : Told → List ℕ
+told_text t =
+    direction_text A (closer t.closed) t.a ++ (direction_text B (closer t.closed) t.b
+    ++ (closing_text t.closed ++ (remarked_text A t.remarked_a ++ remarked_text B t.remarked_b)))
+
+abbrev pub body_text : Body → List ℕ
+body_text body.NotBitTorrent = codes "  no BitTorrent handshake: encrypted, another protocol, or begun before the capture\n"
+body_text (body.Told t) = codes "\n" ++ told_text t
+
+abbrev pub report_text : Report → List ℕ
+report_text r =
+    (codes "connection " ++ (decimal r.number ++ codes "  A "))
+    ++ ((address_text r.a ++ (codes " > B " ++ address_text r.b)) ++ body_text r.body)

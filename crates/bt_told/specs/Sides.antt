@@ -1,0 +1,123 @@
+-- The lines of one direction of a connection.
+use Rattle.std.specs.Prelude.{ℕ, Bool, true, false, ◌==◌, List, [], ◌++◌, Option, Some, None, codes, decimal, is_some, nat_lt, unwrap_or, if◌then◌else◌}
+use Rattle.hex.specs.Hex.{encode_lower}
+use Rattle.bt_ext.specs.Ids.{metadata_id, donthave_id}
+use Rattle.bt_remarks.specs.declared.events.Side.{Side}
+use Rattle.bt_remarks.specs.declared.events.Side.TheVariants.{A, B}
+use Rattle.bt_tcp.specs.declared.covered.Gap.{Gap}
+use Rattle.bt_tcp.specs.declared.covered.Gaps.{Gaps}
+use Rattle.bt_text.specs.declared.ended.Ended.{Ended}
+use Rattle.bt_text.specs.declared.ended.Ended.TheVariants.{Accepted, Refused}
+use Rattle.bt_wire.specs.declared.context.Own.{Own}
+use Rattle.bt_wire.specs.declared.fault.Reason.{Reason}
+use Rattle.bt_wire.specs.declared.fault.Reason.TheVariants.{EndInside}
+use Rattle.bt_wire.specs.declared.item.Refusal.{Refusal}
+use Rattle.bt_wire.specs.Numbers.{be64}
+use Rattle.bt_wire.specs.Reasons.{reason_name}
+use Rattle.bt_told.specs.declared.report.Direction.{Direction}
+use Rattle.bt_told.specs.declared.report.Judged.{Judged}
+use Rattle.bt_told.specs.declared.report.Sender.{Sender}
+use Rattle.bt_told.specs.declared.report.Sender.TheVariants.{Unknown, Known}
+use Rattle.bt_told.specs.Names.{title_text}
+use Rattle.bt_told.specs.Numbers.{option_text}
+
+abbrev pub side_text : Side → List ℕ
+side_text A = codes "A"
+side_text B = codes "B"
+
+-- ---- what a sender is called
+
+abbrev pub called : Sender → List ℕ
+called (Unknown sent) = codes " sent " ++ (decimal sent ++ codes " bytes and no whole handshake\n")
+called (Known j) = codes " " ++ (title_text j.title ++ codes "\n")
+
+abbrev pub sender_text : Side → Sender → List ℕ
+sender_text side sender = codes "  " ++ (side_text side ++ called sender)
+
+-- ---- what is odd in its bytes
+
+abbrev pub exchange_text : ℕ → List ℕ
+exchange_text n =
+    if n == 0 then [] else codes "    handshake after " ++ (decimal n ++ codes " bytes of a key exchange; offsets count from it\n")
+
+abbrev pub conflicts_text : ℕ → List ℕ
+conflicts_text n = if n == 0 then [] else codes "    repeated with other bytes: " ++ (decimal n ++ codes "; the first ones count\n")
+
+-- how many gaps there are, if there is more than one
+abbrev pub more_text : ℕ → ℕ → List ℕ
+more_text count sum =
+    if nat_lt count 2 then [] else codes "; " ++ (decimal count ++ (codes " gaps, " ++ (decimal sum ++ codes " bytes in all")))
+
+abbrev pub first_gap : Option Gap → List ℕ → List ℕ
+first_gap None more = []
+first_gap (Some gap) more =
+    codes "    gap at " ++ (decimal gap.place ++ (codes ": " ++ (decimal gap.length ++ (codes " bytes aren't in the capture" ++ (more ++ codes "\n")))))
+
+abbrev pub gaps_text : Gaps → List ℕ
+gaps_text gaps = first_gap gaps.first (more_text gaps.count gaps.sum)
+
+-- ---- verdicts
+
+abbrev pub refusal_text : Refusal → List ℕ
+refusal_text r = codes "refused message=" ++ (decimal r.message ++ (codes " at=" ++ (decimal r.at ++ (codes " " ++ reason_name r.reason))))
+
+abbrev pub verdict_text : Ended → List ℕ
+verdict_text (Accepted messages bytes) = codes "ok messages=" ++ (decimal messages ++ (codes " bytes=" ++ decimal bytes))
+verdict_text (Refused r) = refusal_text r
+
+abbrev pub closed_by : Side → Side → List ℕ
+closed_by A A = []
+closed_by B B = []
+closed_by closer side = codes " (cut by the close of the other end)"
+
+abbrev pub open_or_closed : Option Side → Side → List ℕ
+open_or_closed None side = codes " (cut by the capture's end)"
+open_or_closed (Some closer) side = closed_by closer side
+
+-- Why a side's stream may end inside a message for a reason that isn't its sender's: it has a gap, or the other side closed first,
+-- or nobody had closed at the capture's end.
+abbrev pub cut_note : Bool → Option Side → Side → List ℕ
+cut_note true closer side = codes " (cut by the gap)"
+cut_note false closer side = open_or_closed closer side
+
+-- such a reason matters only to a stream that ends inside a message
+abbrev pub if_cut : Reason → List ℕ → List ℕ
+if_cut EndInside cut = cut
+if_cut reason cut = []
+
+-- what a verdict is limited by
+abbrev pub note : Ended → Bool → Option Side → Side → List ℕ
+note (Accepted messages bytes) has_gap closer side = if has_gap then codes " (up to the gap)" else []
+note (Refused r) has_gap closer side = if_cut r.reason (cut_note has_gap closer side)
+
+abbrev pub verdict_line : List ℕ → Ended → List ℕ → List ℕ
+verdict_line rules ended limit = rules ++ (verdict_text ended ++ (limit ++ codes "\n"))
+
+-- ---- the receiver
+
+abbrev pub guess_text : Bool → List ℕ
+guess_text true = codes " (guessed: its receiver's handshake isn't there)\n"
+guess_text false = codes "\n"
+
+-- the options of `bt_tool` that describe the receiver
+abbrev pub options_text : Own → Bool → List ℕ
+options_text own is_guessed =
+    codes "    options --reserved " ++ (encode_lower (be64 own.reserved.0) ++ (codes " --metadata-id " ++ (decimal (unwrap_or (metadata_id own.reg) 0)
+    ++ (option_text (codes " --donthave-id ") (donthave_id own.reg) ++ (option_text (codes " --pieces ") own.pieces ++ guess_text is_guessed)))))
+
+-- ---- a direction
+
+abbrev pub judged_text : Side → Bool → Option Side → Judged → List ℕ
+judged_text side has_gap closer j =
+    verdict_line (codes "    free ") j.free (note j.free has_gap closer side)
+    ++ (verdict_line (codes "    bep  ") j.bep (note j.bep has_gap closer side) ++ options_text j.receiver j.is_guessed)
+
+abbrev pub verdicts_text : Side → Bool → Option Side → Sender → List ℕ
+verdicts_text side has_gap closer (Unknown sent) = []
+verdicts_text side has_gap closer (Known j) = judged_text side has_gap closer j
+
+-- `closer` is the side that closed first
+abbrev pub direction_text : Side → Option Side → Direction → List ℕ
+direction_text side closer d =
+    sender_text side d.sender ++ (exchange_text d.exchange ++ (conflicts_text d.conflicts
+    ++ (gaps_text d.gaps ++ verdicts_text side (is_some d.gaps.first) closer d.sender)))

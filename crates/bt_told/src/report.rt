@@ -1,0 +1,133 @@
+//! The facts of a report on a connection.
+use crate::said::Said;
+use bt_packet::Address;
+use bt_remarks::Side;
+use bt_tcp::Gaps;
+use bt_text::ended::Ended;
+use bt_wire::{Own, Refusal};
+
+/// What a sender calls itself.
+#[derive(Clone, Copy)]
+pub enum Title {
+    /// The peer id of its handshake.
+    PeerId([u8; 20]),
+    /// The client's name of its extended handshake (BEP 10, `v`): the first bytes of the array, as many as the number says.
+    Client([u8; 60], usize),
+}
+
+/// A direction with a whole handshake.
+#[derive(Clone, Copy)]
+pub struct Judged {
+    pub title: Title,
+    /// The verdict under the lenient rules.
+    pub free: Ended,
+    /// The verdict under the strict rules.
+    pub bep: Ended,
+    /// The receiver that the verdicts are for.
+    pub receiver: Own,
+    /// Whether the receiver is a guess: its handshake isn't there.
+    pub is_guessed: bool,
+}
+
+/// Who sends a direction.
+#[derive(Clone, Copy)]
+pub enum Sender {
+    /// It sent this many bytes, and no whole handshake.
+    Unknown(u64),
+    Known(Judged),
+}
+
+/// One direction of a connection.
+#[derive(Clone, Copy)]
+pub struct Direction {
+    pub sender: Sender,
+    /// How many bytes of a key exchange come before the handshake.
+    pub exchange: u64,
+    /// How many bytes came again with another value.
+    pub conflicts: u64,
+    /// The gaps; the first one's place is an offset in the stream.
+    pub gaps: Gaps,
+}
+
+/// How a side closed.
+#[derive(Clone, Copy)]
+pub enum Means {
+    Fin,
+    Rst,
+}
+
+/// The last that a side had sent.
+#[derive(Clone, Copy)]
+pub enum Last {
+    Nothing,
+    Item(Said),
+    Refused(Refusal),
+}
+
+/// What a side had sent before the connection was closed.
+#[derive(Clone, Copy)]
+pub struct Before {
+    pub sent: u64,
+    pub last: Last,
+}
+
+/// How a connection was closed.
+#[derive(Clone, Copy)]
+pub struct Closed {
+    /// The side that closed first.
+    pub first: Side,
+    pub by: Means,
+    /// Nanoseconds after the capture's first packet.
+    pub at: u64,
+    /// What A had sent, if it has a whole handshake.
+    pub a: Option<Before>,
+    /// What B had sent, if it has a whole handshake.
+    pub b: Option<Before>,
+}
+
+/// The events of a side that have a remark.
+#[derive(Clone, Copy)]
+pub struct Noted {
+    pub count: u64,
+    pub first: Said,
+}
+
+/// The events of a side, by their remarks.
+#[derive(Clone, Copy)]
+pub struct Remarked {
+    pub unasked: Option<Noted>,
+    pub choked: Option<Noted>,
+    pub again: Option<Noted>,
+    pub unanswered: Option<Noted>,
+    pub elsewhere: Option<Noted>,
+}
+
+/// What is told of a BitTorrent connection.
+#[derive(Clone, Copy)]
+pub struct Told {
+    pub a: Direction,
+    pub b: Direction,
+    /// How it was closed; none if it was still open at the capture's end.
+    pub closed: Option<Closed>,
+    pub remarked_a: Remarked,
+    pub remarked_b: Remarked,
+}
+
+/// What is known of a connection.
+#[derive(Clone, Copy)]
+pub enum Body {
+    /// No side began a handshake.
+    NotBitTorrent,
+    Told(Told),
+}
+
+/// A report on a connection.
+#[derive(Clone, Copy)]
+pub struct Report {
+    /// The connection's number, counted from 0.
+    pub number: u64,
+    /// The end that opened the connection, or sent the first captured packet.
+    pub a: Address,
+    pub b: Address,
+    pub body: Body,
+}

@@ -1,0 +1,176 @@
+//! A row: something that one side did, at its time.
+ghost use Rattle.std.specs.Prelude.{◌≡◌, ◌+◌, ◌<◌, ◌≤◌, ◌||◌, ◌++◌, OnErr, OnOk, codes, decimal, length, take, vec_capacity, vec_len};
+ghost use Rattle.bt_told.specs.Rows.{clock_text, deed_text, end_text, name_if, pad_text, remarks_text, row_text};
+
+use crate::closing::means;
+use crate::numbers::put_time;
+use crate::report::Means;
+use crate::said::{Words, put_words};
+use crate::sides::{letter, put_between, put_refusal};
+use bt_remarks::{Remarks, Side};
+use bt_text::putting::{grow, put_number, put_word};
+use bt_wire::Refusal;
+use std::alloc::AllocError;
+
+/// What a side did.
+#[derive(Clone, Copy)]
+pub enum Deed {
+    /// It sent an item.
+    Item(Words),
+    /// It sent what the lenient rules refuse.
+    Refused(Refusal),
+    /// It sent this many bytes that aren't in the capture.
+    Gap(u64),
+    /// It closed.
+    Closed(Means),
+}
+
+/// What a side did, and when.
+#[derive(Clone, Copy)]
+pub struct Row {
+    /// The connection's number.
+    pub connection: u64,
+    /// Nanoseconds after the capture's first packet.
+    pub at: u64,
+    pub side: Side,
+    /// The offset in the side's stream.
+    pub offset: u64,
+    pub deed: Deed,
+    /// The remarks that are known at this packet.
+    pub remarks: Remarks,
+}
+
+/// Puts spaces so that the seconds end in the fourth column.
+fn put_pad(seconds: u64, text: &mut [u8], at: usize) -> usize
+    requires { at + 3 ≤ length text.old }
+    ensures room { (at ≤ result) × (result ≤ at + 3) }
+    ensures size { length text.new ≡ length text.old }
+    ensures text { take result text.new ≡ take at text.old ++ pad_text seconds }
+{
+    match seconds {
+        0..10 => put_word(b"   ", text, at),
+        10..100 => put_word(b"  ", text, at),
+        100..1000 => put_word(b" ", text, at),
+        _ => at,
+    }
+}
+
+/// Puts a time with spaces before it.
+fn put_clock(nanoseconds: u64, text: &mut [u8], at: usize) -> usize
+    requires { at + 30 ≤ length text.old }
+    ensures room { (at ≤ result) × (result ≤ at + 30) }
+    ensures size { length text.new ≡ length text.old }
+    ensures text { take result text.new ≡ take at text.old ++ clock_text nanoseconds }
+{
+    let at = put_pad(nanoseconds / 1_000_000_000, text, at);
+    put_time(nanoseconds, text, at)
+}
+
+/// Puts what a side did.
+fn put_deed(deed: &Deed, text: &mut [u8], at: usize) -> usize
+    requires { at + 120 ≤ length text.old }
+    ensures room { (at ≤ result) × (result ≤ at + 120) }
+    ensures size { length text.new ≡ length text.old }
+    ensures text { take result text.new ≡ take at text.old ++ deed_text deed.now }
+{
+    match deed {
+        Deed::Item(words) => put_words(words, text, at),
+        Deed::Refused(refusal) => put_refusal(refusal, text, at),
+        Deed::Gap(bytes) => {
+            let after = b" bytes; nothing after it is shown)";
+            put_between(b"(gap of ", *bytes, after, text, at)
+        }
+        Deed::Closed(by) => {
+            let at = put_word(b"(", text, at);
+            let at = put_word(means(*by), text, at);
+            put_word(b")", text, at)
+        }
+    }
+}
+
+/// Puts a remark's name if the row has it, after what stands between names.
+fn put_name_if<const N: usize>(
+    has_it: bool,
+    has_one: bool,
+    name: &[u8; N],
+    text: &mut [u8],
+    at: usize,
+) -> usize
+    requires { at + (3 + length name.now) ≤ length text.old }
+    ensures room { (at ≤ result) × (result ≤ at + (3 + length name.now)) }
+    ensures size { length text.new ≡ length text.old }
+    ensures text { take result text.new ≡ take at text.old ++ name_if has_it has_one name.now }
+{
+    if !has_it {
+        return at;
+    }
+    let at = if has_one {
+        put_word(b", ", text, at)
+    } else {
+        put_word(b"  (", text, at)
+    };
+    put_word(name, text, at)
+}
+
+/// Puts the line's end, after a bracket if the row has a remark.
+fn put_end(has_one: bool, text: &mut [u8], at: usize) -> usize
+    requires { at + 2 ≤ length text.old }
+    ensures room { (at ≤ result) × (result ≤ at + 2) }
+    ensures size { length text.new ≡ length text.old }
+    ensures text { take result text.new ≡ take at text.old ++ end_text has_one }
+{
+    if has_one {
+        put_word(b")\n", text, at)
+    } else {
+        put_word(b"\n", text, at)
+    }
+}
+
+/// Puts the remarks and the line's end.
+fn put_remarks(remarks: &Remarks, text: &mut [u8], at: usize) -> usize
+    requires { at + 60 ≤ length text.old }
+    ensures room { (at ≤ result) × (result ≤ at + 60) }
+    ensures size { length text.new ≡ length text.old }
+    ensures text { take result text.new ≡ take at text.old ++ remarks_text remarks.now }
+{
+    let one = remarks.unasked;
+    let two = one || remarks.choked;
+    let three = two || remarks.again;
+    let four = three || remarks.elsewhere;
+    let at = put_name_if(remarks.unasked, false, b"unasked", text, at);
+    let at = put_name_if(remarks.choked, one, b"choked", text, at);
+    let at = put_name_if(remarks.again, two, b"again", text, at);
+    let at = put_name_if(remarks.elsewhere, three, b"elsewhere", text, at);
+    put_end(four, text, at)
+}
+
+/// Puts a row.
+fn put_row_text(row: &Row, text: &mut [u8], at: usize) -> usize
+    requires { at + 260 ≤ length text.old }
+    ensures size { length text.new ≡ length text.old }
+    ensures text { take result text.new ≡ take at text.old ++ row_text row.now }
+{
+    let at = put_number(row.connection, text, at);
+    let at = put_word(b"  ", text, at);
+    let at = put_clock(row.at, text, at);
+    let at = put_word(b" ", text, at);
+    let at = put_word(letter(row.side), text, at);
+    let at = put_between(b" ", row.offset, b" ", text, at);
+    let at = put_deed(&row.deed, text, at);
+    put_remarks(&row.remarks, text, at)
+}
+
+/// Appends a row as text.
+///
+/// # Errors
+/// `AllocError` if the capacity has no room for 260 bytes and out of memory; the text is then as before.
+pub fn put_row(row: &Row, out: &mut Vec<u8>) -> Result<(), AllocError>
+    ensures ok { OnOk result (out.new.items ≡ out.old.items ++ row_text row.now) }
+    ensures err { OnErr result (out.new.items ≡ out.old.items) }
+    ensures full { OnErr result (vec_capacity out.old < vec_len out.old + 260) }
+{
+    let place = grow(out, 260)?;
+    let end = put_row_text(row, out.as_mut_slice(), place);
+    out.truncate(end);
+    Ok(())
+}
