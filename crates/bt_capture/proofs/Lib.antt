@@ -1,0 +1,4 @@
+pub mod Buffers
+pub mod Going
+pub mod Walking
+pub mod Viewing

@@ -1,0 +1,5 @@
+pub mod Reads
+pub mod Readings
+pub mod Walks
+pub mod Ends
+pub mod Sights
