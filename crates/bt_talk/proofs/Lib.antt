@@ -1,0 +1,4 @@
+pub mod Pasts
+pub mod Receivers
+pub mod Stages
+pub mod Talks
