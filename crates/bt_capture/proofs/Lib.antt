@@ -2,3 +2,4 @@ pub mod Buffers
 pub mod Going
 pub mod Walking
 pub mod Viewing
+pub mod Pairing

@@ -3,3 +3,4 @@ pub mod Readings
 pub mod Walks
 pub mod Ends
 pub mod Sights
+pub mod Pairs

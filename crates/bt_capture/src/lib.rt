@@ -4,9 +4,11 @@
 mod buffer;
 mod fault;
 mod packets;
+mod pair;
 mod sight;
 mod walk;
 
 pub use fault::ReadFault;
 pub use packets::{FileEnd, Packets};
+pub use pair::Pair;
 pub use sight::{Sight, sight_of};
