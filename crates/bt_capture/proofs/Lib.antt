@@ -3,3 +3,5 @@ pub mod Going
 pub mod Walking
 pub mod Viewing
 pub mod Pairing
+pub mod InOrder
+pub mod Titles

@@ -4,3 +4,5 @@ pub mod Walks
 pub mod Ends
 pub mod Sights
 pub mod Pairs
+pub mod Tellings
+pub mod Reportings

@@ -5,10 +5,14 @@ mod buffer;
 mod fault;
 mod packets;
 mod pair;
+mod reporting;
 mod sight;
+mod telling;
 mod walk;
 
 pub use fault::ReadFault;
 pub use packets::{FileEnd, Packets};
 pub use pair::Pair;
+pub use reporting::report_of;
 pub use sight::{Sight, sight_of};
+pub use telling::is_refused;
