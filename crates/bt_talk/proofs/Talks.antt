@@ -13,7 +13,7 @@ use Rattle.bt_talk.specs.declared.direction.Direction.{Direction}
 use Rattle.bt_talk.specs.declared.talk.Talk.{Talk}
 use Rattle.bt_talk.specs.Pasts.{Past, Adds, IsAcked, IsAckedBy, HasSent, HasSentBy, given_of}
 use Rattle.bt_talk.specs.Stages.{IsDirection, is_opening}
-use Rattle.bt_talk.specs.Talks.{IsTalk, IsEnd, direction_of, flow_of, of_side, is_in_opening, is_over}
+use Rattle.bt_talk.specs.Talks.{IsTalk, IsEnd, IsSender, direction_of, flow_of, of_side, is_in_opening, is_over}
 
 direction_is : (side : Side) (a b : Past) (t : Talk) → IsTalk a b t
     → IsDirection t.pieces (of_side side a b) (of_side (other side) a b) (direction_of side t)
@@ -80,3 +80,10 @@ pub sent_same : (s : Segment) (opening : Bool) (p : Past) (flow flow' : Flow) (q
     → HasSent s opening p flow q after → HasSent s opening p flow' q after'
 sent_same s opening p flow flow' q after after' e f h =
     subst (λ (x : Flow). HasSent s opening p x q after') e (subst (λ (y : Flow). HasSent s opening p flow q y) f h)
+
+-- One side sent the segment.
+pub sender_same : (s : Segment) (t : Talk) (x y : Side) → IsSender s t x → IsSender s t y → x ≡ y
+sender_same s t A A i j = refl
+sender_same s t B B i j = refl
+sender_same s t A B i j = sym (j.1 (i.0 refl))
+sender_same s t B A i j = i.1 (j.0 refl)

@@ -10,6 +10,9 @@ use Rattle.bt_talk.specs.declared.direction.Direction.{Direction}
 use Rattle.bt_talk.specs.declared.talk.Talk.{Talk}
 use Rattle.bt_talk.specs.Pasts.{Past, HasSent, IsAcked}
 use Rattle.bt_talk.specs.declared.ends.Ends.{Ends}
+use Rattle.bt_talk.specs.declared.closing.Closing.{Closing}
+use Rattle.bt_talk.specs.declared.closing.When.{When}
+use Rattle.bt_talk.specs.Closing.{Closes}
 use Rattle.bt_talk.specs.Stages.{IsDirection, is_opening}
 
 abbrev pub direction_of : Side → Talk → Direction
@@ -33,6 +36,9 @@ ends_of t = t.ends
 
 abbrev pub pieces_of : Talk → Option ℕ
 pieces_of t = t.pieces
+
+abbrev pub closing_of : Talk → Closing
+closing_of t = t.closing
 
 -- Memory ran out.
 abbrev pub is_lost : Talk → Bool
@@ -91,7 +97,7 @@ pub record Settles (a b : Past) (t t' : Talk) : Type 0 where
   pub opening : is_in_opening t ≡ true → IsEnd a b (min (t.segments + 1) (2 ^ 32 - 1)) (not (is_in_opening t'))
 
 -- The connection took a segment. In the opening that may end it.
-pub record Takes (s : Segment) (a b : Past) (t t' : Talk) : Type 0 where
+pub record Takes (s : Segment) (when : When) (a b : Past) (t t' : Talk) : Type 0 where
   pub side : Side
   pub is_side : IsSender s t side
   pub a' : Past
@@ -101,3 +107,4 @@ pub record Takes (s : Segment) (a b : Past) (t t' : Talk) : Type 0 where
   pub acked : IsAcked s (of_side (other side) a b) (of_side (other side) a' b')
   pub opening : is_in_opening t ≡ true → IsEnd a' b' (min (t.segments + 1) (2 ^ 32 - 1)) (not (is_in_opening t'))
   pub after : is_in_opening t ≡ false → is_in_opening t' ≡ false
+  pub closes : Closes s when side a' b' (flow_of A t') (flow_of B t') (closing_of t) (closing_of t')

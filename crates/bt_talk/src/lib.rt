@@ -3,6 +3,7 @@
 //! Capture files, the table of connections and their text don't belong here.
 #![tactic(auto)]
 
+mod closing;
 mod direction;
 mod ends;
 mod room;
@@ -10,6 +11,7 @@ mod stage;
 mod talk;
 
 pub use bt_remarks::Side;
+pub use closing::{Closed, When};
 pub use ends::Ends;
 pub use room::Room;
 pub use talk::Talk;

@@ -5,6 +5,7 @@ ghost use Rattle.bt_remarks.specs.declared.events.Side.{Side};
 ghost use Rattle.bt_talk.specs.Stages.{IsDirection, is_opening};
 ghost use Rattle.bt_talk.specs.Talks.{is_over as is_over_by, IsEnd, Turns};
 
+use crate::closing::{Closed, Closing, When, is_end, opens};
 use crate::direction::Direction;
 use crate::ends::Ends;
 use crate::room::Room;
@@ -101,6 +102,7 @@ pub struct Talk {
     b: Direction,
     /// How many segments came in the opening.
     segments: u32,
+    closing: Closing,
     is_lost: bool,
 }
 
@@ -113,8 +115,11 @@ impl Talk {
     ghost use Rattle.bt_intro.specs.Hearing.{IsSaid};
     ghost use Rattle.bt_intro.specs.Listening.{handshake_of, last_client};
     ghost use Rattle.bt_remarks.specs.Said.{other};
+    ghost use Rattle.std.specs.Prelude.{option_map, unwrap_or};
+    ghost use Rattle.bt_tcp.specs.Heard.{opening_of};
+    ghost use Rattle.bt_talk.specs.Closing.{Closes, still_open, high_at, is_quiet, opens_by};
     ghost use Rattle.bt_talk.specs.Ends.{ends_by};
-    ghost use Rattle.bt_talk.specs.Talks.{IsTalk, Exchanges, Takes, Settles, ends_of, pieces_of, is_in_opening, is_lost, flow_of, direction_of, of_side};
+    ghost use Rattle.bt_talk.specs.Talks.{IsTalk, Exchanges, Takes, Settles, ends_of, pieces_of, closing_of, IsSender, is_in_opening, is_lost, flow_of, direction_of, of_side};
     ghost use Rattle.bt_talk.specs.Receivers.{AreVerdicts, IsReceiverNow};
 
     /// Returns the connection that begins with a segment, of which nothing was taken yet.
@@ -125,6 +130,7 @@ impl Talk {
         ensures ends { ends_of result ≡ ends_by first.now }
         ensures pieces { pieces_of result ≡ pieces }
         ensures opening { is_in_opening result ≡ true }
+        ensures closing { closing_of result ≡ still_open }
         ensures there { is_lost result ≡ false }
     {
         Talk {
@@ -134,6 +140,7 @@ impl Talk {
             a: Direction::new(alloc),
             b: Direction::new(alloc),
             segments: 0,
+            closing: Closing::new(),
             is_lost: false,
         }
     }
@@ -144,6 +151,7 @@ impl Talk {
         ensures opening { OnOk result (is_in_opening self.new ≡ is_in_opening self.old) }
         ensures ends { self.new.ends ≡ self.old.ends }
         ensures pieces { self.new.pieces ≡ self.old.pieces }
+        ensures closing { self.new.closing ≡ self.old.closing }
         ensures segments { self.new.segments ≡ self.old.segments }
         ensures is_lost { self.new.is_lost ≡ self.old.is_lost }
     {
@@ -166,6 +174,7 @@ impl Talk {
         ensures flows { OnOk result ((side : Side) → flow_of side self.new ≡ flow_of side self.old) }
         ensures ends { self.new.ends ≡ self.old.ends }
         ensures pieces { self.new.pieces ≡ self.old.pieces }
+        ensures closing { self.new.closing ≡ self.old.closing }
         ensures is_lost { self.new.is_lost ≡ self.old.is_lost }
     {
         let of_a = receiver_between(&self.b.intro, &self.a.intro, self.pieces);
@@ -182,6 +191,7 @@ impl Talk {
         ensures flows { OnOk result ((side : Side) → flow_of side self.new ≡ flow_of side self.old) }
         ensures ends { self.new.ends ≡ self.old.ends }
         ensures pieces { self.new.pieces ≡ self.old.pieces }
+        ensures closing { self.new.closing ≡ self.old.closing }
         ensures is_lost { self.new.is_lost ≡ self.old.is_lost }
     {
         if !self.a.is_opening() {
@@ -195,14 +205,36 @@ impl Talk {
         Ok(())
     }
 
+    /// Notes whether a segment closes the connection, and whether that is over.
+    fn note(&mut self, segment: &Segment, when: When)
+        ensures closes { (a b : Past) (side : Side) → IsTalk a b self.old → IsSender segment.now self.old side
+            → Closes segment.now when side a b self.old.a.flow self.old.b.flow self.old.closing self.new.closing }
+        ensures rest { self.new ≡ record self.old { closing = self.new.closing } }
+    {
+        let now = Closed {
+            side: self.ends.sender(segment),
+            by_reset: segment.flags.rst,
+            when,
+            high_a: self.a.flow.high(),
+            high_b: self.b.flow.high(),
+        };
+        let over = is_end(
+            segment.flags.rst,
+            self.a.flow.is_closed(),
+            self.b.flow.is_closed(),
+        );
+        self.closing.close(segment.flags, now);
+        self.closing.end(over, when.nanos);
+    }
+
     /// Takes the next segment of the connection, in the order of capture.
     ///
     /// In the opening it may end that: then both sides have described themselves, or have sent 1 MiB, or 4,096 segments came.
     ///
     /// # Errors
     /// `AllocError` when out of memory. The connection is lost then: it takes nothing more, and nothing is promised of what it tells.
-    pub fn take(&mut self, segment: &Segment, room: &mut Room) -> Result<(), AllocError>
-        ensures taken { OnOk result ((a b : Past) → IsTalk a b self.old → Takes segment.now a b self.old self.new) }
+    pub fn take(&mut self, segment: &Segment, when: When, room: &mut Room) -> Result<(), AllocError>
+        ensures taken { OnOk result ((a b : Past) → IsTalk a b self.old → Takes segment.now when a b self.old self.new) }
         ensures there { OnOk result (is_lost self.new ≡ false) }
         ensures lost { OnErr result (is_lost self.new ≡ true) }
         ensures stays { is_lost self.old ≡ true → result ≡ Err alloc_error }
@@ -214,6 +246,7 @@ impl Talk {
         }
         self.is_lost = true;
         self.exchange(segment, room)?;
+        self.note(segment, when);
         self.settle(room)?;
         self.is_lost = false;
         Ok(())
@@ -365,5 +398,44 @@ impl Talk {
         ensures { (a b : Past) → IsTalk a b self.now → let p = of_side side a b in IsClosed p.heard p.out (flow_of side self.now).stream result }
     {
         self.direction(side).flow.is_closed()
+    }
+
+    /// Returns the first FIN or RST, if one came.
+    pub fn closed(&self) -> Option<Closed>
+        ensures { result ≡ (closing_of self.now).closed }
+    {
+        self.closing.closed
+    }
+
+    /// Returns how many bytes from its handshake on a side had sent at the first FIN or RST.
+    pub fn had_sent(&self, side: Side) -> Option<u64>
+        ensures { (a b : Past) → IsTalk a b self.now → (start : Option ℕ) × IsStartOf (of_side side a b).front start
+            × (result ≡ option_map (λ c. high_at side c - unwrap_or start 0) (closing_of self.now).closed) }
+    {
+        let start = self.start(side).unwrap_or(0);
+        match &self.closing.closed {
+            Some(closed) => Some(closed.high(side).saturating_sub(start as u64)),
+            None => None,
+        }
+    }
+
+    /// Tells whether the connection is over at this time, so that no segment of it is awaited.
+    ///
+    /// That is four seconds after the first RST, and four seconds after both FINs were reached and acknowledged.
+    pub fn is_over(&self, nanos: u64) -> bool
+        ensures { result ≡ is_quiet (closing_of self.now).over nanos }
+    {
+        self.closing.is_quiet(nanos)
+    }
+
+    /// Tells whether a segment begins another connection between the same ends.
+    ///
+    /// It does if it is a SYN without ACK of a side that has sent something, and not that side's SYN again.
+    pub fn opens_again(&self, segment: &Segment) -> bool
+        ensures { (a b : Past) → IsTalk a b self.now → (side : Side) × IsSender segment.now self.now side × (let p = of_side side a b in
+            result ≡ opens_by segment.now.flags (high_in p.heard (flow_of side self.now).stream) (opening_of p.heard) segment.now.sequence) }
+    {
+        let flow = &self.direction(self.ends.sender(segment)).flow;
+        opens(segment.flags, flow.high(), flow.opening(), segment.sequence)
     }
 }
