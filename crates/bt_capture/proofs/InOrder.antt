@@ -1,5 +1,5 @@
 -- Reports are told one by one.
-use Rattle.std.proofs.Common.{◌≡◌, ◌∙◌, ℕ, ◌+◌, ◌-◌, ◌^◌, min, true, false, Bool, ◌||◌, List, [], ◌∷◌, ◌++◌, length, append-nil, append_assoc, refl, sym, ap, arith, inl, inr, if◌then◌else◌}
+use Rattle.std.proofs.Common.{◌≡◌, ◌∙◌, ℕ, ◌+◌, ◌-◌, ◌^◌, min, true, false, Bool, ◌||◌, List, [], ◌∷◌, ◌++◌, length, append-nil, append_assoc, refl, sym, ap, subst, arith, inl, inr, if◌then◌else◌}
 use Rattle.std.specs.List.{filter, list_any}
 use Rattle.std.specs.Io.KnownBytes.{Appends}
 use Rattle.std.proofs.KnownBytes.{Appends-trans}
@@ -8,8 +8,8 @@ use Rattle.std.proofs.lemmas.Grind.{flat_map-append}
 use Rattle.std.proofs.lemmas.List.{length-append}
 use Rattle.std.proofs.lemmas.List.Elements.{filter-append}
 use Rattle.std.proofs.lemmas.List.Folds.{list_any-append}
-use Rattle.bt_io.specs.Counts.{counted}
-use Rattle.bt_io.specs.Seen.{TargetSeen}
+use Rattle.bt_io.specs.Counts.{counted, Grew}
+use Rattle.bt_io.specs.Seen.{TargetSeen, WriteFailed}
 use Rattle.bt_told.specs.declared.report.Report.{Report}
 use Rattle.bt_told.specs.Reports.{report_text}
 use Rattle.bt_capture.specs.declared.telling.Teller.{Teller}
@@ -71,12 +71,13 @@ all_written start now after old new reports held calm empty torrents refused t =
 
 -- A front of the text that was kept is written.
 pub front_written : (start now after : TargetSeen) (t : Teller) (reports : List Report) (front rest : List ℕ) → t.text.items ≡ front ++ rest
-    → Appends now.held after.held front → Tells start now t reports → IsStopped start after reports
-front_written start now after teller reports front rest parts held t = record {
+    → Appends now.held after.held front → WriteFailed now after → Tells start now t reports → IsStopped start after reports
+front_written start now after teller reports front rest parts held failed t = record {
   front = (
     t.written ++ front,
     rest,
     sym t.whole ∙ ap (λ (l : List ℕ). t.written ++ l) parts ∙ sym (append_assoc t.written front rest),
     Appends-trans start.held now.held after.held t.written front t.held held,
   );
+  failed = subst (λ (n : ℕ). Grew n after.failed) t.calm failed;
 }

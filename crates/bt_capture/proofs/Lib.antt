@@ -5,3 +5,4 @@ pub mod Viewing
 pub mod Pairing
 pub mod InOrder
 pub mod Titles
+pub mod Outcomes

@@ -6,3 +6,4 @@ pub mod Sights
 pub mod Pairs
 pub mod Tellings
 pub mod Reportings
+pub mod Runs

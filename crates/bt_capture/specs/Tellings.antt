@@ -2,7 +2,7 @@
 use Rattle.std.specs.Prelude.{◌≡◌, ℕ, ◌^◌, ◌-◌, min, Bool, true, false, not, ◌||◌, List, [], ◌++◌, length, Option, Some, None, is_some}
 use Rattle.std.specs.List.{flat_map, filter, list_any}
 use Rattle.std.specs.Io.KnownBytes.{Appends}
-use Rattle.bt_io.specs.Seen.{TargetSeen, AppendsPrefix}
+use Rattle.bt_io.specs.Seen.{TargetSeen, AppendsPrefix, WriteFailed}
 use Rattle.bt_remarks.specs.declared.events.Side.{Side}
 use Rattle.bt_remarks.specs.declared.events.Side.TheVariants.{A, B}
 use Rattle.bt_text.specs.declared.ended.Ended.{Ended}
@@ -87,6 +87,7 @@ pub record Tells (start now : TargetSeen) (t : Teller) (reports : List Report) :
 -- A write failed: a front of the texts is written.
 pub record IsStopped (start now : TargetSeen) (reports : List Report) : Type 0 where
   pub front : AppendsPrefix start.held now.held (texts reports)
+  pub failed : WriteFailed start now
 
 -- All is written.
 abbrev pub IsEmpty : Teller → Type 0

@@ -2,17 +2,22 @@
 #![tactic(auto)]
 
 mod buffer;
+mod connections;
+mod ending;
 mod fault;
 mod packets;
 mod pair;
 mod reporting;
+mod run;
 mod sight;
 mod telling;
 mod walk;
 
+pub use ending::{CaptureEnd, CaptureFault, CaptureJob};
 pub use fault::ReadFault;
 pub use packets::{FileEnd, Packets};
 pub use pair::Pair;
 pub use reporting::report_of;
+pub use run::run_capture;
 pub use sight::{Sight, sight_of};
 pub use telling::is_refused;

@@ -109,7 +109,7 @@ fn has_begun(a: Option<usize>, b: Option<usize>) -> bool
 }
 
 /// Returns what is known of a connection.
-fn body_of(talk: &Talk) -> Body<'_>
+pub fn body_of(talk: &Talk) -> Body<'_>
     ensures { (a b : Past) → IsTalk a b talk.now → IsBodyOf a b talk.now result }
 {
     match has_begun(talk.start(Side::A), talk.start(Side::B)) {

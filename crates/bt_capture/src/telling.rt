@@ -4,11 +4,14 @@ ghost use Rattle.bt_io.specs.Counts.{counted as counted_by};
 ghost use Rattle.bt_io.specs.Seen.{TargetSeen, WriteFailed};
 ghost use Rattle.bt_told.specs.declared.report.Report.{Report};
 ghost use Rattle.bt_told.specs.Reports.{closer};
+ghost use Rattle.bt_capture.specs.Runs.{IsTelling};
 ghost use Rattle.bt_capture.specs.Tellings.{may_be_cut as may_be_cut_by, is_refusal as is_refusal_by, is_direction_refused as is_direction_refused_by, is_refused as is_refused_by, is_told as is_told_by};
 
+use crate::reporting::body_of;
 use bt_io::{Target, WriteFault};
 use bt_jobs::output::write_out;
 use bt_remarks::Side;
+use bt_talk::Talk;
 use bt_text::ended::Ended;
 use bt_told::{Body, Closed, Direction, Report, Sender, put_report};
 use bt_wire::Reason;
@@ -141,6 +144,26 @@ impl Teller {
         self.torrents = counted(self.torrents, report);
         self.is_refused |= is_refused(report);
         Ok(())
+    }
+
+    /// Tells the report on a connection.
+    ///
+    /// # Errors
+    /// `AllocError` when out of memory. The report isn't told then.
+    pub fn report(&mut self, talk: &Talk, number: u64) -> Result<(), AllocError>
+        ensures { (start now : TargetSeen) → IsTelling start now self.old → IsTelling start now self.new }
+    {
+        let ends = talk.ends();
+        let body: Body<'_> = body_of(talk);
+        match self.tell(&Report {
+            number,
+            a: ends.a,
+            b: ends.b,
+            body,
+        }) {
+            Ok(()) => Ok(()),
+            Err(error) => Err(error),
+        }
     }
 
     /// Tells whether the text is long enough to be written.

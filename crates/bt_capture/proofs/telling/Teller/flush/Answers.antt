@@ -1,6 +1,6 @@
 use Rattle.std.proofs.Common.{◌≡◌, rules, refl, []}
 use Rattle.std.specs.Io.KnownBytes.{Appends}
-use Rattle.bt_io.specs.Seen.{AppendsPrefix}
+use Rattle.bt_io.specs.Seen.{AppendsPrefix, WriteFailed}
 use Rattle.bt_capture.proofs.InOrder.{all_written, front_written}
 use Rattle.bt_capture.proofs.telling.Teller.flush.Goals as goal
 
@@ -19,4 +19,5 @@ returns-in-Err-clause-stopped g c start reports t =
     let before = g.W.Target.seen c.args.writer.now in
     let after = g.W.Target.seen c.write_out.new.writer in
     let p : AppendsPrefix before.held after.held c.args.self.now.text.items = search rules in
-    front_written start before after c.args.self.now reports p.0 p.1 p.2 p.3 t
+    let failed : WriteFailed before after = search rules in
+    front_written start before after c.args.self.now reports p.0 p.1 p.2 p.3 failed t
