@@ -13,3 +13,5 @@ mod halves;
 mod remarks;
 #[cfg(test)]
 mod streams;
+#[cfg(test)]
+mod talks;
