@@ -6,3 +6,5 @@ pub mod Closings
 pub mod Remarked
 pub mod Reports
 pub mod Rows
+pub mod Utp
+pub mod Findings

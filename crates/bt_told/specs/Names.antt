@@ -7,7 +7,7 @@ use Rattle.bt_told.specs.declared.report.Title.TheVariants.{PeerId, Client}
 abbrev pub shown : ℕ → ℕ → ℕ
 shown low byte = if nat_le low byte && nat_le byte 126 then byte else 46
 
--- a peer id without spaces; the first 60 bytes of a client's name
+-- a peer id without spaces; the first bytes of a client's name
 abbrev pub title_text : Title → List ℕ
 title_text (PeerId id) = map (shown 33) id
-title_text (Client name) = map (shown 32) (take 60 name.now)
+title_text (Client bytes count) = map (shown 32) (take count bytes)

@@ -1,7 +1,13 @@
 //! What is said of a captured connection, as text.
+//!
+//! The lines are those of `tools/btcap`, except for the name of a client: here its first 60 bytes are told, and a dot for each that
+//! isn't printable ASCII; there 60 characters of UTF-8. A row has its connection's number. Rows don't name requests without an
+//! answer: that is known later.
 #![tactic(auto)]
 
 mod closing;
+mod ends;
+mod finding;
 mod names;
 mod numbers;
 mod printing;
@@ -10,7 +16,9 @@ mod report;
 mod rows;
 mod said;
 mod sides;
+mod utp;
 
+pub use finding::Finding;
 pub use printing::put_report;
 pub use report::{
     Before, Body, Closed, Direction, Judged, Last, Means, Noted, Remarked, Report, Sender, Title,
@@ -18,3 +26,4 @@ pub use report::{
 };
 pub use rows::{Deed, Row, put_row};
 pub use said::{Name, Numbers, Said, Words};
+pub use utp::{UtpPackets, put_utp};

@@ -32,8 +32,37 @@ fn put_shown(low: u8, bytes: &[u8], text: &mut [u8], at: usize) -> usize
     put_shown(low, rest, text, at + 1)
 }
 
-/// Puts the printable characters of a name.
+/// Returns these first bytes of a name, and zeros after them.
+fn front(name: &[u8], count: usize) -> [u8; 60]
+    requires { (count ≤ length name.now) × (count ≤ 60) }
+    ensures { take count result ≡ take count name.now }
+{
+    let mut bytes = [0; CLIENT];
+    bytes[..count].copy_from_slice(&name[..count]);
+    bytes
+}
+
+impl Title {
+    /// Returns a client's name, cut to its first 60 bytes.
+    #[tactic(auto, using(std::proofs::lemmas::List::take_min))]
+    pub fn of_client(name: &[u8]) -> Title
+        ensures { title_text result ≡ map (shown 32) (take 60 name.now) }
+    {
+        let count = CLIENT.min(name.len());
+        Title::Client(front(name, count), count)
+    }
+}
+
+/// Returns the first bytes, or all.
 #[tactic(auto, using(std::proofs::lemmas::List::take_min))]
+fn first(bytes: &[u8], count: usize) -> &[u8]
+    ensures bytes { result.now ≡ take count bytes.now }
+    ensures short { length result.now ≤ length bytes.now }
+{
+    &bytes[..count.min(bytes.len())]
+}
+
+/// Puts the printable characters of a name.
 pub(crate) fn put_title(title: &Title, text: &mut [u8], at: usize) -> usize
     requires { at + 60 ≤ length text.old }
     ensures room { (at ≤ result) × (result ≤ at + 60) }
@@ -42,6 +71,6 @@ pub(crate) fn put_title(title: &Title, text: &mut [u8], at: usize) -> usize
 {
     match title {
         Title::PeerId(id) => put_shown(b'!', id, text, at),
-        Title::Client(name) => put_shown(b' ', &name[..CLIENT.min(name.len())], text, at),
+        Title::Client(bytes, count) => put_shown(b' ', first(bytes, *count), text, at),
     }
 }

@@ -1,13 +1,12 @@
 //! A report as text.
 ghost use Rattle.std.specs.Prelude.{◌≡◌, ◌+◌, ◌≤◌, ◌++◌, OnErr, OnOk, codes, decimal, length, take, vec_len};
-ghost use Rattle.bt_packet.specs.Addresses.{address_text};
 ghost use Rattle.bt_told.specs.Reports.{body_text, closer, report_text, told_text};
 
 use crate::closing::put_closing;
+use crate::ends::push_ends;
 use crate::remarked::put_remarked;
 use crate::report::{Body, Closed, Report, Told};
 use crate::sides::{put_between, put_direction};
-use bt_packet::{Address, put_address};
 use bt_remarks::Side;
 use bt_text::putting::{grow, put_word};
 use std::alloc::AllocError;
@@ -16,7 +15,7 @@ use std::alloc::AllocError;
 const ROOM: usize = 5000;
 
 /// Returns the side that closed first.
-fn closer_of(closed: &Option<Closed>) -> Option<Side>
+pub(crate) fn closer_of(closed: &Option<Closed>) -> Option<Side>
     ensures { result ≡ closer closed.now }
 {
     match closed {
@@ -70,16 +69,6 @@ fn push_number(number: u64, out: &mut Vec<u8>) -> Result<(), AllocError>
     out.extend_from_slice(&text[..end])
 }
 
-/// Appends the addresses of both ends.
-fn push_ends(a: &Address, b: &Address, out: &mut Vec<u8>) -> Result<(), AllocError>
-    ensures ok { OnOk result (out.new.items ≡ out.old.items ++ (address_text a.now ++ (codes " > B " ++ address_text b.now))) }
-    ensures err { OnErr result (take (vec_len out.old) out.new.items ≡ out.old.items) }
-{
-    put_address(a, out)?;
-    out.extend_from_slice(b" > B ")?;
-    put_address(b, out)
-}
-
 /// Appends what comes after the addresses.
 fn push_body(body: &Body, out: &mut Vec<u8>) -> Result<(), AllocError>
     ensures ok { OnOk result (out.new.items ≡ out.old.items ++ body_text body.now) }
@@ -97,7 +86,7 @@ fn push_report(report: &Report, out: &mut Vec<u8>) -> Result<(), AllocError>
     ensures err { OnErr result (take (vec_len out.old) out.new.items ≡ out.old.items) }
 {
     push_number(report.number, out)?;
-    push_ends(&report.a, &report.b, out)?;
+    push_ends(&report.a, b" > B ", &report.b, out)?;
     push_body(&report.body, out)
 }
 

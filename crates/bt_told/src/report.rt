@@ -8,19 +8,17 @@ use bt_wire::{Own, Refusal};
 
 /// What a sender calls itself.
 #[derive(Clone, Copy)]
-pub enum Title<'a> {
+pub enum Title {
     /// The peer id of its handshake.
     PeerId([u8; 20]),
-    /// The client's name of its extended handshake (BEP 10, `v`).
-    ///
-    /// Its first 60 bytes are told.
-    Client(&'a [u8]),
+    /// The client's name of its extended handshake (BEP 10, `v`): the first bytes of the array, as many as the number says.
+    Client([u8; 60], usize),
 }
 
 /// A direction with a whole handshake.
 #[derive(Clone, Copy)]
-pub struct Judged<'a> {
-    pub title: Title<'a>,
+pub struct Judged {
+    pub title: Title,
     /// The verdict under the lenient rules.
     pub free: Ended,
     /// The verdict under the strict rules.
@@ -33,16 +31,16 @@ pub struct Judged<'a> {
 
 /// Who sends a direction.
 #[derive(Clone, Copy)]
-pub enum Sender<'a> {
+pub enum Sender {
     /// It sent this many bytes, and no whole handshake.
     Unknown(u64),
-    Known(Judged<'a>),
+    Known(Judged),
 }
 
 /// One direction of a connection.
 #[derive(Clone, Copy)]
-pub struct Direction<'a> {
-    pub sender: Sender<'a>,
+pub struct Direction {
+    pub sender: Sender,
     /// How many bytes of a key exchange come before the handshake.
     pub exchange: u64,
     /// How many bytes came again with another value.
@@ -106,9 +104,9 @@ pub struct Remarked {
 
 /// What is told of a BitTorrent connection.
 #[derive(Clone, Copy)]
-pub struct Told<'a> {
-    pub a: Direction<'a>,
-    pub b: Direction<'a>,
+pub struct Told {
+    pub a: Direction,
+    pub b: Direction,
     /// How it was closed; none if it was still open at the capture's end.
     pub closed: Option<Closed>,
     pub remarked_a: Remarked,
@@ -117,19 +115,19 @@ pub struct Told<'a> {
 
 /// What is known of a connection.
 #[derive(Clone, Copy)]
-pub enum Body<'a> {
+pub enum Body {
     /// No side began a handshake.
     NotBitTorrent,
-    Told(Told<'a>),
+    Told(Told),
 }
 
 /// A report on a connection.
 #[derive(Clone, Copy)]
-pub struct Report<'a> {
+pub struct Report {
     /// The connection's number, counted from 0.
     pub number: u64,
     /// The end that opened the connection, or sent the first captured packet.
     pub a: Address,
     pub b: Address,
-    pub body: Body<'a>,
+    pub body: Body,
 }

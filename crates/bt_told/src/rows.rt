@@ -1,5 +1,5 @@
 //! A row: something that one side did, at its time.
-ghost use Rattle.std.specs.Prelude.{◌≡◌, ◌+◌, ◌≤◌, ◌||◌, ◌++◌, OnErr, OnOk, codes, decimal, length, take};
+ghost use Rattle.std.specs.Prelude.{◌≡◌, ◌+◌, ◌<◌, ◌≤◌, ◌||◌, ◌++◌, OnErr, OnOk, codes, decimal, length, take, vec_capacity, vec_len};
 ghost use Rattle.bt_told.specs.Rows.{clock_text, deed_text, end_text, name_if, pad_text, remarks_text, row_text};
 
 use crate::closing::means;
@@ -163,10 +163,11 @@ fn put_row_text(row: &Row, text: &mut [u8], at: usize) -> usize
 /// Appends a row as text.
 ///
 /// # Errors
-/// `AllocError` if out of memory; the text is then as before.
+/// `AllocError` if the capacity has no room for 260 bytes and out of memory; the text is then as before.
 pub fn put_row(row: &Row, out: &mut Vec<u8>) -> Result<(), AllocError>
     ensures ok { OnOk result (out.new.items ≡ out.old.items ++ row_text row.now) }
     ensures err { OnErr result (out.new.items ≡ out.old.items) }
+    ensures full { OnErr result (vec_capacity out.old < vec_len out.old + 260) }
 {
     let place = grow(out, 260)?;
     let end = put_row_text(row, out.as_mut_slice(), place);
