@@ -3,3 +3,4 @@ pub mod Going
 pub mod Walking
 pub mod Viewing
 pub mod Pairing
+pub mod Finding

@@ -4,3 +4,4 @@ pub mod Walks
 pub mod Ends
 pub mod Sights
 pub mod Pairs
+pub mod Tables
