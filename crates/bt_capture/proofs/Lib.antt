@@ -6,3 +6,4 @@ pub mod Pairing
 pub mod InOrder
 pub mod Titles
 pub mod Outcomes
+pub mod Finding

@@ -7,3 +7,4 @@ pub mod Pairs
 pub mod Tellings
 pub mod Reportings
 pub mod Runs
+pub mod Tables

@@ -1,5 +1,5 @@
 -- A report on a connection says what was captured of it.
-use Rattle.std.specs.Prelude.{◌≡◌, ℕ, ◌-◌, ◌⊎◌, Bool, true, false, List, [], length, Option, Some, None, unwrap_or}
+use Rattle.std.specs.Prelude.{◌≡◌, ℕ, ◌-◌, ◌⊎◌, Bool, true, false, List, [], length, Option, Some, None, unwrap_or, ◌==◌, map, take, if◌then◌else◌}
 use Rattle.bt_flow.specs.Flows.{AreGapsOf, conflicts_in}
 use Rattle.bt_intro.specs.Hellos.{IsStartOf, IsFirstHello}
 use Rattle.bt_intro.specs.Hearing.{IsSaid}
@@ -22,7 +22,7 @@ use Rattle.bt_told.specs.declared.report.Report.{Report}
 use Rattle.bt_told.specs.declared.report.Sender.{Sender}
 use Rattle.bt_told.specs.declared.report.Sender.TheVariants.{Unknown, Known}
 use Rattle.bt_told.specs.declared.report.Title.{Title}
-use Rattle.bt_told.specs.declared.report.Title.TheVariants.{PeerId, Client}
+use Rattle.bt_told.specs.Names.{title_text, shown}
 use Rattle.bt_wire.specs.declared.handshake.Handshake.{Handshake}
 use Rattle.bt_wire.specs.Streams.{Outcome}
 
@@ -46,17 +46,19 @@ IsUnjudged side a b t =
     ⊎ (IsReceiverNow (is_in_opening t) (pieces_of t) (of_side side a b) (of_side (other side) a b) None
     ⊎ ((v : Outcome) × IsSaid (of_side side a b).front v × (first_of handshake_of v.items ≡ None)))
 
--- What a side calls itself in its opening: the client's name of its extended handshake, or the peer id of its handshake.
-abbrev pub IsTitleOf : Past → Title → Type 0
-IsTitleOf p (PeerId id) =
-    ((v : Outcome) × IsSaid p.front v × (last_client v.items ≡ []))
-    × ((v : Outcome) × (h : Handshake) × IsSaid p.front v × (first_of handshake_of v.items ≡ Some h) × (id ≡ h.peer_id))
-IsTitleOf p (Client name) = (v : Outcome) × IsSaid p.front v × (name.now ≡ last_client v.items)
+-- the client's name, or the peer id if there is none
+abbrev pub title_by : List ℕ → Handshake → List ℕ
+title_by client h = if length client == 0 then map (shown 33) h.peer_id else map (shown 32) (take 60 client)
 
--- its name, or else its peer id
-abbrev pub IsTitleFrom : List ℕ → Handshake → Title → Type 0
-IsTitleFrom client h (PeerId id) = (client ≡ []) × (id ≡ h.peer_id)
-IsTitleFrom client h (Client name) = name.now ≡ client
+-- What a side calls itself in its opening: the client's name of its extended handshake, or the peer id of its handshake.
+pub record IsTitleOf (p : Past) (t : Title) : Type 0 where
+  pub hello : Handshake
+  pub said : Outcome
+  pub said_is : IsSaid p.front said
+  pub hello_is : Some hello ≡ first_of handshake_of said.items
+  pub named : Outcome
+  pub named_is : IsSaid p.front named
+  pub text : title_text t ≡ title_by (last_client named.items) hello
 
 -- The verdicts and the receiver are those of the side's stream.
 pub record IsJudgedOf (side : Side) (a b : Past) (t : Talk) (j : Judged) : Type 0 where

@@ -10,6 +10,7 @@ mod pair;
 mod reporting;
 mod run;
 mod sight;
+mod table;
 mod telling;
 mod walk;
 
@@ -20,4 +21,5 @@ pub use pair::Pair;
 pub use reporting::report_of;
 pub use run::run_capture;
 pub use sight::{Sight, sight_of};
+pub use table::Table;
 pub use telling::is_refused;

@@ -28,14 +28,19 @@ pub enum FileEnd {
 
 /// The packets of a capture file, which is read piece by piece.
 ///
-/// Each packet is handed out as soon as it has come. It has a buffer of 256 KiB, or of 1,048,604 bytes once a packet is longer. A loop
-/// over the packets of what was read:
+/// Each packet is handed out as soon as it has come. The buffer has 256 KiB, or 1,048,604 bytes from the first longer packet on. A
+/// turn of a loop that reads a file:
 ///
 /// ```rust
-/// while let Some(packet) = packets.take()? {
-///     ..
+/// match packets.take() {
+///     Ok(Some(packet)) => lengths.push(packet.bytes.len())?,
+///     Ok(None) => match packets.read(reader) {
+///         Ok(0) => return Ok(Stop::End),
+///         Ok(_) => {}
+///         Err(fault) => return Ok(Stop::Read(fault)),
+///     },
+///     Err(fault) => return Ok(Stop::Fault(fault)),
 /// }
-/// packets.read(reader)?;
 /// ```
 #[derive(Drop)]
 pub struct Packets {

@@ -3,7 +3,8 @@ ghost use Rattle.std.specs.Prelude.{◌≡◌, ℕ, List, unwrap_or};
 ghost use Rattle.bt_intro.specs.Hellos.{IsStartOf};
 ghost use Rattle.bt_talk.specs.Pasts.{Past};
 ghost use Rattle.bt_talk.specs.Talks.{IsTalk};
-ghost use Rattle.bt_capture.specs.Reportings.{IsReportOf, IsSenderOf, IsDirectionOf, IsBodyOf, HasBegun, offset_gap, shifted as shifted_by, IsTitleFrom};
+ghost use Rattle.bt_told.specs.Names.{title_text};
+ghost use Rattle.bt_capture.specs.Reportings.{IsReportOf, IsSenderOf, IsDirectionOf, IsBodyOf, HasBegun, offset_gap, shifted as shifted_by, title_by};
 
 use bt_remarks::Side;
 use bt_talk::Talk;
@@ -42,18 +43,18 @@ fn shifted(start: u64, gaps: Gaps) -> Gaps
 }
 
 /// Returns what a side calls itself: its client's name, or its peer id.
-fn title_of<'a>(client: &'a [u8], handshake: &Handshake) -> Title<'a>
-    ensures { IsTitleFrom client.now handshake.now result }
+fn title_of(client: &[u8], handshake: &Handshake) -> Title
+    ensures { title_text result ≡ title_by client.now handshake.now }
 {
     if client.is_empty() {
         Title::PeerId(handshake.peer_id)
     } else {
-        Title::Client(client)
+        Title::of_client(client)
     }
 }
 
 /// Returns who sends a direction.
-fn sender_of(talk: &Talk, side: Side) -> Sender<'_>
+fn sender_of(talk: &Talk, side: Side) -> Sender
     ensures { (a b : Past) → IsTalk a b talk.now → IsSenderOf side a b talk.now result }
 {
     let Some(verdicts) = talk.verdicts(side) else {
@@ -85,7 +86,7 @@ fn exchange_of(start: Option<usize>) -> u64
 }
 
 /// Returns what is said of a direction.
-fn direction_of(talk: &Talk, side: Side) -> Direction<'_>
+fn direction_of(talk: &Talk, side: Side) -> Direction
     ensures { (a b : Past) → IsTalk a b talk.now → IsDirectionOf side a b talk.now result }
 {
     let exchange = exchange_of(talk.start(side));
@@ -109,7 +110,7 @@ fn has_begun(a: Option<usize>, b: Option<usize>) -> bool
 }
 
 /// Returns what is known of a connection.
-pub fn body_of(talk: &Talk) -> Body<'_>
+pub fn body_of(talk: &Talk) -> Body
     ensures { (a b : Past) → IsTalk a b talk.now → IsBodyOf a b talk.now result }
 {
     match has_begun(talk.start(Side::A), talk.start(Side::B)) {
@@ -127,7 +128,7 @@ pub fn body_of(talk: &Talk) -> Body<'_>
 /// Returns the report on a connection.
 ///
 /// Its verdicts are those of both streams, as far as they were captured. How it was closed, and remarks, aren't told.
-pub fn report_of(talk: &Talk, number: u64) -> Report<'_>
+pub fn report_of(talk: &Talk, number: u64) -> Report
     ensures { (a b : Past) → IsTalk a b talk.now → IsReportOf number a b talk.now result }
 {
     let ends = talk.ends();

@@ -154,7 +154,7 @@ impl Teller {
         ensures { (start now : TargetSeen) → IsTelling start now self.old → IsTelling start now self.new }
     {
         let ends = talk.ends();
-        let body: Body<'_> = body_of(talk);
+        let body = body_of(talk);
         match self.tell(&Report {
             number,
             a: ends.a,
