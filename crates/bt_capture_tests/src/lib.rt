@@ -14,4 +14,6 @@ mod remarks;
 #[cfg(test)]
 mod streams;
 #[cfg(test)]
+mod talks;
+#[cfg(test)]
 mod told;

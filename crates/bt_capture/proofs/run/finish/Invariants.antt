@@ -1,0 +1,9 @@
+use Rattle.bt_io.specs.Seen.{TargetSeen}
+use Rattle.bt_capture.specs.Runs.{IsTelling}
+use Rattle.bt_capture.proofs.run.finish.Given as goal
+
+abbrev pub invariant-loop-connection : goal.invariant-loop-connection
+invariant-loop-connection g l = record {
+  told : (start : TargetSeen) → IsTelling start (g.W.Target.seen l.initial.writer) l.initial.run.teller
+      → IsTelling start (g.W.Target.seen l.writer) l.run.teller;
+}

@@ -1,0 +1,10 @@
+pub mod Reads
+pub mod Readings
+pub mod Walks
+pub mod Ends
+pub mod Sights
+pub mod Pairs
+pub mod Tellings
+pub mod Reportings
+pub mod Runs
+pub mod Tables

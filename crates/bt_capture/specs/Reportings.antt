@@ -1,0 +1,104 @@
+-- A report on a connection says what was captured of it.
+use Rattle.std.specs.Prelude.{◌≡◌, ℕ, ◌-◌, ◌⊎◌, Bool, true, false, List, [], length, Option, Some, None, unwrap_or, ◌==◌, map, take, if◌then◌else◌}
+use Rattle.bt_flow.specs.Flows.{AreGapsOf, conflicts_in}
+use Rattle.bt_intro.specs.Hellos.{IsStartOf, IsFirstHello}
+use Rattle.bt_intro.specs.Hearing.{IsSaid}
+use Rattle.bt_intro.specs.Listening.{handshake_of, last_client}
+use Rattle.bt_jobs.specs.Others.{first_of}
+use Rattle.bt_remarks.specs.declared.events.Side.{Side}
+use Rattle.bt_remarks.specs.declared.events.Side.TheVariants.{A, B}
+use Rattle.bt_remarks.specs.Said.{other}
+use Rattle.bt_talk.specs.Pasts.{Past}
+use Rattle.bt_talk.specs.Receivers.{AreVerdicts, IsReceiverNow}
+use Rattle.bt_talk.specs.Talks.{of_side, flow_of, is_in_opening, pieces_of, ends_of}
+use Rattle.bt_talk.specs.declared.talk.Talk.{Talk}
+use Rattle.bt_tcp.specs.declared.covered.Gap.{Gap}
+use Rattle.bt_tcp.specs.declared.covered.Gaps.{Gaps}
+use Rattle.bt_told.specs.declared.report.Body.{Body}
+use Rattle.bt_told.specs.declared.report.Body.TheVariants as body
+use Rattle.bt_told.specs.declared.report.Direction.{Direction}
+use Rattle.bt_told.specs.declared.report.Judged.{Judged}
+use Rattle.bt_told.specs.declared.report.Report.{Report}
+use Rattle.bt_told.specs.declared.report.Sender.{Sender}
+use Rattle.bt_told.specs.declared.report.Sender.TheVariants.{Unknown, Known}
+use Rattle.bt_told.specs.declared.report.Title.{Title}
+use Rattle.bt_told.specs.Names.{title_text, shown}
+use Rattle.bt_wire.specs.declared.handshake.Handshake.{Handshake}
+use Rattle.bt_wire.specs.Streams.{Outcome}
+
+-- ---- parts of a direction
+
+-- a place of the stream, as an offset from the handshake on
+abbrev pub offset_gap : ℕ → Gap → Gap
+offset_gap start gap = record { place = gap.place - start; length = gap.length }
+
+abbrev pub offset_first : ℕ → Option Gap → Option Gap
+offset_first start None = None
+offset_first start (Some gap) = Some (offset_gap start gap)
+
+abbrev pub shifted : ℕ → Gaps → Gaps
+shifted start gaps = record gaps { first = offset_first start gaps.first }
+
+-- A side without a whole handshake isn't judged.
+abbrev pub IsUnjudged : Side → Past → Past → Talk → Type 0
+IsUnjudged side a b t =
+    AreVerdicts (is_in_opening t) (pieces_of t) (of_side side a b) (of_side (other side) a b) None
+    ⊎ (IsReceiverNow (is_in_opening t) (pieces_of t) (of_side side a b) (of_side (other side) a b) None
+    ⊎ ((v : Outcome) × IsSaid (of_side side a b).front v × (first_of handshake_of v.items ≡ None)))
+
+-- the client's name, or the peer id if there is none
+abbrev pub title_by : List ℕ → Handshake → List ℕ
+title_by client h = if length client == 0 then map (shown 33) h.peer_id else map (shown 32) (take 60 client)
+
+-- What a side calls itself in its opening: the client's name of its extended handshake, or the peer id of its handshake.
+pub record IsTitleOf (p : Past) (t : Title) : Type 0 where
+  pub hello : Handshake
+  pub said : Outcome
+  pub said_is : IsSaid p.front said
+  pub hello_is : Some hello ≡ first_of handshake_of said.items
+  pub named : Outcome
+  pub named_is : IsSaid p.front named
+  pub text : title_text t ≡ title_by (last_client named.items) hello
+
+-- The verdicts and the receiver are those of the side's stream.
+pub record IsJudgedOf (side : Side) (a b : Past) (t : Talk) (j : Judged) : Type 0 where
+  pub title : IsTitleOf (of_side side a b) j.title
+  pub verdicts : AreVerdicts (is_in_opening t) (pieces_of t) (of_side side a b) (of_side (other side) a b) (Some (record { free = j.free; bep = j.bep }))
+  pub receiver : IsReceiverNow (is_in_opening t) (pieces_of t) (of_side side a b) (of_side (other side) a b) (Some (record { own = j.receiver; is_guessed = j.is_guessed }))
+
+abbrev pub IsSenderOf : Side → Past → Past → Talk → Sender → Type 0
+IsSenderOf side a b t (Unknown sent) = (sent ≡ length (of_side side a b).out) × IsUnjudged side a b t
+IsSenderOf side a b t (Known j) = IsJudgedOf side a b t j
+
+-- ---- a report
+
+-- Offsets count from the handshake's start, if there is one.
+pub record IsDirectionOf (side : Side) (a b : Past) (t : Talk) (d : Direction) : Type 0 where
+  pub start : Option ℕ
+  pub start_is : IsStartOf (of_side side a b).front start
+  pub exchange : d.exchange ≡ unwrap_or start 0
+  pub sender : IsSenderOf side a b t d.sender
+  pub conflicts : d.conflicts ≡ conflicts_in (flow_of side t).stream
+  pub gaps : Gaps
+  pub gaps_are : AreGapsOf (of_side side a b).heard (of_side side a b).segs (of_side side a b).out (flow_of side t) gaps
+  pub shifted : d.gaps ≡ shifted d.exchange gaps
+
+abbrev pub HasStart : List ℕ → Type 0
+HasStart front = (k : ℕ) × IsFirstHello front k
+
+-- A side has begun a handshake, or none has.
+abbrev pub HasBegun : List ℕ → List ℕ → Bool → Type 0
+HasBegun a b true = HasStart a ⊎ HasStart b
+HasBegun a b false = IsStartOf a None × IsStartOf b None
+
+-- It is a BitTorrent connection if a side has begun a handshake.
+abbrev pub IsBodyOf : Past → Past → Talk → Body → Type 0
+IsBodyOf a b t body.NotBitTorrent = HasBegun a.front b.front false
+IsBodyOf a b t (body.Told r) = HasBegun a.front b.front true × IsDirectionOf A a b t r.a × IsDirectionOf B a b t r.b
+
+-- The report says of the connection what was captured of both sides.
+pub record IsReportOf (n : ℕ) (a b : Past) (t : Talk) (r : Report) : Type 0 where
+  pub number : r.number ≡ n
+  pub end_a : r.a ≡ (ends_of t).a
+  pub end_b : r.b ≡ (ends_of t).b
+  pub body : IsBodyOf a b t r.body

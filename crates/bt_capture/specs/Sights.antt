@@ -1,0 +1,30 @@
+-- What a packet carries.
+use Rattle.std.specs.Prelude.{ℕ, List, Option, Some, None}
+use Rattle.bt_packet.specs.Tcp.{TcpSegment, segment, segment_of}
+use Rattle.bt_packet.specs.Utp.{utp_of}
+use Rattle.bt_packet.specs.declared.utp.Utp.{Utp}
+use Rattle.bt_capture.specs.declared.sight.Sight.{Sight}
+use Rattle.bt_capture.specs.declared.sight.Sight.TheVariants as sight
+
+-- a segment of TCP, a packet of uTP, or neither
+pub data Seen : Type 0 where
+  SawSegment : TcpSegment → Seen
+  SawUtp : Utp → Seen
+  SawOther : Seen
+
+abbrev pub seen : Sight → Seen
+seen (sight.Segment s) = SawSegment (segment s)
+seen (sight.Utp u) = SawUtp u
+seen sight.Other = SawOther
+
+abbrev pub utp_or_other : Option Utp → Seen
+utp_or_other (Some u) = SawUtp u
+utp_or_other None = SawOther
+
+abbrev pub segment_or : Option TcpSegment → Seen → Seen
+segment_or (Some s) other = SawSegment s
+segment_or None other = other
+
+-- the segment that the frame carries, or else its packet of uTP
+abbrev pub seen_in : ℕ → List ℕ → ℕ → Seen
+seen_in link bytes wire = segment_or (segment_of link bytes wire) (utp_or_other (utp_of link bytes wire))

@@ -1,0 +1,46 @@
+//! What `capture` is asked for, how it ends, and what can stop it.
+use bt_pcap::FileFault;
+use thiserror::Error;
+
+/// What is asked for.
+#[derive(Clone, Copy, Debug)]
+pub struct CaptureJob {
+    /// The piece count of all connections, if it is known.
+    pub pieces: Option<u32>,
+}
+
+/// What a capture had.
+#[derive(Clone, Copy, PartialEq, Eq, Debug)]
+pub struct CaptureEnd {
+    pub packets: u64,
+    /// How many packets aren't TCP.
+    pub skipped: u64,
+    /// How many BitTorrent connections were reported.
+    pub torrents: u64,
+    /// How many connections aren't reported, since memory ran out.
+    pub lost: u64,
+    /// Whether a direction is refused under the lenient rules, and not only cut.
+    pub is_refused: bool,
+    /// Whether the file ended inside a packet, which is left out.
+    pub is_cut: bool,
+}
+
+/// What stops a command on a capture.
+#[derive(Clone, Copy, PartialEq, Eq, Debug, Error)]
+pub enum CaptureFault {
+    /// The bytes aren't those of a capture file.
+    #[error("{0}")]
+    File(FileFault),
+    /// A read failed.
+    #[error("read")]
+    Read,
+    /// A write failed, or took no byte.
+    #[error("write")]
+    Write,
+    /// Out of memory.
+    #[error("memory")]
+    Memory,
+    /// The file had no end after 18,446,744,073,709,551,615 packets and reads.
+    #[error("turns")]
+    Turns,
+}

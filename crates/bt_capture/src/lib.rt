@@ -1,0 +1,25 @@
+//! The packets of a capture file from a source, the segments in them, and the table of their connections.
+#![tactic(auto)]
+
+mod buffer;
+mod connections;
+mod ending;
+mod fault;
+mod packets;
+mod pair;
+mod reporting;
+mod run;
+mod sight;
+mod table;
+mod telling;
+mod walk;
+
+pub use ending::{CaptureEnd, CaptureFault, CaptureJob};
+pub use fault::ReadFault;
+pub use packets::{FileEnd, Packets};
+pub use pair::Pair;
+pub use reporting::report_of;
+pub use run::run_capture;
+pub use sight::{Sight, sight_of};
+pub use table::Table;
+pub use telling::is_refused;

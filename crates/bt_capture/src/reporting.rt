@@ -1,0 +1,141 @@
+//! From a captured connection to its report.
+ghost use Rattle.std.specs.Prelude.{◌≡◌, ℕ, List, unwrap_or};
+ghost use Rattle.bt_intro.specs.Hellos.{IsStartOf};
+ghost use Rattle.bt_talk.specs.Pasts.{Past};
+ghost use Rattle.bt_talk.specs.Talks.{IsTalk};
+ghost use Rattle.bt_told.specs.Names.{title_text};
+ghost use Rattle.bt_capture.specs.Reportings.{IsReportOf, IsSenderOf, IsDirectionOf, IsBodyOf, HasBegun, offset_gap, shifted as shifted_by, title_by};
+
+use bt_remarks::Side;
+use bt_talk::Talk;
+use bt_tcp::{Gap, Gaps};
+use bt_told::{Body, Direction, Judged, Remarked, Report, Sender, Title, Told};
+use bt_wire::Handshake;
+
+/// No remark.
+const UNREMARKED: Remarked = Remarked {
+    unasked: None,
+    choked: None,
+    again: None,
+    unanswered: None,
+    elsewhere: None,
+};
+
+/// Returns a gap whose place counts from the handshake on.
+fn from_handshake(start: u64, gap: Gap) -> Gap
+    ensures { result ≡ offset_gap start gap }
+{
+    Gap {
+        place: gap.place.saturating_sub(start),
+        length: gap.length,
+    }
+}
+
+/// Returns the gaps; the place of the first counts from the handshake on.
+fn shifted(start: u64, gaps: Gaps) -> Gaps
+    ensures { result ≡ shifted_by start gaps }
+{
+    let first = match gaps.first {
+        Some(gap) => Some(from_handshake(start, gap)),
+        None => None,
+    };
+    Gaps { first, ..gaps }
+}
+
+/// Returns what a side calls itself: its client's name, or its peer id.
+fn title_of(client: &[u8], handshake: &Handshake) -> Title
+    ensures { title_text result ≡ title_by client.now handshake.now }
+{
+    if client.is_empty() {
+        Title::PeerId(handshake.peer_id)
+    } else {
+        Title::of_client(client)
+    }
+}
+
+/// Returns who sends a direction.
+fn sender_of(talk: &Talk, side: Side) -> Sender
+    ensures { (a b : Past) → IsTalk a b talk.now → IsSenderOf side a b talk.now result }
+{
+    let Some(verdicts) = talk.verdicts(side) else {
+        return Sender::Unknown(talk.length(side));
+    };
+    let Some(receiver) = talk.receiver(side) else {
+        return Sender::Unknown(talk.length(side));
+    };
+    let Some(handshake) = talk.handshake(side) else {
+        return Sender::Unknown(talk.length(side));
+    };
+    Sender::Known(Judged {
+        title: title_of(talk.client(side), &handshake),
+        free: verdicts.free,
+        bep: verdicts.bep,
+        receiver: receiver.own,
+        is_guessed: receiver.is_guessed,
+    })
+}
+
+/// Returns how many bytes a side sent before its handshake.
+fn exchange_of(start: Option<usize>) -> u64
+    ensures { result ≡ unwrap_or start 0 }
+{
+    match start {
+        Some(start) => start as u64,
+        None => 0,
+    }
+}
+
+/// Returns what is said of a direction.
+fn direction_of(talk: &Talk, side: Side) -> Direction
+    ensures { (a b : Past) → IsTalk a b talk.now → IsDirectionOf side a b talk.now result }
+{
+    let exchange = exchange_of(talk.start(side));
+    Direction {
+        sender: sender_of(talk, side),
+        exchange,
+        conflicts: talk.conflicts(side),
+        gaps: shifted(exchange, talk.gaps(side)),
+    }
+}
+
+/// Tells whether a side has begun a handshake.
+fn has_begun(a: Option<usize>, b: Option<usize>) -> bool
+    ensures { (front back : List ℕ) → IsStartOf front a → IsStartOf back b → HasBegun front back result }
+{
+    match (a, b) {
+        (None, None) => false,
+        (Some(_), _) => true,
+        (None, Some(_)) => true,
+    }
+}
+
+/// Returns what is known of a connection.
+pub fn body_of(talk: &Talk) -> Body
+    ensures { (a b : Past) → IsTalk a b talk.now → IsBodyOf a b talk.now result }
+{
+    match has_begun(talk.start(Side::A), talk.start(Side::B)) {
+        false => Body::NotBitTorrent,
+        true => Body::Told(Told {
+            a: direction_of(talk, Side::A),
+            b: direction_of(talk, Side::B),
+            closed: None,
+            remarked_a: UNREMARKED,
+            remarked_b: UNREMARKED,
+        }),
+    }
+}
+
+/// Returns the report on a connection.
+///
+/// Its verdicts are those of both streams, as far as they were captured. How it was closed, and remarks, aren't told.
+pub fn report_of(talk: &Talk, number: u64) -> Report
+    ensures { (a b : Past) → IsTalk a b talk.now → IsReportOf number a b talk.now result }
+{
+    let ends = talk.ends();
+    Report {
+        number,
+        a: ends.a,
+        b: ends.b,
+        body: body_of(talk),
+    }
+}

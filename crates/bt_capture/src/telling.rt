@@ -1,0 +1,208 @@
+//! The text of reports, which is written in large pieces.
+ghost use Rattle.std.specs.Prelude.{◌≡◌, ◌∷◌, ◌++◌, [], List, OnOk, OnErr};
+ghost use Rattle.bt_io.specs.Counts.{counted as counted_by};
+ghost use Rattle.bt_io.specs.Seen.{TargetSeen, WriteFailed};
+ghost use Rattle.bt_told.specs.declared.report.Report.{Report};
+ghost use Rattle.bt_told.specs.Reports.{closer};
+ghost use Rattle.bt_capture.specs.Runs.{IsTelling};
+ghost use Rattle.bt_capture.specs.Tellings.{may_be_cut as may_be_cut_by, is_refusal as is_refusal_by, is_direction_refused as is_direction_refused_by, is_refused as is_refused_by, is_told as is_told_by};
+
+use crate::reporting::body_of;
+use bt_io::{Target, WriteFault};
+use bt_jobs::output::write_out;
+use bt_remarks::Side;
+use bt_talk::Talk;
+use bt_text::ended::Ended;
+use bt_told::{Body, Closed, Direction, Report, Sender, put_report};
+use bt_wire::Reason;
+use std::alloc::{AllocError, Global};
+
+/// How many bytes of text are kept before they are written.
+const ROOM: usize = 65_536;
+
+/// Returns the side that closed first.
+fn closer_of(closed: &Option<Closed>) -> Option<Side>
+    ensures { result ≡ closer closed.now }
+{
+    match closed {
+        Some(closed) => Some(closed.first),
+        None => None,
+    }
+}
+
+/// Tells whether a side's stream may end inside a message for a reason that isn't its sender's.
+fn may_be_cut(has_gap: bool, closer: Option<Side>, side: Side) -> bool
+    ensures { result ≡ may_be_cut_by has_gap closer side }
+{
+    if has_gap {
+        return true;
+    }
+    match (closer, side) {
+        (None, _) => true,
+        (Some(Side::A), Side::A) => false,
+        (Some(Side::B), Side::B) => false,
+        (Some(_), _) => true,
+    }
+}
+
+/// Tells whether a verdict is a refusal, and not only a cut.
+fn is_refusal(ended: &Ended, is_cut: bool) -> bool
+    ensures { result ≡ is_refusal_by ended.now is_cut }
+{
+    match ended {
+        Ended::Accepted { .. } => false,
+        Ended::Refused(refusal) => match refusal.reason {
+            Reason::EndInside => !is_cut,
+            _ => true,
+        },
+    }
+}
+
+/// Tells whether a direction is refused under the lenient rules.
+fn is_direction_refused(side: Side, closer: Option<Side>, direction: &Direction) -> bool
+    ensures { result ≡ is_direction_refused_by side closer direction.now }
+{
+    let is_cut = may_be_cut(direction.gaps.first.is_some(), closer, side);
+    match &direction.sender {
+        Sender::Unknown(_) => false,
+        Sender::Known(judged) => is_refusal(&judged.free, is_cut),
+    }
+}
+
+/// Tells whether a direction of a report is refused under the lenient rules.
+///
+/// One that ends inside a message isn't, if it has a gap, if the other side closed first, or if nobody had closed at the capture's
+/// end.
+pub fn is_refused(report: &Report) -> bool
+    ensures { result ≡ is_refused_by report.now }
+{
+    match &report.body {
+        Body::NotBitTorrent => false,
+        Body::Told(told) => {
+            let closer = closer_of(&told.closed);
+            is_direction_refused(Side::A, closer, &told.a)
+                || is_direction_refused(Side::B, closer, &told.b)
+        }
+    }
+}
+
+/// Tells whether a report is on a BitTorrent connection.
+fn is_told(report: &Report) -> bool
+    ensures { result ≡ is_told_by report.now }
+{
+    match &report.body {
+        Body::NotBitTorrent => false,
+        Body::Told(_) => true,
+    }
+}
+
+/// Returns a count, one more after a report on a BitTorrent connection.
+fn counted(torrents: u64, report: &Report) -> u64
+    ensures { result ≡ counted_by (is_told_by report.now) torrents }
+{
+    if is_told(report) {
+        torrents.saturating_add(1)
+    } else {
+        torrents
+    }
+}
+
+/// Tells reports: their text is kept, and written in large pieces.
+#[derive(Drop)]
+pub struct Teller {
+    text: Vec<u8>,
+    /// How many reports are on BitTorrent connections.
+    torrents: u64,
+    is_refused: bool,
+}
+
+impl Teller {
+    ghost use Rattle.bt_capture.specs.Tellings.{Tells, IsStopped, count_torrents, is_one_refused, IsEmpty};
+
+    /// Starts with no report.
+    pub fn new(alloc: Global) -> Teller
+        ensures { (start : TargetSeen) → Tells start start result [] }
+    {
+        Teller {
+            text: Vec::new(alloc),
+            torrents: 0,
+            is_refused: false,
+        }
+    }
+
+    /// Tells one more report.
+    ///
+    /// # Errors
+    /// `AllocError` when out of memory. The report isn't told then.
+    pub fn tell(&mut self, report: &Report) -> Result<(), AllocError>
+        ensures told { OnOk result ((start now : TargetSeen) (reports : List Report) → Tells start now self.old reports
+            → Tells start now self.new (reports ++ report.now ∷ [])) }
+        ensures same { OnErr result ((start now : TargetSeen) (reports : List Report) → Tells start now self.old reports
+            → Tells start now self.new reports) }
+    {
+        put_report(report, &mut self.text)?;
+        self.torrents = counted(self.torrents, report);
+        self.is_refused |= is_refused(report);
+        Ok(())
+    }
+
+    /// Tells the report on a connection.
+    ///
+    /// # Errors
+    /// `AllocError` when out of memory. The report isn't told then.
+    pub fn report(&mut self, talk: &Talk, number: u64) -> Result<(), AllocError>
+        ensures { (start now : TargetSeen) → IsTelling start now self.old → IsTelling start now self.new }
+    {
+        let ends = talk.ends();
+        let body = body_of(talk);
+        match self.tell(&Report {
+            number,
+            a: ends.a,
+            b: ends.b,
+            body,
+        }) {
+            Ok(()) => Ok(()),
+            Err(error) => Err(error),
+        }
+    }
+
+    /// Tells whether the text is long enough to be written.
+    pub fn is_full(&self) -> bool {
+        self.text.len() >= ROOM
+    }
+
+    /// Writes the text that is kept.
+    ///
+    /// # Errors
+    /// `WriteFault` if a write failed, or took no byte. A front of the text may be written then.
+    pub fn flush<W: Target>(&mut self, writer: &mut W) -> Result<(), WriteFault>
+        ensures written { OnOk result ((start : TargetSeen) (reports : List Report) → Tells start (W.seen writer.old) self.old reports
+            → Tells start (W.seen writer.new) self.new reports) }
+        ensures empty { OnOk result (IsEmpty self.new) }
+        ensures stopped { OnErr result ((start : TargetSeen) (reports : List Report) → Tells start (W.seen writer.old) self.old reports
+            → IsStopped start (W.seen writer.new) reports) }
+        ensures failed { OnErr result (WriteFailed (W.seen writer.old) (W.seen writer.new)) }
+    {
+        match write_out(writer, self.text.as_slice(), ()) {
+            Ok(()) => {
+                self.text.clear();
+                Ok(())
+            }
+            Err(_) => Err(WriteFault),
+        }
+    }
+
+    /// Returns how many reports are on BitTorrent connections, at most 2^64 - 1.
+    pub fn torrents(&self) -> u64
+        ensures { (start now : TargetSeen) (reports : List Report) → Tells start now self.now reports → result ≡ count_torrents reports }
+    {
+        self.torrents
+    }
+
+    /// Tells whether a direction of a report is refused under the lenient rules.
+    pub fn is_refused(&self) -> bool
+        ensures { (start now : TargetSeen) (reports : List Report) → Tells start now self.now reports → result ≡ is_one_refused reports }
+    {
+        self.is_refused
+    }
+}

@@ -1,0 +1,5 @@
+pub mod Pasts
+pub mod Receivers
+pub mod Stages
+pub mod Talks
+pub mod Closes

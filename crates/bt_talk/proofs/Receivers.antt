@@ -1,0 +1,83 @@
+-- Receivers and judges, by what a side has sent.
+use Rattle.std.proofs.Common.{◌≡◌, ◌∙◌, ℕ, ◌+◌, ◌≤◌, List, [], ◌++◌, length, take, drop, ◌-◌, length-drop, Option, Some, None, unwrap_or, refl, sym, ap, subst, arith, length-append, inl, inr}
+use Rattle.std.proofs.lemmas.List.{drop-append-le, take_all}
+use Rattle.bt_wire.specs.declared.context.Own.{Own}
+use Rattle.bt_wire.specs.declared.item.Item.{Item}
+use Rattle.bt_wire.specs.Streams.{Outcome}
+use Rattle.bt_jobs.specs.declared.other.Announced.{Announced}
+use Rattle.bt_jobs.specs.Others.{own_of_other}
+use Rattle.bt_judge.specs.declared.judge.Judge.{Judge}
+use Rattle.bt_judge.specs.Judges.{AreJudged}
+use Rattle.bt_intro.specs.declared.settling.Receiver.{Receiver}
+use Rattle.bt_wire.specs.Handshakes.{protocol}
+use Rattle.bt_intro.specs.Hellos.{IsHelloAt, HasNoHello, IsFirstHello}
+use Rattle.bt_intro.specs.Hearing.{IsSaid}
+use Rattle.bt_intro.specs.Settling.{receiver_by}
+use Rattle.bt_talk.specs.Pasts.{Past}
+use Rattle.bt_talk.specs.Receivers.{IsReceiver, IsJudgedBy}
+
+-- the rest of a list is all of it
+pub whole : (front : List ℕ) (k : ℕ) → k ≤ length front → take (length front - k) (drop k front) ≡ drop k front
+whole front k le = take_all (length front - k) (drop k front) (omega (arith, length-drop k front))
+
+hello_fits : (front : List ℕ) (k : ℕ) → IsHelloAt front k → k + 20 ≤ length front
+hello_fits front k h = omega (arith, ap length h.parts, length-append h.before (protocol ++ h.after), length-append protocol h.after)
+
+-- a receiver has the limit that was given
+pub limited : (o s : Option Announced) (pieces : Option ℕ) (r : Receiver) → Some r ≡ receiver_by o s pieces 262144
+    → Some (record { own = record r.own { limit = 262144 }; is_guessed = r.is_guessed }) ≡ receiver_by o s pieces 262144
+limited (Some said) (Some own) pieces r e =
+    ap (λ (q : Receiver). Some (record { own = record q.own { limit = 262144 }; is_guessed = q.is_guessed })) (ap (λ (q : Option Receiver). unwrap_or q r) e)
+limited None (Some own) pieces r e =
+    ap (λ (q : Receiver). Some (record { own = record q.own { limit = 262144 }; is_guessed = q.is_guessed })) (ap (λ (q : Option Receiver). unwrap_or q r) e)
+limited (Some said) None pieces r e = absurd (cc)
+limited None None pieces r e = absurd (cc)
+
+silent : (front : List ℕ) (v : Outcome) → HasNoHello front → IsSaid front v → own_of_other v.items ≡ None
+silent front v n (inl s) = ap (λ (w : Outcome). own_of_other w.items) s.1
+silent front v n (inr s) = absurd (n s.0 s.1.near s.1.here)
+
+-- Without a handshake there is no receiver.
+pub none_without : (pieces : Option ℕ) (p other : Past) (r : Receiver) → HasNoHello p.front → IsReceiver pieces p other (Some r) → ⊥
+none_without pieces p other r n i =
+    let e : Some r ≡ None = i.is ∙ ap (λ (o : Option Announced). receiver_by (own_of_other i.theirs.items) o pieces 262144) (silent p.front i.own n i.own_is) in
+    absurd (cc)
+
+pub receiver_same : (pieces : Option ℕ) (p q p' q' : Past) (r : Option Receiver) → p'.front ≡ p.front → q'.front ≡ q.front → IsReceiver pieces p q r
+    → IsReceiver pieces p' q' r
+receiver_same pieces p q p' q' r e f i = record {
+  own = i.own;
+  theirs = i.theirs;
+  own_is = subst (λ (l : List ℕ). IsSaid l i.own) (sym e) i.own_is;
+  theirs_is = subst (λ (l : List ℕ). IsSaid l i.theirs) (sym f) i.theirs_is;
+  is = i.is;
+}
+
+pub judged_same : (own : Own) (p q : Past) (judge : Judge) → q.front ≡ p.front → q.out ≡ p.out → IsJudgedBy own p judge → IsJudgedBy own q judge
+judged_same own p q judge e f j = record {
+  start = j.start;
+  first = subst (λ (l : List ℕ). IsFirstHello l j.start) (sym e) j.first;
+  free = j.free;
+  bep = j.bep;
+  judged = subst (λ (l : List ℕ). AreJudged own (drop j.start l) j.free j.bep judge) (sym f) j.judged;
+}
+
+start_within : (p : Past) (later : List ℕ) (start : ℕ) → p.out ≡ p.front ++ later → IsFirstHello p.front start → start ≤ length p.out
+start_within p later start e first =
+    let fits : start + 20 ≤ length p.front = hello_fits p.front start first.here in omega (arith, ap length e, length-append p.front later)
+
+-- The bytes that follow are judged.
+pub judged_more : (own : Own) (p q : Past) (later more taken : List ℕ) (free bep : List (ℕ × Item)) (old new : Judge) → p.out ≡ p.front ++ later
+    → q.front ≡ p.front → q.out ≡ p.out ++ more → taken ≡ more → (j : IsJudgedBy own p old)
+    → AreJudged own (drop j.start p.out ++ taken) (j.free ++ free) (j.bep ++ bep) new → IsJudgedBy own q new
+judged_more own p q later more taken free bep old new parts front out same j judged =
+    let e : drop j.start (p.out ++ more) ≡ drop j.start p.out ++ more = drop-append-le j.start p.out more (start_within p later j.start parts j.first) in
+    let f : drop j.start p.out ++ taken ≡ drop j.start q.out =
+    ap (λ (l : List ℕ). drop j.start p.out ++ l) same ∙ sym e ∙ ap (λ (l : List ℕ). drop j.start l) (sym out) in
+    record {
+      start = j.start;
+      first = subst (λ (l : List ℕ). IsFirstHello l j.start) (sym front) j.first;
+      free = j.free ++ free;
+      bep = j.bep ++ bep;
+      judged = subst (λ (l : List ℕ). AreJudged own l (j.free ++ free) (j.bep ++ bep) new) f judged;
+    }

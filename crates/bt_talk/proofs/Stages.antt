@@ -1,0 +1,63 @@
+-- What a direction's stage says of its past.
+use Rattle.std.proofs.Common.{◌≡◌, ◌∙◌, ℕ, true, false, Bool, List, [], ◌++◌, append-nil, append_assoc, Option, Some, None, refl, sym, ap, subst, if◌then◌else◌}
+use Rattle.bt_flow.specs.declared.flow.Given.{Given}
+use Rattle.bt_intro.specs.declared.introduction.Introduction.{Introduction}
+use Rattle.bt_intro.specs.Hearing.{IsHeardOf}
+use Rattle.bt_talk.specs.declared.stage.Stage.{Stage}
+use Rattle.bt_talk.specs.declared.stage.Stage.TheVariants.{Opening, Open, Stranger}
+use Rattle.bt_talk.specs.declared.direction.Direction.{Direction}
+use Rattle.bt_talk.specs.Pasts.{Past, IsFlowOf, Adds}
+use Rattle.bt_talk.specs.Receivers.{IsReceiver, IsJudgedBy}
+use Rattle.bt_talk.specs.Stages.{is_opening, IsStage, IsDirection}
+use Rattle.bt_talk.proofs.Receivers.{receiver_same, judged_same}
+
+pub stage_same : (pieces : Option ℕ) (p q p' q' : Past) (s : Stage) → p'.out ≡ p.out → p'.front ≡ p.front → q'.front ≡ q.front → IsStage pieces p q s
+    → IsStage pieces p' q' s
+stage_same pieces p q p' q' (Opening front) o e f i = (i.0 ∙ sym o, e ∙ i.1 ∙ sym o)
+stage_same pieces p q p' q' (Open j) o e f i = (receiver_same pieces p q p' q' (Some j.receiver) e f i.0, judged_same j.receiver.own p p' j.judge e o i.1)
+stage_same pieces p q p' q' Stranger o e f i = receiver_same pieces p q p' q' None e f i
+
+-- The other side's front matters only after the opening.
+pub stage_beside : (pieces : Option ℕ) (p q q' : Past) (s : Stage) → (is_opening s ≡ false → q'.front ≡ q.front) → IsStage pieces p q s
+    → IsStage pieces p q' s
+stage_beside pieces p q q' (Opening front) f i = i
+stage_beside pieces p q q' (Open j) f i = (receiver_same pieces p q p q' (Some j.receiver) refl (f refl) i.0, i.1)
+stage_beside pieces p q q' Stranger f i = receiver_same pieces p q p q' None refl (f refl) i
+
+pub beside : (pieces : Option ℕ) (p q q' : Past) (d : Direction) → (is_opening d.stage ≡ false → q'.front ≡ q.front) → IsDirection pieces p q d
+    → IsDirection pieces p q' d
+beside pieces p q q' d f i = record {
+  flow = i.flow;
+  intro = i.intro;
+  later = i.later;
+  front = i.front;
+  stage = stage_beside pieces p q q' d.stage f i.stage;
+}
+
+-- In the opening all bytes belong to it.
+pub opening_front : (pieces : Option ℕ) (p q : Past) (s : Stage) → is_opening s ≡ true → IsStage pieces p q s → p.front ≡ p.out
+opening_front pieces p q (Opening front) e i = i.1
+opening_front pieces p q (Open j) e i = absurd (cc)
+opening_front pieces p q Stranger e i = absurd (cc)
+
+-- After the opening a segment adds to what follows it.
+pub goes_on : (g : Given) (pieces : Option ℕ) (p other q : Past) (d d' : Direction) → d'.intro ≡ d.intro → IsDirection pieces p other d
+    → IsFlowOf q d'.flow → Adds g false p d.flow q d'.flow → IsStage pieces q other d'.stage → IsDirection pieces q other d'
+goes_on g pieces p other q d d' e i f a s = record {
+  flow = f;
+  intro = subst (λ (x : Introduction). IsHeardOf q.front x) (sym e) (subst (λ (l : List ℕ). IsHeardOf l d.intro) (sym a.front) i.intro);
+  later = i.later ++ a.more;
+  front = a.out ∙ ap (λ (l : List ℕ). l ++ a.more) i.front ∙ append_assoc p.front i.later a.more
+      ∙ ap (λ (l : List ℕ). l ++ (i.later ++ a.more)) (sym a.front);
+  stage = s;
+}
+
+pub in_opening : (pieces : Option ℕ) (p other : Past) (d : Direction) → IsFlowOf p d.flow → IsHeardOf p.front d.intro → p.front ≡ p.out
+    → IsStage pieces p other d.stage → IsDirection pieces p other d
+in_opening pieces p other d f h all s = record {
+  flow = f;
+  intro = h;
+  later = [];
+  front = sym all ∙ sym (append-nil p.front);
+  stage = s;
+}

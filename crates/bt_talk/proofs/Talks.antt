@@ -1,0 +1,89 @@
+-- What is known of a side of a connection, and of both after a segment.
+use Rattle.std.proofs.Common.{◌≡◌, ◌∙◌, ℕ, true, false, Bool, ◌∷◌, [], ◌++◌, Option, Some, None, refl, sym, ap, subst, arith, min, ◌-◌, ◌^◌}
+use Rattle.std.specs.Prelude.{nat_le, if◌then◌else◌, ◌||◌}
+use Rattle.std.proofs.lemmas.Bool.Decides.{nat_tests}
+use Rattle.bt_tcp.specs.Heard.{Acked}
+use Rattle.bt_remarks.specs.declared.events.Side.{Side}
+use Rattle.bt_remarks.specs.declared.events.Side.TheVariants.{A, B}
+use Rattle.bt_remarks.specs.Said.{other}
+use Rattle.bt_packet.specs.declared.tcp.Segment.{Segment}
+use Rattle.bt_flow.specs.declared.flow.Flow.{Flow}
+use Rattle.bt_flow.specs.declared.flow.Given.{Given}
+use Rattle.bt_talk.specs.declared.direction.Direction.{Direction}
+use Rattle.bt_talk.specs.declared.talk.Talk.{Talk}
+use Rattle.bt_talk.specs.Pasts.{Past, Adds, IsAcked, IsAckedBy, HasSent, HasSentBy, given_of}
+use Rattle.bt_talk.specs.Stages.{IsDirection, is_opening}
+use Rattle.bt_talk.specs.Talks.{IsTalk, IsEnd, IsSender, direction_of, flow_of, of_side, is_in_opening, is_over}
+
+direction_is : (side : Side) (a b : Past) (t : Talk) → IsTalk a b t
+    → IsDirection t.pieces (of_side side a b) (of_side (other side) a b) (direction_of side t)
+direction_is A a b t i = i.a_is
+direction_is B a b t i = i.b_is
+
+-- the direction of a side
+pub found : (side : Side) (a b : Past) (t : Talk) (d : Direction) → d ≡ direction_of side t → IsTalk a b t
+    → IsDirection t.pieces (of_side side a b) (of_side (other side) a b) d
+found side a b t d e i =
+    subst (λ (x : Direction). IsDirection t.pieces (of_side side a b) (of_side (other side) a b) x) (sym e) (direction_is side a b t i)
+
+stage_of : (side : Side) (a b : Past) (t : Talk) → IsTalk a b t → is_opening (direction_of side t).stage ≡ is_in_opening t
+stage_of A a b t i = refl
+stage_of B a b t i = sym i.stages
+
+pub opening_of : (side : Side) (a b : Past) (t : Talk) (d : Direction) → d ≡ direction_of side t → IsTalk a b t
+    → is_opening d.stage ≡ is_in_opening t
+opening_of side a b t d e i = ap (λ (x : Direction). is_opening x.stage) e ∙ stage_of side a b t i
+
+-- ---- a segment
+
+pub acked_some : (s : Segment) (p : Past) (n at : ℕ) → s.flags.rst ≡ false → s.acked ≡ Some n
+    → IsAcked s p (record p { heard = p.heard ++ Acked (record { number = n; opens = s.flags.syn; place = at }) ∷ [] })
+acked_some s p n at r e =
+    let q : Past = record p { heard = p.heard ++ Acked (record { number = n; opens = s.flags.syn; place = at }) ∷ [] } in
+    subst (λ (b : Bool). IsAckedBy b s.acked s.flags.syn p q) (sym r) (subst (λ (o : Option ℕ). IsAckedBy false o s.flags.syn p q) (sym e) (at, refl))
+
+pub acked_none : (s : Segment) (p : Past) → s.flags.rst ≡ false → s.acked ≡ None → IsAcked s p p
+acked_none s p r e =
+    subst (λ (b : Bool). IsAckedBy b s.acked s.flags.syn p p) (sym r) (subst (λ (o : Option ℕ). IsAckedBy false o s.flags.syn p p) (sym e) refl)
+
+pub acked_reset : (s : Segment) (p : Past) → s.flags.rst ≡ true → IsAcked s p p
+acked_reset s p r = subst (λ (b : Bool). IsAckedBy b s.acked s.flags.syn p p) (sym r) refl
+
+pub sent_reset : (s : Segment) (opening : Bool) (p : Past) (flow : Flow) → s.flags.rst ≡ true → HasSent s opening p flow p flow
+sent_reset s opening p flow r = subst (λ (b : Bool). HasSentBy b s opening p flow p flow) (sym r) (refl, refl)
+
+pub sent_by : (s : Segment) (opening : Bool) (p : Past) (flow : Flow) (q : Past) (flow' : Flow) → s.flags.rst ≡ false
+    → Adds (given_of s) opening p flow q flow' → HasSent s opening p flow q flow'
+sent_by s opening p flow q flow' r a = subst (λ (b : Bool). HasSentBy b s opening p flow q flow') (sym r) a
+
+-- After the opening its bytes stay.
+pub front_kept : (g : Given) (opening : Bool) (p : Past) (flow : Flow) (q : Past) (flow' : Flow) → Adds g opening p flow q flow' → opening ≡ false
+    → q.front ≡ p.front
+front_kept g opening p flow q flow' a e = a.front ∙ ap (λ (b : Bool). if b then q.out else p.front) e
+
+-- a sum that stays at its greatest value
+pub bytes_over : (n m : ℕ) → n ≡ min m (2 ^ 64 - 1) → nat_le 1048576 n ≡ nat_le 1048576 m
+bytes_over n m e = grind (arith, nat_tests)
+
+pub over_same : (settled : Bool) (n m segments : ℕ) → n ≡ min m (2 ^ 64 - 1) → is_over settled n segments ≡ is_over settled m segments
+over_same settled n m segments e = ap (λ (b : Bool). settled || (b || nat_le 4096 segments)) (bytes_over n m e)
+
+pub end_same : (a b : Past) (n n' : ℕ) (over over' : Bool) → n ≡ n' → over ≡ over' → IsEnd a b n over → IsEnd a b n' over'
+end_same a b n n' over over' e f i =
+    subst (λ (k : ℕ). IsEnd a b k over') e (subst (λ (o : Bool). IsEnd a b n o) f i)
+
+pub flow_same : (side : Side) (t t' : Talk) → t'.a ≡ t.a → t'.b ≡ t.b → flow_of side t' ≡ flow_of side t
+flow_same A t t' e f = ap (λ (d : Direction). d.flow) e
+flow_same B t t' e f = ap (λ (d : Direction). d.flow) f
+
+pub sent_same : (s : Segment) (opening : Bool) (p : Past) (flow flow' : Flow) (q : Past) (after after' : Flow) → flow ≡ flow' → after ≡ after'
+    → HasSent s opening p flow q after → HasSent s opening p flow' q after'
+sent_same s opening p flow flow' q after after' e f h =
+    subst (λ (x : Flow). HasSent s opening p x q after') e (subst (λ (y : Flow). HasSent s opening p flow q y) f h)
+
+-- One side sent the segment.
+pub sender_same : (s : Segment) (t : Talk) (x y : Side) → IsSender s t x → IsSender s t y → x ≡ y
+sender_same s t A A i j = refl
+sender_same s t B B i j = refl
+sender_same s t A B i j = sym (j.1 (i.0 refl))
+sender_same s t B A i j = i.1 (j.0 refl)

@@ -1,0 +1,16 @@
+use Rattle.std.proofs.Common.{refl}
+use Rattle.bt_talk.proofs.Stages.{stage_same}
+use Rattle.bt_talk.proofs.direction.Direction.hear.Goals as goal
+
+pub returns-clause-heard : goal.returns-clause-heard
+returns-clause-heard c = λ pieces p other d.
+    let f = c.hear.ensures p.heard p.segs p.out d.flow in (
+      f.0,
+      record {
+        flow = f.1;
+        intro = d.intro;
+        later = d.later;
+        front = d.front;
+        stage = stage_same pieces p other _ other c.args.self.now.stage refl refl refl d.stage;
+      },
+    )

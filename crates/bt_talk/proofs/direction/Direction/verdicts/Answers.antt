@@ -1,0 +1,21 @@
+use Rattle.std.proofs.Common.{Bool, Some, sym, ap, subst, drop}
+use Rattle.bt_talk.specs.declared.stage.Stage.{Stage}
+use Rattle.bt_talk.specs.Receivers.{AreVerdicts}
+use Rattle.bt_talk.specs.Stages.{IsStage, is_opening}
+use Rattle.bt_talk.proofs.direction.Direction.verdicts.Goals as goal
+
+pub returns-in-Open : goal.returns-in-Open
+returns-in-Open c = λ pieces p other d.
+    let s = subst (λ (s : Stage). IsStage pieces p other s) c.in-Open.is d.stage in
+    let own = c.in-Open.judged.receiver.own in
+    subst (λ (o : Bool). AreVerdicts o pieces p other (Some c.ended.result)) (sym (ap is_opening c.in-Open.is)) (
+      c.in-Open.judged.receiver,
+      s.0,
+      record {
+        start = s.1.start;
+        first = s.1.first;
+        free = s.1.free;
+        bep = s.1.bep;
+        told = c.ended.ensures own (drop s.1.start p.out) s.1.free s.1.bep s.1.judged;
+      },
+    )

@@ -1,0 +1,8 @@
+use Rattle.std.proofs.Common.{false}
+use Rattle.bt_talk.proofs.Pasts.{more_by}
+use Rattle.bt_talk.proofs.direction.take_only.Goals as goal
+
+pub returns : goal.returns
+returns c = λ p f.
+    let m = more_by c.args.given.now false p c.args.flow.now c.clear.new.self.items c.take.new.self c.take.new.out.items f c.in_ok-take.ensures in
+    (m.past, m.is, m.adds)

@@ -1,0 +1,10 @@
+use Rattle.std.proofs.Common.{◌∙◌, sym}
+use Rattle.bt_talk.specs.Pasts.{no_past}
+use Rattle.bt_talk.proofs.talk.Talk.new.Goals as goal
+
+pub returns-clause-is : goal.returns-clause-is
+returns-clause-is c = record {
+  a_is = c.new.ensures.is c.args.pieces no_past;
+  b_is = c.new-2.ensures.is c.args.pieces no_past;
+  stages = c.new.ensures.opening ∙ sym c.new-2.ensures.opening;
+}

@@ -1,0 +1,27 @@
+use Rattle.std.proofs.Common.{◌≡◌, ◌∙◌, ◌+◌, ◌-◌, ◌^◌, min, true, false, not, sym, ap, arith}
+use Rattle.bt_talk.proofs.Talks.{end_same}
+use Rattle.bt_talk.proofs.talk.Talk.settle.Goals as goal
+
+pub returns-then-not-is_opening-clause-settles : goal.returns-then-not-is_opening-clause-settles
+returns-then-not-is_opening-clause-settles c = λ a b t. record {
+  is = t;
+  opening = λ o. absurd (let e : true ≡ false = sym o ∙ sym c.is_opening.ensures ∙ c.if-not-is_opening.true in cc);
+}
+
+pub returns-then-not-is_over-clause-settles : goal.returns-then-not-is_over-clause-settles
+returns-then-not-is_over-clause-settles c = λ a b t. record {
+  is = record { a_is = t.a_is; b_is = t.b_is; stages = t.stages };
+  opening = λ o.
+      let i = c.is_over.ensures c.args.self.now.pieces a b t.a_is t.b_is o (sym t.stages ∙ o) in
+      let n : c.saturating_add-self.result ≡ min (c.args.self.now.segments + 1) (2 ^ 32 - 1) = omega (arith, c.saturating_add-self.ensures) in
+      end_same a b c.saturating_add-self.result _ c.is_over.result _ n (c.if-not-is_over.true ∙ sym (ap not o)) i;
+}
+
+pub returns-clause-settles : goal.returns-clause-settles
+returns-clause-settles c = λ a b t. record {
+  is = c.in_ok-open.ensures.kept a b (record { a_is = t.a_is; b_is = t.b_is; stages = t.stages });
+  opening = λ o.
+      let i = c.is_over.ensures c.args.self.now.pieces a b t.a_is t.b_is o (sym t.stages ∙ o) in
+      let n : c.saturating_add-self.result ≡ min (c.args.self.now.segments + 1) (2 ^ 32 - 1) = omega (arith, c.saturating_add-self.ensures) in
+      end_same a b c.saturating_add-self.result _ c.is_over.result _ n (c.if-not-is_over.false ∙ sym (ap not c.in_ok-open.ensures.open)) i;
+}

@@ -1,0 +1,38 @@
+use Rattle.std.proofs.Common.{◌≡◌, ◌∙◌, ℕ, ◌+◌, ◌-◌, ◌^◌, min, sym, ap, subst, refl}
+use Rattle.std.specs.Prelude.{◌↔◌}
+use Rattle.bt_remarks.specs.declared.events.Side.{Side}
+use Rattle.bt_remarks.specs.declared.events.Side.TheVariants.{A, B}
+use Rattle.bt_talk.specs.declared.ends.Ends.{Ends}
+use Rattle.bt_talk.specs.declared.talk.Talk.{Talk}
+use Rattle.bt_talk.specs.Talks.{IsTalk, is_in_opening, flow_of, of_side}
+use Rattle.bt_talk.proofs.Closes.{closes_same}
+use Rattle.bt_talk.proofs.Talks.{end_same, flow_same, sent_same}
+use Rattle.bt_talk.proofs.talk.Talk.take.Goals as goal
+
+pub returns-clause-taken : goal.returns-clause-taken
+returns-clause-taken c = λ a b t.
+    let self = c.args.self.now in
+    let x = c.in_ok-exchange.ensures.taken a b (record { a_is = t.a_is; b_is = t.b_is; stages = t.stages }) in
+    let sends = subst (λ (e : Ends). (x.side ≡ A) ↔ (c.args.segment.now.source ≡ e.a)) (sym c.in_ok-exchange.ensures.ends) x.is_side in
+    let n = c.note.ensures.closes x.a' x.b' x.side x.is sends in
+    let noted = subst (λ (k : Talk). IsTalk x.a' x.b' k) (sym c.note.ensures.rest) (record { a_is = x.is.a_is; b_is = x.is.b_is; stages = x.is.stages }) in
+    let s = c.in_ok-settle.ensures.settles x.a' x.b' noted in
+    let was = ap is_in_opening c.note.ensures.rest ∙ c.in_ok-exchange.ensures.opening in
+    let segments = ap (λ (k : Talk). k.segments) c.note.ensures.rest ∙ c.in_ok-exchange.ensures.segments in
+    let flows : (side : Side) → flow_of side c.exchange.new.self ≡ flow_of side c.settle.new.self =
+    λ side. sym (c.in_ok-settle.ensures.flows side ∙ flow_same side c.exchange.new.self c.note.new.self
+    (ap (λ (k : Talk). k.a) c.note.ensures.rest) (ap (λ (k : Talk). k.b) c.note.ensures.rest)) in
+    record {
+      side = x.side;
+      is_side = x.is_side;
+      a' = x.a';
+      b' = x.b';
+      is = record { a_is = s.is.a_is; b_is = s.is.b_is; stages = s.is.stages };
+      sent = sent_same c.args.segment.now (is_in_opening self) (of_side x.side a b) _ _ (of_side x.side x.a' x.b') _ _
+          (flow_same x.side self _ refl refl) (flows x.side ∙ flow_same x.side _ c.settle.new.self refl refl) x.sent;
+      acked = x.acked;
+      opening = λ o. end_same x.a' x.b' _ _ _ _ (ap (λ (n : ℕ). min (n + 1) (2 ^ 32 - 1)) segments) refl (s.opening (was ∙ o));
+      after = λ o. c.in_ok-settle.ensures.after (was ∙ o);
+      closes = closes_same c.args.segment.now c.args.when x.side x.a' x.b' _ _ _ _ _ _ _ _ (flows A) (flows B) c.in_ok-exchange.ensures.closing
+          (sym c.in_ok-settle.ensures.closing) n;
+    }

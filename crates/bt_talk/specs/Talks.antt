@@ -1,0 +1,110 @@
+-- A connection: what was captured of both sides, and how a segment adds to it.
+use Rattle.std.specs.Prelude.{◌≡◌, ℕ, ◌+◌, ◌-◌, min, ◌^◌, Bool, true, false, not, ◌||◌, nat_le, List, length, Option, ◌↔◌}
+use Rattle.bt_remarks.specs.declared.events.Side.{Side}
+use Rattle.bt_remarks.specs.declared.events.Side.TheVariants.{A, B}
+use Rattle.bt_remarks.specs.Said.{other}
+use Rattle.bt_packet.specs.declared.tcp.Segment.{Segment}
+use Rattle.bt_flow.specs.declared.flow.Flow.{Flow}
+use Rattle.bt_intro.specs.Settling.{IsSideOf, is_settled}
+use Rattle.bt_talk.specs.declared.direction.Direction.{Direction}
+use Rattle.bt_talk.specs.declared.talk.Talk.{Talk}
+use Rattle.bt_talk.specs.Pasts.{Past, HasSent, IsAcked}
+use Rattle.bt_talk.specs.declared.ends.Ends.{Ends}
+use Rattle.bt_talk.specs.declared.closing.Closing.{Closing}
+use Rattle.bt_talk.specs.declared.closing.When.{When}
+use Rattle.bt_talk.specs.Closing.{Closes}
+use Rattle.bt_talk.specs.Stages.{IsDirection, is_opening}
+
+abbrev pub direction_of : Side → Talk → Direction
+direction_of A t = t.a
+direction_of B t = t.b
+
+-- the stream of a side
+abbrev pub flow_of : Side → Talk → Flow
+flow_of side t = (direction_of side t).flow
+
+-- what belongs to a side
+abbrev pub of_side : Side → Past → Past → Past
+of_side A a b = a
+of_side B a b = b
+
+abbrev pub is_in_opening : Talk → Bool
+is_in_opening t = is_opening t.a.stage
+
+abbrev pub ends_of : Talk → Ends
+ends_of t = t.ends
+
+abbrev pub pieces_of : Talk → Option ℕ
+pieces_of t = t.pieces
+
+abbrev pub closing_of : Talk → Closing
+closing_of t = t.closing
+
+-- Memory ran out.
+abbrev pub is_lost : Talk → Bool
+is_lost t = t.is_lost
+
+-- This was captured of both sides.
+pub record IsTalk (a b : Past) (t : Talk) : Type 0 where
+  pub a_is : IsDirection t.pieces a b t.a
+  pub b_is : IsDirection t.pieces b a t.b
+  pub stages : is_opening t.a.stage ≡ is_opening t.b.stage
+
+-- ---- the opening's end
+
+-- Both sides have described themselves; or they have sent 1 MiB; or 4,096 segments came.
+abbrev pub is_over : Bool → ℕ → ℕ → Bool
+is_over settled bytes segments = settled || (nat_le 1048576 bytes || nat_le 4096 segments)
+
+-- By what the sides have said in the opening both have described themselves, or they haven't.
+abbrev pub HaveDescribed : List ℕ → List ℕ → Bool → Type 0
+HaveDescribed front back settled = (x : _) × (y : _) × IsSideOf front x × IsSideOf back y × (settled ≡ is_settled x y)
+
+-- The opening is over, or it isn't.
+pub record IsEnd (a b : Past) (segments : ℕ) (over : Bool) : Type 0 where
+  pub settled : Bool
+  pub described : HaveDescribed a.front b.front settled
+  pub is : over ≡ is_over settled (length a.front + length b.front) segments
+
+-- ---- a segment
+
+-- A segment of the first side changes both.
+pub record Turns (s : Segment) (pieces : Option ℕ) (p q : Past) (d e d' e' : Direction) : Type 0 where
+  pub p' : Past
+  pub q' : Past
+  pub p_is : IsDirection pieces p' q' d'
+  pub q_is : IsDirection pieces q' p' e'
+  pub sent : HasSent s (is_opening d.stage) p d.flow p' d'.flow
+  pub acked : IsAcked s q q'
+
+-- This side sent the segment.
+abbrev pub IsSender : Segment → Talk → Side → Type 0
+IsSender s t side = (side ≡ A) ↔ (s.source ≡ t.ends.a)
+
+-- One side sent a segment.
+pub record Exchanges (s : Segment) (a b : Past) (t t' : Talk) : Type 0 where
+  pub side : Side
+  pub is_side : IsSender s t side
+  pub a' : Past
+  pub b' : Past
+  pub is : IsTalk a' b' t'
+  pub sent : HasSent s (is_in_opening t) (of_side side a b) (flow_of side t) (of_side side a' b') (flow_of side t')
+  pub acked : IsAcked s (of_side (other side) a b) (of_side (other side) a' b')
+
+-- The opening is over, or it isn't.
+pub record Settles (a b : Past) (t t' : Talk) : Type 0 where
+  pub is : IsTalk a b t'
+  pub opening : is_in_opening t ≡ true → IsEnd a b (min (t.segments + 1) (2 ^ 32 - 1)) (not (is_in_opening t'))
+
+-- The connection took a segment. In the opening that may end it.
+pub record Takes (s : Segment) (when : When) (a b : Past) (t t' : Talk) : Type 0 where
+  pub side : Side
+  pub is_side : IsSender s t side
+  pub a' : Past
+  pub b' : Past
+  pub is : IsTalk a' b' t'
+  pub sent : HasSent s (is_in_opening t) (of_side side a b) (flow_of side t) (of_side side a' b') (flow_of side t')
+  pub acked : IsAcked s (of_side (other side) a b) (of_side (other side) a' b')
+  pub opening : is_in_opening t ≡ true → IsEnd a' b' (min (t.segments + 1) (2 ^ 32 - 1)) (not (is_in_opening t'))
+  pub after : is_in_opening t ≡ false → is_in_opening t' ≡ false
+  pub closes : Closes s when side a' b' (flow_of A t') (flow_of B t') (closing_of t) (closing_of t')

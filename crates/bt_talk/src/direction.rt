@@ -1,0 +1,189 @@
+//! One direction of a captured connection.
+ghost use Rattle.std.specs.Prelude.{◌≡◌, ◌<◌, ◌++◌, ◌∷◌, ℕ, List, [], Bool, false, true, length, OnOk, IfSome, Option};
+ghost use Rattle.bt_flow.specs.declared.flow.Flow.{Flow};
+ghost use Rattle.bt_intro.specs.Hearing.{IsHeardOf};
+ghost use Rattle.bt_tcp.specs.Heard.{Acked};
+ghost use Rattle.bt_wire.specs.declared.context.Own.{Own};
+ghost use Rattle.bt_talk.specs.Pasts.{Past, no_past, IsFlowOf, Adds};
+ghost use Rattle.bt_talk.specs.Receivers.{IsReceiver, IsJudgedBy, IsReceiverNow, AreVerdicts};
+ghost use Rattle.bt_talk.specs.Stages.{IsDirection, is_opening};
+
+use crate::stage::{Stage, judge_bytes, open};
+use bt_flow::{Flow, Given};
+use bt_intro::{Introduction, Receiver};
+use bt_judge::{Judge, Verdicts};
+use std::alloc::{AllocError, Global};
+
+/// One direction of a captured connection: its stream, what its sender announces, and what is done with its bytes.
+#[derive(Drop)]
+pub(crate) struct Direction {
+    pub(crate) flow: Flow,
+    pub(crate) intro: Introduction,
+    pub(crate) stage: Stage,
+}
+
+/// Takes a segment of the opening.
+fn take_opening(
+    alloc: Global,
+    flow: &mut Flow,
+    intro: &mut Introduction,
+    front: &mut Vec<u8>,
+    given: &Given,
+) -> Result<(), AllocError>
+    ensures { OnOk result ((p : Past) → IsFlowOf p flow.old → IsHeardOf p.front intro.old → front.old.items ≡ p.out → p.front ≡ p.out
+        → (q : Past) × IsFlowOf q flow.new × IsHeardOf q.front intro.new × (front.new.items ≡ q.out) × Adds given.now true p flow.old q flow.new) }
+{
+    flow.take(given, front)?;
+    intro.hear(alloc, front)?;
+    Ok(())
+}
+
+/// Takes a segment of a stream that is judged.
+fn take_judged(
+    flow: &mut Flow,
+    judge: &mut Judge,
+    given: &Given,
+    out: &mut Vec<u8>,
+    buffer: &mut [u8],
+) -> Result<(), AllocError>
+    requires { 0 < length buffer.old }
+    ensures { OnOk result ((own : Own) → (p : Past) → (later : List ℕ) → IsFlowOf p flow.old → p.out ≡ p.front ++ later → IsJudgedBy own p judge.old
+        → (q : Past) × IsFlowOf q flow.new × IsJudgedBy own q judge.new × Adds given.now false p flow.old q flow.new) }
+{
+    out.clear();
+    flow.take(given, out)?;
+    judge_bytes(judge, out, buffer);
+    Ok(())
+}
+
+/// Takes a segment of a stream that isn't judged.
+fn take_only(flow: &mut Flow, given: &Given, out: &mut Vec<u8>) -> Result<(), AllocError>
+    ensures { OnOk result ((p : Past) → IsFlowOf p flow.old → (q : Past) × IsFlowOf q flow.new × Adds given.now false p flow.old q flow.new) }
+{
+    out.clear();
+    flow.take(given, out)?;
+    Ok(())
+}
+
+impl Direction {
+    /// Returns a direction of which nothing was captured.
+    pub(crate) fn new(alloc: Global) -> Direction
+        ensures is { (pieces : Option ℕ) (other : Past) → IsDirection pieces no_past other result }
+        ensures opening { is_opening result.stage ≡ true }
+    {
+        Direction {
+            flow: Flow::new(alloc),
+            intro: Introduction::new(),
+            stage: Stage::Opening(Vec::new(alloc)),
+        }
+    }
+
+    /// Tells whether the opening isn't over.
+    pub(crate) fn is_opening(&self) -> bool
+        ensures { result ≡ is_opening self.now.stage }
+    {
+        match &self.stage {
+            Stage::Opening(_) => true,
+            Stage::Open(_) => false,
+            Stage::Stranger => false,
+        }
+    }
+
+    /// Returns how many bytes of the opening are kept.
+    pub(crate) fn kept(&self) -> usize
+        ensures { (pieces : Option ℕ) (p other : Past) → IsDirection pieces p other self.now → is_opening self.now.stage ≡ true → result ≡ length p.front }
+    {
+        match &self.stage {
+            Stage::Opening(front) => front.len(),
+            Stage::Open(_) => 0,
+            Stage::Stranger => 0,
+        }
+    }
+
+    /// Takes an acknowledgement by the other side.
+    pub(crate) fn hear(&mut self, acked: u32, opens: bool)
+        ensures heard { (pieces : Option ℕ) (p other : Past) → IsDirection pieces p other self.old
+            → (at : ℕ) × IsDirection pieces (record p { heard = p.heard ++ Acked (record { number = acked; opens = opens; place = at }) ∷ [] }) other self.new }
+        ensures stage { self.new.stage ≡ self.old.stage }
+    {
+        self.flow.hear(acked, opens);
+    }
+
+    /// Takes a segment that this side sent, which has no RST.
+    pub(crate) fn take(
+        &mut self,
+        alloc: Global,
+        given: &Given,
+        out: &mut Vec<u8>,
+        buffer: &mut [u8],
+    ) -> Result<(), AllocError>
+        requires { 0 < length buffer.old }
+        ensures taken { OnOk result ((pieces : Option ℕ) (p other : Past) → IsDirection pieces p other self.old
+            → (q : Past) × IsDirection pieces q other self.new × Adds given.now (is_opening self.old.stage) p self.old.flow q self.new.flow) }
+        ensures stage { OnOk result (is_opening self.new.stage ≡ is_opening self.old.stage) }
+    {
+        match &mut self.stage {
+            Stage::Opening(front) => {
+                take_opening(alloc, &mut self.flow, &mut self.intro, front, given)?;
+                Ok(())
+            }
+            Stage::Open(judged) => {
+                take_judged(&mut self.flow, &mut judged.judge, given, out, buffer)?;
+                Ok(())
+            }
+            Stage::Stranger => {
+                take_only(&mut self.flow, given, out)?;
+                Ok(())
+            }
+        }
+    }
+
+    /// Ends the opening: what came in it is judged by this receiver.
+    pub(crate) fn open(
+        &mut self,
+        alloc: Global,
+        receiver: Option<Receiver>,
+        buffer: &mut [u8],
+    ) -> Result<(), AllocError>
+        requires buffer { 0 < length buffer.old }
+        requires limit { IfSome receiver (λ r. r.own.limit ≡ 262144) }
+        ensures open { OnOk result (is_opening self.new.stage ≡ false) }
+        ensures kept { OnOk result ((pieces : Option ℕ) (p other : Past) → IsDirection pieces p other self.old → IsReceiver pieces p other receiver
+            → IsDirection pieces p other self.new) }
+        ensures flow { self.new.flow ≡ self.old.flow }
+        ensures intro { self.new.intro ≡ self.old.intro }
+    {
+        match &self.stage {
+            Stage::Opening(front) => {
+                self.stage = open(alloc, front, self.intro.start(), receiver, buffer)?;
+                Ok(())
+            }
+            Stage::Open(_) => Ok(()),
+            Stage::Stranger => Ok(()),
+        }
+    }
+
+    /// Returns the verdicts of the stream, if it is judged.
+    pub(crate) fn verdicts(&self) -> Option<Verdicts>
+        ensures { (pieces : Option ℕ) (p other : Past) → IsDirection pieces p other self.now
+            → AreVerdicts (is_opening self.now.stage) pieces p other result }
+    {
+        match &self.stage {
+            Stage::Opening(_) => None,
+            Stage::Open(judged) => Some(judged.judge.ended()),
+            Stage::Stranger => None,
+        }
+    }
+
+    /// Returns the receiver of the stream, if it is judged.
+    pub(crate) fn receiver(&self) -> Option<Receiver>
+        ensures { (pieces : Option ℕ) (p other : Past) → IsDirection pieces p other self.now
+            → IsReceiverNow (is_opening self.now.stage) pieces p other result }
+    {
+        match &self.stage {
+            Stage::Opening(_) => None,
+            Stage::Open(judged) => Some(judged.receiver),
+            Stage::Stranger => None,
+        }
+    }
+}

@@ -1,0 +1,17 @@
+//! One captured connection: the streams of both sides, and the verdicts of each by the receiver that the other side announces.
+//!
+//! Capture files, the table of connections and their text don't belong here.
+#![tactic(auto)]
+
+mod closing;
+mod direction;
+mod ends;
+mod room;
+mod stage;
+mod talk;
+
+pub use bt_remarks::Side;
+pub use closing::{Closed, When};
+pub use ends::Ends;
+pub use room::Room;
+pub use talk::Talk;

@@ -1,0 +1,97 @@
+//! What is done with the bytes of one direction: in the opening they are kept, after that they are judged.
+ghost use Rattle.std.specs.Prelude.{◌≡◌, ◌<◌, ◌++◌, ℕ, List, false, length, IfOk, OnOk, IfSome, Option};
+ghost use Rattle.bt_intro.specs.Hellos.{IsStartOf};
+ghost use Rattle.bt_intro.specs.Hearing.{IsHeardOf};
+ghost use Rattle.bt_judge.specs.Judges.{AreJudged};
+ghost use Rattle.bt_wire.specs.declared.context.Own.{Own};
+ghost use Rattle.bt_wire.specs.declared.item.Item.{Item};
+ghost use Rattle.bt_talk.specs.Pasts.{Past};
+ghost use Rattle.bt_talk.specs.Receivers.{IsReceiver};
+ghost use Rattle.bt_talk.specs.Stages.{IsStage, is_opening};
+
+use bt_feed::Discard;
+use bt_intro::{Introduction, Receiver, receiver_of};
+use bt_judge::Judge;
+use bt_wire::Own;
+use std::alloc::{AllocError, Global};
+
+/// The longest message that receivers take.
+const LIMIT: u32 = 262_144;
+
+/// A stream with its receiver.
+#[derive(Drop)]
+pub(crate) struct Judged {
+    pub(crate) receiver: Receiver,
+    pub(crate) judge: Judge,
+}
+
+/// What is done with the bytes of one direction.
+#[derive(Drop)]
+pub(crate) enum Stage {
+    /// They are kept, until both sides have described themselves.
+    Opening(Vec<u8>),
+    /// They are judged from the handshake on.
+    Open(Judged),
+    /// They aren't judged: there is no handshake.
+    Stranger,
+}
+
+/// Returns the receiver of the stream that `sender` sends, by what both sides have announced so far.
+pub(crate) fn receiver_between(
+    other: &Introduction,
+    sender: &Introduction,
+    pieces: Option<u32>,
+) -> Option<Receiver>
+    ensures limit { IfSome result (λ r. r.own.limit ≡ 262144) }
+    ensures is { (p q : Past) → IsHeardOf p.front sender.now → IsHeardOf q.front other.now → IsReceiver pieces p q result }
+{
+    let receiver = receiver_of(other, sender, pieces, LIMIT)?;
+    // The limit is the one that was given; so the judge knows it, too.
+    Some(Receiver {
+        own: Own {
+            limit: LIMIT,
+            ..receiver.own
+        },
+        is_guessed: receiver.is_guessed,
+    })
+}
+
+/// Judges bytes.
+pub(crate) fn judge_bytes(judge: &mut Judge, bytes: &[u8], buffer: &mut [u8])
+    requires { 0 < length buffer.old }
+    ensures { (own : Own) (b : List ℕ) (xs ys : List (ℕ × Item)) → AreJudged own b xs ys judge.old
+        → (more strict : List (ℕ × Item)) × AreJudged own (b ++ bytes.now) (xs ++ more) (ys ++ strict) judge.new }
+{
+    match judge.take(bytes, &mut Discard::new(), buffer) {
+        Ok(()) => {}
+        Err(_) => unreachable!(),
+    }
+}
+
+/// Returns the stage after the opening, in which these bytes came.
+pub(crate) fn open(
+    alloc: Global,
+    front: &[u8],
+    start: Option<usize>,
+    receiver: Option<Receiver>,
+    buffer: &mut [u8],
+) -> Result<Stage, AllocError>
+    requires buffer { 0 < length buffer.old }
+    requires limit { IfSome receiver (λ r. r.own.limit ≡ 262144) }
+    ensures open { IfOk result (λ stage. is_opening stage ≡ false) }
+    ensures stage { IfOk result (λ stage. (pieces : Option ℕ) (p q : Past) → front.now ≡ p.out → p.front ≡ p.out → IsStartOf p.front start
+        → IsReceiver pieces p q receiver → IsStage pieces p q stage) }
+{
+    let Some(receiver) = receiver else {
+        return Ok(Stage::Stranger);
+    };
+    let Some(start) = start else {
+        return Ok(Stage::Stranger);
+    };
+    let Some(bytes) = front.get(start..) else {
+        return Ok(Stage::Stranger);
+    };
+    let mut judge = Judge::new(alloc, receiver.own)?;
+    judge_bytes(&mut judge, bytes, buffer);
+    Ok(Stage::Open(Judged { receiver, judge }))
+}
