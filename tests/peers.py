@@ -152,6 +152,14 @@ def honest(link, count):
         link.send(data(3, link.request()))
 
 
+def paced(link, count):
+    """An honest peer that takes a tenth of a second for each block."""
+    greet(link)
+    while True:
+        time.sleep(0.1)
+        link.send(data(3, link.request()))
+
+
 def giving(info, info_hash=None):
     """An honest peer that has this metadata, or one that has it under another info hash."""
     def talk(link, count):
@@ -715,7 +723,7 @@ def single(program):
 
 def shown(program):
     """On a terminal the progress of a fetch is a line that is rewritten, and cleared at the end."""
-    peer = Peer(honest)
+    peer = Peer(paced)
     near, far = pty.openpty()
     done = subprocess.run([program, "fetch", HASH.hex(), peer.address], stdin=subprocess.DEVNULL, stdout=subprocess.PIPE, stderr=far,
                           timeout=60)
