@@ -1,5 +1,5 @@
 -- A report on a connection says what was captured of it.
-use Rattle.std.specs.Prelude.{◌≡◌, ℕ, ◌-◌, ◌⊎◌, Bool, true, false, List, [], length, Option, Some, None, unwrap_or, ◌==◌, map, take, if◌then◌else◌}
+use Rattle.std.specs.Prelude.{◌≡◌, ℕ, ◌-◌, ◌⊎◌, Bool, true, false, List, length, Option, Some, None, unwrap_or, ◌==◌, map, take, if◌then◌else◌}
 use Rattle.bt_flow.specs.Flows.{AreGapsOf, conflicts_in}
 use Rattle.bt_intro.specs.Hellos.{IsStartOf, IsFirstHello}
 use Rattle.bt_intro.specs.Hearing.{IsSaid}
