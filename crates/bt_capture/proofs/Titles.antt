@@ -1,5 +1,5 @@
 -- What a side calls itself.
-use Rattle.std.proofs.Common.{◌≡◌, ◌∙◌, ℕ, List, Option, Some, ap}
+use Rattle.std.proofs.Common.{◌≡◌, ◌∙◌, ℕ, List, Some, ap}
 use Rattle.bt_intro.specs.Hearing.{IsSaid}
 use Rattle.bt_intro.specs.Listening.{handshake_of, last_client}
 use Rattle.bt_jobs.specs.Others.{first_of}

@@ -1,5 +1,5 @@
 -- A report on a connection says what was captured of it.
-use Rattle.std.specs.Prelude.{◌≡◌, ℕ, ◌-◌, ◌⊎◌, Bool, true, false, List, [], length, Option, Some, None, unwrap_or, ◌==◌, map, take, if◌then◌else◌}
+use Rattle.std.specs.Prelude.{◌≡◌, ℕ, ◌-◌, ◌⊎◌, Bool, true, false, List, length, Option, Some, None, unwrap_or, ◌==◌, map, take, if◌then◌else◌}
 use Rattle.bt_flow.specs.Flows.{AreGapsOf, conflicts_in}
 use Rattle.bt_intro.specs.Hellos.{IsStartOf, IsFirstHello}
 use Rattle.bt_intro.specs.Hearing.{IsSaid}
@@ -10,10 +10,14 @@ use Rattle.bt_remarks.specs.declared.events.Side.TheVariants.{A, B}
 use Rattle.bt_remarks.specs.Said.{other}
 use Rattle.bt_talk.specs.Pasts.{Past}
 use Rattle.bt_talk.specs.Receivers.{AreVerdicts, IsReceiverNow}
-use Rattle.bt_talk.specs.Talks.{of_side, flow_of, is_in_opening, pieces_of, ends_of}
+use Rattle.bt_talk.specs.Talks.{of_side, flow_of, is_in_opening, pieces_of, ends_of, closing_of}
 use Rattle.bt_talk.specs.declared.talk.Talk.{Talk}
 use Rattle.bt_tcp.specs.declared.covered.Gap.{Gap}
 use Rattle.bt_tcp.specs.declared.covered.Gaps.{Gaps}
+use Rattle.bt_talk.specs.declared.closing.Closed.{Closed as FirstClose}
+use Rattle.bt_told.specs.declared.report.Closed.{Closed}
+use Rattle.bt_told.specs.declared.report.Means.{Means}
+use Rattle.bt_told.specs.declared.report.Means.TheVariants.{Fin, Rst}
 use Rattle.bt_told.specs.declared.report.Body.{Body}
 use Rattle.bt_told.specs.declared.report.Body.TheVariants as body
 use Rattle.bt_told.specs.declared.report.Direction.{Direction}
@@ -91,14 +95,23 @@ abbrev pub HasBegun : List ℕ → List ℕ → Bool → Type 0
 HasBegun a b true = HasStart a ⊎ HasStart b
 HasBegun a b false = IsStartOf a None × IsStartOf b None
 
+-- by a RST, or by a FIN
+abbrev pub means_by : Bool → Means
+means_by reset = if reset then Rst else Fin
+
+-- The first FIN or RST; its time counts from the capture's start.
+abbrev pub closed_by : ℕ → Option FirstClose → Option Closed
+closed_by from None = None
+closed_by from (Some c) = Some (record { first = c.side; by = means_by c.by_reset; at = c.when.nanos - from; a = None; b = None })
+
 -- It is a BitTorrent connection if a side has begun a handshake.
-abbrev pub IsBodyOf : Past → Past → Talk → Body → Type 0
-IsBodyOf a b t body.NotBitTorrent = HasBegun a.front b.front false
-IsBodyOf a b t (body.Told r) = HasBegun a.front b.front true × IsDirectionOf A a b t r.a × IsDirectionOf B a b t r.b
+abbrev pub IsBodyOf : ℕ → Past → Past → Talk → Body → Type 0
+IsBodyOf from a b t body.NotBitTorrent = HasBegun a.front b.front false
+IsBodyOf from a b t (body.Told r) = HasBegun a.front b.front true × IsDirectionOf A a b t r.a × IsDirectionOf B a b t r.b × (r.closed ≡ closed_by from (closing_of t).closed)
 
 -- The report says of the connection what was captured of both sides.
-pub record IsReportOf (n : ℕ) (a b : Past) (t : Talk) (r : Report) : Type 0 where
+pub record IsReportOf (n from : ℕ) (a b : Past) (t : Talk) (r : Report) : Type 0 where
   pub number : r.number ≡ n
   pub end_a : r.a ≡ (ends_of t).a
   pub end_b : r.b ≡ (ends_of t).b
-  pub body : IsBodyOf a b t r.body
+  pub body : IsBodyOf from a b t r.body

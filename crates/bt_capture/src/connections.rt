@@ -33,6 +33,8 @@ pub struct Connection {
 pub struct Run {
     alloc: Global,
     pieces: Option<u32>,
+    /// The time of the first packet.
+    start: Option<u64>,
     /// The connection of the last packet, which isn't in the table.
     current: Option<Box<Connection>>,
     table: LruCache<Pair, Box<Connection>>,
@@ -70,6 +72,7 @@ impl Run {
         Ok(Run {
             alloc,
             pieces,
+            start: None,
             current: None,
             table: LruCache::sparse(alloc, most)?,
             begun: 0,
@@ -94,7 +97,7 @@ impl Run {
             self.lost = self.lost.saturating_add(1);
             return Ok(());
         }
-        self.teller.report(&connection.talk, connection.number)
+        self.teller.report(&connection.talk, connection.number, self.start.unwrap_or(0))
     }
 
     /// Puts a connection into the table. If that is full, the one that was used least recently is over.
@@ -181,6 +184,7 @@ impl Run {
     pub fn take(&mut self, packet: &Packet, number: u64) -> Result<(), AllocError>
         ensures { (start now : TargetSeen) → IsTelling start now self.old.teller → IsTelling start now self.new.teller }
     {
+        self.start = self.start.or(Some(packet.nanos));
         match sight_of(packet) {
             Sight::Segment(segment) => {
                 let when = When {

@@ -2,14 +2,14 @@
 ghost use Rattle.std.specs.Prelude.{◌≡◌, ℕ, List, unwrap_or};
 ghost use Rattle.bt_intro.specs.Hellos.{IsStartOf};
 ghost use Rattle.bt_talk.specs.Pasts.{Past};
-ghost use Rattle.bt_talk.specs.Talks.{IsTalk};
+ghost use Rattle.bt_talk.specs.Talks.{IsTalk, closing_of};
 ghost use Rattle.bt_told.specs.Names.{title_text};
-ghost use Rattle.bt_capture.specs.Reportings.{IsReportOf, IsSenderOf, IsDirectionOf, IsBodyOf, HasBegun, offset_gap, shifted as shifted_by, title_by};
+ghost use Rattle.bt_capture.specs.Reportings.{IsReportOf, IsSenderOf, IsDirectionOf, IsBodyOf, HasBegun, offset_gap, shifted as shifted_by, title_by, means_by, closed_by};
 
 use bt_remarks::Side;
 use bt_talk::Talk;
 use bt_tcp::{Gap, Gaps};
-use bt_told::{Body, Direction, Judged, Remarked, Report, Sender, Title, Told};
+use bt_told::{Body, Closed, Direction, Judged, Means, Remarked, Report, Sender, Title, Told};
 use bt_wire::Handshake;
 
 /// No remark.
@@ -109,16 +109,39 @@ fn has_begun(a: Option<usize>, b: Option<usize>) -> bool
     }
 }
 
-/// Returns what is known of a connection.
-pub fn body_of(talk: &Talk) -> Body
-    ensures { (a b : Past) → IsTalk a b talk.now → IsBodyOf a b talk.now result }
+/// Returns how a side closed.
+fn means(by_reset: bool) -> Means
+    ensures { result ≡ means_by by_reset }
+{
+    if by_reset { Means::Rst } else { Means::Fin }
+}
+
+/// Returns how a connection was closed. Its time counts from the capture's start.
+fn closed_of(talk: &Talk, from: u64) -> Option<Closed>
+    ensures { result ≡ closed_by from (closing_of talk.now).closed }
+{
+    match talk.closed() {
+        Some(closed) => Some(Closed {
+            first: closed.side,
+            by: means(closed.by_reset),
+            at: closed.when.nanos.saturating_sub(from),
+            a: None,
+            b: None,
+        }),
+        None => None,
+    }
+}
+
+/// Returns what is known of a connection, in a capture that starts at this time.
+pub fn body_of(talk: &Talk, from: u64) -> Body
+    ensures { (a b : Past) → IsTalk a b talk.now → IsBodyOf from a b talk.now result }
 {
     match has_begun(talk.start(Side::A), talk.start(Side::B)) {
         false => Body::NotBitTorrent,
         true => Body::Told(Told {
             a: direction_of(talk, Side::A),
             b: direction_of(talk, Side::B),
-            closed: None,
+            closed: closed_of(talk, from),
             remarked_a: UNREMARKED,
             remarked_b: UNREMARKED,
         }),
@@ -127,15 +150,16 @@ pub fn body_of(talk: &Talk) -> Body
 
 /// Returns the report on a connection.
 ///
-/// Its verdicts are those of both streams, as far as they were captured. How it was closed, and remarks, aren't told.
-pub fn report_of(talk: &Talk, number: u64) -> Report
-    ensures { (a b : Past) → IsTalk a b talk.now → IsReportOf number a b talk.now result }
+/// Its verdicts are those of both streams, as far as they were captured. What was sent before it was closed, and remarks, aren't told.
+/// `from` is the time of the capture's first packet.
+pub fn report_of(talk: &Talk, number: u64, from: u64) -> Report
+    ensures { (a b : Past) → IsTalk a b talk.now → IsReportOf number from a b talk.now result }
 {
     let ends = talk.ends();
     Report {
         number,
         a: ends.a,
         b: ends.b,
-        body: body_of(talk),
+        body: body_of(talk, from),
     }
 }

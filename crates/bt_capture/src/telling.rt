@@ -146,15 +146,15 @@ impl Teller {
         Ok(())
     }
 
-    /// Tells the report on a connection.
+    /// Tells the report on a connection, in a capture that starts at this time.
     ///
     /// # Errors
     /// `AllocError` when out of memory. The report isn't told then.
-    pub fn report(&mut self, talk: &Talk, number: u64) -> Result<(), AllocError>
+    pub fn report(&mut self, talk: &Talk, number: u64, from: u64) -> Result<(), AllocError>
         ensures { (start now : TargetSeen) → IsTelling start now self.old → IsTelling start now self.new }
     {
         let ends = talk.ends();
-        let body = body_of(talk);
+        let body = body_of(talk, from);
         match self.tell(&Report {
             number,
             a: ends.a,

@@ -14,6 +14,8 @@ mod halves;
 #[cfg(test)]
 mod remarks;
 #[cfg(test)]
+mod runs;
+#[cfg(test)]
 mod streams;
 #[cfg(test)]
 mod talks;

@@ -1,0 +1,67 @@
+//! A capture file from its bytes to the report of its connection. The text is that which tools/btcap prints, without sentences.
+use bt_capture::{CaptureEnd, CaptureFault, CaptureJob, run_capture};
+use bt_io::{MemSource, MemTarget};
+use std::test::Fail;
+
+/// A connection with a handshake in each direction, and a have of piece 9.
+const FILE: &[u8] = b"\xd4\xc3\xb2\xa1\x02\0\x04\0\0\0\0\0\0\0\0\0\xff\xff\0\0e\0\0\0\
+    \x01\0\0\0\0\0\0\0(\0\0\0(\0\0\0E\0\0(\0\x01\0\0@\x06\0\0\x0a\0\0\x01\x0a\0\0\x02\
+    \x03\xe8\x1a\xe1\0\0\0d\0\0\0\0P\x02\x03\xe8\0\0\0\0\
+    \x01\0\0\0\xe8\x03\0\0(\0\0\0(\0\0\0E\0\0(\0\x01\0\0@\x06\0\0\x0a\0\0\x02\x0a\0\0\x01\
+    \x1a\xe1\x03\xe8\0\0\x01\xf4\0\0\0eP\x12\x03\xe8\0\0\0\0\
+    \x01\0\0\0\xd0\x07\0\0l\0\0\0l\0\0\0E\0\0l\0\x01\0\0@\x06\0\0\x0a\0\0\x01\x0a\0\0\x02\
+    \x03\xe8\x1a\xe1\0\0\0e\0\0\x01\xf5P\x18\x03\xe8\0\0\0\0\x13BitTorrent protocol\0\0\0\0\0\0\0\0\
+    \0\x01\x02\x03\x04\x05\x06\x07\x08\x09\x0a\x0b\x0c\x0d\x0e\x0f\x10\x11\x12\x13-AA0001-aaaaaaaaaaaa\
+    \x01\0\0\0\xb8\x0b\0\0l\0\0\0l\0\0\0E\0\0l\0\x01\0\0@\x06\0\0\x0a\0\0\x02\x0a\0\0\x01\
+    \x1a\xe1\x03\xe8\0\0\x01\xf5\0\0\0\xa9P\x18\x03\xe8\0\0\0\0\x13BitTorrent protocol\0\0\0\0\0\0\0\0\
+    \0\x01\x02\x03\x04\x05\x06\x07\x08\x09\x0a\x0b\x0c\x0d\x0e\x0f\x10\x11\x12\x13-BB0001-bbbbbbbbbbbb\
+    \x01\0\0\0\xa0\x0f\0\01\0\0\01\0\0\0E\0\01\0\x01\0\0@\x06\0\0\x0a\0\0\x01\x0a\0\0\x02\
+    \x03\xe8\x1a\xe1\0\0\0\xa9\0\0\x029P\x18\x03\xe8\0\0\0\0\0\0\0\x05\x04\0\0\0\x09";
+
+/// The report if the torrent has four pieces.
+const FOUR: &[u8] = b"connection 0  A 10.0.0.1:1000 > B 10.0.0.2:6881\n\
+\x20 A -AA0001-aaaaaaaaaaaa\n\
+\x20   free refused message=1 at=73 BadIndex\n\
+\x20   bep  refused message=1 at=73 BadIndex\n\
+\x20   options --reserved 0000000000000000 --metadata-id 0 --pieces 4\n\
+\x20 B -BB0001-bbbbbbbbbbbb\n\
+\x20   free ok messages=0 bytes=68\n\
+\x20   bep  ok messages=0 bytes=68\n\
+\x20   options --reserved 0000000000000000 --metadata-id 0 --pieces 4\n\
+\x20 still open at the capture's end\n";
+
+/// How a run ends over a source that gives `most` bytes a call, and what it writes.
+fn run(
+    rt: &HostRuntime,
+    file: Vec<u8>,
+    most: usize,
+) -> (Result<CaptureEnd, CaptureFault>, MemTarget) {
+    let mut reader = MemSource::new(file, most.max(1), None);
+    let mut writer = MemTarget::new(Vec::new(rt.alloc()), 4_096, None);
+    let job = CaptureJob { pieces: Some(4) };
+    let end = run_capture(rt.alloc(), &mut reader, &mut writer, &job);
+    (end, writer)
+}
+
+/// Whether a run reports the refusal.
+fn is_reported(end: &Result<CaptureEnd, CaptureFault>, text: &[u8]) -> bool {
+    *end == Ok(CaptureEnd {
+        packets: 5,
+        skipped: 0,
+        torrents: 1,
+        lost: 0,
+        is_refused: true,
+        is_cut: false,
+    }) && text == FOUR
+}
+
+#[test]
+fn a_have_out_of_range(rt: HostRuntime) -> Result<(), Fail> {
+    let mut right = true;
+    for most in [1, 7, 65_536] {
+        let (end, writer) = run(&rt, Vec::from_slice(rt.alloc(), FILE)?, most);
+        right = right && is_reported(&end, writer.bytes());
+    }
+    assert!(rt; right);
+    Ok(())
+}
