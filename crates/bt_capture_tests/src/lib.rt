@@ -18,6 +18,4 @@ mod runs;
 #[cfg(test)]
 mod streams;
 #[cfg(test)]
-mod talks;
-#[cfg(test)]
 mod told;
