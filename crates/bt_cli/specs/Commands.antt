@@ -9,12 +9,13 @@ use Rattle.bt_run.specs.declared.commands.Notice.{Notice}
 use Rattle.bt_run.specs.declared.commands.Notice.TheVariants.{Help, Version, Usage}
 use Rattle.bt_run.specs.Commands.{HasLimit, HasLoopLimit, IsDefault}
 use Rattle.bt_cli.specs.declared.commands.Asked.{Asked}
-use Rattle.bt_cli.specs.declared.commands.Asked.TheVariants.{Run, Link, Fetch, Serve, Told, Loop}
+use Rattle.bt_cli.specs.declared.commands.Asked.TheVariants.{Run, Link, Capture, Fetch, Serve, Told, Loop}
 
 -- a receiver that is asked for has such a limit, and so have the ends
 abbrev pub IsLimited : Asked → Type 0
 IsLimited (Run r) = HasLimit r.own
 IsLimited (Link files) = Unit {0}
+IsLimited (Capture job files) = Unit {0}
 IsLimited (Fetch job) = IsWish job.wish
 IsLimited (Serve job) = HasLoopLimit job.limit
 IsLimited (Loop rules limit) = HasLoopLimit limit
@@ -24,6 +25,7 @@ IsLimited (Told notice text) = Unit {0}
 abbrev pub HasText : Notice → Asked → Type 0
 HasText kind (Run r) = ⊥
 HasText kind (Link files) = ⊥
+HasText kind (Capture job files) = ⊥
 HasText kind (Fetch job) = ⊥
 HasText kind (Serve job) = ⊥
 HasText kind (Loop rules limit) = ⊥
@@ -36,6 +38,7 @@ IsShowByDefault (Run r) = (r.job ≡ Show) × IsDefault r.own × (r.given ≡ re
     × (r.hints ≡ Auto)
     × (r.files.items ≡ [])
 IsShowByDefault (Link files) = ⊥
+IsShowByDefault (Capture job files) = ⊥
 IsShowByDefault (Fetch job) = ⊥
 IsShowByDefault (Serve job) = ⊥
 IsShowByDefault (Loop rules limit) = ⊥

@@ -6,3 +6,4 @@ pub mod Tallies
 pub mod Wanted
 pub mod Services
 pub mod Lists
+pub mod Captures

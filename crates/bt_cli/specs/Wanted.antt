@@ -1,4 +1,4 @@
--- What the options of `fetch` and `serve` say.
+-- What the options of `fetch`, `serve` and `capture` say.
 use Rattle.std.specs.Prelude.{◌≡◌, ℕ, Bool, List, [], map, string_bytes, unwrap_or, codes, Option, Some, None, option_map}
 use Rattle.std.specs.Str.{bytes_eq}
 use Rattle.std.specs.Net.Grammar.{IsSocketText}
@@ -9,6 +9,7 @@ use Rattle.bt_ext.specs.declared.ids.Rules.TheVariants.{Free}
 use Rattle.bt_magnet.specs.Links.{IsMagnet}
 use Rattle.bt_run.specs.Options.{number_in, rules_of, value_of}
 use Rattle.bt_fetch.specs.declared.wish.Wish.{Wish}
+use Rattle.bt_capture.specs.declared.ending.CaptureJob.{CaptureJob}
 use Rattle.bt_cli.specs.declared.fetch.FetchJob.{FetchJob}
 use Rattle.bt_cli.specs.declared.serve.ServeJob.{ServeJob}
 
@@ -40,6 +41,9 @@ exit_after_in t = value_of None (λ s. option_map (λ n. Some n) (number_in 1 42
 
 abbrev pub max_connections_in : Option (List ℕ) → Option ℕ
 max_connections_in t = number_or 1 1024 64 t
+
+abbrev pub capture_pieces_in : Option (List ℕ) → Option (Option ℕ)
+capture_pieces_in t = value_of None (λ s. option_map (λ n. Some n) (number_in 0 4294967295 s)) t
 
 -- the texts of all words of this name
 abbrev pub words_in : Found → List ℕ → List (List ℕ)
@@ -83,3 +87,8 @@ pub record IsServeAsked (f : Found) (job : ServeJob) : Type 0 where
   pub timeout : timeout_in (first_value f (codes "timeout")) ≡ Some job.patience
   pub exit_after : exit_after_in (first_value f (codes "exit-after")) ≡ Some job.connections
   pub max_connections : max_connections_in (first_value f (codes "max-connections")) ≡ Some job.at_once
+
+-- ---- `capture`
+
+pub record IsCaptureAsked (f : Found) (job : CaptureJob) : Type 0 where
+  pub pieces : capture_pieces_in (first_value f (codes "pieces")) ≡ Some job.pieces

@@ -1,6 +1,7 @@
 //! What the command line can ask for. The module `options` makes it, and the program's `main` does it.
 use crate::fetch::FetchJob;
 use crate::serve::ServeJob;
+use bt_capture::CaptureJob;
 use bt_ext::Rules;
 pub use bt_run::commands::{
     DEFAULT_LIMIT, DEFAULT_METADATA_ID, DEFAULT_RESERVED, Given, Hints, Job, Notice, Request,
@@ -14,6 +15,8 @@ pub enum Asked {
     Run(Request),
     /// The link of two ends, which a script describes: that of the first file, or of standard input.
     Link(Vec<String>),
+    /// Reports on the connections of a capture: that of the first file, or of standard input.
+    Capture(CaptureJob, Vec<String>),
     /// A fetch of metadata from peers.
     Fetch(FetchJob),
     /// A service of metadata to peers.

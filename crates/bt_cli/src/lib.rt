@@ -4,6 +4,7 @@
 //! modules are passed on.
 #![tactic(auto)]
 
+pub mod capture;
 pub mod commands;
 pub mod ending;
 pub mod fetch;

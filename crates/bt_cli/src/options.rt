@@ -8,12 +8,13 @@ ghost use Rattle.bt_run.specs.Options.{rules_in, limit_in};
 ghost use Rattle.bt_cli.specs.Commands.{HasNotice, HasText, IsLimited, IsShowByDefault};
 ghost use Rattle.bt_cli.specs.Options.{IsAskedBy, IsChosen, IsRequested, IsWritten, files_in, given_in, json_in, lacks_command as lacks_command_by_rule, lacks_first, mistake_words, version_words};
 
+use crate::capture::capture_in;
 use crate::commands::{Asked, Given, Hints, Job, Notice, Request, default_own};
 use crate::fetch::{Mistake, fetch_asked};
 use crate::serve::serve_asked;
 use crate::texts::{
-    ABOUT, AFTER, CALL, CHECK, CommandText, FETCH, LINK, LOOP, OperandText, OptionText, PACK,
-    SERVE, SHOW, UNPACK, usage_of,
+    ABOUT, AFTER, CALL, CAPTURE, CHECK, CommandText, FETCH, LINK, LOOP, OperandText, OptionText,
+    PACK, SERVE, SHOW, UNPACK, usage_of,
 };
 use bt_ext::Rules;
 use bt_run::values::{Setting, Written, own_of, read_hints};
@@ -151,6 +152,11 @@ fn link_command<'a>(alloc: Global) -> Result<Command<'a>, AllocError> {
     command_of(alloc, &LINK)
 }
 
+/// Returns the command `capture`.
+fn capture_command<'a>(alloc: Global) -> Result<Command<'a>, AllocError> {
+    command_of(alloc, &CAPTURE)
+}
+
 /// Returns the command `loop`.
 fn loop_command<'a>(alloc: Global) -> Result<Command<'a>, AllocError> {
     command_of(alloc, &LOOP)
@@ -180,6 +186,7 @@ fn command_line<'a>(alloc: Global) -> Result<Command<'a>, AllocError> {
         .subcommand(unpack_command(alloc)?)?
         .subcommand(pack_command(alloc)?)?
         .subcommand(link_command(alloc)?)?
+        .subcommand(capture_command(alloc)?)?
         .subcommand(loop_command(alloc)?)?
         .subcommand(fetch_command(alloc)?)?
         .subcommand(serve_command(alloc)?)
@@ -450,6 +457,23 @@ fn link_asked(alloc: Global, name: &str, options: &ArgMatches<'_>) -> Result<Ask
     Ok(Asked::Link(files))
 }
 
+/// Returns what the options and files of `capture` ask for.
+fn capture_asked(alloc: Global, name: &str, options: &ArgMatches<'_>) -> Result<Asked, AllocError>
+    requires { bytes_eq name.now (codes "capture") ≡ true }
+    ensures limited { IfOk result IsLimited }
+    ensures asked { IfOk result (IsAskedBy name.now (found_of options.now)) }
+{
+    let job = match capture_in(options) {
+        Ok(job) => job,
+        Err(what) => return mistake(alloc, usage_of(name), what),
+    };
+    let files = files(alloc, options)?;
+    if files.len() > 1 {
+        return mistake(alloc, usage_of(name), ONE_FILE);
+    }
+    Ok(Asked::Capture(job, files))
+}
+
 /// Returns what the options of `loop` ask for.
 fn loop_asked(alloc: Global, name: &str, options: &ArgMatches<'_>) -> Result<Asked, AllocError>
     requires { bytes_eq name.now (codes "loop") ≡ true }
@@ -496,6 +520,7 @@ fn command_asked(alloc: Global, name: &str, options: &ArgMatches<'_>) -> Result<
 {
     match name {
         "link" => link_asked(alloc, name, options),
+        "capture" => capture_asked(alloc, name, options),
         "loop" => loop_asked(alloc, name, options),
         "fetch" => match fetch_asked(alloc, options) {
             Ok(job) => Ok(Asked::Fetch(job)),

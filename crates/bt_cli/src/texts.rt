@@ -202,6 +202,13 @@ const SCRIPT: OperandText = OperandText {
     help: "A script; standard input if there is no FILE, or if it is '-'",
 };
 
+const PACKETS: OperandText = OperandText {
+    name: "FILE",
+    is_required: false,
+    is_repeated: true,
+    help: "A pcap or pcapng file; standard input if there is no FILE, or if it is '-'",
+};
+
 const INFOHASH: OperandText = OperandText {
     name: "INFOHASH",
     is_required: true,
@@ -232,6 +239,8 @@ const UNPACK_USAGE: &str = "bt_tool unpack [OPTIONS] [FILE]";
 const PACK_USAGE: &str = "bt_tool pack [OPTIONS] [FILE]";
 
 const LINK_USAGE: &str = "bt_tool link [FILE]";
+
+const CAPTURE_USAGE: &str = "bt_tool capture [OPTIONS] [FILE]";
 
 const LOOP_USAGE: &str = "bt_tool loop [OPTIONS]";
 
@@ -370,6 +379,24 @@ Exit status:
   141  The output pipe was closed, as after '| head'",
 };
 
+pub(crate) const CAPTURE: CommandText = CommandText {
+    name: "capture",
+    usage: CAPTURE_USAGE,
+    about: "Prints a report on each BitTorrent connection of a packet capture",
+    options: &[PIECES],
+    operands: &[PACKETS],
+    after: "\
+Example:
+  bt_tool capture small.pcap
+
+Exit status:
+  0    No direction is refused under the lenient rules
+  1    A direction is refused under the lenient rules
+  2    Usage error
+  3    No BitTorrent connection was found, FILE is no capture, a read or a write failed, or the program is out of memory
+  141  The output pipe was closed, as after '| head'",
+};
+
 pub(crate) const LOOP: CommandText = CommandText {
     name: "loop",
     usage: LOOP_USAGE,
@@ -470,6 +497,7 @@ pub(crate) fn usage_of(name: &str) -> &'static str {
         "unpack" => UNPACK_USAGE,
         "pack" => PACK_USAGE,
         "link" => LINK_USAGE,
+        "capture" => CAPTURE_USAGE,
         "loop" => LOOP_USAGE,
         "fetch" => FETCH_USAGE,
         "serve" => SERVE_USAGE,

@@ -1,0 +1,77 @@
+-- What `capture` says at its end, and its exit status.
+use Rattle.std.specs.Prelude.{◌≡◌, ◌==◌, ◌⊎◌, ◌++◌, ℕ, Bool, true, false, List, [], codes, decimal, nat_lt, Result, Ok, Err, if◌then◌else◌}
+use Rattle.bt_io.specs.Seen.{TargetSeen}
+use Rattle.bt_text.specs.declared.ended.ToolFault.TheVariants as fault
+use Rattle.bt_text.specs.Lines.{fault_line}
+use Rattle.bt_run.specs.Endings.{fault_status, fault_words}
+use Rattle.bt_run.specs.Runs.{IsSaid}
+use Rattle.bt_pcap.specs.declared.fault.FileFault.{FileFault}
+use Rattle.bt_pcap.specs.declared.fault.FileFault.TheVariants.{NoCapture, ByteOrder, Length, TooShort}
+use Rattle.bt_capture.specs.declared.ending.CaptureEnd.{CaptureEnd}
+use Rattle.bt_capture.specs.declared.ending.CaptureFault.{CaptureFault}
+use Rattle.bt_capture.specs.declared.ending.CaptureFault.TheVariants.{File, Read, Write, Memory, Turns}
+use Rattle.bt_cli.specs.declared.capture.Outcome.{Outcome}
+use Rattle.bt_cli.specs.declared.capture.Outcome.TheVariants.{Lost, Nothing, Refused, Accepted}
+
+-- ---- a capture that was read to its end
+
+abbrev pub outcome_in : CaptureEnd → Outcome
+outcome_in e = if nat_lt 0 e.lost then Lost else if e.torrents == 0 then Nothing else if e.is_refused then Refused else Accepted
+
+abbrev pub outcome_status : Outcome → ℕ
+outcome_status Lost = 3
+outcome_status Nothing = 3
+outcome_status Refused = 1
+outcome_status Accepted = 0
+
+-- a last packet that is cut
+abbrev pub cut_words : Bool → List ℕ
+cut_words true = codes "capture: ends inside a packet, which is left out\n"
+cut_words false = []
+
+abbrev pub nothing_words : ℕ → ℕ → List ℕ
+nothing_words packets skipped =
+    (((codes "no BitTorrent connection in " ++ decimal packets) ++ codes " packets; ") ++ decimal skipped) ++ codes " of them aren't TCP\n"
+
+-- Connections that memory didn't last for are a fault. A capture without a BitTorrent connection has its line, if there is memory for that.
+abbrev pub IsLastLine : Outcome → CaptureEnd → List ℕ → Type 0
+IsLastLine Lost e line = line ≡ fault_line fault.Memory
+IsLastLine Nothing e line = (line ≡ nothing_words e.packets e.skipped) ⊎ (line ≡ fault_line fault.Memory)
+IsLastLine Refused e line = line ≡ []
+IsLastLine Accepted e line = line ≡ []
+
+abbrev pub IsEndSaid : CaptureEnd → TargetSeen → TargetSeen → Type 0
+IsEndSaid e before after = (line : List ℕ) × IsLastLine (outcome_in e) e line × IsSaid (cut_words e.is_cut ++ line) before after
+
+-- ---- a fault
+
+abbrev pub file_words : FileFault → List ℕ
+file_words NoCapture = codes "fault: capture: neither a pcap nor a pcapng file\n"
+file_words ByteOrder = codes "fault: capture: a section of a pcapng file has an unknown byte order\n"
+file_words Length = codes "fault: capture: a block of a pcapng file has an impossible length\n"
+file_words TooShort = codes "fault: capture: a block of a pcapng file is too short\n"
+
+-- The input's name comes before what is wrong with it.
+abbrev pub capture_fault_words : Bool → List ℕ → CaptureFault → List ℕ
+capture_fault_words gone prefix (File f) = prefix ++ file_words f
+capture_fault_words gone prefix Read = fault_words gone prefix fault.Read
+capture_fault_words gone prefix Write = fault_words gone prefix fault.Write
+capture_fault_words gone prefix Memory = fault_words gone prefix fault.Memory
+capture_fault_words gone prefix Turns = fault_words gone prefix fault.Turns
+
+abbrev pub capture_fault_status : Bool → CaptureFault → ℕ
+capture_fault_status gone (File f) = 3
+capture_fault_status gone Read = fault_status gone fault.Read
+capture_fault_status gone Write = fault_status gone fault.Write
+capture_fault_status gone Memory = fault_status gone fault.Memory
+capture_fault_status gone Turns = fault_status gone fault.Turns
+
+-- ---- the end
+
+abbrev pub IsCaptureSaid : Bool → List ℕ → Result CaptureEnd CaptureFault → TargetSeen → TargetSeen → Type 0
+IsCaptureSaid gone prefix (Ok e) before after = IsEndSaid e before after
+IsCaptureSaid gone prefix (Err f) before after = IsSaid (capture_fault_words gone prefix f) before after
+
+abbrev pub capture_status : Bool → Result CaptureEnd CaptureFault → ℕ
+capture_status gone (Ok e) = outcome_status (outcome_in e)
+capture_status gone (Err f) = capture_fault_status gone f

@@ -1,0 +1,180 @@
+//! The command `capture`: what its words ask for, what it says at its end, and the exit status.
+ghost use Rattle.std.specs.Prelude.{◌≡◌, ◌++◌, IfOk, option_map};
+ghost use Rattle.clap.specs.Matches.{found_of};
+ghost use Rattle.bt_run.specs.Runs.{IsSaid};
+ghost use Rattle.bt_cli.specs.Captures.{IsCaptureSaid, IsEndSaid, capture_fault_status, capture_fault_words, capture_status, cut_words, file_words, nothing_words, outcome_in, outcome_status};
+ghost use Rattle.bt_cli.specs.declared.capture.Outcome.TheVariants.{Nothing};
+ghost use Rattle.bt_cli.specs.Wanted.{IsCaptureAsked, capture_pieces_in};
+
+use bt_capture::{CaptureEnd, CaptureFault, CaptureJob};
+use bt_feed::Target;
+use bt_link::text::push_number;
+use bt_pcap::FileFault;
+use bt_run::ending::{end_by_fault, say_both};
+use bt_run::values::number_within;
+use bt_text::ended::ToolFault;
+use bt_text::lines::fault_line;
+use clap::ArgMatches;
+use std::alloc::{AllocError, Global};
+
+/// What was found in a capture that was read to its end.
+#[derive(Clone, Copy, PartialEq, Eq, Debug)]
+pub enum Outcome {
+    /// Connections aren't reported, since memory ran out.
+    Lost,
+    /// No BitTorrent connection.
+    Nothing,
+    /// A direction that is refused.
+    Refused,
+    /// No direction that is refused.
+    Accepted,
+}
+
+/// Returns the count of `--pieces`.
+fn pieces_in(text: Option<&str>) -> Option<Option<u32>>
+    ensures { result ≡ capture_pieces_in (option_map (λ s. s.now) text.entry) }
+{
+    match text {
+        None => Some(None),
+        Some(digits) => Some(Some(number_within(digits, 0, 4_294_967_295)?)),
+    }
+}
+
+/// Returns what the options of the command ask for.
+///
+/// # Errors
+/// The option that has no meaning.
+pub fn capture_in(options: &ArgMatches<'_>) -> Result<CaptureJob, &'static str>
+    ensures { IfOk result (IsCaptureAsked (found_of options.now)) }
+{
+    match pieces_in(options.get_str("pieces")) {
+        Some(pieces) => Ok(CaptureJob { pieces }),
+        None => Err("'--pieces' takes a number from 0 to 4294967295"),
+    }
+}
+
+/// Returns what was found in a capture.
+fn outcome_of(end: &CaptureEnd) -> Outcome
+    ensures { result ≡ outcome_in end.now }
+{
+    if end.lost > 0 {
+        Outcome::Lost
+    } else if end.torrents == 0 {
+        Outcome::Nothing
+    } else if end.is_refused {
+        Outcome::Refused
+    } else {
+        Outcome::Accepted
+    }
+}
+
+/// Returns the exit status.
+fn status_of(outcome: Outcome) -> u8
+    ensures { result ≡ outcome_status outcome }
+{
+    match outcome {
+        Outcome::Lost | Outcome::Nothing => 3,
+        Outcome::Refused => 1,
+        Outcome::Accepted => 0,
+    }
+}
+
+/// Returns the line on a last packet that is cut, if it is.
+fn cut_line(is_cut: bool) -> &'static [u8]
+    ensures { result.now ≡ cut_words is_cut }
+{
+    if is_cut {
+        b"capture: ends inside a packet, which is left out\n"
+    } else {
+        b""
+    }
+}
+
+/// Returns the line on a capture without a BitTorrent connection.
+fn nothing_line(alloc: Global, packets: u64, skipped: u64) -> Result<Vec<u8>, AllocError>
+    ensures { IfOk result (λ line. line.items ≡ nothing_words packets skipped) }
+{
+    let mut text = Vec::new(alloc);
+    text.extend_from_slice(b"no BitTorrent connection in ")?;
+    push_number(packets, &mut text)?;
+    text.extend_from_slice(b" packets; ")?;
+    push_number(skipped, &mut text)?;
+    text.extend_from_slice(b" of them aren't TCP\n")?;
+    Ok(text)
+}
+
+/// Says that a capture has no BitTorrent connection, after what else is said of its end.
+fn say_nothing<E: Target>(alloc: Global, end: &CaptureEnd, errors: &mut E)
+    requires { outcome_in end.now ≡ Nothing }
+    ensures { IsEndSaid end.now (E.seen errors.old) (E.seen errors.new) }
+{
+    let cut = cut_line(end.is_cut);
+    match nothing_line(alloc, end.packets, end.skipped) {
+        Ok(line) => say_both(cut, line.as_slice(), errors),
+        Err(_) => say_both(cut, fault_line(ToolFault::Memory), errors),
+    }
+}
+
+/// Says what a capture had that was read to its end.
+fn say_end<E: Target>(alloc: Global, end: &CaptureEnd, errors: &mut E)
+    ensures { IsEndSaid end.now (E.seen errors.old) (E.seen errors.new) }
+{
+    match outcome_of(end) {
+        Outcome::Lost => say_both(cut_line(end.is_cut), fault_line(ToolFault::Memory), errors),
+        Outcome::Nothing => say_nothing(alloc, end, errors),
+        Outcome::Refused => say_both(cut_line(end.is_cut), b"", errors),
+        Outcome::Accepted => say_both(cut_line(end.is_cut), b"", errors),
+    }
+}
+
+/// Returns the line that says why a file is no capture.
+fn file_line(fault: FileFault) -> &'static [u8]
+    ensures { result.now ≡ file_words fault }
+{
+    match fault {
+        FileFault::NoCapture => b"fault: capture: neither a pcap nor a pcapng file\n",
+        FileFault::ByteOrder =>
+            b"fault: capture: a section of a pcapng file has an unknown byte order\n",
+        FileFault::Length => b"fault: capture: a block of a pcapng file has an impossible length\n",
+        FileFault::TooShort => b"fault: capture: a block of a pcapng file is too short\n",
+    }
+}
+
+/// Says which fault ended the command, and returns the exit status.
+fn end_by<E: Target>(fault: CaptureFault, prefix: &[u8], is_gone: bool, errors: &mut E) -> u8
+    ensures said { IsSaid (capture_fault_words is_gone prefix.now fault) (E.seen errors.old) (E.seen errors.new) }
+    ensures status { result ≡ capture_fault_status is_gone fault }
+{
+    match fault {
+        CaptureFault::File(fault) => {
+            say_both(prefix, file_line(fault), errors);
+            3
+        }
+        CaptureFault::Read => end_by_fault(ToolFault::Read, prefix, is_gone, errors),
+        CaptureFault::Write => end_by_fault(ToolFault::Write, prefix, is_gone, errors),
+        CaptureFault::Memory => end_by_fault(ToolFault::Memory, prefix, is_gone, errors),
+        CaptureFault::Turns => end_by_fault(ToolFault::Turns, prefix, is_gone, errors),
+    }
+}
+
+/// Says the end of a capture on standard error, and returns the exit status.
+///
+/// `prefix` comes before the line of an input that can't be read; `is_gone` says that the output pipe is closed.
+pub fn end_capture<E: Target>(
+    alloc: Global,
+    end: Result<CaptureEnd, CaptureFault>,
+    prefix: &[u8],
+    is_gone: bool,
+    errors: &mut E,
+) -> u8
+    ensures said { IsCaptureSaid is_gone prefix.now end (E.seen errors.old) (E.seen errors.new) }
+    ensures status { result ≡ capture_status is_gone end }
+{
+    match end {
+        Ok(end) => {
+            say_end(alloc, &end, errors);
+            status_of(outcome_of(&end))
+        }
+        Err(fault) => end_by(fault, prefix, is_gone, errors),
+    }
+}
