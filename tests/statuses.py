@@ -417,6 +417,7 @@ COMMANDS = {
     "unpack": ("bt_tool unpack [OPTIONS] [FILE]", RECEIVER, ["--torrent", "--hints no"]),
     "pack": ("bt_tool pack [OPTIONS] [FILE]", RECEIVER, ["--window 1", "--info-hash 00"]),
     "link": ("bt_tool link [FILE]", "", ["--limit 32768", "--hints always", "a b"]),
+    "capture": ("bt_tool capture [OPTIONS] [FILE]", "pieces", ["--limit 1", "--pieces", "--pieces x", "--pieces 4294967296", "a b"]),
     "loop": ("bt_tool loop [OPTIONS]", "rules limit", ["--hints always", "--limit 32767", "--rules", "more"]),
     "fetch": ("bt_tool fetch [OPTIONS] MAGNET|INFOHASH [ADDRESS]..", "peers at-once rules limit timeout window max-size torrent json",
               ["", HASH, HASH + " 127.0.0.1:9 --max-connections 1", HASH + " 127.0.0.1:9 --window 9", HASH + " a", "0 127.0.0.1:9",
@@ -584,6 +585,11 @@ ROWS += [
     ("pack --rules bep", LINE + b"unchoke\n", HAND, b"refused line=2 Missing\n", 1),
 ]
 
+# A capture of one connection: A names piece 38.
+with open(os.path.join(ROOT, "examples", "refused.pcap"), "rb") as file:
+    REFUSED = file.read()
+CUT_IN_PACKET = b"capture: ends inside a packet, which is left out\n"
+
 # Words, files, standard input, standard output, standard error, exit status. The words are run where the files are.
 FILES = [
     # files
@@ -626,6 +632,14 @@ FILES = [
     ("unpack none", {}, HAND, b"", b"none: fault: read\n", 3),
     ("pack .", {}, LINE, b"", b".: fault: read\n", 3),
     ("link none", {}, TWO, b"", b"none: fault: read\n", 3),
+    ("capture none", {}, b"", b"", b"none: fault: read\n", 3),
+    ("capture a", {"a": REFUSED[:10]}, b"", b"", CUT_IN_PACKET + b"no BitTorrent connection in 0 packets; 0 of them aren't TCP\n", 3),
+    ("capture -", {}, REFUSED[:24], b"", b"no BitTorrent connection in 0 packets; 0 of them aren't TCP\n", 3),
+    ("capture", {}, REFUSED[:900], TEXT, CUT_IN_PACKET, 0),
+    ("capture a", {"a": REFUSED}, b"", TEXT, b"", 0),
+    ("capture --pieces 38 a", {"a": REFUSED}, b"", TEXT, b"", 1),
+    ("capture --pieces=39", {}, REFUSED, TEXT, b"", 0),
+    ("capture a", {"a": HAND}, b"", b"", b"a: fault: capture: neither a pcap nor a pcapng file\n", 3),
     # the other direction: its reserved bits
     other_row(hand(NO_FAST), HAVE_ALL, [b"refused message=1 at=72 NotNegotiated"], status=1),
     other_row(hand(NO_FAST), HAVE_ALL, [b"68 have-all", b"ok messages=1 bytes=73"], "--reserved " + FAST),
@@ -684,7 +698,7 @@ FILES = [
 
 # Words whose output nobody reads, and standard input.
 UNREAD = [("show", HAND), ("check", HAND), ("unpack", HAND), ("pack", LINE), ("link", TWO), ("--help", b""),
-          ("check - -", HAND)]
+          ("check - -", HAND), ("capture", REFUSED)]
 
 # What follows the handshake; the verdict's line of `check`, under `bep`; the script's lines of `unpack`, under `free`.
 SCRIPTS = [
@@ -1260,7 +1274,8 @@ def devices(program):
     found.append(("bt_tool show --other, on a terminal", is_informed_on_a_terminal(program)))
     found += [("bt_tool %s --help" % name, has_help(program, name)) for name in COMMANDS]
     found += [("bt_tool %s, on a terminal" % words, is_awaited(program, words, awaited))
-              for words, awaited in (("show", b"a stream"), ("check", b"a stream"), ("pack", b"a script"), ("link", b"a script"))]
+              for words, awaited in (("show", b"a stream"), ("check", b"a stream"), ("pack", b"a script"), ("link", b"a script"),
+                                     ("capture", b"a capture"))]
     return found
 
 

@@ -5,6 +5,8 @@ ghost use Rattle.bt_cli.specs.Commands.{IsLimited};
 ghost use Rattle.bt_fetch.specs.Wishes.{IsWish};
 
 use crate::piped::Piped;
+use bt_capture::{CaptureJob, run_capture};
+use bt_cli::capture::end_capture;
 use bt_cli::commands::{Asked, Job, Notice, Request};
 use bt_cli::ending::{end_by_fault, end_job, end_link, end_loop, end_text};
 use bt_cli::fetch::FetchJob;
@@ -41,6 +43,9 @@ const STREAM_AWAITED: &[u8] =
 
 /// What is printed if a script is expected from a terminal.
 const SCRIPT_AWAITED: &[u8] = b"bt_tool: a script is awaited on standard input\n";
+
+/// What is printed if a capture is expected from a terminal.
+const CAPTURE_AWAITED: &[u8] = b"bt_tool: a capture is awaited on standard input\n";
 
 /// What is printed if metadata is expected from a terminal.
 const METADATA_AWAITED: &[u8] = b"bt_tool: metadata is awaited on standard input\n";
@@ -102,6 +107,7 @@ impl<'a, R: Files + Input + Net + Clock + RandomSource + AllocGlobal, W: Write, 
         match asked {
             Asked::Run(request) => self.run(request),
             Asked::Link(files) => self.link(files),
+            Asked::Capture(job, files) => self.capture(job, files),
             Asked::Loop(rules, limit) => self.run_loop(*rules, *limit),
             Asked::Fetch(job) => self.fetch(job),
             Asked::Serve(job) => self.serve(job),
@@ -307,6 +313,29 @@ impl<'a, R: Files + Input + Net + Clock + RandomSource + AllocGlobal, W: Write, 
         };
         match self.prefix(name) {
             Ok(prefix) => self.link_after(prefix.as_bytes(), name),
+            Err(_) => self.fail(ToolFault::Memory),
+        }
+    }
+
+    /// As `capture`; `prefix` stands before the line of a fault.
+    fn capture_after(&mut self, prefix: &[u8], name: &str, job: &CaptureJob) -> u8 {
+        let Some(mut reader) = self.open(name, CAPTURE_AWAITED) else {
+            return end_by_fault(ToolFault::Read, prefix, false, &mut self.errors);
+        };
+        let alloc = self.host.alloc();
+        let end = run_capture(alloc, &mut reader, &mut self.writer, job);
+        let is_gone = self.is_gone.get();
+        end_capture(alloc, end, prefix, is_gone, &mut self.errors)
+    }
+
+    /// Reports on the connections of a capture, and returns the exit status.
+    fn capture(&mut self, job: &CaptureJob, files: &[String]) -> u8 {
+        let name = match files {
+            [] => "-",
+            [name, ..] => name.as_str(),
+        };
+        match self.prefix(name) {
+            Ok(prefix) => self.capture_after(prefix.as_bytes(), name, job),
             Err(_) => self.fail(ToolFault::Memory),
         }
     }
