@@ -390,7 +390,7 @@ Example:
   bt_tool capture small.pcap
 
 Exit status:
-  0    No direction is refused under the lenient rules; one that ends inside a message isn't counted
+  0    No direction is refused under the lenient rules; one that was cut off isn't counted
   1    A direction is refused under the lenient rules
   2    Usage error
   3    No BitTorrent connection was found, FILE is no capture, a read or a write failed, or the program is out of memory
