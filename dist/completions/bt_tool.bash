@@ -8,13 +8,14 @@ _bt_tool() {
     unpack) options='--reserved --pieces --metadata-id --donthave-id --info-hash --other --rules --limit --hints --help' ;;
     pack) options='--reserved --pieces --metadata-id --donthave-id --info-hash --other --rules --limit --hints --help' ;;
     link) options='--help' ;;
+    capture) options='--pieces --help' ;;
     loop) options='--rules --limit --help' ;;
     fetch) options='--peers --at-once --rules --limit --timeout --window --max-size --torrent --json --help' ;;
     serve) options='--listen --rules --limit --timeout --exit-after --max-connections --help' ;;
     *) options='--help --version' ;;
     esac
     if [ "$COMP_CWORD" = 1 ]; then
-        values='show check unpack pack link loop fetch serve'
+        values='show check unpack pack link capture loop fetch serve'
     fi
     case $before in
     --rules) values='free bep' ;;
