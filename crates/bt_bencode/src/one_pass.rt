@@ -86,7 +86,7 @@ pub fn text_in_front(bytes: &[u8]) -> Option<(&[u8], &[u8])>
 
 /// Returns what follows the integer in front, whose `i` is passed; `None` if there is none.
 #[inline(always)]
-pub fn after_integer(bytes: &[u8]) -> Option<&[u8]>
+fn after_integer(bytes: &[u8]) -> Option<&[u8]>
     ensures passes { IfSome result (λ rest. PassesInteger bytes.now rest.now) }
     ensures none { result ≡ None → HasInteger bytes.now → ⊥ }
 {
