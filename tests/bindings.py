@@ -4,7 +4,7 @@
 usage: tests/bindings.py [LIBRARIES]
 
 LIBRARIES is the folder of libbt.a, libbt.so and bt.node, with bt.wasm in the folder above, or else dist/x86_64-linux. The three examples
-`show` have to print the same of the example streams, of their cuts, and of streams with changed bytes, under each rule set and in chunks of
+`show` have to print the same for the example streams, of their cuts, and of streams with changed bytes, under each rule set and in chunks of
 each size. The examples `fetch`, also in C, have to fetch from a peer that is right, from `bt_tool serve` if LIBRARIES has it, and from none
 that breaks a rule. A language whose tool isn't installed is left out, and that is said.
 """
@@ -165,7 +165,7 @@ def heard_streams():
 
 
 def alike(commands, paths, options, what):
-    """Fails if the commands, by language, don't print the same of the files. Returns how many files there are."""
+    """Fails if the commands, by language, don't print the same for the files. Returns how many files there are."""
     said = {language: subprocess.run([*map(str, words), *map(str, paths)], env=options, capture_output=True)
             for language, words in commands.items()}
     wanted = said["Python"]
